@@ -1,0 +1,196 @@
+-- The faults of an instance text.
+use Rattle.std.specs.Prelude.{ℕ, ◌==◌, nat_le, nat_lt, Bool, true, false, not, ◌&&◌, ◌||◌, if◌then◌else◌, List, [], ◌∷◌, ◌++◌, map, length, filter, filter_map, find, bytes_eq, codes, drop, ℤ, pos, neg_ℤ, int_lt, Option, Some, None, option_map, slice_get}
+use Rattle.std.specs.List.{list_all, list_any}
+use Rattle.std.specs.Option.{option_or, option_map_or}
+use Rattle.mcf_instance.specs.declared.code.Code.{Code}
+use Rattle.mcf_instance.specs.declared.code.Code.TheVariants.{Kind, Fields, Problem, Number, SecondP, BeforeP, Size, Node, LateN, Twice, Supply, Bound, Order, Cost, Extra, Side, NoP, Missing}
+use Rattle.mcf_instance.specs.declared.problem.Problem.{Problem as Format}
+use Rattle.mcf_instance.specs.declared.problem.Problem.TheVariants.{Min, Asn}
+use Rattle.mcf_instance.specs.Limits.{Limits, node_limit, arc_limit}
+use Rattle.mcf_text.specs.Row.{Row, rows, field, begins, number, node, with_earlier, line_after}
+use Rattle.mcf_text.specs.Whole.{is_whole, is_within}
+
+-- a fault: the number of the line, and what is wrong there
+pub record Fault : Type 0 where
+  pub line : ℕ
+  pub code : Code
+
+-- ---- the kinds of lines
+
+abbrev pub is_p : Row → Bool
+is_p row = begins (codes "p") row
+
+abbrev pub is_n : Row → Bool
+is_n row = begins (codes "n") row
+
+abbrev pub is_a : Row → Bool
+is_a row = begins (codes "a") row
+
+-- ---- the problem line
+
+-- what a problem line says
+pub record Header : Type 0 where
+  pub problem : Format
+  pub nodes : ℕ
+  pub arcs : ℕ
+
+abbrev pub has_problem_word : Row → Bool
+has_problem_word row = bytes_eq (field row 1) (codes "min") || bytes_eq (field row 1) (codes "asn")
+
+abbrev pub problem_of : Row → Format
+problem_of row = if bytes_eq (field row 1) (codes "asn") then Asn else Min
+
+abbrev pub size_fits : Row → Bool
+size_fits row = is_within (pos 0) (pos node_limit) (number row 2) && is_within (pos 0) (pos arc_limit) (number row 3)
+
+abbrev pub is_good_header : Row → Bool
+is_good_header row = length row.fields == 4 && has_problem_word row && is_whole (field row 2) && is_whole (field row 3) && size_fits row
+
+-- what stands for the problem line where there is none, or it is faulty
+abbrev pub no_header : Header
+no_header = record { problem = Min; nodes = 0; arcs = 0 }
+
+abbrev pub header_of : Row → Header
+header_of row = if is_good_header row then record { problem = problem_of row; nodes = node row 2; arcs = node row 3 } else no_header
+
+-- what the first problem line of some lines says
+abbrev pub header : List Row → Header
+header lines = option_map_or header_of (find is_p lines) no_header
+
+abbrev pub is_min : Format → Bool
+is_min Min = true
+is_min Asn = false
+
+-- ---- what the lines before say
+
+abbrev pub has_p : List Row → Bool
+has_p earlier = list_any is_p earlier
+
+-- the nodes that have a node line
+abbrev pub listed : List Row → List ℕ
+listed earlier = map (λ row. node row 1) (filter is_n earlier)
+
+abbrev pub is_listed : List Row → ℕ → Bool
+is_listed earlier v = list_any (λ w. w == v) (listed earlier)
+
+abbrev pub arc_lines : List Row → List Row
+arc_lines earlier = filter is_a earlier
+
+abbrev pub of_min : List Row → Bool
+of_min earlier = is_min (header earlier).problem
+
+-- ---- the numbers of a line
+
+-- the fields that should be whole numbers
+abbrev pub number_fields : Row → List (List ℕ)
+number_fields row = if is_p row then drop 2 row.fields else drop 1 row.fields
+
+-- the numbers of fields that are right: before any problem line, those of either problem
+abbrev pub field_counts : List Row → Row → List ℕ
+field_counts earlier row =
+    if is_p row then 4 ∷ []
+    else (if not (has_p earlier) then (if is_n row then 3 ∷ 2 ∷ [] else 6 ∷ 4 ∷ [])
+    else (if of_min earlier then (if is_n row then 3 ∷ [] else 6 ∷ [])
+    else (if is_n row then 2 ∷ [] else 4 ∷ [])))
+
+-- the places of the fields that name nodes
+abbrev pub node_places : Row → List ℕ
+node_places row = if is_n row then 1 ∷ [] else 1 ∷ 2 ∷ []
+
+-- the number of a node of the instance
+abbrev pub is_node_number : List Row → ℤ → Bool
+is_node_number earlier z = is_within (pos 1) (pos (header earlier).nodes) z
+
+-- the number is at most so far from 0
+abbrev pub is_up_to : ℕ → ℤ → Bool
+is_up_to bound z = is_within (neg_ℤ (pos bound)) (pos bound) z
+
+-- the place of the cost of an arc line
+abbrev pub cost_place : List Row → ℕ
+cost_place earlier = if of_min earlier then 5 else 3
+
+-- ---- the table of faults
+
+-- whether a fault applies to a line, where these are the kept lines before it
+abbrev pub applies : Limits → Code → List Row → Row → Bool
+applies limits Kind earlier row = not (is_p row || is_n row || is_a row)
+applies limits Fields earlier row = not (list_any (λ n. length row.fields == n) (field_counts earlier row))
+applies limits Problem earlier row = is_p row && not (has_problem_word row)
+applies limits Number earlier row = not (list_all is_whole (number_fields row))
+applies limits SecondP earlier row = is_p row && has_p earlier
+applies limits BeforeP earlier row = not (is_p row) && not (has_p earlier)
+applies limits Size earlier row = is_p row && not (size_fits row)
+applies limits Node earlier row = not (is_p row) && not (list_all (λ k. is_node_number earlier (number row k)) (node_places row))
+applies limits LateN earlier row = is_n row && nat_lt 0 (length (arc_lines earlier))
+applies limits Twice earlier row = is_n row && is_listed earlier (node row 1)
+applies limits Supply earlier row = is_n row && of_min earlier && not (is_up_to limits.supply (number row 2))
+applies limits Bound earlier row = is_a row && of_min earlier && not (is_up_to limits.bound (number row 3) && is_up_to limits.bound (number row 4))
+applies limits Order earlier row = is_a row && of_min earlier && int_lt (number row 4) (number row 3)
+applies limits Cost earlier row = is_a row && not (is_up_to limits.cost (number row (cost_place earlier)))
+applies limits Extra earlier row = is_a row && nat_le (header earlier).arcs (length (arc_lines earlier))
+applies limits Side earlier row = is_a row && not (of_min earlier) && (not (is_listed earlier (node row 1)) || is_listed earlier (node row 2))
+-- the last two are no faults of a line
+applies limits NoP earlier row = false
+applies limits Missing earlier row = false
+
+-- the faults of a line, in the order in which they are looked for
+abbrev pub table : List Code
+table = Kind ∷ Fields ∷ Problem ∷ Number ∷ SecondP ∷ BeforeP ∷ Size ∷ Node ∷ LateN ∷ Twice ∷ Supply ∷ Bound ∷ Order ∷ Cost ∷ Extra ∷ Side ∷ []
+
+-- the fault of a line: the first of the table that applies
+unfoldable pub fault_of_line : Limits → List Row → Row → Option Code
+fault_of_line limits earlier row = find (λ code. applies limits code earlier row) table
+
+-- a line, after those before it, as a fault, if it has one
+abbrev pub as_fault : Limits → List Row × Row → Option Fault
+as_fault limits line = option_map (λ code. record { line = line.1.number; code = code }) (fault_of_line limits line.0 line.1)
+
+-- the faults of the lines, each judged by those before it
+unfoldable pub faults : Limits → List Row → List Fault
+faults limits lines = filter_map (as_fault limits) (with_earlier lines)
+
+-- the fault of the lines as a whole
+unfoldable pub fault_at_end : List Row → Option Code
+fault_at_end lines =
+    if not (has_p lines) then Some NoP
+    else (if nat_lt (length (arc_lines lines)) (header lines).arcs then Some Missing else None)
+
+-- the first fault of some kept lines, where the line after the last has this number: that of the first
+-- faulty line, else that of the whole
+unfoldable pub first_fault_of_lines : Limits → ℕ → List Row → Option Fault
+first_fault_of_lines limits after lines =
+    option_or (slice_get (faults limits lines) 0) (option_map (λ code. record { line = after; code = code }) (fault_at_end lines))
+
+-- the first fault of a text
+unfoldable pub first_fault : Limits → List ℕ → Option Fault
+first_fault limits text = first_fault_of_lines limits (line_after text) (rows text)
+
+-- ---- words
+
+-- the word of a code
+abbrev pub code_word : Code → List ℕ
+code_word Kind = codes "kind"
+code_word Fields = codes "fields"
+code_word Problem = codes "problem"
+code_word Number = codes "number"
+code_word SecondP = codes "second-p"
+code_word BeforeP = codes "before-p"
+code_word Size = codes "size"
+code_word Node = codes "node"
+code_word LateN = codes "late-n"
+code_word Twice = codes "twice"
+code_word Supply = codes "supply"
+code_word Bound = codes "bound"
+code_word Order = codes "order"
+code_word Cost = codes "cost"
+code_word Extra = codes "extra"
+code_word Side = codes "side"
+code_word NoP = codes "no-p"
+code_word Missing = codes "missing"
+
+abbrev pub all_codes : List Code
+all_codes = table ++ NoP ∷ Missing ∷ []
+
+-- the code with this word
+abbrev pub code_of_word : List ℕ → Option Code
+code_of_word word = find (λ code. bytes_eq (code_word code) word) all_codes

@@ -1,0 +1,12 @@
+pub use Rattle.mcf_text.specs.Row
+pub use Rattle.mcf_text.specs.Whole
+pub mod Assignment
+pub mod Blocking
+pub mod Fault
+pub mod Flow
+pub mod Laws
+pub mod Limits
+pub mod Network
+pub mod Packed
+pub mod Reading
+pub mod WellFormed

@@ -1,0 +1,27 @@
+-- The limits of an instance.
+use Rattle.std.specs.Prelude.{ℕ, ◌^◌}
+
+-- how far from 0 the supply of a node, a bound of an arc and the cost of an arc may lie
+pub record Limits : Type 0 where
+  pub supply : ℕ
+  pub bound : ℕ
+  pub cost : ℕ
+
+-- the limits of today
+abbrev pub limits : Limits
+limits = record { supply = 10 ^ 15; bound = 10 ^ 15; cost = 10 ^ 12 }
+
+-- limits that every later change of these keeps, on which all above the reader stands
+abbrev pub wide_limits : Limits
+wide_limits = record { supply = 10 ^ 18; bound = 10 ^ 18; cost = 10 ^ 15 }
+
+-- the greatest total, over the arcs, of the size of the cost times that of the greater bound
+abbrev pub total_limit : ℕ
+total_limit = 10 ^ 36
+
+-- how many nodes and arcs there may be
+abbrev pub node_limit : ℕ
+node_limit = 1_000_000
+
+abbrev pub arc_limit : ℕ
+arc_limit = 10_000_000

@@ -1,0 +1,43 @@
+-- What every instance keeps.
+use Rattle.std.specs.Prelude.{ℕ, ◌*◌, ◌≤◌, max, map, length, sum, ℤ, pos, neg_ℤ, ◌≤ℤ◌, unsigned_abs}
+use Rattle.std.specs.List.{All}
+use Rattle.mcf_instance.specs.declared.arc.Arc.{Arc}
+use Rattle.mcf_instance.specs.Assignment.{OnAssignment, IsAssignment}
+use Rattle.mcf_instance.specs.Limits.{Limits, wide_limits, total_limit, node_limit, arc_limit}
+use Rattle.mcf_instance.specs.Network.{Network, IsNode, node_count}
+
+-- z is at most so far from 0
+abbrev pub IsUpTo : ℕ → ℤ → Type 0
+IsUpTo bound z = (neg_ℤ (pos bound) ≤ℤ z) × (z ≤ℤ pos bound)
+
+-- both ends are nodes
+pub record HasEnds (nodes : ℕ) (a : Arc) : Type 0 where
+  pub src_is_node : IsNode nodes a.src
+  pub dst_is_node : IsNode nodes a.dst
+
+-- the bounds of an arc are in order and, like its cost, within the limits
+pub record IsArcWithin (limits : Limits) (a : Arc) : Type 0 where
+  pub ordered : a.low ≤ℤ a.cap
+  pub low_small : IsUpTo limits.bound a.low
+  pub cap_small : IsUpTo limits.bound a.cap
+  pub cost_small : IsUpTo limits.cost a.cost
+
+-- the most that an arc can cost or earn
+abbrev pub weight : Arc → ℕ
+weight a = unsigned_abs a.cost * max (unsigned_abs a.low) (unsigned_abs a.cap)
+
+-- arcs and supplies within the limits
+pub record IsWithin (limits : Limits) (g : Network) : Type 0 where
+  pub arcs : All (IsArcWithin limits) g.arcs
+  pub supplies : All (IsUpTo limits.supply) g.supplies
+
+-- what an instance keeps under the limits of its reader; the wide limits and the total are what the
+-- layers above stand on
+pub record IsWellFormed (limits : Limits) (g : Network) : Type 0 where
+  pub nodes : node_count g ≤ node_limit
+  pub arcs : length g.arcs ≤ arc_limit
+  pub ends : All (HasEnds (node_count g)) g.arcs
+  pub within : IsWithin limits g
+  pub within_wide : IsWithin wide_limits g
+  pub total : sum (map weight g.arcs) ≤ total_limit
+  pub assignment : OnAssignment g.problem (IsAssignment g)

@@ -1,0 +1,40 @@
+//! Arcs: as callers see them, and as an instance stores them.
+ghost use Rattle.std.specs.Prelude.{◌≡◌};
+ghost use Rattle.mcf_instance.specs.Packed.{unpacked};
+
+use mcf_text::NodeId;
+
+/// An arc, from the node `src` to the node `dst`, with the bounds of its flow and the cost of each unit.
+#[derive(Clone, Copy, Debug, PartialEq, Eq)]
+pub struct Arc {
+    pub src: NodeId,
+    pub dst: NodeId,
+    pub low: i128,
+    pub cap: i128,
+    pub cost: i128,
+}
+
+/// An arc as it is stored: 32 bytes.
+#[derive(Clone, Copy, Debug)]
+pub(crate) struct PackedArc {
+    pub(crate) src: u32,
+    pub(crate) dst: u32,
+    pub(crate) low: i64,
+    pub(crate) cap: i64,
+    pub(crate) cost: i64,
+}
+
+impl PackedArc {
+    /// The arc that is stored.
+    pub(crate) fn unpack(self) -> Arc
+        ensures { result ≡ unpacked self }
+    {
+        Arc {
+            src: NodeId::new(self.src),
+            dst: NodeId::new(self.dst),
+            low: i128::from(self.low),
+            cap: i128::from(self.cap),
+            cost: i128::from(self.cost),
+        }
+    }
+}

@@ -1,0 +1,5 @@
+pub mod Fields
+pub mod Line
+pub mod Lines
+pub mod Row
+pub mod Whole
