@@ -1,0 +1,3 @@
+mod CutTexts
+mod FaultyTexts
+mod GoodTexts
