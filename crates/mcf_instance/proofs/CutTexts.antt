@@ -96,10 +96,10 @@ uncut = refl
 stands_for : reading limits text ≡ Ok (record {
   problem = Min;
   arcs = record { src = 1; dst = 2; low = pos 0; cap = pos 4; cost = pos 2 }
-    ∷ record { src = 1; dst = 3; low = pos 0; cap = pos 2; cost = pos 2 }
-    ∷ record { src = 2; dst = 3; low = pos 0; cap = pos 2; cost = pos 1 }
-    ∷ record { src = 2; dst = 4; low = pos 0; cap = pos 3; cost = pos 3 }
-    ∷ record { src = 3; dst = 4; low = pos 0; cap = pos 5; cost = pos 1 } ∷ [];
+      ∷ record { src = 1; dst = 3; low = pos 0; cap = pos 2; cost = pos 2 }
+      ∷ record { src = 2; dst = 3; low = pos 0; cap = pos 2; cost = pos 1 }
+      ∷ record { src = 2; dst = 4; low = pos 0; cap = pos 3; cost = pos 3 }
+      ∷ record { src = 3; dst = 4; low = pos 0; cap = pos 5; cost = pos 1 } ∷ [];
   supplies = pos 4 ∷ pos 0 ∷ pos 0 ∷ negsuc 3 ∷ [];
 })
 unfolding first_fault first_fault_of_lines faults fault_of_line fault_at_end instance_of_lines reading

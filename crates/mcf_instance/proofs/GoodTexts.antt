@@ -33,7 +33,7 @@ bounds_below_zero = refl
 an_assignment : reading_of_text (codes "p asn 4 2" ∷ codes "n 1" ∷ codes "n 2" ∷ codes "a 1 3 1" ∷ codes "a 2 3 1" ∷ []) ≡ Ok (record {
   problem = Asn;
   arcs = record { src = 1; dst = 3; low = pos 0; cap = pos 1; cost = pos 1 }
-    ∷ record { src = 2; dst = 3; low = pos 0; cap = pos 1; cost = pos 1 } ∷ [];
+      ∷ record { src = 2; dst = 3; low = pos 0; cap = pos 1; cost = pos 1 } ∷ [];
   supplies = pos 1 ∷ pos 1 ∷ negsuc 0 ∷ negsuc 0 ∷ [];
 })
 unfolding first_fault first_fault_of_lines faults fault_of_line fault_at_end instance_of_lines reading
