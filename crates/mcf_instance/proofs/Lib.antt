@@ -1,3 +1,9 @@
-mod CutTexts
-mod FaultyTexts
-mod GoodTexts
+pub mod ArcSums
+pub mod CutTexts
+pub mod Duality
+pub mod FaultyTexts
+pub mod GoodTexts
+pub mod Hoffman
+pub mod IntLaws
+pub mod NodeSums
+pub mod SameSets
