@@ -15,7 +15,7 @@ words_mcf := solve $(example).min
 .NOTPARALLEL:
 
 all: $(or $(programs),libraries)
-	@scripts/examples.sh
+	$(if $(programs),@scripts/examples.sh,@echo "libraries: all are proved; there is no program yet")
 
 # `rt run` proves what has changed since its last run, builds the program and runs it.
 $(programs):

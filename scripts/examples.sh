@@ -5,7 +5,7 @@ set -u
 cd "$(dirname "$0")/.." || exit 1
 
 if [ ! -x bin/mcfcheck ] && [ ! -x bin/mcf ]; then
-    echo "The libraries are proved; there is no program yet."
+    echo "examples: bin/ has no program"
     exit 0
 fi
 
