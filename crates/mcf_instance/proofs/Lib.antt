@@ -1,3 +1,5 @@
 mod CutTexts
 mod FaultyTexts
 mod GoodTexts
+pub mod LineSteps
+pub mod Signed

@@ -5,6 +5,7 @@ pub mod Blocking
 pub mod Fault
 pub mod Flow
 pub mod Laws
+pub mod LineReader
 pub mod Limits
 pub mod Network
 pub mod Packed

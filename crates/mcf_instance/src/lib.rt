@@ -9,6 +9,7 @@ mod arc;
 mod code;
 mod instances;
 mod problem;
+mod reader;
 mod refusal;
 
 pub use arc::Arc;

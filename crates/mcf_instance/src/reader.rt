@@ -1,0 +1,3 @@
+//! The one-pass reader of instance texts.
+
+mod line;
