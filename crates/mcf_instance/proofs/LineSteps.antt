@@ -1,6 +1,6 @@
 -- What a line says, past the test of its number of fields and the reading of its numbers.
-use Rattle.std.proofs.Common.{◌≡◌, ℕ, Bool, true, false, List, length, refl, Some, Ok}
-use Rattle.std.specs.Prelude.{Option, Result, ℤ}
+use Rattle.std.proofs.Common.{◌≡◌, ℕ, Bool, true, List, length, refl, Some, Ok}
+use Rattle.std.specs.Prelude.{Option, ℤ}
 use Rattle.mcf_instance.specs.declared.reader.line.Heading.{Heading}
 use Rattle.mcf_instance.specs.declared.reader.line.ArcNumbers.{ArcNumbers}
 use Rattle.mcf_instance.specs.Limits.{limits}

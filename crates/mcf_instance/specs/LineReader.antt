@@ -1,8 +1,8 @@
 -- What a line says, read in the order of the reader's tests.
-use Rattle.std.specs.Prelude.{◌≡◌, ℕ, ◌+◌, ◌-◌, ◌^◌, ◌==◌, nat_le, nat_lt, Bool, true, false, not, ◌&&◌, ◌||◌, if◌then◌else◌, List, [], ◌∷◌, length, bytes_eq, codes, slice_index_or, ℤ, pos, neg_ℤ, int_lt, Option, Some, None, Result, Ok, Err}
+use Rattle.std.specs.Prelude.{ℕ, ◌+◌, ◌-◌, ◌^◌, ◌==◌, nat_le, nat_lt, Bool, false, not, ◌&&◌, ◌||◌, if◌then◌else◌, List, [], length, bytes_eq, codes, slice_index_or, ℤ, pos, int_lt, Option, Some, None, Result, Ok, Err}
 use Rattle.mcf_instance.specs.declared.arc.PackedArc.{PackedArc}
 use Rattle.mcf_instance.specs.declared.code.Code.{Code}
-use Rattle.mcf_instance.specs.declared.code.Code.TheVariants.{Kind, Fields, Problem, Number, SecondP, BeforeP, Size, Node, LateN, Twice, Supply, Bound, Order, Cost, Extra, Side}
+use Rattle.mcf_instance.specs.declared.code.Code.TheVariants.{Fields, Problem, Number, SecondP, BeforeP, Size, Node, LateN, Twice, Supply, Bound, Order, Cost, Extra, Side}
 use Rattle.mcf_instance.specs.declared.problem.Problem.{Problem as Format}
 use Rattle.mcf_instance.specs.declared.problem.Problem.TheVariants.{Min, Asn}
 use Rattle.mcf_instance.specs.declared.reader.line.Heading.{Heading}
@@ -95,9 +95,9 @@ arc_numbers fields =
     number_at fields 2 >>= λ dst.
     number_at fields 3 >>= λ third.
     (if length fields == 6 then
-        (number_at fields 4 >>= λ cap.
-        number_at fields 5 >>= λ cost.
-        Ok (record { src = src; dst = dst; low = third; cap = cap; cost = cost }))
+    (number_at fields 4 >>= λ cap.
+    number_at fields 5 >>= λ cost.
+    Ok (record { src = src; dst = dst; low = third; cap = cap; cost = cost }))
     else Ok (record { src = src; dst = dst; low = pos 0; cap = pos 1; cost = third }))
 
 abbrev pub is_wrong_side : Heading → List Bool → ℕ → ℕ → Bool

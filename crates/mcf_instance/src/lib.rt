@@ -11,9 +11,12 @@ mod instances;
 mod problem;
 mod reader;
 mod refusal;
+#[cfg(test)]
+mod tests;
 
 pub use arc::Arc;
 pub use code::Code;
 pub use instances::Instance;
 pub use problem::{Problem, Side};
+pub use reader::read;
 pub use refusal::Refusal;

@@ -13,15 +13,19 @@ use mcf_text::{Whole, whole};
 
 // How many nodes and arcs there may be.
 const NODE_LIMIT: i64 = 1_000_000;
+
 const ARC_LIMIT: i64 = 10_000_000;
 
 // How far from 0 a supply, a bound and a cost may lie.
 const SUPPLY_LIMIT: i64 = 1_000_000_000_000_000;
+
 const BOUND_LIMIT: i64 = 1_000_000_000_000_000;
+
 const COST_LIMIT: i64 = 1_000_000_000_000;
 
 // How far from 0 the numbers lie that are kept as they are, and what stands for the others.
 const KEPT_SIZE: i128 = 1_000_000_000_000_000_000;
+
 const PAST_EVERY_RANGE: i64 = 1_000_000_000_000_000_001;
 
 /// What a problem line says.
@@ -149,8 +153,18 @@ fn node_count_fits(heading: Option<Heading>, count: usize) -> bool
 {
     match heading {
         None => count == 3 || count == 2,
-        Some(Heading { problem: Problem::Min, .. }) => count == 3,
-        Some(Heading { problem: Problem::Asn, .. }) => count == 2,
+        Some(
+            Heading {
+                problem: Problem::Min,
+                ..
+            },
+        ) => count == 3,
+        Some(
+            Heading {
+                problem: Problem::Asn,
+                ..
+            },
+        ) => count == 2,
     }
 }
 
@@ -217,8 +231,18 @@ fn arc_count_fits(heading: Option<Heading>, count: usize) -> bool
 {
     match heading {
         None => count == 6 || count == 4,
-        Some(Heading { problem: Problem::Min, .. }) => count == 6,
-        Some(Heading { problem: Problem::Asn, .. }) => count == 4,
+        Some(
+            Heading {
+                problem: Problem::Min,
+                ..
+            },
+        ) => count == 6,
+        Some(
+            Heading {
+                problem: Problem::Asn,
+                ..
+            },
+        ) => count == 4,
     }
 }
 
@@ -232,9 +256,21 @@ fn arc_numbers(fields: &[&[u8]]) -> Result<ArcNumbers, Code>
     if fields.len() == 6 {
         let cap = number_of(fields, 4)?;
         let cost = number_of(fields, 5)?;
-        Ok(ArcNumbers { src, dst, low: third, cap, cost })
+        Ok(ArcNumbers {
+            src,
+            dst,
+            low: third,
+            cap,
+            cost,
+        })
     } else {
-        Ok(ArcNumbers { src, dst, low: 0, cap: 1, cost: third })
+        Ok(ArcNumbers {
+            src,
+            dst,
+            low: 0,
+            cap: 1,
+            cost: third,
+        })
     }
 }
 

@@ -1,4 +1,4 @@
-use Rattle.std.proofs.Common.{rules, ◌∙◌, sym, true, arith, map, length, ◌≡◌, Bool, ap}
+use Rattle.std.proofs.Common.{rules, ◌∙◌, sym, true, map, length, ◌≡◌}
 use Rattle.std.proofs.lemmas.Int.{to_z-of_z}
 use Rattle.std.proofs.lemmas.List.{length-map}
 use mir.Val.{SFits}
