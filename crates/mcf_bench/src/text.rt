@@ -1,4 +1,9 @@
 //! Splits a text into lines and fields, and reads each field as a whole number.
+ghost use Rattle.std.specs.Prelude.{◌≡◌, ◌+◌, length};
+ghost use Rattle.mcf_text.specs.Fields.{fields_of};
+ghost use Rattle.mcf_text.specs.Lines.{numbered_lines};
+ghost use Rattle.mcf_bench.specs.Tally.{capped, fields_in};
+
 use mcf_text::{Whole, fields, lines, whole};
 use std::fs;
 use std::io;
@@ -31,7 +36,11 @@ pub fn run(rt: &impl Runtime, path: &str) -> io::Result<()> {
     println!(rt; "seconds {:.6}", split.as_secs_f64())
 }
 
-fn count(text: &[u8]) -> Tally {
+// The tally of a text.
+fn count(text: &[u8]) -> Tally
+    ensures lines { result.lines ≡ capped (length (numbered_lines 1 text.now)) }
+    ensures fields { result.fields ≡ capped (fields_in (numbered_lines 1 text.now)) }
+{
     let mut tally = Tally {
         lines: 0,
         fields: 0,
@@ -40,12 +49,22 @@ fn count(text: &[u8]) -> Tally {
     };
     for line in lines(text) {
         tally.lines = tally.lines.saturating_add(1);
-        for field in fields(line.bytes) {
-            tally.fields = tally.fields.saturating_add(1);
-            if let Whole::Value(value) = whole(field, LOW, HIGH) {
-                tally.numbers = tally.numbers.saturating_add(1);
-                tally.sum = tally.sum.wrapping_add(value);
-            }
+        tally = with_fields(tally, line.bytes);
+    }
+    tally
+}
+
+// A tally with the fields of a line added.
+fn with_fields(tally: Tally, line: &[u8]) -> Tally
+    ensures lines { result.lines ≡ tally.lines }
+    ensures fields { result.fields ≡ capped (tally.fields + length (fields_of line.now)) }
+{
+    let mut tally = tally;
+    for field in fields(line) {
+        tally.fields = tally.fields.saturating_add(1);
+        if let Whole::Value(value) = whole(field, LOW, HIGH) {
+            tally.numbers = tally.numbers.saturating_add(1);
+            tally.sum = tally.sum.wrapping_add(value);
         }
     }
     tally
