@@ -5,13 +5,13 @@ ghost use Rattle.mcf_text.specs.Lines.{numbered_lines};
 ghost use Rattle.mcf_bench.specs.Tally.{capped, fields_in};
 
 use mcf_text::{Whole, fields, lines, whole};
-use std::fs;
-use std::io;
 use std::rt::Runtime;
 use std::time::Instant;
+use std::{fs, io};
 
 // The whole numbers that are read: those of 18 digits or fewer.
 const LOW: i128 = -999_999_999_999_999_999;
+
 const HIGH: i128 = 999_999_999_999_999_999;
 
 // What a text holds.
@@ -31,7 +31,10 @@ pub fn run(rt: &impl Runtime, path: &str) -> io::Result<()> {
     let start = Instant::now(rt)?;
     let tally = count(text.as_slice());
     let split = start.elapsed(rt)?;
-    println!(rt; "lines {} fields {} numbers {} sum {}", tally.lines, tally.fields, tally.numbers, tally.sum)?;
+    println!(rt;
+        "lines {} fields {} numbers {} sum {}",
+        tally.lines, tally.fields, tally.numbers, tally.sum
+    )?;
     println!(rt; "read_seconds {:.6}", read.as_secs_f64())?;
     println!(rt; "seconds {:.6}", split.as_secs_f64())
 }

@@ -8,5 +8,5 @@ invariant-loop-line l = record {
   lines : capped (l.tally.lines + length l.line-iterator) ≡ capped (length (numbered_lines 1 l.text));
   fields : capped (l.tally.fields + fields_in l.line-iterator) ≡ capped (fields_in (numbered_lines 1 l.text));
   lines_fit : l.tally.lines < 2 ^ 64;
-  fields_fit : l.tally.fields < 2 ^ 64
+  fields_fit : l.tally.fields < 2 ^ 64;
 }

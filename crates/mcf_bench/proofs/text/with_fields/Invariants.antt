@@ -7,5 +7,5 @@ abbrev pub invariant-loop-field : goal.invariant-loop-field
 invariant-loop-field l = record {
   lines : l.tally.lines ≡ l.initial.tally.lines;
   fields : capped (l.tally.fields + length l.field-iterator) ≡ capped (l.initial.tally.fields + length (fields_of l.line));
-  fields_fit : l.tally.fields < 2 ^ 64
+  fields_fit : l.tally.fields < 2 ^ 64;
 }
