@@ -58,7 +58,8 @@ pub(crate) fn split_line(text: &[u8]) -> Option<(&[u8], &[u8])>
     }
 }
 
-// The first field of a line and the bytes after it, or nothing where the line has no field.
+// The first field of a line and the bytes after the blank that ends it, or nothing where the line
+// has no field.
 pub(crate) fn split_field(line: &[u8]) -> Option<(&[u8], &[u8])>
     ensures { MatchOption result (fields_of line.now ≡ [])
         (λ parts. fields_of line.now ≡ parts.0.now ∷ fields_of parts.1.now) }
@@ -66,7 +67,7 @@ pub(crate) fn split_field(line: &[u8]) -> Option<(&[u8], &[u8])>
     let start = first_run_byte(line)?;
     let field = &line[start..];
     match first_blank(field) {
-        Some(end) => Some((&field[..end], &field[end..])),
+        Some(end) => Some((&field[..end], &field[end + 1..])),
         None => Some((field, &[])),
     }
 }
