@@ -1,2 +1,3 @@
+pub mod Appends
 mod SmallAnswers
 mod SmallTexts

@@ -8,7 +8,9 @@
 mod answers;
 mod lists;
 mod shape;
+mod writer;
 
 pub use answers::{Answer, BlockedAnswer, FlowAnswer, Sent};
 pub use lists::{NodeList, PriceList, SentList};
 pub use shape::Shape;
+pub use writer::write;
