@@ -6,6 +6,8 @@
 //! are those of an answer, `Written` what is written, `Fits` and `Parsing` what a text stands for.
 
 mod answers;
+mod draft;
+mod line;
 mod lists;
 mod shape;
 mod writer;
