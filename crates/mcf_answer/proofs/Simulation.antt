@@ -117,7 +117,7 @@ after_draft (first ∷ others) line = after_filled (opening_said first) others l
 
 -- ---- the kept lines
 
-abbrev run_rows : Draft → List Row → Result Draft ℕ
+abbrev pub run_rows : Draft → List Row → Result Draft ℕ
 run_rows d [] = Ok d
 run_rows d (row ∷ lines) = and_then (after d (tokens row)) row.number (λ e. run_rows e lines)
 
@@ -146,13 +146,20 @@ map-same : {X Y : Type 0} (f g : X → Y) (xs : List X) → ((x : X) → f x ≡
 map-same f g [] same = refl
 map-same f g (x ∷ xs) same = ap (λ y. y ∷ map f xs) (same x) ∙ ap (λ ys. g x ∷ ys) (map-same f g xs same)
 
-earlier_from-map : (done lines : List Row) → earlier_from done lines ≡ map (λ p. (done ++ p.0, p.1)) (with_earlier lines)
+-- a line after more lines
+abbrev behind : List Row → List Row × Row → List Row × Row
+behind done p = (done ++ p.0, p.1)
+
+abbrev behind_one : Row → List Row × Row → List Row × Row
+behind_one row p = (row ∷ p.0, p.1)
+
+earlier_from-map : (done lines : List Row) → earlier_from done lines ≡ map (behind done) (with_earlier lines)
 earlier_from-map done [] = refl
 earlier_from-map done (row ∷ lines) =
     ap (λ ps. (done, row) ∷ ps) (earlier_from-map (done ++ row ∷ []) lines
-    ∙ map-same (λ p. ((done ++ row ∷ []) ++ p.0, p.1)) (λ p. (done ++ row ∷ p.0, p.1)) (with_earlier lines) (λ p. ap (λ front. (front, p.1)) (append_assoc done (row ∷ []) p.0))
-    ∙ sym (map-map (λ p. (done ++ p.0, p.1)) (λ p. (row ∷ p.0, p.1)) (with_earlier lines)))
-    ∙ ap (λ front. (front, row) ∷ map (λ p. (done ++ p.0, p.1)) (map (λ p. (row ∷ p.0, p.1)) (with_earlier lines))) (sym (append-nil done))
+    ∙ map-same (behind (done ++ row ∷ [])) (λ (p : List Row × Row). behind done (behind_one row p)) (with_earlier lines) (λ p. ap (λ front. (front, p.1)) (append_assoc done (row ∷ []) p.0))
+    ∙ sym (map-map (behind done) (behind_one row) (with_earlier lines)))
+    ∙ ap (λ (front : List Row). (front, row) ∷ map (behind done) (map (behind_one row) (with_earlier lines))) (sym (append-nil done))
 
 earlier_from-empty : (lines : List Row) → earlier_from [] lines ≡ with_earlier lines
 earlier_from-empty lines = earlier_from-map [] lines ∙ map-id (with_earlier lines)

@@ -1,6 +1,7 @@
 pub mod BlockingSet
 pub mod Draft
 pub mod Fits
+pub mod Laws
 pub mod Parsing
 pub mod PartialSet
 pub mod Ranges

@@ -1,8 +1,11 @@
 //! Answers as text.
-ghost use Rattle.std.specs.Prelude.{◌≡◌, [], ◌∷◌, ◌++◌, List, ℤ, codes, map, flat_map, length, take, OnOk, OnErr, pos};
+ghost use Rattle.std.specs.Prelude.{◌≡◌, [], ◌∷◌, ◌++◌, Ok, map, flat_map, length, take, OnOk, OnErr};
 ghost use Rattle.std.specs.Fmt.{signed_decimal};
 ghost use Rattle.std.specs.List.{enumerate_from};
-ghost use Rattle.mcf_answer.specs.Spelling.{flow_line, node_line, price_line, set_lines, side_word as side_word_of, solution_lines};
+ghost use Rattle.mcf_answer.specs.BlockingSet.{IsBlockingSet};
+ghost use Rattle.mcf_answer.specs.Parsing.{parsing};
+ghost use Rattle.mcf_answer.specs.Solution.{IsSolution};
+ghost use Rattle.mcf_answer.specs.Spelling.{IsAnswer, Spells, flow_line, node_line, price_line, set_lines, side_word as side_word_of, solution_lines};
 ghost use Rattle.mcf_answer.specs.Token.{Word, Number};
 ghost use Rattle.mcf_answer.specs.Written.{line_text, written};
 
@@ -14,9 +17,13 @@ use mcf_text::{NoMemory, NodeId, put_number};
 /// sign and without leading zeros, each line ended by byte 10.
 ///
 /// Where memory runs out, the bytes stay as they were.
+#[tactic(auto, using(crate::proofs::Parsed::reads_back))]
 pub fn write(answer: &Answer, out: &mut Vec<u8>) -> Result<(), NoMemory>
     ensures ok { OnOk result (out.new.items ≡ out.old.items ++ written answer.now) }
     ensures err { OnErr result (out.new.items ≡ out.old.items) }
+    ensures in_range { OnOk result (IsAnswer answer.now) }
+    ensures spells { OnOk result (Spells (written answer.now) answer.now) }
+    ensures reads_back { OnOk result (parsing (written answer.now) ≡ Ok answer.now) }
 {
     let length = out.len();
     let outcome = put_answer(out, answer);
@@ -29,9 +36,10 @@ pub fn write(answer: &Answer, out: &mut Vec<u8>) -> Result<(), NoMemory>
 // Each function below leaves a part of what it appends where memory runs out.
 
 // Appends an answer.
-#[tactic(auto, unfolding(crate::specs::Written::written, crate::specs::Spelling::spelling))]
+#[tactic(auto, unfolding(crate::specs::Written::written, crate::specs::Spelling::spelling, crate::specs::Spelling::IsAnswer))]
 fn put_answer(out: &mut Vec<u8>, answer: &Answer) -> Result<(), NoMemory>
     ensures ok { OnOk result (out.new.items ≡ out.old.items ++ written answer.now) }
+    ensures in_range { OnOk result (IsAnswer answer.now) }
     ensures err { OnErr result (take (length out.old.items) out.new.items ≡ out.old.items) }
 {
     match answer {
@@ -50,6 +58,7 @@ fn put_answer(out: &mut Vec<u8>, answer: &Answer) -> Result<(), NoMemory>
 #[tactic(auto, using(crate::proofs::Appends::keeps))]
 fn put_solution(out: &mut Vec<u8>, flow: &FlowAnswer) -> Result<(), NoMemory>
     ensures ok { OnOk result (out.new.items ≡ out.old.items ++ flat_map line_text (solution_lines flow.now)) }
+    ensures in_range { OnOk result (IsSolution flow.now) }
     ensures err { OnErr result (take (length out.old.items) out.new.items ≡ out.old.items) }
 {
     put_line(out, b"s", &[flow.cost])?;
@@ -61,6 +70,7 @@ fn put_solution(out: &mut Vec<u8>, flow: &FlowAnswer) -> Result<(), NoMemory>
 #[tactic(auto, using(crate::proofs::Appends::keeps))]
 fn put_set(out: &mut Vec<u8>, set: &BlockedAnswer) -> Result<(), NoMemory>
     ensures ok { OnOk result (out.new.items ≡ out.old.items ++ flat_map line_text (set_lines set.now)) }
+    ensures in_range { OnOk result (IsBlockingSet set.now) }
     ensures err { OnErr result (take (length out.old.items) out.new.items ≡ out.old.items) }
 {
     let nodes = set.nodes.as_slice();
