@@ -4,6 +4,7 @@
     python3 bench/run.py PART [--runs N] [--nodes N] [--built]
 
 PART
+  read      reads an instance, and keeps it in 32 bytes an arc
   text      splits a text of lines into fields and reads each field as a number
 
 Proves and builds `mcf_bench`, builds the peer by `rustc -O`, makes the input, and
@@ -23,7 +24,10 @@ OUT = BENCH / "out"
 CRATE = BENCH.parent / "crates" / "mcf_bench"
 
 # of each part: the family of its input, the number of nodes, and the greatest ratio
-PARTS = {"text": ("sparse", 300_000, 1.1)}
+PARTS = {
+    "read": ("sparse", 300_000, 1.2),
+    "text": ("sparse", 300_000, 1.1),
+}
 
 
 def make_input(part, nodes):

@@ -3,12 +3,13 @@
 //! Runs one part of the suite on a file and prints what it found and how long it took.
 //! `bench/run.py` compares each part with a peer.
 
+mod reading;
 mod text;
 
 use std::process::ExitCode;
 use std::{env, io};
 
-const USAGE: &str = "usage: mcf_bench text FILE";
+const USAGE: &str = "usage: mcf_bench read|text FILE";
 
 fn main(rt: HostRuntime) -> io::Result<ExitCode> {
     let mut words = env::args(&rt)?;
@@ -21,6 +22,7 @@ fn main(rt: HostRuntime) -> io::Result<ExitCode> {
         return refuse(&rt);
     };
     match part.as_str() {
+        "read" => reading::run(&rt, path.as_str())?,
         "text" => text::run(&rt, path.as_str())?,
         _ => return refuse(&rt),
     }
