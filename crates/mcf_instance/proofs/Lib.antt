@@ -4,6 +4,7 @@ mod CutTexts
 pub mod Faults
 mod FaultyTexts
 pub mod FittingItems
+pub mod GoodHeaders
 mod GoodTexts
 pub mod Items
 pub mod LineSteps
