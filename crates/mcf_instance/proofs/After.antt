@@ -35,7 +35,7 @@ none_at p x xs e = go (p x) refl
     go false f = f
 
 -- a fault of the table doesn't apply to a good line
-applies_not : (lines : List Row) (row : Row) (k : ℕ) (code : Code) (rest : List Code) → drop k table ≡ code ∷ rest → fault_of_line limits lines row ≡ None → applies limits code lines row ≡ false
+pub applies_not : (lines : List Row) (row : Row) (k : ℕ) (code : Code) (rest : List Code) → drop k table ≡ code ∷ rest → fault_of_line limits lines row ≡ None → applies limits code lines row ≡ false
 unfolding fault_of_line
 applies_not lines row k code rest at none =
     none_at (λ c. applies limits c lines row) code rest (ap (find (λ c. applies limits c lines row)) (sym at) ∙ none_from (λ c. applies limits c lines row) table k none)
@@ -99,7 +99,7 @@ pub after_item : (s : StateData) (lines : List Row) (row : Row) (item : Item) �
 after_item s lines row item h e = go (fault_of_line limits lines row) refl
   where
     go : (o : Option Code) → fault_of_line limits lines row ≡ o → Holds (with_item s item) (lines ++ row ∷ [])
-    go (Some found) f = cc (sym (item_reads s lines row h ∙ ap (λ o. ok_unless o (item_said lines row)) f) ∙ e)
+    go (Some fault) f = cc (sym (item_reads s lines row h ∙ ap (λ o. ok_unless o (item_said lines row)) f) ∙ e)
     go None f =
         let is : ok_unless None (item_said lines row) ≡ Ok item = sym (item_reads s lines row h ∙ ap (λ o. ok_unless o (item_said lines row)) f) ∙ e in
         let same : item_said lines row ≡ item = cc in

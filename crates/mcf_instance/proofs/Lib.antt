@@ -12,6 +12,8 @@ pub mod FittingItems
 pub mod GoodTexts
 pub mod Hoffman
 pub mod IntLaws
+pub mod GoodHeaders
+mod GoodTexts
 pub mod Items
 pub mod LineSteps
 pub mod NetSteps

@@ -51,7 +51,7 @@ same_fault s lines row h = ap fault_of (item_reads s lines row h) ∙ go (fault_
   where
     go : (o : Option Code) → fault_of (ok_unless o (item_said lines row)) ≡ o
     go None = refl
-    go (Some found) = refl
+    go (Some fault) = refl
 
 -- a good line taken in
 pub holds_after : (s : StateData) (lines : List Row) (row : Row) (item : Item) → Holds s lines → item_of limits s row.fields ≡ Ok item → Holds (with_item s item) (lines ++ row ∷ [])

@@ -22,7 +22,7 @@ append_none : {X : Type 0} (xs : List X) → xs ++ [] ≡ xs
 append_none [] = refl
 append_none (x ∷ xs) = ap (λ ys. x ∷ ys) (append_none xs)
 
-one_more : {X : Type 0} (xs : List X) (x : X) (ys : List X) → xs ++ x ∷ ys ≡ (xs ++ x ∷ []) ++ ys
+pub one_more : {X : Type 0} (xs : List X) (x : X) (ys : List X) → xs ++ x ∷ ys ≡ (xs ++ x ∷ []) ++ ys
 one_more [] x ys = refl
 one_more (z ∷ xs) x ys = ap (λ zs. z ∷ zs) (one_more xs x ys)
 
@@ -54,6 +54,9 @@ kept_one x e = ap (λ b. map row_of (cond b (x ∷ []) [])) e
 
 kept_none : (x : ℕ × List ℕ) → is_kept x.1 ≡ false → kept_rows (x ∷ []) ≡ []
 kept_none x e = ap (λ b. map row_of (cond b (x ∷ []) [])) e
+
+pub kept_first : (x : ℕ × List ℕ) (rest : List (ℕ × List ℕ)) → is_kept x.1 ≡ true → kept_rows (x ∷ rest) ≡ row_of x ∷ kept_rows rest
+kept_first x rest e = kept_rows-append (x ∷ []) rest ∙ ap (λ rs. rs ++ kept_rows rest) (kept_one x e)
 
 -- ---- the loop
 
@@ -98,7 +101,7 @@ first_fault_stays xs (y ∷ ys) fault e =
     ap (λ rs. slice_get (faults limits rs) 0) (one_more xs y ys)
     ∙ first_fault_stays (xs ++ y ∷ []) ys fault (first_fault_more xs y ∙ ap (λ o. option_or o (as_fault limits (xs, y))) e)
 
-rows_joined : (text : List ℕ) (before rest : List (ℕ × List ℕ)) → numbered_lines 1 text ≡ before ++ rest → rows text ≡ kept_rows before ++ kept_rows rest
+pub rows_joined : (text : List ℕ) (before rest : List (ℕ × List ℕ)) → numbered_lines 1 text ≡ before ++ rest → rows text ≡ kept_rows before ++ kept_rows rest
 rows_joined text before rest e = ap kept_rows e ∙ kept_rows-append before rest
 
 pub read_refused : (text : List ℕ) (s : StateData) (next : ℕ) (rest : List (ℕ × List ℕ)) (fault : Fault) → HasRead limits text s next rest → s.refusal ≡ Some fault → reading limits text ≡ Err fault

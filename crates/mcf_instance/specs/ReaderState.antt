@@ -45,6 +45,16 @@ abbrev pub default_supply : Format → ℤ
 default_supply Min = pos 0
 default_supply Asn = neg_ℤ (pos 1)
 
+-- a problem line and an arc line make the state grow
+abbrev pub item_grows : Item → Bool
+item_grows (Problem h) = true
+item_grows (Supply v z) = false
+item_grows (Link a) = true
+
+abbrev pub outcome_grows : Result Item Code → Bool
+outcome_grows (Ok item) = item_grows item
+outcome_grows (Err fault) = false
+
 abbrev pub with_item : StateData → Item → StateData
 with_item s (Problem h) = record { heading = Some h; listed = replicate h.nodes false; supplies = replicate h.nodes (default_supply h.problem); arcs = s.arcs; refusal = s.refusal }
 with_item s (Supply v z) = record { heading = s.heading; listed = slice_set s.listed (v - 1) true; supplies = slice_set s.supplies (v - 1) z; arcs = s.arcs; refusal = s.refusal }

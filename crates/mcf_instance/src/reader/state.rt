@@ -1,8 +1,10 @@
 //! The reader's state: what the lines so far say.
 ghost use Rattle.std.specs.Prelude.{◌≡◌, ◌++◌, ◌∷◌, [], List, map, length, OnOk, OnErr, IfOk, ◌≤◌, ◌^◌, IsTrue};
+ghost use Rattle.std.specs.List.{list_any};
+ghost use Rattle.mcf_instance.specs.Fault.{is_good_header};
 ghost use Rattle.mcf_instance.specs.Limits.{limits};
 ghost use Rattle.mcf_instance.specs.ReaderSound.{ItemFits};
-ghost use Rattle.mcf_instance.specs.ReaderState.{empty, item_of, with_item, after_row, refusal_after, finished};
+ghost use Rattle.mcf_instance.specs.ReaderState.{empty, item_of, with_item, item_grows, outcome_grows, after_row, refusal_after, finished};
 ghost use Rattle.mcf_instance.specs.Stands.{Stands};
 ghost use Rattle.mcf_text.specs.Fields.{is_kept};
 ghost use Rattle.mcf_text.specs.Row.{Row, row_of};
@@ -97,6 +99,7 @@ impl State {
         requires { ItemFits limits self.old item }
         ensures ok { OnOk result (self.new ≡ with_item self.old item) }
         ensures err { OnErr result (self.new ≡ self.old) }
+        ensures grows { OnErr result (IsTrue (item_grows item)) }
     {
         match item {
             Item::Problem(heading) => self.start(alloc, heading),
@@ -119,6 +122,7 @@ impl State {
         requires numbered { (1 ≤ number) × (number ≤ 10 ^ 37) }
         ensures ok { OnOk result (self.new ≡ after_row limits self.old (record { number = number; fields = map (λ f. f.now) fields.now })) }
         ensures err { OnErr result (self.new ≡ self.old) }
+        ensures grows { OnErr result ((self.old.refusal ≡ None) × IsTrue (outcome_grows (item_of limits self.old (map (λ f. f.now) fields.now)))) }
     {
         if self.refusal.is_some() {
             return Ok(());
@@ -141,6 +145,8 @@ impl State {
         ensures stands { OnOk result ((lines : List Row) → Stands limits self.old lines
             → Stands limits self.new (lines ++ row_of (number, line.now) ∷ [])) }
         ensures err { OnErr result (self.new ≡ self.old) }
+        ensures wants { OnErr result ((lines : List Row) → Stands limits self.old lines
+            → IsTrue (list_any is_good_header (lines ++ row_of (number, line.now) ∷ []))) }
     {
         let first = first_fields(line);
         self.advance(alloc, number, &first.fields[..first.count])
