@@ -1,0 +1,14 @@
+pub use Rattle.mcf_instance.specs.Assignment
+pub use Rattle.mcf_instance.specs.Blocking
+pub use Rattle.mcf_instance.specs.Flow
+pub use Rattle.mcf_instance.specs.Limits
+pub use Rattle.mcf_instance.specs.Network
+pub use Rattle.mcf_instance.specs.WellFormed
+pub mod Nets
+pub mod NodeSets
+pub mod Residual
+pub mod Stars
+pub mod States
+pub mod Stored
+pub mod Stuck
+pub mod Walks
