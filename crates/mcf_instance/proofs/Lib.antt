@@ -1,0 +1,9 @@
+pub mod AllZips
+pub mod ArcSums
+pub mod Bounds
+pub mod Duality
+pub mod Hoffman
+pub mod IntLaws
+pub mod NetSteps
+pub mod NodeSums
+pub mod SameSets

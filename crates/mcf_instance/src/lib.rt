@@ -8,11 +8,13 @@
 mod arc;
 mod code;
 mod instances;
+mod laws;
 mod problem;
 mod refusal;
 
 pub use arc::Arc;
 pub use code::Code;
 pub use instances::Instance;
+pub use laws::{blocked_has_no_flow, shown_flows_are_least};
 pub use problem::{Problem, Side};
 pub use refusal::Refusal;
