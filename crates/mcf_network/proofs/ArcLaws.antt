@@ -1,9 +1,7 @@
 -- What is known of each arc of a net, and of its amount in a state.
-use Rattle.std.proofs.Common.{◌≡◌, ℕ, zero, suc, ◌+◌, ◌-◌, ◌≤◌, ◌<◌, Bool, true, false, List, [], ◌∷◌, length, set, get_or, refl, ap, sym, ◌∙◌, arith, subst, ℤ, pos, ◌+ℤ◌, ◌-ℤ◌, neg_ℤ, ◌≤ℤ◌}
-use Rattle.std.specs.List.{All, AllZip}
+use Rattle.std.proofs.Common.{◌≡◌, ℕ, ◌-◌, ◌<◌, Bool, true, false, List, length, get_or, refl, ap, sym, ◌∙◌, arith, subst, ℤ, pos, ◌-ℤ◌, ◌≤ℤ◌}
 use Rattle.std.proofs.lemmas.Int.{ints}
-use Rattle.std.proofs.lemmas.List.{get_or-map, length-map}
-use Rattle.mcf_instance.specs.declared.arc.Arc.{Arc}
+use Rattle.std.proofs.lemmas.List.{get_or-map, get_or_read, length-map}
 use Rattle.mcf_instance.specs.Flow.{CanCarry}
 use Rattle.mcf_instance.specs.Network.{Network, IsArcNumber, IsNode, at_node, node_count}
 use Rattle.mcf_instance.specs.WellFormed.{IsUpTo, HasEnds}
@@ -14,7 +12,7 @@ use Rattle.mcf_network.specs.Stored.{stored_arc, stored_net}
 use Rattle.mcf_network.specs.Nets.{IsNet, IsNetArc, width_limit, supply_limit}
 use Rattle.mcf_network.specs.Residual.{no_arc, arc_at, tail, head}
 use Rattle.mcf_network.specs.States.{Flow, IsFlow, amount_at, room_of}
-use Rattle.mcf_network.proofs.Bounds.{AllZip-at, length-AllZip}
+use Rattle.mcf_instance.proofs.AllZips.{AllZip-at, length-AllZip}
 
 pub ends_at : (g : Network) (k : ℕ) → IsNet g → IsArcNumber g k → HasEnds (node_count g) (arc_at g k)
 ends_at g k ok h = ok.ends (k - 1) no_arc (omega arith)
@@ -85,10 +83,45 @@ pub record IsStoredAt (g : Network) (k : ℕ) (a : StoredArc) : Type 0 where
 
 pub stored_arc_at : (g : Network) (problem : Problem) (arcs : List StoredArc) (supplies : List ℤ) (k : ℕ) (a : StoredArc) → stored_net problem arcs supplies ≡ g → IsNet (stored_net problem arcs supplies) → IsArcNumber g k → a ≡ get_or arcs (k - 1) a → IsStoredAt g k a
 stored_arc_at g problem arcs supplies k a view ok h e =
-    let here : IsArcNumber (stored_net problem arcs supplies) k = rw view h in
+    let here : IsArcNumber (stored_net problem arcs supplies) k = subst (λ n. IsArcNumber n k) (sym view) h in
     let is = stored_at problem arcs supplies k a here e in
     subst (λ n. IsStoredAt n k a) view (record {
       is = is;
       ends = subst (λ x. HasEnds (length supplies) x) is (ends_at (stored_net problem arcs supplies) k ok here);
       arc = subst IsNetArc is (net_arc_at (stored_net problem arcs supplies) k ok here);
     })
+
+-- an amount of a state, as a read gives it
+pub record IsReadAmount (s : Flow) (g : Network) (k : ℕ) (x : ℤ) : Type 0 where
+  pub is : x ≡ amount_at s k
+  pub low : pos 0 ≤ℤ x
+  pub high : x ≤ℤ (arc_at s.net k).cap
+  pub width : (arc_at s.net k).cap ≤ℤ pos width_limit
+  pub same_width : (arc_at g k).cap ≡ (arc_at s.net k).cap
+
+pub amount_in_range : (s : Flow) (g : Network) (amounts : List ℤ) (k : ℕ) → record { net = g; amounts = amounts } ≡ s → IsFlow (record { net = g; amounts = amounts }) → IsArcNumber s.net k → k - 1 < length amounts
+amount_in_range s g amounts k view ok h =
+    (amount_of (record { net = g; amounts = amounts }) k ok (subst (λ (t : Flow). IsArcNumber t.net k) (sym view) h)).in_range
+
+pub read_amount : (s : Flow) (g : Network) (amounts : List ℤ) (k : ℕ) (x : ℤ) → record { net = g; amounts = amounts } ≡ s → IsFlow (record { net = g; amounts = amounts }) → IsArcNumber s.net k → x ≡ get_or amounts (k - 1) x → IsReadAmount s g k x
+read_amount s g amounts k x view ok h e =
+    let here : IsArcNumber g k = subst (λ (t : Flow). IsArcNumber t.net k) (sym view) h in
+    let a = amount_of (record { net = g; amounts = amounts }) k ok here in
+    let is : x ≡ get_or amounts (k - 1) (pos 0) = get_or_read amounts (k - 1) x a.in_range e (pos 0) in
+    subst (λ (t : Flow). IsReadAmount t g k x) view (record {
+      is = is;
+      low = rw is a.low;
+      high = rw is a.high;
+      width = a.width;
+      same_width = refl;
+    })
+
+pub room_back : (s : Flow) (r : Rid) → r.back ≡ true → room_of s r ≡ amount_at s r.arc
+room_back s r e = rw e refl
+
+pub room_forward : (s : Flow) (r : Rid) → r.back ≡ false → room_of s r ≡ (arc_at s.net r.arc).cap -ℤ amount_at s r.arc
+room_forward s r e = rw e refl
+
+pub read_room : (s : Flow) (g : Network) (amounts : List ℤ) (r : Rid) → record { net = g; amounts = amounts } ≡ s → IsFlow (record { net = g; amounts = amounts }) → IsArcNumber s.net r.arc → HasSmallRoom (room_of s r)
+read_room s g amounts r view ok h =
+    room_small s r.arc r.back (subst IsFlow view ok) h

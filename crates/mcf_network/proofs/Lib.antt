@@ -1,5 +1,3 @@
 pub mod ArcLaws
-pub mod Bounds
-pub mod IntLaws
 pub mod StateLaws
-pub mod Sums
+pub mod WalkLaws

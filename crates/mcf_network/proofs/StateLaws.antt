@@ -1,23 +1,26 @@
 -- What a push does to a state, and bounds of surpluses.
-use Rattle.std.proofs.Common.{◌≡◌, ◌≢◌, ℕ, zero, suc, ◌+◌, ◌-◌, ◌*◌, ◌^◌, ◌≤◌, ◌<◌, Bool, true, false, eqb, cond, List, [], ◌∷◌, length, take, set, get_or, replicate, refl, ap, sym, ◌∙◌, arith, ℤ, pos, ◌+ℤ◌, ◌-ℤ◌, neg_ℤ, ◌≤ℤ◌, ◌⊎◌, inl, inr, length-set}
-use Rattle.std.specs.List.{All, AllZip}
+use Rattle.std.proofs.Common.{◌≡◌, ◌≢◌, ℕ, zero, suc, ◌-◌, ◌*◌, ◌^◌, ◌<◌, Bool, true, false, eqb, cond, List, [], ◌∷◌, length, set, get_or, replicate, refl, ap, sym, ◌∙◌, arith, subst, ℤ, pos, ◌+ℤ◌, ◌-ℤ◌, neg_ℤ, ◌≤ℤ◌, ◌⊎◌, inl, inr, length-set, to_z, of_z, w64}
+use Rattle.std.specs.List.{All}
 use Rattle.std.proofs.Math.Seq.{take-length}
+use mir.Syntax.{w128}
 use Rattle.std.proofs.lemmas.Int.{ints}
 use Rattle.std.proofs.lemmas.Bool.{cases_eq, eq-eqb, ne_eqb}
-use Rattle.std.proofs.lemmas.List.{get_or-set_other, get_or-replicate, length-replicate}
+use Rattle.std.proofs.lemmas.List.{get_or-set_other, get_or_read}
 use Rattle.std.proofs.lemmas.List.Elements.{All-head, All-tail}
 use Rattle.std.proofs.lemmas.Grind.{get_or-set_at}
 use Rattle.mcf_instance.specs.declared.arc.Arc.{Arc}
-use Rattle.mcf_instance.specs.Flow.{CanCarry, IsWithinBounds, net, outflow, inflow}
+use Rattle.mcf_instance.specs.Flow.{CanCarry, IsWithinBounds, net}
 use Rattle.mcf_instance.specs.Network.{Network, IsArcNumber, IsNode, at_node, flow_sum, node_count, when}
 use Rattle.mcf_instance.specs.WellFormed.{IsUpTo}
+use Rattle.mcf_instance.proofs.AllZips.{AllZip-set, AllZip-with}
+use Rattle.mcf_instance.proofs.ArcSums.{flow_sum-set}
+use Rattle.mcf_instance.proofs.Bounds.{flow_sum_up_to, when_up_to}
+use Rattle.mcf_instance.proofs.NetSteps.{add_at_node}
 use Rattle.mcf_network.specs.declared.rid.Rid.{Rid}
-use Rattle.mcf_network.specs.Nets.{IsNet, IsNetArc, width_limit, supply_limit}
+use Rattle.mcf_network.specs.Nets.{IsNet, IsNetArc, width_limit}
 use Rattle.mcf_network.specs.Residual.{no_arc, arc_at, tail, head}
 use Rattle.mcf_network.specs.States.{Flow, IsFlow, KeepsSurplus, amount_at, pushed, room_of, surplus_at}
-use Rattle.mcf_network.proofs.ArcLaws.{amount_count, amount_of, net_arc_at, supply_at, room_small}
-use Rattle.mcf_network.proofs.Bounds.{AllZip-at, AllZip-with, flow_sum_up_to, when_up_to}
-use Rattle.mcf_network.proofs.Sums.{flow_sum-set}
+use Rattle.mcf_network.proofs.ArcLaws.{amount_count, amount_of, net_arc_at, supply_at}
 
 abbrev pub rid : ℕ → Bool → Rid
 rid k b = record { arc = k; back = b }
@@ -50,35 +53,15 @@ read_written xs i v a d l =
 
 -- ---- surpluses
 
--- a number added to the entry of one node
-pub add_at_node : (xs : List ℤ) (s v : ℕ) (d z : ℤ) → IsNode (length xs) s → IsNode (length xs) v → z ≡ at_node xs s +ℤ d → at_node (set xs (s - 1) z) v ≡ at_node xs v +ℤ when (eqb s v) d
-add_at_node xs s v d z hs hv k =
-    elim (cases_eq s v) [
-      | inl same ↦
-          let p : s - 1 < length xs = omega arith in
-          let at = ap (at_node xs) same in
-          rw (eq-eqb s v same) (get_or-set_at xs (s - 1) (v - 1) z (pos 0) (omega arith) p ∙ omega (arith, ints, k, at))
-      | inr other ↦
-          let q : (v - 1) ≢ (s - 1) = λ h. other (omega arith) in
-          rw (ne_eqb s v other) (get_or-set_other xs (s - 1) (v - 1) z (pos 0) q ∙ omega (arith, ints))
-    ]
-
 -- x less at node i, and then x more at node j
 pub move_two : (xs : List ℤ) (i j v : ℕ) (a b x : ℤ) → IsNode (length xs) i → IsNode (length xs) j → IsNode (length xs) v → a ≡ at_node xs i -ℤ x → b ≡ at_node (set xs (i - 1) a) j +ℤ x → at_node (set (set xs (i - 1) a) (j - 1) b) v ≡ at_node xs v -ℤ when (eqb i v) x +ℤ when (eqb j v) x
 move_two xs i j v a b x hi hj hv ea eb =
     let n = length-set xs (i - 1) a in
-    let first = add_at_node xs i v (neg_ℤ x) a hi hv ea in
-    let second = add_at_node (set xs (i - 1) a) j v x b (omega (arith, n)) (omega (arith, n)) eb in
+    let first = add_at_node xs i v (at_node xs i) (neg_ℤ x) a hi hv refl ea in
+    let second = add_at_node (set xs (i - 1) a) j v (at_node (set xs (i - 1) a) j) x b (omega (arith, n)) (omega (arith, n)) refl eb in
     omega (arith, ints, first, second, when-neg (eqb i v) x)
 
 -- ---- amounts
-
-AllZip-set : (R : Arc → ℤ → Type 0) (arcs : List Arc) (flow : List ℤ) (i : ℕ) (d : Arc) (y : ℤ) → AllZip R arcs flow → i < length arcs → R (get_or arcs i d) y → AllZip R arcs (set flow i y)
-AllZip-set R [] flow i d y h k here = absurd (omega arith)
-AllZip-set R (a ∷ arcs) [] i d y h k here = absurd h
-AllZip-set R (a ∷ arcs) (f ∷ flow) zero d y h k here = (here, h.1)
-AllZip-set R (a ∷ arcs) (f ∷ flow) (suc i) d y h k here =
-    (h.0, AllZip-set R arcs flow i d y h.1 (omega arith) here)
 
 -- an amount from 0 to the width in place of that of an arc
 pub set_ok : (s : Flow) (k : ℕ) (y : ℤ) → IsFlow s → IsArcNumber s.net k → pos 0 ≤ℤ y → y ≤ℤ (arc_at s.net k).cap → IsFlow (record s { amounts = set s.amounts (k - 1) y })
@@ -86,7 +69,7 @@ set_ok s k y ok h low high =
     let none = (net_arc_at s.net k ok.of_net h).no_low in
     record {
       of_net = ok.of_net;
-      within_bounds = AllZip-set CanCarry s.net.arcs s.amounts (k - 1) no_arc y ok.within_bounds (omega arith) (omega (arith, ints, none, low), high);
+      within_bounds = AllZip-set CanCarry s.net.arcs s.amounts (k - 1) no_arc y (omega arith) ok.within_bounds (omega (arith, ints, none, low), high);
     }
 
 pub pushed_ok : (s : Flow) (k : ℕ) (b : Bool) (x : ℤ) → IsFlow s → IsArcNumber s.net k → pos 0 ≤ℤ x → x ≤ℤ room_of s (rid k b) → IsFlow (pushed s (rid k b) x)
@@ -128,7 +111,7 @@ placed_up_to b a f h =
 -- the net of a node is small
 net_small : (s : Flow) (v : ℕ) → IsFlow s → IsUpTo (4 * 10 ^ 25) (net s.net.arcs s.amounts v)
 net_small s v ok =
-    let all = AllZip-with IsNetArc CanCarry s.net.arcs s.amounts ok.of_net.each_arc ok.within_bounds in
+    let all = AllZip-with CanCarry IsNetArc s.net.arcs s.amounts ok.of_net.each_arc ok.within_bounds in
     let out = rw (take-length s.net.arcs) at (flow_sum_up_to Placed (λ a f. when (eqb a.src v) f) (2 * 10 ^ 18) (λ a f. placed_up_to (eqb a.src v) a f) s.net.arcs s.amounts (length s.net.arcs) all) in
     let into = rw (take-length s.net.arcs) at (flow_sum_up_to Placed (λ a f. when (eqb a.dst v) f) (2 * 10 ^ 18) (λ a f. placed_up_to (eqb a.dst v) a f) s.net.arcs s.amounts (length s.net.arcs) all) in
     let count = ok.of_net.arcs in
@@ -179,3 +162,59 @@ zero_keeps g ok =
           let into = flow_sum-zeros (λ a f. when (eqb a.dst v) f) (λ a. when-zero (eqb a.dst v)) g.arcs (length g.arcs) in
           omega (arith, ints, out, into);
     }
+
+-- ---- what the code of a push does
+
+-- the second entry that is read, once the first is written, is small too
+pub second_small : (xs : List ℤ) (i j : ℕ) (a q x : ℤ) → IsNode (length xs) i → IsNode (length xs) j → IsUpTo (10 ^ 30) x → ((v : ℕ) → IsNode (length xs) v → IsUpTo (10 ^ 30) (at_node xs v)) → a ≡ at_node xs i -ℤ x → q ≡ get_or (set xs (i - 1) a) (j - 1) q → (q ≡ at_node (set xs (i - 1) a) j) × IsUpTo (2 * 10 ^ 30) q
+second_small xs i j a q x hi hj small each ea eq =
+    let l = length-set xs (i - 1) a in
+    let read : q ≡ at_node (set xs (i - 1) a) j = get_or_read (set xs (i - 1) a) (j - 1) q (omega (arith, l)) eq (pos 0) in
+    let was = add_at_node xs i j (at_node xs i) (neg_ℤ x) a hi hj refl ea in
+    (read, omega (arith, ints, read, was, each j hj, when_up_to (eqb i j) (10 ^ 30) (neg_ℤ x) (omega (arith, ints, small))))
+
+-- the new amount, as the code gives it
+pub changed_is : (b : Bool) (y a x : ℤ) → pos 0 ≤ℤ a → a ≤ℤ pos width_limit → pos 0 ≤ℤ x → x ≤ℤ pos width_limit → y ≡ cond b (to_z w64 (of_z w64 a) -ℤ to_z w128 (of_z w128 x)) (to_z w64 (of_z w64 a) +ℤ to_z w128 (of_z w128 x)) → to_z w64 (of_z w64 y) ≡ cond b (a -ℤ x) (a +ℤ x)
+changed_is true y a x al ah xl xh e = omega (arith, ints)
+changed_is false y a x al ah xl xh e = omega (arith, ints)
+
+-- what a push makes of a state
+pub record IsPushStep (s : Flow) (r : Rid) (x : ℤ) (after : Flow) (kept : List ℤ) : Type 0 where
+  pub keeps : KeepsSurplus after kept
+  pub is : after ≡ pushed s r x
+  pub moves : (v : ℕ) → surplus_at after v ≡ surplus_at s v -ℤ when (eqb (tail s.net r) v) x +ℤ when (eqb (head s.net r) v) x
+
+module _ (g : Network) (amounts kept kept' : List ℤ) (r : Rid) (x a y : ℤ) (i from to : ℕ) where
+  push_step_at : KeepsSurplus (record { net = g; amounts = amounts }) kept → i ≡ r.arc → IsArcNumber g r.arc → pos 0 ≤ℤ x → x ≤ℤ room_of (record { net = g; amounts = amounts }) r → a ≡ get_or amounts (i - 1) a → y ≡ cond r.back (a -ℤ x) (a +ℤ x) → from ≡ tail g r → to ≡ head g r → length kept' ≡ length kept → ((v : ℕ) → IsNode (length kept) v → at_node kept' v ≡ at_node kept v -ℤ when (eqb from v) x +ℤ when (eqb to v) x) → IsPushStep (record { net = g; amounts = amounts }) r x (record { net = g; amounts = set amounts (i - 1) y }) kept'
+  push_step_at ok ei h low high ea ey ef et n each =
+      let s : Flow = record { net = g; amounts = amounts } in
+      let here = (amount_of s r.arc ok.flow h).in_range in
+      let is_a : a ≡ amount_at s r.arc = get_or_read amounts (r.arc - 1) a here (rw (← ei) ea) (pos 0) in
+      let is : record { net = g; amounts = set amounts (i - 1) y } ≡ pushed s r x = rw (ei, ey, is_a) refl in
+      record {
+        keeps = subst (λ (t : Flow). KeepsSurplus t kept') (sym is) (keeps_pushed s kept kept' r x from to ok h low high ef et n each);
+        is = is;
+        moves = λ v. ap (λ (t : Flow). surplus_at t v) is ∙ pushed_surplus s r.arc r.back x ok.flow h v;
+      }
+
+  pub push_step : (s : Flow) → record { net = g; amounts = amounts } ≡ s → KeepsSurplus (record { net = g; amounts = amounts }) kept → i ≡ r.arc → IsArcNumber s.net r.arc → pos 0 ≤ℤ x → x ≤ℤ room_of s r → a ≡ get_or amounts (i - 1) a → y ≡ cond r.back (a -ℤ x) (a +ℤ x) → from ≡ tail g r → to ≡ head g r → length kept' ≡ length kept → ((v : ℕ) → IsNode (length kept) v → at_node kept' v ≡ at_node kept v -ℤ when (eqb from v) x +ℤ when (eqb to v) x) → IsPushStep s r x (record { net = g; amounts = set amounts (i - 1) y }) kept'
+  push_step s view ok ei h low high ea ey ef et n each =
+      subst (λ (t : Flow). IsPushStep t r x (record { net = g; amounts = set amounts (i - 1) y }) kept') view
+      (push_step_at ok ei (subst (λ (t : Flow). IsArcNumber t.net r.arc) (sym view) h) low (subst (λ (t : Flow). x ≤ℤ room_of t r) (sym view) high) ea ey ef et n each)
+
+-- a kept surplus, as a read gives it
+pub record IsReadSurplus (s : Flow) (v : ℕ) (x : ℤ) : Type 0 where
+  pub is : x ≡ surplus_at s v
+  pub small : IsUpTo (2 * 10 ^ 26) x
+  pub flow : IsFlow s
+
+pub read_surplus : (s : Flow) (g : Network) (amounts kept : List ℤ) (v : ℕ) (x : ℤ) → record { net = g; amounts = amounts } ≡ s → KeepsSurplus (record { net = g; amounts = amounts }) kept → IsNode (node_count s.net) v → x ≡ get_or kept (v - 1) x → IsReadSurplus s v x
+read_surplus s g amounts kept v x view ok h e =
+    let t : Flow = record { net = g; amounts = amounts } in
+    let here : IsNode (node_count g) v = subst (λ (t : Flow). IsNode (node_count t.net) v) (sym view) h in
+    let is : x ≡ surplus_at t v = get_or_read kept (v - 1) x (omega (arith, here, ok.count)) e (pos 0) ∙ ok.each v here in
+    subst (λ (t : Flow). IsReadSurplus t v x) view (record {
+      is = is;
+      small = rw is (surplus_small t v ok.flow here);
+      flow = ok.flow;
+    })

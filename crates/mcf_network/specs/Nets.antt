@@ -1,9 +1,9 @@
 -- What every net keeps: a network whose lows are 0, and whose caps are called widths.
-use Rattle.std.specs.Prelude.{◌≡◌, ℕ, ◌*◌, ◌^◌, ◌≤◌, map, length, sum, ℤ, pos, ◌≤ℤ◌}
+use Rattle.std.specs.Prelude.{◌≡◌, ℕ, ◌*◌, ◌^◌, ◌≤◌, map, length, sum, pos, ◌≤ℤ◌}
 use Rattle.std.specs.List.{All}
 use Rattle.mcf_instance.specs.declared.arc.Arc.{Arc}
 use Rattle.mcf_instance.specs.Assignment.{OnAssignment, IsAssignment}
-use Rattle.mcf_instance.specs.Limits.{wide_limits, total_limit, node_limit, arc_limit}
+use Rattle.mcf_instance.specs.Limits.{wide_limits, node_limit, arc_limit}
 use Rattle.mcf_instance.specs.Network.{Network, node_count}
 use Rattle.mcf_instance.specs.WellFormed.{IsUpTo, HasEnds, weight}
 

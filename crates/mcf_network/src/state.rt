@@ -1,5 +1,5 @@
 //! Residual states.
-ghost use Rattle.std.specs.Prelude.{◌≡◌, ◌+ℤ◌, ◌-ℤ◌, ◌*◌, ◌^◌, ◌≤ℤ◌, ◌==◌, ℕ, IfOk, if◌then◌else◌, length, pos, replicate, slice_index_or, vec_len};
+ghost use Rattle.std.specs.Prelude.{◌≡◌, ◌+ℤ◌, ◌-ℤ◌, ◌*◌, ◌^◌, ◌≤ℤ◌, ◌==◌, ℕ, IfOk, if◌then◌else◌, length, pos, replicate};
 ghost use Rattle.mcf_instance.specs.Network.{IsArcNumber, IsNode, at_node, node_count, when};
 ghost use Rattle.mcf_instance.specs.WellFormed.{IsUpTo};
 ghost use Rattle.mcf_network.specs.Nets.{width_limit};
@@ -105,10 +105,11 @@ impl<'n> State<'n> {
         ensures surpluses { MovesSurplus self.old self.new (tail self.old.net r) (head self.old.net r) amount }
         ensures valid { IsFlow self.new }
     {
+        let back = r.back;
+        let k = r.arc.get() as usize - 1;
         let net = self.net;
         let (from, to) = net.route(r);
-        let k = r.arc.get() as usize - 1;
-        let changed = changed_amount(self.amounts[k], r.back, amount);
+        let changed = changed_amount(self.amounts[k], back, amount);
         self.amounts[k] = changed;
         move_surplus(&mut self.surpluses, from, to, amount);
     }
@@ -128,12 +129,12 @@ fn changed_amount(amount: i64, back: bool, x: i128) -> i64
 
 // Moves `x` of the surplus of one node to another.
 fn move_surplus(surpluses: &mut Vec<i128>, from: NodeId, to: NodeId, x: i128)
-    requires from { IsNode (vec_len surpluses.old) from }
-    requires to { IsNode (vec_len surpluses.old) to }
+    requires from { IsNode (length surpluses.old.items) from }
+    requires to { IsNode (length surpluses.old.items) to }
     requires x { IsUpTo (10 ^ 30) x }
-    requires each { (v : ℕ) → IsNode (vec_len surpluses.old) v → IsUpTo (10 ^ 30) (at_node surpluses.old.items v) }
-    ensures length { vec_len surpluses.new ≡ vec_len surpluses.old }
-    ensures each { (v : ℕ) → IsNode (vec_len surpluses.old) v → at_node surpluses.new.items v ≡ at_node surpluses.old.items v -ℤ when (from == v) x +ℤ when (to == v) x }
+    requires each { (v : ℕ) → IsNode (length surpluses.old.items) v → IsUpTo (10 ^ 30) (at_node surpluses.old.items v) }
+    ensures length { length surpluses.new.items ≡ length surpluses.old.items }
+    ensures each { (v : ℕ) → IsNode (length surpluses.old.items) v → at_node surpluses.new.items v ≡ at_node surpluses.old.items v -ℤ when (from == v) x +ℤ when (to == v) x }
 {
     let less = surpluses[from.get() as usize - 1] - x;
     surpluses[from.get() as usize - 1] = less;

@@ -1,10 +1,9 @@
 //! Walks of residual arcs.
-ghost use Rattle.std.specs.Prelude.{◌≡◌, ◌<◌, ◌+ℤ◌, ◌*ℤ◌, ◌≤ℤ◌, ◌<ℤ◌, ℕ, All, Any, length, pos};
-ghost use Rattle.std.specs.Int.{int_min};
+ghost use Rattle.std.specs.Prelude.{◌≡◌, ◌<◌, ◌+ℤ◌, ◌*ℤ◌, ◌≤ℤ◌, ◌⊎◌, ℕ, All, Any, length, pos};
 ghost use Rattle.mcf_instance.specs.Flow.{cost};
 ghost use Rattle.mcf_instance.specs.Network.{IsArcNumber};
 ghost use Rattle.mcf_network.specs.States.{IsFlow, MovesSurplus, room_of};
-ghost use Rattle.mcf_network.specs.Walks.{CanPushAlong, HasRoom, IsWalk, pushed_along, walk_cost};
+ghost use Rattle.mcf_network.specs.Walks.{CanPushAlong, IsWalk, pushed_along, walk_cost};
 
 use crate::rid::Rid;
 use crate::state::State;
@@ -41,7 +40,9 @@ pub fn push_along(state: &mut State<'_>, walk: &[Rid], amount: i128)
 
 // The lesser of two numbers.
 fn lesser(a: i128, b: i128) -> i128
-    ensures { result ≡ int_min a b }
+    ensures first { result ≤ℤ a }
+    ensures second { result ≤ℤ b }
+    ensures either { (result ≡ a) ⊎ (result ≡ b) }
 {
     if b < a { b } else { a }
 }
