@@ -6,13 +6,17 @@
 //! text stands for, `Network`, `Flow`, `Blocking` and `Laws` what flows, prices and node sets are.
 
 mod arc;
+mod blocking;
 mod code;
 mod instances;
 mod laws;
 mod problem;
 mod refusal;
+#[cfg(test)]
+mod tests_flows;
 
 pub use arc::Arc;
+pub use blocking::{blocks, table_of};
 pub use code::Code;
 pub use instances::Instance;
 pub use laws::{blocked_has_no_flow, shown_flows_are_least};
