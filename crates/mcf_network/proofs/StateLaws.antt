@@ -1,0 +1,220 @@
+-- What a push does to a state, and bounds of surpluses.
+use Rattle.std.proofs.Common.{◌≡◌, ◌≢◌, ℕ, zero, suc, ◌-◌, ◌*◌, ◌^◌, ◌<◌, Bool, true, false, eqb, cond, List, [], ◌∷◌, length, set, get_or, replicate, refl, ap, sym, ◌∙◌, arith, subst, ℤ, pos, ◌+ℤ◌, ◌-ℤ◌, neg_ℤ, ◌≤ℤ◌, ◌⊎◌, inl, inr, length-set, to_z, of_z, w64}
+use Rattle.std.specs.List.{All}
+use Rattle.std.proofs.Math.Seq.{take-length}
+use mir.Syntax.{w128}
+use Rattle.std.proofs.lemmas.Int.{ints}
+use Rattle.std.proofs.lemmas.Bool.{cases_eq, eq-eqb, ne_eqb}
+use Rattle.std.proofs.lemmas.List.{get_or-set_other, get_or_read}
+use Rattle.std.proofs.lemmas.List.Elements.{All-head, All-tail}
+use Rattle.std.proofs.lemmas.Grind.{get_or-set_at}
+use Rattle.mcf_instance.specs.declared.arc.Arc.{Arc}
+use Rattle.mcf_instance.specs.Flow.{CanCarry, IsWithinBounds, net}
+use Rattle.mcf_instance.specs.Network.{Network, IsArcNumber, IsNode, at_node, flow_sum, node_count, when}
+use Rattle.mcf_instance.specs.WellFormed.{IsUpTo}
+use Rattle.mcf_instance.proofs.AllZips.{AllZip-set, AllZip-with}
+use Rattle.mcf_instance.proofs.ArcSums.{flow_sum-set}
+use Rattle.mcf_instance.proofs.Bounds.{flow_sum_up_to, when_up_to}
+use Rattle.mcf_instance.proofs.NetSteps.{add_at_node}
+use Rattle.mcf_network.specs.declared.rid.Rid.{Rid}
+use Rattle.mcf_network.specs.Nets.{IsNet, IsNetArc, width_limit}
+use Rattle.mcf_network.specs.Residual.{no_arc, arc_at, tail, head}
+use Rattle.mcf_network.specs.States.{Flow, IsFlow, KeepsSurplus, amount_at, pushed, room_of, surplus_at}
+use Rattle.mcf_network.proofs.ArcLaws.{amount_count, amount_of, net_arc_at, supply_at}
+
+abbrev pub rid : ℕ → Bool → Rid
+rid k b = record { arc = k; back = b }
+
+pub when-same : (i v : ℕ) (x : ℤ) → v ≡ i → when (eqb i v) x ≡ x
+when-same i v x e = rw (eq-eqb i v (sym e)) refl
+
+pub when-other : (i v : ℕ) (x : ℤ) → v ≢ i → when (eqb i v) x ≡ pos 0
+when-other i v x n = rw (ne_eqb i v (λ e. n (sym e))) refl
+
+pub when-neg : (b : Bool) (x : ℤ) → when b (neg_ℤ x) ≡ neg_ℤ (when b x)
+when-neg true x = refl
+when-neg false x = refl
+
+pub when-add : (b : Bool) (x y : ℤ) → when b (x +ℤ y) ≡ when b x +ℤ when b y
+when-add true x y = refl
+when-add false x y = refl
+
+pub when-zero : (b : Bool) → when b (pos 0) ≡ pos 0
+when-zero true = refl
+when-zero false = refl
+
+-- a read after a write
+pub read_written : (xs : List ℤ) (i v : ℕ) (a d : ℤ) → i < length xs → ((v ≡ i) × (get_or (set xs i a) v d ≡ a)) ⊎ ((v ≢ i) × (get_or (set xs i a) v d ≡ get_or xs v d))
+read_written xs i v a d l =
+    elim (cases_eq v i) [
+      | inl e ↦ inl (e, get_or-set_at xs i v a d e l)
+      | inr n ↦ inr (n, get_or-set_other xs i v a d n)
+    ]
+
+-- ---- surpluses
+
+-- x less at node i, and then x more at node j
+pub move_two : (xs : List ℤ) (i j v : ℕ) (a b x : ℤ) → IsNode (length xs) i → IsNode (length xs) j → IsNode (length xs) v → a ≡ at_node xs i -ℤ x → b ≡ at_node (set xs (i - 1) a) j +ℤ x → at_node (set (set xs (i - 1) a) (j - 1) b) v ≡ at_node xs v -ℤ when (eqb i v) x +ℤ when (eqb j v) x
+move_two xs i j v a b x hi hj hv ea eb =
+    let n = length-set xs (i - 1) a in
+    let first = add_at_node xs i v (at_node xs i) (neg_ℤ x) a hi hv refl ea in
+    let second = add_at_node (set xs (i - 1) a) j v (at_node (set xs (i - 1) a) j) x b (omega (arith, n)) (omega (arith, n)) refl eb in
+    omega (arith, ints, first, second, when-neg (eqb i v) x)
+
+-- ---- amounts
+
+-- an amount from 0 to the width in place of that of an arc
+pub set_ok : (s : Flow) (k : ℕ) (y : ℤ) → IsFlow s → IsArcNumber s.net k → pos 0 ≤ℤ y → y ≤ℤ (arc_at s.net k).cap → IsFlow (record s { amounts = set s.amounts (k - 1) y })
+set_ok s k y ok h low high =
+    let none = (net_arc_at s.net k ok.of_net h).no_low in
+    record {
+      of_net = ok.of_net;
+      within_bounds = AllZip-set CanCarry s.net.arcs s.amounts (k - 1) no_arc y (omega arith) ok.within_bounds (omega (arith, ints, none, low), high);
+    }
+
+pub pushed_ok : (s : Flow) (k : ℕ) (b : Bool) (x : ℤ) → IsFlow s → IsArcNumber s.net k → pos 0 ≤ℤ x → x ≤ℤ room_of s (rid k b) → IsFlow (pushed s (rid k b) x)
+pushed_ok s k true x ok h low high =
+    let a = amount_of s k ok h in
+    let u = a.high in
+    set_ok s k _ ok h (omega (arith, ints, high)) (omega (arith, ints, low, u))
+pushed_ok s k false x ok h low high =
+    let a = amount_of s k ok h in
+    let l = a.low in
+    set_ok s k _ ok h (omega (arith, ints, low, l)) (omega (arith, ints, high))
+
+-- the net of a node after one amount changed by x
+net_changed : (s : Flow) (k : ℕ) (x : ℤ) (v : ℕ) → IsFlow s → IsArcNumber s.net k → net s.net.arcs (set s.amounts (k - 1) (amount_at s k +ℤ x)) v ≡ net s.net.arcs s.amounts v +ℤ when (eqb (arc_at s.net k).src v) x -ℤ when (eqb (arc_at s.net k).dst v) x
+net_changed s k x v ok h =
+    let here : k - 1 < length s.net.arcs = omega arith in
+    let there : k - 1 < length s.amounts = omega (arith, here, amount_count s ok) in
+    let out = flow_sum-set (λ a f. when (eqb a.src v) f) s.net.arcs s.amounts (k - 1) (amount_at s k +ℤ x) no_arc (pos 0) here there in
+    let into = flow_sum-set (λ a f. when (eqb a.dst v) f) s.net.arcs s.amounts (k - 1) (amount_at s k +ℤ x) no_arc (pos 0) here there in
+    omega (arith, ints, out, into, when-add (eqb (arc_at s.net k).src v) (amount_at s k) x, when-add (eqb (arc_at s.net k).dst v) (amount_at s k) x)
+
+-- the surplus moves from the tail to the head
+pub pushed_surplus : (s : Flow) (k : ℕ) (b : Bool) (x : ℤ) → IsFlow s → IsArcNumber s.net k → (v : ℕ) → surplus_at (pushed s (rid k b) x) v ≡ surplus_at s v -ℤ when (eqb (tail s.net (rid k b)) v) x +ℤ when (eqb (head s.net (rid k b)) v) x
+pushed_surplus s k true x ok h v =
+    let e = net_changed s k (neg_ℤ x) v ok h in
+    omega (arith, ints, e, when-neg (eqb (arc_at s.net k).src v) x, when-neg (eqb (arc_at s.net k).dst v) x)
+pushed_surplus s k false x ok h v = let e = net_changed s k x v ok h in omega (arith, ints, e)
+
+-- an arc of a net with an amount that it may carry
+abbrev Placed : Arc → ℤ → Type 0
+Placed a f = IsNetArc a × CanCarry a f
+
+placed_up_to : (b : Bool) (a : Arc) (f : ℤ) → Placed a f → IsUpTo (2 * 10 ^ 18) (when b f)
+placed_up_to b a f h =
+    let none = h.0.no_low in
+    let wide = h.0.width_high in
+    when_up_to b (2 * 10 ^ 18) f (omega (arith, ints, none, wide, h.1))
+
+-- the net of a node is small
+net_small : (s : Flow) (v : ℕ) → IsFlow s → IsUpTo (4 * 10 ^ 25) (net s.net.arcs s.amounts v)
+net_small s v ok =
+    let all = AllZip-with CanCarry IsNetArc s.net.arcs s.amounts ok.of_net.each_arc ok.within_bounds in
+    let out = rw (take-length s.net.arcs) at (flow_sum_up_to Placed (λ a f. when (eqb a.src v) f) (2 * 10 ^ 18) (λ a f. placed_up_to (eqb a.src v) a f) s.net.arcs s.amounts (length s.net.arcs) all) in
+    let into = rw (take-length s.net.arcs) at (flow_sum_up_to Placed (λ a f. when (eqb a.dst v) f) (2 * 10 ^ 18) (λ a f. placed_up_to (eqb a.dst v) a f) s.net.arcs s.amounts (length s.net.arcs) all) in
+    let count = ok.of_net.arcs in
+    omega (arith, ints, out, into, count)
+
+pub surplus_small : (s : Flow) (v : ℕ) → IsFlow s → IsNode (node_count s.net) v → IsUpTo (2 * 10 ^ 26) (surplus_at s v)
+surplus_small s v ok h =
+    omega (arith, ints, net_small s v ok, supply_at s.net v ok.of_net h)
+
+pub kept_small : (s : Flow) (kept : List ℤ) (v : ℕ) → KeepsSurplus s kept → IsNode (length kept) v → IsUpTo (2 * 10 ^ 26) (at_node kept v)
+kept_small s kept v ok h =
+    let l : IsNode (node_count s.net) v = omega (arith, ok.count) in
+    rw (ok.each v l) (surplus_small s v ok.flow l)
+
+-- the kept surpluses after a push
+pub keeps_pushed : (s : Flow) (kept kept' : List ℤ) (r : Rid) (x : ℤ) (from to : ℕ) → KeepsSurplus s kept → IsArcNumber s.net r.arc → pos 0 ≤ℤ x → x ≤ℤ room_of s r → from ≡ tail s.net r → to ≡ head s.net r → length kept' ≡ length kept → ((v : ℕ) → IsNode (length kept) v → at_node kept' v ≡ at_node kept v -ℤ when (eqb from v) x +ℤ when (eqb to v) x) → KeepsSurplus (pushed s r x) kept'
+keeps_pushed s kept kept' r x from to ok h low high ef et n each =
+    record {
+      flow = pushed_ok s r.arc r.back x ok.flow h low high;
+      count = n ∙ ok.count;
+      each = λ v l.
+          each v (omega (arith, ok.count)) ∙ (rw (ok.each v l, ef, et) (sym (pushed_surplus s r.arc r.back x ok.flow h v)));
+    }
+
+-- ---- the state without any flow
+
+flow_sum-zeros : (t : Arc → ℤ → ℤ) → ((a : Arc) → t a (pos 0) ≡ pos 0) → (arcs : List Arc) (n : ℕ) → flow_sum t arcs (replicate n (pos 0)) ≡ pos 0
+flow_sum-zeros t z [] n = refl
+flow_sum-zeros t z (a ∷ arcs) zero = refl
+flow_sum-zeros t z (a ∷ arcs) (suc n) = rw (z a, flow_sum-zeros t z arcs n) refl
+
+zeros_within : (arcs : List Arc) → All IsNetArc arcs → IsWithinBounds arcs (replicate (length arcs) (pos 0))
+zeros_within [] h = tt
+zeros_within (a ∷ arcs) h =
+    let here = All-head IsNetArc a arcs h in
+    let none = here.no_low in
+    let wide = here.width_low in
+    ((omega (arith, ints, none), wide), zeros_within arcs (All-tail IsNetArc a arcs h))
+
+-- without any flow each surplus is the supply
+pub zero_keeps : (g : Network) → IsNet g → KeepsSurplus (record { net = g; amounts = replicate (length g.arcs) (pos 0) }) g.supplies
+zero_keeps g ok =
+    record {
+      flow = record { of_net = ok; within_bounds = zeros_within g.arcs ok.each_arc };
+      count = refl;
+      each = λ v h.
+          let out = flow_sum-zeros (λ a f. when (eqb a.src v) f) (λ a. when-zero (eqb a.src v)) g.arcs (length g.arcs) in
+          let into = flow_sum-zeros (λ a f. when (eqb a.dst v) f) (λ a. when-zero (eqb a.dst v)) g.arcs (length g.arcs) in
+          omega (arith, ints, out, into);
+    }
+
+-- ---- what the code of a push does
+
+-- the second entry that is read, once the first is written, is small too
+pub second_small : (xs : List ℤ) (i j : ℕ) (a q x : ℤ) → IsNode (length xs) i → IsNode (length xs) j → IsUpTo (10 ^ 30) x → ((v : ℕ) → IsNode (length xs) v → IsUpTo (10 ^ 30) (at_node xs v)) → a ≡ at_node xs i -ℤ x → q ≡ get_or (set xs (i - 1) a) (j - 1) q → (q ≡ at_node (set xs (i - 1) a) j) × IsUpTo (2 * 10 ^ 30) q
+second_small xs i j a q x hi hj small each ea eq =
+    let l = length-set xs (i - 1) a in
+    let read : q ≡ at_node (set xs (i - 1) a) j = get_or_read (set xs (i - 1) a) (j - 1) q (omega (arith, l)) eq (pos 0) in
+    let was = add_at_node xs i j (at_node xs i) (neg_ℤ x) a hi hj refl ea in
+    (read, omega (arith, ints, read, was, each j hj, when_up_to (eqb i j) (10 ^ 30) (neg_ℤ x) (omega (arith, ints, small))))
+
+-- the new amount, as the code gives it
+pub changed_is : (b : Bool) (y a x : ℤ) → pos 0 ≤ℤ a → a ≤ℤ pos width_limit → pos 0 ≤ℤ x → x ≤ℤ pos width_limit → y ≡ cond b (to_z w64 (of_z w64 a) -ℤ to_z w128 (of_z w128 x)) (to_z w64 (of_z w64 a) +ℤ to_z w128 (of_z w128 x)) → to_z w64 (of_z w64 y) ≡ cond b (a -ℤ x) (a +ℤ x)
+changed_is true y a x al ah xl xh e = omega (arith, ints)
+changed_is false y a x al ah xl xh e = omega (arith, ints)
+
+-- what a push makes of a state
+pub record IsPushStep (s : Flow) (r : Rid) (x : ℤ) (after : Flow) (kept : List ℤ) : Type 0 where
+  pub keeps : KeepsSurplus after kept
+  pub is : after ≡ pushed s r x
+  pub moves : (v : ℕ) → surplus_at after v ≡ surplus_at s v -ℤ when (eqb (tail s.net r) v) x +ℤ when (eqb (head s.net r) v) x
+
+module _ (g : Network) (amounts kept kept' : List ℤ) (r : Rid) (x a y : ℤ) (i from to : ℕ) where
+  push_step_at : KeepsSurplus (record { net = g; amounts = amounts }) kept → i ≡ r.arc → IsArcNumber g r.arc → pos 0 ≤ℤ x → x ≤ℤ room_of (record { net = g; amounts = amounts }) r → a ≡ get_or amounts (i - 1) a → y ≡ cond r.back (a -ℤ x) (a +ℤ x) → from ≡ tail g r → to ≡ head g r → length kept' ≡ length kept → ((v : ℕ) → IsNode (length kept) v → at_node kept' v ≡ at_node kept v -ℤ when (eqb from v) x +ℤ when (eqb to v) x) → IsPushStep (record { net = g; amounts = amounts }) r x (record { net = g; amounts = set amounts (i - 1) y }) kept'
+  push_step_at ok ei h low high ea ey ef et n each =
+      let s : Flow = record { net = g; amounts = amounts } in
+      let here = (amount_of s r.arc ok.flow h).in_range in
+      let is_a : a ≡ amount_at s r.arc = get_or_read amounts (r.arc - 1) a here (rw (← ei) ea) (pos 0) in
+      let is : record { net = g; amounts = set amounts (i - 1) y } ≡ pushed s r x = rw (ei, ey, is_a) refl in
+      record {
+        keeps = subst (λ (t : Flow). KeepsSurplus t kept') (sym is) (keeps_pushed s kept kept' r x from to ok h low high ef et n each);
+        is = is;
+        moves = λ v. ap (λ (t : Flow). surplus_at t v) is ∙ pushed_surplus s r.arc r.back x ok.flow h v;
+      }
+
+  pub push_step : (s : Flow) → record { net = g; amounts = amounts } ≡ s → KeepsSurplus (record { net = g; amounts = amounts }) kept → i ≡ r.arc → IsArcNumber s.net r.arc → pos 0 ≤ℤ x → x ≤ℤ room_of s r → a ≡ get_or amounts (i - 1) a → y ≡ cond r.back (a -ℤ x) (a +ℤ x) → from ≡ tail g r → to ≡ head g r → length kept' ≡ length kept → ((v : ℕ) → IsNode (length kept) v → at_node kept' v ≡ at_node kept v -ℤ when (eqb from v) x +ℤ when (eqb to v) x) → IsPushStep s r x (record { net = g; amounts = set amounts (i - 1) y }) kept'
+  push_step s view ok ei h low high ea ey ef et n each =
+      subst (λ (t : Flow). IsPushStep t r x (record { net = g; amounts = set amounts (i - 1) y }) kept') view
+      (push_step_at ok ei (subst (λ (t : Flow). IsArcNumber t.net r.arc) (sym view) h) low (subst (λ (t : Flow). x ≤ℤ room_of t r) (sym view) high) ea ey ef et n each)
+
+-- a kept surplus, as a read gives it
+pub record IsReadSurplus (s : Flow) (v : ℕ) (x : ℤ) : Type 0 where
+  pub is : x ≡ surplus_at s v
+  pub small : IsUpTo (2 * 10 ^ 26) x
+  pub flow : IsFlow s
+
+pub read_surplus : (s : Flow) (g : Network) (amounts kept : List ℤ) (v : ℕ) (x : ℤ) → record { net = g; amounts = amounts } ≡ s → KeepsSurplus (record { net = g; amounts = amounts }) kept → IsNode (node_count s.net) v → x ≡ get_or kept (v - 1) x → IsReadSurplus s v x
+read_surplus s g amounts kept v x view ok h e =
+    let t : Flow = record { net = g; amounts = amounts } in
+    let here : IsNode (node_count g) v = subst (λ (t : Flow). IsNode (node_count t.net) v) (sym view) h in
+    let is : x ≡ surplus_at t v = get_or_read kept (v - 1) x (omega (arith, here, ok.count)) e (pos 0) ∙ ok.each v here in
+    subst (λ (t : Flow). IsReadSurplus t v x) view (record {
+      is = is;
+      small = rw is (surplus_small t v ok.flow here);
+      flow = ok.flow;
+    })

@@ -1,0 +1,36 @@
+-- What every net keeps: a network whose lows are 0, and whose caps are called widths.
+use Rattle.std.specs.Prelude.{◌≡◌, ℕ, ◌*◌, ◌^◌, ◌≤◌, map, length, sum, pos, ◌≤ℤ◌}
+use Rattle.std.specs.List.{All}
+use Rattle.mcf_instance.specs.declared.arc.Arc.{Arc}
+use Rattle.mcf_instance.specs.Assignment.{OnAssignment, IsAssignment}
+use Rattle.mcf_instance.specs.Limits.{wide_limits, node_limit, arc_limit}
+use Rattle.mcf_instance.specs.Network.{Network, node_count}
+use Rattle.mcf_instance.specs.WellFormed.{IsUpTo, HasEnds, weight}
+
+-- the greatest width, the greatest size of a supply, and the greatest total over the arcs of the size of
+-- the cost times the width
+abbrev pub width_limit : ℕ
+width_limit = 2 * 10 ^ 18
+
+abbrev pub supply_limit : ℕ
+supply_limit = 10 ^ 26
+
+abbrev pub net_total_limit : ℕ
+net_total_limit = 2 * 10 ^ 36
+
+-- an arc without a low; a loop has no width
+pub record IsNetArc (a : Arc) : Type 0 where
+  pub no_low : a.low ≡ pos 0
+  pub width_low : pos 0 ≤ℤ a.cap
+  pub width_high : a.cap ≤ℤ pos width_limit
+  pub cost_small : IsUpTo wide_limits.cost a.cost
+  pub no_loop_width : a.src ≡ a.dst → a.cap ≡ pos 0
+
+pub record IsNet (g : Network) : Type 0 where
+  pub nodes : node_count g ≤ node_limit
+  pub arcs : length g.arcs ≤ arc_limit
+  pub ends : All (HasEnds (node_count g)) g.arcs
+  pub each_arc : All IsNetArc g.arcs
+  pub supplies : All (IsUpTo supply_limit) g.supplies
+  pub total : sum (map weight g.arcs) ≤ net_total_limit
+  pub assignment : OnAssignment g.problem (IsAssignment g)

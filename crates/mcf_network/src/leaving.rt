@@ -1,0 +1,34 @@
+//! The residual arcs that leave a node, as an iterator.
+use crate::rid::Rid;
+use std::marker::Model;
+
+/// The residual arcs that are still to come. A clause sees their list.
+#[derive(Clone, Debug, Drop)]
+pub struct Leaving<'a> {
+    pub(crate) rest: &'a [Rid],
+}
+
+impl<'a> Model for Leaving<'a> {
+    ghost use Rattle.std.specs.Prelude.{List};
+    ghost use Rattle.mcf_network.specs.declared.rid.Rid.{Rid};
+
+    ghost Value = { List Rid };
+
+    ghost view = { λ it. it.rest.now };
+}
+
+impl<'a> Iterator for Leaving<'a> {
+    ghost use Rattle.std.specs.Iterator.{YieldsFirst, item_count};
+
+    type Item = Rid;
+
+    ghost next_gives = { YieldsFirst (λ it. it) };
+
+    ghost remaining = { item_count (λ it. it) };
+
+    fn next(&mut self) -> Option<Rid> {
+        let (first, others) = self.rest.split_first()?;
+        self.rest = others;
+        Some(*first)
+    }
+}

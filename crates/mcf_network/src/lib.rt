@@ -1,0 +1,32 @@
+#![tactic(auto)]
+
+//! Nets, which are networks without lower bounds, and the residual states of flows on them.
+//!
+//! It stands on `mcf_instance`, and speaks of a net as of an instance: a network whose lows are 0 and
+//! whose caps are the widths. Definitions stand in `specs/`: `Nets` says what every net keeps, `Residual`
+//! and `Stars` what leaves a node, `States` and `Walks` what a push does, `NodeSets` and `Stuck` what a
+//! search reaches.
+
+mod laws;
+mod leaving;
+mod net;
+mod node_set;
+mod removal;
+mod restoring;
+mod rid;
+mod star;
+mod state;
+mod stored;
+mod surplus;
+mod walk;
+
+pub use laws::{
+    feasible_flows_are_states, net_flows_cost_no_more, nets_block_alike, stuck_sets_block,
+};
+pub use leaving::Leaving;
+pub use net::Net;
+pub use node_set::NodeSet;
+pub use restoring::restore;
+pub use rid::Rid;
+pub use state::State;
+pub use walk::{push_along, room_along};

@@ -1,0 +1,138 @@
+//! Networks without lower bounds.
+ghost use Rattle.std.specs.Prelude.{◌≡◌, length};
+ghost use Rattle.mcf_instance.specs.Network.{IsArcNumber, IsNode, at_node, node_count};
+ghost use Rattle.mcf_network.specs.Nets.{IsNet};
+ghost use Rattle.mcf_network.specs.Residual.{arc_at, head, tail, unit_cost};
+ghost use Rattle.mcf_network.specs.Stars.{ListsLeaving};
+
+use crate::leaving::Leaving;
+use crate::rid::Rid;
+use crate::stored::StoredArc;
+use mcf_instance::Problem;
+use mcf_text::{ArcId, NodeId};
+use std::marker::Model;
+
+/// A network in which the flow of each arc goes from 0 to its width, and a loop has no width.
+///
+/// Nodes and arcs are numbered from 1. A clause sees the network: its problem, its arcs in order, with
+/// low 0 and the width as cap, and the supplies of its nodes in order.
+#[derive(Drop)]
+pub struct Net {
+    pub(crate) problem: Problem,
+    pub(crate) arcs: Vec<StoredArc>,
+    pub(crate) supplies: Vec<i128>,
+    pub(crate) firsts: Vec<u32>,
+    pub(crate) outs: Vec<Rid>,
+}
+
+impl Model for Net {
+    ghost use Rattle.mcf_instance.specs.Network.{Network};
+
+    ghost Value = { Network };
+
+    ghost use Rattle.mcf_network.specs.Stored.{IsStored, stored_net};
+
+    ghost view = { λ n. stored_net n.problem n.arcs.items n.supplies.items };
+
+    ghost invariant = { λ n. IsStored (stored_net n.problem n.arcs.items n.supplies.items) n.firsts.items n.outs.items };
+}
+
+impl Net {
+    /// The problem of the instance of which this is the net.
+    pub fn problem(&self) -> Problem
+        ensures value { result ≡ self.now.problem }
+        ensures of_net { IsNet self.now }
+    {
+        self.problem
+    }
+
+    /// How many nodes there are, at most 1,000,000.
+    pub fn node_count(&self) -> u32
+        ensures value { result ≡ node_count self.now }
+        ensures of_net { IsNet self.now }
+    {
+        self.supplies.len() as u32
+    }
+
+    /// How many arcs there are, at most 10,000,000.
+    pub fn arc_count(&self) -> u32
+        ensures value { result ≡ length self.now.arcs }
+        ensures of_net { IsNet self.now }
+    {
+        self.arcs.len() as u32
+    }
+
+    /// The two ends of an arc: the node that it leaves, and the one that it enters.
+    pub fn ends(&self, k: ArcId) -> (NodeId, NodeId)
+        requires { IsArcNumber self.now k }
+        ensures src { result.0 ≡ (arc_at self.now k).src }
+        ensures dst { result.1 ≡ (arc_at self.now k).dst }
+        ensures src_is_node { IsNode (node_count self.now) result.0 }
+        ensures dst_is_node { IsNode (node_count self.now) result.1 }
+    {
+        let a = self.arcs[k.get() as usize - 1];
+        (NodeId::new(a.src), NodeId::new(a.dst))
+    }
+
+    /// The width of an arc, from 0 to 2 * 10^18: the most that it can carry.
+    pub fn width(&self, k: ArcId) -> i128
+        requires { IsArcNumber self.now k }
+        ensures value { result ≡ (arc_at self.now k).cap }
+        ensures of_net { IsNet self.now }
+    {
+        i128::from(self.arcs[k.get() as usize - 1].width)
+    }
+
+    /// The cost of each unit on an arc, at most 10^15 from 0.
+    pub fn cost(&self, k: ArcId) -> i128
+        requires { IsArcNumber self.now k }
+        ensures value { result ≡ (arc_at self.now k).cost }
+        ensures of_net { IsNet self.now }
+    {
+        i128::from(self.arcs[k.get() as usize - 1].cost)
+    }
+
+    /// The supply of a node, at most 10^26 from 0: what it sends, less what it takes.
+    pub fn supply(&self, v: NodeId) -> i128
+        requires { IsNode (node_count self.now) v }
+        ensures value { result ≡ at_node self.now.supplies v }
+        ensures of_net { IsNet self.now }
+    {
+        self.supplies[v.get() as usize - 1]
+    }
+
+    /// The node that a residual arc leaves, and the one that it enters.
+    pub fn route(&self, r: Rid) -> (NodeId, NodeId)
+        requires { IsArcNumber self.now r.arc }
+        ensures tail { result.0 ≡ tail self.now r }
+        ensures head { result.1 ≡ head self.now r }
+        ensures tail_is_node { IsNode (node_count self.now) result.0 }
+        ensures head_is_node { IsNode (node_count self.now) result.1 }
+    {
+        let (src, dst) = self.ends(r.arc);
+        if r.back { (dst, src) } else { (src, dst) }
+    }
+
+    /// The cost of each unit along a residual arc: that of the arc, or its opposite backward.
+    pub fn unit_cost(&self, r: Rid) -> i128
+        requires { IsArcNumber self.now r.arc }
+        ensures value { result ≡ unit_cost self.now r }
+        ensures of_net { IsNet self.now }
+    {
+        let cost = i128::from(self.arcs[r.arc.get() as usize - 1].cost);
+        if r.back { -cost } else { cost }
+    }
+
+    /// The residual arcs that leave a node, each once.
+    pub fn leaving(&self, v: NodeId) -> Leaving<'_>
+        requires { IsNode (node_count self.now) v }
+        ensures { ListsLeaving self.now v result }
+    {
+        let i = v.get() as usize;
+        let start = self.firsts[i - 1] as usize;
+        let end = self.firsts[i] as usize;
+        Leaving {
+            rest: &self.outs[start..end],
+        }
+    }
+}

@@ -1,0 +1,129 @@
+//! Residual states.
+ghost use Rattle.std.specs.Prelude.{◌≡◌, ◌+ℤ◌, ◌-ℤ◌, ◌*◌, ◌^◌, ◌≤ℤ◌, ◌==◌, ℕ, IfOk, if◌then◌else◌, length, pos, replicate};
+ghost use Rattle.mcf_instance.specs.Network.{IsArcNumber, IsNode, at_node, node_count, when};
+ghost use Rattle.mcf_instance.specs.WellFormed.{IsUpTo};
+ghost use Rattle.mcf_network.specs.Nets.{width_limit};
+ghost use Rattle.mcf_network.specs.Residual.{arc_at, head, tail};
+ghost use Rattle.mcf_network.specs.States.{IsFlow, MovesSurplus, amount_at, pushed, room_of, surplus_at};
+
+use crate::net::Net;
+use crate::rid::Rid;
+use crate::surplus::move_surplus;
+use mcf_text::{ArcId, NoMemory, NodeId};
+use std::alloc::Global;
+use std::marker::Model;
+
+/// A state of a net: for each arc an amount from 0 to its width, and for each node its surplus, which is
+/// its supply less the net of the amounts.
+///
+/// A clause sees the net and the amounts.
+#[derive(Drop)]
+pub struct State<'n> {
+    net: &'n Net,
+    amounts: Vec<i64>,
+    surpluses: Vec<i128>,
+}
+
+impl<'n> Model for State<'n> {
+    ghost use Rattle.mcf_network.specs.States.{Flow, KeepsSurplus};
+
+    ghost Value = { Flow };
+
+    ghost view = { λ s. record { net = s.net.now; amounts = s.amounts.items } };
+
+    ghost invariant = { λ s. KeepsSurplus (record { net = s.net.now; amounts = s.amounts.items }) s.surpluses.items };
+}
+
+impl<'n> State<'n> {
+    /// The state without any flow.
+    ///
+    /// # Errors
+    ///
+    /// Want of memory.
+    pub fn zero(alloc: Global, net: &'n Net) -> Result<State<'n>, NoMemory>
+        ensures value { IfOk result (λ s. s ≡ record { net = net.now; amounts = replicate (length net.now.arcs) (pos 0) }) }
+        ensures valid { IfOk result IsFlow }
+    {
+        let amounts = vec![in alloc; 0; net.arcs.len()]?;
+        let surpluses = net.supplies.iter().copied().collect(alloc)?;
+        Ok(State {
+            net,
+            amounts,
+            surpluses,
+        })
+    }
+
+    /// The net.
+    pub fn net(&self) -> &'n Net
+        ensures value { result.now ≡ self.now.net }
+        ensures valid { IsFlow self.now }
+    {
+        self.net
+    }
+
+    /// The amount of an arc, from 0 to its width.
+    pub fn amount(&self, k: ArcId) -> i128
+        requires { IsArcNumber self.now.net k }
+        ensures value { result ≡ amount_at self.now k }
+        ensures low { pos 0 ≤ℤ result }
+        ensures high { result ≤ℤ (arc_at self.now.net k).cap }
+        ensures valid { IsFlow self.now }
+    {
+        i128::from(self.amounts[k.get() as usize - 1])
+    }
+
+    /// The surplus of a node: its supply less the net of the amounts.
+    pub fn surplus(&self, v: NodeId) -> i128
+        requires { IsNode (node_count self.now.net) v }
+        ensures value { result ≡ surplus_at self.now v }
+        ensures small { IsUpTo (2 * 10 ^ 26) result }
+        ensures valid { IsFlow self.now }
+    {
+        self.surpluses[v.get() as usize - 1]
+    }
+
+    /// How much more a residual arc can carry: its amount backward, else its width less its amount.
+    pub fn room(&self, r: Rid) -> i128
+        requires { IsArcNumber self.now.net r.arc }
+        ensures value { result ≡ room_of self.now r }
+        ensures low { pos 0 ≤ℤ result }
+        ensures high { result ≤ℤ pos width_limit }
+    {
+        let amount = i128::from(self.amounts[r.arc.get() as usize - 1]);
+        if r.back {
+            amount
+        } else {
+            self.net.width(r.arc) - amount
+        }
+    }
+
+    /// Pushes an amount along a residual arc that has room for it.
+    pub fn push(&mut self, r: Rid, amount: i128)
+        requires arc { IsArcNumber self.old.net r.arc }
+        requires low { pos 0 ≤ℤ amount }
+        requires high { amount ≤ℤ room_of self.old r }
+        ensures value { self.new ≡ pushed self.old r amount }
+        ensures surpluses { MovesSurplus self.old self.new (tail self.old.net r) (head self.old.net r) amount }
+        ensures valid { IsFlow self.new }
+    {
+        let back = r.back;
+        let k = r.arc.get() as usize - 1;
+        let net = self.net;
+        let (from, to) = net.route(r);
+        let changed = changed_amount(self.amounts[k], back, amount);
+        self.amounts[k] = changed;
+        move_surplus(&mut self.surpluses, from, to, amount);
+    }
+}
+
+// The amount of an arc after a push of `x` along it, forward or backward.
+fn changed_amount(amount: i64, back: bool, x: i128) -> i64
+    requires amount_low { pos 0 ≤ℤ amount }
+    requires amount_high { amount ≤ℤ pos width_limit }
+    requires x_low { pos 0 ≤ℤ x }
+    requires x_high { x ≤ℤ pos width_limit }
+    ensures { result ≡ (if back then amount -ℤ x else amount +ℤ x) }
+{
+    let x = x as i64;
+    if back { amount - x } else { amount + x }
+}

@@ -1,0 +1,48 @@
+//! Walks of residual arcs.
+ghost use Rattle.std.specs.Prelude.{◌≡◌, ◌<◌, ◌+ℤ◌, ◌*ℤ◌, ◌≤ℤ◌, ◌⊎◌, ℕ, All, Any, length, pos};
+ghost use Rattle.mcf_instance.specs.Flow.{cost};
+ghost use Rattle.mcf_instance.specs.Network.{IsArcNumber};
+ghost use Rattle.mcf_network.specs.States.{IsFlow, MovesSurplus, room_of};
+ghost use Rattle.mcf_network.specs.Walks.{CanPushAlong, IsWalk, pushed_along, walk_cost};
+
+use crate::rid::Rid;
+use crate::state::State;
+
+/// The least room along residual arcs, of which there is one at least.
+pub fn room_along(state: &State<'_>, walk: &[Rid]) -> i128
+    requires some { 0 < length walk.now }
+    requires arcs { All (λ r. IsArcNumber state.now.net r.arc) walk.now }
+    ensures each { All (λ r. result ≤ℤ room_of state.now r) walk.now }
+    ensures reached { Any (λ r. result ≡ room_of state.now r) walk.now }
+{
+    let mut least = state.room(walk[0]);
+    for r in walk {
+        least = lesser(least, state.room(*r));
+    }
+    least
+}
+
+/// Pushes the same amount along each of some residual arcs that have room for it.
+///
+/// Where they are a walk, the amount of the surplus moves from its beginning to its end.
+pub fn push_along(state: &mut State<'_>, walk: &[Rid], amount: i128)
+    requires { CanPushAlong state.old walk.now amount }
+    ensures value { state.new ≡ pushed_along state.old walk.now amount }
+    ensures surpluses { (u w : ℕ) → IsWalk state.old.net u walk.now w → MovesSurplus state.old state.new u w amount }
+    ensures cost { cost state.old.net.arcs state.new.amounts ≡ cost state.old.net.arcs state.old.amounts +ℤ walk_cost state.old.net walk.now *ℤ amount }
+    ensures valid { IsFlow state.new }
+{
+    let _net = state.net();
+    for r in walk {
+        state.push(*r, amount);
+    }
+}
+
+// The lesser of two numbers.
+fn lesser(a: i128, b: i128) -> i128
+    ensures first { result ≤ℤ a }
+    ensures second { result ≤ℤ b }
+    ensures either { (result ≡ a) ⊎ (result ≡ b) }
+{
+    if b < a { b } else { a }
+}
