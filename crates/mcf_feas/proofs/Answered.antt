@@ -1,0 +1,41 @@
+-- What an answer says.
+use Rattle.std.proofs.Common.{List, refl, subst, arith, ℤ}
+use Rattle.std.proofs.lemmas.Int.{ints}
+use Rattle.mcf_instance.specs.Blocking.{in_table}
+use Rattle.mcf_instance.specs.Flow.{IsFeasible}
+use Rattle.mcf_instance.specs.Network.{Network}
+use Rattle.mcf_instance.proofs.Hoffman.{blocked_has_no_flow_lem}
+use Rattle.mcf_network.specs.Nets.{IsNet}
+use Rattle.mcf_network.specs.States.{Flow}
+use Rattle.mcf_feas.specs.declared.feas.Feas.TheVariants.{Flow as WithFlow, Blocked}
+use Rattle.mcf_feas.specs.Feasible.{IsFeasibleState}
+use Rattle.mcf_feas.specs.Laws.{AnswersAreExact, BlockedHasNoState, FeasibleStatesAreFlows}
+
+-- a state without surplus is a feasible flow of its net
+flow_of_state : (g : Network) (s : Flow) → IsFeasibleState g s → IsFeasible g s.amounts
+flow_of_state g s ok =
+    subst (λ (n : Network). IsFeasible n s.amounts) ok.of_net (record {
+      within_bounds = (ok.flow).within_bounds;
+      meets_supplies = λ v h. let none = ok.no_surplus v h in omega (arith, ints, none);
+    })
+
+state_of_flow : (g : Network) (flow : List ℤ) → IsNet g → IsFeasible g flow → IsFeasibleState g (record { net = g; amounts = flow })
+state_of_flow g flow ok feasible =
+    record {
+      of_net = refl;
+      flow = record { of_net = ok; within_bounds = feasible.within_bounds };
+      no_surplus = λ v h. let meets = feasible.meets_supplies v h in omega (arith, ints, meets);
+    }
+
+pub feasible_states_are_flows_lem : FeasibleStatesAreFlows
+feasible_states_are_flows_lem g flow ok =
+    (flow_of_state g (record { net = g; amounts = flow }), state_of_flow g flow ok)
+
+pub blocked_has_no_state_lem : BlockedHasNoState
+blocked_has_no_state_lem g set side s blocks ok =
+    blocked_has_no_flow_lem g set side s.amounts (subst (λ (n : Network). IsNet n) ok.of_net (ok.flow).of_net).ends blocks (flow_of_state g s ok)
+
+pub answers_are_exact_lem : AnswersAreExact
+answers_are_exact_lem g (WithFlow s) ok answer = (λ _. (s.amounts, flow_of_state g s answer), λ _. tt)
+answers_are_exact_lem g (Blocked table side) ok answer =
+    (λ none. absurd none, λ w. blocked_has_no_flow_lem g (in_table table) side w.0 ok.ends answer.blocks w.1)
