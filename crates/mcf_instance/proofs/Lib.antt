@@ -12,4 +12,5 @@ pub mod NetSteps
 pub mod NodeSums
 pub mod PackedArcs
 pub mod SameSets
+pub mod SmallInstances
 pub mod Tables

@@ -12,6 +12,8 @@ mod instances;
 mod laws;
 mod problem;
 mod refusal;
+#[cfg(test)]
+mod tests_flows;
 
 pub use arc::Arc;
 pub use blocking::{blocks, table_of};

@@ -7,14 +7,18 @@
 //! and `Stars` what leaves a node, `States` and `Walks` what a push does, `NodeSets` and `Stuck` what a
 //! search reaches.
 
+mod laws;
 mod leaving;
 mod net;
 mod node_set;
 mod rid;
+mod star;
 mod state;
 mod stored;
+mod surplus;
 mod walk;
 
+pub use laws::{feasible_flows_are_states, stuck_sets_block};
 pub use leaving::Leaving;
 pub use net::Net;
 pub use node_set::NodeSet;
