@@ -1,6 +1,5 @@
 -- What an answer says.
-use Rattle.std.proofs.Common.{List, refl, subst, arith, ℤ}
-use Rattle.std.proofs.lemmas.Int.{ints}
+use Rattle.std.proofs.Common.{subst}
 use Rattle.mcf_instance.specs.Blocking.{in_table}
 use Rattle.mcf_instance.specs.Flow.{IsFeasible}
 use Rattle.mcf_instance.specs.Network.{Network}
@@ -8,28 +7,14 @@ use Rattle.mcf_instance.proofs.Hoffman.{blocked_has_no_flow_lem}
 use Rattle.mcf_network.specs.Nets.{IsNet}
 use Rattle.mcf_network.specs.States.{Flow}
 use Rattle.mcf_feas.specs.declared.feas.Feas.TheVariants.{Flow as WithFlow, Blocked}
+use Rattle.mcf_network.proofs.StuckLaws.{feasible_of_state}
 use Rattle.mcf_feas.specs.Feasible.{IsFeasibleState}
-use Rattle.mcf_feas.specs.Laws.{AnswersAreExact, BlockedHasNoState, FeasibleStatesAreFlows}
+use Rattle.mcf_feas.specs.Exactness.{AnswersAreExact, BlockedHasNoState}
 
 -- a state without surplus is a feasible flow of its net
 flow_of_state : (g : Network) (s : Flow) → IsFeasibleState g s → IsFeasible g s.amounts
 flow_of_state g s ok =
-    subst (λ (n : Network). IsFeasible n s.amounts) ok.of_net (record {
-      within_bounds = (ok.flow).within_bounds;
-      meets_supplies = λ v h. let none = ok.no_surplus v h in omega (arith, ints, none);
-    })
-
-state_of_flow : (g : Network) (flow : List ℤ) → IsNet g → IsFeasible g flow → IsFeasibleState g (record { net = g; amounts = flow })
-state_of_flow g flow ok feasible =
-    record {
-      of_net = refl;
-      flow = record { of_net = ok; within_bounds = feasible.within_bounds };
-      no_surplus = λ v h. let meets = feasible.meets_supplies v h in omega (arith, ints, meets);
-    }
-
-pub feasible_states_are_flows_lem : FeasibleStatesAreFlows
-feasible_states_are_flows_lem g flow ok =
-    (flow_of_state g (record { net = g; amounts = flow }), state_of_flow g flow ok)
+    subst (λ (n : Network). IsFeasible n s.amounts) ok.of_net (feasible_of_state s ok.flow ok.no_surplus)
 
 pub blocked_has_no_state_lem : BlockedHasNoState
 blocked_has_no_state_lem g set side s blocks ok =

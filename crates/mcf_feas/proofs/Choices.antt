@@ -8,7 +8,8 @@ use Rattle.mcf_network.specs.Nets.{IsNet}
 use Rattle.mcf_network.specs.States.{Flow, IsFlow}
 use Rattle.mcf_network.specs.Stuck.{IsStuck}
 use Rattle.mcf_feas.specs.Chosen.{IsChosenBlock, supply_total}
-use Rattle.mcf_feas.proofs.Cuts.{stuck_blocks, whole_sends, whole_takes}
+use Rattle.mcf_network.proofs.StuckLaws.{stuck_sets_block_lem}
+use Rattle.mcf_feas.proofs.Wholes.{whole_sends, whole_takes}
 
 module _ (g : Network) (table : List Bool) (ok : IsNet g) (n : length table ≡ node_count g) (all : (v : ℕ) → IsNode (node_count g) v → in_table table v ≡ true) where
   pub chosen_take : supply_total g <ℤ pos 0 → IsChosenBlock g table Take
@@ -33,7 +34,7 @@ pub chosen_stuck : (s : Flow) (table : List Bool) → IsFlow s → length table 
 chosen_stuck s table ok n stuck balanced =
     record {
       one_per_node = n;
-      blocks = stuck_blocks s (in_table table) ok stuck;
+      blocks = stuck_sets_block_lem s (in_table table) ok stuck;
       take = (λ e. cc, λ l. absurd (omega (arith, ints, l, balanced)));
       whole = λ ne. absurd (ne balanced);
     }

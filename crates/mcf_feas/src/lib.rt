@@ -3,7 +3,7 @@
 //! Whether a net has a feasible flow: a state without surplus, or a set of nodes that blocks every flow.
 //!
 //! It stands on `mcf_network`. Definitions stand in `specs/`: `Chosen` says which node set is named where no
-//! flow is feasible, `Feasible` what `feasible` answers, `Laws` what follows from such an answer, and
+//! flow is feasible, `Feasible` what `feasible` answers, `Exactness` what follows from such an answer, and
 //! `Searching` what a search keeps.
 
 mod feas;
@@ -12,6 +12,4 @@ mod search;
 mod supplies;
 
 pub use feas::{Feas, feasible};
-pub use laws::{
-    answers_are_exact, blocked_has_no_state, feasible_states_are_flows, stuck_sets_block,
-};
+pub use laws::{answers_are_exact, blocked_has_no_state};

@@ -5,7 +5,7 @@ use Rattle.mcf_instance.specs.Network.{Network, node_count}
 use Rattle.mcf_network.specs.States.{Flow}
 use Rattle.mcf_feas.specs.Chosen.{IsChosenBlock, supply_total}
 use Rattle.mcf_feas.proofs.Choices.{chosen_send, chosen_stuck, chosen_take}
-use Rattle.mcf_feas.proofs.Cuts.{settled}
+use Rattle.mcf_feas.proofs.Wholes.{settled}
 use Rattle.mcf_feas.proofs.Excess.{excess_falls}
 use Rattle.mcf_feas.proofs.feas.feasible.Goals as goal
 use Rattle.mcf_feas.proofs.feas.feasible.Goals.{then-total-lt0, else-total-lt0}
