@@ -14,6 +14,10 @@ pub mod Hoffman
 pub mod IntLaws
 pub mod GoodHeaders
 mod GoodTexts
+pub mod GoodHeaders
+pub mod GoodTexts
+pub mod Hoffman
+pub mod IntLaws
 pub mod Items
 pub mod LineSteps
 pub mod NetSteps
