@@ -1,0 +1,2 @@
+mod SmallAnswers
+mod SmallTexts

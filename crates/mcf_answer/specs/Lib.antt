@@ -1,0 +1,9 @@
+pub mod BlockingSet
+pub mod Fits
+pub mod Parsing
+pub mod Ranges
+pub mod Said
+pub mod Solution
+pub mod Spelling
+pub mod Token
+pub mod Written

@@ -1,0 +1,21 @@
+-- The ranges of the numbers of answers.
+use Rattle.std.specs.Prelude.{ℕ, ◌^◌, ℤ}
+use Rattle.mcf_instance.specs.Limits.{node_limit}
+use Rattle.mcf_instance.specs.Network.{IsNode}
+use Rattle.mcf_instance.specs.WellFormed.{IsUpTo}
+
+-- how far from 0 a cost, a flow and a price may lie
+abbrev pub amount_limit : ℕ
+amount_limit = 10 ^ 37
+
+-- the greatest number of a line
+abbrev pub line_limit : ℕ
+line_limit = 10 ^ 37
+
+-- a cost, a flow or a price
+abbrev pub IsAmount : ℤ → Type 0
+IsAmount z = IsUpTo amount_limit z
+
+-- the number of a node
+abbrev pub IsNodeNumber : ℕ → Type 0
+IsNodeNumber v = IsNode node_limit v

@@ -1,0 +1,64 @@
+//! The three kinds of answers.
+use crate::lists::{NodeList, PriceList, SentList};
+use mcf_instance::{Refusal, Side};
+use mcf_text::NodeId;
+use std::marker::Model;
+
+/// What an arc carries, with the ends of the arc.
+#[derive(Clone, Copy, Debug, PartialEq, Eq)]
+pub struct Sent {
+    pub src: NodeId,
+    pub dst: NodeId,
+    pub flow: i128,
+}
+
+/// A flow with its cost, and the prices that show that no flow costs less.
+///
+/// The cost, each flow and each price lie within 10^37 of 0, each end is a node from 1 to 1,000,000, and
+/// there are at most 1,000,000 prices.
+#[derive(Debug, Drop)]
+pub struct FlowAnswer {
+    pub cost: i128,
+    pub sent: SentList,
+    pub prices: PriceList,
+}
+
+impl Model for FlowAnswer {
+    ghost use Rattle.mcf_answer.specs.Solution.{IsSolution, Solution};
+
+    ghost Value = { Solution };
+
+    ghost view = { λ a. record { cost = a.cost; sent = a.sent; prices = a.prices } };
+
+    ghost invariant = { λ a. IsSolution (record { cost = a.cost; sent = a.sent; prices = a.prices }) };
+}
+
+/// A node set that blocks every flow, with the side by which it does.
+///
+/// The nodes are strictly ascending numbers from 1 to 1,000,000, at least one and at most 1,000,000.
+#[derive(Debug, Drop)]
+pub struct BlockedAnswer {
+    pub side: Side,
+    pub nodes: NodeList,
+}
+
+impl Model for BlockedAnswer {
+    ghost use Rattle.mcf_answer.specs.BlockingSet.{BlockingSet, IsBlockingSet};
+
+    ghost Value = { BlockingSet };
+
+    ghost view = { λ a. record { side = a.side; nodes = a.nodes } };
+
+    ghost invariant = { λ a. IsBlockingSet (record { side = a.side; nodes = a.nodes }) };
+}
+
+/// The answer to an instance text.
+#[derive(Debug, Drop)]
+pub enum Answer {
+    /// A least-cost flow.
+    Flow(FlowAnswer),
+    /// No flow meets all bounds and supplies.
+    Blocked(BlockedAnswer),
+    /// The text is no instance.
+    Refused(Refusal),
+}

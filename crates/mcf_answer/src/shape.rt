@@ -1,0 +1,8 @@
+//! The refusal of an answer text.
+
+/// The text is no answer: the number of the first line that doesn't fit, or where each line fits but some
+/// are missing, the number of lines plus 1. Blank lines and comments count.
+#[derive(Clone, Copy, Debug, PartialEq, Eq)]
+pub struct Shape {
+    pub line: u128,
+}
