@@ -1,0 +1,2 @@
+pub mod ChangedAnswers
+pub mod JudgedTexts
