@@ -60,9 +60,9 @@ as_misfit line = if fits (map tokens line.0) (tokens line.1) then None else Some
 unfoldable pub misfits : List Row → List ℕ
 misfits lines = filter_map as_misfit (with_earlier lines)
 
--- there are as many node lines as a set has nodes
+-- after a first line that opens a set there are as many node lines as the set has nodes
 abbrev pub has_all : Option Opening → List (List Token) → Bool
-has_all None others = false
+has_all None others = true
 has_all (Some (OpensFlow cost)) others = true
 has_all (Some (OpensSet side count)) others = length (node_lines others) == count
 has_all (Some (OpensRefusal r)) others = true

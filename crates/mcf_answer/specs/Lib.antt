@@ -1,6 +1,9 @@
 pub mod BlockingSet
+pub mod Draft
 pub mod Fits
+pub mod Laws
 pub mod Parsing
+pub mod PartialSet
 pub mod Ranges
 pub mod Said
 pub mod Solution

@@ -1,19 +1,21 @@
 -- What a text stands for as an answer.
-use Rattle.std.specs.Prelude.{ℕ, List, [], ◌∷◌, map, ℤ, pos, Option, Some, None, Result, Ok, Err}
+use Rattle.std.specs.Prelude.{ℕ, List, [], ◌∷◌, map, Option, Some, None, Result, Ok, Err}
 use Rattle.mcf_answer.specs.Fits.{misfit, sent_lines, price_lines, node_lines}
 use Rattle.mcf_answer.specs.Said.{Opening, OpensFlow, OpensSet, OpensRefusal, opening_said}
 use Rattle.mcf_answer.specs.Token.{Token, token_lines}
 use Rattle.mcf_answer.specs.declared.answers.Answer.{Answer}
 use Rattle.mcf_answer.specs.declared.answers.Answer.TheVariants.{Flow, Blocked, Refused}
 use Rattle.mcf_answer.specs.declared.shape.Shape.{Shape}
+use Rattle.mcf_instance.specs.Fault.{Fault}
+use Rattle.mcf_instance.specs.declared.code.Code.TheVariants.{Kind}
 
--- what stands for an answer where there is none
-abbrev pub no_answer : Answer
-no_answer = Flow (record { cost = pos 0; sent = []; prices = [] })
+-- what stands for a refusal where there is none
+abbrev pub no_refusal : Fault
+no_refusal = record { line = 0; code = Kind }
 
 -- the answer that a first line opens and the other lines fill
 abbrev pub answer_opened : Option Opening → List (List Token) → Answer
-answer_opened None others = no_answer
+answer_opened None others = Refused no_refusal
 answer_opened (Some (OpensFlow cost)) others =
     Flow (record { cost = cost; sent = sent_lines others; prices = map (λ y. y.1) (price_lines others) })
 answer_opened (Some (OpensSet side count)) others = Blocked (record { side = side; nodes = node_lines others })
@@ -21,7 +23,7 @@ answer_opened (Some (OpensRefusal r)) others = Refused r
 
 -- the answer of lines that all fit
 unfoldable pub answer_of_lines : List (List Token) → Answer
-answer_of_lines [] = no_answer
+answer_of_lines [] = Refused no_refusal
 answer_of_lines (first ∷ others) = answer_opened (opening_said first) others
 
 -- the answer, unless there is a line that doesn't fit

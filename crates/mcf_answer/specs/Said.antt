@@ -36,14 +36,8 @@ node_of t = option_map natural (number_within (pos 1) (pos node_limit) t)
 abbrev pub line_number_of : Token → Option ℕ
 line_number_of t = option_map natural (number_within (pos 1) (pos line_limit) t)
 
-abbrev pub side_of_word : List ℕ → Option Side
-side_of_word word =
-    if bytes_eq word (side_word Send) then Some Send
-    else (if bytes_eq word (side_word Take) then Some Take else None)
-
 abbrev pub side_of : Token → Option Side
-side_of (Word bytes) = side_of_word bytes
-side_of (Number z) = None
+side_of t = if is_word (side_word Send) t then Some Send else (if is_word (side_word Take) t then Some Take else None)
 
 abbrev pub code_of : Token → Option Code
 code_of (Word bytes) = code_of_word bytes

@@ -6,9 +6,17 @@
 //! are those of an answer, `Written` what is written, `Fits` and `Parsing` what a text stands for.
 
 mod answers;
+mod draft;
+mod laws;
+mod line;
 mod lists;
+mod parser;
 mod shape;
+mod writer;
 
 pub use answers::{Answer, BlockedAnswer, FlowAnswer, Sent};
+pub use laws::{no_text_spells_two_answers, what_is_written_is_read_back};
 pub use lists::{NodeList, PriceList, SentList};
+pub use parser::parse;
 pub use shape::Shape;
+pub use writer::write;

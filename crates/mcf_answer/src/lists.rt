@@ -1,6 +1,6 @@
 //! The lists of an answer.
 use crate::answers::Sent;
-use mcf_text::NodeId;
+use mcf_text::{NoMemory, NodeId};
 use std::marker::Model;
 
 /// What the arcs carry, in their order. A clause sees the list.
@@ -19,7 +19,7 @@ impl Model for SentList {
 }
 
 impl SentList {
-    ghost use Rattle.std.specs.Prelude.{◌≡◌};
+    ghost use Rattle.std.specs.Prelude.{◌≡◌, ◌==◌, ◌++◌, ◌∷◌, [], length, OnOk, OnErr};
 
     /// The list of these items; it takes no memory.
     pub fn new(items: Vec<Sent>) -> SentList
@@ -41,6 +41,29 @@ impl SentList {
     {
         self.items
     }
+
+    /// How many there are.
+    pub fn len(&self) -> usize
+        ensures { result ≡ length self.now }
+    {
+        self.items.len()
+    }
+
+    /// Whether there is none.
+    pub fn is_empty(&self) -> bool
+        ensures { result ≡ (length self.now == 0) }
+    {
+        self.items.is_empty()
+    }
+
+    /// Appends one.
+    pub(crate) fn push(&mut self, item: Sent) -> Result<(), NoMemory>
+        ensures ok { OnOk result (self.new ≡ self.old ++ item ∷ []) }
+        ensures err { OnErr result (self.new ≡ self.old) }
+    {
+        self.items.push(item)?;
+        Ok(())
+    }
 }
 
 /// The prices of the nodes, from node 1 on. A clause sees the list.
@@ -58,7 +81,7 @@ impl Model for PriceList {
 }
 
 impl PriceList {
-    ghost use Rattle.std.specs.Prelude.{◌≡◌};
+    ghost use Rattle.std.specs.Prelude.{◌≡◌, ◌==◌, ◌++◌, ◌∷◌, [], length, OnOk, OnErr};
 
     /// The list of these prices; it takes no memory.
     pub fn new(items: Vec<i128>) -> PriceList
@@ -80,6 +103,29 @@ impl PriceList {
     {
         self.items
     }
+
+    /// How many there are.
+    pub fn len(&self) -> usize
+        ensures { result ≡ length self.now }
+    {
+        self.items.len()
+    }
+
+    /// Whether there is none.
+    pub fn is_empty(&self) -> bool
+        ensures { result ≡ (length self.now == 0) }
+    {
+        self.items.is_empty()
+    }
+
+    /// Appends one.
+    pub(crate) fn push(&mut self, item: i128) -> Result<(), NoMemory>
+        ensures ok { OnOk result (self.new ≡ self.old ++ item ∷ []) }
+        ensures err { OnErr result (self.new ≡ self.old) }
+    {
+        self.items.push(item)?;
+        Ok(())
+    }
 }
 
 /// Numbers of nodes. A clause sees the list.
@@ -97,7 +143,8 @@ impl Model for NodeList {
 }
 
 impl NodeList {
-    ghost use Rattle.std.specs.Prelude.{◌≡◌};
+    ghost use Rattle.std.specs.Prelude.{◌≡◌, ◌==◌, ◌++◌, ◌∷◌, [], length, OnOk, OnErr};
+    ghost use Rattle.mcf_answer.specs.Fits.{is_above_last};
 
     /// The list of these nodes; it takes no memory.
     pub fn new(items: Vec<NodeId>) -> NodeList
@@ -118,5 +165,38 @@ impl NodeList {
         ensures { result.items ≡ self }
     {
         self.items
+    }
+
+    /// How many there are.
+    pub fn len(&self) -> usize
+        ensures { result ≡ length self.now }
+    {
+        self.items.len()
+    }
+
+    /// Whether there is none.
+    pub fn is_empty(&self) -> bool
+        ensures { result ≡ (length self.now == 0) }
+    {
+        self.items.is_empty()
+    }
+
+    /// Appends one.
+    pub(crate) fn push(&mut self, item: NodeId) -> Result<(), NoMemory>
+        ensures ok { OnOk result (self.new ≡ self.old ++ item ∷ []) }
+        ensures err { OnErr result (self.new ≡ self.old) }
+    {
+        self.items.push(item)?;
+        Ok(())
+    }
+
+    /// Whether the last node, if there is one, is below this one.
+    pub(crate) fn is_below(&self, node: NodeId) -> bool
+        ensures { result ≡ is_above_last self.now node }
+    {
+        match self.items.last() {
+            Some(last) => *last < node,
+            None => true,
+        }
     }
 }

@@ -1,0 +1,222 @@
+-- What a line says, and the line that says it.
+use Rattle.std.proofs.Common.{◌≡◌, ℕ, ◌≤◌, Bool, true, false, cond, List, [], ◌∷◌, Some, None, refl, sym, ap, subst, ◌∙◌, arith, pos, negsuc}
+use Rattle.std.specs.Prelude.{ℤ, Option, codes, option_map, option_and_then, neg_ℤ}
+use Rattle.std.proofs.lemmas.Slice.Eq.{bytes_eq-Decides}
+use Rattle.std.proofs.lemmas.Int.{ints}
+use Rattle.mcf_answer.specs.Ranges.{IsAmount, IsNodeNumber, amount_limit, line_limit}
+use Rattle.mcf_answer.specs.Said.{amount_of, code_of, cost_said, line_number_of, node_of, node_said, number_within, price_said, refusal_said, sent_said, set_said, side_of, ◌>>=◌}
+use Rattle.mcf_answer.specs.Solution.{IsSent}
+use Rattle.mcf_answer.specs.Spelling.{cost_line, flow_line, node_line, price_line, refusal_line, set_line, side_word}
+use Rattle.mcf_answer.specs.Token.{Token, Word, Number, is_word}
+use Rattle.mcf_answer.specs.declared.answers.Sent.{Sent}
+use Rattle.mcf_answer.proofs.Words.{code_of_word-code_word, code_word-found}
+use Rattle.mcf_instance.specs.Fault.{Fault, code_word}
+use Rattle.mcf_instance.specs.Limits.{node_limit}
+use Rattle.mcf_instance.specs.declared.code.Code.{Code}
+use Rattle.mcf_instance.specs.declared.problem.Side.{Side}
+use Rattle.mcf_instance.specs.declared.problem.Side.TheVariants.{Send, Take}
+use Rattle.mcf_text.specs.Row.{natural}
+use Rattle.mcf_text.specs.Whole.{is_within}
+
+-- ---- options
+
+if-some : {A : Type 0} (b : Bool) (o : Option A) (x : A) → cond b o None ≡ Some x → (b ≡ true) × (o ≡ Some x)
+if-some true o x e = (refl, e)
+if-some false o x e = cc
+
+bind-some : {A B : Type 0} (o : Option A) (f : A → Option B) (y : B) → (o >>= f) ≡ Some y → (x : A) × (o ≡ Some x) × (f x ≡ Some y)
+bind-some None f y e = cc
+bind-some (Some x) f y e = (x, refl, e)
+
+map-some : {A B : Type 0} (o : Option A) (f : A → B) (y : B) → option_map f o ≡ Some y → (x : A) × (o ≡ Some x) × (f x ≡ y)
+map-some None f y e = cc
+map-some (Some x) f y e = (x, refl, cc)
+
+-- ---- ranges
+
+amount_from : (z : ℤ) → is_within (neg_ℤ (pos amount_limit)) (pos amount_limit) z ≡ true → IsAmount z
+amount_from (pos n) e = (grind arith, grind arith)
+amount_from (negsuc n) e = (grind arith, grind arith)
+
+amount_within : (z : ℤ) → IsAmount z → is_within (neg_ℤ (pos amount_limit)) (pos amount_limit) z ≡ true
+amount_within (pos n) h = grind arith
+amount_within (negsuc n) h = grind arith
+
+-- a number from 1 to a bound, and its natural number
+record IsCount (bound : ℕ) (z : ℤ) : Type 0 where
+  same : z ≡ pos (natural z)
+  low : 1 ≤ natural z
+  high : natural z ≤ bound
+
+count_from : (bound : ℕ) (z : ℤ) → is_within (pos 1) (pos bound) z ≡ true → IsCount bound z
+count_from bound (pos n) e = record { same = refl; low = grind arith; high = grind arith }
+count_from bound (negsuc n) e = absurd (grind arith)
+
+count_within : (bound n : ℕ) → 1 ≤ n → n ≤ bound → is_within (pos 1) (pos bound) (pos n) ≡ true
+count_within bound n low high = grind arith
+
+-- ---- fields
+
+number_within-some : (lo hi : ℤ) (t : Token) (z : ℤ) → number_within lo hi t ≡ Some z → (t ≡ Number z) × (is_within lo hi z ≡ true)
+number_within-some lo hi (Word bytes) z e = cc
+number_within-some lo hi (Number y) z e =
+    let f = if-some (is_within lo hi y) (Some y) z e in
+    let same : y ≡ z = cc f.1 in
+    (ap Number same, ap (is_within lo hi) (sym same) ∙ f.0)
+
+number_within-number : (lo hi z : ℤ) → is_within lo hi z ≡ true → number_within lo hi (Number z) ≡ Some z
+number_within-number lo hi z e = ap (λ b. cond b (Some z) None) e
+
+amount_of-some : (t : Token) (z : ℤ) → amount_of t ≡ Some z → (t ≡ Number z) × IsAmount z
+amount_of-some t z e =
+    let f = number_within-some (neg_ℤ (pos amount_limit)) (pos amount_limit) t z e in
+    (f.0, amount_from z f.1)
+
+amount_of-number : (z : ℤ) → IsAmount z → amount_of (Number z) ≡ Some z
+amount_of-number z h = number_within-number (neg_ℤ (pos amount_limit)) (pos amount_limit) z (amount_within z h)
+
+count_of-some : (bound : ℕ) (t : Token) (v : ℕ) → option_map natural (number_within (pos 1) (pos bound) t) ≡ Some v → (t ≡ Number (pos v)) × (1 ≤ v) × (v ≤ bound)
+count_of-some bound t v e =
+    let f = map-some (number_within (pos 1) (pos bound) t) natural v e in
+    let g = number_within-some (pos 1) (pos bound) t f.0 f.1 in
+    let h = count_from bound f.0 g.1 in
+    (g.0 ∙ ap Number (h.same ∙ ap pos f.2), omega (arith, h.low, f.2), omega (arith, h.high, f.2))
+
+count_of-number : (bound v : ℕ) → 1 ≤ v → v ≤ bound → option_map natural (number_within (pos 1) (pos bound) (Number (pos v))) ≡ Some v
+count_of-number bound v low high = ap (option_map natural) (number_within-number (pos 1) (pos bound) (pos v) (count_within bound v low high))
+
+node_of-some : (t : Token) (v : ℕ) → node_of t ≡ Some v → (t ≡ Number (pos v)) × IsNodeNumber v
+node_of-some t v e =
+    let f = count_of-some node_limit t v e in
+    (f.0, (f.1, f.2))
+
+node_of-number : (v : ℕ) → IsNodeNumber v → node_of (Number (pos v)) ≡ Some v
+node_of-number v h = count_of-number node_limit v h.0 h.1
+
+is_word-true : (word : List ℕ) (t : Token) → is_word word t ≡ true → t ≡ Word word
+is_word-true word (Word bytes) e = ap Word ((bytes_eq-Decides bytes word).0 e)
+is_word-true word (Number z) e = cc
+
+side_of-some : (t : Token) (side : Side) → side_of t ≡ Some side → t ≡ Word (side_word side)
+side_of-some t side e = go (is_word (side_word Send) t) (is_word (side_word Take) t) refl refl
+  where
+    go : (b c : Bool) → is_word (side_word Send) t ≡ b → is_word (side_word Take) t ≡ c → t ≡ Word (side_word side)
+    go true c h i =
+        let is : Send ≡ side = cc (sym (ap (λ b. cond b (Some Send) (cond (is_word (side_word Take) t) (Some Take) None)) h) ∙ e) in
+        is_word-true (side_word Send) t h ∙ ap (λ s. Word (side_word s)) is
+    go false true h i =
+        let is : Take ≡ side = cc (sym (ap (λ b. cond b (Some Send) (cond (is_word (side_word Take) t) (Some Take) None)) h ∙ ap (λ b. cond b (Some Take) None) i) ∙ e) in
+        is_word-true (side_word Take) t i ∙ ap (λ s. Word (side_word s)) is
+    go false false h i =
+        cc (sym (ap (λ b. cond b (Some Send) (cond (is_word (side_word Take) t) (Some Take) None)) h ∙ ap (λ b. cond b (Some Take) None) i) ∙ e)
+
+side_of-word : (side : Side) → side_of (Word (side_word side)) ≡ Some side
+side_of-word Send = refl
+side_of-word Take = refl
+
+code_of-some : (t : Token) (c : Code) → code_of t ≡ Some c → t ≡ Word (code_word c)
+code_of-some (Word bytes) c e = ap Word (code_word-found bytes c e)
+code_of-some (Number z) c e = cc
+
+-- ---- lines: what a line says is in range, and the line is the one that says it
+
+pub cost_said-some : (line : List Token) (cost : ℤ) → cost_said line ≡ Some cost → (line ≡ cost_line cost) × IsAmount cost
+unfolding cost_said
+cost_said-some (word ∷ number ∷ []) cost e =
+    let w = if-some (is_word (codes "s") word) (amount_of number) cost e in
+    let a = amount_of-some number cost w.1 in
+    let first : word ≡ Word (codes "s") = is_word-true (codes "s") word w.0 in
+    (ap (λ t. t ∷ number ∷ []) first ∙ ap (λ t. Word (codes "s") ∷ t ∷ []) a.0, a.1)
+cost_said-some line cost e = cc
+
+pub cost_said-line : (cost : ℤ) → IsAmount cost → cost_said (cost_line cost) ≡ Some cost
+unfolding cost_said
+cost_said-line cost h = amount_of-number cost h
+
+pub sent_said-some : (line : List Token) (s : Sent) → sent_said line ≡ Some s → (line ≡ flow_line s) × IsSent s
+unfolding sent_said
+sent_said-some (word ∷ src ∷ dst ∷ flow ∷ []) s e =
+    let w = if-some (is_word (codes "f") word) _ s e in
+    let a = bind-some (node_of src) _ s w.1 in
+    let b = bind-some (node_of dst) _ s a.2 in
+    let c = bind-some (amount_of flow) _ s b.2 in
+    let is : s ≡ record { src = a.0; dst = b.0; flow = c.0 } = cc c.2 in
+    let first : word ≡ Word (codes "f") = is_word-true (codes "f") word w.0 in
+    let from = node_of-some src a.0 a.1 in
+    let to = node_of-some dst b.0 b.1 in
+    let carried = amount_of-some flow c.0 c.1 in
+    let line : word ∷ src ∷ dst ∷ flow ∷ [] ≡ flow_line (record { src = a.0; dst = b.0; flow = c.0 }) = cc in
+    let fits : IsSent (record { src = a.0; dst = b.0; flow = c.0 }) = record { src_is_node = from.1; dst_is_node = to.1; flow_small = carried.1 } in
+    (line ∙ ap flow_line (sym is), subst IsSent (sym is) fits)
+sent_said-some line s e = cc
+
+pub sent_said-line : (s : Sent) → IsSent s → sent_said (flow_line s) ≡ Some s
+unfolding sent_said
+sent_said-line s h = rw (node_of-number s.src h.src_is_node, node_of-number s.dst h.dst_is_node, amount_of-number s.flow h.flow_small) refl
+
+pub price_said-some : (line : List Token) (y : ℕ × ℤ) → price_said line ≡ Some y → (line ≡ price_line y) × IsNodeNumber y.0 × IsAmount y.1
+unfolding price_said
+price_said-some (word ∷ id ∷ price ∷ []) y e =
+    let w = if-some (is_word (codes "y") word) _ y e in
+    let a = bind-some (node_of id) _ y w.1 in
+    let b = bind-some (amount_of price) _ y a.2 in
+    let is : y ≡ (a.0, b.0) = cc b.2 in
+    let first : word ≡ Word (codes "y") = is_word-true (codes "y") word w.0 in
+    let node = node_of-some id a.0 a.1 in
+    let amount = amount_of-some price b.0 b.1 in
+    let line : word ∷ id ∷ price ∷ [] ≡ price_line (a.0, b.0) = cc in
+    (line ∙ ap price_line (sym is), subst (λ p. IsNodeNumber p.0) (sym is) node.1, subst (λ p. IsAmount p.1) (sym is) amount.1)
+price_said-some line y e = cc
+
+pub price_said-line : (v : ℕ) (z : ℤ) → IsNodeNumber v → IsAmount z → price_said (price_line (v, z)) ≡ Some (v, z)
+unfolding price_said
+price_said-line v z h k = rw (node_of-number v h, amount_of-number z k) refl
+
+pub node_said-some : (line : List Token) (v : ℕ) → node_said line ≡ Some v → (line ≡ node_line v) × IsNodeNumber v
+unfolding node_said
+node_said-some (word ∷ id ∷ []) v e =
+    let w = if-some (is_word (codes "x") word) (node_of id) v e in
+    let a = node_of-some id v w.1 in
+    let first : word ≡ Word (codes "x") = is_word-true (codes "x") word w.0 in
+    (ap (λ t. t ∷ id ∷ []) first ∙ ap (λ t. Word (codes "x") ∷ t ∷ []) a.0, a.1)
+node_said-some line v e = cc
+
+pub node_said-line : (v : ℕ) → IsNodeNumber v → node_said (node_line v) ≡ Some v
+unfolding node_said
+node_said-line v h = node_of-number v h
+
+pub set_said-some : (line : List Token) (set : Side × ℕ) → set_said line ≡ Some set → (line ≡ set_line set.0 set.1) × IsNodeNumber set.1
+unfolding set_said
+set_said-some (word ∷ count ∷ named ∷ []) set e =
+    let w = if-some (is_word (codes "i") word) _ set e in
+    let a = bind-some (node_of count) _ set w.1 in
+    let b = bind-some (side_of named) _ set a.2 in
+    let is : set ≡ (b.0, a.0) = cc b.2 in
+    let first : word ≡ Word (codes "i") = is_word-true (codes "i") word w.0 in
+    let size = node_of-some count a.0 a.1 in
+    let side = side_of-some named b.0 b.1 in
+    let line : word ∷ count ∷ named ∷ [] ≡ set_line b.0 a.0 = cc in
+    (line ∙ ap (λ p. set_line p.0 p.1) (sym is), subst (λ p. IsNodeNumber p.1) (sym is) size.1)
+set_said-some line set e = cc
+
+pub set_said-line : (side : Side) (count : ℕ) → IsNodeNumber count → set_said (set_line side count) ≡ Some (side, count)
+unfolding set_said
+set_said-line side count h = rw (node_of-number count h, side_of-word side) refl
+
+pub refusal_said-some : (line : List Token) (r : Fault) → refusal_said line ≡ Some r → (line ≡ refusal_line r) × (1 ≤ r.line) × (r.line ≤ line_limit)
+unfolding refusal_said
+refusal_said-some (word ∷ number ∷ named ∷ []) r e =
+    let w = if-some (is_word (codes "r") word) _ r e in
+    let a = bind-some (line_number_of number) _ r w.1 in
+    let b = bind-some (code_of named) _ r a.2 in
+    let is : r ≡ record { line = a.0; code = b.0 } = cc b.2 in
+    let first : word ≡ Word (codes "r") = is_word-true (codes "r") word w.0 in
+    let place = count_of-some line_limit number a.0 a.1 in
+    let code = code_of-some named b.0 b.1 in
+    let line : word ∷ number ∷ named ∷ [] ≡ refusal_line (record { line = a.0; code = b.0 }) = cc in
+    (line ∙ ap refusal_line (sym is), subst (λ s. 1 ≤ s.line) (sym is) place.1, subst (λ s. s.line ≤ line_limit) (sym is) place.2)
+refusal_said-some line r e = cc
+
+pub refusal_said-line : (r : Fault) → 1 ≤ r.line → r.line ≤ line_limit → refusal_said (refusal_line r) ≡ Some r
+unfolding refusal_said
+refusal_said-line r low high = rw (count_of-number line_limit r.line low high, code_of_word-code_word r.code) refl

@@ -1,0 +1,241 @@
+-- The lines that a state stands for are those that it spells; so a text is parsed to an answer exactly
+-- where it spells it.
+use Rattle.std.proofs.Common.{◌≡◌, ℕ, ◌+◌, ◌-◌, ◌<◌, ◌≤◌, Bool, true, false, cond, List, [], ◌∷◌, ◌++◌, length, get_or, pos, Some, None, Ok, Err, refl, sym, ap, subst, ◌∙◌, nat_eq, arith, add-zero, append_assoc, append-nil, inl, inr}
+use Rattle.std.specs.Prelude.{ℤ, Option, Result, All, map, ◌&&◌, ⊤, nat_lt, option_map, slice_get, ◌↔◌}
+use Rattle.std.specs.List.{enumerate_from}
+use Rattle.std.specs.List.Sorted.{IsStrictlyIncreasing}
+use Rattle.std.specs.Option.{option_map_or, option_or}
+use Rattle.std.proofs.lemmas.Bool.{cases_eq, cases_lt, lt-ltb}
+use Rattle.std.proofs.lemmas.Bool.Decides.{nat_tests}
+use Rattle.std.proofs.lemmas.List.{get_or_append_left, get_or_push, length-append, length-map, map-append, nil_from_length}
+use Rattle.std.proofs.lemmas.List.Elements.{All-head, All-nil, All-tail}
+use Rattle.std.proofs.lemmas.Option.{slice_get-get_or}
+use Rattle.mcf_answer.specs.BlockingSet.{BlockingSet, IsBlockingSet}
+use Rattle.mcf_answer.specs.Draft.{after, and_then, answer_or, finished, opened, outcome, priced, run, sent_or_priced, set_after, solution_after, with_node, with_price, with_said, with_sent}
+use Rattle.mcf_answer.specs.Fits.{is_above_last}
+use Rattle.mcf_answer.specs.Parsing.{parsing}
+use Rattle.mcf_answer.specs.PartialSet.{IsPartialSet, PartialSet}
+use Rattle.mcf_answer.specs.Ranges.{IsAmount, IsNodeNumber, line_limit}
+use Rattle.mcf_answer.specs.Said.{Opening, OpensFlow, OpensSet, OpensRefusal, cost_said, node_said, opening_said, opens_set, price_said, refusal_said, sent_said, set_said}
+use Rattle.mcf_answer.specs.Solution.{IsSent, IsSolution, Solution}
+use Rattle.mcf_answer.specs.Spelling.{IsAnswer, Spells, cost_line, flow_line, node_line, price_line, refusal_line, set_line, set_lines, solution_lines, spelling}
+use Rattle.mcf_answer.specs.Token.{Token, token_lines, tokens}
+use Rattle.mcf_answer.specs.declared.answers.Answer.{Answer}
+use Rattle.mcf_answer.specs.declared.answers.Answer.TheVariants.{Flow as FlowAnswered, Blocked as BlockedAnswered, Refused as RefusedAnswered}
+use Rattle.mcf_answer.specs.declared.answers.Sent.{Sent}
+use Rattle.mcf_answer.specs.declared.draft.Draft.{Draft}
+use Rattle.mcf_answer.specs.declared.draft.Draft.TheVariants.{Empty, Flow, Blocked, Refused}
+use Rattle.mcf_answer.specs.declared.shape.Shape.{Shape}
+use Rattle.mcf_answer.proofs.Appends.{enumerate_from-push}
+use Rattle.mcf_answer.proofs.Grows.{with_node_fits, with_price_fits, with_sent_fits}
+use Rattle.mcf_answer.proofs.SaidLemmas.{cost_said-line, cost_said-some, node_said-line, node_said-some, price_said-line, price_said-some, refusal_said-line, refusal_said-some, sent_said-line, sent_said-some, set_said-line, set_said-some}
+use Rattle.mcf_answer.proofs.Simulation.{outcome-parsing, run-rows, run_rows}
+use Rattle.mcf_instance.specs.Fault.{Fault}
+use Rattle.mcf_instance.specs.Limits.{node_limit}
+use Rattle.mcf_instance.specs.declared.problem.Side.{Side}
+use Rattle.mcf_text.specs.Lines.{numbered_lines}
+use Rattle.mcf_text.specs.Row.{Row, line_after, rows}
+
+-- ---- what a state spells
+
+-- the lines of a state
+abbrev spelled : Draft → List (List Token)
+spelled Empty = []
+spelled (Flow a) = solution_lines a
+spelled (Blocked a) = set_line a.side a.count ∷ map node_line a.nodes
+spelled (Refused r) = refusal_line r ∷ []
+
+-- the numbers of a state are in range
+abbrev IsDraft : Draft → Type 0
+IsDraft Empty = ⊤
+IsDraft (Flow a) = IsSolution a
+IsDraft (Blocked a) = IsPartialSet a
+IsDraft (Refused r) = (1 ≤ r.line) × (r.line ≤ line_limit)
+
+-- the state spells one line more
+record Grows (d : Draft) (line : List Token) (e : Draft) : Type 0 where
+  lines : spelled e ≡ spelled d ++ line ∷ []
+  in_range : IsDraft e
+
+-- ---- a line taken in is spelled
+
+increasing_none : IsStrictlyIncreasing []
+increasing_none k inside = absurd (omega (arith, inside))
+
+-- the first line of an answer
+opening_grows : (line : List Token) (o : Opening) → opening_said line ≡ Some o → Grows Empty line (opened o)
+unfolding opening_said
+opening_grows line o e = go (cost_said line) (set_said line) (refusal_said line) refl refl refl e
+  where
+    go : (oc : Option ℤ) (os : Option (Side × ℕ)) (or : Option Fault) → cost_said line ≡ oc → set_said line ≡ os → refusal_said line ≡ or
+        → option_or (option_map OpensFlow oc) (option_or (option_map opens_set os) (option_map OpensRefusal or)) ≡ Some o → Grows Empty line (opened o)
+    go (Some cost) os or ec es er f =
+        let said = cost_said-some line cost ec in
+        let is : OpensFlow cost ≡ o = cc f in
+        subst (λ p. Grows Empty line (opened p)) is record {
+          lines = ap (λ l. l ∷ []) (sym said.0);
+          in_range = record { cost_small = said.1; sent_fit = All-nil IsSent; prices_small = All-nil IsAmount; few_prices = omega arith };
+        }
+    go None (Some set) or ec es er f =
+        let said = set_said-some line set es in
+        let is : OpensSet set.0 set.1 ≡ o = cc f in
+        subst (λ p. Grows Empty line (opened p)) is record {
+          lines = ap (λ l. l ∷ []) (sym said.0);
+          in_range = record { some = said.1; few = omega arith; are_nodes = All-nil IsNodeNumber; ascending = increasing_none };
+        }
+    go None None (Some r) ec es er f =
+        let said = refusal_said-some line r er in
+        let is : OpensRefusal r ≡ o = cc f in
+        subst (λ p. Grows Empty line (opened p)) is record {
+          lines = ap (λ l. l ∷ []) (sym said.0);
+          in_range = (said.1, said.2);
+        }
+    go None None None ec es er f = cc
+
+-- a flow line
+sent_grows : (a : Solution) (line : List Token) (s : Sent) → IsSolution a → sent_said line ≡ Some s → length a.prices ≡ 0 → Grows (Flow a) line (Flow (with_sent a s))
+sent_grows a line s h e none =
+    let said = sent_said-some line s e in
+    let empty : a.prices ≡ [] = nil_from_length a.prices none in
+    record {
+      lines =
+          ap (λ zs. cost_line a.cost ∷ map flow_line (a.sent ++ s ∷ []) ++ map price_line (enumerate_from 1 zs)) empty
+          ∙ ap (λ ls. cost_line a.cost ∷ ls) (append-nil (map flow_line (a.sent ++ s ∷ [])) ∙ map-append flow_line a.sent (s ∷ []) ∙ ap (λ l. map flow_line a.sent ++ l ∷ []) (sym said.0))
+          ∙ ap (λ ls. cost_line a.cost ∷ ls ++ line ∷ []) (sym (append-nil (map flow_line a.sent)))
+          ∙ sym (ap (λ zs. (cost_line a.cost ∷ map flow_line a.sent ++ map price_line (enumerate_from 1 zs)) ++ line ∷ []) empty);
+      in_range = with_sent_fits a line s h e;
+    }
+
+-- a price line
+price_grows : (a : Solution) (line : List Token) (y : ℕ × ℤ) → IsSolution a → price_said line ≡ Some y → y.0 ≡ length a.prices + 1 → Grows (Flow a) line (Flow (with_price a y.1))
+price_grows a line y h e next =
+    let said = price_said-some line y e in
+    let place : 1 + length a.prices ≡ y.0 = omega (arith, next) in
+    record {
+      lines =
+          ap (λ ys. cost_line a.cost ∷ map flow_line a.sent ++ map price_line ys) (enumerate_from-push 1 a.prices y.1 ∙ ap (λ n. enumerate_from 1 a.prices ++ (n, y.1) ∷ []) place)
+          ∙ ap (λ ls. cost_line a.cost ∷ map flow_line a.sent ++ ls) (map-append price_line (enumerate_from 1 a.prices) (y ∷ []) ∙ ap (λ l. map price_line (enumerate_from 1 a.prices) ++ l ∷ []) (sym said.0))
+          ∙ ap (λ ls. cost_line a.cost ∷ ls) (sym (append_assoc (map flow_line a.sent) (map price_line (enumerate_from 1 a.prices)) (line ∷ [])));
+      in_range = with_price_fits a y.0 y.1 h said.1 said.2 next;
+    }
+
+-- a node line
+node_grows : (a : PartialSet) (line : List Token) (v : ℕ) → IsPartialSet a → node_said line ≡ Some v → length a.nodes < a.count → is_above_last a.nodes v ≡ true → Grows (Blocked a) line (Blocked (with_node a v))
+node_grows a line v h e room above =
+    let said = node_said-some line v e in
+    record {
+      lines =
+          ap (λ ls. set_line a.side a.count ∷ ls) (map-append node_line a.nodes (v ∷ []) ∙ ap (λ l. map node_line a.nodes ++ l ∷ []) (sym said.0));
+      in_range = with_node_fits a line v h e room above;
+    }
+
+if-taken : {A : Type 0} (b : Bool) (x y : A) → cond b (Some x) None ≡ Some y → (b ≡ true) × (x ≡ y)
+if-taken true x y e = (refl, cc)
+if-taken false x y e = cc
+
+map-taken : {A B : Type 0} (o : Option A) (f : A → B) (y : B) → option_map f o ≡ Some y → (x : A) × (o ≡ Some x) × (f x ≡ y)
+map-taken None f y e = cc
+map-taken (Some x) f y e = (x, refl, cc)
+
+and-both : (a b : Bool) → (a && b) ≡ true → (a ≡ true) × (b ≡ true)
+and-both true b e = (refl, e)
+and-both false b e = cc
+
+equal_from : (m n : ℕ) → nat_eq m n ≡ true → m ≡ n
+equal_from m n e = grind (arith, nat_tests)
+
+below_from : (m n : ℕ) → nat_lt m n ≡ true → m < n
+below_from m n e = grind (arith, nat_tests)
+
+solution_grows : (a b : Solution) (line : List Token) → IsSolution a → solution_after a line ≡ Some b → Grows (Flow a) line (Flow b)
+unfolding solution_after
+solution_grows a b line h e = go (sent_said line) (price_said line) refl refl e
+  where
+    go : (os : Option Sent) (oy : Option (ℕ × ℤ)) → sent_said line ≡ os → price_said line ≡ oy → sent_or_priced a os oy ≡ Some b → Grows (Flow a) line (Flow b)
+    go None None es ey f = cc
+    go None (Some y) es ey f =
+        let t = if-taken (nat_eq y.0 (length a.prices + 1)) (with_price a y.1) b f in
+        subst (λ d. Grows (Flow a) line (Flow d)) t.1 (price_grows a line y h ey (equal_from y.0 (length a.prices + 1) t.0))
+    go (Some s) oy es ey f =
+        let t = if-taken (nat_eq (length a.prices) 0) (with_sent a s) b f in
+        subst (λ d. Grows (Flow a) line (Flow d)) t.1 (sent_grows a line s h es (equal_from (length a.prices) 0 t.0))
+
+set_grows : (a b : PartialSet) (line : List Token) → IsPartialSet a → set_after a line ≡ Some b → Grows (Blocked a) line (Blocked b)
+unfolding set_after
+set_grows a b line h e = go (node_said line) refl e
+  where
+    go : (o : Option ℕ) → node_said line ≡ o → with_said a o ≡ Some b → Grows (Blocked a) line (Blocked b)
+    go None ev f = cc
+    go (Some v) ev f =
+        let t = if-taken (nat_lt (length a.nodes) a.count && is_above_last a.nodes v) (with_node a v) b f in
+        let both = and-both (nat_lt (length a.nodes) a.count) (is_above_last a.nodes v) t.0 in
+        subst (λ d. Grows (Blocked a) line (Blocked d)) t.1 (node_grows a line v h ev (below_from (length a.nodes) a.count both.0) both.1)
+
+line_grows : (d e : Draft) (line : List Token) → IsDraft d → after d line ≡ Some e → Grows d line e
+unfolding after
+line_grows Empty e line h f =
+    let t = map-taken (opening_said line) opened e f in
+    subst (Grows Empty line) t.2 (opening_grows line t.0 t.1)
+line_grows (Flow a) e line h f =
+    let t = map-taken (solution_after a line) Flow e f in
+    subst (Grows (Flow a) line) t.2 (solution_grows a t.0 line h t.1)
+line_grows (Blocked a) e line h f =
+    let t = map-taken (set_after a line) Blocked e f in
+    subst (Grows (Blocked a) line) t.2 (set_grows a t.0 line h t.1)
+line_grows (Refused r) e line h f = cc
+
+-- all lines taken in are spelled
+record Spelled (d : Draft) (lines : List (List Token)) (e : Draft) : Type 0 where
+  all : spelled e ≡ spelled d ++ lines
+  in_range : IsDraft e
+
+run_spelled : (lines : List Row) (d e : Draft) → IsDraft d → run_rows d lines ≡ Ok e → Spelled d (map tokens lines) e
+run_spelled [] d e h f =
+    let is : d ≡ e = cc f in
+    subst (Spelled d []) is record { all = sym (append-nil (spelled d)); in_range = h }
+run_spelled (row ∷ lines) d e h f = go (after d (tokens row)) refl f (run_spelled lines)
+  where
+    go : (o : Option Draft) → after d (tokens row) ≡ o → and_then o row.number (λ m. run_rows m lines) ≡ Ok e
+        → ((m n : Draft) → IsDraft m → run_rows m lines ≡ Ok n → Spelled m (map tokens lines) n) → Spelled d (tokens row ∷ map tokens lines) e
+    go None g k next = cc
+    go (Some m) g k next =
+        let first = line_grows d m (tokens row) h g in
+        let others = next m e first.in_range k in
+        record {
+          all = others.all ∙ ap (λ front. front ++ map tokens lines) first.lines ∙ append_assoc (spelled d) (tokens row ∷ []) (map tokens lines);
+          in_range = others.in_range;
+        }
+
+-- a state that gives an answer spells it
+finished_spelled : (d : Draft) (a : Answer) → IsDraft d → finished d ≡ Some a → (spelling a ≡ spelled d) × IsAnswer a
+unfolding finished spelling IsAnswer
+finished_spelled Empty a h e = cc
+finished_spelled (Flow b) a h e =
+    let is : FlowAnswered b ≡ a = cc e in
+    subst (λ x. (spelling x ≡ spelled (Flow b)) × IsAnswer x) is (refl, h)
+finished_spelled (Blocked b) a h e =
+    let t = if-taken (nat_eq (length b.nodes) b.count) (BlockedAnswered (record { side = b.side; nodes = b.nodes })) a e in
+    let size : length b.nodes ≡ b.count = equal_from (length b.nodes) b.count t.0 in
+    let set : IsBlockingSet (record { side = b.side; nodes = b.nodes }) =
+    record { nonempty = omega (arith, size, h.some.0); few = omega (arith, size, h.some.1); are_nodes = h.are_nodes; ascending = h.ascending } in
+    subst (λ x. (spelling x ≡ spelled (Blocked b)) × IsAnswer x) t.1 (ap (λ n. set_line b.side n ∷ map node_line b.nodes) size, set)
+finished_spelled (Refused r) a h e =
+    let is : RefusedAnswered r ≡ a = cc e in
+    subst (λ x. (spelling x ≡ spelled (Refused r)) × IsAnswer x) is (refl, h)
+
+-- a text that is parsed to an answer spells it
+pub parsed_spells : (text : List ℕ) (a : Answer) → parsing text ≡ Ok a → Spells text a
+parsed_spells text a e =
+    go (run_rows Empty (rows text)) refl (ap (λ r. outcome r (line_after text)) (sym (run-rows (numbered_lines 1 text) Empty)) ∙ outcome-parsing text ∙ e)
+  where
+    at_end : (d : Draft) (o : Option Answer) → finished d ≡ o → run_rows Empty (rows text) ≡ Ok d → answer_or o (line_after text) ≡ Ok a → Spells text a
+    at_end d None f g k = cc
+    at_end d (Some b) f g k =
+        let is : b ≡ a = cc k in
+        let lines = run_spelled (rows text) Empty d tt g in
+        let end = finished_spelled d b lines.in_range f in
+        subst (Spells text) is record { in_range = end.1; lines = sym (end.0 ∙ lines.all) }
+
+    go : (r : Result Draft ℕ) → run_rows Empty (rows text) ≡ r → outcome r (line_after text) ≡ Ok a → Spells text a
+    go (Err line) f k = cc
+    go (Ok d) f k = at_end d (finished d) refl f k

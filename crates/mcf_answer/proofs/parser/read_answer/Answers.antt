@@ -1,0 +1,23 @@
+use Rattle.std.proofs.Common.{None, ap, sym, ◌∙◌}
+use Rattle.mcf_answer.specs.Draft.{answer_or, outcome}
+use Rattle.mcf_answer.proofs.Simulation.{outcome-parsing}
+use Rattle.mcf_text.specs.Row.{line_after}
+use Rattle.mcf_answer.proofs.parser.read_answer.Goals as goal
+
+pub returns-in-Err : goal.returns-in-Err
+returns-in-Err c =
+    let text = c.args.text.now in
+    ap (λ r. outcome r (line_after text)) (sym c.in-Err.is ∙ c.in_ok-draft.ensures) ∙ outcome-parsing text
+
+pub returns-in-Some : goal.returns-in-Some
+returns-in-Some c =
+    let text = c.args.text.now in
+    ap (λ o. answer_or o (line_after text)) c.in-Some.ensures
+    ∙ ap (λ r. outcome r (line_after text)) (sym c.in-Ok.is ∙ c.in_ok-draft.ensures) ∙ outcome-parsing text
+
+pub returns-in-None : goal.returns-in-None
+returns-in-None c =
+    let text = c.args.text.now in
+    ap (λ n. answer_or None n) c.line_after.ensures
+    ∙ ap (λ o. answer_or o (line_after text)) c.in-None.ensures
+    ∙ ap (λ r. outcome r (line_after text)) (sym c.in-Ok.is ∙ c.in_ok-draft.ensures) ∙ outcome-parsing text

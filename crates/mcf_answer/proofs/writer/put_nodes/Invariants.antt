@@ -1,0 +1,9 @@
+use Rattle.std.proofs.Common.{◌≡◌, ◌++◌, take}
+use Rattle.std.specs.Prelude.{flat_map, map}
+use Rattle.mcf_answer.specs.Spelling.{node_line}
+use Rattle.mcf_answer.specs.Written.{line_text}
+use Rattle.mcf_answer.proofs.writer.put_nodes.Given as goal
+
+-- the lines so far
+abbrev pub invariant-loop-node : goal.invariant-loop-node
+invariant-loop-node l = l.out.items ≡ l.fn.out.items ++ flat_map line_text (map node_line (take l.node-index l.nodes))

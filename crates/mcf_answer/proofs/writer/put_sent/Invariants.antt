@@ -1,0 +1,9 @@
+use Rattle.std.proofs.Common.{◌≡◌, ◌++◌, take}
+use Rattle.std.specs.Prelude.{flat_map, map}
+use Rattle.mcf_answer.specs.Spelling.{flow_line}
+use Rattle.mcf_answer.specs.Written.{line_text}
+use Rattle.mcf_answer.proofs.writer.put_sent.Given as goal
+
+-- the lines so far
+abbrev pub invariant-loop-s : goal.invariant-loop-s
+invariant-loop-s l = l.out.items ≡ l.fn.out.items ++ flat_map line_text (map flow_line (take l.s-index l.sent))

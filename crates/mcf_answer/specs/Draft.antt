@@ -1,0 +1,107 @@
+-- The parser's state: what the lines so far say, and how a line changes it.
+use Rattle.std.specs.Prelude.{◌≡◌, ℕ, ◌+◌, ◌≤◌, ◌==◌, nat_lt, Bool, true, false, ◌&&◌, if◌then◌else◌, List, [], ◌∷◌, ◌++◌, map, length, ℤ, All, Option, Some, None, option_map, Result, Ok, Err}
+use Rattle.std.specs.Option.{option_or, option_map_or}
+use Rattle.std.specs.List.Sorted.{IsStrictlyIncreasing}
+use Rattle.mcf_answer.specs.Fits.{is_above_last, node_lines, price_lines, sent_lines}
+use Rattle.mcf_answer.specs.Parsing.{no_refusal}
+use Rattle.mcf_answer.specs.PartialSet.{PartialSet}
+use Rattle.mcf_answer.specs.Said.{Opening, OpensFlow, OpensSet, OpensRefusal, opening_said, sent_said, price_said, node_said}
+use Rattle.mcf_answer.specs.Solution.{Solution}
+use Rattle.mcf_answer.specs.Token.{Token, tokens_of}
+use Rattle.mcf_answer.specs.declared.answers.Answer.{Answer}
+use Rattle.mcf_answer.specs.declared.answers.Answer.TheVariants.{Flow as FlowAnswered, Blocked as BlockedAnswered, Refused as RefusedAnswered}
+use Rattle.mcf_answer.specs.declared.answers.Sent.{Sent}
+use Rattle.mcf_answer.specs.declared.draft.Draft.{Draft}
+use Rattle.mcf_answer.specs.declared.draft.Draft.TheVariants.{Empty, Flow, Blocked, Refused}
+use Rattle.mcf_answer.specs.declared.shape.Shape.{Shape}
+use Rattle.mcf_text.specs.Fields.{fields_of, is_kept}
+
+-- ---- one line
+
+-- after the first line
+abbrev pub opened : Opening → Draft
+opened (OpensFlow cost) = Flow (record { cost = cost; sent = []; prices = [] })
+opened (OpensSet side count) = Blocked (record { side = side; count = count; nodes = [] })
+opened (OpensRefusal r) = Refused r
+
+abbrev pub with_sent : Solution → Sent → Solution
+with_sent a s = record { cost = a.cost; sent = a.sent ++ s ∷ []; prices = a.prices }
+
+abbrev pub with_price : Solution → ℤ → Solution
+with_price a z = record { cost = a.cost; sent = a.sent; prices = a.prices ++ z ∷ [] }
+
+abbrev pub with_node : PartialSet → ℕ → PartialSet
+with_node a v = record { side = a.side; count = a.count; nodes = a.nodes ++ v ∷ [] }
+
+-- a flow answer after a price line
+abbrev pub priced : Solution → Option (ℕ × ℤ) → Option Solution
+priced a None = None
+priced a (Some y) = if y.0 == length a.prices + 1 then Some (with_price a y.1) else None
+
+-- a flow answer after a line that says this as a flow line, and as a price line
+abbrev pub sent_or_priced : Solution → Option Sent → Option (ℕ × ℤ) → Option Solution
+sent_or_priced a None y = priced a y
+sent_or_priced a (Some s) y = if length a.prices == 0 then Some (with_sent a s) else None
+
+unfoldable pub solution_after : Solution → List Token → Option Solution
+solution_after a line = sent_or_priced a (sent_said line) (price_said line)
+
+-- a set after a node line
+abbrev pub with_said : PartialSet → Option ℕ → Option PartialSet
+with_said a None = None
+with_said a (Some v) = if nat_lt (length a.nodes) a.count && is_above_last a.nodes v then Some (with_node a v) else None
+
+unfoldable pub set_after : PartialSet → List Token → Option PartialSet
+set_after a line = with_said a (node_said line)
+
+-- the state after a line, if it fits
+unfoldable pub after : Draft → List Token → Option Draft
+after Empty line = option_map opened (opening_said line)
+after (Flow a) line = option_map Flow (solution_after a line)
+after (Blocked a) line = option_map Blocked (set_after a line)
+after (Refused r) line = None
+
+-- ---- the lines that a state stands for
+
+-- the state of a first line and the lines after it
+abbrev pub filled : Option Opening → List (List Token) → Draft
+filled None others = Refused no_refusal
+filled (Some (OpensFlow cost)) others =
+    Flow (record { cost = cost; sent = sent_lines others; prices = map (λ y. y.1) (price_lines others) })
+filled (Some (OpensSet side count)) others = Blocked (record { side = side; count = count; nodes = node_lines others })
+filled (Some (OpensRefusal r)) others = Refused r
+
+-- the state of lines that all fit
+abbrev pub draft_of : List (List Token) → Draft
+draft_of [] = Empty
+draft_of (first ∷ others) = filled (opening_said first) others
+
+-- ---- all lines
+
+-- the state after a line that says this, if it fits; else the number of the line
+abbrev pub and_then : Option Draft → ℕ → (Draft → Result Draft ℕ) → Result Draft ℕ
+and_then None number next = Err number
+and_then (Some d) number next = next d
+
+-- the state after all lines, or the number of the first that doesn't fit
+abbrev pub run : Draft → List (ℕ × List ℕ) → Result Draft ℕ
+run d [] = Ok d
+run d (line ∷ lines) =
+    if is_kept line.1 then and_then (after d (tokens_of (fields_of line.1))) line.0 (λ e. run e lines) else run d lines
+
+-- the answer of a state, if no line is missing
+unfoldable pub finished : Draft → Option Answer
+finished Empty = None
+finished (Flow a) = Some (FlowAnswered a)
+finished (Blocked a) = if length a.nodes == a.count then Some (BlockedAnswered (record { side = a.side; nodes = a.nodes })) else None
+finished (Refused r) = Some (RefusedAnswered r)
+
+-- the answer that a state gives at the end, where the line after the last has this number
+abbrev pub answer_or : Option Answer → ℕ → Result Answer Shape
+answer_or None number = Err (record { line = number })
+answer_or (Some a) number = Ok a
+
+-- what the lines give: an answer, the number of the first that doesn't fit, or that of the line after the last
+abbrev pub outcome : Result Draft ℕ → ℕ → Result Answer Shape
+outcome (Err line) number = Err (record { line = line })
+outcome (Ok d) number = answer_or (finished d) number

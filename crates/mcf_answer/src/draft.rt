@@ -1,0 +1,170 @@
+//! The parser's state: what the lines so far say.
+use crate::answers::{Answer, BlockedAnswer, FlowAnswer};
+use crate::line::{cost_line, flow_line, node_line, price_line, refusal_line, set_line};
+use crate::lists::{NodeList, PriceList, SentList};
+use mcf_instance::{Refusal, Side};
+use mcf_text::{NoMemory, NodeId};
+use std::alloc::Global;
+use std::marker::Model;
+
+/// A blocked answer of which some nodes may be missing.
+#[derive(Drop)]
+pub(crate) struct SetDraft {
+    side: Side,
+    count: u32,
+    nodes: NodeList,
+}
+
+impl Model for SetDraft {
+    ghost use Rattle.mcf_answer.specs.PartialSet.{IsPartialSet, PartialSet};
+
+    ghost Value = { PartialSet };
+
+    ghost view = { λ a. record { side = a.side; count = a.count; nodes = a.nodes } };
+
+    ghost invariant = { λ a. IsPartialSet (record { side = a.side; count = a.count; nodes = a.nodes }) };
+}
+
+/// What the lines so far say.
+#[derive(Drop)]
+pub(crate) enum Draft {
+    /// No line yet.
+    Empty,
+    /// The lines of a flow answer.
+    Flow(FlowAnswer),
+    /// The first lines of a blocked answer.
+    Blocked(SetDraft),
+    /// The line of a refusal.
+    Refused(Refusal),
+}
+
+impl FlowAnswer {
+    ghost use Rattle.std.specs.Prelude.{◌≡◌, IfOk, Some, None, if◌then◌else◌};
+    ghost use Rattle.mcf_answer.specs.Draft.{priced, solution_after};
+    ghost use Rattle.mcf_answer.specs.Ranges.{IsAmount, IsNodeNumber};
+    ghost use Rattle.mcf_answer.specs.Token.{tokens_of};
+    ghost use Rattle.mcf_text.specs.Fields.{fields_of};
+
+    // Takes the price of a node in, if it is the next node.
+    fn take_price(&mut self, id: NodeId, price: i128) -> Result<bool, NoMemory>
+        requires node { IsNodeNumber id }
+        requires amount { IsAmount price }
+        ensures { IfOk result (λ fit. (if fit then Some self.new else None) ≡ priced self.old (Some (id, price))) }
+    {
+        if id.get() as usize != self.prices.len() + 1 {
+            return Ok(false);
+        }
+        self.prices.push(price)?;
+        Ok(true)
+    }
+
+    // Takes a line in, if it fits.
+    #[tactic(auto, unfolding(crate::specs::Draft::solution_after))]
+    fn take(&mut self, line: &[u8]) -> Result<bool, NoMemory>
+        ensures { IfOk result (λ fit. (if fit then Some self.new else None) ≡ solution_after self.old (tokens_of (fields_of line.now))) }
+    {
+        if let Some(sent) = flow_line(line) {
+            if !self.prices.is_empty() {
+                return Ok(false);
+            }
+            self.sent.push(sent)?;
+            return Ok(true);
+        }
+        match price_line(line) {
+            Some((id, price)) => self.take_price(id, price),
+            None => Ok(false),
+        }
+    }
+}
+
+impl SetDraft {
+    ghost use Rattle.std.specs.Prelude.{◌≡◌, IfOk, Some, None, if◌then◌else◌};
+    ghost use Rattle.mcf_answer.specs.Draft.{set_after};
+    ghost use Rattle.mcf_answer.specs.Token.{tokens_of};
+    ghost use Rattle.mcf_text.specs.Fields.{fields_of};
+
+    // Takes a line in, if it fits.
+    #[tactic(auto, unfolding(crate::specs::Draft::set_after))]
+    fn take(&mut self, line: &[u8]) -> Result<bool, NoMemory>
+        ensures { IfOk result (λ fit. (if fit then Some self.new else None) ≡ set_after self.old (tokens_of (fields_of line.now))) }
+    {
+        let Some(node) = node_line(line) else {
+            return Ok(false);
+        };
+        if self.nodes.len() < self.count as usize && self.nodes.is_below(node) {
+            self.nodes.push(node)?;
+            Ok(true)
+        } else {
+            Ok(false)
+        }
+    }
+}
+
+impl Draft {
+    ghost use Rattle.std.specs.Prelude.{◌≡◌, IfOk, Some, None, if◌then◌else◌, option_map};
+    ghost use Rattle.mcf_answer.specs.Draft.{after, finished, opened};
+    ghost use Rattle.mcf_answer.specs.Said.{opening_said};
+    ghost use Rattle.mcf_answer.specs.Token.{tokens_of};
+    ghost use Rattle.mcf_text.specs.Fields.{fields_of};
+
+    // What a first line opens, if it opens an answer.
+    #[tactic(auto, unfolding(crate::specs::Said::opening_said))]
+    fn open(alloc: Global, line: &[u8]) -> Option<Draft>
+        ensures { result ≡ option_map opened (opening_said (tokens_of (fields_of line.now))) }
+    {
+        if let Some(cost) = cost_line(line) {
+            return Some(Draft::Flow(FlowAnswer {
+                cost,
+                sent: SentList::new(Vec::new(alloc)),
+                prices: PriceList::new(Vec::new(alloc)),
+            }));
+        }
+        if let Some((side, count)) = set_line(line) {
+            return Some(Draft::Blocked(SetDraft {
+                side,
+                count,
+                nodes: NodeList::new(Vec::new(alloc)),
+            }));
+        }
+        let refusal = refusal_line(line)?;
+        Some(Draft::Refused(refusal))
+    }
+
+    /// Takes a kept line in, if it fits.
+    #[tactic(auto, unfolding(crate::specs::Draft::after))]
+    pub(crate) fn take(&mut self, alloc: Global, line: &[u8]) -> Result<bool, NoMemory>
+        ensures { IfOk result (λ fit. (if fit then Some self.new else None) ≡ after self.old (tokens_of (fields_of line.now))) }
+    {
+        match self {
+            Draft::Empty => match Draft::open(alloc, line) {
+                Some(draft) => {
+                    *self = draft;
+                    Ok(true)
+                }
+                None => Ok(false),
+            },
+            Draft::Flow(flow) => flow.take(line),
+            Draft::Blocked(set) => set.take(line),
+            Draft::Refused(_) => Ok(false),
+        }
+    }
+
+    /// The answer, if no line is missing.
+    #[tactic(auto, unfolding(crate::specs::Draft::finished))]
+    pub(crate) fn finish(self) -> Option<Answer>
+        ensures { result ≡ finished self }
+    {
+        match self {
+            Draft::Empty => None,
+            Draft::Flow(flow) => Some(Answer::Flow(flow)),
+            Draft::Blocked(set) => {
+                let SetDraft { side, count, nodes } = set;
+                if nodes.len() != count as usize {
+                    return None;
+                }
+                Some(Answer::Blocked(BlockedAnswer { side, nodes }))
+            }
+            Draft::Refused(refusal) => Some(Answer::Refused(refusal)),
+        }
+    }
+}

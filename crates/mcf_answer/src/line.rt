@@ -1,0 +1,193 @@
+//! What a line of an answer text says.
+ghost use Rattle.std.specs.Prelude.{◌≡◌, ◌≤◌, ◌^◌, false, IfSome};
+ghost use Rattle.mcf_answer.specs.Ranges.{IsAmount, IsNodeNumber};
+ghost use Rattle.mcf_answer.specs.Said.{amount_of, code_of, cost_said, line_number_of, node_of, node_said, number_within, price_said, refusal_said, sent_said, set_said, side_of};
+ghost use Rattle.mcf_answer.specs.Token.{is_word, token_of, tokens_of};
+ghost use Rattle.mcf_text.specs.Fields.{fields_of};
+ghost use Rattle.mcf_text.specs.Whole.{is_whole};
+
+use crate::answers::Sent;
+use mcf_instance::{Code, Refusal, Side};
+use mcf_text::{NodeId, Whole, fields, whole};
+
+// How far from 0 a cost, a flow and a price may lie, and the greatest number of a line: 10^37.
+const LIMIT: i128 = 10_000_000_000_000_000_000_000_000_000_000_000_000;
+
+// ---- a field
+
+// The number that a field says, where it is one in the range.
+fn number(field: &[u8], lo: i128, hi: i128) -> Option<i128>
+    ensures { result ≡ number_within lo hi (token_of field.now) }
+{
+    match whole(field, lo, hi) {
+        Whole::Value(value) => Some(value),
+        _ => None,
+    }
+}
+
+// A cost, a flow or a price.
+fn amount(field: &[u8]) -> Option<i128>
+    ensures value { result ≡ amount_of (token_of field.now) }
+    ensures in_range { IfSome result IsAmount }
+{
+    number(field, -LIMIT, LIMIT)
+}
+
+// The number of a node, or how many there are.
+fn count(field: &[u8]) -> Option<u32>
+    ensures value { result ≡ node_of (token_of field.now) }
+    ensures in_range { IfSome result IsNodeNumber }
+{
+    let value = number(field, 1, 1_000_000)?;
+    Some(value as u32)
+}
+
+// A node.
+fn node(field: &[u8]) -> Option<NodeId>
+    ensures value { result ≡ node_of (token_of field.now) }
+    ensures in_range { IfSome result IsNodeNumber }
+{
+    let value = count(field)?;
+    Some(NodeId::new(value))
+}
+
+// The number of a line.
+fn line_number(field: &[u8]) -> Option<u128>
+    ensures value { result ≡ line_number_of (token_of field.now) }
+    ensures in_range { IfSome result (λ n. (1 ≤ n) × (n ≤ 10 ^ 37)) }
+{
+    let value = number(field, 1, LIMIT)?;
+    Some(value as u128)
+}
+
+// The side that a field names.
+fn side(field: &[u8]) -> Option<Side>
+    ensures { result ≡ side_of (token_of field.now) }
+{
+    if is_word(field, b"send") {
+        Some(Side::Send)
+    } else if is_word(field, b"take") {
+        Some(Side::Take)
+    } else {
+        None
+    }
+}
+
+// The code that a field names.
+#[tactic(auto, using(crate::proofs::Words::code_answers))]
+fn code(field: &[u8]) -> Option<Code>
+    ensures { result ≡ code_of (token_of field.now) }
+{
+    Code::of(field)
+}
+
+// Whether a field is this word, which is no number.
+fn is_word(field: &[u8], word: &[u8]) -> bool
+    requires { is_whole word.now ≡ false }
+    ensures { result ≡ is_word word.now (token_of field.now) }
+{
+    field == word
+}
+
+// ---- a line
+
+/// The cost of a line `s COST`.
+#[tactic(auto, unfolding(crate::specs::Said::cost_said))]
+pub(crate) fn cost_line(line: &[u8]) -> Option<i128>
+    ensures value { result ≡ cost_said (tokens_of (fields_of line.now)) }
+    ensures in_range { IfSome result IsAmount }
+{
+    let mut parts = fields(line);
+    let word = parts.next()?;
+    let cost = parts.next()?;
+    if parts.next().is_some() || !is_word(word, b"s") {
+        return None;
+    }
+    amount(cost)
+}
+
+/// What a line `f SRC DST FLOW` says.
+#[tactic(auto, unfolding(crate::specs::Said::sent_said))]
+pub(crate) fn flow_line(line: &[u8]) -> Option<Sent>
+    ensures { result ≡ sent_said (tokens_of (fields_of line.now)) }
+{
+    let mut parts = fields(line);
+    let word = parts.next()?;
+    let src = parts.next()?;
+    let dst = parts.next()?;
+    let flow = parts.next()?;
+    if parts.next().is_some() || !is_word(word, b"f") {
+        return None;
+    }
+    Some(Sent {
+        src: node(src)?,
+        dst: node(dst)?,
+        flow: amount(flow)?,
+    })
+}
+
+/// The node and the price of a line `y ID PRICE`.
+#[tactic(auto, unfolding(crate::specs::Said::price_said))]
+pub(crate) fn price_line(line: &[u8]) -> Option<(NodeId, i128)>
+    ensures value { result ≡ price_said (tokens_of (fields_of line.now)) }
+    ensures in_range { IfSome result (λ y. IsNodeNumber y.0 × IsAmount y.1) }
+{
+    let mut parts = fields(line);
+    let word = parts.next()?;
+    let id = parts.next()?;
+    let price = parts.next()?;
+    if parts.next().is_some() || !is_word(word, b"y") {
+        return None;
+    }
+    Some((node(id)?, amount(price)?))
+}
+
+/// The side and the number of nodes of a line `i K send` or `i K take`.
+#[tactic(auto, unfolding(crate::specs::Said::set_said))]
+pub(crate) fn set_line(line: &[u8]) -> Option<(Side, u32)>
+    ensures value { result ≡ set_said (tokens_of (fields_of line.now)) }
+    ensures in_range { IfSome result (λ set. IsNodeNumber set.1) }
+{
+    let mut parts = fields(line);
+    let word = parts.next()?;
+    let size = parts.next()?;
+    let named = parts.next()?;
+    if parts.next().is_some() || !is_word(word, b"i") {
+        return None;
+    }
+    let size = count(size)?;
+    Some((side(named)?, size))
+}
+
+/// The node of a line `x ID`.
+#[tactic(auto, unfolding(crate::specs::Said::node_said))]
+pub(crate) fn node_line(line: &[u8]) -> Option<NodeId>
+    ensures { result ≡ node_said (tokens_of (fields_of line.now)) }
+{
+    let mut parts = fields(line);
+    let word = parts.next()?;
+    let id = parts.next()?;
+    if parts.next().is_some() || !is_word(word, b"x") {
+        return None;
+    }
+    node(id)
+}
+
+/// The refusal of a line `r LINE CODE`.
+#[tactic(auto, unfolding(crate::specs::Said::refusal_said))]
+pub(crate) fn refusal_line(line: &[u8]) -> Option<Refusal>
+    ensures { result ≡ refusal_said (tokens_of (fields_of line.now)) }
+{
+    let mut parts = fields(line);
+    let word = parts.next()?;
+    let number = parts.next()?;
+    let named = parts.next()?;
+    if parts.next().is_some() || !is_word(word, b"r") {
+        return None;
+    }
+    let line = line_number(number)?;
+    Some(Refusal {
+        line,
+        code: code(named)?,
+    })
+}

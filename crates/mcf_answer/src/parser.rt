@@ -1,0 +1,71 @@
+//! Answers from text.
+ghost use Rattle.std.specs.Prelude.{◌≡◌, ◌↔◌, length, IfErr, IfOk, Ok, Some};
+ghost use Rattle.mcf_answer.specs.Draft.{run};
+ghost use Rattle.mcf_answer.specs.Fits.{misfit};
+ghost use Rattle.mcf_answer.specs.Parsing.{parsing};
+ghost use Rattle.mcf_answer.specs.Spelling.{Spells};
+ghost use Rattle.mcf_answer.specs.declared.answers.Answer.{Answer};
+ghost use Rattle.mcf_answer.specs.declared.draft.Draft.TheVariants.{Empty};
+ghost use Rattle.mcf_text.specs.Lines.{numbered_lines};
+ghost use Rattle.mcf_text.specs.Row.{line_after};
+
+use crate::answers::Answer;
+use crate::draft::Draft;
+use crate::shape::Shape;
+use mcf_text::{NoMemory, is_kept, lines};
+use std::alloc::Global;
+
+/// The answer that a text spells, or the line at which it is seen to spell none.
+///
+/// Fields stand between blanks of any number and kind, numbers may have a plus sign and leading zeros, and
+/// blank lines and comments are skipped.
+pub fn parse(alloc: Global, text: &[u8]) -> Result<Result<Answer, Shape>, NoMemory>
+    ensures spelled { IfOk result (λ r. (a : Answer) → (r ≡ Ok a) ↔ Spells text.now a) }
+    ensures misfit { IfOk result (λ r. IfErr r (λ shape. misfit text.now ≡ Some shape.line)) }
+    ensures value { IfOk result (λ r. r ≡ parsing text.now) }
+{
+    read_answer(alloc, text)
+}
+
+// The answer that the lines of a text give.
+fn read_answer(alloc: Global, text: &[u8]) -> Result<Result<Answer, Shape>, NoMemory>
+    ensures { IfOk result (λ r. r ≡ parsing text.now) }
+{
+    let draft = match read_lines(alloc, text)? {
+        Ok(draft) => draft,
+        Err(line) => return Ok(Err(Shape { line })),
+    };
+    match draft.finish() {
+        Some(answer) => Ok(Ok(answer)),
+        None => Ok(Err(Shape {
+            line: line_after(text),
+        })),
+    }
+}
+
+// The state after all lines, or the number of the first that doesn't fit.
+fn read_lines(alloc: Global, text: &[u8]) -> Result<Result<Draft, u128>, NoMemory>
+    ensures { IfOk result (λ r. r ≡ run Empty (numbered_lines 1 text.now)) }
+{
+    let mut draft = Draft::Empty;
+    for line in lines(text) {
+        if is_kept(line.bytes) && !draft.take(alloc, line.bytes)? {
+            return Ok(Err(line.number));
+        }
+    }
+    Ok(Ok(draft))
+}
+
+// The number of the line after the last.
+fn line_after(text: &[u8]) -> u128
+    ensures { result ≡ line_after text.now }
+{
+    line_count(text) as u128 + 1
+}
+
+// How many lines there are.
+fn line_count(text: &[u8]) -> usize
+    ensures { result ≡ length (numbered_lines 1 text.now) }
+{
+    lines(text).count()
+}

@@ -1,0 +1,175 @@
+//! Answers as text.
+ghost use Rattle.std.specs.Prelude.{◌≡◌, [], ◌∷◌, ◌++◌, Ok, map, flat_map, length, take, OnOk, OnErr};
+ghost use Rattle.std.specs.Fmt.{signed_decimal};
+ghost use Rattle.std.specs.List.{enumerate_from};
+ghost use Rattle.mcf_answer.specs.BlockingSet.{IsBlockingSet};
+ghost use Rattle.mcf_answer.specs.Parsing.{parsing};
+ghost use Rattle.mcf_answer.specs.Solution.{IsSolution};
+ghost use Rattle.mcf_answer.specs.Spelling.{IsAnswer, Spells, flow_line, node_line, price_line, set_lines, side_word as side_word_of, solution_lines};
+ghost use Rattle.mcf_answer.specs.Token.{Word, Number};
+ghost use Rattle.mcf_answer.specs.Written.{line_text, written};
+
+use crate::answers::{Answer, BlockedAnswer, FlowAnswer, Sent};
+use mcf_instance::{Refusal, Side};
+use mcf_text::{NoMemory, NodeId, put_number};
+
+/// Appends the text of an answer: fields with one blank between them, numbers in decimal without a plus
+/// sign and without leading zeros, each line ended by byte 10.
+///
+/// Where memory runs out, the bytes stay as they were.
+#[tactic(auto, using(crate::proofs::Parsed::reads_back))]
+pub fn write(answer: &Answer, out: &mut Vec<u8>) -> Result<(), NoMemory>
+    ensures ok { OnOk result (out.new.items ≡ out.old.items ++ written answer.now) }
+    ensures err { OnErr result (out.new.items ≡ out.old.items) }
+    ensures in_range { OnOk result (IsAnswer answer.now) }
+    ensures spells { OnOk result (Spells (written answer.now) answer.now) }
+    ensures reads_back { OnOk result (parsing (written answer.now) ≡ Ok answer.now) }
+{
+    let length = out.len();
+    let outcome = put_answer(out, answer);
+    if outcome.is_err() {
+        out.truncate(length);
+    }
+    outcome
+}
+
+// Each function below leaves a part of what it appends where memory runs out.
+
+// Appends an answer.
+#[tactic(auto, unfolding(crate::specs::Written::written, crate::specs::Spelling::spelling, crate::specs::Spelling::IsAnswer))]
+fn put_answer(out: &mut Vec<u8>, answer: &Answer) -> Result<(), NoMemory>
+    ensures ok { OnOk result (out.new.items ≡ out.old.items ++ written answer.now) }
+    ensures in_range { OnOk result (IsAnswer answer.now) }
+    ensures err { OnErr result (take (length out.old.items) out.new.items ≡ out.old.items) }
+{
+    match answer {
+        Answer::Flow(flow) => put_solution(out, flow),
+        Answer::Blocked(set) => put_set(out, set),
+        Answer::Refused(refusal) => put_word_line(
+            out,
+            b"r",
+            refusal.line as i128,
+            refusal.code.word().as_bytes(),
+        ),
+    }
+}
+
+// Appends the lines of a flow answer.
+#[tactic(auto, using(crate::proofs::Appends::keeps))]
+fn put_solution(out: &mut Vec<u8>, flow: &FlowAnswer) -> Result<(), NoMemory>
+    ensures ok { OnOk result (out.new.items ≡ out.old.items ++ flat_map line_text (solution_lines flow.now)) }
+    ensures in_range { OnOk result (IsSolution flow.now) }
+    ensures err { OnErr result (take (length out.old.items) out.new.items ≡ out.old.items) }
+{
+    put_line(out, b"s", &[flow.cost])?;
+    put_sent(out, flow.sent.as_slice())?;
+    put_prices(out, flow.prices.as_slice())
+}
+
+// Appends the lines of a blocked answer.
+#[tactic(auto, using(crate::proofs::Appends::keeps))]
+fn put_set(out: &mut Vec<u8>, set: &BlockedAnswer) -> Result<(), NoMemory>
+    ensures ok { OnOk result (out.new.items ≡ out.old.items ++ flat_map line_text (set_lines set.now)) }
+    ensures in_range { OnOk result (IsBlockingSet set.now) }
+    ensures err { OnErr result (take (length out.old.items) out.new.items ≡ out.old.items) }
+{
+    let nodes = set.nodes.as_slice();
+    put_word_line(out, b"i", nodes.len() as i128, side_word(set.side))?;
+    put_nodes(out, nodes)
+}
+
+// The word of a side.
+fn side_word(side: Side) -> &'static [u8]
+    ensures { result.now ≡ side_word_of side }
+{
+    match side {
+        Side::Send => b"send",
+        Side::Take => b"take",
+    }
+}
+
+// Appends the flow lines.
+#[tactic(auto, using(crate::proofs::Appends::keeps))]
+fn put_sent(out: &mut Vec<u8>, sent: &[Sent]) -> Result<(), NoMemory>
+    ensures ok { OnOk result (out.new.items ≡ out.old.items ++ flat_map line_text (map flow_line sent.now)) }
+    ensures err { OnErr result (take (length out.old.items) out.new.items ≡ out.old.items) }
+{
+    for s in sent {
+        put_line(
+            out,
+            b"f",
+            &[i128::from(s.src.get()), i128::from(s.dst.get()), s.flow],
+        )?;
+    }
+    Ok(())
+}
+
+// Appends the price lines, from node 1 on.
+#[tactic(auto, using(crate::proofs::Appends::keeps))]
+fn put_prices(out: &mut Vec<u8>, prices: &[i128]) -> Result<(), NoMemory>
+    ensures ok { OnOk result (out.new.items ≡ out.old.items ++ flat_map line_text (map price_line (enumerate_from 1 prices.now))) }
+    ensures err { OnErr result (take (length out.old.items) out.new.items ≡ out.old.items) }
+{
+    for (k, price) in prices.iter().enumerate() {
+        put_price(out, k + 1, *price)?;
+    }
+    Ok(())
+}
+
+// Appends the price line of a node.
+fn put_price(out: &mut Vec<u8>, id: usize, price: i128) -> Result<(), NoMemory>
+    ensures ok { OnOk result (out.new.items ≡ out.old.items ++ line_text (price_line (id, price))) }
+    ensures err { OnErr result (take (length out.old.items) out.new.items ≡ out.old.items) }
+{
+    put_line(out, b"y", &[id as i128, price])
+}
+
+// Appends the node lines.
+#[tactic(auto, using(crate::proofs::Appends::keeps))]
+fn put_nodes(out: &mut Vec<u8>, nodes: &[NodeId]) -> Result<(), NoMemory>
+    ensures ok { OnOk result (out.new.items ≡ out.old.items ++ flat_map line_text (map node_line nodes.now)) }
+    ensures err { OnErr result (take (length out.old.items) out.new.items ≡ out.old.items) }
+{
+    for node in nodes {
+        put_line(out, b"x", &[i128::from(node.get())])?;
+    }
+    Ok(())
+}
+
+// Appends a line of a word and numbers.
+#[tactic(auto, using(crate::proofs::Appends::keeps))]
+fn put_line(out: &mut Vec<u8>, word: &[u8], numbers: &[i128]) -> Result<(), NoMemory>
+    ensures ok { OnOk result (out.new.items ≡ out.old.items ++ line_text (Word word.now ∷ map Number numbers.now)) }
+    ensures err { OnErr result (take (length out.old.items) out.new.items ≡ out.old.items) }
+{
+    out.extend_from_slice(word)?;
+    for number in numbers {
+        put_field(out, *number)?;
+    }
+    out.push(b'\n')?;
+    Ok(())
+}
+
+// Appends a line of a word, a number and a word.
+#[tactic(auto, using(crate::proofs::Appends::keeps))]
+fn put_word_line(out: &mut Vec<u8>, word: &[u8], number: i128, last: &[u8]) -> Result<(), NoMemory>
+    ensures ok { OnOk result (out.new.items ≡ out.old.items ++ line_text (Word word.now ∷ Number number ∷ Word last.now ∷ [])) }
+    ensures err { OnErr result (take (length out.old.items) out.new.items ≡ out.old.items) }
+{
+    out.extend_from_slice(word)?;
+    put_field(out, number)?;
+    out.push(b' ')?;
+    out.extend_from_slice(last)?;
+    out.push(b'\n')?;
+    Ok(())
+}
+
+// Appends a blank and a number.
+#[tactic(auto, using(crate::proofs::Appends::keeps))]
+fn put_field(out: &mut Vec<u8>, number: i128) -> Result<(), NoMemory>
+    ensures ok { OnOk result (out.new.items ≡ out.old.items ++ 32 ∷ signed_decimal number) }
+    ensures err { OnErr result (take (length out.old.items) out.new.items ≡ out.old.items) }
+{
+    out.push(b' ')?;
+    put_number(out, number)
+}
