@@ -16,9 +16,9 @@ use std::marker::Model;
 /// the supplies of its nodes in order.
 #[derive(Drop)]
 pub struct Instance {
-    problem: Problem,
-    arcs: Vec<PackedArc>,
-    supplies: Vec<i64>,
+    pub(crate) problem: Problem,
+    pub(crate) arcs: Vec<PackedArc>,
+    pub(crate) supplies: Vec<i64>,
 }
 
 impl Model for Instance {
