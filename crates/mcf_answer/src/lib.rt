@@ -12,6 +12,8 @@ mod line;
 mod lists;
 mod parser;
 mod shape;
+#[cfg(test)]
+mod tests;
 mod writer;
 
 pub use answers::{Answer, BlockedAnswer, FlowAnswer, Sent};

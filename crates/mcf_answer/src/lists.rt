@@ -6,7 +6,7 @@ use std::marker::Model;
 /// What the arcs carry, in their order. A clause sees the list.
 #[derive(Debug, Drop)]
 pub struct SentList {
-    items: Vec<Sent>,
+    sent: Vec<Sent>,
 }
 
 impl Model for SentList {
@@ -15,45 +15,46 @@ impl Model for SentList {
 
     ghost Value = { List Sent };
 
-    ghost view = { λ list. list.items.items };
+    ghost view = { λ list. list.sent.items };
 }
 
 impl SentList {
     ghost use Rattle.std.specs.Prelude.{◌≡◌, ◌==◌, ◌++◌, ◌∷◌, [], length, OnOk, OnErr};
 
-    /// The list of these items; it takes no memory.
+    /// The list of these flows; it takes no memory.
     pub fn new(items: Vec<Sent>) -> SentList
         ensures { result ≡ items.items }
     {
-        SentList { items }
+        SentList { sent: items }
     }
 
-    /// The items, in order.
+    /// The flows, in order.
     pub fn as_slice(&self) -> &[Sent]
         ensures { result.now ≡ self.now }
     {
-        &self.items
+        &self.sent
     }
 
-    /// The items, in the memory that held them.
+    /// The flows, in the memory that held them.
     pub fn into_vec(self) -> Vec<Sent>
         ensures { result.items ≡ self }
     {
-        self.items
+        let SentList { sent } = self;
+        sent
     }
 
-    /// How many there are.
+    /// How many flows there are.
     pub fn len(&self) -> usize
         ensures { result ≡ length self.now }
     {
-        self.items.len()
+        self.sent.len()
     }
 
-    /// Whether there is none.
+    /// Whether there are no flows.
     pub fn is_empty(&self) -> bool
         ensures { result ≡ (length self.now == 0) }
     {
-        self.items.is_empty()
+        self.sent.is_empty()
     }
 
     /// Appends one.
@@ -61,7 +62,7 @@ impl SentList {
         ensures ok { OnOk result (self.new ≡ self.old ++ item ∷ []) }
         ensures err { OnErr result (self.new ≡ self.old) }
     {
-        self.items.push(item)?;
+        self.sent.push(item)?;
         Ok(())
     }
 }
@@ -69,7 +70,7 @@ impl SentList {
 /// The prices of the nodes, from node 1 on. A clause sees the list.
 #[derive(Debug, Drop)]
 pub struct PriceList {
-    items: Vec<i128>,
+    prices: Vec<i128>,
 }
 
 impl Model for PriceList {
@@ -77,7 +78,7 @@ impl Model for PriceList {
 
     ghost Value = { List ℤ };
 
-    ghost view = { λ list. list.items.items };
+    ghost view = { λ list. list.prices.items };
 }
 
 impl PriceList {
@@ -87,35 +88,36 @@ impl PriceList {
     pub fn new(items: Vec<i128>) -> PriceList
         ensures { result ≡ items.items }
     {
-        PriceList { items }
+        PriceList { prices: items }
     }
 
     /// The prices, in order.
     pub fn as_slice(&self) -> &[i128]
         ensures { result.now ≡ self.now }
     {
-        &self.items
+        &self.prices
     }
 
     /// The prices, in the memory that held them.
     pub fn into_vec(self) -> Vec<i128>
         ensures { result.items ≡ self }
     {
-        self.items
+        let PriceList { prices } = self;
+        prices
     }
 
-    /// How many there are.
+    /// How many prices there are.
     pub fn len(&self) -> usize
         ensures { result ≡ length self.now }
     {
-        self.items.len()
+        self.prices.len()
     }
 
-    /// Whether there is none.
+    /// Whether there are no prices.
     pub fn is_empty(&self) -> bool
         ensures { result ≡ (length self.now == 0) }
     {
-        self.items.is_empty()
+        self.prices.is_empty()
     }
 
     /// Appends one.
@@ -123,7 +125,7 @@ impl PriceList {
         ensures ok { OnOk result (self.new ≡ self.old ++ item ∷ []) }
         ensures err { OnErr result (self.new ≡ self.old) }
     {
-        self.items.push(item)?;
+        self.prices.push(item)?;
         Ok(())
     }
 }
@@ -131,7 +133,7 @@ impl PriceList {
 /// Numbers of nodes. A clause sees the list.
 #[derive(Debug, Drop)]
 pub struct NodeList {
-    items: Vec<NodeId>,
+    nodes: Vec<NodeId>,
 }
 
 impl Model for NodeList {
@@ -139,7 +141,7 @@ impl Model for NodeList {
 
     ghost Value = { List ℕ };
 
-    ghost view = { λ list. list.items.items };
+    ghost view = { λ list. list.nodes.items };
 }
 
 impl NodeList {
@@ -150,35 +152,36 @@ impl NodeList {
     pub fn new(items: Vec<NodeId>) -> NodeList
         ensures { result ≡ items.items }
     {
-        NodeList { items }
+        NodeList { nodes: items }
     }
 
     /// The nodes, in order.
     pub fn as_slice(&self) -> &[NodeId]
         ensures { result.now ≡ self.now }
     {
-        &self.items
+        &self.nodes
     }
 
     /// The nodes, in the memory that held them.
     pub fn into_vec(self) -> Vec<NodeId>
         ensures { result.items ≡ self }
     {
-        self.items
+        let NodeList { nodes } = self;
+        nodes
     }
 
-    /// How many there are.
+    /// How many nodes there are.
     pub fn len(&self) -> usize
         ensures { result ≡ length self.now }
     {
-        self.items.len()
+        self.nodes.len()
     }
 
-    /// Whether there is none.
+    /// Whether there are no nodes.
     pub fn is_empty(&self) -> bool
         ensures { result ≡ (length self.now == 0) }
     {
-        self.items.is_empty()
+        self.nodes.is_empty()
     }
 
     /// Appends one.
@@ -186,7 +189,7 @@ impl NodeList {
         ensures ok { OnOk result (self.new ≡ self.old ++ item ∷ []) }
         ensures err { OnErr result (self.new ≡ self.old) }
     {
-        self.items.push(item)?;
+        self.nodes.push(item)?;
         Ok(())
     }
 
@@ -194,7 +197,7 @@ impl NodeList {
     pub(crate) fn is_below(&self, node: NodeId) -> bool
         ensures { result ≡ is_above_last self.now node }
     {
-        match self.items.last() {
+        match self.nodes.last() {
             Some(last) => *last < node,
             None => true,
         }

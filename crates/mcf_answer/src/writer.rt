@@ -21,9 +21,9 @@ use mcf_text::{NoMemory, NodeId, put_number};
 pub fn write(answer: &Answer, out: &mut Vec<u8>) -> Result<(), NoMemory>
     ensures ok { OnOk result (out.new.items ≡ out.old.items ++ written answer.now) }
     ensures err { OnErr result (out.new.items ≡ out.old.items) }
-    ensures in_range { OnOk result (IsAnswer answer.now) }
-    ensures spells { OnOk result (Spells (written answer.now) answer.now) }
-    ensures reads_back { OnOk result (parsing (written answer.now) ≡ Ok answer.now) }
+    ensures in_range { IsAnswer answer.now }
+    ensures spells { Spells (written answer.now) answer.now }
+    ensures reads_back { parsing (written answer.now) ≡ Ok answer.now }
 {
     let length = out.len();
     let outcome = put_answer(out, answer);
@@ -39,7 +39,7 @@ pub fn write(answer: &Answer, out: &mut Vec<u8>) -> Result<(), NoMemory>
 #[tactic(auto, unfolding(crate::specs::Written::written, crate::specs::Spelling::spelling, crate::specs::Spelling::IsAnswer))]
 fn put_answer(out: &mut Vec<u8>, answer: &Answer) -> Result<(), NoMemory>
     ensures ok { OnOk result (out.new.items ≡ out.old.items ++ written answer.now) }
-    ensures in_range { OnOk result (IsAnswer answer.now) }
+    ensures in_range { IsAnswer answer.now }
     ensures err { OnErr result (take (length out.old.items) out.new.items ≡ out.old.items) }
 {
     match answer {
@@ -58,7 +58,7 @@ fn put_answer(out: &mut Vec<u8>, answer: &Answer) -> Result<(), NoMemory>
 #[tactic(auto, using(crate::proofs::Appends::keeps))]
 fn put_solution(out: &mut Vec<u8>, flow: &FlowAnswer) -> Result<(), NoMemory>
     ensures ok { OnOk result (out.new.items ≡ out.old.items ++ flat_map line_text (solution_lines flow.now)) }
-    ensures in_range { OnOk result (IsSolution flow.now) }
+    ensures in_range { IsSolution flow.now }
     ensures err { OnErr result (take (length out.old.items) out.new.items ≡ out.old.items) }
 {
     put_line(out, b"s", &[flow.cost])?;
@@ -70,7 +70,7 @@ fn put_solution(out: &mut Vec<u8>, flow: &FlowAnswer) -> Result<(), NoMemory>
 #[tactic(auto, using(crate::proofs::Appends::keeps))]
 fn put_set(out: &mut Vec<u8>, set: &BlockedAnswer) -> Result<(), NoMemory>
     ensures ok { OnOk result (out.new.items ≡ out.old.items ++ flat_map line_text (set_lines set.now)) }
-    ensures in_range { OnOk result (IsBlockingSet set.now) }
+    ensures in_range { IsBlockingSet set.now }
     ensures err { OnErr result (take (length out.old.items) out.new.items ≡ out.old.items) }
 {
     let nodes = set.nodes.as_slice();

@@ -1,32 +1,30 @@
+pub mod After
 pub mod AllZips
+pub mod ArcLines
 pub mod ArcSums
-pub mod CutTexts
 pub mod Bounds
 pub mod Comparing
+pub mod CutTexts
 pub mod Duality
+pub mod Faults
 pub mod FaultyTexts
+pub mod FittingItems
 pub mod GoodTexts
 pub mod Hoffman
 pub mod IntLaws
+pub mod Items
+pub mod LineSteps
 pub mod NetSteps
+pub mod NodeLines
 pub mod NodeSums
 pub mod PackedArcs
 pub mod SameSets
-pub mod Tables
-pub mod After
-pub mod ArcLines
-mod CutTexts
-pub mod Faults
-mod FaultyTexts
-pub mod FittingItems
-mod GoodTexts
-pub mod Items
-pub mod LineSteps
-pub mod NodeLines
 pub mod SevenFields
 pub mod Signed
 pub mod Simulation
+pub mod SmallInstances
 pub mod SoundStates
+pub mod Tables
 pub mod Taken
 pub mod WholeTexts
 pub mod Words

@@ -15,6 +15,8 @@ mod reader;
 mod refusal;
 #[cfg(test)]
 mod tests;
+#[cfg(test)]
+mod tests_flows;
 
 pub use arc::Arc;
 pub use blocking::{blocks, table_of};

@@ -1,19 +1,25 @@
 #![tactic(auto)]
 
 //! The text layer: the lines of a text, the fields of a line, whole numbers, and numbers as text.
+//!
+//! A text is bytes, of no encoding. Byte 10 ends a line; spaces, tabs and carriage returns are blanks
+//! and part the fields of a line; no other byte does either. Nothing here but `put_number` takes
+//! memory, and all of it takes time linear in the bytes that it is given.
 
+mod arc;
 mod decimal;
 mod error;
-mod id;
+mod node;
 mod number;
 mod parts;
 mod split;
 #[cfg(test)]
 mod tests;
 
+pub use arc::ArcId;
 pub use decimal::{put_number, whole};
 pub use error::NoMemory;
-pub use id::{ArcId, NodeId};
+pub use node::NodeId;
 pub use number::Whole;
 pub use parts::{Fields, Line, Lines};
 pub use split::{fields, is_kept, lines};

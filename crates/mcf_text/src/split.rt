@@ -6,7 +6,8 @@ ghost use Rattle.mcf_text.specs.Lines.{AreTheLines, lines_of, numbered_lines};
 use crate::parts::{Fields, Lines};
 use memchr::memchr;
 
-/// The lines of a text, numbered from 1.
+/// The lines of a text in order, numbered from 1. A line is the bytes up to the next byte 10,
+/// without it; bytes after the last byte 10 are a last line, and an empty text has no line.
 pub fn lines(text: &[u8]) -> Lines<'_>
     ensures value { result ≡ numbered_lines 1 text.now }
     ensures exact { AreTheLines text.now (lines_of text.now) }
@@ -18,7 +19,8 @@ pub fn lines(text: &[u8]) -> Lines<'_>
     }
 }
 
-/// The fields of a line, in order.
+/// The fields of a line in order: its longest runs of bytes other than spaces, tabs and carriage
+/// returns. No field is empty, and a line of blanks has none.
 pub fn fields(line: &[u8]) -> Fields<'_>
     ensures value { result ≡ fields_of line.now }
     ensures exact { AreTheFields line.now (fields_of line.now) }
@@ -28,7 +30,8 @@ pub fn fields(line: &[u8]) -> Fields<'_>
     Fields { rest: line }
 }
 
-/// Whether the line is neither blank nor a comment.
+/// Whether a line is neither blank nor a comment. A blank line has no field, and the first field of
+/// a comment begins with `c`.
 pub fn is_kept(line: &[u8]) -> bool
     ensures { result ≡ is_kept line.now }
 {
@@ -55,7 +58,8 @@ pub(crate) fn split_line(text: &[u8]) -> Option<(&[u8], &[u8])>
     }
 }
 
-// The first field of a line and the bytes after it, or nothing where the line has no field.
+// The first field of a line and the bytes after the blank that ends it, or nothing where the line
+// has no field.
 pub(crate) fn split_field(line: &[u8]) -> Option<(&[u8], &[u8])>
     ensures { MatchOption result (fields_of line.now ≡ [])
         (λ parts. fields_of line.now ≡ parts.0.now ∷ fields_of parts.1.now) }
@@ -63,7 +67,7 @@ pub(crate) fn split_field(line: &[u8]) -> Option<(&[u8], &[u8])>
     let start = first_run_byte(line)?;
     let field = &line[start..];
     match first_blank(field) {
-        Some(end) => Some((&field[..end], &field[end..])),
+        Some(end) => Some((&field[..end], &field[end + 1..])),
         None => Some((field, &[])),
     }
 }

@@ -1,0 +1,38 @@
+//! Numbers of nodes.
+use std::marker::Model;
+
+/// The number of a node. The nodes of an instance are numbered from 1 in its text; any `u32` can
+/// be held, and whether an instance has that node is the instance's to say. Numbers are ordered
+/// and compared as numbers.
+#[derive(Clone, Copy, Debug, PartialEq, Eq, PartialOrd, Ord, Hash)]
+pub struct NodeId {
+    number: u32,
+}
+
+impl Model for NodeId {
+    ghost use Rattle.std.specs.Prelude.{ℕ};
+
+    ghost Value = { ℕ };
+
+    ghost view = { λ id. id.number };
+
+    ghost inverse = { λ n. record { number = n } };
+}
+
+impl NodeId {
+    ghost use Rattle.std.specs.Prelude.{◌≡◌};
+
+    /// The node with this number.
+    pub fn new(number: u32) -> NodeId
+        ensures { result ≡ number }
+    {
+        NodeId { number }
+    }
+
+    /// The number of the node, as its text has it.
+    pub fn get(self) -> u32
+        ensures { result ≡ self }
+    {
+        self.number
+    }
+}
