@@ -1,0 +1,87 @@
+-- The first arc whose flow the prices don't show: as a loop finds it, and what it means that there is none.
+use Rattle.std.proofs.Common.{◌≡◌, ℕ, zero, suc, ◌+◌, ◌-◌, ◌<◌, Bool, true, false, ◌&&◌, ◌||◌, refl, ap, sym, ◌∙◌, arith, List, [], ◌∷◌, length, get_or, Some, None, ℤ, pos, ◌≤ℤ◌, ◌<ℤ◌}
+use Rattle.std.specs.List.{slice_get, zip}
+use Rattle.std.specs.Prelude.{int_lt}
+use Rattle.std.proofs.lemmas.Int.{ints}
+use Rattle.std.proofs.lemmas.Option.{none-some, slice_get_read}
+use Rattle.mcf_answer.specs.declared.answers.Sent.{Sent}
+use Rattle.mcf_answer.specs.Solution.{Solution}
+use Rattle.mcf_checker.specs.Correct.{amounts}
+use Rattle.mcf_checker.specs.Judging.{bad_price, is_loose, option_is_loose}
+use Rattle.mcf_checker.proofs.LeastNumbers.{least_none, least_none-each, least_some}
+use Rattle.mcf_instance.specs.declared.arc.Arc.{Arc}
+use Rattle.mcf_instance.specs.Flow.{IsWithinBounds, Shows, reduced_cost}
+use Rattle.mcf_instance.specs.Network.{Network}
+
+-- the arc at a place, from 0, is there, and the prices don't show its flow
+abbrev pub looseness : List ℤ → List Arc → List ℤ → ℕ → Bool
+looseness prices arcs flow i = option_is_loose prices (slice_get (zip arcs flow) i)
+
+-- ---- as a loop finds it
+
+zip_read : (arcs : List Arc) (sent : List Sent) (i : ℕ) (a : Arc) (s : Sent) → slice_get arcs i ≡ Some a → slice_get sent i ≡ Some s → slice_get (zip arcs (amounts sent)) i ≡ Some (a, s.flow)
+zip_read [] sent i a s e k = absurd (none-some a e)
+zip_read (b ∷ arcs) [] i a s e k = absurd (none-some s k)
+zip_read (b ∷ arcs) (t ∷ sent) zero a s e k =
+    let x : b ≡ a = cc in let y : t ≡ s = cc in rw (x, y) refl
+zip_read (b ∷ arcs) (t ∷ sent) (suc i) a s e k = zip_read arcs sent i a s e k
+
+-- the test at a place whose arc and flow line the loop has read
+pub looseness_read : (prices : List ℤ) (arcs : List Arc) (sent : List Sent) (i : ℕ) (a : Arc) (s : Sent) → slice_get arcs i ≡ Some a → i < length sent → s ≡ get_or sent i s → looseness prices arcs (amounts sent) i ≡ is_loose prices (a, s.flow)
+looseness_read prices arcs sent i a s e h is =
+    ap (option_is_loose prices) (zip_read arcs sent i a s e (slice_get_read sent (length sent) i s refl h is))
+
+module _ (g : Network) (a : Solution) where
+  test-is : (i : ℕ) → looseness a.prices g.arcs (amounts a.sent) (i + 1 - 1) ≡ looseness a.prices g.arcs (amounts a.sent) i
+  test-is i = let back : i + 1 - 1 ≡ i = omega arith in ap (looseness a.prices g.arcs (amounts a.sent)) back
+
+  pub bad_price-some : (i : ℕ) → i < length g.arcs → ((j : ℕ) → j < i → looseness a.prices g.arcs (amounts a.sent) j ≡ false) → looseness a.prices g.arcs (amounts a.sent) i ≡ true → bad_price g a ≡ Some (i + 1)
+  bad_price-some i h before here =
+      least_some (λ k. looseness a.prices g.arcs (amounts a.sent) (k - 1)) (length g.arcs) i h (λ j k. test-is j ∙ before j k) (test-is i ∙ here)
+
+  pub bad_price-none : ((j : ℕ) → j < length g.arcs → looseness a.prices g.arcs (amounts a.sent) j ≡ false) → bad_price g a ≡ None
+  bad_price-none each =
+      least_none (λ k. looseness a.prices g.arcs (amounts a.sent) (k - 1)) (length g.arcs) (λ j k. test-is j ∙ each j k)
+
+  each_shown : bad_price g a ≡ None → (j : ℕ) → j < length g.arcs → looseness a.prices g.arcs (amounts a.sent) j ≡ false
+  each_shown e j h =
+      sym (test-is j) ∙ least_none-each (λ k. looseness a.prices g.arcs (amounts a.sent) (k - 1)) (length g.arcs) e j h
+
+-- ---- what it means that there is none
+
+-- the test of an arc of reduced cost r
+abbrev loose_at : ℤ → ℤ → ℤ → ℤ → Bool
+loose_at r low cap f = (int_lt (pos 0) r && int_lt low f) || (int_lt r (pos 0) && int_lt f cap)
+
+tight_above : (r low cap f : ℤ) → low ≤ℤ f → loose_at r low cap f ≡ false → pos 0 <ℤ r → f ≡ low
+tight_above r low cap f h e up = grind (arith, ints)
+
+tight_below : (r low cap f : ℤ) → f ≤ℤ cap → loose_at r low cap f ≡ false → r <ℤ pos 0 → f ≡ cap
+tight_below r low cap f h e down = grind (arith, ints)
+
+not_loose : (r low cap f : ℤ) → (pos 0 <ℤ r → f ≡ low) → (r <ℤ pos 0 → f ≡ cap) → loose_at r low cap f ≡ false
+not_loose r low cap f above below = grind (arith, ints)
+
+all_tight : (prices : List ℤ) (arcs : List Arc) (flow : List ℤ) → IsWithinBounds arcs flow → ((j : ℕ) → j < length arcs → looseness prices arcs flow j ≡ false) → Shows arcs prices flow
+all_tight prices [] [] h each = tt
+all_tight prices [] (f ∷ flow) h each = absurd h
+all_tight prices (a ∷ arcs) [] h each = absurd h
+all_tight prices (a ∷ arcs) (f ∷ flow) h each =
+    let here : loose_at (reduced_cost prices a) a.low a.cap f ≡ false = each 0 (omega arith) in
+    ((tight_above (reduced_cost prices a) a.low a.cap f h.0.0 here, tight_below (reduced_cost prices a) a.low a.cap f h.0.1 here), all_tight prices arcs flow h.1 (λ j k. each (suc j) (omega arith)))
+
+each_of_all : (prices : List ℤ) (arcs : List Arc) (flow : List ℤ) → Shows arcs prices flow → (j : ℕ) → looseness prices arcs flow j ≡ false
+each_of_all prices [] [] h j = refl
+each_of_all prices [] (f ∷ flow) h j = absurd h
+each_of_all prices (a ∷ arcs) [] h j = absurd h
+each_of_all prices (a ∷ arcs) (f ∷ flow) h zero =
+    not_loose (reduced_cost prices a) a.low a.cap f h.0.0 h.0.1
+each_of_all prices (a ∷ arcs) (f ∷ flow) h (suc j) = each_of_all prices arcs flow h.1 j
+
+pub Shows-from_none : (g : Network) (a : Solution) → IsWithinBounds g.arcs (amounts a.sent) → bad_price g a ≡ None → Shows g.arcs a.prices (amounts a.sent)
+Shows-from_none g a bounds e =
+    all_tight a.prices g.arcs (amounts a.sent) bounds (each_shown g a e)
+
+pub none-from_Shows : (g : Network) (a : Solution) → Shows g.arcs a.prices (amounts a.sent) → bad_price g a ≡ None
+none-from_Shows g a h =
+    bad_price-none g a (λ j k. each_of_all a.prices g.arcs (amounts a.sent) h j)

@@ -1,0 +1,249 @@
+-- The judge accepts what is right, and nothing else.
+use Rattle.std.proofs.Common.{◌≡◌, ℕ, Bool, true, false, cond, ◌&&◌, eqb, refl, sym, ap, subst, ◌∙◌, List, length, ℤ, Option, Some, None, Result, Ok, Err}
+use Rattle.std.specs.Bool.{IsTrue}
+use Rattle.std.specs.Prelude.{◌↔◌, bytes_eq}
+use Rattle.std.proofs.lemmas.Bool.{and_from, and_parts, eq-eqb, eqb-true, false≢true}
+use Rattle.std.proofs.lemmas.Slice.Eq.{bytes_eq-Decides}
+use Rattle.mcf_answer.specs.BlockingSet.{BlockingSet}
+use Rattle.mcf_answer.specs.Parsing.{parsing}
+use Rattle.mcf_answer.specs.Solution.{Solution}
+use Rattle.mcf_answer.specs.Spelling.{Spells}
+use Rattle.mcf_answer.specs.declared.answers.Answer.{Answer}
+use Rattle.mcf_answer.specs.declared.answers.Answer.TheVariants.{Blocked, Flow, Refused}
+use Rattle.mcf_answer.specs.declared.shape.Shape.{Shape}
+use Rattle.mcf_checker.specs.Correct.{GivesLeastFlow, HasNoFlow, IsCorrect, IsRight, IsRightSet, IsRightSolution, amounts}
+use Rattle.mcf_checker.specs.Judging.{accepts, judged, same_fault, set_verdict, solution_verdict, verdict}
+use Rattle.mcf_checker.specs.declared.verdict.Verdict.{Verdict}
+use Rattle.mcf_checker.specs.declared.verdict.Verdict.TheVariants.{BadRefusal, BadShape, Blocked as SetAccepted, Flow as FlowAccepted, Refused as RefusalAccepted}
+use Rattle.mcf_checker.proofs.Sets.{IsRightSet-from_accepts, accepts-from_IsRightSet, at_right_set}
+use Rattle.mcf_checker.proofs.Solutions.{IsRightSolution-from_accepts, accepts-from_IsRightSolution, at_right}
+use Rattle.mcf_instance.specs.Blocking.{in_list}
+use Rattle.mcf_instance.specs.Fault.{Fault, code_of_word, code_word}
+use Rattle.mcf_instance.specs.Limits.{limits}
+use Rattle.mcf_instance.specs.Network.{Network}
+use Rattle.mcf_instance.specs.Reading.{reading}
+use Rattle.mcf_instance.specs.WellFormed.{IsWellFormed}
+use Rattle.mcf_instance.specs.declared.code.Code.{Code}
+use Rattle.mcf_instance.specs.declared.code.Code.TheVariants.{Kind, Fields, Problem, Number, SecondP, BeforeP, Size, Node, LateN, Twice, Supply, Bound, Order, Cost, Extra, Side, NoP, Missing}
+use Rattle.mcf_instance.proofs.Duality.{shown_flows_are_least_lem}
+use Rattle.mcf_instance.proofs.Hoffman.{blocked_has_no_flow_lem}
+
+-- ---- refusals
+
+word_back : (code : Code) → code_of_word (code_word code) ≡ Some code
+word_back Kind = refl
+word_back Fields = refl
+word_back Problem = refl
+word_back Number = refl
+word_back SecondP = refl
+word_back BeforeP = refl
+word_back Size = refl
+word_back Node = refl
+word_back LateN = refl
+word_back Twice = refl
+word_back Supply = refl
+word_back Bound = refl
+word_back Order = refl
+word_back Cost = refl
+word_back Extra = refl
+word_back Side = refl
+word_back NoP = refl
+word_back Missing = refl
+
+-- codes with one word are one code
+same_code : (c d : Code) → code_word c ≡ code_word d → c ≡ d
+same_code c d e =
+    let s : Some c ≡ Some d = sym (word_back c) ∙ ap code_of_word e ∙ word_back d in cc
+
+pub same_fault-true : (r s : Fault) → same_fault r s ≡ true → r ≡ s
+same_fault-true r s e =
+    let parts = and_parts (eqb r.line s.line) (bytes_eq (code_word r.code) (code_word s.code)) e in
+    let line : r.line ≡ s.line = eqb-true r.line s.line parts.0 in
+    let code : r.code ≡ s.code = same_code r.code s.code ((bytes_eq-Decides (code_word r.code) (code_word s.code)).0 parts.1) in
+    let fault : ℕ → Code → Fault = λ n k. record { line = n; code = k } in
+    ap (λ (n : ℕ). fault n r.code) line ∙ ap (λ (k : Code). fault s.line k) code
+
+pub same_fault_refl : (r : Fault) → same_fault r r ≡ true
+same_fault_refl r =
+    and_from (eqb r.line r.line) (bytes_eq (code_word r.code) (code_word r.code)) (eq-eqb r.line r.line refl)
+    ((bytes_eq-Decides (code_word r.code) (code_word r.code)).1 refl)
+
+-- ---- the verdict of what was read and parsed
+
+judged_misfit : (r : Result Network Fault) (shape : Shape) → BadShape shape.line ≡ judged r (Err shape)
+unfolding judged
+judged_misfit (Ok g) shape = refl
+judged_misfit (Err fault) shape = refl
+
+pub verdict_misfit : (input text : List ℕ) (shape : Shape) → Err shape ≡ parsing text → BadShape shape.line ≡ verdict input text
+unfolding verdict
+verdict_misfit input text shape e =
+    judged_misfit (reading limits input) shape ∙ ap (judged (reading limits input)) e
+
+pub verdict_is : (input text : List ℕ) (r : Result Network Fault) (a : Answer) (v : Verdict) → r ≡ reading limits input → Ok a ≡ parsing text → v ≡ judged r (Ok a) → v ≡ verdict input text
+unfolding verdict
+verdict_is input text r a v e k h =
+    h ∙ ap (λ (x : Result Network Fault). judged x (Ok a)) e ∙ ap (judged (reading limits input)) k
+
+pub no_flow_in_misfit : (line : ℕ) (total : ℤ) → BadShape line ≡ FlowAccepted total → ⊥
+no_flow_in_misfit line total e = cc
+
+pub no_set_in_misfit : (line count : ℕ) → BadShape line ≡ SetAccepted count → ⊥
+no_set_in_misfit line count e = cc
+
+-- ---- accepted is right
+
+same_of : (same : Bool) (r : Fault) → accepts (cond same (RefusalAccepted r) BadRefusal) ≡ true → same ≡ true
+same_of true r e = refl
+same_of false r e = absurd (false≢true e)
+
+-- what the judge accepts is an answer, and right
+record Accepted (r : Result Network Fault) (p : Result Answer Shape) : Type 0 where
+  answer : Answer
+  parsed : p ≡ Ok answer
+  right : IsRight r answer
+
+Accepted-from_test : (r : Result Network Fault) (p : Result Answer Shape) → accepts (judged r p) ≡ true → Accepted r p
+unfolding judged
+Accepted-from_test (Ok g) (Err shape) e = absurd (false≢true e)
+Accepted-from_test (Err fault) (Err shape) e = absurd (false≢true e)
+Accepted-from_test (Err fault) (Ok (Flow a)) e = absurd (false≢true e)
+Accepted-from_test (Err fault) (Ok (Blocked a)) e = absurd (false≢true e)
+Accepted-from_test (Err fault) (Ok (Refused r)) e =
+    record { answer = Refused r; parsed = refl; right = same_fault-true r fault (same_of (same_fault r fault) r e) }
+Accepted-from_test (Ok g) (Ok (Flow a)) e =
+    record { answer = Flow a; parsed = refl; right = IsRightSolution-from_accepts g a e }
+Accepted-from_test (Ok g) (Ok (Blocked a)) e =
+    record { answer = Blocked a; parsed = refl; right = IsRightSet-from_accepts g a e }
+Accepted-from_test (Ok g) (Ok (Refused r)) e = absurd (false≢true e)
+
+test-from_right : (r : Result Network Fault) (a : Answer) → IsRight r a → accepts (judged r (Ok a)) ≡ true
+unfolding judged
+test-from_right (Err fault) (Flow a) h = absurd h
+test-from_right (Err fault) (Blocked a) h = absurd h
+test-from_right (Err fault) (Refused r) h = rw (ap (same_fault r) (sym h) ∙ same_fault_refl r) refl
+test-from_right (Ok g) (Flow a) h = accepts-from_IsRightSolution g a h
+test-from_right (Ok g) (Blocked a) h = accepts-from_IsRightSet g a h
+test-from_right (Ok g) (Refused r) h = absurd h
+
+-- what the parser of answers says of a text
+abbrev pub ParsesExactly : List ℕ → Type 0
+ParsesExactly text = (a : Answer) → (parsing text ≡ Ok a) ↔ Spells text a
+
+pub accepts-exactly : (input text : List ℕ) → ParsesExactly text → IsTrue (accepts (verdict input text)) ↔ IsCorrect input text
+unfolding verdict
+accepts-exactly input text parses =
+    (λ e. let w = Accepted-from_test (reading limits input) (parsing text) e in record { answer = w.answer; spelled = (parses w.answer).0 w.parsed; right = w.right }, λ h. rw ((parses h.answer).1 h.spelled) (test-from_right (reading limits input) h.answer h.right))
+
+-- ---- accepted flows and sets
+
+record AcceptedFlow (r : Result Network Fault) (p : Result Answer Shape) (total : ℤ) : Type 0 where
+  instance : Network
+  solution : Solution
+  read : r ≡ Ok instance
+  parsed : p ≡ Ok (Flow solution)
+  right : IsRightSolution instance solution
+  total_is : total ≡ solution.cost
+
+no_flow_refused : (same : Bool) (r : Fault) (total : ℤ) → cond same (RefusalAccepted r) BadRefusal ≡ FlowAccepted total → ⊥
+no_flow_refused true r total e = cc
+no_flow_refused false r total e = cc
+
+no_set_refused : (same : Bool) (r : Fault) (count : ℕ) → cond same (RefusalAccepted r) BadRefusal ≡ SetAccepted count → ⊥
+no_set_refused true r count e = cc
+no_set_refused false r count e = cc
+
+no_flow_in_set : (g : Network) (a : BlockingSet) (total : ℤ) → set_verdict g a ≡ FlowAccepted total → ⊥
+no_flow_in_set g a total e =
+    let s : SetAccepted (length a.nodes) ≡ FlowAccepted total = at_right_set g a (IsRightSet-from_accepts g a (ap accepts e)) ∙ e in cc
+
+no_set_in_flow : (g : Network) (a : Solution) (count : ℕ) → solution_verdict g a ≡ SetAccepted count → ⊥
+no_set_in_flow g a count e =
+    let s : FlowAccepted a.cost ≡ SetAccepted count = at_right g a (IsRightSolution-from_accepts g a (ap accepts e)) ∙ e in cc
+
+flow_of : (r : Result Network Fault) (p : Result Answer Shape) (total : ℤ) → judged r p ≡ FlowAccepted total → AcceptedFlow r p total
+unfolding judged
+flow_of (Ok g) (Err shape) total e = absurd (cc)
+flow_of (Err fault) (Err shape) total e = absurd (cc)
+flow_of (Err fault) (Ok (Flow a)) total e = absurd (cc)
+flow_of (Err fault) (Ok (Blocked a)) total e = absurd (cc)
+flow_of (Err fault) (Ok (Refused r)) total e = absurd (no_flow_refused (same_fault r fault) r total e)
+flow_of (Ok g) (Ok (Flow a)) total e =
+    let right = IsRightSolution-from_accepts g a (ap accepts e) in
+    let same : FlowAccepted a.cost ≡ FlowAccepted total = at_right g a right ∙ e in
+    let cost : total ≡ a.cost = cc in
+    record { instance = g; solution = a; read = refl; parsed = refl; right = right; total_is = cost }
+flow_of (Ok g) (Ok (Blocked a)) total e = absurd (no_flow_in_set g a total e)
+flow_of (Ok g) (Ok (Refused r)) total e = absurd (cc)
+
+record AcceptedSet (r : Result Network Fault) : Type 0 where
+  instance : Network
+  set : BlockingSet
+  read : r ≡ Ok instance
+  right : IsRightSet instance set
+
+set_of : (r : Result Network Fault) (p : Result Answer Shape) (count : ℕ) → judged r p ≡ SetAccepted count → AcceptedSet r
+unfolding judged
+set_of (Ok g) (Err shape) count e = absurd (cc)
+set_of (Err fault) (Err shape) count e = absurd (cc)
+set_of (Err fault) (Ok (Flow a)) count e = absurd (cc)
+set_of (Err fault) (Ok (Blocked a)) count e = absurd (cc)
+set_of (Err fault) (Ok (Refused r)) count e = absurd (no_set_refused (same_fault r fault) r count e)
+set_of (Ok g) (Ok (Flow a)) count e = absurd (no_set_in_flow g a count e)
+set_of (Ok g) (Ok (Blocked a)) count e =
+    record { instance = g; set = a; read = refl; right = IsRightSet-from_accepts g a (ap accepts e) }
+set_of (Ok g) (Ok (Refused r)) count e = absurd (cc)
+
+-- the arcs of what was read have their ends among the nodes
+abbrev pub ReadsWellFormed : List ℕ → Type 0
+ReadsWellFormed input = (g : Network) → reading limits input ≡ Ok g → IsWellFormed limits g
+
+pub accepted_flows_are_least : (input text : List ℕ) (total : ℤ) → ParsesExactly text → ReadsWellFormed input → verdict input text ≡ FlowAccepted total → GivesLeastFlow input text total
+unfolding verdict
+accepted_flows_are_least input text total parses reads e =
+    let w = flow_of (reading limits input) (parsing text) total e in
+    record {
+      instance = w.instance;
+      solution = w.solution;
+      read = w.read;
+      spelled = (parses (Flow w.solution)).0 w.parsed;
+      least = shown_flows_are_least_lem w.instance w.solution.prices (amounts w.solution.sent) (reads w.instance w.read).ends w.right.feasible w.right.shown;
+      cost_is = w.total_is ∙ w.right.cost_is;
+    }
+
+pub accepted_sets_leave_no_flow : (input text : List ℕ) (count : ℕ) → ReadsWellFormed input → verdict input text ≡ SetAccepted count → HasNoFlow input
+unfolding verdict
+accepted_sets_leave_no_flow input text count reads e =
+    let w = set_of (reading limits input) (parsing text) count e in
+    record {
+      instance = w.instance;
+      read = w.read;
+      none = λ flow. blocked_has_no_flow_lem w.instance (in_list w.set.nodes) w.set.side flow (reads w.instance w.read).ends w.right.exceeds;
+    }
+
+-- what was read is well-formed where it was refused, and where it is an instance that is
+pub refused_reads : (input : List ℕ) (fault : Fault) → Err fault ≡ reading limits input → ReadsWellFormed input
+refused_reads input fault e g h =
+    let s : Err fault ≡ Ok g = e ∙ h in absurd (cc)
+
+pub instance_reads : (input : List ℕ) (g : Network) → Ok g ≡ reading limits input → IsWellFormed limits g → ReadsWellFormed input
+instance_reads input g e well h k =
+    let s : Ok g ≡ Ok h = e ∙ k in
+    let same : g ≡ h = cc in
+    let P = λ (x : Network). IsWellFormed limits x in
+    subst P same well
+
+-- ---- what a check ensures, at a verdict that is the one of the texts
+
+pub exact_at : (input text : List ℕ) (v : Verdict) → ParsesExactly text → v ≡ verdict input text → IsTrue (accepts v) ↔ IsCorrect input text
+exact_at input text v parses e =
+    let P = λ (w : Verdict). IsTrue (accepts w) ↔ IsCorrect input text in
+    subst P (sym e) (accepts-exactly input text parses)
+
+pub least_at : (input text : List ℕ) (v : Verdict) → ParsesExactly text → ReadsWellFormed input → v ≡ verdict input text → (total : ℤ) → v ≡ FlowAccepted total → GivesLeastFlow input text total
+least_at input text v parses reads e total h =
+    accepted_flows_are_least input text total parses reads (sym e ∙ h)
+
+pub none_at : (input text : List ℕ) (v : Verdict) → ReadsWellFormed input → v ≡ verdict input text → (count : ℕ) → v ≡ SetAccepted count → HasNoFlow input
+none_at input text v reads e count h =
+    accepted_sets_leave_no_flow input text count reads (sym e ∙ h)

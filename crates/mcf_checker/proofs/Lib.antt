@@ -1,0 +1,10 @@
+pub mod BadArcs
+pub mod BadNodes
+pub mod BadPrices
+pub mod ChangedAnswers
+pub mod FlowLines
+pub mod JudgedTexts
+pub mod Judges
+pub mod LeastNumbers
+pub mod Sets
+pub mod Solutions

@@ -1,0 +1,9 @@
+use Rattle.std.proofs.Common.{take}
+use Rattle.mcf_checker.specs.Correct.{amounts}
+use Rattle.mcf_instance.specs.Network.{node_count}
+use Rattle.mcf_instance.proofs.NetSteps.{AreNets}
+use Rattle.mcf_checker.proofs.solution.nets_of.Given as goal
+
+abbrev pub invariant-loop-place : goal.invariant-loop-place
+invariant-loop-place l =
+    AreNets (node_count l.instance) (take l.place l.instance.arcs) (amounts l.sent) l.nets.items

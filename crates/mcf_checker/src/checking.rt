@@ -1,0 +1,87 @@
+//! The verdict on an answer text for an instance text.
+ghost use Rattle.std.specs.Prelude.{◌≡◌, ◌↔◌, Err, IfOk, IsTrue, Ok, if◌then◌else◌, ℕ, ℤ};
+ghost use Rattle.mcf_checker.specs.Correct.{GivesLeastFlow, HasNoFlow, IsCorrect};
+ghost use Rattle.mcf_checker.specs.Judging.{accepts, judged, same_fault, verdict};
+ghost use Rattle.mcf_instance.specs.Limits.{limits};
+ghost use Rattle.mcf_instance.specs.WellFormed.{IsWellFormed};
+
+use crate::set::set_verdict;
+use crate::solution::solution_verdict;
+use crate::verdict::Verdict;
+use mcf_answer::{Answer, parse};
+use mcf_instance::{Instance, Refusal, read};
+use mcf_text::NoMemory;
+use std::alloc::Global;
+
+// Whether the refusals name one line and one code.
+fn is_same(refusal: &Refusal, fault: &Refusal) -> bool
+    ensures { result ≡ same_fault refusal.now fault.now }
+{
+    refusal.line == fault.line && refusal.code.word() == fault.code.word()
+}
+
+// The verdict on a refusal of an instance text with a fault.
+fn refusal_verdict(refusal: &Refusal, fault: &Refusal) -> Verdict
+    ensures { result ≡ (if same_fault refusal.now fault.now
+        then Verdict.Refused refusal.now else Verdict.BadRefusal) }
+{
+    if is_same(refusal, fault) {
+        Verdict::Refused(*refusal)
+    } else {
+        Verdict::BadRefusal
+    }
+}
+
+// The verdict on an answer to an instance text with a fault.
+#[tactic(auto, unfolding(crate::specs::Judging::judged))]
+fn fault_verdict(fault: &Refusal, answer: &Answer) -> Verdict
+    ensures { result ≡ judged (Err fault.now) (Ok answer.now) }
+{
+    match answer {
+        Answer::Refused(refusal) => refusal_verdict(refusal, fault),
+        Answer::Flow(_) | Answer::Blocked(_) => Verdict::BadKind,
+    }
+}
+
+// The verdict on an answer to an instance text without fault.
+#[tactic(auto, unfolding(crate::specs::Judging::judged))]
+fn instance_verdict(
+    alloc: Global,
+    instance: &Instance,
+    answer: &Answer,
+) -> Result<Verdict, NoMemory>
+    ensures value { IfOk result (λ v. v ≡ judged (Ok instance.now) (Ok answer.now)) }
+    ensures well_formed { IsWellFormed limits instance.now }
+{
+    prove!(instance.node_count() <= 1_000_000);
+    match answer {
+        Answer::Flow(answer) => solution_verdict(alloc, instance, answer),
+        Answer::Blocked(answer) => set_verdict(alloc, instance, answer),
+        Answer::Refused(_) => Ok(Verdict::BadKind),
+    }
+}
+
+/// The verdict on an answer text for an instance text: the first of the table in the documentation that
+/// applies.
+///
+/// Any texts are judged, with prices of any size that an answer may have, and any node set that blocks. The
+/// time is linear in the two texts.
+///
+/// # Errors
+/// `NoMemory` where there is no memory for what the texts say.
+pub fn check(alloc: Global, input: &[u8], answer: &[u8]) -> Result<Verdict, NoMemory>
+    ensures verdict { IfOk result (λ v. v ≡ verdict input.now answer.now) }
+    ensures exact { IfOk result (λ v. IsTrue (accepts v) ↔ IsCorrect input.now answer.now) }
+    ensures least { IfOk result (λ v. (total : ℤ) → v ≡ Verdict.Flow total → GivesLeastFlow input.now answer.now total) }
+    ensures none { IfOk result (λ v. (count : ℕ) → v ≡ Verdict.Blocked count → HasNoFlow input.now) }
+{
+    let outcome = read(alloc, input)?;
+    let answer = match parse(alloc, answer)? {
+        Ok(answer) => answer,
+        Err(shape) => return Ok(Verdict::BadShape(shape.line)),
+    };
+    match outcome {
+        Ok(instance) => instance_verdict(alloc, &instance, &answer),
+        Err(fault) => Ok(fault_verdict(&fault, &answer)),
+    }
+}

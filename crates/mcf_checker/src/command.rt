@@ -1,0 +1,145 @@
+//! The command `mcfcheck`, over a reader of files and two writers.
+ghost use Rattle.std.specs.Prelude.{◌≡◌, ◌≢◌, ◌⊎◌, IfOk, IsTrue, if◌then◌else◌, length};
+ghost use Rattle.std.specs.String.{string_bytes};
+ghost use Rattle.mcf_checker.specs.Judging.{accepts, verdict};
+ghost use Rattle.mcf_checker.specs.Printed.{printed_line};
+
+use crate::checking::check;
+use crate::verdict::Verdict;
+use mcf_text::NoMemory;
+use std::alloc::Global;
+use std::convert::AsStr;
+use std::io::Write;
+use thiserror::Error;
+
+/// Why a file wasn't read.
+#[derive(Clone, Copy, Debug, PartialEq, Eq, Error)]
+pub enum FileFault {
+    /// There was no memory for its bytes.
+    #[error("out of memory")]
+    NoMemory,
+    /// It isn't there, or it can't be read.
+    #[error("cannot read the file")]
+    Unreadable,
+}
+
+// Why there is no verdict.
+#[derive(Clone, Copy)]
+enum Failure {
+    Usage,
+    Instance,
+    Answer,
+    Write,
+    NoMemory,
+}
+
+impl Failure {
+    // The line that says so.
+    fn text(self) -> &'static str {
+        match self {
+            Failure::Usage => "usage: mcfcheck INSTANCE ANSWER\n",
+            Failure::Instance => "mcfcheck: cannot read the instance\n",
+            Failure::Answer => "mcfcheck: cannot read the answer\n",
+            Failure::Write => "mcfcheck: write failed\n",
+            Failure::NoMemory => "mcfcheck: out of memory\n",
+        }
+    }
+
+    // What is said of a file that wasn't read.
+    fn of(fault: FileFault, unreadable: Failure) -> Failure {
+        match fault {
+            FileFault::NoMemory => Failure::NoMemory,
+            FileFault::Unreadable => unreadable,
+        }
+    }
+}
+
+impl From<NoMemory> for Failure {
+    fn from(_error: NoMemory) -> Failure {
+        Failure::NoMemory
+    }
+}
+
+// The status of a verdict: 0 where it accepts, else 1.
+fn status_of(verdict: &Verdict) -> u8
+    ensures { result ≡ (if accepts verdict.now then 0 else 1) }
+{
+    match verdict {
+        Verdict::Flow(_) | Verdict::Blocked(_) | Verdict::Refused(_) => 0,
+        _ => 1,
+    }
+}
+
+// The line that is printed of a verdict.
+fn line_of(alloc: Global, verdict: &Verdict) -> Result<String, NoMemory>
+    ensures { IfOk result (λ line. string_bytes line ≡ printed_line verdict.now) }
+{
+    let line = format!(in alloc; "{verdict}\n")?;
+    Ok(line)
+}
+
+// The line and the status of an answer text for an instance text.
+fn outcome_of(alloc: Global, input: &[u8], answer: &[u8]) -> Result<(String, u8), NoMemory>
+    ensures line { IfOk result (λ o. string_bytes o.0 ≡ printed_line (verdict input.now answer.now)) }
+    ensures status { IfOk result (λ o. o.1 ≡ (if accepts (verdict input.now answer.now) then 0 else 1)) }
+{
+    let verdict = check(alloc, input, answer)?;
+    let line = line_of(alloc, &verdict)?;
+    Ok((line, status_of(&verdict)))
+}
+
+// Judges the answer in the second file for the instance in the first, prints the line, and gives the status.
+fn run<S: AsStr, R: FnMut(&str) -> Result<Vec<u8>, FileFault>, O: Write>(
+    alloc: Global,
+    words: &[S],
+    mut read: R,
+    out: &mut O,
+) -> Result<u8, Failure>
+    requires { R.IsAlwaysCallable read }
+    ensures status { IfOk result (λ status. (status ≡ 0) ⊎ (status ≡ 1)) }
+    ensures usage { IfOk result (λ status. length words.now ≡ 3) }
+{
+    let [_, instance, answer] = words else {
+        return Err(Failure::Usage);
+    };
+    let input = match read(instance.as_str()) {
+        Ok(input) => input,
+        Err(fault) => return Err(Failure::of(fault, Failure::Instance)),
+    };
+    let answer = match read(answer.as_str()) {
+        Ok(answer) => answer,
+        Err(fault) => return Err(Failure::of(fault, Failure::Answer)),
+    };
+    let (line, status) = outcome_of(alloc, &input, &answer)?;
+    if out.write_all(line.as_bytes()).is_err() || out.flush().is_err() {
+        return Err(Failure::Write);
+    }
+    Ok(status)
+}
+
+/// Judges the answer in one file for the instance in another, and gives the exit status.
+///
+/// `words` are the name of the program, the name of the instance's file and that of the answer's. `read`
+/// gives the bytes of a file; the instance is read first. The verdict is one line on `out`, and the status
+/// is 0 where it accepts and 1 where it doesn't. Status 3 is given, with one line on `err`, for another
+/// number of words, a file that can't be read, a line that can't be written, and want of memory. A line
+/// that can't be written on `err` changes nothing.
+pub fn judge<S: AsStr, R: FnMut(&str) -> Result<Vec<u8>, FileFault>, O: Write, E: Write>(
+    alloc: Global,
+    words: &[S],
+    read: R,
+    out: &mut O,
+    err: &mut E,
+) -> u8
+    requires { R.IsAlwaysCallable read }
+    ensures status { (result ≡ 0) ⊎ ((result ≡ 1) ⊎ (result ≡ 3)) }
+    ensures usage { length words.now ≢ 3 → result ≡ 3 }
+{
+    match run(alloc, words, read, out) {
+        Ok(status) => status,
+        Err(failure) => {
+            let _ = err.write_all(failure.text().as_bytes());
+            3
+        }
+    }
+}

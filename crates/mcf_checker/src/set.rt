@@ -1,0 +1,41 @@
+//! The verdict on a blocked answer.
+ghost use Rattle.std.specs.Prelude.{◌≡◌, IfOk, nat_le};
+ghost use Rattle.std.specs.List.{list_all};
+ghost use Rattle.mcf_checker.specs.Judging.{set_verdict};
+
+use crate::verdict::Verdict;
+use mcf_answer::BlockedAnswer;
+use mcf_instance::{Instance, blocks, table_of};
+use mcf_text::{NoMemory, NodeId};
+use std::alloc::Global;
+
+// Whether each of the nodes is one of so many.
+fn are_nodes(count: u32, nodes: &[NodeId]) -> bool
+    ensures { result ≡ list_all (λ v. nat_le v count) nodes.now }
+{
+    nodes.iter().all(|node| node.get() <= count)
+}
+
+/// The verdict on a blocked answer for an instance.
+///
+/// # Errors
+/// `NoMemory` where there is no memory for the table of the set.
+pub(crate) fn set_verdict(
+    alloc: Global,
+    instance: &Instance,
+    answer: &BlockedAnswer,
+) -> Result<Verdict, NoMemory>
+    ensures { IfOk result (λ v. v ≡ set_verdict instance.now answer.now) }
+{
+    let nodes = answer.nodes.as_slice();
+    let count = instance.node_count();
+    if !are_nodes(count, nodes) {
+        return Ok(Verdict::BadSet);
+    }
+    let table = table_of(alloc, count, nodes)?;
+    if blocks(instance, &table, answer.side) {
+        Ok(Verdict::Blocked(nodes.len() as u32))
+    } else {
+        Ok(Verdict::BadSet)
+    }
+}
