@@ -1,11 +1,11 @@
+pub mod Accepts
 pub mod Appends
 pub mod Grows
 pub mod Parsed
 pub mod SaidLemmas
 pub mod Simulation
+pub mod SmallAnswers
+pub mod SmallTexts
 pub mod Spelled
 pub mod Words
 pub mod WrittenLemmas
-pub mod Accepts
-mod SmallAnswers
-mod SmallTexts

@@ -9,11 +9,6 @@ pub mod Duality
 pub mod Faults
 pub mod FaultyTexts
 pub mod FittingItems
-pub mod GoodTexts
-pub mod Hoffman
-pub mod IntLaws
-pub mod GoodHeaders
-mod GoodTexts
 pub mod GoodHeaders
 pub mod GoodTexts
 pub mod Hoffman
