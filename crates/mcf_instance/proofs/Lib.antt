@@ -1,9 +1,15 @@
 pub mod AllZips
 pub mod ArcSums
+pub mod CutTexts
 pub mod Bounds
+pub mod Comparing
 pub mod Duality
+pub mod FaultyTexts
+pub mod GoodTexts
 pub mod Hoffman
 pub mod IntLaws
 pub mod NetSteps
 pub mod NodeSums
+pub mod PackedArcs
 pub mod SameSets
+pub mod Tables

@@ -1,11 +1,12 @@
 -- Laws of the sums over nodes, and what the nets of all nodes add up to.
-use Rattle.std.proofs.Common.{◌≡◌, ◌≢◌, ℕ, zero, suc, ◌<◌, eqb, Bool, true, false, List, [], ◌∷◌, refl, ap, sym, ◌∙◌, arith, ℤ, pos, ◌+ℤ◌, ◌-ℤ◌, ◌≤ℤ◌, ◌<ℤ◌, inl, inr}
+use Rattle.std.proofs.Common.{◌≡◌, ◌≢◌, ℕ, zero, suc, ◌+◌, ◌-◌, ◌<◌, eqb, Bool, true, false, List, [], ◌∷◌, add-one, get_or, refl, ap, sym, ◌∙◌, arith, ℤ, pos, ◌+ℤ◌, ◌-ℤ◌, ◌≤ℤ◌, ◌<ℤ◌, inl, inr}
 use Rattle.std.specs.List.{All}
 use Rattle.std.proofs.Math.IntN.{◌*ℤ◌}
 use Rattle.std.proofs.lemmas.Int.{ints}
 use Rattle.std.proofs.lemmas.Bool.{eq-eqb, ne_eqb, cases_eq}
 use Rattle.mcf_instance.specs.declared.arc.Arc.{Arc}
-use Rattle.mcf_instance.specs.Network.{IsNode, flow_sum, node_sum, when}
+use Rattle.mcf_instance.specs.Blocking.{in_table}
+use Rattle.mcf_instance.specs.Network.{IsNode, at_node, flow_sum, node_sum, when}
 use Rattle.mcf_instance.specs.Flow.{net, outflow, inflow}
 use Rattle.mcf_instance.specs.WellFormed.{HasEnds}
 use Rattle.mcf_instance.proofs.IntLaws.{mul-add, mul-sub, sub-mul, mul-zero}
@@ -52,6 +53,17 @@ node_sum_above_zero t (suc n) u h k e =
       | inl same ↦ omega (arith, ints, k, ap t same, node_sum_at_least_zero t n (λ v q. e v (omega arith)))
       | inr other ↦ omega (arith, ints, e (suc n) (omega arith), node_sum_above_zero t n u (omega arith) k (λ v q. e v (omega arith)))
     ]
+
+-- one node more, as a loop takes it
+pub node_sum_next : (t : ℕ → ℤ) (n : ℕ) → node_sum t (n + 1) ≡ node_sum t n +ℤ t (n + 1)
+node_sum_next t n = rw add-one refl
+
+-- one node more of the supplies of a table's set, as a loop reads them
+pub supply_next : (supplies : List ℤ) (table : List Bool) (n : ℕ) → node_sum (λ v. when (in_table table v) (at_node supplies v)) (n + 1) ≡ node_sum (λ v. when (in_table table v) (at_node supplies v)) n +ℤ when (get_or table n false) (get_or supplies n (pos 0))
+supply_next supplies table n =
+    let back : n + 1 - 1 ≡ n = omega arith in
+    node_sum_next (λ v. when (in_table table v) (at_node supplies v)) n
+    ∙ ap (λ i. node_sum (λ v. when (in_table table v) (at_node supplies v)) n +ℤ when (get_or table i false) (get_or supplies i (pos 0))) back
 
 -- the sum of a weight at one node
 node_sum_past : (w : ℕ → ℤ) (s : ℕ) (f : ℤ) (n : ℕ) → n < s → node_sum (λ v. w v *ℤ when (eqb s v) f) n ≡ pos 0

@@ -41,3 +41,71 @@ pub enum Code {
     /// Fewer arc lines than the problem line says.
     Missing,
 }
+
+impl Code {
+    ghost use Rattle.std.specs.Prelude.{◌≡◌, Some, bytes_eq};
+    ghost use Rattle.mcf_instance.specs.Fault.{code_of_word, code_word};
+
+    /// The word of the code in refusals.
+    pub fn word(self) -> &'static str
+        ensures value { result.now ≡ code_word self }
+        ensures back { code_of_word (code_word self) ≡ Some self }
+    {
+        match self {
+            Code::Kind => "kind",
+            Code::Fields => "fields",
+            Code::Problem => "problem",
+            Code::Number => "number",
+            Code::SecondP => "second-p",
+            Code::BeforeP => "before-p",
+            Code::Size => "size",
+            Code::Node => "node",
+            Code::LateN => "late-n",
+            Code::Twice => "twice",
+            Code::Supply => "supply",
+            Code::Bound => "bound",
+            Code::Order => "order",
+            Code::Cost => "cost",
+            Code::Extra => "extra",
+            Code::Side => "side",
+            Code::NoP => "no-p",
+            Code::Missing => "missing",
+        }
+    }
+
+    // Whether this is the word of the code.
+    fn has_word(self, word: &[u8]) -> bool
+        ensures { result ≡ bytes_eq (code_word self) word.now }
+    {
+        self.word().as_bytes() == word
+    }
+
+    /// The code with this word, if there is one.
+    pub fn of(word: &[u8]) -> Option<Code>
+        ensures value { result ≡ code_of_word word.now }
+    {
+        ALL.iter().copied().find(|code| code.has_word(word))
+    }
+}
+
+// The codes, in the order in which a line's faults are looked for, and then those of the whole text.
+static ALL: [Code; 18] = [
+    Code::Kind,
+    Code::Fields,
+    Code::Problem,
+    Code::Number,
+    Code::SecondP,
+    Code::BeforeP,
+    Code::Size,
+    Code::Node,
+    Code::LateN,
+    Code::Twice,
+    Code::Supply,
+    Code::Bound,
+    Code::Order,
+    Code::Cost,
+    Code::Extra,
+    Code::Side,
+    Code::NoP,
+    Code::Missing,
+];

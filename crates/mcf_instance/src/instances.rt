@@ -1,7 +1,8 @@
 //! Instances within the limits.
-ghost use Rattle.std.specs.Prelude.{◌≡◌, ◌-◌, ◌≤◌, length, slice_get, Some};
+ghost use Rattle.std.specs.Prelude.{◌≡◌, ◌-◌, ◌≤◌, length, map, slice_get, Some};
 ghost use Rattle.mcf_instance.specs.Network.{Network, IsArcNumber, IsNode, at_node, node_count};
 ghost use Rattle.mcf_instance.specs.Limits.{limits};
+ghost use Rattle.mcf_instance.specs.Packed.{unpacked};
 ghost use Rattle.mcf_instance.specs.WellFormed.{IsWellFormed};
 
 use crate::arc::{Arc, PackedArc};
@@ -75,5 +76,21 @@ impl Instance {
         ensures well_formed { IsWellFormed limits self.now }
     {
         i128::from(self.supplies[v.get() as usize - 1])
+    }
+
+    /// The arcs as they are stored, in order.
+    pub(crate) fn packed_arcs(&self) -> &[PackedArc]
+        ensures value { map unpacked result.now ≡ self.now.arcs }
+        ensures well_formed { IsWellFormed limits self.now }
+    {
+        &self.arcs
+    }
+
+    /// The supplies as they are stored, in the order of their nodes.
+    pub(crate) fn packed_supplies(&self) -> &[i64]
+        ensures value { result.now ≡ self.now.supplies }
+        ensures well_formed { IsWellFormed limits self.now }
+    {
+        &self.supplies
     }
 }

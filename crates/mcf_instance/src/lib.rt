@@ -6,6 +6,7 @@
 //! text stands for, `Network`, `Flow`, `Blocking` and `Laws` what flows, prices and node sets are.
 
 mod arc;
+mod blocking;
 mod code;
 mod instances;
 mod laws;
@@ -13,6 +14,7 @@ mod problem;
 mod refusal;
 
 pub use arc::Arc;
+pub use blocking::{blocks, table_of};
 pub use code::Code;
 pub use instances::Instance;
 pub use laws::{blocked_has_no_flow, shown_flows_are_least};
