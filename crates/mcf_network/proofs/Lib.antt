@@ -1,3 +1,4 @@
 pub mod ArcLaws
 pub mod StateLaws
+pub mod StuckLaws
 pub mod WalkLaws

@@ -4,8 +4,10 @@ pub use Rattle.mcf_instance.specs.Flow
 pub use Rattle.mcf_instance.specs.Limits
 pub use Rattle.mcf_instance.specs.Network
 pub use Rattle.mcf_instance.specs.WellFormed
+pub mod Laws
 pub mod Nets
 pub mod NodeSets
+pub mod Removal
 pub mod Residual
 pub mod Stars
 pub mod States

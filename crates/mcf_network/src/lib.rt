@@ -7,6 +7,7 @@
 //! and `Stars` what leaves a node, `States` and `Walks` what a push does, `NodeSets` and `Stuck` what a
 //! search reaches.
 
+mod laws;
 mod leaving;
 mod net;
 mod node_set;
@@ -15,6 +16,7 @@ mod state;
 mod stored;
 mod walk;
 
+pub use laws::{feasible_flows_are_states, stuck_sets_block};
 pub use leaving::Leaving;
 pub use net::Net;
 pub use node_set::NodeSet;
