@@ -1,9 +1,9 @@
 -- How large sums over arcs, flows and nodes can be.
-use Rattle.std.proofs.Common.{◌≡◌, ℕ, zero, suc, ◌+◌, ◌-◌, ◌*◌, ◌^◌, ◌≤◌, ◌<◌, Bool, true, false, List, [], ◌∷◌, length, map, take, get_or, arith, ℤ, pos, negsuc, ◌+ℤ◌, lit<, to_z, of_z}
+use Rattle.std.proofs.Common.{◌≡◌, ℕ, zero, suc, ◌+◌, ◌-◌, ◌*◌, ◌^◌, ◌≤◌, ◌<◌, Bool, true, false, List, [], ◌∷◌, length, map, take, get_or, ap, arith, ℤ, pos, negsuc, ◌+ℤ◌, ◌-ℤ◌, lit<, to_z, of_z}
 use Rattle.std.specs.List.{All, AllZip, sum}
 use Rattle.std.proofs.Math.IntN.{◌*ℤ◌}
 use Rattle.std.proofs.Math.Seq.{take-length}
-use Rattle.std.proofs.Math.Nat.{mul-le-mul, le-max_left, le-max_right}
+use Rattle.std.proofs.Math.Nat.{mul-le-mul, mul-le-mul_left, le-max_left, le-max_right}
 use Rattle.std.specs.Int.{w128}
 use Rattle.std.specs.Prelude.{FitsSigned, max, unsigned_abs}
 use Rattle.std.proofs.lemmas.Int.{ints, to_z-of_z}
@@ -151,6 +151,33 @@ cost_up_to arcs flow total h bounds =
 pub term_up_to : (arcs : List Arc) (flow : List ℤ) (i total : ℕ) (d : Arc) (e : ℤ) → sum (map weight arcs) ≤ total → IsWithinBounds arcs flow → i < length arcs → IsUpTo total ((get_or arcs i d).cost *ℤ get_or flow i e)
 term_up_to arcs flow i total d e h bounds k =
     omega (arith, ints, h, weight-le-sum weight arcs i d k, term_up_to_weight (get_or arcs i d) (get_or flow i e) (AllZip-at CanCarry arcs flow i d e bounds k))
+
+-- ---- the most that arcs can cost beyond their lows
+
+-- weights that are each at most k times another, in sum
+pub sum-weights-le : (w u : Arc → ℕ) (k : ℕ) → ((a : Arc) → w a ≤ k * u a) → (arcs : List Arc) → sum (map w arcs) ≤ k * sum (map u arcs)
+sum-weights-le w u k e [] = omega arith
+sum-weights-le w u k e (a ∷ arcs) =
+    let here : w a ≤ k * u a = e a in
+    let rest : sum (map w arcs) ≤ k * sum (map u arcs) = sum-weights-le w u k e arcs in
+    let whole : k * (u a + sum (map u arcs)) ≡ k * u a + k * sum (map u arcs) = omega arith in
+    omega (arith, sum-weights w a arcs, ap (λ n. k * n) (sum-weights u a arcs))
+
+-- the size of an arc's cost times its width is at most twice its weight
+pub width_weight : (a : Arc) → unsigned_abs a.cost * unsigned_abs (a.cap -ℤ a.low) ≤ 2 * weight a
+width_weight a =
+    let low = up_to_size a.low in
+    let cap = up_to_size a.cap in
+    let left = le-max_left (unsigned_abs a.low) (unsigned_abs a.cap) in
+    let right = le-max_right (unsigned_abs a.low) (unsigned_abs a.cap) in
+    let width : IsUpTo (2 * max (unsigned_abs a.low) (unsigned_abs a.cap)) (a.cap -ℤ a.low) = omega (arith, ints, low, cap, left, right) in
+    omega (arith, mul-le-mul_left (unsigned_abs a.cost) (size_up_to (2 * max (unsigned_abs a.low) (unsigned_abs a.cap)) (a.cap -ℤ a.low) width))
+
+pub width_total : (arcs : List Arc) (total : ℕ) → sum (map weight arcs) ≤ total → sum (map (λ a. unsigned_abs a.cost * unsigned_abs (a.cap -ℤ a.low)) arcs) ≤ 2 * total
+width_total arcs total h =
+    omega (arith, h, sum-weights-le (λ a. unsigned_abs a.cost * unsigned_abs (a.cap -ℤ a.low)) weight 2 width_weight arcs)
+
+-- ---- a flow within bounds, arc by arc
 
 -- the wide limits of an arc, and a flow that it can carry
 abbrev pub IsPlaced : Arc → ℤ → Type 0

@@ -43,7 +43,7 @@ pub enum Code {
 }
 
 impl Code {
-    ghost use Rattle.std.specs.Prelude.{◌≡◌, Some, bytes_eq};
+    ghost use Rattle.std.specs.Prelude.{◌≡◌, ◌↔◌, Some, bytes_eq};
     ghost use Rattle.mcf_instance.specs.Fault.{code_of_word, code_word};
 
     /// The word of the code in refusals.
@@ -80,11 +80,19 @@ impl Code {
         self.word().as_bytes() == word
     }
 
+    // The first of the codes that has this word.
+    fn first_with(word: &[u8]) -> Option<Code>
+        ensures { result ≡ code_of_word word.now }
+    {
+        ALL.iter().copied().find(|code| code.has_word(word))
+    }
+
     /// The code with this word, if there is one.
     pub fn of(word: &[u8]) -> Option<Code>
         ensures value { result ≡ code_of_word word.now }
+        ensures known { (code : Code) → (result ≡ Some code) ↔ (code_word code ≡ word.now) }
     {
-        ALL.iter().copied().find(|code| code.has_word(word))
+        Code::first_with(word)
     }
 }
 

@@ -16,9 +16,9 @@ use std::marker::Model;
 /// the supplies of its nodes in order.
 #[derive(Drop)]
 pub struct Instance {
-    problem: Problem,
-    arcs: Vec<PackedArc>,
-    supplies: Vec<i64>,
+    pub(crate) problem: Problem,
+    pub(crate) arcs: Vec<PackedArc>,
+    pub(crate) supplies: Vec<i64>,
 }
 
 impl Model for Instance {
@@ -92,5 +92,20 @@ impl Instance {
         ensures well_formed { IsWellFormed limits self.now }
     {
         &self.supplies
+    }
+}
+
+#[cfg(test)]
+impl Instance {
+    /// The instance of these parts.
+    pub(crate) fn of_parts(problem: Problem, arcs: Vec<PackedArc>, supplies: Vec<i64>) -> Instance
+        requires { IsWellFormed limits (record { problem = problem; arcs = map unpacked arcs.items; supplies = supplies.items }) }
+        ensures { result ≡ record { problem = problem; arcs = map unpacked arcs.items; supplies = supplies.items } }
+    {
+        Instance {
+            problem,
+            arcs,
+            supplies,
+        }
     }
 }

@@ -11,7 +11,12 @@ mod code;
 mod instances;
 mod laws;
 mod problem;
+mod reader;
 mod refusal;
+#[cfg(test)]
+mod tests;
+#[cfg(test)]
+mod tests_flows;
 
 pub use arc::Arc;
 pub use blocking::{blocks, table_of};
@@ -19,4 +24,5 @@ pub use code::Code;
 pub use instances::Instance;
 pub use laws::{blocked_has_no_flow, shown_flows_are_least};
 pub use problem::{Problem, Side};
+pub use reader::read;
 pub use refusal::Refusal;

@@ -4,6 +4,7 @@ pub use Rattle.mcf_instance.specs.Flow
 pub use Rattle.mcf_instance.specs.Limits
 pub use Rattle.mcf_instance.specs.Network
 pub use Rattle.mcf_instance.specs.WellFormed
+pub mod Counting
 pub mod Laws
 pub mod Nets
 pub mod NodeSets

@@ -12,8 +12,10 @@ mod leaving;
 mod net;
 mod node_set;
 mod rid;
+mod star;
 mod state;
 mod stored;
+mod surplus;
 mod walk;
 
 pub use laws::{feasible_flows_are_states, stuck_sets_block};

@@ -8,6 +8,7 @@ ghost use Rattle.mcf_network.specs.States.{IsFlow, MovesSurplus, amount_at, push
 
 use crate::net::Net;
 use crate::rid::Rid;
+use crate::surplus::move_surplus;
 use mcf_text::{ArcId, NoMemory, NodeId};
 use std::alloc::Global;
 use std::marker::Model;
@@ -125,19 +126,4 @@ fn changed_amount(amount: i64, back: bool, x: i128) -> i64
 {
     let x = x as i64;
     if back { amount - x } else { amount + x }
-}
-
-// Moves `x` of the surplus of one node to another.
-fn move_surplus(surpluses: &mut Vec<i128>, from: NodeId, to: NodeId, x: i128)
-    requires from { IsNode (length surpluses.old.items) from }
-    requires to { IsNode (length surpluses.old.items) to }
-    requires x { IsUpTo (10 ^ 30) x }
-    requires each { (v : ℕ) → IsNode (length surpluses.old.items) v → IsUpTo (10 ^ 30) (at_node surpluses.old.items v) }
-    ensures length { length surpluses.new.items ≡ length surpluses.old.items }
-    ensures each { (v : ℕ) → IsNode (length surpluses.old.items) v → at_node surpluses.new.items v ≡ at_node surpluses.old.items v -ℤ when (from == v) x +ℤ when (to == v) x }
-{
-    let less = surpluses[from.get() as usize - 1] - x;
-    surpluses[from.get() as usize - 1] = less;
-    let more = surpluses[to.get() as usize - 1] + x;
-    surpluses[to.get() as usize - 1] = more;
 }

@@ -4,7 +4,7 @@ use Rattle.std.proofs.lemmas.Int.{ints}
 use Rattle.std.proofs.lemmas.List.{get_or_read}
 use Rattle.mcf_instance.specs.Network.{at_node}
 use Rattle.mcf_network.proofs.StateLaws.{move_two, second_small}
-use Rattle.mcf_network.proofs.state.move_surplus.Goals as goal
+use Rattle.mcf_network.proofs.surplus.move_surplus.Goals as goal
 
 pub overflow_add-more : goal.overflow_add-more
 overflow_add-more c =

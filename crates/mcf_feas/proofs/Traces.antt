@@ -1,0 +1,90 @@
+-- The path to a visited node, from its end.
+use Rattle.std.proofs.Common.{◌≡◌, ◌≢◌, ℕ, ◌-◌, ◌<◌, List, [], ◌∷◌, length, get_or, refl, ap, sym, subst, ◌∙◌, arith, ℤ, pos, ◌+ℤ◌, ◌≤ℤ◌, ◌<ℤ◌, Option, Some, None}
+use Rattle.std.specs.List.{All, AllPairs}
+use Rattle.std.proofs.lemmas.Int.{ints}
+use Rattle.std.proofs.lemmas.List.{get_or_default}
+use Rattle.std.proofs.lemmas.List.Elements.{All-cons}
+use Rattle.std.proofs.lemmas.List.Kept.{AllPairs-cons}
+use Rattle.mcf_network.specs.declared.rid.Rid.{Rid}
+use Rattle.mcf_network.specs.Residual.{head}
+use Rattle.mcf_network.specs.States.{Flow, room_of, surplus_at}
+use Rattle.mcf_network.specs.Walks.{HasRoomFor, IsWalk}
+use Rattle.mcf_feas.specs.declared.search.Link.{Link}
+use Rattle.mcf_feas.specs.declared.search.Visit.{Visit}
+use Rattle.mcf_feas.specs.Searching.{IsFound, IsLink, IsPath, IsReachedBy, IsForest, node_at}
+
+-- a residual arc enters a node visited after this place
+abbrev EntersLater : Flow → List Visit → ℕ → Rid → Type 0
+EntersLater s visits place r = (p : ℕ) × (place < p) × (p < length visits) × (head s.net r ≡ node_at visits p)
+
+-- a walk from the node at a place to w, along which x can go
+pub record IsTrace (s : Flow) (visits : List Visit) (place : ℕ) (walk : List Rid) (w : ℕ) (x : ℤ) : Type 0 where
+  pub in_range : place < length visits
+  pub walks : IsWalk s.net (node_at visits place) walk w
+  pub room : All (HasRoomFor s x) walk
+  pub later : All (EntersLater s visits place) walk
+  pub distinct : AllPairs (λ r q. r ≢ q) walk
+  pub positive : pos 0 <ℤ x
+  pub taken : (x +ℤ surplus_at s w) ≤ℤ pos 0
+
+-- the path is empty at first
+pub trace_first : (s : Flow) (visits : List Visit) (x : ℤ) → IsFound s visits → x +ℤ surplus_at s (node_at visits (length visits - 1)) ≡ pos 0 → IsTrace s visits (length visits - 1) [] (node_at visits (length visits - 1)) x
+trace_first s visits x found e =
+    let some = found.some in
+    let deficit = found.deficit in
+    record {
+      in_range = omega arith;
+      walks = refl;
+      room = λ k d h. absurd (omega arith);
+      later = λ k d h. absurd (omega arith);
+      distinct = λ i j d h l. absurd (omega arith);
+      positive = omega (arith, ints, deficit, e);
+      taken = omega (arith, ints, e);
+    }
+
+module _ (s : Flow) (visits : List Visit) (place : ℕ) (walk : List Rid) (w : ℕ) (x y : ℤ) (ok : IsForest s visits) (old : IsTrace s visits place walk w x) (pos_y : pos 0 <ℤ y) (le_x : y ≤ℤ x) where
+  -- the path back goes along a link
+  pub trace_step : (l : Link) → IsLink s visits place l → y ≤ℤ room_of s l.along → IsTrace s visits l.place (l.along ∷ walk) w y
+  trace_step l link le_room =
+      let earlier = link.earlier in
+      let in_range = old.in_range in
+      let taken = old.taken in
+      let arc = link.room in
+      record {
+        in_range = omega arith;
+        walks = (link.from, subst (λ u. IsWalk s.net u walk w) (sym link.to) old.walks);
+        room = All-cons (HasRoomFor s y) l.along walk (record { arc = arc.arc; room = le_room }) (λ k d h. let there = old.room k d h in let room = there.room in record { arc = there.arc; room = omega (arith, ints, room, le_x) });
+        later = All-cons (EntersLater s visits l.place) l.along walk (place, earlier, in_range, link.to) (λ k d h. let (p, a, b, e) = old.later k d h in (p, omega arith, b, e));
+        distinct = AllPairs-cons (λ r q. r ≢ q) l.along walk (λ k d h same. let (p, a, b, e) = old.later k d h in ok.distinct place p a b (sym link.to ∙ ap (head s.net) same ∙ e)) old.distinct;
+        positive = pos_y;
+        taken = omega (arith, ints, taken, le_x);
+      }
+
+  -- the path begins at a node with a surplus
+  pub trace_end : y ≤ℤ surplus_at s (node_at visits place) → IsPath s walk w y
+  trace_end le =
+      let taken = old.taken in
+      record {
+        source = node_at visits place;
+        is_node = ok.are_nodes place old.in_range;
+        walk = old.walks;
+        can = record {
+          low = omega (arith, ints, pos_y);
+          room = λ k d h. let there = old.room k d h in let room = there.room in record { arc = there.arc; room = omega (arith, ints, room, le_x) };
+          distinct = old.distinct;
+        };
+        positive = pos_y;
+        held = le;
+        taken = omega (arith, ints, taken, le_x);
+      }
+
+-- how a search came to a node, by cases on its link
+linked_at : (s : Flow) (visits : List Visit) (place : ℕ) (d : Visit) (o : Option Link) → IsForest s visits → place < length visits → (get_or visits place d).link ≡ o → IsReachedBy s visits place o
+linked_at s visits place d o ok h e =
+    subst (λ (q : Option Link). IsReachedBy s visits place q) (ap (λ (x : Visit). x.link) (get_or_default visits place (record { node = 0; link = None }) d h) ∙ e) (ok.linked place h)
+
+pub linked_none : (s : Flow) (visits : List Visit) (place : ℕ) (d : Visit) → IsForest s visits → place < length visits → (get_or visits place d).link ≡ None → pos 0 <ℤ surplus_at s (node_at visits place)
+linked_none s visits place d ok h e = linked_at s visits place d None ok h e
+
+pub linked_some : (s : Flow) (visits : List Visit) (place : ℕ) (d : Visit) (l : Link) → IsForest s visits → place < length visits → (get_or visits place d).link ≡ Some l → IsLink s visits place l
+linked_some s visits place d l ok h e = linked_at s visits place d (Some l) ok h e

@@ -1,0 +1,13 @@
+use Rattle.std.proofs.Common.{◌-◌, ◌<◌, length}
+use Rattle.mcf_feas.specs.Searching.{IsScanned}
+use Rattle.mcf_feas.proofs.search.Search.run.Given as goal
+
+abbrev pub invariant-loop-scanned : goal.invariant-loop-scanned
+invariant-loop-scanned l =
+    record {
+      scanned : IsScanned l.state l.self.reached l.self.visits.items l.scanned;
+      some : 0 < length l.self.visits.items;
+    }
+
+abbrev pub decreases-loop-scanned : goal.decreases-loop-scanned
+decreases-loop-scanned l = length l.self.reached - l.scanned

@@ -1,0 +1,10 @@
+use Rattle.mcf_feas.proofs.Searches.{IsScanning}
+use Rattle.mcf_feas.proofs.search.Search.scan.Given as goal
+
+abbrev pub invariant-loop-along : goal.invariant-loop-along
+invariant-loop-along l =
+    record {
+      can_next : (goal.iterator-loop-along).can_next l.along-iterator;
+      is_finite : (goal.iterator-loop-along).is_finite l.along-iterator;
+      scanning : IsScanning l.state l.self.reached l.self.visits.items l.place l.along-iterator;
+    }

@@ -1,0 +1,17 @@
+pub use Rattle.mcf_instance.specs.Assignment
+pub use Rattle.mcf_instance.specs.Blocking
+pub use Rattle.mcf_instance.specs.Flow
+pub use Rattle.mcf_instance.specs.Limits
+pub use Rattle.mcf_instance.specs.Network
+pub use Rattle.mcf_instance.specs.WellFormed
+pub use Rattle.mcf_network.specs.Laws
+pub use Rattle.mcf_network.specs.Nets
+pub use Rattle.mcf_network.specs.NodeSets
+pub use Rattle.mcf_network.specs.Residual
+pub use Rattle.mcf_network.specs.States
+pub use Rattle.mcf_network.specs.Stuck
+pub use Rattle.mcf_network.specs.Walks
+pub mod Chosen
+pub mod Exactness
+pub mod Feasible
+pub mod Searching

@@ -1,0 +1,87 @@
+-- What a search from the nodes with a surplus keeps, and what it finds.
+use Rattle.std.specs.Prelude.{◌≡◌, ◌≢◌, ℕ, ◌<◌, ◌≤◌, ◌-◌, Bool, true, List, length, ℤ, pos, ◌+ℤ◌, ◌≤ℤ◌, ◌<ℤ◌, Option, Some, None, slice_index_or}
+use Rattle.mcf_instance.specs.Blocking.{in_table}
+use Rattle.mcf_instance.specs.Network.{IsNode, node_count}
+use Rattle.mcf_network.specs.declared.rid.Rid.{Rid}
+use Rattle.mcf_network.specs.NodeSets.{member_count}
+use Rattle.mcf_network.specs.Residual.{tail, head}
+use Rattle.mcf_network.specs.States.{Flow, IsFlow, MovesSurplus, surplus_at}
+use Rattle.mcf_network.specs.Walks.{CanPushAlong, HasRoom, IsWalk}
+use Rattle.mcf_feas.specs.declared.search.Link.{Link}
+use Rattle.mcf_feas.specs.declared.search.Visit.{Visit}
+
+-- the visit at a place, and its node
+abbrev pub visit_at : List Visit → ℕ → Visit
+visit_at visits i = slice_index_or visits i (record { node = 0; link = None })
+
+abbrev pub node_at : List Visit → ℕ → ℕ
+node_at visits i = (visit_at visits i).node
+
+-- a residual arc with room leads from the node at an earlier place to the one at this place
+pub record IsLink (s : Flow) (visits : List Visit) (i : ℕ) (l : Link) : Type 0 where
+  pub earlier : l.place < i
+  pub room : HasRoom s l.along
+  pub from : tail s.net l.along ≡ node_at visits l.place
+  pub to : head s.net l.along ≡ node_at visits i
+
+-- a residual arc with room, and the node that it enters
+pub record LeadsTo (s : Flow) (r : Rid) (v : ℕ) : Type 0 where
+  pub room : HasRoom s r
+  pub end : head s.net r ≡ v
+  pub is_node : IsNode (node_count s.net) v
+
+-- how a search came to the node at a place: it has a surplus, or a link leads to it
+abbrev pub IsReachedBy : Flow → List Visit → ℕ → Option Link → Type 0
+IsReachedBy s visits i None = pos 0 <ℤ surplus_at s (node_at visits i)
+IsReachedBy s visits i (Some l) = IsLink s visits i l
+
+-- the nodes visited, each once, and how a search came to each
+pub record IsForest (s : Flow) (visits : List Visit) : Type 0 where
+  pub are_nodes : (i : ℕ) → i < length visits → IsNode (node_count s.net) (node_at visits i)
+  pub distinct : (i j : ℕ) → i < j → j < length visits → node_at visits i ≢ node_at visits j
+  pub linked : (i : ℕ) → i < length visits → IsReachedBy s visits i (visit_at visits i).link
+
+-- the table marks the nodes visited
+pub record IsSearch (s : Flow) (table : List Bool) (visits : List Visit) : Type 0 where
+  pub forest : IsForest s visits
+  pub nodes : length table ≡ node_count s.net
+  pub count : length visits ≡ member_count table
+  pub marked : (i : ℕ) → i < length visits → in_table table (node_at visits i) ≡ true
+  pub every : (v : ℕ) → IsNode (node_count s.net) v → in_table table v ≡ true → (i : ℕ) × (i < length visits) × (node_at visits i ≡ v)
+
+-- so far no visited node takes anything, and the residual arcs with room that leave the first of them lead
+-- to visited nodes
+pub record IsScanned (s : Flow) (table : List Bool) (visits : List Visit) (scanned : ℕ) : Type 0 where
+  pub search : IsSearch s table visits
+  pub within : scanned ≤ length visits
+  pub no_deficit : (i : ℕ) → i < length visits → pos 0 ≤ℤ surplus_at s (node_at visits i)
+  pub closed : (i : ℕ) → i < scanned → (r : Rid) → HasRoom s r → tail s.net r ≡ node_at visits i → in_table table (head s.net r) ≡ true
+
+-- the last visited node takes
+pub record IsFound (s : Flow) (visits : List Visit) : Type 0 where
+  pub forest : IsForest s visits
+  pub some : 0 < length visits
+  pub deficit : surplus_at s (node_at visits (length visits - 1)) <ℤ pos 0
+
+-- a path to node w along which x can go: as much as a node with a surplus has, and as w takes
+pub record IsPath (s : Flow) (path : List Rid) (w : ℕ) (x : ℤ) : Type 0 where
+  pub source : ℕ
+  pub is_node : IsNode (node_count s.net) source
+  pub walk : IsWalk s.net source path w
+  pub can : CanPushAlong s path x
+  pub positive : pos 0 <ℤ x
+  pub held : x ≤ℤ surplus_at s source
+  pub taken : (x +ℤ surplus_at s w) ≤ℤ pos 0
+
+-- a part of the surplus of one node moved to one that takes it
+pub record IsAugmented (s s' : Flow) : Type 0 where
+  pub net : s'.net ≡ s.net
+  pub flow : IsFlow s'
+  pub source : ℕ
+  pub target : ℕ
+  pub amount : ℤ
+  pub is_node : IsNode (node_count s.net) source
+  pub positive : pos 0 <ℤ amount
+  pub held : amount ≤ℤ surplus_at s source
+  pub taken : (amount +ℤ surplus_at s target) ≤ℤ pos 0
+  pub moves : MovesSurplus s s' source target amount

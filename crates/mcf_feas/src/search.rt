@@ -1,0 +1,187 @@
+//! Breadth-first search from the nodes with a surplus, and augmenting paths.
+ghost use Rattle.std.specs.Prelude.{◌≡◌, ℕ, ◌∷◌, ◌++◌, [], ◌<◌, true, IfOk, IfNone, IfSome, OnOk, length, pos, ◌+◌, ◌≤ℤ◌, ◌-◌};
+ghost use Rattle.std.specs.Bool.{MatchBool};
+ghost use Rattle.mcf_instance.specs.Blocking.{in_table};
+ghost use Rattle.mcf_instance.specs.Network.{IsArcNumber, IsNode, node_count};
+ghost use Rattle.mcf_network.specs.States.{IsFlow, room_of, surplus_at};
+ghost use Rattle.mcf_network.specs.NodeSets.{with_node};
+ghost use Rattle.mcf_network.specs.Stuck.{IsStuck};
+ghost use Rattle.mcf_feas.specs.Searching.{IsAugmented, IsFound, IsPath, IsScanned, LeadsTo, node_at};
+
+use mcf_network::{Net, NodeSet, Rid, State, push_along};
+use mcf_text::{ArcId, NoMemory, NodeId};
+use std::alloc::Global;
+
+/// How a search came to a node: from the node at an earlier place, along a residual arc.
+#[derive(Clone, Copy)]
+struct Link {
+    place: u32,
+    along: Rid,
+}
+
+/// A node that a search reached, and how; a node with a surplus has no link.
+#[derive(Clone, Copy)]
+struct Visit {
+    node: NodeId,
+    link: Option<Link>,
+}
+
+/// The tables of a search, which every search of a net uses again.
+#[derive(Drop)]
+pub(crate) struct Search {
+    reached: NodeSet,
+    visits: Vec<Visit>,
+    path: Vec<Rid>,
+}
+
+impl Search {
+    /// The tables for a net.
+    pub(crate) fn new(alloc: Global, net: &Net) -> Result<Search, NoMemory>
+        ensures { IfOk result (λ search. length search.reached ≡ node_count net.now) }
+    {
+        let nodes = net.node_count() as usize;
+        Ok(Search {
+            reached: NodeSet::new(alloc, net)?,
+            visits: Vec::with_capacity(alloc, nodes)?,
+            path: Vec::with_capacity(alloc, nodes)?,
+        })
+    }
+
+    /// The nodes that the last search reached.
+    pub(crate) fn into_reached(self) -> NodeSet
+        ensures { result ≡ self.reached }
+    {
+        self.reached
+    }
+
+    // Visits a node.
+    fn visit(&mut self, node: NodeId, link: Option<Link>) -> Result<(), NoMemory>
+        requires { IsNode (length self.old.reached) node }
+        ensures reached { OnOk result (self.new.reached ≡ with_node self.old.reached node) }
+        ensures visits { OnOk result (self.new.visits.items
+            ≡ self.old.visits.items ++ record { node = node; link = link } ∷ []) }
+    {
+        self.visits.push(Visit { node, link })?;
+        self.reached.insert(node);
+        Ok(())
+    }
+
+    /// Begins a search: visits the nodes with a surplus, and says whether there is one.
+    pub(crate) fn start(&mut self, state: &State<'_>) -> Result<bool, NoMemory>
+        requires { length self.old.reached ≡ node_count state.now.net }
+        ensures scanned { IfOk result (λ _. IsScanned state.now self.new.reached self.new.visits.items 0) }
+        ensures sources { IfOk result (λ some. MatchBool some
+            (0 < length self.new.visits.items)
+            ((v : ℕ) → IsNode (node_count state.now.net) v → surplus_at state.now v ≤ℤ pos 0)) }
+    {
+        self.reached.clear();
+        self.visits.clear();
+        for number in 0..state.net().node_count() {
+            let node = NodeId::new(number + 1);
+            if state.surplus(node) > 0 {
+                self.visit(node, None)?;
+            }
+        }
+        Ok(!self.visits.is_empty())
+    }
+
+    /// Visits what can be reached, until a visited node takes, and says whether one does.
+    pub(crate) fn run(&mut self, state: &State<'_>) -> Result<bool, NoMemory>
+        requires flow { IsFlow state.now }
+        requires scanned { IsScanned state.now self.old.reached self.old.visits.items 0 }
+        requires some { 0 < length self.old.visits.items }
+        ensures nodes { IfOk result (λ _. length self.new.reached ≡ node_count state.now.net) }
+        ensures found { IfOk result (λ found. MatchBool found
+            (IsFound state.now self.new.visits.items)
+            (IsStuck state.now (in_table self.new.reached))) }
+    {
+        let mut scanned = 0;
+        while scanned < self.visits.len() {
+            if self.scan(state, scanned)? {
+                return Ok(true);
+            }
+            scanned += 1;
+        }
+        Ok(false)
+    }
+
+    // Visits the nodes to which residual arcs with room lead from the node at a place, until one of them takes,
+    // and says whether one does.
+    fn scan(&mut self, state: &State<'_>, place: usize) -> Result<bool, NoMemory>
+        requires scanned { IsScanned state.now self.old.reached self.old.visits.items place }
+        requires place { place < length self.old.visits.items }
+        ensures nodes { IfOk result (λ _. length self.new.reached ≡ node_count state.now.net) }
+        ensures found { IfOk result (λ found. MatchBool found
+            (IsFound state.now self.new.visits.items)
+            (IsScanned state.now self.new.reached self.new.visits.items (place + 1))) }
+    {
+        let net = state.net();
+        let from = self.visits[place].node;
+        for along in net.leaving(from) {
+            let Rid { arc, back } = along;
+            let Some(to) = open_end(state, arc, back) else {
+                continue;
+            };
+            if self.reached.contains(to) {
+                continue;
+            }
+            self.visit(to, Some(link_along(place as u32, arc, back)))?;
+            if state.surplus(to) < 0 {
+                return Ok(true);
+            }
+        }
+        Ok(false)
+    }
+
+    /// Moves along the path to the last visited node as much as the path takes.
+    pub(crate) fn augment(&mut self, state: &mut State<'_>) -> Result<(), NoMemory>
+        requires { IsFound state.old self.old.visits.items }
+        ensures nodes { length self.new.reached ≡ length self.old.reached }
+        ensures augmented { OnOk result (IsAugmented state.old state.new) }
+    {
+        let amount = trace(state, &self.visits, &mut self.path)?;
+        push_along(state, &self.path, amount);
+        Ok(())
+    }
+}
+
+// The link from the node at a place, along a residual arc.
+fn link_along(place: u32, arc: ArcId, back: bool) -> Link
+    ensures { result ≡ record { place = place; along = record { arc = arc; back = back } } }
+{
+    Link {
+        place,
+        along: Rid { arc, back },
+    }
+}
+
+// The node that a residual arc enters, if the arc has room.
+fn open_end(state: &State<'_>, arc: ArcId, back: bool) -> Option<NodeId>
+    requires { IsArcNumber state.now.net arc }
+    ensures open { IfSome result (LeadsTo state.now (record { arc = arc; back = back })) }
+    ensures closed { IfNone result (room_of state.now (record { arc = arc; back = back }) ≤ℤ pos 0) }
+{
+    if state.room(Rid { arc, back }) <= 0 {
+        return None;
+    }
+    let (_, to) = state.net().route(Rid { arc, back });
+    Some(to)
+}
+
+// Writes the path to the last visited node, and says how much can go along it.
+fn trace(state: &State<'_>, visits: &[Visit], path: &mut Vec<Rid>) -> Result<i128, NoMemory>
+    requires { IsFound state.now visits.now }
+    ensures { IfOk result
+        (IsPath state.now path.new.items (node_at visits.now (length visits.now - 1))) }
+{
+    path.clear();
+    let mut place = visits.len() - 1;
+    let mut amount = -state.surplus(visits[place].node);
+    while let Some(link) = visits[place].link {
+        amount = amount.min(state.room(link.along));
+        path.push(link.along)?;
+        place = link.place as usize;
+    }
+    path.reverse();
+    Ok(amount.min(state.surplus(visits[place].node)))
+}

@@ -1,0 +1,228 @@
+-- What a line of a good text says fits the state.
+use Rattle.std.proofs.Common.{◌≡◌, ℕ, ◌<◌, ◌≤◌, Bool, true, false, not, cond, ◌&&◌, ◌||◌, List, [], ◌∷◌, length, refl, Some, None, Ok, Err, arith}
+use Rattle.std.specs.Prelude.{Option, Result, ℤ, pos, neg_ℤ, ◌≤ℤ◌, bytes_eq, codes, slice_index_or, nat_lt, nat_le, int_lt, int_le, ◌==◌, is_some, IfOk}
+use Rattle.std.proofs.lemmas.Int.{ints}
+use Rattle.std.proofs.lemmas.Bool.Decides.{nat_tests}
+use Rattle.std.proofs.lemmas.Result.{IfOk-at_ok}
+use Rattle.mcf_instance.specs.declared.arc.PackedArc.{PackedArc}
+use Rattle.mcf_instance.specs.declared.code.Code.{Code}
+use Rattle.mcf_instance.specs.declared.code.Code.TheVariants.{Fields}
+use Rattle.mcf_instance.specs.declared.problem.Problem.{Problem as Format}
+use Rattle.mcf_instance.specs.declared.problem.Problem.TheVariants.{Min, Asn}
+use Rattle.mcf_instance.specs.declared.reader.line.ArcNumbers.{ArcNumbers}
+use Rattle.mcf_instance.specs.declared.reader.line.Heading.{Heading}
+use Rattle.mcf_instance.specs.declared.reader.line.Item.{Item}
+use Rattle.mcf_instance.specs.Assignment.{OnAssignment}
+use Rattle.mcf_instance.specs.Fault.{is_up_to}
+use Rattle.mcf_instance.specs.Limits.{limits, node_limit, arc_limit}
+use Rattle.mcf_instance.specs.LineReader.{◌>>=◌, arc_count_fits, arc_line, arc_numbers, arc_tests, flag_at, is_wrong_side, node_at, node_count_fits, node_line, node_numbers, node_tests, number_at, problem_at, problem_line, with_heading}
+use Rattle.mcf_instance.specs.Packed.{unpacked}
+use Rattle.mcf_instance.specs.ReaderState.{StateData, item_of, problem_or_min}
+use Rattle.mcf_instance.specs.ReaderSound.{IsFlaggedPair, ItemFits, heading_arcs, heading_nodes}
+use Rattle.mcf_instance.specs.WellFormed.{HasEnds, IsArcWithin, IsUpTo}
+use Rattle.mcf_text.specs.Row.{natural}
+use Rattle.mcf_text.specs.Whole.{is_within}
+use Rattle.mcf_instance.proofs.ArcLines.{first_of, last_of}
+use Rattle.mcf_instance.proofs.NodeLines.{natural_low, natural_high, natural_most, unnot}
+
+-- ---- steps
+
+if_ok_then : {A B : Type 0} (r : Result A Code) (f : A → Result B Code) (Q : A → Type 0) (P : B → Type 0) → IfOk r Q → ((x : A) → Q x → IfOk (f x) P) → IfOk (r >>= f) P
+if_ok_then (Ok x) f Q P q h = h x q
+if_ok_then (Err e) f Q P q h = tt
+
+if_ok_any : {A : Type 0} (r : Result A Code) → IfOk r (λ _. Unit {0})
+if_ok_any (Ok x) = tt
+if_ok_any (Err e) = tt
+
+if_ok_bind : {A B : Type 0} (r : Result A Code) (f : A → Result B Code) (P : B → Type 0) → ((x : A) → IfOk (f x) P) → IfOk (r >>= f) P
+if_ok_bind r f P h = if_ok_then r f (λ _. Unit {0}) P (if_ok_any r) (λ x _. h x)
+
+if_ok_test : {A : Type 0} (b : Bool) (e : Code) (r : Result A Code) (P : A → Type 0) → (b ≡ false → IfOk r P) → IfOk (cond b (Err e) r) P
+if_ok_test true e r P h = tt
+if_ok_test false e r P h = h refl
+
+if_ok_node : {B : Type 0} (h : Heading) (z : ℤ) (f : ℕ → Result B Code) (P : B → Type 0) → ((v : ℕ) → 1 ≤ v → v ≤ h.nodes → IfOk (f v) P) → IfOk (node_at h z >>= f) P
+if_ok_node h z f P k = go (is_within (pos 1) (pos h.nodes) z) refl
+  where
+    go : (b : Bool) → is_within (pos 1) (pos h.nodes) z ≡ b → IfOk (node_at h z >>= f) P
+    go true e = rw e (k (natural z) (natural_low h.nodes z e) (natural_high h.nodes z e))
+    go false e = rw e tt
+
+up_to_is : (b : ℕ) (z : ℤ) → is_up_to b z ≡ true → IsUpTo b z
+up_to_is b z e = (below (neg_ℤ (pos b)) z (first_of (int_le (neg_ℤ (pos b)) z) _ e), below z (pos b) (last_of (int_le (neg_ℤ (pos b)) z) _ e))
+  where
+    below : (x y : ℤ) → int_le x y ≡ true → x ≤ℤ y
+    below x y h = grind (arith, ints)
+
+not_above : (x y : ℤ) → int_lt y x ≡ false → x ≤ℤ y
+not_above x y h = grind (arith, ints)
+
+-- ---- problem lines
+
+-- what a problem line must say
+abbrev HeadingFound : Bool → Heading → Type 0
+HeadingFound seen h = (seen ≡ false) × (h.nodes ≤ node_limit) × (h.arcs ≤ arc_limit)
+
+problem_fits : (seen : Bool) (fields : List (List ℕ)) → IfOk (problem_line seen fields) (HeadingFound seen)
+unfolding problem_line
+problem_fits seen fields =
+    if_ok_test (not (length fields == 4)) _ _ (HeadingFound seen) (λ _.
+    if_ok_bind (problem_at (slice_index_or fields 1 [])) _ (HeadingFound seen) (λ problem.
+    if_ok_bind (number_at fields 2) _ (HeadingFound seen) (λ nodes.
+    if_ok_bind (number_at fields 3) _ (HeadingFound seen) (λ arcs.
+    if_ok_test seen _ _ (HeadingFound seen) (λ unseen.
+    if_ok_test (not (is_within (pos 0) (pos node_limit) nodes && is_within (pos 0) (pos arc_limit) arcs)) _ (Ok (record { problem = problem; nodes = natural nodes; arcs = natural arcs })) (HeadingFound seen) (λ sizes.
+    let both : (is_within (pos 0) (pos node_limit) nodes && is_within (pos 0) (pos arc_limit) arcs) ≡ true = unnot _ sizes in
+    (unseen, natural_most node_limit nodes (first_of (is_within (pos 0) (pos node_limit) nodes) _ both), natural_most arc_limit arcs (last_of (is_within (pos 0) (pos node_limit) nodes) _ both))))))))
+
+-- ---- node lines
+
+no_fewer : (n : ℕ) → nat_lt 0 n ≡ false → n ≡ 0
+no_fewer n h = grind (arith, nat_tests)
+
+-- what a node line must say
+abbrev NodeFits : Option Heading → ℕ → ℕ × ℤ → Type 0
+NodeFits o arcs n = (1 ≤ n.0) × (n.0 ≤ heading_nodes o) × (arcs ≡ 0) × IsUpTo limits.supply n.1 × OnAssignment (problem_or_min o) (n.1 ≡ pos 1)
+
+node_tests_fit : (h : Heading) (arcs : ℕ) (listed : List Bool) (u z : ℤ) → OnAssignment h.problem (z ≡ pos 1) → IfOk (node_tests limits h arcs listed u z) (NodeFits (Some h) arcs)
+unfolding node_tests
+node_tests_fit h arcs listed u z one =
+    if_ok_node h u _ (NodeFits (Some h) arcs) (λ v low high.
+    if_ok_test (nat_lt 0 arcs) _ _ (NodeFits (Some h) arcs) (λ early.
+    if_ok_test (flag_at listed v) _ _ (NodeFits (Some h) arcs) (λ _.
+    if_ok_test (not (is_up_to limits.supply z)) _ _ (NodeFits (Some h) arcs) (λ small.
+    (low, high, no_fewer arcs early, up_to_is limits.supply z (unnot _ small), one)))))
+
+asn_node_numbers : (fields : List (List ℕ)) → (length fields == 3) ≡ false → IfOk (node_numbers fields) (λ n. n.1 ≡ pos 1)
+asn_node_numbers fields e = rw e (if_ok_bind (number_at fields 1) _ (λ n. n.1 ≡ pos 1) (λ _. refl))
+
+two_not_three : (n : ℕ) → (n == 2) ≡ true → (n == 3) ≡ false
+two_not_three n h = grind arith
+
+four_not_six : (n : ℕ) → (n == 4) ≡ true → (n == 6) ≡ false
+four_not_six n h = grind arith
+
+node_line_fits : (o : Option Heading) (arcs : ℕ) (listed : List Bool) (fields : List (List ℕ)) → IfOk (node_line limits o arcs listed fields) (NodeFits o arcs)
+unfolding node_line
+node_line_fits None arcs listed fields =
+    if_ok_test (not (node_count_fits None (length fields))) Fields (node_numbers fields >>= λ n. with_heading None (λ h. node_tests limits h arcs listed n.0 n.1)) (NodeFits None arcs)
+    (λ _. if_ok_bind (node_numbers fields) (λ n. with_heading None (λ h. node_tests limits h arcs listed n.0 n.1)) (NodeFits None arcs) (λ _. tt))
+node_line_fits (Some h) arcs listed fields = go h.problem refl
+  where
+    at : (p : Format) → IfOk (node_line limits (Some (record { problem = p; nodes = h.nodes; arcs = h.arcs })) arcs listed fields) (NodeFits (Some (record { problem = p; nodes = h.nodes; arcs = h.arcs })) arcs)
+    at Min =
+        let g : Heading = record { problem = Min; nodes = h.nodes; arcs = h.arcs } in
+        if_ok_test _ _ _ (NodeFits (Some g) arcs) (λ _. if_ok_bind (node_numbers fields) _ (NodeFits (Some g) arcs) (λ n. node_tests_fit g arcs listed n.0 n.1 tt))
+    at Asn =
+        let g : Heading = record { problem = Asn; nodes = h.nodes; arcs = h.arcs } in
+        if_ok_test (not (length fields == 2)) _ _ (NodeFits (Some g) arcs) (λ count.
+        if_ok_then (node_numbers fields) _ (λ n. n.1 ≡ pos 1) (NodeFits (Some g) arcs) (asn_node_numbers fields (two_not_three (length fields) (unnot _ count))) (λ n one. node_tests_fit g arcs listed n.0 n.1 one))
+
+    go : (p : Format) → h.problem ≡ p → IfOk (node_line limits (Some h) arcs listed fields) (NodeFits (Some h) arcs)
+    go p e = at h.problem
+
+-- ---- arc lines
+
+-- what an arc line must say
+pub record ArcFits (o : Option Heading) (arcs : ℕ) (listed : List Bool) (a : PackedArc) : Type 0 where
+  pub room : arcs < heading_arcs o
+  pub ends : HasEnds (heading_nodes o) (unpacked a)
+  pub is_within : IsArcWithin limits (unpacked a)
+  pub assignment : OnAssignment (problem_or_min o) (IsFlaggedPair listed a)
+
+abbrev UnitBounds : Format → ArcNumbers → Type 0
+UnitBounds p a = OnAssignment p ((a.low ≡ pos 0) × (a.cap ≡ pos 1))
+
+sides_fit : (h : Heading) (listed : List Bool) (a : PackedArc) → OnAssignment h.problem ((a.low ≡ pos 0) × (a.cap ≡ pos 1)) → is_wrong_side h listed a.src a.dst ≡ false → OnAssignment h.problem (IsFlaggedPair listed a)
+sides_fit h listed a unit right = at h.problem unit right
+  where
+    at : (p : Format) → OnAssignment p ((a.low ≡ pos 0) × (a.cap ≡ pos 1)) → is_wrong_side (record { problem = p; nodes = h.nodes; arcs = h.arcs }) listed a.src a.dst ≡ false → OnAssignment p (IsFlaggedPair listed a)
+    at Min u r = tt
+    at Asn u r = record { from_flagged = left (flag_at listed a.src) (flag_at listed a.dst) r; to_unflagged = right_of (flag_at listed a.src) (flag_at listed a.dst) r; low_is = u.0; cap_is = u.1 }
+      where
+        left : (x y : Bool) → (not x || y) ≡ false → x ≡ true
+        left true y e = refl
+        left false y e = cc
+
+        right_of : (x y : Bool) → (not x || y) ≡ false → y ≡ false
+        right_of true y e = e
+        right_of false y e = cc
+
+arc_tests_fit : (h : Heading) (arcs : ℕ) (listed : List Bool) (a : ArcNumbers) → UnitBounds h.problem a → IfOk (arc_tests limits h arcs listed a) (ArcFits (Some h) arcs listed)
+unfolding arc_tests
+arc_tests_fit h arcs listed a unit =
+    let P : PackedArc → Type 0 = ArcFits (Some h) arcs listed in
+    if_ok_node h a.src _ P (λ src src_low src_high.
+    if_ok_node h a.dst _ P (λ dst dst_low dst_high.
+    if_ok_test (not (is_up_to limits.bound a.low && is_up_to limits.bound a.cap)) _ _ P (λ bounds.
+    let both : (is_up_to limits.bound a.low && is_up_to limits.bound a.cap) ≡ true = unnot _ bounds in
+    if_ok_test (int_lt a.cap a.low) _ _ P (λ ordered.
+    if_ok_test (not (is_up_to limits.cost a.cost)) _ _ P (λ cost.
+    if_ok_test (nat_le h.arcs arcs) _ _ P (λ room.
+    if_ok_test (is_wrong_side h listed src dst) _ _ P (λ sides.
+    record {
+      room = more h.arcs arcs room;
+      ends = record { src_is_node = (src_low, src_high); dst_is_node = (dst_low, dst_high) };
+      is_within = record {
+        ordered = not_above a.low a.cap ordered;
+        low_small = up_to_is limits.bound a.low (first_of (is_up_to limits.bound a.low) _ both);
+        cap_small = up_to_is limits.bound a.cap (last_of (is_up_to limits.bound a.low) _ both);
+        cost_small = up_to_is limits.cost a.cost (unnot _ cost);
+      };
+      assignment = sides_fit h listed (record { src = src; dst = dst; low = a.low; cap = a.cap; cost = a.cost }) unit sides;
+    })))))))
+  where
+    more : (m n : ℕ) → nat_le m n ≡ false → n < m
+    more m n e = grind (arith, nat_tests)
+
+asn_arc_numbers : (fields : List (List ℕ)) → (length fields == 6) ≡ false → IfOk (arc_numbers fields) (λ a. (a.low ≡ pos 0) × (a.cap ≡ pos 1))
+asn_arc_numbers fields e =
+    let P : ArcNumbers → Type 0 = λ a. (a.low ≡ pos 0) × (a.cap ≡ pos 1) in
+    rw e (if_ok_bind (number_at fields 1) _ P (λ _. if_ok_bind (number_at fields 2) _ P (λ _. if_ok_bind (number_at fields 3) _ P (λ _. (refl, refl)))))
+
+arc_line_fits : (o : Option Heading) (arcs : ℕ) (listed : List Bool) (fields : List (List ℕ)) → IfOk (arc_line limits o arcs listed fields) (ArcFits o arcs listed)
+unfolding arc_line
+arc_line_fits None arcs listed fields =
+    if_ok_test (not (arc_count_fits None (length fields))) Fields (arc_numbers fields >>= λ a. with_heading None (λ h. arc_tests limits h arcs listed a)) (ArcFits None arcs listed)
+    (λ _. if_ok_bind (arc_numbers fields) (λ a. with_heading None (λ h. arc_tests limits h arcs listed a)) (ArcFits None arcs listed) (λ _. tt))
+arc_line_fits (Some h) arcs listed fields = at h.problem
+  where
+    at : (p : Format) → IfOk (arc_line limits (Some (record { problem = p; nodes = h.nodes; arcs = h.arcs })) arcs listed fields) (ArcFits (Some (record { problem = p; nodes = h.nodes; arcs = h.arcs })) arcs listed)
+    at Min =
+        let g : Heading = record { problem = Min; nodes = h.nodes; arcs = h.arcs } in
+        if_ok_test _ _ _ (ArcFits (Some g) arcs listed) (λ _. if_ok_bind (arc_numbers fields) _ (ArcFits (Some g) arcs listed) (λ a. arc_tests_fit g arcs listed a tt))
+    at Asn =
+        let g : Heading = record { problem = Asn; nodes = h.nodes; arcs = h.arcs } in
+        if_ok_test (not (length fields == 4)) _ _ (ArcFits (Some g) arcs listed) (λ count.
+        if_ok_then (arc_numbers fields) _ (λ a. (a.low ≡ pos 0) × (a.cap ≡ pos 1)) (ArcFits (Some g) arcs listed) (asn_arc_numbers fields (four_not_six (length fields) (unnot _ count))) (λ a unit. arc_tests_fit g arcs listed a unit))
+
+-- ---- any line
+
+no_heading : (o : Option Heading) → is_some o ≡ false → o ≡ None
+no_heading None e = refl
+no_heading (Some h) e = cc
+
+no_items : {X : Type 0} (xs : List X) → length xs ≡ 0 → xs ≡ []
+no_items [] e = refl
+no_items (x ∷ xs) e = absurd (omega arith)
+
+if_ok_item : (s : StateData) (fields : List (List ℕ)) → IfOk (item_of limits s fields) (ItemFits limits s)
+unfolding item_of
+if_ok_item s fields = go (bytes_eq (slice_index_or fields 0 []) (codes "p")) (bytes_eq (slice_index_or fields 0 []) (codes "n")) (bytes_eq (slice_index_or fields 0 []) (codes "a")) refl refl refl
+  where
+    go : (p n a : Bool) → bytes_eq (slice_index_or fields 0 []) (codes "p") ≡ p → bytes_eq (slice_index_or fields 0 []) (codes "n") ≡ n → bytes_eq (slice_index_or fields 0 []) (codes "a") ≡ a
+        → IfOk (item_of limits s fields) (ItemFits limits s)
+    go true n a e f g =
+        rw e (if_ok_then (problem_line (is_some s.heading) fields) _ _ (ItemFits limits s) (problem_fits (is_some s.heading) fields)
+        (λ h fit. record { first = no_heading s.heading fit.0; nodes_small = fit.1; arcs_small = fit.2 }))
+    go false true a e f g =
+        rw (e, f) (if_ok_then (node_line limits s.heading (length s.arcs) s.listed fields) _ _ (ItemFits limits s) (node_line_fits s.heading (length s.arcs) s.listed fields)
+        (λ n fit. record { low = fit.0; high = fit.1; before_arcs = no_items s.arcs fit.2; small = fit.3; assignment = fit.4 }))
+    go false false true e f g =
+        rw (e, f, g) (if_ok_then (arc_line limits s.heading (length s.arcs) s.listed fields) _ _ (ItemFits limits s) (arc_line_fits s.heading (length s.arcs) s.listed fields)
+        (λ a fit. record { room = fit.room; ends = fit.ends; is_within = fit.is_within; assignment = fit.assignment }))
+    go false false false e f g = rw (e, f, g) tt
+
+pub item_fits : (s : StateData) (fields : List (List ℕ)) (item : Item) → item_of limits s fields ≡ Ok item → ItemFits limits s item
+item_fits s fields item e = IfOk-at_ok (ItemFits limits s) e (if_ok_item s fields)

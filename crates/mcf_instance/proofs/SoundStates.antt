@@ -1,0 +1,187 @@
+-- The reader's states stay sound, and a sound state holds a well-formed instance.
+use Rattle.std.proofs.Common.{◌≡◌, ℕ, zero, suc, ◌-◌, ◌*◌, ◌≤◌, max, Bool, true, false, List, [], ◌∷◌, ◌++◌, map, length, get_or, set, replicate, refl, sym, ◌∙◌, ap, subst, inl, inr, Some, None, arith}
+use Rattle.std.specs.Prelude.{◌⊎◌, Option, ℤ, pos, negsuc, neg_ℤ, unsigned_abs, sum}
+use Rattle.std.specs.List.{All}
+use Rattle.std.proofs.lemmas.Int.{ints}
+use Rattle.std.proofs.lemmas.List.{length-map, length-set, length-replicate, map-append, map-set, get_or-map, length_push}
+use Rattle.std.proofs.lemmas.List.Elements.{All-nil, All-replicate, All-set, All-push, All-weaker, All-map}
+use Rattle.std.proofs.lemmas.List.Sums.{sum_by-le, sum-map}
+use Rattle.std.proofs.Math.Nat.{mul-le-mul}
+use Rattle.mcf_instance.specs.declared.arc.Arc.{Arc}
+use Rattle.mcf_instance.specs.declared.arc.PackedArc.{PackedArc}
+use Rattle.mcf_instance.specs.declared.problem.Problem.{Problem as Format}
+use Rattle.mcf_instance.specs.declared.problem.Problem.TheVariants.{Min, Asn}
+use Rattle.mcf_instance.specs.declared.reader.line.Heading.{Heading}
+use Rattle.mcf_instance.specs.Assignment.{OnAssignment, IsAssignment, IsPairing}
+use Rattle.mcf_instance.specs.Limits.{limits, wide_limits, total_limit, node_limit, arc_limit}
+use Rattle.mcf_instance.specs.LineReader.{flag_at}
+use Rattle.mcf_instance.specs.Network.{at_node}
+use Rattle.mcf_instance.specs.Packed.{unpacked}
+use Rattle.mcf_instance.specs.ReaderState.{default_supply, problem_or_min}
+use Rattle.mcf_instance.specs.ReaderSound.{HeadingFits, IsFlaggedPair, IsSound, IsSoundAssignment, LinkFits, SupplyFits, heading_arcs, heading_nodes, side_supply}
+use Rattle.mcf_instance.specs.WellFormed.{HasEnds, IsArcWithin, IsUpTo, IsWellFormed, weight}
+
+-- ---- a problem line
+
+no_arcs : (arcs : List PackedArc) → length arcs ≤ 0 → arcs ≡ []
+no_arcs [] h = refl
+no_arcs (a ∷ arcs) h = absurd (omega arith)
+
+map-replicate : {X Y : Type 0} (f : X → Y) (n : ℕ) (x : X) → map f (replicate n x) ≡ replicate n (f x)
+map-replicate f zero x = refl
+map-replicate f (suc n) x = ap (λ ys. f x ∷ ys) (map-replicate f n x)
+
+default_small : (p : Format) → IsUpTo limits.supply (default_supply p)
+default_small Min = (omega (arith, ints), omega (arith, ints))
+default_small Asn = (omega (arith, ints), omega (arith, ints))
+
+sides_at_first : (p : Format) (n : ℕ) → OnAssignment p (IsSoundAssignment (replicate n false) (replicate n (default_supply p)) [])
+sides_at_first Min n = tt
+sides_at_first Asn n = record { supplies_are = sym (map-replicate side_supply n false); pairings = All-nil _ }
+
+first_heading : (h : Heading) → h.nodes ≤ node_limit → h.arcs ≤ arc_limit → IsSound limits (Some h) (replicate h.nodes false) (replicate h.nodes (default_supply h.problem)) []
+first_heading h nodes arcs =
+    record {
+      nodes_small = nodes;
+      arcs_small = arcs;
+      one_flag_a_node = length-replicate h.nodes false;
+      one_supply_a_node = length-replicate h.nodes (default_supply h.problem);
+      arc_room = omega arith;
+      ends = All-nil _;
+      arcs_within = All-nil _;
+      supplies_within = All-replicate (IsUpTo limits.supply) h.nodes (default_supply h.problem) (default_small h.problem);
+      assignment = sides_at_first h.problem h.nodes;
+    }
+
+pub sound_heading : (o : Option Heading) (listed : List Bool) (supplies : List ℤ) (arcs : List PackedArc) (h : Heading) → IsSound limits o listed supplies arcs → HeadingFits o h
+    → IsSound limits (Some h) (replicate h.nodes false) (replicate h.nodes (default_supply h.problem)) arcs
+sound_heading o listed supplies arcs h sound fits =
+    let none : length arcs ≤ heading_arcs None = subst (λ p. length arcs ≤ heading_arcs p) fits.first sound.arc_room in
+    subst (λ xs. IsSound limits (Some h) (replicate h.nodes false) (replicate h.nodes (default_supply h.problem)) xs) (sym (no_arcs arcs none)) (first_heading h fits.nodes_small fits.arcs_small)
+
+-- ---- a node line
+
+sides_after : (p : Format) (listed : List Bool) (supplies : List ℤ) (k : ℕ) (z : ℤ) → OnAssignment p (IsSoundAssignment listed supplies []) → OnAssignment p (z ≡ pos 1)
+    → OnAssignment p (IsSoundAssignment (set listed k true) (set supplies k z) [])
+sides_after Min listed supplies k z h e = tt
+sides_after Asn listed supplies k z h e =
+    record {
+      supplies_are = ap (λ x. set supplies k x) e ∙ ap (λ xs. set xs k (pos 1)) h.supplies_are ∙ sym (map-set side_supply listed k true);
+      pairings = All-nil _;
+    }
+
+pub sound_supply : (o : Option Heading) (listed : List Bool) (supplies : List ℤ) (arcs : List PackedArc) (v : ℕ) (z : ℤ) → IsSound limits o listed supplies arcs → SupplyFits limits o arcs v z
+    → IsSound limits o (set listed (v - 1) true) (set supplies (v - 1) z) arcs
+sound_supply o listed supplies arcs v z sound fits =
+    record {
+      nodes_small = sound.nodes_small;
+      arcs_small = sound.arcs_small;
+      one_flag_a_node = length-set listed (v - 1) true ∙ sound.one_flag_a_node;
+      one_supply_a_node = length-set supplies (v - 1) z ∙ sound.one_supply_a_node;
+      arc_room = sound.arc_room;
+      ends = sound.ends;
+      arcs_within = sound.arcs_within;
+      supplies_within = All-set (IsUpTo limits.supply) supplies (v - 1) z fits.small sound.supplies_within;
+      assignment = subst (λ xs. OnAssignment (problem_or_min o) (IsSoundAssignment (set listed (v - 1) true) (set supplies (v - 1) z) xs)) (sym fits.before_arcs)
+          (sides_after (problem_or_min o) listed supplies (v - 1) z (subst (λ xs. OnAssignment (problem_or_min o) (IsSoundAssignment listed supplies xs)) fits.before_arcs sound.assignment) fits.assignment);
+    }
+
+-- ---- an arc line
+
+push_arc : (P : Arc → Type 0) (arcs : List PackedArc) (a : PackedArc) → All P (map unpacked arcs) → P (unpacked a) → All P (map unpacked (arcs ++ a ∷ []))
+push_arc P arcs a all h = rw (map-append unpacked arcs (a ∷ [])) (All-push P (map unpacked arcs) (unpacked a) all h)
+
+flag_supply : (listed : List Bool) (v : ℕ) → 1 ≤ v → v ≤ length listed → at_node (map side_supply listed) v ≡ side_supply (flag_at listed v)
+flag_supply listed v low high = get_or-map side_supply listed (v - 1) false (pos 0) (omega arith)
+
+sides_with_arc : (p : Format) (listed : List Bool) (supplies : List ℤ) (arcs : List PackedArc) (a : PackedArc) (n : ℕ) → length listed ≡ n → HasEnds n (unpacked a)
+    → OnAssignment p (IsSoundAssignment listed supplies arcs) → OnAssignment p (IsFlaggedPair listed a) → OnAssignment p (IsSoundAssignment listed supplies (arcs ++ a ∷ []))
+sides_with_arc Min listed supplies arcs a n long ends h pair = tt
+sides_with_arc Asn listed supplies arcs a n long ends h pair =
+    record {
+      supplies_are = h.supplies_are;
+      pairings = push_arc (IsPairing supplies) arcs a h.pairings record {
+        from_row = ap (λ xs. at_node xs a.src) h.supplies_are ∙ flag_supply listed a.src ends.src_is_node.0 (omega (arith, ends.src_is_node.1)) ∙ ap side_supply pair.from_flagged;
+        to_column = ap (λ xs. at_node xs a.dst) h.supplies_are ∙ flag_supply listed a.dst ends.dst_is_node.0 (omega (arith, ends.dst_is_node.1)) ∙ ap side_supply pair.to_unflagged;
+        low_is = pair.low_is;
+        cap_is = pair.cap_is;
+      };
+    }
+
+pub sound_link : (o : Option Heading) (listed : List Bool) (supplies : List ℤ) (arcs : List PackedArc) (a : PackedArc) → IsSound limits o listed supplies arcs → LinkFits limits o listed arcs a
+    → IsSound limits o listed supplies (arcs ++ a ∷ [])
+sound_link o listed supplies arcs a sound fits =
+    record {
+      nodes_small = sound.nodes_small;
+      arcs_small = sound.arcs_small;
+      one_flag_a_node = sound.one_flag_a_node;
+      one_supply_a_node = sound.one_supply_a_node;
+      arc_room = let more = length_push arcs a in omega (arith, fits.room);
+      ends = push_arc (HasEnds (heading_nodes o)) arcs a sound.ends fits.ends;
+      arcs_within = push_arc (IsArcWithin limits) arcs a sound.arcs_within fits.is_within;
+      supplies_within = sound.supplies_within;
+      assignment = sides_with_arc (problem_or_min o) listed supplies arcs a (heading_nodes o) sound.one_flag_a_node fits.ends sound.assignment fits.assignment;
+    }
+
+-- ---- the instance at the end
+
+up_to_wide : (b c : ℕ) (z : ℤ) → b ≤ c → IsUpTo b z → IsUpTo c z
+up_to_wide b c z h u = (omega (arith, ints, u.0), omega (arith, ints, u.1))
+
+arc_wide : (a : Arc) → IsArcWithin limits a → IsArcWithin wide_limits a
+arc_wide a h =
+    record {
+      ordered = h.ordered;
+      low_small = up_to_wide limits.bound wide_limits.bound a.low (omega arith) h.low_small;
+      cap_small = up_to_wide limits.bound wide_limits.bound a.cap (omega arith) h.cap_small;
+      cost_small = up_to_wide limits.cost wide_limits.cost a.cost (omega arith) h.cost_small;
+    }
+
+size_up_to : (b : ℕ) (z : ℤ) → IsUpTo b z → unsigned_abs z ≤ b
+size_up_to b (pos n) h = omega (arith, ints, h.0, h.1)
+size_up_to b (negsuc n) h = omega (arith, ints, h.0, h.1)
+
+weight_small : (a : Arc) → IsArcWithin limits a → weight a ≤ limits.cost * limits.bound
+weight_small a h =
+    let cost = size_up_to limits.cost a.cost h.cost_small in
+    let low = size_up_to limits.bound a.low h.low_small in
+    let cap = size_up_to limits.bound a.cap h.cap_small in
+    let most : max (unsigned_abs a.low) (unsigned_abs a.cap) ≤ limits.bound = omega arith in
+    mul-le-mul cost most
+
+total_small : (arcs : List Arc) → length arcs ≤ arc_limit → All (IsArcWithin limits) arcs → sum (map weight arcs) ≤ total_limit
+total_small arcs few within =
+    let each = sum_by-le weight (limits.cost * limits.bound) arcs (All-weaker (IsArcWithin limits) (λ a. weight a ≤ limits.cost * limits.bound) weight_small arcs within) in
+    let same = sum-map weight arcs in
+    omega arith
+
+side_supply_is : (b : Bool) → (side_supply b ≡ pos 1) ⊎ (side_supply b ≡ neg_ℤ (pos 1))
+side_supply_is true = inl refl
+side_supply_is false = inr refl
+
+assignment_at_end : (p : Format) (listed : List Bool) (supplies : List ℤ) (arcs : List PackedArc) → OnAssignment p (IsSoundAssignment listed supplies arcs)
+    → OnAssignment p (IsAssignment (record { problem = p; arcs = map unpacked arcs; supplies = supplies }))
+assignment_at_end Min listed supplies arcs h = tt
+assignment_at_end Asn listed supplies arcs h =
+    record {
+      each_supply = let P : ℤ → Type 0 = λ b. (b ≡ pos 1) ⊎ (b ≡ neg_ℤ (pos 1)) in subst (λ xs. All P xs) (sym h.supplies_are) (All-map P side_supply listed (λ k d l. side_supply_is (get_or listed k d)));
+      each_arc = h.pairings;
+    }
+
+pub well_formed : (h : Heading) (listed : List Bool) (supplies : List ℤ) (arcs : List PackedArc) → IsSound limits (Some h) listed supplies arcs
+    → IsWellFormed limits (record { problem = h.problem; arcs = map unpacked arcs; supplies = supplies })
+well_formed h listed supplies arcs sound =
+    let nodes : length supplies ≡ h.nodes = sound.one_supply_a_node in
+    let few : length (map unpacked arcs) ≤ arc_limit = rw (length-map arcs unpacked) (omega (arith, sound.arc_room, sound.arcs_small)) in
+    record {
+      nodes = omega (arith, sound.nodes_small);
+      arcs = few;
+      ends = subst (λ n. All (HasEnds n) (map unpacked arcs)) (sym nodes) sound.ends;
+      within = record { arcs = sound.arcs_within; supplies = sound.supplies_within };
+      within_wide = record {
+        arcs = All-weaker (IsArcWithin limits) (IsArcWithin wide_limits) arc_wide (map unpacked arcs) sound.arcs_within;
+        supplies = All-weaker (IsUpTo limits.supply) (IsUpTo wide_limits.supply) (λ z u. up_to_wide limits.supply wide_limits.supply z (omega arith) u) supplies sound.supplies_within;
+      };
+      total = total_small (map unpacked arcs) few sound.arcs_within;
+      assignment = assignment_at_end h.problem listed supplies arcs sound.assignment;
+    }

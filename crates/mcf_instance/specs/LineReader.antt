@@ -1,0 +1,120 @@
+-- What a line says, read in the order of the reader's tests.
+use Rattle.std.specs.Prelude.{ℕ, ◌+◌, ◌-◌, ◌^◌, ◌==◌, nat_le, nat_lt, Bool, false, not, ◌&&◌, ◌||◌, if◌then◌else◌, List, [], length, bytes_eq, codes, slice_index_or, ℤ, pos, int_lt, Option, Some, None, Result, Ok, Err}
+use Rattle.mcf_instance.specs.declared.arc.PackedArc.{PackedArc}
+use Rattle.mcf_instance.specs.declared.code.Code.{Code}
+use Rattle.mcf_instance.specs.declared.code.Code.TheVariants.{Fields, Problem, Number, SecondP, BeforeP, Size, Node, LateN, Twice, Supply, Bound, Order, Cost, Extra, Side}
+use Rattle.mcf_instance.specs.declared.problem.Problem.{Problem as Format}
+use Rattle.mcf_instance.specs.declared.problem.Problem.TheVariants.{Min, Asn}
+use Rattle.mcf_instance.specs.declared.reader.line.Heading.{Heading}
+use Rattle.mcf_instance.specs.declared.reader.line.ArcNumbers.{ArcNumbers}
+use Rattle.mcf_instance.specs.Fault.{is_min, is_up_to}
+use Rattle.mcf_instance.specs.Limits.{Limits, node_limit, arc_limit}
+use Rattle.mcf_text.specs.Row.{natural}
+use Rattle.mcf_text.specs.Whole.{is_whole, is_within, whole_value}
+
+-- goes on with the value of the first step
+infixl 10 ◌>>=◌
+abbrev pub ◌>>=◌ : {A B : Type 0} → Result A Code → (A → Result B Code) → Result B Code
+(Ok x) >>= f = f x
+(Err e) >>= f = Err e
+
+-- how far from 0 the numbers lie that are kept as they are
+abbrev pub kept_size : ℕ
+kept_size = 10 ^ 18
+
+-- a number, or one past every range where it is far from 0
+abbrev pub clamped : ℤ → ℤ
+clamped z = if is_up_to kept_size z then z else pos (10 ^ 18 + 1)
+
+-- the number of a field
+unfoldable pub number_at : List (List ℕ) → ℕ → Result ℤ Code
+number_at fields k =
+    if is_whole (slice_index_or fields k []) then Ok (clamped (whole_value (slice_index_or fields k []))) else Err Number
+
+unfoldable pub problem_at : List ℕ → Result Format Code
+problem_at word = if bytes_eq word (codes "min") then Ok Min else (if bytes_eq word (codes "asn") then Ok Asn else Err Problem)
+
+-- ---- problem lines
+
+unfoldable pub problem_line : Bool → List (List ℕ) → Result Heading Code
+problem_line seen fields =
+    if not (length fields == 4) then Err Fields
+    else problem_at (slice_index_or fields 1 []) >>= λ problem.
+    number_at fields 2 >>= λ nodes.
+    number_at fields 3 >>= λ arcs.
+    (if seen then Err SecondP
+    else (if not (is_within (pos 0) (pos node_limit) nodes && is_within (pos 0) (pos arc_limit) arcs) then Err Size
+    else Ok (record { problem = problem; nodes = natural nodes; arcs = natural arcs })))
+
+-- ---- node lines
+
+abbrev pub node_count_fits : Option Heading → ℕ → Bool
+node_count_fits None n = n == 3 || n == 2
+node_count_fits (Some h) n = if is_min h.problem then n == 3 else n == 2
+
+-- the numbers of a node line: its node and its supply
+abbrev pub node_numbers : List (List ℕ) → Result (ℤ × ℤ) Code
+node_numbers fields =
+    number_at fields 1 >>= λ node.
+    (if length fields == 3 then (number_at fields 2 >>= λ supply. Ok (node, supply)) else Ok (node, pos 1))
+
+abbrev pub flag_at : List Bool → ℕ → Bool
+flag_at flags v = slice_index_or flags (v - 1) false
+
+-- a number as a node
+abbrev pub node_at : Heading → ℤ → Result ℕ Code
+node_at h z = if is_within (pos 1) (pos h.nodes) z then Ok (natural z) else Err Node
+
+unfoldable pub node_tests : Limits → Heading → ℕ → List Bool → ℤ → ℤ → Result (ℕ × ℤ) Code
+node_tests limits h arcs listed node supply =
+    node_at h node >>= λ v.
+    (if nat_lt 0 arcs then Err LateN
+    else (if flag_at listed v then Err Twice
+    else (if not (is_up_to limits.supply supply) then Err Supply
+    else Ok (v, supply))))
+
+abbrev pub with_heading : {X : Type 0} → Option Heading → (Heading → Result X Code) → Result X Code
+with_heading None f = Err BeforeP
+with_heading (Some h) f = f h
+
+unfoldable pub node_line : Limits → Option Heading → ℕ → List Bool → List (List ℕ) → Result (ℕ × ℤ) Code
+node_line limits heading arcs listed fields =
+    if not (node_count_fits heading (length fields)) then Err Fields
+    else (node_numbers fields >>= λ n. with_heading heading (λ h. node_tests limits h arcs listed n.0 n.1))
+
+-- ---- arc lines
+
+abbrev pub arc_count_fits : Option Heading → ℕ → Bool
+arc_count_fits None n = n == 6 || n == 4
+arc_count_fits (Some h) n = if is_min h.problem then n == 6 else n == 4
+
+-- the numbers of an arc line of either problem
+abbrev pub arc_numbers : List (List ℕ) → Result ArcNumbers Code
+arc_numbers fields =
+    number_at fields 1 >>= λ src.
+    number_at fields 2 >>= λ dst.
+    number_at fields 3 >>= λ third.
+    (if length fields == 6 then
+    (number_at fields 4 >>= λ cap.
+    number_at fields 5 >>= λ cost.
+    Ok (record { src = src; dst = dst; low = third; cap = cap; cost = cost }))
+    else Ok (record { src = src; dst = dst; low = pos 0; cap = pos 1; cost = third }))
+
+abbrev pub is_wrong_side : Heading → List Bool → ℕ → ℕ → Bool
+is_wrong_side h listed src dst = not (is_min h.problem) && (not (flag_at listed src) || flag_at listed dst)
+
+unfoldable pub arc_tests : Limits → Heading → ℕ → List Bool → ArcNumbers → Result PackedArc Code
+arc_tests limits h arcs listed a =
+    node_at h a.src >>= λ src.
+    node_at h a.dst >>= λ dst.
+    (if not (is_up_to limits.bound a.low && is_up_to limits.bound a.cap) then Err Bound
+    else (if int_lt a.cap a.low then Err Order
+    else (if not (is_up_to limits.cost a.cost) then Err Cost
+    else (if nat_le h.arcs arcs then Err Extra
+    else (if is_wrong_side h listed src dst then Err Side
+    else Ok (record { src = src; dst = dst; low = a.low; cap = a.cap; cost = a.cost }))))))
+
+unfoldable pub arc_line : Limits → Option Heading → ℕ → List Bool → List (List ℕ) → Result PackedArc Code
+arc_line limits heading arcs listed fields =
+    if not (arc_count_fits heading (length fields)) then Err Fields
+    else (arc_numbers fields >>= λ a. with_heading heading (λ h. arc_tests limits h arcs listed a))

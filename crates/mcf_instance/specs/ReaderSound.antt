@@ -1,0 +1,73 @@
+-- What every state of the reader keeps, and what a line must say for it to stay so.
+use Rattle.std.specs.Prelude.{◌≡◌, ℕ, ◌<◌, ◌≤◌, Bool, true, false, if◌then◌else◌, List, [], map, length, ℤ, pos, neg_ℤ, Option, Some, None}
+use Rattle.std.specs.List.{All}
+use Rattle.mcf_instance.specs.declared.arc.PackedArc.{PackedArc}
+use Rattle.mcf_instance.specs.declared.reader.line.Heading.{Heading}
+use Rattle.mcf_instance.specs.declared.reader.line.Item.{Item}
+use Rattle.mcf_instance.specs.declared.reader.line.Item.TheVariants.{Problem, Supply, Link}
+use Rattle.mcf_instance.specs.Assignment.{OnAssignment, IsPairing}
+use Rattle.mcf_instance.specs.Limits.{Limits, node_limit, arc_limit}
+use Rattle.mcf_instance.specs.LineReader.{flag_at}
+use Rattle.mcf_instance.specs.Packed.{unpacked}
+use Rattle.mcf_instance.specs.ReaderState.{StateData, problem_or_min}
+use Rattle.mcf_instance.specs.WellFormed.{HasEnds, IsArcWithin, IsUpTo}
+
+-- the nodes and the arcs of a heading, none without one
+abbrev pub heading_nodes : Option Heading → ℕ
+heading_nodes None = 0
+heading_nodes (Some h) = h.nodes
+
+abbrev pub heading_arcs : Option Heading → ℕ
+heading_arcs None = 0
+heading_arcs (Some h) = h.arcs
+
+-- the supply of a node of an assignment, by whether it has a node line
+abbrev pub side_supply : Bool → ℤ
+side_supply b = if b then pos 1 else neg_ℤ (pos 1)
+
+pub record IsSoundAssignment (listed : List Bool) (supplies : List ℤ) (arcs : List PackedArc) : Type 0 where
+  pub supplies_are : supplies ≡ map side_supply listed
+  pub pairings : All (IsPairing supplies) (map unpacked arcs)
+
+pub record IsSound (limits : Limits) (heading : Option Heading) (listed : List Bool) (supplies : List ℤ) (arcs : List PackedArc) : Type 0 where
+  pub nodes_small : heading_nodes heading ≤ node_limit
+  pub arcs_small : heading_arcs heading ≤ arc_limit
+  pub one_flag_a_node : length listed ≡ heading_nodes heading
+  pub one_supply_a_node : length supplies ≡ heading_nodes heading
+  pub arc_room : length arcs ≤ heading_arcs heading
+  pub ends : All (HasEnds (heading_nodes heading)) (map unpacked arcs)
+  pub arcs_within : All (IsArcWithin limits) (map unpacked arcs)
+  pub supplies_within : All (IsUpTo limits.supply) supplies
+  pub assignment : OnAssignment (problem_or_min heading) (IsSoundAssignment listed supplies arcs)
+
+-- ---- what a line may say
+
+pub record HeadingFits (heading : Option Heading) (h : Heading) : Type 0 where
+  pub first : heading ≡ None
+  pub nodes_small : h.nodes ≤ node_limit
+  pub arcs_small : h.arcs ≤ arc_limit
+
+pub record SupplyFits (limits : Limits) (heading : Option Heading) (arcs : List PackedArc) (v : ℕ) (z : ℤ) : Type 0 where
+  pub low : 1 ≤ v
+  pub high : v ≤ heading_nodes heading
+  pub before_arcs : arcs ≡ []
+  pub small : IsUpTo limits.supply z
+  pub assignment : OnAssignment (problem_or_min heading) (z ≡ pos 1)
+
+-- an arc of an assignment from a node with a node line to one without
+pub record IsFlaggedPair (listed : List Bool) (a : PackedArc) : Type 0 where
+  pub from_flagged : flag_at listed a.src ≡ true
+  pub to_unflagged : flag_at listed a.dst ≡ false
+  pub low_is : a.low ≡ pos 0
+  pub cap_is : a.cap ≡ pos 1
+
+pub record LinkFits (limits : Limits) (heading : Option Heading) (listed : List Bool) (arcs : List PackedArc) (a : PackedArc) : Type 0 where
+  pub room : length arcs < heading_arcs heading
+  pub ends : HasEnds (heading_nodes heading) (unpacked a)
+  pub is_within : IsArcWithin limits (unpacked a)
+  pub assignment : OnAssignment (problem_or_min heading) (IsFlaggedPair listed a)
+
+abbrev pub ItemFits : Limits → StateData → Item → Type 0
+ItemFits limits s (Problem h) = HeadingFits s.heading h
+ItemFits limits s (Supply v z) = SupplyFits limits s.heading s.arcs v z
+ItemFits limits s (Link a) = LinkFits limits s.heading s.listed s.arcs a

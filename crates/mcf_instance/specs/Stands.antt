@@ -1,0 +1,43 @@
+-- The lines that a state of the reader stands for.
+use Rattle.std.specs.Prelude.{◌≡◌, ℕ, ◌+◌, if◌then◌else◌, List, [], ◌++◌, map, length, filter, slice_get, Option, Some, None}
+use Rattle.std.specs.List.{range_with_len}
+use Rattle.mcf_instance.specs.declared.reader.line.Heading.{Heading}
+use Rattle.mcf_instance.specs.Fault.{Header, arc_lines, faults, has_p, header, is_listed}
+use Rattle.mcf_instance.specs.Limits.{Limits}
+use Rattle.mcf_instance.specs.Packed.{unpacked}
+use Rattle.mcf_instance.specs.Reading.{arc_of, supply_of}
+use Rattle.mcf_instance.specs.ReaderState.{StateData}
+use Rattle.mcf_text.specs.Fields.{is_kept}
+use Rattle.mcf_text.specs.Lines.{numbered_lines}
+use Rattle.mcf_text.specs.Row.{Row, row_of}
+
+-- what a problem line says, as it is stored
+abbrev pub heading_of : Header → Heading
+heading_of h = record { problem = h.problem; nodes = h.nodes; arcs = h.arcs }
+
+abbrev pub heading_seen : List Row → Option Heading
+heading_seen lines = if has_p lines then Some (heading_of (header lines)) else None
+
+-- the state of lines without a fault
+pub record Holds (s : StateData) (lines : List Row) : Type 0 where
+  pub first_is_heading : s.heading ≡ None → lines ≡ []
+  pub heading_is : s.heading ≡ heading_seen lines
+  pub listed_is : s.listed ≡ map (is_listed lines) (range_with_len 1 (header lines).nodes)
+  pub supplies_are : s.supplies ≡ map (supply_of (header lines).problem lines) (range_with_len 1 (header lines).nodes)
+  pub arcs_are : map unpacked s.arcs ≡ map (arc_of (header lines).problem) (arc_lines lines)
+
+-- the state refuses with the first fault of the lines, and where there is none holds what they say
+pub record Stands (limits : Limits) (s : StateData) (lines : List Row) : Type 0 where
+  pub refusal_is : s.refusal ≡ slice_get (faults limits lines) 0
+  pub holds : s.refusal ≡ None → Holds s lines
+
+-- the kept ones of some numbered lines, as rows
+abbrev pub kept_rows : List (ℕ × List ℕ) → List Row
+kept_rows lines = map row_of (filter (λ line. is_kept line.1) lines)
+
+-- the state stands for the lines of the text before the rest, and the rest begins at this number
+pub record HasRead (limits : Limits) (text : List ℕ) (s : StateData) (next : ℕ) (rest : List (ℕ × List ℕ)) : Type 0 where
+  pub before : List (ℕ × List ℕ)
+  pub joined : numbered_lines 1 text ≡ before ++ rest
+  pub next_is : next ≡ 1 + length before
+  pub stands : Stands limits s (kept_rows before)

@@ -1,0 +1,42 @@
+//! The one-pass reader of instance texts.
+ghost use Rattle.std.specs.Prelude.{◌≡◌, IfOk, IsTrue, OnErr};
+ghost use Rattle.std.specs.List.{list_any};
+ghost use Rattle.mcf_instance.specs.Fault.{is_good_header};
+ghost use Rattle.mcf_instance.specs.Limits.{limits};
+ghost use Rattle.mcf_instance.specs.Reading.{reading};
+ghost use Rattle.mcf_text.specs.Row.{rows};
+
+mod fields;
+mod line;
+mod state;
+
+use crate::instances::Instance;
+use crate::reader::state::State;
+use crate::refusal::Refusal;
+use mcf_text::{NoMemory, is_kept, lines};
+use std::alloc::Global;
+
+/// The instance that a text stands for, or its first fault.
+///
+/// The text is in the extended DIMACS format: a line `p min NODES ARCS` or `p asn NODES ARCS`, then node
+/// lines, then arc lines, with comments and blank lines anywhere. It is read once, from the front; what
+/// follows the first faulty line is never looked at. Memory is taken for the nodes that the problem line
+/// names and for the arcs that come, and not for those that it names; a text without a good problem line
+/// wants none.
+pub fn read(alloc: Global, text: &[u8]) -> Result<Result<Instance, Refusal>, NoMemory>
+    ensures exact { IfOk result (λ outcome. outcome ≡ reading limits text.now) }
+    ensures wants { OnErr result (IsTrue (list_any is_good_header (rows text.now))) }
+{
+    let mut state = State::new(alloc);
+    let mut next = 1;
+    for line in lines(text) {
+        if is_kept(line.bytes) {
+            state.step(alloc, line.number, line.bytes)?;
+            if let Some(refusal) = state.refusal() {
+                return Ok(Err(refusal));
+            }
+        }
+        next = line.number + 1;
+    }
+    Ok(state.finish(next))
+}

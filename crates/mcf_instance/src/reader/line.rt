@@ -1,0 +1,356 @@
+//! What one line says: the tests of its fields, in the order in which faults are looked for.
+ghost use Rattle.std.specs.Prelude.{◌≡◌, ◌≤ℤ◌, ◌<ℤ◌, map, length, bytes_eq, codes, pos, ◌<◌, ◌^◌, ◌≤◌, ◌⊎◌, ◌&&◌, IfSome, IfOk};
+ghost use Rattle.mcf_instance.specs.Fault.{is_up_to};
+ghost use Rattle.mcf_instance.specs.Limits.{limits};
+ghost use Rattle.mcf_instance.specs.LineReader.{number_at, problem_at, problem_line as problem_reading, node_count_fits as node_count_fits_lem, node_numbers as node_number_reading, node_tests as node_testing, node_at, node_line as node_reading, flag_at, arc_count_fits as arc_count_fits_lem, arc_numbers as arc_number_reading, is_wrong_side, arc_tests as arc_testing, arc_line as arc_reading};
+ghost use Rattle.mcf_text.specs.Row.{natural};
+ghost use Rattle.mcf_text.specs.Whole.{is_within};
+
+use crate::arc::PackedArc;
+use crate::code::Code;
+use crate::problem::Problem;
+use mcf_text::{Whole, whole};
+
+// How many nodes and arcs there may be.
+const NODE_LIMIT: i64 = 1_000_000;
+
+const ARC_LIMIT: i64 = 10_000_000;
+
+// How far from 0 a supply, a bound and a cost may lie.
+const SUPPLY_LIMIT: i64 = 1_000_000_000_000_000;
+
+const BOUND_LIMIT: i64 = 1_000_000_000_000_000;
+
+const COST_LIMIT: i64 = 1_000_000_000_000;
+
+// How far from 0 the numbers lie that are kept as they are, and what stands for the others.
+const KEPT_SIZE: i128 = 1_000_000_000_000_000_000;
+
+const PAST_EVERY_RANGE: i64 = 1_000_000_000_000_000_001;
+
+/// What a problem line says.
+#[derive(Clone, Copy)]
+pub(crate) struct Heading {
+    pub(crate) problem: Problem,
+    pub(crate) nodes: u32,
+    pub(crate) arcs: u32,
+}
+
+/// The numbers of an arc line.
+#[derive(Clone, Copy)]
+pub(crate) struct ArcNumbers {
+    pub(crate) src: i64,
+    pub(crate) dst: i64,
+    pub(crate) low: i64,
+    pub(crate) cap: i64,
+    pub(crate) cost: i64,
+}
+
+/// What a good line says.
+#[derive(Clone, Copy)]
+pub(crate) enum Item {
+    Problem(Heading),
+    Supply(u32, i64),
+    Link(PackedArc),
+}
+
+pub(crate) fn is_word(field: &[u8], word: &[u8]) -> bool
+    ensures { result ≡ bytes_eq field.now word.now }
+{
+    field == word
+}
+
+fn is_within(low: i64, high: i64, value: i64) -> bool
+    ensures { result ≡ is_within low high value }
+{
+    low <= value && value <= high
+}
+
+// The number that a field says, or one past every range.
+#[tactic(auto, unfolding(crate::specs::LineReader::number_at))]
+fn number_of(fields: &[&[u8]], k: usize) -> Result<i64, Code>
+    requires { k < length fields.now }
+    ensures { result ≡ number_at (map (λ f. f.now) fields.now) k }
+{
+    match whole(fields[k], -KEPT_SIZE, KEPT_SIZE) {
+        Whole::Value(value) => Ok(value as i64),
+        Whole::OutOfRange => Ok(PAST_EVERY_RANGE),
+        Whole::NotWhole => Err(Code::Number),
+    }
+}
+
+#[tactic(auto, unfolding(crate::specs::LineReader::problem_at))]
+fn problem_of(word: &[u8]) -> Result<Problem, Code>
+    ensures { result ≡ problem_at word.now }
+{
+    if is_word(word, b"min") {
+        Ok(Problem::Min)
+    } else if is_word(word, b"asn") {
+        Ok(Problem::Asn)
+    } else {
+        Err(Code::Problem)
+    }
+}
+
+#[tactic(auto, unfolding(crate::specs::LineReader::problem_line))]
+pub(crate) fn problem_line(is_seen: bool, fields: &[&[u8]]) -> Result<Heading, Code>
+    ensures { result ≡ problem_reading is_seen (map (λ f. f.now) fields.now) }
+{
+    if fields.len() != 4 {
+        return Err(Code::Fields);
+    }
+    let problem = problem_of(fields[1])?;
+    let nodes = number_of(fields, 2)?;
+    let arcs = number_of(fields, 3)?;
+    if is_seen {
+        return Err(Code::SecondP);
+    }
+    if !(is_within(0, NODE_LIMIT, nodes) && is_within(0, ARC_LIMIT, arcs)) {
+        return Err(Code::Size);
+    }
+    Ok(Heading {
+        problem,
+        nodes: nodes as u32,
+        arcs: arcs as u32,
+    })
+}
+
+fn is_up_to(size: i64, value: i64) -> bool
+    requires { (pos 0 ≤ℤ size) × (size <ℤ pos (2 ^ 63)) }
+    ensures { result ≡ is_up_to (natural size) value }
+{
+    is_within(-size, size, value)
+}
+
+fn are_both_up_to(size: i64, first: i64, second: i64) -> bool
+    requires { (pos 0 ≤ℤ size) × (size <ℤ pos (2 ^ 63)) }
+    ensures { result ≡ is_up_to (natural size) first && is_up_to (natural size) second }
+{
+    is_up_to(size, first) && is_up_to(size, second)
+}
+
+fn is_flagged(flags: &[bool], node: u32) -> bool
+    requires { (1 ≤ node) × (node ≤ length flags.now) }
+    ensures { result ≡ flag_at flags.now node }
+{
+    flags[node as usize - 1]
+}
+
+// A number as a node of the instance.
+fn node_of(heading: Heading, value: i64) -> Result<u32, Code>
+    ensures exact { result ≡ node_at heading value }
+    ensures in_range { IfOk result (λ v. (1 ≤ v) × (v ≤ heading.nodes)) }
+{
+    if is_within(1, i64::from(heading.nodes), value) {
+        Ok(value as u32)
+    } else {
+        Err(Code::Node)
+    }
+}
+
+fn node_count_fits(heading: Option<Heading>, count: usize) -> bool
+    ensures { result ≡ node_count_fits_lem heading count }
+{
+    match heading {
+        None => count == 3 || count == 2,
+        Some(
+            Heading {
+                problem: Problem::Min,
+                ..
+            },
+        ) => count == 3,
+        Some(
+            Heading {
+                problem: Problem::Asn,
+                ..
+            },
+        ) => count == 2,
+    }
+}
+
+fn node_numbers(fields: &[&[u8]]) -> Result<(i64, i64), Code>
+    requires { (length fields.now ≡ 2) ⊎ (length fields.now ≡ 3) }
+    ensures { result ≡ node_number_reading (map (λ f. f.now) fields.now) }
+{
+    let node = number_of(fields, 1)?;
+    if fields.len() == 3 {
+        let supply = number_of(fields, 2)?;
+        Ok((node, supply))
+    } else {
+        Ok((node, 1))
+    }
+}
+
+#[tactic(auto, unfolding(crate::specs::LineReader::node_tests))]
+fn node_tests(
+    heading: Heading,
+    arcs: usize,
+    listed: &[bool],
+    node: i64,
+    supply: i64,
+) -> Result<(u32, i64), Code>
+    requires { length listed.now ≡ heading.nodes }
+    ensures { result ≡ node_testing limits heading arcs listed.now node supply }
+{
+    let node = node_of(heading, node)?;
+    if 0 < arcs {
+        return Err(Code::LateN);
+    }
+    if is_flagged(listed, node) {
+        return Err(Code::Twice);
+    }
+    if !is_up_to(SUPPLY_LIMIT, supply) {
+        return Err(Code::Supply);
+    }
+    Ok((node, supply))
+}
+
+/// What a node line says: its node and its supply.
+#[tactic(auto, unfolding(crate::specs::LineReader::node_line))]
+pub(crate) fn node_line(
+    heading: Option<Heading>,
+    arcs: usize,
+    listed: &[bool],
+    fields: &[&[u8]],
+) -> Result<(u32, i64), Code>
+    requires { IfSome heading (λ h. length listed.now ≡ h.nodes) }
+    ensures { result ≡ node_reading limits heading arcs listed.now (map (λ f. f.now) fields.now) }
+{
+    if !node_count_fits(heading, fields.len()) {
+        return Err(Code::Fields);
+    }
+    let (node, supply) = node_numbers(fields)?;
+    match heading {
+        None => Err(Code::BeforeP),
+        Some(heading) => node_tests(heading, arcs, listed, node, supply),
+    }
+}
+
+fn arc_count_fits(heading: Option<Heading>, count: usize) -> bool
+    ensures { result ≡ arc_count_fits_lem heading count }
+{
+    match heading {
+        None => count == 6 || count == 4,
+        Some(
+            Heading {
+                problem: Problem::Min,
+                ..
+            },
+        ) => count == 6,
+        Some(
+            Heading {
+                problem: Problem::Asn,
+                ..
+            },
+        ) => count == 4,
+    }
+}
+
+fn arc_numbers(fields: &[&[u8]]) -> Result<ArcNumbers, Code>
+    requires { (length fields.now ≡ 4) ⊎ (length fields.now ≡ 6) }
+    ensures { result ≡ arc_number_reading (map (λ f. f.now) fields.now) }
+{
+    let src = number_of(fields, 1)?;
+    let dst = number_of(fields, 2)?;
+    let third = number_of(fields, 3)?;
+    if fields.len() == 6 {
+        let cap = number_of(fields, 4)?;
+        let cost = number_of(fields, 5)?;
+        Ok(ArcNumbers {
+            src,
+            dst,
+            low: third,
+            cap,
+            cost,
+        })
+    } else {
+        Ok(ArcNumbers {
+            src,
+            dst,
+            low: 0,
+            cap: 1,
+            cost: third,
+        })
+    }
+}
+
+fn is_wrong_side(heading: Heading, listed: &[bool], src: u32, dst: u32) -> bool
+    requires src_in { (1 ≤ src) × (src ≤ length listed.now) }
+    requires dst_in { (1 ≤ dst) × (dst ≤ length listed.now) }
+    ensures { result ≡ is_wrong_side heading listed.now src dst }
+{
+    match heading.problem {
+        Problem::Min => false,
+        Problem::Asn => !is_flagged(listed, src) || is_flagged(listed, dst),
+    }
+}
+
+#[tactic(auto, unfolding(crate::specs::LineReader::arc_tests))]
+fn arc_tests(
+    heading: Heading,
+    arcs: usize,
+    listed: &[bool],
+    src: i64,
+    dst: i64,
+    low: i64,
+    cap: i64,
+    cost: i64,
+) -> Result<PackedArc, Code>
+    requires { length listed.now ≡ heading.nodes }
+    ensures { result ≡ arc_testing limits heading arcs listed.now (record { src = src; dst = dst; low = low; cap = cap; cost = cost }) }
+{
+    let src = node_of(heading, src)?;
+    let dst = node_of(heading, dst)?;
+    if !are_both_up_to(BOUND_LIMIT, low, cap) {
+        return Err(Code::Bound);
+    }
+    if cap < low {
+        return Err(Code::Order);
+    }
+    if !is_up_to(COST_LIMIT, cost) {
+        return Err(Code::Cost);
+    }
+    if heading.arcs as usize <= arcs {
+        return Err(Code::Extra);
+    }
+    if is_wrong_side(heading, listed, src, dst) {
+        return Err(Code::Side);
+    }
+    Ok(PackedArc {
+        src,
+        dst,
+        low,
+        cap,
+        cost,
+    })
+}
+
+/// What an arc line says.
+#[tactic(auto, using(crate::proofs::Signed::signed), unfolding(crate::specs::LineReader::arc_line))]
+pub(crate) fn arc_line(
+    heading: Option<Heading>,
+    arcs: usize,
+    listed: &[bool],
+    fields: &[&[u8]],
+) -> Result<PackedArc, Code>
+    requires { IfSome heading (λ h. length listed.now ≡ h.nodes) }
+    ensures { result ≡ arc_reading limits heading arcs listed.now (map (λ f. f.now) fields.now) }
+{
+    if !arc_count_fits(heading, fields.len()) {
+        return Err(Code::Fields);
+    }
+    let numbers = arc_numbers(fields)?;
+    match heading {
+        None => Err(Code::BeforeP),
+        Some(heading) => arc_tests(
+            heading,
+            arcs,
+            listed,
+            numbers.src,
+            numbers.dst,
+            numbers.low,
+            numbers.cap,
+            numbers.cost,
+        ),
+    }
+}

@@ -1,0 +1,210 @@
+//! The reader's state: what the lines so far say.
+ghost use Rattle.std.specs.Prelude.{◌≡◌, ◌++◌, ◌∷◌, [], List, map, length, OnOk, OnErr, IfOk, ◌≤◌, ◌^◌, IsTrue};
+ghost use Rattle.std.specs.List.{list_any};
+ghost use Rattle.mcf_instance.specs.Fault.{is_good_header};
+ghost use Rattle.mcf_instance.specs.Limits.{limits};
+ghost use Rattle.mcf_instance.specs.ReaderSound.{ItemFits};
+ghost use Rattle.mcf_instance.specs.ReaderState.{empty, item_of, with_item, item_grows, outcome_grows, after_row, refusal_after, finished};
+ghost use Rattle.mcf_instance.specs.Stands.{Stands};
+ghost use Rattle.mcf_text.specs.Fields.{is_kept};
+ghost use Rattle.mcf_text.specs.Row.{Row, row_of};
+
+use crate::arc::PackedArc;
+use crate::code::Code;
+use crate::instances::Instance;
+use crate::problem::Problem;
+use crate::reader::fields::first_fields;
+use crate::reader::line::{Heading, Item, arc_line, is_word, node_line, problem_line};
+use crate::refusal::Refusal;
+use mcf_text::NoMemory;
+use std::alloc::Global;
+use std::marker::Model;
+
+/// What the lines so far say, or the first fault.
+#[derive(Drop)]
+pub(crate) struct State {
+    heading: Option<Heading>,
+    listed: Vec<bool>,
+    supplies: Vec<i64>,
+    arcs: Vec<PackedArc>,
+    refusal: Option<Refusal>,
+}
+
+impl Model for State {
+    ghost use Rattle.mcf_instance.specs.Limits.{limits};
+    ghost use Rattle.mcf_instance.specs.ReaderSound.{IsSound};
+    ghost use Rattle.mcf_instance.specs.ReaderState.{StateData};
+
+    ghost Value = { StateData };
+
+    ghost view = { λ s. record { heading = s.heading; listed = s.listed.items; supplies = s.supplies.items; arcs = s.arcs.items; refusal = s.refusal } };
+
+    ghost invariant = { λ s. IsSound limits s.heading s.listed.items s.supplies.items s.arcs.items };
+}
+
+impl State {
+    /// The state before the first line.
+    pub(crate) fn new(alloc: Global) -> State
+        ensures { result ≡ empty }
+    {
+        State {
+            heading: None,
+            listed: Vec::new(alloc),
+            supplies: Vec::new(alloc),
+            arcs: Vec::new(alloc),
+            refusal: None,
+        }
+    }
+
+    /// What a line says, or its fault.
+    #[tactic(auto, unfolding(crate::specs::ReaderState::item_of))]
+    fn item_of(&self, fields: &[&[u8]]) -> Result<Item, Code>
+        requires { 1 ≤ length fields.now }
+        ensures { result ≡ item_of limits self.now (map (λ f. f.now) fields.now) }
+    {
+        if is_word(fields[0], b"p") {
+            let heading = problem_line(self.heading.is_some(), fields)?;
+            Ok(Item::Problem(heading))
+        } else if is_word(fields[0], b"n") {
+            let (node, supply) = node_line(self.heading, self.arcs.len(), &self.listed, fields)?;
+            Ok(Item::Supply(node, supply))
+        } else if is_word(fields[0], b"a") {
+            let arc = arc_line(self.heading, self.arcs.len(), &self.listed, fields)?;
+            Ok(Item::Link(arc))
+        } else {
+            Err(Code::Kind)
+        }
+    }
+
+    // Makes the tables of a problem line.
+    fn start(&mut self, alloc: Global, heading: Heading) -> Result<(), NoMemory>
+        requires { ItemFits limits self.old (Item.Problem heading) }
+        ensures ok { OnOk result (self.new ≡ with_item self.old (Item.Problem heading)) }
+        ensures err { OnErr result (self.new ≡ self.old) }
+    {
+        let supply = match heading.problem {
+            Problem::Min => 0i64,
+            Problem::Asn => -1i64,
+        };
+        let listed = vec![in alloc; false; heading.nodes as usize]?;
+        let supplies = vec![in alloc; supply; heading.nodes as usize]?;
+        self.heading = Some(heading);
+        self.listed = listed;
+        self.supplies = supplies;
+        Ok(())
+    }
+
+    // Takes a good line in.
+    fn take(&mut self, alloc: Global, item: Item) -> Result<(), NoMemory>
+        requires { ItemFits limits self.old item }
+        ensures ok { OnOk result (self.new ≡ with_item self.old item) }
+        ensures err { OnErr result (self.new ≡ self.old) }
+        ensures grows { OnErr result (IsTrue (item_grows item)) }
+    {
+        match item {
+            Item::Problem(heading) => self.start(alloc, heading),
+            Item::Supply(node, supply) => {
+                self.listed[node as usize - 1] = true;
+                self.supplies[node as usize - 1] = supply;
+                Ok(())
+            }
+            Item::Link(arc) => {
+                self.arcs.push(arc)?;
+                Ok(())
+            }
+        }
+    }
+
+    // Takes the next kept line in, by its fields.
+    #[tactic(auto, unfolding(crate::specs::ReaderState::after_row))]
+    fn advance(&mut self, alloc: Global, number: u128, fields: &[&[u8]]) -> Result<(), NoMemory>
+        requires some_field { 1 ≤ length fields.now }
+        requires numbered { (1 ≤ number) × (number ≤ 10 ^ 37) }
+        ensures ok { OnOk result (self.new ≡ after_row limits self.old (record { number = number; fields = map (λ f. f.now) fields.now })) }
+        ensures err { OnErr result (self.new ≡ self.old) }
+        ensures grows { OnErr result ((self.old.refusal ≡ None) × IsTrue (outcome_grows (item_of limits self.old (map (λ f. f.now) fields.now)))) }
+    {
+        if self.refusal.is_some() {
+            return Ok(());
+        }
+        match self.item_of(fields) {
+            Ok(item) => self.take(alloc, item),
+            Err(code) => {
+                self.refusal = Some(Refusal { line: number, code });
+                Ok(())
+            }
+        }
+    }
+}
+
+impl State {
+    /// Takes the next kept line in, of this number. An `Err` changes nothing.
+    pub(crate) fn step(&mut self, alloc: Global, number: u128, line: &[u8]) -> Result<(), NoMemory>
+        requires kept { IsTrue (is_kept line.now) }
+        requires numbered { (1 ≤ number) × (number ≤ 10 ^ 37) }
+        ensures stands { OnOk result ((lines : List Row) → Stands limits self.old lines
+            → Stands limits self.new (lines ++ row_of (number, line.now) ∷ [])) }
+        ensures err { OnErr result (self.new ≡ self.old) }
+        ensures wants { OnErr result ((lines : List Row) → Stands limits self.old lines
+            → IsTrue (list_any is_good_header (lines ++ row_of (number, line.now) ∷ []))) }
+    {
+        let first = first_fields(line);
+        self.advance(alloc, number, &first.fields[..first.count])
+    }
+
+    /// The first fault, if a line so far has one.
+    pub(crate) fn refusal(&self) -> Option<Refusal>
+        ensures { result ≡ self.now.refusal }
+    {
+        self.refusal
+    }
+
+    /// The refusal after the last line, where the line after it has this number.
+    fn refusal_after(&self, line: u128) -> Option<Refusal>
+        requires { (1 ≤ line) × (line ≤ 10 ^ 37) }
+        ensures { result ≡ refusal_after self.now line }
+    {
+        match (self.refusal, self.heading) {
+            (Some(refusal), _) => Some(refusal),
+            (None, None) => Some(Refusal {
+                line,
+                code: Code::NoP,
+            }),
+            (None, Some(heading)) => {
+                if self.arcs.len() < heading.arcs as usize {
+                    Some(Refusal {
+                        line,
+                        code: Code::Missing,
+                    })
+                } else {
+                    None
+                }
+            }
+        }
+    }
+
+    /// The instance, or the first fault, where the line after the last has this number.
+    pub(crate) fn finish(self, line: u128) -> Result<Instance, Refusal>
+        requires { (1 ≤ line) × (line ≤ 10 ^ 37) }
+        ensures { result ≡ finished self line }
+    {
+        if let Some(refusal) = self.refusal_after(line) {
+            return Err(refusal);
+        }
+        let State {
+            heading,
+            listed: _,
+            supplies,
+            arcs,
+            refusal: _,
+        } = self;
+        match heading {
+            Some(heading) => Ok(Instance {
+                problem: heading.problem,
+                arcs,
+                supplies,
+            }),
+            None => unreachable!(),
+        }
+    }
+}

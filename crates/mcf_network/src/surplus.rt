@@ -1,0 +1,21 @@
+//! What the nodes have left to send.
+ghost use Rattle.std.specs.Prelude.{◌≡◌, ◌+ℤ◌, ◌-ℤ◌, ◌^◌, ◌==◌, ℕ, length};
+ghost use Rattle.mcf_instance.specs.Network.{IsNode, at_node, when};
+ghost use Rattle.mcf_instance.specs.WellFormed.{IsUpTo};
+
+use mcf_text::NodeId;
+
+/// Moves `x` of what one node has left to send to another.
+pub(crate) fn move_surplus(surpluses: &mut Vec<i128>, from: NodeId, to: NodeId, x: i128)
+    requires from { IsNode (length surpluses.old.items) from }
+    requires to { IsNode (length surpluses.old.items) to }
+    requires x { IsUpTo (10 ^ 30) x }
+    requires each { (v : ℕ) → IsNode (length surpluses.old.items) v → IsUpTo (10 ^ 30) (at_node surpluses.old.items v) }
+    ensures length { length surpluses.new.items ≡ length surpluses.old.items }
+    ensures each { (v : ℕ) → IsNode (length surpluses.old.items) v → at_node surpluses.new.items v ≡ at_node surpluses.old.items v -ℤ when (from == v) x +ℤ when (to == v) x }
+{
+    let less = surpluses[from.get() as usize - 1] - x;
+    surpluses[from.get() as usize - 1] = less;
+    let more = surpluses[to.get() as usize - 1] + x;
+    surpluses[to.get() as usize - 1] = more;
+}
