@@ -1,0 +1,123 @@
+-- The search for a cycle of links over all nodes, and the measure of the rounds.
+use Rattle.std.proofs.Common.{◌≡◌, ℕ, suc, ◌<◌, ◌≤◌, ◌+◌, ◌-◌, ◌*◌, List, [], ◌∷◌, length, Bool, true, false, None, ℤ, pos, negsuc, nat_abs, ◌+ℤ◌, neg_ℤ, ◌≤ℤ◌, ◌<ℤ◌, refl, sym, ap, subst, ◌∙◌, arith, ◌⊎◌, inl, inr}
+use Rattle.std.proofs.lemmas.Int.{ints}
+use Rattle.std.proofs.lemmas.Bool.{true≢false, cases_eq}
+use Rattle.std.proofs.lemmas.List.{length-replicate}
+use Rattle.mcf_instance.specs.Blocking.{in_table}
+use Rattle.mcf_instance.specs.Network.{Network, IsNode, at_node, node_count}
+use Rattle.mcf_network.specs.declared.rid.Rid.{Rid}
+use Rattle.mcf_network.specs.NodeSets.{member_count, no_nodes}
+use Rattle.mcf_network.specs.Walks.{IsWalk}
+use Rattle.mcf_prices.specs.Labels.{Labels, IsLabelling, AreAtLeast, cost_limit, total}
+use Rattle.mcf_prices.specs.Trails.{Leaves, IsTrail, IsDone, IsSettled}
+use Rattle.mcf_prices.proofs.Marks.{unmarked, count_small}
+
+-- after v nodes: no path is under way, each node that was seen is settled, and so is each node up to v
+pub record CycleAt (l : Labels) (seen done : List Bool) (v : ℕ) : Type 0 where
+  pub trail : IsTrail l [] seen done
+  pub floors : IsDone l done
+  pub before : (j : ℕ) → 1 ≤ j → j ≤ v → IsSettled l done j
+
+pub cycle_start : (l : Labels) → CycleAt l (no_nodes (node_count l.flow.net)) (no_nodes (node_count l.flow.net)) 0
+cycle_start l =
+    let n = node_count l.flow.net in
+    let m = length-replicate n false in
+    record {
+      trail = record {
+        seen_count = m;
+        done_count = m;
+        steps = λ k d h. absurd (omega arith);
+        distinct = λ i j d p q. absurd (omega arith);
+        path_seen = λ k d h. absurd (omega arith);
+        seen = λ v h e. absurd (true≢false (sym e ∙ unmarked n v));
+      };
+      floors = record { count = m; floor = λ v h e. absurd (true≢false (sym e ∙ unmarked n v)) };
+      before = λ j h k. absurd (omega arith);
+    }
+
+-- a walk ends where it begins, or leaves its beginning
+walk_leaves : (g : Network) (path : List Rid) (u w : ℕ) → IsWalk g u path w → (u ≡ w) ⊎ Leaves g path u
+walk_leaves g [] u w walk = inl walk
+walk_leaves g (r ∷ rest) u w walk = inr (0, omega arith, λ d. walk.0)
+
+-- after a walk that closed no cycle was taken back
+pub cycle_next : (l : Labels) (seen done done' : List Bool) (path : List Rid) (v end : ℕ) → ((j : ℕ) → 1 ≤ j → j ≤ v → IsSettled l done j) → IsTrail l path seen done → IsWalk l.flow.net (v + 1) path end → IsSettled l done end → IsDone l done' → ((u : ℕ) → in_table done u ≡ true → in_table done' u ≡ true) → ((u : ℕ) → Leaves l.flow.net path u → in_table done' u ≡ true) → CycleAt l seen done' (v + 1)
+cycle_next l seen done done' path v end before trail walk settled floors kept left =
+    record {
+      trail = record {
+        seen_count = trail.seen_count;
+        done_count = floors.count;
+        steps = λ k d h. absurd (omega arith);
+        distinct = λ i j d p q. absurd (omega arith);
+        path_seen = λ k d h. absurd (omega arith);
+        seen = λ u h e. elim (trail.seen u h e) [
+          | inl a ↦ inl (kept u a)
+          | inr (inl a) ↦ inr (inl a)
+          | inr (inr a) ↦ inl (left u a)
+        ];
+      };
+      floors = floors;
+      before = λ j low h. elim (cases_eq j (v + 1)) [
+        | inl e ↦ elim (walk_leaves l.flow.net path (v + 1) end walk) [
+          | inl s ↦ subst (λ x. IsSettled l done' x) (sym (e ∙ s)) (still end settled)
+          | inr a ↦ inl (left j (subst (λ x. Leaves l.flow.net path x) (sym e) a))
+        ]
+        | inr n ↦ still j (before j low (omega arith))
+      ];
+    }
+  where
+    still : (u : ℕ) → IsSettled l done u → IsSettled l done' u
+    still u (inl a) = inl (kept u a)
+    still u (inr a) = inr a
+
+-- a settled node is not far below 0
+pub settled_floor : (l : Labels) (done : List Bool) (v : ℕ) → IsLabelling l → IsDone l done → IsNode (length done) v → IsSettled l done v → neg_ℤ (pos (cost_limit * member_count done)) ≤ℤ at_node l.prices v
+settled_floor l done v ok floors h (inl a) = floors.floor v h a
+settled_floor l done v ok floors h (inr a) =
+    let none = ok.linked.roots v (h.0, omega (arith, h, floors.count, ok.link_count)) a in
+    omega (arith, ints, none)
+
+-- all settled, so none is far below 0
+pub cycle_end : (l : Labels) (seen done : List Bool) (v : ℕ) → IsLabelling l → CycleAt l seen done v → node_count l.flow.net ≤ v → AreAtLeast (cost_limit * node_count l.flow.net) l.prices
+cycle_end l seen done v ok at n u h =
+    let inside : IsNode (length done) u = (h.0, omega (arith, h, ok.count, at.floors.count)) in
+    let low = settled_floor l done u ok at.floors inside (at.before u h.0 (omega (arith, h, ok.count))) in
+    omega (arith, ints, low, count_small done, at.floors.count)
+
+-- where a walk closed a cycle the path leaves its end
+pub end_leaves : (l : Labels) (seen done : List Bool) (path : List Rid) (end : ℕ) → IsTrail l path seen done → IsNode (length seen) end → in_table seen end ≡ true → (IsSettled l done end → ⊥) → Leaves l.flow.net path end
+end_leaves l seen done path end trail h e closed =
+    elim (trail.seen end h e) [
+      | inl a ↦ absurd (closed (inl a))
+      | inr (inl a) ↦ absurd (closed (inr a))
+      | inr (inr a) ↦ a
+    ]
+
+-- the total is not far below 0
+total_floor : (ys : List ℤ) (f : ℕ) → ((k : ℕ) → k < length ys → neg_ℤ (pos f) ≤ℤ at_node ys (k + 1)) → neg_ℤ (pos (f * length ys)) ≤ℤ total ys
+total_floor [] f floor = omega (arith, ints)
+total_floor (y ∷ ys) f floor =
+    let here = floor 0 (omega arith) in
+    let more = total_floor ys f (λ v h. floor_tail y ys f v (floor (suc v) (omega arith))) in
+    let product : f * suc (length ys) ≡ f + f * length ys = omega arith in
+    omega (arith, ints, here, more, product)
+  where
+    floor_tail : (y : ℤ) (ys : List ℤ) (f v : ℕ) → neg_ℤ (pos f) ≤ℤ at_node (y ∷ ys) (suc v + 1) → neg_ℤ (pos f) ≤ℤ at_node ys (v + 1)
+    floor_tail y ys f v h =
+        let e : suc v + 1 - 1 ≡ suc (v + 1 - 1) = omega arith in
+        rw e at h
+
+-- how far the total is above the floor
+abbrev pub height : ℕ → List ℤ → ℕ
+height f ys = nat_abs (total ys +ℤ pos (f * length ys))
+
+pub nat_abs_falls : (a b : ℤ) → pos 0 ≤ℤ a → a <ℤ b → nat_abs a < nat_abs b
+nat_abs_falls (pos a) (pos b) l h = omega (arith, ints)
+nat_abs_falls (pos a) (negsuc b) l h = absurd (omega (arith, ints))
+nat_abs_falls (negsuc a) b l h = absurd (omega (arith, ints))
+
+pub height_falls : (f : ℕ) (ys zs : List ℤ) → length zs ≡ length ys → AreAtLeast f zs → total zs <ℤ total ys → height f zs < height f ys
+height_falls f ys zs n floor less =
+    let low = total_floor zs f (λ k h. floor (k + 1) (omega arith, omega (arith, h))) in
+    let same = ap (λ k. f * k) n in
+    nat_abs_falls (total zs +ℤ pos (f * length zs)) (total ys +ℤ pos (f * length ys)) (omega (arith, ints, low)) (omega (arith, ints, less, same))

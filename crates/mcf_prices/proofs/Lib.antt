@@ -1,0 +1,10 @@
+pub mod Cycles
+pub mod LinkWalks
+pub mod Lowering
+pub mod Marks
+pub mod Offers
+pub mod Paths
+pub mod QueueLaws
+pub mod Relaxing
+pub mod Rounding
+pub mod Showing

@@ -1,0 +1,26 @@
+use Rattle.std.proofs.Common.{◌≡◌, arith, ap, refl, subst, ◌∙◌}
+use Rattle.std.proofs.lemmas.Int.{ints}
+use Rattle.mcf_instance.specs.Network.{Network}
+use Rattle.mcf_network.specs.Residual.{tail}
+use Rattle.mcf_network.specs.States.{Flow, room_of}
+use Rattle.mcf_network.proofs.ArcLaws.{tail_is_node}
+use Rattle.mcf_prices.specs.Labels.{Labels, IsLabelling}
+use Rattle.mcf_prices.proofs.Offers.{read_price}
+use Rattle.mcf_prices.proofs.search.Search.relax.Goals as goal
+
+pub returns-then-room-le0-clause-relaxed : goal.returns-then-room-le0-clause-relaxed
+returns-then-room-le0-clause-relaxed c =
+    let room = c.room.ensures.value ∙ ap (λ (x : Labels). room_of x.flow c.args.r) c.self.view_is in
+    let none = c.if-room-le0.true in
+    record { same = refl; respects = λ h. let some = h.room in absurd (omega (arith, ints, room, none, some)) }
+
+pub returns-then-index-price-clause-relaxed : goal.returns-then-index-price-clause-relaxed
+returns-then-index-price-clause-relaxed c =
+    let l : Labels = record { flow = c.self.inside.state.now; prices = c.self.inside.prices.items; links = c.self.inside.links.items } in
+    let from : c.get.result ≡ tail c.args.self.now.flow.net c.args.r = c.get.ensures ∙ c.route-from.ensures.tail ∙ ap (λ (g : Network). tail g c.args.r) (c.net.ensures.value ∙ ap (λ (x : Labels). x.flow.net) c.self.view_is) in
+    let ok = subst IsLabelling c.self.view_is c.self.invariant in
+    let node = tail_is_node c.args.self.now.flow.net c.args.r.arc c.args.r.back ok.flow.of_net c.requires.arc in
+    let price = read_price l c.args.self.now c.get.result _ c.index.result.now c.self.view_is c.self.invariant node from c.index.ensures in
+    let offer = c.offer-price.ensures in
+    let le = c.if-index-price.true in
+    record { same = refl; respects = λ h. omega (arith, ints, price, offer, le) }

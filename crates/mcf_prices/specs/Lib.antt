@@ -1,0 +1,12 @@
+pub use Rattle.mcf_instance.specs.Flow
+pub use Rattle.mcf_instance.specs.Network
+pub use Rattle.mcf_network.specs.Nets
+pub use Rattle.mcf_network.specs.Residual
+pub use Rattle.mcf_network.specs.States
+pub use Rattle.mcf_network.specs.Walks
+pub mod Labels
+pub mod NegativeCycles
+pub mod Queues
+pub mod Recovering
+pub mod Rounds
+pub mod Trails

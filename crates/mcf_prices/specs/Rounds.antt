@@ -1,0 +1,28 @@
+-- A round of a search for prices: each node that waits relaxes the residual arcs that enter it.
+use Rattle.std.specs.Prelude.{◌≡◌, ℕ, ◌<◌, ◌≤◌, ◌+◌, List, length, ◌≤ℤ◌, ◌<ℤ◌, ◌⊎◌, not}
+use Rattle.std.specs.List.{Contains}
+use Rattle.mcf_network.specs.declared.rid.Rid.{Rid}
+use Rattle.mcf_network.specs.Residual.{head}
+use Rattle.mcf_network.specs.Walks.{HasRoom}
+use Rattle.mcf_prices.specs.Labels.{Labels, IsLabelling, AreAtLeast, Respects, cost_limit, total}
+use Rattle.mcf_prices.specs.Queues.{Waiting, IsQueue}
+
+-- the residual arc the other way
+abbrev pub reverse : Rid → Rid
+reverse r = record r { back = not r.back }
+
+-- a residual arc is respected, or its head waits
+abbrev pub IsHandled : Labels → Waiting → Rid → Type 0
+IsHandled l q r = Respects l.flow l.prices r ⊎ Contains q.nodes (head l.flow.net r)
+
+-- prices fell, at most by so much, and where one fell its node waits
+pub record IsProgress (old new : Labels) (before after : Waiting) (depth : ℕ) : Type 0 where
+  pub valid : IsLabelling new
+  pub queue : IsQueue after
+  pub flow : new.flow ≡ old.flow
+  pub table : length after.table ≡ length before.table
+  pub waits : (v : ℕ) → Contains before.nodes v → Contains after.nodes v
+  pub keeps : (r : Rid) → HasRoom old.flow r → Respects old.flow old.prices r → IsHandled new after r
+  pub floor : (f : ℕ) → AreAtLeast f old.prices → AreAtLeast (f + depth) new.prices
+  pub not_above : total new.prices ≤ℤ total old.prices
+  pub falls : length before.nodes < length after.nodes → total new.prices <ℤ total old.prices

@@ -1,0 +1,51 @@
+//! Prices or a negative cycle, recovered from a state.
+ghost use Rattle.std.specs.Prelude.{IfOk};
+ghost use Rattle.mcf_prices.specs.Recovering.{IsRecovered};
+
+use crate::queue::Queue;
+use crate::search::Search;
+use mcf_network::{Rid, State};
+use mcf_text::NoMemory;
+use std::alloc::Global;
+use std::mem;
+
+/// What shows whether the flow of a state is least.
+#[derive(Debug, Drop)]
+pub enum Recovered {
+    /// The greatest prices not above 0 that show the flow, one for each node, in order.
+    Prices(Vec<i128>),
+    /// Residual arcs with room, each of which begins where the one before ends, and the first where the last
+    /// ends. No node is begun from twice, and their costs add up to less than 0.
+    Cycle(Vec<Rid>),
+}
+
+/// The greatest prices not above 0 that show the flow of a state, or a negative cycle.
+///
+/// It lowers the prices of nodes, from 0, along residual arcs with room, in rounds: the nodes whose price fell
+/// in a round relax the residual arcs that enter them in the next (Bellman, Ford and Moore; Ahuja, Magnanti and
+/// Orlin, Network Flows, sections 5.4 and 5.5). After each round it looks for a cycle of the arcs that gave the
+/// prices. So there are at most as many rounds as nodes, each in time linear in the nodes and arcs, and no
+/// price is ever further below 0 than 2 * 10^21.
+///
+/// # Errors
+///
+/// Want of memory, where a growth was refused.
+pub fn recover(alloc: Global, state: &State<'_>) -> Result<Recovered, NoMemory>
+    ensures { IfOk result (IsRecovered state.now) }
+{
+    let net = state.net();
+    let mut search = Search::start(alloc, state)?;
+    let mut waiting = Queue::all(alloc, net)?;
+    let mut fallen = Queue::new(alloc, net)?;
+    'rounds: loop {
+        search.round(&waiting, &mut fallen)?;
+        if fallen.is_empty() {
+            return Ok(Recovered::Prices(search.into_prices()));
+        }
+        if let Some(walk) = search.cycle(alloc)? {
+            return Ok(Recovered::Cycle(walk));
+        }
+        mem::swap(&mut waiting, &mut fallen);
+        fallen.clear();
+    }
+}
