@@ -1,16 +1,18 @@
 #!/usr/bin/env python3
-"""Compares a part of the suite with a peer that does the same work in plain Rust.
+"""Compares parts of the suite, or all of them, with peers that do the same work in plain Rust.
 
-    python3 bench/run.py PART [--runs N] [--nodes N] [--built]
+    python3 bench/run.py [PART ...] [--runs N] [--nodes N] [--built]
 
 PART
+  answer    parses an answer of a million arcs and writes it anew
+  check     judges such an answer for its instance
   read      reads an instance, and keeps it in 32 bytes an arc
   text      splits a text of lines into fields and reads each field as a number
 
-Proves and builds `mcf_bench`, builds the peer by `rustc -O`, makes the input, and
+Proves and builds `mcf_bench`, builds each peer by `rustc -O`, makes the input, and
 runs the two in turn on it, N times each and at least 5. Both print what they found,
 which has to be the same, and their own seconds. Printed are the medians and their ratio; the
-status is 1 where that is above the part's limit. `--built` takes the program as
+status is 1 where one is above its part's limit. `--built` takes the program as
 it was built last. Needs `rt`, `rustc` and Python 3; run it on an idle machine.
 """
 import argparse
@@ -23,20 +25,35 @@ BENCH = pathlib.Path(__file__).resolve().parent
 OUT = BENCH / "out"
 CRATE = BENCH.parent / "crates" / "mcf_bench"
 
-# of each part: the family of its input, the number of nodes, and the greatest ratio
+# of each part: its input and the greatest ratio; the inputs are made by the functions below
 PARTS = {
-    "read": ("sparse", 300_000, 1.2),
-    "text": ("sparse", 300_000, 1.1),
+    "answer": ("shown_answer", 1.2),
+    "check": ("shown_pair", 1.25),
+    "read": ("sparse", 1.2),
+    "text": ("sparse", 1.1),
 }
+NODES = 300_000
+ARCS = 1_000_000
 
 
-def make_input(part, nodes):
-    family = PARTS[part][0]
-    path = OUT / f"{family}-{nodes}.min"
+def sparse(nodes):
+    path = OUT / f"sparse-{nodes}.min"
     if not path.exists():
-        maker = [sys.executable, str(BENCH / "gen.py"), family, str(nodes), "--output", str(path)]
+        maker = [sys.executable, str(BENCH / "gen.py"), "sparse", str(nodes), "--output", str(path)]
         subprocess.run(maker, check=True)
-    return path
+    return [path]
+
+
+def shown_pair(nodes):
+    instance, answer = OUT / f"shown-{nodes}.min", OUT / f"shown-{nodes}.ans"
+    if not answer.exists():
+        maker = [sys.executable, str(BENCH / "shown.py"), str(nodes), str(ARCS), str(instance), str(answer)]
+        subprocess.run(maker, check=True)
+    return [instance, answer]
+
+
+def shown_answer(nodes):
+    return shown_pair(nodes)[1:]
 
 
 def build_program():
@@ -80,25 +97,31 @@ def report(name, times, seconds_of):
     return ours / peers
 
 
+def measure(part, words):
+    """Runs a part beside its peer, and says whether the ratio is within the part's limit."""
+    maker, limit = PARTS[part]
+    peer = build_peer(part)
+    paths = globals()[maker](words.nodes)
+    ours = [str(CRATE / "out" / "mcf_bench"), part, *map(str, paths)]
+    size = sum(path.stat().st_size for path in paths)
+    print(f"{part}: {size / 1e6:.1f} MB, {words.runs} runs of each")
+    times = compare(ours, [str(peer), *map(str, paths)], max(5, words.runs))
+    return report(part, times, lambda seconds: seconds["seconds"]) <= limit
+
+
 def main():
-    parser = argparse.ArgumentParser(description="compares a part of the suite with a peer")
-    parser.add_argument("part", choices=sorted(PARTS))
+    parser = argparse.ArgumentParser(description="compares parts of the suite with peers")
+    parser.add_argument("parts", nargs="*", choices=[[], *sorted(PARTS)], metavar="PART")
     parser.add_argument("--runs", type=int, default=9)
-    parser.add_argument("--nodes", type=int)
+    parser.add_argument("--nodes", type=int, default=NODES)
     parser.add_argument("--built", action="store_true")
     words = parser.parse_args()
-    _, nodes, limit = PARTS[words.part]
     OUT.mkdir(exist_ok=True)
     if not words.built:
         build_program()
-    peer = build_peer(words.part)
-    path = make_input(words.part, words.nodes or nodes)
-    ours = [str(CRATE / "out" / "mcf_bench"), words.part, str(path)]
-    print(f"{words.part}: {path.stat().st_size / 1e6:.1f} MB, {words.runs} runs of each")
-    times = compare(ours, [str(peer), str(path)], max(5, words.runs))
-    report("with the file's reading", times, lambda seconds: sum(seconds.values()))
-    if report(words.part, times, lambda seconds: seconds["seconds"]) > limit:
-        sys.exit(f"the ratio is above {limit}")
+    above = [part for part in words.parts or sorted(PARTS) if not measure(part, words)]
+    if above:
+        sys.exit(f"above its limit: {', '.join(above)}")
 
 
 if __name__ == "__main__":

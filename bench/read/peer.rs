@@ -3,27 +3,27 @@
 use std::time::Instant;
 
 #[derive(Clone, Copy)]
-struct Arc {
-    src: u32,
-    dst: u32,
-    low: i64,
-    cap: i64,
-    cost: i64,
+pub struct Arc {
+    pub src: u32,
+    pub dst: u32,
+    pub low: i64,
+    pub cap: i64,
+    pub cost: i64,
 }
 
 #[derive(Clone, Copy)]
-struct Heading {
+pub struct Heading {
     is_min: bool,
     nodes: u32,
     arcs: u32,
 }
 
 #[derive(Default)]
-struct State {
+pub struct State {
     heading: Option<Heading>,
     listed: Vec<bool>,
-    supplies: Vec<i64>,
-    arcs: Vec<Arc>,
+    pub supplies: Vec<i64>,
+    pub arcs: Vec<Arc>,
 }
 
 const KEPT: i64 = 1_000_000_000_000_000_000;
@@ -170,7 +170,7 @@ impl State {
     }
 }
 
-fn read(text: &[u8]) -> Result<State, (u128, &'static str)> {
+pub fn read(text: &[u8]) -> Result<State, (u128, &'static str)> {
     let mut state = State::default();
     let mut number = 0u128;
     let mut rest = text;

@@ -3,13 +3,15 @@
 //! Runs one part of the suite on a file and prints what it found and how long it took.
 //! `bench/run.py` compares each part with a peer.
 
+mod answering;
+mod judging;
 mod reading;
 mod text;
 
 use std::process::ExitCode;
 use std::{env, io};
 
-const USAGE: &str = "usage: mcf_bench read|text FILE";
+const USAGE: &str = "usage: mcf_bench read|text INSTANCE, answer ANSWER, or check INSTANCE ANSWER";
 
 fn main(rt: HostRuntime) -> io::Result<ExitCode> {
     let mut words = env::args(&rt)?;
@@ -22,6 +24,13 @@ fn main(rt: HostRuntime) -> io::Result<ExitCode> {
         return refuse(&rt);
     };
     match part.as_str() {
+        "answer" => answering::run(&rt, path.as_str())?,
+        "check" => {
+            let Some(answer) = words.next() else {
+                return refuse(&rt);
+            };
+            judging::run(&rt, path.as_str(), answer.as_str())?;
+        }
         "read" => reading::run(&rt, path.as_str())?,
         "text" => text::run(&rt, path.as_str())?,
         _ => return refuse(&rt),
