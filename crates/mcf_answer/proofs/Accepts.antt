@@ -1,24 +1,22 @@
 -- The lines of an answer are taken in, and give it back.
-use Rattle.std.proofs.Common.{◌≡◌, ℕ, ◌+◌, ◌-◌, ◌<◌, ◌≤◌, Bool, true, false, cond, List, [], ◌∷◌, ◌++◌, length, get_or, pos, Some, None, Ok, Err, refl, sym, ap, subst, ◌∙◌, nat_eq, arith, zero, suc, append_assoc, append-nil}
-use Rattle.std.specs.Prelude.{ℤ, Option, Result, All, map, ◌&&◌, nat_lt, option_map, slice_get}
+use Rattle.std.proofs.Common.{◌≡◌, ℕ, ◌+◌, ◌-◌, ◌<◌, ◌≤◌, true, cond, List, [], ◌∷◌, ◌++◌, length, get_or, Some, None, Ok, refl, sym, ap, subst, ◌∙◌, arith, append_assoc, append-nil}
+use Rattle.std.specs.Prelude.{ℤ, Option, All, map, ◌&&◌, nat_lt, option_map}
 use Rattle.std.specs.List.{enumerate_from}
 use Rattle.std.specs.List.Sorted.{IsStrictlyIncreasing}
 use Rattle.std.specs.Option.{option_map_or, option_or}
-use Rattle.std.proofs.lemmas.Bool.{cases_eq, eq-eqb}
+use Rattle.std.proofs.lemmas.Bool.{eq-eqb}
 use Rattle.std.proofs.lemmas.Bool.Decides.{nat_tests}
 use Rattle.std.proofs.lemmas.List.{get_or_append_left, get_or-append_right, length-append}
 use Rattle.std.proofs.lemmas.List.Elements.{All-head, All-tail}
 use Rattle.std.proofs.lemmas.Option.{slice_get-get_or}
-use Rattle.mcf_answer.specs.BlockingSet.{BlockingSet, IsBlockingSet}
-use Rattle.mcf_answer.specs.Draft.{after, and_then, answer_or, finished, opened, outcome, priced, run, sent_or_priced, set_after, solution_after, with_node, with_price, with_said, with_sent}
+use Rattle.mcf_answer.specs.Draft.{after, and_then, answer_or, finished, opened, outcome, priced, sent_or_priced, set_after, solution_after, with_node, with_price, with_said}
 use Rattle.mcf_answer.specs.Fits.{is_above_last}
 use Rattle.mcf_answer.specs.Parsing.{parsing}
-use Rattle.mcf_answer.specs.PartialSet.{PartialSet}
 use Rattle.mcf_answer.specs.Ranges.{IsAmount, IsNodeNumber, line_limit}
-use Rattle.mcf_answer.specs.Said.{Opening, OpensFlow, OpensSet, OpensRefusal, cost_said, node_said, opening_said, opens_set, price_said, refusal_said, sent_said, set_said, ◌>>=◌}
-use Rattle.mcf_answer.specs.Solution.{IsSent, IsSolution, Solution}
-use Rattle.mcf_answer.specs.Spelling.{IsAnswer, Spells, cost_line, flow_line, node_line, price_line, refusal_line, set_line, set_lines, solution_lines, spelling}
-use Rattle.mcf_answer.specs.Token.{Token, token_lines, tokens}
+use Rattle.mcf_answer.specs.Said.{Opening, OpensFlow, OpensSet, OpensRefusal, cost_said, opening_said, opens_set, price_said, refusal_said, sent_said, set_said, ◌>>=◌}
+use Rattle.mcf_answer.specs.Solution.{IsSent}
+use Rattle.mcf_answer.specs.Spelling.{IsAnswer, Spells, cost_line, flow_line, node_line, price_line, refusal_line, set_line, spelling}
+use Rattle.mcf_answer.specs.Token.{Token, tokens}
 use Rattle.mcf_answer.specs.declared.answers.Answer.{Answer}
 use Rattle.mcf_answer.specs.declared.answers.Answer.TheVariants.{Flow as FlowAnswered, Blocked as BlockedAnswered, Refused as RefusedAnswered}
 use Rattle.mcf_answer.specs.declared.answers.Sent.{Sent}

@@ -1,10 +1,10 @@
 -- Bytes appended one after the other: the front stays, also where a later growth is refused.
-use Rattle.std.proofs.Common.{◌≡◌, ℕ, List, [], ◌∷◌, ◌++◌, ◌+◌, ◌<◌, ◌≤◌, length, take, drop, get_or, pos, refl, sym, ap, ◌∙◌, append_assoc, append-nil, arith, zero, suc, add-zero}
+use Rattle.std.proofs.Common.{◌≡◌, ℕ, List, [], ◌∷◌, ◌++◌, ◌+◌, ◌<◌, ◌≤◌, length, take, drop, get_or, pos, sym, ap, ◌∙◌, append_assoc, append-nil, arith, add-zero}
 use Rattle.std.specs.Prelude.{ℤ, map, flat_map}
 use Rattle.std.specs.Fmt.{signed_decimal}
 use Rattle.std.specs.List.{enumerate_from, join_with_byte}
 use Rattle.std.proofs.lemmas.Grind.{flat_map-append}
-use Rattle.std.proofs.lemmas.List.{map-append, length-take, map_more, take-append-drop, take_all, take_more}
+use Rattle.std.proofs.lemmas.List.{map-append, length-take, take-append-drop, take_all, take_more}
 use Rattle.std.proofs.Math.Seq.{take-append_seam}
 use Rattle.mcf_answer.specs.Spelling.{price_line}
 use Rattle.mcf_answer.specs.Token.{Token, Word, Number}

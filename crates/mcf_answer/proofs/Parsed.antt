@@ -1,7 +1,6 @@
 -- What a parsed text spells.
 use Rattle.std.proofs.Common.{◌≡◌, ℕ, List, Some, None, Ok, Err, refl, sym, ap, ◌∙◌}
-use Rattle.std.specs.Prelude.{◌↔◌, IfErr, IfOk, Option, Result}
-use Rattle.std.proofs.lemmas.Result.{IfOk-weaker}
+use Rattle.std.specs.Prelude.{◌↔◌, IfErr, Option, Result}
 use Rattle.mcf_answer.specs.Fits.{misfit}
 use Rattle.mcf_answer.specs.Parsing.{answer_of_lines, parsing, parsing_of}
 use Rattle.mcf_answer.specs.Spelling.{IsAnswer, Spells}

@@ -1,8 +1,7 @@
 -- What a line says, and the line that says it.
 use Rattle.std.proofs.Common.{◌≡◌, ℕ, ◌≤◌, Bool, true, false, cond, List, [], ◌∷◌, Some, None, refl, sym, ap, subst, ◌∙◌, arith, pos, negsuc}
-use Rattle.std.specs.Prelude.{ℤ, Option, codes, option_map, option_and_then, neg_ℤ}
+use Rattle.std.specs.Prelude.{ℤ, Option, codes, option_map, neg_ℤ}
 use Rattle.std.proofs.lemmas.Slice.Eq.{bytes_eq-Decides}
-use Rattle.std.proofs.lemmas.Int.{ints}
 use Rattle.mcf_answer.specs.Ranges.{IsAmount, IsNodeNumber, amount_limit, line_limit}
 use Rattle.mcf_answer.specs.Said.{amount_of, code_of, cost_said, line_number_of, node_of, node_said, number_within, price_said, refusal_said, sent_said, set_said, side_of, ◌>>=◌}
 use Rattle.mcf_answer.specs.Solution.{IsSent}

@@ -1,23 +1,20 @@
 -- The parser's state stands for the lines so far, and what it gives at the end is what the text stands for.
-use Rattle.std.proofs.Common.{◌≡◌, ℕ, ◌+◌, Bool, true, false, cond, ◌&&◌, ◌||◌, List, [], ◌∷◌, ◌++◌, length, Some, None, Ok, Err, refl, sym, ap, subst, ◌∙◌, nat_eq, append_assoc, append-nil}
+use Rattle.std.proofs.Common.{◌≡◌, ℕ, ◌+◌, Bool, true, false, cond, ◌&&◌, ◌||◌, List, [], ◌∷◌, ◌++◌, length, Some, None, Ok, Err, refl, sym, ap, ◌∙◌, nat_eq, append_assoc, append-nil}
 use Rattle.std.specs.Prelude.{ℤ, Option, Result, map, filter, filter_map, is_some, nat_lt, option_map, slice_get}
 use Rattle.std.specs.List.{cons_option}
 use Rattle.std.specs.Option.{option_map_or, option_or}
 use Rattle.std.proofs.lemmas.List.{length-map, map-append, map-id}
 use Rattle.std.proofs.lemmas.List.Elements.{filter_map-append}
 use Rattle.std.proofs.lemmas.Simd.{map-map}
-use Rattle.mcf_answer.specs.Draft.{after, and_then, answer_or, draft_of, filled, finished, opened, outcome, priced, run, sent_or_priced, set_after, solution_after, with_price, with_said, with_sent}
-use Rattle.mcf_answer.specs.Fits.{as_misfit, fits, fits_after, has_all, is_above_last, is_complete, is_node_above, is_price_of, misfit, misfit_of_lines, misfits, node_lines, price_lines, sent_lines}
+use Rattle.mcf_answer.specs.Draft.{after, and_then, answer_or, draft_of, filled, finished, opened, outcome, run, sent_or_priced, set_after, solution_after, with_price, with_said, with_sent}
+use Rattle.mcf_answer.specs.Fits.{as_misfit, fits, fits_after, has_all, is_above_last, is_complete, is_node_above, misfit, misfit_of_lines, misfits, node_lines, price_lines, sent_lines}
 use Rattle.mcf_answer.specs.Parsing.{answer_of_lines, answer_opened, parsing, parsing_of}
-use Rattle.mcf_answer.specs.PartialSet.{PartialSet}
 use Rattle.mcf_answer.specs.Said.{Opening, OpensFlow, OpensSet, OpensRefusal, node_said, opening_said, price_said, sent_said}
-use Rattle.mcf_answer.specs.Solution.{Solution}
-use Rattle.mcf_answer.specs.Token.{Token, token_lines, tokens, tokens_of}
+use Rattle.mcf_answer.specs.Token.{Token, token_lines, tokens}
 use Rattle.mcf_answer.specs.declared.answers.Answer.{Answer}
 use Rattle.mcf_answer.specs.declared.answers.Sent.{Sent}
 use Rattle.mcf_answer.specs.declared.draft.Draft.{Draft}
-use Rattle.mcf_answer.specs.declared.draft.Draft.TheVariants.{Empty, Flow, Blocked, Refused}
-use Rattle.mcf_answer.specs.declared.shape.Shape.{Shape}
+use Rattle.mcf_answer.specs.declared.draft.Draft.TheVariants.{Empty, Flow, Blocked}
 use Rattle.mcf_answer.proofs.SaidLemmas.{sent_said-some}
 use Rattle.mcf_instance.specs.declared.problem.Side.{Side}
 use Rattle.mcf_text.specs.Fields.{is_kept}

@@ -1,5 +1,5 @@
 -- Small answers, with the texts that are written of them; each text is parsed to its answer.
-use Rattle.std.specs.Prelude.{◌≡◌, ℕ, List, [], ◌∷◌, ◌++◌, ◌^◌, codes, flat_map, refl, ℤ, pos, negsuc, neg_ℤ, Ok, Err}
+use Rattle.std.specs.Prelude.{◌≡◌, ℕ, List, [], ◌∷◌, ◌++◌, codes, flat_map, refl, pos, negsuc, Ok}
 use Rattle.std.specs.Fmt.{digits}
 use Rattle.mcf_answer.specs.Fits.{fits, misfits, is_complete, misfit_of_lines, misfit}
 use Rattle.mcf_answer.specs.Parsing.{answer_of_lines, parsing}
@@ -9,7 +9,7 @@ use Rattle.mcf_answer.specs.Token.{token_lines}
 use Rattle.mcf_answer.specs.Written.{written}
 use Rattle.mcf_answer.specs.declared.answers.Answer.{Answer}
 use Rattle.mcf_answer.specs.declared.answers.Answer.TheVariants.{Flow, Blocked, Refused}
-use Rattle.mcf_instance.specs.declared.code.Code.TheVariants.{LateN, NoP}
+use Rattle.mcf_instance.specs.declared.code.Code.TheVariants.{LateN}
 use Rattle.mcf_instance.specs.declared.problem.Side.TheVariants.{Send, Take}
 
 -- the lines, each with its end

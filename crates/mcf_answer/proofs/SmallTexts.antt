@@ -1,5 +1,5 @@
 -- Small texts, with what they stand for as answers.
-use Rattle.std.specs.Prelude.{◌≡◌, ℕ, List, [], ◌∷◌, ◌++◌, ◌^◌, codes, flat_map, refl, ℤ, pos, neg_ℤ, Result, Ok, Err}
+use Rattle.std.specs.Prelude.{◌≡◌, ℕ, List, [], ◌∷◌, ◌++◌, ◌^◌, codes, flat_map, refl, pos, neg_ℤ, Result, Ok, Err}
 use Rattle.mcf_answer.specs.Fits.{fits, misfits, is_complete, misfit_of_lines, misfit}
 use Rattle.mcf_answer.specs.Parsing.{answer_of_lines, parsing}
 use Rattle.mcf_answer.specs.Said.{cost_said, sent_said, price_said, set_said, node_said, refusal_said, opening_said}

@@ -1,37 +1,33 @@
 -- The lines that a state stands for are those that it spells; so a text is parsed to an answer exactly
 -- where it spells it.
-use Rattle.std.proofs.Common.{◌≡◌, ℕ, ◌+◌, ◌-◌, ◌<◌, ◌≤◌, Bool, true, false, cond, List, [], ◌∷◌, ◌++◌, length, get_or, pos, Some, None, Ok, Err, refl, sym, ap, subst, ◌∙◌, nat_eq, arith, add-zero, append_assoc, append-nil, inl, inr}
-use Rattle.std.specs.Prelude.{ℤ, Option, Result, All, map, ◌&&◌, ⊤, nat_lt, option_map, slice_get, ◌↔◌}
+use Rattle.std.proofs.Common.{◌≡◌, ℕ, ◌+◌, ◌<◌, ◌≤◌, Bool, true, false, cond, List, [], ◌∷◌, ◌++◌, length, Some, None, Ok, Err, refl, sym, ap, subst, ◌∙◌, nat_eq, arith, append_assoc, append-nil}
+use Rattle.std.specs.Prelude.{ℤ, Option, Result, map, ◌&&◌, ⊤, nat_lt, option_map}
 use Rattle.std.specs.List.{enumerate_from}
 use Rattle.std.specs.List.Sorted.{IsStrictlyIncreasing}
-use Rattle.std.specs.Option.{option_map_or, option_or}
-use Rattle.std.proofs.lemmas.Bool.{cases_eq, cases_lt, lt-ltb}
+use Rattle.std.specs.Option.{option_or}
 use Rattle.std.proofs.lemmas.Bool.Decides.{nat_tests}
-use Rattle.std.proofs.lemmas.List.{get_or_append_left, get_or_push, length-append, length-map, map-append, nil_from_length}
-use Rattle.std.proofs.lemmas.List.Elements.{All-head, All-nil, All-tail}
-use Rattle.std.proofs.lemmas.Option.{slice_get-get_or}
-use Rattle.mcf_answer.specs.BlockingSet.{BlockingSet, IsBlockingSet}
-use Rattle.mcf_answer.specs.Draft.{after, and_then, answer_or, finished, opened, outcome, priced, run, sent_or_priced, set_after, solution_after, with_node, with_price, with_said, with_sent}
+use Rattle.std.proofs.lemmas.List.{map-append, nil_from_length}
+use Rattle.std.proofs.lemmas.List.Elements.{All-nil}
+use Rattle.mcf_answer.specs.BlockingSet.{IsBlockingSet}
+use Rattle.mcf_answer.specs.Draft.{after, and_then, answer_or, finished, opened, outcome, sent_or_priced, set_after, solution_after, with_node, with_price, with_said, with_sent}
 use Rattle.mcf_answer.specs.Fits.{is_above_last}
 use Rattle.mcf_answer.specs.Parsing.{parsing}
 use Rattle.mcf_answer.specs.PartialSet.{IsPartialSet, PartialSet}
 use Rattle.mcf_answer.specs.Ranges.{IsAmount, IsNodeNumber, line_limit}
 use Rattle.mcf_answer.specs.Said.{Opening, OpensFlow, OpensSet, OpensRefusal, cost_said, node_said, opening_said, opens_set, price_said, refusal_said, sent_said, set_said}
 use Rattle.mcf_answer.specs.Solution.{IsSent, IsSolution, Solution}
-use Rattle.mcf_answer.specs.Spelling.{IsAnswer, Spells, cost_line, flow_line, node_line, price_line, refusal_line, set_line, set_lines, solution_lines, spelling}
-use Rattle.mcf_answer.specs.Token.{Token, token_lines, tokens}
+use Rattle.mcf_answer.specs.Spelling.{IsAnswer, Spells, cost_line, flow_line, node_line, price_line, refusal_line, set_line, solution_lines, spelling}
+use Rattle.mcf_answer.specs.Token.{Token, tokens}
 use Rattle.mcf_answer.specs.declared.answers.Answer.{Answer}
 use Rattle.mcf_answer.specs.declared.answers.Answer.TheVariants.{Flow as FlowAnswered, Blocked as BlockedAnswered, Refused as RefusedAnswered}
 use Rattle.mcf_answer.specs.declared.answers.Sent.{Sent}
 use Rattle.mcf_answer.specs.declared.draft.Draft.{Draft}
 use Rattle.mcf_answer.specs.declared.draft.Draft.TheVariants.{Empty, Flow, Blocked, Refused}
-use Rattle.mcf_answer.specs.declared.shape.Shape.{Shape}
 use Rattle.mcf_answer.proofs.Appends.{enumerate_from-push}
 use Rattle.mcf_answer.proofs.Grows.{with_node_fits, with_price_fits, with_sent_fits}
-use Rattle.mcf_answer.proofs.SaidLemmas.{cost_said-line, cost_said-some, node_said-line, node_said-some, price_said-line, price_said-some, refusal_said-line, refusal_said-some, sent_said-line, sent_said-some, set_said-line, set_said-some}
+use Rattle.mcf_answer.proofs.SaidLemmas.{cost_said-some, node_said-some, price_said-some, refusal_said-some, sent_said-some, set_said-some}
 use Rattle.mcf_answer.proofs.Simulation.{outcome-parsing, run-rows, run_rows}
 use Rattle.mcf_instance.specs.Fault.{Fault}
-use Rattle.mcf_instance.specs.Limits.{node_limit}
 use Rattle.mcf_instance.specs.declared.problem.Side.{Side}
 use Rattle.mcf_text.specs.Lines.{numbered_lines}
 use Rattle.mcf_text.specs.Row.{Row, line_after, rows}

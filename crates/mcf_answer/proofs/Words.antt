@@ -3,7 +3,7 @@ use Rattle.std.proofs.Common.{◌≡◌, ℕ, Bool, true, false, cond, List, [],
 use Rattle.std.specs.Prelude.{Option, find, bytes_eq}
 use Rattle.std.proofs.lemmas.Slice.Eq.{bytes_eq-Decides}
 use Rattle.mcf_answer.specs.Said.{code_of}
-use Rattle.mcf_answer.specs.Token.{Token, Word, Number, token_of}
+use Rattle.mcf_answer.specs.Token.{Token, Word, token_of}
 use Rattle.mcf_instance.specs.Fault.{all_codes, code_of_word, code_word}
 use Rattle.mcf_instance.specs.declared.code.Code.{Code}
 use Rattle.mcf_instance.specs.declared.code.Code.TheVariants.{Kind, Fields, Problem, Number as NumberCode, SecondP, BeforeP, Size, Node, LateN, Twice, Supply, Bound, Order, Cost, Extra, Side, NoP, Missing}

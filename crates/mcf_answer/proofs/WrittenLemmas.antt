@@ -4,13 +4,12 @@ use Rattle.std.specs.Prelude.{ℤ, All, FitsSigned, IsFalse, IsTrue, codes, filt
 use Rattle.std.specs.Fmt.{signed_decimal}
 use Rattle.std.specs.Int.{w128}
 use Rattle.std.specs.List.{enumerate_from, join_with_byte, list_all}
-use Rattle.std.proofs.lemmas.Bool.{both_ways, not-true}
+use Rattle.std.proofs.lemmas.Bool.{not-true}
 use Rattle.std.proofs.lemmas.Bool.Decides.{nat_tests}
 use Rattle.std.proofs.lemmas.Int.{ints}
 use Rattle.std.proofs.lemmas.List.Elements.{All-append, All-cons, All-head, All-nil, All-tail}
-use Rattle.mcf_answer.specs.BlockingSet.{IsBlockingSet}
-use Rattle.mcf_answer.specs.Ranges.{IsAmount, IsNodeNumber, amount_limit, line_limit}
-use Rattle.mcf_answer.specs.Solution.{IsSent, IsSolution}
+use Rattle.mcf_answer.specs.Ranges.{IsAmount, IsNodeNumber, line_limit}
+use Rattle.mcf_answer.specs.Solution.{IsSent}
 use Rattle.mcf_answer.specs.Spelling.{IsAnswer, Spells, cost_line, flow_line, node_line, price_line, refusal_line, set_line, side_word, spelling}
 use Rattle.mcf_answer.specs.Token.{Token, Word, Number, token_lines, token_of, tokens}
 use Rattle.mcf_answer.specs.Written.{line_text, token_text, written}
@@ -23,9 +22,9 @@ use Rattle.mcf_instance.specs.declared.code.Code.{Code}
 use Rattle.mcf_instance.specs.declared.code.Code.TheVariants.{Kind, Fields, Problem, Number as NumberCode, SecondP, BeforeP, Size, Node, LateN, Twice, Supply, Bound, Order, Cost, Extra, Side as SideCode, NoP, Missing}
 use Rattle.mcf_instance.specs.declared.problem.Side.{Side}
 use Rattle.mcf_instance.specs.declared.problem.Side.TheVariants.{Send, Take}
-use Rattle.mcf_text.specs.Fields.{AllBlank, HasFields, IsRun, begins_kept, fields_of, is_blank, is_kept}
+use Rattle.mcf_text.specs.Fields.{HasFields, IsRun, begins_kept, fields_of, is_blank, is_kept}
 use Rattle.mcf_text.specs.Lines.{IsOneLine, line_feed, lines_of}
-use Rattle.mcf_text.specs.Row.{Row, row_of}
+use Rattle.mcf_text.specs.Row.{row_of}
 use Rattle.mcf_text.specs.Whole.{is_whole, whole_value}
 use Rattle.mcf_text.proofs.FieldsLemmas.{AreTheFields-fields_of, is_kept-fields_of}
 use Rattle.mcf_text.proofs.LinesLemmas.{lines_of-line}

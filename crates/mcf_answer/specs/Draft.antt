@@ -1,7 +1,5 @@
 -- The parser's state: what the lines so far say, and how a line changes it.
-use Rattle.std.specs.Prelude.{◌≡◌, ℕ, ◌+◌, ◌≤◌, ◌==◌, nat_lt, Bool, true, false, ◌&&◌, if◌then◌else◌, List, [], ◌∷◌, ◌++◌, map, length, ℤ, All, Option, Some, None, option_map, Result, Ok, Err}
-use Rattle.std.specs.Option.{option_or, option_map_or}
-use Rattle.std.specs.List.Sorted.{IsStrictlyIncreasing}
+use Rattle.std.specs.Prelude.{ℕ, ◌+◌, ◌==◌, nat_lt, ◌&&◌, if◌then◌else◌, List, [], ◌∷◌, ◌++◌, map, length, ℤ, Option, Some, None, option_map, Result, Ok, Err}
 use Rattle.mcf_answer.specs.Fits.{is_above_last, node_lines, price_lines, sent_lines}
 use Rattle.mcf_answer.specs.Parsing.{no_refusal}
 use Rattle.mcf_answer.specs.PartialSet.{PartialSet}

@@ -1,5 +1,5 @@
 -- What a line says, by its form: a first word, and so many words and numbers in range.
-use Rattle.std.specs.Prelude.{ℕ, Bool, if◌then◌else◌, List, [], ◌∷◌, bytes_eq, codes, ℤ, pos, neg_ℤ, Option, Some, None, option_map, option_and_then}
+use Rattle.std.specs.Prelude.{ℕ, if◌then◌else◌, List, [], ◌∷◌, codes, ℤ, pos, neg_ℤ, Option, Some, None, option_map, option_and_then}
 use Rattle.std.specs.Option.{option_or}
 use Rattle.mcf_answer.specs.Ranges.{amount_limit, line_limit}
 use Rattle.mcf_answer.specs.Spelling.{side_word}

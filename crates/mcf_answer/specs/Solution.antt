@@ -1,5 +1,5 @@
 -- What a clause sees of a flow answer.
-use Rattle.std.specs.Prelude.{ℕ, ◌≤◌, List, length, ℤ, All}
+use Rattle.std.specs.Prelude.{◌≤◌, List, length, ℤ, All}
 use Rattle.mcf_answer.specs.Ranges.{IsAmount, IsNodeNumber}
 use Rattle.mcf_answer.specs.declared.answers.Sent.{Sent}
 use Rattle.mcf_instance.specs.Limits.{node_limit}
