@@ -1,8 +1,9 @@
 //! The command `mcfcheck`, over a reader of files and two writers.
-ghost use Rattle.std.specs.Prelude.{◌≡◌, ◌≢◌, ◌⊎◌, IfOk, IsTrue, if◌then◌else◌, length};
+ghost use Rattle.std.specs.Prelude.{◌≡◌, ◌≢◌, ◌⊎◌, IfOk, OnOk, if◌then◌else◌, length};
+ghost use Rattle.std.specs.Io.KnownBytes.{Appends};
 ghost use Rattle.std.specs.String.{string_bytes};
 ghost use Rattle.mcf_checker.specs.Judging.{accepts, verdict};
-ghost use Rattle.mcf_checker.specs.Printed.{printed_line};
+ghost use Rattle.mcf_checker.specs.Printed.{JudgesAndPrints, printed_line};
 
 use crate::checking::check;
 use crate::verdict::Verdict;
@@ -88,6 +89,28 @@ fn outcome_of(alloc: Global, input: &[u8], answer: &[u8]) -> Result<(String, u8)
     Ok((line, status_of(&verdict)))
 }
 
+// Prints the verdict on an answer text for an instance text, and gives the status.
+fn print_outcome<O: Write>(
+    alloc: Global,
+    input: &[u8],
+    answer: &[u8],
+    out: &mut O,
+) -> Result<u8, Failure>
+    ensures status { IfOk result (λ status. status ≡ (if accepts (verdict input.now answer.now) then 0 else 1)) }
+    ensures printed { OnOk result
+        (Appends (O.contents out.old) (O.contents out.new) (printed_line (verdict input.now answer.now))) }
+{
+    let (line, status) = outcome_of(alloc, input, answer)?;
+    match out.write_all(line.as_bytes()) {
+        Ok(()) => {}
+        Err(_) => return Err(Failure::Write),
+    }
+    match out.flush() {
+        Ok(()) => Ok(status),
+        Err(_) => Err(Failure::Write),
+    }
+}
+
 // Judges the answer in the second file for the instance in the first, prints the line, and gives the status.
 fn run<S: AsStr, R: FnMut(&str) -> Result<Vec<u8>, FileFault>, O: Write>(
     alloc: Global,
@@ -96,7 +119,7 @@ fn run<S: AsStr, R: FnMut(&str) -> Result<Vec<u8>, FileFault>, O: Write>(
     out: &mut O,
 ) -> Result<u8, Failure>
     requires { R.IsAlwaysCallable read }
-    ensures status { IfOk result (λ status. (status ≡ 0) ⊎ (status ≡ 1)) }
+    ensures judged { IfOk result (λ status. JudgesAndPrints status (O.contents out.old) (O.contents out.new)) }
     ensures usage { IfOk result (λ status. length words.now ≡ 3) }
 {
     let [_, instance, answer] = words else {
@@ -110,11 +133,7 @@ fn run<S: AsStr, R: FnMut(&str) -> Result<Vec<u8>, FileFault>, O: Write>(
         Ok(answer) => answer,
         Err(fault) => return Err(Failure::of(fault, Failure::Answer)),
     };
-    let (line, status) = outcome_of(alloc, &input, &answer)?;
-    if out.write_all(line.as_bytes()).is_err() || out.flush().is_err() {
-        return Err(Failure::Write);
-    }
-    Ok(status)
+    print_outcome(alloc, &input, &answer, out)
 }
 
 /// Judges the answer in one file for the instance in another, and gives the exit status.
@@ -132,7 +151,7 @@ pub fn judge<S: AsStr, R: FnMut(&str) -> Result<Vec<u8>, FileFault>, O: Write, E
     err: &mut E,
 ) -> u8
     requires { R.IsAlwaysCallable read }
-    ensures status { (result ≡ 0) ⊎ ((result ≡ 1) ⊎ (result ≡ 3)) }
+    ensures judged { (result ≡ 3) ⊎ JudgesAndPrints result (O.contents out.old) (O.contents out.new) }
     ensures usage { length words.now ≢ 3 → result ≡ 3 }
 {
     match run(alloc, words, read, out) {

@@ -11,6 +11,8 @@ mod command;
 mod printing;
 mod set;
 mod solution;
+#[cfg(test)]
+mod tests;
 mod verdict;
 
 pub use checking::check;

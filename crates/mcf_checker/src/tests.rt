@@ -1,0 +1,273 @@
+//! Worked verdicts, and the runs of the command.
+use crate::{FileFault, Verdict, check, judge};
+use mcf_text::NoMemory;
+use std::alloc::Global;
+use std::io::{self, ErrorKind, Write};
+use std::test::Fail;
+
+const FOUR_NODES: &str =
+    "p min 4 5\nn 1 4\nn 4 -4\na 1 2 0 4 2\na 1 3 0 2 2\na 2 3 0 2 1\na 2 4 0 3 3\na 3 4 0 5 1\n";
+
+const LEAST: &str =
+    "s 14\nf 1 2 2\nf 1 3 2\nf 2 3 2\nf 2 4 0\nf 3 4 4\ny 1 0\ny 2 -2\ny 3 -3\ny 4 -4\n";
+
+const TOO_NARROW: &str = "p min 2 1\nn 1 3\nn 2 -3\na 1 2 0 2 1\n";
+
+const LATE_NODE: &str = "p min 2 1\na 1 2 -3 -3 1\nn 1 -3\n";
+
+const TWO_ROWS_ONE_COLUMN: &str = "p asn 4 2\nn 1\nn 2\na 1 3 1\na 2 3 1\n";
+
+// What is printed of the verdict on an answer.
+fn printed(alloc: Global, instance: &str, answer: &str) -> Result<String, NoMemory> {
+    let verdict = check(alloc, instance.as_bytes(), answer.as_bytes())?;
+    Ok(format!(in alloc; "{verdict}")?)
+}
+
+#[test]
+fn flows_for_the_four_nodes(rt: HostRuntime) -> Result<(), Fail> {
+    for (answer, want) in [
+        (LEAST, "accepted flow 14"),
+        (
+            "s 15\nf 1 2 2\nf 1 3 2\nf 2 3 2\nf 2 4 0\nf 3 4 4\ny 1 0\ny 2 -2\ny 3 -3\ny 4 -4\n",
+            "rejected cost",
+        ),
+        (
+            "s 14\nf 1 2 3\nf 1 3 2\nf 2 3 2\nf 2 4 0\nf 3 4 4\ny 1 0\ny 2 -2\ny 3 -3\ny 4 -4\n",
+            "rejected node 1",
+        ),
+        (
+            "s 14\nf 1 2 5\nf 1 3 2\nf 2 3 2\nf 2 4 0\nf 3 4 4\ny 1 0\ny 2 -2\ny 3 -3\ny 4 -4\n",
+            "rejected arc 1",
+        ),
+        (
+            "s 14\nf 1 2 2\nf 1 3 2\nf 2 3 2\nf 2 4 0\nf 3 4 4\ny 1 0\ny 2 -2\ny 3 -3\ny 4 -9\n",
+            "rejected price 4",
+        ),
+        (
+            "s 14\nf 1 2 2\nf 1 3 2\nf 2 3 2\nf 2 4 0\nf 3 4 4\ny 1 100\ny 2 98\ny 3 97\ny 4 96\n",
+            "accepted flow 14",
+        ),
+        (
+            "s 14\nf 1 3 2\nf 1 2 2\nf 2 3 2\nf 2 4 0\nf 3 4 4\ny 1 0\ny 2 -2\ny 3 -3\ny 4 -4\n",
+            "rejected arc 1",
+        ),
+        (
+            "s 14\nf 1 2 2\nf 1 3 2\nf 2 3 2\nf 2 4 0\nf 3 4 4\ny 1 0\ny 2 -2\ny 3 -3\n",
+            "rejected node 4",
+        ),
+        (
+            "s 14\nf 1 2 2\nf 1 3 2\nf 2 3 2\nf 2 4 0\nf 3 4 4\ny 1 0\ny 2 -2\ny 3 -3\ny 4 -4\ny 5 0\n",
+            "rejected node 5",
+        ),
+        ("s 14\n", "rejected arc 1"),
+        (
+            "s 14\nf 1 2 2\nf 1 3 2\nf 2 3 2\nf 2 4 0\nf 3 4 4\nf 3 4 0\ny 1 0\ny 2 -2\ny 3 -3\ny 4 -4\n",
+            "rejected arc 6",
+        ),
+        (
+            "s 14\nf 1 2 2\nf 1 3 2\nf 2 3 2\nf 2 4 0\ny 1 0\ny 2 -2\ny 3 -3\ny 4 -4\nf 3 4 4\n",
+            "rejected shape 10",
+        ),
+        ("", "rejected shape 1"),
+        ("r 1 kind\n", "rejected kind"),
+        (
+            "s 14\nf 1 2 10000000000000000000000000000000000000\n",
+            "rejected arc 1",
+        ),
+        (
+            "s 14\nf 1 2 2\nf 1 3 2\nf 2 3 2\nf 2 4 0\nf 3 4 4\ny 1 10000000000000000000000000000000000000\ny 2 -10000000000000000000000000000000000000\ny 3 -3\ny 4 -4\n",
+            "rejected price 1",
+        ),
+    ] {
+        assert_eq!(rt; printed(rt.alloc(), FOUR_NODES, answer)?.as_str(), want);
+    }
+    Ok(())
+}
+
+#[test]
+fn sets_and_refusals(rt: HostRuntime) -> Result<(), Fail> {
+    for (instance, answer, want) in [
+        (TOO_NARROW, "i 1 send\nx 1\n", "accepted blocked 1"),
+        (TOO_NARROW, "i 1 take\nx 2\n", "accepted blocked 1"),
+        (TOO_NARROW, "i 1 send\nx 2\n", "rejected set"),
+        (TOO_NARROW, "i 1 send\nx 9\n", "rejected set"),
+        (TOO_NARROW, "i 2 send\nx 1\n", "rejected shape 3"),
+        (TOO_NARROW, "i 2 send\nx 1\nx 1\n", "rejected shape 3"),
+        (TWO_ROWS_ONE_COLUMN, "i 1 take\nx 4\n", "accepted blocked 1"),
+        (TWO_ROWS_ONE_COLUMN, "i 2 send\nx 1\nx 2\n", "rejected set"),
+        (LATE_NODE, "r 3 late-n\n", "accepted refusal 3 late-n"),
+        (
+            LATE_NODE,
+            "c mine\n  r   +03 late-n",
+            "accepted refusal 3 late-n",
+        ),
+        (LATE_NODE, "r 2 late-n\n", "rejected refusal"),
+        (LATE_NODE, "r 3 kind\n", "rejected refusal"),
+        (LATE_NODE, "s 0\n", "rejected kind"),
+        (LATE_NODE, "i 1 send\nx 1\n", "rejected kind"),
+        ("p min 0 0\n", "s 0\n", "accepted flow 0"),
+    ] {
+        assert_eq!(rt; printed(rt.alloc(), instance, answer)?.as_str(), want);
+    }
+    Ok(())
+}
+
+#[test]
+fn first_bytes_of_the_answer(rt: HostRuntime) -> Result<(), Fail> {
+    let instance = FOUR_NODES.as_bytes();
+    let answer = LEAST.as_bytes();
+    for (from, to, want) in [
+        (0usize, 2usize, Verdict::BadShape(1)),
+        (3, 5, Verdict::BadArc(1)),
+        (6, 11, Verdict::BadShape(2)),
+        (12, 13, Verdict::BadArc(2)),
+        (36, 37, Verdict::BadArc(5)),
+        (44, 45, Verdict::BadNode(1)),
+        (46, 49, Verdict::BadShape(7)),
+        (50, 51, Verdict::BadNode(2)),
+        (66, 70, Verdict::BadShape(10)),
+        (71, 72, Verdict::Flow(14)),
+    ] {
+        for cut in from..=to {
+            if cut <= answer.len() {
+                assert_eq!(rt; check(rt.alloc(), instance, &answer[..cut])?, want);
+            }
+        }
+    }
+    Ok(())
+}
+
+// A writer that takes nothing.
+#[derive(Drop)]
+struct Closed;
+
+impl Write for Closed {
+    fn write(&mut self, _bytes: &[u8]) -> io::Result<usize> {
+        Err(io::Error::from(ErrorKind::BrokenPipe))
+    }
+
+    fn flush(&mut self) -> io::Result<()> {
+        Ok(())
+    }
+}
+
+// The bytes of a file of these tests.
+fn file(alloc: Global, name: &str) -> Result<Vec<u8>, FileFault> {
+    let text = match name {
+        "instance" => FOUR_NODES,
+        "answer" => LEAST,
+        "wrong" => "s 14\n",
+        "large" => return Err(FileFault::NoMemory),
+        _ => return Err(FileFault::Unreadable),
+    };
+    Vec::from_slice(alloc, text.as_bytes()).map_err(|_| FileFault::NoMemory)
+}
+
+#[test]
+fn runs_of_the_command(rt: HostRuntime) -> Result<(), Fail> {
+    for (words, status, printed, said) in [
+        (
+            ["mcfcheck", "instance", "answer"].as_slice(),
+            0,
+            "accepted flow 14\n",
+            "",
+        ),
+        (
+            ["mcfcheck", "instance", "wrong"].as_slice(),
+            1,
+            "rejected arc 1\n",
+            "",
+        ),
+        (
+            ["mcfcheck", "none", "large"].as_slice(),
+            3,
+            "",
+            "mcfcheck: cannot read the instance\n",
+        ),
+        (
+            ["mcfcheck", "instance", "none"].as_slice(),
+            3,
+            "",
+            "mcfcheck: cannot read the answer\n",
+        ),
+        (
+            ["mcfcheck", "large", "none"].as_slice(),
+            3,
+            "",
+            "mcfcheck: out of memory\n",
+        ),
+        (
+            ["mcfcheck", "instance", "large"].as_slice(),
+            3,
+            "",
+            "mcfcheck: out of memory\n",
+        ),
+        (
+            ["mcfcheck", "instance"].as_slice(),
+            3,
+            "",
+            "usage: mcfcheck INSTANCE ANSWER\n",
+        ),
+        (
+            ["mcfcheck", "instance", "answer", "more"].as_slice(),
+            3,
+            "",
+            "usage: mcfcheck INSTANCE ANSWER\n",
+        ),
+    ] {
+        let mut out = Vec::new(rt.alloc());
+        let mut err = Vec::new(rt.alloc());
+        let alloc = rt.alloc();
+        let given = judge(
+            alloc,
+            words,
+            |name: &str| file(alloc, name),
+            &mut out,
+            &mut err,
+        );
+        assert_eq!(rt; given, status);
+        assert_eq!(rt; out.as_slice(), printed.as_bytes());
+        assert_eq!(rt; err.as_slice(), said.as_bytes());
+    }
+    Ok(())
+}
+
+#[test]
+fn writers_that_fail(rt: HostRuntime) -> Result<(), Fail> {
+    let alloc = rt.alloc();
+    let words = ["mcfcheck", "instance", "answer"].as_slice();
+    let mut err = Vec::new(alloc);
+    let given = judge(
+        alloc,
+        words,
+        |name: &str| file(alloc, name),
+        &mut Closed,
+        &mut err,
+    );
+    assert_eq!(rt; given, 3);
+    assert_eq!(rt; err.as_slice(), b"mcfcheck: write failed\n".as_slice());
+    let given = judge(
+        alloc,
+        words,
+        |name: &str| file(alloc, name),
+        &mut Closed,
+        &mut Closed,
+    );
+    assert_eq!(rt; given, 3);
+    Ok(())
+}
+
+#[test]
+fn faults_of_files_as_text(rt: HostRuntime) -> Result<(), Fail> {
+    let memory = FileFault::NoMemory;
+    let unreadable = FileFault::Unreadable;
+    assert_eq!(rt;
+        format!(in rt.alloc(); "{memory}")?.as_str(),
+        "out of memory"
+    );
+    assert_eq!(rt;
+        format!(in rt.alloc(); "{unreadable}")?.as_str(),
+        "cannot read the file"
+    );
+    Ok(())
+}
