@@ -11,6 +11,8 @@ mod laws;
 mod leaving;
 mod net;
 mod node_set;
+mod removal;
+mod restoring;
 mod rid;
 mod star;
 mod state;
@@ -18,10 +20,13 @@ mod stored;
 mod surplus;
 mod walk;
 
-pub use laws::{feasible_flows_are_states, stuck_sets_block};
+pub use laws::{
+    feasible_flows_are_states, net_flows_cost_no_more, nets_block_alike, stuck_sets_block,
+};
 pub use leaving::Leaving;
 pub use net::Net;
 pub use node_set::NodeSet;
+pub use restoring::restore;
 pub use rid::Rid;
 pub use state::State;
 pub use walk::{push_along, room_along};
