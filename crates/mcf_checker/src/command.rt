@@ -24,6 +24,9 @@ pub enum FileFault {
     Unreadable,
 }
 
+// The status where there is no verdict.
+const FAILED: u8 = 3;
+
 // Why there is no verdict.
 #[derive(Clone, Copy)]
 enum Failure {
@@ -158,7 +161,7 @@ pub fn judge<S: AsStr, R: FnMut(&str) -> Result<Vec<u8>, FileFault>, O: Write, E
         Ok(status) => status,
         Err(failure) => {
             let _ = err.write_all(failure.text().as_bytes());
-            3
+            FAILED
         }
     }
 }

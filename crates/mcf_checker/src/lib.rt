@@ -8,6 +8,8 @@
 
 mod checking;
 mod command;
+#[cfg(test)]
+mod edited_texts;
 mod printing;
 mod set;
 mod solution;
