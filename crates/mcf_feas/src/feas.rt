@@ -24,7 +24,7 @@ pub enum Feas<'n> {
 /// up to less than 0. Where they add up to 0, the set blocks by `Send`.
 ///
 /// It finds augmenting paths by breadth-first search from the nodes with a surplus (Ford and Fulkerson;
-/// Edmonds and Karp; Ahuja, Magnanti and Orlin, Network Flows, sections 6.4 and 7.2). The time of each search
+/// Edmonds and Karp; Ahuja, Magnanti and Orlin, Network Flows, chapters 6 and 7). The time of each search
 /// is linear in the nodes and arcs, and so is the memory.
 ///
 /// # Errors
