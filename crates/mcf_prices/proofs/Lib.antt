@@ -1,3 +1,4 @@
+pub mod Cancelling
 pub mod Cycles
 pub mod LinkWalks
 pub mod Lowering

@@ -1,11 +1,15 @@
+pub use Rattle.mcf_instance.specs.Blocking
 pub use Rattle.mcf_instance.specs.Flow
 pub use Rattle.mcf_instance.specs.Network
 pub use Rattle.mcf_network.specs.Nets
 pub use Rattle.mcf_network.specs.Residual
 pub use Rattle.mcf_network.specs.States
 pub use Rattle.mcf_network.specs.Walks
+pub use Rattle.mcf_feas.specs.Chosen
+pub use Rattle.mcf_feas.specs.Feasible
 pub mod Labels
 pub mod NegativeCycles
+pub mod Outcomes
 pub mod Queues
 pub mod Recovering
 pub mod Rounds

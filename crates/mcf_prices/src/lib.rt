@@ -2,11 +2,16 @@
 
 //! The greatest prices that show a flow, or a negative cycle, and engines that answer nets.
 //!
-//! It stands on `mcf_network`. Definitions stand in `specs/`: `NegativeCycles` and `Recovering` say what
-//! `recover` answers, `Labels`, `Queues`, `Rounds` and `Trails` what its search keeps.
+//! It stands on `mcf_network` and `mcf_feas`. Definitions stand in `specs/`: `NegativeCycles` and `Recovering`
+//! say what `recover` answers, `Outcomes` what an engine answers, and `Labels`, `Queues`, `Rounds` and `Trails`
+//! what the search for prices keeps.
 
+mod cancel;
+mod engine;
 mod queue;
 mod recovered;
 mod search;
 
+pub use cancel::Cancel;
+pub use engine::{Engine, Outcome};
 pub use recovered::{Recovered, recover};

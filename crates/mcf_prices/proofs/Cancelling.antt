@@ -1,0 +1,77 @@
+-- A push round a negative cycle: the state keeps no surplus, and gets cheaper.
+use Rattle.std.proofs.Common.{◌≡◌, ◌≢◌, ℕ, ◌<◌, ◌+◌, ◌*◌, ◌^◌, List, [], ◌∷◌, length, get_or, ℤ, pos, nat_abs, ◌+ℤ◌, neg_ℤ, ◌≤ℤ◌, ◌<ℤ◌, refl, sym, ap, subst, ◌∙◌, arith}
+use Rattle.std.proofs.Math.IntN.{◌*ℤ◌}
+use Rattle.std.specs.List.{All, AllPairs, Any}
+use Rattle.std.proofs.lemmas.Int.{ints}
+use Rattle.mcf_instance.specs.Flow.{AreGreatestPrices, IsLeast, cost}
+use Rattle.mcf_instance.specs.Network.{Network, IsArcNumber, node_count}
+use Rattle.mcf_instance.proofs.Bounds.{cost_up_to}
+use Rattle.mcf_instance.proofs.Duality.{shown_flows_are_least_lem}
+use Rattle.mcf_instance.proofs.IntLaws.{mul_below_zero}
+use Rattle.mcf_network.specs.declared.rid.Rid.{Rid}
+use Rattle.mcf_network.specs.Nets.{IsNet, net_total_limit}
+use Rattle.mcf_network.specs.Residual.{tail}
+use Rattle.mcf_network.specs.States.{Flow, IsFlow, room_of}
+use Rattle.mcf_network.specs.Walks.{CanPushAlong, pushed_along, walk_cost}
+use Rattle.mcf_network.proofs.StuckLaws.{feasible_of_state}
+use Rattle.mcf_network.proofs.WalkLaws.{along_ok, along_net, moves_along, cost_along}
+use Rattle.mcf_feas.specs.Feasible.{IsFeasibleState}
+use Rattle.mcf_prices.specs.NegativeCycles.{IsNegativeCycle}
+use Rattle.mcf_prices.specs.Outcomes.{IsLeastState}
+use Rattle.mcf_prices.proofs.Cycles.{nat_abs_falls}
+
+pub cycle_some : (s : Flow) (walk : List Rid) → IsNegativeCycle s walk → 0 < length walk
+cycle_some s [] cycle = let less = cycle.negative in absurd (omega (arith, ints, less))
+cycle_some s (r ∷ rest) cycle = omega arith
+
+pub cycle_arcs : (s : Flow) (walk : List Rid) → IsNegativeCycle s walk → All (λ r. IsArcNumber s.net r.arc) walk
+cycle_arcs s walk cycle k d h = (cycle.has_room k d h).arc
+
+pub cycle_positive : (s : Flow) (walk : List Rid) (x : ℤ) → IsNegativeCycle s walk → Any (λ r. x ≡ room_of s r) walk → pos 0 <ℤ x
+cycle_positive s walk x cycle (k, r, h, at, is) =
+    let room = (cycle.has_room k r h).room in
+    let same = ap (room_of s) at in
+    omega (arith, ints, room, same, is)
+
+pub cycle_can_push : (s : Flow) (walk : List Rid) (x : ℤ) → IsNegativeCycle s walk → pos 0 <ℤ x → All (λ r. x ≤ℤ room_of s r) walk → CanPushAlong s walk x
+cycle_can_push s walk x cycle positive room =
+    record {
+      low = omega (arith, ints, positive);
+      room = λ k d h. record { arc = (cycle.has_room k d h).arc; room = room k d h };
+      distinct = λ i j d h l e. cycle.distinct i j d h l (ap (tail s.net) e);
+    }
+
+pub cycle_feasible : (g : Network) (s : Flow) (walk : List Rid) (x : ℤ) → IsFeasibleState g s → IsNegativeCycle s walk → CanPushAlong s walk x → IsFeasibleState g (pushed_along s walk x)
+cycle_feasible g s walk x ok cycle can =
+    let same = along_net s walk x in
+    record {
+      of_net = same ∙ ok.of_net;
+      flow = along_ok s walk x ok.flow can;
+      no_surplus = λ v h.
+          let u = cycle.closed.0 in
+          let moved = moves_along s walk x u u ok.flow can cycle.closed.1 v in
+          let nodes = ap (λ (n : Network). node_count n) same in
+          let none = ok.no_surplus v (h.0, omega (arith, h, nodes)) in
+          omega (arith, ints, moved, none);
+    }
+
+-- how far the cost is above the least that any flow could cost
+abbrev pub cost_height : Flow → ℕ
+cost_height s = nat_abs (cost s.net.arcs s.amounts +ℤ pos net_total_limit)
+
+pub cost_height_falls : (s : Flow) (walk : List Rid) (x : ℤ) → IsFlow s → IsNegativeCycle s walk → CanPushAlong s walk x → pos 0 <ℤ x → cost_height (pushed_along s walk x) < cost_height s
+cost_height_falls s walk x ok cycle can positive =
+    let change = cost_along s walk x ok can in
+    let less = mul_below_zero (walk_cost s.net walk) x cycle.negative positive in
+    let after = along_ok s walk x ok can in
+    let floor = (cost_up_to (pushed_along s walk x).net.arcs (pushed_along s walk x).amounts net_total_limit after.of_net.total after.within_bounds).0 in
+    let same = ap (λ (n : Network). cost n.arcs (pushed_along s walk x).amounts) (along_net s walk x) in
+    nat_abs_falls (cost (pushed_along s walk x).net.arcs (pushed_along s walk x).amounts +ℤ pos net_total_limit) (cost s.net.arcs s.amounts +ℤ pos net_total_limit) (omega (arith, ints, floor)) (omega (arith, ints, less, change, same))
+
+-- prices that show the amounts of a state without surplus
+pub least_from_prices : (g : Network) (s : Flow) (ys : List ℤ) → IsFeasibleState g s → AreGreatestPrices s.net ys s.amounts → IsLeastState g s
+least_from_prices g s ys ok prices =
+    record {
+      feasible = ok;
+      least = subst (λ n. IsLeast n s.amounts) ok.of_net (shown_flows_are_least_lem s.net ys s.amounts ok.flow.of_net.ends (feasible_of_state s ok.flow ok.no_surplus) prices.low.show_flow);
+    }

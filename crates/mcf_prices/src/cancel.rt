@@ -1,0 +1,63 @@
+//! The plain engine.
+ghost use Rattle.std.specs.Prelude.{IfOk};
+ghost use Rattle.mcf_feas.specs.Feasible.{IsFeasibleState};
+ghost use Rattle.mcf_prices.specs.Outcomes.{IsLeastState};
+
+use crate::engine::{Engine, Outcome};
+use crate::recovered::{Recovered, recover};
+use mcf_feas::{Feas, feasible};
+use mcf_network::{Net, State, push_along, room_along};
+use mcf_text::NoMemory;
+use std::alloc::Global;
+
+/// The plain engine: a feasible flow, and then cycles cancelled until none costs less than 0 (Klein; Ahuja,
+/// Magnanti and Orlin, Network Flows, section 9.6).
+///
+/// It takes every net, and it is slow: the cost may fall by as little as 1 with each cycle.
+#[derive(Clone, Copy, Debug, Default)]
+pub struct Cancel;
+
+impl Cancel {
+    /// The engine, which keeps nothing.
+    pub fn new() -> Cancel {
+        Cancel
+    }
+}
+
+impl Engine for Cancel {
+    ghost use Rattle.std.specs.Prelude.{⊤};
+
+    ghost Takes = { λ _. ⊤ };
+
+    ghost Made = { λ _ _ _ _. ⊤ };
+
+    fn takes(&self, _net: &Net) -> bool {
+        true
+    }
+
+    fn solve<'n>(&mut self, alloc: Global, net: &'n Net) -> Result<Outcome<'n>, NoMemory> {
+        match feasible(alloc, net)? {
+            Feas::Flow(state) => {
+                let least = cancel_cycles(alloc, state)?;
+                Ok(Outcome::Least(least))
+            }
+            Feas::Blocked(set, side) => Ok(Outcome::Blocked(set, side)),
+        }
+    }
+}
+
+// Pushes as much as there is room for round negative cycles, until there is none.
+fn cancel_cycles<'n>(alloc: Global, mut state: State<'n>) -> Result<State<'n>, NoMemory>
+    requires { IsFeasibleState state.net state }
+    ensures { IfOk result (IsLeastState state.entry.net) }
+{
+    'cycles: loop {
+        match recover(alloc, &state)? {
+            Recovered::Prices(_) => return Ok(state),
+            Recovered::Cycle(walk) => {
+                let amount = room_along(&state, walk.as_slice());
+                push_along(&mut state, walk.as_slice(), amount);
+            }
+        }
+    }
+}

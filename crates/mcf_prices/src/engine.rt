@@ -1,0 +1,41 @@
+//! What every engine is.
+ghost use Rattle.std.specs.Prelude.{IfOk, IsTrue, ◌↔◌};
+ghost use Rattle.mcf_instance.specs.Network.{Network};
+ghost use Rattle.mcf_network.specs.States.{Flow};
+ghost use Rattle.mcf_prices.specs.Outcomes.{IsOutcome};
+
+use mcf_instance::Side;
+use mcf_network::{Net, NodeSet, State};
+use mcf_text::NoMemory;
+use std::alloc::Global;
+
+/// What an engine answers a net with.
+#[derive(Drop)]
+pub enum Outcome<'n> {
+    /// A state without surplus, such that no such state of the net costs less.
+    Least(State<'n>),
+    /// A node set that must send, or take, more than it can, so that the net has no feasible flow.
+    Blocked(NodeSet, Side),
+}
+
+/// A method for minimum-cost flow: it answers each net that it takes.
+pub trait Engine {
+    // Which nets the engine takes.
+    ghost Takes: { Network → Type 0 };
+
+    // How a state was made: the engine when it was asked, the net, the state, and the engine afterwards.
+    ghost Made: { Self → Network → Flow → Self → Type 0 };
+
+    /// Whether the engine takes a net.
+    fn takes(&self, net: &Net) -> bool
+        ensures { IsTrue result ↔ Takes net.now };
+
+    /// A least state of a net that the engine takes, or a node set that shows that there is none.
+    ///
+    /// # Errors
+    ///
+    /// Want of memory, where a growth was refused. The engine can be asked again.
+    fn solve<'n>(&mut self, alloc: Global, net: &'n Net) -> Result<Outcome<'n>, NoMemory>
+        requires { Takes net.now }
+        ensures { IfOk result (IsOutcome (λ s. Made self.old net.now s self.new) net.now) };
+}
