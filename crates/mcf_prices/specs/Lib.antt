@@ -1,3 +1,5 @@
+pub use Rattle.mcf_feas.specs.Chosen
+pub use Rattle.mcf_feas.specs.Feasible
 pub use Rattle.mcf_instance.specs.Blocking
 pub use Rattle.mcf_instance.specs.Flow
 pub use Rattle.mcf_instance.specs.Network
@@ -5,8 +7,6 @@ pub use Rattle.mcf_network.specs.Nets
 pub use Rattle.mcf_network.specs.Residual
 pub use Rattle.mcf_network.specs.States
 pub use Rattle.mcf_network.specs.Walks
-pub use Rattle.mcf_feas.specs.Chosen
-pub use Rattle.mcf_feas.specs.Feasible
 pub mod Labels
 pub mod NegativeCycles
 pub mod Outcomes
