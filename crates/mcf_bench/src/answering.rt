@@ -23,5 +23,8 @@ pub fn run(rt: &(impl Runtime + AllocGlobal), path: &str) -> io::Result<()> {
     let is_same = written.is_ok() && out.as_slice() == text.as_slice();
     println!(rt; "bytes {} same {}", out.len(), is_same)?;
     println!(rt; "parse_seconds {:.6}", parse_seconds.as_secs_f64())?;
-    println!(rt; "seconds {:.6}", parse_seconds.as_secs_f64() + write_seconds.as_secs_f64())
+    println!(rt;
+        "seconds {:.6}",
+        parse_seconds.as_secs_f64() + write_seconds.as_secs_f64()
+    )
 }
