@@ -11,7 +11,7 @@ use Rattle.std.proofs.lemmas.List.FromFn.{length-map-range_with_len}
 use Rattle.mcf_instance.specs.declared.arc.Arc.{Arc}
 use Rattle.mcf_instance.specs.declared.problem.Side.TheVariants.{Send, Take}
 use Rattle.mcf_instance.specs.Blocking.{enters, leaves, supply_in}
-use Rattle.mcf_instance.specs.Flow.{CanCarry, IsFeasible, IsTight, IsWithinBounds, Shows, cost, net, reduced_cost}
+use Rattle.mcf_instance.specs.Flow.{AreLowPrices, CanCarry, IsFeasible, IsTight, IsWithinBounds, Shows, cost, net, reduced_cost}
 use Rattle.mcf_instance.specs.Network.{Network, IsNode, arc_sum, at_node, flow_sum, node_count, node_sum, when}
 use Rattle.mcf_instance.specs.Limits.{limits}
 use Rattle.mcf_instance.specs.WellFormed.{HasEnds, IsWellFormed}
@@ -19,12 +19,12 @@ use Rattle.mcf_instance.proofs.AllZips.{length-AllZip}
 use Rattle.mcf_instance.proofs.Hoffman.{nets_across}
 use Rattle.mcf_instance.proofs.IntLaws.{mul-add, mul-anti, mul-mono, mul-sub, mul-zero}
 use Rattle.mcf_instance.proofs.NodeSums.{node_sum-same, node_sum-sub}
-use Rattle.mcf_network.specs.Laws.{NetFlowsCostNoMore, NetsBlockAlike}
+use Rattle.mcf_network.specs.Laws.{GreatestPricesCarryOver, NetFlowsCostNoMore, NetsBlockAlike, RestoredLeastFlowsAreLeast}
 use Rattle.mcf_network.specs.Removal.{is_loop, lows, net_of, supply_left, width_of, without_low}
 use Rattle.mcf_network.specs.Residual.{no_arc}
 use Rattle.mcf_network.specs.States.{Flow, HasNoSurplus, IsFlow}
 use Rattle.mcf_network.specs.Restoring.{fixed_cost, is_earning_loop, restored, restored_flow}
-use Rattle.mcf_network.proofs.RemovalLaws.{net_supply, width_loop, width_plain}
+use Rattle.mcf_network.proofs.RemovalLaws.{net_of-node_count, net_supply, width_loop, width_plain}
 use Rattle.mcf_network.proofs.StateLaws.{when-add, when-zero}
 use Rattle.mcf_network.proofs.StuckLaws.{feasible_of_state}
 
@@ -349,3 +349,34 @@ net_of-arc_count g = length-map g.arcs without_low
 pub restored_done : (arcs : List Arc) (amounts : List ℤ) (i : ℕ) (flow : List ℤ) → length arcs ≡ length amounts → length arcs ≤ i → flow ≡ take i (restored arcs amounts) → flow ≡ restored arcs amounts
 restored_done arcs amounts i flow n h e =
     e ∙ take_all i (restored arcs amounts) (omega (arith, h, length-restored arcs amounts n))
+
+-- ---- least flows and greatest prices
+
+pub restored_least_flows_are_least_lem : RestoredLeastFlowsAreLeast
+restored_least_flows_are_least_lem g amounts ok least =
+    let ordered : All Ordered g.arcs = λ k d l. (ok.within_wide.arcs k d l).ordered in
+    let all = restored_at g amounts ordered least.feasible in
+    record {
+      feasible = all.feasible;
+      least = λ other feasible. let found = net_flows_cost_no_more_lem g other feasible in let le = least.least found.0 found.1 in omega (arith, ints, le, found.2, all.cost_is);
+    }
+
+-- low prices of a feasible flow of the net, and of the flow for which it stands
+low_prices : (g : Network) (prices amounts : List ℤ) → IsFeasible (net_of g) amounts → AreLowPrices (net_of g) prices amounts ↔ AreLowPrices g prices (restored g.arcs amounts)
+unfolding net_of
+low_prices g prices amounts feasible =
+    let count = length-map-range_with_len (supply_left g) 1 (node_count g) in
+    (λ low. record { one_per_node = low.one_per_node ∙ count; not_above_zero = low.not_above_zero; show_flow = restored_shows g.arcs prices amounts feasible.within_bounds low.show_flow }, λ low. record { one_per_node = low.one_per_node ∙ sym count; not_above_zero = low.not_above_zero; show_flow = shows_of_restored g.arcs prices amounts feasible.within_bounds low.show_flow })
+
+pub greatest_prices_carry_over_lem : GreatestPricesCarryOver
+greatest_prices_carry_over_lem g prices amounts feasible =
+    let count = net_of-node_count g in (
+      λ great. record {
+        low = (low_prices g prices amounts feasible).0 great.low;
+        greatest = λ other low v h. great.greatest other ((low_prices g other amounts feasible).1 low) v (rw count h);
+      },
+      λ great. record {
+        low = (low_prices g prices amounts feasible).1 great.low;
+        greatest = λ other low v h. great.greatest other ((low_prices g other amounts feasible).0 low) v (rw (← count) h);
+      },
+    )

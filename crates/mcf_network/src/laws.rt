@@ -1,5 +1,5 @@
 //! Laws of states and of nets, each the contract of a function that does nothing.
-ghost use Rattle.mcf_network.specs.Laws.{FeasibleFlowsAreStates, NetFlowsCostNoMore, NetsBlockAlike, StuckSetsBlock};
+ghost use Rattle.mcf_network.specs.Laws.{FeasibleFlowsAreStates, GreatestPricesCarryOver, NetFlowsCostNoMore, NetsBlockAlike, RestoredLeastFlowsAreLeast, StuckSetsBlock};
 
 /// The states of a net without surplus are its feasible flows.
 pub fn feasible_flows_are_states()
@@ -20,4 +20,14 @@ pub fn net_flows_cost_no_more()
 /// A node set blocks the net exactly where it blocks the network.
 pub fn nets_block_alike()
     ensures { NetsBlockAlike }
+{}
+
+/// The flow for which a least flow of the net stands is least.
+pub fn restored_least_flows_are_least()
+    ensures { RestoredLeastFlowsAreLeast }
+{}
+
+/// A flow of the net and the flow for which it stands have the same greatest prices not above 0.
+pub fn greatest_prices_carry_over()
+    ensures { GreatestPricesCarryOver }
 {}
