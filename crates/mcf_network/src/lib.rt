@@ -19,6 +19,8 @@ mod star;
 mod state;
 mod stored;
 mod surplus;
+#[cfg(test)]
+mod tests;
 mod walk;
 
 pub use laws::{
