@@ -1,10 +1,16 @@
--- Laws of states.
-use Rattle.std.specs.Prelude.{ℕ, Bool, List, ℤ, ◌↔◌}
+-- Laws of states, and of a network and its net.
+use Rattle.std.specs.Prelude.{ℕ, Bool, List, ℤ, ◌+ℤ◌, ◌≤ℤ◌, ◌↔◌}
+use Rattle.std.specs.List.{All}
+use Rattle.mcf_instance.specs.declared.problem.Side.{Side}
 use Rattle.mcf_instance.specs.declared.problem.Side.TheVariants.{Send}
 use Rattle.mcf_instance.specs.Blocking.{Blocks}
-use Rattle.mcf_instance.specs.Flow.{IsFeasible}
-use Rattle.mcf_instance.specs.Network.{Network}
+use Rattle.mcf_instance.specs.Flow.{AreGreatestPrices, IsFeasible, IsLeast, cost}
+use Rattle.mcf_instance.specs.Limits.{limits}
+use Rattle.mcf_instance.specs.Network.{Network, node_count}
+use Rattle.mcf_instance.specs.WellFormed.{HasEnds, IsWellFormed}
 use Rattle.mcf_network.specs.Nets.{IsNet}
+use Rattle.mcf_network.specs.Removal.{net_of}
+use Rattle.mcf_network.specs.Restoring.{fixed_cost, restored}
 use Rattle.mcf_network.specs.States.{Flow, IsFlow, HasNoSurplus}
 use Rattle.mcf_network.specs.Stuck.{IsStuck}
 
@@ -16,3 +22,24 @@ FeasibleFlowsAreStates =
 -- a set that no surplus can leave must send more than it can
 abbrev pub StuckSetsBlock : Type 0
 StuckSetsBlock = (s : Flow) (set : ℕ → Bool) → IsFlow s → IsStuck s set → Blocks s.net set Send
+
+-- for each feasible flow some state of the net without surplus costs no more than the flow, but for the
+-- cost that is the same for all
+abbrev pub NetFlowsCostNoMore : Type 0
+NetFlowsCostNoMore =
+    (g : Network) (flow : List ℤ) → IsFeasible g flow → (amounts : List ℤ) × IsFeasible (net_of g) amounts × ((cost (net_of g).arcs amounts +ℤ fixed_cost g.arcs) ≤ℤ cost g.arcs flow)
+
+-- a node set blocks the net exactly where it blocks the network, by the same side
+abbrev pub NetsBlockAlike : Type 0
+NetsBlockAlike =
+    (g : Network) (set : ℕ → Bool) (side : Side) → All (HasEnds (node_count g)) g.arcs → Blocks (net_of g) set side ↔ Blocks g set side
+
+-- a least flow of the net stands for a least flow
+abbrev pub RestoredLeastFlowsAreLeast : Type 0
+RestoredLeastFlowsAreLeast =
+    (g : Network) (amounts : List ℤ) → IsWellFormed limits g → IsLeast (net_of g) amounts → IsLeast g (restored g.arcs amounts)
+
+-- the greatest prices not above 0 of a feasible flow of the net are those of the flow for which it stands
+abbrev pub GreatestPricesCarryOver : Type 0
+GreatestPricesCarryOver =
+    (g : Network) (prices amounts : List ℤ) → IsFeasible (net_of g) amounts → AreGreatestPrices (net_of g) prices amounts ↔ AreGreatestPrices g prices (restored g.arcs amounts)

@@ -10,6 +10,7 @@ pub mod Nets
 pub mod NodeSets
 pub mod Removal
 pub mod Residual
+pub mod Restoring
 pub mod Stars
 pub mod States
 pub mod Stored

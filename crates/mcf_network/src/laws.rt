@@ -1,5 +1,5 @@
-//! Laws of states, each the contract of a function that does nothing.
-ghost use Rattle.mcf_network.specs.Laws.{FeasibleFlowsAreStates, StuckSetsBlock};
+//! Laws of states and of nets, each the contract of a function that does nothing.
+ghost use Rattle.mcf_network.specs.Laws.{FeasibleFlowsAreStates, GreatestPricesCarryOver, NetFlowsCostNoMore, NetsBlockAlike, RestoredLeastFlowsAreLeast, StuckSetsBlock};
 
 /// The states of a net without surplus are its feasible flows.
 pub fn feasible_flows_are_states()
@@ -9,4 +9,25 @@ pub fn feasible_flows_are_states()
 /// A set that no surplus can leave blocks every flow: it must send more than it can.
 pub fn stuck_sets_block()
     ensures { StuckSetsBlock }
+{}
+
+/// For each feasible flow of a network some state of its net without surplus costs no more, but for a cost
+/// that is the same for all flows.
+pub fn net_flows_cost_no_more()
+    ensures { NetFlowsCostNoMore }
+{}
+
+/// A node set blocks the net exactly where it blocks the network.
+pub fn nets_block_alike()
+    ensures { NetsBlockAlike }
+{}
+
+/// The flow for which a least flow of the net stands is least.
+pub fn restored_least_flows_are_least()
+    ensures { RestoredLeastFlowsAreLeast }
+{}
+
+/// A flow of the net and the flow for which it stands have the same greatest prices not above 0.
+pub fn greatest_prices_carry_over()
+    ensures { GreatestPricesCarryOver }
 {}

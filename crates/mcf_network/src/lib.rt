@@ -5,12 +5,15 @@
 //! It stands on `mcf_instance`, and speaks of a net as of an instance: a network whose lows are 0 and
 //! whose caps are the widths. Definitions stand in `specs/`: `Nets` says what every net keeps, `Residual`
 //! and `Stars` what leaves a node, `States` and `Walks` what a push does, `NodeSets` and `Stuck` what a
-//! search reaches.
+//! search reaches, `Removal` and `Restoring` how the net of an instance is made and how its states stand
+//! for flows of the instance, and `Laws` what carries over from one to the other.
 
 mod laws;
 mod leaving;
 mod net;
 mod node_set;
+mod removal;
+mod restoring;
 mod rid;
 mod star;
 mod state;
@@ -18,10 +21,14 @@ mod stored;
 mod surplus;
 mod walk;
 
-pub use laws::{feasible_flows_are_states, stuck_sets_block};
+pub use laws::{
+    feasible_flows_are_states, greatest_prices_carry_over, net_flows_cost_no_more,
+    nets_block_alike, restored_least_flows_are_least, stuck_sets_block,
+};
 pub use leaving::Leaving;
 pub use net::Net;
 pub use node_set::NodeSet;
+pub use restoring::restore;
 pub use rid::Rid;
 pub use state::State;
 pub use walk::{push_along, room_along};

@@ -1,0 +1,29 @@
+use Rattle.std.proofs.Common.{◌≡◌, ◌∙◌, map, ap, subst, sym}
+use Rattle.std.specs.List.{All}
+use Rattle.mcf_instance.specs.Network.{node_count}
+use Rattle.mcf_instance.specs.WellFormed.{HasEnds}
+use Rattle.mcf_network.specs.Nets.{IsNet}
+use Rattle.mcf_network.specs.Stored.{stored_arc, stored_net}
+use Rattle.mcf_network.proofs.RemovalLaws.{net_ends, net_is, net_of-node_count, net_of_ok}
+use Rattle.mcf_network.proofs.net.Net.of.Goals as goal
+
+pub forward_star-requires-clause-ends : goal.forward_star-requires-clause-ends
+forward_star-requires-clause-ends c =
+    let all : All (HasEnds c.node_count-nodes.result) (map stored_arc c.deref.result.now) = rw (c.deref.ensures.value, c.in_ok-arcs.ensures, c.node_count-nodes.ensures.value) (net_ends c.args.instance.now c.node_count-nodes.ensures.well_formed) in
+    all
+
+pub invariant_of-result : goal.invariant_of-result
+invariant_of-result c =
+    let g = c.args.instance.now in
+    let is = net_is g c.problem.result c.in_ok-arcs.arcs.items c.in_ok-supplies.supplies.items c.problem.ensures.value c.in_ok-arcs.ensures c.in_ok-supplies.ensures in
+    let nodes : node_count (stored_net c.problem.result c.in_ok-arcs.arcs.items c.in_ok-supplies.supplies.items) ≡ c.node_count-nodes.result = ap node_count is ∙ net_of-node_count g ∙ sym c.node_count-nodes.ensures.value in
+    record {
+      of_net = subst IsNet (sym is) (net_of_ok g c.node_count-nodes.ensures.well_formed);
+      star = c.in_ok-firsts.ensures (stored_net c.problem.result c.in_ok-arcs.arcs.items c.in_ok-supplies.supplies.items) (ap (map stored_arc) (sym c.deref.ensures.value)) nodes;
+    }
+
+pub returns : goal.returns
+returns c =
+    let g = c.args.instance.now in
+    let is = net_is g c.problem.result c.in_ok-arcs.arcs.items c.in_ok-supplies.supplies.items c.problem.ensures.value c.in_ok-arcs.ensures c.in_ok-supplies.ensures in
+    record { value = is; of_net = subst IsNet (sym is) (net_of_ok g c.node_count-nodes.ensures.well_formed) }

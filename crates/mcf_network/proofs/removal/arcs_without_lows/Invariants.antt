@@ -1,0 +1,7 @@
+use Rattle.std.proofs.Common.{◌≡◌, map, take}
+use Rattle.mcf_network.specs.Removal.{without_low}
+use Rattle.mcf_network.specs.Stored.{stored_arc}
+use Rattle.mcf_network.proofs.removal.arcs_without_lows.Given as goal
+
+abbrev pub invariant-loop-i : goal.invariant-loop-i
+invariant-loop-i l = map stored_arc l.arcs.items ≡ map without_low (take l.i l.instance.arcs)

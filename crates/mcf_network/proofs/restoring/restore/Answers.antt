@@ -1,0 +1,86 @@
+use Rattle.std.proofs.Common.{◌≡◌, ◌<◌, ◌+◌, ◌-◌, length, arith, rules, ap, sym, ◌∙◌, to_z, of_z}
+use mir.Syntax.{w128}
+use Rattle.std.proofs.lemmas.Int.{ints, to_z-of_z}
+use Rattle.mcf_instance.specs.Network.{Network}
+use Rattle.mcf_network.proofs.ArcLaws.{amount_count, amount_of}
+use Rattle.mcf_network.proofs.RemovalLaws.{arc_of}
+use Rattle.mcf_network.proofs.RestoringLaws.{restored_all, restored_done, restored_next, net_of-arc_count}
+use Rattle.mcf_network.proofs.restoring.restore.Goals as goal
+
+pub amount-amount-requires : goal.amount-amount-requires
+amount-amount-requires c =
+    let g = c.args.instance.now in
+    let s = c.args.state.now in
+    let same : length s.net.arcs ≡ length g.arcs = ap (λ (n : Network). length n.arcs) c.requires.of_net ∙ net_of-arc_count g in
+    let h : c.loop-i.i < length g.arcs = omega (arith, c.loop-i-test.true, c.arc_count-count.ensures.value) in
+    omega (arith, c.new-k.ensures, h, same)
+
+pub restored_flow-requires-clause-arc : goal.restored_flow-requires-clause-arc
+restored_flow-requires-clause-arc c =
+    let g = c.args.instance.now in
+    let s = c.args.state.now in
+    let same : length s.net.arcs ≡ length g.arcs = ap (λ (n : Network). length n.arcs) c.requires.of_net ∙ net_of-arc_count g in
+    let h : c.loop-i.i < length g.arcs = omega (arith, c.loop-i-test.true, c.arc_count-count.ensures.value) in
+    (arc_of g c.loop-i.i c.arc.result c.arc.ensures.well_formed h (rw c.new-k.ensures at c.arc.ensures.value)).within
+
+pub restored_flow-requires-clause-high : goal.restored_flow-requires-clause-high
+restored_flow-requires-clause-high c =
+    let g = c.args.instance.now in
+    let s = c.args.state.now in
+    let same : length s.net.arcs ≡ length g.arcs = ap (λ (n : Network). length n.arcs) c.requires.of_net ∙ net_of-arc_count g in
+    let h : c.loop-i.i < length g.arcs = omega (arith, c.loop-i-test.true, c.arc_count-count.ensures.value) in
+    let amount = amount_of s c.new-k.result c.net-net.ensures.valid (omega (arith, c.new-k.ensures, h, same)) in
+    omega (arith, ints, c.amount-amount.ensures.low, c.amount-amount.ensures.high, amount.width)
+
+pub loop-i-preserved : goal.loop-i-preserved
+loop-i-preserved c =
+    let g = c.args.instance.now in
+    let s = c.args.state.now in
+    let same : length s.net.arcs ≡ length g.arcs = ap (λ (n : Network). length n.arcs) c.requires.of_net ∙ net_of-arc_count g in
+    let h : c.loop-i.i < length g.arcs = omega (arith, c.loop-i-test.true, c.arc_count-count.ensures.value) in
+    let a = arc_of g c.loop-i.i c.arc.result c.arc.ensures.well_formed h (rw c.new-k.ensures at c.arc.ensures.value) in
+    let back : c.loop-i.i + 1 - 1 ≡ c.loop-i.i = omega arith in
+    let read = rw (c.new-k.ensures, back) at c.amount-amount.ensures.value in
+    let given : to_z w128 (of_z w128 c.amount-amount.result) ≡ c.amount-amount.result = search (rules, to_z-of_z) in
+    let made : to_z w128 (of_z w128 c.restored_flow.result) ≡ c.restored_flow.result = search (rules, to_z-of_z) in
+    restored_next g.arcs s.amounts c.loop-i.i c.arc.result c.amount-amount.result (to_z w128 (of_z w128 c.restored_flow.result)) c.loop-i.flow.items c.push.new.self.items (omega (arith, same, amount_count s c.net-net.ensures.valid)) h a.is (sym read) (made ∙ (rw given at c.restored_flow.ensures)) c.loop-i.invariant (search rules)
+
+pub returns-clause-value : goal.returns-clause-value
+returns-clause-value c =
+    let g = c.args.instance.now in
+    let s = c.args.state.now in
+    let same : length s.net.arcs ≡ length g.arcs = ap (λ (n : Network). length n.arcs) c.requires.of_net ∙ net_of-arc_count g in
+    let count = amount_count s c.net-net.ensures.valid in
+    let all = restored_all g s c.arc_count-count.ensures.well_formed c.requires.of_net c.net-net.ensures.valid c.requires.no_surplus in
+    let is = restored_done g.arcs s.amounts c.loop-i.i c.loop-i.flow.items (omega (arith, same, count)) (omega (arith, c.loop-i-test.false, c.arc_count-count.ensures.value)) c.loop-i.invariant in
+    is
+
+pub returns-clause-feasible : goal.returns-clause-feasible
+returns-clause-feasible c =
+    let g = c.args.instance.now in
+    let s = c.args.state.now in
+    let same : length s.net.arcs ≡ length g.arcs = ap (λ (n : Network). length n.arcs) c.requires.of_net ∙ net_of-arc_count g in
+    let count = amount_count s c.net-net.ensures.valid in
+    let all = restored_all g s c.arc_count-count.ensures.well_formed c.requires.of_net c.net-net.ensures.valid c.requires.no_surplus in
+    let is = restored_done g.arcs s.amounts c.loop-i.i c.loop-i.flow.items (omega (arith, same, count)) (omega (arith, c.loop-i-test.false, c.arc_count-count.ensures.value)) c.loop-i.invariant in
+    rw is all.feasible
+
+pub returns-clause-shown : goal.returns-clause-shown
+returns-clause-shown c =
+    let g = c.args.instance.now in
+    let s = c.args.state.now in
+    let same : length s.net.arcs ≡ length g.arcs = ap (λ (n : Network). length n.arcs) c.requires.of_net ∙ net_of-arc_count g in
+    let count = amount_count s c.net-net.ensures.valid in
+    let all = restored_all g s c.arc_count-count.ensures.well_formed c.requires.of_net c.net-net.ensures.valid c.requires.no_surplus in
+    let is = restored_done g.arcs s.amounts c.loop-i.i c.loop-i.flow.items (omega (arith, same, count)) (omega (arith, c.loop-i-test.false, c.arc_count-count.ensures.value)) c.loop-i.invariant in
+    rw is all.shown
+
+pub returns-clause-cost : goal.returns-clause-cost
+returns-clause-cost c =
+    let g = c.args.instance.now in
+    let s = c.args.state.now in
+    let same : length s.net.arcs ≡ length g.arcs = ap (λ (n : Network). length n.arcs) c.requires.of_net ∙ net_of-arc_count g in
+    let count = amount_count s c.net-net.ensures.valid in
+    let all = restored_all g s c.arc_count-count.ensures.well_formed c.requires.of_net c.net-net.ensures.valid c.requires.no_surplus in
+    let is = restored_done g.arcs s.amounts c.loop-i.i c.loop-i.flow.items (omega (arith, same, count)) (omega (arith, c.loop-i-test.false, c.arc_count-count.ensures.value)) c.loop-i.invariant in
+    rw is all.cost_is

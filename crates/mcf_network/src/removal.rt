@@ -1,0 +1,98 @@
+//! Lower bounds taken away.
+ghost use Rattle.std.specs.Prelude.{◌≡◌, IfOk, map};
+ghost use Rattle.std.specs.List.{range_with_len};
+ghost use Rattle.mcf_instance.specs.Limits.{wide_limits};
+ghost use Rattle.mcf_instance.specs.Network.{node_count};
+ghost use Rattle.mcf_instance.specs.WellFormed.{IsArcWithin};
+ghost use Rattle.mcf_network.specs.Nets.{IsNet};
+ghost use Rattle.mcf_network.specs.Removal.{net_of, supply_left, without_low};
+ghost use Rattle.mcf_network.specs.Stored.{stored_arc};
+
+use crate::net::Net;
+use crate::star::forward_star;
+use crate::stored::StoredArc;
+use crate::surplus::move_surplus;
+use mcf_instance::{Arc, Instance};
+use mcf_text::{ArcId, NoMemory, NodeId};
+use std::alloc::Global;
+
+impl Net {
+    /// The net of an instance: each arc keeps its number, its ends and its cost; its width is its cap less
+    /// its low, or 0 for a loop; the supplies are those left when each arc carries its low (Ahuja,
+    /// Magnanti and Orlin, Network Flows, section 2.4).
+    ///
+    /// # Errors
+    ///
+    /// Want of memory.
+    pub fn of(alloc: Global, instance: &Instance) -> Result<Net, NoMemory>
+        ensures value { IfOk result (λ made. made ≡ net_of instance.now) }
+        ensures of_net { IfOk result IsNet }
+    {
+        let nodes = instance.node_count();
+        let arcs = arcs_without_lows(alloc, instance)?;
+        let supplies = supplies_left(alloc, instance)?;
+        let (firsts, outs) = forward_star(alloc, &arcs, nodes)?;
+        Ok(Net {
+            problem: instance.problem(),
+            arcs,
+            supplies,
+            firsts,
+            outs,
+        })
+    }
+}
+
+// The arcs with their lows taken away.
+fn arcs_without_lows(alloc: Global, instance: &Instance) -> Result<Vec<StoredArc>, NoMemory>
+    ensures { IfOk result (λ arcs. map stored_arc arcs.items ≡ map without_low instance.now.arcs) }
+{
+    let count = instance.arc_count();
+    let mut arcs = Vec::with_capacity(alloc, count as usize)?;
+    for i in 0..count {
+        arcs.push(without_low(instance.arc(ArcId::new(i + 1))))?;
+    }
+    Ok(arcs)
+}
+
+// The arc with its low taken away.
+fn without_low(a: Arc) -> StoredArc
+    requires { IsArcWithin wide_limits a }
+    ensures { stored_arc result ≡ without_low a }
+{
+    let src = a.src.get();
+    let dst = a.dst.get();
+    StoredArc {
+        src,
+        dst,
+        width: if src == dst {
+            0
+        } else {
+            (a.cap - a.low) as i64
+        },
+        cost: a.cost as i64,
+    }
+}
+
+// The supplies that are left when each arc carries its low.
+fn supplies_left(alloc: Global, instance: &Instance) -> Result<Vec<i128>, NoMemory>
+    ensures { IfOk result (λ left. left.items ≡ map (supply_left instance.now) (range_with_len 1 (node_count instance.now))) }
+{
+    let mut left = supplies_of(alloc, instance)?;
+    for i in 0..instance.arc_count() {
+        let a = instance.arc(ArcId::new(i + 1));
+        move_surplus(&mut left, a.src, a.dst, a.low);
+    }
+    Ok(left)
+}
+
+// The supplies of the nodes.
+fn supplies_of(alloc: Global, instance: &Instance) -> Result<Vec<i128>, NoMemory>
+    ensures { IfOk result (λ supplies. supplies.items ≡ instance.now.supplies) }
+{
+    let count = instance.node_count();
+    let mut supplies = Vec::with_capacity(alloc, count as usize)?;
+    for i in 0..count {
+        supplies.push(instance.supply(NodeId::new(i + 1)))?;
+    }
+    Ok(supplies)
+}

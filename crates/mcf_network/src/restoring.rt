@@ -1,0 +1,55 @@
+//! Lower bounds put back.
+ghost use Rattle.std.specs.Prelude.{◌≡◌, ◌+ℤ◌, ◌≤ℤ◌, ◌↔◌, ℤ, List, IfOk, pos};
+ghost use Rattle.mcf_instance.specs.Flow.{IsFeasible, Shows, cost};
+ghost use Rattle.mcf_instance.specs.Limits.{wide_limits};
+ghost use Rattle.mcf_instance.specs.WellFormed.{IsArcWithin};
+ghost use Rattle.mcf_network.specs.Nets.{width_limit};
+ghost use Rattle.mcf_network.specs.Removal.{net_of};
+ghost use Rattle.mcf_network.specs.Restoring.{fixed_cost, restored, restored_flow};
+ghost use Rattle.mcf_network.specs.States.{HasNoSurplus};
+
+use crate::state::State;
+use mcf_instance::{Arc, Instance};
+use mcf_text::{ArcId, NoMemory};
+use std::alloc::Global;
+
+/// The flow of an instance for which a state of its net without surplus stands: its low and the amount on
+/// each arc that is no loop; a loop of negative cost carries its cap, every other loop its low.
+///
+/// # Errors
+///
+/// Want of memory.
+pub fn restore(alloc: Global, instance: &Instance, state: &State<'_>) -> Result<Vec<i128>, NoMemory>
+    requires of_net { state.now.net ≡ net_of instance.now }
+    requires no_surplus { HasNoSurplus state.now }
+    ensures value { IfOk result (λ flow. flow.items ≡ restored instance.now.arcs state.now.amounts) }
+    ensures feasible { IfOk result (λ flow. IsFeasible instance.now flow.items) }
+    ensures shown { IfOk result (λ flow. (prices : List ℤ) → Shows instance.now.arcs prices flow.items ↔ Shows state.now.net.arcs prices state.now.amounts) }
+    ensures cost { IfOk result (λ flow. cost instance.now.arcs flow.items ≡ cost state.now.net.arcs state.now.amounts +ℤ fixed_cost instance.now.arcs) }
+{
+    let _net = state.net();
+    let count = instance.arc_count();
+    let mut flow = Vec::with_capacity(alloc, count as usize)?;
+    for i in 0..count {
+        let k = ArcId::new(i + 1);
+        let amount = state.amount(k);
+        flow.push(restored_flow(instance.arc(k), amount))?;
+    }
+    Ok(flow)
+}
+
+// What an arc carries where the arc of the net carries an amount.
+fn restored_flow(a: Arc, amount: i128) -> i128
+    requires arc { IsArcWithin wide_limits a }
+    requires low { pos 0 ≤ℤ amount }
+    requires high { amount ≤ℤ pos width_limit }
+    ensures { result ≡ restored_flow a amount }
+{
+    if a.src.get() != a.dst.get() {
+        a.low + amount
+    } else if a.cost < 0 {
+        a.cap
+    } else {
+        a.low
+    }
+}
