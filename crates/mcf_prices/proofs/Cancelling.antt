@@ -1,7 +1,6 @@
 -- A push round a negative cycle: the state keeps no surplus, and gets cheaper.
-use Rattle.std.proofs.Common.{◌≡◌, ◌≢◌, ℕ, ◌<◌, ◌+◌, ◌*◌, ◌^◌, List, [], ◌∷◌, length, get_or, ℤ, pos, nat_abs, ◌+ℤ◌, neg_ℤ, ◌≤ℤ◌, ◌<ℤ◌, refl, sym, ap, subst, ◌∙◌, arith}
-use Rattle.std.proofs.Math.IntN.{◌*ℤ◌}
-use Rattle.std.specs.List.{All, AllPairs, Any}
+use Rattle.std.proofs.Common.{◌≡◌, ℕ, ◌<◌, List, [], ◌∷◌, length, ℤ, pos, nat_abs, ◌+ℤ◌, ◌≤ℤ◌, ◌<ℤ◌, ap, subst, ◌∙◌, arith}
+use Rattle.std.specs.List.{All, Any}
 use Rattle.std.proofs.lemmas.Int.{ints}
 use Rattle.mcf_instance.specs.Flow.{AreGreatestPrices, IsLeast, cost}
 use Rattle.mcf_instance.specs.Network.{Network, IsArcNumber, node_count}
@@ -9,7 +8,7 @@ use Rattle.mcf_instance.proofs.Bounds.{cost_up_to}
 use Rattle.mcf_instance.proofs.Duality.{shown_flows_are_least_lem}
 use Rattle.mcf_instance.proofs.IntLaws.{mul_below_zero}
 use Rattle.mcf_network.specs.declared.rid.Rid.{Rid}
-use Rattle.mcf_network.specs.Nets.{IsNet, net_total_limit}
+use Rattle.mcf_network.specs.Nets.{net_total_limit}
 use Rattle.mcf_network.specs.Residual.{tail}
 use Rattle.mcf_network.specs.States.{Flow, IsFlow, room_of}
 use Rattle.mcf_network.specs.Walks.{CanPushAlong, pushed_along, walk_cost}

@@ -1,13 +1,13 @@
 -- Walks along links, and what they cost.
-use Rattle.std.proofs.Common.{◌≡◌, ◌≢◌, ℕ, zero, suc, ◌<◌, ◌≤◌, ◌+◌, List, [], ◌∷◌, ◌++◌, length, get_or, drop, Bool, true, false, Some, ℤ, pos, ◌+ℤ◌, ◌≤ℤ◌, ◌<ℤ◌, refl, sym, ap, subst, ◌∙◌, arith, ◌⊎◌, inl, inr, length-drop}
+use Rattle.std.proofs.Common.{◌≡◌, ◌≢◌, ℕ, zero, suc, ◌<◌, ◌+◌, List, [], ◌∷◌, ◌++◌, length, get_or, drop, false, ℤ, pos, ◌+ℤ◌, ◌≤ℤ◌, ◌<ℤ◌, refl, sym, ap, subst, ◌∙◌, arith, ◌⊎◌, inl, inr, length-drop}
 use Rattle.std.specs.List.{All, AllPairs, HoldsAt}
 use Rattle.std.proofs.lemmas.Int.{ints}
 use Rattle.std.proofs.lemmas.List.{get_or-drop}
 use Rattle.mcf_instance.specs.Network.{Network, at_node}
 use Rattle.mcf_network.specs.declared.rid.Rid.{Rid}
 use Rattle.mcf_network.specs.Residual.{tail, head, unit_cost}
-use Rattle.mcf_network.specs.Walks.{HasRoom, IsWalk, walk_cost}
-use Rattle.mcf_prices.specs.Labels.{Labels, IsLabelling, IsLink, offer}
+use Rattle.mcf_network.specs.Walks.{IsWalk, walk_cost}
+use Rattle.mcf_prices.specs.Labels.{Labels, IsLabelling, offer}
 use Rattle.mcf_prices.specs.NegativeCycles.{IsNegativeCycle}
 use Rattle.mcf_prices.specs.Trails.{IsStep}
 

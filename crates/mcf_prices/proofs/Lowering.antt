@@ -1,18 +1,18 @@
 -- A residual arc that lowers a price keeps what is known of the labels.
-use Rattle.std.proofs.Common.{◌≡◌, ◌≢◌, ℕ, zero, suc, ◌<◌, ◌≤◌, ◌+◌, ◌-◌, ◌*◌, ◌^◌, List, [], ◌∷◌, length, get_or, set, Bool, true, false, cond, eqb, Option, Some, None, ℤ, pos, ◌+ℤ◌, ◌-ℤ◌, neg_ℤ, ◌≤ℤ◌, ◌<ℤ◌, refl, sym, ap, subst, ◌∙◌, arith, ◌⊎◌, inl, inr, length-set, replicate}
+use Rattle.std.proofs.Common.{◌≡◌, ◌≢◌, ℕ, zero, suc, ◌<◌, ◌≤◌, ◌+◌, ◌-◌, List, [], ◌∷◌, length, get_or, set, cond, eqb, Option, Some, None, ℤ, pos, ◌+ℤ◌, ◌-ℤ◌, neg_ℤ, ◌≤ℤ◌, ◌<ℤ◌, refl, sym, ap, subst, ◌∙◌, arith, inl, inr, length-set, replicate}
 use Rattle.std.proofs.lemmas.Int.{ints}
 use Rattle.std.proofs.lemmas.Bool.{cases_eq, eq-eqb, ne_eqb}
-use Rattle.std.proofs.lemmas.List.{get_or-set_other, get_or-replicate, length-replicate}
+use Rattle.std.proofs.lemmas.List.{get_or-replicate, length-replicate}
 use Rattle.std.proofs.lemmas.List.Elements.{All-set}
 use Rattle.std.proofs.lemmas.Grind.{get_or-set_at}
 use Rattle.mcf_instance.specs.Flow.{AreLowPrices, AreNotAboveZero}
-use Rattle.mcf_instance.specs.Network.{Network, IsNode, at_node, node_count}
+use Rattle.mcf_instance.specs.Network.{IsNode, at_node, node_count}
 use Rattle.mcf_network.specs.declared.rid.Rid.{Rid}
-use Rattle.mcf_network.specs.Residual.{tail, head, unit_cost}
+use Rattle.mcf_network.specs.Residual.{tail, head}
 use Rattle.mcf_network.specs.States.{Flow, IsFlow}
 use Rattle.mcf_network.specs.Walks.{HasRoom}
 use Rattle.mcf_network.proofs.ArcLaws.{tail_is_node, head_is_node}
-use Rattle.mcf_prices.specs.Labels.{Labels, IsLabelling, IsLinked, IsLink, offer, lowered, link_at, AreAtLeast, Respects, cost_limit, total}
+use Rattle.mcf_prices.specs.Labels.{Labels, IsLabelling, IsLinked, IsLink, offer, lowered, AreAtLeast, Respects, cost_limit, total}
 use Rattle.mcf_prices.proofs.Marks.{read_node}
 use Rattle.mcf_prices.proofs.Showing.{respects_from_shows, cost_small}
 

@@ -1,12 +1,12 @@
 -- What the code reads of the labels.
-use Rattle.std.proofs.Common.{◌≡◌, ℕ, ◌<◌, ◌-◌, ◌^◌, ◌*◌, List, length, get_or, Option, None, ℤ, pos, ◌+ℤ◌, ◌≤ℤ◌, ap, sym, subst, ◌∙◌, arith}
+use Rattle.std.proofs.Common.{◌≡◌, ℕ, ◌-◌, ◌^◌, get_or, Option, None, ℤ, pos, ◌+ℤ◌, ap, sym, subst, ◌∙◌, arith}
 use Rattle.std.proofs.lemmas.Int.{ints}
 use Rattle.std.proofs.lemmas.List.{get_or_read}
 use Rattle.mcf_instance.specs.Network.{Network, IsArcNumber, IsNode, at_node, node_count}
 use Rattle.mcf_instance.specs.WellFormed.{IsUpTo}
 use Rattle.mcf_network.specs.declared.rid.Rid.{Rid}
-use Rattle.mcf_network.specs.Residual.{tail, head, unit_cost}
-use Rattle.mcf_network.proofs.ArcLaws.{head_is_node, tail_is_node}
+use Rattle.mcf_network.specs.Residual.{head, unit_cost}
+use Rattle.mcf_network.proofs.ArcLaws.{head_is_node}
 use Rattle.mcf_prices.specs.Labels.{Labels, IsLabelling, AreAtLeast, offer, link_at}
 use Rattle.mcf_prices.proofs.Showing.{cost_small}
 

@@ -1,6 +1,6 @@
 -- The marks of a walk along links.
-use Rattle.std.proofs.Common.{◌≡◌, ◌≢◌, ℕ, ◌<◌, ◌≤◌, ◌+◌, ◌-◌, ◌*◌, List, [], ◌∷◌, ◌++◌, length, set, Bool, true, false, Option, Some, None, ℤ, pos, ◌+ℤ◌, neg_ℤ, ◌≤ℤ◌, refl, sym, ap, subst, ◌∙◌, arith, ◌⊎◌, inl, inr, length-set}
-use Rattle.std.specs.List.{All, AllPairs, HoldsAt}
+use Rattle.std.proofs.Common.{◌≡◌, ◌≢◌, ℕ, ◌<◌, ◌-◌, ◌*◌, List, [], ◌∷◌, ◌++◌, length, Bool, true, false, Option, Some, None, pos, neg_ℤ, ◌≤ℤ◌, refl, sym, ap, subst, ◌∙◌, arith, ◌⊎◌, inl, inr, length-set}
+use Rattle.std.specs.List.{All}
 use Rattle.std.specs.Option.{IfSome, IfNone}
 use Rattle.std.proofs.lemmas.Int.{ints}
 use Rattle.std.proofs.lemmas.Bool.{true≢false, cases_eq}
@@ -12,8 +12,8 @@ use Rattle.mcf_instance.specs.Network.{Network, IsNode, at_node, node_count}
 use Rattle.mcf_network.specs.declared.rid.Rid.{Rid}
 use Rattle.mcf_network.specs.NodeSets.{member_count, with_node}
 use Rattle.mcf_network.specs.Residual.{tail, head}
-use Rattle.mcf_network.specs.Walks.{HasRoom, IsWalk}
-use Rattle.mcf_prices.specs.Labels.{Labels, IsLabelling, IsLink, cost_limit, link_at, offer}
+use Rattle.mcf_network.specs.Walks.{IsWalk}
+use Rattle.mcf_prices.specs.Labels.{Labels, IsLabelling, cost_limit, link_at}
 use Rattle.mcf_prices.specs.Trails.{IsStep, Leaves, IsTrail, IsDone}
 use Rattle.mcf_prices.proofs.LinkWalks.{IsWalk-pop, step_falls}
 use Rattle.mcf_prices.proofs.Marks.{read_node, marked_new, marked_still, counted_new, counted_more}

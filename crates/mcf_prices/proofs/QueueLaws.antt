@@ -1,15 +1,15 @@
 -- What a queue keeps when a node is put into it.
-use Rattle.std.proofs.Common.{◌≡◌, ℕ, ◌+◌, ◌-◌, ◌<◌, ◌≤◌, Bool, true, false, List, [], ◌∷◌, ◌++◌, length, refl, ap, sym, ◌∙◌, arith, ◌⊎◌, inl, inr, length-set, subst, cond}
-use Rattle.std.specs.List.{All, Contains}
+use Rattle.std.proofs.Common.{◌≡◌, ℕ, ◌+◌, ◌-◌, ◌≤◌, Bool, true, false, [], ◌∷◌, ◌++◌, length, refl, sym, ◌∙◌, arith, inl, inr, length-set, subst}
+use Rattle.std.specs.List.{Contains}
 use Rattle.std.proofs.lemmas.Bool.{true≢false, cases_eq}
 use Rattle.std.proofs.lemmas.List.{length_push, length-replicate}
 use Rattle.std.proofs.lemmas.List.Elements.{All-push, Contains-append_left, Contains-push}
 use Rattle.mcf_instance.specs.Blocking.{in_table}
 use Rattle.mcf_instance.specs.Limits.{node_limit}
 use Rattle.mcf_instance.specs.Network.{IsNode}
-use Rattle.mcf_network.specs.NodeSets.{member_count, no_nodes, with_node}
+use Rattle.mcf_network.specs.NodeSets.{with_node}
 use Rattle.mcf_prices.specs.Queues.{Waiting, IsQueue, no_queue, queued}
-use Rattle.mcf_prices.proofs.Marks.{read_node, counted_new, count_none, count_small, unmarked}
+use Rattle.mcf_prices.proofs.Marks.{read_node, counted_new, count_none, unmarked}
 
 pub no_queue_ok : (n : ℕ) → n ≤ node_limit → IsQueue (no_queue n)
 no_queue_ok n h =

@@ -1,5 +1,5 @@
 -- What the residual arcs that enter a node do to the labels and the queue.
-use Rattle.std.proofs.Common.{◌≡◌, ◌≢◌, ℕ, ◌<◌, ◌≤◌, ◌+◌, ◌-◌, ◌*◌, ◌^◌, List, [], ◌∷◌, ◌++◌, length, Bool, true, false, not, get_or, ℤ, pos, ◌+ℤ◌, ◌-ℤ◌, neg_ℤ, ◌≤ℤ◌, ◌<ℤ◌, refl, sym, ap, subst, ◌∙◌, arith, ◌⊎◌, inl, inr}
+use Rattle.std.proofs.Common.{◌≡◌, ℕ, ◌+◌, List, [], ◌∷◌, length, Bool, true, false, get_or, refl, sym, ap, subst, ◌∙◌, arith, ◌⊎◌, inl, inr}
 use Rattle.std.specs.List.{All, Contains}
 use Rattle.std.proofs.lemmas.Int.{ints}
 use Rattle.std.proofs.lemmas.Bool.{cases_eq}
@@ -7,12 +7,12 @@ use Rattle.std.proofs.lemmas.List.Elements.{Contains-append_cases}
 use Rattle.mcf_instance.specs.Blocking.{in_table}
 use Rattle.mcf_instance.specs.Network.{Network, IsNode, at_node, node_count}
 use Rattle.mcf_network.specs.declared.rid.Rid.{Rid}
-use Rattle.mcf_network.specs.Residual.{tail, head, unit_cost}
+use Rattle.mcf_network.specs.Residual.{tail, head}
 use Rattle.mcf_network.specs.Stars.{Leaves, ListsLeaving}
 use Rattle.mcf_network.specs.States.{Flow}
 use Rattle.mcf_network.specs.Walks.{HasRoom}
 use Rattle.mcf_network.proofs.ArcLaws.{tail_is_node, head_is_node}
-use Rattle.mcf_prices.specs.Labels.{Labels, IsLabelling, IsLowering, IsKeeping, AreAtLeast, Respects, cost_limit, lowered, offer, total}
+use Rattle.mcf_prices.specs.Labels.{Labels, IsLabelling, IsLowering, IsKeeping, Respects, cost_limit, lowered}
 use Rattle.mcf_prices.specs.Queues.{Waiting, IsQueue, queued}
 use Rattle.mcf_prices.specs.Rounds.{IsHandled, IsProgress, reverse}
 use Rattle.mcf_prices.proofs.Lowering.{lowered_ok, lowered_other, lowered_no_rise, lowered_total, offer_low, lowered_floor, lowered_respects}
@@ -55,10 +55,10 @@ handled_lowered l q q' r p ok low queued' room (inl respects) =
     elim (cases_eq (head l.flow.net p) (tail l.flow.net r)) [
       | inl e ↦ inr (subst (λ x. Contains q'.nodes x) (sym e) queued'.here)
       | inr n ↦ inl (λ _.
-        let there = lowered_other l r ok low.has_room low.less (head l.flow.net p) (head_is_node l.flow.net p.arc p.back ok.flow.of_net room.arc).0 n in
-        let less = lowered_no_rise l r ok low.has_room low.less (tail l.flow.net p) (tail_is_node l.flow.net p.arc p.back ok.flow.of_net room.arc).0 in
-        let old = respects room in
-        omega (arith, ints, there, less, old))
+          let there = lowered_other l r ok low.has_room low.less (head l.flow.net p) (head_is_node l.flow.net p.arc p.back ok.flow.of_net room.arc).0 n in
+          let less = lowered_no_rise l r ok low.has_room low.less (tail l.flow.net p) (tail_is_node l.flow.net p.arc p.back ok.flow.of_net room.arc).0 in
+          let old = respects room in
+          omega (arith, ints, there, less, old))
     ]
 
 -- the residual arc that lowered the price of its tail is handled itself
@@ -105,11 +105,11 @@ entering_lowered old now before q q' w out rest inside at low enters queue queue
         waits = λ v h. queued'.others v (at.progress.waits v h);
         keeps = λ p h respects. handled_lowered now q q' r p ok low queued' (room p h) (at.progress.keeps p h respects);
         floor = λ f floor. lowered_floor now r ok low.has_room low.less (f + cost_limit) (at.progress.floor f floor) (
-          let offered = offer_low now r ok low.has_room low.less in
-          let there = ap (at_node now.prices) enters_now in
-          let was = at.same_price in
-          let deep = floor w inside in
-          omega (arith, ints, offered, there, was, deep));
+            let offered = offer_low now r ok low.has_room low.less in
+            let there = ap (at_node now.prices) enters_now in
+            let was = at.same_price in
+            let deep = floor w inside in
+            omega (arith, ints, offered, there, was, deep));
         not_above = let was = at.progress.not_above in omega (arith, ints, was, less);
         falls = λ h. let was = at.progress.not_above in omega (arith, ints, was, less);
       };
@@ -154,8 +154,8 @@ entered_leaves l w g list net lists = subst (λ n. All (Leaves n w) list) net li
 pub entered_first : (inside l : Labels) (q : Waiting) (w : ℕ) (g : Network) (list : List Rid) → inside ≡ l → IsLabelling inside → IsQueue q → g ≡ l.flow.net → ListsLeaving g w list → IsEntering l l q q w list
 entered_first inside l q w g list view ok queue net lists =
     entering_start l q w list (subst IsLabelling view ok) queue (λ r room e.
-      let every = (subst (λ n. ListsLeaving n w list) net lists).every in
-      every (reverse r) (record { arc = room.arc; from = tail_reverse l.flow.net r.arc r.back ∙ e }))
+    let every = (subst (λ n. ListsLeaving n w list) net lists).every in
+    every (reverse r) (record { arc = room.arc; from = tail_reverse l.flow.net r.arc r.back ∙ e }))
 
 pub entered_lowered : (inside old now new : Labels) (before q q' : Waiting) (w from : ℕ) (g : Network) (out : Rid) (rest : List Rid) → inside ≡ old → IsLabelling inside → IsNode (node_count old.flow.net) w → length before.table ≡ node_count old.flow.net → Leaves old.flow.net w out → IsEntering old now before q w (out ∷ rest) → IsLowering now new (reverse out) → g ≡ old.flow.net → from ≡ tail g (reverse out) → IsQueue q' → q' ≡ queued q from → IsEntering old new before q' w rest
 entered_lowered inside old now new before q q' w from g out rest view ok node table leaves at low net from_is valid value =

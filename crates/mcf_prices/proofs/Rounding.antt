@@ -1,6 +1,6 @@
 -- A round: the nodes that wait relax the residual arcs that enter them, one after another.
-use Rattle.std.proofs.Common.{◌≡◌, ◌≢◌, ℕ, ◌<◌, ◌≤◌, ◌+◌, ◌-◌, ◌*◌, ◌^◌, List, [], ◌∷◌, length, get_or, replicate, Bool, true, false, ℤ, pos, ◌+ℤ◌, neg_ℤ, ◌≤ℤ◌, ◌<ℤ◌, refl, sym, ap, subst, ◌∙◌, arith, ◌⊎◌, inl, inr}
-use Rattle.std.specs.List.{All, Contains}
+use Rattle.std.proofs.Common.{◌≡◌, ℕ, ◌<◌, ◌≤◌, ◌+◌, ◌-◌, ◌*◌, ◌^◌, List, [], ◌∷◌, length, get_or, replicate, ℤ, pos, ◌<ℤ◌, refl, sym, ap, subst, ◌∙◌, arith, ◌⊎◌, inl, inr}
+use Rattle.std.specs.List.{Contains}
 use Rattle.std.proofs.lemmas.Int.{ints}
 use Rattle.std.proofs.lemmas.Bool.{cases_eq, cases_lt}
 use Rattle.std.proofs.lemmas.List.{get_or_default, get_or-replicate, length-replicate}
@@ -8,11 +8,11 @@ use Rattle.mcf_instance.specs.Flow.{AreGreatestPrices}
 use Rattle.mcf_instance.specs.Limits.{node_limit}
 use Rattle.mcf_instance.specs.Network.{Network, IsNode, at_node, node_count}
 use Rattle.mcf_network.specs.declared.rid.Rid.{Rid}
-use Rattle.mcf_network.specs.Residual.{tail, head}
+use Rattle.mcf_network.specs.Residual.{head}
 use Rattle.mcf_network.specs.States.{Flow}
 use Rattle.mcf_network.specs.Walks.{HasRoom}
 use Rattle.mcf_network.proofs.ArcLaws.{head_is_node}
-use Rattle.mcf_prices.specs.Labels.{Labels, IsLabelling, AreAtLeast, Respects, cost_limit, total}
+use Rattle.mcf_prices.specs.Labels.{Labels, IsLabelling, AreAtLeast, cost_limit, total}
 use Rattle.mcf_prices.specs.Queues.{Waiting, IsQueue, no_queue}
 use Rattle.mcf_prices.specs.Rounds.{IsHandled, IsProgress}
 use Rattle.mcf_prices.proofs.Marks.{count_small}
@@ -85,21 +85,23 @@ round_next first now next before q q' nodes i w at inside is progress here =
         sym waits.3 ∙ ap (λ k. get_or nodes k (head first.flow.net r)) e ∙ get_or_default nodes i (head first.flow.net r) w inside ∙ sym is
 
 pub round_end : (first now : Labels) (before after : Waiting) (nodes : List ℕ) (i : ℕ) → length nodes ≤ i → i ≤ node_limit → RoundAt first now before after nodes i → IsProgress first now before after (10 ^ 21) × ((r : Rid) → HasRoom first.flow r → IsHandled now after r)
-round_end first now before after nodes i past small at =
-    (record {
-      valid = p.valid;
-      queue = p.queue;
-      flow = p.flow;
-      table = p.table;
-      waits = p.waits;
-      keeps = p.keeps;
-      floor = λ f floor v h. let here = p.floor f floor v h in omega (arith, ints, here, small);
-      not_above = p.not_above;
-      falls = p.falls;
-    }, λ r room. elim (at.handled r room) [
-      | inl handled ↦ handled
-      | inr waits ↦ (let low = waits.1 in let high = waits.2 in absurd (omega (arith, low, high, past)))
-    ])
+round_end first now before after nodes i past small at = (
+  record {
+    valid = p.valid;
+    queue = p.queue;
+    flow = p.flow;
+    table = p.table;
+    waits = p.waits;
+    keeps = p.keeps;
+    floor = λ f floor v h. let here = p.floor f floor v h in omega (arith, ints, here, small);
+    not_above = p.not_above;
+    falls = p.falls;
+  },
+  λ r room. elim (at.handled r room) [
+    | inl handled ↦ handled
+    | inr waits ↦ (let low = waits.1 in let high = waits.2 in absurd (omega (arith, low, high, past)))
+  ],
+)
   where
     p : IsProgress first now before after (cost_limit * i)
     p = at.progress

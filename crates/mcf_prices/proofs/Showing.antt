@@ -1,10 +1,9 @@
 -- Prices that show a flow are those that no residual arc with room can lower.
-use Rattle.std.proofs.Common.{◌≡◌, ◌≢◌, ℕ, ◌<◌, ◌+◌, ◌-◌, List, length, get_or, Bool, true, false, ℤ, pos, ◌+ℤ◌, ◌-ℤ◌, neg_ℤ, ◌≤ℤ◌, ◌<ℤ◌, ap, sym, ◌∙◌, arith}
+use Rattle.std.proofs.Common.{◌≡◌, ◌≢◌, ℕ, ◌<◌, ◌+◌, ◌-◌, List, length, get_or, Bool, true, false, ℤ, pos, ap, sym, ◌∙◌, arith}
 use Rattle.std.proofs.lemmas.Int.{ints, by_lt_z}
 use Rattle.std.proofs.lemmas.List.{get_or_default}
-use Rattle.mcf_instance.specs.declared.arc.Arc.{Arc}
 use Rattle.mcf_instance.specs.Flow.{IsTight, Shows, reduced_cost}
-use Rattle.mcf_instance.specs.Network.{Network, IsArcNumber, at_node, node_count}
+use Rattle.mcf_instance.specs.Network.{Network, IsArcNumber}
 use Rattle.mcf_instance.specs.WellFormed.{IsUpTo}
 use Rattle.mcf_instance.proofs.AllZips.{AllZip-at, AllZip_from}
 use Rattle.mcf_network.specs.declared.rid.Rid.{Rid}
@@ -57,16 +56,17 @@ tight_at s y k ok respects h =
     let amount = amount_of s k ok h in
     let low = amount.low in
     let high = amount.high in
-    let none = (net_arc_at s.net k ok.of_net h).no_low in
-    (λ p. by_lt_z (pos 0) (amount_at s k) (λ q. let r = respects (rid k true) (record { arc = h; room = q }) in absurd (omega (arith, ints, r, p))) (λ q. omega (arith, ints, low, none, q)),
-      λ p. by_lt_z (pos 0) (room_of s (rid k false)) (λ q. let r = respects (rid k false) (record { arc = h; room = q }) in absurd (omega (arith, ints, r, p))) (λ q. omega (arith, ints, high, q)))
+    let none = (net_arc_at s.net k ok.of_net h).no_low in (
+      λ p. by_lt_z (pos 0) (amount_at s k) (λ q. let r = respects (rid k true) (record { arc = h; room = q }) in absurd (omega (arith, ints, r, p))) (λ q. omega (arith, ints, low, none, q)),
+      λ p. by_lt_z (pos 0) (room_of s (rid k false)) (λ q. let r = respects (rid k false) (record { arc = h; room = q }) in absurd (omega (arith, ints, r, p))) (λ q. omega (arith, ints, high, q)),
+    )
 
 pub shows_from_respects : (s : Flow) (y : List ℤ) → IsFlow s → ((r : Rid) → Respects s y r) → Shows s.net.arcs y s.amounts
 shows_from_respects s y ok respects =
     AllZip_from (IsTight y) s.net.arcs s.amounts (amount_count s ok) (λ i h a f.
-      let here : IsArcNumber s.net (i + 1) = (omega arith, omega arith) in
-      let same : i ≡ i + 1 - 1 = omega arith in
-      let inside : i < length s.amounts = omega (arith, h, amount_count s ok) in
-      let arc = get_or_default s.net.arcs i a no_arc h ∙ ap (λ j. get_or s.net.arcs j no_arc) same in
-      let amount = get_or_default s.amounts i f (pos 0) inside ∙ ap (λ j. get_or s.amounts j (pos 0)) same in
-      rw (arc, amount) (tight_at s y (i + 1) ok respects here))
+    let here : IsArcNumber s.net (i + 1) = (omega arith, omega arith) in
+    let same : i ≡ i + 1 - 1 = omega arith in
+    let inside : i < length s.amounts = omega (arith, h, amount_count s ok) in
+    let arc = get_or_default s.net.arcs i a no_arc h ∙ ap (λ j. get_or s.net.arcs j no_arc) same in
+    let amount = get_or_default s.amounts i f (pos 0) inside ∙ ap (λ j. get_or s.amounts j (pos 0)) same in
+    rw (arc, amount) (tight_at s y (i + 1) ok respects here))

@@ -1,10 +1,10 @@
 -- A round of a search for prices: each node that waits relaxes the residual arcs that enter it.
-use Rattle.std.specs.Prelude.{◌≡◌, ℕ, ◌<◌, ◌≤◌, ◌+◌, List, length, ◌≤ℤ◌, ◌<ℤ◌, ◌⊎◌, not}
+use Rattle.std.specs.Prelude.{◌≡◌, ℕ, ◌<◌, ◌+◌, length, ◌≤ℤ◌, ◌<ℤ◌, ◌⊎◌, not}
 use Rattle.std.specs.List.{Contains}
 use Rattle.mcf_network.specs.declared.rid.Rid.{Rid}
 use Rattle.mcf_network.specs.Residual.{head}
 use Rattle.mcf_network.specs.Walks.{HasRoom}
-use Rattle.mcf_prices.specs.Labels.{Labels, IsLabelling, AreAtLeast, Respects, cost_limit, total}
+use Rattle.mcf_prices.specs.Labels.{Labels, IsLabelling, AreAtLeast, Respects, total}
 use Rattle.mcf_prices.specs.Queues.{Waiting, IsQueue}
 
 -- the residual arc the other way

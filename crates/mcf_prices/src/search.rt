@@ -39,10 +39,7 @@ impl<'s, 'n> Model for Search<'s, 'n> {
 
 impl<'s, 'n> Search<'s, 'n> {
     /// All prices 0, and no links.
-    pub(crate) fn start(
-        alloc: Global,
-        state: &'s State<'n>,
-    ) -> Result<Search<'s, 'n>, NoMemory>
+    pub(crate) fn start(alloc: Global, state: &'s State<'n>) -> Result<Search<'s, 'n>, NoMemory>
         ensures flow { IfOk result (λ l. l.flow ≡ state.now) }
         ensures prices { IfOk result (λ l. l.prices ≡ replicate (node_count state.now.net) (pos 0)) }
         ensures valid { IfOk result IsLabelling }

@@ -1,4 +1,4 @@
-use Rattle.std.proofs.Common.{◌≡◌, rules, to_z, of_z, pos, ◌<ℤ◌}
+use Rattle.std.proofs.Common.{◌≡◌, rules, to_z, of_z}
 use mir.Syntax.{w128}
 use Rattle.std.proofs.lemmas.Int.{to_z-of_z}
 use Rattle.mcf_prices.proofs.Cancelling.{cost_height_falls, cycle_can_push, cycle_feasible, cycle_positive, least_from_prices}

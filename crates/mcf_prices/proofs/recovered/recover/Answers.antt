@@ -1,13 +1,11 @@
-use Rattle.std.proofs.Common.{◌≡◌, ℕ, ◌*◌, ◌<ℤ◌, [], arith, rules, ap, subst, sym, ◌∙◌, length, refl, false}
+use Rattle.std.proofs.Common.{◌≡◌, ◌*◌, [], arith, rules, ap, subst, sym, ◌∙◌, length, refl, false}
 use Rattle.std.proofs.lemmas.Bool.{true≢false}
 use Rattle.std.proofs.lemmas.List.{length-replicate}
 use Rattle.mcf_instance.specs.Network.{Network, node_count}
-use Rattle.mcf_network.specs.declared.rid.Rid.{Rid}
 use Rattle.mcf_network.specs.States.{Flow}
 use Rattle.mcf_network.specs.Walks.{HasRoom}
-use Rattle.mcf_prices.specs.Labels.{AreAtLeast, cost_limit, total}
-use Rattle.mcf_prices.specs.Queues.{Waiting, IsQueue, no_queue}
-use Rattle.mcf_prices.specs.Rounds.{IsHandled}
+use Rattle.mcf_prices.specs.Labels.{AreAtLeast, cost_limit}
+use Rattle.mcf_prices.specs.Queues.{Waiting, no_queue}
 use Rattle.mcf_prices.proofs.Cycles.{height_falls}
 use Rattle.mcf_prices.proofs.Rounding.{start_floor, all_wait, floor_between, recovered_prices, round_falls}
 use Rattle.mcf_prices.proofs.recovered.recover.Goals as goal

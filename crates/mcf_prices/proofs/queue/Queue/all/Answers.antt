@@ -1,8 +1,7 @@
-use Rattle.std.proofs.Common.{◌≡◌, ℕ, ◌+◌, arith, length, refl, rules, ◌∙◌, subst, sym}
-use Rattle.std.specs.List.{Contains}
+use Rattle.std.proofs.Common.{◌≡◌, ◌+◌, arith, length, refl, rules, ◌∙◌}
 use Rattle.mcf_instance.specs.Network.{IsNode}
 use Rattle.mcf_instance.specs.Blocking.{in_table}
-use Rattle.mcf_prices.specs.Queues.{Waiting, IsQueue, queued}
+use Rattle.mcf_prices.specs.Queues.{queued}
 use Rattle.mcf_prices.proofs.QueueLaws.{queued_ok, queued_more}
 use Rattle.mcf_prices.proofs.queue.Queue.all.Goals as goal
 

@@ -1,4 +1,4 @@
-use Rattle.std.proofs.Common.{◌≡◌, ◌+◌, arith, subst, ap, ◌∙◌}
+use Rattle.std.proofs.Common.{arith, subst, ap, ◌∙◌}
 use Rattle.mcf_instance.specs.Network.{Network, node_count}
 use Rattle.std.proofs.lemmas.Bool.{OnFalse_at}
 use Rattle.mcf_prices.specs.Labels.{Labels, IsLabelling}

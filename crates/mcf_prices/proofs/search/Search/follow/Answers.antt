@@ -1,8 +1,8 @@
-use Rattle.std.proofs.Common.{◌≡◌, ◌++◌, ◌∷◌, [], rules, arith, subst, ap, ◌∙◌, sym, false, length, length-set, true}
+use Rattle.std.proofs.Common.{◌≡◌, ◌++◌, ◌∷◌, [], rules, subst, ap, ◌∙◌, false}
 use Rattle.mcf_instance.specs.Network.{Network, IsNode, node_count}
 use Rattle.mcf_instance.specs.Blocking.{in_table}
-use Rattle.mcf_network.specs.Residual.{tail, head}
-use Rattle.mcf_prices.specs.Labels.{Labels, IsLabelling}
+use Rattle.mcf_network.specs.Residual.{head}
+use Rattle.mcf_prices.specs.Labels.{Labels}
 use Rattle.mcf_prices.proofs.LinkWalks.{IsWalk-push}
 use Rattle.mcf_prices.proofs.Paths.{trail_push}
 use Rattle.mcf_prices.proofs.search.Search.follow.Goals as goal

@@ -1,5 +1,4 @@
-use Rattle.std.proofs.Common.{◌≡◌, arith, subst, sym}
-use Rattle.mcf_instance.specs.Network.{node_count, IsNode}
+use Rattle.std.proofs.Common.{arith, subst}
 use Rattle.mcf_prices.specs.Labels.{Labels, IsLabelling}
 use Rattle.mcf_prices.proofs.Offers.{read_link}
 use Rattle.mcf_prices.proofs.Paths.{link_step}

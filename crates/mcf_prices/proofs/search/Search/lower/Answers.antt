@@ -1,6 +1,6 @@
-use Rattle.std.proofs.Common.{◌≡◌, rules, arith, to_z, of_z, ◌<ℤ◌, subst, sym, ap, ◌∙◌}
+use Rattle.std.proofs.Common.{◌≡◌, to_z, of_z, ◌<ℤ◌, subst, sym, ap, ◌∙◌}
 use mir.Syntax.{w128}
-use Rattle.std.proofs.lemmas.Int.{ints, to_z-of_z}
+use Rattle.std.proofs.lemmas.Int.{to_z-of_z}
 use Rattle.mcf_instance.specs.Network.{Network, at_node}
 use Rattle.mcf_network.specs.Residual.{tail}
 use Rattle.mcf_network.specs.Walks.{HasRoom}

@@ -1,4 +1,4 @@
-use Rattle.std.proofs.Common.{arith, ap}
+use Rattle.std.proofs.Common.{arith}
 use Rattle.std.proofs.lemmas.Int.{ints}
 use Rattle.mcf_prices.specs.Labels.{Labels}
 use Rattle.mcf_prices.proofs.Offers.{offered}

@@ -2,7 +2,7 @@ use Rattle.std.proofs.Common.{◌≡◌, arith, ap, refl, subst, ◌∙◌}
 use Rattle.std.proofs.lemmas.Int.{ints}
 use Rattle.mcf_instance.specs.Network.{Network}
 use Rattle.mcf_network.specs.Residual.{tail}
-use Rattle.mcf_network.specs.States.{Flow, room_of}
+use Rattle.mcf_network.specs.States.{room_of}
 use Rattle.mcf_network.proofs.ArcLaws.{tail_is_node}
 use Rattle.mcf_prices.specs.Labels.{Labels, IsLabelling}
 use Rattle.mcf_prices.proofs.Offers.{read_price}

@@ -1,4 +1,4 @@
-use Rattle.std.proofs.Common.{◌≡◌, ◌∷◌, arith, ap, ◌∙◌, sym, length, rules, ◌^◌}
+use Rattle.std.proofs.Common.{◌≡◌, arith, ap, ◌∙◌, rules, ◌^◌}
 use Rattle.std.proofs.lemmas.Int.{ints}
 use Rattle.std.proofs.lemmas.List.Elements.{All-head, All-tail}
 use Rattle.mcf_network.specs.Stars.{Leaves}

@@ -1,9 +1,6 @@
-use Rattle.std.proofs.Common.{◌≡◌, ℕ, ◌≤◌, ◌*◌, ◌^◌, List, arith, length, subst, ap, ◌∙◌, rules}
+use Rattle.std.proofs.Common.{ℕ, ◌^◌, List, arith, length, ap}
 use Rattle.std.proofs.lemmas.Int.{ints}
-use Rattle.mcf_instance.specs.Limits.{node_limit}
-use Rattle.mcf_prices.specs.Labels.{cost_limit}
-use Rattle.mcf_prices.proofs.Marks.{count_small}
-use Rattle.mcf_prices.proofs.Rounding.{RoundAt, round_start, round_next, round_end, few_nodes}
+use Rattle.mcf_prices.proofs.Rounding.{round_start, round_next, round_end, few_nodes}
 use Rattle.mcf_prices.proofs.search.Search.round.Goals as goal
 
 pub nodes-init : goal.nodes-init
