@@ -1,5 +1,5 @@
 -- The judge accepts what is right, and nothing else.
-use Rattle.std.proofs.Common.{◌≡◌, ℕ, Bool, true, false, cond, ◌&&◌, eqb, refl, sym, ap, subst, ◌∙◌, List, length, ℤ, Option, Some, None, Result, Ok, Err}
+use Rattle.std.proofs.Common.{◌≡◌, ℕ, Bool, true, false, cond, eqb, refl, sym, ap, subst, ◌∙◌, List, length, ℤ, Some, Result, Ok, Err}
 use Rattle.std.specs.Bool.{IsTrue}
 use Rattle.std.specs.Prelude.{◌↔◌, bytes_eq}
 use Rattle.std.proofs.lemmas.Bool.{and_from, and_parts, eq-eqb, eqb-true, false≢true}

@@ -1,6 +1,6 @@
 -- The verdict on a blocked answer: at each of its cases, and when it accepts.
-use Rattle.std.proofs.Common.{◌≡◌, ℕ, ◌≤◌, Bool, true, false, cond, ◌&&◌, leb, refl, sym, ap, ◌∙◌, arith, List, length, ℤ, ◌<ℤ◌}
-use Rattle.std.specs.List.{All, AllPass, list_all}
+use Rattle.std.proofs.Common.{◌≡◌, ℕ, ◌≤◌, Bool, true, false, cond, ◌&&◌, leb, refl, sym, ap, arith, List, length, ℤ, ◌<ℤ◌}
+use Rattle.std.specs.List.{All, list_all}
 use Rattle.std.specs.Prelude.{int_lt}
 use Rattle.std.proofs.lemmas.Bool.{and_from, and_left, and_parts, and_right, false≢true, false_from_ne_true, le-leb, leb-true}
 use Rattle.std.proofs.lemmas.Int.{ints}
@@ -8,7 +8,6 @@ use Rattle.std.proofs.lemmas.List.Sums.{AllPass-from_list_all, list_all-from_All
 use Rattle.mcf_answer.specs.BlockingSet.{BlockingSet}
 use Rattle.mcf_checker.specs.Correct.{IsRightSet}
 use Rattle.mcf_checker.specs.Judging.{accepts, exceeds, set_verdict}
-use Rattle.mcf_checker.specs.declared.verdict.Verdict.{Verdict}
 use Rattle.mcf_checker.specs.declared.verdict.Verdict.TheVariants.{BadSet, Blocked as SetAccepted}
 use Rattle.mcf_instance.specs.Blocking.{Blocks, can_send, can_take, in_list, must_send, must_take}
 use Rattle.mcf_instance.specs.Network.{Network, node_count}

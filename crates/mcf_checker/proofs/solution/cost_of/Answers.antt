@@ -1,10 +1,9 @@
-use Rattle.std.proofs.Common.{ap, arith, rules, ◌∙◌}
+use Rattle.std.proofs.Common.{ap, arith, ◌∙◌}
 use Rattle.std.proofs.lemmas.Int.{ints}
 use Rattle.mcf_checker.specs.Correct.{amounts}
 use Rattle.mcf_instance.specs.Flow.{cost}
 use Rattle.mcf_instance.specs.declared.arc.Arc.{Arc}
-use Rattle.std.proofs.Math.Seq.{take-length}
-use Rattle.std.proofs.Common.{List, ℕ, take, ◌≡◌, length}
+use Rattle.std.proofs.Common.{List}
 use Rattle.mcf_checker.proofs.FlowLines.{cost_at, count_is, take_whole}
 use Rattle.mcf_checker.proofs.solution.cost_of.Goals as goal
 

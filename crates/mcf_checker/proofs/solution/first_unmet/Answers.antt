@@ -1,6 +1,5 @@
-use Rattle.std.proofs.Common.{◌≡◌, ◌&&◌, arith, below_more, get_or, ltb, pos, rules, sym, ◌∙◌, true, false}
+use Rattle.std.proofs.Common.{arith, below_more, get_or, pos, rules, sym, ◌∙◌, true, false}
 use Rattle.std.specs.Int.{w128}
-use Rattle.std.specs.Ordering.{int_eq}
 use Rattle.std.specs.Prelude.{FitsSigned}
 use Rattle.std.proofs.lemmas.Int.{to_z-of_z}
 use Rattle.mcf_checker.proofs.BadNodes.{met_here, unmet_here, first_unmet-some, first_unmet_past, first_unmet_nowhere}

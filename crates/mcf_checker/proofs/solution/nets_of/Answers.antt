@@ -1,4 +1,4 @@
-use Rattle.std.proofs.Common.{ap, arith, List, refl, subst, sym}
+use Rattle.std.proofs.Common.{arith, List, refl, subst}
 use Rattle.std.proofs.lemmas.Int.{ints}
 use Rattle.mcf_checker.specs.Correct.{amounts}
 use Rattle.mcf_instance.specs.declared.arc.Arc.{Arc}

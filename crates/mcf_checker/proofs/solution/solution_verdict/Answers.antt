@@ -1,4 +1,4 @@
-use Rattle.std.proofs.Common.{◌≡◌, None, Some, ap, rules, subst, sym, ◌∙◌, List, length}
+use Rattle.std.proofs.Common.{◌≡◌, None, ap, rules, subst, sym, ◌∙◌, List}
 use Rattle.std.specs.Int.{w128}
 use Rattle.std.specs.Prelude.{FitsSigned}
 use Rattle.std.proofs.lemmas.Int.{to_z-of_z}
