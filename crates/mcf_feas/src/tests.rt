@@ -3,8 +3,8 @@ ghost use Rattle.std.specs.Prelude.{◌≡◌, length};
 ghost use Rattle.mcf_instance.specs.Network.{node_count};
 
 use crate::{Feas, answers_are_exact, blocked_has_no_state, feasible};
-use mcf_instance::{Side, read};
-use mcf_network::{Net, NodeSet, State};
+use mcf_instance::{Instance, Side, read};
+use mcf_network::{Net, NodeSet, State, restore};
 use mcf_text::{ArcId, NodeId};
 use std::alloc::Global;
 use std::test::Fail;
@@ -109,6 +109,43 @@ fn feasible_nets_have_a_flow(rt: HostRuntime) -> Result<(), Fail> {
         match feasible(rt.alloc(), &net).map_err(|_| "no memory")? {
             Feas::Flow(state) => assert!(rt; meets_supplies(&state)),
             Feas::Blocked(_, _) => return Err("blocked".into()),
+        }
+    }
+    Ok(())
+}
+
+// The flow of an instance for which the state that it is answered with stands.
+fn restored_flow(alloc: Global, instance: &Instance) -> Result<Option<Vec<i128>>, Fail> {
+    let net = Net::of(alloc, instance)?;
+    match feasible(alloc, &net)? {
+        Feas::Flow(state) => {
+            let flow = restore(alloc, instance, &state)?;
+            Ok(Some(flow))
+        }
+        Feas::Blocked(_, _) => Ok(None),
+    }
+}
+
+static RESTORED: [(&[u8], &[i128]); 5] = [
+    (b"p min 1 1\na 1 1 0 7 -3", &[7]),
+    (b"p min 1 1\na 1 1 2 7 3", &[2]),
+    (b"p min 2 1\nn 1 4\nn 2 -4\na 1 2 4 4 -2", &[4]),
+    (b"p min 2 1\nn 1 -3\nn 2 3\na 1 2 -3 -3 1", &[-3]),
+    (
+        b"p min 2 2\nn 1 3\nn 2 -3\na 1 2 0 2 1\na 1 2 1 1 5",
+        &[2, 1],
+    ),
+];
+
+#[test]
+fn states_are_restored(rt: HostRuntime) -> Result<(), Fail> {
+    for (text, flow) in RESTORED.iter() {
+        match read(rt.alloc(), text)? {
+            Ok(instance) => {
+                let restored = restored_flow(rt.alloc(), &instance)?.ok_or("blocked")?;
+                assert_eq!(rt; restored.as_slice(), *flow);
+            }
+            Err(_) => return Err("refused".into()),
         }
     }
     Ok(())
