@@ -11,6 +11,8 @@ mod engine;
 mod queue;
 mod recovered;
 mod search;
+#[cfg(test)]
+mod tests;
 
 pub use cancel::Cancel;
 pub use engine::{Engine, Outcome};
