@@ -53,22 +53,22 @@ module _ (g : Network) (a : Solution) where
 abbrev loose_at : ℤ → ℤ → ℤ → ℤ → Bool
 loose_at r low cap f = (int_lt (pos 0) r && int_lt low f) || (int_lt r (pos 0) && int_lt f cap)
 
-tight_above : (r low cap f : ℤ) → low ≤ℤ f → loose_at r low cap f ≡ false → pos 0 <ℤ r → f ≡ low
-tight_above r low cap f h e up = grind (arith, ints)
+not_above_low : (r low cap f : ℤ) → low ≤ℤ f → loose_at r low cap f ≡ false → pos 0 <ℤ r → f ≡ low
+not_above_low r low cap f h e up = grind (arith, ints)
 
-tight_below : (r low cap f : ℤ) → f ≤ℤ cap → loose_at r low cap f ≡ false → r <ℤ pos 0 → f ≡ cap
-tight_below r low cap f h e down = grind (arith, ints)
+not_below_cap : (r low cap f : ℤ) → f ≤ℤ cap → loose_at r low cap f ≡ false → r <ℤ pos 0 → f ≡ cap
+not_below_cap r low cap f h e down = grind (arith, ints)
 
 not_loose : (r low cap f : ℤ) → (pos 0 <ℤ r → f ≡ low) → (r <ℤ pos 0 → f ≡ cap) → loose_at r low cap f ≡ false
 not_loose r low cap f above below = grind (arith, ints)
 
-all_tight : (prices : List ℤ) (arcs : List Arc) (flow : List ℤ) → IsWithinBounds arcs flow → ((j : ℕ) → j < length arcs → looseness prices arcs flow j ≡ false) → Shows arcs prices flow
-all_tight prices [] [] h each = tt
-all_tight prices [] (f ∷ flow) h each = absurd h
-all_tight prices (a ∷ arcs) [] h each = absurd h
-all_tight prices (a ∷ arcs) (f ∷ flow) h each =
+all_complementary : (prices : List ℤ) (arcs : List Arc) (flow : List ℤ) → IsWithinBounds arcs flow → ((j : ℕ) → j < length arcs → looseness prices arcs flow j ≡ false) → Shows arcs prices flow
+all_complementary prices [] [] h each = tt
+all_complementary prices [] (f ∷ flow) h each = absurd h
+all_complementary prices (a ∷ arcs) [] h each = absurd h
+all_complementary prices (a ∷ arcs) (f ∷ flow) h each =
     let here : loose_at (reduced_cost prices a) a.low a.cap f ≡ false = each 0 (omega arith) in
-    ((tight_above (reduced_cost prices a) a.low a.cap f h.0.0 here, tight_below (reduced_cost prices a) a.low a.cap f h.0.1 here), all_tight prices arcs flow h.1 (λ j k. each (suc j) (omega arith)))
+    ((not_above_low (reduced_cost prices a) a.low a.cap f h.0.0 here, not_below_cap (reduced_cost prices a) a.low a.cap f h.0.1 here), all_complementary prices arcs flow h.1 (λ j k. each (suc j) (omega arith)))
 
 each_of_all : (prices : List ℤ) (arcs : List Arc) (flow : List ℤ) → Shows arcs prices flow → (j : ℕ) → looseness prices arcs flow j ≡ false
 each_of_all prices [] [] h j = refl
@@ -80,7 +80,7 @@ each_of_all prices (a ∷ arcs) (f ∷ flow) h (suc j) = each_of_all prices arcs
 
 pub Shows-from_none : (g : Network) (a : Solution) → IsWithinBounds g.arcs (amounts a.sent) → bad_price g a ≡ None → Shows g.arcs a.prices (amounts a.sent)
 Shows-from_none g a bounds e =
-    all_tight a.prices g.arcs (amounts a.sent) bounds (each_shown g a e)
+    all_complementary a.prices g.arcs (amounts a.sent) bounds (each_shown g a e)
 
 pub none-from_Shows : (g : Network) (a : Solution) → Shows g.arcs a.prices (amounts a.sent) → bad_price g a ≡ None
 none-from_Shows g a h =

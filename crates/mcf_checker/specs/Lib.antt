@@ -4,4 +4,5 @@ pub use Rattle.mcf_instance.specs.Limits
 pub use Rattle.mcf_instance.specs.Reading
 pub mod Correct
 pub mod Judging
+pub mod Laws
 pub mod Printed

@@ -10,6 +10,7 @@ mod checking;
 mod command;
 #[cfg(test)]
 mod edited_texts;
+mod laws;
 mod printing;
 mod set;
 mod solution;
@@ -19,4 +20,5 @@ mod verdict;
 
 pub use checking::check;
 pub use command::{FileFault, judge};
+pub use laws::correct_answers_are_accepted;
 pub use verdict::Verdict;

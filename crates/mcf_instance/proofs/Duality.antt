@@ -5,14 +5,14 @@ use Rattle.std.proofs.Math.IntN.{◌*ℤ◌}
 use Rattle.std.proofs.lemmas.Int.{ints}
 use Rattle.mcf_instance.specs.declared.arc.Arc.{Arc}
 use Rattle.mcf_instance.specs.Network.{Network, at_node, flow_sum, node_count, node_sum}
-use Rattle.mcf_instance.specs.Flow.{CanCarry, IsFeasible, IsTight, cost, net, reduced_cost}
+use Rattle.mcf_instance.specs.Flow.{CanCarry, IsFeasible, IsComplementary, cost, net, reduced_cost}
 use Rattle.mcf_instance.specs.WellFormed.{HasEnds}
 use Rattle.mcf_instance.specs.Laws.{ShownFlowsAreLeast}
 use Rattle.mcf_instance.proofs.IntLaws.{mul-mono, mul-anti, sub-mul}
 use Rattle.mcf_instance.proofs.ArcSums.{flow_sum-sub, flow_sum-same, flow_sum-le_two}
 use Rattle.mcf_instance.proofs.NodeSums.{node_sum-same, node_sum-net}
 
--- where an arc is tight, no other flow within its bounds has a smaller product with the reduced cost r
+-- where an arc is complementary, no other flow within its bounds has a smaller product with the reduced cost r
 no_smaller : (r low cap f other : ℤ) → (pos 0 <ℤ r → f ≡ low) → (r <ℤ pos 0 → f ≡ cap) → low ≤ℤ other → other ≤ℤ cap → (r *ℤ f) ≤ℤ (r *ℤ other)
 no_smaller (pos zero) low cap f other above below l u = omega (arith, ints)
 no_smaller (pos (suc n)) low cap f other above below l u =
@@ -43,6 +43,6 @@ shown_flows_are_least_lem g prices flow ends feasible shows = record { feasible 
     least other o =
         let r = λ (a : Arc) (f : ℤ). reduced_cost prices a *ℤ f in
         let le : flow_sum r g.arcs flow ≤ℤ flow_sum r g.arcs other =
-        flow_sum-le_two (IsTight prices) CanCarry r r (λ a f h t q. no_smaller (reduced_cost prices a) a.low a.cap f h t.0 t.1 q.0 q.1) g.arcs flow other shows o.within_bounds
+        flow_sum-le_two (IsComplementary prices) CanCarry r r (λ a f h t q. no_smaller (reduced_cost prices a) a.low a.cap f h t.0 t.1 q.0 q.1) g.arcs flow other shows o.within_bounds
         in
         omega (arith, ints, le, reduced_total g prices flow ends feasible, reduced_total g prices other ends o)

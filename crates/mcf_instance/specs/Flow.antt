@@ -45,12 +45,12 @@ abbrev pub reduced_cost : List ℤ → Arc → ℤ
 reduced_cost prices a = a.cost -ℤ at_node prices a.src +ℤ at_node prices a.dst
 
 -- an arc of positive reduced cost carries its low, one of negative reduced cost its cap
-abbrev pub IsTight : List ℤ → Arc → ℤ → Type 0
-IsTight prices a f = (pos 0 <ℤ reduced_cost prices a → f ≡ a.low) × (reduced_cost prices a <ℤ pos 0 → f ≡ a.cap)
+abbrev pub IsComplementary : List ℤ → Arc → ℤ → Type 0
+IsComplementary prices a f = (pos 0 <ℤ reduced_cost prices a → f ≡ a.low) × (reduced_cost prices a <ℤ pos 0 → f ≡ a.cap)
 
 -- complementary slackness: the prices show the flow
 abbrev pub Shows : List Arc → List ℤ → List ℤ → Type 0
-Shows arcs prices flow = AllZip (IsTight prices) arcs flow
+Shows arcs prices flow = AllZip (IsComplementary prices) arcs flow
 
 abbrev pub AreNotAboveZero : List ℤ → Type 0
 AreNotAboveZero prices = All (λ y. y ≤ℤ pos 0) prices

@@ -11,7 +11,7 @@ use Rattle.std.proofs.lemmas.List.FromFn.{length-map-range_with_len}
 use Rattle.mcf_instance.specs.declared.arc.Arc.{Arc}
 use Rattle.mcf_instance.specs.declared.problem.Side.TheVariants.{Send, Take}
 use Rattle.mcf_instance.specs.Blocking.{enters, leaves, supply_in}
-use Rattle.mcf_instance.specs.Flow.{AreLowPrices, CanCarry, IsFeasible, IsTight, IsWithinBounds, Shows, cost, net, reduced_cost}
+use Rattle.mcf_instance.specs.Flow.{AreLowPrices, CanCarry, IsFeasible, IsComplementary, IsWithinBounds, Shows, cost, net, reduced_cost}
 use Rattle.mcf_instance.specs.Network.{Network, IsNode, arc_sum, at_node, flow_sum, node_count, node_sum, when}
 use Rattle.mcf_instance.specs.Limits.{limits}
 use Rattle.mcf_instance.specs.WellFormed.{HasEnds, IsWellFormed}
@@ -124,8 +124,8 @@ loop_reduced : (a : Arc) (prices : List ℤ) → a.src ≡ a.dst → reduced_cos
 loop_reduced a prices e =
     let same = ap (at_node prices) e in omega (arith, ints, same)
 
-tight_restored : (prices : List ℤ) (a : Arc) (x : ℤ) → CanCarry (without_low a) x → IsTight prices (without_low a) x → IsTight prices a (restored_flow a x)
-tight_restored prices a x h t =
+complementary_restored : (prices : List ℤ) (a : Arc) (x : ℤ) → CanCarry (without_low a) x → IsComplementary prices (without_low a) x → IsComplementary prices a (restored_flow a x)
+complementary_restored prices a x h t =
     elim (cases_eq a.src a.dst) [
       | inl e ↦ (let is = loop_reduced a prices e in rw (restored_loop a x e) (elim (sign_of a.cost) [
         | inl s ↦ (let below = s.0 in rw s.1 (λ p. absurd (omega (arith, ints, is, p, below)), λ p. refl))
@@ -134,8 +134,8 @@ tight_restored prices a x h t =
       | inr n ↦ (let wide = width_plain a n in rw (restored_plain a x n) (λ p. let f = t.0 p in omega (arith, ints, f), λ p. let f = t.1 p in omega (arith, ints, f, wide)))
     ]
 
-tight_of_restored : (prices : List ℤ) (a : Arc) (x : ℤ) → CanCarry (without_low a) x → IsTight prices a (restored_flow a x) → IsTight prices (without_low a) x
-tight_of_restored prices a x h t =
+complementary_of_restored : (prices : List ℤ) (a : Arc) (x : ℤ) → CanCarry (without_low a) x → IsComplementary prices a (restored_flow a x) → IsComplementary prices (without_low a) x
+complementary_of_restored prices a x h t =
     elim (cases_eq a.src a.dst) [
       | inl e ↦ (let none = loop_empty a x e h in let wide = width_loop a e in (λ p. none, λ p. omega (arith, ints, none, wide)))
       | inr n ↦ (let wide = width_plain a n in let is = restored_plain a x n in (λ p. let f = t.0 p in omega (arith, ints, f, is), λ p. let f = t.1 p in omega (arith, ints, f, is, wide)))
@@ -146,14 +146,14 @@ restored_shows [] prices [] h s = s
 restored_shows [] prices (x ∷ amounts) h s = absurd h
 restored_shows (a ∷ arcs) prices [] h s = absurd h
 restored_shows (a ∷ arcs) prices (x ∷ amounts) h s =
-    (tight_restored prices a x h.0 s.0, restored_shows arcs prices amounts h.1 s.1)
+    (complementary_restored prices a x h.0 s.0, restored_shows arcs prices amounts h.1 s.1)
 
 pub shows_of_restored : (arcs : List Arc) (prices amounts : List ℤ) → IsWithinBounds (map without_low arcs) amounts → Shows arcs prices (restored arcs amounts) → Shows (map without_low arcs) prices amounts
 shows_of_restored [] prices [] h s = s
 shows_of_restored [] prices (x ∷ amounts) h s = absurd h
 shows_of_restored (a ∷ arcs) prices [] h s = absurd h
 shows_of_restored (a ∷ arcs) prices (x ∷ amounts) h s =
-    (tight_of_restored prices a x h.0 s.0, shows_of_restored arcs prices amounts h.1 s.1)
+    (complementary_of_restored prices a x h.0 s.0, shows_of_restored arcs prices amounts h.1 s.1)
 
 -- ---- the state of a flow
 

@@ -2,7 +2,7 @@
 use Rattle.std.proofs.Common.{◌≡◌, ◌≢◌, ℕ, ◌<◌, ◌+◌, ◌-◌, List, length, get_or, Bool, true, false, ℤ, pos, ap, sym, ◌∙◌, arith}
 use Rattle.std.proofs.lemmas.Int.{ints, by_lt_z}
 use Rattle.std.proofs.lemmas.List.{get_or_default}
-use Rattle.mcf_instance.specs.Flow.{IsTight, Shows, reduced_cost}
+use Rattle.mcf_instance.specs.Flow.{IsComplementary, Shows, reduced_cost}
 use Rattle.mcf_instance.specs.Network.{Network, IsArcNumber}
 use Rattle.mcf_instance.specs.WellFormed.{IsUpTo}
 use Rattle.mcf_instance.proofs.AllZips.{AllZip-at, AllZip_from}
@@ -41,18 +41,18 @@ no_loop s k false ok h e =
 pub respects_from_shows : (s : Flow) (y : List ℤ) (k : ℕ) (b : Bool) → IsFlow s → Shows s.net.arcs y s.amounts → Respects s y (rid k b)
 respects_from_shows s y k true ok shows h =
     let here : k - 1 < length s.net.arcs = (let a = h.arc in omega (arith, a)) in
-    let tight = AllZip-at (IsTight y) s.net.arcs s.amounts (k - 1) no_arc (pos 0) shows here in
+    let complementary = AllZip-at (IsComplementary y) s.net.arcs s.amounts (k - 1) no_arc (pos 0) shows here in
     let low = (net_arc_at s.net k ok.of_net h.arc).no_low in
     let room = h.room in
-    by_lt_z (pos 0) (reduced_cost y (arc_at s.net k)) (λ p. let e = tight.0 p in absurd (omega (arith, ints, e, room, low))) (λ p. omega (arith, ints, p))
+    by_lt_z (pos 0) (reduced_cost y (arc_at s.net k)) (λ p. let e = complementary.0 p in absurd (omega (arith, ints, e, room, low))) (λ p. omega (arith, ints, p))
 respects_from_shows s y k false ok shows h =
     let here : k - 1 < length s.net.arcs = (let a = h.arc in omega (arith, a)) in
-    let tight = AllZip-at (IsTight y) s.net.arcs s.amounts (k - 1) no_arc (pos 0) shows here in
+    let complementary = AllZip-at (IsComplementary y) s.net.arcs s.amounts (k - 1) no_arc (pos 0) shows here in
     let room = h.room in
-    by_lt_z (reduced_cost y (arc_at s.net k)) (pos 0) (λ p. let e = tight.1 p in absurd (omega (arith, ints, e, room))) (λ p. omega (arith, ints, p))
+    by_lt_z (reduced_cost y (arc_at s.net k)) (pos 0) (λ p. let e = complementary.1 p in absurd (omega (arith, ints, e, room))) (λ p. omega (arith, ints, p))
 
-tight_at : (s : Flow) (y : List ℤ) (k : ℕ) → IsFlow s → ((r : Rid) → Respects s y r) → IsArcNumber s.net k → IsTight y (arc_at s.net k) (amount_at s k)
-tight_at s y k ok respects h =
+complementary_at : (s : Flow) (y : List ℤ) (k : ℕ) → IsFlow s → ((r : Rid) → Respects s y r) → IsArcNumber s.net k → IsComplementary y (arc_at s.net k) (amount_at s k)
+complementary_at s y k ok respects h =
     let amount = amount_of s k ok h in
     let low = amount.low in
     let high = amount.high in
@@ -63,10 +63,10 @@ tight_at s y k ok respects h =
 
 pub shows_from_respects : (s : Flow) (y : List ℤ) → IsFlow s → ((r : Rid) → Respects s y r) → Shows s.net.arcs y s.amounts
 shows_from_respects s y ok respects =
-    AllZip_from (IsTight y) s.net.arcs s.amounts (amount_count s ok) (λ i h a f.
+    AllZip_from (IsComplementary y) s.net.arcs s.amounts (amount_count s ok) (λ i h a f.
     let here : IsArcNumber s.net (i + 1) = (omega arith, omega arith) in
     let same : i ≡ i + 1 - 1 = omega arith in
     let inside : i < length s.amounts = omega (arith, h, amount_count s ok) in
     let arc = get_or_default s.net.arcs i a no_arc h ∙ ap (λ j. get_or s.net.arcs j no_arc) same in
     let amount = get_or_default s.amounts i f (pos 0) inside ∙ ap (λ j. get_or s.amounts j (pos 0)) same in
-    rw (arc, amount) (tight_at s y (i + 1) ok respects here))
+    rw (arc, amount) (complementary_at s y (i + 1) ok respects here))

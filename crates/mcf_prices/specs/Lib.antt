@@ -8,6 +8,7 @@ pub use Rattle.mcf_network.specs.Residual
 pub use Rattle.mcf_network.specs.States
 pub use Rattle.mcf_network.specs.Walks
 pub mod Labels
+pub mod Laws
 pub mod NegativeCycles
 pub mod Outcomes
 pub mod Queues

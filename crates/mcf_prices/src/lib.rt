@@ -8,6 +8,7 @@
 
 mod cancel;
 mod engine;
+mod laws;
 mod queue;
 mod recovered;
 mod search;
@@ -16,4 +17,5 @@ mod tests;
 
 pub use cancel::Cancel;
 pub use engine::{Engine, Outcome};
+pub use laws::least_states_have_no_cycle;
 pub use recovered::{Recovered, recover};

@@ -1,6 +1,6 @@
 //! Prices or a negative cycle, recovered from a state.
 ghost use Rattle.std.specs.Prelude.{IfOk};
-ghost use Rattle.mcf_prices.specs.Recovering.{IsRecovered};
+ghost use Rattle.mcf_prices.specs.Recovering.{HasSmallPrices, IsRecovered};
 
 use crate::queue::Queue;
 use crate::search::Search;
@@ -25,13 +25,14 @@ pub enum Recovered {
 /// in a round relax the residual arcs that enter them in the next (Bellman, Ford and Moore; Ahuja, Magnanti and
 /// Orlin, Network Flows, sections 5.4 and 5.5). After each round it looks for a cycle of the arcs that gave the
 /// prices. So there are at most as many rounds as nodes, each in time linear in the nodes and arcs, and no
-/// price is ever further below 0 than 2 * 10^21.
+/// price that is answered is further below 0 than 10^21.
 ///
 /// # Errors
 ///
 /// Want of memory, where a growth was refused.
 pub fn recover(alloc: Global, state: &State<'_>) -> Result<Recovered, NoMemory>
-    ensures { IfOk result (IsRecovered state.now) }
+    ensures recovered { IfOk result (IsRecovered state.now) }
+    ensures small { IfOk result HasSmallPrices }
 {
     let net = state.net();
     let mut search = Search::start(alloc, state)?;

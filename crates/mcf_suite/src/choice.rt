@@ -1,0 +1,28 @@
+//! What the caller chooses, and what kind of answer there is.
+
+/// Which engine solves.
+#[derive(Clone, Copy, Debug, Default, PartialEq, Eq)]
+pub enum EngineChoice {
+    /// The one that suits the problem.
+    #[default]
+    Auto,
+    /// Cycle cancelling.
+    Cancel,
+}
+
+/// How an instance is solved.
+#[derive(Clone, Copy, Debug, Default, PartialEq, Eq)]
+pub struct Choice {
+    pub engine: EngineChoice,
+}
+
+/// What an answer holds.
+#[derive(Clone, Copy, Debug, PartialEq, Eq)]
+pub enum Kind {
+    /// A least-cost flow with prices.
+    Flow,
+    /// A node set that blocks every flow.
+    Blocked,
+    /// A refusal that names the first bad line.
+    Refused,
+}

@@ -1,0 +1,100 @@
+//! Where bytes come from and go to.
+ghost use Rattle.std.specs.Prelude.{◌≡◌, ◌≤◌, ◌×◌, ℕ, List, Option, None, IfOk, OnErr, OnOk, length};
+ghost use Rattle.std.specs.Io.{ReadsAtMost};
+ghost use Rattle.std.specs.Io.KnownBytes.{Keeps, ReadConsumes, WriteAppends};
+ghost use Rattle.mcf_suite.specs.Devices.{CountsFailure};
+
+use std::io;
+
+/// A source failed to give bytes.
+#[derive(Clone, Copy, Debug, PartialEq, Eq)]
+pub struct SourceFault;
+
+/// A sink failed to take bytes.
+#[derive(Clone, Copy, Debug, PartialEq, Eq)]
+pub struct SinkFault;
+
+/// Where bytes come from.
+pub trait Source {
+    // The bytes that are still to be given, where the source names them.
+    ghost remaining: { Self → Option (List ℕ) } = { λ _. None };
+
+    // How often the source has failed.
+    ghost failures: { Self → ℕ };
+
+    /// Puts the next bytes at the beginning of a piece that isn't empty, and answers how many they are: at most
+    /// the piece's length, and 0 only at the end.
+    ///
+    /// # Errors
+    ///
+    /// The source failed, and counted that.
+    fn read(&mut self, piece: &mut [u8]) -> Result<usize, SourceFault>
+        requires { 1 ≤ length piece.old }
+        ensures bound { ReadsAtMost result piece.new }
+        ensures bytes { ReadConsumes (remaining self.old) (remaining self.new) result piece.new }
+        ensures failed { OnErr result (CountsFailure (failures self.old) (failures self.new)) }
+        ensures worked { OnOk result (failures self.new ≡ failures self.old) };
+}
+
+/// Where bytes go to.
+pub trait Sink {
+    // The bytes that were taken, where the sink names them.
+    ghost contents: { Self → Option (List ℕ) } = { λ _. None };
+
+    // How often the sink has failed.
+    ghost failures: { Self → ℕ };
+
+    // The sink has passed on all that it took.
+    ghost IsFinished: { Self → Type 0 };
+
+    /// Takes at least one byte of a piece that isn't empty, from its beginning, and answers how many.
+    ///
+    /// # Errors
+    ///
+    /// The sink failed, counted that, and took nothing.
+    fn write(&mut self, piece: &[u8]) -> Result<usize, SinkFault>
+        requires { 1 ≤ length piece.now }
+        ensures bound { IfOk result (λ count. (1 ≤ count) × (count ≤ length piece.now)) }
+        ensures bytes { WriteAppends (contents self.old) (contents self.new) result piece.now }
+        ensures failed { OnErr result (CountsFailure (failures self.old) (failures self.new)) }
+        ensures worked { OnOk result (failures self.new ≡ failures self.old) };
+
+    /// Passes on all that was taken.
+    ///
+    /// # Errors
+    ///
+    /// The sink failed, and counted that.
+    fn finish(&mut self) -> Result<(), SinkFault>
+        ensures finished { OnOk result (IsFinished self.new) }
+        ensures bytes { Keeps (contents self.old) (contents self.new) }
+        ensures failed { OnErr result (CountsFailure (failures self.old) (failures self.new)) }
+        ensures worked { OnOk result (failures self.new ≡ failures self.old) };
+}
+
+/// A source over a reader. Each error of the reader counts as a failure, and nothing is tried again.
+#[derive(Drop)]
+pub struct FromReader<R> {
+    reader: R,
+    failures: u64,
+}
+
+/// A sink over a writer. Each error of the writer, and each write of no bytes, counts as a failure, and
+/// nothing is tried again.
+#[derive(Drop)]
+pub struct IntoWriter<W> {
+    writer: W,
+    failures: u64,
+}
+
+impl<R: io::Read> FromReader<R> {
+    /// A source over a reader, which hasn't failed yet.
+    pub fn new(reader: R) -> FromReader<R>
+        ensures remaining { remaining_of R.remaining result ≡ R.remaining reader }
+        ensures failures { failures_of result ≡ 0 }
+    {
+        FromReader {
+            reader,
+            failures: 0,
+        }
+    }
+}

@@ -1,0 +1,88 @@
+//! The answer for a least state.
+ghost use Rattle.std.specs.Prelude.{◌≡◌, IfOk};
+ghost use Rattle.std.specs.List.{All};
+ghost use Rattle.mcf_answer.specs.Ranges.{IsAmount};
+ghost use Rattle.mcf_checker.specs.Correct.{amounts, sent_ends, arc_ends};
+ghost use Rattle.mcf_answer.specs.Solution.{IsSent};
+ghost use Rattle.mcf_instance.specs.Flow.{AreGreatestPrices, IsWithinBounds, cost};
+ghost use Rattle.mcf_network.specs.Removal.{net_of};
+ghost use Rattle.mcf_prices.specs.Outcomes.{IsLeastState};
+ghost use Rattle.mcf_suite.specs.Answering.{IsLeastSolution};
+
+use mcf_answer::{FlowAnswer, PriceList, Sent, SentList};
+use mcf_instance::Instance;
+use mcf_network::{
+    State, greatest_prices_carry_over, restore, restored_least_flows_are_least,
+};
+use mcf_prices::{Recovered, least_states_have_no_cycle, recover};
+use mcf_text::{ArcId, NoMemory};
+use std::alloc::Global;
+
+/// The answer for a least state of the net of an instance: its flow, the flow's cost, and the greatest prices
+/// not above 0 that show it.
+pub(crate) fn flow_answer(
+    alloc: Global,
+    instance: &Instance,
+    state: &State<'_>,
+) -> Result<FlowAnswer, NoMemory>
+    requires { IsLeastState (net_of instance.now) state.now }
+    ensures { IfOk result (IsLeastSolution instance.now) }
+{
+    restored_least_flows_are_least();
+    greatest_prices_carry_over();
+    let prices = least_prices(alloc, state)?;
+    let flow = restore(alloc, instance, state)?;
+    let cost = total_cost(instance, &flow);
+    let sent = sent_along(alloc, instance, &flow)?;
+    Ok(FlowAnswer {
+        cost,
+        sent: SentList::new(sent),
+        prices: PriceList::new(prices),
+    })
+}
+
+// The greatest prices of a least state: as no cycle makes it cheaper, there are some.
+fn least_prices(alloc: Global, state: &State<'_>) -> Result<Vec<i128>, NoMemory>
+    requires { IsLeastState state.now.net state.now }
+    ensures greatest { IfOk result (λ prices. AreGreatestPrices state.now.net prices.items state.now.amounts) }
+    ensures small { IfOk result (λ prices. All IsAmount prices.items) }
+{
+    least_states_have_no_cycle();
+    match recover(alloc, state)? {
+        Recovered::Prices(prices) => Ok(prices),
+        Recovered::Cycle(_) => unreachable!(),
+    }
+}
+
+// The cost of a flow: the sum over the arcs of cost times flow.
+fn total_cost(instance: &Instance, flow: &[i128]) -> i128
+    requires { IsWithinBounds instance.now.arcs flow.now }
+    ensures value { result ≡ cost instance.now.arcs flow.now }
+    ensures small { IsAmount result }
+{
+    let mut total = 0;
+    for (i, amount) in flow.iter().enumerate() {
+        let arc = instance.arc(ArcId::new(i as u32 + 1));
+        total += arc.cost * *amount;
+    }
+    total
+}
+
+// What each arc carries, with its ends, in the order of the arcs.
+fn sent_along(alloc: Global, instance: &Instance, flow: &[i128]) -> Result<Vec<Sent>, NoMemory>
+    requires { IsWithinBounds instance.now.arcs flow.now }
+    ensures ends { IfOk result (λ sent. sent_ends sent.items ≡ arc_ends instance.now) }
+    ensures flow { IfOk result (λ sent. amounts sent.items ≡ flow.now) }
+    ensures fit { IfOk result (λ sent. All IsSent sent.items) }
+{
+    let mut sent = Vec::with_capacity(alloc, flow.len())?;
+    for (i, amount) in flow.iter().enumerate() {
+        let arc = instance.arc(ArcId::new(i as u32 + 1));
+        sent.push(Sent {
+            src: arc.src,
+            dst: arc.dst,
+            flow: *amount,
+        })?;
+    }
+    Ok(sent)
+}
