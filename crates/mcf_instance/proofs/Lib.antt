@@ -23,7 +23,6 @@ pub mod SameSets
 pub mod SevenFields
 pub mod Signed
 pub mod Simulation
-pub mod SmallInstances
 pub mod SoundStates
 pub mod Tables
 pub mod Taken

@@ -94,18 +94,3 @@ impl Instance {
         &self.supplies
     }
 }
-
-#[cfg(test)]
-impl Instance {
-    /// The instance of these parts.
-    pub(crate) fn of_parts(problem: Problem, arcs: Vec<PackedArc>, supplies: Vec<i64>) -> Instance
-        requires { IsWellFormed limits (record { problem = problem; arcs = map unpacked arcs.items; supplies = supplies.items }) }
-        ensures { result ≡ record { problem = problem; arcs = map unpacked arcs.items; supplies = supplies.items } }
-    {
-        Instance {
-            problem,
-            arcs,
-            supplies,
-        }
-    }
-}

@@ -16,7 +16,7 @@ mod refusal;
 #[cfg(test)]
 mod tests;
 #[cfg(test)]
-mod tests_flows;
+mod tests_sets;
 
 pub use arc::Arc;
 pub use blocking::{blocks, table_of};
