@@ -106,6 +106,7 @@ impl<'s, 'n> Search<'s, 'n> {
         requires queue { IsQueue fallen.old }
         ensures progress { OnOk result (IsProgress self.old self.new fallen.old fallen.new cost_limit) }
         ensures here { OnOk result ((r : Rid) → HasRoom self.old.flow r → head self.old.flow.net r ≡ w → IsHandled self.new fallen.new r) }
+        ensures still { OnOk result (fallen.new.nodes ≡ [] → self.new.prices ≡ self.old.prices) }
     {
         let net = self.state.net();
         'entering: for leaving in net.leaving(w) {
@@ -130,6 +131,7 @@ impl<'s, 'n> Search<'s, 'n> {
         requires handled { (r : Rid) → HasRoom self.old.flow r → IsHandled self.old waiting.now r }
         ensures progress { OnOk result (IsProgress self.old self.new fallen.old fallen.new (10 ^ 21)) }
         ensures handled { OnOk result ((r : Rid) → HasRoom self.old.flow r → IsHandled self.new fallen.new r) }
+        ensures still { OnOk result (fallen.new.nodes ≡ [] → self.new.prices ≡ self.old.prices) }
     {
         'nodes: for w in waiting.nodes() {
             self.relax_entering(*w, fallen)?;
