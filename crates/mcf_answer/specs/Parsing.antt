@@ -1,5 +1,6 @@
 -- What a text stands for as an answer.
-use Rattle.std.specs.Prelude.{ℕ, List, [], ◌∷◌, map, Option, Some, None, Result, Ok, Err}
+use Rattle.std.specs.Prelude.{ℕ, Bool, List, [], ◌∷◌, map, Option, Some, None, Result, Ok, Err}
+use Rattle.std.specs.List.{list_any}
 use Rattle.mcf_answer.specs.Fits.{misfit, sent_lines, price_lines, node_lines}
 use Rattle.mcf_answer.specs.Said.{Opening, OpensFlow, OpensSet, OpensRefusal, opening_said}
 use Rattle.mcf_answer.specs.Token.{Token, token_lines}
@@ -7,6 +8,8 @@ use Rattle.mcf_answer.specs.declared.answers.Answer.{Answer}
 use Rattle.mcf_answer.specs.declared.answers.Answer.TheVariants.{Flow, Blocked, Refused}
 use Rattle.mcf_answer.specs.declared.shape.Shape.{Shape}
 use Rattle.mcf_instance.specs.Fault.{Fault}
+use Rattle.mcf_text.specs.Fields.{is_kept}
+use Rattle.mcf_text.specs.Lines.{numbered_lines}
 use Rattle.mcf_instance.specs.declared.code.Code.TheVariants.{Kind}
 
 -- what stands for a refusal where there is none
@@ -34,3 +37,7 @@ parsing_of (Some line) a = Err (record { line = line })
 -- what a text stands for: an answer, or the line at which it is seen to be none
 unfoldable pub parsing : List ℕ → Result Answer Shape
 parsing text = parsing_of (misfit text) (answer_of_lines (token_lines text))
+
+-- a line of the text is neither blank nor a comment
+abbrev pub has_kept_line : List ℕ → Bool
+has_kept_line text = list_any (λ line. is_kept line.1) (numbered_lines 1 text)

@@ -1,8 +1,8 @@
 //! Answers from text.
-ghost use Rattle.std.specs.Prelude.{◌≡◌, ◌↔◌, length, IfErr, IfOk, Ok, Some};
+ghost use Rattle.std.specs.Prelude.{◌≡◌, ◌↔◌, length, IfErr, IfOk, IsTrue, Ok, OnErr, Some};
 ghost use Rattle.mcf_answer.specs.Draft.{run};
 ghost use Rattle.mcf_answer.specs.Fits.{misfit};
-ghost use Rattle.mcf_answer.specs.Parsing.{parsing};
+ghost use Rattle.mcf_answer.specs.Parsing.{has_kept_line, parsing};
 ghost use Rattle.mcf_answer.specs.Spelling.{Spells};
 ghost use Rattle.mcf_answer.specs.declared.answers.Answer.{Answer};
 ghost use Rattle.mcf_answer.specs.declared.draft.Draft.TheVariants.{Empty};
@@ -19,17 +19,23 @@ use std::alloc::Global;
 ///
 /// Fields stand between blanks of any number and kind, numbers may have a plus sign and leading zeros, and
 /// blank lines and comments are skipped.
+///
+/// # Errors
+///
+/// Want of memory; a text of blank lines and comments alone wants none.
 pub fn parse(alloc: Global, text: &[u8]) -> Result<Result<Answer, Shape>, NoMemory>
     ensures spelled { IfOk result (λ r. (a : Answer) → (r ≡ Ok a) ↔ Spells text.now a) }
     ensures misfit { IfOk result (λ r. IfErr r (λ shape. misfit text.now ≡ Some shape.line)) }
     ensures value { IfOk result (λ r. r ≡ parsing text.now) }
+    ensures wants { OnErr result (IsTrue (has_kept_line text.now)) }
 {
     read_answer(alloc, text)
 }
 
 // The answer that the lines of a text give.
 fn read_answer(alloc: Global, text: &[u8]) -> Result<Result<Answer, Shape>, NoMemory>
-    ensures { IfOk result (λ r. r ≡ parsing text.now) }
+    ensures value { IfOk result (λ r. r ≡ parsing text.now) }
+    ensures wants { OnErr result (IsTrue (has_kept_line text.now)) }
 {
     let draft = match read_lines(alloc, text)? {
         Ok(draft) => draft,
@@ -45,7 +51,8 @@ fn read_answer(alloc: Global, text: &[u8]) -> Result<Result<Answer, Shape>, NoMe
 
 // The state after all lines, or the number of the first that doesn't fit.
 fn read_lines(alloc: Global, text: &[u8]) -> Result<Result<Draft, u128>, NoMemory>
-    ensures { IfOk result (λ r. r ≡ run Empty (numbered_lines 1 text.now)) }
+    ensures value { IfOk result (λ r. r ≡ run Empty (numbered_lines 1 text.now)) }
+    ensures wants { OnErr result (IsTrue (has_kept_line text.now)) }
 {
     let mut draft = Draft::Empty;
     for line in lines(text) {
