@@ -5,6 +5,7 @@ pub mod ChangedAnswers
 pub mod FlowLines
 pub mod JudgedTexts
 pub mod Judges
+pub mod KeptLines
 pub mod LeastNumbers
 pub mod Sets
 pub mod Solutions

@@ -52,7 +52,7 @@ record IsClear (arc node price : Option ℕ) (right : Bool) : Type 0 where
   right_is : right ≡ true
 
 clear_of : (arc node price : Option ℕ) (right : Bool) (cost : ℤ) → accepts (case_of arc node price right cost) ≡ true → IsClear arc node price right
-clear_of (Some k) node price right cost e = absurd (false≢true e)
+clear_of (Some k) v price right cost e = absurd (false≢true e)
 clear_of None (Some v) price right cost e = absurd (false≢true e)
 clear_of None None (Some k) right cost e = absurd (false≢true e)
 clear_of None None None false cost e = absurd (false≢true e)

@@ -1,4 +1,4 @@
-use Rattle.std.proofs.Common.{◌≡◌, ℕ, ℤ, Err, Ok, sym, ◌∙◌}
+use Rattle.std.proofs.Common.{◌≡◌, ℕ, ℤ, Err, Ok, inr, sym, ◌∙◌}
 use Rattle.std.specs.Bool.{IsTrue}
 use Rattle.std.specs.Prelude.{◌↔◌}
 use Rattle.std.proofs.lemmas.Result.{IfOk-weaker}
@@ -9,6 +9,7 @@ use Rattle.mcf_checker.specs.Correct.{GivesLeastFlow, HasNoFlow, IsCorrect}
 use Rattle.mcf_checker.specs.Judging.{accepts, judged, verdict}
 use Rattle.mcf_checker.specs.declared.verdict.Verdict.{Verdict}
 use Rattle.mcf_checker.specs.declared.verdict.Verdict.TheVariants.{BadShape, Blocked as SetAccepted, Flow as FlowAccepted}
+use Rattle.mcf_checker.proofs.KeptLines.{on_err, spelled_kept}
 use Rattle.mcf_checker.proofs.Judges.{ParsesExactly, exact_at, instance_reads, least_at, none_at, refused_reads, verdict_is, verdict_misfit}
 use Rattle.mcf_checker.proofs.checking.check.Goals as goal
 
@@ -78,6 +79,12 @@ returns-in-Ok-outcome-clause-none c =
     let Q = λ (v : Verdict). (count : ℕ) → v ≡ SetAccepted count → HasNoFlow input in
     IfOk-weaker c.instance_verdict.result J Q
     (λ v h. none_at input text v reads (verdict_is input text (Ok c.in-Ok-outcome.instance) c.in-Ok.answer v outcome answer h)) c.instance_verdict.ensures.value
+
+pub returns-in-Ok-outcome-clause-wants : goal.returns-in-Ok-outcome-clause-wants
+returns-in-Ok-outcome-clause-wants c =
+    let text = c.args.answer.now in
+    let kept = spelled_kept text c.in-Ok.answer ((c.in_ok-answer.ensures.spelled c.in-Ok.answer).0 c.in-Ok.is) in
+    on_err c.instance_verdict.result _ (inr kept)
 
 -- ---- a fault
 

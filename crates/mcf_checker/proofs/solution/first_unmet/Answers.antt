@@ -1,4 +1,4 @@
-use Rattle.std.proofs.Common.{arith, below_more, get_or, pos, rules, sym, ◌∙◌, true, false}
+use Rattle.std.proofs.Common.{arith, below_more, get_or, pos, rules, sym, ◌∙◌}
 use Rattle.std.specs.Int.{w128}
 use Rattle.std.specs.Prelude.{FitsSigned}
 use Rattle.std.proofs.lemmas.Int.{to_z-of_z}
