@@ -1,4 +1,8 @@
 //! Parses an answer text and writes it anew, as `mcf_answer` does, in plain Rust.
+#[path = "../lines.rs"]
+mod lines;
+
+use lines::each_line;
 use std::fmt::Write as _;
 use std::time::Instant;
 
@@ -20,10 +24,6 @@ const CODES: [&str; 18] = [
     "kind", "fields", "problem", "number", "second-p", "before-p", "size", "node", "late-n", "twice",
     "supply", "bound", "order", "cost", "extra", "side", "no-p", "missing",
 ];
-
-fn is_blank(byte: &u8) -> bool {
-    matches!(byte, b' ' | b'\t' | b'\r')
-}
 
 /// The whole number that a field says, from `lo` to `hi`; up to 17 digits are read in 64 bits.
 fn number(field: &[u8], lo: i128, hi: i128) -> Option<i128> {
@@ -97,35 +97,17 @@ fn take(answer: &mut Answer, fields: &[&[u8]]) -> Option<()> {
 
 pub fn parse(text: &[u8]) -> Result<Answer, u128> {
     let mut answer = None;
-    let mut number = 0u128;
-    let mut rest = text;
-    while !rest.is_empty() {
-        let end = rest.iter().position(|byte| *byte == b'\n');
-        let line = &rest[..end.unwrap_or(rest.len())];
-        rest = &rest[end.map_or(rest.len(), |end| end + 1)..];
-        number += 1;
-        let mut first: [&[u8]; 5] = [&[]; 5];
-        let mut count = 0;
-        for field in line.split(is_blank).filter(|field| !field.is_empty()) {
-            if count == 5 || (count == 0 && field[0] == b'c') {
-                break;
-            }
-            first[count] = field;
-            count += 1;
-        }
-        if count == 0 {
-            continue;
-        }
-        let fields = &first[..count];
+    let lines = each_line::<5, u128>(text, |number, fields| {
         match &mut answer {
             None => answer = Some(open(fields).ok_or(number)?),
             Some(answer) => take(answer, fields).ok_or(number)?,
         }
-    }
+        Ok(())
+    })?;
     match answer {
-        Some(Answer::Blocked { count, nodes, .. }) if count != nodes.len() as i128 => Err(number + 1),
+        Some(Answer::Blocked { count, nodes, .. }) if count != nodes.len() as i128 => Err(lines + 1),
         Some(answer) => Ok(answer),
-        None => Err(number + 1),
+        None => Err(lines + 1),
     }
 }
 

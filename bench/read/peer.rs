@@ -1,5 +1,9 @@
 //! Reads an instance text, as `mcf_instance::read` does, in plain Rust: one pass, the first faulty line
 //! with its fault, or the instance in 32 bytes an arc.
+#[path = "../lines.rs"]
+mod lines;
+
+use lines::each_line;
 use std::time::Instant;
 
 #[derive(Clone, Copy)]
@@ -30,10 +34,6 @@ const KEPT: i64 = 1_000_000_000_000_000_000;
 const PAST: i64 = KEPT + 1;
 const SIZE: i64 = 1_000_000_000_000_000;
 const COST: i64 = 1_000_000_000_000;
-
-fn is_blank(byte: &u8) -> bool {
-    matches!(byte, b' ' | b'\t' | b'\r')
-}
 
 /// The number that a field says; one past every range for a size above 10^18.
 fn number(field: &[u8]) -> Result<i64, &'static str> {
@@ -172,29 +172,10 @@ impl State {
 
 pub fn read(text: &[u8]) -> Result<State, (u128, &'static str)> {
     let mut state = State::default();
-    let mut number = 0u128;
-    let mut rest = text;
-    while !rest.is_empty() {
-        let end = rest.iter().position(|byte| *byte == b'\n');
-        let line = &rest[..end.unwrap_or(rest.len())];
-        rest = &rest[end.map_or(rest.len(), |end| end + 1)..];
-        number += 1;
-        let mut first: [&[u8]; 7] = [&[]; 7];
-        let mut count = 0;
-        for field in line.split(is_blank).filter(|field| !field.is_empty()) {
-            if count == 7 || (count == 0 && field[0] == b'c') {
-                break;
-            }
-            first[count] = field;
-            count += 1;
-        }
-        if count > 0 {
-            state.line(&first[..count]).map_err(|code| (number, code))?;
-        }
-    }
+    let lines = each_line::<7, _>(text, |number, fields| state.line(fields).map_err(|code| (number, code)))?;
     match state.heading {
-        None => Err((number + 1, "no-p")),
-        Some(heading) if state.arcs.len() < heading.arcs as usize => Err((number + 1, "missing")),
+        None => Err((lines + 1, "no-p")),
+        Some(heading) if state.arcs.len() < heading.arcs as usize => Err((lines + 1, "missing")),
         Some(_) => Ok(state),
     }
 }
