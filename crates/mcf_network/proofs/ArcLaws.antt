@@ -1,7 +1,9 @@
 -- What is known of each arc of a net, and of its amount in a state.
-use Rattle.std.proofs.Common.{◌≡◌, ℕ, ◌-◌, ◌<◌, Bool, true, false, List, length, get_or, refl, ap, sym, ◌∙◌, arith, subst, ℤ, pos, ◌-ℤ◌, ◌≤ℤ◌}
+use Rattle.std.proofs.Common.{◌≡◌, ℕ, ◌-◌, ◌<◌, ◌≤◌, Bool, true, false, List, length, get_or, refl, ap, sym, ◌∙◌, arith, subst, ℤ, pos, ◌-ℤ◌, ◌≤ℤ◌}
+use Rattle.std.specs.List.{All}
 use Rattle.std.proofs.lemmas.Int.{ints}
 use Rattle.std.proofs.lemmas.List.{get_or-map, get_or_read, length-map}
+use Rattle.mcf_instance.specs.declared.arc.Arc.{Arc}
 use Rattle.mcf_instance.specs.Flow.{CanCarry}
 use Rattle.mcf_instance.specs.Network.{Network, IsArcNumber, IsNode, at_node, node_count}
 use Rattle.mcf_instance.specs.WellFormed.{IsUpTo, HasEnds}
@@ -13,6 +15,9 @@ use Rattle.mcf_network.specs.Nets.{IsNet, IsNetArc, width_limit, supply_limit}
 use Rattle.mcf_network.specs.Residual.{no_arc, arc_at, tail, head}
 use Rattle.mcf_network.specs.States.{Flow, IsFlow, amount_at, room_of}
 use Rattle.mcf_instance.proofs.AllZips.{AllZip-at, length-AllZip}
+
+pub arcs_need_nodes : (nodes : ℕ) (arcs : List Arc) → All (HasEnds nodes) arcs → 1 ≤ length arcs → 1 ≤ nodes
+arcs_need_nodes nodes arcs ends some = let e = ends 0 no_arc (omega (arith, some)) in omega (arith, e)
 
 pub ends_at : (g : Network) (k : ℕ) → IsNet g → IsArcNumber g k → HasEnds (node_count g) (arc_at g k)
 ends_at g k ok h = ok.ends (k - 1) no_arc (omega arith)

@@ -26,15 +26,17 @@ pub struct Net {
 }
 
 impl Model for Net {
+    ghost use Rattle.std.specs.Prelude.{◌≤◌, length};
     ghost use Rattle.mcf_instance.specs.Network.{Network};
 
     ghost Value = { Network };
 
+    ghost use Rattle.mcf_network.specs.Nets.{IsNet};
     ghost use Rattle.mcf_network.specs.Stored.{IsStored, stored_net};
 
     ghost view = { λ n. stored_net n.problem n.arcs.items n.supplies.items };
 
-    ghost invariant = { λ n. IsStored (stored_net n.problem n.arcs.items n.supplies.items) n.firsts.items n.outs.items };
+    ghost invariant = { λ n. IsNet (stored_net n.problem n.arcs.items n.supplies.items) × (1 ≤ length n.supplies.items → IsStored (stored_net n.problem n.arcs.items n.supplies.items) n.firsts.items n.outs.items) };
 }
 
 impl Net {

@@ -1,5 +1,5 @@
 //! Sets of nodes.
-ghost use Rattle.std.specs.Prelude.{◌≡◌, ◌≤◌, IfOk, length};
+ghost use Rattle.std.specs.Prelude.{◌≡◌, ◌≤◌, IfOk, OnErr, length};
 ghost use Rattle.mcf_instance.specs.Blocking.{in_table};
 ghost use Rattle.mcf_instance.specs.Limits.{node_limit};
 ghost use Rattle.mcf_instance.specs.Network.{IsNode, node_count};
@@ -34,15 +34,14 @@ impl NodeSet {
     ///
     /// # Errors
     ///
-    /// Want of memory.
+    /// Want of memory; a net without nodes wants none.
     pub fn new(alloc: Global, net: &Net) -> Result<NodeSet, NoMemory>
-        ensures { IfOk result (λ set. set ≡ no_nodes (node_count net.now)) }
+        ensures value { IfOk result (λ set. set ≡ no_nodes (node_count net.now)) }
+        ensures wants { OnErr result (1 ≤ node_count net.now) }
     {
-        let nodes = net.node_count() as usize;
-        Ok(NodeSet {
-            marks: vec![in alloc; false; nodes]?,
-            count: 0,
-        })
+        let mut marks = Vec::new(alloc);
+        marks.resize(net.node_count() as usize, false)?;
+        Ok(NodeSet { marks, count: 0 })
     }
 
     /// How many nodes are in the set.

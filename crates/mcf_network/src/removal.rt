@@ -1,5 +1,5 @@
 //! Lower bounds taken away.
-ghost use Rattle.std.specs.Prelude.{◌≡◌, IfOk, map};
+ghost use Rattle.std.specs.Prelude.{◌≡◌, ◌≤◌, IfOk, OnErr, length, map};
 ghost use Rattle.std.specs.List.{range_with_len};
 ghost use Rattle.mcf_instance.specs.Limits.{wide_limits};
 ghost use Rattle.mcf_instance.specs.Network.{node_count};
@@ -23,10 +23,11 @@ impl Net {
     ///
     /// # Errors
     ///
-    /// Want of memory.
+    /// Want of memory; an instance without nodes wants none.
     pub fn of(alloc: Global, instance: &Instance) -> Result<Net, NoMemory>
         ensures value { IfOk result (λ made. made ≡ net_of instance.now) }
         ensures of_net { IfOk result IsNet }
+        ensures wants { OnErr result (1 ≤ node_count instance.now) }
     {
         let nodes = instance.node_count();
         let arcs = arcs_without_lows(alloc, instance)?;
@@ -44,7 +45,8 @@ impl Net {
 
 // The arcs with their lows taken away.
 fn arcs_without_lows(alloc: Global, instance: &Instance) -> Result<Vec<StoredArc>, NoMemory>
-    ensures { IfOk result (λ arcs. map stored_arc arcs.items ≡ map without_low instance.now.arcs) }
+    ensures value { IfOk result (λ arcs. map stored_arc arcs.items ≡ map without_low instance.now.arcs) }
+    ensures wants { OnErr result (1 ≤ length instance.now.arcs) }
 {
     let count = instance.arc_count();
     let mut arcs = Vec::with_capacity(alloc, count as usize)?;
@@ -75,7 +77,8 @@ fn without_low(a: Arc) -> StoredArc
 
 // The supplies that are left when each arc carries its low.
 fn supplies_left(alloc: Global, instance: &Instance) -> Result<Vec<i128>, NoMemory>
-    ensures { IfOk result (λ left. left.items ≡ map (supply_left instance.now) (range_with_len 1 (node_count instance.now))) }
+    ensures value { IfOk result (λ left. left.items ≡ map (supply_left instance.now) (range_with_len 1 (node_count instance.now))) }
+    ensures wants { OnErr result (1 ≤ node_count instance.now) }
 {
     let mut left = supplies_of(alloc, instance)?;
     for i in 0..instance.arc_count() {
@@ -87,7 +90,8 @@ fn supplies_left(alloc: Global, instance: &Instance) -> Result<Vec<i128>, NoMemo
 
 // The supplies of the nodes.
 fn supplies_of(alloc: Global, instance: &Instance) -> Result<Vec<i128>, NoMemory>
-    ensures { IfOk result (λ supplies. supplies.items ≡ instance.now.supplies) }
+    ensures value { IfOk result (λ supplies. supplies.items ≡ instance.now.supplies) }
+    ensures wants { OnErr result (1 ≤ node_count instance.now) }
 {
     let count = instance.node_count();
     let mut supplies = Vec::with_capacity(alloc, count as usize)?;

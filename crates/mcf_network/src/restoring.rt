@@ -1,5 +1,5 @@
 //! Lower bounds put back.
-ghost use Rattle.std.specs.Prelude.{◌≡◌, ◌+ℤ◌, ◌≤ℤ◌, ◌↔◌, ℤ, List, IfOk, pos};
+ghost use Rattle.std.specs.Prelude.{◌≡◌, ◌+ℤ◌, ◌≤◌, ◌≤ℤ◌, ◌↔◌, ℤ, List, IfOk, OnErr, length, pos};
 ghost use Rattle.mcf_instance.specs.Flow.{IsFeasible, Shows, cost};
 ghost use Rattle.mcf_instance.specs.Limits.{wide_limits};
 ghost use Rattle.mcf_instance.specs.WellFormed.{IsArcWithin};
@@ -18,7 +18,7 @@ use std::alloc::Global;
 ///
 /// # Errors
 ///
-/// Want of memory.
+/// Want of memory; an instance without arcs wants none.
 pub fn restore(alloc: Global, instance: &Instance, state: &State<'_>) -> Result<Vec<i128>, NoMemory>
     requires of_net { state.now.net ≡ net_of instance.now }
     requires no_surplus { HasNoSurplus state.now }
@@ -26,6 +26,7 @@ pub fn restore(alloc: Global, instance: &Instance, state: &State<'_>) -> Result<
     ensures feasible { IfOk result (λ flow. IsFeasible instance.now flow.items) }
     ensures shown { IfOk result (λ flow. (prices : List ℤ) → Shows instance.now.arcs prices flow.items ↔ Shows state.now.net.arcs prices state.now.amounts) }
     ensures cost { IfOk result (λ flow. cost instance.now.arcs flow.items ≡ cost state.now.net.arcs state.now.amounts +ℤ fixed_cost instance.now.arcs) }
+    ensures wants { OnErr result (1 ≤ length instance.now.arcs) }
 {
     let _net = state.net();
     let count = instance.arc_count();

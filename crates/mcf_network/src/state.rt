@@ -1,5 +1,5 @@
 //! Residual states.
-ghost use Rattle.std.specs.Prelude.{◌≡◌, ◌+ℤ◌, ◌-ℤ◌, ◌*◌, ◌^◌, ◌≤ℤ◌, ◌==◌, ℕ, IfOk, if◌then◌else◌, length, pos, replicate};
+ghost use Rattle.std.specs.Prelude.{◌≡◌, ◌+ℤ◌, ◌-ℤ◌, ◌*◌, ◌^◌, ◌≤◌, ◌≤ℤ◌, ◌==◌, ℕ, IfOk, OnErr, if◌then◌else◌, length, pos, replicate};
 ghost use Rattle.mcf_instance.specs.Network.{IsArcNumber, IsNode, at_node, node_count, when};
 ghost use Rattle.mcf_instance.specs.WellFormed.{IsUpTo};
 ghost use Rattle.mcf_network.specs.Nets.{width_limit};
@@ -39,13 +39,14 @@ impl<'n> State<'n> {
     ///
     /// # Errors
     ///
-    /// Want of memory.
+    /// Want of memory; a net without nodes wants none.
     pub fn zero(alloc: Global, net: &'n Net) -> Result<State<'n>, NoMemory>
         ensures value { IfOk result (λ s. s ≡ record { net = net.now; amounts = replicate (length net.now.arcs) (pos 0) }) }
         ensures valid { IfOk result IsFlow }
+        ensures wants { OnErr result (1 ≤ node_count net.now) }
     {
-        let amounts = vec![in alloc; 0; net.arcs.len()]?;
-        let surpluses = net.supplies.iter().copied().collect(alloc)?;
+        let amounts = zeros(alloc, net.arcs.len())?;
+        let surpluses = copy_of(alloc, &net.supplies)?;
         Ok(State {
             net,
             amounts,
@@ -114,6 +115,26 @@ impl<'n> State<'n> {
         self.amounts[k] = changed;
         move_surplus(&mut self.surpluses, from, to, amount);
     }
+}
+
+// So many zeros.
+fn zeros(alloc: Global, count: usize) -> Result<Vec<i64>, NoMemory>
+    ensures value { IfOk result (λ made. made.items ≡ replicate count (pos 0)) }
+    ensures wants { OnErr result (1 ≤ count) }
+{
+    let mut made = Vec::new(alloc);
+    made.resize(count, 0)?;
+    Ok(made)
+}
+
+// A copy of some numbers.
+fn copy_of(alloc: Global, numbers: &[i128]) -> Result<Vec<i128>, NoMemory>
+    ensures value { IfOk result (λ made. made.items ≡ numbers.now) }
+    ensures wants { OnErr result (1 ≤ length numbers.now) }
+{
+    let mut made = Vec::new(alloc);
+    made.extend_from_slice(numbers)?;
+    Ok(made)
 }
 
 // The amount of an arc after a push of `x` along it, forward or backward.

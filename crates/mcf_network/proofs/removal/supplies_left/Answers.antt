@@ -5,7 +5,7 @@ use Rattle.mcf_network.proofs.RemovalLaws.{arc_of, left_end, left_entry_small, l
 use Rattle.mcf_network.proofs.removal.supplies_left.Goals as goal
 
 pub loop-i-init : goal.loop-i-init
-loop-i-init c = left_start c.args.instance.now c.in_ok-left.left.items c.in_ok-left.ensures
+loop-i-init c = left_start c.args.instance.now c.in_ok-left.left.items c.in_ok-left.ensures.value
 
 pub move_surplus-requires-clause-from : goal.move_surplus-requires-clause-from
 move_surplus-requires-clause-from c =
@@ -45,6 +45,6 @@ loop-i-preserved c =
     let same : to_z w128 (of_z w128 c.arc-a.result.low) ≡ c.arc-a.result.low = omega (arith, ints, a.within.low_small) in
     left_next g c.loop-i.i c.arc-a.result c.loop-i.left.items c.move_surplus.new.surpluses.items c.loop-i.invariant h is c.move_surplus.ensures.length (λ v hv. rw same at (c.move_surplus.ensures.each v hv))
 
-pub returns : goal.returns
-returns c =
+pub returns-clause-value : goal.returns-clause-value
+returns-clause-value c =
     left_end c.args.instance.now c.loop-i.i c.loop-i.left.items c.loop-i.invariant (omega (arith, c.loop-i-test.false, c.loop-i.auto, c.arc_count-i-end.ensures.value))
