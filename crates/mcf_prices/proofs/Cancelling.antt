@@ -75,11 +75,15 @@ least_from_prices g s ys ok prices =
       least = subst (λ n. IsLeast n s.amounts) ok.of_net (shown_flows_are_least_lem s.net ys s.amounts ok.flow.of_net.ends (feasible_of_state s ok.flow ok.no_surplus) prices.low.show_flow);
     }
 
+-- there is room for 1 along a negative cycle
+pub cycle_by_one : (s : Flow) (walk : List Rid) → IsNegativeCycle s walk → CanPushAlong s walk (pos 1)
+cycle_by_one s walk cycle =
+    cycle_can_push s walk (pos 1) cycle (omega (arith, ints)) (λ k d h. let some = (cycle.has_room k d h).room in omega (arith, ints, some))
+
 -- a push of 1 along a negative cycle makes a state cheaper, so a least state has none
 pub least_no_cycle : (g : Network) (s : Flow) (walk : List Rid) → IsLeastState g s → IsNegativeCycle s walk → ⊥
 least_no_cycle g s walk ok cycle =
-    let room : All (λ r. pos 1 ≤ℤ room_of s r) walk = λ (k : ℕ) (d : Rid) (h : k < length walk). (let some = (cycle.has_room k d h).room in omega (arith, ints, some)) in
-    let can = cycle_can_push s walk (pos 1) cycle (omega (arith, ints)) room in
+    let can = cycle_by_one s walk cycle in
     let after = cycle_feasible g s walk (pos 1) ok.feasible cycle can in
     let change = cost_along s walk (pos 1) ok.feasible.flow can in
     let less = mul_below_zero (walk_cost s.net walk) (pos 1) cycle.negative (omega (arith, ints)) in

@@ -4,8 +4,8 @@ use Rattle.std.proofs.lemmas.Int.{to_z-of_z}
 use Rattle.mcf_prices.proofs.Cancelling.{cost_height_falls, cycle_can_push, cycle_feasible, cycle_positive, least_from_prices}
 use Rattle.mcf_prices.proofs.cancel.cancel_cycles.Goals as goal
 
-pub returns-in-Prices : goal.returns-in-Prices
-returns-in-Prices c =
+pub returns-in-Prices-clause-least : goal.returns-in-Prices-clause-least
+returns-in-Prices-clause-least c =
     let found = rw c.in-Prices.is at c.in_ok-recover.ensures.recovered in
     least_from_prices c.args.state.net c.cycles.state _ c.cycles.invariant found
 
