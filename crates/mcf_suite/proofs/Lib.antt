@@ -1,0 +1,6 @@
+pub mod BlockingNodes
+pub mod LeastSolutions
+pub mod LoopFlows
+pub mod MemberLists
+pub mod SentLists
+pub mod SupplyTotals
