@@ -13,6 +13,8 @@ mod flow;
 mod running;
 mod set;
 mod solving;
+#[cfg(test)]
+mod tests_solving;
 
 pub use choice::{Choice, EngineChoice, Kind};
 pub use device::{FromReader, IntoWriter, Sink, SinkFault, Source, SourceFault};
