@@ -50,7 +50,7 @@ pub record IsAnswerTo (input : List ℕ) (kind : Kind) (text : List ℕ) : Type 
   pub in_range : IsAnswer answer
   pub written : text ≡ written answer
   pub owed : IsOwed (reading limits input) answer
-  pub kind : kind ≡ kind_of answer
+  pub is_kind : kind ≡ kind_of answer
   pub correct : IsCorrect input text
   pub accepted : accepts (verdict input text) ≡ true
 
