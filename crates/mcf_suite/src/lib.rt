@@ -15,6 +15,8 @@ mod set;
 mod solving;
 #[cfg(test)]
 mod tests_running;
+#[cfg(test)]
+mod tests_solving;
 
 pub use choice::{Choice, EngineChoice, Kind};
 pub use device::{FromReader, IntoWriter, Sink, SinkFault, Source, SourceFault};
