@@ -6,6 +6,7 @@
 //! `specs/`: `Chosen` says which of several right answers is given, `Answering` what is owed for a text, and
 //! `Running` what a run from a source to a sink does.
 
+mod asking;
 mod choice;
 mod device;
 mod fault;
@@ -14,6 +15,7 @@ mod running;
 mod set;
 mod solving;
 
+pub use asking::{Asked, command};
 pub use choice::{Choice, EngineChoice, Kind};
 pub use device::{FromReader, IntoWriter, Sink, SinkFault, Source, SourceFault};
 pub use fault::RunFault;
