@@ -1,5 +1,5 @@
 //! Where bytes come from and go to.
-ghost use Rattle.std.specs.Prelude.{◌≡◌, ◌≤◌, ◌×◌, ℕ, List, Option, None, IfOk, OnErr, OnOk, length};
+ghost use Rattle.std.specs.Prelude.{◌≡◌, ◌≤◌, ℕ, List, Option, None, IfOk, OnErr, OnOk, length};
 ghost use Rattle.std.specs.Io.{ReadsAtMost};
 ghost use Rattle.std.specs.Io.KnownBytes.{Keeps, ReadConsumes, WriteAppends};
 ghost use Rattle.mcf_suite.specs.Devices.{CountsFailure};
@@ -71,30 +71,94 @@ pub trait Sink {
         ensures worked { OnOk result (failures self.new ≡ failures self.old) };
 }
 
-/// A source over a reader. Each error of the reader counts as a failure, and nothing is tried again.
+/// A source over a reader. Each error of the reader counts as a failure, an interrupted read too, and nothing
+/// is tried again. The bytes that are still to be given are those of the reader.
 #[derive(Drop)]
 pub struct FromReader<R> {
     reader: R,
-    failures: u64,
+    failed_reads: u64,
 }
 
-/// A sink over a writer. Each error of the writer, and each write of no bytes, counts as a failure, and
-/// nothing is tried again.
+impl<R: io::Read> FromReader<R> {
+    /// A source over a reader, which hasn't failed yet.
+    pub fn new(reader: R) -> FromReader<R>
+        ensures remaining { ⟦<FromReader<R> as Source>⟧.remaining result ≡ R.remaining reader }
+        ensures failures { ⟦<FromReader<R> as Source>⟧.failures result ≡ 0 }
+    {
+        FromReader {
+            reader,
+            failed_reads: 0,
+        }
+    }
+}
+
+impl<R: io::Read> Source for FromReader<R> {
+    ghost remaining = { λ source. R.remaining source.reader };
+
+    ghost failures = { λ source. source.failed_reads };
+
+    fn read(&mut self, piece: &mut [u8]) -> Result<usize, SourceFault> {
+        match self.reader.read(piece) {
+            Ok(count) => Ok(count),
+            Err(_) => {
+                self.failed_reads = self.failed_reads.saturating_add(1);
+                Err(SourceFault)
+            }
+        }
+    }
+}
+
+/// A sink over a writer. Each error of the writer, an interrupted write too, and each write that takes no byte
+/// counts as a failure, and nothing is tried again. The bytes that were taken are those that the writer holds.
+///
+/// To finish is to flush the writer. A writer claims nothing of where its bytes are then, so that each such
+/// sink counts as finished.
 #[derive(Drop)]
 pub struct IntoWriter<W> {
     writer: W,
     failures: u64,
 }
 
-impl<R: io::Read> FromReader<R> {
-    /// A source over a reader, which hasn't failed yet.
-    pub fn new(reader: R) -> FromReader<R>
-        ensures remaining { remaining_of R.remaining result ≡ R.remaining reader }
-        ensures failures { failures_of result ≡ 0 }
+impl<W: io::Write> IntoWriter<W> {
+    /// A sink over a writer, which hasn't failed yet.
+    pub fn new(writer: W) -> IntoWriter<W>
+        ensures contents { ⟦<IntoWriter<W> as Sink>⟧.contents result ≡ W.contents writer }
+        ensures failures { ⟦<IntoWriter<W> as Sink>⟧.failures result ≡ 0 }
     {
-        FromReader {
-            reader,
+        IntoWriter {
+            writer,
             failures: 0,
+        }
+    }
+
+    // The fault of a call of the writer, which is counted.
+    fn fault(&mut self) -> SinkFault
+        ensures counted { CountsFailure self.old.failures self.new.failures }
+        ensures kept { self.new.writer ≡ self.old.writer }
+    {
+        self.failures = self.failures.saturating_add(1);
+        SinkFault
+    }
+}
+
+impl<W: io::Write> Sink for IntoWriter<W> {
+    ghost contents = { λ sink. W.contents sink.writer };
+
+    ghost failures = { λ sink. sink.failures };
+
+    ghost IsFinished = { λ _. Unit };
+
+    fn write(&mut self, piece: &[u8]) -> Result<usize, SinkFault> {
+        match self.writer.write(piece) {
+            Ok(0) | Err(_) => Err(self.fault()),
+            Ok(count) => Ok(count),
+        }
+    }
+
+    fn finish(&mut self) -> Result<(), SinkFault> {
+        match self.writer.flush() {
+            Ok(()) => Ok(()),
+            Err(_) => Err(self.fault()),
         }
     }
 }

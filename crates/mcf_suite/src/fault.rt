@@ -1,6 +1,10 @@
 //! Why a run ended without an answer.
+ghost use Rattle.std.specs.Prelude.{◌≡◌};
+ghost use Rattle.mcf_suite.specs.declared.fault.RunFault.TheVariants.{NoMemory as OutOfMemory};
+
 use mcf_text::NoMemory;
-use std::alloc::AllocError;
+use std::alloc::{AllocError, AllocFailed};
+use std::error::Error;
 use std::fmt;
 
 /// Why a run ended without an answer.
@@ -32,8 +36,28 @@ impl fmt::Display for RunFault {
     }
 }
 
+impl Error for RunFault {}
+
 impl From<NoMemory> for RunFault {
+    ghost from_gives = { λ _ fault. fault ≡ OutOfMemory };
+
     fn from(_error: NoMemory) -> RunFault {
+        RunFault::NoMemory
+    }
+}
+
+impl From<AllocError> for RunFault {
+    ghost from_gives = { λ _ fault. fault ≡ OutOfMemory };
+
+    fn from(_error: AllocError) -> RunFault {
+        RunFault::NoMemory
+    }
+}
+
+impl<T: Drop> From<AllocFailed<T>> for RunFault {
+    ghost from_gives = { λ _ fault. fault ≡ OutOfMemory };
+
+    fn from(_error: AllocFailed<T>) -> RunFault {
         RunFault::NoMemory
     }
 }

@@ -14,6 +14,8 @@ mod flow;
 mod running;
 mod set;
 mod solving;
+#[cfg(test)]
+mod tests_running;
 
 pub use asking::{Asked, command};
 pub use choice::{Choice, EngineChoice, Kind};

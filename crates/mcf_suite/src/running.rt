@@ -1,5 +1,5 @@
 //! From a source to a sink.
-ghost use Rattle.std.specs.Prelude.{◌≡◌, ◌≢◌, IfErr, IfOk, IfSome, OnErr, OnOk};
+ghost use Rattle.std.specs.Prelude.{◌≡◌, ◌≢◌, IfErr, IfOk, IfSome, OnErr, OnOk, length};
 ghost use Rattle.std.specs.Io.KnownBytes.{Appends};
 ghost use Rattle.mcf_suite.specs.Devices.{CountsFailure};
 ghost use Rattle.mcf_suite.specs.Running.{IsTooLong, SendsAnswer, SendsBeginning, TakesBeginning};
@@ -8,7 +8,7 @@ use crate::choice::{Choice, Kind};
 use crate::device::{Sink, Source};
 use crate::fault::RunFault;
 use crate::solving::solve_text;
-use std::alloc::Global;
+use std::alloc::{AllocError, Global};
 
 // How many bytes are asked for at once.
 const PIECE: usize = 65_536;
@@ -54,9 +54,10 @@ fn gather<S: Source>(alloc: Global, source: &mut S) -> Result<Vec<u8>, RunFault>
     ensures no_write { IfErr result (λ fault. fault ≢ RunFault.Write) }
 {
     let mut text = Vec::new(alloc);
-    let mut piece = vec![in alloc; 0; PIECE]?;
+    let mut room = zeros(alloc, PIECE)?;
+    let piece = room.as_mut_slice();
     'reads: loop {
-        let Ok(count) = source.read(&mut piece) else {
+        let Ok(count) = source.read(piece) else {
             return Err(RunFault::Read);
         };
         if count == 0 {
@@ -69,6 +70,13 @@ fn gather<S: Source>(alloc: Global, source: &mut S) -> Result<Vec<u8>, RunFault>
     }
 }
 
+// Room for a piece.
+fn zeros(alloc: Global, size: usize) -> Result<Vec<u8>, AllocError>
+    ensures { IfOk result (λ piece. length piece.items ≡ size) }
+{
+    vec![in alloc; 0; size]
+}
+
 // Writes a text and finishes.
 fn send<K: Sink>(sink: &mut K, text: &[u8]) -> Result<(), RunFault>
     ensures taken { OnOk result (Appends (K.contents sink.old) (K.contents sink.new) text.now) }
@@ -78,10 +86,10 @@ fn send<K: Sink>(sink: &mut K, text: &[u8]) -> Result<(), RunFault>
     ensures failed { OnErr result (CountsFailure (K.failures sink.old) (K.failures sink.new)) }
     ensures beginning { OnErr result (TakesBeginning (K.contents sink.old) (K.contents sink.new) text.now) }
 {
-    let mut rest = text;
-    while !rest.is_empty() {
-        match sink.write(rest) {
-            Ok(count) => rest = &rest[count..],
+    let mut taken = 0;
+    'writes: while taken < text.len() {
+        match sink.write(&text[taken..]) {
+            Ok(count) => taken += count,
             Err(_) => return Err(RunFault::Write),
         }
     }
