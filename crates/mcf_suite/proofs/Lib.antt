@@ -1,3 +1,4 @@
 pub mod AskedLemmas
 pub mod AskedTexts
 pub mod DeviceLaws
+pub mod ServedLemmas

@@ -11,3 +11,4 @@ pub mod Asking
 pub mod Chosen
 pub mod Devices
 pub mod Running
+pub mod Serving

@@ -12,14 +12,18 @@ mod device;
 mod fault;
 mod flow;
 mod running;
+mod serving;
 mod set;
 mod solving;
 #[cfg(test)]
 mod tests_running;
+#[cfg(test)]
+mod tests_serving;
 
 pub use asking::{Asked, command};
 pub use choice::{Choice, EngineChoice, Kind};
 pub use device::{FromReader, IntoWriter, Sink, SinkFault, Source, SourceFault};
 pub use fault::RunFault;
 pub use running::run;
+pub use serving::serve;
 pub use solving::solve_text;
