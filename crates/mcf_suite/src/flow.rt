@@ -2,18 +2,18 @@
 ghost use Rattle.std.specs.Prelude.{◌≡◌, IfOk};
 ghost use Rattle.std.specs.List.{All};
 ghost use Rattle.mcf_answer.specs.Ranges.{IsAmount};
-ghost use Rattle.mcf_checker.specs.Correct.{amounts, sent_ends, arc_ends};
 ghost use Rattle.mcf_answer.specs.Solution.{IsSent};
+ghost use Rattle.mcf_checker.specs.Correct.{amounts, arc_ends, sent_ends};
 ghost use Rattle.mcf_instance.specs.Flow.{AreGreatestPrices, IsWithinBounds, cost};
+ghost use Rattle.mcf_instance.specs.Limits.{limits};
+ghost use Rattle.mcf_instance.specs.WellFormed.{IsWellFormed};
 ghost use Rattle.mcf_network.specs.Removal.{net_of};
 ghost use Rattle.mcf_prices.specs.Outcomes.{IsLeastState};
 ghost use Rattle.mcf_suite.specs.Answering.{IsLeastSolution};
 
 use mcf_answer::{FlowAnswer, PriceList, Sent, SentList};
 use mcf_instance::Instance;
-use mcf_network::{
-    State, greatest_prices_carry_over, restore, restored_least_flows_are_least,
-};
+use mcf_network::{State, greatest_prices_carry_over, restore, restored_least_flows_are_least};
 use mcf_prices::{Recovered, least_states_have_no_cycle, recover};
 use mcf_text::{ArcId, NoMemory};
 use std::alloc::Global;
@@ -59,11 +59,12 @@ fn total_cost(instance: &Instance, flow: &[i128]) -> i128
     requires { IsWithinBounds instance.now.arcs flow.now }
     ensures value { result ≡ cost instance.now.arcs flow.now }
     ensures small { IsAmount result }
+    ensures well_formed { IsWellFormed limits instance.now }
 {
     let mut total = 0;
-    for (i, amount) in flow.iter().enumerate() {
-        let arc = instance.arc(ArcId::new(i as u32 + 1));
-        total += arc.cost * *amount;
+    for i in 0..instance.arc_count() {
+        let arc = instance.arc(ArcId::new(i + 1));
+        total += arc.cost * flow[i as usize];
     }
     total
 }
@@ -75,13 +76,14 @@ fn sent_along(alloc: Global, instance: &Instance, flow: &[i128]) -> Result<Vec<S
     ensures flow { IfOk result (λ sent. amounts sent.items ≡ flow.now) }
     ensures fit { IfOk result (λ sent. All IsSent sent.items) }
 {
-    let mut sent = Vec::with_capacity(alloc, flow.len())?;
-    for (i, amount) in flow.iter().enumerate() {
-        let arc = instance.arc(ArcId::new(i as u32 + 1));
+    let count = instance.arc_count();
+    let mut sent = Vec::with_capacity(alloc, count as usize)?;
+    for i in 0..count {
+        let arc = instance.arc(ArcId::new(i + 1));
         sent.push(Sent {
             src: arc.src,
             dst: arc.dst,
-            flow: *amount,
+            flow: flow[i as usize],
         })?;
     }
     Ok(sent)

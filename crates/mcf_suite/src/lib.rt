@@ -19,6 +19,8 @@ mod solving;
 mod tests_running;
 #[cfg(test)]
 mod tests_serving;
+#[cfg(test)]
+mod tests_solving;
 
 pub use asking::{Asked, command};
 pub use choice::{Choice, EngineChoice, Kind};

@@ -1,5 +1,5 @@
 //! The answer for a node set that blocks.
-ghost use Rattle.std.specs.Prelude.{◌≡◌, ℕ, IfOk, length};
+ghost use Rattle.std.specs.Prelude.{◌≡◌, ◌≤◌, ℕ, IfOk, length};
 ghost use Rattle.std.specs.List.{All};
 ghost use Rattle.std.specs.List.Sorted.{IsStrictlyIncreasing};
 ghost use Rattle.mcf_feas.specs.Chosen.{IsChosenBlock};
@@ -40,6 +40,7 @@ fn members(alloc: Global, nodes: u32, set: &NodeSet) -> Result<Vec<NodeId>, NoMe
     requires { length set.now ≡ nodes }
     ensures are_nodes { IfOk result (λ list. All (IsNode nodes) list.items) }
     ensures ascending { IfOk result (λ list. IsStrictlyIncreasing list.items) }
+    ensures few { IfOk result (λ list. length list.items ≤ nodes) }
     ensures same { IfOk result (λ list. (v : ℕ) → IsNode nodes v → in_list list.items v ≡ in_table set.now v) }
 {
     let mut list = Vec::with_capacity(alloc, set.len() as usize)?;
