@@ -7,6 +7,8 @@ pub use Rattle.mcf_instance.specs.Flow
 pub use Rattle.mcf_instance.specs.Limits
 pub use Rattle.mcf_instance.specs.Reading
 pub mod Answering
+pub mod Asking
 pub mod Chosen
 pub mod Devices
 pub mod Running
+pub mod Serving

@@ -78,7 +78,7 @@ fn zeros(alloc: Global, size: usize) -> Result<Vec<u8>, AllocError>
 }
 
 // Writes a text and finishes.
-fn send<K: Sink>(sink: &mut K, text: &[u8]) -> Result<(), RunFault>
+pub(crate) fn send<K: Sink>(sink: &mut K, text: &[u8]) -> Result<(), RunFault>
     ensures taken { OnOk result (Appends (K.contents sink.old) (K.contents sink.new) text.now) }
     ensures finished { OnOk result (K.IsFinished sink.new) }
     ensures worked { OnOk result (K.failures sink.new ≡ K.failures sink.old) }

@@ -1,0 +1,69 @@
+#![tactic(auto)]
+
+//! The program `mcf solve [--engine auto|cancel] [FILE]`: it answers an instance of a minimum-cost flow problem.
+//!
+//! All that matters stands in `mcf_suite`; here the words are gathered, the devices lent and the status given.
+
+use mcf_suite::{FromReader, IntoWriter, RunFault, serve};
+use std::fs::File;
+use std::io::{self, ErrorKind, Read, Stdin};
+use std::process::ExitCode;
+use std::rt::Env;
+use std::{env, fs};
+
+// Where the instance is read.
+#[derive(Drop)]
+enum Input {
+    Stdin(Stdin),
+    File(File),
+}
+
+impl Read for Input {
+    fn read(&mut self, piece: &mut [u8]) -> io::Result<usize> {
+        match self {
+            Input::Stdin(stdin) => stdin.read(piece),
+            Input::File(file) => file.read(piece),
+        }
+    }
+}
+
+// The words of the command line, the program's name first.
+fn words(rt: &(impl Env + AllocGlobal)) -> io::Result<Vec<String>> {
+    let words = env::args(rt)?.collect(rt.alloc())?;
+    Ok(words)
+}
+
+// The words, or none where one of them is no text.
+fn words_or_none(rt: &(impl Env + AllocGlobal)) -> Result<Vec<String>, RunFault> {
+    match words(rt) {
+        Ok(words) => Ok(words),
+        Err(error) if error.kind() == ErrorKind::OutOfMemory => Err(RunFault::NoMemory),
+        Err(_) => Ok(Vec::new(rt.alloc())),
+    }
+}
+
+// The source of a file, or none where it can't be opened.
+fn open(rt: &HostRuntime, path: &str) -> Option<FromReader<Input>> {
+    match fs::open(rt, path) {
+        Ok(file) => Some(FromReader::new(Input::File(file))),
+        Err(_) => None,
+    }
+}
+
+fn main(rt: HostRuntime) -> ExitCode {
+    let status = match words_or_none(&rt) {
+        Ok(words) => serve(
+            rt.alloc(),
+            &words,
+            FromReader::new(Input::Stdin(rt.stdin())),
+            |path: &str| open(&rt, path),
+            &mut IntoWriter::new(rt.stdout()),
+            &mut IntoWriter::new(rt.stderr()),
+        ),
+        Err(fault) => {
+            let _ = rt.eprintln(fault);
+            3
+        }
+    };
+    ExitCode::from(status)
+}

@@ -1,0 +1,42 @@
+-- Readings of a command line.
+use Rattle.std.proofs.Common.{◌≡◌, ◌∙◌, ap, refl, sym, map, option_map, List, true, Option, Some, None, Bor, Result, Ok, Err}
+use Rattle.std.specs.Prelude.{IsErrAnd}
+use Rattle.clap.specs.Words.{App, HasKind, Row, Text, fault_of, is_simple, is_simple_and_free, kind_of, takes}
+use Rattle.clap.specs.declared.error.Error.{Error}
+use Rattle.clap.specs.declared.error.kind.ErrorKind.TheVariants.{OutOfMemory}
+use Rattle.mcf_suite.specs.declared.asking.Asked.{Asked}
+use Rattle.mcf_suite.specs.Asking.{IsMcf, IsReading, engine_names, mcf_app}
+
+-- some command that a parse may have read
+unfoldable pub some_names : Bor (List (Bor Text))
+some_names = record {
+  ref_ptr = (0, 0);
+  now = map (λ (t : Text). record { ref_ptr = (0, 0); now = t }) engine_names;
+}
+
+pub some_mcf : IsMcf (mcf_app some_names)
+unfolding some_names
+some_mcf = record { names = some_names; spelled = refl; reads = refl }
+
+pub mcf_is_simple : (app : App) → IsMcf app → is_simple app ≡ true
+mcf_is_simple app m = ap is_simple m.reads ∙ refl
+
+pub mcf_is_free : (app : App) → IsMcf app → is_simple_and_free app ≡ true
+mcf_is_free app m = ap is_simple_and_free m.reads ∙ refl
+
+-- words that were refused, for want of memory where the command takes them
+pub refused : (words : List Text) (result : Result Asked Error) (app : App) → IsMcf app → (P : Error → Type 0)
+    → ((e : Error) → P e → takes app words ≡ true → kind_of e ≡ OutOfMemory)
+    → ((e : Error) → P e → HasKind (fault_of app words) e) → IsErrAnd result P → IsReading words result
+refused words (Ok asked) app m P wants has h = absurd h
+refused words (Err e) app m P wants has h =
+    record { app = app; is_mcf = m; asks = tt; taken = wants e h; faults = has e h }
+
+-- the rows of a subcommand come with its name
+pub named_rows : (met : Option (Text × List Row)) (rows : List Row) → Some rows ≡ option_map (λ p. p.1) met
+    → (name : Text) × (met ≡ Some (name, rows))
+named_rows None rows h = let bad : Some rows ≡ None = h in cc
+named_rows (Some p) rows h = (p.0, ap (λ r. Some (p.0, r)) (sym (some_is rows p.1 h)))
+  where
+    some_is : (x y : List Row) → Some x ≡ Some y → x ≡ y
+    some_is x y e = cc

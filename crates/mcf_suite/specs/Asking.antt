@@ -1,0 +1,75 @@
+-- What the words of a command line ask.
+use Rattle.std.specs.Prelude.{◌≡◌, true, false, List, [], ◌∷◌, Option, Some, Result, IfOk, IfErr, codes, option_map, if◌then◌else◌}
+use Rattle.std.specs.Borrow.{Bor}
+use Rattle.std.specs.Option.{option_map_or}
+use Rattle.std.specs.Str.{bytes_eq}
+use Rattle.clap.specs.Words.{App, FailsBy, Row, Rule, Shape, Text, fault_of, first_of, kind_of, new_app, new_rule, subcommand_of, takes, with_rule, with_subcommand}
+use Rattle.clap.specs.Walk.{texts}
+use Rattle.clap.specs.declared.builder.value_parser.ValueParser.TheVariants as parser
+use Rattle.clap.specs.declared.error.Error.{Error}
+use Rattle.clap.specs.declared.error.kind.ErrorKind.TheVariants.{OutOfMemory}
+use Rattle.mcf_suite.specs.declared.asking.Asked.{Asked}
+use Rattle.mcf_suite.specs.declared.choice.EngineChoice.{EngineChoice}
+use Rattle.mcf_suite.specs.declared.choice.EngineChoice.TheVariants.{Auto, Cancel}
+
+-- the names of the engines
+abbrev pub engine_names : List Text
+engine_names = codes "auto" ∷ codes "cancel" ∷ []
+
+-- `--engine ENGINE`, one of these names, and `auto` where it is left out
+abbrev pub engine_rule : Bor (List (Bor Text)) → Rule
+engine_rule names = record (new_rule (codes "engine")) {
+  long = Some (codes "engine");
+  value_names = 1;
+  parser = Some (parser.Names names);
+  defaults = codes "auto" ∷ [];
+}
+
+-- `FILE`, which may be left out
+abbrev pub file_rule : Rule
+file_rule = record (new_rule (codes "file")) { value_names = 1 }
+
+-- `solve [--engine ENGINE] [FILE]`
+abbrev pub solve_shape : Bor (List (Bor Text)) → Shape
+solve_shape names = (with_rule (with_rule (new_app (codes "solve")) (engine_rule names)) file_rule).top
+
+-- `mcf`, which wants a subcommand
+abbrev pub mcf_top : App
+mcf_top = record { top = record (new_app (codes "mcf")).top { subcommand_required = true }; subs = [] }
+
+-- `mcf` with its one subcommand
+abbrev pub mcf_app : Bor (List (Bor Text)) → App
+mcf_app names = with_subcommand mcf_top (solve_shape names)
+
+-- what a parse reads of the subcommand `solve`
+pub record IsSolve (shape : Shape) : Type 0 where
+  pub names : Bor (List (Bor Text))
+  pub spelled : texts names.now ≡ engine_names
+  pub reads : shape ≡ solve_shape names
+
+-- what a parse reads of the command `mcf`
+pub record IsMcf (app : App) : Type 0 where
+  pub names : Bor (List (Bor Text))
+  pub spelled : texts names.now ≡ engine_names
+  pub reads : app ≡ mcf_app names
+
+-- the engine that a name asks for
+abbrev pub engine_by : Option Text → EngineChoice
+engine_by name = if option_map_or (λ n. bytes_eq n (codes "cancel")) name false then Cancel else Auto
+
+-- what is asked is what the matches of the subcommand hold that the words name
+pub record Asks (app : App) (words : List Text) (asked : Asked) : Type 0 where
+  pub name : Text
+  pub rows : List Row
+  pub subcommand : subcommand_of app words ≡ Some (name, rows)
+  pub engine : asked.choice.engine ≡ engine_by (first_of (codes "engine") rows)
+  pub file : option_map (λ (f : Bor Text). f.now) asked.file ≡ first_of (codes "file") rows
+
+-- what is asked is what the matches hold; only memory may be wanting where the command takes the words; and
+-- else the words have a fault, the first of which is told, help that is asked for among them
+pub record IsReading (words : List Text) (result : Result Asked Error) : Type 0 where
+  pub app : App
+  pub is_mcf : IsMcf app
+  pub asks : IfOk result (Asks app words)
+  pub taken : IfErr result (λ e. takes app words ≡ true → kind_of e ≡ OutOfMemory)
+  pub faults : FailsBy (fault_of app words) result

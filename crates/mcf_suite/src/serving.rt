@@ -1,0 +1,181 @@
+//! The command `mcf`, over two sources and two sinks.
+ghost use Rattle.std.specs.Prelude.{◌≡◌, ◌≢◌, ◌≤◌, ◌⊎◌, ℕ, List, IfOk, MatchOption, OnErr, OnOk, map};
+ghost use Rattle.std.specs.Fn.{FnOnceReturnsAt};
+ghost use Rattle.std.specs.Io.KnownBytes.{Appends};
+ghost use Rattle.clap.specs.Words.{kind_of};
+ghost use Rattle.mcf_suite.specs.Devices.{CountsFailure};
+ghost use Rattle.mcf_suite.specs.Serving.{GivesBytes, Serves, fault_line, status_of};
+
+use crate::asking::command;
+use crate::choice::Kind;
+use crate::device::{Sink, Source};
+use crate::fault::RunFault;
+use crate::running::{run, send};
+use clap::Error;
+use clap::error::ErrorKind;
+use std::alloc::{AllocError, Global};
+use std::convert::AsStr;
+
+// The status where nothing was answered.
+const FAILED: u8 = 3;
+
+// Why nothing was answered.
+#[derive(Drop)]
+enum Failure {
+    // The words aren't a command of `mcf`, and this text says why.
+    Usage(String),
+    // The file can't be opened.
+    Open,
+    // The run failed.
+    Run(RunFault),
+}
+
+impl Failure {
+    // The text that says so.
+    fn text(&self) -> &str {
+        match self {
+            Failure::Usage(text) => text.as_str(),
+            Failure::Open => "mcf: cannot open the file\n",
+            Failure::Run(fault) => fault_line(*fault),
+        }
+    }
+}
+
+impl From<AllocError> for Failure {
+    fn from(_error: AllocError) -> Failure {
+        Failure::Run(RunFault::NoMemory)
+    }
+}
+
+impl From<RunFault> for Failure {
+    fn from(fault: RunFault) -> Failure {
+        Failure::Run(fault)
+    }
+}
+
+// The line that a fault is told by, which takes no memory.
+fn fault_line(fault: RunFault) -> &'static str
+    ensures { result.now ≡ fault_line fault }
+{
+    match fault {
+        RunFault::Read => "mcf: read failed\n",
+        RunFault::Write => "mcf: write failed\n",
+        RunFault::NoMemory => "mcf: out of memory\n",
+        RunFault::TooLong => "mcf: input too long\n",
+    }
+}
+
+// The status that tells of an answer.
+fn status_of(kind: Kind) -> u8
+    ensures { result ≡ status_of kind }
+{
+    match kind {
+        Kind::Flow => 0,
+        Kind::Blocked => 1,
+        Kind::Refused => 2,
+    }
+}
+
+/// Does what the words of a command line ask, and gives the exit status.
+///
+/// The words begin with the name of the program: `mcf solve [--engine auto|cancel] [FILE]`. They are judged
+/// first; then `opener` opens FILE, or `input` is taken where there is none. The answer goes to `out`. Status
+/// 0 tells of a flow, or of help that was asked for and printed on `out`; 1 of a blocking set; 2 of a refusal.
+/// Status 3 is given, with one line on `err` or the text of the usage fault, where the words aren't a command
+/// of `mcf`, the file can't be opened, reading or writing fails, memory is wanting or the input is too long. A
+/// text that can't be written on `err` changes nothing.
+pub fn serve<W: AsStr, S: Source + Drop, P: FnOnce(&str) -> Option<S>, O: Sink, E: Sink>(
+    alloc: Global,
+    words: &[W],
+    input: S,
+    opener: P,
+    out: &mut O,
+    err: &mut E,
+) -> u8
+    requires { P.IsAlwaysCallable opener }
+    ensures status { result ≤ 3 }
+    ensures served { (result ≡ 3)
+        ⊎ Serves (map W.text words.now) (GivesBytes S.remaining input (FnOnceReturnsAt P.FnOnce opener))
+        result (O.contents out.old) (O.contents out.new) }
+    ensures finished { result ≢ 3 → O.IsFinished out.new }
+    ensures failed { O.failures out.new ≢ O.failures out.old → result ≡ 3 }
+    ensures untouched { result ≡ 3
+        → (out.new ≡ out.old) ⊎ CountsFailure (O.failures out.old) (O.failures out.new) }
+    ensures quiet { result ≢ 3 → err.new ≡ err.old }
+{
+    match answer(alloc, words, input, opener, out) {
+        Ok(status) => status,
+        Err(failure) => {
+            let _ = send(err, failure.text().as_bytes());
+            FAILED
+        }
+    }
+}
+
+// Writes the answer that the words ask for, or the help, and gives the status.
+fn answer<W: AsStr, S: Source + Drop, P: FnOnce(&str) -> Option<S>, O: Sink>(
+    alloc: Global,
+    words: &[W],
+    input: S,
+    opener: P,
+    out: &mut O,
+) -> Result<u8, Failure>
+    requires { P.IsAlwaysCallable opener }
+    ensures status { IfOk result (λ status. status ≤ 2) }
+    ensures served { IfOk result (λ status.
+        Serves (map W.text words.now) (GivesBytes S.remaining input (FnOnceReturnsAt P.FnOnce opener))
+        status (O.contents out.old) (O.contents out.new)) }
+    ensures finished { OnOk result (O.IsFinished out.new) }
+    ensures worked { OnOk result (O.failures out.new ≡ O.failures out.old) }
+    ensures untouched { OnErr result
+        ((out.new ≡ out.old) ⊎ CountsFailure (O.failures out.old) (O.failures out.new)) }
+{
+    let asked = match command(alloc, words) {
+        Ok(asked) => asked,
+        Err(error) => return print_help(alloc, &error, out),
+    };
+    let Some(mut source) = source_of(asked.file, input, opener) else {
+        return Err(Failure::Open);
+    };
+    let kind = run(alloc, &mut source, out, asked.choice)?;
+    Ok(status_of(kind))
+}
+
+// The source of the file, or the input where there is no file.
+fn source_of<S: Drop, P: FnOnce(&str) -> Option<S>>(
+    file: Option<&str>,
+    input: S,
+    opener: P,
+) -> Option<S>
+    requires { P.IsAlwaysCallable opener }
+    ensures { MatchOption file.entry (result ≡ Some input) (λ name. FnOnceReturnsAt P.FnOnce opener name.now result) }
+{
+    match file {
+        Some(name) => opener(name),
+        None => Some(input),
+    }
+}
+
+// Prints the help where the words ask for it, and gives the status.
+fn print_help<O: Sink>(alloc: Global, error: &Error, out: &mut O) -> Result<u8, Failure>
+    ensures status { IfOk result (λ status. status ≡ 0) }
+    ensures asked { OnOk result (kind_of error.now ≡ ErrorKind.DisplayHelp) }
+    ensures taken { OnOk result ((text : List ℕ) × Appends (O.contents out.old) (O.contents out.new) text) }
+    ensures finished { OnOk result (O.IsFinished out.new) }
+    ensures worked { OnOk result (O.failures out.new ≡ O.failures out.old) }
+    ensures untouched { OnErr result
+        ((out.new ≡ out.old) ⊎ CountsFailure (O.failures out.old) (O.failures out.new)) }
+{
+    match error.kind() {
+        ErrorKind::OutOfMemory => Err(Failure::Run(RunFault::NoMemory)),
+        ErrorKind::DisplayHelp => {
+            let text = format!(in alloc; "{error}")?;
+            send(out, text.as_bytes())?;
+            Ok(0)
+        }
+        _ => {
+            let text = format!(in alloc; "{error}")?;
+            Err(Failure::Usage(text))
+        }
+    }
+}
