@@ -1,5 +1,6 @@
 //! A feasible state of a net, or a node set that blocks.
-ghost use Rattle.std.specs.Prelude.{IfOk};
+ghost use Rattle.std.specs.Prelude.{◌≤◌, IfOk, OnErr};
+ghost use Rattle.mcf_instance.specs.Network.{node_count};
 ghost use Rattle.mcf_feas.specs.Feasible.{IsFeas};
 
 use crate::search::Search;
@@ -29,9 +30,10 @@ pub enum Feas<'n> {
 ///
 /// # Errors
 ///
-/// Want of memory, where a growth was refused.
+/// Want of memory, where a growth was refused; a net without nodes wants none.
 pub fn feasible<'n>(alloc: Global, net: &'n Net) -> Result<Feas<'n>, NoMemory>
-    ensures { IfOk result (IsFeas net.now) }
+    ensures answer { IfOk result (IsFeas net.now) }
+    ensures wants { OnErr result (1 ≤ node_count net.now) }
 {
     let total = supply_total(net);
     if total != 0 {

@@ -1,5 +1,5 @@
 //! Breadth-first search from the nodes with a surplus, and augmenting paths.
-ghost use Rattle.std.specs.Prelude.{◌≡◌, ℕ, ◌∷◌, ◌++◌, [], ◌<◌, true, IfOk, IfNone, IfSome, OnOk, length, pos, ◌+◌, ◌≤ℤ◌, ◌-◌};
+ghost use Rattle.std.specs.Prelude.{◌≡◌, ℕ, ◌∷◌, ◌++◌, [], ◌<◌, ◌≤◌, true, IfOk, IfNone, IfSome, OnErr, OnOk, length, pos, ◌+◌, ◌≤ℤ◌, ◌-◌};
 ghost use Rattle.std.specs.Bool.{MatchBool};
 ghost use Rattle.mcf_instance.specs.Blocking.{in_table};
 ghost use Rattle.mcf_instance.specs.Network.{IsArcNumber, IsNode, node_count};
@@ -37,7 +37,8 @@ pub(crate) struct Search {
 impl Search {
     /// The tables for a net.
     pub(crate) fn new(alloc: Global, net: &Net) -> Result<Search, NoMemory>
-        ensures { IfOk result (λ search. length search.reached ≡ node_count net.now) }
+        ensures nodes { IfOk result (λ search. length search.reached ≡ node_count net.now) }
+        ensures wants { OnErr result (1 ≤ node_count net.now) }
     {
         let nodes = net.node_count() as usize;
         Ok(Search {
@@ -73,6 +74,7 @@ impl Search {
         ensures sources { IfOk result (λ some. MatchBool some
             (0 < length self.new.visits.items)
             ((v : ℕ) → IsNode (node_count state.now.net) v → surplus_at state.now v ≤ℤ pos 0)) }
+        ensures wants { OnErr result (1 ≤ node_count state.now.net) }
     {
         self.reached.clear();
         self.visits.clear();
@@ -94,6 +96,7 @@ impl Search {
         ensures found { IfOk result (λ found. MatchBool found
             (IsFound state.now self.new.visits.items)
             (IsStuck state.now (in_table self.new.reached))) }
+        ensures wants { OnErr result (1 ≤ node_count state.now.net) }
     {
         let mut scanned = 0;
         while scanned < self.visits.len() {
@@ -114,6 +117,7 @@ impl Search {
         ensures found { IfOk result (λ found. MatchBool found
             (IsFound state.now self.new.visits.items)
             (IsScanned state.now self.new.reached self.new.visits.items (place + 1))) }
+        ensures wants { OnErr result (1 ≤ node_count state.now.net) }
     {
         let net = state.net();
         let from = self.visits[place].node;
@@ -138,6 +142,7 @@ impl Search {
         requires { IsFound state.old self.old.visits.items }
         ensures nodes { length self.new.reached ≡ length self.old.reached }
         ensures augmented { OnOk result (IsAugmented state.old state.new) }
+        ensures wants { OnErr result (1 ≤ node_count state.old.net) }
     {
         let amount = trace(state, &self.visits, &mut self.path)?;
         push_along(state, &self.path, amount);
@@ -171,8 +176,9 @@ fn open_end(state: &State<'_>, arc: ArcId, back: bool) -> Option<NodeId>
 // Writes the path to the last visited node, and says how much can go along it.
 fn trace(state: &State<'_>, visits: &[Visit], path: &mut Vec<Rid>) -> Result<i128, NoMemory>
     requires { IsFound state.now visits.now }
-    ensures { IfOk result
+    ensures path { IfOk result
         (IsPath state.now path.new.items (node_at visits.now (length visits.now - 1))) }
+    ensures wants { OnErr result (1 ≤ node_count state.now.net) }
 {
     path.clear();
     let mut place = visits.len() - 1;

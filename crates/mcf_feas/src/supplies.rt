@@ -1,5 +1,5 @@
 //! The supplies of a net, and the set of its nodes.
-ghost use Rattle.std.specs.Prelude.{◌≡◌, ℕ, true, IfOk, length};
+ghost use Rattle.std.specs.Prelude.{◌≡◌, ◌≤◌, ℕ, true, IfOk, OnErr, length};
 ghost use Rattle.mcf_instance.specs.Blocking.{in_table};
 ghost use Rattle.mcf_instance.specs.Network.{IsNode, node_count};
 ghost use Rattle.mcf_network.specs.Nets.{IsNet};
@@ -25,6 +25,7 @@ pub(crate) fn supply_total(net: &Net) -> i128
 pub(crate) fn all_nodes(alloc: Global, net: &Net) -> Result<NodeSet, NoMemory>
     ensures one_per_node { IfOk result (λ set. length set ≡ node_count net.now) }
     ensures all { IfOk result (λ set. (v : ℕ) → IsNode (node_count net.now) v → in_table set v ≡ true) }
+    ensures wants { OnErr result (1 ≤ node_count net.now) }
 {
     let mut set = NodeSet::new(alloc, net)?;
     for number in 0..net.node_count() {

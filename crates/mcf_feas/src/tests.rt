@@ -11,13 +11,9 @@ use std::test::Fail;
 
 // The net of a text.
 fn net_of(alloc: Global, text: &[u8]) -> Result<Net, Fail> {
-    match read(alloc, text).map_err(|_| "no memory")? {
-        Ok(instance) => {
-            let net = Net::of(alloc, &instance).map_err(|_| "no memory")?;
-            Ok(net)
-        }
-        Err(_) => Err("refused".into()),
-    }
+    let instance = read(alloc, text)?.ok().ok_or("refused")?;
+    let net = Net::of(alloc, &instance)?;
+    Ok(net)
 }
 
 // Whether a set of nodes is that of the listed nodes.
@@ -91,7 +87,7 @@ static FEASIBLE: [&[u8]; 6] = [
 fn infeasible_nets_are_blocked(rt: HostRuntime) -> Result<(), Fail> {
     for (text, side, nodes) in BLOCKED.iter() {
         let net = net_of(rt.alloc(), text)?;
-        match feasible(rt.alloc(), &net).map_err(|_| "no memory")? {
+        match feasible(rt.alloc(), &net)? {
             Feas::Flow(_) => return Err("a flow".into()),
             Feas::Blocked(set, by) => {
                 assert_eq!(rt; by, *side);
@@ -106,7 +102,7 @@ fn infeasible_nets_are_blocked(rt: HostRuntime) -> Result<(), Fail> {
 fn feasible_nets_have_a_flow(rt: HostRuntime) -> Result<(), Fail> {
     for text in FEASIBLE.iter() {
         let net = net_of(rt.alloc(), text)?;
-        match feasible(rt.alloc(), &net).map_err(|_| "no memory")? {
+        match feasible(rt.alloc(), &net)? {
             Feas::Flow(state) => assert!(rt; meets_supplies(&state)),
             Feas::Blocked(_, _) => return Err("blocked".into()),
         }
@@ -140,13 +136,9 @@ static RESTORED: [(&[u8], &[i128]); 5] = [
 #[test]
 fn states_are_restored(rt: HostRuntime) -> Result<(), Fail> {
     for (text, flow) in RESTORED.iter() {
-        match read(rt.alloc(), text)? {
-            Ok(instance) => {
-                let restored = restored_flow(rt.alloc(), &instance)?.ok_or("blocked")?;
-                assert_eq!(rt; restored.as_slice(), *flow);
-            }
-            Err(_) => return Err("refused".into()),
-        }
+        let instance = read(rt.alloc(), text)?.ok().ok_or("refused")?;
+        let restored = restored_flow(rt.alloc(), &instance)?.ok_or("blocked")?;
+        assert_eq!(rt; restored.as_slice(), *flow);
     }
     Ok(())
 }

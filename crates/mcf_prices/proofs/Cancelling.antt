@@ -2,7 +2,7 @@
 use Rattle.std.proofs.Common.{◌≡◌, ℕ, ◌<◌, List, [], ◌∷◌, length, ℤ, pos, nat_abs, ◌+ℤ◌, ◌≤ℤ◌, ◌<ℤ◌, ap, subst, ◌∙◌, arith}
 use Rattle.std.specs.List.{All, Any}
 use Rattle.std.proofs.lemmas.Int.{ints}
-use Rattle.mcf_instance.specs.Flow.{AreGreatestPrices, IsLeast, cost}
+use Rattle.mcf_instance.specs.Flow.{AreGreatestPrices, IsFeasible, IsLeast, cost}
 use Rattle.mcf_instance.specs.Network.{Network, IsArcNumber, node_count}
 use Rattle.mcf_instance.proofs.Bounds.{cost_up_to}
 use Rattle.mcf_instance.proofs.Duality.{shown_flows_are_least_lem}
@@ -74,3 +74,21 @@ least_from_prices g s ys ok prices =
       feasible = ok;
       least = subst (λ n. IsLeast n s.amounts) ok.of_net (shown_flows_are_least_lem s.net ys s.amounts ok.flow.of_net.ends (feasible_of_state s ok.flow ok.no_surplus) prices.low.show_flow);
     }
+
+-- there is room for 1 along a negative cycle
+pub cycle_by_one : (s : Flow) (walk : List Rid) → IsNegativeCycle s walk → CanPushAlong s walk (pos 1)
+cycle_by_one s walk cycle =
+    cycle_can_push s walk (pos 1) cycle (omega (arith, ints)) (λ k d h. let some = (cycle.has_room k d h).room in omega (arith, ints, some))
+
+-- a push of 1 along a negative cycle makes a state cheaper, so a least state has none
+pub least_no_cycle : (g : Network) (s : Flow) (walk : List Rid) → IsLeastState g s → IsNegativeCycle s walk → ⊥
+least_no_cycle g s walk ok cycle =
+    let can = cycle_by_one s walk cycle in
+    let after = cycle_feasible g s walk (pos 1) ok.feasible cycle can in
+    let change = cost_along s walk (pos 1) ok.feasible.flow can in
+    let less = mul_below_zero (walk_cost s.net walk) (pos 1) cycle.negative (omega (arith, ints)) in
+    let feasible = subst (λ n. IsFeasible n (pushed_along s walk (pos 1)).amounts) after.of_net (feasible_of_state (pushed_along s walk (pos 1)) after.flow after.no_surplus) in
+    let least = ok.least.least (pushed_along s walk (pos 1)).amounts feasible in
+    let here = ap (λ (n : Network). cost n.arcs s.amounts) ok.feasible.of_net in
+    let there = ap (λ (n : Network). cost n.arcs (pushed_along s walk (pos 1)).amounts) ok.feasible.of_net in
+    omega (arith, ints, change, less, least, here, there)

@@ -24,6 +24,7 @@ pub record IsEntering (old new : Labels) (before after : Waiting) (w : ℕ) (res
   pub progress : IsProgress old new before after cost_limit
   pub same_price : at_node new.prices w ≡ at_node old.prices w
   pub here : (r : Rid) → HasRoom old.flow r → head old.flow.net r ≡ w → IsHandled new after r ⊎ Contains rest (reverse r)
+  pub still : after.nodes ≡ [] → new.prices ≡ old.prices
 
 -- nothing was done yet
 pub progress_none : (l : Labels) (q : Waiting) (depth : ℕ) → IsLabelling l → IsQueue q → IsProgress l l q q depth
@@ -46,6 +47,7 @@ entering_start l q w rest ok queue every =
       progress = progress_none l q cost_limit ok queue;
       same_price = refl;
       here = λ r room e. inr (every r room e);
+      still = λ none. refl;
     }
 
 -- a residual arc that was handled, after another one lowered the price of its tail
@@ -84,6 +86,13 @@ reverse_twice k false = refl
 pub reversed : (q r : Rid) → q ≡ reverse r → reverse q ≡ r
 reversed q r e = ap reverse e ∙ reverse_twice r.arc r.back
 
+-- an empty list has no elements
+empty_lacks : (xs : List ℕ) (v : ℕ) → xs ≡ [] → Contains xs v → ⊥
+empty_lacks xs v none has =
+    let h = has.1 in
+    let z = ap (λ (ys : List ℕ). length ys) none in
+    omega (arith, h, z)
+
 -- the next residual arc lowered the price of its tail, which was put into the queue
 pub entering_lowered : (old now : Labels) (before q q' : Waiting) (w : ℕ) (out : Rid) (rest : List Rid) → IsNode (length old.prices) w → IsEntering old now before q w (out ∷ rest) → IsLowering now (lowered now (reverse out)) (reverse out) → head old.flow.net (reverse out) ≡ w → IsQueue q' → IsQueued q q' (tail now.flow.net (reverse out)) → IsEntering old (lowered now (reverse out)) before q' w rest
 entering_lowered old now before q q' w out rest inside at low enters queue queued' =
@@ -121,6 +130,7 @@ entering_lowered old now before q q' w out rest inside at low enters queue queue
           | inr more ↦ inr more
         ]
       ];
+      still = λ none. absurd (empty_lacks q'.nodes (tail now.flow.net r) none queued'.here);
     }
 
 -- the next residual arc lowered no price
@@ -136,6 +146,7 @@ entering_kept old now before q w out rest at respects =
           | inr more ↦ inr more
         ]
       ];
+      still = at.still;
     }
 
 -- ---- the same, of what the code has

@@ -1,12 +1,13 @@
 -- A round: the nodes that wait relax the residual arcs that enter them, one after another.
 use Rattle.std.proofs.Common.{◌≡◌, ℕ, ◌<◌, ◌≤◌, ◌+◌, ◌-◌, ◌*◌, ◌^◌, List, [], ◌∷◌, length, get_or, replicate, ℤ, pos, ◌<ℤ◌, refl, sym, ap, subst, ◌∙◌, arith, ◌⊎◌, inl, inr}
-use Rattle.std.specs.List.{Contains}
+use Rattle.std.specs.List.{All, Contains}
 use Rattle.std.proofs.lemmas.Int.{ints}
 use Rattle.std.proofs.lemmas.Bool.{cases_eq, cases_lt}
 use Rattle.std.proofs.lemmas.List.{get_or_default, get_or-replicate, length-replicate}
-use Rattle.mcf_instance.specs.Flow.{AreGreatestPrices}
+use Rattle.mcf_instance.specs.Flow.{AreGreatestPrices, AreNotAboveZero}
 use Rattle.mcf_instance.specs.Limits.{node_limit}
 use Rattle.mcf_instance.specs.Network.{Network, IsNode, at_node, node_count}
+use Rattle.mcf_instance.specs.WellFormed.{IsUpTo}
 use Rattle.mcf_network.specs.declared.rid.Rid.{Rid}
 use Rattle.mcf_network.specs.Residual.{head}
 use Rattle.mcf_network.specs.States.{Flow}
@@ -14,6 +15,7 @@ use Rattle.mcf_network.specs.Walks.{HasRoom}
 use Rattle.mcf_network.proofs.ArcLaws.{head_is_node}
 use Rattle.mcf_prices.specs.Labels.{Labels, IsLabelling, AreAtLeast, cost_limit, total}
 use Rattle.mcf_prices.specs.Queues.{Waiting, IsQueue, no_queue}
+use Rattle.mcf_prices.specs.Recovering.{price_limit}
 use Rattle.mcf_prices.specs.Rounds.{IsHandled, IsProgress}
 use Rattle.mcf_prices.proofs.Marks.{count_small}
 use Rattle.mcf_prices.proofs.Relaxing.{progress_none}
@@ -51,6 +53,7 @@ WaitsFrom nodes i v = (k : ℕ) × (i ≤ k) × (k < length nodes) × (get_or no
 pub record RoundAt (first now : Labels) (before after : Waiting) (nodes : List ℕ) (i : ℕ) : Type 0 where
   pub progress : IsProgress first now before after (cost_limit * i)
   pub handled : (r : Rid) → HasRoom first.flow r → IsHandled now after r ⊎ WaitsFrom nodes i (head first.flow.net r)
+  pub still : after.nodes ≡ [] → now.prices ≡ first.prices
 
 pub round_start : (l : Labels) (q waiting : Waiting) → IsLabelling l → IsQueue q → ((r : Rid) → HasRoom l.flow r → IsHandled l waiting r) → RoundAt l l q q waiting.nodes 0
 round_start l q waiting ok queue handled =
@@ -60,11 +63,20 @@ round_start l q waiting ok queue handled =
         | inl respects ↦ inl (inl respects)
         | inr waits ↦ inr (waits.0, omega arith, waits.1, waits.2)
       ];
+      still = λ none. refl;
     }
 
+-- what is contained in an empty list is empty
+empty_within : (xs ys : List ℕ) → ys ≡ [] → ((v : ℕ) → Contains xs v → Contains ys v) → xs ≡ []
+empty_within [] ys none within = refl
+empty_within (x ∷ xs) ys none within =
+    let h = (within x (0, omega arith, refl)).1 in
+    let z = ap (λ (zs : List ℕ). length zs) none in
+    absurd (omega (arith, h, z))
+
 -- node w at place i relaxed the residual arcs that enter it
-pub round_next : (first now next : Labels) (before q q' : Waiting) (nodes : List ℕ) (i w : ℕ) → RoundAt first now before q nodes i → i < length nodes → w ≡ get_or nodes i w → IsProgress now next q q' cost_limit → ((r : Rid) → HasRoom now.flow r → head now.flow.net r ≡ w → IsHandled next q' r) → RoundAt first next before q' nodes (i + 1)
-round_next first now next before q q' nodes i w at inside is progress here =
+pub round_next : (first now next : Labels) (before q q' : Waiting) (nodes : List ℕ) (i w : ℕ) → RoundAt first now before q nodes i → i < length nodes → w ≡ get_or nodes i w → IsProgress now next q q' cost_limit → ((r : Rid) → HasRoom now.flow r → head now.flow.net r ≡ w → IsHandled next q' r) → (q'.nodes ≡ [] → next.prices ≡ now.prices) → RoundAt first next before q' nodes (i + 1)
+round_next first now next before q q' nodes i w at inside is progress here still_now =
     record {
       progress = progress_join first now next before q q' (cost_limit * i) cost_limit (cost_limit * (i + 1)) (omega arith) at.progress progress;
       handled = λ r room. elim (at.handled r room) [
@@ -74,6 +86,7 @@ round_next first now next before q q' nodes i w at inside is progress here =
           | inr n ↦ inr (waits.0, (let low = waits.1 in omega (arith, low, n)), waits.2, waits.3)
         ]
       ];
+      still = λ none. still_now none ∙ at.still (empty_within q.nodes q'.nodes none progress.waits);
     }
   where
     still : (r : Rid) → HasRoom now.flow r → IsHandled now q r → IsHandled next q' r
@@ -159,3 +172,20 @@ round_falls l l' p q d n empty progress some =
     positive : (xs : List ℕ) → (xs ≡ [] → ⊥) → 0 < length xs
     positive [] n = absurd (n refl)
     positive (x ∷ xs) n = omega arith
+
+-- prices that are not far below 0, and not above it
+pub small_prices : (ys : List ℤ) (f : ℕ) → f ≤ price_limit → AreAtLeast f ys → AreNotAboveZero ys → All (IsUpTo price_limit) ys
+small_prices ys f few floor up k d h =
+    let back : k + 1 - 1 ≡ k = omega arith in
+    let low = rw back at (floor (k + 1) (omega arith, omega (arith, h))) in
+    let same = get_or_default ys k (pos 0) d h in
+    let high = up k d h in
+    (omega (arith, ints, low, same, few), omega (arith, ints, high))
+
+-- where nobody fell, the prices are those of the head of the round, which are not far below 0
+pub recovered_small : (s : Flow) (l l' : Labels) (q : Waiting) (ys : List ℤ) → l.flow ≡ s → IsLabelling l → AreAtLeast (cost_limit * node_count s.net) l.prices → IsLabelling l' → (q.nodes ≡ [] → l'.prices ≡ l.prices) → q.nodes ≡ [] → ys ≡ l'.prices → All (IsUpTo price_limit) ys
+recovered_small s l l' q ys same ok floor after still none is =
+    let limit = ok.flow.of_net.nodes in
+    let count = ap (λ (t : Flow). node_count t.net) same in
+    let back = sym (is ∙ still none) in
+    small_prices ys (cost_limit * node_count s.net) (omega (arith, limit, count)) (subst (λ xs. AreAtLeast (cost_limit * node_count s.net) xs) back floor) (subst AreNotAboveZero (sym is) after.not_above_zero)

@@ -1,7 +1,8 @@
 //! The plain engine.
-ghost use Rattle.std.specs.Prelude.{IfOk};
+ghost use Rattle.std.specs.Prelude.{◌≤◌, IfOk, OnErr, ⊤};
 ghost use Rattle.mcf_feas.specs.Feasible.{IsFeasibleState};
-ghost use Rattle.mcf_prices.specs.Outcomes.{IsLeastState};
+ghost use Rattle.mcf_instance.specs.Network.{node_count};
+ghost use Rattle.mcf_prices.specs.Outcomes.{IsLeastState, IsOutcome};
 
 use crate::engine::{Engine, Outcome};
 use crate::recovered::{Recovered, recover};
@@ -35,7 +36,15 @@ impl Engine for Cancel {
         true
     }
 
-    fn solve<'n>(&mut self, alloc: Global, net: &'n Net) -> Result<Outcome<'n>, NoMemory> {
+    /// A least state of the net, or a node set that shows that there is none.
+    ///
+    /// # Errors
+    ///
+    /// Want of memory, where a growth was refused; a net without nodes wants none.
+    fn solve<'n>(&mut self, alloc: Global, net: &'n Net) -> Result<Outcome<'n>, NoMemory>
+        ensures outcome { IfOk result (IsOutcome (λ _. ⊤) net.now) }
+        ensures wants { OnErr result (1 ≤ node_count net.now) }
+    {
         match feasible(alloc, net)? {
             Feas::Flow(state) => {
                 let least = cancel_cycles(alloc, state)?;
@@ -49,7 +58,8 @@ impl Engine for Cancel {
 // Pushes as much as there is room for round negative cycles, until there is none.
 fn cancel_cycles<'n>(alloc: Global, mut state: State<'n>) -> Result<State<'n>, NoMemory>
     requires { IsFeasibleState state.net state }
-    ensures { IfOk result (IsLeastState state.entry.net) }
+    ensures least { IfOk result (IsLeastState state.entry.net) }
+    ensures wants { OnErr result (1 ≤ node_count state.entry.net) }
 {
     'cycles: loop {
         match recover(alloc, &state)? {

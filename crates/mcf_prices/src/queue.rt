@@ -1,5 +1,5 @@
 //! The nodes that wait for the next round of a search.
-ghost use Rattle.std.specs.Prelude.{◌≡◌, ℕ, IfOk, IsTrue, OnOk, OnErr, [], length, ◌↔◌};
+ghost use Rattle.std.specs.Prelude.{◌≡◌, ◌≤◌, ℕ, IfOk, IsTrue, OnOk, OnErr, [], length, ◌↔◌};
 ghost use Rattle.std.specs.List.{Contains};
 ghost use Rattle.mcf_instance.specs.Network.{IsNode, node_count};
 ghost use Rattle.mcf_prices.specs.Queues.{IsQueue, no_queue, queued};
@@ -31,6 +31,7 @@ impl Queue {
     pub(crate) fn new(alloc: Global, net: &Net) -> Result<Queue, NoMemory>
         ensures value { IfOk result (λ q. q ≡ no_queue (node_count net.now)) }
         ensures valid { IfOk result IsQueue }
+        ensures wants { OnErr result (1 ≤ node_count net.now) }
     {
         let nodes = net.node_count() as usize;
         Ok(Queue {
@@ -44,6 +45,7 @@ impl Queue {
         ensures table { IfOk result (λ q. length q.table ≡ node_count net.now) }
         ensures each { IfOk result (λ q. (v : ℕ) → IsNode (node_count net.now) v → Contains q.nodes v) }
         ensures valid { IfOk result IsQueue }
+        ensures wants { OnErr result (1 ≤ node_count net.now) }
     {
         let mut all = Queue::new(alloc, net)?;
         for number in 0..net.node_count() {

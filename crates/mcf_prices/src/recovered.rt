@@ -1,5 +1,6 @@
 //! Prices or a negative cycle, recovered from a state.
-ghost use Rattle.std.specs.Prelude.{IfOk};
+ghost use Rattle.std.specs.Prelude.{◌≤◌, IfOk, OnErr};
+ghost use Rattle.mcf_instance.specs.Network.{node_count};
 ghost use Rattle.mcf_prices.specs.Recovering.{HasSmallPrices, IsRecovered};
 
 use crate::queue::Queue;
@@ -29,10 +30,11 @@ pub enum Recovered {
 ///
 /// # Errors
 ///
-/// Want of memory, where a growth was refused.
+/// Want of memory, where a growth was refused; a net without nodes wants none.
 pub fn recover(alloc: Global, state: &State<'_>) -> Result<Recovered, NoMemory>
     ensures recovered { IfOk result (IsRecovered state.now) }
     ensures small { IfOk result HasSmallPrices }
+    ensures wants { OnErr result (1 ≤ node_count state.now.net) }
 {
     let net = state.net();
     let mut search = Search::start(alloc, state)?;

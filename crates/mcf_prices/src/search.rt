@@ -1,5 +1,5 @@
 //! A search for prices, and for cycles of the residual arcs that gave them.
-ghost use Rattle.std.specs.Prelude.{◌≡◌, ◌<◌, ◌+◌, ◌*◌, ◌^◌, ◌≤ℤ◌, ◌<ℤ◌, ℕ, [], Bool, List, None, Some, Option, true, false, IfNone, IfOk, IfSome, OnOk, drop, length, neg_ℤ, pos, replicate};
+ghost use Rattle.std.specs.Prelude.{◌≡◌, ◌<◌, ◌≤◌, ◌+◌, ◌*◌, ◌^◌, ◌≤ℤ◌, ◌<ℤ◌, ℕ, [], Bool, List, None, Some, Option, true, false, IfNone, IfOk, IfSome, OnErr, OnOk, drop, length, neg_ℤ, pos, replicate};
 ghost use Rattle.std.specs.Bool.{OnFalse, OnTrue};
 ghost use Rattle.std.specs.List.{All, Contains, HoldsAt};
 ghost use Rattle.mcf_instance.specs.Blocking.{in_table};
@@ -43,12 +43,17 @@ impl<'s, 'n> Search<'s, 'n> {
         ensures flow { IfOk result (λ l. l.flow ≡ state.now) }
         ensures prices { IfOk result (λ l. l.prices ≡ replicate (node_count state.now.net) (pos 0)) }
         ensures valid { IfOk result IsLabelling }
+        ensures wants { OnErr result (1 ≤ node_count state.now.net) }
     {
         let nodes = state.net().node_count() as usize;
+        let mut prices = Vec::new(alloc);
+        prices.resize(nodes, 0)?;
+        let mut links = Vec::new(alloc);
+        links.resize(nodes, None)?;
         Ok(Search {
             state,
-            prices: vec![in alloc; 0; nodes]?,
-            links: vec![in alloc; None; nodes]?,
+            prices,
+            links,
         })
     }
 
@@ -106,6 +111,8 @@ impl<'s, 'n> Search<'s, 'n> {
         requires queue { IsQueue fallen.old }
         ensures progress { OnOk result (IsProgress self.old self.new fallen.old fallen.new cost_limit) }
         ensures here { OnOk result ((r : Rid) → HasRoom self.old.flow r → head self.old.flow.net r ≡ w → IsHandled self.new fallen.new r) }
+        ensures still { OnOk result (fallen.new.nodes ≡ [] → self.new.prices ≡ self.old.prices) }
+        ensures wants { OnErr result (1 ≤ node_count self.old.flow.net) }
     {
         let net = self.state.net();
         'entering: for leaving in net.leaving(w) {
@@ -130,6 +137,8 @@ impl<'s, 'n> Search<'s, 'n> {
         requires handled { (r : Rid) → HasRoom self.old.flow r → IsHandled self.old waiting.now r }
         ensures progress { OnOk result (IsProgress self.old self.new fallen.old fallen.new (10 ^ 21)) }
         ensures handled { OnOk result ((r : Rid) → HasRoom self.old.flow r → IsHandled self.new fallen.new r) }
+        ensures still { OnOk result (fallen.new.nodes ≡ [] → self.new.prices ≡ self.old.prices) }
+        ensures wants { OnErr result (1 ≤ node_count self.old.flow.net) }
     {
         'nodes: for w in waiting.nodes() {
             self.relax_entering(*w, fallen)?;
@@ -225,6 +234,7 @@ impl<'s, 'n> Search<'s, 'n> {
     pub(crate) fn cycle(&self, alloc: Global) -> Result<Option<Vec<Rid>>, NoMemory>
         ensures some { IfOk result (λ o. IfSome o (λ walk. IsNegativeCycle self.now.flow walk.items)) }
         ensures none { IfOk result (λ o. IfNone o (AreAtLeast (cost_limit * node_count self.now.flow.net) self.now.prices)) }
+        ensures wants { OnErr result (1 ≤ node_count self.now.flow.net) }
     {
         let net = self.state.net();
         let mut seen = NodeSet::new(alloc, net)?;

@@ -1,10 +1,12 @@
 //! Worked nets.
 ghost use Rattle.std.specs.Prelude.{IfOk, ⊤};
-ghost use Rattle.mcf_prices.specs.Outcomes.{IsOutcome};
+ghost use Rattle.mcf_feas.specs.Feasible.{IsFeasibleState};
+ghost use Rattle.mcf_prices.specs.Outcomes.{IsLeastState, IsOutcome};
 
-use crate::{Cancel, Engine, Outcome, Recovered, recover};
-use mcf_instance::read;
-use mcf_network::{Net, State};
+use crate::{Cancel, Engine, Outcome, Recovered, least_states_have_no_cycle, recover};
+use mcf_feas::{Feas, feasible};
+use mcf_instance::{Problem, read};
+use mcf_network::{Net, State, push_along};
 use mcf_text::{ArcId, NoMemory};
 use std::alloc::Global;
 use std::test::Fail;
@@ -31,6 +33,63 @@ fn least_cost(outcome: &Outcome<'_>) -> Option<i128> {
         Outcome::Least(state) => Some(cost_of(state)),
         Outcome::Blocked(..) => None,
     }
+}
+
+// An engine that takes the nets of minimum-cost flow problems alone, and pushes 1 at a time round each cycle.
+#[derive(Drop)]
+struct ByOne;
+
+impl Engine for ByOne {
+    ghost use Rattle.std.specs.Prelude.{◌≡◌, ⊤};
+    ghost use Rattle.mcf_instance.specs.declared.problem.Problem.TheVariants.{Min};
+
+    ghost Takes = { λ g. g.problem ≡ Min };
+
+    ghost Made = { λ _ _ _ _. ⊤ };
+
+    fn takes(&self, net: &Net) -> bool {
+        match net.problem() {
+            Problem::Min => true,
+            Problem::Asn => false,
+        }
+    }
+
+    fn solve<'n>(&mut self, alloc: Global, net: &'n Net) -> Result<Outcome<'n>, NoMemory> {
+        match feasible(alloc, net)? {
+            Feas::Flow(state) => {
+                let least = cancel_by_one(alloc, state)?;
+                Ok(Outcome::Least(least))
+            }
+            Feas::Blocked(set, side) => Ok(Outcome::Blocked(set, side)),
+        }
+    }
+}
+
+// Pushes 1 round negative cycles, until there is none.
+fn cancel_by_one<'n>(alloc: Global, mut state: State<'n>) -> Result<State<'n>, NoMemory>
+    requires { IsFeasibleState state.net state }
+    ensures { IfOk result (IsLeastState state.entry.net) }
+{
+    'cycles: loop {
+        match recover(alloc, &state)? {
+            Recovered::Prices(_) => return Ok(state),
+            Recovered::Cycle(walk) => push_along(&mut state, walk.as_slice(), 1),
+        }
+    }
+}
+
+// What an engine answers a net with: nothing where it doesn't take the net, and else the cost of a least flow,
+// if there is a feasible one.
+fn cost_by<E: Engine>(
+    alloc: Global,
+    engine: &mut E,
+    net: &Net,
+) -> Result<Option<Option<i128>>, NoMemory> {
+    if !engine.takes(net) {
+        return Ok(None);
+    }
+    let outcome = engine.solve(alloc, net)?;
+    Ok(Some(least_cost(&outcome)))
 }
 
 // Asks an engine where it takes the net, and else another that takes it.
@@ -88,30 +147,44 @@ fn finds_the_greatest_prices(rt: HostRuntime) -> Result<(), Fail> {
     Ok(())
 }
 
+// Texts of minimum-cost flow problems, with the cost of a least flow, if there is a feasible one.
+static WORKED: [(&[u8], Option<i128>); 6] = [
+    (CIRCULATION, Some(-5)),
+    (SAMPLE, Some(14)),
+    (b"p min 0 0\n", Some(0)),
+    (
+        b"p min 3 3\nn 1 2\nn 3 -2\na 1 2 0 2 1\na 2 3 0 2 1\na 1 3 0 1 -4\n",
+        Some(-2),
+    ),
+    (b"p min 2 1\nn 1 4\nn 2 -4\na 1 2 0 3 1\n", None),
+    (b"p min 2 1\nn 1 4\nn 2 -3\na 1 2 0 5 1\n", None),
+];
+
+const ASSIGNMENT: &[u8] = b"p asn 4 4\nn 1\nn 2\na 1 3 5\na 1 4 1\na 2 3 2\na 2 4 7\n";
+
 #[test]
-fn cancels_to_least_costs(rt: HostRuntime) -> Result<(), Fail> {
+fn engines_agree(rt: HostRuntime) -> Result<(), Fail> {
     let alloc = rt.alloc();
-    let rows: [(&[u8], Option<i128>); 4] = [
-        (CIRCULATION, Some(-5)),
-        (SAMPLE, Some(14)),
-        (b"p min 2 1\nn 1 4\nn 2 -4\na 1 2 0 3 1\n", None),
-        (b"p min 2 1\nn 1 4\nn 2 -3\na 1 2 0 5 1\n", None),
-    ];
-    for (text, cost) in rows {
+    for (text, cost) in WORKED.iter() {
         let net = net_of(alloc, text)?;
-        let mut engine = Cancel::new();
-        assert!(rt; engine.takes(&net));
-        let outcome = engine.solve(alloc, &net)?;
-        assert_eq!(rt; least_cost(&outcome), cost);
+        assert_eq!(rt; cost_by(alloc, &mut Cancel::new(), &net)?, Some(*cost));
+        assert_eq!(rt; cost_by(alloc, &mut ByOne, &net)?, Some(*cost));
     }
     Ok(())
 }
 
 #[test]
-fn asks_two_engines(rt: HostRuntime) -> Result<(), Fail> {
+fn asks_the_engine_that_takes_the_net(rt: HostRuntime) -> Result<(), Fail> {
     let alloc = rt.alloc();
-    let net = net_of(alloc, SAMPLE)?;
-    let outcome = solve_by(alloc, &mut Cancel::new(), &mut Cancel::new(), &net)?;
-    assert_eq!(rt; least_cost(&outcome), Some(14));
+    let net = net_of(alloc, ASSIGNMENT)?;
+    assert_eq!(rt; cost_by(alloc, &mut ByOne, &net)?, None);
+    let outcome = solve_by(alloc, &mut ByOne, &mut Cancel::new(), &net)?;
+    assert_eq!(rt; least_cost(&outcome), Some(3));
+    Ok(())
+}
+
+#[test]
+fn the_law_does_nothing(_rt: HostRuntime) -> Result<(), Fail> {
+    least_states_have_no_cycle();
     Ok(())
 }

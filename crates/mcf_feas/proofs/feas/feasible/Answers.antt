@@ -10,8 +10,8 @@ use Rattle.mcf_feas.proofs.Excess.{excess_falls}
 use Rattle.mcf_feas.proofs.feas.feasible.Goals as goal
 use Rattle.mcf_feas.proofs.feas.feasible.Goals.{then-total-lt0, else-total-lt0}
 
-pub returns-then-total-ne0 : goal.returns-then-total-ne0
-returns-then-total-ne0 c =
+pub returns-then-total-ne0-clause-answer : goal.returns-then-total-ne0-clause-answer
+returns-then-total-ne0-clause-answer c =
     let g = c.args.net.now in
     let total = c.supply_total-total.ensures.value in
     let ok = c.supply_total-total.ensures.of_net in
@@ -27,15 +27,15 @@ loop-search-init c =
     record {
       of_net = ap (λ (s : Flow). s.net) c.in_ok-state.ensures.value;
       flow = c.in_ok-state.ensures.valid;
-      nodes = c.in_ok-search.ensures;
+      nodes = c.in_ok-search.ensures.nodes;
     }
 
 pub start-requires : goal.start-requires
 start-requires c =
     c.loop-search.invariant.nodes ∙ sym (ap node_count c.loop-search.invariant.of_net)
 
-pub returns-then-not-branch : goal.returns-then-not-branch
-returns-then-not-branch c =
+pub returns-then-not-branch-clause-answer : goal.returns-then-not-branch-clause-answer
+returns-then-not-branch-clause-answer c =
     let s = c.loop-search.state in
     let same = c.loop-search.invariant.of_net in
     let total = c.supply_total-total.ensures.value in
@@ -47,8 +47,8 @@ pub loop-search-smaller : goal.loop-search-smaller
 loop-search-smaller c =
     excess_falls c.loop-search.state c.augment.new.state c.in_ok-augment.ensures.augmented
 
-pub returns : goal.returns
-returns c =
+pub returns-clause-answer : goal.returns-clause-answer
+returns-clause-answer c =
     let s = c.loop-search.state in
     let same = c.loop-search.invariant.of_net in
     let total = c.supply_total-total.ensures.value in

@@ -27,8 +27,8 @@ loop-place-preserved c =
     let within : y ≤ℤ room_of s c.in-Some.link.along = omega (arith, ints, clamps, value, room.value, room.low, room.high) in
     rw (c.in_ok-push.ensures.items, reverse-append) (trace_step s visits old.place (reverse old.path.items) (node_at visits (length visits - 1)) x y ok old.invariant positive below c.in-Some.link link within)
 
-pub returns : goal.returns
-returns c =
+pub returns-clause-path : goal.returns-clause-path
+returns-clause-path c =
     let s = c.args.state.now in
     let visits = c.args.visits.now in
     let old = c.loop-place in

@@ -9,7 +9,7 @@ use Rattle.mcf_feas.proofs.search.Search.augment.Goals as goal
 
 pub returns-clause-augmented : goal.returns-clause-augmented
 returns-clause-augmented c =
-    let path = c.in_ok-amount.ensures in
+    let path = c.in_ok-amount.ensures.path in
     let push = c.push_along.ensures in
     let same : to_z w128 (of_z w128 c.in_ok-amount.amount) ≡ c.in_ok-amount.amount = search (rules, to_z-of_z) in
     let target = node_at c.deref.result.now (length c.deref.result.now - 1) in

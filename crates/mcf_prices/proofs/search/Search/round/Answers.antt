@@ -18,7 +18,7 @@ relax_entering-requires-clause-floor c v h =
 pub nodes-preserved : goal.nodes-preserved
 nodes-preserved c =
     let items = c.nodes-w-items.ensures.value in
-    round_next c.args.self.now c.nodes.self c.relax_entering.new.self c.args.fallen.now c.nodes.fallen c.relax_entering.new.fallen c.args.waiting.now.nodes c.nodes.w-index c.w-item.result c.nodes.invariant (rw items at c.nodes-test.true) (rw items at c.w-item.is) c.in_ok-relax_entering.ensures.progress c.in_ok-relax_entering.ensures.here
+    round_next c.args.self.now c.nodes.self c.relax_entering.new.self c.args.fallen.now c.nodes.fallen c.relax_entering.new.fallen c.args.waiting.now.nodes c.nodes.w-index c.w-item.result c.nodes.invariant (rw items at c.nodes-test.true) (rw items at c.w-item.is) c.in_ok-relax_entering.ensures.progress c.in_ok-relax_entering.ensures.here c.in_ok-relax_entering.ensures.still
 
 pub returns-clause-progress : goal.returns-clause-progress
 returns-clause-progress c =
