@@ -168,8 +168,9 @@ def measure(part, words):
         print(f"{label}: ours {ours:.4f} s, the peer {peers:.4f} s, ratio {ours / peers:.2f}{grown}")
         within = within and ours / peers <= limit
         if part == "net":
-            within = within and net_bytes("ours", program, paths) <= NET_BYTES
+            size = net_bytes("ours", program, paths)
             net_bytes("the peer", [str(peer)], paths)
+            within = within and size <= NET_BYTES
     return within
 
 
