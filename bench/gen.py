@@ -1,13 +1,22 @@
 #!/usr/bin/env python3
 """Makes instances of the minimum-cost flow problem in DIMACS `p min` form.
 
-    python3 bench/gen.py FAMILY NODES [--seed S] [--output FILE]
+    python3 bench/gen.py FAMILY NODES [--seed S] [--output FILE] [--shown ANSWER]
                          [--max-cap C] [--max-cost C] [--degree D]
 
 FAMILY
-  sparse    a sparse transshipment net: chains from each source to a sink make
-            it feasible, and random arcs fill it up; one node in a hundred is a
-            source and one a sink
+  gridgen   a wide grid with arcs to all eight neighbours, in which the nodes of
+            the left column send to those of the right column
+  netgen    a sparse transshipment net: chains from each source to one to three
+            sinks make it feasible, and random arcs fill it up; one node in a
+            hundred is a source and one a sink
+  sparse    as netgen, with one sink for each source
+  transp    a transportation problem: an arc from each node of the first half to
+            each of the second
+
+`--shown` takes only the arcs and caps of the family. It chooses prices, a cost
+for each arc and a flow that these prices show, and the supplies that this flow
+meets; the answer, which is then right, goes to the file ANSWER.
 
 The same words always give the same bytes: only `random.Random(seed).random()`
 is asked, whose sequence Python keeps from one version to the next.
@@ -18,20 +27,20 @@ import sys
 
 
 class Net:
-    """The supplies and the arc lines of an instance."""
+    """The supplies and the arcs of an instance."""
 
     def __init__(self, nodes):
         self.supply = [0] * (nodes + 1)
         self.arcs = []
 
     def arc(self, source, target, cap, cost):
-        self.arcs.append(f"a {source} {target} 0 {cap} {cost}\n")
+        self.arcs.append((source, target, cap, cost))
 
     def write(self, out, note):
         nodes = len(self.supply) - 1
         out.write(f"c {note}\np min {nodes} {len(self.arcs)}\n")
         out.writelines(f"n {node} {supply}\n" for node, supply in enumerate(self.supply) if supply)
-        out.writelines(self.arcs)
+        out.writelines(f"a {source} {target} 0 {cap} {cost}\n" for source, target, cap, cost in self.arcs)
 
 
 def up_to(rnd, most):
@@ -47,7 +56,7 @@ def shuffled(rnd, count):
     return numbers
 
 
-def sparse(nodes, rnd, words):
+def netgen(nodes, rnd, words, most_sinks=3):
     net = Net(nodes)
     ends = max(1, nodes // 100)
     order = shuffled(rnd, nodes)
@@ -64,9 +73,17 @@ def sparse(nodes, rnd, words):
     for sink, chain in zip(sinks, chains):
         supply = up_to(rnd, words.max_cap)
         net.supply[chain[0]] += supply
-        net.supply[sink] -= supply
-        for source, target in zip(chain, chain[1:] + [sink]):
+        for source, target in zip(chain, chain[1:]):
             carry(source, target, supply)
+        shares, left = [], supply
+        for _ in range(most_sinks - 1):
+            share = int(rnd() * (left + 1)) if rnd() < 0.5 else 0
+            left -= share
+            shares.append((sinks[int(rnd() * ends)], share))
+        for target, share in shares + [(sink, left)]:
+            if share or target == sink:
+                carry(chain[-1], target, share)
+                net.supply[target] -= share
     while len(net.arcs) < words.degree * nodes:
         source, target = up_to(rnd, nodes), up_to(rnd, nodes)
         if source != target:
@@ -74,7 +91,75 @@ def sparse(nodes, rnd, words):
     return net
 
 
-FAMILIES = {"sparse": sparse}
+def sparse(nodes, rnd, words):
+    return netgen(nodes, rnd, words, most_sinks=1)
+
+
+def gridgen(nodes, rnd, words):
+    net = Net(nodes)
+    rows = max(2, int(nodes ** 0.5))
+    columns = nodes // rows
+    inner = rows * columns
+    supplies = [up_to(rnd, words.max_cap) for _ in range(rows)]
+    moves = [(-1, -1), (-1, 0), (-1, 1), (0, -1), (1, -1), (1, 0), (1, 1)]
+    for row, supply in enumerate(supplies):
+        net.supply[row * columns + 1] += supply
+        net.supply[row * columns + columns] -= supply
+        for column in range(columns):
+            node = row * columns + 1 + column
+            if column + 1 < columns:
+                net.arc(node, node + 1, max(supply, up_to(rnd, words.max_cap)), up_to(rnd, words.max_cost))
+            for down, right in moves:
+                if 0 <= row + down < rows and 0 <= column + right < columns:
+                    target = node + down * columns + right
+                    net.arc(node, target, up_to(rnd, words.max_cap), up_to(rnd, words.max_cost))
+    for node in range(inner + 1, nodes + 1):
+        net.arc(up_to(rnd, inner), node, up_to(rnd, words.max_cap), up_to(rnd, words.max_cost))
+        net.arc(node, up_to(rnd, inner), up_to(rnd, words.max_cap), up_to(rnd, words.max_cost))
+    return net
+
+
+def transp(nodes, rnd, words):
+    net = Net(nodes)
+    half = nodes // 2
+    for source in range(1, half + 1):
+        net.supply[source] = up_to(rnd, words.max_cap)
+    total = left = sum(net.supply)
+    weights = [rnd() + 0.05 for _ in range(nodes - half)]
+    weight = sum(weights)
+    for sink, share in enumerate(weights, half + 1):
+        taken = left if sink == nodes else min(int(total * (share / weight)), left)
+        net.supply[sink] = -taken
+        left -= taken
+    for source in range(1, half + 1):
+        for sink in range(half + 1, nodes + 1):
+            net.arc(source, sink, net.supply[source], up_to(rnd, words.max_cost))
+    return net
+
+
+FAMILIES = {"gridgen": gridgen, "netgen": netgen, "sparse": sparse, "transp": transp}
+
+
+def show(net, rnd, words, out):
+    """Gives the arcs of a net other costs, and its nodes the supplies of a flow that prices show, and writes
+    that answer: half of the arcs carry nothing, a quarter their cap, and a quarter anything."""
+    prices = [0] + [-int(rnd() * 10 * words.max_cost) for _ in net.supply[1:]]
+    net.supply = [0] * len(net.supply)
+    total = 0
+    flows = []
+    for k, (source, target, cap, _) in enumerate(net.arcs):
+        kind = rnd()
+        reduced = up_to(rnd, words.max_cost) * (1 if kind < 0.5 else -1 if kind < 0.75 else 0)
+        flow = 0 if reduced > 0 else cap if reduced < 0 else int(rnd() * (cap + 1))
+        cost = prices[source] - prices[target] + reduced
+        net.arcs[k] = (source, target, cap, cost)
+        net.supply[source] += flow
+        net.supply[target] -= flow
+        flows.append(f"f {source} {target} {flow}\n")
+        total += cost * flow
+    out.write(f"s {total}\n")
+    out.writelines(flows)
+    out.writelines(f"y {node} {price}\n" for node, price in enumerate(prices) if node)
 
 
 def main():
@@ -83,13 +168,18 @@ def main():
     parser.add_argument("nodes", type=int)
     parser.add_argument("--seed", type=int, default=1)
     parser.add_argument("--output")
+    parser.add_argument("--shown", metavar="ANSWER")
     parser.add_argument("--max-cap", type=int, default=1000)
     parser.add_argument("--max-cost", type=int, default=10000)
     parser.add_argument("--degree", type=int, default=8)
     words = parser.parse_args()
     if words.nodes < 8:
         parser.error("an instance has at least 8 nodes")
-    net = FAMILIES[words.family](words.nodes, random.Random(words.seed).random, words)
+    rnd = random.Random(words.seed).random
+    net = FAMILIES[words.family](words.nodes, rnd, words)
+    if words.shown:
+        with open(words.shown, "w", encoding="ascii") as out:
+            show(net, rnd, words, out)
     note = (f"{words.family}, {words.nodes} nodes, seed {words.seed}, caps to {words.max_cap}, "
             f"costs to {words.max_cost}, degree {words.degree}")
     if words.output:

@@ -6,16 +6,23 @@
 PART
   answer    parses an answer of a million arcs and writes it anew
   check     judges such an answer for its instance
+  feasible  finds a feasible flow, in nets of three families and of rising size
+  net       builds the net of a million arcs, and goes over the residual arcs of each node
   read      reads an instance, and keeps it in 32 bytes an arc
+  recover   recovers prices from a least flow, in nets of three families and of rising size
   text      splits a text of lines into fields and reads each field as a number
 
 Proves and builds `mcf_bench`, builds each peer by `rustc -O`, makes the input, and
 runs the two in turn on it, N times each and at least 5. Both print what they found,
-which has to be the same, and their own seconds. Printed are the medians and their ratio; the
-status is 1 where one is above its part's limit. `--built` takes the program as
-it was built last. Needs `rt`, `rustc` and Python 3; run it on an idle machine.
+which has to be the same, and their own seconds, which don't count the reading of the
+files. Printed are the medians and their ratio; of a family also how many times as long
+as the size before a size takes; of `net` also the memory, as what each further net adds
+to the peak. The status is 1 where a figure is above its part's limit. `--nodes` is for
+the parts that have one size. `--built` takes the program as it was built last. Needs
+`rt`, `rustc` and Python 3; run it on an idle machine.
 """
 import argparse
+import os
 import pathlib
 import statistics
 import subprocess
@@ -25,35 +32,77 @@ BENCH = pathlib.Path(__file__).resolve().parent
 OUT = BENCH / "out"
 CRATE = BENCH.parent / "crates" / "mcf_bench"
 
-# of each part: its input and the greatest ratio; the inputs are made by the functions below
-PARTS = {
-    "answer": ("shown_answer", 1.2),
-    "check": ("shown_pair", 1.25),
-    "read": ("sparse", 1.2),
-    "text": ("sparse", 1.1),
-}
 NODES = 300_000
 ARCS = 1_000_000
+# the sizes of each family, as powers of 2; one run of `feasible` on netgen of 2^16 nodes takes half a minute
+RECOVERED = {"netgen": (10, 12, 14, 16), "gridgen": (10, 12, 14, 16), "transp": (8, 9, 10)}
+SEARCHED = {"netgen": (10, 12, 14), "gridgen": (10, 12, 14, 16), "transp": (8, 9, 10)}
+# the most bytes an arc that a net may take
+NET_BYTES = 64
 
 
-def sparse(nodes):
-    path = OUT / f"sparse-{nodes}.min"
+def make(script, path, *words):
+    """The path, at which the script has written its output."""
     if not path.exists():
-        maker = [sys.executable, str(BENCH / "gen.py"), "sparse", str(nodes), "--output", str(path)]
-        subprocess.run(maker, check=True)
-    return [path]
+        subprocess.run([sys.executable, str(BENCH / script), *map(str, words)], check=True)
+    return path
 
 
-def shown_pair(nodes):
-    instance, answer = OUT / f"shown-{nodes}.min", OUT / f"shown-{nodes}.ans"
-    if not answer.exists():
-        maker = [sys.executable, str(BENCH / "shown.py"), str(nodes), str(ARCS), str(instance), str(answer)]
-        subprocess.run(maker, check=True)
-    return [instance, answer]
+def sparse(words):
+    path = OUT / f"sparse-{words.nodes}.min"
+    return [("", [make("gen.py", path, "sparse", words.nodes, "--output", path)], 1)]
 
 
-def shown_answer(nodes):
-    return shown_pair(nodes)[1:]
+def shown(words):
+    instance, answer = OUT / f"shown-{words.nodes}.min", OUT / f"shown-{words.nodes}.ans"
+    make("shown.py", answer, words.nodes, ARCS, instance, answer)
+    return instance, answer
+
+
+def shown_pair(words):
+    return [("", list(shown(words)), 1)]
+
+
+def shown_answer(words):
+    return [("", [shown(words)[1]], 1)]
+
+
+def shown_instance(words):
+    return [("", [shown(words)[0]], 1)]
+
+
+def of_families(sizes):
+    """Each family and size, with how often a step is done in one run: more often in a small net."""
+    for family, exponents in sizes.items():
+        for exponent in exponents:
+            yield family, 2 ** exponent, max(1, 2 ** 14 >> exponent)
+
+
+def family_instances(_words):
+    for family, nodes, times in of_families(SEARCHED):
+        path = OUT / f"{family}-{nodes}.min"
+        yield f"{family} {nodes}", [make("gen.py", path, family, nodes, "--output", path)], times
+
+
+def family_answers(_words):
+    for family, nodes, times in of_families(RECOVERED):
+        instance, answer = OUT / f"shown-{family}-{nodes}.min", OUT / f"shown-{family}-{nodes}.ans"
+        make("gen.py", answer, family, nodes, "--output", instance, "--shown", answer)
+        yield f"{family} {nodes}", [instance, answer], times
+
+
+# of each part: what makes its cases, and the greatest ratio; a case has a name, the paths of its input, and how
+# often a step is done in one run
+PARTS = {
+    "answer": (shown_answer, 1.2),
+    "check": (shown_pair, 1.25),
+    "feasible": (family_instances, 1.25),
+    "net": (shown_instance, 1.2),
+    "read": (sparse, 1.2),
+    "recover": (family_answers, 1.25),
+    "text": (sparse, 1.1),
+}
+REPEATED = {"feasible", "net", "recover"}
 
 
 def build_program():
@@ -75,6 +124,15 @@ def run(command):
     return found, {name: float(seconds) for name, seconds in (line.split() for line in times)}
 
 
+def peak_of(command):
+    """The most bytes that the program had at once."""
+    process = subprocess.Popen(command, stdout=subprocess.DEVNULL)
+    _, status, usage = os.wait4(process.pid, 0)
+    if status:
+        sys.exit(f"{command[0]} ended with status {status}")
+    return usage.ru_maxrss * 1024
+
+
 def compare(ours, peers, runs):
     """The seconds of each run of both, by their names; the first run of each only warms up."""
     times = []
@@ -85,28 +143,44 @@ def compare(ours, peers, runs):
             sys.exit(f"the answers differ: {found!r} and {peer_found!r}")
         if turn:
             times.append((our_times, peer_times))
-    print(found)
+    print(f"  {found}")
     return times
 
 
-def report(name, times, seconds_of):
-    """Prints the medians of both and their ratio, which it returns."""
-    ours = statistics.median(seconds_of(our_times) for our_times, _ in times)
-    peers = statistics.median(seconds_of(peer_times) for _, peer_times in times)
-    print(f"{name}: ours {ours:.3f} s, the peer {peers:.3f} s, ratio {ours / peers:.2f}")
-    return ours / peers
-
-
 def measure(part, words):
-    """Runs a part beside its peer, and says whether the ratio is within the part's limit."""
+    """Runs each case of a part beside its peer, and says whether each figure is within the part's limit."""
     maker, limit = PARTS[part]
     peer = build_peer(part)
-    paths = globals()[maker](words.nodes)
-    ours = [str(CRATE / "out" / "mcf_bench"), part, *map(str, paths)]
-    size = sum(path.stat().st_size for path in paths)
-    print(f"{part}: {size / 1e6:.1f} MB, {words.runs} runs of each")
-    times = compare(ours, [str(peer), *map(str, paths)], max(5, words.runs))
-    return report(part, times, lambda seconds: seconds["seconds"]) <= limit
+    program = [str(CRATE / "out" / "mcf_bench"), part]
+    runs = max(5, words.runs)
+    print(f"{part}: {runs} runs of each")
+    within = True
+    before = {}
+    for name, paths, times in maker(words):
+        inputs = [*map(str, paths), *([str(times)] if part in REPEATED else [])]
+        seconds = compare(program + inputs, [str(peer), *inputs], runs)
+        ours = statistics.median(our_times["seconds"] for our_times, _ in seconds) / times
+        peers = statistics.median(peer_times["seconds"] for _, peer_times in seconds) / times
+        family = name.split(" ")[0]
+        grown = f", {ours / before[family]:.1f} times as long as before" if family in before else ""
+        before[family] = ours
+        label = f"{part} {name}".strip()
+        print(f"{label}: ours {ours:.4f} s, the peer {peers:.4f} s, ratio {ours / peers:.2f}{grown}")
+        within = within and ours / peers <= limit
+        if part == "net":
+            size = net_bytes("ours", program, paths)
+            net_bytes("the peer", [str(peer)], paths)
+            within = within and size <= NET_BYTES
+    return within
+
+
+def net_bytes(name, program, paths):
+    """The bytes an arc by which each further net raises the peak, where the nets outweigh the reading."""
+    few, more = 3, 7
+    peaks = [peak_of([*program, *map(str, paths), str(nets)]) for nets in (few, more)]
+    size = (peaks[1] - peaks[0]) / (more - few) / ARCS
+    print(f"  {name}: {size:.1f} bytes an arc")
+    return size
 
 
 def main():

@@ -4,14 +4,19 @@
 //! `bench/run.py` compares each part with a peer.
 
 mod answering;
+mod feasibility;
 mod judging;
+mod networks;
 mod reading;
+mod recovering;
 mod text;
 
+use mcf_text::{Whole, whole};
 use std::process::ExitCode;
 use std::{env, io};
 
-const USAGE: &str = "usage: mcf_bench read|text INSTANCE, answer ANSWER, or check INSTANCE ANSWER";
+const USAGE: &str =
+    "usage: mcf_bench read|text INSTANCE, answer ANSWER, check INSTANCE ANSWER, net|feasible INSTANCE [TIMES], or recover INSTANCE ANSWER [TIMES]";
 
 fn main(rt: HostRuntime) -> io::Result<ExitCode> {
     let mut words = env::args(&rt)?;
@@ -31,11 +36,30 @@ fn main(rt: HostRuntime) -> io::Result<ExitCode> {
             };
             judging::run(&rt, path.as_str(), answer.as_str())?;
         }
+        "feasible" => feasibility::run(&rt, path.as_str(), times_of(words.next()))?,
+        "net" => networks::run(&rt, path.as_str(), times_of(words.next()))?,
         "read" => reading::run(&rt, path.as_str())?,
+        "recover" => {
+            let Some(answer) = words.next() else {
+                return refuse(&rt);
+            };
+            recovering::run(&rt, path.as_str(), answer.as_str(), times_of(words.next()))?;
+        }
         "text" => text::run(&rt, path.as_str())?,
         _ => return refuse(&rt),
     }
     Ok(ExitCode::SUCCESS)
+}
+
+// How often a step is done: the number from 1 to 1,000 that a word says, or once.
+fn times_of(word: Option<String>) -> u32 {
+    let Some(word) = word else {
+        return 1;
+    };
+    match whole(word.as_bytes(), 1, 1_000) {
+        Whole::Value(times) => times as u32,
+        _ => 1,
+    }
 }
 
 // Words that name no part.

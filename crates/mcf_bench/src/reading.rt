@@ -1,4 +1,4 @@
-//! Reads an instance, and adds up what it holds.
+//! Reads instances, and adds up what one holds.
 use mcf_instance::{Instance, read};
 use mcf_text::{ArcId, NodeId};
 use std::rt::Runtime;
@@ -23,6 +23,15 @@ pub fn run(rt: &(impl Runtime + AllocGlobal), path: &str) -> io::Result<()> {
         Err(_) => println!(rt; "out of memory")?,
     }
     println!(rt; "seconds {:.6}", seconds.as_secs_f64())
+}
+
+/// The instance of a file, if there is memory and its text is one.
+pub fn instance_of(rt: &(impl Runtime + AllocGlobal), path: &str) -> io::Result<Option<Instance>> {
+    let text = fs::read(rt, path)?;
+    match read(rt.alloc(), text.as_slice()) {
+        Ok(Ok(instance)) => Ok(Some(instance)),
+        _ => Ok(None),
+    }
 }
 
 // The sum of all numbers of the arcs.

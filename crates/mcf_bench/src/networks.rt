@@ -1,0 +1,61 @@
+//! Builds the net of an instance, and goes over the residual arcs that leave each node.
+use crate::reading::instance_of;
+use mcf_instance::Instance;
+use mcf_network::Net;
+use mcf_text::{NoMemory, NodeId};
+use std::alloc::Global;
+use std::io;
+use std::rt::Runtime;
+use std::time::Instant;
+
+// Nets that were built, and the sum over all of them of the nodes that their residual arcs enter.
+#[derive(Drop)]
+struct Built {
+    nets: Vec<Net>,
+    sum: u64,
+}
+
+/// Reads the instance of a file, builds its net so many times, goes over each net, and prints what it found
+/// and the seconds of building and going over all of them. The nets are all kept to the end.
+pub fn run(rt: &(impl Runtime + AllocGlobal), path: &str, times: u32) -> io::Result<()> {
+    let Some(instance) = instance_of(rt, path)? else {
+        return println!(rt; "no instance");
+    };
+    let start = Instant::now(rt)?;
+    let outcome = build(rt.alloc(), &instance, times);
+    let seconds = start.elapsed(rt)?;
+    match outcome {
+        Ok(built) => println!(rt;
+            "nets {} arcs {} sum {}",
+            built.nets.len(),
+            instance.arc_count(),
+            built.sum
+        )?,
+        Err(_) => println!(rt; "out of memory")?,
+    }
+    println!(rt; "seconds {:.6}", seconds.as_secs_f64())
+}
+
+// So many nets of an instance.
+fn build(alloc: Global, instance: &Instance, times: u32) -> Result<Built, NoMemory> {
+    let mut nets = Vec::with_capacity(alloc, times as usize)?;
+    let mut sum = 0u64;
+    for _ in 0..times {
+        let net = Net::of(alloc, instance)?;
+        sum = sum.wrapping_add(head_total(&net));
+        nets.push(net)?;
+    }
+    Ok(Built { nets, sum })
+}
+
+// The sum of the nodes that the residual arcs enter, taken node by node.
+fn head_total(net: &Net) -> u64 {
+    let mut sum = 0u64;
+    for number in 0..net.node_count() {
+        for along in net.leaving(NodeId::new(number + 1)) {
+            let (_, head) = net.route(along);
+            sum = sum.wrapping_add(u64::from(head.get()));
+        }
+    }
+    sum
+}
