@@ -6,5 +6,6 @@ pub mod FlowLines
 pub mod JudgedTexts
 pub mod Judges
 pub mod LeastNumbers
+pub mod Runs
 pub mod Sets
 pub mod Solutions
