@@ -7,5 +7,6 @@ pub mod JudgedTexts
 pub mod Judges
 pub mod KeptLines
 pub mod LeastNumbers
+pub mod Runs
 pub mod Sets
 pub mod Solutions

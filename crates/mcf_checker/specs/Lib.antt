@@ -6,3 +6,4 @@ pub mod Correct
 pub mod Judging
 pub mod Laws
 pub mod Printed
+pub mod Runs

@@ -1,8 +1,6 @@
 -- What is printed of a verdict.
-use Rattle.std.specs.Prelude.{◌≡◌, ℕ, List, [], ◌∷◌, ◌++◌, Option, codes, if◌then◌else◌}
+use Rattle.std.specs.Prelude.{ℕ, List, [], ◌∷◌, ◌++◌, codes}
 use Rattle.std.specs.Fmt.{decimal, signed_decimal}
-use Rattle.std.specs.Io.KnownBytes.{Appends}
-use Rattle.mcf_checker.specs.Judging.{accepts, verdict}
 use Rattle.mcf_checker.specs.declared.verdict.Verdict.{Verdict}
 use Rattle.mcf_checker.specs.declared.verdict.Verdict.TheVariants.{BadShape, BadKind, BadRefusal, Refused, BadArc, BadNode, BadPrice, BadCost, Flow, BadSet, Blocked}
 use Rattle.mcf_instance.specs.Fault.{code_word}
@@ -24,11 +22,3 @@ printed (Blocked k) = codes "accepted blocked " ++ decimal k
 -- the line that is printed, with the byte that ends it
 abbrev pub printed_line : Verdict → List ℕ
 printed_line v = printed v ++ 10 ∷ []
-
--- what a run of the command does that comes to a verdict: it appends the line of the verdict on two texts to
--- what a writer held, and its status is 0 where the verdict accepts, else 1
-pub record JudgesAndPrints (status : ℕ) (old new : Option (List ℕ)) : Type 0 where
-  pub input : List ℕ
-  pub text : List ℕ
-  pub status_is : status ≡ (if accepts (verdict input text) then 0 else 1)
-  pub printed_is : Appends old new (printed_line (verdict input text))

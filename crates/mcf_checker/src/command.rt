@@ -1,9 +1,10 @@
 //! The command `mcfcheck`, over a reader of files and two writers.
-ghost use Rattle.std.specs.Prelude.{◌≡◌, ◌≢◌, ◌⊎◌, IfOk, OnOk, if◌then◌else◌, length};
+ghost use Rattle.std.specs.Prelude.{◌≡◌, ◌≢◌, ◌⊎◌, IfOk, IsErr, OnOk, if◌then◌else◌, length, map};
 ghost use Rattle.std.specs.Io.KnownBytes.{Appends};
 ghost use Rattle.std.specs.String.{string_bytes};
 ghost use Rattle.mcf_checker.specs.Judging.{accepts, verdict};
-ghost use Rattle.mcf_checker.specs.Printed.{JudgesAndPrints, printed_line};
+ghost use Rattle.mcf_checker.specs.Printed.{printed_line};
+ghost use Rattle.mcf_checker.specs.Runs.{JudgesAndPrints, ReadsFiles};
 
 use crate::checking::check;
 use crate::verdict::Verdict;
@@ -59,6 +60,11 @@ impl Failure {
 }
 
 impl From<NoMemory> for Failure {
+    ghost use Rattle.std.specs.Prelude.{◌≡◌};
+    ghost use Rattle.mcf_checker.specs.declared.command.Failure.{Failure};
+
+    ghost from_gives = { λ _ failure. failure ≡ Failure.NoMemory };
+
     fn from(_error: NoMemory) -> Failure {
         Failure::NoMemory
     }
@@ -122,8 +128,9 @@ fn run<S: AsStr, R: FnMut(&str) -> Result<Vec<u8>, FileFault>, O: Write>(
     out: &mut O,
 ) -> Result<u8, Failure>
     requires { R.IsAlwaysCallable read }
-    ensures judged { IfOk result (λ status. JudgesAndPrints status (O.contents out.old) (O.contents out.new)) }
-    ensures usage { IfOk result (λ status. length words.now ≡ 3) }
+    ensures judged { IfOk result (λ status. JudgesAndPrints R.FnMut (λ file. file.items) read (map S.text words.now) status (O.contents out.old) (O.contents out.new)) }
+    ensures usage { length words.now ≢ 3 → IsErr result × (out.new ≡ out.old) }
+    ensures reads { length words.now ≡ 3 → ReadsFiles R.FnMut read (map S.text words.now) (out.new ≡ out.old) }
 {
     let [_, instance, answer] = words else {
         return Err(Failure::Usage);
@@ -154,8 +161,10 @@ pub fn judge<S: AsStr, R: FnMut(&str) -> Result<Vec<u8>, FileFault>, O: Write, E
     err: &mut E,
 ) -> u8
     requires { R.IsAlwaysCallable read }
-    ensures judged { (result ≡ 3) ⊎ JudgesAndPrints result (O.contents out.old) (O.contents out.new) }
-    ensures usage { length words.now ≢ 3 → result ≡ 3 }
+    ensures judged { (result ≡ 3) ⊎ JudgesAndPrints R.FnMut (λ file. file.items) read (map S.text words.now) result (O.contents out.old) (O.contents out.new) }
+    ensures usage { length words.now ≢ 3 → (result ≡ 3) × (out.new ≡ out.old) }
+    ensures reads { length words.now ≡ 3 → ReadsFiles R.FnMut read (map S.text words.now) (out.new ≡ out.old) }
+    ensures quiet { (result ≡ 3) ⊎ (err.new ≡ err.old) }
 {
     match run(alloc, words, read, out) {
         Ok(status) => status,

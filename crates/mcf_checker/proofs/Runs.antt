@@ -1,0 +1,33 @@
+-- Runs of the command.
+use Rattle.std.proofs.Common.{◌≡◌, ℕ, ◌<◌, Bor, IfOk, OnOk, if◌then◌else◌, List, [], Result, Ok, Err, Option, length, map, slice_index_or, sym, ap, subst, ◌∙◌}
+use Rattle.std.proofs.lemmas.List.{get_or-map}
+use Rattle.std.specs.Fn.{Called, CalledAt, Mut}
+use Rattle.std.specs.Io.KnownBytes.{Appends}
+use Rattle.mcf_checker.specs.Judging.{accepts, verdict}
+use Rattle.mcf_checker.specs.Printed.{printed_line}
+use Rattle.mcf_checker.specs.Runs.{JudgesAndPrints}
+
+-- a call at the text of the word at a place
+pub called-at_word : {F R S : Type 0} (calls : Mut F (Bor (List ℕ) × Unit {0}) R) (text_of : S → List ℕ) (words : List S) (place : ℕ)
+    (word : S) (name : Bor (List ℕ)) (before after : F) (result given : R)
+    → place < length words → word ≡ slice_index_or words place word → name.now ≡ text_of word
+    → Called calls before (name, tt) result after → result ≡ given
+    → CalledAt calls before (slice_index_or (map text_of words) place []) given after
+called-at_word calls text_of words place word name before after result given small is named call gave =
+    record {
+      shown = name;
+      shows = named ∙ ap text_of is ∙ sym (get_or-map text_of words place word [] small);
+      called = subst (λ r. Called calls before (name, tt) r after) gave call;
+    }
+
+-- two files read one after the other, and then the status and the line of the verdict on their bytes
+pub judges-from_parts : {F V E X : Type 0} (calls : Mut F (Bor (List ℕ) × Unit {0}) (Result V E)) (bytes : V → List ℕ)
+    (read between last : F) (words : List (List ℕ)) (input text : V) (outcome : Result ℕ X) (old new : Option (List ℕ))
+    → CalledAt calls read (slice_index_or words 1 []) (Ok input) between
+    → CalledAt calls between (slice_index_or words 2 []) (Ok text) last
+    → IfOk outcome (λ status. status ≡ (if accepts (verdict (bytes input) (bytes text)) then 0 else 1))
+    → OnOk outcome (Appends old new (printed_line (verdict (bytes input) (bytes text))))
+    → IfOk outcome (λ status. JudgesAndPrints calls bytes read words status old new)
+judges-from_parts calls bytes read between last words input text (Ok status) old new first second is printed =
+    record { input = input; text = text; between = between; last = last; input_read = first; text_read = second; status_is = is; printed_is = printed }
+judges-from_parts calls bytes read between last words input text (Err fault) old new first second is printed = tt
