@@ -10,6 +10,7 @@ FAMILY
   netgen    a sparse transshipment net: chains from each source to one to three
             sinks make it feasible, and random arcs fill it up; one node in a
             hundred is a source and one a sink
+  resting   the arcs of sparse and no supplies, so that nothing is worth moving
   sparse    as netgen, with one sink for each source
   transp    a transportation problem: an arc from each node of the first half to
             each of the second
@@ -95,6 +96,12 @@ def sparse(nodes, rnd, words):
     return netgen(nodes, rnd, words, most_sinks=1)
 
 
+def resting(nodes, rnd, words):
+    net = sparse(nodes, rnd, words)
+    net.supply = [0] * len(net.supply)
+    return net
+
+
 def gridgen(nodes, rnd, words):
     net = Net(nodes)
     rows = max(2, int(nodes ** 0.5))
@@ -137,7 +144,7 @@ def transp(nodes, rnd, words):
     return net
 
 
-FAMILIES = {"gridgen": gridgen, "netgen": netgen, "sparse": sparse, "transp": transp}
+FAMILIES = {"gridgen": gridgen, "netgen": netgen, "resting": resting, "sparse": sparse, "transp": transp}
 
 
 def show(net, rnd, words, out):

@@ -10,6 +10,8 @@ PART
   net       builds the net of a million arcs, and goes over the residual arcs of each node
   read      reads an instance, and keeps it in 32 bytes an arc
   recover   recovers prices from a least flow, in nets of three families and of rising size
+  solve     solves an instance in which nothing is worth moving, without the seconds of its engine, beside a
+            program that reads, copies and writes the same
   text      splits a text of lines into fields and reads each field as a number
 
 Proves and builds `mcf_bench`, builds each peer by `rustc -O`, makes the input, and
@@ -51,6 +53,11 @@ def make(script, path, *words):
 def sparse(words):
     path = OUT / f"sparse-{words.nodes}.min"
     return [("", [make("gen.py", path, "sparse", words.nodes, "--output", path)], 1)]
+
+
+def resting(words):
+    path = OUT / f"resting-{words.nodes}.min"
+    return [("", [make("gen.py", path, "resting", words.nodes, "--output", path)], 1)]
 
 
 def shown(words):
@@ -100,6 +107,7 @@ PARTS = {
     "net": (shown_instance, 1.2),
     "read": (sparse, 1.2),
     "recover": (family_answers, 1.25),
+    "solve": (resting, 1.25),
     "text": (sparse, 1.1),
 }
 REPEATED = {"feasible", "net", "recover"}

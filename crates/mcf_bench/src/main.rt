@@ -9,6 +9,7 @@ mod judging;
 mod networks;
 mod reading;
 mod recovering;
+mod solving;
 mod text;
 
 use mcf_text::{Whole, whole};
@@ -16,7 +17,7 @@ use std::process::ExitCode;
 use std::{env, io};
 
 const USAGE: &str =
-    "usage: mcf_bench read|text INSTANCE, answer ANSWER, check INSTANCE ANSWER, net|feasible INSTANCE [TIMES], or recover INSTANCE ANSWER [TIMES]";
+    "usage: mcf_bench read|solve|text INSTANCE, answer ANSWER, check INSTANCE ANSWER, net|feasible INSTANCE [TIMES], or recover INSTANCE ANSWER [TIMES]";
 
 fn main(rt: HostRuntime) -> io::Result<ExitCode> {
     let mut words = env::args(&rt)?;
@@ -45,6 +46,7 @@ fn main(rt: HostRuntime) -> io::Result<ExitCode> {
             };
             recovering::run(&rt, path.as_str(), answer.as_str(), times_of(words.next()))?;
         }
+        "solve" => solving::run(&rt, path.as_str())?,
         "text" => text::run(&rt, path.as_str())?,
         _ => return refuse(&rt),
     }
