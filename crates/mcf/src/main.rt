@@ -5,20 +5,19 @@
 //! All that matters stands in `mcf_suite`; here the words are gathered, the devices lent and the status given.
 
 use mcf_suite::{FromReader, IntoWriter, RunFault, serve};
-use std::fs::File;
 use std::io::{self, ErrorKind, Read, Stdin};
 use std::process::ExitCode;
-use std::rt::Env;
+use std::rt::{Env, Files};
 use std::{env, fs};
 
-// Where the instance is read.
+// What the instance is read from.
 #[derive(Drop)]
-enum Input {
+enum Input<F> {
     Stdin(Stdin),
-    File(File),
+    File(F),
 }
 
-impl Read for Input {
+impl<F: Read> Read for Input<F> {
     fn read(&mut self, piece: &mut [u8]) -> io::Result<usize> {
         match self {
             Input::Stdin(stdin) => stdin.read(piece),
@@ -43,7 +42,7 @@ fn words_or_none(rt: &(impl Env + AllocGlobal)) -> Result<Vec<String>, RunFault>
 }
 
 // The source of a file, or none where it can't be opened.
-fn open(rt: &HostRuntime, path: &str) -> Option<FromReader<Input>> {
+fn open<R: Files>(rt: &R, path: &str) -> Option<FromReader<Input<R::File>>> {
     match fs::open(rt, path) {
         Ok(file) => Some(FromReader::new(Input::File(file))),
         Err(_) => None,
