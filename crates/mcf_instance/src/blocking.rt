@@ -1,5 +1,5 @@
 //! Whether a node set blocks every flow.
-ghost use Rattle.std.specs.Prelude.{◌≡◌, ◌^◌, ◌≤◌, ◌+ℤ◌, ◌↔◌, ℕ, ℤ, IfOk, IsTrue, List, length, map};
+ghost use Rattle.std.specs.Prelude.{◌≡◌, ◌^◌, ◌≤◌, ◌+ℤ◌, ◌↔◌, ℕ, ℤ, IfOk, IsTrue, List, OnErr, length, map};
 ghost use Rattle.std.specs.List.{All};
 ghost use Rattle.mcf_instance.specs.Blocking.{Blocks, cap_entering, cap_leaving, enters, in_list, in_table, leaves, low_entering, low_leaving, supply_in};
 ghost use Rattle.mcf_instance.specs.Flow.{IsFeasible};
@@ -26,13 +26,15 @@ struct Border {
 /// The table of a node set: the entry at place `v - 1` says whether the node `v` is among the members.
 ///
 /// # Errors
-/// `NoMemory` where there is no memory for the table.
+/// `NoMemory` where there is no memory for the table; that of no nodes wants none.
 pub fn table_of(alloc: Global, nodes: u32, members: &[NodeId]) -> Result<Vec<bool>, NoMemory>
     requires { All (IsNode nodes) members.now }
     ensures one_per_node { IfOk result (λ table. length table.items ≡ nodes) }
     ensures marks { IfOk result (λ table. (v : ℕ) → IsNode nodes v → in_table table.items v ≡ in_list members.now v) }
+    ensures wants { OnErr result (1 ≤ nodes) }
 {
-    let mut table = vec![in alloc; false; nodes as usize]?;
+    let mut table = Vec::new(alloc);
+    table.resize(nodes as usize, false)?;
     for member in members {
         table[member.get() as usize - 1] = true;
     }
