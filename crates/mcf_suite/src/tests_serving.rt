@@ -1,5 +1,6 @@
 //! Runs of the command `mcf`: its words, its statuses and its lines.
 use crate::{EngineChoice, FromReader, IntoWriter, command, serve};
+use mcf_text::NoMemory;
 use std::alloc::Global;
 use std::io::{self, ErrorKind, Read, Write};
 use std::test::Fail;
@@ -25,10 +26,28 @@ struct Outcome {
     opened: bool,
 }
 
+// Room for what a run writes.
+fn room(alloc: Global) -> Result<Vec<u8>, NoMemory> {
+    Ok(Vec::with_capacity(alloc, 4096)?)
+}
+
+// Want of memory, where a run that wrote nothing told of it.
+fn had_memory(status: u8, out: &[u8], err: &[u8]) -> Result<(), NoMemory> {
+    if status == 3 && out.is_empty() && err == b"mcf: out of memory\n".as_slice() {
+        return Err(NoMemory);
+    }
+    Ok(())
+}
+
 // A run with a text on standard input, and with a file of another text, or no file, whatever its name is.
-fn served(alloc: Global, words: &[&str], input: &str, file: Option<&str>) -> Outcome {
-    let mut out = Vec::new(alloc);
-    let mut err = Vec::new(alloc);
+fn served(
+    alloc: Global,
+    words: &[&str],
+    input: &str,
+    file: Option<&str>,
+) -> Result<Outcome, NoMemory> {
+    let mut out = room(alloc)?;
+    let mut err = room(alloc)?;
     let mut opened = false;
     let status = serve(
         alloc,
@@ -44,12 +63,13 @@ fn served(alloc: Global, words: &[&str], input: &str, file: Option<&str>) -> Out
         &mut IntoWriter::new(&mut out),
         &mut IntoWriter::new(&mut err),
     );
-    Outcome {
+    had_memory(status, &out, &err)?;
+    Ok(Outcome {
         status,
         out,
         err,
         opened,
-    }
+    })
 }
 
 #[test]
@@ -89,7 +109,7 @@ fn answers_from_both_sources(rt: HostRuntime) -> Result<(), Fail> {
             "s 21\nf 1 2 3\ny 1 0\ny 2 -7\n",
         ),
     ] {
-        let by_input = served(rt.alloc(), ["mcf", "solve"].as_slice(), text, None);
+        let by_input = served(rt.alloc(), ["mcf", "solve"].as_slice(), text, None)?;
         assert_eq!(rt; by_input.status, status);
         assert_eq!(rt; by_input.out.as_slice(), answer.as_bytes());
         assert_eq!(rt; by_input.err.as_slice(), b"".as_slice());
@@ -99,7 +119,7 @@ fn answers_from_both_sources(rt: HostRuntime) -> Result<(), Fail> {
             ["mcf", "solve", "a.min"].as_slice(),
             "p min",
             Some(text),
-        );
+        )?;
         assert_eq!(rt; by_file.status, status);
         assert_eq!(rt; by_file.out.as_slice(), answer.as_bytes());
         assert_eq!(rt; by_file.err.as_slice(), b"".as_slice());
@@ -125,7 +145,7 @@ fn refusals_of_instances(rt: HostRuntime) -> Result<(), Fail> {
         ("p min -1 0\n", "r 1 size\n"),
         ("p min 1 0\np min 1 0\n", "r 2 second-p\n"),
     ] {
-        let run = served(rt.alloc(), ["mcf", "solve"].as_slice(), text, None);
+        let run = served(rt.alloc(), ["mcf", "solve"].as_slice(), text, None)?;
         assert_eq!(rt; run.status, 2);
         assert_eq!(rt; run.out.as_slice(), line.as_bytes());
         assert_eq!(rt; run.err.as_slice(), b"".as_slice());
@@ -154,7 +174,7 @@ fn refusals_after_the_problem_line(rt: HostRuntime) -> Result<(), Fail> {
         ("p min 2 1\na 1 2 0 1 0\nc\na 1 2 0 1 0\n", "r 4 extra\n"),
         ("p min 2 2\na 1 2 0 1 1\n", "r 3 missing\n"),
     ] {
-        let run = served(rt.alloc(), ["mcf", "solve"].as_slice(), text, None);
+        let run = served(rt.alloc(), ["mcf", "solve"].as_slice(), text, None)?;
         assert_eq!(rt; run.status, 2);
         assert_eq!(rt; run.out.as_slice(), line.as_bytes());
         assert_eq!(rt; run.err.as_slice(), b"".as_slice());
@@ -173,7 +193,7 @@ fn words_that_ask_for_an_answer(rt: HostRuntime) -> Result<(), Fail> {
         (["mcf", "solve", "--engine", "cancel", "a"].as_slice(), true),
         (["mcf", "solve", "a", "--engine", "cancel"].as_slice(), true),
     ] {
-        let run = served(rt.alloc(), words, TOO_NARROW, Some(FOUR_NODES));
+        let run = served(rt.alloc(), words, TOO_NARROW, Some(FOUR_NODES))?;
         assert_eq!(rt; run.opened, opened);
         assert_eq!(rt; run.status, if opened { 0 } else { 1 });
         let answer = if opened { LEAST } else { BLOCKED };
@@ -199,7 +219,7 @@ fn words_that_are_refused(rt: HostRuntime) -> Result<(), Fail> {
         ),
         (["mcf", "solve", "a", "--dance"].as_slice(), "--dance"),
     ] {
-        let run = served(rt.alloc(), words, FOUR_NODES, Some(FOUR_NODES));
+        let run = served(rt.alloc(), words, FOUR_NODES, Some(FOUR_NODES))?;
         assert_eq!(rt; run.status, 3);
         assert_eq!(rt; run.out.as_slice(), b"".as_slice());
         let text = str::from_utf8(run.err.as_slice())?;
@@ -212,7 +232,7 @@ fn words_that_are_refused(rt: HostRuntime) -> Result<(), Fail> {
 
 #[test]
 fn no_words(rt: HostRuntime) -> Result<(), Fail> {
-    let run = served(rt.alloc(), &[], FOUR_NODES, Some(FOUR_NODES));
+    let run = served(rt.alloc(), &[], FOUR_NODES, Some(FOUR_NODES))?;
     assert_eq!(rt; run.status, 3);
     assert_eq!(rt; run.out.as_slice(), b"".as_slice());
     assert!(rt; !run.err.is_empty());
@@ -230,7 +250,7 @@ fn help_that_is_asked_for(rt: HostRuntime) -> Result<(), Fail> {
         (["mcf", "help", "solve"].as_slice(), "--engine <ENGINE>"),
         (["mcf", "solve", "a", "--help"].as_slice(), "[FILE]"),
     ] {
-        let run = served(rt.alloc(), words, FOUR_NODES, Some(FOUR_NODES));
+        let run = served(rt.alloc(), words, FOUR_NODES, Some(FOUR_NODES))?;
         assert_eq!(rt; run.status, 0);
         assert_eq!(rt; run.err.as_slice(), b"".as_slice());
         assert!(rt; !run.opened);
@@ -248,7 +268,7 @@ fn a_file_that_cannot_be_opened(rt: HostRuntime) -> Result<(), Fail> {
         ["mcf", "solve", "a.min"].as_slice(),
         FOUR_NODES,
         None,
-    );
+    )?;
     assert_eq!(rt; run.status, 3);
     assert_eq!(rt; run.out.as_slice(), b"".as_slice());
     assert_eq!(rt;
@@ -281,8 +301,8 @@ impl Write for Broken {
 
 #[test]
 fn input_that_fails(rt: HostRuntime) -> Result<(), Fail> {
-    let mut out = Vec::new(rt.alloc());
-    let mut err = Vec::new(rt.alloc());
+    let mut out = room(rt.alloc())?;
+    let mut err = room(rt.alloc())?;
     let status = serve(
         rt.alloc(),
         ["mcf", "solve"].as_slice(),
@@ -291,6 +311,7 @@ fn input_that_fails(rt: HostRuntime) -> Result<(), Fail> {
         &mut IntoWriter::new(&mut out),
         &mut IntoWriter::new(&mut err),
     );
+    had_memory(status, &out, &err)?;
     assert_eq!(rt; status, 3);
     assert_eq!(rt; out.as_slice(), b"".as_slice());
     assert_eq!(rt; err.as_slice(), b"mcf: read failed\n".as_slice());
@@ -304,7 +325,7 @@ fn output_that_fails(rt: HostRuntime) -> Result<(), Fail> {
         ["mcf", "--help"].as_slice(),
         ["mcf", "solve", "--help"].as_slice(),
     ] {
-        let mut err = Vec::new(rt.alloc());
+        let mut err = room(rt.alloc())?;
         let status = serve(
             rt.alloc(),
             words,
@@ -313,6 +334,7 @@ fn output_that_fails(rt: HostRuntime) -> Result<(), Fail> {
             &mut IntoWriter::new(Broken),
             &mut IntoWriter::new(&mut err),
         );
+        had_memory(status, &[], &err)?;
         assert_eq!(rt; status, 3);
         assert_eq!(rt; err.as_slice(), b"mcf: write failed\n".as_slice());
     }
