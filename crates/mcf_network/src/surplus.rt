@@ -5,7 +5,7 @@ ghost use Rattle.mcf_instance.specs.WellFormed.{IsUpTo};
 
 use mcf_text::NodeId;
 
-/// Moves `x` of what one node has left to send to another.
+/// Moves `x` of what one node has left to send to another. Nothing is looked up where nothing moves.
 pub(crate) fn move_surplus(surpluses: &mut Vec<i128>, from: NodeId, to: NodeId, x: i128)
     requires from { IsNode (length surpluses.old.items) from }
     requires to { IsNode (length surpluses.old.items) to }
@@ -14,6 +14,9 @@ pub(crate) fn move_surplus(surpluses: &mut Vec<i128>, from: NodeId, to: NodeId, 
     ensures length { length surpluses.new.items ≡ length surpluses.old.items }
     ensures each { (v : ℕ) → IsNode (length surpluses.old.items) v → at_node surpluses.new.items v ≡ at_node surpluses.old.items v -ℤ when (from == v) x +ℤ when (to == v) x }
 {
+    if x == 0 {
+        return;
+    }
     let less = surpluses[from.get() as usize - 1] - x;
     surpluses[from.get() as usize - 1] = less;
     let more = surpluses[to.get() as usize - 1] + x;
