@@ -25,7 +25,7 @@ use Rattle.mcf_network.specs.Residual.{no_arc}
 use Rattle.mcf_network.specs.States.{Flow, HasNoSurplus, IsFlow}
 use Rattle.mcf_network.specs.Restoring.{fixed_cost, is_earning_loop, restored, restored_flow}
 use Rattle.mcf_network.proofs.RemovalLaws.{net_of-node_count, net_supply, width_loop, width_plain}
-use Rattle.mcf_network.proofs.StateLaws.{when-add, when-zero}
+use Rattle.mcf_network.proofs.StateLaws.{when-add, when-sub, when-zero}
 use Rattle.mcf_network.proofs.StuckLaws.{feasible_of_state}
 
 -- ---- one arc
@@ -184,10 +184,6 @@ removed_within [] [] h = h
 removed_within [] (f ∷ flow) h = absurd h
 removed_within (a ∷ arcs) [] h = absurd h
 removed_within (a ∷ arcs) (f ∷ flow) h = (removed_carries a f h.0, removed_within arcs flow h.1)
-
-when-sub : (b : Bool) (x y : ℤ) → when b (x -ℤ y) ≡ when b x -ℤ when b y
-when-sub true x y = refl
-when-sub false x y = refl
 
 removed_net_arc : (a : Arc) (v : ℕ) (f : ℤ) → when (eqb a.src v) (removed_flow a f) -ℤ when (eqb a.dst v) (removed_flow a f) ≡ (when (eqb a.src v) f -ℤ when (eqb a.dst v) f) -ℤ (when (eqb a.src v) a.low -ℤ when (eqb a.dst v) a.low)
 removed_net_arc a v f =

@@ -39,6 +39,10 @@ pub when-add : (b : Bool) (x y : ℤ) → when b (x +ℤ y) ≡ when b x +ℤ wh
 when-add true x y = refl
 when-add false x y = refl
 
+pub when-sub : (b : Bool) (x y : ℤ) → when b (x -ℤ y) ≡ when b x -ℤ when b y
+when-sub true x y = refl
+when-sub false x y = refl
+
 pub when-zero : (b : Bool) → when b (pos 0) ≡ pos 0
 when-zero true = refl
 when-zero false = refl

@@ -18,7 +18,7 @@ use Rattle.mcf_network.specs.Residual.{no_arc, arc_at}
 use Rattle.mcf_network.specs.States.{Flow, IsFlow, HasNoSurplus, amount_at, room_of, surplus_at}
 use Rattle.mcf_network.specs.Stuck.{IsStuck}
 use Rattle.mcf_network.proofs.ArcLaws.{amount_count, amount_of, net_arc_at}
-use Rattle.mcf_network.proofs.StateLaws.{rid}
+use Rattle.mcf_network.proofs.StateLaws.{rid, when-sub}
 
 pub feasible_of_state : (s : Flow) → IsFlow s → HasNoSurplus s → IsFeasible s.net s.amounts
 feasible_of_state s ok none =
@@ -36,10 +36,6 @@ feasible_flows_are_states_lem g flow ok =
     (λ feasible. (record { of_net = ok; within_bounds = feasible.within_bounds }, no_surplus_of_feasible (record { net = g; amounts = flow }) feasible), λ state. feasible_of_state (record { net = g; amounts = flow }) state.0 state.1)
 
 -- ---- stuck sets
-
-when-sub : (b : Bool) (x y : ℤ) → when b (x -ℤ y) ≡ when b x -ℤ when b y
-when-sub true x y = refl
-when-sub false x y = refl
 
 when_at_least_zero : (b : Bool) (x : ℤ) → (b ≡ true → pos 0 ≤ℤ x) → pos 0 ≤ℤ when b x
 when_at_least_zero true x low = low refl

@@ -28,6 +28,7 @@ pub fn restore(alloc: Global, instance: &Instance, state: &State<'_>) -> Result<
     ensures cost { IfOk result (λ flow. cost instance.now.arcs flow.items ≡ cost state.now.net.arcs state.now.amounts +ℤ fixed_cost instance.now.arcs) }
     ensures wants { OnErr result (1 ≤ length instance.now.arcs) }
 {
+    // Called for its clause alone: each amount is from 0 to the width of its arc.
     let _net = state.net();
     let count = instance.arc_count();
     let mut flow = Vec::with_capacity(alloc, count as usize)?;

@@ -214,6 +214,17 @@ fn nothing_has_a_net(rt: HostRuntime) -> Result<(), Fail> {
     Ok(())
 }
 
+// No clause says that memory is there, so a bound on the nodes that answers `NoMemory` meets every contract.
+#[test]
+fn a_million_nodes_have_a_net(rt: HostRuntime) -> Result<(), Fail> {
+    let net = net_of(rt.alloc(), b"p min 1000000 0\n")?;
+    let state = State::zero(rt.alloc(), &net).map_err(|_| "no memory")?;
+    let set = NodeSet::new(rt.alloc(), &net).map_err(|_| "no memory")?;
+    assert_eq!(rt; state.net().node_count(), 1_000_000);
+    assert_eq!(rt; set.len(), 0);
+    Ok(())
+}
+
 #[test]
 fn laws_do_nothing(_rt: HostRuntime) -> Result<(), Fail> {
     feasible_flows_are_states();

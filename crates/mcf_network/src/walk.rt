@@ -32,6 +32,7 @@ pub fn push_along(state: &mut State<'_>, walk: &[Rid], amount: i128)
     ensures cost { cost state.old.net.arcs state.new.amounts ≡ cost state.old.net.arcs state.old.amounts +ℤ walk_cost state.old.net walk.now *ℤ amount }
     ensures valid { IsFlow state.new }
 {
+    // Called for its clause alone: each amount is from 0 to the width of its arc.
     let _net = state.net();
     for r in walk {
         state.push(*r, amount);
