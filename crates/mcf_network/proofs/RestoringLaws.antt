@@ -349,8 +349,7 @@ restored_done arcs amounts i flow n h e =
 -- ---- least flows and greatest prices
 
 pub restored_least_flows_are_least_lem : RestoredLeastFlowsAreLeast
-restored_least_flows_are_least_lem g amounts ok least =
-    let ordered : All Ordered g.arcs = λ k d l. (ok.within_wide.arcs k d l).ordered in
+restored_least_flows_are_least_lem g amounts ordered least =
     let all = restored_at g amounts ordered least.feasible in
     record {
       feasible = all.feasible;

@@ -5,9 +5,8 @@ use Rattle.mcf_instance.specs.declared.problem.Side.{Side}
 use Rattle.mcf_instance.specs.declared.problem.Side.TheVariants.{Send}
 use Rattle.mcf_instance.specs.Blocking.{Blocks}
 use Rattle.mcf_instance.specs.Flow.{AreGreatestPrices, IsFeasible, IsLeast, cost}
-use Rattle.mcf_instance.specs.Limits.{limits}
 use Rattle.mcf_instance.specs.Network.{Network, node_count}
-use Rattle.mcf_instance.specs.WellFormed.{HasEnds, IsWellFormed}
+use Rattle.mcf_instance.specs.WellFormed.{HasEnds}
 use Rattle.mcf_network.specs.Nets.{IsNet}
 use Rattle.mcf_network.specs.Removal.{net_of}
 use Rattle.mcf_network.specs.Restoring.{fixed_cost, restored}
@@ -34,10 +33,10 @@ abbrev pub NetsBlockAlike : Type 0
 NetsBlockAlike =
     (g : Network) (set : ℕ → Bool) (side : Side) → All (HasEnds (node_count g)) g.arcs → Blocks (net_of g) set side ↔ Blocks g set side
 
--- a least flow of the net stands for a least flow
+-- a least flow of the net stands for a least flow, where no low is above its cap
 abbrev pub RestoredLeastFlowsAreLeast : Type 0
 RestoredLeastFlowsAreLeast =
-    (g : Network) (amounts : List ℤ) → IsWellFormed limits g → IsLeast (net_of g) amounts → IsLeast g (restored g.arcs amounts)
+    (g : Network) (amounts : List ℤ) → All (λ a. a.low ≤ℤ a.cap) g.arcs → IsLeast (net_of g) amounts → IsLeast g (restored g.arcs amounts)
 
 -- the greatest prices not above 0 of a feasible flow of the net are those of the flow for which it stands
 abbrev pub GreatestPricesCarryOver : Type 0

@@ -40,7 +40,7 @@ module _ (g : Network) (s : Flow) (flow : List ℤ) (a : Solution) (state : IsLe
 
   pub is_least_solution : RestoredLeastFlowsAreLeast → GreatestPricesCarryOver → IsWellFormed limits g → IsLeastSolution g a
   is_least_solution stays_least carry_over ok =
-      let least = stays_least g s.amounts ok state.least in
+      let least = stays_least g s.amounts (λ k d l. (ok.within_wide.arcs k d l).ordered) state.least in
       let great = prices_of carry_over in
       record {
         right = record {
