@@ -1,6 +1,6 @@
 -- The path to a visited node, from its end.
-use Rattle.std.proofs.Common.{◌≡◌, ◌≢◌, ℕ, ◌-◌, ◌<◌, List, [], ◌∷◌, length, get_or, refl, ap, sym, subst, ◌∙◌, arith, ℤ, pos, ◌+ℤ◌, ◌≤ℤ◌, ◌<ℤ◌, Option, Some, None}
-use Rattle.std.specs.List.{All, AllPairs}
+use Rattle.std.proofs.Common.{◌≡◌, ◌≢◌, ℕ, ◌-◌, ◌<◌, List, [], ◌∷◌, length, get_or, refl, ap, sym, subst, ◌∙◌, arith, ℤ, pos, ◌+ℤ◌, ◌≤ℤ◌, ◌<ℤ◌, ◌⊎◌, inl, inr, Option, Some, None, suc}
+use Rattle.std.specs.List.{All, AllPairs, Any}
 use Rattle.std.proofs.lemmas.Int.{ints}
 use Rattle.std.proofs.lemmas.List.{get_or_default}
 use Rattle.std.proofs.lemmas.List.Elements.{All-cons}
@@ -11,11 +11,26 @@ use Rattle.mcf_network.specs.States.{Flow, room_of, surplus_at}
 use Rattle.mcf_network.specs.Walks.{HasRoomFor, IsWalk}
 use Rattle.mcf_feas.specs.declared.search.Link.{Link}
 use Rattle.mcf_feas.specs.declared.search.Visit.{Visit}
-use Rattle.mcf_feas.specs.Searching.{IsFound, IsLink, IsPath, IsReachedBy, IsForest, node_at}
+use Rattle.mcf_feas.specs.Searching.{IsFound, IsLink, IsPath, IsReachedBy, IsForest, TakesAll, node_at}
 
 -- a residual arc enters a node visited after this place
 abbrev EntersLater : Flow → List Visit → ℕ → Rid → Type 0
 EntersLater s visits place r = (p : ℕ) × (place < p) × (p < length visits) × (head s.net r ≡ node_at visits p)
+
+-- x is all that w takes, or all the room of an arc
+abbrev IsAllBut : Flow → List Rid → ℕ → ℤ → Type 0
+IsAllBut s walk w x = (x +ℤ surplus_at s w ≡ pos 0) ⊎ Any (λ r. x ≡ room_of s r) walk
+
+-- with an arc more at the front, y is as much as before, or all the room of that arc
+all_but_next : (s : Flow) (walk : List Rid) (r : Rid) (w : ℕ) (x y : ℤ) → (y ≡ x) ⊎ (y ≡ room_of s r) → IsAllBut s walk w x → IsAllBut s (r ∷ walk) w y
+all_but_next s walk r w x y (inl e) (inl all) = inl (ap (λ z. z +ℤ surplus_at s w) e ∙ all)
+all_but_next s walk r w x y (inl e) (inr (k, q, h, at, is)) = inr (suc k, q, omega arith, at, e ∙ is)
+all_but_next s walk r w x y (inr e) all = inr (0, r, omega arith, refl, e)
+
+all_of_it : (s : Flow) (u : ℕ) (walk : List Rid) (w : ℕ) (x y : ℤ) → (y ≡ x) ⊎ (y ≡ surplus_at s u) → IsAllBut s walk w x → TakesAll s u walk w y
+all_of_it s u walk w x y (inr e) all = inl e
+all_of_it s u walk w x y (inl e) (inl all) = inr (inl (ap (λ z. z +ℤ surplus_at s w) e ∙ all))
+all_of_it s u walk w x y (inl e) (inr (k, q, h, at, is)) = inr (inr (k, q, h, at, e ∙ is))
 
 -- a walk from the node at a place to w, along which x can go
 pub record IsTrace (s : Flow) (visits : List Visit) (place : ℕ) (walk : List Rid) (w : ℕ) (x : ℤ) : Type 0 where
@@ -26,6 +41,7 @@ pub record IsTrace (s : Flow) (visits : List Visit) (place : ℕ) (walk : List R
   pub distinct : AllPairs (λ r q. r ≢ q) walk
   pub positive : pos 0 <ℤ x
   pub taken : (x +ℤ surplus_at s w) ≤ℤ pos 0
+  pub most : IsAllBut s walk w x
 
 -- the path is empty at first
 pub trace_first : (s : Flow) (visits : List Visit) (x : ℤ) → IsFound s visits → x +ℤ surplus_at s (node_at visits (length visits - 1)) ≡ pos 0 → IsTrace s visits (length visits - 1) [] (node_at visits (length visits - 1)) x
@@ -40,12 +56,13 @@ trace_first s visits x found e =
       distinct = λ i j d h l. absurd (omega arith);
       positive = omega (arith, ints, deficit, e);
       taken = omega (arith, ints, e);
+      most = inl e;
     }
 
 module _ (s : Flow) (visits : List Visit) (place : ℕ) (walk : List Rid) (w : ℕ) (x y : ℤ) (ok : IsForest s visits) (old : IsTrace s visits place walk w x) (pos_y : pos 0 <ℤ y) (le_x : y ≤ℤ x) where
   -- the path back goes along a link
-  pub trace_step : (l : Link) → IsLink s visits place l → y ≤ℤ room_of s l.along → IsTrace s visits l.place (l.along ∷ walk) w y
-  trace_step l link le_room =
+  pub trace_step : (l : Link) → IsLink s visits place l → y ≤ℤ room_of s l.along → (y ≡ x) ⊎ (y ≡ room_of s l.along) → IsTrace s visits l.place (l.along ∷ walk) w y
+  trace_step l link le_room either =
       let earlier = link.earlier in
       let in_range = old.in_range in
       let taken = old.taken in
@@ -58,11 +75,12 @@ module _ (s : Flow) (visits : List Visit) (place : ℕ) (walk : List Rid) (w : �
         distinct = AllPairs-cons (λ r q. r ≢ q) l.along walk (λ k d h same. let (p, a, b, e) = old.later k d h in ok.distinct place p a b (sym link.to ∙ ap (head s.net) same ∙ e)) old.distinct;
         positive = pos_y;
         taken = omega (arith, ints, taken, le_x);
+        most = all_but_next s walk l.along w x y either old.most;
       }
 
   -- the path begins at a node with a surplus
-  pub trace_end : y ≤ℤ surplus_at s (node_at visits place) → IsPath s walk w y
-  trace_end le =
+  pub trace_end : y ≤ℤ surplus_at s (node_at visits place) → (y ≡ x) ⊎ (y ≡ surplus_at s (node_at visits place)) → IsPath s walk w y
+  trace_end le either =
       let taken = old.taken in
       record {
         source = node_at visits place;
@@ -76,6 +94,7 @@ module _ (s : Flow) (visits : List Visit) (place : ℕ) (walk : List Rid) (w : �
         positive = pos_y;
         held = le;
         taken = omega (arith, ints, taken, le_x);
+        most = all_of_it s (node_at visits place) walk w x y either old.most;
       }
 
 -- how a search came to a node, by cases on its link

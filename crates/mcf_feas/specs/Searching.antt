@@ -1,12 +1,13 @@
 -- What a search from the nodes with a surplus keeps, and what it finds.
-use Rattle.std.specs.Prelude.{◌≡◌, ◌≢◌, ℕ, ◌<◌, ◌≤◌, ◌-◌, Bool, true, List, length, ℤ, pos, ◌+ℤ◌, ◌≤ℤ◌, ◌<ℤ◌, Option, Some, None, slice_index_or}
+use Rattle.std.specs.Prelude.{◌≡◌, ◌≢◌, ℕ, ◌<◌, ◌≤◌, ◌-◌, Bool, true, List, length, ℤ, pos, ◌+ℤ◌, ◌≤ℤ◌, ◌<ℤ◌, ◌⊎◌, Option, Some, None, slice_index_or}
+use Rattle.std.specs.List.{Any}
 use Rattle.mcf_instance.specs.Blocking.{in_table}
 use Rattle.mcf_instance.specs.Network.{IsNode, node_count}
 use Rattle.mcf_network.specs.declared.rid.Rid.{Rid}
 use Rattle.mcf_network.specs.NodeSets.{member_count}
 use Rattle.mcf_network.specs.Residual.{tail, head}
-use Rattle.mcf_network.specs.States.{Flow, IsFlow, MovesSurplus, surplus_at}
-use Rattle.mcf_network.specs.Walks.{CanPushAlong, HasRoom, IsWalk}
+use Rattle.mcf_network.specs.States.{Flow, IsFlow, MovesSurplus, room_of, surplus_at}
+use Rattle.mcf_network.specs.Walks.{CanPushAlong, HasRoom, IsWalk, pushed_along}
 use Rattle.mcf_feas.specs.declared.search.Link.{Link}
 use Rattle.mcf_feas.specs.declared.search.Visit.{Visit}
 
@@ -63,7 +64,11 @@ pub record IsFound (s : Flow) (visits : List Visit) : Type 0 where
   pub some : 0 < length visits
   pub deficit : surplus_at s (node_at visits (length visits - 1)) <ℤ pos 0
 
--- a path to node w along which x can go: as much as a node with a surplus has, and as w takes
+-- x is all that a path from node u to node w takes: all that u has, all that w takes, or all the room of an arc
+abbrev pub TakesAll : Flow → ℕ → List Rid → ℕ → ℤ → Type 0
+TakesAll s u path w x = (x ≡ surplus_at s u) ⊎ ((x +ℤ surplus_at s w ≡ pos 0) ⊎ Any (λ r. x ≡ room_of s r) path)
+
+-- a path to node w along which x can go and no more: as much as a node with a surplus has, and as w takes
 pub record IsPath (s : Flow) (path : List Rid) (w : ℕ) (x : ℤ) : Type 0 where
   pub source : ℕ
   pub is_node : IsNode (node_count s.net) source
@@ -72,8 +77,9 @@ pub record IsPath (s : Flow) (path : List Rid) (w : ℕ) (x : ℤ) : Type 0 wher
   pub positive : pos 0 <ℤ x
   pub held : x ≤ℤ surplus_at s source
   pub taken : (x +ℤ surplus_at s w) ≤ℤ pos 0
+  pub most : TakesAll s source path w x
 
--- a part of the surplus of one node moved to one that takes it
+-- a part of the surplus of one node moved to one that takes it, as much as a path between them takes
 pub record IsAugmented (s s' : Flow) : Type 0 where
   pub net : s'.net ≡ s.net
   pub flow : IsFlow s'
@@ -85,3 +91,7 @@ pub record IsAugmented (s s' : Flow) : Type 0 where
   pub held : amount ≤ℤ surplus_at s source
   pub taken : (amount +ℤ surplus_at s target) ≤ℤ pos 0
   pub moves : MovesSurplus s s' source target amount
+  pub path : List Rid
+  pub walk : IsWalk s.net source path target
+  pub pushed : s' ≡ pushed_along s path amount
+  pub most : TakesAll s source path target amount

@@ -1,5 +1,5 @@
 -- A push round a negative cycle: the state keeps no surplus, and gets cheaper.
-use Rattle.std.proofs.Common.{◌≡◌, ℕ, ◌<◌, List, [], ◌∷◌, length, ℤ, pos, nat_abs, ◌+ℤ◌, ◌≤ℤ◌, ◌<ℤ◌, ap, subst, ◌∙◌, arith}
+use Rattle.std.proofs.Common.{◌≡◌, ℕ, ◌<◌, List, [], ◌∷◌, length, ℤ, pos, nat_abs, ◌+ℤ◌, ◌≤ℤ◌, ◌<ℤ◌, ap, sym, subst, ◌∙◌, arith}
 use Rattle.std.specs.List.{All, Any}
 use Rattle.std.proofs.lemmas.Int.{ints}
 use Rattle.mcf_instance.specs.Flow.{AreGreatestPrices, IsFeasible, IsLeast, cost}
@@ -16,7 +16,7 @@ use Rattle.mcf_network.specs.Walks.{CanPushAlong, pushed_along, walk_cost}
 use Rattle.mcf_network.proofs.StuckLaws.{feasible_of_state}
 use Rattle.mcf_network.proofs.WalkLaws.{along_ok, along_net, moves_along, cost_along}
 use Rattle.mcf_feas.specs.Feasible.{IsFeasibleState}
-use Rattle.mcf_prices.specs.NegativeCycles.{IsNegativeCycle}
+use Rattle.mcf_prices.specs.NegativeCycles.{IsCancelled, IsNegativeCycle}
 use Rattle.mcf_prices.specs.Outcomes.{AreStatePrices, IsLeastState}
 use Rattle.mcf_prices.specs.Recovering.{price_limit}
 use Rattle.mcf_prices.proofs.Cycles.{nat_abs_falls}
@@ -68,6 +68,20 @@ cost_height_falls s walk x ok cycle can positive =
     let floor = (cost_up_to (pushed_along s walk x).net.arcs (pushed_along s walk x).amounts net_total_limit after.of_net.total after.within_bounds).0 in
     let same = ap (λ (n : Network). cost n.arcs (pushed_along s walk x).amounts) (along_net s walk x) in
     nat_abs_falls (cost (pushed_along s walk x).net.arcs (pushed_along s walk x).amounts +ℤ pos net_total_limit) (cost s.net.arcs s.amounts +ℤ pos net_total_limit) (omega (arith, ints, floor)) (omega (arith, ints, less, change, same))
+
+-- a cancelled cycle leaves a state without surplus, which costs less
+module _ (s s' : Flow) (walk : List Rid) (cycle : IsNegativeCycle s walk) (done : IsCancelled s s' walk) where
+  positive : pos 0 <ℤ done.amount
+  positive = cycle_positive s walk done.amount cycle done.reached
+
+  can : CanPushAlong s walk done.amount
+  can = cycle_can_push s walk done.amount cycle positive done.each
+
+  pub cancelled_feasible : (g : Network) → IsFeasibleState g s → IsFeasibleState g s'
+  cancelled_feasible g ok = subst (λ (t : Flow). IsFeasibleState g t) (sym done.pushed) (cycle_feasible g s walk done.amount ok cycle can)
+
+  pub cancelled_falls : IsFlow s → cost_height s' < cost_height s
+  cancelled_falls ok = subst (λ (t : Flow). cost_height t < cost_height s) (sym done.pushed) (cost_height_falls s walk done.amount ok cycle can positive)
 
 -- prices that show the amounts of a state without surplus
 pub least_from_prices : (g : Network) (s : Flow) (ys : List ℤ) → IsFeasibleState g s → AreGreatestPrices s.net ys s.amounts → IsLeastState g s

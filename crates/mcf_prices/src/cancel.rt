@@ -2,12 +2,13 @@
 ghost use Rattle.std.specs.Prelude.{◌≤◌, IfOk, OnErr, ⊤};
 ghost use Rattle.mcf_feas.specs.Feasible.{IsFeasibleState};
 ghost use Rattle.mcf_instance.specs.Network.{node_count};
+ghost use Rattle.mcf_prices.specs.NegativeCycles.{IsCancelled, IsNegativeCycle};
 ghost use Rattle.mcf_prices.specs.Outcomes.{IsOutcome};
 
 use crate::engine::{Engine, Outcome};
 use crate::recovered::{Recovered, recover};
 use mcf_feas::{Feas, feasible};
-use mcf_network::{Net, State, push_along, room_along};
+use mcf_network::{Net, Rid, State, push_along, room_along};
 use mcf_text::NoMemory;
 use std::alloc::Global;
 
@@ -52,7 +53,7 @@ impl Engine for Cancel {
     }
 }
 
-// Pushes as much as there is room for round negative cycles, until there is none.
+// Cancels negative cycles, until there is none.
 fn cancel_cycles<'n>(alloc: Global, mut state: State<'n>) -> Result<Outcome<'n>, NoMemory>
     requires { IsFeasibleState state.net state }
     ensures least { IfOk result (IsOutcome (λ _. ⊤) state.entry.net) }
@@ -61,10 +62,16 @@ fn cancel_cycles<'n>(alloc: Global, mut state: State<'n>) -> Result<Outcome<'n>,
     'cycles: loop {
         match recover(alloc, &state)? {
             Recovered::Prices(prices) => return Ok(Outcome::Least(state, prices)),
-            Recovered::Cycle(walk) => {
-                let amount = room_along(&state, walk.as_slice());
-                push_along(&mut state, walk.as_slice(), amount);
-            }
+            Recovered::Cycle(walk) => cancel_cycle(&mut state, walk.as_slice()),
         }
     }
+}
+
+// Pushes as much as there is room for round a negative cycle.
+fn cancel_cycle(state: &mut State<'_>, walk: &[Rid])
+    requires { IsNegativeCycle state.old walk.now }
+    ensures { IsCancelled state.old state.new walk.now }
+{
+    let amount = room_along(state, walk);
+    push_along(state, walk, amount);
 }

@@ -1,7 +1,7 @@
-use Rattle.std.proofs.Common.{◌-◌, length, arith, ap, pos, ◌≤ℤ◌, to_z, of_z, None}
+use Rattle.std.proofs.Common.{◌-◌, length, arith, ap, pos, ◌≤ℤ◌, ◌≡◌, ◌⊎◌, inl, inr, to_z, of_z, None}
 use Rattle.std.specs.Prelude.{reverse, ◌<ℤ◌}
 use mir.Syntax.{w128}
-use Rattle.std.proofs.lemmas.Int.{clamps, ints}
+use Rattle.std.proofs.lemmas.Int.{by_lt_z, clamps, ints}
 use Rattle.std.proofs.lemmas.List.{get_or_default, reverse-append}
 use Rattle.mcf_network.specs.States.{room_of, surplus_at}
 use Rattle.mcf_feas.specs.declared.search.Visit.{Visit}
@@ -25,7 +25,8 @@ loop-place-preserved c =
     let positive : pos 0 <ℤ y = omega (arith, ints, clamps, value, was, has, room.value, room.high) in
     let below : y ≤ℤ x = omega (arith, ints, clamps, value, room.value, room.low, room.high) in
     let within : y ≤ℤ room_of s c.in-Some.link.along = omega (arith, ints, clamps, value, room.value, room.low, room.high) in
-    rw (c.in_ok-push.ensures.items, reverse-append) (trace_step s visits old.place (reverse old.path.items) (node_at visits (length visits - 1)) x y ok old.invariant positive below c.in-Some.link link within)
+    let either : (y ≡ x) ⊎ (y ≡ room_of s c.in-Some.link.along) = by_lt_z x (room_of s c.in-Some.link.along) (λ p. inl (omega (arith, ints, clamps, value, room.value, room.low, room.high, p))) (λ p. inr (omega (arith, ints, clamps, value, room.value, room.low, room.high, p))) in
+    rw (c.in_ok-push.ensures.items, reverse-append) (trace_step s visits old.place (reverse old.path.items) (node_at visits (length visits - 1)) x y ok old.invariant positive below c.in-Some.link link within either)
 
 pub returns-clause-path : goal.returns-clause-path
 returns-clause-path c =
@@ -43,4 +44,5 @@ returns-clause-path c =
     let positive : pos 0 <ℤ y = omega (arith, ints, clamps, value, was, some, surplus.value, surplus.small, node) in
     let below : y ≤ℤ x = omega (arith, ints, clamps, value, surplus.small) in
     let within : y ≤ℤ surplus_at s (node_at visits old.place) = omega (arith, ints, clamps, value, surplus.value, surplus.small, node) in
-    rw c.reverse.ensures.items (trace_end s visits old.place (reverse old.path.items) (node_at visits (length visits - 1)) x y ok old.invariant positive below within)
+    let either : (y ≡ x) ⊎ (y ≡ surplus_at s (node_at visits old.place)) = by_lt_z x (surplus_at s (node_at visits old.place)) (λ p. inl (omega (arith, ints, clamps, value, surplus.value, surplus.small, node, p))) (λ p. inr (omega (arith, ints, clamps, value, surplus.value, surplus.small, node, p))) in
+    rw c.reverse.ensures.items (trace_end s visits old.place (reverse old.path.items) (node_at visits (length visits - 1)) x y ok old.invariant positive below within either)

@@ -25,4 +25,8 @@ returns-clause-augmented c =
       held = path.held;
       taken = path.taken;
       moves = rw same at (push.surpluses path.source target walk);
+      path = c.deref-2.result.now;
+      walk = walk;
+      pushed = rw same at push.value;
+      most = rw c.deref-2.ensures.value path.most;
     }
