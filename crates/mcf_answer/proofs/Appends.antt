@@ -48,12 +48,16 @@ numbers_all old word numbers k past =
     append_assoc old (word ++ flat_map field_text (take k numbers)) (10 ∷ [])
     ∙ ap (λ more. old ++ more) (ap (λ some. word ++ flat_map field_text some ++ 10 ∷ []) (take_all k numbers past) ∙ sym (line_text-numbers word numbers))
 
+-- the numbers go on where a list goes on
+pub enumerate_from-append : {X : Type 0} (n : ℕ) (xs ys : List X) → enumerate_from n (xs ++ ys) ≡ enumerate_from n xs ++ enumerate_from (n + length xs) ys
+enumerate_from-append n [] ys = ap (λ m. enumerate_from m ys) (sym (add-zero n))
+enumerate_from-append {X} n (x ∷ xs) ys =
+    let next : n + 1 + length xs ≡ n + length (x ∷ xs) = omega arith in
+    ap (λ more. (n, x) ∷ more) (enumerate_from-append (n + 1) xs ys ∙ ap (λ m. enumerate_from (n + 1) xs ++ enumerate_from m ys) next)
+
 -- one more number of a list with its place
 pub enumerate_from-push : {X : Type 0} (n : ℕ) (xs : List X) (x : X) → enumerate_from n (xs ++ x ∷ []) ≡ enumerate_from n xs ++ (n + length xs, x) ∷ []
-enumerate_from-push n [] x = ap (λ m. (m, x) ∷ []) (sym (add-zero n))
-enumerate_from-push {X} n (y ∷ ys) x =
-    let next : n + 1 + length ys ≡ n + length (y ∷ ys) = omega arith in
-    ap (λ more. (n, y) ∷ more) (enumerate_from-push (n + 1) ys x ∙ ap (λ m. enumerate_from (n + 1) ys ++ (m, x) ∷ []) next)
+enumerate_from-push n xs x = enumerate_from-append n xs (x ∷ [])
 
 -- one more line
 pub lines_more : {X : Type 0} (line : X → List Token) (old : List ℕ) (xs : List X) (x : X)

@@ -2,6 +2,7 @@ pub mod Accepts
 pub mod Appends
 pub mod Grows
 pub mod Parsed
+pub mod Room
 pub mod SaidLemmas
 pub mod Simulation
 pub mod SmallAnswers

@@ -7,8 +7,11 @@ use std::marker::Model;
 /// What an arc carries, with the ends of the arc.
 #[derive(Clone, Copy, Debug, PartialEq, Eq)]
 pub struct Sent {
+    /// The node that the arc leaves.
     pub src: NodeId,
+    /// The node that it enters.
     pub dst: NodeId,
+    /// How many units it carries.
     pub flow: i128,
 }
 
@@ -18,8 +21,11 @@ pub struct Sent {
 /// there are at most 1,000,000 prices.
 #[derive(Debug, Drop)]
 pub struct FlowAnswer {
+    /// What all units together cost.
     pub cost: i128,
+    /// What each arc carries, in the order of the arcs.
     pub sent: SentList,
+    /// The price of each node, from node 1 on, in cost for each unit.
     pub prices: PriceList,
 }
 
@@ -38,7 +44,9 @@ impl Model for FlowAnswer {
 /// The nodes are strictly ascending numbers from 1 to 1,000,000, at least one and at most 1,000,000.
 #[derive(Debug, Drop)]
 pub struct BlockedAnswer {
+    /// Whether the nodes must send or must take more than they can.
     pub side: Side,
+    /// The nodes of the set.
     pub nodes: NodeList,
 }
 

@@ -4,5 +4,6 @@
 /// are missing, the number of lines plus 1. Blank lines and comments count.
 #[derive(Clone, Copy, Debug, PartialEq, Eq)]
 pub struct Shape {
+    /// Counted from 1.
     pub line: u128,
 }

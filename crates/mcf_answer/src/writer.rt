@@ -1,5 +1,5 @@
 //! Answers as text.
-ghost use Rattle.std.specs.Prelude.{◌≡◌, [], ◌∷◌, ◌++◌, Ok, map, flat_map, length, take, OnOk, OnErr};
+ghost use Rattle.std.specs.Prelude.{◌≡◌, [], ◌∷◌, ◌++◌, Ok, map, flat_map, length, take, OnOk, OnErr, vec_len, vec_capacity, ◌+◌, ◌<◌, ◌≤◌};
 ghost use Rattle.std.specs.Fmt.{signed_decimal};
 ghost use Rattle.std.specs.List.{enumerate_from};
 ghost use Rattle.mcf_answer.specs.BlockingSet.{IsBlockingSet};
@@ -16,11 +16,12 @@ use mcf_text::{NoMemory, NodeId, put_number};
 /// Appends the text of an answer: fields with one blank between them, numbers in decimal without a plus
 /// sign and without leading zeros, each line ended by byte 10.
 ///
-/// Where memory runs out, the bytes stay as they were.
+/// Fails only where the vector has to grow and no memory is given; it then holds what it held.
 #[tactic(auto, using(crate::proofs::Parsed::reads_back))]
 pub fn write(answer: &Answer, out: &mut Vec<u8>) -> Result<(), NoMemory>
     ensures ok { OnOk result (out.new.items ≡ out.old.items ++ written answer.now) }
     ensures err { OnErr result (out.new.items ≡ out.old.items) }
+    ensures refused { OnErr result (vec_capacity out.old < vec_len out.old + length (written answer.now)) }
     ensures in_range { IsAnswer answer.now }
     ensures spells { Spells (written answer.now) answer.now }
     ensures reads_back { parsing (written answer.now) ≡ Ok answer.now }
@@ -41,6 +42,8 @@ fn put_answer(out: &mut Vec<u8>, answer: &Answer) -> Result<(), NoMemory>
     ensures ok { OnOk result (out.new.items ≡ out.old.items ++ written answer.now) }
     ensures in_range { IsAnswer answer.now }
     ensures err { OnErr result (take (length out.old.items) out.new.items ≡ out.old.items) }
+    ensures capacity { vec_capacity out.old ≤ vec_capacity out.new }
+    ensures refused { OnErr result (vec_capacity out.old < vec_len out.old + length (written answer.now)) }
 {
     match answer {
         Answer::Flow(flow) => put_solution(out, flow),
@@ -60,6 +63,8 @@ fn put_solution(out: &mut Vec<u8>, flow: &FlowAnswer) -> Result<(), NoMemory>
     ensures ok { OnOk result (out.new.items ≡ out.old.items ++ flat_map line_text (solution_lines flow.now)) }
     ensures in_range { IsSolution flow.now }
     ensures err { OnErr result (take (length out.old.items) out.new.items ≡ out.old.items) }
+    ensures capacity { vec_capacity out.old ≤ vec_capacity out.new }
+    ensures refused { OnErr result (vec_capacity out.old < vec_len out.old + length (flat_map line_text (solution_lines flow.now))) }
 {
     put_line(out, b"s", &[flow.cost])?;
     put_sent(out, flow.sent.as_slice())?;
@@ -72,6 +77,8 @@ fn put_set(out: &mut Vec<u8>, set: &BlockedAnswer) -> Result<(), NoMemory>
     ensures ok { OnOk result (out.new.items ≡ out.old.items ++ flat_map line_text (set_lines set.now)) }
     ensures in_range { IsBlockingSet set.now }
     ensures err { OnErr result (take (length out.old.items) out.new.items ≡ out.old.items) }
+    ensures capacity { vec_capacity out.old ≤ vec_capacity out.new }
+    ensures refused { OnErr result (vec_capacity out.old < vec_len out.old + length (flat_map line_text (set_lines set.now))) }
 {
     let nodes = set.nodes.as_slice();
     put_word_line(out, b"i", nodes.len() as i128, side_word(set.side))?;
@@ -93,15 +100,27 @@ fn side_word(side: Side) -> &'static [u8]
 fn put_sent(out: &mut Vec<u8>, sent: &[Sent]) -> Result<(), NoMemory>
     ensures ok { OnOk result (out.new.items ≡ out.old.items ++ flat_map line_text (map flow_line sent.now)) }
     ensures err { OnErr result (take (length out.old.items) out.new.items ≡ out.old.items) }
+    ensures capacity { vec_capacity out.old ≤ vec_capacity out.new }
+    ensures refused { OnErr result (vec_capacity out.old < vec_len out.old + length (flat_map line_text (map flow_line sent.now))) }
 {
     for s in sent {
-        put_line(
-            out,
-            b"f",
-            &[i128::from(s.src.get()), i128::from(s.dst.get()), s.flow],
-        )?;
+        put_flow(out, *s)?;
     }
     Ok(())
+}
+
+// Appends the flow line of an arc.
+fn put_flow(out: &mut Vec<u8>, s: Sent) -> Result<(), NoMemory>
+    ensures ok { OnOk result (out.new.items ≡ out.old.items ++ line_text (flow_line s)) }
+    ensures err { OnErr result (take (length out.old.items) out.new.items ≡ out.old.items) }
+    ensures capacity { vec_capacity out.old ≤ vec_capacity out.new }
+    ensures refused { OnErr result (vec_capacity out.old < vec_len out.old + length (line_text (flow_line s))) }
+{
+    put_line(
+        out,
+        b"f",
+        &[i128::from(s.src.get()), i128::from(s.dst.get()), s.flow],
+    )
 }
 
 // Appends the price lines, from node 1 on.
@@ -109,6 +128,8 @@ fn put_sent(out: &mut Vec<u8>, sent: &[Sent]) -> Result<(), NoMemory>
 fn put_prices(out: &mut Vec<u8>, prices: &[i128]) -> Result<(), NoMemory>
     ensures ok { OnOk result (out.new.items ≡ out.old.items ++ flat_map line_text (map price_line (enumerate_from 1 prices.now))) }
     ensures err { OnErr result (take (length out.old.items) out.new.items ≡ out.old.items) }
+    ensures capacity { vec_capacity out.old ≤ vec_capacity out.new }
+    ensures refused { OnErr result (vec_capacity out.old < vec_len out.old + length (flat_map line_text (map price_line (enumerate_from 1 prices.now)))) }
 {
     for (k, price) in prices.iter().enumerate() {
         put_price(out, k + 1, *price)?;
@@ -120,6 +141,8 @@ fn put_prices(out: &mut Vec<u8>, prices: &[i128]) -> Result<(), NoMemory>
 fn put_price(out: &mut Vec<u8>, id: usize, price: i128) -> Result<(), NoMemory>
     ensures ok { OnOk result (out.new.items ≡ out.old.items ++ line_text (price_line (id, price))) }
     ensures err { OnErr result (take (length out.old.items) out.new.items ≡ out.old.items) }
+    ensures capacity { vec_capacity out.old ≤ vec_capacity out.new }
+    ensures refused { OnErr result (vec_capacity out.old < vec_len out.old + length (line_text (price_line (id, price)))) }
 {
     put_line(out, b"y", &[id as i128, price])
 }
@@ -129,11 +152,23 @@ fn put_price(out: &mut Vec<u8>, id: usize, price: i128) -> Result<(), NoMemory>
 fn put_nodes(out: &mut Vec<u8>, nodes: &[NodeId]) -> Result<(), NoMemory>
     ensures ok { OnOk result (out.new.items ≡ out.old.items ++ flat_map line_text (map node_line nodes.now)) }
     ensures err { OnErr result (take (length out.old.items) out.new.items ≡ out.old.items) }
+    ensures capacity { vec_capacity out.old ≤ vec_capacity out.new }
+    ensures refused { OnErr result (vec_capacity out.old < vec_len out.old + length (flat_map line_text (map node_line nodes.now))) }
 {
     for node in nodes {
-        put_line(out, b"x", &[i128::from(node.get())])?;
+        put_node(out, *node)?;
     }
     Ok(())
+}
+
+// Appends the line of a node.
+fn put_node(out: &mut Vec<u8>, node: NodeId) -> Result<(), NoMemory>
+    ensures ok { OnOk result (out.new.items ≡ out.old.items ++ line_text (node_line node)) }
+    ensures err { OnErr result (take (length out.old.items) out.new.items ≡ out.old.items) }
+    ensures capacity { vec_capacity out.old ≤ vec_capacity out.new }
+    ensures refused { OnErr result (vec_capacity out.old < vec_len out.old + length (line_text (node_line node))) }
+{
+    put_line(out, b"x", &[i128::from(node.get())])
 }
 
 // Appends a line of a word and numbers.
@@ -141,6 +176,8 @@ fn put_nodes(out: &mut Vec<u8>, nodes: &[NodeId]) -> Result<(), NoMemory>
 fn put_line(out: &mut Vec<u8>, word: &[u8], numbers: &[i128]) -> Result<(), NoMemory>
     ensures ok { OnOk result (out.new.items ≡ out.old.items ++ line_text (Word word.now ∷ map Number numbers.now)) }
     ensures err { OnErr result (take (length out.old.items) out.new.items ≡ out.old.items) }
+    ensures capacity { vec_capacity out.old ≤ vec_capacity out.new }
+    ensures refused { OnErr result (vec_capacity out.old < vec_len out.old + length (line_text (Word word.now ∷ map Number numbers.now))) }
 {
     out.extend_from_slice(word)?;
     for number in numbers {
@@ -155,6 +192,8 @@ fn put_line(out: &mut Vec<u8>, word: &[u8], numbers: &[i128]) -> Result<(), NoMe
 fn put_word_line(out: &mut Vec<u8>, word: &[u8], number: i128, last: &[u8]) -> Result<(), NoMemory>
     ensures ok { OnOk result (out.new.items ≡ out.old.items ++ line_text (Word word.now ∷ Number number ∷ Word last.now ∷ [])) }
     ensures err { OnErr result (take (length out.old.items) out.new.items ≡ out.old.items) }
+    ensures capacity { vec_capacity out.old ≤ vec_capacity out.new }
+    ensures refused { OnErr result (vec_capacity out.old < vec_len out.old + length (line_text (Word word.now ∷ Number number ∷ Word last.now ∷ []))) }
 {
     out.extend_from_slice(word)?;
     put_field(out, number)?;
@@ -169,6 +208,8 @@ fn put_word_line(out: &mut Vec<u8>, word: &[u8], number: i128, last: &[u8]) -> R
 fn put_field(out: &mut Vec<u8>, number: i128) -> Result<(), NoMemory>
     ensures ok { OnOk result (out.new.items ≡ out.old.items ++ 32 ∷ signed_decimal number) }
     ensures err { OnErr result (take (length out.old.items) out.new.items ≡ out.old.items) }
+    ensures capacity { vec_capacity out.old ≤ vec_capacity out.new }
+    ensures refused { OnErr result (vec_capacity out.old < vec_len out.old + length (32 ∷ signed_decimal number)) }
 {
     out.push(b' ')?;
     put_number(out, number)
