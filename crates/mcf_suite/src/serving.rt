@@ -3,7 +3,7 @@ ghost use Rattle.std.specs.Prelude.{◌≡◌, ◌≢◌, ◌≤◌, ◌⊎◌, 
 ghost use Rattle.std.specs.Fn.{FnOnceReturnsAt};
 ghost use Rattle.std.specs.Io.KnownBytes.{Appends};
 ghost use Rattle.clap.specs.Words.{kind_of};
-ghost use Rattle.mcf_suite.specs.Devices.{CountsFailure};
+ghost use Rattle.mcf_suite.specs.Devices.{CountsOneFailure};
 ghost use Rattle.mcf_suite.specs.Serving.{GivesBytes, Serves, fault_line, status_of};
 
 use crate::asking::command;
@@ -100,7 +100,7 @@ pub fn serve<W: AsStr, S: Source + Drop, P: FnOnce(&str) -> Option<S>, O: Sink, 
     ensures finished { result ≢ 3 → O.IsFinished out.new }
     ensures failed { O.failures out.new ≢ O.failures out.old → result ≡ 3 }
     ensures untouched { result ≡ 3
-        → (out.new ≡ out.old) ⊎ CountsFailure (O.failures out.old) (O.failures out.new) }
+        → (out.new ≡ out.old) ⊎ CountsOneFailure (O.failures out.old) (O.failures out.new) }
     ensures quiet { result ≢ 3 → err.new ≡ err.old }
 {
     match answer(alloc, words, input, opener, out) {
@@ -128,7 +128,7 @@ fn answer<W: AsStr, S: Source + Drop, P: FnOnce(&str) -> Option<S>, O: Sink>(
     ensures finished { OnOk result (O.IsFinished out.new) }
     ensures worked { OnOk result (O.failures out.new ≡ O.failures out.old) }
     ensures untouched { OnErr result
-        ((out.new ≡ out.old) ⊎ CountsFailure (O.failures out.old) (O.failures out.new)) }
+        ((out.new ≡ out.old) ⊎ CountsOneFailure (O.failures out.old) (O.failures out.new)) }
 {
     let asked = match command(alloc, words) {
         Ok(asked) => asked,
@@ -164,7 +164,7 @@ fn print_help<O: Sink>(alloc: Global, error: &Error, out: &mut O) -> Result<u8, 
     ensures finished { OnOk result (O.IsFinished out.new) }
     ensures worked { OnOk result (O.failures out.new ≡ O.failures out.old) }
     ensures untouched { OnErr result
-        ((out.new ≡ out.old) ⊎ CountsFailure (O.failures out.old) (O.failures out.new)) }
+        ((out.new ≡ out.old) ⊎ CountsOneFailure (O.failures out.old) (O.failures out.new)) }
 {
     match error.kind() {
         ErrorKind::OutOfMemory => Err(Failure::Run(RunFault::NoMemory)),
