@@ -4,6 +4,7 @@ use Rattle.std.specs.List.{All, Any}
 use Rattle.std.proofs.lemmas.Int.{ints}
 use Rattle.mcf_instance.specs.Flow.{AreGreatestPrices, IsFeasible, IsLeast, cost}
 use Rattle.mcf_instance.specs.Network.{Network, IsArcNumber, node_count}
+use Rattle.mcf_instance.specs.WellFormed.{IsUpTo}
 use Rattle.mcf_instance.proofs.Bounds.{cost_up_to}
 use Rattle.mcf_instance.proofs.Duality.{shown_flows_are_least_lem}
 use Rattle.mcf_instance.proofs.IntLaws.{mul_below_zero}
@@ -16,7 +17,8 @@ use Rattle.mcf_network.proofs.StuckLaws.{feasible_of_state}
 use Rattle.mcf_network.proofs.WalkLaws.{along_ok, along_net, moves_along, cost_along}
 use Rattle.mcf_feas.specs.Feasible.{IsFeasibleState}
 use Rattle.mcf_prices.specs.NegativeCycles.{IsNegativeCycle}
-use Rattle.mcf_prices.specs.Outcomes.{IsLeastState}
+use Rattle.mcf_prices.specs.Outcomes.{AreStatePrices, IsLeastState}
+use Rattle.mcf_prices.specs.Recovering.{price_limit}
 use Rattle.mcf_prices.proofs.Cycles.{nat_abs_falls}
 
 pub cycle_some : (s : Flow) (walk : List Rid) → IsNegativeCycle s walk → 0 < length walk
@@ -73,6 +75,13 @@ least_from_prices g s ys ok prices =
     record {
       feasible = ok;
       least = subst (λ n. IsLeast n s.amounts) ok.of_net (shown_flows_are_least_lem s.net ys s.amounts ok.flow.of_net.ends (feasible_of_state s ok.flow ok.no_surplus) prices.low.show_flow);
+    }
+
+pub state_prices : (g : Network) (s : Flow) (ys : List ℤ) → IsFeasibleState g s → AreGreatestPrices s.net ys s.amounts → All (IsUpTo price_limit) ys → AreStatePrices g s ys
+state_prices g s ys ok greatest small =
+    record {
+      greatest = subst (λ n. AreGreatestPrices n ys s.amounts) ok.of_net greatest;
+      small = small;
     }
 
 -- there is room for 1 along a negative cycle

@@ -2,7 +2,7 @@
 ghost use Rattle.std.specs.Prelude.{◌≤◌, IfOk, OnErr, ⊤};
 ghost use Rattle.mcf_feas.specs.Feasible.{IsFeasibleState};
 ghost use Rattle.mcf_instance.specs.Network.{node_count};
-ghost use Rattle.mcf_prices.specs.Outcomes.{IsLeastState, IsOutcome};
+ghost use Rattle.mcf_prices.specs.Outcomes.{IsOutcome};
 
 use crate::engine::{Engine, Outcome};
 use crate::recovered::{Recovered, recover};
@@ -36,7 +36,7 @@ impl Engine for Cancel {
         true
     }
 
-    /// A least state of the net, or a node set that shows that there is none.
+    /// A least state of the net, with its prices, or a node set that shows that there is none.
     ///
     /// # Errors
     ///
@@ -46,24 +46,21 @@ impl Engine for Cancel {
         ensures wants { OnErr result (1 ≤ node_count net.now) }
     {
         match feasible(alloc, net)? {
-            Feas::Flow(state) => {
-                let least = cancel_cycles(alloc, state)?;
-                Ok(Outcome::Least(least))
-            }
+            Feas::Flow(state) => cancel_cycles(alloc, state),
             Feas::Blocked(set, side) => Ok(Outcome::Blocked(set, side)),
         }
     }
 }
 
 // Pushes as much as there is room for round negative cycles, until there is none.
-fn cancel_cycles<'n>(alloc: Global, mut state: State<'n>) -> Result<State<'n>, NoMemory>
+fn cancel_cycles<'n>(alloc: Global, mut state: State<'n>) -> Result<Outcome<'n>, NoMemory>
     requires { IsFeasibleState state.net state }
-    ensures least { IfOk result (IsLeastState state.entry.net) }
+    ensures least { IfOk result (IsOutcome (λ _. ⊤) state.entry.net) }
     ensures wants { OnErr result (1 ≤ node_count state.entry.net) }
 {
     'cycles: loop {
         match recover(alloc, &state)? {
-            Recovered::Prices(_) => return Ok(state),
+            Recovered::Prices(prices) => return Ok(Outcome::Least(state, prices)),
             Recovered::Cycle(walk) => {
                 let amount = room_along(&state, walk.as_slice());
                 push_along(&mut state, walk.as_slice(), amount);

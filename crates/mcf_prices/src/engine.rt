@@ -1,6 +1,6 @@
 //! What every engine is.
-ghost use Rattle.std.specs.Prelude.{IfOk, IsTrue, ◌↔◌};
-ghost use Rattle.mcf_instance.specs.Network.{Network};
+ghost use Rattle.std.specs.Prelude.{◌≤◌, IfOk, IsTrue, OnErr, ◌↔◌};
+ghost use Rattle.mcf_instance.specs.Network.{Network, node_count};
 ghost use Rattle.mcf_network.specs.States.{Flow};
 ghost use Rattle.mcf_prices.specs.Outcomes.{IsOutcome};
 
@@ -12,8 +12,9 @@ use std::alloc::Global;
 /// What an engine answers a net with.
 #[derive(Drop)]
 pub enum Outcome<'n> {
-    /// A state without surplus, such that no such state of the net costs less.
-    Least(State<'n>),
+    /// A state without surplus, such that no such state of the net costs less, and the greatest prices not above 0
+    /// that show it, one for each node, in order.
+    Least(State<'n>, Vec<i128>),
     /// A node set that must send, or take, more than it can, so that the net has no feasible flow.
     Blocked(NodeSet, Side),
 }
@@ -30,12 +31,13 @@ pub trait Engine {
     fn takes(&self, net: &Net) -> bool
         ensures { IsTrue result ↔ Takes net.now };
 
-    /// A least state of a net that the engine takes, or a node set that shows that there is none.
+    /// A least state of a net that the engine takes, with its prices, or a node set that shows that there is none.
     ///
     /// # Errors
     ///
-    /// Want of memory, where a growth was refused. The engine can be asked again.
+    /// Want of memory, where a growth was refused; a net without nodes wants none. The engine can be asked again.
     fn solve<'n>(&mut self, alloc: Global, net: &'n Net) -> Result<Outcome<'n>, NoMemory>
         requires { Takes net.now }
-        ensures { IfOk result (IsOutcome (λ s. Made self.old net.now s self.new) net.now) };
+        ensures outcome { IfOk result (IsOutcome (λ s. Made self.old net.now s self.new) net.now) }
+        ensures wants { OnErr result (1 ≤ node_count net.now) };
 }

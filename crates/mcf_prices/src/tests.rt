@@ -1,7 +1,8 @@
 //! Worked nets.
-ghost use Rattle.std.specs.Prelude.{IfOk, ⊤};
+ghost use Rattle.std.specs.Prelude.{◌≤◌, IfOk, OnErr, ⊤};
 ghost use Rattle.mcf_feas.specs.Feasible.{IsFeasibleState};
-ghost use Rattle.mcf_prices.specs.Outcomes.{IsLeastState, IsOutcome};
+ghost use Rattle.mcf_instance.specs.Network.{node_count};
+ghost use Rattle.mcf_prices.specs.Outcomes.{IsOutcome};
 
 use crate::{Cancel, Engine, Outcome, Recovered, least_states_have_no_cycle, recover};
 use mcf_feas::{Feas, feasible};
@@ -30,7 +31,7 @@ fn cost_of(state: &State<'_>) -> i128 {
 // The cost of a least flow, if the net has a feasible one.
 fn least_cost(outcome: &Outcome<'_>) -> Option<i128> {
     match outcome {
-        Outcome::Least(state) => Some(cost_of(state)),
+        Outcome::Least(state, _) => Some(cost_of(state)),
         Outcome::Blocked(..) => None,
     }
 }
@@ -56,23 +57,21 @@ impl Engine for ByOne {
 
     fn solve<'n>(&mut self, alloc: Global, net: &'n Net) -> Result<Outcome<'n>, NoMemory> {
         match feasible(alloc, net)? {
-            Feas::Flow(state) => {
-                let least = cancel_by_one(alloc, state)?;
-                Ok(Outcome::Least(least))
-            }
+            Feas::Flow(state) => cancel_by_one(alloc, state),
             Feas::Blocked(set, side) => Ok(Outcome::Blocked(set, side)),
         }
     }
 }
 
 // Pushes 1 round negative cycles, until there is none.
-fn cancel_by_one<'n>(alloc: Global, mut state: State<'n>) -> Result<State<'n>, NoMemory>
+fn cancel_by_one<'n>(alloc: Global, mut state: State<'n>) -> Result<Outcome<'n>, NoMemory>
     requires { IsFeasibleState state.net state }
-    ensures { IfOk result (IsLeastState state.entry.net) }
+    ensures outcome { IfOk result (IsOutcome (λ _. ⊤) state.entry.net) }
+    ensures wants { OnErr result (1 ≤ node_count state.entry.net) }
 {
     'cycles: loop {
         match recover(alloc, &state)? {
-            Recovered::Prices(_) => return Ok(state),
+            Recovered::Prices(prices) => return Ok(Outcome::Least(state, prices)),
             Recovered::Cycle(walk) => push_along(&mut state, walk.as_slice(), 1),
         }
     }

@@ -1,17 +1,18 @@
 use Rattle.std.proofs.Common.{◌≡◌, rules, to_z, of_z}
 use mir.Syntax.{w128}
 use Rattle.std.proofs.lemmas.Int.{to_z-of_z}
-use Rattle.mcf_prices.proofs.Cancelling.{cost_height_falls, cycle_can_push, cycle_feasible, cycle_positive, least_from_prices}
+use Rattle.mcf_prices.proofs.Cancelling.{cost_height_falls, cycle_can_push, cycle_feasible, cycle_positive, least_from_prices, state_prices}
 use Rattle.mcf_prices.proofs.cancel.cancel_cycles.Goals as goal
 
 pub returns-in-Prices-clause-least : goal.returns-in-Prices-clause-least
 returns-in-Prices-clause-least c =
-    let found = rw c.in-Prices.is at c.in_ok-recover.ensures.recovered in
-    least_from_prices c.args.state.net c.cycles.state _ c.cycles.invariant found
+    let found = rw c.in-Prices.is at c.in_ok-prices.ensures.recovered in
+    let small = rw c.in-Prices.is at c.in_ok-prices.ensures.small in
+    (least_from_prices c.args.state.net c.cycles.state _ c.cycles.invariant found, state_prices c.args.state.net c.cycles.state _ c.cycles.invariant found small, tt)
 
 pub push_along-requires : goal.push_along-requires
 push_along-requires c =
-    let cycle = rw c.in-Cycle.is at c.in_ok-recover.ensures.recovered in
+    let cycle = rw c.in-Cycle.is at c.in_ok-prices.ensures.recovered in
     let same : to_z w128 (of_z w128 c.room_along-amount.result) ≡ c.room_along-amount.result = search (rules, to_z-of_z) in
     let each = rw c.as_slice.ensures.value at c.room_along-amount.ensures.each in
     let reached = rw c.as_slice.ensures.value at c.room_along-amount.ensures.reached in
@@ -19,7 +20,7 @@ push_along-requires c =
 
 pub cycles-smaller : goal.cycles-smaller
 cycles-smaller c =
-    let cycle = rw c.in-Cycle.is at c.in_ok-recover.ensures.recovered in
+    let cycle = rw c.in-Cycle.is at c.in_ok-prices.ensures.recovered in
     let same : to_z w128 (of_z w128 c.room_along-amount.result) ≡ c.room_along-amount.result = search (rules, to_z-of_z) in
     let each = rw c.as_slice.ensures.value at c.room_along-amount.ensures.each in
     let reached = rw c.as_slice.ensures.value at c.room_along-amount.ensures.reached in
@@ -29,7 +30,7 @@ cycles-smaller c =
 
 pub cycles-preserved : goal.cycles-preserved
 cycles-preserved c =
-    let cycle = rw c.in-Cycle.is at c.in_ok-recover.ensures.recovered in
+    let cycle = rw c.in-Cycle.is at c.in_ok-prices.ensures.recovered in
     let same : to_z w128 (of_z w128 c.room_along-amount.result) ≡ c.room_along-amount.result = search (rules, to_z-of_z) in
     let each = rw c.as_slice.ensures.value at c.room_along-amount.ensures.each in
     let reached = rw c.as_slice.ensures.value at c.room_along-amount.ensures.reached in

@@ -1,26 +1,27 @@
 use Rattle.std.proofs.Common.{arith, pos}
 use Rattle.std.proofs.lemmas.Int.{ints}
-use Rattle.mcf_prices.proofs.Cancelling.{cost_height_falls, cycle_by_one, cycle_feasible, least_from_prices}
+use Rattle.mcf_prices.proofs.Cancelling.{cost_height_falls, cycle_by_one, cycle_feasible, least_from_prices, state_prices}
 use Rattle.mcf_prices.proofs.tests.cancel_by_one.Goals as goal
 
-pub returns-in-Prices : goal.returns-in-Prices
-returns-in-Prices c =
-    let found = rw c.in-Prices.is at c.in_ok-recover.ensures.recovered in
-    least_from_prices c.args.state.net c.cycles.state _ c.cycles.invariant found
+pub returns-in-Prices-clause-outcome : goal.returns-in-Prices-clause-outcome
+returns-in-Prices-clause-outcome c =
+    let found = rw c.in-Prices.is at c.in_ok-prices.ensures.recovered in
+    let small = rw c.in-Prices.is at c.in_ok-prices.ensures.small in
+    (least_from_prices c.args.state.net c.cycles.state _ c.cycles.invariant found, state_prices c.args.state.net c.cycles.state _ c.cycles.invariant found small, tt)
 
 pub push_along-requires : goal.push_along-requires
 push_along-requires c =
-    let cycle = rw c.in-Cycle.is at c.in_ok-recover.ensures.recovered in
+    let cycle = rw c.in-Cycle.is at c.in_ok-prices.ensures.recovered in
     rw c.as_slice.ensures.value (cycle_by_one c.cycles.state _ cycle)
 
 pub cycles-smaller : goal.cycles-smaller
 cycles-smaller c =
-    let cycle = rw c.in-Cycle.is at c.in_ok-recover.ensures.recovered in
+    let cycle = rw c.in-Cycle.is at c.in_ok-prices.ensures.recovered in
     let value = rw c.as_slice.ensures.value at c.push_along.ensures.value in
     rw value (cost_height_falls c.cycles.state _ (pos 1) c.cycles.invariant.flow cycle (cycle_by_one c.cycles.state _ cycle) (omega (arith, ints)))
 
 pub cycles-preserved : goal.cycles-preserved
 cycles-preserved c =
-    let cycle = rw c.in-Cycle.is at c.in_ok-recover.ensures.recovered in
+    let cycle = rw c.in-Cycle.is at c.in_ok-prices.ensures.recovered in
     let value = rw c.as_slice.ensures.value at c.push_along.ensures.value in
     rw value (cycle_feasible c.args.state.net c.cycles.state _ (pos 1) c.cycles.invariant cycle (cycle_by_one c.cycles.state _ cycle))
