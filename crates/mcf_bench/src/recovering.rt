@@ -66,7 +66,8 @@ fn push_within(state: &mut State<'_>, arc: ArcId, amount: i128)
     requires { IsArcNumber state.old.net arc }
     ensures { state.new.net ≡ state.old.net }
 {
-    if 0 <= amount && amount <= state.room(Rid { arc, back: false }) {
+    let room = state.room(Rid { arc, back: false });
+    if 0 <= amount && amount <= room {
         state.push(Rid { arc, back: false }, amount);
     }
 }

@@ -1,5 +1,5 @@
 -- The answer that a least state of the net stands for.
-use Rattle.std.proofs.Common.{◌≡◌, List, sym, subst, ap, ◌∙◌, ℤ}
+use Rattle.std.proofs.Common.{◌≡◌, List, sym, ap, ◌∙◌, ℤ}
 use Rattle.std.specs.List.{AllZip}
 use Rattle.mcf_answer.specs.Solution.{Solution}
 use Rattle.mcf_checker.specs.Correct.{amounts, arc_ends, sent_ends}
@@ -23,7 +23,7 @@ pub record IsMadeOf (g : Network) (s : Flow) (flow : List ℤ) (a : Solution) : 
   pub restored_is : flow ≡ restored g.arcs s.amounts
   pub ends : sent_ends a.sent ≡ arc_ends g
   pub carried : amounts a.sent ≡ flow
-  pub greatest : AreGreatestPrices s.net a.prices s.amounts
+  pub greatest : AreGreatestPrices (net_of g) a.prices s.amounts
   pub cost_is : a.cost ≡ cost g.arcs flow
 
 module _ (g : Network) (s : Flow) (flow : List ℤ) (a : Solution) (state : IsLeastState (net_of g) s) (made : IsMadeOf g s flow a) where
@@ -32,8 +32,7 @@ module _ (g : Network) (s : Flow) (flow : List ℤ) (a : Solution) (state : IsLe
 
   prices_of : GreatestPricesCarryOver → AreGreatestPrices g a.prices (restored g.arcs s.amounts)
   prices_of carry_over =
-      (carry_over g a.prices s.amounts state.least.feasible).0
-      (subst (λ (n : Network). AreGreatestPrices n a.prices s.amounts) state.feasible.of_net made.greatest)
+      (carry_over g a.prices s.amounts state.least.feasible).0 made.greatest
 
   loops_of : AllZip IsLoopSettled g.arcs (restored g.arcs s.amounts)
   loops_of =

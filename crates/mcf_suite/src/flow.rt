@@ -4,33 +4,33 @@ ghost use Rattle.std.specs.List.{All};
 ghost use Rattle.mcf_answer.specs.Ranges.{IsAmount};
 ghost use Rattle.mcf_answer.specs.Solution.{IsSent};
 ghost use Rattle.mcf_checker.specs.Correct.{amounts, arc_ends, sent_ends};
-ghost use Rattle.mcf_instance.specs.Flow.{AreGreatestPrices, IsWithinBounds, cost};
+ghost use Rattle.mcf_instance.specs.Flow.{IsWithinBounds, cost};
 ghost use Rattle.mcf_instance.specs.Limits.{limits};
 ghost use Rattle.mcf_instance.specs.WellFormed.{IsWellFormed};
 ghost use Rattle.mcf_network.specs.Removal.{net_of};
-ghost use Rattle.mcf_prices.specs.Outcomes.{IsLeastState};
+ghost use Rattle.mcf_prices.specs.Outcomes.{AreStatePrices, IsLeastState};
 ghost use Rattle.mcf_suite.specs.Answering.{IsLeastSolution};
 
 use mcf_answer::{FlowAnswer, PriceList, Sent, SentList};
 use mcf_instance::Instance;
 use mcf_network::{State, greatest_prices_carry_over, restore, restored_least_flows_are_least};
-use mcf_prices::{Recovered, least_states_have_no_cycle, recover};
 use mcf_text::{ArcId, NoMemory};
 use std::alloc::Global;
 
-/// The answer for a least state of the net of an instance: its flow, the flow's cost, and the greatest prices
-/// not above 0 that show it.
+/// The answer for a least state of the net of an instance, with its prices: its flow, the flow's cost, and the
+/// prices, which show the flow as they show the state.
 pub(crate) fn flow_answer(
     alloc: Global,
     instance: &Instance,
     state: &State<'_>,
+    prices: Vec<i128>,
 ) -> Result<FlowAnswer, NoMemory>
-    requires { IsLeastState (net_of instance.now) state.now }
+    requires least { IsLeastState (net_of instance.now) state.now }
+    requires shown { AreStatePrices (net_of instance.now) state.now prices.items }
     ensures { IfOk result (IsLeastSolution instance.now) }
 {
     restored_least_flows_are_least();
     greatest_prices_carry_over();
-    let prices = least_prices(alloc, state)?;
     let flow = restore(alloc, instance, state)?;
     let cost = total_cost(instance, &flow);
     let sent = sent_along(alloc, instance, &flow)?;
@@ -39,19 +39,6 @@ pub(crate) fn flow_answer(
         sent: SentList::new(sent),
         prices: PriceList::new(prices),
     })
-}
-
-// The greatest prices of a least state: as no cycle makes it cheaper, there are some.
-fn least_prices(alloc: Global, state: &State<'_>) -> Result<Vec<i128>, NoMemory>
-    requires { IsLeastState state.now.net state.now }
-    ensures greatest { IfOk result (λ prices. AreGreatestPrices state.now.net prices.items state.now.amounts) }
-    ensures small { IfOk result (λ prices. All IsAmount prices.items) }
-{
-    least_states_have_no_cycle();
-    match recover(alloc, state)? {
-        Recovered::Prices(prices) => Ok(prices),
-        Recovered::Cycle(_) => unreachable!(),
-    }
 }
 
 // The cost of a flow: the sum over the arcs of cost times flow.

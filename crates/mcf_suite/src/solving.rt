@@ -78,8 +78,8 @@ fn solve_by<E: Engine>(
 {
     let net = Net::of(alloc, instance)?;
     match engine.solve(alloc, &net)? {
-        Outcome::Least(state) => {
-            let flow = flow_answer(alloc, instance, &state)?;
+        Outcome::Least(state, prices) => {
+            let flow = flow_answer(alloc, instance, &state, prices)?;
             Ok(Answer::Flow(flow))
         }
         Outcome::Blocked(set, side) => {

@@ -5,6 +5,7 @@ use Rattle.mcf_answer.specs.Solution.{Solution}
 use Rattle.mcf_checker.specs.Correct.{amounts, sent_ends}
 use Rattle.mcf_instance.specs.Flow.{AreGreatestPrices, cost}
 use Rattle.mcf_instance.proofs.Bounds.{read_back}
+use Rattle.mcf_network.specs.Removal.{net_of}
 use Rattle.mcf_suite.proofs.LeastSolutions.{IsMadeOf, is_least_solution}
 use Rattle.mcf_suite.proofs.flow.flow_answer.Goals as goal
 
@@ -17,9 +18,9 @@ returns c =
       restored_is = c.in_ok-flow.ensures.value;
       ends = ap sent_ends c.new.ensures ∙ c.in_ok-sent.ensures.ends;
       carried = ap amounts c.new.ensures ∙ c.in_ok-sent.ensures.flow ∙ c.deref-2.ensures.value;
-      greatest = subst (λ (prices : List ℤ). AreGreatestPrices s.net prices s.amounts) (sym c.new-2.ensures) c.in_ok-prices.ensures.greatest;
+      greatest = subst (λ (prices : List ℤ). AreGreatestPrices (net_of g) prices s.amounts) (sym c.new-2.ensures) c.requires.shown.greatest;
       cost_is = read_back c.total_cost-cost.result amount_limit c.total_cost-cost.ensures.small (lit< tt)
           ∙ c.total_cost-cost.ensures.value
           ∙ ap (cost g.arcs) c.deref.ensures.value;
     } in
-    is_least_solution g s c.in_ok-flow.flow.items answer c.requires made c.restored_least_flows_are_least.ensures c.greatest_prices_carry_over.ensures c.total_cost-cost.ensures.well_formed
+    is_least_solution g s c.in_ok-flow.flow.items answer c.requires.least made c.restored_least_flows_are_least.ensures c.greatest_prices_carry_over.ensures c.total_cost-cost.ensures.well_formed
