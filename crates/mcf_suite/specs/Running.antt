@@ -1,5 +1,5 @@
 -- What a run from a source to a sink does.
-use Rattle.std.specs.Prelude.{◌≡◌, ◌++◌, ◌^◌, ◌<◌, ℕ, List, length, Option, IfSome, codes}
+use Rattle.std.specs.Prelude.{◌≡◌, ◌++◌, ◌^◌, ◌<◌, ◌≤◌, ℕ, List, length, Option, IfSome, codes}
 use Rattle.std.specs.Io.KnownBytes.{Appends}
 use Rattle.mcf_suite.specs.declared.choice.Kind.{Kind}
 use Rattle.mcf_suite.specs.declared.fault.RunFault.{RunFault}
@@ -37,6 +37,10 @@ pub record SendsBeginning (given : Option (List ℕ)) (old new : Option (List �
 -- more bytes than are taken from a source
 abbrev pub IsTooLong : Option (List ℕ) → Type 0
 IsTooLong given = IfSome given (λ bytes. text_limit < length bytes)
+
+-- no more bytes than are taken from a source
+abbrev pub IsTakenWhole : Option (List ℕ) → Type 0
+IsTakenWhole given = IfSome given (λ bytes. length bytes ≤ text_limit)
 
 -- what a fault says
 abbrev pub fault_text : RunFault → List ℕ

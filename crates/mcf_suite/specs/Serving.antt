@@ -24,11 +24,12 @@ GivesBytes remaining input Opens None given = given ≡ remaining input
 GivesBytes {S} remaining input Opens (Some name) given =
     (source : S) × Opens name.now (Some source) × (given ≡ remaining source)
 
--- the sink took an answer to the text that the source of the words' file gives, and the status tells which
+-- words without a fault: the sink took an answer to the text that the source of their file gives, and the status tells which
 pub record Solves (words : List Text) (Gives : Option (Bor Text) → Option (List ℕ) → Type 0) (status : ℕ)
     (old new : Option (List ℕ)) : Type 0 where
   pub app : App
   pub is_mcf : IsMcf app
+  pub faultless : fault_of app words ≡ []
   pub asked : Asked
   pub asks : Asks app words asked
   pub given : Option (List ℕ)

@@ -2,7 +2,7 @@
 ghost use Rattle.std.specs.Prelude.{◌≡◌, ◌≢◌, IfErr, IfOk, IfSome, OnErr, OnOk, length};
 ghost use Rattle.std.specs.Io.KnownBytes.{Appends};
 ghost use Rattle.mcf_suite.specs.Devices.{CountsOneFailure};
-ghost use Rattle.mcf_suite.specs.Running.{IsTooLong, SendsAnswer, SendsBeginning, TakesBeginning};
+ghost use Rattle.mcf_suite.specs.Running.{IsTakenWhole, IsTooLong, SendsAnswer, SendsBeginning, TakesBeginning};
 
 use crate::choice::{Choice, Kind};
 use crate::device::{Sink, Source};
@@ -30,6 +30,7 @@ pub fn run<S: Source, K: Sink>(
     sink: &mut K,
     choice: Choice,
 ) -> Result<Kind, RunFault>
+    ensures whole { OnOk result (IsTakenWhole (S.remaining source.old)) }
     ensures answer { IfOk result (λ kind. SendsAnswer (S.remaining source.old) kind (K.contents sink.old) (K.contents sink.new)) }
     ensures finished { OnOk result (K.IsFinished sink.new) }
     ensures worked { OnOk result (K.failures sink.new ≡ K.failures sink.old) }
@@ -50,6 +51,7 @@ pub fn run<S: Source, K: Sink>(
 
 // All bytes of a source.
 fn gather<S: Source>(alloc: Global, source: &mut S) -> Result<Vec<u8>, RunFault>
+    ensures whole { OnOk result (IsTakenWhole (S.remaining source.old)) }
     ensures all { IfOk result (λ text. IfSome (S.remaining source.old) (λ bytes. bytes ≡ text.items)) }
     ensures read_failed { IfErr result (λ fault. fault ≡ RunFault.Read → CountsOneFailure (S.failures source.old) (S.failures source.new)) }
     ensures unfailed { OnOk result (S.failures source.new ≡ S.failures source.old) }

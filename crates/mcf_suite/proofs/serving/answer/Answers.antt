@@ -11,6 +11,7 @@ pub returns-clause-served : goal.returns-clause-served
 returns-clause-served g c = inl (record {
   app = c.in-Ok.ensures.app;
   is_mcf = c.in-Ok.ensures.is_mcf;
+  faultless = c.in-Ok.ensures.faults;
   asked = c.in-Ok.asked;
   asks = c.in-Ok.ensures.asks;
   given = g.S.Source.remaining c.in-Some.source;
