@@ -42,12 +42,23 @@ impl Failure {
 }
 
 impl From<AllocError> for Failure {
+    ghost use Rattle.std.specs.Prelude.{◌≡◌};
+    ghost use Rattle.mcf_suite.specs.declared.fault.RunFault.TheVariants.{NoMemory as OutOfMemory};
+    ghost use Rattle.mcf_suite.specs.declared.serving.Failure.{Failure};
+
+    ghost from_gives = { λ _ failure. failure ≡ Failure.Run OutOfMemory };
+
     fn from(_error: AllocError) -> Failure {
         Failure::Run(RunFault::NoMemory)
     }
 }
 
 impl From<RunFault> for Failure {
+    ghost use Rattle.std.specs.Prelude.{◌≡◌};
+    ghost use Rattle.mcf_suite.specs.declared.serving.Failure.{Failure};
+
+    ghost from_gives = { λ fault failure. failure ≡ Failure.Run fault };
+
     fn from(fault: RunFault) -> Failure {
         Failure::Run(fault)
     }
