@@ -8,3 +8,4 @@ pub mod MemberLists
 pub mod SentLists
 pub mod ServedLemmas
 pub mod SupplyTotals
+pub mod WantedMemory

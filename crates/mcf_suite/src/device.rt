@@ -2,7 +2,7 @@
 ghost use Rattle.std.specs.Prelude.{◌≡◌, ◌≤◌, ℕ, List, Option, None, IfOk, OnErr, OnOk, length};
 ghost use Rattle.std.specs.Io.{ReadsAtMost};
 ghost use Rattle.std.specs.Io.KnownBytes.{Keeps, ReadConsumes, WriteAppends};
-ghost use Rattle.mcf_suite.specs.Devices.{CountsFailure};
+ghost use Rattle.mcf_suite.specs.Devices.{CountsOneFailure};
 
 use std::io;
 
@@ -32,7 +32,7 @@ pub trait Source {
         requires { 1 ≤ length piece.old }
         ensures bound { ReadsAtMost result piece.new }
         ensures bytes { ReadConsumes (remaining self.old) (remaining self.new) result piece.new }
-        ensures failed { OnErr result (CountsFailure (failures self.old) (failures self.new)) }
+        ensures failed { OnErr result (CountsOneFailure (failures self.old) (failures self.new)) }
         ensures worked { OnOk result (failures self.new ≡ failures self.old) };
 }
 
@@ -56,7 +56,7 @@ pub trait Sink {
         requires { 1 ≤ length piece.now }
         ensures bound { IfOk result (λ count. (1 ≤ count) × (count ≤ length piece.now)) }
         ensures bytes { WriteAppends (contents self.old) (contents self.new) result piece.now }
-        ensures failed { OnErr result (CountsFailure (failures self.old) (failures self.new)) }
+        ensures failed { OnErr result (CountsOneFailure (failures self.old) (failures self.new)) }
         ensures worked { OnOk result (failures self.new ≡ failures self.old) };
 
     /// Passes on all that was taken.
@@ -67,7 +67,7 @@ pub trait Sink {
     fn finish(&mut self) -> Result<(), SinkFault>
         ensures finished { OnOk result (IsFinished self.new) }
         ensures bytes { Keeps (contents self.old) (contents self.new) }
-        ensures failed { OnErr result (CountsFailure (failures self.old) (failures self.new)) }
+        ensures failed { OnErr result (CountsOneFailure (failures self.old) (failures self.new)) }
         ensures worked { OnOk result (failures self.new ≡ failures self.old) };
 }
 
@@ -133,7 +133,7 @@ impl<W: io::Write> IntoWriter<W> {
 
     // The fault of a call of the writer, which is counted.
     fn fault(&mut self) -> SinkFault
-        ensures counted { CountsFailure self.old.failures self.new.failures }
+        ensures counted { CountsOneFailure self.old.failures self.new.failures }
         ensures kept { self.new.writer ≡ self.old.writer }
     {
         self.failures = self.failures.saturating_add(1);

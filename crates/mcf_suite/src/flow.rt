@@ -1,5 +1,5 @@
 //! The answer for a least state.
-ghost use Rattle.std.specs.Prelude.{◌≡◌, IfOk};
+ghost use Rattle.std.specs.Prelude.{◌≡◌, ◌≤◌, IfOk, OnErr, length};
 ghost use Rattle.std.specs.List.{All};
 ghost use Rattle.mcf_answer.specs.Ranges.{IsAmount};
 ghost use Rattle.mcf_answer.specs.Solution.{IsSent};
@@ -19,6 +19,10 @@ use std::alloc::Global;
 
 /// The answer for a least state of the net of an instance, with its prices: its flow, the flow's cost, and the
 /// prices, which show the flow as they show the state.
+///
+/// # Errors
+///
+/// Want of memory; an instance without arcs wants none.
 pub(crate) fn flow_answer(
     alloc: Global,
     instance: &Instance,
@@ -27,7 +31,8 @@ pub(crate) fn flow_answer(
 ) -> Result<FlowAnswer, NoMemory>
     requires least { IsLeastState (net_of instance.now) state.now }
     requires shown { AreStatePrices (net_of instance.now) state.now prices.items }
-    ensures { IfOk result (IsLeastSolution instance.now) }
+    ensures solution { IfOk result (IsLeastSolution instance.now) }
+    ensures wants { OnErr result (1 ≤ length instance.now.arcs) }
 {
     restored_least_flows_are_least();
     greatest_prices_carry_over();
@@ -62,6 +67,7 @@ fn sent_along(alloc: Global, instance: &Instance, flow: &[i128]) -> Result<Vec<S
     ensures ends { IfOk result (λ sent. sent_ends sent.items ≡ arc_ends instance.now) }
     ensures flow { IfOk result (λ sent. amounts sent.items ≡ flow.now) }
     ensures fit { IfOk result (λ sent. All IsSent sent.items) }
+    ensures wants { OnErr result (1 ≤ length instance.now.arcs) }
 {
     let count = instance.arc_count();
     let mut sent = Vec::with_capacity(alloc, count as usize)?;

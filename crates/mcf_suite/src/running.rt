@@ -1,7 +1,7 @@
 //! From a source to a sink.
 ghost use Rattle.std.specs.Prelude.{◌≡◌, ◌≢◌, IfErr, IfOk, IfSome, OnErr, OnOk, length};
 ghost use Rattle.std.specs.Io.KnownBytes.{Appends};
-ghost use Rattle.mcf_suite.specs.Devices.{CountsFailure};
+ghost use Rattle.mcf_suite.specs.Devices.{CountsOneFailure};
 ghost use Rattle.mcf_suite.specs.Running.{IsTakenWhole, IsTooLong, SendsAnswer, SendsBeginning, TakesBeginning};
 
 use crate::choice::{Choice, Kind};
@@ -34,9 +34,11 @@ pub fn run<S: Source, K: Sink>(
     ensures answer { IfOk result (λ kind. SendsAnswer (S.remaining source.old) kind (K.contents sink.old) (K.contents sink.new)) }
     ensures finished { OnOk result (K.IsFinished sink.new) }
     ensures worked { OnOk result (K.failures sink.new ≡ K.failures sink.old) }
-    ensures write_failed { IfErr result (λ fault. fault ≡ RunFault.Write → CountsFailure (K.failures sink.old) (K.failures sink.new)) }
+    ensures write_failed { IfErr result (λ fault. fault ≡ RunFault.Write → CountsOneFailure (K.failures sink.old) (K.failures sink.new)) }
     ensures beginning { IfErr result (λ fault. fault ≡ RunFault.Write → SendsBeginning (S.remaining source.old) (K.contents sink.old) (K.contents sink.new)) }
-    ensures read_failed { IfErr result (λ fault. fault ≡ RunFault.Read → CountsFailure (S.failures source.old) (S.failures source.new)) }
+    ensures read_failed { IfErr result (λ fault. fault ≡ RunFault.Read → CountsOneFailure (S.failures source.old) (S.failures source.new)) }
+    ensures unfailed { OnOk result (S.failures source.new ≡ S.failures source.old) }
+    ensures unfailed_otherwise { IfErr result (λ fault. fault ≢ RunFault.Read → S.failures source.new ≡ S.failures source.old) }
     ensures too_long { IfErr result (λ fault. fault ≡ RunFault.TooLong → IsTooLong (S.remaining source.old)) }
     ensures untouched { IfErr result (λ fault. fault ≢ RunFault.Write → sink.new ≡ sink.old) }
 {
@@ -51,7 +53,9 @@ pub fn run<S: Source, K: Sink>(
 fn gather<S: Source>(alloc: Global, source: &mut S) -> Result<Vec<u8>, RunFault>
     ensures whole { OnOk result (IsTakenWhole (S.remaining source.old)) }
     ensures all { IfOk result (λ text. IfSome (S.remaining source.old) (λ bytes. bytes ≡ text.items)) }
-    ensures read_failed { IfErr result (λ fault. fault ≡ RunFault.Read → CountsFailure (S.failures source.old) (S.failures source.new)) }
+    ensures read_failed { IfErr result (λ fault. fault ≡ RunFault.Read → CountsOneFailure (S.failures source.old) (S.failures source.new)) }
+    ensures unfailed { OnOk result (S.failures source.new ≡ S.failures source.old) }
+    ensures unfailed_otherwise { IfErr result (λ fault. fault ≢ RunFault.Read → S.failures source.new ≡ S.failures source.old) }
     ensures too_long { IfErr result (λ fault. fault ≡ RunFault.TooLong → IsTooLong (S.remaining source.old)) }
     ensures no_write { IfErr result (λ fault. fault ≢ RunFault.Write) }
 {
@@ -85,7 +89,7 @@ pub(crate) fn send<K: Sink>(sink: &mut K, text: &[u8]) -> Result<(), RunFault>
     ensures finished { OnOk result (K.IsFinished sink.new) }
     ensures worked { OnOk result (K.failures sink.new ≡ K.failures sink.old) }
     ensures is_write { IfErr result (λ fault. fault ≡ RunFault.Write) }
-    ensures failed { OnErr result (CountsFailure (K.failures sink.old) (K.failures sink.new)) }
+    ensures failed { OnErr result (CountsOneFailure (K.failures sink.old) (K.failures sink.new)) }
     ensures beginning { OnErr result (TakesBeginning (K.contents sink.old) (K.contents sink.new) text.now) }
 {
     let mut taken = 0;

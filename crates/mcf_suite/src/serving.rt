@@ -3,7 +3,7 @@ ghost use Rattle.std.specs.Prelude.{◌≡◌, ◌≢◌, ◌≤◌, ◌⊎◌, 
 ghost use Rattle.std.specs.Fn.{FnOnceReturnsAt};
 ghost use Rattle.std.specs.Io.KnownBytes.{Appends};
 ghost use Rattle.clap.specs.Words.{kind_of};
-ghost use Rattle.mcf_suite.specs.Devices.{CountsFailure};
+ghost use Rattle.mcf_suite.specs.Devices.{CountsOneFailure};
 ghost use Rattle.mcf_suite.specs.Serving.{GivesBytes, Serves, fault_line, status_of};
 
 use crate::asking::command;
@@ -42,12 +42,23 @@ impl Failure {
 }
 
 impl From<AllocError> for Failure {
+    ghost use Rattle.std.specs.Prelude.{◌≡◌};
+    ghost use Rattle.mcf_suite.specs.declared.fault.RunFault.TheVariants.{NoMemory as OutOfMemory};
+    ghost use Rattle.mcf_suite.specs.declared.serving.Failure.{Failure};
+
+    ghost from_gives = { λ _ failure. failure ≡ Failure.Run OutOfMemory };
+
     fn from(_error: AllocError) -> Failure {
         Failure::Run(RunFault::NoMemory)
     }
 }
 
 impl From<RunFault> for Failure {
+    ghost use Rattle.std.specs.Prelude.{◌≡◌};
+    ghost use Rattle.mcf_suite.specs.declared.serving.Failure.{Failure};
+
+    ghost from_gives = { λ fault failure. failure ≡ Failure.Run fault };
+
     fn from(fault: RunFault) -> Failure {
         Failure::Run(fault)
     }
@@ -100,7 +111,7 @@ pub fn serve<W: AsStr, S: Source + Drop, P: FnOnce(&str) -> Option<S>, O: Sink, 
     ensures finished { result ≢ 3 → O.IsFinished out.new }
     ensures failed { O.failures out.new ≢ O.failures out.old → result ≡ 3 }
     ensures untouched { result ≡ 3
-        → (out.new ≡ out.old) ⊎ CountsFailure (O.failures out.old) (O.failures out.new) }
+        → (out.new ≡ out.old) ⊎ CountsOneFailure (O.failures out.old) (O.failures out.new) }
     ensures quiet { result ≢ 3 → err.new ≡ err.old }
 {
     match answer(alloc, words, input, opener, out) {
@@ -128,7 +139,7 @@ fn answer<W: AsStr, S: Source + Drop, P: FnOnce(&str) -> Option<S>, O: Sink>(
     ensures finished { OnOk result (O.IsFinished out.new) }
     ensures worked { OnOk result (O.failures out.new ≡ O.failures out.old) }
     ensures untouched { OnErr result
-        ((out.new ≡ out.old) ⊎ CountsFailure (O.failures out.old) (O.failures out.new)) }
+        ((out.new ≡ out.old) ⊎ CountsOneFailure (O.failures out.old) (O.failures out.new)) }
 {
     let asked = match command(alloc, words) {
         Ok(asked) => asked,
@@ -164,7 +175,7 @@ fn print_help<O: Sink>(alloc: Global, error: &Error, out: &mut O) -> Result<u8, 
     ensures finished { OnOk result (O.IsFinished out.new) }
     ensures worked { OnOk result (O.failures out.new ≡ O.failures out.old) }
     ensures untouched { OnErr result
-        ((out.new ≡ out.old) ⊎ CountsFailure (O.failures out.old) (O.failures out.new)) }
+        ((out.new ≡ out.old) ⊎ CountsOneFailure (O.failures out.old) (O.failures out.new)) }
 {
     match error.kind() {
         ErrorKind::OutOfMemory => Err(Failure::Run(RunFault::NoMemory)),

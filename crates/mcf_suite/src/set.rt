@@ -1,10 +1,10 @@
 //! The answer for a node set that blocks.
-ghost use Rattle.std.specs.Prelude.{◌≡◌, ◌≤◌, ℕ, IfOk, length};
+ghost use Rattle.std.specs.Prelude.{◌≡◌, ◌≤◌, ℕ, IfOk, OnErr, length};
 ghost use Rattle.std.specs.List.{All};
 ghost use Rattle.std.specs.List.Sorted.{IsStrictlyIncreasing};
 ghost use Rattle.mcf_feas.specs.Chosen.{IsChosenBlock};
 ghost use Rattle.mcf_instance.specs.Blocking.{in_list, in_table};
-ghost use Rattle.mcf_instance.specs.Network.{IsNode};
+ghost use Rattle.mcf_instance.specs.Network.{IsNode, node_count};
 ghost use Rattle.mcf_network.specs.Removal.{net_of};
 ghost use Rattle.mcf_suite.specs.Answering.{IsNoFlowProof};
 
@@ -15,6 +15,10 @@ use mcf_text::{NoMemory, NodeId};
 use std::alloc::Global;
 
 /// The answer for a node set that blocks the net of an instance by a side.
+///
+/// # Errors
+///
+/// Want of memory; an instance without nodes wants none.
 pub(crate) fn set_answer(
     alloc: Global,
     instance: &Instance,
@@ -24,7 +28,8 @@ pub(crate) fn set_answer(
 ) -> Result<BlockedAnswer, NoMemory>
     requires of_instance { net.now ≡ net_of instance.now }
     requires blocks { IsChosenBlock net.now set.now side }
-    ensures { IfOk result (IsNoFlowProof instance.now) }
+    ensures proof { IfOk result (IsNoFlowProof instance.now) }
+    ensures wants { OnErr result (1 ≤ node_count instance.now) }
 {
     nets_block_alike();
     blocked_has_no_flow();
@@ -42,6 +47,7 @@ fn members(alloc: Global, nodes: u32, set: &NodeSet) -> Result<Vec<NodeId>, NoMe
     ensures ascending { IfOk result (λ list. IsStrictlyIncreasing list.items) }
     ensures few { IfOk result (λ list. length list.items ≤ nodes) }
     ensures same { IfOk result (λ list. (v : ℕ) → IsNode nodes v → in_list list.items v ≡ in_table set.now v) }
+    ensures wants { OnErr result (1 ≤ nodes) }
 {
     let mut list = Vec::with_capacity(alloc, set.len() as usize)?;
     for i in 0..nodes {

@@ -1,10 +1,14 @@
 //! Instance texts solved.
-ghost use Rattle.std.specs.Prelude.{◌≡◌, ◌↔◌, IfOk, OnErr};
+ghost use Rattle.std.specs.Prelude.{◌≡◌, ◌↔◌, ◌≤◌, IfOk, IsTrue, OnErr};
+ghost use Rattle.std.specs.List.{list_any};
 ghost use Rattle.mcf_checker.specs.Correct.{HasNoFlow};
 ghost use Rattle.mcf_network.specs.Removal.{net_of};
 ghost use Rattle.mcf_suite.specs.Answering.{AppendsAnswer, HasFault, IsOwed, kind_of};
+ghost use Rattle.mcf_instance.specs.Fault.{is_good_header};
 ghost use Rattle.mcf_instance.specs.Limits.{limits};
+ghost use Rattle.mcf_instance.specs.Network.{node_count};
 ghost use Rattle.mcf_instance.specs.Reading.{reading};
+ghost use Rattle.mcf_text.specs.Row.{rows};
 ghost use Rattle.std.specs.Prelude.{Ok};
 
 use crate::choice::{Choice, EngineChoice, Kind};
@@ -48,7 +52,8 @@ pub fn solve_text(
 
 // The answer to an instance text.
 fn answer_to(alloc: Global, input: &[u8], choice: Choice) -> Result<Answer, NoMemory>
-    ensures { IfOk result (IsOwed (reading limits input.now)) }
+    ensures owed { IfOk result (IsOwed (reading limits input.now)) }
+    ensures wants { OnErr result (IsTrue (list_any is_good_header (rows input.now))) }
 {
     match read(alloc, input)? {
         Ok(instance) => solve_instance(alloc, &instance, choice),
@@ -58,7 +63,8 @@ fn answer_to(alloc: Global, input: &[u8], choice: Choice) -> Result<Answer, NoMe
 
 // The answer to an instance, by the engine that is chosen.
 fn solve_instance(alloc: Global, instance: &Instance, choice: Choice) -> Result<Answer, NoMemory>
-    ensures { IfOk result (IsOwed (Ok instance.now)) }
+    ensures owed { IfOk result (IsOwed (Ok instance.now)) }
+    ensures wants { OnErr result (1 ≤ node_count instance.now) }
 {
     match choice.engine {
         EngineChoice::Auto | EngineChoice::Cancel => {
@@ -74,7 +80,8 @@ fn solve_by<E: Engine>(
     engine: &mut E,
 ) -> Result<Answer, NoMemory>
     requires { E.Takes (net_of instance.now) }
-    ensures { IfOk result (IsOwed (Ok instance.now)) }
+    ensures owed { IfOk result (IsOwed (Ok instance.now)) }
+    ensures wants { OnErr result (1 ≤ node_count instance.now) }
 {
     let net = Net::of(alloc, instance)?;
     match engine.solve(alloc, &net)? {

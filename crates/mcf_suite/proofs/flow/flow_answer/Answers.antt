@@ -9,8 +9,8 @@ use Rattle.mcf_network.specs.Removal.{net_of}
 use Rattle.mcf_suite.proofs.LeastSolutions.{IsMadeOf, is_least_solution}
 use Rattle.mcf_suite.proofs.flow.flow_answer.Goals as goal
 
-pub returns : goal.returns
-returns c =
+pub returns-clause-solution : goal.returns-clause-solution
+returns-clause-solution c =
     let g = c.args.instance.now in
     let s = c.args.state.now in
     let answer : Solution = record { cost = to_z w128 (of_z w128 c.total_cost-cost.result); sent = c.new.result; prices = c.new-2.result } in

@@ -23,8 +23,8 @@ invariant_of-result c =
     subst (λ (nodes : List ℕ). IsBlockingSet (record { side = c.args.side; nodes = nodes })) (sym c.new.ensures)
     (set_in_range g c.args.set.now c.in_ok-nodes.nodes.items c.args.side c.nets_block_alike.ensures ok chosen listed.same listed.are_nodes listed.ascending listed.few)
 
-pub returns : goal.returns
-returns c =
+pub returns-clause-proof : goal.returns-clause-proof
+returns-clause-proof c =
     let g = c.args.instance.now in
     let ok = c.node_count.ensures.well_formed in
     let chosen = subst (λ (n : Network). IsChosenBlock n c.args.set.now c.args.side) c.requires.of_instance c.requires.blocks in
