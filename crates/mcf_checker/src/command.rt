@@ -1,7 +1,8 @@
 //! The command `mcfcheck`, over a reader of files and two writers.
-ghost use Rattle.std.specs.Prelude.{◌≡◌, ◌≢◌, ◌⊎◌, IfOk, IsErr, OnOk, if◌then◌else◌, length, map};
+ghost use Rattle.std.specs.Prelude.{◌≡◌, ◌≢◌, ◌⊎◌, Err, IfErr, IfOk, OnOk, if◌then◌else◌, length, map};
 ghost use Rattle.std.specs.Io.KnownBytes.{Appends};
 ghost use Rattle.std.specs.String.{string_bytes};
+ghost use Rattle.mcf_checker.specs.Failures.{TellsOfFiles, failure_of};
 ghost use Rattle.mcf_checker.specs.Judging.{accepts, verdict};
 ghost use Rattle.mcf_checker.specs.Printed.{printed_line};
 ghost use Rattle.mcf_checker.specs.Runs.{JudgesAndPrints, ReadsFiles};
@@ -39,8 +40,13 @@ enum Failure {
 }
 
 impl Failure {
+    ghost use Rattle.std.specs.Prelude.{◌≡◌};
+    ghost use Rattle.mcf_checker.specs.Failures.{failure_line, failure_of};
+
     // The line that says so.
-    fn text(self) -> &'static str {
+    fn text(self) -> &'static str
+        ensures { result.now ≡ failure_line self }
+    {
         match self {
             Failure::Usage => "usage: mcfcheck INSTANCE ANSWER\n",
             Failure::Instance => "mcfcheck: cannot read the instance\n",
@@ -51,7 +57,9 @@ impl Failure {
     }
 
     // What is said of a file that wasn't read.
-    fn of(fault: FileFault, unreadable: Failure) -> Failure {
+    fn of(fault: FileFault, unreadable: Failure) -> Failure
+        ensures { result ≡ failure_of fault unreadable }
+    {
         match fault {
             FileFault::NoMemory => Failure::NoMemory,
             FileFault::Unreadable => unreadable,
@@ -108,6 +116,7 @@ fn print_outcome<O: Write>(
     ensures status { IfOk result (λ status. status ≡ (if accepts (verdict input.now answer.now) then 0 else 1)) }
     ensures printed { OnOk result
         (Appends (O.contents out.old) (O.contents out.new) (printed_line (verdict input.now answer.now))) }
+    ensures tells { IfErr result (λ failure. (failure ≡ Failure.Write) ⊎ (failure ≡ Failure.NoMemory)) }
 {
     let (line, status) = outcome_of(alloc, input, answer)?;
     match out.write_all(line.as_bytes()) {
@@ -129,8 +138,11 @@ fn run<S: AsStr, R: FnMut(&str) -> Result<Vec<u8>, FileFault>, O: Write>(
 ) -> Result<u8, Failure>
     requires { R.IsAlwaysCallable read }
     ensures judged { IfOk result (λ status. JudgesAndPrints R.FnMut (λ file. file.items) read (map S.text words.now) status (O.contents out.old) (O.contents out.new)) }
-    ensures usage { length words.now ≢ 3 → IsErr result × (out.new ≡ out.old) }
+    ensures usage { length words.now ≢ 3 → (result ≡ Err Failure.Usage) × (out.new ≡ out.old) }
     ensures reads { length words.now ≡ 3 → ReadsFiles R.FnMut read (map S.text words.now) (out.new ≡ out.old) }
+    ensures tells { length words.now ≡ 3 → TellsOfFiles R.FnMut read (map S.text words.now)
+        (λ fault. result ≡ Err (failure_of fault Failure.Instance)) (λ fault. result ≡ Err (failure_of fault Failure.Answer))
+        (IfErr result (λ failure. (failure ≡ Failure.Write) ⊎ (failure ≡ Failure.NoMemory))) }
 {
     let [_, instance, answer] = words else {
         return Err(Failure::Usage);

@@ -151,6 +151,20 @@ impl Write for Closed {
     }
 }
 
+// A writer that takes all and then can't hand it on.
+#[derive(Drop)]
+struct Stuck;
+
+impl Write for Stuck {
+    fn write(&mut self, bytes: &[u8]) -> io::Result<usize> {
+        Ok(bytes.len())
+    }
+
+    fn flush(&mut self) -> io::Result<()> {
+        Err(io::Error::from(ErrorKind::BrokenPipe))
+    }
+}
+
 // The bytes of a file of these tests.
 fn file(alloc: Global, name: &str) -> Result<Vec<u8>, FileFault> {
     let text = match name {
@@ -251,6 +265,14 @@ fn writers_that_fail(rt: HostRuntime) -> Result<(), Fail> {
         words,
         |name: &str| file(alloc, name),
         &mut Closed,
+        &mut Closed,
+    );
+    assert_eq!(rt; given, 3);
+    let given = judge(
+        alloc,
+        words,
+        |name: &str| file(alloc, name),
+        &mut Stuck,
         &mut Closed,
     );
     assert_eq!(rt; given, 3);

@@ -9,7 +9,7 @@ pub mod Duality
 pub mod Faults
 pub mod FaultyTexts
 pub mod FittingItems
-pub mod GoodHeaders
+pub mod NamedNodes
 pub mod GoodTexts
 pub mod Hoffman
 pub mod IntLaws

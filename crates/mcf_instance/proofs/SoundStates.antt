@@ -1,6 +1,6 @@
 -- The reader's states stay sound, and a sound state holds a well-formed instance.
 use Rattle.std.proofs.Common.{◌≡◌, ℕ, zero, suc, ◌-◌, ◌*◌, ◌≤◌, max, Bool, true, false, List, [], ◌∷◌, ◌++◌, map, length, get_or, set, replicate, refl, sym, ◌∙◌, ap, subst, inl, inr, Some, None, arith}
-use Rattle.std.specs.Prelude.{◌⊎◌, Option, ℤ, pos, negsuc, neg_ℤ, unsigned_abs, sum}
+use Rattle.std.specs.Prelude.{◌⊎◌, Option, ℤ, pos, neg_ℤ, unsigned_abs, sum}
 use Rattle.std.specs.List.{All}
 use Rattle.std.proofs.lemmas.Int.{ints}
 use Rattle.std.proofs.lemmas.List.{length-map, length-set, length-replicate, map-append, map-set, get_or-map, length_push}
@@ -20,6 +20,7 @@ use Rattle.mcf_instance.specs.Packed.{unpacked}
 use Rattle.mcf_instance.specs.ReaderState.{default_supply, problem_or_min}
 use Rattle.mcf_instance.specs.ReaderSound.{HeadingFits, IsFlaggedPair, IsSound, IsSoundAssignment, LinkFits, SupplyFits, heading_arcs, heading_nodes, side_supply}
 use Rattle.mcf_instance.specs.WellFormed.{HasEnds, IsArcWithin, IsUpTo, IsWellFormed, weight}
+use Rattle.mcf_instance.proofs.Bounds.{size_up_to}
 
 -- ---- a problem line
 
@@ -136,10 +137,6 @@ arc_wide a h =
       cap_small = up_to_wide limits.bound wide_limits.bound a.cap (omega arith) h.cap_small;
       cost_small = up_to_wide limits.cost wide_limits.cost a.cost (omega arith) h.cost_small;
     }
-
-size_up_to : (b : ℕ) (z : ℤ) → IsUpTo b z → unsigned_abs z ≤ b
-size_up_to b (pos n) h = omega (arith, ints, h.0, h.1)
-size_up_to b (negsuc n) h = omega (arith, ints, h.0, h.1)
 
 weight_small : (a : Arc) → IsArcWithin limits a → weight a ≤ limits.cost * limits.bound
 weight_small a h =

@@ -3,7 +3,7 @@ use Rattle.std.proofs.Common.{◌≡◌, ℕ, suc, ◌+◌, ◌≤◌, true, fal
 use Rattle.std.specs.Prelude.{filter, slice_get}
 use Rattle.std.specs.List.{enumerate_from}
 use Rattle.std.specs.Option.{option_or}
-use Rattle.std.proofs.lemmas.List.{map-append}
+use Rattle.std.proofs.lemmas.List.{append-nil, map-append}
 use Rattle.std.proofs.lemmas.List.Elements.{filter-append}
 use Rattle.mcf_instance.specs.Fault.{Fault, as_fault, faults, first_fault, first_fault_of_lines}
 use Rattle.mcf_instance.specs.Limits.{limits}
@@ -17,10 +17,6 @@ use Rattle.mcf_text.proofs.LinesLemmas.{length-numbered_lines}
 use Rattle.mcf_instance.proofs.Simulation.{finished_reads, first_fault_more, stands_empty}
 
 -- ---- lists
-
-append_none : {X : Type 0} (xs : List X) → xs ++ [] ≡ xs
-append_none [] = refl
-append_none (x ∷ xs) = ap (λ ys. x ∷ ys) (append_none xs)
 
 pub one_more : {X : Type 0} (xs : List X) (x : X) (ys : List X) → xs ++ x ∷ ys ≡ (xs ++ x ∷ []) ++ ys
 one_more [] x ys = refl
@@ -90,13 +86,13 @@ read_unkept text s next x rest h unkept =
       before = h.before ++ x ∷ [];
       joined = h.joined ∙ one_more h.before x rest;
       next_is = omega arith;
-      stands = subst (Stands limits s) (sym (kept_rows-append h.before (x ∷ []) ∙ ap (λ rs. kept_rows h.before ++ rs) (kept_none x unkept) ∙ append_none (kept_rows h.before))) h.stands;
+      stands = subst (Stands limits s) (sym (kept_rows-append h.before (x ∷ []) ∙ ap (λ rs. kept_rows h.before ++ rs) (kept_none x unkept) ∙ append-nil (kept_rows h.before))) h.stands;
     }
 
 -- ---- the end
 
 first_fault_stays : (xs ys : List Row) (fault : Fault) → slice_get (faults limits xs) 0 ≡ Some fault → slice_get (faults limits (xs ++ ys)) 0 ≡ Some fault
-first_fault_stays xs [] fault e = ap (λ rs. slice_get (faults limits rs) 0) (append_none xs) ∙ e
+first_fault_stays xs [] fault e = ap (λ rs. slice_get (faults limits rs) 0) (append-nil xs) ∙ e
 first_fault_stays xs (y ∷ ys) fault e =
     ap (λ rs. slice_get (faults limits rs) 0) (one_more xs y ys)
     ∙ first_fault_stays (xs ++ y ∷ []) ys fault (first_fault_more xs y ∙ ap (λ o. option_or o (as_fault limits (xs, y))) e)
@@ -114,7 +110,7 @@ read_refused text s next rest fault h e =
 pub read_all : (text : List ℕ) (s : StateData) (next : ℕ) → HasRead limits text s next [] → finished s next ≡ reading limits text
 unfolding reading first_fault
 read_all text s next h =
-    let all : numbered_lines 1 text ≡ h.before = h.joined ∙ append_none h.before in
+    let all : numbered_lines 1 text ≡ h.before = h.joined ∙ append-nil h.before in
     let same : rows text ≡ kept_rows h.before = ap kept_rows all in
     let count : length (lines_of text) ≡ length h.before = sym (length-enumerate_from 1 (lines_of text)) ∙ ap length all in
     let after : next ≡ line_after text = omega (arith, h.next_is) in

@@ -45,9 +45,9 @@ abbrev pub default_supply : Format → ℤ
 default_supply Min = pos 0
 default_supply Asn = neg_ℤ (pos 1)
 
--- a problem line and an arc line make the state grow
+-- a problem line that names nodes and an arc line make the state grow
 abbrev pub item_grows : Item → Bool
-item_grows (Problem h) = true
+item_grows (Problem h) = nat_lt 0 h.nodes
 item_grows (Supply v z) = false
 item_grows (Link a) = true
 

@@ -1,7 +1,6 @@
 //! The one-pass reader of instance texts.
-ghost use Rattle.std.specs.Prelude.{◌≡◌, IfOk, IsTrue, OnErr};
-ghost use Rattle.std.specs.List.{list_any};
-ghost use Rattle.mcf_instance.specs.Fault.{is_good_header};
+ghost use Rattle.std.specs.Prelude.{◌≡◌, ◌≤◌, IfOk, OnErr};
+ghost use Rattle.mcf_instance.specs.Fault.{header};
 ghost use Rattle.mcf_instance.specs.Limits.{limits};
 ghost use Rattle.mcf_instance.specs.Reading.{reading};
 ghost use Rattle.mcf_text.specs.Row.{rows};
@@ -21,11 +20,14 @@ use std::alloc::Global;
 /// The text is in the extended DIMACS format: a line `p min NODES ARCS` or `p asn NODES ARCS`, then node
 /// lines, then arc lines, with comments and blank lines anywhere. It is read once, from the front; what
 /// follows the first faulty line is never looked at. Memory is taken for the nodes that the problem line
-/// names and for the arcs that come, and not for those that it names; a text without a good problem line
-/// wants none.
+/// names and for the arcs that come, and not for those that it names.
+///
+/// # Errors
+/// `NoMemory` where there is no memory for them; a text whose first problem line isn't good, or names no
+/// nodes, wants none.
 pub fn read(alloc: Global, text: &[u8]) -> Result<Result<Instance, Refusal>, NoMemory>
     ensures exact { IfOk result (λ outcome. outcome ≡ reading limits text.now) }
-    ensures wants { OnErr result (IsTrue (list_any is_good_header (rows text.now))) }
+    ensures wants { OnErr result (1 ≤ (header (rows text.now)).nodes) }
 {
     let mut state = State::new(alloc);
     let mut next = 1;

@@ -1,7 +1,6 @@
 //! The reader's state: what the lines so far say.
-ghost use Rattle.std.specs.Prelude.{◌≡◌, ◌++◌, ◌∷◌, [], List, map, length, OnOk, OnErr, IfOk, ◌≤◌, ◌^◌, IsTrue};
-ghost use Rattle.std.specs.List.{list_any};
-ghost use Rattle.mcf_instance.specs.Fault.{is_good_header};
+ghost use Rattle.std.specs.Prelude.{◌≡◌, ◌++◌, ◌∷◌, [], List, map, length, OnOk, OnErr, IfOk, replicate, ◌≤◌, ◌^◌, IsTrue};
+ghost use Rattle.mcf_instance.specs.Fault.{header};
 ghost use Rattle.mcf_instance.specs.Limits.{limits};
 ghost use Rattle.mcf_instance.specs.ReaderSound.{ItemFits};
 ghost use Rattle.mcf_instance.specs.ReaderState.{empty, item_of, with_item, item_grows, outcome_grows, after_row, refusal_after, finished};
@@ -42,6 +41,16 @@ impl Model for State {
     ghost invariant = { λ s. IsSound limits s.heading s.listed.items s.supplies.items s.arcs.items };
 }
 
+// So many copies of a value; none want no memory, which `vec!` doesn't promise.
+fn copies<T: Copy>(alloc: Global, count: usize, value: T) -> Result<Vec<T>, NoMemory>
+    ensures value { IfOk result (λ made. made.items ≡ replicate count value) }
+    ensures wants { OnErr result (1 ≤ count) }
+{
+    let mut made = Vec::new(alloc);
+    made.resize(count, value)?;
+    Ok(made)
+}
+
 impl State {
     /// The state before the first line.
     pub(crate) fn new(alloc: Global) -> State
@@ -76,18 +85,19 @@ impl State {
         }
     }
 
-    // Makes the tables of a problem line.
+    // Makes the tables of a problem line; those of no nodes want no memory.
     fn start(&mut self, alloc: Global, heading: Heading) -> Result<(), NoMemory>
         requires { ItemFits limits self.old (Item.Problem heading) }
         ensures ok { OnOk result (self.new ≡ with_item self.old (Item.Problem heading)) }
         ensures err { OnErr result (self.new ≡ self.old) }
+        ensures grows { OnErr result (IsTrue (item_grows (Item.Problem heading))) }
     {
         let supply = match heading.problem {
             Problem::Min => 0i64,
             Problem::Asn => -1i64,
         };
-        let listed = vec![in alloc; false; heading.nodes as usize]?;
-        let supplies = vec![in alloc; supply; heading.nodes as usize]?;
+        let listed = copies(alloc, heading.nodes as usize, false)?;
+        let supplies = copies(alloc, heading.nodes as usize, supply)?;
         self.heading = Some(heading);
         self.listed = listed;
         self.supplies = supplies;
@@ -146,7 +156,7 @@ impl State {
             → Stands limits self.new (lines ++ row_of (number, line.now) ∷ [])) }
         ensures err { OnErr result (self.new ≡ self.old) }
         ensures wants { OnErr result ((lines : List Row) → Stands limits self.old lines
-            → IsTrue (list_any is_good_header (lines ++ row_of (number, line.now) ∷ []))) }
+            → 1 ≤ (header (lines ++ row_of (number, line.now) ∷ [])).nodes) }
     {
         let first = first_fields(line);
         self.advance(alloc, number, &first.fields[..first.count])

@@ -3,7 +3,7 @@ use Rattle.std.proofs.lemmas.Result.{on_err_weaker, on_ok_weaker}
 use Rattle.mcf_instance.specs.Limits.{limits}
 use Rattle.mcf_instance.specs.Stands.{Stands}
 use Rattle.mcf_instance.specs.ReaderState.{item_of, outcome_grows}
-use Rattle.mcf_instance.proofs.GoodHeaders.{good_header_seen}
+use Rattle.mcf_instance.proofs.NamedNodes.{step_names_nodes}
 use Rattle.mcf_text.specs.Fields.{fields_of}
 use Rattle.mcf_text.specs.Row.{row_of}
 use Rattle.mcf_instance.proofs.SevenFields.{item_of-take, after_row-take, some_field}
@@ -26,5 +26,5 @@ returns-clause-wants c =
     let row = row_of (c.args.number, c.args.line.now) in
     let fields = c.first_fields-first.ensures.fields in
     on_err_weaker c.advance.result
-    (λ g lines h. good_header_seen c.args.self.now lines row h g.0 (sym (ap (λ fs. outcome_grows (item_of limits c.args.self.now fs)) fields ∙ ap outcome_grows (item_of-take c.args.self.now (fields_of c.args.line.now))) ∙ g.1))
+    (λ g lines h. step_names_nodes c.args.self.now lines row h g.0 (sym (ap (λ fs. outcome_grows (item_of limits c.args.self.now fs)) fields ∙ ap outcome_grows (item_of-take c.args.self.now (fields_of c.args.line.now))) ∙ g.1))
     c.advance.ensures.grows
