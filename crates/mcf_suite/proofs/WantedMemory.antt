@@ -1,11 +1,8 @@
--- Where memory can be wanting: an instance with arcs has nodes, and one with nodes has a good problem line.
-use Rattle.std.proofs.Common.{◌≡◌, ◌≤◌, ◌∙◌, ℕ, Bool, true, false, cond, ◌||◌, List, [], ◌∷◌, Option, Some, None, Ok, Err, OnErr, Result, length, ap, subst, sym, refl, arith}
-use Rattle.std.specs.Prelude.{find}
-use Rattle.std.specs.List.{list_any}
-use Rattle.std.specs.Option.{option_map_or}
+-- Where memory can be wanting: an instance with arcs has nodes, and its first problem line names them.
+use Rattle.std.proofs.Common.{◌≡◌, ◌≤◌, ◌∙◌, ℕ, List, Option, Some, None, Ok, Err, OnErr, Result, length, ap, subst, sym, arith}
 use Rattle.std.proofs.lemmas.List.{length-map}
 use Rattle.std.proofs.lemmas.List.FromFn.{length-map-range_with_len}
-use Rattle.mcf_instance.specs.Fault.{Fault, first_fault, header, header_of, is_good_header, is_p, no_header}
+use Rattle.mcf_instance.specs.Fault.{Fault, first_fault, header}
 use Rattle.mcf_instance.specs.Limits.{limits}
 use Rattle.mcf_instance.specs.Network.{Network, node_count}
 use Rattle.mcf_instance.specs.Reading.{instance_of_lines, reading, reading_of, supply_of}
@@ -13,7 +10,7 @@ use Rattle.mcf_network.specs.Nets.{IsNet}
 use Rattle.mcf_network.specs.Removal.{net_of, without_low}
 use Rattle.mcf_network.proofs.ArcLaws.{arcs_need_nodes}
 use Rattle.mcf_network.proofs.RemovalLaws.{net_of-node_count}
-use Rattle.mcf_text.specs.Row.{Row, rows}
+use Rattle.mcf_text.specs.Row.{rows}
 
 length-net_of-arcs : (g : Network) → length (net_of g).arcs ≡ length g.arcs
 unfolding net_of
@@ -45,34 +42,6 @@ nodes_named text g e =
     ap node_count (sym (read_instance (first_fault limits text) (instance_of_lines (rows text)) g e))
     ∙ length-map-range_with_len (supply_of (header (rows text)).problem (rows text)) 1 (header (rows text)).nodes
 
-any_of_found : (lines : List Row) (row : Row) → find is_p lines ≡ Some row → is_good_header row ≡ true → list_any is_good_header lines ≡ true
-any_of_found [] row e good = cc
-any_of_found (x ∷ xs) row e good = go (is_p x) refl (λ f. any_of_found xs row f good)
-  where
-    or_true : (b : Bool) → (b || true) ≡ true
-    or_true true = refl
-    or_true false = refl
-
-    go : (b : Bool) → is_p x ≡ b → (find is_p xs ≡ Some row → list_any is_good_header xs ≡ true) → list_any is_good_header (x ∷ xs) ≡ true
-    go true p next =
-        let first : Some x ≡ Some row = sym (ap (λ b. cond b (Some x) (find is_p xs)) p) ∙ e in
-        let same : x ≡ row = cc in
-        ap (λ b. b || list_any is_good_header xs) (ap is_good_header same ∙ good)
-    go false p next =
-        ap (λ b. is_good_header x || b) (next (sym (ap (λ b. cond b (Some x) (find is_p xs)) p) ∙ e)) ∙ or_true (is_good_header x)
-
--- a line that names nodes is good
-named_good : (lines : List Row) → 1 ≤ (header lines).nodes → list_any is_good_header lines ≡ true
-named_good lines some = go (find is_p lines) refl some
-  where
-    at : (row : Row) (b : Bool) → is_good_header row ≡ b → 1 ≤ (header_of row).nodes → is_good_header row ≡ true
-    at row true e h = e
-    at row false e h = let none : (header_of row).nodes ≡ 0 = rw e refl in absurd (omega arith)
-
-    go : (o : Option Row) → find is_p lines ≡ o → 1 ≤ (option_map_or header_of o no_header).nodes → list_any is_good_header lines ≡ true
-    go None e h = absurd (omega arith)
-    go (Some row) e h = any_of_found lines row e (at row (is_good_header row) refl h)
-
--- an instance with nodes has a good problem line
-pub instance_named : (text : List ℕ) (g : Network) → reading limits text ≡ Ok g → 1 ≤ node_count g → list_any is_good_header (rows text) ≡ true
-instance_named text g e some = named_good (rows text) (let n = nodes_named text g e in omega arith)
+-- where an instance has nodes that line names some
+pub instance_named : (text : List ℕ) (g : Network) → reading limits text ≡ Ok g → 1 ≤ node_count g → 1 ≤ (header (rows text)).nodes
+instance_named text g e some = subst (λ count. 1 ≤ count) (nodes_named text g e) some

@@ -1,10 +1,9 @@
 //! Instance texts solved.
-ghost use Rattle.std.specs.Prelude.{◌≡◌, ◌↔◌, ◌≤◌, IfOk, IsTrue, OnErr};
-ghost use Rattle.std.specs.List.{list_any};
+ghost use Rattle.std.specs.Prelude.{◌≡◌, ◌↔◌, ◌≤◌, IfOk, OnErr};
 ghost use Rattle.mcf_checker.specs.Correct.{HasNoFlow};
 ghost use Rattle.mcf_network.specs.Removal.{net_of};
 ghost use Rattle.mcf_suite.specs.Answering.{AppendsAnswer, HasFault, IsOwed, kind_of};
-ghost use Rattle.mcf_instance.specs.Fault.{is_good_header};
+ghost use Rattle.mcf_instance.specs.Fault.{header};
 ghost use Rattle.mcf_instance.specs.Limits.{limits};
 ghost use Rattle.mcf_instance.specs.Network.{node_count};
 ghost use Rattle.mcf_instance.specs.Reading.{reading};
@@ -53,7 +52,7 @@ pub fn solve_text(
 // The answer to an instance text.
 fn answer_to(alloc: Global, input: &[u8], choice: Choice) -> Result<Answer, NoMemory>
     ensures owed { IfOk result (IsOwed (reading limits input.now)) }
-    ensures wants { OnErr result (IsTrue (list_any is_good_header (rows input.now))) }
+    ensures wants { OnErr result (1 ≤ (header (rows input.now)).nodes) }
 {
     match read(alloc, input)? {
         Ok(instance) => solve_instance(alloc, &instance, choice),
