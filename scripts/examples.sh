@@ -10,7 +10,7 @@ if [ ! -x bin/mcfcheck ] && [ ! -x bin/mcf ]; then
 fi
 
 written=$(mktemp) || exit 1
-trap 'rm -f "$written"' EXIT
+trap 'rm -f "$written" "$written.err"' EXIT
 pairs=0
 wrong=0
 
@@ -54,6 +54,20 @@ for instance in examples/*.min examples/*.asn; do
             report "mcf solve $instance: status $status, and not the bytes of $answer"
     fi
 done
+
+# a file that isn't there: status 3, nothing on standard output, a line on standard error
+missing() {
+    program=$1
+    shift
+    "$program" "$@" > "$written" 2> "$written.err"
+    status=$?
+    [ "$status" -eq 3 ] && [ ! -s "$written" ] && [ "$(wc -l < "$written.err")" -eq 1 ] ||
+        report "$program $*: status $status for a file that isn't there"
+}
+pair=examples/transport
+[ ! -x bin/mcf ] || missing bin/mcf solve examples/none.min
+[ ! -x bin/mcfcheck ] || missing bin/mcfcheck examples/none.min $pair.ans
+[ ! -x bin/mcfcheck ] || missing bin/mcfcheck $pair.min examples/none.ans
 
 [ "$wrong" -eq 0 ] || { echo "examples: $wrong wrong of $pairs pairs"; exit 1; }
 [ ! -x bin/mcf ] || echo "examples: mcf writes the answers of all $pairs instances"

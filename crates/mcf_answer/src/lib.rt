@@ -12,8 +12,6 @@ mod line;
 mod lists;
 mod parser;
 mod shape;
-#[cfg(test)]
-mod tests;
 mod writer;
 
 pub use answers::{Answer, BlockedAnswer, FlowAnswer, Sent};

@@ -8,14 +8,10 @@
 
 mod checking;
 mod command;
-#[cfg(test)]
-mod edited_texts;
 mod laws;
 mod printing;
 mod set;
 mod solution;
-#[cfg(test)]
-mod tests;
 mod verdict;
 
 pub use checking::check;

@@ -10,8 +10,6 @@ mod feas;
 mod laws;
 mod search;
 mod supplies;
-#[cfg(test)]
-mod tests;
 
 pub use feas::{Feas, feasible};
 pub use laws::{answers_are_exact, blocked_has_no_state};

@@ -13,10 +13,6 @@ mod laws;
 mod problem;
 mod reader;
 mod refusal;
-#[cfg(test)]
-mod tests;
-#[cfg(test)]
-mod tests_sets;
 
 pub use arc::Arc;
 pub use blocking::{blocks, table_of};

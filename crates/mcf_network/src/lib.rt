@@ -19,8 +19,6 @@ mod star;
 mod state;
 mod stored;
 mod surplus;
-#[cfg(test)]
-mod tests;
 mod walk;
 
 pub use laws::{

@@ -1,6 +1,6 @@
 -- The answer that is owed for an instance text: the first fault; or a least flow with its cost and prices
 -- that show it; or a node set that blocks every flow.
-use Rattle.std.specs.Prelude.{◌≡◌, ◌++◌, ℕ, true, List, ℤ, Result, Ok, Err}
+use Rattle.std.specs.Prelude.{◌≡◌, ◌++◌, ◌+◌, ◌<◌, ℕ, true, List, length, ℤ, Result, Ok, Err}
 use Rattle.mcf_answer.specs.BlockingSet.{BlockingSet}
 use Rattle.mcf_answer.specs.Solution.{Solution}
 use Rattle.mcf_answer.specs.Spelling.{IsAnswer}
@@ -59,6 +59,12 @@ pub record AppendsAnswer (input : List ℕ) (kind : Kind) (old new : List ℕ) :
   pub text : List ℕ
   pub appended : new ≡ old ++ text
   pub answer : IsAnswerTo input kind text
+
+-- the written text of the answer that is owed doesn't fit the room after the bytes that are there
+pub record LacksRoom (input : List ℕ) (capacity bytes : ℕ) : Type 0 where
+  pub answer : Answer
+  pub owed : IsOwed (reading limits input) answer
+  pub short : capacity < bytes + length (written answer)
 
 -- the text has a first fault
 pub record HasFault (input : List ℕ) : Type 0 where

@@ -1,8 +1,8 @@
 //! Instance texts solved.
-ghost use Rattle.std.specs.Prelude.{◌≡◌, ◌↔◌, ◌≤◌, IfOk, OnErr};
+ghost use Rattle.std.specs.Prelude.{◌≡◌, ◌↔◌, ◌≤◌, ◌⊎◌, IfOk, OnErr, vec_capacity, vec_len};
 ghost use Rattle.mcf_checker.specs.Correct.{HasNoFlow};
 ghost use Rattle.mcf_network.specs.Removal.{net_of};
-ghost use Rattle.mcf_suite.specs.Answering.{AppendsAnswer, HasFault, IsOwed, kind_of};
+ghost use Rattle.mcf_suite.specs.Answering.{AppendsAnswer, HasFault, IsOwed, LacksRoom, kind_of};
 ghost use Rattle.mcf_instance.specs.Fault.{header};
 ghost use Rattle.mcf_instance.specs.Limits.{limits};
 ghost use Rattle.mcf_instance.specs.Network.{node_count};
@@ -31,7 +31,8 @@ use std::alloc::Global;
 ///
 /// # Errors
 ///
-/// Want of memory. The bytes of `out` are then those that it had.
+/// Want of memory, only where the problem line names nodes or the answer's text doesn't fit the capacity that
+/// `out` has. The bytes of `out` are then those that it had.
 pub fn solve_text(
     alloc: Global,
     input: &[u8],
@@ -42,6 +43,7 @@ pub fn solve_text(
     ensures refused { IfOk result (λ kind. (kind ≡ Kind.Refused) ↔ HasFault input.now) }
     ensures none { IfOk result (λ kind. kind ≡ Kind.Blocked → HasNoFlow input.now) }
     ensures err { OnErr result (out.new.items ≡ out.old.items) }
+    ensures wants { OnErr result ((1 ≤ (header (rows input.now)).nodes) ⊎ LacksRoom input.now (vec_capacity out.old) (vec_len out.old)) }
 {
     correct_answers_are_accepted();
     let answer = answer_to(alloc, input, choice)?;

@@ -13,8 +13,6 @@ mod node;
 mod number;
 mod parts;
 mod split;
-#[cfg(test)]
-mod tests;
 
 pub use arc::ArcId;
 pub use decimal::{put_number, whole};

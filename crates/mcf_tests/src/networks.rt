@@ -2,12 +2,12 @@
 ghost use Rattle.std.specs.Prelude.{◌≡◌, ◌∷◌, [], IsTrue, false};
 ghost use Rattle.mcf_network.specs.States.{HasNoSurplus};
 
-use crate::{
+use mcf_instance::read;
+use mcf_network::{
     Net, NodeSet, Rid, State, feasible_flows_are_states, greatest_prices_carry_over,
     net_flows_cost_no_more, nets_block_alike, push_along, restore, restored_least_flows_are_least,
     room_along, stuck_sets_block,
 };
-use mcf_instance::read;
 use mcf_text::{ArcId, NodeId};
 use std::alloc::Global;
 use std::test::Fail;

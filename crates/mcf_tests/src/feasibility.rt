@@ -2,7 +2,7 @@
 ghost use Rattle.std.specs.Prelude.{◌≡◌, length};
 ghost use Rattle.mcf_instance.specs.Network.{node_count};
 
-use crate::{Feas, answers_are_exact, blocked_has_no_state, feasible};
+use mcf_feas::{Feas, answers_are_exact, blocked_has_no_state, feasible};
 use mcf_instance::{Instance, Side, read};
 use mcf_network::{Net, NodeSet, State, restore};
 use mcf_text::{ArcId, NodeId};

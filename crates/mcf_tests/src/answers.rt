@@ -1,5 +1,5 @@
 //! Worked answers, and texts that are none.
-use crate::{
+use mcf_answer::{
     Answer, FlowAnswer, NodeList, PriceList, SentList, Shape, no_text_spells_two_answers, parse,
     what_is_written_is_read_back, write,
 };

@@ -1,5 +1,5 @@
 //! Node sets of two small instances.
-use crate::{Instance, Side, blocks, read, table_of};
+use mcf_instance::{Instance, Side, blocks, read, table_of};
 use mcf_text::NodeId;
 use std::alloc::Global;
 use std::test::Fail;

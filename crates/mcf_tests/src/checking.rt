@@ -1,5 +1,5 @@
 //! Worked verdicts, and the runs of the command.
-use crate::{FileFault, Verdict, check, judge};
+use mcf_checker::{FileFault, Verdict, check, judge};
 use mcf_text::NoMemory;
 use std::alloc::Global;
 use std::io::{self, ErrorKind, Write};

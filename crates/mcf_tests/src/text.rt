@@ -1,6 +1,6 @@
 //! What no clause says: values from the rules of the format, printed text, and each call with
 //! ample memory.
-use crate::{ArcId, NoMemory, NodeId, Whole, fields, is_kept, lines, put_number, whole};
+use mcf_text::{ArcId, NoMemory, NodeId, Whole, fields, is_kept, lines, put_number, whole};
 use std::test::Fail;
 
 #[test]

@@ -1,5 +1,5 @@
 //! Texts, and what they stand for.
-use crate::{Arc, Code, Instance, Problem, Refusal, read};
+use mcf_instance::{Arc, Code, Instance, Problem, Refusal, read};
 use mcf_text::{ArcId, NodeId};
 use std::alloc::Global;
 use std::test::Fail;

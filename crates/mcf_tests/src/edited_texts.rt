@@ -1,6 +1,6 @@
 //! Texts with one byte changed: each is judged, and what is accepted is right by a plain judge.
-use crate::{Verdict, check};
 use mcf_answer::{Answer, FlowAnswer, parse};
+use mcf_checker::{Verdict, check};
 use mcf_instance::{Instance, read};
 use mcf_text::{ArcId, NoMemory, NodeId};
 use std::alloc::Global;

@@ -1,0 +1,22 @@
+#![tactic(auto)]
+
+//! The tests of the crates below the suite: what no clause says, and each public call with ample memory.
+//!
+//! They stand in a crate of their own, since a crate with tests is proved twice. It has no other function.
+
+#[cfg(test)]
+mod answers;
+#[cfg(test)]
+mod checking;
+#[cfg(test)]
+mod edited_texts;
+#[cfg(test)]
+mod feasibility;
+#[cfg(test)]
+mod instances;
+#[cfg(test)]
+mod networks;
+#[cfg(test)]
+mod sets;
+#[cfg(test)]
+mod text;
