@@ -36,6 +36,8 @@ CRATE = BENCH.parent / "crates" / "mcf_bench"
 
 NODES = 300_000
 ARCS = 1_000_000
+# as many nodes as give an instance at rest a million arcs
+RESTING = 125_000
 # the sizes of each family, as powers of 2; one run of `feasible` on netgen of 2^16 nodes takes half a minute
 RECOVERED = {"netgen": (10, 12, 14, 16), "gridgen": (10, 12, 14, 16), "transp": (8, 9, 10)}
 SEARCHED = {"netgen": (10, 12, 14), "gridgen": (10, 12, 14, 16), "transp": (8, 9, 10)}
@@ -51,18 +53,21 @@ def make(script, path, *words):
 
 
 def sparse(words):
-    path = OUT / f"sparse-{words.nodes}.min"
-    return [("", [make("gen.py", path, "sparse", words.nodes, "--output", path)], 1)]
+    nodes = words.nodes or NODES
+    path = OUT / f"sparse-{nodes}.min"
+    return [("", [make("gen.py", path, "sparse", nodes, "--output", path)], 1)]
 
 
 def resting(words):
-    path = OUT / f"resting-{words.nodes}.min"
-    return [("", [make("gen.py", path, "resting", words.nodes, "--output", path)], 1)]
+    nodes = words.nodes or RESTING
+    path = OUT / f"resting-{nodes}.min"
+    return [("", [make("gen.py", path, "resting", nodes, "--output", path)], 1)]
 
 
 def shown(words):
-    instance, answer = OUT / f"shown-{words.nodes}.min", OUT / f"shown-{words.nodes}.ans"
-    make("shown.py", answer, words.nodes, ARCS, instance, answer)
+    nodes = words.nodes or NODES
+    instance, answer = OUT / f"shown-{nodes}.min", OUT / f"shown-{nodes}.ans"
+    make("shown.py", answer, nodes, ARCS, instance, answer)
     return instance, answer
 
 
@@ -195,7 +200,7 @@ def main():
     parser = argparse.ArgumentParser(description="compares parts of the suite with peers")
     parser.add_argument("parts", nargs="*", choices=[[], *sorted(PARTS)], metavar="PART")
     parser.add_argument("--runs", type=int, default=9)
-    parser.add_argument("--nodes", type=int, default=NODES)
+    parser.add_argument("--nodes", type=int)
     parser.add_argument("--built", action="store_true")
     words = parser.parse_args()
     OUT.mkdir(exist_ok=True)
