@@ -177,6 +177,14 @@ fn file(alloc: Global, name: &str) -> Result<Vec<u8>, FileFault> {
     Vec::from_slice(alloc, text.as_bytes()).map_err(|_| FileFault::NoMemory)
 }
 
+// What is said where memory is wanting.
+const OUT_OF_MEMORY: &str = "mcfcheck: out of memory\n";
+
+// Whether a run ended for want of memory.
+fn is_without_memory(status: u8, said: &[u8]) -> bool {
+    status == 3 && said == OUT_OF_MEMORY.as_bytes()
+}
+
 #[test]
 fn runs_of_the_command(rt: HostRuntime) -> Result<(), Fail> {
     for (words, status, printed, said) in [
@@ -208,13 +216,13 @@ fn runs_of_the_command(rt: HostRuntime) -> Result<(), Fail> {
             ["mcfcheck", "large", "none"].as_slice(),
             3,
             "",
-            "mcfcheck: out of memory\n",
+            OUT_OF_MEMORY,
         ),
         (
             ["mcfcheck", "instance", "large"].as_slice(),
             3,
             "",
-            "mcfcheck: out of memory\n",
+            OUT_OF_MEMORY,
         ),
         (
             ["mcfcheck", "instance"].as_slice(),
@@ -229,9 +237,9 @@ fn runs_of_the_command(rt: HostRuntime) -> Result<(), Fail> {
             "usage: mcfcheck INSTANCE ANSWER\n",
         ),
     ] {
-        let mut out = Vec::new(rt.alloc());
-        let mut err = Vec::new(rt.alloc());
         let alloc = rt.alloc();
+        let mut out = Vec::with_capacity(alloc, 64)?;
+        let mut err = Vec::with_capacity(alloc, 64)?;
         let given = judge(
             alloc,
             words,
@@ -239,6 +247,9 @@ fn runs_of_the_command(rt: HostRuntime) -> Result<(), Fail> {
             &mut out,
             &mut err,
         );
+        if said != OUT_OF_MEMORY && is_without_memory(given, err.as_slice()) {
+            return Err("out of memory".into());
+        }
         assert_eq!(rt; given, status);
         assert_eq!(rt; out.as_slice(), printed.as_bytes());
         assert_eq!(rt; err.as_slice(), said.as_bytes());
@@ -250,7 +261,7 @@ fn runs_of_the_command(rt: HostRuntime) -> Result<(), Fail> {
 fn writers_that_fail(rt: HostRuntime) -> Result<(), Fail> {
     let alloc = rt.alloc();
     let words = ["mcfcheck", "instance", "answer"].as_slice();
-    let mut err = Vec::new(alloc);
+    let mut err = Vec::with_capacity(alloc, 64)?;
     let given = judge(
         alloc,
         words,
@@ -258,6 +269,9 @@ fn writers_that_fail(rt: HostRuntime) -> Result<(), Fail> {
         &mut Closed,
         &mut err,
     );
+    if is_without_memory(given, err.as_slice()) {
+        return Err("out of memory".into());
+    }
     assert_eq!(rt; given, 3);
     assert_eq!(rt; err.as_slice(), b"mcfcheck: write failed\n".as_slice());
     let given = judge(

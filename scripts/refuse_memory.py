@@ -1,0 +1,86 @@
+#!/usr/bin/env python3
+"""Refuses each allocation of each test in turn.
+
+    python3 scripts/refuse_memory.py [NAME ...] [--most N] [--built]
+
+NAME is a crate with tests; without one, all of them. Each is proved, built and tested by `rt test` (`--built` takes
+the tests as they were built last). Then each test is run with its first allocation refused, then with its second, and
+so on, until a run meets no refusal, or up to the Nth (5,000 if left out). A run is right where it ends as with ample
+memory, or with an error that speaks of want of memory; tests of what was lent compare it themselves after the error.
+Printed is a line for each test: how many runs met a refusal, how many of those ended with the error, and how many went
+on to the end. The status is 1 where a run is wrong.
+
+`scripts/fail_alloc.sh` does the same by `rt try`, on the code as it stands and much more slowly. Needs `rt`, `cc`,
+Python 3 and a C library whose `malloc` can be put aside.
+"""
+import argparse
+import os
+import pathlib
+import re
+import subprocess
+import sys
+import tempfile
+
+HERE = pathlib.Path(__file__).resolve().parent
+CRATES = HERE.parent / "crates"
+MET = b"memory was refused\n"
+SPEAKS_OF_MEMORY = re.compile(rb"error: .*([Mm]emory|AllocError|AllocFailed)")
+
+
+def with_tests():
+    return sorted(it.name for it in CRATES.iterdir() if any("#[test]" in file.read_text() for file in it.glob("src/**/*.rt")))
+
+
+def run(program, test, refused, shim):
+    """Whether the run met a refusal, and how it ended: well, without memory, or wrong."""
+    environment = {"PATH": "/usr/bin:/bin", "LD_PRELOAD": str(shim), "REFUSED": str(refused)}
+    try:
+        ran = subprocess.run([program, test], env=environment, stdout=subprocess.PIPE, stderr=subprocess.STDOUT, timeout=120)
+    except subprocess.TimeoutExpired:
+        return True, "wrong", b"it had not ended after 120 seconds"
+    if ran.returncode == 0:
+        return MET in ran.stdout, "well", ran.stdout
+    failed_so = b"its result gives status 1" in ran.stdout and SPEAKS_OF_MEMORY.search(ran.stdout)
+    return MET in ran.stdout, "without memory" if failed_so else "wrong", ran.stdout
+
+
+def judge(program, test, most, shim):
+    """Refuses each allocation of a test; whether no run was wrong."""
+    ends = {"well": 0, "without memory": 0, "wrong": 0}
+    for refused in range(1, most + 1):
+        met, end, said = run(program, test, refused, shim)
+        if not met and end == "well":
+            break
+        ends[end] += 1
+        if end == "wrong":
+            print(f"  {test}: allocation {refused}: wrong\n{said.decode(errors='replace')}")
+    else:
+        print(f"  {test}: stopped at allocation {most}, which may not be the last")
+    print(f"  {test}: {sum(ends.values())} refusals, {ends['without memory']} ended for want of memory, {ends['well']} well, {ends['wrong']} wrong", flush=True)
+    return not ends["wrong"]
+
+
+def main():
+    parser = argparse.ArgumentParser(description=__doc__, formatter_class=argparse.RawDescriptionHelpFormatter)
+    parser.add_argument("names", nargs="*", metavar="NAME")
+    parser.add_argument("--most", type=int, default=5000)
+    parser.add_argument("--built", action="store_true")
+    words = parser.parse_args()
+    right = True
+    with tempfile.TemporaryDirectory() as room:
+        shim = pathlib.Path(room) / "refuse_memory.so"
+        subprocess.run(["cc", "-O1", "-shared", "-fPIC", "-o", shim, HERE / "refuse_memory.c", "-ldl"], check=True)
+        for name in words.names or with_tests():
+            folder = CRATES / name
+            if not words.built:
+                subprocess.run(["rt", "test"], cwd=folder, check=True, stdout=subprocess.DEVNULL)
+            program = folder / "out" / f"{name}_tests"
+            listed = subprocess.run([program, "--list"], check=True, capture_output=True, text=True).stdout
+            print(name, flush=True)
+            for test in re.findall(r"^(.*): test$", listed, re.M):
+                right &= judge(program, test, words.most, shim)
+    return 0 if right else 1
+
+
+if __name__ == "__main__":
+    sys.exit(main())
