@@ -2,10 +2,10 @@
 ghost use Rattle.std.specs.Prelude.{◌≡◌, ◌≢◌, ◌⊎◌, Err, IfErr, IfOk, OnOk, if◌then◌else◌, length, map};
 ghost use Rattle.std.specs.Io.KnownBytes.{Appends};
 ghost use Rattle.std.specs.String.{string_bytes};
-ghost use Rattle.mcf_checker.specs.Failures.{TellsOfFiles, failure_of};
+ghost use Rattle.mcf_checker.specs.Failures.{failure_of};
 ghost use Rattle.mcf_checker.specs.Judging.{accepts, verdict};
 ghost use Rattle.mcf_checker.specs.Printed.{printed_line};
-ghost use Rattle.mcf_checker.specs.Runs.{JudgesAndPrints, ReadsFiles};
+ghost use Rattle.mcf_checker.specs.Runs.{AsksForFiles, JudgesAndPrints, ReadsFiles};
 
 use crate::checking::check;
 use crate::verdict::Verdict;
@@ -140,7 +140,7 @@ fn run<S: AsStr, R: FnMut(&str) -> Result<Vec<u8>, FileFault>, O: Write>(
     ensures judged { IfOk result (λ status. JudgesAndPrints R.FnMut (λ file. file.items) read (map S.text words.now) status (O.contents out.old) (O.contents out.new)) }
     ensures usage { length words.now ≢ 3 → (result ≡ Err Failure.Usage) × (out.new ≡ out.old) }
     ensures reads { length words.now ≡ 3 → ReadsFiles R.FnMut read (map S.text words.now) (out.new ≡ out.old) }
-    ensures tells { length words.now ≡ 3 → TellsOfFiles R.FnMut read (map S.text words.now)
+    ensures tells { length words.now ≡ 3 → AsksForFiles R.FnMut read (map S.text words.now)
         (λ fault. result ≡ Err (failure_of fault Failure.Instance)) (λ fault. result ≡ Err (failure_of fault Failure.Answer))
         (IfErr result (λ failure. (failure ≡ Failure.Write) ⊎ (failure ≡ Failure.NoMemory))) }
 {

@@ -9,6 +9,7 @@ ghost use Rattle.mcf_instance.specs.Packed.{unpacked};
 ghost use Rattle.mcf_instance.specs.WellFormed.{HasEnds, IsArcWithin, IsUpTo, IsWellFormed};
 
 use crate::arc::PackedArc;
+use crate::copies::copies;
 use crate::instances::Instance;
 use crate::problem::Side;
 use mcf_text::{NoMemory, NodeId};
@@ -33,8 +34,7 @@ pub fn table_of(alloc: Global, nodes: u32, members: &[NodeId]) -> Result<Vec<boo
     ensures marks { IfOk result (λ table. (v : ℕ) → IsNode nodes v → in_table table.items v ≡ in_list members.now v) }
     ensures wants { OnErr result (1 ≤ nodes) }
 {
-    let mut table = Vec::new(alloc);
-    table.resize(nodes as usize, false)?;
+    let mut table = copies(alloc, nodes as usize, false)?;
     for member in members {
         table[member.get() as usize - 1] = true;
     }

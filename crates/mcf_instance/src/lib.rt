@@ -8,6 +8,7 @@
 mod arc;
 mod blocking;
 mod code;
+mod copies;
 mod instances;
 mod laws;
 mod problem;

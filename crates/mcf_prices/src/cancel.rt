@@ -3,7 +3,7 @@ ghost use Rattle.std.specs.Prelude.{◌≤◌, IfOk, OnErr, ⊤};
 ghost use Rattle.mcf_feas.specs.Feasible.{IsFeasibleState};
 ghost use Rattle.mcf_instance.specs.Network.{node_count};
 ghost use Rattle.mcf_prices.specs.NegativeCycles.{IsCancelled, IsNegativeCycle};
-ghost use Rattle.mcf_prices.specs.Outcomes.{IsOutcome};
+ghost use Rattle.mcf_prices.specs.Outcomes.{AreStatePrices, IsLeastState, IsOutcome};
 
 use crate::engine::{Engine, Outcome};
 use crate::recovered::{Recovered, recover};
@@ -47,21 +47,28 @@ impl Engine for Cancel {
         ensures wants { OnErr result (1 ≤ node_count net.now) }
     {
         match feasible(alloc, net)? {
-            Feas::Flow(state) => cancel_cycles(alloc, state),
+            Feas::Flow(state) => {
+                let (least, prices) = cancel_cycles(alloc, state)?;
+                Ok(Outcome::Least(least, prices))
+            }
             Feas::Blocked(set, side) => Ok(Outcome::Blocked(set, side)),
         }
     }
 }
 
-// Cancels negative cycles, until there is none.
-fn cancel_cycles<'n>(alloc: Global, mut state: State<'n>) -> Result<Outcome<'n>, NoMemory>
+// Cancels negative cycles, until there is none: the state is then least, and has prices.
+fn cancel_cycles<'n>(
+    alloc: Global,
+    mut state: State<'n>,
+) -> Result<(State<'n>, Vec<i128>), NoMemory>
     requires { IsFeasibleState state.net state }
-    ensures least { IfOk result (IsOutcome (λ _. ⊤) state.entry.net) }
+    ensures least { IfOk result (λ found. IsLeastState state.entry.net found.0) }
+    ensures shown { IfOk result (λ found. AreStatePrices state.entry.net found.0 found.1.items) }
     ensures wants { OnErr result (1 ≤ node_count state.entry.net) }
 {
     'cycles: loop {
         match recover(alloc, &state)? {
-            Recovered::Prices(prices) => return Ok(Outcome::Least(state, prices)),
+            Recovered::Prices(prices) => return Ok((state, prices)),
             Recovered::Cycle(walk) => cancel_cycle(&mut state, walk.as_slice()),
         }
     }

@@ -2,7 +2,7 @@
 ghost use Rattle.std.specs.Prelude.{◌≤◌, IfOk, OnErr, ⊤};
 ghost use Rattle.mcf_feas.specs.Feasible.{IsFeasibleState};
 ghost use Rattle.mcf_instance.specs.Network.{node_count};
-ghost use Rattle.mcf_prices.specs.Outcomes.{IsOutcome};
+ghost use Rattle.mcf_prices.specs.Outcomes.{AreStatePrices, IsLeastState, IsOutcome};
 
 use crate::{Cancel, Engine, Outcome, Recovered, least_states_have_no_cycle, recover};
 use mcf_feas::{Feas, feasible};
@@ -57,21 +57,28 @@ impl Engine for ByOne {
 
     fn solve<'n>(&mut self, alloc: Global, net: &'n Net) -> Result<Outcome<'n>, NoMemory> {
         match feasible(alloc, net)? {
-            Feas::Flow(state) => cancel_by_one(alloc, state),
+            Feas::Flow(state) => {
+                let (least, prices) = cancel_by_one(alloc, state)?;
+                Ok(Outcome::Least(least, prices))
+            }
             Feas::Blocked(set, side) => Ok(Outcome::Blocked(set, side)),
         }
     }
 }
 
 // Pushes 1 round negative cycles, until there is none.
-fn cancel_by_one<'n>(alloc: Global, mut state: State<'n>) -> Result<Outcome<'n>, NoMemory>
+fn cancel_by_one<'n>(
+    alloc: Global,
+    mut state: State<'n>,
+) -> Result<(State<'n>, Vec<i128>), NoMemory>
     requires { IsFeasibleState state.net state }
-    ensures outcome { IfOk result (IsOutcome (λ _. ⊤) state.entry.net) }
+    ensures least { IfOk result (λ found. IsLeastState state.entry.net found.0) }
+    ensures shown { IfOk result (λ found. AreStatePrices state.entry.net found.0 found.1.items) }
     ensures wants { OnErr result (1 ≤ node_count state.entry.net) }
 {
     'cycles: loop {
         match recover(alloc, &state)? {
-            Recovered::Prices(prices) => return Ok(Outcome::Least(state, prices)),
+            Recovered::Prices(prices) => return Ok((state, prices)),
             Recovered::Cycle(walk) => push_along(&mut state, walk.as_slice(), 1),
         }
     }
@@ -169,6 +176,32 @@ fn engines_agree(rt: HostRuntime) -> Result<(), Fail> {
         assert_eq!(rt; cost_by(alloc, &mut Cancel::new(), &net)?, Some(*cost));
         assert_eq!(rt; cost_by(alloc, &mut ByOne, &net)?, Some(*cost));
     }
+    Ok(())
+}
+
+// The prices of an engine's outcome, where it takes the net and there is a flow.
+fn prices_by<E: Engine>(
+    alloc: Global,
+    engine: &mut E,
+    net: &Net,
+) -> Result<Option<Vec<i128>>, NoMemory> {
+    if !engine.takes(net) {
+        return Ok(None);
+    }
+    match engine.solve(alloc, net)? {
+        Outcome::Least(_, prices) => Ok(Some(prices)),
+        Outcome::Blocked(..) => Ok(None),
+    }
+}
+
+#[test]
+fn an_outcome_has_its_prices(rt: HostRuntime) -> Result<(), Fail> {
+    let alloc = rt.alloc();
+    let net = net_of(alloc, SAMPLE)?;
+    let prices = prices_by(alloc, &mut Cancel::new(), &net)?.ok_or("no flow")?;
+    assert_eq!(rt; prices.as_slice(), [0, -2, -3, -4].as_slice());
+    let prices = prices_by(alloc, &mut ByOne, &net)?.ok_or("no flow")?;
+    assert_eq!(rt; prices.as_slice(), [0, -2, -3, -4].as_slice());
     Ok(())
 }
 

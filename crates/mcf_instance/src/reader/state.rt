@@ -1,5 +1,5 @@
 //! The reader's state: what the lines so far say.
-ghost use Rattle.std.specs.Prelude.{◌≡◌, ◌++◌, ◌∷◌, [], List, map, length, OnOk, OnErr, IfOk, replicate, ◌≤◌, ◌^◌, IsTrue};
+ghost use Rattle.std.specs.Prelude.{◌≡◌, ◌++◌, ◌∷◌, [], List, map, length, OnOk, OnErr, IfOk, ◌≤◌, ◌^◌, IsTrue};
 ghost use Rattle.mcf_instance.specs.Fault.{header};
 ghost use Rattle.mcf_instance.specs.Limits.{limits};
 ghost use Rattle.mcf_instance.specs.ReaderSound.{ItemFits};
@@ -10,6 +10,7 @@ ghost use Rattle.mcf_text.specs.Row.{Row, row_of};
 
 use crate::arc::PackedArc;
 use crate::code::Code;
+use crate::copies::copies;
 use crate::instances::Instance;
 use crate::problem::Problem;
 use crate::reader::fields::first_fields;
@@ -39,16 +40,6 @@ impl Model for State {
     ghost view = { λ s. record { heading = s.heading; listed = s.listed.items; supplies = s.supplies.items; arcs = s.arcs.items; refusal = s.refusal } };
 
     ghost invariant = { λ s. IsSound limits s.heading s.listed.items s.supplies.items s.arcs.items };
-}
-
-// So many copies of a value; none want no memory, which `vec!` doesn't promise.
-fn copies<T: Copy>(alloc: Global, count: usize, value: T) -> Result<Vec<T>, NoMemory>
-    ensures value { IfOk result (λ made. made.items ≡ replicate count value) }
-    ensures wants { OnErr result (1 ≤ count) }
-{
-    let mut made = Vec::new(alloc);
-    made.resize(count, value)?;
-    Ok(made)
 }
 
 impl State {

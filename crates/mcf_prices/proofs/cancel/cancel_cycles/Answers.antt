@@ -4,8 +4,13 @@ use Rattle.mcf_prices.proofs.cancel.cancel_cycles.Goals as goal
 pub returns-in-Prices-clause-least : goal.returns-in-Prices-clause-least
 returns-in-Prices-clause-least c =
     let found = rw c.in-Prices.is at c.in_ok-prices.ensures.recovered in
+    least_from_prices c.args.state.net c.cycles.state _ c.cycles.invariant found
+
+pub returns-in-Prices-clause-shown : goal.returns-in-Prices-clause-shown
+returns-in-Prices-clause-shown c =
+    let found = rw c.in-Prices.is at c.in_ok-prices.ensures.recovered in
     let small = rw c.in-Prices.is at c.in_ok-prices.ensures.small in
-    (least_from_prices c.args.state.net c.cycles.state _ c.cycles.invariant found, state_prices c.args.state.net c.cycles.state _ c.cycles.invariant found small, tt)
+    state_prices c.args.state.net c.cycles.state _ c.cycles.invariant found small
 
 pub cancel_cycle-requires : goal.cancel_cycle-requires
 cancel_cycle-requires c =

@@ -3,11 +3,16 @@ use Rattle.std.proofs.lemmas.Int.{ints}
 use Rattle.mcf_prices.proofs.Cancelling.{cost_height_falls, cycle_by_one, cycle_feasible, least_from_prices, state_prices}
 use Rattle.mcf_prices.proofs.tests.cancel_by_one.Goals as goal
 
-pub returns-in-Prices-clause-outcome : goal.returns-in-Prices-clause-outcome
-returns-in-Prices-clause-outcome c =
+pub returns-in-Prices-clause-least : goal.returns-in-Prices-clause-least
+returns-in-Prices-clause-least c =
+    let found = rw c.in-Prices.is at c.in_ok-prices.ensures.recovered in
+    least_from_prices c.args.state.net c.cycles.state _ c.cycles.invariant found
+
+pub returns-in-Prices-clause-shown : goal.returns-in-Prices-clause-shown
+returns-in-Prices-clause-shown c =
     let found = rw c.in-Prices.is at c.in_ok-prices.ensures.recovered in
     let small = rw c.in-Prices.is at c.in_ok-prices.ensures.small in
-    (least_from_prices c.args.state.net c.cycles.state _ c.cycles.invariant found, state_prices c.args.state.net c.cycles.state _ c.cycles.invariant found small, tt)
+    state_prices c.args.state.net c.cycles.state _ c.cycles.invariant found small
 
 pub push_along-requires : goal.push_along-requires
 push_along-requires c =
