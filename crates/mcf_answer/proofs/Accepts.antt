@@ -9,23 +9,24 @@ use Rattle.std.proofs.lemmas.Bool.Decides.{nat_tests}
 use Rattle.std.proofs.lemmas.List.{get_or_append_left, get_or-append_right, length-append}
 use Rattle.std.proofs.lemmas.List.Elements.{All-head, All-tail}
 use Rattle.std.proofs.lemmas.Option.{slice_get-get_or}
-use Rattle.mcf_answer.specs.Draft.{after, and_then, answer_or, finished, opened, outcome, priced, sent_or_priced, set_after, solution_after, with_node, with_price, with_said}
+use Rattle.mcf_answer.specs.Draft.{after, and_then, answer_of_draft, opened, priced, sent_or_priced, set_after, solution_after, with_member, with_price, with_said}
 use Rattle.mcf_answer.specs.Fits.{is_above_last}
 use Rattle.mcf_answer.specs.Parsing.{parsing}
-use Rattle.mcf_answer.specs.Ranges.{IsAmount, IsNodeNumber, line_limit}
+use Rattle.mcf_answer.specs.Ranges.{IsAmount, IsNodeInRange}
 use Rattle.mcf_answer.specs.Said.{Opening, OpensFlow, OpensSet, OpensRefusal, cost_said, opening_said, opens_set, price_said, refusal_said, sent_said, set_said, ◌>>=◌}
 use Rattle.mcf_answer.specs.Solution.{IsSent}
-use Rattle.mcf_answer.specs.Spelling.{IsAnswer, Spells, cost_line, flow_line, node_line, price_line, refusal_line, set_line, spelling}
+use Rattle.mcf_answer.specs.Spelling.{IsAnswer, Spells, cost_line, flow_line, member_line, price_line, refusal_line, set_line, spelling}
 use Rattle.mcf_answer.specs.Token.{Token, tokens}
 use Rattle.mcf_answer.specs.declared.answers.Answer.{Answer}
 use Rattle.mcf_answer.specs.declared.answers.Answer.TheVariants.{Flow as FlowAnswered, Blocked as BlockedAnswered, Refused as RefusedAnswered}
 use Rattle.mcf_answer.specs.declared.answers.Sent.{Sent}
 use Rattle.mcf_answer.specs.declared.draft.Draft.{Draft}
 use Rattle.mcf_answer.specs.declared.draft.Draft.TheVariants.{Empty, Flow, Blocked, Refused}
-use Rattle.mcf_answer.proofs.SaidLemmas.{cost_said-line, node_said-line, price_said-line, refusal_said-line, sent_said-line, set_said-line}
+use Rattle.mcf_answer.proofs.LinesRead.{answer_or, outcome}
+use Rattle.mcf_answer.proofs.SaidLemmas.{cost_said-line, member_said-line, price_said-line, refusal_said-line, sent_said-line, set_said-line}
 use Rattle.mcf_answer.proofs.Simulation.{outcome-parsing, run-rows, run_rows}
 use Rattle.mcf_instance.specs.Fault.{Fault}
-use Rattle.mcf_instance.specs.Limits.{node_limit}
+use Rattle.mcf_instance.specs.Limits.{node_limit, line_limit}
 use Rattle.mcf_instance.specs.declared.problem.Side.{Side}
 use Rattle.mcf_text.specs.Lines.{numbered_lines}
 use Rattle.mcf_text.specs.Row.{Row, line_after, rows}
@@ -68,7 +69,7 @@ no_sent : (y : ℕ × ℤ) → sent_said (price_line y) ≡ None
 unfolding sent_said
 no_sent y = refl
 
-price_taken : (cost : ℤ) (sent : List Sent) (done : List ℤ) (z : ℤ) → IsNodeNumber (length done + 1) → IsAmount z
+price_taken : (cost : ℤ) (sent : List Sent) (done : List ℤ) (z : ℤ) → IsNodeInRange (length done + 1) → IsAmount z
     → after (Flow (record { cost = cost; sent = sent; prices = done })) (price_line (length done + 1, z)) ≡ Some (Flow (record { cost = cost; sent = sent; prices = done ++ z ∷ [] }))
 unfolding after solution_after
 price_taken cost sent done z h k =
@@ -76,13 +77,13 @@ price_taken cost sent done z h k =
     ∙ ap (λ o. option_map Flow (priced (record { cost = cost; sent = sent; prices = done }) o)) (price_said-line (length done + 1) z h k)
     ∙ ap (λ b. option_map Flow (cond b (Some (with_price (record { cost = cost; sent = sent; prices = done }) z)) None)) (eq-eqb (length done + 1) (length done + 1) refl)
 
-node_taken : (side : Side) (count : ℕ) (done : List ℕ) (v : ℕ) → IsNodeNumber v → nat_lt (length done) count ≡ true → is_above_last done v ≡ true
-    → after (Blocked (record { side = side; count = count; nodes = done })) (node_line v) ≡ Some (Blocked (record { side = side; count = count; nodes = done ++ v ∷ [] }))
+node_taken : (side : Side) (count : ℕ) (done : List ℕ) (v : ℕ) → IsNodeInRange v → nat_lt (length done) count ≡ true → is_above_last done v ≡ true
+    → after (Blocked (record { side = side; count = count; nodes = done })) (member_line v) ≡ Some (Blocked (record { side = side; count = count; nodes = done ++ v ∷ [] }))
 unfolding after set_after
 node_taken side count done v h room above =
-    ap (λ o. option_map Blocked (with_said (record { side = side; count = count; nodes = done }) o)) (node_said-line v h)
-    ∙ ap (λ b. option_map Blocked (cond (b && is_above_last done v) (Some (with_node (record { side = side; count = count; nodes = done }) v)) None)) room
-    ∙ ap (λ b. option_map Blocked (cond b (Some (with_node (record { side = side; count = count; nodes = done }) v)) None)) above
+    ap (λ o. option_map Blocked (with_said (record { side = side; count = count; nodes = done }) o)) (member_said-line v h)
+    ∙ ap (λ b. option_map Blocked (cond (b && is_above_last done v) (Some (with_member (record { side = side; count = count; nodes = done }) v)) None)) room
+    ∙ ap (λ b. option_map Blocked (cond b (Some (with_member (record { side = side; count = count; nodes = done }) v)) None)) above
 
 -- ---- all lines of a kind
 
@@ -98,7 +99,7 @@ prices_run : (cost : ℤ) (sent : List Sent) (todo done : List ℤ) (next : ℕ)
     → run_lines (Flow (record { cost = cost; sent = sent; prices = done })) (map price_line (enumerate_from next todo)) ≡ Some (Flow (record { cost = cost; sent = sent; prices = done ++ todo }))
 prices_run cost sent [] done next place h few = ap (λ zs. Some (Flow (record { cost = cost; sent = sent; prices = zs }))) (sym (append-nil done))
 prices_run cost sent (z ∷ todo) done next place h few =
-    let node : IsNodeNumber (length done + 1) = (omega arith, omega (arith, few)) in
+    let node : IsNodeInRange (length done + 1) = (omega arith, omega (arith, few)) in
     let after_next : next + 1 ≡ length (done ++ z ∷ []) + 1 = omega (arith, place, length-append done (z ∷ [])) in
     let fewer : length (done ++ z ∷ []) + length todo ≤ node_limit = omega (arith, few, length-append done (z ∷ [])) in
     ap (λ n. after (Flow (record { cost = cost; sent = sent; prices = done })) (price_line (n, z)) >>= λ e. run_lines e (map price_line (enumerate_from (next + 1) todo))) place
@@ -123,15 +124,15 @@ above_before (w ∷ ws) todo v h =
     let test : nat_lt (get_or done k 0) v ≡ true = grind (arith, nat_tests) in
     ap (λ o. option_map_or (λ u. nat_lt u v) o true) (slice_get-get_or done k 0 low) ∙ test
 
-nodes_run : (side : Side) (count : ℕ) (todo done : List ℕ) → All IsNodeNumber todo → length done + length todo ≤ count → IsStrictlyIncreasing (done ++ todo)
-    → run_lines (Blocked (record { side = side; count = count; nodes = done })) (map node_line todo) ≡ Some (Blocked (record { side = side; count = count; nodes = done ++ todo }))
+nodes_run : (side : Side) (count : ℕ) (todo done : List ℕ) → All IsNodeInRange todo → length done + length todo ≤ count → IsStrictlyIncreasing (done ++ todo)
+    → run_lines (Blocked (record { side = side; count = count; nodes = done })) (map member_line todo) ≡ Some (Blocked (record { side = side; count = count; nodes = done ++ todo }))
 nodes_run side count [] done h few rises = ap (λ vs. Some (Blocked (record { side = side; count = count; nodes = vs }))) (sym (append-nil done))
 nodes_run side count (v ∷ todo) done h few rises =
     let lower : length done < count = omega (arith, few) in
     let room : nat_lt (length done) count ≡ true = grind (arith, nat_tests) in
     let fewer : length (done ++ v ∷ []) + length todo ≤ count = omega (arith, few, length-append done (v ∷ [])) in
-    ap (λ o. o >>= λ e. run_lines e (map node_line todo)) (node_taken side count done v (All-head IsNodeNumber v todo h) room (above_before done todo v rises))
-    ∙ nodes_run side count todo (done ++ v ∷ []) (All-tail IsNodeNumber v todo h) fewer (subst IsStrictlyIncreasing (sym (append_assoc done (v ∷ []) todo)) rises)
+    ap (λ o. o >>= λ e. run_lines e (map member_line todo)) (node_taken side count done v (All-head IsNodeInRange v todo h) room (above_before done todo v rises))
+    ∙ nodes_run side count todo (done ++ v ∷ []) (All-tail IsNodeInRange v todo h) fewer (subst IsStrictlyIncreasing (sym (append_assoc done (v ∷ []) todo)) rises)
     ∙ ap (λ vs. Some (Blocked (record { side = side; count = count; nodes = vs }))) (append_assoc done (v ∷ []) todo)
 
 -- ---- all lines of an answer
@@ -144,7 +145,7 @@ no_cost_in_set : (side : Side) (count : ℕ) → cost_said (set_line side count)
 unfolding cost_said
 no_cost_in_set side count = refl
 
-set_opens : (side : Side) (count : ℕ) → IsNodeNumber count → opening_said (set_line side count) ≡ Some (OpensSet side count)
+set_opens : (side : Side) (count : ℕ) → IsNodeInRange count → opening_said (set_line side count) ≡ Some (OpensSet side count)
 unfolding opening_said
 set_opens side count h =
     ap (λ o. option_or (option_map OpensFlow o) (option_or (option_map opens_set (set_said (set_line side count))) (option_map OpensRefusal (refusal_said (set_line side count))))) (no_cost_in_set side count)
@@ -182,13 +183,13 @@ spelling_run (FlowAnswered a) h =
     ∙ run_lines-append (map flow_line a.sent) (map price_line (enumerate_from 1 a.prices)) (Flow (record { cost = a.cost; sent = []; prices = [] })) (Flow (record { cost = a.cost; sent = a.sent; prices = [] })) (sent_run a.cost a.sent [] h.sent_fit)
     ∙ prices_run a.cost a.sent a.prices [] 1 refl h.prices_small (omega (arith, h.few_prices))
 spelling_run (BlockedAnswered a) h =
-    ap (λ o. o >>= λ e. run_lines e (map node_line a.nodes)) (first_taken (set_line a.side (length a.nodes)) (OpensSet a.side (length a.nodes)) (set_opens a.side (length a.nodes) (h.nonempty, h.few)))
+    ap (λ o. o >>= λ e. run_lines e (map member_line a.nodes)) (first_taken (set_line a.side (length a.nodes)) (OpensSet a.side (length a.nodes)) (set_opens a.side (length a.nodes) (h.nonempty, h.few)))
     ∙ nodes_run a.side (length a.nodes) a.nodes [] h.are_nodes (omega arith) h.ascending
 spelling_run (RefusedAnswered r) h =
     ap (λ o. o >>= λ e. run_lines e []) (first_taken (refusal_line r) (OpensRefusal r) (refusal_opens r h.0 h.1))
 
-answer_finished : (a : Answer) → finished (draft_of_answer a) ≡ Some a
-unfolding finished
+answer_finished : (a : Answer) → answer_of_draft (draft_of_answer a) ≡ Some a
+unfolding answer_of_draft
 answer_finished (FlowAnswered a) = refl
 answer_finished (BlockedAnswered a) = ap (λ b. cond b (Some (BlockedAnswered a)) None) (eq-eqb (length a.nodes) (length a.nodes) refl)
 answer_finished (RefusedAnswered r) = refl

@@ -8,15 +8,15 @@ use Rattle.std.proofs.lemmas.Bool.Decides.{nat_tests}
 use Rattle.std.proofs.lemmas.List.{get_or_append_left, get_or_push, length-append}
 use Rattle.std.proofs.lemmas.List.Elements.{All-push}
 use Rattle.std.proofs.lemmas.Option.{slice_get-get_or}
-use Rattle.mcf_answer.specs.Draft.{with_node, with_price, with_sent}
+use Rattle.mcf_answer.specs.Draft.{with_member, with_price, with_sent}
 use Rattle.mcf_answer.specs.Fits.{is_above_last}
 use Rattle.mcf_answer.specs.PartialSet.{IsPartialSet, PartialSet}
-use Rattle.mcf_answer.specs.Ranges.{IsAmount, IsNodeNumber}
-use Rattle.mcf_answer.specs.Said.{node_said, sent_said}
+use Rattle.mcf_answer.specs.Ranges.{IsAmount, IsNodeInRange}
+use Rattle.mcf_answer.specs.Said.{member_said, sent_said}
 use Rattle.mcf_answer.specs.Solution.{IsSent, IsSolution, Solution}
 use Rattle.mcf_answer.specs.Token.{Token}
 use Rattle.mcf_answer.specs.declared.answers.Sent.{Sent}
-use Rattle.mcf_answer.proofs.SaidLemmas.{node_said-some, sent_said-some}
+use Rattle.mcf_answer.proofs.SaidLemmas.{member_said-some, sent_said-some}
 
 -- the number is above the last of a list that is not empty
 above_last : (xs : List ℕ) (v : ℕ) → 0 < length xs → is_above_last xs v ≡ true → get_or xs (length xs - 1) 0 < v
@@ -54,7 +54,7 @@ with_sent_fits a line s h e = record {
   few_prices = h.few_prices;
 }
 
-pub with_price_fits : (a : Solution) (v : ℕ) (z : ℤ) → IsSolution a → IsNodeNumber v → IsAmount z → v ≡ length a.prices + 1 → IsSolution (with_price a z)
+pub with_price_fits : (a : Solution) (v : ℕ) (z : ℤ) → IsSolution a → IsNodeInRange v → IsAmount z → v ≡ length a.prices + 1 → IsSolution (with_price a z)
 with_price_fits a v z h node amount next = record {
   cost_small = h.cost_small;
   sent_fit = h.sent_fit;
@@ -62,10 +62,10 @@ with_price_fits a v z h node amount next = record {
   few_prices = rw (length-append a.prices (z ∷ [])) (omega (arith, node.1, next));
 }
 
-pub with_node_fits : (a : PartialSet) (line : List Token) (v : ℕ) → IsPartialSet a → node_said line ≡ Some v → length a.nodes < a.count → is_above_last a.nodes v ≡ true → IsPartialSet (with_node a v)
-with_node_fits a line v h e room above = record {
+pub with_member_fits : (a : PartialSet) (line : List Token) (v : ℕ) → IsPartialSet a → member_said line ≡ Some v → length a.nodes < a.count → is_above_last a.nodes v ≡ true → IsPartialSet (with_member a v)
+with_member_fits a line v h e room above = record {
   some = h.some;
   few = rw (length-append a.nodes (v ∷ [])) (omega (arith, room));
-  are_nodes = All-push IsNodeNumber a.nodes v h.are_nodes (node_said-some line v e).1;
+  are_nodes = All-push IsNodeInRange a.nodes v h.are_nodes (member_said-some line v e).1;
   ascending = IsStrictlyIncreasing-push a.nodes v h.ascending above;
 }

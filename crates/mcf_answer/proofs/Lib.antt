@@ -1,6 +1,7 @@
 pub mod Accepts
 pub mod Appends
 pub mod Grows
+pub mod LinesRead
 pub mod Parsed
 pub mod Room
 pub mod SaidLemmas

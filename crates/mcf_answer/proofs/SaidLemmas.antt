@@ -2,15 +2,15 @@
 use Rattle.std.proofs.Common.{◌≡◌, ℕ, ◌≤◌, Bool, true, false, cond, List, [], ◌∷◌, Some, None, refl, sym, ap, subst, ◌∙◌, arith, pos, negsuc}
 use Rattle.std.specs.Prelude.{ℤ, Option, codes, option_map, neg_ℤ}
 use Rattle.std.proofs.lemmas.Slice.Eq.{bytes_eq-Decides}
-use Rattle.mcf_answer.specs.Ranges.{IsAmount, IsNodeNumber, amount_limit, line_limit}
-use Rattle.mcf_answer.specs.Said.{amount_of, code_of, cost_said, line_number_of, node_of, node_said, number_within, price_said, refusal_said, sent_said, set_said, side_of, ◌>>=◌}
+use Rattle.mcf_answer.specs.Ranges.{IsAmount, IsNodeInRange, amount_limit}
+use Rattle.mcf_answer.specs.Said.{amount_of, code_of, cost_said, line_number_of, node_of, member_said, number_within, price_said, refusal_said, sent_said, set_said, side_of, ◌>>=◌}
 use Rattle.mcf_answer.specs.Solution.{IsSent}
-use Rattle.mcf_answer.specs.Spelling.{cost_line, flow_line, node_line, price_line, refusal_line, set_line, side_word}
+use Rattle.mcf_answer.specs.Spelling.{cost_line, flow_line, member_line, price_line, refusal_line, set_line, side_word}
 use Rattle.mcf_answer.specs.Token.{Token, Word, Number, is_word}
 use Rattle.mcf_answer.specs.declared.answers.Sent.{Sent}
 use Rattle.mcf_answer.proofs.Words.{code_of_word-code_word, code_word-found}
 use Rattle.mcf_instance.specs.Fault.{Fault, code_word}
-use Rattle.mcf_instance.specs.Limits.{node_limit}
+use Rattle.mcf_instance.specs.Limits.{node_limit, line_limit}
 use Rattle.mcf_instance.specs.declared.code.Code.{Code}
 use Rattle.mcf_instance.specs.declared.problem.Side.{Side}
 use Rattle.mcf_instance.specs.declared.problem.Side.TheVariants.{Send, Take}
@@ -84,12 +84,12 @@ count_of-some bound t v e =
 count_of-number : (bound v : ℕ) → 1 ≤ v → v ≤ bound → option_map natural (number_within (pos 1) (pos bound) (Number (pos v))) ≡ Some v
 count_of-number bound v low high = ap (option_map natural) (number_within-number (pos 1) (pos bound) (pos v) (count_within bound v low high))
 
-node_of-some : (t : Token) (v : ℕ) → node_of t ≡ Some v → (t ≡ Number (pos v)) × IsNodeNumber v
+node_of-some : (t : Token) (v : ℕ) → node_of t ≡ Some v → (t ≡ Number (pos v)) × IsNodeInRange v
 node_of-some t v e =
     let f = count_of-some node_limit t v e in
     (f.0, (f.1, f.2))
 
-node_of-number : (v : ℕ) → IsNodeNumber v → node_of (Number (pos v)) ≡ Some v
+node_of-number : (v : ℕ) → IsNodeInRange v → node_of (Number (pos v)) ≡ Some v
 node_of-number v h = count_of-number node_limit v h.0 h.1
 
 is_word-true : (word : List ℕ) (t : Token) → is_word word t ≡ true → t ≡ Word word
@@ -153,7 +153,7 @@ pub sent_said-line : (s : Sent) → IsSent s → sent_said (flow_line s) ≡ Som
 unfolding sent_said
 sent_said-line s h = rw (node_of-number s.src h.src_is_node, node_of-number s.dst h.dst_is_node, amount_of-number s.flow h.flow_small) refl
 
-pub price_said-some : (line : List Token) (y : ℕ × ℤ) → price_said line ≡ Some y → (line ≡ price_line y) × IsNodeNumber y.0 × IsAmount y.1
+pub price_said-some : (line : List Token) (y : ℕ × ℤ) → price_said line ≡ Some y → (line ≡ price_line y) × IsNodeInRange y.0 × IsAmount y.1
 unfolding price_said
 price_said-some (word ∷ id ∷ price ∷ []) y e =
     let w = if-some (is_word (codes "y") word) _ y e in
@@ -164,27 +164,27 @@ price_said-some (word ∷ id ∷ price ∷ []) y e =
     let node = node_of-some id a.0 a.1 in
     let amount = amount_of-some price b.0 b.1 in
     let line : word ∷ id ∷ price ∷ [] ≡ price_line (a.0, b.0) = cc in
-    (line ∙ ap price_line (sym is), subst (λ p. IsNodeNumber p.0) (sym is) node.1, subst (λ p. IsAmount p.1) (sym is) amount.1)
+    (line ∙ ap price_line (sym is), subst (λ p. IsNodeInRange p.0) (sym is) node.1, subst (λ p. IsAmount p.1) (sym is) amount.1)
 price_said-some line y e = cc
 
-pub price_said-line : (v : ℕ) (z : ℤ) → IsNodeNumber v → IsAmount z → price_said (price_line (v, z)) ≡ Some (v, z)
+pub price_said-line : (v : ℕ) (z : ℤ) → IsNodeInRange v → IsAmount z → price_said (price_line (v, z)) ≡ Some (v, z)
 unfolding price_said
 price_said-line v z h k = rw (node_of-number v h, amount_of-number z k) refl
 
-pub node_said-some : (line : List Token) (v : ℕ) → node_said line ≡ Some v → (line ≡ node_line v) × IsNodeNumber v
-unfolding node_said
-node_said-some (word ∷ id ∷ []) v e =
+pub member_said-some : (line : List Token) (v : ℕ) → member_said line ≡ Some v → (line ≡ member_line v) × IsNodeInRange v
+unfolding member_said
+member_said-some (word ∷ id ∷ []) v e =
     let w = if-some (is_word (codes "x") word) (node_of id) v e in
     let a = node_of-some id v w.1 in
     let first : word ≡ Word (codes "x") = is_word-true (codes "x") word w.0 in
     (ap (λ t. t ∷ id ∷ []) first ∙ ap (λ t. Word (codes "x") ∷ t ∷ []) a.0, a.1)
-node_said-some line v e = cc
+member_said-some line v e = cc
 
-pub node_said-line : (v : ℕ) → IsNodeNumber v → node_said (node_line v) ≡ Some v
-unfolding node_said
-node_said-line v h = node_of-number v h
+pub member_said-line : (v : ℕ) → IsNodeInRange v → member_said (member_line v) ≡ Some v
+unfolding member_said
+member_said-line v h = node_of-number v h
 
-pub set_said-some : (line : List Token) (set : Side × ℕ) → set_said line ≡ Some set → (line ≡ set_line set.0 set.1) × IsNodeNumber set.1
+pub set_said-some : (line : List Token) (set : Side × ℕ) → set_said line ≡ Some set → (line ≡ set_line set.0 set.1) × IsNodeInRange set.1
 unfolding set_said
 set_said-some (word ∷ count ∷ named ∷ []) set e =
     let w = if-some (is_word (codes "i") word) _ set e in
@@ -195,10 +195,10 @@ set_said-some (word ∷ count ∷ named ∷ []) set e =
     let size = node_of-some count a.0 a.1 in
     let side = side_of-some named b.0 b.1 in
     let line : word ∷ count ∷ named ∷ [] ≡ set_line b.0 a.0 = cc in
-    (line ∙ ap (λ p. set_line p.0 p.1) (sym is), subst (λ p. IsNodeNumber p.1) (sym is) size.1)
+    (line ∙ ap (λ p. set_line p.0 p.1) (sym is), subst (λ p. IsNodeInRange p.1) (sym is) size.1)
 set_said-some line set e = cc
 
-pub set_said-line : (side : Side) (count : ℕ) → IsNodeNumber count → set_said (set_line side count) ≡ Some (side, count)
+pub set_said-line : (side : Side) (count : ℕ) → IsNodeInRange count → set_said (set_line side count) ≡ Some (side, count)
 unfolding set_said
 set_said-line side count h = rw (node_of-number count h, side_of-word side) refl
 

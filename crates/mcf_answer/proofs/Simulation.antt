@@ -6,15 +6,16 @@ use Rattle.std.specs.Option.{option_map_or, option_or}
 use Rattle.std.proofs.lemmas.List.{length-map, map-append, map-id}
 use Rattle.std.proofs.lemmas.List.Elements.{filter_map-append}
 use Rattle.std.proofs.lemmas.Simd.{map-map}
-use Rattle.mcf_answer.specs.Draft.{after, and_then, answer_or, draft_of, filled, finished, opened, outcome, run, sent_or_priced, set_after, solution_after, with_price, with_said, with_sent}
-use Rattle.mcf_answer.specs.Fits.{as_misfit, fits, fits_after, has_all, is_above_last, is_complete, is_node_above, misfit, misfit_of_lines, misfits, node_lines, price_lines, sent_lines}
+use Rattle.mcf_answer.specs.Draft.{after, and_then, answer_of_draft, opened, run, sent_or_priced, set_after, solution_after, with_price, with_said, with_sent}
+use Rattle.mcf_answer.specs.Fits.{as_misfit, fits, fits_after, has_all, is_above_last, is_complete, is_node_above, misfit, misfit_of_lines, misfits, member_lines, price_lines, sent_lines}
 use Rattle.mcf_answer.specs.Parsing.{answer_of_lines, answer_opened, parsing, parsing_of}
-use Rattle.mcf_answer.specs.Said.{Opening, OpensFlow, OpensSet, OpensRefusal, node_said, opening_said, price_said, sent_said}
+use Rattle.mcf_answer.specs.Said.{Opening, OpensFlow, OpensSet, OpensRefusal, member_said, opening_said, price_said, sent_said}
 use Rattle.mcf_answer.specs.Token.{Token, token_lines, tokens}
 use Rattle.mcf_answer.specs.declared.answers.Answer.{Answer}
 use Rattle.mcf_answer.specs.declared.answers.Sent.{Sent}
 use Rattle.mcf_answer.specs.declared.draft.Draft.{Draft}
 use Rattle.mcf_answer.specs.declared.draft.Draft.TheVariants.{Empty, Flow, Blocked}
+use Rattle.mcf_answer.proofs.LinesRead.{filled, draft_of, answer_or, outcome}
 use Rattle.mcf_answer.proofs.SaidLemmas.{sent_said-some}
 use Rattle.mcf_instance.specs.declared.problem.Side.{Side}
 use Rattle.mcf_text.specs.Fields.{is_kept}
@@ -93,9 +94,9 @@ unfolding after solution_after set_after
 after_filled None others line = refl
 after_filled (Some (OpensRefusal r)) others line = refl
 after_filled (Some (OpensSet side count)) others line =
-    set_step side count (node_lines others) (node_said line)
-    ∙ ap (λ vs. cond (nat_lt (length (node_lines others)) count && is_node_above (node_lines others) line) (Some (Blocked (record { side = side; count = count; nodes = vs }))) None)
-    (sym (more node_said others line (node_said line) refl))
+    set_step side count (member_lines others) (member_said line)
+    ∙ ap (λ vs. cond (nat_lt (length (member_lines others)) count && is_node_above (member_lines others) line) (Some (Blocked (record { side = side; count = count; nodes = vs }))) None)
+    (sym (more member_said others line (member_said line) refl))
 after_filled (Some (OpensFlow cost)) others line =
     flow_step cost (sent_lines others) (price_lines others) (sent_said line) (price_said line) (no_price line)
     ∙ ap (λ d. cond (fits_after (Some (OpensFlow cost)) others line) (Some d) None)
@@ -198,19 +199,19 @@ run_rows-misfits lines =
 
 -- ---- the end
 
-finished-filled : (o : Option Opening) (others : List (List Token)) → finished (filled o others) ≡ cond (has_all o others) (Some (answer_opened o others)) None
-unfolding finished
+finished-filled : (o : Option Opening) (others : List (List Token)) → answer_of_draft (filled o others) ≡ cond (has_all o others) (Some (answer_opened o others)) None
+unfolding answer_of_draft
 finished-filled None others = refl
 finished-filled (Some (OpensFlow cost)) others = refl
 finished-filled (Some (OpensSet side count)) others = refl
 finished-filled (Some (OpensRefusal r)) others = refl
 
-finished-draft_of : (lines : List (List Token)) → finished (draft_of lines) ≡ cond (is_complete lines) (Some (answer_of_lines lines)) None
-unfolding finished is_complete answer_of_lines
+finished-draft_of : (lines : List (List Token)) → answer_of_draft (draft_of lines) ≡ cond (is_complete lines) (Some (answer_of_lines lines)) None
+unfolding answer_of_draft is_complete answer_of_lines
 finished-draft_of [] = refl
 finished-draft_of (first ∷ others) = finished-filled (opening_said first) others
 
-at_end : (o : Option ℕ) (b : Bool) (a : Answer) (d : Draft) (number : ℕ) → finished d ≡ cond b (Some a) None
+at_end : (o : Option ℕ) (b : Bool) (a : Answer) (d : Draft) (number : ℕ) → answer_of_draft d ≡ cond b (Some a) None
     → outcome (unless o d) number ≡ parsing_of (option_or o (cond b None (Some number))) a
 at_end (Some line) b a d number e = refl
 at_end None true a d number e = ap (λ r. answer_or r number) e

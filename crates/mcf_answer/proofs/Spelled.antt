@@ -9,14 +9,14 @@ use Rattle.std.proofs.lemmas.Bool.Decides.{nat_tests}
 use Rattle.std.proofs.lemmas.List.{map-append, nil_from_length}
 use Rattle.std.proofs.lemmas.List.Elements.{All-nil}
 use Rattle.mcf_answer.specs.BlockingSet.{IsBlockingSet}
-use Rattle.mcf_answer.specs.Draft.{after, and_then, answer_or, finished, opened, outcome, sent_or_priced, set_after, solution_after, with_node, with_price, with_said, with_sent}
+use Rattle.mcf_answer.specs.Draft.{after, and_then, answer_of_draft, opened, sent_or_priced, set_after, solution_after, with_member, with_price, with_said, with_sent}
 use Rattle.mcf_answer.specs.Fits.{is_above_last}
 use Rattle.mcf_answer.specs.Parsing.{parsing}
 use Rattle.mcf_answer.specs.PartialSet.{IsPartialSet, PartialSet}
-use Rattle.mcf_answer.specs.Ranges.{IsAmount, IsNodeNumber, line_limit}
-use Rattle.mcf_answer.specs.Said.{Opening, OpensFlow, OpensSet, OpensRefusal, cost_said, node_said, opening_said, opens_set, price_said, refusal_said, sent_said, set_said}
+use Rattle.mcf_answer.specs.Ranges.{IsAmount, IsNodeInRange}
+use Rattle.mcf_answer.specs.Said.{Opening, OpensFlow, OpensSet, OpensRefusal, cost_said, member_said, opening_said, opens_set, price_said, refusal_said, sent_said, set_said}
 use Rattle.mcf_answer.specs.Solution.{IsSent, IsSolution, Solution}
-use Rattle.mcf_answer.specs.Spelling.{IsAnswer, Spells, cost_line, flow_line, node_line, price_line, refusal_line, set_line, solution_lines, spelling}
+use Rattle.mcf_answer.specs.Spelling.{IsAnswer, Spells, cost_line, flow_line, member_line, price_line, refusal_line, set_line, solution_lines, spelling}
 use Rattle.mcf_answer.specs.Token.{Token, tokens}
 use Rattle.mcf_answer.specs.declared.answers.Answer.{Answer}
 use Rattle.mcf_answer.specs.declared.answers.Answer.TheVariants.{Flow as FlowAnswered, Blocked as BlockedAnswered, Refused as RefusedAnswered}
@@ -24,10 +24,12 @@ use Rattle.mcf_answer.specs.declared.answers.Sent.{Sent}
 use Rattle.mcf_answer.specs.declared.draft.Draft.{Draft}
 use Rattle.mcf_answer.specs.declared.draft.Draft.TheVariants.{Empty, Flow, Blocked, Refused}
 use Rattle.mcf_answer.proofs.Appends.{enumerate_from-push}
-use Rattle.mcf_answer.proofs.Grows.{with_node_fits, with_price_fits, with_sent_fits}
-use Rattle.mcf_answer.proofs.SaidLemmas.{cost_said-some, node_said-some, price_said-some, refusal_said-some, sent_said-some, set_said-some}
+use Rattle.mcf_answer.proofs.Grows.{with_member_fits, with_price_fits, with_sent_fits}
+use Rattle.mcf_answer.proofs.LinesRead.{answer_or, outcome}
+use Rattle.mcf_answer.proofs.SaidLemmas.{cost_said-some, member_said-some, price_said-some, refusal_said-some, sent_said-some, set_said-some}
 use Rattle.mcf_answer.proofs.Simulation.{outcome-parsing, run-rows, run_rows}
 use Rattle.mcf_instance.specs.Fault.{Fault}
+use Rattle.mcf_instance.specs.Limits.{line_limit}
 use Rattle.mcf_instance.specs.declared.problem.Side.{Side}
 use Rattle.mcf_text.specs.Lines.{numbered_lines}
 use Rattle.mcf_text.specs.Row.{Row, line_after, rows}
@@ -38,7 +40,7 @@ use Rattle.mcf_text.specs.Row.{Row, line_after, rows}
 abbrev spelled : Draft → List (List Token)
 spelled Empty = []
 spelled (Flow a) = solution_lines a
-spelled (Blocked a) = set_line a.side a.count ∷ map node_line a.nodes
+spelled (Blocked a) = set_line a.side a.count ∷ map member_line a.nodes
 spelled (Refused r) = refusal_line r ∷ []
 
 -- the numbers of a state are in range
@@ -77,7 +79,7 @@ opening_grows line o e = go (cost_said line) (set_said line) (refusal_said line)
         let is : OpensSet set.0 set.1 ≡ o = cc f in
         subst (λ p. Grows Empty line (opened p)) is record {
           lines = ap (λ l. l ∷ []) (sym said.0);
-          in_range = record { some = said.1; few = omega arith; are_nodes = All-nil IsNodeNumber; ascending = increasing_none };
+          in_range = record { some = said.1; few = omega arith; are_nodes = All-nil IsNodeInRange; ascending = increasing_none };
         }
     go None None (Some r) ec es er f =
         let said = refusal_said-some line r er in
@@ -116,13 +118,13 @@ price_grows a line y h e next =
     }
 
 -- a node line
-node_grows : (a : PartialSet) (line : List Token) (v : ℕ) → IsPartialSet a → node_said line ≡ Some v → length a.nodes < a.count → is_above_last a.nodes v ≡ true → Grows (Blocked a) line (Blocked (with_node a v))
+node_grows : (a : PartialSet) (line : List Token) (v : ℕ) → IsPartialSet a → member_said line ≡ Some v → length a.nodes < a.count → is_above_last a.nodes v ≡ true → Grows (Blocked a) line (Blocked (with_member a v))
 node_grows a line v h e room above =
-    let said = node_said-some line v e in
+    let said = member_said-some line v e in
     record {
       lines =
-          ap (λ ls. set_line a.side a.count ∷ ls) (map-append node_line a.nodes (v ∷ []) ∙ ap (λ l. map node_line a.nodes ++ l ∷ []) (sym said.0));
-      in_range = with_node_fits a line v h e room above;
+          ap (λ ls. set_line a.side a.count ∷ ls) (map-append member_line a.nodes (v ∷ []) ∙ ap (λ l. map member_line a.nodes ++ l ∷ []) (sym said.0));
+      in_range = with_member_fits a line v h e room above;
     }
 
 if-taken : {A : Type 0} (b : Bool) (x y : A) → cond b (Some x) None ≡ Some y → (b ≡ true) × (x ≡ y)
@@ -158,12 +160,12 @@ solution_grows a b line h e = go (sent_said line) (price_said line) refl refl e
 
 set_grows : (a b : PartialSet) (line : List Token) → IsPartialSet a → set_after a line ≡ Some b → Grows (Blocked a) line (Blocked b)
 unfolding set_after
-set_grows a b line h e = go (node_said line) refl e
+set_grows a b line h e = go (member_said line) refl e
   where
-    go : (o : Option ℕ) → node_said line ≡ o → with_said a o ≡ Some b → Grows (Blocked a) line (Blocked b)
+    go : (o : Option ℕ) → member_said line ≡ o → with_said a o ≡ Some b → Grows (Blocked a) line (Blocked b)
     go None ev f = cc
     go (Some v) ev f =
-        let t = if-taken (nat_lt (length a.nodes) a.count && is_above_last a.nodes v) (with_node a v) b f in
+        let t = if-taken (nat_lt (length a.nodes) a.count && is_above_last a.nodes v) (with_member a v) b f in
         let both = and-both (nat_lt (length a.nodes) a.count) (is_above_last a.nodes v) t.0 in
         subst (λ d. Grows (Blocked a) line (Blocked d)) t.1 (node_grows a line v h ev (below_from (length a.nodes) a.count both.0) both.1)
 
@@ -203,8 +205,8 @@ run_spelled (row ∷ lines) d e h f = go (after d (tokens row)) refl f (run_spel
         }
 
 -- a state that gives an answer spells it
-finished_spelled : (d : Draft) (a : Answer) → IsDraft d → finished d ≡ Some a → (spelling a ≡ spelled d) × IsAnswer a
-unfolding finished spelling IsAnswer
+finished_spelled : (d : Draft) (a : Answer) → IsDraft d → answer_of_draft d ≡ Some a → (spelling a ≡ spelled d) × IsAnswer a
+unfolding answer_of_draft spelling IsAnswer
 finished_spelled Empty a h e = cc
 finished_spelled (Flow b) a h e =
     let is : FlowAnswered b ≡ a = cc e in
@@ -214,7 +216,7 @@ finished_spelled (Blocked b) a h e =
     let size : length b.nodes ≡ b.count = equal_from (length b.nodes) b.count t.0 in
     let set : IsBlockingSet (record { side = b.side; nodes = b.nodes }) =
     record { nonempty = omega (arith, size, h.some.0); few = omega (arith, size, h.some.1); are_nodes = h.are_nodes; ascending = h.ascending } in
-    subst (λ x. (spelling x ≡ spelled (Blocked b)) × IsAnswer x) t.1 (ap (λ n. set_line b.side n ∷ map node_line b.nodes) size, set)
+    subst (λ x. (spelling x ≡ spelled (Blocked b)) × IsAnswer x) t.1 (ap (λ n. set_line b.side n ∷ map member_line b.nodes) size, set)
 finished_spelled (Refused r) a h e =
     let is : RefusedAnswered r ≡ a = cc e in
     subst (λ x. (spelling x ≡ spelled (Refused r)) × IsAnswer x) is (refl, h)
@@ -224,7 +226,7 @@ pub parsed_spells : (text : List ℕ) (a : Answer) → parsing text ≡ Ok a →
 parsed_spells text a e =
     go (run_rows Empty (rows text)) refl (ap (λ r. outcome r (line_after text)) (sym (run-rows (numbered_lines 1 text) Empty)) ∙ outcome-parsing text ∙ e)
   where
-    at_end : (d : Draft) (o : Option Answer) → finished d ≡ o → run_rows Empty (rows text) ≡ Ok d → answer_or o (line_after text) ≡ Ok a → Spells text a
+    at_end : (d : Draft) (o : Option Answer) → answer_of_draft d ≡ o → run_rows Empty (rows text) ≡ Ok d → answer_or o (line_after text) ≡ Ok a → Spells text a
     at_end d None f g k = cc
     at_end d (Some b) f g k =
         let is : b ≡ a = cc k in
@@ -234,4 +236,4 @@ parsed_spells text a e =
 
     go : (r : Result Draft ℕ) → run_rows Empty (rows text) ≡ r → outcome r (line_after text) ≡ Ok a → Spells text a
     go (Err line) f k = cc
-    go (Ok d) f k = at_end d (finished d) refl f k
+    go (Ok d) f k = at_end d (answer_of_draft d) refl f k

@@ -8,16 +8,16 @@ use Rattle.std.proofs.lemmas.Bool.{not-true}
 use Rattle.std.proofs.lemmas.Bool.Decides.{nat_tests}
 use Rattle.std.proofs.lemmas.Int.{ints}
 use Rattle.std.proofs.lemmas.List.Elements.{All-append, All-cons, All-head, All-nil, All-tail}
-use Rattle.mcf_answer.specs.Ranges.{IsAmount, IsNodeNumber, line_limit}
+use Rattle.mcf_answer.specs.Ranges.{IsAmount, IsNodeInRange}
 use Rattle.mcf_answer.specs.Solution.{IsSent}
-use Rattle.mcf_answer.specs.Spelling.{IsAnswer, Spells, cost_line, flow_line, node_line, price_line, refusal_line, set_line, side_word, spelling}
+use Rattle.mcf_answer.specs.Spelling.{IsAnswer, Spells, cost_line, flow_line, member_line, price_line, refusal_line, set_line, side_word, spelling}
 use Rattle.mcf_answer.specs.Token.{Token, Word, Number, token_lines, token_of, tokens}
 use Rattle.mcf_answer.specs.Written.{line_text, token_text, written}
 use Rattle.mcf_answer.specs.declared.answers.Answer.{Answer}
 use Rattle.mcf_answer.specs.declared.answers.Answer.TheVariants.{Flow, Blocked, Refused}
 use Rattle.mcf_answer.specs.declared.answers.Sent.{Sent}
 use Rattle.mcf_instance.specs.Fault.{Fault, code_word}
-use Rattle.mcf_instance.specs.Limits.{node_limit}
+use Rattle.mcf_instance.specs.Limits.{node_limit, line_limit}
 use Rattle.mcf_instance.specs.declared.code.Code.{Code}
 use Rattle.mcf_instance.specs.declared.code.Code.TheVariants.{Kind, Fields, Problem, Number as NumberCode, SecondP, BeforeP, Size, Node, LateN, Twice, Supply, Bound, Order, Cost, Extra, Side as SideCode, NoP, Missing}
 use Rattle.mcf_instance.specs.declared.problem.Side.{Side}
@@ -255,7 +255,7 @@ plain_set side count few = record {
   each = (plain_number (pos count) (count_fits count (omega (arith, few))), (plain_side side, tt));
 }
 
-plain_node : (v : ℕ) → IsNodeNumber v → IsPlainLine (node_line v)
+plain_node : (v : ℕ) → IsNodeInRange v → IsPlainLine (member_line v)
 plain_node v h = record {
   first = Word (codes "x");
   others = Number (pos v) ∷ [];
@@ -284,7 +284,7 @@ plain_answer : (a : Answer) → IsAnswer a → Each IsPlainLine (spelling a)
 unfolding spelling IsAnswer
 plain_answer (Flow a) h =
     (plain_cost a.cost h.cost_small, each_append (map flow_line a.sent) (map price_line (enumerate_from 1 a.prices)) (each_map IsSent flow_line a.sent h.sent_fit plain_sent) (plain_prices 1 a.prices (omega (arith, h.few_prices)) h.prices_small))
-plain_answer (Blocked a) h = (plain_set a.side (length a.nodes) h.few, each_map IsNodeNumber node_line a.nodes h.are_nodes plain_node)
+plain_answer (Blocked a) h = (plain_set a.side (length a.nodes) h.few, each_map IsNodeInRange member_line a.nodes h.are_nodes plain_node)
 plain_answer (Refused r) h = (plain_refusal r h.1, tt)
 
 -- the written text spells the answer

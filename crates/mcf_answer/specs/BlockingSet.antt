@@ -1,7 +1,7 @@
 -- What a clause sees of a blocked answer.
 use Rattle.std.specs.Prelude.{ℕ, ◌≤◌, List, length, All}
 use Rattle.std.specs.List.Sorted.{IsStrictlyIncreasing}
-use Rattle.mcf_answer.specs.Ranges.{IsNodeNumber}
+use Rattle.mcf_answer.specs.Ranges.{IsNodeInRange}
 use Rattle.mcf_instance.specs.Limits.{node_limit}
 use Rattle.mcf_instance.specs.declared.problem.Side.{Side}
 
@@ -14,5 +14,5 @@ pub record BlockingSet : Type 0 where
 pub record IsBlockingSet (a : BlockingSet) : Type 0 where
   pub nonempty : 1 ≤ length a.nodes
   pub few : length a.nodes ≤ node_limit
-  pub are_nodes : All IsNodeNumber a.nodes
+  pub are_nodes : All IsNodeInRange a.nodes
   pub ascending : IsStrictlyIncreasing a.nodes

@@ -1,9 +1,8 @@
 -- The parser's state: what the lines so far say, and how a line changes it.
-use Rattle.std.specs.Prelude.{ℕ, ◌+◌, ◌==◌, nat_lt, ◌&&◌, if◌then◌else◌, List, [], ◌∷◌, ◌++◌, map, length, ℤ, Option, Some, None, option_map, Result, Ok, Err}
-use Rattle.mcf_answer.specs.Fits.{is_above_last, node_lines, price_lines, sent_lines}
-use Rattle.mcf_answer.specs.Parsing.{no_refusal}
+use Rattle.std.specs.Prelude.{ℕ, ◌+◌, ◌==◌, nat_lt, ◌&&◌, if◌then◌else◌, List, [], ◌∷◌, ◌++◌, length, ℤ, Option, Some, None, option_map, Result, Ok, Err}
+use Rattle.mcf_answer.specs.Fits.{is_above_last}
 use Rattle.mcf_answer.specs.PartialSet.{PartialSet}
-use Rattle.mcf_answer.specs.Said.{Opening, OpensFlow, OpensSet, OpensRefusal, opening_said, sent_said, price_said, node_said}
+use Rattle.mcf_answer.specs.Said.{Opening, OpensFlow, OpensSet, OpensRefusal, opening_said, sent_said, price_said, member_said}
 use Rattle.mcf_answer.specs.Solution.{Solution}
 use Rattle.mcf_answer.specs.Token.{Token, tokens_of}
 use Rattle.mcf_answer.specs.declared.answers.Answer.{Answer}
@@ -11,7 +10,6 @@ use Rattle.mcf_answer.specs.declared.answers.Answer.TheVariants.{Flow as FlowAns
 use Rattle.mcf_answer.specs.declared.answers.Sent.{Sent}
 use Rattle.mcf_answer.specs.declared.draft.Draft.{Draft}
 use Rattle.mcf_answer.specs.declared.draft.Draft.TheVariants.{Empty, Flow, Blocked, Refused}
-use Rattle.mcf_answer.specs.declared.shape.Shape.{Shape}
 use Rattle.mcf_text.specs.Fields.{fields_of, is_kept}
 
 -- ---- one line
@@ -28,8 +26,8 @@ with_sent a s = record { cost = a.cost; sent = a.sent ++ s ∷ []; prices = a.pr
 abbrev pub with_price : Solution → ℤ → Solution
 with_price a z = record { cost = a.cost; sent = a.sent; prices = a.prices ++ z ∷ [] }
 
-abbrev pub with_node : PartialSet → ℕ → PartialSet
-with_node a v = record { side = a.side; count = a.count; nodes = a.nodes ++ v ∷ [] }
+abbrev pub with_member : PartialSet → ℕ → PartialSet
+with_member a v = record { side = a.side; count = a.count; nodes = a.nodes ++ v ∷ [] }
 
 -- a flow answer after a price line
 abbrev pub priced : Solution → Option (ℕ × ℤ) → Option Solution
@@ -44,13 +42,13 @@ sent_or_priced a (Some s) y = if length a.prices == 0 then Some (with_sent a s) 
 unfoldable pub solution_after : Solution → List Token → Option Solution
 solution_after a line = sent_or_priced a (sent_said line) (price_said line)
 
--- a set after a node line
+-- a set after a member line
 abbrev pub with_said : PartialSet → Option ℕ → Option PartialSet
 with_said a None = None
-with_said a (Some v) = if nat_lt (length a.nodes) a.count && is_above_last a.nodes v then Some (with_node a v) else None
+with_said a (Some v) = if nat_lt (length a.nodes) a.count && is_above_last a.nodes v then Some (with_member a v) else None
 
 unfoldable pub set_after : PartialSet → List Token → Option PartialSet
-set_after a line = with_said a (node_said line)
+set_after a line = with_said a (member_said line)
 
 -- the state after a line, if it fits
 unfoldable pub after : Draft → List Token → Option Draft
@@ -58,21 +56,6 @@ after Empty line = option_map opened (opening_said line)
 after (Flow a) line = option_map Flow (solution_after a line)
 after (Blocked a) line = option_map Blocked (set_after a line)
 after (Refused r) line = None
-
--- ---- the lines that a state stands for
-
--- the state of a first line and the lines after it
-abbrev pub filled : Option Opening → List (List Token) → Draft
-filled None others = Refused no_refusal
-filled (Some (OpensFlow cost)) others =
-    Flow (record { cost = cost; sent = sent_lines others; prices = map (λ y. y.1) (price_lines others) })
-filled (Some (OpensSet side count)) others = Blocked (record { side = side; count = count; nodes = node_lines others })
-filled (Some (OpensRefusal r)) others = Refused r
-
--- the state of lines that all fit
-abbrev pub draft_of : List (List Token) → Draft
-draft_of [] = Empty
-draft_of (first ∷ others) = filled (opening_said first) others
 
 -- ---- all lines
 
@@ -88,18 +71,8 @@ run d (line ∷ lines) =
     if is_kept line.1 then and_then (after d (tokens_of (fields_of line.1))) line.0 (λ e. run e lines) else run d lines
 
 -- the answer of a state, if no line is missing
-unfoldable pub finished : Draft → Option Answer
-finished Empty = None
-finished (Flow a) = Some (FlowAnswered a)
-finished (Blocked a) = if length a.nodes == a.count then Some (BlockedAnswered (record { side = a.side; nodes = a.nodes })) else None
-finished (Refused r) = Some (RefusedAnswered r)
-
--- the answer that a state gives at the end, where the line after the last has this number
-abbrev pub answer_or : Option Answer → ℕ → Result Answer Shape
-answer_or None number = Err (record { line = number })
-answer_or (Some a) number = Ok a
-
--- what the lines give: an answer, the number of the first that doesn't fit, or that of the line after the last
-abbrev pub outcome : Result Draft ℕ → ℕ → Result Answer Shape
-outcome (Err line) number = Err (record { line = line })
-outcome (Ok d) number = answer_or (finished d) number
+unfoldable pub answer_of_draft : Draft → Option Answer
+answer_of_draft Empty = None
+answer_of_draft (Flow a) = Some (FlowAnswered a)
+answer_of_draft (Blocked a) = if length a.nodes == a.count then Some (BlockedAnswered (record { side = a.side; nodes = a.nodes })) else None
+answer_of_draft (Refused r) = Some (RefusedAnswered r)

@@ -1,7 +1,7 @@
 -- The lines of a text that fit, and the first that doesn't.
 use Rattle.std.specs.Prelude.{ℕ, ◌+◌, ◌-◌, ◌==◌, nat_lt, Bool, true, false, ◌&&◌, ◌||◌, if◌then◌else◌, List, [], ◌∷◌, map, length, filter_map, ℤ, Option, Some, None, is_some, slice_get}
 use Rattle.std.specs.Option.{option_or, option_map_or}
-use Rattle.mcf_answer.specs.Said.{Opening, OpensFlow, OpensSet, OpensRefusal, opening_said, sent_said, price_said, node_said}
+use Rattle.mcf_answer.specs.Said.{Opening, OpensFlow, OpensSet, OpensRefusal, opening_said, sent_said, price_said, member_said}
 use Rattle.mcf_answer.specs.Token.{Token, tokens}
 use Rattle.mcf_answer.specs.declared.answers.Sent.{Sent}
 use Rattle.mcf_text.specs.Row.{Row, rows, line_after, with_earlier}
@@ -16,9 +16,9 @@ sent_lines lines = filter_map sent_said lines
 abbrev pub price_lines : List (List Token) → List (ℕ × ℤ)
 price_lines lines = filter_map price_said lines
 
--- the nodes of the node lines, in order
-abbrev pub node_lines : List (List Token) → List ℕ
-node_lines lines = filter_map node_said lines
+-- the nodes of the member lines, `x ID`, in order
+abbrev pub member_lines : List (List Token) → List ℕ
+member_lines lines = filter_map member_said lines
 
 -- ---- lines that fit
 
@@ -30,19 +30,19 @@ is_above_last earlier v = option_map_or (λ w. nat_lt w v) (slice_get earlier (l
 abbrev pub is_price_of : ℕ → List Token → Bool
 is_price_of id line = option_map_or (λ y. y.0 == id) (price_said line) false
 
--- a node line whose number is greater than the last of these
+-- a member line whose number is greater than the last of these
 abbrev pub is_node_above : List ℕ → List Token → Bool
-is_node_above earlier line = option_map_or (λ v. is_above_last earlier v) (node_said line) false
+is_node_above earlier line = option_map_or (λ v. is_above_last earlier v) (member_said line) false
 
 -- whether a line fits after a first line that opens an answer, and the lines between the two: a flow line
--- with no price line before it, or the price line of the next number; of a set a node line, where fewer
+-- with no price line before it, or the price line of the next number; of a set a member line, where fewer
 -- nodes stand before it than the set has, and its number is above the last of them
 abbrev pub fits_after : Option Opening → List (List Token) → List Token → Bool
 fits_after None others line = false
 fits_after (Some (OpensFlow cost)) others line =
     (is_some (sent_said line) && length (price_lines others) == 0) || is_price_of (length (price_lines others) + 1) line
 fits_after (Some (OpensSet side count)) others line =
-    nat_lt (length (node_lines others)) count && is_node_above (node_lines others) line
+    nat_lt (length (member_lines others)) count && is_node_above (member_lines others) line
 fits_after (Some (OpensRefusal r)) others line = false
 
 -- whether a line fits, where these are the kept lines before it
@@ -60,11 +60,11 @@ as_misfit line = if fits (map tokens line.0) (tokens line.1) then None else Some
 unfoldable pub misfits : List Row → List ℕ
 misfits lines = filter_map as_misfit (with_earlier lines)
 
--- after a first line that opens a set there are as many node lines as the set has nodes
+-- after a first line that opens a set there are as many member lines as the set has nodes
 abbrev pub has_all : Option Opening → List (List Token) → Bool
 has_all None others = true
 has_all (Some (OpensFlow cost)) others = true
-has_all (Some (OpensSet side count)) others = length (node_lines others) == count
+has_all (Some (OpensSet side count)) others = length (member_lines others) == count
 has_all (Some (OpensRefusal r)) others = true
 
 -- there is a first line, and no line is missing

@@ -1,7 +1,7 @@
 -- What a text stands for as an answer.
 use Rattle.std.specs.Prelude.{ℕ, Bool, List, [], ◌∷◌, map, Option, Some, None, Result, Ok, Err}
 use Rattle.std.specs.List.{list_any}
-use Rattle.mcf_answer.specs.Fits.{misfit, sent_lines, price_lines, node_lines}
+use Rattle.mcf_answer.specs.Fits.{misfit, sent_lines, price_lines, member_lines}
 use Rattle.mcf_answer.specs.Said.{Opening, OpensFlow, OpensSet, OpensRefusal, opening_said}
 use Rattle.mcf_answer.specs.Token.{Token, token_lines}
 use Rattle.mcf_answer.specs.declared.answers.Answer.{Answer}
@@ -21,7 +21,7 @@ abbrev pub answer_opened : Option Opening → List (List Token) → Answer
 answer_opened None others = Refused no_refusal
 answer_opened (Some (OpensFlow cost)) others =
     Flow (record { cost = cost; sent = sent_lines others; prices = map (λ y. y.1) (price_lines others) })
-answer_opened (Some (OpensSet side count)) others = Blocked (record { side = side; nodes = node_lines others })
+answer_opened (Some (OpensSet side count)) others = Blocked (record { side = side; nodes = member_lines others })
 answer_opened (Some (OpensRefusal r)) others = Refused r
 
 -- the answer of lines that all fit

@@ -8,14 +8,10 @@ use Rattle.mcf_instance.specs.WellFormed.{IsUpTo}
 abbrev pub amount_limit : ℕ
 amount_limit = 10 ^ 37
 
--- the greatest number of a line
-abbrev pub line_limit : ℕ
-line_limit = 10 ^ 37
-
 -- a cost, a flow or a price
 abbrev pub IsAmount : ℤ → Type 0
 IsAmount z = IsUpTo amount_limit z
 
 -- the number of a node
-abbrev pub IsNodeNumber : ℕ → Type 0
-IsNodeNumber v = IsNode node_limit v
+abbrev pub IsNodeInRange : ℕ → Type 0
+IsNodeInRange v = IsNode node_limit v

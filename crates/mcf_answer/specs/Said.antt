@@ -1,12 +1,12 @@
 -- What a line says, by its form: a first word, and so many words and numbers in range.
 use Rattle.std.specs.Prelude.{ℕ, if◌then◌else◌, List, [], ◌∷◌, codes, ℤ, pos, neg_ℤ, Option, Some, None, option_map, option_and_then}
 use Rattle.std.specs.Option.{option_or}
-use Rattle.mcf_answer.specs.Ranges.{amount_limit, line_limit}
+use Rattle.mcf_answer.specs.Ranges.{amount_limit}
 use Rattle.mcf_answer.specs.Spelling.{side_word}
 use Rattle.mcf_answer.specs.Token.{Token, Word, Number, is_word}
 use Rattle.mcf_answer.specs.declared.answers.Sent.{Sent}
 use Rattle.mcf_instance.specs.Fault.{Fault, code_of_word}
-use Rattle.mcf_instance.specs.Limits.{node_limit}
+use Rattle.mcf_instance.specs.Limits.{node_limit, line_limit}
 use Rattle.mcf_instance.specs.declared.code.Code.{Code}
 use Rattle.mcf_instance.specs.declared.problem.Side.{Side}
 use Rattle.mcf_instance.specs.declared.problem.Side.TheVariants.{Send, Take}
@@ -71,9 +71,9 @@ set_said (word ∷ count ∷ side ∷ []) =
 set_said line = None
 
 -- the node of a line `x ID`
-unfoldable pub node_said : List Token → Option ℕ
-node_said (word ∷ id ∷ []) = if is_word (codes "x") word then node_of id else None
-node_said line = None
+unfoldable pub member_said : List Token → Option ℕ
+member_said (word ∷ id ∷ []) = if is_word (codes "x") word then node_of id else None
+member_said line = None
 
 -- the refusal of a line `r LINE CODE`
 unfoldable pub refusal_said : List Token → Option Fault

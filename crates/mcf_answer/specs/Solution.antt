@@ -1,6 +1,6 @@
 -- What a clause sees of a flow answer.
 use Rattle.std.specs.Prelude.{◌≤◌, List, length, ℤ, All}
-use Rattle.mcf_answer.specs.Ranges.{IsAmount, IsNodeNumber}
+use Rattle.mcf_answer.specs.Ranges.{IsAmount, IsNodeInRange}
 use Rattle.mcf_answer.specs.declared.answers.Sent.{Sent}
 use Rattle.mcf_instance.specs.Limits.{node_limit}
 
@@ -13,8 +13,8 @@ pub record Solution : Type 0 where
 
 -- both ends are numbers of nodes, and the flow is in range
 pub record IsSent (s : Sent) : Type 0 where
-  pub src_is_node : IsNodeNumber s.src
-  pub dst_is_node : IsNodeNumber s.dst
+  pub src_is_node : IsNodeInRange s.src
+  pub dst_is_node : IsNodeInRange s.dst
   pub flow_small : IsAmount s.flow
 
 -- the numbers are in range

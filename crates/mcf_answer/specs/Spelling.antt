@@ -2,13 +2,13 @@
 use Rattle.std.specs.Prelude.{◌≡◌, ℕ, ◌≤◌, List, [], ◌∷◌, ◌++◌, map, length, codes, ℤ, pos}
 use Rattle.std.specs.List.{enumerate_from}
 use Rattle.mcf_answer.specs.BlockingSet.{BlockingSet, IsBlockingSet}
-use Rattle.mcf_answer.specs.Ranges.{line_limit}
 use Rattle.mcf_answer.specs.Solution.{Solution, IsSolution}
 use Rattle.mcf_answer.specs.Token.{Token, Word, Number, token_lines}
 use Rattle.mcf_answer.specs.declared.answers.Answer.{Answer}
 use Rattle.mcf_answer.specs.declared.answers.Answer.TheVariants.{Flow, Blocked, Refused}
 use Rattle.mcf_answer.specs.declared.answers.Sent.{Sent}
 use Rattle.mcf_instance.specs.Fault.{Fault, code_word}
+use Rattle.mcf_instance.specs.Limits.{line_limit}
 use Rattle.mcf_instance.specs.declared.problem.Side.{Side}
 use Rattle.mcf_instance.specs.declared.problem.Side.TheVariants.{Send, Take}
 
@@ -35,8 +35,8 @@ abbrev pub set_line : Side → ℕ → List Token
 set_line side count = Word (codes "i") ∷ Number (pos count) ∷ Word (side_word side) ∷ []
 
 -- `x ID`
-abbrev pub node_line : ℕ → List Token
-node_line v = Word (codes "x") ∷ Number (pos v) ∷ []
+abbrev pub member_line : ℕ → List Token
+member_line v = Word (codes "x") ∷ Number (pos v) ∷ []
 
 -- `r LINE CODE`
 abbrev pub refusal_line : Fault → List Token
@@ -49,7 +49,7 @@ abbrev pub solution_lines : Solution → List (List Token)
 solution_lines a = cost_line a.cost ∷ map flow_line a.sent ++ map price_line (enumerate_from 1 a.prices)
 
 abbrev pub set_lines : BlockingSet → List (List Token)
-set_lines a = set_line a.side (length a.nodes) ∷ map node_line a.nodes
+set_lines a = set_line a.side (length a.nodes) ∷ map member_line a.nodes
 
 -- the lines of an answer, each a list of words and numbers
 unfoldable pub spelling : Answer → List (List Token)

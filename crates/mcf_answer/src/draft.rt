@@ -1,6 +1,6 @@
 //! The parser's state: what the lines so far say.
 use crate::answers::{Answer, BlockedAnswer, FlowAnswer};
-use crate::line::{cost_line, flow_line, node_line, price_line, refusal_line, set_line};
+use crate::line::{cost_line, flow_line, member_line, price_line, refusal_line, set_line};
 use crate::lists::{NodeList, PriceList, SentList};
 use mcf_instance::{Refusal, Side};
 use mcf_text::{NoMemory, NodeId};
@@ -41,13 +41,13 @@ pub(crate) enum Draft {
 impl FlowAnswer {
     ghost use Rattle.std.specs.Prelude.{◌≡◌, IfOk, Some, None, if◌then◌else◌};
     ghost use Rattle.mcf_answer.specs.Draft.{priced, solution_after};
-    ghost use Rattle.mcf_answer.specs.Ranges.{IsAmount, IsNodeNumber};
+    ghost use Rattle.mcf_answer.specs.Ranges.{IsAmount, IsNodeInRange};
     ghost use Rattle.mcf_answer.specs.Token.{tokens_of};
     ghost use Rattle.mcf_text.specs.Fields.{fields_of};
 
     // Takes the price of a node in, if it is the next node.
     fn take_price(&mut self, id: NodeId, price: i128) -> Result<bool, NoMemory>
-        requires node { IsNodeNumber id }
+        requires node { IsNodeInRange id }
         requires amount { IsAmount price }
         ensures { IfOk result (λ fit. (if fit then Some self.new else None) ≡ priced self.old (Some (id, price))) }
     {
@@ -88,7 +88,7 @@ impl SetDraft {
     fn take(&mut self, line: &[u8]) -> Result<bool, NoMemory>
         ensures { IfOk result (λ fit. (if fit then Some self.new else None) ≡ set_after self.old (tokens_of (fields_of line.now))) }
     {
-        let Some(node) = node_line(line) else {
+        let Some(node) = member_line(line) else {
             return Ok(false);
         };
         if self.nodes.len() < self.count as usize && self.nodes.is_below(node) {
@@ -102,7 +102,7 @@ impl SetDraft {
 
 impl Draft {
     ghost use Rattle.std.specs.Prelude.{◌≡◌, IfOk, Some, None, if◌then◌else◌, option_map};
-    ghost use Rattle.mcf_answer.specs.Draft.{after, finished, opened};
+    ghost use Rattle.mcf_answer.specs.Draft.{after, answer_of_draft, opened};
     ghost use Rattle.mcf_answer.specs.Said.{opening_said};
     ghost use Rattle.mcf_answer.specs.Token.{tokens_of};
     ghost use Rattle.mcf_text.specs.Fields.{fields_of};
@@ -150,9 +150,9 @@ impl Draft {
     }
 
     /// The answer, if no line is missing.
-    #[tactic(auto, unfolding(crate::specs::Draft::finished))]
+    #[tactic(auto, unfolding(crate::specs::Draft::answer_of_draft))]
     pub(crate) fn finish(self) -> Option<Answer>
-        ensures { result ≡ finished self }
+        ensures { result ≡ answer_of_draft self }
     {
         match self {
             Draft::Empty => None,

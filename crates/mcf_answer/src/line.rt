@@ -1,10 +1,11 @@
 //! What a line of an answer text says.
 ghost use Rattle.std.specs.Prelude.{◌≡◌, ◌≤◌, ◌^◌, false, IfSome};
-ghost use Rattle.mcf_answer.specs.Ranges.{IsAmount, IsNodeNumber};
-ghost use Rattle.mcf_answer.specs.Said.{amount_of, code_of, cost_said, line_number_of, node_of, node_said, number_within, price_said, refusal_said, sent_said, set_said, side_of};
+ghost use Rattle.mcf_answer.specs.Ranges.{IsAmount, IsNodeInRange};
+ghost use Rattle.mcf_answer.specs.Said.{amount_of, code_of, cost_said, line_number_of, node_of, member_said, number_within, price_said, refusal_said, sent_said, set_said, side_of};
 ghost use Rattle.mcf_answer.specs.Token.{is_word, token_of, tokens_of};
 ghost use Rattle.mcf_text.specs.Fields.{fields_of};
 ghost use Rattle.mcf_text.specs.Whole.{is_whole};
+ghost use Rattle.mcf_instance.specs.Limits.{line_limit};
 
 use crate::answers::Sent;
 use mcf_instance::{Code, Refusal, Side};
@@ -36,7 +37,7 @@ fn amount(field: &[u8]) -> Option<i128>
 // The number of a node, or how many there are.
 fn count(field: &[u8]) -> Option<u32>
     ensures value { result ≡ node_of (token_of field.now) }
-    ensures in_range { IfSome result IsNodeNumber }
+    ensures in_range { IfSome result IsNodeInRange }
 {
     let value = number(field, 1, 1_000_000)?;
     Some(value as u32)
@@ -45,7 +46,7 @@ fn count(field: &[u8]) -> Option<u32>
 // A node.
 fn node(field: &[u8]) -> Option<NodeId>
     ensures value { result ≡ node_of (token_of field.now) }
-    ensures in_range { IfSome result IsNodeNumber }
+    ensures in_range { IfSome result IsNodeInRange }
 {
     let value = count(field)?;
     Some(NodeId::new(value))
@@ -54,7 +55,7 @@ fn node(field: &[u8]) -> Option<NodeId>
 // The number of a line.
 fn line_number(field: &[u8]) -> Option<u128>
     ensures value { result ≡ line_number_of (token_of field.now) }
-    ensures in_range { IfSome result (λ n. (1 ≤ n) × (n ≤ 10 ^ 37)) }
+    ensures in_range { IfSome result (λ n. (1 ≤ n) × (n ≤ line_limit)) }
 {
     let value = number(field, 1, LIMIT)?;
     Some(value as u128)
@@ -130,7 +131,7 @@ pub(crate) fn flow_line(line: &[u8]) -> Option<Sent>
 #[tactic(auto, unfolding(crate::specs::Said::price_said))]
 pub(crate) fn price_line(line: &[u8]) -> Option<(NodeId, i128)>
     ensures value { result ≡ price_said (tokens_of (fields_of line.now)) }
-    ensures in_range { IfSome result (λ y. IsNodeNumber y.0 × IsAmount y.1) }
+    ensures in_range { IfSome result (λ y. IsNodeInRange y.0 × IsAmount y.1) }
 {
     let mut parts = fields(line);
     let word = parts.next()?;
@@ -146,7 +147,7 @@ pub(crate) fn price_line(line: &[u8]) -> Option<(NodeId, i128)>
 #[tactic(auto, unfolding(crate::specs::Said::set_said))]
 pub(crate) fn set_line(line: &[u8]) -> Option<(Side, u32)>
     ensures value { result ≡ set_said (tokens_of (fields_of line.now)) }
-    ensures in_range { IfSome result (λ set. IsNodeNumber set.1) }
+    ensures in_range { IfSome result (λ set. IsNodeInRange set.1) }
 {
     let mut parts = fields(line);
     let word = parts.next()?;
@@ -160,9 +161,9 @@ pub(crate) fn set_line(line: &[u8]) -> Option<(Side, u32)>
 }
 
 /// The node of a line `x ID`.
-#[tactic(auto, unfolding(crate::specs::Said::node_said))]
-pub(crate) fn node_line(line: &[u8]) -> Option<NodeId>
-    ensures { result ≡ node_said (tokens_of (fields_of line.now)) }
+#[tactic(auto, unfolding(crate::specs::Said::member_said))]
+pub(crate) fn member_line(line: &[u8]) -> Option<NodeId>
+    ensures { result ≡ member_said (tokens_of (fields_of line.now)) }
 {
     let mut parts = fields(line);
     let word = parts.next()?;

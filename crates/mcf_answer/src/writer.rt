@@ -5,7 +5,7 @@ ghost use Rattle.std.specs.List.{enumerate_from};
 ghost use Rattle.mcf_answer.specs.BlockingSet.{IsBlockingSet};
 ghost use Rattle.mcf_answer.specs.Parsing.{parsing};
 ghost use Rattle.mcf_answer.specs.Solution.{IsSolution};
-ghost use Rattle.mcf_answer.specs.Spelling.{IsAnswer, Spells, flow_line, node_line, price_line, set_lines, side_word as side_word_of, solution_lines};
+ghost use Rattle.mcf_answer.specs.Spelling.{IsAnswer, Spells, flow_line, member_line, price_line, set_lines, side_word as side_word_of, solution_lines};
 ghost use Rattle.mcf_answer.specs.Token.{Word, Number};
 ghost use Rattle.mcf_answer.specs.Written.{line_text, written};
 
@@ -147,13 +147,13 @@ fn put_price(out: &mut Vec<u8>, id: usize, price: i128) -> Result<(), NoMemory>
     put_line(out, b"y", &[id as i128, price])
 }
 
-// Appends the node lines.
+// Appends the member lines.
 #[tactic(auto, using(crate::proofs::Appends::keeps))]
 fn put_nodes(out: &mut Vec<u8>, nodes: &[NodeId]) -> Result<(), NoMemory>
-    ensures ok { OnOk result (out.new.items ≡ out.old.items ++ flat_map line_text (map node_line nodes.now)) }
+    ensures ok { OnOk result (out.new.items ≡ out.old.items ++ flat_map line_text (map member_line nodes.now)) }
     ensures err { OnErr result (take (length out.old.items) out.new.items ≡ out.old.items) }
     ensures capacity { vec_capacity out.old ≤ vec_capacity out.new }
-    ensures refused { OnErr result (vec_capacity out.old < vec_len out.old + length (flat_map line_text (map node_line nodes.now))) }
+    ensures refused { OnErr result (vec_capacity out.old < vec_len out.old + length (flat_map line_text (map member_line nodes.now))) }
 {
     for node in nodes {
         put_node(out, *node)?;
@@ -163,10 +163,10 @@ fn put_nodes(out: &mut Vec<u8>, nodes: &[NodeId]) -> Result<(), NoMemory>
 
 // Appends the line of a node.
 fn put_node(out: &mut Vec<u8>, node: NodeId) -> Result<(), NoMemory>
-    ensures ok { OnOk result (out.new.items ≡ out.old.items ++ line_text (node_line node)) }
+    ensures ok { OnOk result (out.new.items ≡ out.old.items ++ line_text (member_line node)) }
     ensures err { OnErr result (take (length out.old.items) out.new.items ≡ out.old.items) }
     ensures capacity { vec_capacity out.old ≤ vec_capacity out.new }
-    ensures refused { OnErr result (vec_capacity out.old < vec_len out.old + length (line_text (node_line node))) }
+    ensures refused { OnErr result (vec_capacity out.old < vec_len out.old + length (line_text (member_line node))) }
 {
     put_line(out, b"x", &[i128::from(node.get())])
 }

@@ -9,12 +9,12 @@ use Rattle.std.proofs.lemmas.Option.{get_or_from_slice_get, none-some, slice_get
 use Rattle.mcf_answer.specs.declared.answers.Sent.{Sent}
 use Rattle.mcf_checker.specs.Correct.{amounts}
 use Rattle.mcf_instance.specs.declared.arc.Arc.{Arc}
-use Rattle.mcf_instance.specs.Flow.{CanCarry, IsWithinBounds}
+use Rattle.mcf_instance.specs.Flow.{CanCarry, IsWithinBounds, AreNets}
 use Rattle.mcf_instance.specs.Limits.{arc_limit, total_limit, wide_limits}
-use Rattle.mcf_instance.specs.WellFormed.{HasEnds, IsArcWithin, weight}
+use Rattle.mcf_instance.specs.WellFormed.{HasEnds, IsArcWithinLimits, weight}
 use Rattle.mcf_instance.proofs.AllZips.{length-AllZip}
 use Rattle.mcf_instance.proofs.Bounds.{CostStep, cost_step}
-use Rattle.mcf_instance.proofs.NetSteps.{AreNets, NetStep, NetStepSecond, net_step, net_step_second}
+use Rattle.mcf_instance.proofs.NetSteps.{NetStep, NetStepSecond, net_step, net_step_second}
 
 -- what holds of each arc holds of one that is read
 pub arc_has : (P : Arc → Type 0) (arcs : List Arc) (i : ℕ) (a : Arc) → slice_get arcs i ≡ Some a → All P arcs → P a
@@ -41,11 +41,11 @@ module _ (arcs : List Arc) (sent : List Sent) (i : ℕ) (a : Arc) (s : Sent) (at
   flow_is : get_or (amounts sent) i s.flow ≡ s.flow
   flow_is = get_or-map (λ t. t.flow) sent i s ∙ ap (λ t. t.flow) (sym is)
 
-  pub cost_at : All (IsArcWithin wide_limits) arcs → sum (map weight arcs) ≤ total_limit → IsWithinBounds arcs (amounts sent) → i < length sent → CostStep arcs (amounts sent) i a s.flow
+  pub cost_at : All (IsArcWithinLimits wide_limits) arcs → sum (map weight arcs) ≤ total_limit → IsWithinBounds arcs (amounts sent) → i < length sent → CostStep arcs (amounts sent) i a s.flow
   cost_at small total bounds h =
       rw (arc_is, flow_is) at (cost_step arcs (amounts sent) i a s.flow small total bounds (omega (arith, count_is arcs sent bounds)))
 
-  module _ (nodes : ℕ) (nets : List ℤ) (u v : ℕ) (src : u ≡ a.src) (dst : v ≡ a.dst) (ends : All (HasEnds nodes) arcs) (small : All (IsArcWithin wide_limits) arcs) (count : length arcs ≤ arc_limit) (bounds : IsWithinBounds arcs (amounts sent)) (known : AreNets nodes (take i arcs) (amounts sent) nets) (h : i < length sent) where
+  module _ (nodes : ℕ) (nets : List ℤ) (u v : ℕ) (src : u ≡ a.src) (dst : v ≡ a.dst) (ends : All (HasEnds nodes) arcs) (small : All (IsArcWithinLimits wide_limits) arcs) (count : length arcs ≤ arc_limit) (bounds : IsWithinBounds arcs (amounts sent)) (known : AreNets nodes (take i arcs) (amounts sent) nets) (h : i < length sent) where
     src_is : (get_or arcs i a).src ≡ u
     src_is = ap (λ b. b.src) arc_is ∙ sym src
 

@@ -1,7 +1,10 @@
+pub use Rattle.mcf_answer.specs.Parsing
 pub use Rattle.mcf_answer.specs.Spelling
+pub use Rattle.mcf_instance.specs.Fault
 pub use Rattle.mcf_instance.specs.Flow
 pub use Rattle.mcf_instance.specs.Limits
 pub use Rattle.mcf_instance.specs.Reading
+pub use Rattle.mcf_text.specs.Row
 pub mod Correct
 pub mod Failures
 pub mod Judging

@@ -5,11 +5,10 @@ ghost use Rattle.std.specs.Ordering.{int_eq};
 ghost use Rattle.mcf_answer.specs.Ranges.{IsAmount};
 ghost use Rattle.mcf_checker.specs.Correct.{amounts};
 ghost use Rattle.mcf_checker.specs.Judging.{arc_agrees, bad_arc, bad_node, bad_price, is_loose, least_up_to, option_is_loose, solution_verdict};
-ghost use Rattle.mcf_instance.specs.Flow.{IsWithinBounds, cost, reduced_cost};
+ghost use Rattle.mcf_instance.specs.Flow.{IsWithinBounds, cost, reduced_cost, AreNets};
 ghost use Rattle.mcf_instance.specs.Limits.{limits, wide_limits};
 ghost use Rattle.mcf_instance.specs.Network.{at_node, node_count};
-ghost use Rattle.mcf_instance.specs.WellFormed.{HasEnds, IsArcWithin, IsWellFormed};
-ghost use Rattle.mcf_instance.proofs.NetSteps.{AreNets};
+ghost use Rattle.mcf_instance.specs.WellFormed.{HasEnds, IsArcWithinLimits, IsWellFormed};
 
 use crate::verdict::Verdict;
 use mcf_answer::{FlowAnswer, Sent};
@@ -125,7 +124,7 @@ fn first_bad_node(
 // The cost of the arc less the price of its first end plus that of its second.
 fn reduced_cost_of(arc: &Arc, prices: &[i128]) -> i128
     requires ends { HasEnds (length prices.now) arc.now }
-    requires limits { IsArcWithin wide_limits arc.now }
+    requires limits { IsArcWithinLimits wide_limits arc.now }
     requires prices { All IsAmount prices.now }
     ensures { result ≡ reduced_cost prices.now arc.now }
 {
@@ -135,7 +134,7 @@ fn reduced_cost_of(arc: &Arc, prices: &[i128]) -> i128
 // Whether the prices don't show the flow of the arc.
 fn is_loose(arc: &Arc, prices: &[i128], flow: i128) -> bool
     requires ends { HasEnds (length prices.now) arc.now }
-    requires limits { IsArcWithin wide_limits arc.now }
+    requires limits { IsArcWithinLimits wide_limits arc.now }
     requires prices { All IsAmount prices.now }
     ensures { result ≡ is_loose prices.now (arc.now, flow) }
 {

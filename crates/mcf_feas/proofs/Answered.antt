@@ -5,14 +5,14 @@ use Rattle.mcf_instance.specs.Flow.{IsFeasible}
 use Rattle.mcf_instance.specs.Network.{Network}
 use Rattle.mcf_instance.proofs.Hoffman.{blocked_has_no_flow_lem}
 use Rattle.mcf_network.specs.Nets.{IsNet}
-use Rattle.mcf_network.specs.States.{Flow}
+use Rattle.mcf_network.specs.States.{Pseudoflow}
 use Rattle.mcf_feas.specs.declared.feas.Feas.TheVariants.{Flow as WithFlow, Blocked}
 use Rattle.mcf_network.proofs.StuckLaws.{feasible_of_state}
 use Rattle.mcf_feas.specs.Feasible.{IsFeasibleState}
 use Rattle.mcf_feas.specs.Exactness.{AnswersAreExact, BlockedHasNoState}
 
 -- a state without surplus is a feasible flow of its net
-flow_of_state : (g : Network) (s : Flow) → IsFeasibleState g s → IsFeasible g s.amounts
+flow_of_state : (g : Network) (s : Pseudoflow) → IsFeasibleState g s → IsFeasible g s.amounts
 flow_of_state g s ok =
     subst (λ (n : Network). IsFeasible n s.amounts) ok.of_net (feasible_of_state s ok.flow ok.no_surplus)
 

@@ -5,7 +5,7 @@ use Rattle.mcf_instance.specs.declared.problem.Side.TheVariants.{Send, Take}
 use Rattle.mcf_instance.specs.Blocking.{in_table}
 use Rattle.mcf_instance.specs.Network.{Network, IsNode, node_count}
 use Rattle.mcf_network.specs.Nets.{IsNet}
-use Rattle.mcf_network.specs.States.{Flow, IsFlow}
+use Rattle.mcf_network.specs.States.{Pseudoflow, IsPseudoflow}
 use Rattle.mcf_network.specs.Stuck.{IsStuck}
 use Rattle.mcf_feas.specs.Chosen.{IsChosenBlock, supply_total}
 use Rattle.mcf_network.proofs.StuckLaws.{stuck_sets_block_lem}
@@ -17,8 +17,7 @@ module _ (g : Network) (table : List Bool) (ok : IsNet g) (n : length table ≡ 
       record {
         one_per_node = n;
         blocks = whole_takes g (in_table table) ok all h;
-        take = (λ e. h, λ l. refl);
-        whole = λ ne. all;
+        chosen = record { take = (λ e. h, λ l. refl); whole = λ ne. all };
       }
 
   pub chosen_send : pos 0 <ℤ supply_total g → IsChosenBlock g table Send
@@ -26,15 +25,13 @@ module _ (g : Network) (table : List Bool) (ok : IsNet g) (n : length table ≡ 
       record {
         one_per_node = n;
         blocks = whole_sends g (in_table table) ok all h;
-        take = (λ e. cc, λ l. absurd (omega (arith, ints, l, h)));
-        whole = λ ne. all;
+        chosen = record { take = (λ e. cc, λ l. absurd (omega (arith, ints, l, h))); whole = λ ne. all };
       }
 
-pub chosen_stuck : (s : Flow) (table : List Bool) → IsFlow s → length table ≡ node_count s.net → IsStuck s (in_table table) → supply_total s.net ≡ pos 0 → IsChosenBlock s.net table Send
+pub chosen_stuck : (s : Pseudoflow) (table : List Bool) → IsPseudoflow s → length table ≡ node_count s.net → IsStuck s (in_table table) → supply_total s.net ≡ pos 0 → IsChosenBlock s.net table Send
 chosen_stuck s table ok n stuck balanced =
     record {
       one_per_node = n;
       blocks = stuck_sets_block_lem s (in_table table) ok stuck;
-      take = (λ e. cc, λ l. absurd (omega (arith, ints, l, balanced)));
-      whole = λ ne. absurd (ne balanced);
+      chosen = record { take = (λ e. cc, λ l. absurd (omega (arith, ints, l, balanced))); whole = λ ne. absurd (ne balanced) };
     }

@@ -4,7 +4,7 @@ use Rattle.std.proofs.lemmas.Int.{ints}
 use Rattle.std.proofs.lemmas.Bool.{cases_eq}
 use Rattle.mcf_instance.specs.Network.{IsNode, node_count, node_sum, when}
 use Rattle.mcf_instance.proofs.NodeSums.{node_sum-in, node_sum-same, node_sum-sub, node_sum_at_least_zero}
-use Rattle.mcf_network.specs.States.{Flow, surplus_at}
+use Rattle.mcf_network.specs.States.{Pseudoflow, surplus_at}
 use Rattle.mcf_network.proofs.StateLaws.{when-same, when-other}
 use Rattle.mcf_feas.specs.Searching.{IsAugmented}
 
@@ -43,10 +43,10 @@ module _ (n : ℕ) (f g : ℕ → ℤ) (u w : ℕ) (x : ℤ) (moved : (v : ℕ) 
       omega (arith, ints, one, split, same)
 
 -- the total of the surpluses above 0
-unfoldable pub excess : Flow → ℕ
+unfoldable pub excess : Pseudoflow → ℕ
 excess s = above_zero (node_sum (λ v. pos (above_zero (surplus_at s v))) (node_count s.net))
 
-pub excess_falls : (s s' : Flow) → IsAugmented s s' → excess s' < excess s
+pub excess_falls : (s s' : Pseudoflow) → IsAugmented s s' → excess s' < excess s
 unfolding excess
 excess_falls s s' step =
     let n = node_count s.net in

@@ -12,7 +12,7 @@ use Rattle.mcf_network.specs.declared.rid.Rid.{Rid}
 use Rattle.mcf_network.specs.NodeSets.{no_nodes, with_node}
 use Rattle.mcf_network.specs.Residual.{tail, head}
 use Rattle.mcf_network.specs.Stars.{Leaves, ListsLeaving}
-use Rattle.mcf_network.specs.States.{Flow, IsFlow, room_of, surplus_at}
+use Rattle.mcf_network.specs.States.{Pseudoflow, IsPseudoflow, room_of, surplus_at}
 use Rattle.mcf_network.specs.Stuck.{IsStuck}
 use Rattle.mcf_network.specs.Walks.{HasRoom}
 use Rattle.mcf_network.proofs.ArcLaws.{tail_is_node}
@@ -43,7 +43,7 @@ node_new : (visits : List Visit) (v : ℕ) (link : Option Link) (i : ℕ) → le
 node_new visits v link i h = ap (λ (x : Visit). x.node) (at_new visits v link i h)
 
 -- a way to reach an old node stays one
-reached_old : (s : Flow) (visits : List Visit) (v : ℕ) (link : Option Link) (i : ℕ) (old : Option Link) → i < length visits → IsReachedBy s visits i old → IsReachedBy s (pushed_visit visits v link) i old
+reached_old : (s : Pseudoflow) (visits : List Visit) (v : ℕ) (link : Option Link) (i : ℕ) (old : Option Link) → i < length visits → IsReachedBy s visits i old → IsReachedBy s (pushed_visit visits v link) i old
 reached_old s visits v link i None h by = rw (node_old visits v link i h) by
 reached_old s visits v link i (Some l) h by =
     let earlier = by.earlier in
@@ -55,17 +55,17 @@ reached_old s visits v link i (Some l) h by =
     }
 
 -- how a node comes to be the next: it has a surplus, or a residual arc with room leads to it from a visited one
-pub record IsNextLink (s : Flow) (visits : List Visit) (v : ℕ) (l : Link) : Type 0 where
+pub record IsNextLink (s : Pseudoflow) (visits : List Visit) (v : ℕ) (l : Link) : Type 0 where
   pub earlier : l.place < length visits
   pub room : HasRoom s l.along
   pub from : tail s.net l.along ≡ node_at visits l.place
   pub to : head s.net l.along ≡ v
 
-abbrev pub IsNext : Flow → List Visit → ℕ → Option Link → Type 0
+abbrev pub IsNext : Pseudoflow → List Visit → ℕ → Option Link → Type 0
 IsNext s visits v None = pos 0 <ℤ surplus_at s v
 IsNext s visits v (Some l) = IsNextLink s visits v l
 
-reached_new : (s : Flow) (visits : List Visit) (v : ℕ) (link : Option Link) → IsNext s visits v link → IsReachedBy s (pushed_visit visits v link) (length visits) link
+reached_new : (s : Pseudoflow) (visits : List Visit) (v : ℕ) (link : Option Link) → IsNext s visits v link → IsReachedBy s (pushed_visit visits v link) (length visits) link
 reached_new s visits v None next = rw (node_new visits v None (length visits) refl) next
 reached_new s visits v (Some l) next =
     let earlier = next.earlier in
@@ -76,7 +76,7 @@ reached_new s visits v (Some l) next =
       to = next.to ∙ sym (node_new visits v (Some l) (length visits) refl);
     }
 
-module _ (s : Flow) (table : List Bool) (visits : List Visit) (v : ℕ) (link : Option Link) (ok : IsSearch s table visits) (h : IsNode (node_count s.net) v) (new : in_table table v ≡ false) (next : IsNext s visits v link) where
+module _ (s : Pseudoflow) (table : List Bool) (visits : List Visit) (v : ℕ) (link : Option Link) (ok : IsSearch s table visits) (h : IsNode (node_count s.net) v) (new : in_table table v ≡ false) (next : IsNext s visits v link) where
   in_range : IsNode (length table) v
   in_range = omega (arith, ok.nodes)
 
@@ -134,12 +134,12 @@ module _ (s : Flow) (table : List Bool) (visits : List Visit) (v : ℕ) (link : 
 -- ---- the nodes with a surplus
 
 -- the nodes up to k that have a surplus are visited, and no node after them
-pub record IsStarted (s : Flow) (table : List Bool) (visits : List Visit) (k : ℕ) : Type 0 where
+pub record IsStarted (s : Pseudoflow) (table : List Bool) (visits : List Visit) (k : ℕ) : Type 0 where
   pub scanned : IsScanned s table visits 0
   pub untouched : (v : ℕ) → k < v → in_table table v ≡ false
   pub sources : (v : ℕ) → IsNode (node_count s.net) v → v ≤ k → pos 0 <ℤ surplus_at s v → in_table table v ≡ true
 
-pub started_first : (s : Flow) → IsStarted s (no_nodes (node_count s.net)) [] 0
+pub started_first : (s : Pseudoflow) → IsStarted s (no_nodes (node_count s.net)) [] 0
 started_first s =
     let n = node_count s.net in
     record {
@@ -163,7 +163,7 @@ started_first s =
       sources = λ v h l. absurd (omega arith);
     }
 
-module _ (s : Flow) (table : List Bool) (visits : List Visit) (k v : ℕ) (old : IsStarted s table visits k) (is : v ≡ k + 1) where
+module _ (s : Pseudoflow) (table : List Bool) (visits : List Visit) (k v : ℕ) (old : IsStarted s table visits k) (is : v ≡ k + 1) where
   pub started_push : IsNode (node_count s.net) v → pos 0 <ℤ surplus_at s v → IsStarted s (with_node table v) (pushed_visit visits v None) (k + 1)
   started_push h high =
       let ok = old.scanned.search in
@@ -190,11 +190,11 @@ module _ (s : Flow) (table : List Bool) (visits : List Visit) (k v : ℕ) (old :
       }
 
 -- where none is visited, none has a surplus
-pub none_started : (s : Flow) (table : List Bool) (visits : List Visit) (k : ℕ) → IsStarted s table visits k → node_count s.net ≤ k → length visits ≡ 0 → (v : ℕ) → IsNode (node_count s.net) v → surplus_at s v ≤ℤ pos 0
+pub none_started : (s : Pseudoflow) (table : List Bool) (visits : List Visit) (k : ℕ) → IsStarted s table visits k → node_count s.net ≤ k → length visits ≡ 0 → (v : ℕ) → IsNode (node_count s.net) v → surplus_at s v ≤ℤ pos 0
 none_started s table visits k ok all none v h =
     by_lt_z (pos 0) (surplus_at s v) (λ p. absurd (let w = ok.scanned.search.every v h (ok.sources v h (omega arith) p) in omega (arith, w.1, none))) (λ p. p)
 
-pub started_end : (s : Flow) (table : List Bool) (visits : List Visit) (k n : ℕ) (empty : Bool) → IsStarted s table visits k → node_count s.net ≤ k → n ≡ length visits → empty ≡ eqb n 0 → MatchBool (not empty) (0 < length visits) ((v : ℕ) → IsNode (node_count s.net) v → surplus_at s v ≤ℤ pos 0)
+pub started_end : (s : Pseudoflow) (table : List Bool) (visits : List Visit) (k n : ℕ) (empty : Bool) → IsStarted s table visits k → node_count s.net ≤ k → n ≡ length visits → empty ≡ eqb n 0 → MatchBool (not empty) (0 < length visits) ((v : ℕ) → IsNode (node_count s.net) v → surplus_at s v ≤ℤ pos 0)
 started_end s table visits k n empty ok all len e =
     elim (cases_eq n 0) [
       | inl z ↦ rw (e ∙ eq-eqb n 0 z) (none_started s table visits k ok all (sym len ∙ z))
@@ -204,13 +204,13 @@ started_end s table visits k n empty ok all len e =
 -- ---- the residual arcs that leave one node
 
 -- each residual arc with room that leaves the node at a place leads to a visited one, or is still to come
-pub record IsScanning (s : Flow) (table : List Bool) (visits : List Visit) (place : ℕ) (rest : List Rid) : Type 0 where
+pub record IsScanning (s : Pseudoflow) (table : List Bool) (visits : List Visit) (place : ℕ) (rest : List Rid) : Type 0 where
   pub scanned : IsScanned s table visits place
   pub in_range : place < length visits
   pub each : All (Leaves s.net (node_at visits place)) rest
   pub left : (r : Rid) → HasRoom s r → tail s.net r ≡ node_at visits place → (in_table table (head s.net r) ≡ true) ⊎ Contains rest r
 
-pub scanning_first : (s : Flow) (table : List Bool) (visits : List Visit) (place : ℕ) (list : List Rid) → IsScanned s table visits place → place < length visits → ListsLeaving s.net (node_at visits place) list → IsScanning s table visits place list
+pub scanning_first : (s : Pseudoflow) (table : List Bool) (visits : List Visit) (place : ℕ) (list : List Rid) → IsScanned s table visits place → place < length visits → ListsLeaving s.net (node_at visits place) list → IsScanning s table visits place list
 scanning_first s table visits place list ok h lists =
     record {
       scanned = ok;
@@ -223,7 +223,7 @@ contains_rest : (r q : Rid) (rest : List Rid) → Contains (r ∷ rest) q → (r
 contains_rest r q rest (zero, l, e) = inl e
 contains_rest r q rest (suc k, l, e) = inr (k, omega arith, e)
 
-module _ (s : Flow) (table : List Bool) (visits : List Visit) (place : ℕ) (r : Rid) (rest : List Rid) (old : IsScanning s table visits place (r ∷ rest)) where
+module _ (s : Pseudoflow) (table : List Bool) (visits : List Visit) (place : ℕ) (r : Rid) (rest : List Rid) (old : IsScanning s table visits place (r ∷ rest)) where
   pub scanning_leaves : Leaves s.net (node_at visits place) r
   scanning_leaves = All-head (Leaves s.net (node_at visits place)) r rest old.each
 
@@ -260,7 +260,7 @@ module _ (s : Flow) (table : List Bool) (visits : List Visit) (place : ℕ) (r :
       }
 
 -- it leads to a node that is visited now
-module _ (s : Flow) (table : List Bool) (visits : List Visit) (place : ℕ) (r : Rid) (rest : List Rid) (old : IsScanning s table visits place (r ∷ rest)) (to : ℕ) (l : Link) (room : HasRoom s r) (end : head s.net r ≡ to) (is : l ≡ record { place = place; along = r }) (h : IsNode (node_count s.net) to) (new : in_table table to ≡ false) where
+module _ (s : Pseudoflow) (table : List Bool) (visits : List Visit) (place : ℕ) (r : Rid) (rest : List Rid) (old : IsScanning s table visits place (r ∷ rest)) (to : ℕ) (l : Link) (room : HasRoom s r) (end : head s.net r ≡ to) (is : l ≡ record { place = place; along = r }) (h : IsNode (node_count s.net) to) (new : in_table table to ≡ false) where
   next_along : IsNext s visits to (Some l)
   next_along =
       let leaves = scanning_leaves s table visits place r rest old in
@@ -296,7 +296,7 @@ module _ (s : Flow) (table : List Bool) (visits : List Visit) (place : ℕ) (r :
       found_push s table visits to (Some l) old.scanned.search h new next_along low
 
 -- no residual arc is to come
-pub scanning_end : (s : Flow) (table : List Bool) (visits : List Visit) (place : ℕ) → IsScanning s table visits place [] → IsScanned s table visits (place + 1)
+pub scanning_end : (s : Pseudoflow) (table : List Bool) (visits : List Visit) (place : ℕ) → IsScanning s table visits place [] → IsScanned s table visits (place + 1)
 scanning_end s table visits place all =
     let in_range = all.in_range in
     record {
@@ -314,11 +314,11 @@ scanning_end s table visits place all =
 
 -- ---- what a search is stuck in
 
-source_at : (s : Flow) (visits : List Visit) (link : Option Link) → IsReachedBy s visits 0 link → pos 0 <ℤ surplus_at s (node_at visits 0)
+source_at : (s : Pseudoflow) (visits : List Visit) (link : Option Link) → IsReachedBy s visits 0 link → pos 0 <ℤ surplus_at s (node_at visits 0)
 source_at s visits None by = by
 source_at s visits (Some l) by = absurd (let earlier = by.earlier in omega arith)
 
-pub stuck_at : (s : Flow) (table : List Bool) (visits : List Visit) (scanned : ℕ) → IsFlow s → IsScanned s table visits scanned → length visits ≤ scanned → 0 < length visits → IsStuck s (in_table table)
+pub stuck_at : (s : Pseudoflow) (table : List Bool) (visits : List Visit) (scanned : ℕ) → IsPseudoflow s → IsScanned s table visits scanned → length visits ≤ scanned → 0 < length visits → IsStuck s (in_table table)
 stuck_at s table visits scanned flow ok all some =
     record {
       closed = λ r room marked. let (i, l, at) = ok.search.every (tail s.net r) (tail_is_node s.net r.arc r.back flow.of_net room.arc) marked in ok.closed i (omega arith) r room (sym at);

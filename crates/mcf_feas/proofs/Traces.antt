@@ -7,33 +7,33 @@ use Rattle.std.proofs.lemmas.List.Elements.{All-cons}
 use Rattle.std.proofs.lemmas.List.Kept.{AllPairs-cons}
 use Rattle.mcf_network.specs.declared.rid.Rid.{Rid}
 use Rattle.mcf_network.specs.Residual.{head}
-use Rattle.mcf_network.specs.States.{Flow, room_of, surplus_at}
+use Rattle.mcf_network.specs.States.{Pseudoflow, room_of, surplus_at}
 use Rattle.mcf_network.specs.Walks.{HasRoomFor, IsWalk}
 use Rattle.mcf_feas.specs.declared.search.Link.{Link}
 use Rattle.mcf_feas.specs.declared.search.Visit.{Visit}
-use Rattle.mcf_feas.specs.Searching.{IsFound, IsLink, IsPath, IsReachedBy, IsForest, TakesAll, node_at}
+use Rattle.mcf_feas.specs.Searching.{IsFound, IsTreeLink, IsPath, IsReachedBy, IsForest, TakesAll, node_at}
 
 -- a residual arc enters a node visited after this place
-abbrev EntersLater : Flow → List Visit → ℕ → Rid → Type 0
+abbrev EntersLater : Pseudoflow → List Visit → ℕ → Rid → Type 0
 EntersLater s visits place r = (p : ℕ) × (place < p) × (p < length visits) × (head s.net r ≡ node_at visits p)
 
 -- x is all that w takes, or all the room of an arc
-abbrev IsAllBut : Flow → List Rid → ℕ → ℤ → Type 0
+abbrev IsAllBut : Pseudoflow → List Rid → ℕ → ℤ → Type 0
 IsAllBut s walk w x = (x +ℤ surplus_at s w ≡ pos 0) ⊎ Any (λ r. x ≡ room_of s r) walk
 
 -- with an arc more at the front, y is as much as before, or all the room of that arc
-all_but_next : (s : Flow) (walk : List Rid) (r : Rid) (w : ℕ) (x y : ℤ) → (y ≡ x) ⊎ (y ≡ room_of s r) → IsAllBut s walk w x → IsAllBut s (r ∷ walk) w y
+all_but_next : (s : Pseudoflow) (walk : List Rid) (r : Rid) (w : ℕ) (x y : ℤ) → (y ≡ x) ⊎ (y ≡ room_of s r) → IsAllBut s walk w x → IsAllBut s (r ∷ walk) w y
 all_but_next s walk r w x y (inl e) (inl all) = inl (ap (λ z. z +ℤ surplus_at s w) e ∙ all)
 all_but_next s walk r w x y (inl e) (inr (k, q, h, at, is)) = inr (suc k, q, omega arith, at, e ∙ is)
 all_but_next s walk r w x y (inr e) all = inr (0, r, omega arith, refl, e)
 
-all_of_it : (s : Flow) (u : ℕ) (walk : List Rid) (w : ℕ) (x y : ℤ) → (y ≡ x) ⊎ (y ≡ surplus_at s u) → IsAllBut s walk w x → TakesAll s u walk w y
+all_of_it : (s : Pseudoflow) (u : ℕ) (walk : List Rid) (w : ℕ) (x y : ℤ) → (y ≡ x) ⊎ (y ≡ surplus_at s u) → IsAllBut s walk w x → TakesAll s u walk w y
 all_of_it s u walk w x y (inr e) all = inl e
 all_of_it s u walk w x y (inl e) (inl all) = inr (inl (ap (λ z. z +ℤ surplus_at s w) e ∙ all))
 all_of_it s u walk w x y (inl e) (inr (k, q, h, at, is)) = inr (inr (k, q, h, at, e ∙ is))
 
 -- a walk from the node at a place to w, along which x can go
-pub record IsTrace (s : Flow) (visits : List Visit) (place : ℕ) (walk : List Rid) (w : ℕ) (x : ℤ) : Type 0 where
+pub record IsTrace (s : Pseudoflow) (visits : List Visit) (place : ℕ) (walk : List Rid) (w : ℕ) (x : ℤ) : Type 0 where
   pub in_range : place < length visits
   pub walks : IsWalk s.net (node_at visits place) walk w
   pub room : All (HasRoomFor s x) walk
@@ -44,7 +44,7 @@ pub record IsTrace (s : Flow) (visits : List Visit) (place : ℕ) (walk : List R
   pub most : IsAllBut s walk w x
 
 -- the path is empty at first
-pub trace_first : (s : Flow) (visits : List Visit) (x : ℤ) → IsFound s visits → x +ℤ surplus_at s (node_at visits (length visits - 1)) ≡ pos 0 → IsTrace s visits (length visits - 1) [] (node_at visits (length visits - 1)) x
+pub trace_first : (s : Pseudoflow) (visits : List Visit) (x : ℤ) → IsFound s visits → x +ℤ surplus_at s (node_at visits (length visits - 1)) ≡ pos 0 → IsTrace s visits (length visits - 1) [] (node_at visits (length visits - 1)) x
 trace_first s visits x found e =
     let some = found.some in
     let deficit = found.deficit in
@@ -59,9 +59,9 @@ trace_first s visits x found e =
       most = inl e;
     }
 
-module _ (s : Flow) (visits : List Visit) (place : ℕ) (walk : List Rid) (w : ℕ) (x y : ℤ) (ok : IsForest s visits) (old : IsTrace s visits place walk w x) (pos_y : pos 0 <ℤ y) (le_x : y ≤ℤ x) where
+module _ (s : Pseudoflow) (visits : List Visit) (place : ℕ) (walk : List Rid) (w : ℕ) (x y : ℤ) (ok : IsForest s visits) (old : IsTrace s visits place walk w x) (pos_y : pos 0 <ℤ y) (le_x : y ≤ℤ x) where
   -- the path back goes along a link
-  pub trace_step : (l : Link) → IsLink s visits place l → y ≤ℤ room_of s l.along → (y ≡ x) ⊎ (y ≡ room_of s l.along) → IsTrace s visits l.place (l.along ∷ walk) w y
+  pub trace_step : (l : Link) → IsTreeLink s visits place l → y ≤ℤ room_of s l.along → (y ≡ x) ⊎ (y ≡ room_of s l.along) → IsTrace s visits l.place (l.along ∷ walk) w y
   trace_step l link le_room either =
       let earlier = link.earlier in
       let in_range = old.in_range in
@@ -98,12 +98,12 @@ module _ (s : Flow) (visits : List Visit) (place : ℕ) (walk : List Rid) (w : �
       }
 
 -- how a search came to a node, by cases on its link
-linked_at : (s : Flow) (visits : List Visit) (place : ℕ) (d : Visit) (o : Option Link) → IsForest s visits → place < length visits → (get_or visits place d).link ≡ o → IsReachedBy s visits place o
+linked_at : (s : Pseudoflow) (visits : List Visit) (place : ℕ) (d : Visit) (o : Option Link) → IsForest s visits → place < length visits → (get_or visits place d).link ≡ o → IsReachedBy s visits place o
 linked_at s visits place d o ok h e =
     subst (λ (q : Option Link). IsReachedBy s visits place q) (ap (λ (x : Visit). x.link) (get_or_default visits place (record { node = 0; link = None }) d h) ∙ e) (ok.linked place h)
 
-pub linked_none : (s : Flow) (visits : List Visit) (place : ℕ) (d : Visit) → IsForest s visits → place < length visits → (get_or visits place d).link ≡ None → pos 0 <ℤ surplus_at s (node_at visits place)
+pub linked_none : (s : Pseudoflow) (visits : List Visit) (place : ℕ) (d : Visit) → IsForest s visits → place < length visits → (get_or visits place d).link ≡ None → pos 0 <ℤ surplus_at s (node_at visits place)
 linked_none s visits place d ok h e = linked_at s visits place d None ok h e
 
-pub linked_some : (s : Flow) (visits : List Visit) (place : ℕ) (d : Visit) (l : Link) → IsForest s visits → place < length visits → (get_or visits place d).link ≡ Some l → IsLink s visits place l
+pub linked_some : (s : Pseudoflow) (visits : List Visit) (place : ℕ) (d : Visit) (l : Link) → IsForest s visits → place < length visits → (get_or visits place d).link ≡ Some l → IsTreeLink s visits place l
 linked_some s visits place d l ok h e = linked_at s visits place d (Some l) ok h e

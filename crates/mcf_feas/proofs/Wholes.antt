@@ -9,7 +9,7 @@ use Rattle.mcf_instance.proofs.ArcSums.{arc_sum-zero}
 use Rattle.mcf_instance.proofs.NodeSums.{nets_cancel, node_sum-same, node_sum-sub, node_sum_above_zero}
 use Rattle.mcf_instance.proofs.SameSets.{Blocks-same}
 use Rattle.mcf_network.specs.Nets.{IsNet}
-use Rattle.mcf_network.specs.States.{Flow, HasNoSurplus, IsFlow, surplus_at}
+use Rattle.mcf_network.specs.States.{Pseudoflow, HasNoSurplus, IsPseudoflow, surplus_at}
 use Rattle.mcf_feas.specs.Chosen.{supply_total}
 
 -- a set of all nodes has to send, or to take, what the supplies add up to
@@ -24,7 +24,7 @@ whole_takes g set ok all h =
 -- ---- no surplus
 
 -- where the supplies add up to 0 and no node has a surplus, none takes anything
-pub settled : (s : Flow) → IsFlow s → supply_total s.net ≡ pos 0 → ((v : ℕ) → IsNode (node_count s.net) v → surplus_at s v ≤ℤ pos 0) → HasNoSurplus s
+pub settled : (s : Pseudoflow) → IsPseudoflow s → supply_total s.net ≡ pos 0 → ((v : ℕ) → IsNode (node_count s.net) v → surplus_at s v ≤ℤ pos 0) → HasNoSurplus s
 settled s ok balanced none v h =
     by_lt_z (surplus_at s v) (pos 0) (λ p. absurd (let sum = node_sum_above_zero (λ w. pos 0 -ℤ surplus_at s w) (node_count s.net) v h (omega (arith, ints, p)) (λ w l. omega (arith, ints, none w l)) in omega (arith, ints, sum, total, balanced, nets_cancel (node_count s.net) s.net.arcs s.amounts ok.of_net.ends))) (λ p. omega (arith, ints, p, none v h))
   where

@@ -5,7 +5,7 @@ use Rattle.mcf_instance.specs.Blocking.{Blocks}
 use Rattle.mcf_instance.specs.Flow.{IsFeasible}
 use Rattle.mcf_instance.specs.Network.{Network}
 use Rattle.mcf_network.specs.Nets.{IsNet}
-use Rattle.mcf_network.specs.States.{Flow}
+use Rattle.mcf_network.specs.States.{Pseudoflow}
 use Rattle.mcf_feas.specs.declared.feas.Feas.{Feas}
 use Rattle.mcf_feas.specs.declared.feas.Feas.TheVariants.{Flow as WithFlow, Blocked}
 use Rattle.mcf_feas.specs.Feasible.{IsFeas, IsFeasibleState}
@@ -13,7 +13,7 @@ use Rattle.mcf_feas.specs.Feasible.{IsFeas, IsFeasibleState}
 -- where a set blocks, no state is without surplus
 abbrev pub BlockedHasNoState : Type 0
 BlockedHasNoState =
-    (g : Network) (set : ℕ → Bool) (side : Side) (s : Flow) → Blocks g set side → ¬ IsFeasibleState g s
+    (g : Network) (set : ℕ → Bool) (side : Side) (s : Pseudoflow) → Blocks g set side → ¬ IsFeasibleState g s
 
 -- the answer holds a flow
 abbrev pub HoldsFlow : Feas → Type 0

@@ -6,7 +6,7 @@ use Rattle.mcf_instance.specs.Network.{IsNode, node_count}
 use Rattle.mcf_network.specs.declared.rid.Rid.{Rid}
 use Rattle.mcf_network.specs.NodeSets.{member_count}
 use Rattle.mcf_network.specs.Residual.{tail, head}
-use Rattle.mcf_network.specs.States.{Flow, IsFlow, MovesSurplus, room_of, surplus_at}
+use Rattle.mcf_network.specs.States.{Pseudoflow, IsPseudoflow, MovesSurplus, room_of, surplus_at}
 use Rattle.mcf_network.specs.Walks.{CanPushAlong, HasRoom, IsWalk, pushed_along}
 use Rattle.mcf_feas.specs.declared.search.Link.{Link}
 use Rattle.mcf_feas.specs.declared.search.Visit.{Visit}
@@ -19,31 +19,31 @@ abbrev pub node_at : List Visit → ℕ → ℕ
 node_at visits i = (visit_at visits i).node
 
 -- a residual arc with room leads from the node at an earlier place to the one at this place
-pub record IsLink (s : Flow) (visits : List Visit) (i : ℕ) (l : Link) : Type 0 where
+pub record IsTreeLink (s : Pseudoflow) (visits : List Visit) (i : ℕ) (l : Link) : Type 0 where
   pub earlier : l.place < i
   pub room : HasRoom s l.along
   pub from : tail s.net l.along ≡ node_at visits l.place
   pub to : head s.net l.along ≡ node_at visits i
 
 -- a residual arc with room, and the node that it enters
-pub record LeadsTo (s : Flow) (r : Rid) (v : ℕ) : Type 0 where
+pub record LeadsTo (s : Pseudoflow) (r : Rid) (v : ℕ) : Type 0 where
   pub room : HasRoom s r
   pub end : head s.net r ≡ v
   pub is_node : IsNode (node_count s.net) v
 
 -- how a search came to the node at a place: it has a surplus, or a link leads to it
-abbrev pub IsReachedBy : Flow → List Visit → ℕ → Option Link → Type 0
+abbrev pub IsReachedBy : Pseudoflow → List Visit → ℕ → Option Link → Type 0
 IsReachedBy s visits i None = pos 0 <ℤ surplus_at s (node_at visits i)
-IsReachedBy s visits i (Some l) = IsLink s visits i l
+IsReachedBy s visits i (Some l) = IsTreeLink s visits i l
 
 -- the nodes visited, each once, and how a search came to each
-pub record IsForest (s : Flow) (visits : List Visit) : Type 0 where
+pub record IsForest (s : Pseudoflow) (visits : List Visit) : Type 0 where
   pub are_nodes : (i : ℕ) → i < length visits → IsNode (node_count s.net) (node_at visits i)
   pub distinct : (i j : ℕ) → i < j → j < length visits → node_at visits i ≢ node_at visits j
   pub linked : (i : ℕ) → i < length visits → IsReachedBy s visits i (visit_at visits i).link
 
 -- the table marks the nodes visited
-pub record IsSearch (s : Flow) (table : List Bool) (visits : List Visit) : Type 0 where
+pub record IsSearch (s : Pseudoflow) (table : List Bool) (visits : List Visit) : Type 0 where
   pub forest : IsForest s visits
   pub nodes : length table ≡ node_count s.net
   pub count : length visits ≡ member_count table
@@ -52,24 +52,24 @@ pub record IsSearch (s : Flow) (table : List Bool) (visits : List Visit) : Type 
 
 -- so far no visited node takes anything, and the residual arcs with room that leave the first of them lead
 -- to visited nodes
-pub record IsScanned (s : Flow) (table : List Bool) (visits : List Visit) (scanned : ℕ) : Type 0 where
+pub record IsScanned (s : Pseudoflow) (table : List Bool) (visits : List Visit) (scanned : ℕ) : Type 0 where
   pub search : IsSearch s table visits
   pub within : scanned ≤ length visits
   pub no_deficit : (i : ℕ) → i < length visits → pos 0 ≤ℤ surplus_at s (node_at visits i)
   pub closed : (i : ℕ) → i < scanned → (r : Rid) → HasRoom s r → tail s.net r ≡ node_at visits i → in_table table (head s.net r) ≡ true
 
 -- the last visited node takes
-pub record IsFound (s : Flow) (visits : List Visit) : Type 0 where
+pub record IsFound (s : Pseudoflow) (visits : List Visit) : Type 0 where
   pub forest : IsForest s visits
   pub some : 0 < length visits
   pub deficit : surplus_at s (node_at visits (length visits - 1)) <ℤ pos 0
 
 -- x is all that a path from node u to node w takes: all that u has, all that w takes, or all the room of an arc
-abbrev pub TakesAll : Flow → ℕ → List Rid → ℕ → ℤ → Type 0
+abbrev pub TakesAll : Pseudoflow → ℕ → List Rid → ℕ → ℤ → Type 0
 TakesAll s u path w x = (x ≡ surplus_at s u) ⊎ ((x +ℤ surplus_at s w ≡ pos 0) ⊎ Any (λ r. x ≡ room_of s r) path)
 
 -- a path to node w along which x can go and no more: as much as a node with a surplus has, and as w takes
-pub record IsPath (s : Flow) (path : List Rid) (w : ℕ) (x : ℤ) : Type 0 where
+pub record IsPath (s : Pseudoflow) (path : List Rid) (w : ℕ) (x : ℤ) : Type 0 where
   pub source : ℕ
   pub is_node : IsNode (node_count s.net) source
   pub walk : IsWalk s.net source path w
@@ -80,9 +80,9 @@ pub record IsPath (s : Flow) (path : List Rid) (w : ℕ) (x : ℤ) : Type 0 wher
   pub most : TakesAll s source path w x
 
 -- a part of the surplus of one node moved to one that takes it, as much as a path between them takes
-pub record IsAugmented (s s' : Flow) : Type 0 where
+pub record IsAugmented (s s' : Pseudoflow) : Type 0 where
   pub net : s'.net ≡ s.net
-  pub flow : IsFlow s'
+  pub flow : IsPseudoflow s'
   pub source : ℕ
   pub target : ℕ
   pub amount : ℤ

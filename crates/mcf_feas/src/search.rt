@@ -3,7 +3,7 @@ ghost use Rattle.std.specs.Prelude.{◌≡◌, ℕ, ◌∷◌, ◌++◌, [], ◌
 ghost use Rattle.std.specs.Bool.{MatchBool};
 ghost use Rattle.mcf_instance.specs.Blocking.{in_table};
 ghost use Rattle.mcf_instance.specs.Network.{IsArcNumber, IsNode, node_count};
-ghost use Rattle.mcf_network.specs.States.{IsFlow, room_of, surplus_at};
+ghost use Rattle.mcf_network.specs.States.{IsPseudoflow, room_of, surplus_at};
 ghost use Rattle.mcf_network.specs.NodeSets.{with_node};
 ghost use Rattle.mcf_network.specs.Stuck.{IsStuck};
 ghost use Rattle.mcf_feas.specs.Searching.{IsAugmented, IsFound, IsPath, IsScanned, LeadsTo, node_at};
@@ -89,7 +89,7 @@ impl Search {
 
     /// Visits what can be reached, until a visited node takes, and says whether one does.
     pub(crate) fn run(&mut self, state: &State<'_>) -> Result<bool, NoMemory>
-        requires flow { IsFlow state.now }
+        requires flow { IsPseudoflow state.now }
         requires scanned { IsScanned state.now self.old.reached self.old.visits.items 0 }
         requires some { 0 < length self.old.visits.items }
         ensures nodes { IfOk result (λ _. length self.new.reached ≡ node_count state.now.net) }

@@ -9,10 +9,11 @@ use Rattle.mcf_instance.specs.declared.arc.PackedArc.{PackedArc}
 use Rattle.mcf_text.specs.Row.{Row, natural}
 use Rattle.mcf_text.specs.Whole.{is_whole, is_within, whole_value}
 use Rattle.mcf_instance.specs.declared.arc.Arc.{Arc}
+use Rattle.mcf_instance.specs.Blocking.{in_table}
 use Rattle.mcf_instance.specs.Fault.{fault_of_line, has_p, header, is_up_to, arc_lines, is_listed}
 use Rattle.mcf_instance.specs.Limits.{limits, node_limit}
 use Rattle.mcf_instance.specs.Reading.{arc_of}
-use Rattle.mcf_instance.specs.LineReader.{clamped, arc_line, arc_tests, flag_at, number_at}
+use Rattle.mcf_instance.specs.LineReader.{clamped, arc_line, arc_tests, number_at}
 use Rattle.mcf_instance.specs.Stands.{heading_seen}
 use Rattle.mcf_instance.proofs.NodeLines.{ok_unless, ok_unless_test, clamped_node, clamped_amount, clamped_same, within_small, natural_low, natural_high, unnot, header_small}
 
@@ -84,7 +85,7 @@ AsnReads h arcs listed known u v k =
     ≡ ok_unless (asn_faults h arcs known u v k) (record { src = natural u; dst = natural v; low = pos 0; cap = pos 1; cost = k })
 
 asn_tests_read : (h : Heading) (arcs : ℕ) (listed : List Bool) (known : ℕ → Bool) (u v k : ℤ) → h.nodes ≤ node_limit → h.problem ≡ Asn
-    → ((v : ℕ) → 1 ≤ v → v ≤ h.nodes → flag_at listed v ≡ known v) → AsnReads h arcs listed known u v k
+    → ((v : ℕ) → 1 ≤ v → v ≤ h.nodes → in_table listed v ≡ known v) → AsnReads h arcs listed known u v k
 unfolding arc_tests
 asn_tests_read h arcs listed known u v k small asn flags = go (is_within (pos 1) (pos h.nodes) u) (is_within (pos 1) (pos h.nodes) v) refl refl
   where
@@ -148,7 +149,7 @@ arc_line_reads lines n fields listed seen kind min = go (length fields == 6) ref
         (numbers t.1 t.2 t.3 t.4 t.5 (is_whole t.1) (is_whole t.2) (is_whole t.3) (is_whole t.4) (is_whole t.5) refl refl refl refl refl))
 
 pub arc_pair_reads : (lines : List Row) (n : ℕ) (fields : List (List ℕ)) (listed : List Bool) → has_p lines ≡ true → slice_index_or fields 0 [] ≡ 97 ∷ []
-    → ((v : ℕ) → 1 ≤ v → v ≤ (header lines).nodes → flag_at listed v ≡ is_listed lines v)
+    → ((v : ℕ) → 1 ≤ v → v ≤ (header lines).nodes → in_table listed v ≡ is_listed lines v)
     → (header lines).problem ≡ Asn → ReadsArc lines (heading_seen lines) n listed (λ row. packed (arc_of Asn row)) fields
 unfolding arc_line fault_of_line number_at
 arc_pair_reads lines n fields listed seen kind flags asn = go (length fields == 4) refl

@@ -13,7 +13,7 @@ use Rattle.mcf_instance.specs.declared.arc.Arc.{Arc}
 use Rattle.mcf_instance.specs.Limits.{arc_limit, node_limit, total_limit, wide_limits}
 use Rattle.mcf_instance.specs.Network.{IsNode, arc_sum, at_node, flow_sum, node_sum, when}
 use Rattle.mcf_instance.specs.Flow.{CanCarry, IsWithinBounds, cost}
-use Rattle.mcf_instance.specs.WellFormed.{IsArcWithin, IsUpTo, weight}
+use Rattle.mcf_instance.specs.WellFormed.{IsArcWithinLimits, IsUpTo, weight}
 use Rattle.mcf_instance.proofs.AllZips.{AllZip-at, AllZip-with, length-AllZip}
 use Rattle.mcf_instance.proofs.ArcSums.{flow_sum_more}
 
@@ -85,22 +85,22 @@ supply_up_to supplies set i small n h =
     omega (arith, ints, sum)
 
 -- the lows, or the caps, of the first arcs that pass a test
-pub lows_up_to : (test : Arc → Bool) (arcs : List Arc) (i : ℕ) → All (IsArcWithin wide_limits) arcs → length arcs ≤ arc_limit → i ≤ length arcs → IsUpTo (10 ^ 25) (arc_sum (λ a. when (test a) a.low) (take i arcs))
+pub lows_up_to : (test : Arc → Bool) (arcs : List Arc) (i : ℕ) → All (IsArcWithinLimits wide_limits) arcs → length arcs ≤ arc_limit → i ≤ length arcs → IsUpTo (10 ^ 25) (arc_sum (λ a. when (test a) a.low) (take i arcs))
 lows_up_to test arcs i small n h =
-    let sum = arc_sum_up_to (IsArcWithin wide_limits) (λ a. when (test a) a.low) (10 ^ 18) (λ a q. when_up_to (test a) (10 ^ 18) a.low q.low_small) arcs i small in
+    let sum = arc_sum_up_to (IsArcWithinLimits wide_limits) (λ a. when (test a) a.low) (10 ^ 18) (λ a q. when_up_to (test a) (10 ^ 18) a.low q.low_small) arcs i small in
     omega (arith, ints, sum)
 
-pub caps_up_to : (test : Arc → Bool) (arcs : List Arc) (i : ℕ) → All (IsArcWithin wide_limits) arcs → length arcs ≤ arc_limit → i ≤ length arcs → IsUpTo (10 ^ 25) (arc_sum (λ a. when (test a) a.cap) (take i arcs))
+pub caps_up_to : (test : Arc → Bool) (arcs : List Arc) (i : ℕ) → All (IsArcWithinLimits wide_limits) arcs → length arcs ≤ arc_limit → i ≤ length arcs → IsUpTo (10 ^ 25) (arc_sum (λ a. when (test a) a.cap) (take i arcs))
 caps_up_to test arcs i small n h =
-    let sum = arc_sum_up_to (IsArcWithin wide_limits) (λ a. when (test a) a.cap) (10 ^ 18) (λ a q. when_up_to (test a) (10 ^ 18) a.cap q.cap_small) arcs i small in
+    let sum = arc_sum_up_to (IsArcWithinLimits wide_limits) (λ a. when (test a) a.cap) (10 ^ 18) (λ a q. when_up_to (test a) (10 ^ 18) a.cap q.cap_small) arcs i small in
     omega (arith, ints, sum)
 
 -- the same, of all arcs
-pub low_all_up_to : (test : Arc → Bool) (arcs : List Arc) → All (IsArcWithin wide_limits) arcs → length arcs ≤ arc_limit → IsUpTo (10 ^ 25) (arc_sum (λ a. when (test a) a.low) arcs)
+pub low_all_up_to : (test : Arc → Bool) (arcs : List Arc) → All (IsArcWithinLimits wide_limits) arcs → length arcs ≤ arc_limit → IsUpTo (10 ^ 25) (arc_sum (λ a. when (test a) a.low) arcs)
 low_all_up_to test arcs small n =
     rw (take-length arcs) at (lows_up_to test arcs (length arcs) small n (omega arith))
 
-pub cap_all_up_to : (test : Arc → Bool) (arcs : List Arc) → All (IsArcWithin wide_limits) arcs → length arcs ≤ arc_limit → IsUpTo (10 ^ 25) (arc_sum (λ a. when (test a) a.cap) arcs)
+pub cap_all_up_to : (test : Arc → Bool) (arcs : List Arc) → All (IsArcWithinLimits wide_limits) arcs → length arcs ≤ arc_limit → IsUpTo (10 ^ 25) (arc_sum (λ a. when (test a) a.cap) arcs)
 cap_all_up_to test arcs small n =
     rw (take-length arcs) at (caps_up_to test arcs (length arcs) small n (omega arith))
 
@@ -181,11 +181,11 @@ width_total arcs total h =
 
 -- the wide limits of an arc, and a flow that it can carry
 abbrev pub IsPlaced : Arc → ℤ → Type 0
-IsPlaced a f = IsArcWithin wide_limits a × CanCarry a f
+IsPlaced a f = IsArcWithinLimits wide_limits a × CanCarry a f
 
-pub each_placed : (arcs : List Arc) (flow : List ℤ) → All (IsArcWithin wide_limits) arcs → IsWithinBounds arcs flow → AllZip IsPlaced arcs flow
+pub each_placed : (arcs : List Arc) (flow : List ℤ) → All (IsArcWithinLimits wide_limits) arcs → IsWithinBounds arcs flow → AllZip IsPlaced arcs flow
 each_placed arcs flow small bounds =
-    AllZip-with CanCarry (IsArcWithin wide_limits) arcs flow small bounds
+    AllZip-with CanCarry (IsArcWithinLimits wide_limits) arcs flow small bounds
 
 -- a flow within the bounds is small
 pub flow_up_to : (a : Arc) (f : ℤ) → IsPlaced a f → IsUpTo (10 ^ 18) f
@@ -200,7 +200,7 @@ pub record CostStep (arcs : List Arc) (flow : List ℤ) (i : ℕ) (a : Arc) (f :
   pub before_small : IsUpTo total_limit (cost (take i arcs) flow)
   pub next : cost (take (i + 1) arcs) flow ≡ cost (take i arcs) flow +ℤ a.cost *ℤ f
 
-pub cost_step : (arcs : List Arc) (flow : List ℤ) (i : ℕ) (d : Arc) (e : ℤ) → All (IsArcWithin wide_limits) arcs → sum (map weight arcs) ≤ total_limit → IsWithinBounds arcs flow → i < length arcs → CostStep arcs flow i (get_or arcs i d) (get_or flow i e)
+pub cost_step : (arcs : List Arc) (flow : List ℤ) (i : ℕ) (d : Arc) (e : ℤ) → All (IsArcWithinLimits wide_limits) arcs → sum (map weight arcs) ≤ total_limit → IsWithinBounds arcs flow → i < length arcs → CostStep arcs flow i (get_or arcs i d) (get_or flow i e)
 cost_step arcs flow i d e small total bounds h =
     let here = AllZip-at IsPlaced arcs flow i d e (each_placed arcs flow small bounds) h in
     let k : i < length flow = omega (arith, length-AllZip CanCarry arcs flow bounds) in

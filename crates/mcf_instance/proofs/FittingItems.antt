@@ -13,13 +13,14 @@ use Rattle.mcf_instance.specs.declared.reader.line.ArcNumbers.{ArcNumbers}
 use Rattle.mcf_instance.specs.declared.reader.line.Heading.{Heading}
 use Rattle.mcf_instance.specs.declared.reader.line.Item.{Item}
 use Rattle.mcf_instance.specs.Assignment.{OnAssignment}
+use Rattle.mcf_instance.specs.Blocking.{in_table}
 use Rattle.mcf_instance.specs.Fault.{is_up_to}
 use Rattle.mcf_instance.specs.Limits.{limits, node_limit, arc_limit}
-use Rattle.mcf_instance.specs.LineReader.{◌>>=◌, arc_count_fits, arc_line, arc_numbers, arc_tests, flag_at, is_wrong_side, node_at, node_count_fits, node_line, node_numbers, node_tests, number_at, problem_at, problem_line, with_heading}
+use Rattle.mcf_instance.specs.LineReader.{◌>>=◌, arc_count_fits, arc_line, arc_numbers, arc_tests, is_wrong_side, checked_node, node_count_fits, node_line, node_numbers, node_tests, number_at, problem_at, problem_line, with_heading}
 use Rattle.mcf_instance.specs.Packed.{unpacked}
 use Rattle.mcf_instance.specs.ReaderState.{StateData, item_of, problem_or_min}
 use Rattle.mcf_instance.specs.ReaderSound.{IsFlaggedPair, ItemFits, heading_arcs, heading_nodes}
-use Rattle.mcf_instance.specs.WellFormed.{HasEnds, IsArcWithin, IsUpTo}
+use Rattle.mcf_instance.specs.WellFormed.{HasEnds, IsArcWithinLimits, IsUpTo}
 use Rattle.mcf_text.specs.Row.{natural}
 use Rattle.mcf_text.specs.Whole.{is_within}
 use Rattle.mcf_instance.proofs.ArcLines.{first_of, last_of}
@@ -42,10 +43,10 @@ if_ok_test : {A : Type 0} (b : Bool) (e : Code) (r : Result A Code) (P : A → T
 if_ok_test true e r P h = tt
 if_ok_test false e r P h = h refl
 
-if_ok_node : {B : Type 0} (h : Heading) (z : ℤ) (f : ℕ → Result B Code) (P : B → Type 0) → ((v : ℕ) → 1 ≤ v → v ≤ h.nodes → IfOk (f v) P) → IfOk (node_at h z >>= f) P
+if_ok_node : {B : Type 0} (h : Heading) (z : ℤ) (f : ℕ → Result B Code) (P : B → Type 0) → ((v : ℕ) → 1 ≤ v → v ≤ h.nodes → IfOk (f v) P) → IfOk (checked_node h z >>= f) P
 if_ok_node h z f P k = go (is_within (pos 1) (pos h.nodes) z) refl
   where
-    go : (b : Bool) → is_within (pos 1) (pos h.nodes) z ≡ b → IfOk (node_at h z >>= f) P
+    go : (b : Bool) → is_within (pos 1) (pos h.nodes) z ≡ b → IfOk (checked_node h z >>= f) P
     go true e = rw e (k (natural z) (natural_low h.nodes z e) (natural_high h.nodes z e))
     go false e = rw e tt
 
@@ -90,7 +91,7 @@ unfolding node_tests
 node_tests_fit h arcs listed u z one =
     if_ok_node h u _ (NodeFits (Some h) arcs) (λ v low high.
     if_ok_test (nat_lt 0 arcs) _ _ (NodeFits (Some h) arcs) (λ early.
-    if_ok_test (flag_at listed v) _ _ (NodeFits (Some h) arcs) (λ _.
+    if_ok_test (in_table listed v) _ _ (NodeFits (Some h) arcs) (λ _.
     if_ok_test (not (is_up_to limits.supply z)) _ _ (NodeFits (Some h) arcs) (λ small.
     (low, high, no_fewer arcs early, up_to_is limits.supply z (unnot _ small), one)))))
 
@@ -128,7 +129,7 @@ node_line_fits (Some h) arcs listed fields = go h.problem refl
 pub record ArcFits (o : Option Heading) (arcs : ℕ) (listed : List Bool) (a : PackedArc) : Type 0 where
   pub room : arcs < heading_arcs o
   pub ends : HasEnds (heading_nodes o) (unpacked a)
-  pub is_within : IsArcWithin limits (unpacked a)
+  pub is_within : IsArcWithinLimits limits (unpacked a)
   pub assignment : OnAssignment (problem_or_min o) (IsFlaggedPair listed a)
 
 abbrev UnitBounds : Format → ArcNumbers → Type 0
@@ -139,7 +140,7 @@ sides_fit h listed a unit right = at h.problem unit right
   where
     at : (p : Format) → OnAssignment p ((a.low ≡ pos 0) × (a.cap ≡ pos 1)) → is_wrong_side (record { problem = p; nodes = h.nodes; arcs = h.arcs }) listed a.src a.dst ≡ false → OnAssignment p (IsFlaggedPair listed a)
     at Min u r = tt
-    at Asn u r = record { from_flagged = left (flag_at listed a.src) (flag_at listed a.dst) r; to_unflagged = right_of (flag_at listed a.src) (flag_at listed a.dst) r; low_is = u.0; cap_is = u.1 }
+    at Asn u r = record { from_flagged = left (in_table listed a.src) (in_table listed a.dst) r; to_unflagged = right_of (in_table listed a.src) (in_table listed a.dst) r; low_is = u.0; cap_is = u.1 }
       where
         left : (x y : Bool) → (not x || y) ≡ false → x ≡ true
         left true y e = refl

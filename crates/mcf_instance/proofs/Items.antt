@@ -8,6 +8,7 @@ use Rattle.mcf_instance.specs.declared.code.Code.{Code}
 use Rattle.mcf_instance.specs.declared.problem.Problem.{Problem as Format}
 use Rattle.mcf_instance.specs.declared.problem.Problem.TheVariants.{Min, Asn}
 use Rattle.mcf_text.specs.Row.{Row, node, field}
+use Rattle.mcf_instance.specs.Blocking.{in_table}
 use Rattle.mcf_instance.specs.Fault.{is_p, is_n, is_a, has_p, header, header_of, arc_lines, is_listed, fault_of_line}
 use Rattle.mcf_instance.specs.Limits.{limits}
 use Rattle.mcf_instance.specs.Packed.{unpacked}
@@ -15,7 +16,7 @@ use Rattle.mcf_instance.specs.Reading.{arc_of}
 use Rattle.mcf_instance.specs.Stands.{heading_of, heading_seen, Holds}
 use Rattle.mcf_instance.specs.declared.reader.line.Item.{Item}
 use Rattle.mcf_instance.specs.declared.reader.line.Item.TheVariants.{Problem, Supply, Link}
-use Rattle.mcf_instance.specs.LineReader.{◌>>=◌, node_line, arc_line, flag_at}
+use Rattle.mcf_instance.specs.LineReader.{◌>>=◌, node_line, arc_line}
 use Rattle.mcf_instance.specs.ReaderState.{StateData, item_of}
 use Rattle.mcf_instance.proofs.NodeLines.{ok_unless, node_line_reads, node_row_reads, node_line_early}
 use Rattle.mcf_instance.proofs.ArcLines.{packed, arc_line_reads, arc_pair_reads, arc_line_early}
@@ -24,7 +25,7 @@ use Rattle.mcf_instance.proofs.Taken.{supply_said}
 
 -- ---- the tables of the state
 
-pub flags_of : (s : StateData) (lines : List Row) → Holds s lines → (v : ℕ) → 1 ≤ v → v ≤ (header lines).nodes → flag_at s.listed v ≡ is_listed lines v
+pub flags_of : (s : StateData) (lines : List Row) → Holds s lines → (v : ℕ) → 1 ≤ v → v ≤ (header lines).nodes → in_table s.listed v ≡ is_listed lines v
 flags_of s lines h v low high = ap (λ xs. get_or xs (v - 1) false) h.listed_is ∙ get_or-map-range_with_len (is_listed lines) 1 (header lines).nodes (v - 1) v false (omega arith) (omega arith)
 
 arcs_of : (s : StateData) (lines : List Row) → Holds s lines → length s.arcs ≡ length (arc_lines lines)

@@ -15,6 +15,7 @@ pub mod Hoffman
 pub mod IntLaws
 pub mod Items
 pub mod LineSteps
+pub mod LinesRead
 pub mod NetSteps
 pub mod NodeLines
 pub mod NodeSums

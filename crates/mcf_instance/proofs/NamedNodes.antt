@@ -11,10 +11,11 @@ use Rattle.mcf_instance.specs.Fault.{has_p, header, header_of, is_p, no_header}
 use Rattle.mcf_instance.specs.Limits.{limits}
 use Rattle.mcf_instance.specs.ReaderSound.{LinkFits, heading_nodes}
 use Rattle.mcf_instance.specs.ReaderState.{StateData, item_of, outcome_grows}
-use Rattle.mcf_instance.specs.Stands.{HasRead, Stands, heading_of, heading_seen, kept_rows}
+use Rattle.mcf_instance.specs.Stands.{Stands, heading_of, heading_seen}
 use Rattle.mcf_text.specs.Row.{Row, row_of, rows}
 use Rattle.mcf_instance.proofs.After.{after_item}
 use Rattle.mcf_instance.proofs.FittingItems.{item_fits}
+use Rattle.mcf_instance.proofs.LinesRead.{kept_rows, HasRead}
 use Rattle.mcf_instance.proofs.WholeTexts.{one_more, rows_joined}
 
 some_of_lt : (n : ℕ) → nat_lt 0 n ≡ true → 1 ≤ n

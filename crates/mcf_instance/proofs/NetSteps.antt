@@ -8,16 +8,11 @@ use Rattle.std.specs.Int.{w128}
 use Rattle.mcf_instance.specs.declared.arc.Arc.{Arc}
 use Rattle.mcf_instance.specs.Limits.{arc_limit, wide_limits}
 use Rattle.mcf_instance.specs.Network.{IsNode, at_node, when}
-use Rattle.mcf_instance.specs.Flow.{CanCarry, IsWithinBounds, net}
-use Rattle.mcf_instance.specs.WellFormed.{HasEnds, IsArcWithin, IsUpTo}
+use Rattle.mcf_instance.specs.Flow.{CanCarry, IsWithinBounds, net, AreNets}
+use Rattle.mcf_instance.specs.WellFormed.{HasEnds, IsArcWithinLimits, IsUpTo}
 use Rattle.mcf_instance.proofs.AllZips.{AllZip-at, length-AllZip}
 use Rattle.mcf_instance.proofs.ArcSums.{flow_sum_more}
 use Rattle.mcf_instance.proofs.Bounds.{IsPlaced, each_placed, flow_sum_up_to, flow_up_to, read_back, when_up_to}
-
--- a list of the nets of so many nodes, in their order
-pub record AreNets (nodes : ℕ) (arcs : List Arc) (flow nets : List ℤ) : Type 0 where
-  pub one_per_node : length nets ≡ nodes
-  pub each : (v : ℕ) → IsNode nodes v → at_node nets v ≡ net arcs flow v
 
 -- a number added to the entry of one node
 pub add_at_node : (xs : List ℤ) (s v : ℕ) (x d z : ℤ) → IsNode (length xs) s → IsNode (length xs) v → x ≡ at_node xs s → z ≡ x +ℤ d → at_node (set xs (s - 1) z) v ≡ at_node xs v +ℤ when (eqb s v) d
@@ -41,7 +36,7 @@ net_more arcs flow i d e v h k =
     omega (arith, ints, flow_sum_more (λ a f. when (eqb a.src v) f) arcs flow i d e h k, flow_sum_more (λ a f. when (eqb a.dst v) f) arcs flow i d e h k)
 
 -- the net of a node over the first arcs is small
-pub net_up_to : (arcs : List Arc) (flow : List ℤ) (i v : ℕ) → All (IsArcWithin wide_limits) arcs → length arcs ≤ arc_limit → IsWithinBounds arcs flow → i ≤ length arcs → IsUpTo (2 * 10 ^ 25) (net (take i arcs) flow v)
+pub net_up_to : (arcs : List Arc) (flow : List ℤ) (i v : ℕ) → All (IsArcWithinLimits wide_limits) arcs → length arcs ≤ arc_limit → IsWithinBounds arcs flow → i ≤ length arcs → IsUpTo (2 * 10 ^ 25) (net (take i arcs) flow v)
 net_up_to arcs flow i v small count bounds h =
     let all = each_placed arcs flow small bounds in
     let out = flow_sum_up_to IsPlaced (λ a f. when (eqb a.src v) f) (10 ^ 18) (λ a f q. when_up_to (eqb a.src v) (10 ^ 18) f (flow_up_to a f q)) arcs flow i all in
@@ -87,7 +82,7 @@ pub record NetStep (arcs : List Arc) (flow : List ℤ) (i : ℕ) (f x : ℤ) : T
   pub flow_small : IsUpTo (10 ^ 18) f
   pub entry_small : IsUpTo (2 * 10 ^ 25) x
 
-module _ (nodes : ℕ) (arcs : List Arc) (flow nets : List ℤ) (i : ℕ) (d : Arc) (e : ℤ) (ends : All (HasEnds nodes) arcs) (limits : All (IsArcWithin wide_limits) arcs) (count : length arcs ≤ arc_limit) (bounds : IsWithinBounds arcs flow) (known : AreNets nodes (take i arcs) flow nets) (h : i < length arcs) where
+module _ (nodes : ℕ) (arcs : List Arc) (flow nets : List ℤ) (i : ℕ) (d : Arc) (e : ℤ) (ends : All (HasEnds nodes) arcs) (limits : All (IsArcWithinLimits wide_limits) arcs) (count : length arcs ≤ arc_limit) (bounds : IsWithinBounds arcs flow) (known : AreNets nodes (take i arcs) flow nets) (h : i < length arcs) where
   flow_in_range : i < length flow
   flow_in_range = omega (arith, length-AllZip CanCarry arcs flow bounds)
 

@@ -7,9 +7,10 @@ use Rattle.mcf_instance.specs.declared.problem.Problem.TheVariants.{Min, Asn}
 use Rattle.mcf_instance.specs.declared.reader.line.Heading.{Heading}
 use Rattle.mcf_text.specs.Row.{Row, node, number, natural}
 use Rattle.mcf_text.specs.Whole.{is_whole, is_within, whole_value}
+use Rattle.mcf_instance.specs.Blocking.{in_table}
 use Rattle.mcf_instance.specs.Fault.{fault_of_line, has_p, header, header_of, no_header, is_good_header, size_fits, is_p, is_up_to, arc_lines, is_listed}
 use Rattle.mcf_instance.specs.Limits.{limits, node_limit}
-use Rattle.mcf_instance.specs.LineReader.{clamped, node_line, node_tests, flag_at, number_at}
+use Rattle.mcf_instance.specs.LineReader.{clamped, node_line, node_tests, number_at}
 use Rattle.std.specs.Option.{option_map_or}
 use Rattle.mcf_instance.specs.Stands.{heading_seen}
 
@@ -78,7 +79,7 @@ clamped_supply_same (negsuc m) h = grind arith
 
 -- the tests of a node line by a heading
 pub node_tests_read : (h : Heading) (arcs : ℕ) (listed : List Bool) (known : ℕ → Bool) (u w : ℤ) → h.nodes ≤ node_limit
-    → ((v : ℕ) → 1 ≤ v → v ≤ h.nodes → flag_at listed v ≡ known v)
+    → ((v : ℕ) → 1 ≤ v → v ≤ h.nodes → in_table listed v ≡ known v)
     → node_tests limits h arcs listed (clamped u) (clamped w)
     ≡ ok_unless (cond (not (is_within (pos 1) (pos h.nodes) u && true)) (Some Node) (cond (nat_lt 0 arcs) (Some LateN) (cond (known (natural u)) (Some Twice) (cond (not (is_up_to limits.supply w)) (Some Supply) None)))) (natural u, w)
 unfolding node_tests
@@ -122,7 +123,7 @@ Reads lines n listed fields =
 
 -- a node line of `min`, where a problem line stands before
 pub node_line_reads : (lines : List Row) (n : ℕ) (fields : List (List ℕ)) (listed : List Bool) → has_p lines ≡ true → slice_index_or fields 0 [] ≡ 110 ∷ []
-    → ((v : ℕ) → 1 ≤ v → v ≤ (header lines).nodes → flag_at listed v ≡ is_listed lines v)
+    → ((v : ℕ) → 1 ≤ v → v ≤ (header lines).nodes → in_table listed v ≡ is_listed lines v)
     → (header lines).problem ≡ Min
     → Reads lines n listed fields
 unfolding node_line fault_of_line number_at
@@ -149,7 +150,7 @@ ReadsRow lines n listed fields =
     ≡ ok_unless (fault_of_line limits lines (record { number = n; fields = fields })) (node (record { number = n; fields = fields }) 1, pos 1)
 
 pub node_row_reads : (lines : List Row) (n : ℕ) (fields : List (List ℕ)) (listed : List Bool) → has_p lines ≡ true → slice_index_or fields 0 [] ≡ 110 ∷ []
-    → ((v : ℕ) → 1 ≤ v → v ≤ (header lines).nodes → flag_at listed v ≡ is_listed lines v)
+    → ((v : ℕ) → 1 ≤ v → v ≤ (header lines).nodes → in_table listed v ≡ is_listed lines v)
     → (header lines).problem ≡ Asn
     → ReadsRow lines n listed fields
 unfolding node_line fault_of_line node_tests number_at

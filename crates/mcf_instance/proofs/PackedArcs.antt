@@ -8,7 +8,7 @@ use Rattle.mcf_instance.specs.declared.arc.PackedArc.{PackedArc}
 use Rattle.mcf_instance.specs.Limits.{arc_limit, wide_limits}
 use Rattle.mcf_instance.specs.Network.{arc_sum, when}
 use Rattle.mcf_instance.specs.Packed.{unpacked}
-use Rattle.mcf_instance.specs.WellFormed.{IsArcWithin, IsUpTo}
+use Rattle.mcf_instance.specs.WellFormed.{IsArcWithinLimits, IsUpTo}
 use Rattle.mcf_instance.proofs.ArcSums.{arc_sum_more}
 use Rattle.mcf_instance.proofs.Bounds.{caps_up_to, lows_up_to}
 
@@ -28,12 +28,12 @@ packed_sum_next t arcs i h =
     ∙ ap (λ a. arc_sum t (take i (map unpacked arcs)) +ℤ t a) (get_or-map unpacked arcs i no_packed)
 
 -- the lows, or the caps, of the first arcs that pass a test
-pub packed_lows_up_to : (test : Arc → Bool) (arcs : List PackedArc) (i : ℕ) → All (IsArcWithin wide_limits) (map unpacked arcs) → length arcs ≤ arc_limit → i ≤ length arcs → IsUpTo (10 ^ 25) (arc_sum (λ a. when (test a) a.low) (take i (map unpacked arcs)))
+pub packed_lows_up_to : (test : Arc → Bool) (arcs : List PackedArc) (i : ℕ) → All (IsArcWithinLimits wide_limits) (map unpacked arcs) → length arcs ≤ arc_limit → i ≤ length arcs → IsUpTo (10 ^ 25) (arc_sum (λ a. when (test a) a.low) (take i (map unpacked arcs)))
 packed_lows_up_to test arcs i small count h =
     let n = length-map arcs unpacked in
     lows_up_to test (map unpacked arcs) i small (omega (arith, n)) (omega (arith, n))
 
-pub packed_caps_up_to : (test : Arc → Bool) (arcs : List PackedArc) (i : ℕ) → All (IsArcWithin wide_limits) (map unpacked arcs) → length arcs ≤ arc_limit → i ≤ length arcs → IsUpTo (10 ^ 25) (arc_sum (λ a. when (test a) a.cap) (take i (map unpacked arcs)))
+pub packed_caps_up_to : (test : Arc → Bool) (arcs : List PackedArc) (i : ℕ) → All (IsArcWithinLimits wide_limits) (map unpacked arcs) → length arcs ≤ arc_limit → i ≤ length arcs → IsUpTo (10 ^ 25) (arc_sum (λ a. when (test a) a.cap) (take i (map unpacked arcs)))
 packed_caps_up_to test arcs i small count h =
     let n = length-map arcs unpacked in
     caps_up_to test (map unpacked arcs) i small (omega (arith, n)) (omega (arith, n))

@@ -13,13 +13,13 @@ use Rattle.mcf_instance.specs.declared.problem.Problem.{Problem as Format}
 use Rattle.mcf_instance.specs.declared.problem.Problem.TheVariants.{Min, Asn}
 use Rattle.mcf_instance.specs.declared.reader.line.Heading.{Heading}
 use Rattle.mcf_instance.specs.Assignment.{OnAssignment, IsAssignment, IsPairing}
+use Rattle.mcf_instance.specs.Blocking.{in_table}
 use Rattle.mcf_instance.specs.Limits.{limits, wide_limits, total_limit, node_limit, arc_limit}
-use Rattle.mcf_instance.specs.LineReader.{flag_at}
 use Rattle.mcf_instance.specs.Network.{at_node}
 use Rattle.mcf_instance.specs.Packed.{unpacked}
 use Rattle.mcf_instance.specs.ReaderState.{default_supply, problem_or_min}
 use Rattle.mcf_instance.specs.ReaderSound.{HeadingFits, IsFlaggedPair, IsSound, IsSoundAssignment, LinkFits, SupplyFits, heading_arcs, heading_nodes, side_supply}
-use Rattle.mcf_instance.specs.WellFormed.{HasEnds, IsArcWithin, IsUpTo, IsWellFormed, weight}
+use Rattle.mcf_instance.specs.WellFormed.{HasEnds, IsArcWithinLimits, IsUpTo, IsWellFormed, weight}
 use Rattle.mcf_instance.proofs.Bounds.{size_up_to}
 
 -- ---- a problem line
@@ -92,7 +92,7 @@ sound_supply o listed supplies arcs v z sound fits =
 push_arc : (P : Arc → Type 0) (arcs : List PackedArc) (a : PackedArc) → All P (map unpacked arcs) → P (unpacked a) → All P (map unpacked (arcs ++ a ∷ []))
 push_arc P arcs a all h = rw (map-append unpacked arcs (a ∷ [])) (All-push P (map unpacked arcs) (unpacked a) all h)
 
-flag_supply : (listed : List Bool) (v : ℕ) → 1 ≤ v → v ≤ length listed → at_node (map side_supply listed) v ≡ side_supply (flag_at listed v)
+flag_supply : (listed : List Bool) (v : ℕ) → 1 ≤ v → v ≤ length listed → at_node (map side_supply listed) v ≡ side_supply (in_table listed v)
 flag_supply listed v low high = get_or-map side_supply listed (v - 1) false (pos 0) (omega arith)
 
 sides_with_arc : (p : Format) (listed : List Bool) (supplies : List ℤ) (arcs : List PackedArc) (a : PackedArc) (n : ℕ) → length listed ≡ n → HasEnds n (unpacked a)
@@ -119,7 +119,7 @@ sound_link o listed supplies arcs a sound fits =
       one_supply_a_node = sound.one_supply_a_node;
       arc_room = let more = length_push arcs a in omega (arith, fits.room);
       ends = push_arc (HasEnds (heading_nodes o)) arcs a sound.ends fits.ends;
-      arcs_within = push_arc (IsArcWithin limits) arcs a sound.arcs_within fits.is_within;
+      arcs_within = push_arc (IsArcWithinLimits limits) arcs a sound.arcs_within fits.is_within;
       supplies_within = sound.supplies_within;
       assignment = sides_with_arc (problem_or_min o) listed supplies arcs a (heading_nodes o) sound.one_flag_a_node fits.ends sound.assignment fits.assignment;
     }
@@ -129,7 +129,7 @@ sound_link o listed supplies arcs a sound fits =
 up_to_wide : (b c : ℕ) (z : ℤ) → b ≤ c → IsUpTo b z → IsUpTo c z
 up_to_wide b c z h u = (omega (arith, ints, u.0), omega (arith, ints, u.1))
 
-arc_wide : (a : Arc) → IsArcWithin limits a → IsArcWithin wide_limits a
+arc_wide : (a : Arc) → IsArcWithinLimits limits a → IsArcWithinLimits wide_limits a
 arc_wide a h =
     record {
       ordered = h.ordered;
@@ -138,7 +138,7 @@ arc_wide a h =
       cost_small = up_to_wide limits.cost wide_limits.cost a.cost (omega arith) h.cost_small;
     }
 
-weight_small : (a : Arc) → IsArcWithin limits a → weight a ≤ limits.cost * limits.bound
+weight_small : (a : Arc) → IsArcWithinLimits limits a → weight a ≤ limits.cost * limits.bound
 weight_small a h =
     let cost = size_up_to limits.cost a.cost h.cost_small in
     let low = size_up_to limits.bound a.low h.low_small in
@@ -146,9 +146,9 @@ weight_small a h =
     let most : max (unsigned_abs a.low) (unsigned_abs a.cap) ≤ limits.bound = omega arith in
     mul-le-mul cost most
 
-total_small : (arcs : List Arc) → length arcs ≤ arc_limit → All (IsArcWithin limits) arcs → sum (map weight arcs) ≤ total_limit
+total_small : (arcs : List Arc) → length arcs ≤ arc_limit → All (IsArcWithinLimits limits) arcs → sum (map weight arcs) ≤ total_limit
 total_small arcs few within =
-    let each = sum_by-le weight (limits.cost * limits.bound) arcs (All-weaker (IsArcWithin limits) (λ a. weight a ≤ limits.cost * limits.bound) weight_small arcs within) in
+    let each = sum_by-le weight (limits.cost * limits.bound) arcs (All-weaker (IsArcWithinLimits limits) (λ a. weight a ≤ limits.cost * limits.bound) weight_small arcs within) in
     let same = sum-map weight arcs in
     omega arith
 
@@ -176,7 +176,7 @@ well_formed h listed supplies arcs sound =
       ends = subst (λ n. All (HasEnds n) (map unpacked arcs)) (sym nodes) sound.ends;
       within = record { arcs = sound.arcs_within; supplies = sound.supplies_within };
       within_wide = record {
-        arcs = All-weaker (IsArcWithin limits) (IsArcWithin wide_limits) arc_wide (map unpacked arcs) sound.arcs_within;
+        arcs = All-weaker (IsArcWithinLimits limits) (IsArcWithinLimits wide_limits) arc_wide (map unpacked arcs) sound.arcs_within;
         supplies = All-weaker (IsUpTo limits.supply) (IsUpTo wide_limits.supply) (λ z u. up_to_wide limits.supply wide_limits.supply z (omega arith) u) supplies sound.supplies_within;
       };
       total = total_small (map unpacked arcs) few sound.arcs_within;

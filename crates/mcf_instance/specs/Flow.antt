@@ -16,6 +16,11 @@ inflow arcs flow v = flow_sum (λ a f. when (a.dst == v) f) arcs flow
 abbrev pub net : List Arc → List ℤ → ℕ → ℤ
 net arcs flow v = outflow arcs flow v -ℤ inflow arcs flow v
 
+-- a list of the nets of so many nodes, in their order
+pub record AreNets (nodes : ℕ) (arcs : List Arc) (flow nets : List ℤ) : Type 0 where
+  pub one_per_node : length nets ≡ nodes
+  pub each : (v : ℕ) → IsNode nodes v → at_node nets v ≡ net arcs flow v
+
 -- the sum of cost times flow
 abbrev pub cost : List Arc → List ℤ → ℤ
 cost arcs flow = flow_sum (λ a f. a.cost *ℤ f) arcs flow

@@ -25,3 +25,7 @@ node_limit = 1_000_000
 
 abbrev pub arc_limit : ℕ
 arc_limit = 10_000_000
+
+-- the greatest number of a line that a refusal may name
+abbrev pub line_limit : ℕ
+line_limit = 10 ^ 37

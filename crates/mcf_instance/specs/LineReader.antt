@@ -1,5 +1,5 @@
 -- What a line says, read in the order of the reader's tests.
-use Rattle.std.specs.Prelude.{ℕ, ◌+◌, ◌-◌, ◌^◌, ◌==◌, nat_le, nat_lt, Bool, false, not, ◌&&◌, ◌||◌, if◌then◌else◌, List, [], length, bytes_eq, codes, slice_index_or, ℤ, pos, int_lt, Option, Some, None, Result, Ok, Err}
+use Rattle.std.specs.Prelude.{ℕ, ◌+◌, ◌^◌, ◌==◌, nat_le, nat_lt, Bool, not, ◌&&◌, ◌||◌, if◌then◌else◌, List, [], length, bytes_eq, codes, slice_index_or, ℤ, pos, int_lt, Option, Some, None, Result, Ok, Err}
 use Rattle.mcf_instance.specs.declared.arc.PackedArc.{PackedArc}
 use Rattle.mcf_instance.specs.declared.code.Code.{Code}
 use Rattle.mcf_instance.specs.declared.code.Code.TheVariants.{Fields, Problem, Number, SecondP, BeforeP, Size, Node, LateN, Twice, Supply, Bound, Order, Cost, Extra, Side}
@@ -7,6 +7,7 @@ use Rattle.mcf_instance.specs.declared.problem.Problem.{Problem as Format}
 use Rattle.mcf_instance.specs.declared.problem.Problem.TheVariants.{Min, Asn}
 use Rattle.mcf_instance.specs.declared.reader.line.Heading.{Heading}
 use Rattle.mcf_instance.specs.declared.reader.line.ArcNumbers.{ArcNumbers}
+use Rattle.mcf_instance.specs.Blocking.{in_table}
 use Rattle.mcf_instance.specs.Fault.{is_min, is_up_to}
 use Rattle.mcf_instance.specs.Limits.{Limits, node_limit, arc_limit}
 use Rattle.mcf_text.specs.Row.{natural}
@@ -24,7 +25,7 @@ kept_size = 10 ^ 18
 
 -- a number, or one past every range where it is far from 0
 abbrev pub clamped : ℤ → ℤ
-clamped z = if is_up_to kept_size z then z else pos (10 ^ 18 + 1)
+clamped z = if is_up_to kept_size z then z else pos (kept_size + 1)
 
 -- the number of a field
 unfoldable pub number_at : List (List ℕ) → ℕ → Result ℤ Code
@@ -58,18 +59,15 @@ node_numbers fields =
     number_at fields 1 >>= λ node.
     (if length fields == 3 then (number_at fields 2 >>= λ supply. Ok (node, supply)) else Ok (node, pos 1))
 
-abbrev pub flag_at : List Bool → ℕ → Bool
-flag_at flags v = slice_index_or flags (v - 1) false
-
 -- a number as a node
-abbrev pub node_at : Heading → ℤ → Result ℕ Code
-node_at h z = if is_within (pos 1) (pos h.nodes) z then Ok (natural z) else Err Node
+abbrev pub checked_node : Heading → ℤ → Result ℕ Code
+checked_node h z = if is_within (pos 1) (pos h.nodes) z then Ok (natural z) else Err Node
 
 unfoldable pub node_tests : Limits → Heading → ℕ → List Bool → ℤ → ℤ → Result (ℕ × ℤ) Code
 node_tests limits h arcs listed node supply =
-    node_at h node >>= λ v.
+    checked_node h node >>= λ v.
     (if nat_lt 0 arcs then Err LateN
-    else (if flag_at listed v then Err Twice
+    else (if in_table listed v then Err Twice
     else (if not (is_up_to limits.supply supply) then Err Supply
     else Ok (v, supply))))
 
@@ -101,12 +99,12 @@ arc_numbers fields =
     else Ok (record { src = src; dst = dst; low = pos 0; cap = pos 1; cost = third }))
 
 abbrev pub is_wrong_side : Heading → List Bool → ℕ → ℕ → Bool
-is_wrong_side h listed src dst = not (is_min h.problem) && (not (flag_at listed src) || flag_at listed dst)
+is_wrong_side h listed src dst = not (is_min h.problem) && (not (in_table listed src) || in_table listed dst)
 
 unfoldable pub arc_tests : Limits → Heading → ℕ → List Bool → ArcNumbers → Result PackedArc Code
 arc_tests limits h arcs listed a =
-    node_at h a.src >>= λ src.
-    node_at h a.dst >>= λ dst.
+    checked_node h a.src >>= λ src.
+    checked_node h a.dst >>= λ dst.
     (if not (is_up_to limits.bound a.low && is_up_to limits.bound a.cap) then Err Bound
     else (if int_lt a.cap a.low then Err Order
     else (if not (is_up_to limits.cost a.cost) then Err Cost

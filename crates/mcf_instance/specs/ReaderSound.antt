@@ -6,11 +6,11 @@ use Rattle.mcf_instance.specs.declared.reader.line.Heading.{Heading}
 use Rattle.mcf_instance.specs.declared.reader.line.Item.{Item}
 use Rattle.mcf_instance.specs.declared.reader.line.Item.TheVariants.{Problem, Supply, Link}
 use Rattle.mcf_instance.specs.Assignment.{OnAssignment, IsPairing}
+use Rattle.mcf_instance.specs.Blocking.{in_table}
 use Rattle.mcf_instance.specs.Limits.{Limits, node_limit, arc_limit}
-use Rattle.mcf_instance.specs.LineReader.{flag_at}
 use Rattle.mcf_instance.specs.Packed.{unpacked}
 use Rattle.mcf_instance.specs.ReaderState.{StateData, problem_or_min}
-use Rattle.mcf_instance.specs.WellFormed.{HasEnds, IsArcWithin, IsUpTo}
+use Rattle.mcf_instance.specs.WellFormed.{HasEnds, IsArcWithinLimits, IsUpTo}
 
 -- the nodes and the arcs of a heading, none without one
 abbrev pub heading_nodes : Option Heading → ℕ
@@ -36,7 +36,7 @@ pub record IsSound (limits : Limits) (heading : Option Heading) (listed : List B
   pub one_supply_a_node : length supplies ≡ heading_nodes heading
   pub arc_room : length arcs ≤ heading_arcs heading
   pub ends : All (HasEnds (heading_nodes heading)) (map unpacked arcs)
-  pub arcs_within : All (IsArcWithin limits) (map unpacked arcs)
+  pub arcs_within : All (IsArcWithinLimits limits) (map unpacked arcs)
   pub supplies_within : All (IsUpTo limits.supply) supplies
   pub assignment : OnAssignment (problem_or_min heading) (IsSoundAssignment listed supplies arcs)
 
@@ -56,15 +56,15 @@ pub record SupplyFits (limits : Limits) (heading : Option Heading) (arcs : List 
 
 -- an arc of an assignment from a node with a node line to one without
 pub record IsFlaggedPair (listed : List Bool) (a : PackedArc) : Type 0 where
-  pub from_flagged : flag_at listed a.src ≡ true
-  pub to_unflagged : flag_at listed a.dst ≡ false
+  pub from_flagged : in_table listed a.src ≡ true
+  pub to_unflagged : in_table listed a.dst ≡ false
   pub low_is : a.low ≡ pos 0
   pub cap_is : a.cap ≡ pos 1
 
 pub record LinkFits (limits : Limits) (heading : Option Heading) (listed : List Bool) (arcs : List PackedArc) (a : PackedArc) : Type 0 where
   pub room : length arcs < heading_arcs heading
   pub ends : HasEnds (heading_nodes heading) (unpacked a)
-  pub is_within : IsArcWithin limits (unpacked a)
+  pub is_within : IsArcWithinLimits limits (unpacked a)
   pub assignment : OnAssignment (problem_or_min heading) (IsFlaggedPair listed a)
 
 abbrev pub ItemFits : Limits → StateData → Item → Type 0

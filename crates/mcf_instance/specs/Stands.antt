@@ -1,5 +1,5 @@
 -- The lines that a state of the reader stands for.
-use Rattle.std.specs.Prelude.{◌≡◌, ℕ, ◌+◌, if◌then◌else◌, List, [], ◌++◌, map, length, filter, slice_get, Option, Some, None}
+use Rattle.std.specs.Prelude.{◌≡◌, if◌then◌else◌, List, [], map, slice_get, Option, Some, None}
 use Rattle.std.specs.List.{range_with_len}
 use Rattle.mcf_instance.specs.declared.reader.line.Heading.{Heading}
 use Rattle.mcf_instance.specs.Fault.{Header, arc_lines, faults, has_p, header, is_listed}
@@ -7,9 +7,7 @@ use Rattle.mcf_instance.specs.Limits.{Limits}
 use Rattle.mcf_instance.specs.Packed.{unpacked}
 use Rattle.mcf_instance.specs.Reading.{arc_of, supply_of}
 use Rattle.mcf_instance.specs.ReaderState.{StateData}
-use Rattle.mcf_text.specs.Fields.{is_kept}
-use Rattle.mcf_text.specs.Lines.{numbered_lines}
-use Rattle.mcf_text.specs.Row.{Row, row_of}
+use Rattle.mcf_text.specs.Row.{Row}
 
 -- what a problem line says, as it is stored
 abbrev pub heading_of : Header → Heading
@@ -30,14 +28,3 @@ pub record Holds (s : StateData) (lines : List Row) : Type 0 where
 pub record Stands (limits : Limits) (s : StateData) (lines : List Row) : Type 0 where
   pub refusal_is : s.refusal ≡ slice_get (faults limits lines) 0
   pub holds : s.refusal ≡ None → Holds s lines
-
--- the kept ones of some numbered lines, as rows
-abbrev pub kept_rows : List (ℕ × List ℕ) → List Row
-kept_rows lines = map row_of (filter (λ line. is_kept line.1) lines)
-
--- the state stands for the lines of the text before the rest, and the rest begins at this number
-pub record HasRead (limits : Limits) (text : List ℕ) (s : StateData) (next : ℕ) (rest : List (ℕ × List ℕ)) : Type 0 where
-  pub before : List (ℕ × List ℕ)
-  pub joined : numbered_lines 1 text ≡ before ++ rest
-  pub next_is : next ≡ 1 + length before
-  pub stands : Stands limits s (kept_rows before)

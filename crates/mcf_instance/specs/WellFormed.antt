@@ -16,7 +16,7 @@ pub record HasEnds (nodes : ℕ) (a : Arc) : Type 0 where
   pub dst_is_node : IsNode nodes a.dst
 
 -- the bounds of an arc are in order and, like its cost, within the limits
-pub record IsArcWithin (limits : Limits) (a : Arc) : Type 0 where
+pub record IsArcWithinLimits (limits : Limits) (a : Arc) : Type 0 where
   pub ordered : a.low ≤ℤ a.cap
   pub low_small : IsUpTo limits.bound a.low
   pub cap_small : IsUpTo limits.bound a.cap
@@ -27,8 +27,8 @@ abbrev pub weight : Arc → ℕ
 weight a = unsigned_abs a.cost * max (unsigned_abs a.low) (unsigned_abs a.cap)
 
 -- arcs and supplies within the limits
-pub record IsWithin (limits : Limits) (g : Network) : Type 0 where
-  pub arcs : All (IsArcWithin limits) g.arcs
+pub record IsWithinLimits (limits : Limits) (g : Network) : Type 0 where
+  pub arcs : All (IsArcWithinLimits limits) g.arcs
   pub supplies : All (IsUpTo limits.supply) g.supplies
 
 -- what an instance keeps under the limits of its reader; the wide limits and the total are what the
@@ -37,7 +37,7 @@ pub record IsWellFormed (limits : Limits) (g : Network) : Type 0 where
   pub nodes : node_count g ≤ node_limit
   pub arcs : length g.arcs ≤ arc_limit
   pub ends : All (HasEnds (node_count g)) g.arcs
-  pub within : IsWithin limits g
-  pub within_wide : IsWithin wide_limits g
+  pub within : IsWithinLimits limits g
+  pub within_wide : IsWithinLimits wide_limits g
   pub total : sum (map weight g.arcs) ≤ total_limit
   pub assignment : OnAssignment g.problem (IsAssignment g)

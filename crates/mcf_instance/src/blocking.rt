@@ -6,7 +6,7 @@ ghost use Rattle.mcf_instance.specs.Flow.{IsFeasible};
 ghost use Rattle.mcf_instance.specs.Limits.{arc_limit, limits, node_limit, wide_limits};
 ghost use Rattle.mcf_instance.specs.Network.{IsNode, node_count, when};
 ghost use Rattle.mcf_instance.specs.Packed.{unpacked};
-ghost use Rattle.mcf_instance.specs.WellFormed.{HasEnds, IsArcWithin, IsUpTo, IsWellFormed};
+ghost use Rattle.mcf_instance.specs.WellFormed.{HasEnds, IsArcWithinLimits, IsUpTo, IsWellFormed};
 
 use crate::arc::PackedArc;
 use crate::copies::copies;
@@ -88,7 +88,7 @@ fn supply_within(supplies: &[i64], table: &[bool]) -> i128
 /// The sums over the arcs that cross the border of the set.
 fn border_of(arcs: &[PackedArc], table: &[bool]) -> Border
     requires count { length arcs.now ≤ arc_limit }
-    requires small { All (IsArcWithin wide_limits) (map unpacked arcs.now) }
+    requires small { All (IsArcWithinLimits wide_limits) (map unpacked arcs.now) }
     requires ends { All (HasEnds (length table.now)) (map unpacked arcs.now) }
     ensures low_in { result.low_in ≡ low_entering (map unpacked arcs.now) (in_table table.now) }
     ensures cap_in { result.cap_in ≡ cap_entering (map unpacked arcs.now) (in_table table.now) }

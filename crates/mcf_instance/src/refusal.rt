@@ -12,12 +12,13 @@ pub struct Refusal {
 impl Model for Refusal {
     ghost use Rattle.std.specs.Prelude.{◌≤◌, ◌^◌};
     ghost use Rattle.mcf_instance.specs.Fault.{Fault};
+    ghost use Rattle.mcf_instance.specs.Limits.{line_limit};
 
     ghost Value = { Fault };
 
     ghost view = { λ r. record { line = r.line; code = r.code } };
 
-    ghost invariant = { λ r. (1 ≤ r.line) × (r.line ≤ 10 ^ 37) };
+    ghost invariant = { λ r. (1 ≤ r.line) × (r.line ≤ line_limit) };
 
     ghost inverse = { λ f. record { line = f.line; code = f.code } };
 }

@@ -13,7 +13,7 @@ use Rattle.mcf_network.specs.declared.stored.StoredArc.{StoredArc}
 use Rattle.mcf_network.specs.Stored.{stored_arc, stored_net}
 use Rattle.mcf_network.specs.Nets.{IsNet, IsNetArc, width_limit, supply_limit}
 use Rattle.mcf_network.specs.Residual.{no_arc, arc_at, tail, head}
-use Rattle.mcf_network.specs.States.{Flow, IsFlow, amount_at, room_of}
+use Rattle.mcf_network.specs.States.{Pseudoflow, IsPseudoflow, amount_at, room_of}
 use Rattle.mcf_instance.proofs.AllZips.{AllZip-at, length-AllZip}
 
 pub arcs_need_nodes : (nodes : ℕ) (arcs : List Arc) → All (HasEnds nodes) arcs → 1 ≤ length arcs → 1 ≤ nodes
@@ -36,17 +36,17 @@ pub head_is_node : (g : Network) (k : ℕ) (b : Bool) → IsNet g → IsArcNumbe
 head_is_node g k true ok h = (ends_at g k ok h).src_is_node
 head_is_node g k false ok h = (ends_at g k ok h).dst_is_node
 
-pub amount_count : (s : Flow) → IsFlow s → length s.net.arcs ≡ length s.amounts
+pub amount_count : (s : Pseudoflow) → IsPseudoflow s → length s.net.arcs ≡ length s.amounts
 amount_count s ok = length-AllZip CanCarry s.net.arcs s.amounts ok.within_bounds
 
 -- the amount of an arc is from 0 to its width
-pub record HasAmount (s : Flow) (k : ℕ) : Type 0 where
+pub record HasAmount (s : Pseudoflow) (k : ℕ) : Type 0 where
   pub in_range : k - 1 < length s.amounts
   pub low : pos 0 ≤ℤ amount_at s k
   pub high : amount_at s k ≤ℤ (arc_at s.net k).cap
   pub width : (arc_at s.net k).cap ≤ℤ pos width_limit
 
-pub amount_of : (s : Flow) (k : ℕ) → IsFlow s → IsArcNumber s.net k → HasAmount s k
+pub amount_of : (s : Pseudoflow) (k : ℕ) → IsPseudoflow s → IsArcNumber s.net k → HasAmount s k
 amount_of s k ok h =
     let here : k - 1 < length s.net.arcs = omega arith in
     let arc = net_arc_at s.net k ok.of_net h in
@@ -63,7 +63,7 @@ pub record HasSmallRoom (x : ℤ) : Type 0 where
   pub low : pos 0 ≤ℤ x
   pub high : x ≤ℤ pos width_limit
 
-pub room_small : (s : Flow) (k : ℕ) (b : Bool) → IsFlow s → IsArcNumber s.net k → HasSmallRoom (room_of s (record { arc = k; back = b }))
+pub room_small : (s : Pseudoflow) (k : ℕ) (b : Bool) → IsPseudoflow s → IsArcNumber s.net k → HasSmallRoom (room_of s (record { arc = k; back = b }))
 room_small s k true ok h =
     let a = amount_of s k ok h in
     record { low = a.low; high = let u = a.high in let w = a.width in omega (arith, ints, u, w) }
@@ -97,23 +97,23 @@ stored_arc_at g problem arcs supplies k a view ok h e =
     })
 
 -- an amount of a state, as a read gives it
-pub record IsReadAmount (s : Flow) (g : Network) (k : ℕ) (x : ℤ) : Type 0 where
+pub record IsReadAmount (s : Pseudoflow) (g : Network) (k : ℕ) (x : ℤ) : Type 0 where
   pub is : x ≡ amount_at s k
   pub low : pos 0 ≤ℤ x
   pub high : x ≤ℤ (arc_at s.net k).cap
   pub width : (arc_at s.net k).cap ≤ℤ pos width_limit
   pub same_width : (arc_at g k).cap ≡ (arc_at s.net k).cap
 
-pub amount_in_range : (s : Flow) (g : Network) (amounts : List ℤ) (k : ℕ) → record { net = g; amounts = amounts } ≡ s → IsFlow (record { net = g; amounts = amounts }) → IsArcNumber s.net k → k - 1 < length amounts
+pub amount_in_range : (s : Pseudoflow) (g : Network) (amounts : List ℤ) (k : ℕ) → record { net = g; amounts = amounts } ≡ s → IsPseudoflow (record { net = g; amounts = amounts }) → IsArcNumber s.net k → k - 1 < length amounts
 amount_in_range s g amounts k view ok h =
-    (amount_of (record { net = g; amounts = amounts }) k ok (subst (λ (t : Flow). IsArcNumber t.net k) (sym view) h)).in_range
+    (amount_of (record { net = g; amounts = amounts }) k ok (subst (λ (t : Pseudoflow). IsArcNumber t.net k) (sym view) h)).in_range
 
-pub read_amount : (s : Flow) (g : Network) (amounts : List ℤ) (k : ℕ) (x : ℤ) → record { net = g; amounts = amounts } ≡ s → IsFlow (record { net = g; amounts = amounts }) → IsArcNumber s.net k → x ≡ get_or amounts (k - 1) x → IsReadAmount s g k x
+pub read_amount : (s : Pseudoflow) (g : Network) (amounts : List ℤ) (k : ℕ) (x : ℤ) → record { net = g; amounts = amounts } ≡ s → IsPseudoflow (record { net = g; amounts = amounts }) → IsArcNumber s.net k → x ≡ get_or amounts (k - 1) x → IsReadAmount s g k x
 read_amount s g amounts k x view ok h e =
-    let here : IsArcNumber g k = subst (λ (t : Flow). IsArcNumber t.net k) (sym view) h in
+    let here : IsArcNumber g k = subst (λ (t : Pseudoflow). IsArcNumber t.net k) (sym view) h in
     let a = amount_of (record { net = g; amounts = amounts }) k ok here in
     let is : x ≡ get_or amounts (k - 1) (pos 0) = get_or_read amounts (k - 1) x a.in_range e (pos 0) in
-    subst (λ (t : Flow). IsReadAmount t g k x) view (record {
+    subst (λ (t : Pseudoflow). IsReadAmount t g k x) view (record {
       is = is;
       low = rw is a.low;
       high = rw is a.high;
@@ -121,12 +121,12 @@ read_amount s g amounts k x view ok h e =
       same_width = refl;
     })
 
-pub room_back : (s : Flow) (r : Rid) → r.back ≡ true → room_of s r ≡ amount_at s r.arc
+pub room_back : (s : Pseudoflow) (r : Rid) → r.back ≡ true → room_of s r ≡ amount_at s r.arc
 room_back s r e = rw e refl
 
-pub room_forward : (s : Flow) (r : Rid) → r.back ≡ false → room_of s r ≡ (arc_at s.net r.arc).cap -ℤ amount_at s r.arc
+pub room_forward : (s : Pseudoflow) (r : Rid) → r.back ≡ false → room_of s r ≡ (arc_at s.net r.arc).cap -ℤ amount_at s r.arc
 room_forward s r e = rw e refl
 
-pub read_room : (s : Flow) (g : Network) (amounts : List ℤ) (r : Rid) → record { net = g; amounts = amounts } ≡ s → IsFlow (record { net = g; amounts = amounts }) → IsArcNumber s.net r.arc → HasSmallRoom (room_of s r)
+pub read_room : (s : Pseudoflow) (g : Network) (amounts : List ℤ) (r : Rid) → record { net = g; amounts = amounts } ≡ s → IsPseudoflow (record { net = g; amounts = amounts }) → IsArcNumber s.net r.arc → HasSmallRoom (room_of s r)
 read_room s g amounts r view ok h =
-    room_small s r.arc r.back (subst IsFlow view ok) h
+    room_small s r.arc r.back (subst IsPseudoflow view ok) h

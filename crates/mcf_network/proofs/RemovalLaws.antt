@@ -16,7 +16,7 @@ use Rattle.mcf_instance.specs.Assignment.{IsAssignment, IsPairing, OnAssignment}
 use Rattle.mcf_instance.specs.Flow.{IsWithinBounds, net}
 use Rattle.mcf_instance.specs.Limits.{limits, total_limit, wide_limits}
 use Rattle.mcf_instance.specs.Network.{Network, IsNode, at_node, flow_sum, node_count, when}
-use Rattle.mcf_instance.specs.WellFormed.{HasEnds, IsArcWithin, IsUpTo, IsWellFormed, weight}
+use Rattle.mcf_instance.specs.WellFormed.{HasEnds, IsArcWithinLimits, IsUpTo, IsWellFormed, weight}
 use Rattle.mcf_instance.proofs.Bounds.{sum-weights-le, width_weight}
 use Rattle.mcf_instance.proofs.NetSteps.{net_more, net_up_to}
 use Rattle.mcf_network.specs.Nets.{IsNet, IsNetArc, net_total_limit, supply_limit}
@@ -34,7 +34,7 @@ width_loop a e = rw (eq-eqb a.src a.dst e) refl
 pub width_plain : (a : Arc) → a.src ≢ a.dst → width_of a ≡ a.cap -ℤ a.low
 width_plain a n = rw (ne_eqb a.src a.dst n) refl
 
-pub net_arc_ok : (a : Arc) → IsArcWithin wide_limits a → IsNetArc (without_low a)
+pub net_arc_ok : (a : Arc) → IsArcWithinLimits wide_limits a → IsNetArc (without_low a)
 net_arc_ok a h =
     elim (cases_eq a.src a.dst) [
       | inl e ↦
@@ -72,11 +72,11 @@ net_weight a =
 
 -- ---- the supplies that are left
 
-pub lows_within : (arcs : List Arc) → All (IsArcWithin wide_limits) arcs → IsWithinBounds arcs (lows arcs)
+pub lows_within : (arcs : List Arc) → All (IsArcWithinLimits wide_limits) arcs → IsWithinBounds arcs (lows arcs)
 lows_within [] h = tt
 lows_within (a ∷ arcs) h =
-    let ordered = (All-head (IsArcWithin wide_limits) a arcs h).ordered in
-    ((omega (arith, ints), ordered), lows_within arcs (All-tail (IsArcWithin wide_limits) a arcs h))
+    let ordered = (All-head (IsArcWithinLimits wide_limits) a arcs h).ordered in
+    ((omega (arith, ints), ordered), lows_within arcs (All-tail (IsArcWithinLimits wide_limits) a arcs h))
 
 -- what the lows of the first arcs leave of a supply
 abbrev pub left_after : Network → ℕ → ℕ → ℤ
@@ -234,7 +234,7 @@ left_entry_small g i v left ok old h hv =
 pub record IsArcOf (g : Network) (i : ℕ) (a : Arc) : Type 0 where
   pub is : get_or g.arcs i no_arc ≡ a
   pub ends : HasEnds (node_count g) a
-  pub within : IsArcWithin wide_limits a
+  pub within : IsArcWithinLimits wide_limits a
 
 pub arc_of : (g : Network) (i : ℕ) (a : Arc) → IsWellFormed limits g → i < length g.arcs → slice_get g.arcs (i + 1 - 1) ≡ Some a → IsArcOf g i a
 arc_of g i a ok h is =
@@ -243,7 +243,7 @@ arc_of g i a ok h is =
     record {
       is = e;
       ends = subst (HasEnds (node_count g)) e (ok.ends i no_arc h);
-      within = subst (IsArcWithin wide_limits) e (ok.within_wide.arcs i no_arc h);
+      within = subst (IsArcWithinLimits wide_limits) e (ok.within_wide.arcs i no_arc h);
     }
 
 pub stored_is : (a : Arc) (src dst : ℕ) (width cost : ℤ) → src ≡ a.src → dst ≡ a.dst → width ≡ width_of a → cost ≡ a.cost → stored_arc (record { src = src; dst = dst; width = width; cost = cost }) ≡ without_low a

@@ -22,7 +22,7 @@ use Rattle.mcf_instance.proofs.NodeSums.{node_sum-same, node_sum-sub}
 use Rattle.mcf_network.specs.Laws.{GreatestPricesCarryOver, NetFlowsCostNoMore, NetsBlockAlike, RestoredLeastFlowsAreLeast}
 use Rattle.mcf_network.specs.Removal.{is_loop, lows, net_of, supply_left, width_of, without_low}
 use Rattle.mcf_network.specs.Residual.{no_arc}
-use Rattle.mcf_network.specs.States.{Flow, HasNoSurplus, IsFlow}
+use Rattle.mcf_network.specs.States.{Pseudoflow, HasNoSurplus, IsPseudoflow}
 use Rattle.mcf_network.specs.Restoring.{fixed_cost, is_earning_loop, restored, restored_flow}
 use Rattle.mcf_network.proofs.RemovalLaws.{net_of-node_count, net_supply, width_loop, width_plain}
 use Rattle.mcf_network.proofs.StateLaws.{when-add, when-sub, when-zero}
@@ -299,7 +299,7 @@ nets_block_alike_lem g set Take ends =
 
 -- ---- what `restore` gives
 
-pub record IsRestored (g : Network) (s : Flow) : Type 0 where
+pub record IsRestored (g : Network) (s : Pseudoflow) : Type 0 where
   pub feasible : IsFeasible g (restored g.arcs s.amounts)
   pub shown : (prices : List ℤ) → Shows g.arcs prices (restored g.arcs s.amounts) ↔ Shows s.net.arcs prices s.amounts
   pub cost_is : cost g.arcs (restored g.arcs s.amounts) ≡ cost s.net.arcs s.amounts +ℤ fixed_cost g.arcs
@@ -313,7 +313,7 @@ restored_at g amounts ordered feasible =
       cost_is = restored_cost g.arcs amounts feasible.within_bounds;
     }
 
-pub restored_all : (g : Network) (s : Flow) → IsWellFormed limits g → s.net ≡ net_of g → IsFlow s → HasNoSurplus s → IsRestored g s
+pub restored_all : (g : Network) (s : Pseudoflow) → IsWellFormed limits g → s.net ≡ net_of g → IsPseudoflow s → HasNoSurplus s → IsRestored g s
 restored_all g s ok of_net flow none =
     let feasible = subst (λ n. IsFeasible n s.amounts) of_net (feasible_of_state s flow none) in
     let ordered : All Ordered g.arcs = λ k d l. (ok.within_wide.arcs k d l).ordered in

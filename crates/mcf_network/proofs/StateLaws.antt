@@ -19,7 +19,7 @@ use Rattle.mcf_instance.proofs.NetSteps.{add_at_node}
 use Rattle.mcf_network.specs.declared.rid.Rid.{Rid}
 use Rattle.mcf_network.specs.Nets.{IsNet, IsNetArc, width_limit}
 use Rattle.mcf_network.specs.Residual.{no_arc, arc_at, tail, head}
-use Rattle.mcf_network.specs.States.{Flow, IsFlow, KeepsSurplus, amount_at, pushed, room_of, surplus_at}
+use Rattle.mcf_network.specs.States.{Pseudoflow, IsPseudoflow, KeepsSurplus, amount_at, pushed, room_of, surplus_at}
 use Rattle.mcf_network.proofs.ArcLaws.{amount_count, amount_of, net_arc_at, supply_at}
 
 abbrev pub rid : ℕ → Bool → Rid
@@ -68,7 +68,7 @@ move_two xs i j v a b x hi hj hv ea eb =
 -- ---- amounts
 
 -- an amount from 0 to the width in place of that of an arc
-pub set_ok : (s : Flow) (k : ℕ) (y : ℤ) → IsFlow s → IsArcNumber s.net k → pos 0 ≤ℤ y → y ≤ℤ (arc_at s.net k).cap → IsFlow (record s { amounts = set s.amounts (k - 1) y })
+pub set_ok : (s : Pseudoflow) (k : ℕ) (y : ℤ) → IsPseudoflow s → IsArcNumber s.net k → pos 0 ≤ℤ y → y ≤ℤ (arc_at s.net k).cap → IsPseudoflow (record s { amounts = set s.amounts (k - 1) y })
 set_ok s k y ok h low high =
     let none = (net_arc_at s.net k ok.of_net h).no_low in
     record {
@@ -76,7 +76,7 @@ set_ok s k y ok h low high =
       within_bounds = AllZip-set CanCarry s.net.arcs s.amounts (k - 1) no_arc y (omega arith) ok.within_bounds (omega (arith, ints, none, low), high);
     }
 
-pub pushed_ok : (s : Flow) (k : ℕ) (b : Bool) (x : ℤ) → IsFlow s → IsArcNumber s.net k → pos 0 ≤ℤ x → x ≤ℤ room_of s (rid k b) → IsFlow (pushed s (rid k b) x)
+pub pushed_ok : (s : Pseudoflow) (k : ℕ) (b : Bool) (x : ℤ) → IsPseudoflow s → IsArcNumber s.net k → pos 0 ≤ℤ x → x ≤ℤ room_of s (rid k b) → IsPseudoflow (pushed s (rid k b) x)
 pushed_ok s k true x ok h low high =
     let a = amount_of s k ok h in
     let u = a.high in
@@ -87,7 +87,7 @@ pushed_ok s k false x ok h low high =
     set_ok s k _ ok h (omega (arith, ints, low, l)) (omega (arith, ints, high))
 
 -- the net of a node after one amount changed by x
-net_changed : (s : Flow) (k : ℕ) (x : ℤ) (v : ℕ) → IsFlow s → IsArcNumber s.net k → net s.net.arcs (set s.amounts (k - 1) (amount_at s k +ℤ x)) v ≡ net s.net.arcs s.amounts v +ℤ when (eqb (arc_at s.net k).src v) x -ℤ when (eqb (arc_at s.net k).dst v) x
+net_changed : (s : Pseudoflow) (k : ℕ) (x : ℤ) (v : ℕ) → IsPseudoflow s → IsArcNumber s.net k → net s.net.arcs (set s.amounts (k - 1) (amount_at s k +ℤ x)) v ≡ net s.net.arcs s.amounts v +ℤ when (eqb (arc_at s.net k).src v) x -ℤ when (eqb (arc_at s.net k).dst v) x
 net_changed s k x v ok h =
     let here : k - 1 < length s.net.arcs = omega arith in
     let there : k - 1 < length s.amounts = omega (arith, here, amount_count s ok) in
@@ -96,7 +96,7 @@ net_changed s k x v ok h =
     omega (arith, ints, out, into, when-add (eqb (arc_at s.net k).src v) (amount_at s k) x, when-add (eqb (arc_at s.net k).dst v) (amount_at s k) x)
 
 -- the surplus moves from the tail to the head
-pub pushed_surplus : (s : Flow) (k : ℕ) (b : Bool) (x : ℤ) → IsFlow s → IsArcNumber s.net k → (v : ℕ) → surplus_at (pushed s (rid k b) x) v ≡ surplus_at s v -ℤ when (eqb (tail s.net (rid k b)) v) x +ℤ when (eqb (head s.net (rid k b)) v) x
+pub pushed_surplus : (s : Pseudoflow) (k : ℕ) (b : Bool) (x : ℤ) → IsPseudoflow s → IsArcNumber s.net k → (v : ℕ) → surplus_at (pushed s (rid k b) x) v ≡ surplus_at s v -ℤ when (eqb (tail s.net (rid k b)) v) x +ℤ when (eqb (head s.net (rid k b)) v) x
 pushed_surplus s k true x ok h v =
     let e = net_changed s k (neg_ℤ x) v ok h in
     omega (arith, ints, e, when-neg (eqb (arc_at s.net k).src v) x, when-neg (eqb (arc_at s.net k).dst v) x)
@@ -113,7 +113,7 @@ placed_up_to b a f h =
     when_up_to b (2 * 10 ^ 18) f (omega (arith, ints, none, wide, h.1))
 
 -- the net of a node is small
-net_small : (s : Flow) (v : ℕ) → IsFlow s → IsUpTo (4 * 10 ^ 25) (net s.net.arcs s.amounts v)
+net_small : (s : Pseudoflow) (v : ℕ) → IsPseudoflow s → IsUpTo (4 * 10 ^ 25) (net s.net.arcs s.amounts v)
 net_small s v ok =
     let all = AllZip-with CanCarry IsNetArc s.net.arcs s.amounts ok.of_net.each_arc ok.within_bounds in
     let out = rw (take-length s.net.arcs) at (flow_sum_up_to Placed (λ a f. when (eqb a.src v) f) (2 * 10 ^ 18) (λ a f. placed_up_to (eqb a.src v) a f) s.net.arcs s.amounts (length s.net.arcs) all) in
@@ -121,17 +121,17 @@ net_small s v ok =
     let count = ok.of_net.arcs in
     omega (arith, ints, out, into, count)
 
-pub surplus_small : (s : Flow) (v : ℕ) → IsFlow s → IsNode (node_count s.net) v → IsUpTo (2 * 10 ^ 26) (surplus_at s v)
+pub surplus_small : (s : Pseudoflow) (v : ℕ) → IsPseudoflow s → IsNode (node_count s.net) v → IsUpTo (2 * 10 ^ 26) (surplus_at s v)
 surplus_small s v ok h =
     omega (arith, ints, net_small s v ok, supply_at s.net v ok.of_net h)
 
-pub kept_small : (s : Flow) (kept : List ℤ) (v : ℕ) → KeepsSurplus s kept → IsNode (length kept) v → IsUpTo (2 * 10 ^ 26) (at_node kept v)
+pub kept_small : (s : Pseudoflow) (kept : List ℤ) (v : ℕ) → KeepsSurplus s kept → IsNode (length kept) v → IsUpTo (2 * 10 ^ 26) (at_node kept v)
 kept_small s kept v ok h =
     let l : IsNode (node_count s.net) v = omega (arith, ok.count) in
     rw (ok.each v l) (surplus_small s v ok.flow l)
 
 -- the kept surpluses after a push
-pub keeps_pushed : (s : Flow) (kept kept' : List ℤ) (r : Rid) (x : ℤ) (from to : ℕ) → KeepsSurplus s kept → IsArcNumber s.net r.arc → pos 0 ≤ℤ x → x ≤ℤ room_of s r → from ≡ tail s.net r → to ≡ head s.net r → length kept' ≡ length kept → ((v : ℕ) → IsNode (length kept) v → at_node kept' v ≡ at_node kept v -ℤ when (eqb from v) x +ℤ when (eqb to v) x) → KeepsSurplus (pushed s r x) kept'
+pub keeps_pushed : (s : Pseudoflow) (kept kept' : List ℤ) (r : Rid) (x : ℤ) (from to : ℕ) → KeepsSurplus s kept → IsArcNumber s.net r.arc → pos 0 ≤ℤ x → x ≤ℤ room_of s r → from ≡ tail s.net r → to ≡ head s.net r → length kept' ≡ length kept → ((v : ℕ) → IsNode (length kept) v → at_node kept' v ≡ at_node kept v -ℤ when (eqb from v) x +ℤ when (eqb to v) x) → KeepsSurplus (pushed s r x) kept'
 keeps_pushed s kept kept' r x from to ok h low high ef et n each =
     record {
       flow = pushed_ok s r.arc r.back x ok.flow h low high;
@@ -183,7 +183,7 @@ changed_is true y a x al ah xl xh e = omega (arith, ints)
 changed_is false y a x al ah xl xh e = omega (arith, ints)
 
 -- what a push makes of a state
-pub record IsPushStep (s : Flow) (r : Rid) (x : ℤ) (after : Flow) (kept : List ℤ) : Type 0 where
+pub record IsPushStep (s : Pseudoflow) (r : Rid) (x : ℤ) (after : Pseudoflow) (kept : List ℤ) : Type 0 where
   pub keeps : KeepsSurplus after kept
   pub is : after ≡ pushed s r x
   pub moves : (v : ℕ) → surplus_at after v ≡ surplus_at s v -ℤ when (eqb (tail s.net r) v) x +ℤ when (eqb (head s.net r) v) x
@@ -191,33 +191,33 @@ pub record IsPushStep (s : Flow) (r : Rid) (x : ℤ) (after : Flow) (kept : List
 module _ (g : Network) (amounts kept kept' : List ℤ) (r : Rid) (x a y : ℤ) (i from to : ℕ) where
   push_step_at : KeepsSurplus (record { net = g; amounts = amounts }) kept → i ≡ r.arc → IsArcNumber g r.arc → pos 0 ≤ℤ x → x ≤ℤ room_of (record { net = g; amounts = amounts }) r → a ≡ get_or amounts (i - 1) a → y ≡ cond r.back (a -ℤ x) (a +ℤ x) → from ≡ tail g r → to ≡ head g r → length kept' ≡ length kept → ((v : ℕ) → IsNode (length kept) v → at_node kept' v ≡ at_node kept v -ℤ when (eqb from v) x +ℤ when (eqb to v) x) → IsPushStep (record { net = g; amounts = amounts }) r x (record { net = g; amounts = set amounts (i - 1) y }) kept'
   push_step_at ok ei h low high ea ey ef et n each =
-      let s : Flow = record { net = g; amounts = amounts } in
+      let s : Pseudoflow = record { net = g; amounts = amounts } in
       let here = (amount_of s r.arc ok.flow h).in_range in
       let is_a : a ≡ amount_at s r.arc = get_or_read amounts (r.arc - 1) a here (rw (← ei) ea) (pos 0) in
       let is : record { net = g; amounts = set amounts (i - 1) y } ≡ pushed s r x = rw (ei, ey, is_a) refl in
       record {
-        keeps = subst (λ (t : Flow). KeepsSurplus t kept') (sym is) (keeps_pushed s kept kept' r x from to ok h low high ef et n each);
+        keeps = subst (λ (t : Pseudoflow). KeepsSurplus t kept') (sym is) (keeps_pushed s kept kept' r x from to ok h low high ef et n each);
         is = is;
-        moves = λ v. ap (λ (t : Flow). surplus_at t v) is ∙ pushed_surplus s r.arc r.back x ok.flow h v;
+        moves = λ v. ap (λ (t : Pseudoflow). surplus_at t v) is ∙ pushed_surplus s r.arc r.back x ok.flow h v;
       }
 
-  pub push_step : (s : Flow) → record { net = g; amounts = amounts } ≡ s → KeepsSurplus (record { net = g; amounts = amounts }) kept → i ≡ r.arc → IsArcNumber s.net r.arc → pos 0 ≤ℤ x → x ≤ℤ room_of s r → a ≡ get_or amounts (i - 1) a → y ≡ cond r.back (a -ℤ x) (a +ℤ x) → from ≡ tail g r → to ≡ head g r → length kept' ≡ length kept → ((v : ℕ) → IsNode (length kept) v → at_node kept' v ≡ at_node kept v -ℤ when (eqb from v) x +ℤ when (eqb to v) x) → IsPushStep s r x (record { net = g; amounts = set amounts (i - 1) y }) kept'
+  pub push_step : (s : Pseudoflow) → record { net = g; amounts = amounts } ≡ s → KeepsSurplus (record { net = g; amounts = amounts }) kept → i ≡ r.arc → IsArcNumber s.net r.arc → pos 0 ≤ℤ x → x ≤ℤ room_of s r → a ≡ get_or amounts (i - 1) a → y ≡ cond r.back (a -ℤ x) (a +ℤ x) → from ≡ tail g r → to ≡ head g r → length kept' ≡ length kept → ((v : ℕ) → IsNode (length kept) v → at_node kept' v ≡ at_node kept v -ℤ when (eqb from v) x +ℤ when (eqb to v) x) → IsPushStep s r x (record { net = g; amounts = set amounts (i - 1) y }) kept'
   push_step s view ok ei h low high ea ey ef et n each =
-      subst (λ (t : Flow). IsPushStep t r x (record { net = g; amounts = set amounts (i - 1) y }) kept') view
-      (push_step_at ok ei (subst (λ (t : Flow). IsArcNumber t.net r.arc) (sym view) h) low (subst (λ (t : Flow). x ≤ℤ room_of t r) (sym view) high) ea ey ef et n each)
+      subst (λ (t : Pseudoflow). IsPushStep t r x (record { net = g; amounts = set amounts (i - 1) y }) kept') view
+      (push_step_at ok ei (subst (λ (t : Pseudoflow). IsArcNumber t.net r.arc) (sym view) h) low (subst (λ (t : Pseudoflow). x ≤ℤ room_of t r) (sym view) high) ea ey ef et n each)
 
 -- a kept surplus, as a read gives it
-pub record IsReadSurplus (s : Flow) (v : ℕ) (x : ℤ) : Type 0 where
+pub record IsReadSurplus (s : Pseudoflow) (v : ℕ) (x : ℤ) : Type 0 where
   pub is : x ≡ surplus_at s v
   pub small : IsUpTo (2 * 10 ^ 26) x
-  pub flow : IsFlow s
+  pub flow : IsPseudoflow s
 
-pub read_surplus : (s : Flow) (g : Network) (amounts kept : List ℤ) (v : ℕ) (x : ℤ) → record { net = g; amounts = amounts } ≡ s → KeepsSurplus (record { net = g; amounts = amounts }) kept → IsNode (node_count s.net) v → x ≡ get_or kept (v - 1) x → IsReadSurplus s v x
+pub read_surplus : (s : Pseudoflow) (g : Network) (amounts kept : List ℤ) (v : ℕ) (x : ℤ) → record { net = g; amounts = amounts } ≡ s → KeepsSurplus (record { net = g; amounts = amounts }) kept → IsNode (node_count s.net) v → x ≡ get_or kept (v - 1) x → IsReadSurplus s v x
 read_surplus s g amounts kept v x view ok h e =
-    let t : Flow = record { net = g; amounts = amounts } in
-    let here : IsNode (node_count g) v = subst (λ (t : Flow). IsNode (node_count t.net) v) (sym view) h in
+    let t : Pseudoflow = record { net = g; amounts = amounts } in
+    let here : IsNode (node_count g) v = subst (λ (t : Pseudoflow). IsNode (node_count t.net) v) (sym view) h in
     let is : x ≡ surplus_at t v = get_or_read kept (v - 1) x (omega (arith, here, ok.count)) e (pos 0) ∙ ok.each v here in
-    subst (λ (t : Flow). IsReadSurplus t v x) view (record {
+    subst (λ (t : Pseudoflow). IsReadSurplus t v x) view (record {
       is = is;
       small = rw is (surplus_small t v ok.flow here);
       flow = ok.flow;

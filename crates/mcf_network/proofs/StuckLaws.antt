@@ -15,19 +15,19 @@ use Rattle.mcf_instance.proofs.Hoffman.{nets_across}
 use Rattle.mcf_instance.proofs.NodeSums.{node_sum-same, node_sum-sub, node_sum_above_zero}
 use Rattle.mcf_network.specs.Laws.{FeasibleFlowsAreStates, StuckSetsBlock}
 use Rattle.mcf_network.specs.Residual.{no_arc, arc_at}
-use Rattle.mcf_network.specs.States.{Flow, IsFlow, HasNoSurplus, amount_at, room_of, surplus_at}
+use Rattle.mcf_network.specs.States.{Pseudoflow, IsPseudoflow, HasNoSurplus, amount_at, room_of, surplus_at}
 use Rattle.mcf_network.specs.Stuck.{IsStuck}
 use Rattle.mcf_network.proofs.ArcLaws.{amount_count, amount_of, net_arc_at}
 use Rattle.mcf_network.proofs.StateLaws.{rid, when-sub}
 
-pub feasible_of_state : (s : Flow) → IsFlow s → HasNoSurplus s → IsFeasible s.net s.amounts
+pub feasible_of_state : (s : Pseudoflow) → IsPseudoflow s → HasNoSurplus s → IsFeasible s.net s.amounts
 feasible_of_state s ok none =
     record {
       within_bounds = ok.within_bounds;
       meets_supplies = λ v h. let e = none v h in omega (arith, ints, e);
     }
 
-pub no_surplus_of_feasible : (s : Flow) → IsFeasible s.net s.amounts → HasNoSurplus s
+pub no_surplus_of_feasible : (s : Pseudoflow) → IsFeasible s.net s.amounts → HasNoSurplus s
 no_surplus_of_feasible s feasible v h =
     let e = feasible.meets_supplies v h in omega (arith, ints, e)
 
@@ -55,7 +55,7 @@ crosses_at true false f cap low full empty = (full refl refl, refl)
 crosses_at false true f cap low full empty = (refl, empty refl refl)
 crosses_at false false f cap low full empty = (refl, refl)
 
-module _ (s : Flow) (set : ℕ → Bool) (ok : IsFlow s) (stuck : IsStuck s set) where
+module _ (s : Pseudoflow) (set : ℕ → Bool) (ok : IsPseudoflow s) (stuck : IsStuck s set) where
   full : (k : ℕ) → IsArcNumber s.net k → set (arc_at s.net k).src ≡ true → set (arc_at s.net k).dst ≡ false → amount_at s k ≡ (arc_at s.net k).cap
   full k h b c =
       let a = amount_of s k ok h in

@@ -10,17 +10,17 @@ use Rattle.mcf_instance.specs.WellFormed.{HasEnds}
 use Rattle.mcf_network.specs.Nets.{IsNet}
 use Rattle.mcf_network.specs.Removal.{net_of}
 use Rattle.mcf_network.specs.Restoring.{fixed_cost, restored}
-use Rattle.mcf_network.specs.States.{Flow, IsFlow, HasNoSurplus}
+use Rattle.mcf_network.specs.States.{Pseudoflow, IsPseudoflow, HasNoSurplus}
 use Rattle.mcf_network.specs.Stuck.{IsStuck}
 
 -- amounts are a feasible flow of a net exactly where they are a state without surplus
 abbrev pub FeasibleFlowsAreStates : Type 0
 FeasibleFlowsAreStates =
-    (g : Network) (flow : List ℤ) → IsNet g → IsFeasible g flow ↔ (IsFlow (record { net = g; amounts = flow }) × HasNoSurplus (record { net = g; amounts = flow }))
+    (g : Network) (flow : List ℤ) → IsNet g → IsFeasible g flow ↔ (IsPseudoflow (record { net = g; amounts = flow }) × HasNoSurplus (record { net = g; amounts = flow }))
 
 -- a set that no surplus can leave must send more than it can
 abbrev pub StuckSetsBlock : Type 0
-StuckSetsBlock = (s : Flow) (set : ℕ → Bool) → IsFlow s → IsStuck s set → Blocks s.net set Send
+StuckSetsBlock = (s : Pseudoflow) (set : ℕ → Bool) → IsPseudoflow s → IsStuck s set → Blocks s.net set Send
 
 -- for each feasible flow some state of the net without surplus costs no more than the flow, but for the
 -- cost that is the same for all

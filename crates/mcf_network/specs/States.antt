@@ -6,46 +6,46 @@ use Rattle.mcf_network.specs.declared.rid.Rid.{Rid}
 use Rattle.mcf_network.specs.Nets.{IsNet}
 use Rattle.mcf_network.specs.Residual.{arc_at}
 
--- a net, and an amount for each of its arcs
-pub record Flow : Type 0 where
+-- a net, and an amount for each of its arcs, which need not meet the supplies
+pub record Pseudoflow : Type 0 where
   pub net : Network
   pub amounts : List ℤ
 
 -- each amount is from 0 to the width of its arc
-pub record IsFlow (s : Flow) : Type 0 where
+pub record IsPseudoflow (s : Pseudoflow) : Type 0 where
   pub of_net : IsNet s.net
   pub within_bounds : IsWithinBounds s.net.arcs s.amounts
 
 -- the amount of the arc of this number
-abbrev pub amount_at : Flow → ℕ → ℤ
+abbrev pub amount_at : Pseudoflow → ℕ → ℤ
 amount_at s k = slice_index_or s.amounts (k - 1) (pos 0)
 
 -- what node v has left to send: its supply less the net of the amounts
-abbrev pub surplus_at : Flow → ℕ → ℤ
+abbrev pub surplus_at : Pseudoflow → ℕ → ℤ
 surplus_at s v = at_node s.net.supplies v -ℤ net s.net.arcs s.amounts v
 
 -- no node has anything left to send or to take
-abbrev pub HasNoSurplus : Flow → Type 0
+abbrev pub HasNoSurplus : Pseudoflow → Type 0
 HasNoSurplus s = (v : ℕ) → IsNode (node_count s.net) v → surplus_at s v ≡ pos 0
 
 -- how much more a residual arc can carry
-abbrev pub room_of : Flow → Rid → ℤ
+abbrev pub room_of : Pseudoflow → Rid → ℤ
 room_of s r = if r.back then amount_at s r.arc else (arc_at s.net r.arc).cap -ℤ amount_at s r.arc
 
 -- the state with x more along a residual arc
-abbrev pub pushed : Flow → Rid → ℤ → Flow
+abbrev pub pushed : Pseudoflow → Rid → ℤ → Pseudoflow
 pushed s r x =
     record s {
       amounts = slice_set s.amounts (r.arc - 1) (if r.back then amount_at s r.arc -ℤ x else amount_at s r.arc +ℤ x);
     }
 
 -- x of the surplus moves from one node to another, and no other surplus changes
-abbrev pub MovesSurplus : Flow → Flow → ℕ → ℕ → ℤ → Type 0
+abbrev pub MovesSurplus : Pseudoflow → Pseudoflow → ℕ → ℕ → ℤ → Type 0
 MovesSurplus s s' from to x =
     (v : ℕ) → IsNode (node_count s.net) v → surplus_at s' v ≡ surplus_at s v -ℤ when (from == v) x +ℤ when (to == v) x
 
 -- a list of the surpluses of the nodes of a state
-pub record KeepsSurplus (s : Flow) (surpluses : List ℤ) : Type 0 where
-  pub flow : IsFlow s
+pub record KeepsSurplus (s : Pseudoflow) (surpluses : List ℤ) : Type 0 where
+  pub flow : IsPseudoflow s
   pub count : length surpluses ≡ node_count s.net
   pub each : (v : ℕ) → IsNode (node_count s.net) v → at_node surpluses v ≡ surplus_at s v

@@ -4,7 +4,7 @@ use Rattle.std.specs.List.{All, AllPairs}
 use Rattle.mcf_instance.specs.Network.{Network, IsArcNumber}
 use Rattle.mcf_network.specs.declared.rid.Rid.{Rid}
 use Rattle.mcf_network.specs.Residual.{tail, head, unit_cost}
-use Rattle.mcf_network.specs.States.{Flow, room_of, pushed}
+use Rattle.mcf_network.specs.States.{Pseudoflow, room_of, pushed}
 
 -- each residual arc leaves the node that the one before enters; the first leaves u, the last enters w
 abbrev pub IsWalk : Network → ℕ → List Rid → ℕ → Type 0
@@ -17,22 +17,22 @@ walk_cost g [] = pos 0
 walk_cost g (r ∷ rest) = unit_cost g r +ℤ walk_cost g rest
 
 -- a residual arc of the net that can carry more
-pub record HasRoom (s : Flow) (r : Rid) : Type 0 where
+pub record HasRoom (s : Pseudoflow) (r : Rid) : Type 0 where
   pub arc : IsArcNumber s.net r.arc
   pub room : pos 0 <ℤ room_of s r
 
 -- a residual arc of the net that can carry x more
-pub record HasRoomFor (s : Flow) (x : ℤ) (r : Rid) : Type 0 where
+pub record HasRoomFor (s : Pseudoflow) (x : ℤ) (r : Rid) : Type 0 where
   pub arc : IsArcNumber s.net r.arc
   pub room : x ≤ℤ room_of s r
 
 -- x more along each of these residual arcs, one after another
-abbrev pub pushed_along : Flow → List Rid → ℤ → Flow
+abbrev pub pushed_along : Pseudoflow → List Rid → ℤ → Pseudoflow
 pushed_along s [] x = s
 pushed_along s (r ∷ rest) x = pushed_along (pushed s r x) rest x
 
 -- each has room for x, and none stands twice
-pub record CanPushAlong (s : Flow) (walk : List Rid) (x : ℤ) : Type 0 where
+pub record CanPushAlong (s : Pseudoflow) (walk : List Rid) (x : ℤ) : Type 0 where
   pub low : pos 0 ≤ℤ x
   pub room : All (HasRoomFor s x) walk
   pub distinct : AllPairs (λ r q. r ≢ q) walk

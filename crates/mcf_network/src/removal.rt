@@ -3,7 +3,7 @@ ghost use Rattle.std.specs.Prelude.{◌≡◌, ◌≤◌, IfOk, OnErr, length, m
 ghost use Rattle.std.specs.List.{range_with_len};
 ghost use Rattle.mcf_instance.specs.Limits.{wide_limits};
 ghost use Rattle.mcf_instance.specs.Network.{node_count};
-ghost use Rattle.mcf_instance.specs.WellFormed.{IsArcWithin};
+ghost use Rattle.mcf_instance.specs.WellFormed.{IsArcWithinLimits};
 ghost use Rattle.mcf_network.specs.Nets.{IsNet};
 ghost use Rattle.mcf_network.specs.Removal.{net_of, supply_left, without_low};
 ghost use Rattle.mcf_network.specs.Stored.{stored_arc};
@@ -58,7 +58,7 @@ fn arcs_without_lows(alloc: Global, instance: &Instance) -> Result<Vec<StoredArc
 
 // The arc with its low taken away.
 fn without_low(a: Arc) -> StoredArc
-    requires { IsArcWithin wide_limits a }
+    requires { IsArcWithinLimits wide_limits a }
     ensures { stored_arc result ≡ without_low a }
 {
     let src = a.src.get();

@@ -2,7 +2,7 @@
 ghost use Rattle.std.specs.Prelude.{◌≡◌, ◌+ℤ◌, ◌≤◌, ◌≤ℤ◌, ◌↔◌, ℤ, List, IfOk, OnErr, length, pos};
 ghost use Rattle.mcf_instance.specs.Flow.{IsFeasible, Shows, cost};
 ghost use Rattle.mcf_instance.specs.Limits.{wide_limits};
-ghost use Rattle.mcf_instance.specs.WellFormed.{IsArcWithin};
+ghost use Rattle.mcf_instance.specs.WellFormed.{IsArcWithinLimits};
 ghost use Rattle.mcf_network.specs.Nets.{width_limit};
 ghost use Rattle.mcf_network.specs.Removal.{net_of};
 ghost use Rattle.mcf_network.specs.Restoring.{fixed_cost, restored, restored_flow};
@@ -42,7 +42,7 @@ pub fn restore(alloc: Global, instance: &Instance, state: &State<'_>) -> Result<
 
 // What an arc carries where the arc of the net carries an amount.
 fn restored_flow(a: Arc, amount: i128) -> i128
-    requires arc { IsArcWithin wide_limits a }
+    requires arc { IsArcWithinLimits wide_limits a }
     requires low { pos 0 ≤ℤ amount }
     requires high { amount ≤ℤ pos width_limit }
     ensures { result ≡ restored_flow a amount }

@@ -4,7 +4,7 @@ ghost use Rattle.mcf_instance.specs.Network.{IsArcNumber, IsNode, at_node, node_
 ghost use Rattle.mcf_instance.specs.WellFormed.{IsUpTo};
 ghost use Rattle.mcf_network.specs.Nets.{width_limit};
 ghost use Rattle.mcf_network.specs.Residual.{arc_at, head, tail};
-ghost use Rattle.mcf_network.specs.States.{IsFlow, MovesSurplus, amount_at, pushed, room_of, surplus_at};
+ghost use Rattle.mcf_network.specs.States.{IsPseudoflow, MovesSurplus, amount_at, pushed, room_of, surplus_at};
 
 use crate::net::Net;
 use crate::rid::Rid;
@@ -25,9 +25,9 @@ pub struct State<'n> {
 }
 
 impl<'n> Model for State<'n> {
-    ghost use Rattle.mcf_network.specs.States.{Flow, KeepsSurplus};
+    ghost use Rattle.mcf_network.specs.States.{Pseudoflow, KeepsSurplus};
 
-    ghost Value = { Flow };
+    ghost Value = { Pseudoflow };
 
     ghost view = { λ s. record { net = s.net.now; amounts = s.amounts.items } };
 
@@ -42,7 +42,7 @@ impl<'n> State<'n> {
     /// Want of memory; a net without nodes wants none.
     pub fn zero(alloc: Global, net: &'n Net) -> Result<State<'n>, NoMemory>
         ensures value { IfOk result (λ s. s ≡ record { net = net.now; amounts = replicate (length net.now.arcs) (pos 0) }) }
-        ensures valid { IfOk result IsFlow }
+        ensures valid { IfOk result IsPseudoflow }
         ensures wants { OnErr result (1 ≤ node_count net.now) }
     {
         let amounts = zeros(alloc, net.arcs.len())?;
@@ -57,7 +57,7 @@ impl<'n> State<'n> {
     /// The net.
     pub fn net(&self) -> &'n Net
         ensures value { result.now ≡ self.now.net }
-        ensures valid { IsFlow self.now }
+        ensures valid { IsPseudoflow self.now }
     {
         self.net
     }
@@ -68,7 +68,7 @@ impl<'n> State<'n> {
         ensures value { result ≡ amount_at self.now k }
         ensures low { pos 0 ≤ℤ result }
         ensures high { result ≤ℤ (arc_at self.now.net k).cap }
-        ensures valid { IsFlow self.now }
+        ensures valid { IsPseudoflow self.now }
     {
         i128::from(self.amounts[k.get() as usize - 1])
     }
@@ -78,7 +78,7 @@ impl<'n> State<'n> {
         requires { IsNode (node_count self.now.net) v }
         ensures value { result ≡ surplus_at self.now v }
         ensures small { IsUpTo (2 * 10 ^ 26) result }
-        ensures valid { IsFlow self.now }
+        ensures valid { IsPseudoflow self.now }
     {
         self.surpluses[v.get() as usize - 1]
     }
@@ -105,7 +105,7 @@ impl<'n> State<'n> {
         requires high { amount ≤ℤ room_of self.old r }
         ensures value { self.new ≡ pushed self.old r amount }
         ensures surpluses { MovesSurplus self.old self.new (tail self.old.net r) (head self.old.net r) amount }
-        ensures valid { IsFlow self.new }
+        ensures valid { IsPseudoflow self.new }
     {
         let back = r.back;
         let k = r.arc.get() as usize - 1;

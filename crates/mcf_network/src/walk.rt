@@ -2,7 +2,7 @@
 ghost use Rattle.std.specs.Prelude.{◌≡◌, ◌<◌, ◌+ℤ◌, ◌*ℤ◌, ◌≤ℤ◌, ◌⊎◌, ℕ, All, Any, length, pos};
 ghost use Rattle.mcf_instance.specs.Flow.{cost};
 ghost use Rattle.mcf_instance.specs.Network.{IsArcNumber};
-ghost use Rattle.mcf_network.specs.States.{IsFlow, MovesSurplus, room_of};
+ghost use Rattle.mcf_network.specs.States.{IsPseudoflow, MovesSurplus, room_of};
 ghost use Rattle.mcf_network.specs.Walks.{CanPushAlong, IsWalk, pushed_along, walk_cost};
 
 use crate::rid::Rid;
@@ -30,7 +30,7 @@ pub fn push_along(state: &mut State<'_>, walk: &[Rid], amount: i128)
     ensures value { state.new ≡ pushed_along state.old walk.now amount }
     ensures surpluses { (u w : ℕ) → IsWalk state.old.net u walk.now w → MovesSurplus state.old state.new u w amount }
     ensures cost { cost state.old.net.arcs state.new.amounts ≡ cost state.old.net.arcs state.old.amounts +ℤ walk_cost state.old.net walk.now *ℤ amount }
-    ensures valid { IsFlow state.new }
+    ensures valid { IsPseudoflow state.new }
 {
     // Called for its clause alone: each amount is from 0 to the width of its arc.
     let _net = state.net();

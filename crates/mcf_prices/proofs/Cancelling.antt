@@ -11,7 +11,7 @@ use Rattle.mcf_instance.proofs.IntLaws.{mul_below_zero}
 use Rattle.mcf_network.specs.declared.rid.Rid.{Rid}
 use Rattle.mcf_network.specs.Nets.{net_total_limit}
 use Rattle.mcf_network.specs.Residual.{tail}
-use Rattle.mcf_network.specs.States.{Flow, IsFlow, room_of}
+use Rattle.mcf_network.specs.States.{Pseudoflow, IsPseudoflow, room_of}
 use Rattle.mcf_network.specs.Walks.{CanPushAlong, pushed_along, walk_cost}
 use Rattle.mcf_network.proofs.StuckLaws.{feasible_of_state}
 use Rattle.mcf_network.proofs.WalkLaws.{along_ok, along_net, moves_along, cost_along}
@@ -21,20 +21,20 @@ use Rattle.mcf_prices.specs.Outcomes.{AreStatePrices, IsLeastState}
 use Rattle.mcf_prices.specs.Recovering.{price_limit}
 use Rattle.mcf_prices.proofs.Cycles.{nat_abs_falls}
 
-pub cycle_some : (s : Flow) (walk : List Rid) → IsNegativeCycle s walk → 0 < length walk
+pub cycle_some : (s : Pseudoflow) (walk : List Rid) → IsNegativeCycle s walk → 0 < length walk
 cycle_some s [] cycle = let less = cycle.negative in absurd (omega (arith, ints, less))
 cycle_some s (r ∷ rest) cycle = omega arith
 
-pub cycle_arcs : (s : Flow) (walk : List Rid) → IsNegativeCycle s walk → All (λ r. IsArcNumber s.net r.arc) walk
+pub cycle_arcs : (s : Pseudoflow) (walk : List Rid) → IsNegativeCycle s walk → All (λ r. IsArcNumber s.net r.arc) walk
 cycle_arcs s walk cycle k d h = (cycle.has_room k d h).arc
 
-pub cycle_positive : (s : Flow) (walk : List Rid) (x : ℤ) → IsNegativeCycle s walk → Any (λ r. x ≡ room_of s r) walk → pos 0 <ℤ x
+pub cycle_positive : (s : Pseudoflow) (walk : List Rid) (x : ℤ) → IsNegativeCycle s walk → Any (λ r. x ≡ room_of s r) walk → pos 0 <ℤ x
 cycle_positive s walk x cycle (k, r, h, at, is) =
     let room = (cycle.has_room k r h).room in
     let same = ap (room_of s) at in
     omega (arith, ints, room, same, is)
 
-pub cycle_can_push : (s : Flow) (walk : List Rid) (x : ℤ) → IsNegativeCycle s walk → pos 0 <ℤ x → All (λ r. x ≤ℤ room_of s r) walk → CanPushAlong s walk x
+pub cycle_can_push : (s : Pseudoflow) (walk : List Rid) (x : ℤ) → IsNegativeCycle s walk → pos 0 <ℤ x → All (λ r. x ≤ℤ room_of s r) walk → CanPushAlong s walk x
 cycle_can_push s walk x cycle positive room =
     record {
       low = omega (arith, ints, positive);
@@ -42,7 +42,7 @@ cycle_can_push s walk x cycle positive room =
       distinct = λ i j d h l e. cycle.distinct i j d h l (ap (tail s.net) e);
     }
 
-pub cycle_feasible : (g : Network) (s : Flow) (walk : List Rid) (x : ℤ) → IsFeasibleState g s → IsNegativeCycle s walk → CanPushAlong s walk x → IsFeasibleState g (pushed_along s walk x)
+pub cycle_feasible : (g : Network) (s : Pseudoflow) (walk : List Rid) (x : ℤ) → IsFeasibleState g s → IsNegativeCycle s walk → CanPushAlong s walk x → IsFeasibleState g (pushed_along s walk x)
 cycle_feasible g s walk x ok cycle can =
     let same = along_net s walk x in
     record {
@@ -57,10 +57,10 @@ cycle_feasible g s walk x ok cycle can =
     }
 
 -- how far the cost is above the least that any flow could cost
-abbrev pub cost_height : Flow → ℕ
+abbrev pub cost_height : Pseudoflow → ℕ
 cost_height s = nat_abs (cost s.net.arcs s.amounts +ℤ pos net_total_limit)
 
-pub cost_height_falls : (s : Flow) (walk : List Rid) (x : ℤ) → IsFlow s → IsNegativeCycle s walk → CanPushAlong s walk x → pos 0 <ℤ x → cost_height (pushed_along s walk x) < cost_height s
+pub cost_height_falls : (s : Pseudoflow) (walk : List Rid) (x : ℤ) → IsPseudoflow s → IsNegativeCycle s walk → CanPushAlong s walk x → pos 0 <ℤ x → cost_height (pushed_along s walk x) < cost_height s
 cost_height_falls s walk x ok cycle can positive =
     let change = cost_along s walk x ok can in
     let less = mul_below_zero (walk_cost s.net walk) x cycle.negative positive in
@@ -70,7 +70,7 @@ cost_height_falls s walk x ok cycle can positive =
     nat_abs_falls (cost (pushed_along s walk x).net.arcs (pushed_along s walk x).amounts +ℤ pos net_total_limit) (cost s.net.arcs s.amounts +ℤ pos net_total_limit) (omega (arith, ints, floor)) (omega (arith, ints, less, change, same))
 
 -- a cancelled cycle leaves a state without surplus, which costs less
-module _ (s s' : Flow) (walk : List Rid) (cycle : IsNegativeCycle s walk) (done : IsCancelled s s' walk) where
+module _ (s s' : Pseudoflow) (walk : List Rid) (cycle : IsNegativeCycle s walk) (done : IsCancelled s s' walk) where
   positive : pos 0 <ℤ done.amount
   positive = cycle_positive s walk done.amount cycle done.reached
 
@@ -78,20 +78,20 @@ module _ (s s' : Flow) (walk : List Rid) (cycle : IsNegativeCycle s walk) (done 
   can = cycle_can_push s walk done.amount cycle positive done.each
 
   pub cancelled_feasible : (g : Network) → IsFeasibleState g s → IsFeasibleState g s'
-  cancelled_feasible g ok = subst (λ (t : Flow). IsFeasibleState g t) (sym done.pushed) (cycle_feasible g s walk done.amount ok cycle can)
+  cancelled_feasible g ok = subst (λ (t : Pseudoflow). IsFeasibleState g t) (sym done.pushed) (cycle_feasible g s walk done.amount ok cycle can)
 
-  pub cancelled_falls : IsFlow s → cost_height s' < cost_height s
-  cancelled_falls ok = subst (λ (t : Flow). cost_height t < cost_height s) (sym done.pushed) (cost_height_falls s walk done.amount ok cycle can positive)
+  pub cancelled_falls : IsPseudoflow s → cost_height s' < cost_height s
+  cancelled_falls ok = subst (λ (t : Pseudoflow). cost_height t < cost_height s) (sym done.pushed) (cost_height_falls s walk done.amount ok cycle can positive)
 
 -- prices that show the amounts of a state without surplus
-pub least_from_prices : (g : Network) (s : Flow) (ys : List ℤ) → IsFeasibleState g s → AreGreatestPrices s.net ys s.amounts → IsLeastState g s
+pub least_from_prices : (g : Network) (s : Pseudoflow) (ys : List ℤ) → IsFeasibleState g s → AreGreatestPrices s.net ys s.amounts → IsLeastState g s
 least_from_prices g s ys ok prices =
     record {
       feasible = ok;
       least = subst (λ n. IsLeast n s.amounts) ok.of_net (shown_flows_are_least_lem s.net ys s.amounts ok.flow.of_net.ends (feasible_of_state s ok.flow ok.no_surplus) prices.low.show_flow);
     }
 
-pub state_prices : (g : Network) (s : Flow) (ys : List ℤ) → IsFeasibleState g s → AreGreatestPrices s.net ys s.amounts → All (IsUpTo price_limit) ys → AreStatePrices g s ys
+pub state_prices : (g : Network) (s : Pseudoflow) (ys : List ℤ) → IsFeasibleState g s → AreGreatestPrices s.net ys s.amounts → All (IsUpTo price_limit) ys → AreStatePrices g s ys
 state_prices g s ys ok greatest small =
     record {
       greatest = subst (λ n. AreGreatestPrices n ys s.amounts) ok.of_net greatest;
@@ -99,12 +99,12 @@ state_prices g s ys ok greatest small =
     }
 
 -- there is room for 1 along a negative cycle
-pub cycle_by_one : (s : Flow) (walk : List Rid) → IsNegativeCycle s walk → CanPushAlong s walk (pos 1)
+pub cycle_by_one : (s : Pseudoflow) (walk : List Rid) → IsNegativeCycle s walk → CanPushAlong s walk (pos 1)
 cycle_by_one s walk cycle =
     cycle_can_push s walk (pos 1) cycle (omega (arith, ints)) (λ k d h. let some = (cycle.has_room k d h).room in omega (arith, ints, some))
 
 -- a push of 1 along a negative cycle makes a state cheaper, so a least state has none
-pub least_no_cycle : (g : Network) (s : Flow) (walk : List Rid) → IsLeastState g s → IsNegativeCycle s walk → ⊥
+pub least_no_cycle : (g : Network) (s : Pseudoflow) (walk : List Rid) → IsLeastState g s → IsNegativeCycle s walk → ⊥
 least_no_cycle g s walk ok cycle =
     let can = cycle_by_one s walk cycle in
     let after = cycle_feasible g s walk (pos 1) ok.feasible cycle can in

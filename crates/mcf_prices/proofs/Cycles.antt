@@ -9,7 +9,7 @@ use Rattle.mcf_network.specs.declared.rid.Rid.{Rid}
 use Rattle.mcf_network.specs.NodeSets.{member_count, no_nodes}
 use Rattle.mcf_network.specs.Walks.{IsWalk}
 use Rattle.mcf_prices.specs.Labels.{Labels, IsLabelling, AreAtLeast, cost_limit, total}
-use Rattle.mcf_prices.specs.Trails.{Leaves, IsTrail, IsDone, IsSettled}
+use Rattle.mcf_prices.specs.Trails.{HasTail, IsTrail, IsDone, IsSettled}
 use Rattle.mcf_feas.proofs.Marks.{unmarked, count_small}
 
 -- after v nodes: no path is under way, each node that was seen is settled, and so is each node up to v
@@ -36,12 +36,12 @@ cycle_start l =
     }
 
 -- a walk ends where it begins, or leaves its beginning
-walk_leaves : (g : Network) (path : List Rid) (u w : ℕ) → IsWalk g u path w → (u ≡ w) ⊎ Leaves g path u
+walk_leaves : (g : Network) (path : List Rid) (u w : ℕ) → IsWalk g u path w → (u ≡ w) ⊎ HasTail g path u
 walk_leaves g [] u w walk = inl walk
 walk_leaves g (r ∷ rest) u w walk = inr (0, omega arith, λ d. walk.0)
 
 -- after a walk that closed no cycle was taken back
-pub cycle_next : (l : Labels) (seen done done' : List Bool) (path : List Rid) (v end : ℕ) → ((j : ℕ) → 1 ≤ j → j ≤ v → IsSettled l done j) → IsTrail l path seen done → IsWalk l.flow.net (v + 1) path end → IsSettled l done end → IsDone l done' → ((u : ℕ) → in_table done u ≡ true → in_table done' u ≡ true) → ((u : ℕ) → Leaves l.flow.net path u → in_table done' u ≡ true) → CycleAt l seen done' (v + 1)
+pub cycle_next : (l : Labels) (seen done done' : List Bool) (path : List Rid) (v end : ℕ) → ((j : ℕ) → 1 ≤ j → j ≤ v → IsSettled l done j) → IsTrail l path seen done → IsWalk l.flow.net (v + 1) path end → IsSettled l done end → IsDone l done' → ((u : ℕ) → in_table done u ≡ true → in_table done' u ≡ true) → ((u : ℕ) → HasTail l.flow.net path u → in_table done' u ≡ true) → CycleAt l seen done' (v + 1)
 cycle_next l seen done done' path v end before trail walk settled floors kept left =
     record {
       trail = record {
@@ -60,7 +60,7 @@ cycle_next l seen done done' path v end before trail walk settled floors kept le
       before = λ j low h. elim (cases_eq j (v + 1)) [
         | inl e ↦ elim (walk_leaves l.flow.net path (v + 1) end walk) [
           | inl s ↦ subst (λ x. IsSettled l done' x) (sym (e ∙ s)) (still end settled)
-          | inr a ↦ inl (left j (subst (λ x. Leaves l.flow.net path x) (sym e) a))
+          | inr a ↦ inl (left j (subst (λ x. HasTail l.flow.net path x) (sym e) a))
         ]
         | inr n ↦ still j (before j low (omega arith))
       ];
@@ -85,7 +85,7 @@ cycle_end l seen done v ok at n u h =
     omega (arith, ints, low, count_small done, at.floors.count)
 
 -- where a walk closed a cycle the path leaves its end
-pub end_leaves : (l : Labels) (seen done : List Bool) (path : List Rid) (end : ℕ) → IsTrail l path seen done → IsNode (length seen) end → in_table seen end ≡ true → (IsSettled l done end → ⊥) → Leaves l.flow.net path end
+pub end_leaves : (l : Labels) (seen done : List Bool) (path : List Rid) (end : ℕ) → IsTrail l path seen done → IsNode (length seen) end → in_table seen end ≡ true → (IsSettled l done end → ⊥) → HasTail l.flow.net path end
 end_leaves l seen done path end trail h e closed =
     elim (trail.seen end h e) [
       | inl a ↦ absurd (closed (inl a))

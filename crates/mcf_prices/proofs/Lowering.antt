@@ -9,7 +9,7 @@ use Rattle.mcf_instance.specs.Flow.{AreLowPrices, AreNotAboveZero}
 use Rattle.mcf_instance.specs.Network.{IsNode, at_node, node_count}
 use Rattle.mcf_network.specs.declared.rid.Rid.{Rid}
 use Rattle.mcf_network.specs.Residual.{tail, head}
-use Rattle.mcf_network.specs.States.{Flow, IsFlow}
+use Rattle.mcf_network.specs.States.{Pseudoflow, IsPseudoflow}
 use Rattle.mcf_network.specs.Walks.{HasRoom}
 use Rattle.mcf_network.proofs.ArcLaws.{tail_is_node, head_is_node}
 use Rattle.mcf_prices.specs.Labels.{Labels, IsLabelling, IsLinked, IsLink, offer, lowered, AreAtLeast, Respects, cost_limit, total}
@@ -179,7 +179,7 @@ module _ (l : Labels) (r : Rid) (ok : IsLabelling l) (room : HasRoom l.flow r) (
       omega (arith, ints, here, there)
 
 -- all prices 0 and no link
-pub start_ok : (s : Flow) → IsFlow s → IsLabelling (record { flow = s; prices = replicate (node_count s.net) (pos 0); links = replicate (node_count s.net) None })
+pub start_ok : (s : Pseudoflow) → IsPseudoflow s → IsLabelling (record { flow = s; prices = replicate (node_count s.net) (pos 0); links = replicate (node_count s.net) None })
 start_ok s ok =
     let n = node_count s.net in
     let m = length-replicate n (pos 0) in

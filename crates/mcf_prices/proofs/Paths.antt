@@ -14,18 +14,18 @@ use Rattle.mcf_network.specs.NodeSets.{member_count, with_node}
 use Rattle.mcf_network.specs.Residual.{tail, head}
 use Rattle.mcf_network.specs.Walks.{IsWalk}
 use Rattle.mcf_prices.specs.Labels.{Labels, IsLabelling, cost_limit, link_at}
-use Rattle.mcf_prices.specs.Trails.{IsStep, Leaves, IsTrail, IsDone}
+use Rattle.mcf_prices.specs.Trails.{IsStep, HasTail, IsTrail, IsDone}
 use Rattle.mcf_prices.proofs.LinkWalks.{IsWalk-pop, step_falls}
 use Rattle.mcf_feas.proofs.Marks.{marked_new, marked_still, counted_new}
 use Rattle.mcf_prices.proofs.Marks.{read_node, counted_more}
 use Rattle.mcf_prices.proofs.Showing.{cost_small}
 
-Leaves-push : (g : Network) (path : List Rid) (r : Rid) (v : ℕ) → Leaves g path v → Leaves g (path ++ r ∷ []) v
-Leaves-push g path r v leaves =
+HasTail-push : (g : Network) (path : List Rid) (r : Rid) (v : ℕ) → HasTail g path v → HasTail g (path ++ r ∷ []) v
+HasTail-push g path r v leaves =
     (leaves.0, omega (arith, leaves.1, length_push path r), λ d. rw (get_or_append_left path (r ∷ []) d leaves.0 leaves.1) (leaves.2 d))
 
-Leaves_here : (g : Network) (path : List Rid) (r : Rid) (v : ℕ) → tail g r ≡ v → Leaves g (path ++ r ∷ []) v
-Leaves_here g path r v e =
+HasTail-here : (g : Network) (path : List Rid) (r : Rid) (v : ℕ) → tail g r ≡ v → HasTail g (path ++ r ∷ []) v
+HasTail-here g path r v e =
     (length path, omega (arith, length_push path r), λ d. rw (get_or_push path r d (length path) refl) e)
 
 -- a node is marked: it is that node, or it was marked
@@ -47,11 +47,11 @@ trail_push l path seen done r at ok h fresh step e =
       distinct = all_pairs_push (λ q p. tail l.flow.net q ≢ tail l.flow.net p) path r ok.distinct (λ k d p same. let a = ok.path_seen k d p in let b = ap (in_table seen) (same ∙ e) in true≢false (sym a ∙ b ∙ fresh));
       path_seen = All-push (λ q. in_table (with_node seen at) (tail l.flow.net q) ≡ true) path r (λ k d p. marked_still seen at _ inside (ok.path_seen k d p)) (ap (in_table (with_node seen at)) e ∙ marked_new seen at inside);
       seen = λ v p m. elim (marked_by seen at v inside p m) [
-        | inl s ↦ inr (inr (Leaves_here l.flow.net path r v (e ∙ sym s)))
+        | inl s ↦ inr (inr (HasTail-here l.flow.net path r v (e ∙ sym s)))
         | inr (n, w) ↦ elim (ok.seen v n w) [
           | inl a ↦ inl a
           | inr (inl a) ↦ inr (inl a)
-          | inr (inr a) ↦ inr (inr (Leaves-push l.flow.net path r v a))
+          | inr (inr a) ↦ inr (inr (HasTail-push l.flow.net path r v a))
         ]
       ];
     }
@@ -78,7 +78,7 @@ pub record FinishAt (l : Labels) (first now : List Bool) (whole path : List Rid)
   pub walk : (u : ℕ) × (end : ℕ) × IsWalk l.flow.net u path end × (neg_ℤ (pos (cost_limit * member_count now)) ≤ℤ at_node l.prices end)
   pub done : IsDone l now
   pub kept : (v : ℕ) → in_table first v ≡ true → in_table now v ≡ true
-  pub left : (v : ℕ) → Leaves l.flow.net whole v → (in_table now v ≡ true) ⊎ Leaves l.flow.net path v
+  pub left : (v : ℕ) → HasTail l.flow.net whole v → (in_table now v ≡ true) ⊎ HasTail l.flow.net path v
 
 All-front : (P : Rid → Type 0) (path : List Rid) (r : Rid) → All P (path ++ r ∷ []) → All P path
 All-front P path r all k d h = subst P (get_or_append_left path (r ∷ []) d k h) (all k d (omega (arith, h, length_push path r)))
@@ -86,8 +86,8 @@ All-front P path r all k d h = subst P (get_or_append_left path (r ∷ []) d k h
 pub All-last : (P : Rid → Type 0) (path : List Rid) (r : Rid) → All P (path ++ r ∷ []) → P r
 All-last P path r all = subst P (get_or_push path r r (length path) refl) (all (length path) r (omega (arith, length_push path r)))
 
-Leaves-unpush : (g : Network) (path : List Rid) (r : Rid) (v : ℕ) → Leaves g (path ++ r ∷ []) v → (tail g r ≡ v) ⊎ Leaves g path v
-Leaves-unpush g path r v leaves =
+HasTail-unpush : (g : Network) (path : List Rid) (r : Rid) (v : ℕ) → HasTail g (path ++ r ∷ []) v → (tail g r ≡ v) ⊎ HasTail g path v
+HasTail-unpush g path r v leaves =
     elim (cases_eq leaves.0 (length path)) [
       | inl e ↦ inl (subst (λ q. tail g q ≡ v) (get_or_push path r r leaves.0 (sym e)) (leaves.2 r))
       | inr n ↦ (let h : leaves.0 < length path = (let m = leaves.1 in omega (arith, m, n, length_push path r)) in inr (leaves.0, h, λ d. subst (λ q. tail g q ≡ v) (get_or_append_left path (r ∷ []) d leaves.0 h) (leaves.2 d)))
@@ -124,7 +124,7 @@ finish_step l first now whole path r ok at =
       kept = λ v m. marked_still now (tail l.flow.net r) v inside (at.kept v m);
       left = λ v leaves. elim (at.left v leaves) [
         | inl m ↦ inl (marked_still now (tail l.flow.net r) v inside m)
-        | inr p ↦ elim (Leaves-unpush l.flow.net path r v p) [
+        | inr p ↦ elim (HasTail-unpush l.flow.net path r v p) [
           | inl e ↦ inl (subst (λ x. in_table (with_node now (tail l.flow.net r)) x ≡ true) e (marked_new now (tail l.flow.net r) inside))
           | inr q ↦ inr q
         ]
@@ -132,8 +132,8 @@ finish_step l first now whole path r ok at =
     }
 
 -- nothing is left of an empty path
-pub no_leaves : (g : Network) (v : ℕ) → Leaves g [] v → ⊥
-no_leaves g v leaves = let h = leaves.1 in omega (arith, h)
+pub no_tail : (g : Network) (v : ℕ) → HasTail g [] v → ⊥
+no_tail g v leaves = let h = leaves.1 in omega (arith, h)
 
 -- a link is a step
 pub link_step : (l : Labels) (v : ℕ) (o : Option Rid) → IsLabelling l → IsNode (length l.links) v → o ≡ link_at l v → IfSome o (λ r. IsStep l r × (tail l.flow.net r ≡ v))

@@ -1,6 +1,7 @@
 -- What the residual arcs that enter a node do to the labels and the queue.
 use Rattle.std.proofs.Common.{◌≡◌, ℕ, ◌+◌, List, [], ◌∷◌, length, Bool, true, false, get_or, refl, sym, ap, subst, ◌∙◌, arith, ◌⊎◌, inl, inr}
 use Rattle.std.specs.List.{All, Contains}
+use Rattle.std.specs.Prelude.{not}
 use Rattle.std.proofs.lemmas.Int.{ints}
 use Rattle.std.proofs.lemmas.Bool.{cases_eq}
 use Rattle.std.proofs.lemmas.List.Elements.{Contains-append_cases}
@@ -9,15 +10,19 @@ use Rattle.mcf_instance.specs.Network.{Network, IsNode, at_node, node_count}
 use Rattle.mcf_network.specs.declared.rid.Rid.{Rid}
 use Rattle.mcf_network.specs.Residual.{tail, head}
 use Rattle.mcf_network.specs.Stars.{Leaves, ListsLeaving}
-use Rattle.mcf_network.specs.States.{Flow}
+use Rattle.mcf_network.specs.States.{Pseudoflow}
 use Rattle.mcf_network.specs.Walks.{HasRoom}
 use Rattle.mcf_network.proofs.ArcLaws.{tail_is_node, head_is_node}
 use Rattle.mcf_prices.specs.Labels.{Labels, IsLabelling, IsLowering, IsKeeping, Respects, cost_limit, lowered}
 use Rattle.mcf_prices.specs.Queues.{Waiting, IsQueue, queued}
-use Rattle.mcf_prices.specs.Rounds.{IsHandled, IsProgress, reverse}
+use Rattle.mcf_prices.specs.Rounds.{IsHandled, IsProgress}
 use Rattle.mcf_prices.proofs.Lowering.{lowered_ok, lowered_other, lowered_no_rise, lowered_total, offer_low, lowered_floor, lowered_respects}
 use Rattle.mcf_prices.proofs.QueueLaws.{IsQueued, queued_ok}
 use Rattle.mcf_prices.proofs.Showing.{no_loop}
+
+-- the residual arc the other way
+abbrev pub reverse : Rid → Rid
+reverse r = record r { back = not r.back }
 
 -- while the residual arcs that enter node w are relaxed, of which those that remain are the reverses of a list
 pub record IsEntering (old new : Labels) (before after : Waiting) (w : ℕ) (rest : List Rid) : Type 0 where
@@ -99,7 +104,7 @@ entering_lowered old now before q q' w out rest inside at low enters queue queue
     let ok = at.progress.valid in
     let r = reverse out in
     let flow = at.progress.flow in
-    let enters_now : head now.flow.net r ≡ w = ap (λ (s : Flow). head s.net r) flow ∙ enters in
+    let enters_now : head now.flow.net r ≡ w = ap (λ (s : Pseudoflow). head s.net r) flow ∙ enters in
     let room : (p : Rid) → HasRoom old.flow p → HasRoom now.flow p = λ (p : Rid) (h : HasRoom old.flow p). subst (λ s. HasRoom s p) (sym flow) h in
     let less = lowered_total now r ok low.has_room low.less in
     let node = head_is_node now.flow.net r.arc r.back ok.flow.of_net low.has_room.arc in
@@ -173,9 +178,9 @@ entered_lowered inside old now new before q q' w from g out rest view ok node ta
     let r = reverse out in
     let old_ok = subst IsLabelling view ok in
     let flow = at.progress.flow in
-    let here : from ≡ tail now.flow.net r = from_is ∙ ap (λ n. tail n r) (net ∙ ap (λ (s : Flow). s.net) (sym flow)) in
+    let here : from ≡ tail now.flow.net r = from_is ∙ ap (λ n. tail n r) (net ∙ ap (λ (s : Pseudoflow). s.net) (sym flow)) in
     let is_node = tail_is_node now.flow.net r.arc r.back at.progress.valid.flow.of_net low.has_room.arc in
-    let nodes = ap (λ (s : Flow). node_count s.net) flow in
+    let nodes = ap (λ (s : Pseudoflow). node_count s.net) flow in
     let rows = at.progress.table in
     let in_table' : IsNode (length q.table) (tail now.flow.net r) = (is_node.0, omega (arith, is_node, nodes, rows, table)) in
     let is_queued = subst (λ x. IsQueued q x (tail now.flow.net r)) (sym (value ∙ ap (queued q) here)) (queued_ok q (tail now.flow.net r) (in_table q.table (tail now.flow.net r)) at.progress.queue in_table' refl) in

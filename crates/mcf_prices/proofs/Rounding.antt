@@ -10,7 +10,7 @@ use Rattle.mcf_instance.specs.Network.{Network, IsNode, at_node, node_count}
 use Rattle.mcf_instance.specs.WellFormed.{IsUpTo}
 use Rattle.mcf_network.specs.declared.rid.Rid.{Rid}
 use Rattle.mcf_network.specs.Residual.{head}
-use Rattle.mcf_network.specs.States.{Flow}
+use Rattle.mcf_network.specs.States.{Pseudoflow}
 use Rattle.mcf_network.specs.Walks.{HasRoom}
 use Rattle.mcf_network.proofs.ArcLaws.{head_is_node}
 use Rattle.mcf_prices.specs.Labels.{Labels, IsLabelling, AreAtLeast, cost_limit, total}
@@ -43,7 +43,7 @@ progress_join a b c p q r d e f sum first second =
   where
     join : (x : Rid) → HasRoom a.flow x → IsHandled b q x → IsHandled c r x
     join x room (inl respects) = second.keeps x (subst (λ s. HasRoom s x) (sym first.flow) room) respects
-    join x room (inr waits) = inr (subst (λ (s : Flow). Contains r.nodes (head s.net x)) (sym second.flow) (second.waits (head b.flow.net x) waits))
+    join x room (inr waits) = inr (subst (λ (s : Pseudoflow). Contains r.nodes (head s.net x)) (sym second.flow) (second.waits (head b.flow.net x) waits))
 
 -- a node that waits from place i on
 abbrev pub WaitsFrom : List ℕ → ℕ → ℕ → Type 0
@@ -82,7 +82,7 @@ round_next first now next before q q' nodes i w at inside is progress here still
       handled = λ r room. elim (at.handled r room) [
         | inl handled ↦ inl (still r (subst (λ s. HasRoom s r) (sym at.progress.flow) room) handled)
         | inr waits ↦ elim (cases_eq waits.0 i) [
-          | inl e ↦ inl (here r (subst (λ s. HasRoom s r) (sym at.progress.flow) room) (ap (λ (s : Flow). head s.net r) at.progress.flow ∙ same r waits e))
+          | inl e ↦ inl (here r (subst (λ s. HasRoom s r) (sym at.progress.flow) room) (ap (λ (s : Pseudoflow). head s.net r) at.progress.flow ∙ same r waits e))
           | inr n ↦ inr (waits.0, (let low = waits.1 in omega (arith, low, n)), waits.2, waits.3)
         ]
       ];
@@ -91,7 +91,7 @@ round_next first now next before q q' nodes i w at inside is progress here still
   where
     still : (r : Rid) → HasRoom now.flow r → IsHandled now q r → IsHandled next q' r
     still r room (inl respects) = progress.keeps r room respects
-    still r room (inr waits) = inr (subst (λ (s : Flow). Contains q'.nodes (head s.net r)) (sym progress.flow) (progress.waits (head now.flow.net r) waits))
+    still r room (inr waits) = inr (subst (λ (s : Pseudoflow). Contains q'.nodes (head s.net r)) (sym progress.flow) (progress.waits (head now.flow.net r) waits))
 
     same : (r : Rid) (waits : WaitsFrom nodes i (head first.flow.net r)) → waits.0 ≡ i → head first.flow.net r ≡ w
     same r waits e =
@@ -151,18 +151,18 @@ all_wait l q g net ok each r room =
     let node = head_is_node l.flow.net r.arc r.back ok.flow.of_net room.arc in
     inr (each (head l.flow.net r) (subst (λ n. IsNode (node_count n) (head l.flow.net r)) (sym net) node))
 
-pub floor_between : (l : Labels) (s : Flow) → l.flow ≡ s → IsLabelling l → AreAtLeast (cost_limit * node_count s.net) l.prices → AreAtLeast (10 ^ 28) l.prices
+pub floor_between : (l : Labels) (s : Pseudoflow) → l.flow ≡ s → IsLabelling l → AreAtLeast (cost_limit * node_count s.net) l.prices → AreAtLeast (10 ^ 28) l.prices
 floor_between l s same ok floor v h =
     let here = floor v h in
     let limit = ok.flow.of_net.nodes in
-    let count = ap (λ (t : Flow). node_count t.net) same in
+    let count = ap (λ (t : Pseudoflow). node_count t.net) same in
     omega (arith, ints, here, limit, count)
 
-pub recovered_prices : (s : Flow) (l l' : Labels) (p q : Waiting) (d : ℕ) (ys : List ℤ) → l.flow ≡ s → IsProgress l l' p q d → ((r : Rid) → HasRoom l.flow r → IsHandled l' q r) → q.nodes ≡ [] → ys ≡ l'.prices → AreGreatestPrices s.net ys s.amounts
+pub recovered_prices : (s : Pseudoflow) (l l' : Labels) (p q : Waiting) (d : ℕ) (ys : List ℤ) → l.flow ≡ s → IsProgress l l' p q d → ((r : Rid) → HasRoom l.flow r → IsHandled l' q r) → q.nodes ≡ [] → ys ≡ l'.prices → AreGreatestPrices s.net ys s.amounts
 recovered_prices s l l' p q d ys same progress handled none is =
     let flow = progress.flow ∙ same in
     let prices = greatest_at_end l' q progress.valid none (λ r room. handled r (subst (λ t. HasRoom t r) progress.flow room)) in
-    subst (λ (t : Flow). AreGreatestPrices t.net ys t.amounts) flow (subst (λ xs. AreGreatestPrices l'.flow.net xs l'.flow.amounts) (sym is) prices)
+    subst (λ (t : Pseudoflow). AreGreatestPrices t.net ys t.amounts) flow (subst (λ xs. AreGreatestPrices l'.flow.net xs l'.flow.amounts) (sym is) prices)
 
 pub round_falls : (l l' : Labels) (p q : Waiting) (d n : ℕ) → p ≡ no_queue n → IsProgress l l' p q d → (q.nodes ≡ [] → ⊥) → total l'.prices <ℤ total l.prices
 round_falls l l' p q d n empty progress some =
@@ -183,9 +183,9 @@ small_prices ys f few floor up k d h =
     (omega (arith, ints, low, same, few), omega (arith, ints, high))
 
 -- where nobody fell, the prices are those of the head of the round, which are not far below 0
-pub recovered_small : (s : Flow) (l l' : Labels) (q : Waiting) (ys : List ℤ) → l.flow ≡ s → IsLabelling l → AreAtLeast (cost_limit * node_count s.net) l.prices → IsLabelling l' → (q.nodes ≡ [] → l'.prices ≡ l.prices) → q.nodes ≡ [] → ys ≡ l'.prices → All (IsUpTo price_limit) ys
+pub recovered_small : (s : Pseudoflow) (l l' : Labels) (q : Waiting) (ys : List ℤ) → l.flow ≡ s → IsLabelling l → AreAtLeast (cost_limit * node_count s.net) l.prices → IsLabelling l' → (q.nodes ≡ [] → l'.prices ≡ l.prices) → q.nodes ≡ [] → ys ≡ l'.prices → All (IsUpTo price_limit) ys
 recovered_small s l l' q ys same ok floor after still none is =
     let limit = ok.flow.of_net.nodes in
-    let count = ap (λ (t : Flow). node_count t.net) same in
+    let count = ap (λ (t : Pseudoflow). node_count t.net) same in
     let back = sym (is ∙ still none) in
     small_prices ys (cost_limit * node_count s.net) (omega (arith, limit, count)) (subst (λ xs. AreAtLeast (cost_limit * node_count s.net) xs) back floor) (subst AreNotAboveZero (sym is) after.not_above_zero)

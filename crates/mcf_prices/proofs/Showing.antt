@@ -9,7 +9,7 @@ use Rattle.mcf_instance.proofs.AllZips.{AllZip-at, AllZip_from}
 use Rattle.mcf_network.specs.declared.rid.Rid.{Rid}
 use Rattle.mcf_network.specs.Nets.{IsNet}
 use Rattle.mcf_network.specs.Residual.{no_arc, arc_at, tail, head, unit_cost}
-use Rattle.mcf_network.specs.States.{Flow, IsFlow, amount_at, room_of}
+use Rattle.mcf_network.specs.States.{Pseudoflow, IsPseudoflow, amount_at, room_of}
 use Rattle.mcf_network.specs.Walks.{HasRoom}
 use Rattle.mcf_network.proofs.ArcLaws.{amount_count, amount_of, net_arc_at}
 use Rattle.mcf_prices.specs.Labels.{Respects, cost_limit}
@@ -26,7 +26,7 @@ cost_small g k true ok h =
 cost_small g k false ok h = (net_arc_at g k ok h).cost_small
 
 -- a residual arc with room is no loop
-pub no_loop : (s : Flow) (k : ℕ) (b : Bool) → IsFlow s → HasRoom s (rid k b) → tail s.net (rid k b) ≢ head s.net (rid k b)
+pub no_loop : (s : Pseudoflow) (k : ℕ) (b : Bool) → IsPseudoflow s → HasRoom s (rid k b) → tail s.net (rid k b) ≢ head s.net (rid k b)
 no_loop s k true ok h e =
     let none = (net_arc_at s.net k ok.of_net h.arc).no_loop_width (sym e) in
     let high = (amount_of s k ok h.arc).high in
@@ -38,7 +38,7 @@ no_loop s k false ok h e =
     let room = h.room in
     omega (arith, ints, none, low, room)
 
-pub respects_from_shows : (s : Flow) (y : List ℤ) (k : ℕ) (b : Bool) → IsFlow s → Shows s.net.arcs y s.amounts → Respects s y (rid k b)
+pub respects_from_shows : (s : Pseudoflow) (y : List ℤ) (k : ℕ) (b : Bool) → IsPseudoflow s → Shows s.net.arcs y s.amounts → Respects s y (rid k b)
 respects_from_shows s y k true ok shows h =
     let here : k - 1 < length s.net.arcs = (let a = h.arc in omega (arith, a)) in
     let complementary = AllZip-at (IsComplementary y) s.net.arcs s.amounts (k - 1) no_arc (pos 0) shows here in
@@ -51,7 +51,7 @@ respects_from_shows s y k false ok shows h =
     let room = h.room in
     by_lt_z (reduced_cost y (arc_at s.net k)) (pos 0) (λ p. let e = complementary.1 p in absurd (omega (arith, ints, e, room))) (λ p. omega (arith, ints, p))
 
-complementary_at : (s : Flow) (y : List ℤ) (k : ℕ) → IsFlow s → ((r : Rid) → Respects s y r) → IsArcNumber s.net k → IsComplementary y (arc_at s.net k) (amount_at s k)
+complementary_at : (s : Pseudoflow) (y : List ℤ) (k : ℕ) → IsPseudoflow s → ((r : Rid) → Respects s y r) → IsArcNumber s.net k → IsComplementary y (arc_at s.net k) (amount_at s k)
 complementary_at s y k ok respects h =
     let amount = amount_of s k ok h in
     let low = amount.low in
@@ -61,7 +61,7 @@ complementary_at s y k ok respects h =
       λ p. by_lt_z (pos 0) (room_of s (rid k false)) (λ q. let r = respects (rid k false) (record { arc = h; room = q }) in absurd (omega (arith, ints, r, p))) (λ q. omega (arith, ints, high, q)),
     )
 
-pub shows_from_respects : (s : Flow) (y : List ℤ) → IsFlow s → ((r : Rid) → Respects s y r) → Shows s.net.arcs y s.amounts
+pub shows_from_respects : (s : Pseudoflow) (y : List ℤ) → IsPseudoflow s → ((r : Rid) → Respects s y r) → Shows s.net.arcs y s.amounts
 shows_from_respects s y ok respects =
     AllZip_from (IsComplementary y) s.net.arcs s.amounts (amount_count s ok) (λ i h a f.
     let here : IsArcNumber s.net (i + 1) = (omega arith, omega arith) in

@@ -1,21 +1,22 @@
 -- The labels of a search for prices: a price for each node, and the residual arc that gave it.
-use Rattle.std.specs.Prelude.{◌≡◌, ℕ, ◌<◌, ◌≤◌, ◌-◌, ◌^◌, List, [], ◌∷◌, length, Bool, Option, Some, None, ℤ, pos, neg_ℤ, ◌+ℤ◌, ◌≤ℤ◌, ◌<ℤ◌, ◌⊎◌, slice_index_or, slice_set}
+use Rattle.std.specs.Prelude.{◌≡◌, ℕ, ◌<◌, ◌≤◌, ◌-◌, List, [], ◌∷◌, length, Bool, Option, Some, None, ℤ, pos, neg_ℤ, ◌+ℤ◌, ◌≤ℤ◌, ◌<ℤ◌, ◌⊎◌, slice_index_or, slice_set}
 use Rattle.std.specs.Bool.{MatchBool}
 use Rattle.mcf_instance.specs.Flow.{AreLowPrices, AreNotAboveZero}
+use Rattle.mcf_instance.specs.Limits.{wide_limits}
 use Rattle.mcf_instance.specs.Network.{IsNode, at_node, node_count}
 use Rattle.mcf_network.specs.declared.rid.Rid.{Rid}
 use Rattle.mcf_network.specs.Residual.{tail, head, unit_cost}
-use Rattle.mcf_network.specs.States.{Flow, IsFlow}
+use Rattle.mcf_network.specs.States.{Pseudoflow, IsPseudoflow}
 use Rattle.mcf_network.specs.Walks.{HasRoom}
 
 pub record Labels : Type 0 where
-  pub flow : Flow
+  pub flow : Pseudoflow
   pub prices : List ℤ
   pub links : List (Option Rid)
 
 -- the greatest size of the cost of an arc
 abbrev pub cost_limit : ℕ
-cost_limit = 10 ^ 15
+cost_limit = wide_limits.cost
 
 abbrev pub link_at : Labels → ℕ → Option Rid
 link_at l v = slice_index_or l.links (v - 1) None
@@ -48,7 +49,7 @@ pub record IsLinked (l : Labels) : Type 0 where
 
 -- prices not above 0, and not below any that show the flow
 pub record IsLabelling (l : Labels) : Type 0 where
-  pub flow : IsFlow l.flow
+  pub flow : IsPseudoflow l.flow
   pub count : length l.prices ≡ node_count l.flow.net
   pub link_count : length l.links ≡ node_count l.flow.net
   pub not_above_zero : AreNotAboveZero l.prices
@@ -64,7 +65,7 @@ total [] = pos 0
 total (y ∷ ys) = y +ℤ total ys
 
 -- with room, a residual arc offers its tail no lower price
-abbrev pub Respects : Flow → List ℤ → Rid → Type 0
+abbrev pub Respects : Pseudoflow → List ℤ → Rid → Type 0
 Respects s prices r =
     HasRoom s r → at_node prices (tail s.net r) ≤ℤ (unit_cost s.net r +ℤ at_node prices (head s.net r))
 

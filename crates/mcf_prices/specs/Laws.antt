@@ -2,10 +2,10 @@
 use Rattle.std.specs.Prelude.{List}
 use Rattle.mcf_instance.specs.Network.{Network}
 use Rattle.mcf_network.specs.declared.rid.Rid.{Rid}
-use Rattle.mcf_network.specs.States.{Flow}
+use Rattle.mcf_network.specs.States.{Pseudoflow}
 use Rattle.mcf_prices.specs.NegativeCycles.{IsNegativeCycle}
 use Rattle.mcf_prices.specs.Outcomes.{IsLeastState}
 
 -- a least state has no negative cycle, along which it would get cheaper
 abbrev pub LeastStatesHaveNoCycle : Type 0
-LeastStatesHaveNoCycle = (g : Network) (s : Flow) (walk : List Rid) → IsLeastState g s → ¬ IsNegativeCycle s walk
+LeastStatesHaveNoCycle = (g : Network) (s : Pseudoflow) (walk : List Rid) → IsLeastState g s → ¬ IsNegativeCycle s walk

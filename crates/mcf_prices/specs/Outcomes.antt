@@ -4,7 +4,7 @@ use Rattle.std.specs.List.{All}
 use Rattle.mcf_instance.specs.Flow.{AreGreatestPrices, IsLeast}
 use Rattle.mcf_instance.specs.Network.{Network}
 use Rattle.mcf_instance.specs.WellFormed.{IsUpTo}
-use Rattle.mcf_network.specs.States.{Flow}
+use Rattle.mcf_network.specs.States.{Pseudoflow}
 use Rattle.mcf_feas.specs.Chosen.{IsChosenBlock}
 use Rattle.mcf_feas.specs.Feasible.{IsFeasibleState}
 use Rattle.mcf_prices.specs.declared.engine.Outcome.{Outcome}
@@ -12,16 +12,16 @@ use Rattle.mcf_prices.specs.declared.engine.Outcome.TheVariants.{Least, Blocked}
 use Rattle.mcf_prices.specs.Recovering.{price_limit}
 
 -- a state of the net without surplus, such that no feasible flow of the net costs less
-pub record IsLeastState (g : Network) (s : Flow) : Type 0 where
+pub record IsLeastState (g : Network) (s : Pseudoflow) : Type 0 where
   pub feasible : IsFeasibleState g s
   pub least : IsLeast g s.amounts
 
 -- the greatest prices not above 0 that show the amounts of a state, none further below 0 than the limit
-pub record AreStatePrices (g : Network) (s : Flow) (prices : List ℤ) : Type 0 where
+pub record AreStatePrices (g : Network) (s : Pseudoflow) (prices : List ℤ) : Type 0 where
   pub greatest : AreGreatestPrices g prices s.amounts
   pub small : All (IsUpTo price_limit) prices
 
 -- a least state, made as told, with its prices, or a node set that blocks
-abbrev pub IsOutcome : (Flow → Type 0) → Network → Outcome → Type 0
+abbrev pub IsOutcome : (Pseudoflow → Type 0) → Network → Outcome → Type 0
 IsOutcome IsMade g (Least s prices) = IsLeastState g s × AreStatePrices g s prices.items × IsMade s
 IsOutcome IsMade g (Blocked table side) = IsChosenBlock g table side

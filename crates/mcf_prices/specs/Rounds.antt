@@ -1,15 +1,11 @@
 -- A round of a search for prices: each node that waits relaxes the residual arcs that enter it.
-use Rattle.std.specs.Prelude.{◌≡◌, ℕ, ◌<◌, ◌+◌, length, ◌≤ℤ◌, ◌<ℤ◌, ◌⊎◌, not}
+use Rattle.std.specs.Prelude.{◌≡◌, ℕ, ◌<◌, ◌+◌, length, ◌≤ℤ◌, ◌<ℤ◌, ◌⊎◌}
 use Rattle.std.specs.List.{Contains}
 use Rattle.mcf_network.specs.declared.rid.Rid.{Rid}
 use Rattle.mcf_network.specs.Residual.{head}
 use Rattle.mcf_network.specs.Walks.{HasRoom}
 use Rattle.mcf_prices.specs.Labels.{Labels, IsLabelling, AreAtLeast, Respects, total}
 use Rattle.mcf_prices.specs.Queues.{Waiting, IsQueue}
-
--- the residual arc the other way
-abbrev pub reverse : Rid → Rid
-reverse r = record r { back = not r.back }
 
 -- a residual arc is respected, or its head waits
 abbrev pub IsHandled : Labels → Waiting → Rid → Type 0

@@ -16,8 +16,8 @@ pub record IsStep (l : Labels) (r : Rid) : Type 0 where
   pub has_room : HasRoom l.flow r
 
 -- one of the residual arcs leaves this node
-abbrev pub Leaves : Network → List Rid → ℕ → Type 0
-Leaves g path v = (k : ℕ) × (k < length path) × HoldsAt (λ r. tail g r ≡ v) path k
+abbrev pub HasTail : Network → List Rid → ℕ → Type 0
+HasTail g path v = (k : ℕ) × (k < length path) × HoldsAt (λ r. tail g r ≡ v) path k
 
 -- what is known of the nodes that were seen and of those that are done
 pub record IsTrail (l : Labels) (path : List Rid) (marks others : List Bool) : Type 0 where
@@ -26,7 +26,7 @@ pub record IsTrail (l : Labels) (path : List Rid) (marks others : List Bool) : T
   pub steps : All (IsStep l) path
   pub distinct : AllPairs (λ r q. tail l.flow.net r ≢ tail l.flow.net q) path
   pub path_seen : All (λ r. in_table marks (tail l.flow.net r) ≡ true) path
-  pub seen : (v : ℕ) → IsNode (length marks) v → in_table marks v ≡ true → (in_table others v ≡ true) ⊎ ((link_at l v ≡ None) ⊎ Leaves l.flow.net path v)
+  pub seen : (v : ℕ) → IsNode (length marks) v → in_table marks v ≡ true → (in_table others v ≡ true) ⊎ ((link_at l v ≡ None) ⊎ HasTail l.flow.net path v)
 
 -- the price of a node that is done is at most the greatest cost below 0 for each done node
 pub record IsDone (l : Labels) (done : List Bool) : Type 0 where

@@ -1,7 +1,7 @@
 //! What every engine is.
 ghost use Rattle.std.specs.Prelude.{◌≤◌, IfOk, IsTrue, OnErr, ◌↔◌};
 ghost use Rattle.mcf_instance.specs.Network.{Network, node_count};
-ghost use Rattle.mcf_network.specs.States.{Flow};
+ghost use Rattle.mcf_network.specs.States.{Pseudoflow};
 ghost use Rattle.mcf_prices.specs.Outcomes.{IsOutcome};
 
 use mcf_instance::Side;
@@ -25,7 +25,7 @@ pub trait Engine {
     ghost Takes: { Network → Type 0 };
 
     // How a state was made: the engine when it was asked, the net, the state, and the engine afterwards.
-    ghost Made: { Self → Network → Flow → Self → Type 0 };
+    ghost Made: { Self → Network → Pseudoflow → Self → Type 0 };
 
     /// Whether the engine takes a net.
     fn takes(&self, net: &Net) -> bool

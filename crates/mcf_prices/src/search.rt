@@ -11,7 +11,7 @@ ghost use Rattle.mcf_prices.specs.Labels.{AreAtLeast, IsLabelling, IsRelaxing, c
 ghost use Rattle.mcf_prices.specs.NegativeCycles.{IsNegativeCycle};
 ghost use Rattle.mcf_prices.specs.Queues.{IsQueue};
 ghost use Rattle.mcf_prices.specs.Rounds.{IsHandled, IsProgress};
-ghost use Rattle.mcf_prices.specs.Trails.{IsDone, IsSettled, IsStep, IsTrail, Leaves};
+ghost use Rattle.mcf_prices.specs.Trails.{IsDone, IsSettled, IsStep, IsTrail, HasTail};
 
 use crate::queue::Queue;
 use mcf_network::{NodeSet, Rid, State};
@@ -191,7 +191,7 @@ impl<'s, 'n> Search<'s, 'n> {
     // The end of a path, from the residual arc that leaves a node on.
     fn close(&self, alloc: Global, path: &[Rid], u: NodeId) -> Result<Vec<Rid>, NoMemory>
         requires steps { All (IsStep self.now) path.now }
-        requires leaves { Leaves self.now.flow.net path.now u }
+        requires leaves { HasTail self.now.flow.net path.now u }
         ensures { IfOk result (λ rest. (k : ℕ) × (k < length path.now) × HoldsAt (λ r. tail self.now.flow.net r ≡ u) path.now k × (rest.items ≡ drop k path.now)) }
     {
         'path: for (k, r) in path.iter().enumerate() {
@@ -212,7 +212,7 @@ impl<'s, 'n> Search<'s, 'n> {
         requires floor { neg_ℤ (pos (cost_limit * member_count done.old)) ≤ℤ at_node self.now.prices end }
         ensures done { IsDone self.now done.new }
         ensures kept { (v : ℕ) → in_table done.old v ≡ true → in_table done.new v ≡ true }
-        ensures path { (v : ℕ) → Leaves self.now.flow.net path.items v → in_table done.new v ≡ true }
+        ensures path { (v : ℕ) → HasTail self.now.flow.net path.items v → in_table done.new v ≡ true }
     {
         'path: while let Some(r) = path.pop() {
             let (from, _) = self.state.net().route(r);

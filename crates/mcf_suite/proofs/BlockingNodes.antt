@@ -39,7 +39,7 @@ module _ (g : Network) (table : List Bool) (nodes : List ℕ) (side : Side) (ali
 
   whole_list : supply_total g ≢ pos 0 → (v : ℕ) → IsNode (node_count g) v → in_list nodes v ≡ true
   whole_list other v h =
-      same v h ∙ chosen.whole (λ e. other (sym total_is ∙ e)) v (subst (λ (n : ℕ). IsNode n v) (sym (net_of-node_count g)) h)
+      same v h ∙ chosen.chosen.whole (λ e. other (sym total_is ∙ e)) v (subst (λ (n : ℕ). IsNode n v) (sym (net_of-node_count g)) h)
 
   pub set_in_range : All (IsNode (node_count g)) nodes → IsStrictlyIncreasing nodes → length nodes ≤ node_count g → IsBlockingSet (record { side = side; nodes = nodes })
   set_in_range all rises few = record {
@@ -54,7 +54,7 @@ module _ (g : Network) (table : List Bool) (nodes : List ℕ) (side : Side) (ali
     right = record { of_instance = λ k d h. (all k d h).1; exceeds = list_blocks };
     none = λ flow. blocked g (in_list nodes) side flow ok.ends list_blocks;
     chosen = record {
-      take = subst (λ (total : ℤ). (side ≡ Take) ↔ (total <ℤ pos 0)) total_is chosen.take;
+      take = subst (λ (total : ℤ). (side ≡ Take) ↔ (total <ℤ pos 0)) total_is chosen.chosen.take;
       whole = whole_list;
     };
   }

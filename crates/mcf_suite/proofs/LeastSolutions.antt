@@ -11,7 +11,7 @@ use Rattle.mcf_instance.proofs.AllZips.{length-AllZip}
 use Rattle.mcf_network.specs.Laws.{GreatestPricesCarryOver, RestoredLeastFlowsAreLeast}
 use Rattle.mcf_network.specs.Removal.{net_of}
 use Rattle.mcf_network.specs.Restoring.{restored}
-use Rattle.mcf_network.specs.States.{Flow}
+use Rattle.mcf_network.specs.States.{Pseudoflow}
 use Rattle.mcf_network.proofs.RestoringLaws.{net_of-arc_count}
 use Rattle.mcf_prices.specs.Outcomes.{IsLeastState}
 use Rattle.mcf_suite.specs.Answering.{IsLeastSolution}
@@ -19,14 +19,14 @@ use Rattle.mcf_suite.specs.Chosen.{IsLoopSettled}
 use Rattle.mcf_suite.proofs.LoopFlows.{loops_settled}
 
 -- the parts of an answer to an instance, made of a least state
-pub record IsMadeOf (g : Network) (s : Flow) (flow : List ℤ) (a : Solution) : Type 0 where
+pub record IsMadeOf (g : Network) (s : Pseudoflow) (flow : List ℤ) (a : Solution) : Type 0 where
   pub restored_is : flow ≡ restored g.arcs s.amounts
   pub ends : sent_ends a.sent ≡ arc_ends g
   pub carried : amounts a.sent ≡ flow
   pub greatest : AreGreatestPrices (net_of g) a.prices s.amounts
   pub cost_is : a.cost ≡ cost g.arcs flow
 
-module _ (g : Network) (s : Flow) (flow : List ℤ) (a : Solution) (state : IsLeastState (net_of g) s) (made : IsMadeOf g s flow a) where
+module _ (g : Network) (s : Pseudoflow) (flow : List ℤ) (a : Solution) (state : IsLeastState (net_of g) s) (made : IsMadeOf g s flow a) where
   carried_is : amounts a.sent ≡ restored g.arcs s.amounts
   carried_is = made.carried ∙ made.restored_is
 

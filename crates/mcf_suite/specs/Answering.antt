@@ -9,6 +9,8 @@ use Rattle.mcf_answer.specs.declared.answers.Answer.{Answer}
 use Rattle.mcf_answer.specs.declared.answers.Answer.TheVariants.{Flow, Blocked, Refused}
 use Rattle.mcf_checker.specs.Correct.{IsCorrect, IsRightSet, IsRightSolution, amounts}
 use Rattle.mcf_checker.specs.Judging.{accepts, verdict}
+use Rattle.mcf_feas.specs.Chosen.{IsChosen}
+use Rattle.mcf_instance.specs.Blocking.{in_list}
 use Rattle.mcf_instance.specs.Fault.{Fault}
 use Rattle.mcf_instance.specs.Flow.{IsFeasible, IsLeast}
 use Rattle.mcf_instance.specs.Limits.{limits}
@@ -16,7 +18,7 @@ use Rattle.mcf_instance.specs.Network.{Network}
 use Rattle.mcf_instance.specs.Reading.{reading}
 use Rattle.mcf_suite.specs.declared.choice.Kind.{Kind}
 use Rattle.mcf_suite.specs.declared.choice.Kind.TheVariants.{Flow as WithFlow, Blocked as WithSet, Refused as WithRefusal}
-use Rattle.mcf_suite.specs.Chosen.{IsChosenSet, IsChosenSolution}
+use Rattle.mcf_suite.specs.Chosen.{IsChosenSolution}
 
 -- a flow that no feasible flow undercuts, its cost, and the greatest prices not above 0 that show it
 pub record IsLeastSolution (g : Network) (a : Solution) : Type 0 where
@@ -28,7 +30,7 @@ pub record IsLeastSolution (g : Network) (a : Solution) : Type 0 where
 pub record IsNoFlowProof (g : Network) (a : BlockingSet) : Type 0 where
   pub right : IsRightSet g a
   pub none : (flow : List ℤ) → ¬ IsFeasible g flow
-  pub chosen : IsChosenSet g a
+  pub chosen : IsChosen g (in_list a.nodes) a.side
 
 -- the answer that is owed for what an instance text stands for
 abbrev pub IsOwed : Result Network Fault → Answer → Type 0
@@ -39,10 +41,10 @@ IsOwed (Err fault) (Flow a) = ⊥
 IsOwed (Err fault) (Blocked a) = ⊥
 IsOwed (Ok g) (Refused r) = ⊥
 
-abbrev pub kind_of : Answer → Kind
-kind_of (Flow a) = WithFlow
-kind_of (Blocked a) = WithSet
-kind_of (Refused r) = WithRefusal
+abbrev pub answer_kind : Answer → Kind
+answer_kind (Flow a) = WithFlow
+answer_kind (Blocked a) = WithSet
+answer_kind (Refused r) = WithRefusal
 
 -- the text is what is written of the answer that is owed, and the checker accepts it
 pub record IsAnswerTo (input : List ℕ) (kind : Kind) (text : List ℕ) : Type 0 where
@@ -50,7 +52,7 @@ pub record IsAnswerTo (input : List ℕ) (kind : Kind) (text : List ℕ) : Type 
   pub in_range : IsAnswer answer
   pub written : text ≡ written answer
   pub owed : IsOwed (reading limits input) answer
-  pub is_kind : kind ≡ kind_of answer
+  pub is_kind : kind ≡ answer_kind answer
   pub correct : IsCorrect input text
   pub accepted : accepts (verdict input text) ≡ true
 

@@ -2,7 +2,7 @@
 ghost use Rattle.std.specs.Prelude.{◌≡◌, ◌↔◌, ◌≤◌, ◌⊎◌, IfOk, OnErr, vec_capacity, vec_len};
 ghost use Rattle.mcf_checker.specs.Correct.{HasNoFlow};
 ghost use Rattle.mcf_network.specs.Removal.{net_of};
-ghost use Rattle.mcf_suite.specs.Answering.{AppendsAnswer, HasFault, IsOwed, LacksRoom, kind_of};
+ghost use Rattle.mcf_suite.specs.Answering.{AppendsAnswer, HasFault, IsOwed, LacksRoom, answer_kind};
 ghost use Rattle.mcf_instance.specs.Fault.{header};
 ghost use Rattle.mcf_instance.specs.Limits.{limits};
 ghost use Rattle.mcf_instance.specs.Network.{node_count};
@@ -48,7 +48,7 @@ pub fn solve_text(
     correct_answers_are_accepted();
     let answer = answer_to(alloc, input, choice)?;
     write(&answer, out)?;
-    Ok(kind_of(&answer))
+    Ok(answer_kind(&answer))
 }
 
 // The answer to an instance text.
@@ -98,8 +98,8 @@ fn solve_by<E: Engine>(
 }
 
 // What an answer holds.
-fn kind_of(answer: &Answer) -> Kind
-    ensures { result ≡ kind_of answer.now }
+fn answer_kind(answer: &Answer) -> Kind
+    ensures { result ≡ answer_kind answer.now }
 {
     match answer {
         Answer::Flow(_) => Kind::Flow,

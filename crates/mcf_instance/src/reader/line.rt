@@ -1,8 +1,9 @@
 //! What one line says: the tests of its fields, in the order in which faults are looked for.
 ghost use Rattle.std.specs.Prelude.{◌≡◌, ◌≤ℤ◌, ◌<ℤ◌, map, length, bytes_eq, codes, pos, ◌<◌, ◌^◌, ◌≤◌, ◌⊎◌, ◌&&◌, IfSome, IfOk};
+ghost use Rattle.mcf_instance.specs.Blocking.{in_table};
 ghost use Rattle.mcf_instance.specs.Fault.{is_up_to};
 ghost use Rattle.mcf_instance.specs.Limits.{limits};
-ghost use Rattle.mcf_instance.specs.LineReader.{number_at, problem_at, problem_line as problem_reading, node_count_fits as node_count_fits_lem, node_numbers as node_number_reading, node_tests as node_testing, node_at, node_line as node_reading, flag_at, arc_count_fits as arc_count_fits_lem, arc_numbers as arc_number_reading, is_wrong_side, arc_tests as arc_testing, arc_line as arc_reading};
+ghost use Rattle.mcf_instance.specs.LineReader.{number_at, problem_at, problem_line as problem_reading, node_count_fits as node_count_fits_lem, node_numbers as node_number_reading, node_tests as node_testing, checked_node, node_line as node_reading, arc_count_fits as arc_count_fits_lem, arc_numbers as arc_number_reading, is_wrong_side, arc_tests as arc_testing, arc_line as arc_reading};
 ghost use Rattle.mcf_text.specs.Row.{natural};
 ghost use Rattle.mcf_text.specs.Whole.{is_within};
 
@@ -131,14 +132,14 @@ fn are_both_up_to(size: i64, first: i64, second: i64) -> bool
 
 fn is_flagged(flags: &[bool], node: u32) -> bool
     requires { (1 ≤ node) × (node ≤ length flags.now) }
-    ensures { result ≡ flag_at flags.now node }
+    ensures { result ≡ in_table flags.now node }
 {
     flags[node as usize - 1]
 }
 
 // A number as a node of the instance.
 fn node_of(heading: Heading, value: i64) -> Result<u32, Code>
-    ensures exact { result ≡ node_at heading value }
+    ensures exact { result ≡ checked_node heading value }
     ensures in_range { IfOk result (λ v. (1 ≤ v) × (v ≤ heading.nodes)) }
 {
     if is_within(1, i64::from(heading.nodes), value) {

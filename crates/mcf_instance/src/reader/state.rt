@@ -1,7 +1,7 @@
 //! The reader's state: what the lines so far say.
 ghost use Rattle.std.specs.Prelude.{◌≡◌, ◌++◌, ◌∷◌, [], List, map, length, OnOk, OnErr, IfOk, ◌≤◌, ◌^◌, IsTrue};
 ghost use Rattle.mcf_instance.specs.Fault.{header};
-ghost use Rattle.mcf_instance.specs.Limits.{limits};
+ghost use Rattle.mcf_instance.specs.Limits.{limits, line_limit};
 ghost use Rattle.mcf_instance.specs.ReaderSound.{ItemFits};
 ghost use Rattle.mcf_instance.specs.ReaderState.{empty, item_of, with_item, item_grows, outcome_grows, after_row, refusal_after, finished};
 ghost use Rattle.mcf_instance.specs.Stands.{Stands};
@@ -120,7 +120,7 @@ impl State {
     #[tactic(auto, unfolding(crate::specs::ReaderState::after_row))]
     fn advance(&mut self, alloc: Global, number: u128, fields: &[&[u8]]) -> Result<(), NoMemory>
         requires some_field { 1 ≤ length fields.now }
-        requires numbered { (1 ≤ number) × (number ≤ 10 ^ 37) }
+        requires numbered { (1 ≤ number) × (number ≤ line_limit) }
         ensures ok { OnOk result (self.new ≡ after_row limits self.old (record { number = number; fields = map (λ f. f.now) fields.now })) }
         ensures err { OnErr result (self.new ≡ self.old) }
         ensures grows { OnErr result ((self.old.refusal ≡ None) × IsTrue (outcome_grows (item_of limits self.old (map (λ f. f.now) fields.now)))) }
@@ -142,7 +142,7 @@ impl State {
     /// Takes the next kept line in, of this number. An `Err` changes nothing.
     pub(crate) fn step(&mut self, alloc: Global, number: u128, line: &[u8]) -> Result<(), NoMemory>
         requires kept { IsTrue (is_kept line.now) }
-        requires numbered { (1 ≤ number) × (number ≤ 10 ^ 37) }
+        requires numbered { (1 ≤ number) × (number ≤ line_limit) }
         ensures stands { OnOk result ((lines : List Row) → Stands limits self.old lines
             → Stands limits self.new (lines ++ row_of (number, line.now) ∷ [])) }
         ensures err { OnErr result (self.new ≡ self.old) }
@@ -162,7 +162,7 @@ impl State {
 
     /// The refusal after the last line, where the line after it has this number.
     fn refusal_after(&self, line: u128) -> Option<Refusal>
-        requires { (1 ≤ line) × (line ≤ 10 ^ 37) }
+        requires { (1 ≤ line) × (line ≤ line_limit) }
         ensures { result ≡ refusal_after self.now line }
     {
         match (self.refusal, self.heading) {
@@ -186,7 +186,7 @@ impl State {
 
     /// The instance, or the first fault, where the line after the last has this number.
     pub(crate) fn finish(self, line: u128) -> Result<Instance, Refusal>
-        requires { (1 ≤ line) × (line ≤ 10 ^ 37) }
+        requires { (1 ≤ line) × (line ≤ line_limit) }
         ensures { result ≡ finished self line }
     {
         if let Some(refusal) = self.refusal_after(line) {

@@ -1,5 +1,5 @@
 use Rattle.std.proofs.Common.{None, ap, sym, ◌∙◌}
-use Rattle.mcf_answer.specs.Draft.{answer_or, outcome}
+use Rattle.mcf_answer.proofs.LinesRead.{answer_or, outcome}
 use Rattle.mcf_answer.proofs.Simulation.{outcome-parsing}
 use Rattle.mcf_text.specs.Row.{line_after}
 use Rattle.mcf_answer.proofs.parser.read_answer.Goals as goal

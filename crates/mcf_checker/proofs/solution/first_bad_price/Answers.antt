@@ -4,14 +4,14 @@ use Rattle.std.specs.Prelude.{FitsSigned}
 use Rattle.std.proofs.lemmas.Int.{to_z-of_z}
 use Rattle.mcf_answer.specs.Solution.{Solution}
 use Rattle.mcf_instance.specs.Limits.{wide_limits}
-use Rattle.mcf_instance.specs.WellFormed.{IsArcWithin}
+use Rattle.mcf_instance.specs.WellFormed.{IsArcWithinLimits}
 use Rattle.mcf_checker.proofs.BadPrices.{looseness_read, bad_price-some, bad_price-none}
 use Rattle.mcf_checker.proofs.FlowLines.{arc_has}
 use Rattle.mcf_checker.proofs.solution.first_bad_price.Goals as goal
 
 pub is_loose-requires-clause-limits : goal.is_loose-requires-clause-limits
 is_loose-requires-clause-limits c =
-    arc_has (IsArcWithin wide_limits) c.args.instance.now.arcs c.loop-place.place c.arc_at.result c.arc_at.ensures.value c.arc_at.ensures.well_formed.within_wide.arcs
+    arc_has (IsArcWithinLimits wide_limits) c.args.instance.now.arcs c.loop-place.place c.arc_at.result c.arc_at.ensures.value c.arc_at.ensures.well_formed.within_wide.arcs
 
 pub loop-place-preserved : goal.loop-place-preserved
 loop-place-preserved c =

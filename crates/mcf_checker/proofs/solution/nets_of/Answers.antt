@@ -2,9 +2,9 @@ use Rattle.std.proofs.Common.{arith, List, refl, subst}
 use Rattle.std.proofs.lemmas.Int.{ints}
 use Rattle.mcf_checker.specs.Correct.{amounts}
 use Rattle.mcf_instance.specs.declared.arc.Arc.{Arc}
+use Rattle.mcf_instance.specs.Flow.{AreNets}
 use Rattle.mcf_instance.specs.Network.{node_count}
 use Rattle.mcf_instance.specs.WellFormed.{HasEnds}
-use Rattle.mcf_instance.proofs.NetSteps.{AreNets}
 use Rattle.mcf_checker.proofs.FlowLines.{arc_has, count_is, net_at, net_at_second, take_whole}
 use Rattle.mcf_checker.proofs.solution.nets_of.Goals as goal
 

@@ -2,7 +2,7 @@ use Rattle.std.proofs.Common.{◌≡◌, ◌∙◌, ap, arith, sym, subst, pos, 
 use Rattle.std.proofs.lemmas.Int.{ints}
 use Rattle.mcf_instance.specs.declared.problem.Side.TheVariants.{Send}
 use Rattle.mcf_instance.specs.Network.{Network, node_count}
-use Rattle.mcf_network.specs.States.{Flow}
+use Rattle.mcf_network.specs.States.{Pseudoflow}
 use Rattle.mcf_feas.specs.Chosen.{IsChosenBlock, supply_total}
 use Rattle.mcf_feas.proofs.Choices.{chosen_send, chosen_stuck, chosen_take}
 use Rattle.mcf_feas.proofs.Wholes.{settled}
@@ -25,7 +25,7 @@ returns-then-total-ne0-clause-answer c =
 pub loop-search-init : goal.loop-search-init
 loop-search-init c =
     record {
-      of_net = ap (λ (s : Flow). s.net) c.in_ok-state.ensures.value;
+      of_net = ap (λ (s : Pseudoflow). s.net) c.in_ok-state.ensures.value;
       flow = c.in_ok-state.ensures.valid;
       nodes = c.in_ok-search.ensures.nodes;
     }

@@ -1,6 +1,6 @@
 use Rattle.std.proofs.Common.{◌≡◌, length}
 use Rattle.mcf_instance.specs.Network.{node_count}
-use Rattle.mcf_network.specs.States.{IsFlow}
+use Rattle.mcf_network.specs.States.{IsPseudoflow}
 use Rattle.mcf_feas.proofs.Excess.{excess}
 use Rattle.mcf_feas.proofs.feas.feasible.Given as goal
 
@@ -8,7 +8,7 @@ abbrev pub invariant-loop-search : goal.invariant-loop-search
 invariant-loop-search l =
     record {
       of_net : l.state.net ≡ l.fn.net;
-      flow : IsFlow l.state;
+      flow : IsPseudoflow l.state;
       nodes : length l.search.reached ≡ node_count l.fn.net;
     }
 

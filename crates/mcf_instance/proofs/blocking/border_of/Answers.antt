@@ -4,7 +4,7 @@ use Rattle.std.specs.Prelude.{FitsSigned}
 use Rattle.std.proofs.lemmas.Int.{to_z-of_z}
 use Rattle.mcf_instance.specs.Blocking.{in_table, leaves, enters}
 use Rattle.mcf_instance.specs.Limits.{wide_limits}
-use Rattle.mcf_instance.specs.WellFormed.{HasEnds, IsArcWithin}
+use Rattle.mcf_instance.specs.WellFormed.{HasEnds, IsArcWithinLimits}
 use Rattle.mcf_instance.proofs.PackedArcs.{no_packed, packed_at, packed_caps_up_to, packed_lows_up_to, packed_sum_next}
 use Rattle.mcf_instance.proofs.blocking.border_of.Goals as goal
 
@@ -34,25 +34,25 @@ add_when-cap_out-requires-clause-total c =
 
 pub add_when-low_in-requires-clause-amount : goal.add_when-low_in-requires-clause-amount
 add_when-low_in-requires-clause-amount c =
-    let a = packed_at (IsArcWithin wide_limits) c.args.arcs.now c.loop-arc.arc-index c.requires.small c.loop-arc-test.true in
+    let a = packed_at (IsArcWithinLimits wide_limits) c.args.arcs.now c.loop-arc.arc-index c.requires.small c.loop-arc-test.true in
     let low_fits : FitsSigned w64 (get_or c.args.arcs.now c.loop-arc.arc-index no_packed).low = search rules in
     simp to_z-of_z a.low_small
 
 pub add_when-cap_in-requires-clause-amount : goal.add_when-cap_in-requires-clause-amount
 add_when-cap_in-requires-clause-amount c =
-    let a = packed_at (IsArcWithin wide_limits) c.args.arcs.now c.loop-arc.arc-index c.requires.small c.loop-arc-test.true in
+    let a = packed_at (IsArcWithinLimits wide_limits) c.args.arcs.now c.loop-arc.arc-index c.requires.small c.loop-arc-test.true in
     let cap_fits : FitsSigned w64 (get_or c.args.arcs.now c.loop-arc.arc-index no_packed).cap = search rules in
     simp to_z-of_z a.cap_small
 
 pub add_when-low_out-requires-clause-amount : goal.add_when-low_out-requires-clause-amount
 add_when-low_out-requires-clause-amount c =
-    let a = packed_at (IsArcWithin wide_limits) c.args.arcs.now c.loop-arc.arc-index c.requires.small c.loop-arc-test.true in
+    let a = packed_at (IsArcWithinLimits wide_limits) c.args.arcs.now c.loop-arc.arc-index c.requires.small c.loop-arc-test.true in
     let low_fits : FitsSigned w64 (get_or c.args.arcs.now c.loop-arc.arc-index no_packed).low = search rules in
     simp to_z-of_z a.low_small
 
 pub add_when-cap_out-requires-clause-amount : goal.add_when-cap_out-requires-clause-amount
 add_when-cap_out-requires-clause-amount c =
-    let a = packed_at (IsArcWithin wide_limits) c.args.arcs.now c.loop-arc.arc-index c.requires.small c.loop-arc-test.true in
+    let a = packed_at (IsArcWithinLimits wide_limits) c.args.arcs.now c.loop-arc.arc-index c.requires.small c.loop-arc-test.true in
     let cap_fits : FitsSigned w64 (get_or c.args.arcs.now c.loop-arc.arc-index no_packed).cap = search rules in
     simp to_z-of_z a.cap_small
 

@@ -2,7 +2,7 @@ use Rattle.std.proofs.Common.{◌≡◌, ◌*◌, [], arith, rules, ap, subst, s
 use Rattle.std.proofs.lemmas.Bool.{true≢false}
 use Rattle.std.proofs.lemmas.List.{length-replicate}
 use Rattle.mcf_instance.specs.Network.{Network, node_count}
-use Rattle.mcf_network.specs.States.{Flow}
+use Rattle.mcf_network.specs.States.{Pseudoflow}
 use Rattle.mcf_network.specs.Walks.{HasRoom}
 use Rattle.mcf_prices.specs.Labels.{AreAtLeast, cost_limit}
 use Rattle.mcf_prices.specs.Queues.{Waiting, no_queue}
@@ -22,7 +22,7 @@ rounds-init c =
       waiting_table = c.in_ok-waiting.ensures.table ∙ ap node_count net;
       fallen = c.in_ok-fallen.ensures.value ∙ ap (λ (g : Network). no_queue (node_count g)) net;
       queue = c.in_ok-fallen.ensures.valid;
-      handled = all_wait c.in_ok-search.search c.in_ok-waiting.waiting _ (net ∙ ap (λ (s : Flow). s.net) (sym flow)) c.in_ok-search.ensures.valid c.in_ok-waiting.ensures.each;
+      handled = all_wait c.in_ok-search.search c.in_ok-waiting.waiting _ (net ∙ ap (λ (s : Pseudoflow). s.net) (sym flow)) c.in_ok-search.ensures.valid c.in_ok-waiting.ensures.each;
     }
 
 pub round-requires-clause-floor : goal.round-requires-clause-floor
@@ -46,10 +46,10 @@ rounds-smaller c =
     let same : c.round.new.self.flow ≡ c.args.state.now = progress.flow ∙ inv.flow in
     let now = progress.valid.count in
     let was = inv.labelling.count in
-    let nodes = ap (λ (s : Flow). node_count s.net) progress.flow in
+    let nodes = ap (λ (s : Pseudoflow). node_count s.net) progress.flow in
     let count : length c.round.new.self.prices ≡ length c.rounds.search.prices = omega (arith, now, was, nodes) in
     let floor' : AreAtLeast (cost_limit * node_count c.round.new.self.flow.net) c.round.new.self.prices = search rules in
-    let floor = subst (λ (s : Flow). AreAtLeast (cost_limit * node_count s.net) c.round.new.self.prices) same floor' in
+    let floor = subst (λ (s : Pseudoflow). AreAtLeast (cost_limit * node_count s.net) c.round.new.self.prices) same floor' in
     let some : c.round.new.fallen.nodes ≡ [] → ⊥ = λ (e : c.round.new.fallen.nodes ≡ []). true≢false (sym (c.if-is_empty.ensures.value.1 e)) in
     height_falls _ _ _ count floor (round_falls c.rounds.search c.round.new.self _ c.round.new.fallen _ _ inv.fallen progress some)
 
@@ -59,7 +59,7 @@ rounds-preserved c =
     let progress = c.in_ok-round.ensures.progress in
     let same : c.round.new.self.flow ≡ c.args.state.now = progress.flow ∙ inv.flow in
     let floor' : AreAtLeast (cost_limit * node_count c.round.new.self.flow.net) c.round.new.self.prices = search rules in
-    let floor = subst (λ (s : Flow). AreAtLeast (cost_limit * node_count s.net) c.round.new.self.prices) same floor' in
+    let floor = subst (λ (s : Pseudoflow). AreAtLeast (cost_limit * node_count s.net) c.round.new.self.prices) same floor' in
     let waiting = c.swap.ensures.x_after in
     let fallen = c.swap.ensures.y_after in
     let empty = ap (λ (x : Waiting). length x.table) inv.fallen in

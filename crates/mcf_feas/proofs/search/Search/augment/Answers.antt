@@ -1,7 +1,7 @@
 use Rattle.std.proofs.Common.{◌≡◌, ◌∙◌, ◌-◌, length, ap, rules, to_z, of_z}
 use mir.Syntax.{w128}
 use Rattle.std.proofs.lemmas.Int.{to_z-of_z}
-use Rattle.mcf_network.specs.States.{Flow}
+use Rattle.mcf_network.specs.States.{Pseudoflow}
 use Rattle.mcf_network.specs.Walks.{IsWalk}
 use Rattle.mcf_feas.specs.Searching.{node_at}
 use Rattle.mcf_network.proofs.WalkLaws.{along_net}
@@ -15,7 +15,7 @@ returns-clause-augmented c =
     let target = node_at c.deref.result.now (length c.deref.result.now - 1) in
     let walk : IsWalk c.args.state.now.net path.source c.deref-2.result.now target = rw c.deref-2.ensures.value path.walk in
     record {
-      net = ap (λ (s : Flow). s.net) push.value ∙ along_net c.args.state.now c.deref-2.result.now (to_z w128 (of_z w128 c.in_ok-amount.amount));
+      net = ap (λ (s : Pseudoflow). s.net) push.value ∙ along_net c.args.state.now c.deref-2.result.now (to_z w128 (of_z w128 c.in_ok-amount.amount));
       flow = push.valid;
       source = path.source;
       target = target;

@@ -1,0 +1,34 @@
+-- The state of the parser that some lines make, and the answer that it gives at the end.
+use Rattle.std.specs.Prelude.{ℕ, List, [], ◌∷◌, map, Option, Some, None, Result, Ok, Err}
+use Rattle.mcf_answer.specs.Draft.{answer_of_draft}
+use Rattle.mcf_answer.specs.Fits.{member_lines, price_lines, sent_lines}
+use Rattle.mcf_answer.specs.Parsing.{no_refusal}
+use Rattle.mcf_answer.specs.Said.{Opening, OpensFlow, OpensSet, OpensRefusal, opening_said}
+use Rattle.mcf_answer.specs.Token.{Token}
+use Rattle.mcf_answer.specs.declared.answers.Answer.{Answer}
+use Rattle.mcf_answer.specs.declared.draft.Draft.{Draft}
+use Rattle.mcf_answer.specs.declared.draft.Draft.TheVariants.{Empty, Flow, Blocked, Refused}
+use Rattle.mcf_answer.specs.declared.shape.Shape.{Shape}
+
+-- the state of a first line and the lines after it
+abbrev pub filled : Option Opening → List (List Token) → Draft
+filled None others = Refused no_refusal
+filled (Some (OpensFlow cost)) others =
+    Flow (record { cost = cost; sent = sent_lines others; prices = map (λ y. y.1) (price_lines others) })
+filled (Some (OpensSet side count)) others = Blocked (record { side = side; count = count; nodes = member_lines others })
+filled (Some (OpensRefusal r)) others = Refused r
+
+-- the state of lines that all fit
+abbrev pub draft_of : List (List Token) → Draft
+draft_of [] = Empty
+draft_of (first ∷ others) = filled (opening_said first) others
+
+-- the answer that a state gives at the end, where the line after the last has this number
+abbrev pub answer_or : Option Answer → ℕ → Result Answer Shape
+answer_or None number = Err (record { line = number })
+answer_or (Some a) number = Ok a
+
+-- what the lines give: an answer, the number of the first that doesn't fit, or that of the line after the last
+abbrev pub outcome : Result Draft ℕ → ℕ → Result Answer Shape
+outcome (Err line) number = Err (record { line = line })
+outcome (Ok d) number = answer_or (answer_of_draft d) number

@@ -1,0 +1,19 @@
+-- The lines of a text that a state of the reader has seen.
+use Rattle.std.specs.Prelude.{◌≡◌, ℕ, ◌+◌, List, ◌++◌, map, length, filter}
+use Rattle.mcf_instance.specs.Limits.{Limits}
+use Rattle.mcf_instance.specs.ReaderState.{StateData}
+use Rattle.mcf_instance.specs.Stands.{Stands}
+use Rattle.mcf_text.specs.Fields.{is_kept}
+use Rattle.mcf_text.specs.Lines.{numbered_lines}
+use Rattle.mcf_text.specs.Row.{Row, row_of}
+
+-- the kept ones of some numbered lines, as rows
+abbrev pub kept_rows : List (ℕ × List ℕ) → List Row
+kept_rows lines = map row_of (filter (λ line. is_kept line.1) lines)
+
+-- the state stands for the lines of the text before the rest, and the rest begins at this number
+pub record HasRead (limits : Limits) (text : List ℕ) (s : StateData) (next : ℕ) (rest : List (ℕ × List ℕ)) : Type 0 where
+  pub before : List (ℕ × List ℕ)
+  pub joined : numbered_lines 1 text ≡ before ++ rest
+  pub next_is : next ≡ 1 + length before
+  pub stands : Stands limits s (kept_rows before)
