@@ -4,8 +4,7 @@ use Rattle.std.specs.Prelude.{ℤ, Option, All, map, ◌&&◌, nat_lt, option_ma
 use Rattle.std.specs.List.{enumerate_from}
 use Rattle.std.specs.List.Sorted.{IsStrictlyIncreasing}
 use Rattle.std.specs.Option.{option_map_or, option_or}
-use Rattle.std.proofs.lemmas.Bool.{eq-eqb}
-use Rattle.std.proofs.lemmas.Bool.Decides.{nat_tests}
+use Rattle.std.proofs.lemmas.Bool.{eq-eqb, lt-ltb}
 use Rattle.std.proofs.lemmas.List.{get_or_append_left, get_or-append_right, length-append}
 use Rattle.std.proofs.lemmas.List.Elements.{All-head, All-tail}
 use Rattle.std.proofs.lemmas.Option.{slice_get-get_or}
@@ -121,15 +120,14 @@ above_before (w ∷ ws) todo v h =
     let place : k + 1 - length done ≡ 0 = omega arith in
     let right : get_or (done ++ v ∷ todo) (k + 1) 0 ≡ v = get_or-append_right done (v ∷ todo) (length done) (k + 1) 0 refl (omega arith) ∙ ap (λ n. get_or (v ∷ todo) n 0) place in
     let below : get_or done k 0 < v = omega (arith, left, right, rises) in
-    let test : nat_lt (get_or done k 0) v ≡ true = grind (arith, nat_tests) in
-    ap (λ o. option_map_or (λ u. nat_lt u v) o true) (slice_get-get_or done k 0 low) ∙ test
+    ap (λ o. option_map_or (λ u. nat_lt u v) o true) (slice_get-get_or done k 0 low) ∙ lt-ltb (get_or done k 0) v below
 
 nodes_run : (side : Side) (count : ℕ) (todo done : List ℕ) → All IsNodeInRange todo → length done + length todo ≤ count → IsStrictlyIncreasing (done ++ todo)
     → run_lines (Blocked (record { side = side; count = count; nodes = done })) (map member_line todo) ≡ Some (Blocked (record { side = side; count = count; nodes = done ++ todo }))
 nodes_run side count [] done h few rises = ap (λ vs. Some (Blocked (record { side = side; count = count; nodes = vs }))) (sym (append-nil done))
 nodes_run side count (v ∷ todo) done h few rises =
     let lower : length done < count = omega (arith, few) in
-    let room : nat_lt (length done) count ≡ true = grind (arith, nat_tests) in
+    let room : nat_lt (length done) count ≡ true = lt-ltb (length done) count lower in
     let fewer : length (done ++ v ∷ []) + length todo ≤ count = omega (arith, few, length-append done (v ∷ [])) in
     ap (λ o. o >>= λ e. run_lines e (map member_line todo)) (node_taken side count done v (All-head IsNodeInRange v todo h) room (above_before done todo v rises))
     ∙ nodes_run side count todo (done ++ v ∷ []) (All-tail IsNodeInRange v todo h) fewer (subst IsStrictlyIncreasing (sym (append_assoc done (v ∷ []) todo)) rises)

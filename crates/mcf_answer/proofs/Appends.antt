@@ -3,8 +3,7 @@ use Rattle.std.proofs.Common.{◌≡◌, ℕ, List, [], ◌∷◌, ◌++◌, ◌
 use Rattle.std.specs.Prelude.{ℤ, map, flat_map}
 use Rattle.std.specs.Fmt.{signed_decimal}
 use Rattle.std.specs.List.{enumerate_from, join_with_byte}
-use Rattle.std.proofs.lemmas.Grind.{flat_map-append}
-use Rattle.std.proofs.lemmas.List.{map-append, length-take, take-append-drop, take_all, take_more}
+use Rattle.std.proofs.lemmas.List.{flat_map_more, length-take, map_push, take-append-drop, take_all, take_more}
 use Rattle.std.proofs.Math.Seq.{take-append_seam}
 use Rattle.mcf_answer.specs.Spelling.{price_line}
 use Rattle.mcf_answer.specs.Token.{Token, Word, Number}
@@ -34,12 +33,10 @@ line_text-numbers word numbers = ap (λ line. line ++ 10 ∷ []) (joined word nu
 pub numbers_more : (old word : List ℕ) (numbers : List ℤ) (k : ℕ) → k < length numbers
     → (old ++ (word ++ flat_map field_text (take k numbers))) ++ field_text (get_or numbers k (pos 0)) ≡ old ++ (word ++ flat_map field_text (take (k + 1) numbers))
 numbers_more old word numbers k inside =
-    append_assoc old (word ++ flat_map field_text (take k numbers)) (field_text (get_or numbers k (pos 0)))
-    ∙ ap (λ more. old ++ more) (append_assoc word (flat_map field_text (take k numbers)) (field_text (get_or numbers k (pos 0)))
-    ∙ ap (λ more. word ++ more) (sym (ap (flat_map field_text) (take_more numbers k (pos 0) inside) ∙ last)))
-  where
-    last : flat_map field_text (take k numbers ++ get_or numbers k (pos 0) ∷ []) ≡ flat_map field_text (take k numbers) ++ field_text (get_or numbers k (pos 0))
-    last = flat_map-append field_text (take k numbers) (get_or numbers k (pos 0) ∷ []) ∙ ap (λ more. flat_map field_text (take k numbers) ++ more) (append-nil (field_text (get_or numbers k (pos 0))))
+    ap (λ front. front ++ field_text (get_or numbers k (pos 0))) (sym (append_assoc old word (flat_map field_text (take k numbers))))
+    ∙ flat_map_more field_text (old ++ word) (take k numbers) (get_or numbers k (pos 0))
+    ∙ append_assoc old word (flat_map field_text (take k numbers ++ get_or numbers k (pos 0) ∷ []))
+    ∙ ap (λ some. old ++ (word ++ flat_map field_text some)) (sym (take_more numbers k (pos 0) inside))
 
 -- the line after its numbers
 pub numbers_all : (old word : List ℕ) (numbers : List ℤ) (k : ℕ) → length numbers ≤ k
@@ -48,25 +45,17 @@ numbers_all old word numbers k past =
     append_assoc old (word ++ flat_map field_text (take k numbers)) (10 ∷ [])
     ∙ ap (λ more. old ++ more) (ap (λ some. word ++ flat_map field_text some ++ 10 ∷ []) (take_all k numbers past) ∙ sym (line_text-numbers word numbers))
 
--- the numbers go on where a list goes on
-pub enumerate_from-append : {X : Type 0} (n : ℕ) (xs ys : List X) → enumerate_from n (xs ++ ys) ≡ enumerate_from n xs ++ enumerate_from (n + length xs) ys
-enumerate_from-append n [] ys = ap (λ m. enumerate_from m ys) (sym (add-zero n))
-enumerate_from-append {X} n (x ∷ xs) ys =
-    let next : n + 1 + length xs ≡ n + length (x ∷ xs) = omega arith in
-    ap (λ more. (n, x) ∷ more) (enumerate_from-append (n + 1) xs ys ∙ ap (λ m. enumerate_from (n + 1) xs ++ enumerate_from m ys) next)
-
 -- one more number of a list with its place
 pub enumerate_from-push : {X : Type 0} (n : ℕ) (xs : List X) (x : X) → enumerate_from n (xs ++ x ∷ []) ≡ enumerate_from n xs ++ (n + length xs, x) ∷ []
-enumerate_from-push n xs x = enumerate_from-append n xs (x ∷ [])
+enumerate_from-push n [] x = ap (λ m. (m, x) ∷ []) (sym (add-zero n))
+enumerate_from-push {X} n (y ∷ ys) x =
+    let next : n + 1 + length ys ≡ n + length (y ∷ ys) = omega arith in
+    ap (λ more. (n, y) ∷ more) (enumerate_from-push (n + 1) ys x ∙ ap (λ m. enumerate_from (n + 1) ys ++ (m, x) ∷ []) next)
 
 -- one more line
 pub lines_more : {X : Type 0} (line : X → List Token) (old : List ℕ) (xs : List X) (x : X)
     → (old ++ flat_map line_text (map line xs)) ++ line_text (line x) ≡ old ++ flat_map line_text (map line (xs ++ x ∷ []))
-lines_more line old xs x =
-    append_assoc old (flat_map line_text (map line xs)) (line_text (line x))
-    ∙ ap (λ more. old ++ more) (sym (ap (flat_map line_text) (map-append line xs (x ∷ []))
-    ∙ flat_map-append line_text (map line xs) (line x ∷ [])
-    ∙ ap (λ more. flat_map line_text (map line xs) ++ more) (append-nil (line_text (line x)))))
+lines_more line old xs x = flat_map_more line_text old (map line xs) (line x) ∙ ap (λ ls. old ++ flat_map line_text ls) (sym (map_push line xs x))
 
 -- the prices so far, and one more
 pub prices_more : (old : List ℕ) (prices : List ℤ) (k : ℕ) → k < length prices

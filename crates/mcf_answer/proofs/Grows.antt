@@ -3,8 +3,7 @@ use Rattle.std.proofs.Common.{◌≡◌, ℕ, ◌+◌, ◌-◌, ◌<◌, true, L
 use Rattle.std.specs.Prelude.{ℤ, nat_lt}
 use Rattle.std.specs.Option.{option_map_or}
 use Rattle.std.specs.List.Sorted.{IsStrictlyIncreasing}
-use Rattle.std.proofs.lemmas.Bool.{cases_eq}
-use Rattle.std.proofs.lemmas.Bool.Decides.{nat_tests}
+use Rattle.std.proofs.lemmas.Bool.{cases_eq, ltb-true}
 use Rattle.std.proofs.lemmas.List.{get_or_append_left, get_or_push, length-append}
 use Rattle.std.proofs.lemmas.List.Elements.{All-push}
 use Rattle.std.proofs.lemmas.Option.{slice_get-get_or}
@@ -22,9 +21,7 @@ use Rattle.mcf_answer.proofs.SaidLemmas.{member_said-some, sent_said-some}
 above_last : (xs : List ℕ) (v : ℕ) → 0 < length xs → is_above_last xs v ≡ true → get_or xs (length xs - 1) 0 < v
 above_last xs v some e =
     let inside : length xs - 1 < length xs = omega arith in
-    let test : nat_lt (get_or xs (length xs - 1) 0) v ≡ true =
-    sym (ap (λ o. option_map_or (λ w. nat_lt w v) o true) (slice_get-get_or xs (length xs - 1) 0 inside)) ∙ e in
-    grind (arith, nat_tests)
+    ltb-true (get_or xs (length xs - 1) 0) v (sym (ap (λ o. option_map_or (λ w. nat_lt w v) o true) (slice_get-get_or xs (length xs - 1) 0 inside)) ∙ e)
 
 pub IsStrictlyIncreasing-push : (xs : List ℕ) (v : ℕ) → IsStrictlyIncreasing xs → is_above_last xs v ≡ true → IsStrictlyIncreasing (xs ++ v ∷ [])
 IsStrictlyIncreasing-push xs v before above k inside =

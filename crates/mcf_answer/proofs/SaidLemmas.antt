@@ -8,12 +8,13 @@ use Rattle.mcf_answer.specs.Solution.{IsSent}
 use Rattle.mcf_answer.specs.Spelling.{cost_line, flow_line, member_line, price_line, refusal_line, set_line, side_word}
 use Rattle.mcf_answer.specs.Token.{Token, Word, Number, is_word}
 use Rattle.mcf_answer.specs.declared.answers.Sent.{Sent}
-use Rattle.mcf_answer.proofs.Words.{code_of_word-code_word, code_word-found}
+use Rattle.mcf_answer.proofs.Words.{code_of_word-code_word}
 use Rattle.mcf_instance.specs.Fault.{Fault, code_word}
 use Rattle.mcf_instance.specs.Limits.{node_limit, line_limit}
 use Rattle.mcf_instance.specs.declared.code.Code.{Code}
 use Rattle.mcf_instance.specs.declared.problem.Side.{Side}
 use Rattle.mcf_instance.specs.declared.problem.Side.TheVariants.{Send, Take}
+use Rattle.mcf_instance.proofs.Words.{code_of_word-known}
 use Rattle.mcf_text.specs.Row.{natural}
 use Rattle.mcf_text.specs.Whole.{is_within}
 
@@ -27,7 +28,7 @@ bind-some : {A B : Type 0} (o : Option A) (f : A → Option B) (y : B) → (o >>
 bind-some None f y e = cc
 bind-some (Some x) f y e = (x, refl, e)
 
-map-some : {A B : Type 0} (o : Option A) (f : A → B) (y : B) → option_map f o ≡ Some y → (x : A) × (o ≡ Some x) × (f x ≡ y)
+pub map-some : {A B : Type 0} (o : Option A) (f : A → B) (y : B) → option_map f o ≡ Some y → (x : A) × (o ≡ Some x) × (f x ≡ y)
 map-some None f y e = cc
 map-some (Some x) f y e = (x, refl, cc)
 
@@ -114,7 +115,7 @@ side_of-word Send = refl
 side_of-word Take = refl
 
 code_of-some : (t : Token) (c : Code) → code_of t ≡ Some c → t ≡ Word (code_word c)
-code_of-some (Word bytes) c e = ap Word (code_word-found bytes c e)
+code_of-some (Word bytes) c e = ap Word (sym ((code_of_word-known bytes c).0 e))
 code_of-some (Number z) c e = cc
 
 -- ---- lines: what a line says is in range, and the line is the one that says it

@@ -1,13 +1,14 @@
 -- The lines that a state stands for are those that it spells; so a text is parsed to an answer exactly
 -- where it spells it.
-use Rattle.std.proofs.Common.{◌≡◌, ℕ, ◌+◌, ◌<◌, ◌≤◌, Bool, true, false, cond, List, [], ◌∷◌, ◌++◌, length, Some, None, Ok, Err, refl, sym, ap, subst, ◌∙◌, nat_eq, arith, append_assoc, append-nil}
+use Rattle.std.proofs.Common.{◌≡◌, ℕ, ◌+◌, ◌<◌, ◌≤◌, true, List, [], ◌∷◌, ◌++◌, length, Some, None, Ok, Err, refl, sym, ap, subst, ◌∙◌, nat_eq, arith, append_assoc, append-nil}
 use Rattle.std.specs.Prelude.{ℤ, Option, Result, map, ◌&&◌, ⊤, nat_lt, option_map}
 use Rattle.std.specs.List.{enumerate_from}
 use Rattle.std.specs.List.Sorted.{IsStrictlyIncreasing}
 use Rattle.std.specs.Option.{option_or}
-use Rattle.std.proofs.lemmas.Bool.Decides.{nat_tests}
-use Rattle.std.proofs.lemmas.List.{map-append, nil_from_length}
+use Rattle.std.proofs.lemmas.Bool.{and_parts, eqb-true, ltb-true}
+use Rattle.std.proofs.lemmas.List.{map_push, nil_from_length}
 use Rattle.std.proofs.lemmas.List.Elements.{All-nil}
+use Rattle.std.proofs.lemmas.Option.{cond_some}
 use Rattle.mcf_answer.specs.BlockingSet.{IsBlockingSet}
 use Rattle.mcf_answer.specs.Draft.{after, and_then, answer_of_draft, opened, sent_or_priced, set_after, solution_after, with_member, with_price, with_said, with_sent}
 use Rattle.mcf_answer.specs.Fits.{is_above_last}
@@ -26,7 +27,7 @@ use Rattle.mcf_answer.specs.declared.draft.Draft.TheVariants.{Empty, Flow, Block
 use Rattle.mcf_answer.proofs.Appends.{enumerate_from-push}
 use Rattle.mcf_answer.proofs.Grows.{with_member_fits, with_price_fits, with_sent_fits}
 use Rattle.mcf_answer.proofs.LinesRead.{answer_or, outcome}
-use Rattle.mcf_answer.proofs.SaidLemmas.{cost_said-some, member_said-some, price_said-some, refusal_said-some, sent_said-some, set_said-some}
+use Rattle.mcf_answer.proofs.SaidLemmas.{cost_said-some, map-some, member_said-some, price_said-some, refusal_said-some, sent_said-some, set_said-some}
 use Rattle.mcf_answer.proofs.Simulation.{outcome-parsing, run-rows, run_rows}
 use Rattle.mcf_instance.specs.Fault.{Fault}
 use Rattle.mcf_instance.specs.Limits.{line_limit}
@@ -98,7 +99,7 @@ sent_grows a line s h e none =
     record {
       lines =
           ap (λ zs. cost_line a.cost ∷ map flow_line (a.sent ++ s ∷ []) ++ map price_line (enumerate_from 1 zs)) empty
-          ∙ ap (λ ls. cost_line a.cost ∷ ls) (append-nil (map flow_line (a.sent ++ s ∷ [])) ∙ map-append flow_line a.sent (s ∷ []) ∙ ap (λ l. map flow_line a.sent ++ l ∷ []) (sym said.0))
+          ∙ ap (λ ls. cost_line a.cost ∷ ls) (append-nil (map flow_line (a.sent ++ s ∷ [])) ∙ map_push flow_line a.sent s ∙ ap (λ l. map flow_line a.sent ++ l ∷ []) (sym said.0))
           ∙ ap (λ ls. cost_line a.cost ∷ ls ++ line ∷ []) (sym (append-nil (map flow_line a.sent)))
           ∙ sym (ap (λ zs. (cost_line a.cost ∷ map flow_line a.sent ++ map price_line (enumerate_from 1 zs)) ++ line ∷ []) empty);
       in_range = with_sent_fits a line s h e;
@@ -112,7 +113,7 @@ price_grows a line y h e next =
     record {
       lines =
           ap (λ ys. cost_line a.cost ∷ map flow_line a.sent ++ map price_line ys) (enumerate_from-push 1 a.prices y.1 ∙ ap (λ n. enumerate_from 1 a.prices ++ (n, y.1) ∷ []) place)
-          ∙ ap (λ ls. cost_line a.cost ∷ map flow_line a.sent ++ ls) (map-append price_line (enumerate_from 1 a.prices) (y ∷ []) ∙ ap (λ l. map price_line (enumerate_from 1 a.prices) ++ l ∷ []) (sym said.0))
+          ∙ ap (λ ls. cost_line a.cost ∷ map flow_line a.sent ++ ls) (map_push price_line (enumerate_from 1 a.prices) y ∙ ap (λ l. map price_line (enumerate_from 1 a.prices) ++ l ∷ []) (sym said.0))
           ∙ ap (λ ls. cost_line a.cost ∷ ls) (sym (append_assoc (map flow_line a.sent) (map price_line (enumerate_from 1 a.prices)) (line ∷ [])));
       in_range = with_price_fits a y.0 y.1 h said.1 said.2 next;
     }
@@ -123,27 +124,9 @@ node_grows a line v h e room above =
     let said = member_said-some line v e in
     record {
       lines =
-          ap (λ ls. set_line a.side a.count ∷ ls) (map-append member_line a.nodes (v ∷ []) ∙ ap (λ l. map member_line a.nodes ++ l ∷ []) (sym said.0));
+          ap (λ ls. set_line a.side a.count ∷ ls) (map_push member_line a.nodes v ∙ ap (λ l. map member_line a.nodes ++ l ∷ []) (sym said.0));
       in_range = with_member_fits a line v h e room above;
     }
-
-if-taken : {A : Type 0} (b : Bool) (x y : A) → cond b (Some x) None ≡ Some y → (b ≡ true) × (x ≡ y)
-if-taken true x y e = (refl, cc)
-if-taken false x y e = cc
-
-map-taken : {A B : Type 0} (o : Option A) (f : A → B) (y : B) → option_map f o ≡ Some y → (x : A) × (o ≡ Some x) × (f x ≡ y)
-map-taken None f y e = cc
-map-taken (Some x) f y e = (x, refl, cc)
-
-and-both : (a b : Bool) → (a && b) ≡ true → (a ≡ true) × (b ≡ true)
-and-both true b e = (refl, e)
-and-both false b e = cc
-
-equal_from : (m n : ℕ) → nat_eq m n ≡ true → m ≡ n
-equal_from m n e = grind (arith, nat_tests)
-
-below_from : (m n : ℕ) → nat_lt m n ≡ true → m < n
-below_from m n e = grind (arith, nat_tests)
 
 solution_grows : (a b : Solution) (line : List Token) → IsSolution a → solution_after a line ≡ Some b → Grows (Flow a) line (Flow b)
 unfolding solution_after
@@ -152,11 +135,11 @@ solution_grows a b line h e = go (sent_said line) (price_said line) refl refl e
     go : (os : Option Sent) (oy : Option (ℕ × ℤ)) → sent_said line ≡ os → price_said line ≡ oy → sent_or_priced a os oy ≡ Some b → Grows (Flow a) line (Flow b)
     go None None es ey f = cc
     go None (Some y) es ey f =
-        let t = if-taken (nat_eq y.0 (length a.prices + 1)) (with_price a y.1) b f in
-        subst (λ d. Grows (Flow a) line (Flow d)) t.1 (price_grows a line y h ey (equal_from y.0 (length a.prices + 1) t.0))
+        let t = cond_some (nat_eq y.0 (length a.prices + 1)) (with_price a y.1) b f in
+        subst (λ d. Grows (Flow a) line (Flow d)) t.1 (price_grows a line y h ey (eqb-true y.0 (length a.prices + 1) t.0))
     go (Some s) oy es ey f =
-        let t = if-taken (nat_eq (length a.prices) 0) (with_sent a s) b f in
-        subst (λ d. Grows (Flow a) line (Flow d)) t.1 (sent_grows a line s h es (equal_from (length a.prices) 0 t.0))
+        let t = cond_some (nat_eq (length a.prices) 0) (with_sent a s) b f in
+        subst (λ d. Grows (Flow a) line (Flow d)) t.1 (sent_grows a line s h es (eqb-true (length a.prices) 0 t.0))
 
 set_grows : (a b : PartialSet) (line : List Token) → IsPartialSet a → set_after a line ≡ Some b → Grows (Blocked a) line (Blocked b)
 unfolding set_after
@@ -165,20 +148,20 @@ set_grows a b line h e = go (member_said line) refl e
     go : (o : Option ℕ) → member_said line ≡ o → with_said a o ≡ Some b → Grows (Blocked a) line (Blocked b)
     go None ev f = cc
     go (Some v) ev f =
-        let t = if-taken (nat_lt (length a.nodes) a.count && is_above_last a.nodes v) (with_member a v) b f in
-        let both = and-both (nat_lt (length a.nodes) a.count) (is_above_last a.nodes v) t.0 in
-        subst (λ d. Grows (Blocked a) line (Blocked d)) t.1 (node_grows a line v h ev (below_from (length a.nodes) a.count both.0) both.1)
+        let t = cond_some (nat_lt (length a.nodes) a.count && is_above_last a.nodes v) (with_member a v) b f in
+        let both = and_parts (nat_lt (length a.nodes) a.count) (is_above_last a.nodes v) t.0 in
+        subst (λ d. Grows (Blocked a) line (Blocked d)) t.1 (node_grows a line v h ev (ltb-true (length a.nodes) a.count both.0) both.1)
 
 line_grows : (d e : Draft) (line : List Token) → IsDraft d → after d line ≡ Some e → Grows d line e
 unfolding after
 line_grows Empty e line h f =
-    let t = map-taken (opening_said line) opened e f in
+    let t = map-some (opening_said line) opened e f in
     subst (Grows Empty line) t.2 (opening_grows line t.0 t.1)
 line_grows (Flow a) e line h f =
-    let t = map-taken (solution_after a line) Flow e f in
+    let t = map-some (solution_after a line) Flow e f in
     subst (Grows (Flow a) line) t.2 (solution_grows a t.0 line h t.1)
 line_grows (Blocked a) e line h f =
-    let t = map-taken (set_after a line) Blocked e f in
+    let t = map-some (set_after a line) Blocked e f in
     subst (Grows (Blocked a) line) t.2 (set_grows a t.0 line h t.1)
 line_grows (Refused r) e line h f = cc
 
@@ -212,8 +195,8 @@ finished_spelled (Flow b) a h e =
     let is : FlowAnswered b ≡ a = cc e in
     subst (λ x. (spelling x ≡ spelled (Flow b)) × IsAnswer x) is (refl, h)
 finished_spelled (Blocked b) a h e =
-    let t = if-taken (nat_eq (length b.nodes) b.count) (BlockedAnswered (record { side = b.side; nodes = b.nodes })) a e in
-    let size : length b.nodes ≡ b.count = equal_from (length b.nodes) b.count t.0 in
+    let t = cond_some (nat_eq (length b.nodes) b.count) (BlockedAnswered (record { side = b.side; nodes = b.nodes })) a e in
+    let size : length b.nodes ≡ b.count = eqb-true (length b.nodes) b.count t.0 in
     let set : IsBlockingSet (record { side = b.side; nodes = b.nodes }) =
     record { nonempty = omega (arith, size, h.some.0); few = omega (arith, size, h.some.1); are_nodes = h.are_nodes; ascending = h.ascending } in
     subst (λ x. (spelling x ≡ spelled (Blocked b)) × IsAnswer x) t.1 (ap (λ n. set_line b.side n ∷ map member_line b.nodes) size, set)

@@ -1,50 +1,39 @@
 -- Words are no numbers.
-use Rattle.std.proofs.Common.{◌≡◌, ℕ, Bool, true, false, cond, List, [], ◌∷◌, Some, None, refl, sym, ap, ◌∙◌}
-use Rattle.std.specs.Prelude.{Option, find, bytes_eq}
-use Rattle.std.proofs.lemmas.Slice.Eq.{bytes_eq-Decides}
+use Rattle.std.proofs.Common.{◌≡◌, ℕ, Bool, true, false, not, cond, List, length, Some, None, refl, sym, ap, subst, ◌∙◌}
+use Rattle.std.specs.Prelude.{Option, bytes_eq, nat_eq, nat_lt, ◌&&◌}
+use Rattle.std.specs.List.{list_all, position_or_len}
+use Rattle.std.proofs.lemmas.Bool.{and_parts, not-true}
+use Rattle.std.proofs.lemmas.List.Folds.{find_at}
+use Rattle.std.proofs.lemmas.List.Sums.{AllPass-from_list_all}
+use Rattle.std.proofs.lemmas.Option.{get_or_from_slice_get, slice_get_within}
+use Rattle.std.specs.Prelude.{slice_get}
 use Rattle.mcf_answer.specs.Said.{code_of}
 use Rattle.mcf_answer.specs.Token.{Token, Word, token_of}
 use Rattle.mcf_instance.specs.Fault.{all_codes, code_of_word, code_word}
 use Rattle.mcf_instance.specs.declared.code.Code.{Code}
-use Rattle.mcf_instance.specs.declared.code.Code.TheVariants.{Kind, Fields, Problem, Number as NumberCode, SecondP, BeforeP, Size, Node, LateN, Twice, Supply, Bound, Order, Cost, Extra, Side, NoP, Missing}
+use Rattle.mcf_instance.proofs.Words.{code_of_word-known}
+use Rattle.mcf_text.specs.Fields.{is_blank}
 use Rattle.mcf_text.specs.Whole.{is_whole, whole_value}
 
--- what is found passes the test
-found_passes : {X : Type 0} (p : X → Bool) (xs : List X) (x : X) → find p xs ≡ Some x → p x ≡ true
-found_passes p [] x e = cc
-found_passes {X} p (y ∷ ys) x e = go (p y) refl (found_passes p ys x)
-  where
-    go : (b : Bool) → p y ≡ b → (find p ys ≡ Some x → p x ≡ true) → p x ≡ true
-    go true h next =
-        let is : y ≡ x = cc (sym (ap (λ b. cond b (Some y) (find p ys)) h) ∙ e) in
-        ap p (sym is) ∙ h
-    go false h next = next (sym (ap (λ b. cond b (Some y) (find p ys)) h) ∙ e)
+-- a byte that neither parts fields nor ends a line
+abbrev pub is_plain_byte : ℕ → Bool
+is_plain_byte b = not (is_blank b) && not (nat_eq b 10)
 
--- the word of the code that a word names
-pub code_word-found : (word : List ℕ) (code : Code) → code_of_word word ≡ Some code → word ≡ code_word code
-code_word-found word code e =
-    sym ((bytes_eq-Decides (code_word code) word).0 (found_passes (λ c. bytes_eq (code_word c) word) all_codes code e))
+-- one byte or more, each of them plain, and no number
+abbrev pub is_plain_word : List ℕ → Bool
+is_plain_word word = nat_lt 0 (length word) && list_all is_plain_byte word && not (is_whole word)
 
--- no code's word is a number
-pub is_whole-code_word : (code : Code) → is_whole (code_word code) ≡ false
-is_whole-code_word Kind = refl
-is_whole-code_word Fields = refl
-is_whole-code_word Problem = refl
-is_whole-code_word NumberCode = refl
-is_whole-code_word SecondP = refl
-is_whole-code_word BeforeP = refl
-is_whole-code_word Size = refl
-is_whole-code_word Node = refl
-is_whole-code_word LateN = refl
-is_whole-code_word Twice = refl
-is_whole-code_word Supply = refl
-is_whole-code_word Bound = refl
-is_whole-code_word Order = refl
-is_whole-code_word Cost = refl
-is_whole-code_word Extra = refl
-is_whole-code_word Side = refl
-is_whole-code_word NoP = refl
-is_whole-code_word Missing = refl
+-- the code of its own word
+pub code_of_word-code_word : (code : Code) → code_of_word (code_word code) ≡ Some code
+code_of_word-code_word code = (code_of_word-known (code_word code) code).1 refl
+
+-- each code's word is plain
+pub plain_code_word : (code : Code) → is_plain_word (code_word code) ≡ true
+plain_code_word code =
+    let place = position_or_len (λ c. bytes_eq (code_word c) (code_word code)) all_codes in
+    let at : slice_get all_codes place ≡ Some code = sym (find_at (λ c. bytes_eq (code_word c) (code_word code)) all_codes) ∙ code_of_word-code_word code in
+    let all = AllPass-from_list_all (λ c. is_plain_word (code_word c)) all_codes refl in
+    subst (λ c. is_plain_word (code_word c) ≡ true) (get_or_from_slice_get all_codes place code code at) (all place code (slice_get_within all_codes place code at))
 
 -- the code that a field names
 pub code_of-token_of : (field : List ℕ) → code_of_word field ≡ code_of (token_of field)
@@ -53,27 +42,8 @@ code_of-token_of field = go (is_whole field) (code_of_word field) refl refl
     go : (b : Bool) (o : Option Code) → is_whole field ≡ b → code_of_word field ≡ o → code_of_word field ≡ code_of (token_of field)
     go false o h e = sym (ap (λ b. code_of (cond b (Token.Number (whole_value field)) (Word field))) h)
     go true None h e = e ∙ sym (ap (λ b. code_of (cond b (Token.Number (whole_value field)) (Word field))) h)
-    go true (Some code) h e = cc (sym h ∙ ap is_whole (code_word-found field code e) ∙ is_whole-code_word code)
-
--- the code of its own word
-pub code_of_word-code_word : (code : Code) → code_of_word (code_word code) ≡ Some code
-code_of_word-code_word Kind = refl
-code_of_word-code_word Fields = refl
-code_of_word-code_word Problem = refl
-code_of_word-code_word NumberCode = refl
-code_of_word-code_word SecondP = refl
-code_of_word-code_word BeforeP = refl
-code_of_word-code_word Size = refl
-code_of_word-code_word Node = refl
-code_of_word-code_word LateN = refl
-code_of_word-code_word Twice = refl
-code_of_word-code_word Supply = refl
-code_of_word-code_word Bound = refl
-code_of_word-code_word Order = refl
-code_of_word-code_word Cost = refl
-code_of_word-code_word Extra = refl
-code_of_word-code_word Side = refl
-code_of_word-code_word NoP = refl
-code_of_word-code_word Missing = refl
+    go true (Some code) h e =
+        let no_number : is_whole (code_word code) ≡ false = not-true (is_whole (code_word code)) (and_parts _ (not (is_whole (code_word code))) (plain_code_word code)).1 in
+        cc (sym h ∙ ap is_whole (sym ((code_of_word-known field code).0 e)) ∙ no_number)
 
 pub ruleset code_answers = code_of-token_of

@@ -1,13 +1,13 @@
 -- What is written of an answer spells it.
-use Rattle.std.proofs.Common.{◌≡◌, ◌≢◌, ℕ, suc, ◌+◌, ◌<◌, ◌≤◌, ◌^◌, Bool, true, false, not, cond, List, [], ◌∷◌, ◌++◌, length, pos, negsuc, refl, sym, ap, subst, ◌∙◌, arith, append_assoc, append-nil}
+use Rattle.std.proofs.Common.{◌≡◌, ◌≢◌, ℕ, suc, ◌+◌, ◌≤◌, ◌^◌, Bool, true, not, cond, List, [], ◌∷◌, ◌++◌, length, pos, negsuc, refl, sym, ap, subst, ◌∙◌, arith, append_assoc, append-nil}
 use Rattle.std.specs.Prelude.{ℤ, All, FitsSigned, IsFalse, IsTrue, codes, filter, flat_map, map, nat_eq, nat_lt, slice_index, ◌&&◌}
 use Rattle.std.specs.Fmt.{signed_decimal}
 use Rattle.std.specs.Int.{w128}
-use Rattle.std.specs.List.{enumerate_from, join_with_byte, list_all}
-use Rattle.std.proofs.lemmas.Bool.{not-true}
-use Rattle.std.proofs.lemmas.Bool.Decides.{nat_tests}
+use Rattle.std.specs.List.{AllByRecursion, enumerate_from, join_with_byte, list_all}
+use Rattle.std.proofs.lemmas.Bool.{and_parts, eqb-false, ltb-true, not-true}
 use Rattle.std.proofs.lemmas.Int.{ints}
-use Rattle.std.proofs.lemmas.List.Elements.{All-append, All-cons, All-head, All-nil, All-tail}
+use Rattle.std.proofs.lemmas.List.Elements.{All-append, All-cons, All-head, All-map, All-nil, All-tail, All-weaker}
+use Rattle.std.proofs.lemmas.List.Sums.{AllPass-from_list_all}
 use Rattle.mcf_answer.specs.Ranges.{IsAmount, IsNodeInRange}
 use Rattle.mcf_answer.specs.Solution.{IsSent}
 use Rattle.mcf_answer.specs.Spelling.{IsAnswer, Spells, cost_line, flow_line, member_line, price_line, refusal_line, set_line, side_word, spelling}
@@ -18,10 +18,9 @@ use Rattle.mcf_answer.specs.declared.answers.Answer.TheVariants.{Flow, Blocked, 
 use Rattle.mcf_answer.specs.declared.answers.Sent.{Sent}
 use Rattle.mcf_instance.specs.Fault.{Fault, code_word}
 use Rattle.mcf_instance.specs.Limits.{node_limit, line_limit}
-use Rattle.mcf_instance.specs.declared.code.Code.{Code}
-use Rattle.mcf_instance.specs.declared.code.Code.TheVariants.{Kind, Fields, Problem, Number as NumberCode, SecondP, BeforeP, Size, Node, LateN, Twice, Supply, Bound, Order, Cost, Extra, Side as SideCode, NoP, Missing}
 use Rattle.mcf_instance.specs.declared.problem.Side.{Side}
 use Rattle.mcf_instance.specs.declared.problem.Side.TheVariants.{Send, Take}
+use Rattle.mcf_answer.proofs.Words.{is_plain_byte, is_plain_word, plain_code_word}
 use Rattle.mcf_text.specs.Fields.{HasFields, IsRun, begins_kept, fields_of, is_blank, is_kept}
 use Rattle.mcf_text.specs.Lines.{IsOneLine, line_feed, lines_of}
 use Rattle.mcf_text.specs.Row.{row_of}
@@ -47,41 +46,22 @@ plain_number z fits =
       same = ap (λ b. cond b (Number (whole_value (signed_decimal z))) (Word (signed_decimal z))) text.whole ∙ ap Number text.value;
     }
 
--- a byte that neither parts fields nor ends a line
-abbrev is_plain_byte : ℕ → Bool
-is_plain_byte b = not (is_blank b) && not (nat_eq b 10)
-
--- one byte or more, each of them plain, and no number
-abbrev is_plain_word : List ℕ → Bool
-is_plain_word word = nat_lt 0 (length word) && list_all is_plain_byte word && not (is_whole word)
-
-both : (a b : Bool) → (a && b) ≡ true → (a ≡ true) × (b ≡ true)
-both true b e = (refl, e)
-both false b e = cc
-
 no_blanks : (word : List ℕ) → list_all is_plain_byte word ≡ true → All (λ b. IsFalse (is_blank b)) word
-no_blanks [] e = All-nil (λ b. IsFalse (is_blank b))
-no_blanks (b ∷ bs) e =
-    let t = both (is_plain_byte b) (list_all is_plain_byte bs) e in
-    let u = both (not (is_blank b)) (not (nat_eq b 10)) t.0 in
-    All-cons (λ c. IsFalse (is_blank c)) b bs (not-true (is_blank b) u.0) (no_blanks bs t.1)
+no_blanks word e =
+    All-weaker (λ b. is_plain_byte b ≡ true) (λ b. IsFalse (is_blank b)) (λ b f. not-true (is_blank b) (and_parts (not (is_blank b)) (not (nat_eq b 10)) f).0) word
+    (AllPass-from_list_all is_plain_byte word e)
 
 no_line_feeds : (word : List ℕ) → list_all is_plain_byte word ≡ true → IsOneLine word
-no_line_feeds [] e = All-nil (λ b. b ≢ line_feed)
-no_line_feeds (b ∷ bs) e =
-    let t = both (is_plain_byte b) (list_all is_plain_byte bs) e in
-    let u = both (not (is_blank b)) (not (nat_eq b 10)) t.0 in
-    let other : nat_eq b 10 ≡ false = not-true (nat_eq b 10) u.1 in
-    let differs : b ≢ line_feed = grind (arith, nat_tests) in
-    All-cons (λ c. c ≢ line_feed) b bs differs (no_line_feeds bs t.1)
+no_line_feeds word e =
+    All-weaker (λ b. is_plain_byte b ≡ true) (λ b. b ≢ line_feed) (λ b f. eqb-false b 10 (not-true (nat_eq b 10) (and_parts (not (is_blank b)) (not (nat_eq b 10)) f).1)) word
+    (AllPass-from_list_all is_plain_byte word e)
 
 plain_word : (word : List ℕ) → is_plain_word word ≡ true → IsPlain (Word word)
 plain_word word e =
-    let t = both (nat_lt 0 (length word) && list_all is_plain_byte word) (not (is_whole word)) e in
-    let u = both (nat_lt 0 (length word)) (list_all is_plain_byte word) t.0 in
-    let some : 0 < length word = grind (arith, nat_tests, u.0) in
+    let t = and_parts (nat_lt 0 (length word) && list_all is_plain_byte word) (not (is_whole word)) e in
+    let u = and_parts (nat_lt 0 (length word)) (list_all is_plain_byte word) t.0 in
     record {
-      run = record { nonempty = some; no_blank = no_blanks word u.1 };
+      run = record { nonempty = ltb-true 0 (length word) u.0; no_blank = no_blanks word u.1 };
       one_line = no_line_feeds word u.1;
       same = ap (λ b. cond b (Number (whole_value word)) (Word word)) (not-true (is_whole word) t.1);
     }
@@ -89,26 +69,6 @@ plain_word word e =
 plain_side : (side : Side) → IsPlain (Word (side_word side))
 plain_side Send = plain_word (codes "send") refl
 plain_side Take = plain_word (codes "take") refl
-
-plain_code : (c : Code) → is_plain_word (code_word c) ≡ true
-plain_code Kind = refl
-plain_code Fields = refl
-plain_code Problem = refl
-plain_code NumberCode = refl
-plain_code SecondP = refl
-plain_code BeforeP = refl
-plain_code Size = refl
-plain_code Node = refl
-plain_code LateN = refl
-plain_code Twice = refl
-plain_code Supply = refl
-plain_code Bound = refl
-plain_code Order = refl
-plain_code Cost = refl
-plain_code Extra = refl
-plain_code SideCode = refl
-plain_code NoP = refl
-plain_code Missing = refl
 
 amount_fits : (z : ℤ) → IsAmount z → FitsSigned w128 z
 amount_fits (pos n) h =
@@ -125,10 +85,6 @@ count_fits n h = record { sfits = omega (arith, ints, h) }
 
 -- ---- lines
 
-abbrev Each : {X : Type 0} → (X → Type 0) → List X → Type 0
-Each P [] = Unit {0}
-Each P (x ∷ xs) = P x × Each P xs
-
 -- the bytes of a line, without its end
 abbrev body : List Token → List ℕ
 body line = join_with_byte 32 (map token_text line)
@@ -140,21 +96,21 @@ record IsPlainLine (line : List Token) : Type 0 where
   is : line ≡ first ∷ others
   kept : not (nat_eq (slice_index (token_text first) 0) 99) ≡ true
   plain : IsPlain first
-  each : Each IsPlain others
+  each : AllByRecursion IsPlain others
 
 has_after_blank : (line field : List ℕ) (fields : List (List ℕ)) → HasFields line (field ∷ fields) → HasFields (32 ∷ line) (field ∷ fields)
 has_after_blank line field fields has =
     (32 ∷ has.0, has.1, ap (λ more. 32 ∷ more) has.2, All-cons (λ b. IsTrue (is_blank b)) 32 has.0 refl has.3, has.4, has.5, has.6)
 
-has_joined : (t : Token) (ts : List Token) → IsPlain t → Each IsPlain ts → HasFields (body (t ∷ ts)) (map token_text (t ∷ ts))
+has_joined : (t : Token) (ts : List Token) → IsPlain t → AllByRecursion IsPlain ts → HasFields (body (t ∷ ts)) (map token_text (t ∷ ts))
 has_joined t [] h each = ([], [], sym (append-nil (token_text t)), All-nil (λ b. IsTrue (is_blank b)), h.run, tt, All-nil (λ b. IsTrue (is_blank b)))
 has_joined t (u ∷ us) h each =
     ([], 32 ∷ body (u ∷ us), refl, All-nil (λ b. IsTrue (is_blank b)), h.run, refl, has_after_blank (body (u ∷ us)) (token_text u) (map token_text us) (has_joined u us each.0 each.1))
 
-fields_of-body : (t : Token) (ts : List Token) → IsPlain t → Each IsPlain ts → fields_of (body (t ∷ ts)) ≡ map token_text (t ∷ ts)
+fields_of-body : (t : Token) (ts : List Token) → IsPlain t → AllByRecursion IsPlain ts → fields_of (body (t ∷ ts)) ≡ map token_text (t ∷ ts)
 fields_of-body t ts h each = sym ((AreTheFields-fields_of (body (t ∷ ts))).unique (map token_text (t ∷ ts)) (has_joined t ts h each))
 
-same_tokens : (ts : List Token) → Each IsPlain ts → map token_of (map token_text ts) ≡ ts
+same_tokens : (ts : List Token) → AllByRecursion IsPlain ts → map token_of (map token_text ts) ≡ ts
 same_tokens [] each = refl
 same_tokens (t ∷ ts) each = ap (λ u. u ∷ map token_of (map token_text ts)) each.0.same ∙ ap (λ us. t ∷ us) (same_tokens ts each.1)
 
@@ -172,7 +128,7 @@ body_kept line h =
     ∙ ap begins_kept (fields_of-body h.first h.others h.plain h.each)
     ∙ h.kept
 
-joined_one_line : (t : Token) (ts : List Token) → IsPlain t → Each IsPlain ts → IsOneLine (body (t ∷ ts))
+joined_one_line : (t : Token) (ts : List Token) → IsPlain t → AllByRecursion IsPlain ts → IsOneLine (body (t ∷ ts))
 joined_one_line t [] h each = h.one_line
 joined_one_line t (u ∷ us) h each =
     All-append (λ b. b ≢ line_feed) (token_text t) (32 ∷ body (u ∷ us)) h.one_line (All-cons (λ b. b ≢ line_feed) 32 (body (u ∷ us)) (λ e. omega (arith, e)) (joined_one_line u us each.0 each.1))
@@ -182,38 +138,31 @@ body_one_line line h = subst (λ l. IsOneLine (body l)) (sym h.is) (joined_one_l
 
 -- ---- texts
 
-text_lines : (ls : List (List Token)) → Each IsPlainLine ls → lines_of (flat_map line_text ls) ≡ map body ls
-text_lines [] each = refl
-text_lines (l ∷ ls) each =
+text_lines : (ls : List (List Token)) → All IsPlainLine ls → lines_of (flat_map line_text ls) ≡ map body ls
+text_lines [] all = refl
+text_lines (l ∷ ls) all =
     ap lines_of (append_assoc (body l) (10 ∷ []) (flat_map line_text ls))
-    ∙ lines_of-line (body l) (flat_map line_text ls) (body_one_line l each.0)
-    ∙ ap (λ more. body l ∷ more) (text_lines ls each.1)
+    ∙ lines_of-line (body l) (flat_map line_text ls) (body_one_line l (All-head IsPlainLine l ls all))
+    ∙ ap (λ more. body l ∷ more) (text_lines ls (All-tail IsPlainLine l ls all))
 
 -- whether a numbered line is kept
 abbrev keeps_line : ℕ × List ℕ → Bool
 keeps_line line = is_kept line.1
 
-body_rows : (n : ℕ) (ls : List (List Token)) → Each IsPlainLine ls → map tokens (map row_of (filter keeps_line (enumerate_from n (map body ls)))) ≡ ls
-body_rows n [] each = refl
-body_rows n (l ∷ ls) each =
-    ap (λ b. map tokens (map row_of (cond b ((n, body l) ∷ filter keeps_line (enumerate_from (n + 1) (map body ls))) (filter keeps_line (enumerate_from (n + 1) (map body ls)))))) (body_kept l each.0)
-    ∙ ap (λ t. t ∷ map tokens (map row_of (filter keeps_line (enumerate_from (n + 1) (map body ls))))) (body_tokens l each.0)
-    ∙ ap (λ ts. l ∷ ts) (body_rows (n + 1) ls each.1)
+body_rows : (n : ℕ) (ls : List (List Token)) → All IsPlainLine ls → map tokens (map row_of (filter keeps_line (enumerate_from n (map body ls)))) ≡ ls
+body_rows n [] all = refl
+body_rows n (l ∷ ls) all =
+    let plain = All-head IsPlainLine l ls all in
+    ap (λ b. map tokens (map row_of (cond b ((n, body l) ∷ filter keeps_line (enumerate_from (n + 1) (map body ls))) (filter keeps_line (enumerate_from (n + 1) (map body ls)))))) (body_kept l plain)
+    ∙ ap (λ t. t ∷ map tokens (map row_of (filter keeps_line (enumerate_from (n + 1) (map body ls))))) (body_tokens l plain)
+    ∙ ap (λ ts. l ∷ ts) (body_rows (n + 1) ls (All-tail IsPlainLine l ls all))
 
-text_tokens : (ls : List (List Token)) → Each IsPlainLine ls → token_lines (flat_map line_text ls) ≡ ls
-text_tokens ls each =
-    ap (λ lines. map tokens (map row_of (filter keeps_line (enumerate_from 1 lines)))) (text_lines ls each)
-    ∙ body_rows 1 ls each
+text_tokens : (ls : List (List Token)) → All IsPlainLine ls → token_lines (flat_map line_text ls) ≡ ls
+text_tokens ls all =
+    ap (λ lines. map tokens (map row_of (filter keeps_line (enumerate_from 1 lines)))) (text_lines ls all)
+    ∙ body_rows 1 ls all
 
 -- ---- answers
-
-each_map : {X : Type 0} (P : X → Type 0) (line : X → List Token) (xs : List X) → All P xs → ((x : X) → P x → IsPlainLine (line x)) → Each IsPlainLine (map line xs)
-each_map P line [] all plain = tt
-each_map P line (x ∷ xs) all plain = (plain x (All-head P x xs all), each_map P line xs (All-tail P x xs all) plain)
-
-each_append : (xs ys : List (List Token)) → Each IsPlainLine xs → Each IsPlainLine ys → Each IsPlainLine (xs ++ ys)
-each_append [] ys each more = more
-each_append (x ∷ xs) ys each more = (each.0, each_append xs ys each.1 more)
 
 plain_cost : (cost : ℤ) → IsAmount cost → IsPlainLine (cost_line cost)
 plain_cost cost h = record {
@@ -272,20 +221,27 @@ plain_refusal r few = record {
   is = refl;
   kept = refl;
   plain = plain_word (codes "r") refl;
-  each = (plain_number (pos r.line) (count_fits r.line few), (plain_word (code_word r.code) (plain_code r.code), tt));
+  each = (plain_number (pos r.line) (count_fits r.line few), (plain_word (code_word r.code) (plain_code_word r.code), tt));
 }
 
-plain_prices : (n : ℕ) (zs : List ℤ) → n + length zs ≤ line_limit → All IsAmount zs → Each IsPlainLine (map price_line (enumerate_from n zs))
-plain_prices n [] few all = tt
+plain_prices : (n : ℕ) (zs : List ℤ) → n + length zs ≤ line_limit → All IsAmount zs → All IsPlainLine (map price_line (enumerate_from n zs))
+plain_prices n [] few all = All-nil IsPlainLine
 plain_prices n (z ∷ zs) few all =
-    (plain_price n z (omega (arith, few)) (All-head IsAmount z zs all), plain_prices (n + 1) zs (omega (arith, few)) (All-tail IsAmount z zs all))
+    All-cons IsPlainLine (price_line (n, z)) (map price_line (enumerate_from (n + 1) zs))
+    (plain_price n z (omega (arith, few)) (All-head IsAmount z zs all)) (plain_prices (n + 1) zs (omega (arith, few)) (All-tail IsAmount z zs all))
 
-plain_answer : (a : Answer) → IsAnswer a → Each IsPlainLine (spelling a)
+-- the lines of some items
+plain_each : {X : Type 0} (P : X → Type 0) (line : X → List Token) → ((x : X) → P x → IsPlainLine (line x)) → (xs : List X) → All P xs → All IsPlainLine (map line xs)
+plain_each P line plain xs all = All-map IsPlainLine line xs (All-weaker P (λ x. IsPlainLine (line x)) plain xs all)
+
+plain_answer : (a : Answer) → IsAnswer a → All IsPlainLine (spelling a)
 unfolding spelling IsAnswer
 plain_answer (Flow a) h =
-    (plain_cost a.cost h.cost_small, each_append (map flow_line a.sent) (map price_line (enumerate_from 1 a.prices)) (each_map IsSent flow_line a.sent h.sent_fit plain_sent) (plain_prices 1 a.prices (omega (arith, h.few_prices)) h.prices_small))
-plain_answer (Blocked a) h = (plain_set a.side (length a.nodes) h.few, each_map IsNodeInRange member_line a.nodes h.are_nodes plain_node)
-plain_answer (Refused r) h = (plain_refusal r h.1, tt)
+    All-cons IsPlainLine (cost_line a.cost) (map flow_line a.sent ++ map price_line (enumerate_from 1 a.prices)) (plain_cost a.cost h.cost_small)
+    (All-append IsPlainLine (map flow_line a.sent) (map price_line (enumerate_from 1 a.prices)) (plain_each IsSent flow_line plain_sent a.sent h.sent_fit) (plain_prices 1 a.prices (omega (arith, h.few_prices)) h.prices_small))
+plain_answer (Blocked a) h =
+    All-cons IsPlainLine (set_line a.side (length a.nodes)) (map member_line a.nodes) (plain_set a.side (length a.nodes) h.few) (plain_each IsNodeInRange member_line plain_node a.nodes h.are_nodes)
+plain_answer (Refused r) h = All-cons IsPlainLine (refusal_line r) [] (plain_refusal r h.1) (All-nil IsPlainLine)
 
 -- the written text spells the answer
 pub written_spells : (a : Answer) → IsAnswer a → Spells (written a) a

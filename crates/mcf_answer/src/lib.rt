@@ -16,7 +16,7 @@ mod writer;
 
 pub use answers::{Answer, BlockedAnswer, FlowAnswer, Sent};
 pub use laws::{no_text_spells_two_answers, what_is_written_is_read_back};
-pub use lists::{NodeList, PriceList, SentList};
+pub use lists::{AnswerList, NodeList, PriceList, SentList};
 pub use parser::parse;
 pub use shape::Shape;
 pub use writer::write;
