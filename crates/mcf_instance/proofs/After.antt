@@ -13,8 +13,10 @@ use Rattle.mcf_instance.specs.Stands.{heading_of, Holds}
 use Rattle.mcf_instance.specs.declared.reader.line.Item.{Item}
 use Rattle.mcf_instance.specs.declared.reader.line.Item.TheVariants.{Problem, Supply, Link}
 use Rattle.mcf_instance.specs.ReaderState.{StateData, item_of, with_item}
-use Rattle.mcf_instance.proofs.NodeLines.{ok_unless, natural_low, unnot}
-use Rattle.mcf_instance.proofs.ArcLines.{packed, first_of}
+use Rattle.mcf_instance.proofs.NodeLines.{ok_unless}
+use Rattle.mcf_instance.proofs.Ranges.{natural_low}
+use Rattle.std.proofs.lemmas.Bool.{and_parts, not-false}
+use Rattle.mcf_instance.proofs.ArcLines.{packed}
 use Rattle.mcf_instance.proofs.Items.{item_said, item_reads}
 use Rattle.mcf_instance.proofs.Taken.{holds_problem, holds_supply, holds_link, supply_said}
 
@@ -67,7 +69,7 @@ after_problem s lines row h good p =
 has_header : (lines : List Row) (row : Row) → fault_of_line limits lines row ≡ None → is_p row ≡ false → has_p lines ≡ true
 has_header lines row good p =
     let early : (not (is_p row) && not (has_p lines)) ≡ false = applies_not lines row 5 BeforeP _ refl good in
-    unnot (has_p lines) (sym (ap (λ b. not b && not (has_p lines)) p) ∙ early)
+    not-false (has_p lines) (sym (ap (λ b. not b && not (has_p lines)) p) ∙ early)
 
 after_node : (s : StateData) (lines : List Row) (row : Row) → Holds s lines → fault_of_line limits lines row ≡ None → is_p row ≡ false → is_n row ≡ true → Holds (with_item s (Supply (node row 1) (supply_said (header lines).problem row))) (lines ++ row ∷ [])
 after_node s lines row h good p n =
@@ -75,13 +77,13 @@ after_node s lines row h good p n =
     let fresh : is_listed lines (node row 1) ≡ false = sym (ap (λ b. b && is_listed lines (node row 1)) n) ∙ twice in
     let range : (not (is_p row) && not (list_all (λ k. is_node_number lines (number row k)) (node_places row))) ≡ false = applies_not lines row 7 Node _ refl good in
     let inside : (is_node_number lines (number row 1) && true) ≡ true =
-    unnot _ (sym (ap (λ b. not b && not (list_all (λ k. is_node_number lines (number row k)) (node_places row))) p ∙ ap (λ b. not (list_all (λ k. is_node_number lines (number row k)) (cond b (1 ∷ []) (1 ∷ 2 ∷ [])))) n) ∙ range) in
-    holds_supply s lines row h (some_header s lines h (has_header lines row good p)) p n (n_not_a row n) (natural_low _ (number row 1) (first_of (is_node_number lines (number row 1)) true inside)) fresh
+    not-false _ (sym (ap (λ b. not b && not (list_all (λ k. is_node_number lines (number row k)) (node_places row))) p ∙ ap (λ b. not (list_all (λ k. is_node_number lines (number row k)) (cond b (1 ∷ []) (1 ∷ 2 ∷ [])))) n) ∙ range) in
+    holds_supply s lines row h (some_header s lines h (has_header lines row good p)) p n (n_not_a row n) (natural_low _ (number row 1) (and_parts (is_node_number lines (number row 1)) true inside).0) fresh
 
 after_arc : (s : StateData) (lines : List Row) (row : Row) → Holds s lines → fault_of_line limits lines row ≡ None → is_p row ≡ false → is_n row ≡ false → Holds (with_item s (Link (packed (arc_of (header lines).problem row)))) (lines ++ row ∷ [])
 after_arc s lines row h good p n =
     let kind : not (is_p row || is_n row || is_a row) ≡ false = applies_not lines row 0 Kind _ refl good in
-    let a : is_a row ≡ true = unnot (is_a row) (sym (ap (λ b. not (b || is_n row || is_a row)) p ∙ ap (λ b. not (b || is_a row)) n) ∙ kind) in
+    let a : is_a row ≡ true = not-false (is_a row) (sym (ap (λ b. not (b || is_n row || is_a row)) p ∙ ap (λ b. not (b || is_a row)) n) ∙ kind) in
     holds_link s lines row h (some_header s lines h (has_header lines row good p)) p n a
 
 after_said : (s : StateData) (lines : List Row) (row : Row) → Holds s lines → fault_of_line limits lines row ≡ None → Holds (with_item s (item_said lines row)) (lines ++ row ∷ [])

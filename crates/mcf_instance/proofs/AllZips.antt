@@ -1,14 +1,12 @@
 -- A fact of two lists, place by place: as of the arcs and a flow.
-use Rattle.std.proofs.Common.{◌≡◌, ℕ, zero, suc, ◌+◌, ◌<◌, List, [], ◌∷◌, length, take, set, get_or, refl, ap, arith, add-one}
+use Rattle.std.proofs.Common.{◌≡◌, ℕ, zero, suc, ◌+◌, ◌<◌, List, [], ◌∷◌, length, take, set, get_or, sym, arith, add-one}
 use Rattle.std.specs.List.{All, AllZip}
 use Rattle.std.proofs.lemmas.List.Elements.{All-head, All-tail}
+use Rattle.std.proofs.lemmas.Slice.Zip.{AllZip-long}
 
 module _ {X Y : Type 0} (R : X → Y → Type 0) where
   pub length-AllZip : (xs : List X) (ys : List Y) → AllZip R xs ys → length xs ≡ length ys
-  length-AllZip [] [] h = refl
-  length-AllZip [] (y ∷ ys) h = absurd h
-  length-AllZip (x ∷ xs) [] h = absurd h
-  length-AllZip (x ∷ xs) (y ∷ ys) h = ap suc (length-AllZip xs ys h.1)
+  length-AllZip xs ys h = sym (AllZip-long R xs ys h)
 
   -- a fact of each element of the first list, and this fact, as one
   pub AllZip-with : (P : X → Type 0) (xs : List X) (ys : List Y) → All P xs → AllZip R xs ys → AllZip (λ x y. P x × R x y) xs ys

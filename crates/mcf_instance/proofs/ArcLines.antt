@@ -1,6 +1,6 @@
 -- What the reader of arc lines answers is the table's fault, or the arc.
 use Rattle.std.proofs.Common.{◌≡◌, ℕ, ◌≤◌, Bool, true, false, not, cond, ◌&&◌, ◌||◌, List, [], ◌∷◌, length, refl, sym, ◌∙◌, ap, subst, Some, None, arith}
-use Rattle.std.specs.Prelude.{Option, ℤ, pos, negsuc, slice_index_or, ◌==◌, int_lt, nat_le}
+use Rattle.std.specs.Prelude.{Option, ℤ, pos, slice_index_or, ◌==◌, int_lt, nat_le}
 use Rattle.mcf_instance.specs.declared.code.Code.{Code}
 use Rattle.mcf_instance.specs.declared.code.Code.TheVariants.{Node, Bound, Order, Cost, Extra, Side}
 use Rattle.mcf_instance.specs.declared.problem.Problem.TheVariants.{Min, Asn}
@@ -15,27 +15,14 @@ use Rattle.mcf_instance.specs.Limits.{limits, node_limit}
 use Rattle.mcf_instance.specs.Reading.{arc_of}
 use Rattle.mcf_instance.specs.LineReader.{clamped, arc_line, arc_tests, number_at}
 use Rattle.mcf_instance.specs.Stands.{heading_seen}
-use Rattle.mcf_instance.proofs.NodeLines.{ok_unless, ok_unless_test, clamped_node, clamped_amount, clamped_same, within_small, natural_low, natural_high, unnot, header_small}
+use Rattle.mcf_instance.proofs.NodeLines.{ok_unless, ok_unless_test, header_small}
+use Rattle.mcf_instance.proofs.Ranges.{clamped_count, clamped_up_to, is_up_to-clamped, is_within_count-clamped, natural_low, natural_high}
+use Rattle.std.proofs.lemmas.Bool.{and_parts, not-false}
+use Rattle.mcf_instance.proofs.LineSteps.{unless_fault-amount_fault}
 
 -- an arc, as it is stored
 abbrev pub packed : Arc → PackedArc
 packed a = record { src = a.src; dst = a.dst; low = a.low; cap = a.cap; cost = a.cost }
-
-clamped_cost : (z : ℤ) → is_up_to limits.cost (clamped z) ≡ is_up_to limits.cost z
-clamped_cost (pos m) = grind arith
-clamped_cost (negsuc m) = grind arith
-
-clamped_cost_same : (z : ℤ) → is_up_to limits.cost z ≡ true → clamped z ≡ z
-clamped_cost_same (pos m) h = grind arith
-clamped_cost_same (negsuc m) h = grind arith
-
-pub first_of : (a b : Bool) → (a && b) ≡ true → a ≡ true
-first_of true b f = refl
-first_of false b f = cc
-
-pub last_of : (a b : Bool) → (a && b) ≡ true → b ≡ true
-last_of true b f = f
-last_of false b f = cc
 
 -- the faults of an arc line of `min` past its numbers
 abbrev min_faults : Heading → ℕ → ℤ → ℤ → ℤ → ℤ → ℤ → Option Code
@@ -56,18 +43,18 @@ unfolding arc_tests
 min_tests_read h arcs listed u v l c k small min = go (is_within (pos 1) (pos h.nodes) u) (is_within (pos 1) (pos h.nodes) v) refl refl
   where
     go : (x y : Bool) → is_within (pos 1) (pos h.nodes) u ≡ x → is_within (pos 1) (pos h.nodes) v ≡ y → MinReads h arcs listed u v l c k
-    go false y e f = rw (clamped_node h.nodes u small, e) refl
-    go true false e f = rw (clamped_node h.nodes u small, clamped_node h.nodes v small, e, f) refl
+    go false y e f = rw (is_within_count-clamped 1 h.nodes u (omega arith), e) refl
+    go true false e f = rw (is_within_count-clamped 1 h.nodes u (omega arith), is_within_count-clamped 1 h.nodes v (omega arith), e, f) refl
     go true true e f =
-        rw (within_small h.nodes u small e, within_small h.nodes v small f, e, f, clamped_amount l, clamped_amount c, clamped_cost k, min)
+        rw (clamped_count 1 h.nodes u (omega arith) e, clamped_count 1 h.nodes v (omega arith) f, e, f, unless_fault-amount_fault, is_up_to-clamped limits.bound l (omega arith), is_up_to-clamped limits.bound c (omega arith), is_up_to-clamped limits.cost k (omega arith), min)
         (ok_unless_test (not (is_up_to limits.bound l && is_up_to limits.bound c)) Bound _ _ _ (λ g.
-        let both : (is_up_to limits.bound l && is_up_to limits.bound c) ≡ true = unnot _ g in
-        let low : clamped l ≡ l = clamped_same l (first_of (is_up_to limits.bound l) _ both) in
-        let cap : clamped c ≡ c = clamped_same c (last_of (is_up_to limits.bound l) _ both) in
+        let both = and_parts (is_up_to limits.bound l) (is_up_to limits.bound c) (not-false _ g) in
+        let low : clamped l ≡ l = clamped_up_to limits.bound l (omega arith) both.0 in
+        let cap : clamped c ≡ c = clamped_up_to limits.bound c (omega arith) both.1 in
         rw (low, cap)
         (ok_unless_test (int_lt c l) Order _ _ _ (λ _.
         ok_unless_test (not (is_up_to limits.cost k)) Cost _ _ _ (λ i.
-        let cost : clamped k ≡ k = clamped_cost_same k (unnot _ i) in
+        let cost : clamped k ≡ k = clamped_up_to limits.cost k (omega arith) (not-false _ i) in
         rw cost
         (ok_unless_test (nat_le h.arcs arcs) Extra _ _ _ (λ _. refl)))))))
 
@@ -90,12 +77,12 @@ unfolding arc_tests
 asn_tests_read h arcs listed known u v k small asn flags = go (is_within (pos 1) (pos h.nodes) u) (is_within (pos 1) (pos h.nodes) v) refl refl
   where
     go : (x y : Bool) → is_within (pos 1) (pos h.nodes) u ≡ x → is_within (pos 1) (pos h.nodes) v ≡ y → AsnReads h arcs listed known u v k
-    go false y e f = rw (clamped_node h.nodes u small, e) refl
-    go true false e f = rw (clamped_node h.nodes u small, clamped_node h.nodes v small, e, f) refl
+    go false y e f = rw (is_within_count-clamped 1 h.nodes u (omega arith), e) refl
+    go true false e f = rw (is_within_count-clamped 1 h.nodes u (omega arith), is_within_count-clamped 1 h.nodes v (omega arith), e, f) refl
     go true true e f =
-        rw (within_small h.nodes u small e, within_small h.nodes v small f, e, f, clamped_cost k, asn, flags (natural u) (natural_low h.nodes u e) (natural_high h.nodes u e), flags (natural v) (natural_low h.nodes v f) (natural_high h.nodes v f))
+        rw (clamped_count 1 h.nodes u (omega arith) e, clamped_count 1 h.nodes v (omega arith) f, e, f, unless_fault-amount_fault, is_up_to-clamped limits.cost k (omega arith), asn, flags (natural u) (natural_low h.nodes u e) (natural_high h.nodes u e), flags (natural v) (natural_low h.nodes v f) (natural_high h.nodes v f))
         (ok_unless_test (not (is_up_to limits.cost k)) Cost _ _ _ (λ i.
-        let cost : clamped k ≡ k = clamped_cost_same k (unnot _ i) in
+        let cost : clamped k ≡ k = clamped_up_to limits.cost k (omega arith) (not-false _ i) in
         rw cost
         (ok_unless_test (nat_le h.arcs arcs) Extra _ _ _ (λ _.
         ok_unless_test (not (known (natural u)) || known (natural v)) Side _ _ _ (λ _. refl)))))

@@ -1,6 +1,6 @@
 -- What the line readers answer is the table's fault.
 use Rattle.std.proofs.Common.{◌≡◌, ℕ, Bool, true, false, not, cond, ◌&&◌, List, [], ◌∷◌, length, refl, sym, ◌∙◌, ap, subst, Some, None, Ok, Err, arith}
-use Rattle.std.specs.Prelude.{Option, Result, ℤ, pos, negsuc, bytes_eq, codes, slice_index_or, ◌==◌}
+use Rattle.std.specs.Prelude.{Option, Result, ℤ, pos, bytes_eq, codes, slice_index_or, ◌==◌}
 use Rattle.std.proofs.lemmas.Slice.Eq.{bytes_eq-Decides}
 use Rattle.mcf_instance.specs.declared.code.Code.{Code}
 use Rattle.mcf_instance.specs.declared.code.Code.TheVariants.{Size}
@@ -13,30 +13,15 @@ use Rattle.mcf_instance.specs.Limits.{limits, node_limit, arc_limit}
 use Rattle.mcf_instance.specs.Stands.{heading_of}
 use Rattle.mcf_instance.specs.declared.problem.Problem.{Problem as Format}
 use Rattle.mcf_instance.proofs.NodeLines.{ok_unless}
-use Rattle.mcf_instance.proofs.ArcLines.{four, first_of, last_of}
+use Rattle.mcf_instance.proofs.ArcLines.{four}
+use Rattle.mcf_instance.proofs.Ranges.{clamped_count, is_within_count-clamped}
+use Rattle.std.proofs.lemmas.Bool.{and_parts}
 use Rattle.mcf_instance.specs.LineReader.{clamped, problem_line, number_at, problem_at}
 
 -- the fault that a reader answers
 abbrev pub fault_of : {X : Type 0} → Result X Code → Option Code
 fault_of (Ok x) = None
 fault_of (Err e) = Some e
-
--- a range is_within the numbers that are kept
-pub within_nodes : (z : ℤ) → is_within (pos 0) (pos node_limit) (clamped z) ≡ is_within (pos 0) (pos node_limit) z
-within_nodes (pos n) = grind arith
-within_nodes (negsuc n) = grind arith
-
-pub within_arcs : (z : ℤ) → is_within (pos 0) (pos arc_limit) (clamped z) ≡ is_within (pos 0) (pos arc_limit) z
-within_arcs (pos n) = grind arith
-within_arcs (negsuc n) = grind arith
-
-within_nodes_same : (z : ℤ) → is_within (pos 0) (pos node_limit) z ≡ true → clamped z ≡ z
-within_nodes_same (pos n) h = grind arith
-within_nodes_same (negsuc n) h = grind arith
-
-within_arcs_same : (z : ℤ) → is_within (pos 0) (pos arc_limit) z ≡ true → clamped z ≡ z
-within_arcs_same (pos n) h = grind arith
-within_arcs_same (negsuc n) h = grind arith
 
 -- a problem line with these fields is read as the table says
 abbrev pub ReadsProblem : (lines : List Row) (n : ℕ) → List (List ℕ) → Type 0
@@ -47,11 +32,12 @@ sizes : (format : Format) (u v : ℤ) (b : Bool) → (is_within (pos 0) (pos nod
     → cond {A = Result Heading Code} (not (is_within (pos 0) (pos node_limit) (clamped u) && is_within (pos 0) (pos arc_limit) (clamped v))) (Err Size) (Ok (record { problem = format; nodes = natural (clamped u); arcs = natural (clamped v) }))
     ≡ ok_unless (cond (not (is_within (pos 0) (pos node_limit) u && is_within (pos 0) (pos arc_limit) v)) (Some Size) None)
     (heading_of (cond (is_within (pos 0) (pos node_limit) u && is_within (pos 0) (pos arc_limit) v) (record { problem = format; nodes = natural u; arcs = natural v }) (record { problem = Min; nodes = 0; arcs = 0 })))
-sizes format u v false e = rw (within_nodes, within_arcs, e) refl
+sizes format u v false e = rw (is_within_count-clamped 0 node_limit u (omega arith), is_within_count-clamped 0 arc_limit v (omega arith), e) refl
 sizes format u v true e =
-    let low : clamped u ≡ u = within_nodes_same u (first_of (is_within (pos 0) (pos node_limit) u) _ e) in
-    let high : clamped v ≡ v = within_arcs_same v (last_of (is_within (pos 0) (pos node_limit) u) _ e) in
-    rw (low, high, e) refl
+    let both = and_parts (is_within (pos 0) (pos node_limit) u) (is_within (pos 0) (pos arc_limit) v) e in
+    let nodes : clamped u ≡ u = clamped_count 0 node_limit u (omega arith) both.0 in
+    let arcs : clamped v ≡ v = clamped_count 0 arc_limit v (omega arith) both.1 in
+    rw (nodes, arcs, e) refl
 
 both_formats : (b : List ℕ) → bytes_eq b (codes "min") ≡ true → bytes_eq b (codes "asn") ≡ false
 both_formats b e = rw ((bytes_eq-Decides b (codes "min")).0 e) refl

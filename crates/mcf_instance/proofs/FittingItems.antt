@@ -1,8 +1,7 @@
 -- What a line of a good text says fits the state.
-use Rattle.std.proofs.Common.{◌≡◌, ℕ, ◌<◌, ◌≤◌, Bool, true, false, not, cond, ◌&&◌, ◌||◌, List, [], ◌∷◌, length, refl, Some, None, Ok, Err, arith}
-use Rattle.std.specs.Prelude.{Option, Result, ℤ, pos, neg_ℤ, ◌≤ℤ◌, bytes_eq, codes, slice_index_or, nat_lt, nat_le, int_lt, int_le, ◌==◌, is_some, IfOk}
+use Rattle.std.proofs.Common.{◌≡◌, ℕ, ◌<◌, ◌≤◌, Bool, true, false, not, cond, ◌&&◌, List, [], length, refl, sym, ◌∙◌, Some, None, Ok, Err, arith}
+use Rattle.std.specs.Prelude.{Option, Result, ℤ, pos, ◌≤ℤ◌, bytes_eq, codes, slice_index_or, nat_lt, nat_le, int_lt, ◌==◌, is_some, IfOk}
 use Rattle.std.proofs.lemmas.Int.{ints}
-use Rattle.std.proofs.lemmas.Bool.Decides.{nat_tests}
 use Rattle.std.proofs.lemmas.Result.{IfOk-at_ok}
 use Rattle.mcf_instance.specs.declared.arc.PackedArc.{PackedArc}
 use Rattle.mcf_instance.specs.declared.code.Code.{Code}
@@ -23,8 +22,10 @@ use Rattle.mcf_instance.specs.ReaderSound.{IsFlaggedPair, ItemFits, heading_arcs
 use Rattle.mcf_instance.specs.WellFormed.{HasEnds, IsArcWithinLimits, IsUpTo}
 use Rattle.mcf_text.specs.Row.{natural}
 use Rattle.mcf_text.specs.Whole.{is_within}
-use Rattle.mcf_instance.proofs.ArcLines.{first_of, last_of}
-use Rattle.mcf_instance.proofs.NodeLines.{natural_low, natural_high, natural_most, unnot}
+use Rattle.std.proofs.lemmas.Bool.{and_parts, eqb-true, ltb-false, leb-false, ne_eqb, not-false, or_parts}
+use Rattle.std.proofs.lemmas.List.{nil_from_length}
+use Rattle.mcf_instance.proofs.LineSteps.{unless_fault-amount_fault}
+use Rattle.mcf_instance.proofs.Ranges.{natural_low, natural_high, natural_most, up_to_is}
 
 -- ---- steps
 
@@ -50,12 +51,6 @@ if_ok_node h z f P k = go (is_within (pos 1) (pos h.nodes) z) refl
     go true e = rw e (k (natural z) (natural_low h.nodes z e) (natural_high h.nodes z e))
     go false e = rw e tt
 
-up_to_is : (b : ℕ) (z : ℤ) → is_up_to b z ≡ true → IsUpTo b z
-up_to_is b z e = (below (neg_ℤ (pos b)) z (first_of (int_le (neg_ℤ (pos b)) z) _ e), below z (pos b) (last_of (int_le (neg_ℤ (pos b)) z) _ e))
-  where
-    below : (x y : ℤ) → int_le x y ≡ true → x ≤ℤ y
-    below x y h = grind (arith, ints)
-
 not_above : (x y : ℤ) → int_lt y x ≡ false → x ≤ℤ y
 not_above x y h = grind (arith, ints)
 
@@ -74,13 +69,10 @@ problem_fits seen fields =
     if_ok_bind (number_at fields 3) _ (HeadingFound seen) (λ arcs.
     if_ok_test seen _ _ (HeadingFound seen) (λ unseen.
     if_ok_test (not (is_within (pos 0) (pos node_limit) nodes && is_within (pos 0) (pos arc_limit) arcs)) _ (Ok (record { problem = problem; nodes = natural nodes; arcs = natural arcs })) (HeadingFound seen) (λ sizes.
-    let both : (is_within (pos 0) (pos node_limit) nodes && is_within (pos 0) (pos arc_limit) arcs) ≡ true = unnot _ sizes in
-    (unseen, natural_most node_limit nodes (first_of (is_within (pos 0) (pos node_limit) nodes) _ both), natural_most arc_limit arcs (last_of (is_within (pos 0) (pos node_limit) nodes) _ both))))))))
+    let both = and_parts (is_within (pos 0) (pos node_limit) nodes) (is_within (pos 0) (pos arc_limit) arcs) (not-false _ sizes) in
+    (unseen, natural_most node_limit nodes both.0, natural_most arc_limit arcs both.1)))))))
 
 -- ---- node lines
-
-no_fewer : (n : ℕ) → nat_lt 0 n ≡ false → n ≡ 0
-no_fewer n h = grind (arith, nat_tests)
 
 -- what a node line must say
 abbrev NodeFits : Option Heading → ℕ → ℕ × ℤ → Type 0
@@ -93,16 +85,13 @@ node_tests_fit h arcs listed u z one =
     if_ok_test (nat_lt 0 arcs) _ _ (NodeFits (Some h) arcs) (λ early.
     if_ok_test (in_table listed v) _ _ (NodeFits (Some h) arcs) (λ _.
     if_ok_test (not (is_up_to limits.supply z)) _ _ (NodeFits (Some h) arcs) (λ small.
-    (low, high, no_fewer arcs early, up_to_is limits.supply z (unnot _ small), one)))))
+    (low, high, omega (arith, ltb-false 0 arcs early), up_to_is limits.supply z (not-false _ small), one)))))
 
 asn_node_numbers : (fields : List (List ℕ)) → (length fields == 3) ≡ false → IfOk (node_numbers fields) (λ n. n.1 ≡ pos 1)
 asn_node_numbers fields e = rw e (if_ok_bind (number_at fields 1) _ (λ n. n.1 ≡ pos 1) (λ _. refl))
 
-two_not_three : (n : ℕ) → (n == 2) ≡ true → (n == 3) ≡ false
-two_not_three n h = grind arith
-
-four_not_six : (n : ℕ) → (n == 4) ≡ true → (n == 6) ≡ false
-four_not_six n h = grind arith
+no_other_count : (n k m : ℕ) → (k ≡ m → ⊥) → (n == k) ≡ true → (n == m) ≡ false
+no_other_count n k m differ e = ne_eqb n m (λ is. differ (sym (eqb-true n k e) ∙ is))
 
 node_line_fits : (o : Option Heading) (arcs : ℕ) (listed : List Bool) (fields : List (List ℕ)) → IfOk (node_line limits o arcs listed fields) (NodeFits o arcs)
 unfolding node_line
@@ -118,7 +107,7 @@ node_line_fits (Some h) arcs listed fields = go h.problem refl
     at Asn =
         let g : Heading = record { problem = Asn; nodes = h.nodes; arcs = h.arcs } in
         if_ok_test (not (length fields == 2)) _ _ (NodeFits (Some g) arcs) (λ count.
-        if_ok_then (node_numbers fields) _ (λ n. n.1 ≡ pos 1) (NodeFits (Some g) arcs) (asn_node_numbers fields (two_not_three (length fields) (unnot _ count))) (λ n one. node_tests_fit g arcs listed n.0 n.1 one))
+        if_ok_then (node_numbers fields) _ (λ n. n.1 ≡ pos 1) (NodeFits (Some g) arcs) (asn_node_numbers fields (no_other_count (length fields) 2 3 (omega arith) (not-false _ count))) (λ n one. node_tests_fit g arcs listed n.0 n.1 one))
 
     go : (p : Format) → h.problem ≡ p → IfOk (node_line limits (Some h) arcs listed fields) (NodeFits (Some h) arcs)
     go p e = at h.problem
@@ -140,15 +129,9 @@ sides_fit h listed a unit right = at h.problem unit right
   where
     at : (p : Format) → OnAssignment p ((a.low ≡ pos 0) × (a.cap ≡ pos 1)) → is_wrong_side (record { problem = p; nodes = h.nodes; arcs = h.arcs }) listed a.src a.dst ≡ false → OnAssignment p (IsFlaggedPair listed a)
     at Min u r = tt
-    at Asn u r = record { from_flagged = left (in_table listed a.src) (in_table listed a.dst) r; to_unflagged = right_of (in_table listed a.src) (in_table listed a.dst) r; low_is = u.0; cap_is = u.1 }
-      where
-        left : (x y : Bool) → (not x || y) ≡ false → x ≡ true
-        left true y e = refl
-        left false y e = cc
-
-        right_of : (x y : Bool) → (not x || y) ≡ false → y ≡ false
-        right_of true y e = e
-        right_of false y e = cc
+    at Asn u r =
+        let parts = or_parts (not (in_table listed a.src)) (in_table listed a.dst) r in
+        record { from_flagged = not-false _ parts.0; to_unflagged = parts.1; low_is = u.0; cap_is = u.1 }
 
 arc_tests_fit : (h : Heading) (arcs : ℕ) (listed : List Bool) (a : ArcNumbers) → UnitBounds h.problem a → IfOk (arc_tests limits h arcs listed a) (ArcFits (Some h) arcs listed)
 unfolding arc_tests
@@ -156,26 +139,24 @@ arc_tests_fit h arcs listed a unit =
     let P : PackedArc → Type 0 = ArcFits (Some h) arcs listed in
     if_ok_node h a.src _ P (λ src src_low src_high.
     if_ok_node h a.dst _ P (λ dst dst_low dst_high.
-    if_ok_test (not (is_up_to limits.bound a.low && is_up_to limits.bound a.cap)) _ _ P (λ bounds.
-    let both : (is_up_to limits.bound a.low && is_up_to limits.bound a.cap) ≡ true = unnot _ bounds in
+    rw (unless_fault-amount_fault a.low a.cap a.cost)
+    (if_ok_test (not (is_up_to limits.bound a.low && is_up_to limits.bound a.cap)) _ _ P (λ bounds.
+    let both = and_parts (is_up_to limits.bound a.low) (is_up_to limits.bound a.cap) (not-false _ bounds) in
     if_ok_test (int_lt a.cap a.low) _ _ P (λ ordered.
     if_ok_test (not (is_up_to limits.cost a.cost)) _ _ P (λ cost.
     if_ok_test (nat_le h.arcs arcs) _ _ P (λ room.
     if_ok_test (is_wrong_side h listed src dst) _ _ P (λ sides.
     record {
-      room = more h.arcs arcs room;
+      room = leb-false h.arcs arcs room;
       ends = record { src_is_node = (src_low, src_high); dst_is_node = (dst_low, dst_high) };
       is_within = record {
         ordered = not_above a.low a.cap ordered;
-        low_small = up_to_is limits.bound a.low (first_of (is_up_to limits.bound a.low) _ both);
-        cap_small = up_to_is limits.bound a.cap (last_of (is_up_to limits.bound a.low) _ both);
-        cost_small = up_to_is limits.cost a.cost (unnot _ cost);
+        low_small = up_to_is limits.bound a.low both.0;
+        cap_small = up_to_is limits.bound a.cap both.1;
+        cost_small = up_to_is limits.cost a.cost (not-false _ cost);
       };
       assignment = sides_fit h listed (record { src = src; dst = dst; low = a.low; cap = a.cap; cost = a.cost }) unit sides;
-    })))))))
-  where
-    more : (m n : ℕ) → nat_le m n ≡ false → n < m
-    more m n e = grind (arith, nat_tests)
+    }))))))))
 
 asn_arc_numbers : (fields : List (List ℕ)) → (length fields == 6) ≡ false → IfOk (arc_numbers fields) (λ a. (a.low ≡ pos 0) × (a.cap ≡ pos 1))
 asn_arc_numbers fields e =
@@ -196,17 +177,13 @@ arc_line_fits (Some h) arcs listed fields = at h.problem
     at Asn =
         let g : Heading = record { problem = Asn; nodes = h.nodes; arcs = h.arcs } in
         if_ok_test (not (length fields == 4)) _ _ (ArcFits (Some g) arcs listed) (λ count.
-        if_ok_then (arc_numbers fields) _ (λ a. (a.low ≡ pos 0) × (a.cap ≡ pos 1)) (ArcFits (Some g) arcs listed) (asn_arc_numbers fields (four_not_six (length fields) (unnot _ count))) (λ a unit. arc_tests_fit g arcs listed a unit))
+        if_ok_then (arc_numbers fields) _ (λ a. (a.low ≡ pos 0) × (a.cap ≡ pos 1)) (ArcFits (Some g) arcs listed) (asn_arc_numbers fields (no_other_count (length fields) 4 6 (omega arith) (not-false _ count))) (λ a unit. arc_tests_fit g arcs listed a unit))
 
 -- ---- any line
 
 no_heading : (o : Option Heading) → is_some o ≡ false → o ≡ None
 no_heading None e = refl
 no_heading (Some h) e = cc
-
-no_items : {X : Type 0} (xs : List X) → length xs ≡ 0 → xs ≡ []
-no_items [] e = refl
-no_items (x ∷ xs) e = absurd (omega arith)
 
 if_ok_item : (s : StateData) (fields : List (List ℕ)) → IfOk (item_of limits s fields) (ItemFits limits s)
 unfolding item_of
@@ -219,7 +196,7 @@ if_ok_item s fields = go (bytes_eq (slice_index_or fields 0 []) (codes "p")) (by
         (λ h fit. record { first = no_heading s.heading fit.0; nodes_small = fit.1; arcs_small = fit.2 }))
     go false true a e f g =
         rw (e, f) (if_ok_then (node_line limits s.heading (length s.arcs) s.listed fields) _ _ (ItemFits limits s) (node_line_fits s.heading (length s.arcs) s.listed fields)
-        (λ n fit. record { low = fit.0; high = fit.1; before_arcs = no_items s.arcs fit.2; small = fit.3; assignment = fit.4 }))
+        (λ n fit. record { low = fit.0; high = fit.1; before_arcs = nil_from_length s.arcs fit.2; small = fit.3; assignment = fit.4 }))
     go false false true e f g =
         rw (e, f, g) (if_ok_then (arc_line limits s.heading (length s.arcs) s.listed fields) _ _ (ItemFits limits s) (arc_line_fits s.heading (length s.arcs) s.listed fields)
         (λ a fit. record { room = fit.room; ends = fit.ends; is_within = fit.is_within; assignment = fit.assignment }))

@@ -28,7 +28,8 @@ use Rattle.mcf_instance.proofs.Taken.{supply_said}
 pub flags_of : (s : StateData) (lines : List Row) → Holds s lines → (v : ℕ) → 1 ≤ v → v ≤ (header lines).nodes → in_table s.listed v ≡ is_listed lines v
 flags_of s lines h v low high = ap (λ xs. get_or xs (v - 1) false) h.listed_is ∙ get_or-map-range_with_len (is_listed lines) 1 (header lines).nodes (v - 1) v false (omega arith) (omega arith)
 
-arcs_of : (s : StateData) (lines : List Row) → Holds s lines → length s.arcs ≡ length (arc_lines lines)
+-- as many arcs as arc lines
+pub arcs_of : (s : StateData) (lines : List Row) → Holds s lines → length s.arcs ≡ length (arc_lines lines)
 arcs_of s lines h = sym (length-map s.arcs unpacked) ∙ ap length h.arcs_are ∙ length-map (arc_lines lines) (arc_of (header lines).problem)
 
 seen_of : (s : StateData) (lines : List Row) → Holds s lines → is_some s.heading ≡ has_p lines

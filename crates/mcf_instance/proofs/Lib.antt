@@ -20,6 +20,7 @@ pub mod NetSteps
 pub mod NodeLines
 pub mod NodeSums
 pub mod PackedArcs
+pub mod Ranges
 pub mod SameSets
 pub mod SevenFields
 pub mod Signed

@@ -1,10 +1,13 @@
 -- What a line says, past the test of its number of fields and the reading of its numbers.
-use Rattle.std.proofs.Common.{◌≡◌, ℕ, Bool, true, List, length, refl, Some, Ok}
-use Rattle.std.specs.Prelude.{Option, ℤ}
+use Rattle.std.proofs.Common.{◌≡◌, ℕ, Bool, true, false, not, cond, ◌&&◌, List, length, refl, ap, ◌∙◌, Some, None, Ok, Err}
+use Rattle.std.specs.Prelude.{Option, Result, ℤ, int_lt}
+use Rattle.mcf_instance.specs.declared.code.Code.{Code}
+use Rattle.mcf_instance.specs.declared.code.Code.TheVariants.{Bound, Order, Cost}
+use Rattle.mcf_instance.specs.Fault.{is_up_to}
 use Rattle.mcf_instance.specs.declared.reader.line.Heading.{Heading}
 use Rattle.mcf_instance.specs.declared.reader.line.ArcNumbers.{ArcNumbers}
 use Rattle.mcf_instance.specs.Limits.{limits}
-use Rattle.mcf_instance.specs.LineReader.{node_line, node_tests, node_count_fits, node_numbers, arc_line, arc_tests, arc_count_fits, arc_numbers}
+use Rattle.mcf_instance.specs.LineReader.{amount_fault, unless_fault, node_line, node_tests, node_count_fits, node_numbers, arc_line, arc_tests, arc_count_fits, arc_numbers}
 
 pub node_line_at : (o : Option Heading) (h : Heading) (arcs : ℕ) (listed : List Bool) (fields : List (List ℕ)) (a b : ℤ) → o ≡ Some h → node_count_fits o (length fields) ≡ true → node_numbers fields ≡ Ok (a, b) → node_line limits o arcs listed fields ≡ node_tests limits h arcs listed a b
 unfolding node_line
@@ -13,3 +16,17 @@ node_line_at o h arcs listed fields a b p q r = rw (q, r, p) refl
 pub arc_line_at : (o : Option Heading) (h : Heading) (arcs : ℕ) (listed : List Bool) (fields : List (List ℕ)) (a : ArcNumbers) → o ≡ Some h → arc_count_fits o (length fields) ≡ true → arc_numbers fields ≡ Ok a → arc_line limits o arcs listed fields ≡ arc_tests limits h arcs listed a
 unfolding arc_line
 arc_line_at o h arcs listed fields a p q r = rw (q, r, p) refl
+
+-- the tests of the bounds and the cost, one after the other
+unless_fault-cond : {X : Type 0} (b : Bool) (e : Code) (o : Option Code) (r : Result X Code) → unless_fault (cond b (Some e) o) r ≡ cond b (Err e) (unless_fault o r)
+unless_fault-cond true e o r = refl
+unless_fault-cond false e o r = refl
+
+pub unless_fault-amount_fault : {X : Type 0} (l c k : ℤ) (r : Result X Code) → unless_fault (amount_fault limits l c k) r
+    ≡ cond (not (is_up_to limits.bound l && is_up_to limits.bound c)) (Err Bound) (cond (int_lt c l) (Err Order) (cond (not (is_up_to limits.cost k)) (Err Cost) r))
+unfolding amount_fault
+unless_fault-amount_fault l c k r =
+    let costs = unless_fault-cond (not (is_up_to limits.cost k)) Cost None r in
+    let orders = unless_fault-cond (int_lt c l) Order _ r ∙ ap (cond (int_lt c l) (Err Order)) costs in
+    unless_fault-cond (not (is_up_to limits.bound l && is_up_to limits.bound c)) Bound _ r
+    ∙ ap (cond (not (is_up_to limits.bound l && is_up_to limits.bound c)) (Err Bound)) orders

@@ -1,8 +1,9 @@
 -- Memory is wanted only where the problem line names nodes.
 use Rattle.std.proofs.Common.{◌≡◌, ℕ, ◌≤◌, Bool, true, false, cond, List, [], ◌∷◌, ◌++◌, refl, sym, ◌∙◌, ap, subst, Some, None, Ok, Err, arith}
-use Rattle.std.specs.Prelude.{Option, Result, find, nat_lt}
+use Rattle.std.specs.Prelude.{Option, Result, find}
 use Rattle.std.specs.Option.{option_or, option_map_or}
-use Rattle.std.proofs.lemmas.Bool.Decides.{nat_tests}
+use Rattle.std.proofs.lemmas.Bool.{ltb-true}
+use Rattle.std.proofs.lemmas.List.{append_assoc}
 use Rattle.std.proofs.lemmas.List.Folds.{find-append}
 use Rattle.mcf_instance.specs.declared.code.Code.{Code}
 use Rattle.mcf_instance.specs.declared.reader.line.Item.{Item}
@@ -16,10 +17,7 @@ use Rattle.mcf_text.specs.Row.{Row, row_of, rows}
 use Rattle.mcf_instance.proofs.After.{after_item}
 use Rattle.mcf_instance.proofs.FittingItems.{item_fits}
 use Rattle.mcf_instance.proofs.LinesRead.{kept_rows, HasRead}
-use Rattle.mcf_instance.proofs.WholeTexts.{one_more, rows_joined}
-
-some_of_lt : (n : ℕ) → nat_lt 0 n ≡ true → 1 ≤ n
-some_of_lt n h = grind (arith, nat_tests)
+use Rattle.mcf_instance.proofs.WholeTexts.{rows_joined}
 
 seen_nodes : (lines : List Row) → 1 ≤ heading_nodes (heading_seen lines) → 1 ≤ (header lines).nodes
 seen_nodes lines h = go (has_p lines) h
@@ -46,7 +44,7 @@ step_names_nodes s lines row stands none grows = go (item_of limits s row.fields
     go (Ok (Supply v z)) is g = cc
     go (Ok (Problem h)) is g =
         let after = after_item s lines row (Problem h) (stands.holds none) is in
-        seen_nodes (lines ++ row ∷ []) (subst (λ o. 1 ≤ heading_nodes o) after.heading_is (some_of_lt h.nodes g))
+        seen_nodes (lines ++ row ∷ []) (subst (λ o. 1 ≤ heading_nodes o) after.heading_is (ltb-true 0 h.nodes g))
     go (Ok (Link a)) is g =
         let after = after_item s lines row (Link a) (stands.holds none) is in
         let fits : LinkFits limits s.heading s.listed s.arcs a = item_fits s row.fields (Link a) is in
@@ -58,5 +56,5 @@ pub text_names_nodes : (text : List ℕ) (s : StateData) (next : ℕ) (x : ℕ �
     → kept_rows (x ∷ rest) ≡ row_of x ∷ kept_rows rest → 1 ≤ (header (rows text)).nodes
 text_names_nodes text s next x rest h wants kept =
     let all : rows text ≡ (kept_rows h.before ++ row_of x ∷ []) ++ kept_rows rest =
-    rows_joined text h.before (x ∷ rest) h.joined ∙ ap (λ rs. kept_rows h.before ++ rs) kept ∙ one_more (kept_rows h.before) (row_of x) (kept_rows rest) in
+    rows_joined text h.before (x ∷ rest) h.joined ∙ ap (λ rs. kept_rows h.before ++ rs) kept ∙ sym (append_assoc (kept_rows h.before) (row_of x ∷ []) (kept_rows rest)) in
     subst (λ rs. 1 ≤ (header rs).nodes) (sym all) (more_lines (kept_rows h.before ++ row_of x ∷ []) (kept_rows rest) (wants (kept_rows h.before) h.stands))

@@ -1,5 +1,5 @@
 -- The nets of all nodes, as a loop over the arcs makes them: it adds each arc's flow at one end and takes it off at the other.
-use Rattle.std.proofs.Common.{◌≡◌, ◌≢◌, ℕ, ◌+◌, ◌-◌, ◌*◌, ◌^◌, ◌≤◌, ◌<◌, Bool, true, false, eqb, List, length, take, set, get_or, refl, ap, sym, ◌∙◌, arith, ℤ, pos, ◌+ℤ◌, ◌-ℤ◌, neg_ℤ, inl, inr, lit<, to_z, of_z, length-set, get_or-set_same, get_or-set_other}
+use Rattle.std.proofs.Common.{◌≡◌, ◌≢◌, ℕ, ◌+◌, ◌-◌, ◌*◌, ◌^◌, ◌≤◌, ◌<◌, eqb, List, length, take, set, get_or, refl, ap, sym, ◌∙◌, arith, ℤ, pos, ◌+ℤ◌, ◌-ℤ◌, neg_ℤ, inl, inr, lit<, to_z, of_z, length-set, get_or-set_same, get_or-set_other}
 use Rattle.std.specs.List.{All}
 use Rattle.std.proofs.lemmas.Int.{ints}
 use Rattle.std.proofs.lemmas.Bool.{eq-eqb, ne_eqb, cases_eq}
@@ -10,6 +10,7 @@ use Rattle.mcf_instance.specs.Limits.{arc_limit, wide_limits}
 use Rattle.mcf_instance.specs.Network.{IsNode, at_node, when}
 use Rattle.mcf_instance.specs.Flow.{CanCarry, IsWithinBounds, net, AreNets}
 use Rattle.mcf_instance.specs.WellFormed.{HasEnds, IsArcWithinLimits, IsUpTo}
+use Rattle.mcf_instance.proofs.NodeSums.{when-neg}
 use Rattle.mcf_instance.proofs.AllZips.{AllZip-at, length-AllZip}
 use Rattle.mcf_instance.proofs.ArcSums.{flow_sum_more}
 use Rattle.mcf_instance.proofs.Bounds.{IsPlaced, each_placed, flow_sum_up_to, flow_up_to, read_back, when_up_to}
@@ -25,10 +26,6 @@ add_at_node xs s v x d z hs hv e k =
           let q : (v - 1) ≢ (s - 1) = λ h. other (omega arith) in
           rw (ne_eqb s v other) (get_or-set_other xs (s - 1) (v - 1) z (pos 0) q ∙ omega (arith, ints))
     ]
-
-when-neg : (t : Bool) (f : ℤ) → when t (neg_ℤ f) ≡ neg_ℤ (when t f)
-when-neg true f = refl
-when-neg false f = refl
 
 -- the net of a node over one arc more
 pub net_more : (arcs : List Arc) (flow : List ℤ) (i : ℕ) (d : Arc) (e : ℤ) (v : ℕ) → i < length arcs → i < length flow → net (take (i + 1) arcs) flow v ≡ net (take i arcs) flow v +ℤ when (eqb (get_or arcs i d).src v) (get_or flow i e) -ℤ when (eqb (get_or arcs i d).dst v) (get_or flow i e)

@@ -1,6 +1,6 @@
 -- What the reader of node lines answers is the table's fault, or the node with its supply.
 use Rattle.std.proofs.Common.{◌≡◌, ℕ, ◌≤◌, Bool, true, false, not, cond, ◌&&◌, List, [], ◌∷◌, length, refl, sym, ◌∙◌, ap, subst, Some, None, Ok, Err, arith, nat_lt}
-use Rattle.std.specs.Prelude.{Option, Result, ℤ, pos, negsuc, slice_index_or, find, ◌==◌}
+use Rattle.std.specs.Prelude.{Option, Result, ℤ, pos, slice_index_or, find, ◌==◌}
 use Rattle.mcf_instance.specs.declared.code.Code.{Code}
 use Rattle.mcf_instance.specs.declared.code.Code.TheVariants.{Node, LateN, Twice, Supply}
 use Rattle.mcf_instance.specs.declared.problem.Problem.TheVariants.{Min, Asn}
@@ -13,6 +13,8 @@ use Rattle.mcf_instance.specs.Limits.{limits, node_limit}
 use Rattle.mcf_instance.specs.LineReader.{clamped, node_line, node_tests, number_at}
 use Rattle.std.specs.Option.{option_map_or}
 use Rattle.mcf_instance.specs.Stands.{heading_seen}
+use Rattle.std.proofs.lemmas.Bool.{and_parts, not-false}
+use Rattle.mcf_instance.proofs.Ranges.{clamped_count, clamped_up_to, is_up_to-clamped, is_within_count-clamped, natural_low, natural_high, natural_most}
 
 -- the value, unless there is a fault
 abbrev pub ok_unless : {X : Type 0} → Option Code → X → Result X Code
@@ -36,47 +38,6 @@ three (a ∷ b ∷ []) h = cc
 three (a ∷ b ∷ c ∷ []) h = (a, b, c, refl)
 three (a ∷ b ∷ c ∷ d ∷ xs) h = absurd (grind arith)
 
--- the numbers that are kept are those of small ranges
-pub clamped_node : (n : ℕ) (z : ℤ) → n ≤ node_limit → is_within (pos 1) (pos n) (clamped z) ≡ is_within (pos 1) (pos n) z
-clamped_node n (pos m) h = grind arith
-clamped_node n (negsuc m) h = grind arith
-
-pub clamped_amount : (z : ℤ) → is_up_to limits.bound (clamped z) ≡ is_up_to limits.bound z
-clamped_amount (pos m) = grind arith
-clamped_amount (negsuc m) = grind arith
-
-pub clamped_same : (z : ℤ) → is_up_to limits.bound z ≡ true → clamped z ≡ z
-clamped_same (pos m) h = grind arith
-clamped_same (negsuc m) h = grind arith
-
-pub within_small : (n : ℕ) (z : ℤ) → n ≤ node_limit → is_within (pos 1) (pos n) z ≡ true → clamped z ≡ z
-within_small n (pos m) h e = grind arith
-within_small n (negsuc m) h e = grind arith
-
-pub natural_low : (n : ℕ) (z : ℤ) → is_within (pos 1) (pos n) z ≡ true → 1 ≤ natural z
-natural_low n (pos m) e = grind arith
-natural_low n (negsuc m) e = grind arith
-
-pub natural_high : (n : ℕ) (z : ℤ) → is_within (pos 1) (pos n) z ≡ true → natural z ≤ n
-natural_high n (pos m) e = grind arith
-natural_high n (negsuc m) e = grind arith
-
-pub natural_most : (n : ℕ) (z : ℤ) → is_within (pos 0) (pos n) z ≡ true → natural z ≤ n
-natural_most n (pos m) e = grind arith
-natural_most n (negsuc m) e = grind arith
-
-pub unnot : (b : Bool) → not b ≡ false → b ≡ true
-unnot true e = refl
-unnot false e = cc
-
-clamped_supply : (z : ℤ) → is_up_to limits.supply (clamped z) ≡ is_up_to limits.supply z
-clamped_supply (pos m) = grind arith
-clamped_supply (negsuc m) = grind arith
-
-clamped_supply_same : (z : ℤ) → is_up_to limits.supply z ≡ true → clamped z ≡ z
-clamped_supply_same (pos m) h = grind arith
-clamped_supply_same (negsuc m) h = grind arith
-
 -- the tests of a node line by a heading
 pub node_tests_read : (h : Heading) (arcs : ℕ) (listed : List Bool) (known : ℕ → Bool) (u w : ℤ) → h.nodes ≤ node_limit
     → ((v : ℕ) → 1 ≤ v → v ≤ h.nodes → in_table listed v ≡ known v)
@@ -88,26 +49,18 @@ node_tests_read h arcs listed known u w small flags = go (is_within (pos 1) (pos
     go : (b : Bool) → is_within (pos 1) (pos h.nodes) u ≡ b
         → node_tests limits h arcs listed (clamped u) (clamped w)
         ≡ ok_unless (cond (not (is_within (pos 1) (pos h.nodes) u && true)) (Some Node) (cond (nat_lt 0 arcs) (Some LateN) (cond (known (natural u)) (Some Twice) (cond (not (is_up_to limits.supply w)) (Some Supply) None)))) (natural u, w)
-    go false e = rw (clamped_node h.nodes u small, e) refl
+    go false e = rw (is_within_count-clamped 1 h.nodes u (omega arith), e) refl
     go true e =
-        rw (within_small h.nodes u small e, e, flags (natural u) (natural_low h.nodes u e) (natural_high h.nodes u e), clamped_supply w)
+        rw (clamped_count 1 h.nodes u (omega arith) e, e, flags (natural u) (natural_low h.nodes u e) (natural_high h.nodes u e), is_up_to-clamped limits.supply w (omega arith))
         (ok_unless_test (nat_lt 0 arcs) LateN _ _ _ (λ _.
         ok_unless_test (known (natural u)) Twice _ _ _ (λ _.
         ok_unless_test (not (is_up_to limits.supply w)) Supply _ _ _ (λ f.
-        ap (λ x. Ok (natural u, x)) (clamped_supply_same w (unnot _ f))))))
+        ap (λ x. Ok (natural u, x)) (clamped_up_to limits.supply w (omega arith) (not-false _ f))))))
 
 -- a good problem line is of small sizes
 good_header_small : (row : Row) (b : Bool) → is_good_header row ≡ b → (header_of row).nodes ≤ node_limit
 good_header_small row false e = rw e (omega arith)
-good_header_small row true e = rw e (natural_most node_limit (number row 2) (first_of (is_within (pos 0) (pos node_limit) (number row 2)) _ (last_of _ (size_fits row) e)))
-  where
-    first_of : (a b : Bool) → (a && b) ≡ true → a ≡ true
-    first_of true b f = refl
-    first_of false b f = cc
-
-    last_of : (a b : Bool) → (a && b) ≡ true → b ≡ true
-    last_of true b f = f
-    last_of false b f = cc
+good_header_small row true e = rw e (natural_most node_limit (number row 2) (and_parts (is_within (pos 0) (pos node_limit) (number row 2)) _ (and_parts _ (size_fits row) e).1).0)
 
 found_header_small : (o : Option Row) → (option_map_or header_of o no_header).nodes ≤ node_limit
 found_header_small None = omega arith

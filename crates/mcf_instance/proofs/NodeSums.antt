@@ -1,5 +1,5 @@
 -- Laws of the sums over nodes, and what the nets of all nodes add up to.
-use Rattle.std.proofs.Common.{◌≡◌, ◌≢◌, ℕ, zero, suc, ◌+◌, ◌-◌, ◌<◌, eqb, Bool, true, false, List, [], ◌∷◌, add-one, get_or, refl, ap, sym, ◌∙◌, arith, ℤ, pos, ◌+ℤ◌, ◌-ℤ◌, ◌≤ℤ◌, ◌<ℤ◌, inl, inr}
+use Rattle.std.proofs.Common.{◌≡◌, ◌≢◌, ℕ, zero, suc, ◌+◌, ◌-◌, ◌<◌, eqb, Bool, true, false, List, [], ◌∷◌, add-one, get_or, refl, ap, sym, ◌∙◌, arith, ℤ, pos, ◌+ℤ◌, ◌-ℤ◌, ◌≤ℤ◌, ◌<ℤ◌, neg_ℤ, inl, inr}
 use Rattle.std.specs.List.{All}
 use Rattle.std.proofs.Math.IntN.{◌*ℤ◌}
 use Rattle.std.proofs.lemmas.Int.{ints}
@@ -88,6 +88,11 @@ indicator set v = when (set v) (pos 1)
 pub when-indicator : (t : Bool) (z : ℤ) → when t z ≡ when t (pos 1) *ℤ z
 when-indicator true z = omega (arith, ints)
 when-indicator false z = omega (arith, ints)
+
+-- a term turned
+pub when-neg : (t : Bool) (f : ℤ) → when t (neg_ℤ f) ≡ neg_ℤ (when t f)
+when-neg true f = refl
+when-neg false f = refl
 
 -- the sum over a set of a term that stands at one node alone
 pub node_sum-in : (set : ℕ → Bool) (s : ℕ) (f : ℤ) (n : ℕ) → IsNode n s → node_sum (λ v. when (set v) (when (eqb s v) f)) n ≡ when (set s) f

@@ -3,20 +3,19 @@ use Rattle.std.proofs.Common.{◌≡◌, ℕ, Bool, true, false, cond, List, [],
 use Rattle.std.specs.Prelude.{Option, Result, option_map, slice_get, is_some}
 use Rattle.std.specs.List.{cons_option}
 use Rattle.std.specs.Option.{option_or}
-use Rattle.std.proofs.lemmas.List.{map-append, length-map}
+use Rattle.std.proofs.lemmas.List.{map-append}
 use Rattle.std.proofs.lemmas.List.Elements.{filter_map-append}
 use Rattle.mcf_instance.specs.declared.code.Code.{Code}
 use Rattle.mcf_text.specs.Row.{Row, with_earlier}
 use Rattle.mcf_instance.specs.Fault.{Fault, as_fault, fault_at_end, fault_of_line, faults, first_fault_of_lines, has_p, header, arc_lines}
 use Rattle.mcf_instance.specs.Limits.{limits}
-use Rattle.mcf_instance.specs.Packed.{unpacked}
-use Rattle.mcf_instance.specs.Reading.{arc_of, instance_of_lines, reading_of}
+use Rattle.mcf_instance.specs.Reading.{instance_of_lines, reading_of}
 use Rattle.mcf_instance.specs.Stands.{heading_of, heading_seen, Holds, Stands}
 use Rattle.mcf_instance.specs.declared.reader.line.Item.{Item}
 use Rattle.mcf_instance.specs.ReaderState.{StateData, empty, item_of, with_item, with_outcome, after_row, refusal_after, end_fault, network_of, finished}
 use Rattle.mcf_instance.proofs.Faults.{fault_of}
 use Rattle.mcf_instance.proofs.NodeLines.{ok_unless}
-use Rattle.mcf_instance.proofs.Items.{item_said, item_reads}
+use Rattle.mcf_instance.proofs.Items.{arcs_of, item_said, item_reads}
 use Rattle.mcf_instance.proofs.After.{after_item}
 
 -- ---- one more line
@@ -53,10 +52,6 @@ same_fault s lines row h = ap fault_of (item_reads s lines row h) ∙ go (fault_
     go None = refl
     go (Some fault) = refl
 
--- a good line taken in
-pub holds_after : (s : StateData) (lines : List Row) (row : Row) (item : Item) → Holds s lines → item_of limits s row.fields ≡ Ok item → Holds (with_item s item) (lines ++ row ∷ [])
-holds_after s lines row item h e = after_item s lines row item h e
-
 -- ---- the end
 
 pub refusal_at_end : (s : StateData) (lines : List Row) (line : ℕ) → Stands limits s lines → refusal_after s line ≡ option_or (slice_get (faults limits lines) 0) (option_map (λ code. record { line = line; code = code }) (fault_at_end lines))
@@ -67,8 +62,7 @@ refusal_at_end s lines line h = go s.refusal refl
     go (Some r) e = rw (sym h.refusal_is, e) refl
     go None e =
         let held = h.holds e in
-        let count : length s.arcs ≡ length (arc_lines lines) = sym (length-map s.arcs unpacked) ∙ ap length held.arcs_are ∙ length-map (arc_lines lines) (arc_of (header lines).problem) in
-        rw (sym h.refusal_is, e, held.heading_is, count) (seen (has_p lines) refl)
+        rw (sym h.refusal_is, e, held.heading_is, arcs_of s lines held) (seen (has_p lines) refl)
       where
         seen : (b : Bool) → has_p lines ≡ b → option_map {U = Fault} (λ code. record { line = line; code = code }) (end_fault (heading_seen lines) (length (arc_lines lines))) ≡ option_map {U = Fault} (λ code. record { line = line; code = code }) (fault_at_end lines)
         seen true f = rw f refl
@@ -132,5 +126,5 @@ stands_after s lines row h = go s.refusal (item_of limits s row.fields) refl ref
         let fault : fault_of_line limits lines row ≡ None = sym (same_fault s lines row (h.holds e)) ∙ ap fault_of f in
         subst (λ t. Stands limits t (lines ++ row ∷ [])) (sym (after_judged s row (Ok item) e f)) record {
           refusal_is = keeps_refusal s item ∙ e ∙ sym (first_fault_more lines row ∙ ap (λ o. option_or o (as_fault limits (lines, row))) first ∙ refusal_at lines row None fault);
-          holds = λ none. holds_after s lines row item (h.holds e) f;
+          holds = λ none. after_item s lines row item (h.holds e) f;
         }

@@ -3,7 +3,7 @@ use Rattle.std.proofs.Common.{◌≡◌, ℕ, zero, suc, ◌-◌, ◌*◌, ◌�
 use Rattle.std.specs.Prelude.{◌⊎◌, Option, ℤ, pos, neg_ℤ, unsigned_abs, sum}
 use Rattle.std.specs.List.{All}
 use Rattle.std.proofs.lemmas.Int.{ints}
-use Rattle.std.proofs.lemmas.List.{length-map, length-set, length-replicate, map-append, map-set, get_or-map, length_push}
+use Rattle.std.proofs.lemmas.List.{length-map, length-set, length-replicate, map-append, map-set, get_or-map, length_push, nil_from_length}
 use Rattle.std.proofs.lemmas.List.Elements.{All-nil, All-replicate, All-set, All-push, All-weaker, All-map}
 use Rattle.std.proofs.lemmas.List.Sums.{sum_by-le, sum-map}
 use Rattle.std.proofs.Math.Nat.{mul-le-mul}
@@ -23,10 +23,6 @@ use Rattle.mcf_instance.specs.WellFormed.{HasEnds, IsArcWithinLimits, IsUpTo, Is
 use Rattle.mcf_instance.proofs.Bounds.{size_up_to}
 
 -- ---- a problem line
-
-no_arcs : (arcs : List PackedArc) → length arcs ≤ 0 → arcs ≡ []
-no_arcs [] h = refl
-no_arcs (a ∷ arcs) h = absurd (omega arith)
 
 map-replicate : {X Y : Type 0} (f : X → Y) (n : ℕ) (x : X) → map f (replicate n x) ≡ replicate n (f x)
 map-replicate f zero x = refl
@@ -58,7 +54,7 @@ pub sound_heading : (o : Option Heading) (listed : List Bool) (supplies : List �
     → IsSound limits (Some h) (replicate h.nodes false) (replicate h.nodes (default_supply h.problem)) arcs
 sound_heading o listed supplies arcs h sound fits =
     let none : length arcs ≤ heading_arcs None = subst (λ p. length arcs ≤ heading_arcs p) fits.first sound.arc_room in
-    subst (λ xs. IsSound limits (Some h) (replicate h.nodes false) (replicate h.nodes (default_supply h.problem)) xs) (sym (no_arcs arcs none)) (first_heading h fits.nodes_small fits.arcs_small)
+    subst (λ xs. IsSound limits (Some h) (replicate h.nodes false) (replicate h.nodes (default_supply h.problem)) xs) (sym (nil_from_length arcs (omega (arith, none)))) (first_heading h fits.nodes_small fits.arcs_small)
 
 -- ---- a node line
 

@@ -3,6 +3,8 @@ use Rattle.std.proofs.Common.{◌≡◌, ℕ, zero, suc, ◌+◌, ◌-◌, ◌�
 use Rattle.std.specs.Prelude.{Option, ℤ, pos, neg_ℤ, filter, find, slice_set, ◌==◌, ◌≢◌, replicate}
 use Rattle.std.specs.List.{list_any, range_with_len}
 use Rattle.std.specs.Option.{option_or, option_map_or}
+use Rattle.std.proofs.Math.Bool.{or-false}
+use Rattle.std.proofs.lemmas.Bool.{eq-eqb, ne_eqb, or_right}
 use Rattle.std.proofs.lemmas.List.{append-nil, map-append}
 use Rattle.std.proofs.lemmas.List.Elements.{filter-append}
 use Rattle.std.proofs.lemmas.List.Folds.{list_any-append, find-append}
@@ -21,10 +23,6 @@ option_or_none : {X : Type 0} (o : Option X) → option_or o None ≡ o
 option_or_none None = refl
 option_or_none (Some x) = refl
 
-or_false : (b : Bool) → (b || false) ≡ b
-or_false true = refl
-or_false false = refl
-
 -- ---- a line that is no problem line
 
 pub header-append_other : (lines : List Row) (row : Row) → is_p row ≡ false → header (lines ++ row ∷ []) ≡ header lines
@@ -32,7 +30,7 @@ header-append_other lines row e =
     ap (λ o. option_map_or header_of o no_header) (find-append is_p lines (row ∷ []) ∙ ap (λ b. option_or (find is_p lines) (cond b (Some row) None)) e ∙ option_or_none (find is_p lines))
 
 pub has_p-append_other : (lines : List Row) (row : Row) → is_p row ≡ false → has_p (lines ++ row ∷ []) ≡ has_p lines
-has_p-append_other lines row e = list_any-append is_p lines (row ∷ []) ∙ ap (λ b. has_p lines || (b || false)) e ∙ or_false (has_p lines)
+has_p-append_other lines row e = list_any-append is_p lines (row ∷ []) ∙ ap (λ b. has_p lines || (b || false)) e ∙ or-false (has_p lines)
 
 heading_seen-append_other : (lines : List Row) (row : Row) → is_p row ≡ false → heading_seen (lines ++ row ∷ []) ≡ heading_seen lines
 heading_seen-append_other lines row e = rw (has_p-append_other lines row e, header-append_other lines row e) refl
@@ -84,12 +82,6 @@ holds_link s lines row h some p n a =
 
 -- ---- a node line
 
-same_number : (v w : ℕ) → w ≢ v → (v == w) ≡ false
-same_number v w h = grind arith
-
-number_same : (v : ℕ) → (v == v) ≡ true
-number_same v = grind arith
-
 -- its node is listed, and each other as before
 listed_more : (lines : List Row) (row : Row) → is_n row ≡ true → (w : ℕ) → is_listed (lines ++ row ∷ []) w ≡ (is_listed lines w || (node row 1 == w || false))
 listed_more lines row n w =
@@ -98,14 +90,10 @@ listed_more lines row n w =
     ∙ list_any-append (λ x. x == w) (map (λ r. node r 1) (filter is_n lines)) (node row 1 ∷ [])
 
 listed_other : (lines : List Row) (row : Row) → is_n row ≡ true → (w : ℕ) → w ≢ node row 1 → is_listed lines w ≡ is_listed (lines ++ row ∷ []) w
-listed_other lines row n w h = sym (listed_more lines row n w ∙ ap (λ b. is_listed lines w || (b || false)) (same_number (node row 1) w h) ∙ or_false (is_listed lines w))
+listed_other lines row n w h = sym (listed_more lines row n w ∙ ap (λ b. is_listed lines w || (b || false)) (ne_eqb (node row 1) w (λ e. h (sym e))) ∙ or-false (is_listed lines w))
 
 listed_here : (lines : List Row) (row : Row) → is_n row ≡ true → is_listed (lines ++ row ∷ []) (node row 1) ≡ true
-listed_here lines row n = listed_more lines row n (node row 1) ∙ ap (λ b. is_listed lines (node row 1) || (b || false)) (number_same (node row 1)) ∙ or_true (is_listed lines (node row 1))
-  where
-    or_true : (b : Bool) → (b || true) ≡ true
-    or_true true = refl
-    or_true false = refl
+listed_here lines row n = listed_more lines row n (node row 1) ∙ ap (λ b. is_listed lines (node row 1) || (b || false)) (eq-eqb (node row 1) (node row 1) refl) ∙ or_right (is_listed lines (node row 1)) true refl
 
 -- no node line of a node that isn't listed
 not_found : (rows : List Row) (v : ℕ) → list_any (λ w. w == v) (map (λ row. node row 1) rows) ≡ false → find (λ row. node row 1 == v) rows ≡ None
@@ -130,13 +118,13 @@ supply_here : (f : Format) (lines : List Row) (row : Row) → is_n row ≡ true 
 supply_here Min lines row n e =
     supply_found lines row (node row 1) n
     ∙ ap (λ o. option_map_or (λ r. number r 2) (option_or o (cond (node row 1 == node row 1) (Some row) None)) (pos 0)) (not_found (filter is_n lines) (node row 1) e)
-    ∙ ap (λ b. option_map_or (λ r. number r 2) (cond b (Some row) None) (pos 0)) (number_same (node row 1))
+    ∙ ap (λ b. option_map_or (λ r. number r 2) (cond b (Some row) None) (pos 0)) (eq-eqb (node row 1) (node row 1) refl)
 supply_here Asn lines row n e = ap (λ b. cond b (pos 1) (neg_ℤ (pos 1))) (listed_here lines row n)
 
 supply_other : (f : Format) (lines : List Row) (row : Row) → is_n row ≡ true → (w : ℕ) → w ≢ node row 1 → supply_of f lines w ≡ supply_of f (lines ++ row ∷ []) w
 supply_other Min lines row n w h =
     sym (supply_found lines row w n
-    ∙ ap (λ b. option_map_or (λ r. number r 2) (option_or (find (λ r. node r 1 == w) (filter is_n lines)) (cond b (Some row) None)) (pos 0)) (same_number (node row 1) w h)
+    ∙ ap (λ b. option_map_or (λ r. number r 2) (option_or (find (λ r. node r 1 == w) (filter is_n lines)) (cond b (Some row) None)) (pos 0)) (ne_eqb (node row 1) w (λ e. h (sym e)))
     ∙ ap (λ o. option_map_or (λ r. number r 2) o (pos 0)) (option_or_none (find (λ r. node r 1 == w) (filter is_n lines))))
 supply_other Asn lines row n w h = ap (λ b. cond b (pos 1) (neg_ℤ (pos 1))) (listed_other lines row n w h)
 

@@ -1,9 +1,10 @@
 -- A whole text, read line by line.
-use Rattle.std.proofs.Common.{◌≡◌, ℕ, suc, ◌+◌, ◌≤◌, true, false, cond, List, [], ◌∷◌, ◌++◌, map, length, refl, sym, ◌∙◌, ap, subst, Some, Err, arith, length-append}
+use Rattle.std.proofs.Common.{◌≡◌, ℕ, ◌+◌, ◌≤◌, true, false, cond, List, [], ◌∷◌, ◌++◌, map, length, refl, sym, ◌∙◌, ap, subst, Some, Err, arith, length-append}
 use Rattle.std.specs.Prelude.{filter, slice_get}
 use Rattle.std.specs.List.{enumerate_from}
 use Rattle.std.specs.Option.{option_or}
-use Rattle.std.proofs.lemmas.List.{append-nil, map-append}
+use Rattle.std.proofs.lemmas.List.{append-nil, append_assoc, length_push, map-append}
+use Rattle.std.proofs.lemmas.List.FromFn.{length-enumerate_from}
 use Rattle.std.proofs.lemmas.List.Elements.{filter-append}
 use Rattle.mcf_instance.specs.Fault.{Fault, as_fault, faults, first_fault, first_fault_of_lines}
 use Rattle.mcf_instance.specs.Limits.{limits}
@@ -18,18 +19,6 @@ use Rattle.mcf_instance.proofs.LinesRead.{kept_rows, HasRead}
 use Rattle.mcf_instance.proofs.Simulation.{finished_reads, first_fault_more, stands_empty}
 
 -- ---- lists
-
-pub one_more : {X : Type 0} (xs : List X) (x : X) (ys : List X) → xs ++ x ∷ ys ≡ (xs ++ x ∷ []) ++ ys
-one_more [] x ys = refl
-one_more (z ∷ xs) x ys = ap (λ zs. z ∷ zs) (one_more xs x ys)
-
-length-append_one : {X : Type 0} (xs : List X) (x : X) → length (xs ++ x ∷ []) ≡ suc (length xs)
-length-append_one [] x = refl
-length-append_one (y ∷ ys) x = ap suc (length-append_one ys x)
-
-length-enumerate_from : {X : Type 0} (n : ℕ) (xs : List X) → length (enumerate_from n xs) ≡ length xs
-length-enumerate_from n [] = refl
-length-enumerate_from n (x ∷ xs) = ap suc (length-enumerate_from (n + 1) xs)
 
 -- the number of an item among numbered ones
 number_of_item : {X : Type 0} (n : ℕ) (xs : List X) (before : List (ℕ × X)) (m : ℕ) (x : X) (rest : List (ℕ × X)) → enumerate_from n xs ≡ before ++ (m, x) ∷ rest → m ≡ n + length before
@@ -71,10 +60,10 @@ pub read_kept : (text : List ℕ) (s t : StateData) (next : ℕ) (x : ℕ × Lis
     → ((lines : List Row) → Stands limits s lines → Stands limits t (lines ++ row_of x ∷ [])) → HasRead limits text t (x.0 + 1) rest
 read_kept text s t next x rest h kept step =
     let number = number_of_item 1 (lines_of text) h.before x.0 x.1 rest h.joined in
-    let long = length-append_one h.before x in
+    let long = length_push h.before x in
     record {
       before = h.before ++ x ∷ [];
-      joined = h.joined ∙ one_more h.before x rest;
+      joined = h.joined ∙ sym (append_assoc h.before (x ∷ []) rest);
       next_is = omega arith;
       stands = subst (Stands limits t) (sym (kept_rows-append h.before (x ∷ []) ∙ ap (λ rs. kept_rows h.before ++ rs) (kept_one x kept))) (step (kept_rows h.before) h.stands);
     }
@@ -82,10 +71,10 @@ read_kept text s t next x rest h kept step =
 pub read_unkept : (text : List ℕ) (s : StateData) (next : ℕ) (x : ℕ × List ℕ) (rest : List (ℕ × List ℕ)) → HasRead limits text s next (x ∷ rest) → is_kept x.1 ≡ false → HasRead limits text s (x.0 + 1) rest
 read_unkept text s next x rest h unkept =
     let number = number_of_item 1 (lines_of text) h.before x.0 x.1 rest h.joined in
-    let long = length-append_one h.before x in
+    let long = length_push h.before x in
     record {
       before = h.before ++ x ∷ [];
-      joined = h.joined ∙ one_more h.before x rest;
+      joined = h.joined ∙ sym (append_assoc h.before (x ∷ []) rest);
       next_is = omega arith;
       stands = subst (Stands limits s) (sym (kept_rows-append h.before (x ∷ []) ∙ ap (λ rs. kept_rows h.before ++ rs) (kept_none x unkept) ∙ append-nil (kept_rows h.before))) h.stands;
     }
@@ -95,7 +84,7 @@ read_unkept text s next x rest h unkept =
 first_fault_stays : (xs ys : List Row) (fault : Fault) → slice_get (faults limits xs) 0 ≡ Some fault → slice_get (faults limits (xs ++ ys)) 0 ≡ Some fault
 first_fault_stays xs [] fault e = ap (λ rs. slice_get (faults limits rs) 0) (append-nil xs) ∙ e
 first_fault_stays xs (y ∷ ys) fault e =
-    ap (λ rs. slice_get (faults limits rs) 0) (one_more xs y ys)
+    ap (λ rs. slice_get (faults limits rs) 0) (sym (append_assoc xs (y ∷ []) ys))
     ∙ first_fault_stays (xs ++ y ∷ []) ys fault (first_fault_more xs y ∙ ap (λ o. option_or o (as_fault limits (xs, y))) e)
 
 pub rows_joined : (text : List ℕ) (before rest : List (ℕ × List ℕ)) → numbered_lines 1 text ≡ before ++ rest → rows text ≡ kept_rows before ++ kept_rows rest

@@ -6,7 +6,8 @@ use Rattle.mcf_instance.specs.declared.code.Code.{Code}
 use Rattle.mcf_instance.specs.declared.code.Code.TheVariants.{Kind, Fields, Problem, Number, SecondP, BeforeP, Size, Node, LateN, Twice, Supply, Bound, Order, Cost, Extra, Side, NoP, Missing}
 use Rattle.mcf_instance.specs.Fault.{all_codes, code_of_word, code_word}
 
-code_of_word-code_word : (code : Code) → code_of_word (code_word code) ≡ Some code
+-- the code of its own word
+pub code_of_word-code_word : (code : Code) → code_of_word (code_word code) ≡ Some code
 code_of_word-code_word Kind = refl
 code_of_word-code_word Fields = refl
 code_of_word-code_word Problem = refl
@@ -26,7 +27,8 @@ code_of_word-code_word Side = refl
 code_of_word-code_word NoP = refl
 code_of_word-code_word Missing = refl
 
-find_passes : {X : Type 0} (p : X → Bool) (xs : List X) (x : X) → find p xs ≡ Some x → p x ≡ true
+-- what is found passes the test
+pub find_passes : {X : Type 0} (p : X → Bool) (xs : List X) (x : X) → find p xs ≡ Some x → p x ≡ true
 find_passes p [] x e = cc
 find_passes {X} p (y ∷ ys) x e = go (p y) refl (find_passes p ys x)
   where

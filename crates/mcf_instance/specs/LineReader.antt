@@ -101,16 +101,27 @@ arc_numbers fields =
 abbrev pub is_wrong_side : Heading → List Bool → ℕ → ℕ → Bool
 is_wrong_side h listed src dst = not (is_min h.problem) && (not (in_table listed src) || in_table listed dst)
 
+-- the first fault of the bounds and the cost of an arc
+unfoldable pub amount_fault : Limits → ℤ → ℤ → ℤ → Option Code
+amount_fault limits low cap cost =
+    if not (is_up_to limits.bound low && is_up_to limits.bound cap) then Some Bound
+    else (if int_lt cap low then Some Order
+    else (if not (is_up_to limits.cost cost) then Some Cost
+    else None))
+
+-- goes on where there is no fault
+abbrev pub unless_fault : {X : Type 0} → Option Code → Result X Code → Result X Code
+unless_fault None r = r
+unless_fault (Some e) r = Err e
+
 unfoldable pub arc_tests : Limits → Heading → ℕ → List Bool → ArcNumbers → Result PackedArc Code
 arc_tests limits h arcs listed a =
     checked_node h a.src >>= λ src.
     checked_node h a.dst >>= λ dst.
-    (if not (is_up_to limits.bound a.low && is_up_to limits.bound a.cap) then Err Bound
-    else (if int_lt a.cap a.low then Err Order
-    else (if not (is_up_to limits.cost a.cost) then Err Cost
-    else (if nat_le h.arcs arcs then Err Extra
+    unless_fault (amount_fault limits a.low a.cap a.cost)
+    (if nat_le h.arcs arcs then Err Extra
     else (if is_wrong_side h listed src dst then Err Side
-    else Ok (record { src = src; dst = dst; low = a.low; cap = a.cap; cost = a.cost }))))))
+    else Ok (record { src = src; dst = dst; low = a.low; cap = a.cap; cost = a.cost })))
 
 unfoldable pub arc_line : Limits → Option Heading → ℕ → List Bool → List (List ℕ) → Result PackedArc Code
 arc_line limits heading arcs listed fields =

@@ -3,7 +3,7 @@ ghost use Rattle.std.specs.Prelude.{◌≡◌, ◌≤ℤ◌, ◌<ℤ◌, map, le
 ghost use Rattle.mcf_instance.specs.Blocking.{in_table};
 ghost use Rattle.mcf_instance.specs.Fault.{is_up_to};
 ghost use Rattle.mcf_instance.specs.Limits.{limits};
-ghost use Rattle.mcf_instance.specs.LineReader.{number_at, problem_at, problem_line as problem_reading, node_count_fits as node_count_fits_lem, node_numbers as node_number_reading, node_tests as node_testing, checked_node, node_line as node_reading, arc_count_fits as arc_count_fits_lem, arc_numbers as arc_number_reading, is_wrong_side, arc_tests as arc_testing, arc_line as arc_reading};
+ghost use Rattle.mcf_instance.specs.LineReader.{number_at, problem_at, problem_line as problem_reading, node_count_fits as node_count_fits_lem, node_numbers as node_number_reading, node_tests as node_testing, checked_node, node_line as node_reading, arc_count_fits as arc_count_fits_lem, arc_numbers as arc_number_reading, is_wrong_side, amount_fault as amount_fault_lem, arc_tests as arc_testing, arc_line as arc_reading};
 ghost use Rattle.mcf_text.specs.Row.{natural};
 ghost use Rattle.mcf_text.specs.Whole.{is_within};
 
@@ -286,6 +286,23 @@ fn is_wrong_side(heading: Heading, listed: &[bool], src: u32, dst: u32) -> bool
     }
 }
 
+// The first fault of the bounds and the cost of an arc.
+#[tactic(auto, unfolding(crate::specs::LineReader::amount_fault))]
+fn amount_fault(low: i64, cap: i64, cost: i64) -> Option<Code>
+    ensures { result ≡ amount_fault_lem limits low cap cost }
+{
+    if !are_both_up_to(BOUND_LIMIT, low, cap) {
+        return Some(Code::Bound);
+    }
+    if cap < low {
+        return Some(Code::Order);
+    }
+    if !is_up_to(COST_LIMIT, cost) {
+        return Some(Code::Cost);
+    }
+    None
+}
+
 #[tactic(auto, unfolding(crate::specs::LineReader::arc_tests))]
 fn arc_tests(
     heading: Heading,
@@ -302,14 +319,8 @@ fn arc_tests(
 {
     let src = node_of(heading, src)?;
     let dst = node_of(heading, dst)?;
-    if !are_both_up_to(BOUND_LIMIT, low, cap) {
-        return Err(Code::Bound);
-    }
-    if cap < low {
-        return Err(Code::Order);
-    }
-    if !is_up_to(COST_LIMIT, cost) {
-        return Err(Code::Cost);
+    if let Some(fault) = amount_fault(low, cap, cost) {
+        return Err(fault);
     }
     if heading.arcs as usize <= arcs {
         return Err(Code::Extra);
