@@ -3,6 +3,7 @@ use Rattle.std.proofs.Common.{◌≡◌, ◌≢◌, ℕ, zero, suc, ◌<◌, ◌
 use Rattle.std.specs.List.{All, AllPairs, HoldsAt}
 use Rattle.std.proofs.lemmas.Int.{ints}
 use Rattle.std.proofs.lemmas.List.{get_or-drop}
+use Rattle.std.proofs.lemmas.List.Elements.{All-drop}
 use Rattle.mcf_instance.specs.Network.{Network, at_node}
 use Rattle.mcf_network.specs.declared.rid.Rid.{Rid}
 use Rattle.mcf_network.specs.Residual.{tail, head, unit_cost}
@@ -25,9 +26,6 @@ pub IsWalk-drop : (g : Network) (path : List Rid) (u w k : ℕ) (d : Rid) → Is
 IsWalk-drop g [] u w k d walk h = absurd (omega arith)
 IsWalk-drop g (q ∷ rest) u w zero d walk h = (refl, walk.1)
 IsWalk-drop g (q ∷ rest) u w (suc k) d walk h = IsWalk-drop g rest (head g q) w k d walk.1 (omega arith)
-
-All-drop_rids : (P : Rid → Type 0) (xs : List Rid) (k : ℕ) → All P xs → All P (drop k xs)
-All-drop_rids P xs k all i d h = rw (get_or-drop k xs i d) (all (k + i) d (omega (arith, length-drop k xs)))
 
 -- the price falls along a step
 pub step_falls : (l : Labels) (r : Rid) → IsLabelling l → IsStep l r → offer l r ≤ℤ at_node l.prices (tail l.flow.net r)
@@ -78,7 +76,7 @@ closed_negative l ok (r ∷ rest) u some walk steps =
 pub cycle_from_path : (l : Labels) (path : List Rid) (from u k : ℕ) → IsLabelling l → All (IsStep l) path → AllPairs (λ r q. tail l.flow.net r ≢ tail l.flow.net q) path → IsWalk l.flow.net from path u → k < length path → HoldsAt (λ r. tail l.flow.net r ≡ u) path k → IsNegativeCycle l.flow (drop k path)
 cycle_from_path l path from u k ok steps distinct walk h at =
     let no_rid : Rid = record { arc = 0; back = false } in
-    let rest_steps = All-drop_rids (IsStep l) path k steps in
+    let rest_steps = All-drop (IsStep l) k path steps in
     let rest = subst (λ v. IsWalk l.flow.net v (drop k path) u) (at no_rid) (IsWalk-drop l.flow.net path from u k no_rid walk h) in
     record {
       has_room = λ i d p. (rest_steps i d p).has_room;

@@ -60,8 +60,9 @@ module _ (l : Labels) (r : Rid) (ok : IsLabelling l) (room : HasRoom l.flow r) (
       let same : v - 1 ≡ tail l.flow.net r - 1 = ap (λ k. k - 1) e in
       get_or-set_at l.prices (tail l.flow.net r - 1) (v - 1) (offer l r) (pos 0) same (let t = from_in in omega (arith, t))
 
-  price_there : (v : ℕ) → 1 ≤ v → v ≢ tail l.flow.net r → at_node (lowered l r).prices v ≡ at_node l.prices v
-  price_there v low n =
+  -- other prices stay
+  pub lowered_other : (v : ℕ) → 1 ≤ v → v ≢ tail l.flow.net r → at_node (lowered l r).prices v ≡ at_node l.prices v
+  lowered_other v low n =
       elim (read_node l.prices (tail l.flow.net r) v (offer l r) (pos 0) from_in low) [
         | inl (e, w) ↦ absurd (n e)
         | inr (m, w) ↦ w
@@ -84,7 +85,7 @@ module _ (l : Labels) (r : Rid) (ok : IsLabelling l) (room : HasRoom l.flow r) (
 
   linked_there : (stamp : ℕ → ℕ) (clock : ℕ) → (v : ℕ) (q : Rid) → 1 ≤ v → v ≢ tail l.flow.net r → IsLink l stamp v q → IsLink (lowered l r) (stamped stamp clock) v q
   linked_there stamp clock v q h n link =
-      let same = price_there v h n in
+      let same = lowered_other v h n in
       record {
         from = link.from;
         has_room = link.has_room;
@@ -120,7 +121,7 @@ module _ (l : Labels) (r : Rid) (ok : IsLabelling l) (room : HasRoom l.flow r) (
         ];
         roots = λ v h is. elim (read_node l.links (tail l.flow.net r) v (Some r) None links_in h.0) [
           | inl (e, w) ↦ (cc)
-          | inr (n, w) ↦ (price_there v h.0 n ∙ old.roots v (old_node v h) (cc))
+          | inr (n, w) ↦ (lowered_other v h.0 n ∙ old.roots v (old_node v h) (cc))
         ];
       }
 
@@ -135,10 +136,7 @@ module _ (l : Labels) (r : Rid) (ok : IsLabelling l) (room : HasRoom l.flow r) (
         linked = lowered_linked;
       }
 
-  -- other prices stay, and none rises
-  pub lowered_other : (v : ℕ) → 1 ≤ v → v ≢ tail l.flow.net r → at_node (lowered l r).prices v ≡ at_node l.prices v
-  lowered_other v low n = price_there v low n
-
+  -- no price rises
   pub lowered_no_rise : (v : ℕ) → 1 ≤ v → at_node (lowered l r).prices v ≤ℤ at_node l.prices v
   lowered_no_rise v low =
       elim (read_node l.prices (tail l.flow.net r) v (offer l r) (pos 0) from_in low) [
@@ -175,7 +173,7 @@ module _ (l : Labels) (r : Rid) (ok : IsLabelling l) (room : HasRoom l.flow r) (
   pub lowered_respects : head l.flow.net r ≢ tail l.flow.net r → Respects l.flow (lowered l r).prices r
   lowered_respects n _ =
       let here = price_here (tail l.flow.net r) refl in
-      let there = price_there (head l.flow.net r) to_in.0 n in
+      let there = lowered_other (head l.flow.net r) to_in.0 n in
       omega (arith, ints, here, there)
 
 -- all prices 0 and no link

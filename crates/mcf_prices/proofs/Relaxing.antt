@@ -92,7 +92,7 @@ pub reversed : (q r : Rid) → q ≡ reverse r → reverse q ≡ r
 reversed q r e = ap reverse e ∙ reverse_twice r.arc r.back
 
 -- an empty list has no elements
-empty_lacks : (xs : List ℕ) (v : ℕ) → xs ≡ [] → Contains xs v → ⊥
+pub empty_lacks : (xs : List ℕ) (v : ℕ) → xs ≡ [] → Contains xs v → ⊥
 empty_lacks xs v none has =
     let h = has.1 in
     let z = ap (λ (ys : List ℕ). length ys) none in

@@ -18,7 +18,7 @@ use Rattle.mcf_prices.specs.Queues.{Waiting, IsQueue, no_queue}
 use Rattle.mcf_prices.specs.Recovering.{price_limit}
 use Rattle.mcf_prices.specs.Rounds.{IsHandled, IsProgress}
 use Rattle.mcf_feas.proofs.Marks.{count_small}
-use Rattle.mcf_prices.proofs.Relaxing.{progress_none}
+use Rattle.mcf_prices.proofs.Relaxing.{empty_lacks, progress_none}
 use Rattle.mcf_prices.proofs.Showing.{shows_from_respects}
 
 -- one progress after another
@@ -69,10 +69,7 @@ round_start l q waiting ok queue handled =
 -- what is contained in an empty list is empty
 empty_within : (xs ys : List ℕ) → ys ≡ [] → ((v : ℕ) → Contains xs v → Contains ys v) → xs ≡ []
 empty_within [] ys none within = refl
-empty_within (x ∷ xs) ys none within =
-    let h = (within x (0, omega arith, refl)).1 in
-    let z = ap (λ (zs : List ℕ). length zs) none in
-    absurd (omega (arith, h, z))
+empty_within (x ∷ xs) ys none within = absurd (empty_lacks ys x none (within x (0, omega arith, refl)))
 
 -- node w at place i relaxed the residual arcs that enter it
 pub round_next : (first now next : Labels) (before q q' : Waiting) (nodes : List ℕ) (i w : ℕ) → RoundAt first now before q nodes i → i < length nodes → w ≡ get_or nodes i w → IsProgress now next q q' cost_limit → ((r : Rid) → HasRoom now.flow r → head now.flow.net r ≡ w → IsHandled next q' r) → (q'.nodes ≡ [] → next.prices ≡ now.prices) → RoundAt first next before q' nodes (i + 1)
@@ -128,7 +125,7 @@ greatest_at_end l q ok none handled =
         not_above_zero = ok.not_above_zero;
         show_flow = shows_from_respects l.flow l.prices ok.flow (λ r room. elim (handled r room) [
           | inl respects ↦ respects room
-          | inr waits ↦ (let h = waits.1 in let z = ap (λ (xs : List ℕ). length xs) none in absurd (omega (arith, h, z)))
+          | inr waits ↦ absurd (empty_lacks q.nodes (head l.flow.net r) none waits)
         ]);
       };
       greatest = ok.above;

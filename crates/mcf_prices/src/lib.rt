@@ -12,8 +12,6 @@ mod laws;
 mod queue;
 mod recovered;
 mod search;
-#[cfg(test)]
-mod tests;
 
 pub use cancel::Cancel;
 pub use engine::{Engine, Outcome};

@@ -17,6 +17,8 @@ mod instances;
 #[cfg(test)]
 mod networks;
 #[cfg(test)]
+mod prices;
+#[cfg(test)]
 mod sets;
 #[cfg(test)]
 mod text;

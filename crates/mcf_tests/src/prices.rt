@@ -1,13 +1,13 @@
-//! Worked nets.
+//! Least flows of worked nets, by the plain engine and by a second one.
 ghost use Rattle.std.specs.Prelude.{◌≤◌, IfOk, OnErr, ⊤};
 ghost use Rattle.mcf_feas.specs.Feasible.{IsFeasibleState};
 ghost use Rattle.mcf_instance.specs.Network.{node_count};
 ghost use Rattle.mcf_prices.specs.Outcomes.{AreStatePrices, IsLeastState, IsOutcome};
 
-use crate::{Cancel, Engine, Outcome, Recovered, least_states_have_no_cycle, recover};
 use mcf_feas::{Feas, feasible};
 use mcf_instance::{Problem, read};
 use mcf_network::{Net, State, push_along};
+use mcf_prices::{Cancel, Engine, Outcome, Recovered, least_states_have_no_cycle, recover};
 use mcf_text::{ArcId, NoMemory};
 use std::alloc::Global;
 use std::test::Fail;
