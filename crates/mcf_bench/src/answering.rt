@@ -1,30 +1,39 @@
 //! Parses an answer, and writes it anew.
-use mcf_answer::{parse, write};
-use std::rt::Runtime;
-use std::time::Instant;
-use std::{fs, io};
+use crate::tell_time;
+use mcf_answer::{Answer, parse, write};
+use std::io;
+use std::time::{Duration, Instant};
 
-/// Reads a file whole, parses its text as an answer and writes that, and prints how many bytes came back
-/// and the seconds of both.
-pub fn run(rt: &(impl Runtime + AllocGlobal), path: &str) -> io::Result<()> {
-    let text = fs::read(rt, path)?;
+/// Parses a text as an answer and writes that, and prints how many bytes came back and the seconds of both.
+pub fn run(rt: &HostRuntime, text: &[u8]) -> io::Result<()> {
     let start = Instant::now(rt)?;
-    let parsed = parse(rt.alloc(), text.as_slice());
-    let parse_seconds = start.elapsed(rt)?;
-    let answer = match parsed {
-        Ok(Ok(answer)) => answer,
-        Ok(Err(shape)) => return println!(rt; "no answer at line {}", shape.line),
-        Err(_) => return println!(rt; "out of memory"),
-    };
+    let parsed = parse(rt.alloc(), text);
+    let time = start.elapsed(rt)?;
+    match parsed {
+        Ok(Ok(answer)) => run_on(rt, &answer, text, time),
+        Ok(Err(shape)) => println!(rt; "no answer at line {}", shape.line),
+        Err(_) => println!(rt; "out of memory"),
+    }
+}
+
+// Writes the answer of a text, which took this time to parse.
+fn run_on(rt: &HostRuntime, answer: &Answer, text: &[u8], parse_time: Duration) -> io::Result<()> {
+    let (bytes, is_same, write_time) = write_time(rt, answer, text)?;
+    println!(rt; "bytes {bytes} same {is_same}")?;
+    tell_time(rt, "parse_seconds", parse_time)?;
+    tell_time(rt, "seconds", parse_time.saturating_add(write_time))
+}
+
+// How many bytes an answer is written in, whether they are those of a text, and how long that takes.
+fn write_time(
+    rt: &HostRuntime,
+    answer: &Answer,
+    text: &[u8],
+) -> io::Result<(usize, bool, Duration)> {
     let mut out = Vec::new(rt.alloc());
     let start = Instant::now(rt)?;
-    let written = write(&answer, &mut out);
-    let write_seconds = start.elapsed(rt)?;
-    let is_same = written.is_ok() && out.as_slice() == text.as_slice();
-    println!(rt; "bytes {} same {}", out.len(), is_same)?;
-    println!(rt; "parse_seconds {:.6}", parse_seconds.as_secs_f64())?;
-    println!(rt;
-        "seconds {:.6}",
-        parse_seconds.as_secs_f64() + write_seconds.as_secs_f64()
-    )
+    let written = write(answer, &mut out);
+    let time = start.elapsed(rt)?;
+    let is_text = out.as_slice() == text;
+    Ok((out.len(), written.is_ok() && is_text, time))
 }

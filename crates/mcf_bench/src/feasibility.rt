@@ -1,32 +1,39 @@
 //! Finds a feasible flow.
-use crate::reading::instance_of;
+use crate::reading::net_of;
+use crate::tell_time;
 use mcf_feas::{Feas, feasible};
 use mcf_network::{Net, State};
 use mcf_text::{ArcId, NoMemory};
 use std::alloc::Global;
 use std::io;
-use std::rt::Runtime;
 use std::time::Instant;
 
-/// Reads the instance of a file, asks so many times for a feasible flow of its net, and prints what the last
+/// Reads a text as an instance, asks so many times for a feasible flow of its net, and prints what the last
 /// answer holds and the seconds of all.
-pub fn run(rt: &(impl Runtime + AllocGlobal), path: &str, times: u32) -> io::Result<()> {
-    let Some(instance) = instance_of(rt, path)? else {
-        return println!(rt; "no instance");
-    };
-    let Ok(net) = Net::of(rt.alloc(), &instance) else {
-        return println!(rt; "out of memory");
-    };
-    let start = Instant::now(rt)?;
-    let outcome = repeat(rt.alloc(), &net, times);
-    let seconds = start.elapsed(rt)?;
-    match outcome {
-        Ok(Some(Feas::Flow(state))) => println!(rt; "flow {}", weighted_total(&state))?,
-        Ok(Some(Feas::Blocked(set, _))) => println!(rt; "blocked {}", set.len())?,
-        Ok(None) => println!(rt; "nothing was asked")?,
-        Err(_) => println!(rt; "out of memory")?,
+pub fn run(rt: &HostRuntime, text: &[u8], times: u32) -> io::Result<()> {
+    match net_of(rt.alloc(), text) {
+        Some(net) => run_on(rt, &net, times),
+        None => println!(rt; "no net"),
     }
-    println!(rt; "seconds {:.6}", seconds.as_secs_f64())
+}
+
+// Asks so many times for a feasible flow of a net.
+fn run_on(rt: &HostRuntime, net: &Net, times: u32) -> io::Result<()> {
+    let start = Instant::now(rt)?;
+    let outcome = repeat(rt.alloc(), net, times);
+    let time = start.elapsed(rt)?;
+    tell(rt, outcome)?;
+    tell_time(rt, "seconds", time)
+}
+
+// Prints what an answer holds.
+fn tell(rt: &HostRuntime, outcome: Result<Option<Feas<'_>>, NoMemory>) -> io::Result<()> {
+    match outcome {
+        Ok(Some(Feas::Flow(state))) => println!(rt; "flow {}", weighted_total(&state)),
+        Ok(Some(Feas::Blocked(set, _))) => println!(rt; "blocked {}", set.len()),
+        Ok(None) => println!(rt; "nothing was asked"),
+        Err(_) => println!(rt; "out of memory"),
+    }
 }
 
 // The last of so many answers.

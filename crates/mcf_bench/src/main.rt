@@ -14,47 +14,96 @@ mod text;
 
 use mcf_text::{Whole, whole};
 use std::process::ExitCode;
-use std::{env, io};
+use std::time::{Duration, Instant};
+use std::{env, fs, io};
 
 const USAGE: &str =
     "usage: mcf_bench read|solve|text INSTANCE, answer ANSWER, check INSTANCE ANSWER, net|feasible INSTANCE [TIMES], or recover INSTANCE ANSWER [TIMES]";
 
+// A part that needs one file.
+#[derive(Clone, Copy)]
+enum Part {
+    Answer,
+    Feasible,
+    Net,
+    Read,
+    Solve,
+    Text,
+}
+
 fn main(rt: HostRuntime) -> io::Result<ExitCode> {
-    let mut words = env::args(&rt)?;
-    let _program = words.next();
-    let Some(part) = words.next() else {
+    let words = words(&rt)?;
+    if words.len() < 2 {
         println!(rt; "{USAGE}")?;
         return Ok(ExitCode::SUCCESS);
+    }
+    if run(&rt, &words)? {
+        return Ok(ExitCode::SUCCESS);
+    }
+    eprintln!(rt; "{USAGE}")?;
+    Ok(ExitCode::FAILURE)
+}
+
+// The words of the command line, the program's name first.
+fn words(rt: &HostRuntime) -> io::Result<Vec<String>> {
+    let words = env::args(rt)?.collect(rt.alloc())?;
+    Ok(words)
+}
+
+// Runs the part that the words name, and says whether they name one.
+fn run(rt: &HostRuntime, words: &[String]) -> io::Result<bool> {
+    let Some(part) = words.get(1) else {
+        return Ok(false);
     };
-    let Some(path) = words.next() else {
-        return refuse(&rt);
+    let Some(path) = words.get(2) else {
+        return Ok(false);
+    };
+    let more = words.get(3);
+    if let Some(part) = part_of(part.as_str()) {
+        run_on_file(rt, part, path.as_str(), times_of(more))?;
+        return Ok(true);
+    }
+    let Some(answer) = more else {
+        return Ok(false);
     };
     match part.as_str() {
-        "answer" => answering::run(&rt, path.as_str())?,
-        "check" => {
-            let Some(answer) = words.next() else {
-                return refuse(&rt);
-            };
-            judging::run(&rt, path.as_str(), answer.as_str())?;
-        }
-        "feasible" => feasibility::run(&rt, path.as_str(), times_of(words.next()))?,
-        "net" => networks::run(&rt, path.as_str(), times_of(words.next()))?,
-        "read" => reading::run(&rt, path.as_str())?,
-        "recover" => {
-            let Some(answer) = words.next() else {
-                return refuse(&rt);
-            };
-            recovering::run(&rt, path.as_str(), answer.as_str(), times_of(words.next()))?;
-        }
-        "solve" => solving::run(&rt, path.as_str())?,
-        "text" => text::run(&rt, path.as_str())?,
-        _ => return refuse(&rt),
+        "check" => judging::run(rt, path.as_str(), answer.as_str())?,
+        "recover" => recovering::run(rt, path.as_str(), answer.as_str(), times_of(words.get(4)))?,
+        _ => return Ok(false),
     }
-    Ok(ExitCode::SUCCESS)
+    Ok(true)
+}
+
+// The part of this name that needs one file.
+fn part_of(word: &str) -> Option<Part> {
+    match word {
+        "answer" => Some(Part::Answer),
+        "feasible" => Some(Part::Feasible),
+        "net" => Some(Part::Net),
+        "read" => Some(Part::Read),
+        "solve" => Some(Part::Solve),
+        "text" => Some(Part::Text),
+        _ => None,
+    }
+}
+
+// Reads a file whole, and runs a part on its text.
+fn run_on_file(rt: &HostRuntime, part: Part, path: &str, times: u32) -> io::Result<()> {
+    let start = Instant::now(rt)?;
+    let text = fs::read(rt, path)?;
+    let time = start.elapsed(rt)?;
+    match part {
+        Part::Answer => answering::run(rt, &text),
+        Part::Feasible => feasibility::run(rt, &text, times),
+        Part::Net => networks::run(rt, &text, times),
+        Part::Read => reading::run(rt, &text),
+        Part::Solve => solving::run(rt, &text),
+        Part::Text => text::run(rt, &text, time),
+    }
 }
 
 // How often a step is done: the number from 1 to 1,000 that a word says, or once.
-fn times_of(word: Option<String>) -> u32 {
+fn times_of(word: Option<&String>) -> u32 {
     let Some(word) = word else {
         return 1;
     };
@@ -64,8 +113,7 @@ fn times_of(word: Option<String>) -> u32 {
     }
 }
 
-// Words that name no part.
-fn refuse(rt: &impl Eprint) -> io::Result<ExitCode> {
-    eprintln!(rt; "{USAGE}")?;
-    Ok(ExitCode::FAILURE)
+// Prints a time as seconds, after their name.
+fn tell_time(rt: &HostRuntime, name: &str, time: Duration) -> io::Result<()> {
+    println!(rt; "{name} {:.6}", time.as_secs_f64())
 }

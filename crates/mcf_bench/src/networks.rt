@@ -1,11 +1,11 @@
 //! Builds the net of an instance, and goes over the residual arcs that leave each node.
 use crate::reading::instance_of;
+use crate::tell_time;
 use mcf_instance::Instance;
 use mcf_network::Net;
 use mcf_text::{NoMemory, NodeId};
 use std::alloc::Global;
 use std::io;
-use std::rt::Runtime;
 use std::time::Instant;
 
 // Nets that were built, and the sum over all of them of the nodes that their residual arcs enter.
@@ -15,25 +15,35 @@ struct Built {
     sum: u64,
 }
 
-/// Reads the instance of a file, builds its net so many times, goes over each net, and prints what it found
+/// Reads a text as an instance, builds its net so many times, goes over each net, and prints what it found
 /// and the seconds of building and going over all of them. The nets are all kept to the end.
-pub fn run(rt: &(impl Runtime + AllocGlobal), path: &str, times: u32) -> io::Result<()> {
-    let Some(instance) = instance_of(rt, path)? else {
-        return println!(rt; "no instance");
-    };
+pub fn run(rt: &HostRuntime, text: &[u8], times: u32) -> io::Result<()> {
+    match instance_of(rt.alloc(), text) {
+        Some(instance) => run_on(rt, &instance, times),
+        None => println!(rt; "no instance"),
+    }
+}
+
+// Builds the net of an instance so many times.
+fn run_on(rt: &HostRuntime, instance: &Instance, times: u32) -> io::Result<()> {
     let start = Instant::now(rt)?;
-    let outcome = build(rt.alloc(), &instance, times);
-    let seconds = start.elapsed(rt)?;
+    let outcome = build(rt.alloc(), instance, times);
+    let time = start.elapsed(rt)?;
+    tell(rt, instance, outcome)?;
+    tell_time(rt, "seconds", time)
+}
+
+// Prints what was built of an instance.
+fn tell(rt: &HostRuntime, instance: &Instance, outcome: Result<Built, NoMemory>) -> io::Result<()> {
     match outcome {
         Ok(built) => println!(rt;
             "nets {} arcs {} sum {}",
             built.nets.len(),
             instance.arc_count(),
             built.sum
-        )?,
-        Err(_) => println!(rt; "out of memory")?,
+        ),
+        Err(_) => println!(rt; "out of memory"),
     }
-    println!(rt; "seconds {:.6}", seconds.as_secs_f64())
 }
 
 // So many nets of an instance.

@@ -1,16 +1,23 @@
 //! Reads instances, and adds up what one holds.
-use mcf_instance::{Instance, read};
-use mcf_text::{ArcId, NodeId};
-use std::rt::Runtime;
+use crate::tell_time;
+use mcf_instance::{Instance, Refusal, read};
+use mcf_network::Net;
+use mcf_text::{ArcId, NoMemory, NodeId};
+use std::alloc::Global;
+use std::io;
 use std::time::Instant;
-use std::{fs, io};
 
-/// Reads a file whole, reads its text as an instance, and prints what that holds and the seconds of it.
-pub fn run(rt: &(impl Runtime + AllocGlobal), path: &str) -> io::Result<()> {
-    let text = fs::read(rt, path)?;
+/// Reads a text as an instance, and prints what that holds and the seconds of it.
+pub fn run(rt: &HostRuntime, text: &[u8]) -> io::Result<()> {
     let start = Instant::now(rt)?;
-    let outcome = read(rt.alloc(), text.as_slice());
-    let seconds = start.elapsed(rt)?;
+    let outcome = read(rt.alloc(), text);
+    let time = start.elapsed(rt)?;
+    tell(rt, outcome)?;
+    tell_time(rt, "seconds", time)
+}
+
+// Prints what an instance holds, or why there is none.
+fn tell(rt: &HostRuntime, outcome: Result<Result<Instance, Refusal>, NoMemory>) -> io::Result<()> {
     match outcome {
         Ok(Ok(instance)) => println!(rt;
             "nodes {} arcs {} sum {} supplies {}",
@@ -18,20 +25,24 @@ pub fn run(rt: &(impl Runtime + AllocGlobal), path: &str) -> io::Result<()> {
             instance.arc_count(),
             arc_total(&instance),
             supply_total(&instance)
-        )?,
-        Ok(Err(refusal)) => println!(rt; "refused {} {}", refusal.line, refusal.code.word())?,
-        Err(_) => println!(rt; "out of memory")?,
+        ),
+        Ok(Err(refusal)) => println!(rt; "refused {} {}", refusal.line, refusal.code.word()),
+        Err(_) => println!(rt; "out of memory"),
     }
-    println!(rt; "seconds {:.6}", seconds.as_secs_f64())
 }
 
-/// The instance of a file, if there is memory and its text is one.
-pub fn instance_of(rt: &(impl Runtime + AllocGlobal), path: &str) -> io::Result<Option<Instance>> {
-    let text = fs::read(rt, path)?;
-    match read(rt.alloc(), text.as_slice()) {
-        Ok(Ok(instance)) => Ok(Some(instance)),
-        _ => Ok(None),
+/// The instance of a text, if there is memory and it is one.
+pub fn instance_of(alloc: Global, text: &[u8]) -> Option<Instance> {
+    match read(alloc, text) {
+        Ok(Ok(instance)) => Some(instance),
+        _ => None,
     }
+}
+
+/// The net of the instance of a text, if there is memory and the text is one.
+pub fn net_of(alloc: Global, text: &[u8]) -> Option<Net> {
+    let instance = instance_of(alloc, text)?;
+    Net::of(alloc, &instance).ok()
 }
 
 // The sum of all numbers of the arcs.

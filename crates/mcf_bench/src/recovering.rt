@@ -3,51 +3,68 @@ ghost use Rattle.std.specs.Prelude.{◌≡◌};
 ghost use Rattle.mcf_instance.specs.Network.{IsArcNumber};
 
 use crate::reading::instance_of;
+use crate::tell_time;
 use mcf_answer::{Answer, Sent, parse};
+use mcf_instance::Instance;
 use mcf_network::{Net, Rid, State};
 use mcf_prices::{Recovered, recover};
 use mcf_text::{ArcId, NoMemory};
 use std::alloc::Global;
-use std::rt::Runtime;
 use std::time::Instant;
 use std::{fs, io};
 
 /// Reads the instance of a file and the answer of another, asks so many times for the prices of the state in
 /// which each arc has what the answer sends on it, and prints what the last result holds and the seconds of
 /// all.
-pub fn run(
-    rt: &(impl Runtime + AllocGlobal),
-    path: &str,
-    answer: &str,
-    times: u32,
-) -> io::Result<()> {
-    let Some(instance) = instance_of(rt, path)? else {
+pub fn run(rt: &HostRuntime, instance: &str, answer: &str, times: u32) -> io::Result<()> {
+    let instance = fs::read(rt, instance)?;
+    let answer = fs::read(rt, answer)?;
+    run_on_texts(rt, &instance, &answer, times)
+}
+
+// Recovers prices from the answer of a text for the instance of another.
+fn run_on_texts(rt: &HostRuntime, instance: &[u8], answer: &[u8], times: u32) -> io::Result<()> {
+    let Some(instance) = instance_of(rt.alloc(), instance) else {
         return println!(rt; "no instance");
     };
-    let text = fs::read(rt, answer)?;
-    let Ok(Ok(Answer::Flow(flow))) = parse(rt.alloc(), text.as_slice()) else {
-        return println!(rt; "no flow");
-    };
-    let Ok(net) = Net::of(rt.alloc(), &instance) else {
+    match parse(rt.alloc(), answer) {
+        Ok(Ok(Answer::Flow(flow))) => run_on(rt, &instance, flow.sent.as_slice(), times),
+        _ => println!(rt; "no flow"),
+    }
+}
+
+// Recovers prices from what is sent on the arcs of an instance.
+fn run_on(rt: &HostRuntime, instance: &Instance, sent: &[Sent], times: u32) -> io::Result<()> {
+    let Ok(net) = Net::of(rt.alloc(), instance) else {
         return println!(rt; "out of memory");
     };
-    let Ok(state) = state_of(rt.alloc(), &net, flow.sent.as_slice()) else {
-        return println!(rt; "out of memory");
-    };
+    match state_of(rt.alloc(), &net, sent) {
+        Ok(state) => run_from(rt, &state, times),
+        Err(_) => println!(rt; "out of memory"),
+    }
+}
+
+// Recovers prices from a state.
+fn run_from(rt: &HostRuntime, state: &State<'_>, times: u32) -> io::Result<()> {
     let start = Instant::now(rt)?;
-    let outcome = repeat(rt.alloc(), &state, times);
-    let seconds = start.elapsed(rt)?;
+    let outcome = repeat(rt.alloc(), state, times);
+    let time = start.elapsed(rt)?;
+    tell(rt, outcome)?;
+    tell_time(rt, "seconds", time)
+}
+
+// Prints what a result holds.
+fn tell(rt: &HostRuntime, outcome: Result<Option<Recovered>, NoMemory>) -> io::Result<()> {
     match outcome {
         Ok(Some(Recovered::Prices(prices))) => println!(rt;
             "prices {} sum {}",
             prices.len(),
             total(prices.as_slice())
-        )?,
-        Ok(Some(Recovered::Cycle(walk))) => println!(rt; "cycle {}", walk.len())?,
-        Ok(None) => println!(rt; "nothing was asked")?,
-        Err(_) => println!(rt; "out of memory")?,
+        ),
+        Ok(Some(Recovered::Cycle(walk))) => println!(rt; "cycle {}", walk.len()),
+        Ok(None) => println!(rt; "nothing was asked"),
+        Err(_) => println!(rt; "out of memory"),
     }
-    println!(rt; "seconds {:.6}", seconds.as_secs_f64())
 }
 
 // The state in which each arc has what is sent on it, if it has room for that.

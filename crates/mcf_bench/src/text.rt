@@ -4,10 +4,10 @@ ghost use Rattle.mcf_text.specs.Fields.{fields_of};
 ghost use Rattle.mcf_text.specs.Lines.{numbered_lines};
 ghost use Rattle.mcf_bench.specs.Tally.{capped, fields_in};
 
+use crate::tell_time;
 use mcf_text::{Whole, fields, lines, whole};
-use std::rt::Runtime;
-use std::time::Instant;
-use std::{fs, io};
+use std::io;
+use std::time::{Duration, Instant};
 
 // The whole numbers that are read: those of 18 digits or fewer.
 const LOW: i128 = -999_999_999_999_999_999;
@@ -23,20 +23,17 @@ struct Tally {
     sum: i128,
 }
 
-/// Reads a file whole, tallies it, and prints the tally and the seconds of both.
-pub fn run(rt: &impl Runtime, path: &str) -> io::Result<()> {
+/// Tallies a text that took this time to read, and prints the tally and the seconds of both.
+pub fn run(rt: &HostRuntime, text: &[u8], read_time: Duration) -> io::Result<()> {
     let start = Instant::now(rt)?;
-    let text = fs::read(rt, path)?;
-    let read = start.elapsed(rt)?;
-    let start = Instant::now(rt)?;
-    let tally = count(text.as_slice());
-    let split = start.elapsed(rt)?;
+    let tally = count(text);
+    let time = start.elapsed(rt)?;
     println!(rt;
         "lines {} fields {} numbers {} sum {}",
         tally.lines, tally.fields, tally.numbers, tally.sum
     )?;
-    println!(rt; "read_seconds {:.6}", read.as_secs_f64())?;
-    println!(rt; "seconds {:.6}", split.as_secs_f64())
+    tell_time(rt, "read_seconds", read_time)?;
+    tell_time(rt, "seconds", time)
 }
 
 // The tally of a text.
