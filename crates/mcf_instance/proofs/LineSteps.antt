@@ -1,13 +1,31 @@
 -- What a line says, past the test of its number of fields and the reading of its numbers.
-use Rattle.std.proofs.Common.{◌≡◌, ℕ, Bool, true, false, not, cond, ◌&&◌, List, length, refl, ap, ◌∙◌, Some, None, Ok, Err}
-use Rattle.std.specs.Prelude.{Option, Result, ℤ, int_lt}
+use Rattle.std.proofs.Common.{◌≡◌, ℕ, ◌+◌, Bool, true, false, not, cond, ◌&&◌, List, [], length, refl, ap, ◌∙◌, Some, None, Ok, Err}
+use Rattle.std.specs.Prelude.{Option, Result, ℤ, pos, neg_ℤ, int_lt, slice_index_or}
 use Rattle.mcf_instance.specs.declared.code.Code.{Code}
-use Rattle.mcf_instance.specs.declared.code.Code.TheVariants.{Bound, Order, Cost}
+use Rattle.mcf_instance.specs.declared.code.Code.TheVariants.{Bound, Order, Cost, Number}
+use Rattle.mcf_text.specs.Whole.{is_whole, whole_of, whole_value}
+use Rattle.mcf_text.specs.declared.number.Whole.{Whole}
+use Rattle.mcf_text.specs.declared.number.Whole.TheVariants.{Value, NotWhole, OutOfRange}
 use Rattle.mcf_instance.specs.Fault.{is_up_to}
 use Rattle.mcf_instance.specs.declared.reader.line.Heading.{Heading}
 use Rattle.mcf_instance.specs.declared.reader.line.ArcNumbers.{ArcNumbers}
 use Rattle.mcf_instance.specs.Limits.{limits}
-use Rattle.mcf_instance.specs.LineReader.{amount_fault, unless_fault, node_line, node_tests, node_count_fits, node_numbers, arc_line, arc_tests, arc_count_fits, arc_numbers}
+use Rattle.mcf_instance.specs.LineReader.{clamped, kept_size, number_at, amount_fault, unless_fault, node_line, node_tests, node_count_fits, node_numbers, arc_line, arc_tests, arc_count_fits, arc_numbers}
+
+-- what the reader makes of what a field says as a whole number among those that are kept
+abbrev pub number_read : Whole → Result ℤ Code
+number_read (Value z) = Ok z
+number_read NotWhole = Err Number
+number_read OutOfRange = Ok (pos (kept_size + 1))
+
+pub number_at-whole_of : (fields : List (List ℕ)) (k : ℕ) (f : List ℕ) → slice_index_or fields k [] ≡ f → number_at fields k ≡ number_read (whole_of f (neg_ℤ (pos kept_size)) (pos kept_size))
+unfolding number_at
+number_at-whole_of fields k f e = rw e (go (is_whole f) (is_up_to kept_size (whole_value f)) refl refl)
+  where
+    go : (b c : Bool) → is_whole f ≡ b → is_up_to kept_size (whole_value f) ≡ c → cond (is_whole f) (Ok (clamped (whole_value f))) (Err Number) ≡ number_read (whole_of f (neg_ℤ (pos kept_size)) (pos kept_size))
+    go false c g h = rw g refl
+    go true true g h = rw (g, h) refl
+    go true false g h = rw (g, h) refl
 
 pub node_line_at : (o : Option Heading) (h : Heading) (arcs : ℕ) (listed : List Bool) (fields : List (List ℕ)) (a b : ℤ) → o ≡ Some h → node_count_fits o (length fields) ≡ true → node_numbers fields ≡ Ok (a, b) → node_line limits o arcs listed fields ≡ node_tests limits h arcs listed a b
 unfolding node_line

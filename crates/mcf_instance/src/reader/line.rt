@@ -1,8 +1,8 @@
 //! What one line says: the tests of its fields, in the order in which faults are looked for.
-ghost use Rattle.std.specs.Prelude.{◌≡◌, ◌≤ℤ◌, ◌<ℤ◌, map, length, bytes_eq, codes, pos, ◌<◌, ◌^◌, ◌≤◌, ◌⊎◌, ◌&&◌, IfSome, IfOk};
+ghost use Rattle.std.specs.Prelude.{◌≡◌, ◌≤ℤ◌, ◌<ℤ◌, map, length, bytes_eq, codes, pos, ◌<◌, ◌^◌, ◌≤◌, ◌&&◌, IfSome, IfOk};
 ghost use Rattle.mcf_instance.specs.Blocking.{in_table};
 ghost use Rattle.mcf_instance.specs.Fault.{is_up_to};
-ghost use Rattle.mcf_instance.specs.Limits.{limits};
+ghost use Rattle.mcf_instance.specs.Limits.{arc_limit, limits, node_limit};
 ghost use Rattle.mcf_instance.specs.LineReader.{number_at, problem_at, problem_line as problem_reading, node_count_fits as node_count_fits_lem, node_numbers as node_number_reading, node_tests as node_testing, checked_node, node_line as node_reading, arc_count_fits as arc_count_fits_lem, arc_numbers as arc_number_reading, is_wrong_side, amount_fault as amount_fault_lem, arc_tests as arc_testing, arc_line as arc_reading};
 ghost use Rattle.mcf_text.specs.Row.{natural};
 ghost use Rattle.mcf_text.specs.Whole.{is_within};
@@ -93,6 +93,12 @@ fn problem_of(word: &[u8]) -> Result<Problem, Code>
     }
 }
 
+fn sizes_fit(nodes: i64, arcs: i64) -> bool
+    ensures { result ≡ is_within (pos 0) (pos node_limit) nodes && is_within (pos 0) (pos arc_limit) arcs }
+{
+    is_within(0, NODE_LIMIT, nodes) && is_within(0, ARC_LIMIT, arcs)
+}
+
 #[tactic(auto, unfolding(crate::specs::LineReader::problem_line))]
 pub(crate) fn problem_line(is_seen: bool, fields: &[&[u8]]) -> Result<Heading, Code>
     ensures { result ≡ problem_reading is_seen (map (λ f. f.now) fields.now) }
@@ -106,7 +112,7 @@ pub(crate) fn problem_line(is_seen: bool, fields: &[&[u8]]) -> Result<Heading, C
     if is_seen {
         return Err(Code::SecondP);
     }
-    if !(is_within(0, NODE_LIMIT, nodes) && is_within(0, ARC_LIMIT, arcs)) {
+    if !sizes_fit(nodes, arcs) {
         return Err(Code::Size);
     }
     Ok(Heading {
@@ -170,7 +176,7 @@ fn node_count_fits(heading: Option<Heading>, count: usize) -> bool
 }
 
 fn node_numbers(fields: &[&[u8]]) -> Result<(i64, i64), Code>
-    requires { (length fields.now ≡ 2) ⊎ (length fields.now ≡ 3) }
+    requires { 2 ≤ length fields.now }
     ensures { result ≡ node_number_reading (map (λ f. f.now) fields.now) }
 {
     let node = number_of(fields, 1)?;
@@ -248,7 +254,7 @@ fn arc_count_fits(heading: Option<Heading>, count: usize) -> bool
 }
 
 fn arc_numbers(fields: &[&[u8]]) -> Result<ArcNumbers, Code>
-    requires { (length fields.now ≡ 4) ⊎ (length fields.now ≡ 6) }
+    requires { 4 ≤ length fields.now }
     ensures { result ≡ arc_number_reading (map (λ f. f.now) fields.now) }
 {
     let src = number_of(fields, 1)?;

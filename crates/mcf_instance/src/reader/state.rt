@@ -62,13 +62,14 @@ impl State {
         requires { 1 ≤ length fields.now }
         ensures { result ≡ item_of limits self.now (map (λ f. f.now) fields.now) }
     {
-        if is_word(fields[0], b"p") {
+        let word = fields[0];
+        if is_word(word, b"p") {
             let heading = problem_line(self.heading.is_some(), fields)?;
             Ok(Item::Problem(heading))
-        } else if is_word(fields[0], b"n") {
+        } else if is_word(word, b"n") {
             let (node, supply) = node_line(self.heading, self.arcs.len(), &self.listed, fields)?;
             Ok(Item::Supply(node, supply))
-        } else if is_word(fields[0], b"a") {
+        } else if is_word(word, b"a") {
             let arc = arc_line(self.heading, self.arcs.len(), &self.listed, fields)?;
             Ok(Item::Link(arc))
         } else {
