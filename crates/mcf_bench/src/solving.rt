@@ -2,7 +2,7 @@
 use mcf_instance::{Instance, read};
 use mcf_network::Net;
 use mcf_prices::{Cancel, Engine};
-use mcf_suite::{Choice, Kind, solve_text};
+use mcf_solver::{Choice, Kind, solve_text};
 use std::rt::Runtime;
 use std::time::{Duration, Instant};
 use std::{fs, io};

@@ -17,6 +17,10 @@ mod instances;
 #[cfg(test)]
 mod networks;
 #[cfg(test)]
+mod running;
+#[cfg(test)]
 mod sets;
+#[cfg(test)]
+mod solving;
 #[cfg(test)]
 mod text;
