@@ -3,7 +3,7 @@ use crate::reading::net_of;
 use crate::tell_time;
 use mcf_network::Net;
 use mcf_prices::{Cancel, Engine};
-use mcf_suite::{Choice, Kind, solve_text};
+use mcf_solver::{Choice, Kind, solve_text};
 use std::io;
 use std::time::{Duration, Instant};
 

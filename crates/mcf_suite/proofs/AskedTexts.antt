@@ -4,8 +4,8 @@ use Rattle.std.specs.Prelude.{option_map}
 use Rattle.clap.specs.Words.{Text, fault_of, first_of, subcommand_of, takes}
 use Rattle.clap.specs.declared.error.kind.ErrorKind.TheVariants.{DisplayHelp, InvalidValue, MissingSubcommand, UnknownArgument}
 use Rattle.clap.proofs.OnLiterals.{clap_on_literals}
-use Rattle.mcf_suite.specs.declared.choice.EngineChoice.{EngineChoice}
-use Rattle.mcf_suite.specs.declared.choice.EngineChoice.TheVariants.{Auto, Cancel}
+use Rattle.mcf_solver.specs.declared.choice.EngineChoice.{EngineChoice}
+use Rattle.mcf_solver.specs.declared.choice.EngineChoice.TheVariants.{Auto, Cancel}
 use Rattle.mcf_suite.specs.Asking.{engine_by, mcf_app}
 use Rattle.mcf_suite.proofs.AskedLemmas.{some_names}
 

@@ -1,11 +1,3 @@
 pub mod AskedLemmas
 pub mod AskedTexts
-pub mod BlockingNodes
-pub mod DeviceLaws
-pub mod LeastSolutions
-pub mod LoopFlows
-pub mod MemberLists
-pub mod SentLists
 pub mod ServedLemmas
-pub mod SupplyTotals
-pub mod WantedMemory

@@ -9,8 +9,8 @@ use Rattle.clap.specs.declared.builder.value_parser.ValueParser.TheVariants as p
 use Rattle.clap.specs.declared.error.Error.{Error}
 use Rattle.clap.specs.declared.error.kind.ErrorKind.TheVariants.{OutOfMemory}
 use Rattle.mcf_suite.specs.declared.asking.Asked.{Asked}
-use Rattle.mcf_suite.specs.declared.choice.EngineChoice.{EngineChoice}
-use Rattle.mcf_suite.specs.declared.choice.EngineChoice.TheVariants.{Auto, Cancel}
+use Rattle.mcf_solver.specs.declared.choice.EngineChoice.{EngineChoice}
+use Rattle.mcf_solver.specs.declared.choice.EngineChoice.TheVariants.{Auto, Cancel}
 
 -- the names of the engines
 abbrev pub engine_names : List Text

@@ -1,14 +1,14 @@
-pub use Rattle.mcf_answer.specs.Spelling
-pub use Rattle.mcf_answer.specs.Written
-pub use Rattle.mcf_checker.specs.Correct
-pub use Rattle.mcf_checker.specs.Judging
-pub use Rattle.mcf_feas.specs.Chosen as ChosenBlocks
-pub use Rattle.mcf_instance.specs.Flow
-pub use Rattle.mcf_instance.specs.Limits
-pub use Rattle.mcf_instance.specs.Reading
-pub mod Answering
+pub use Rattle.mcf_solver.specs.Answering
+pub use Rattle.mcf_solver.specs.Chosen
+pub use Rattle.mcf_solver.specs.ChosenBlocks
+pub use Rattle.mcf_solver.specs.Correct
+pub use Rattle.mcf_solver.specs.Devices
+pub use Rattle.mcf_solver.specs.Flow
+pub use Rattle.mcf_solver.specs.Judging
+pub use Rattle.mcf_solver.specs.Limits
+pub use Rattle.mcf_solver.specs.Reading
+pub use Rattle.mcf_solver.specs.Running
+pub use Rattle.mcf_solver.specs.Spelling
+pub use Rattle.mcf_solver.specs.Written
 pub mod Asking
-pub mod Chosen
-pub mod Devices
-pub mod Running
 pub mod Serving

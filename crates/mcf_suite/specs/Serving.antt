@@ -5,11 +5,11 @@ use Rattle.std.specs.Io.KnownBytes.{Appends}
 use Rattle.clap.specs.Words.{App, IsAmong, Text, fault_of}
 use Rattle.clap.specs.declared.error.kind.ErrorKind.TheVariants.{DisplayHelp}
 use Rattle.mcf_suite.specs.declared.asking.Asked.{Asked}
-use Rattle.mcf_suite.specs.declared.choice.Kind.{Kind}
-use Rattle.mcf_suite.specs.declared.choice.Kind.TheVariants.{Flow, Blocked, Refused}
-use Rattle.mcf_suite.specs.declared.fault.RunFault.{RunFault}
+use Rattle.mcf_solver.specs.declared.choice.Kind.{Kind}
+use Rattle.mcf_solver.specs.declared.choice.Kind.TheVariants.{Flow, Blocked, Refused}
+use Rattle.mcf_solver.specs.declared.fault.RunFault.{RunFault}
 use Rattle.mcf_suite.specs.Asking.{Asks, IsMcf}
-use Rattle.mcf_suite.specs.Running.{SendsAnswer, fault_text}
+use Rattle.mcf_solver.specs.Running.{SendsAnswer, fault_text}
 
 -- the status that tells of an answer
 abbrev pub status_of : Kind → ℕ

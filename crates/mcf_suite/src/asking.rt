@@ -4,8 +4,8 @@ ghost use Rattle.clap.specs.Words.{app_of, shape_of};
 ghost use Rattle.clap.specs.declared.builder.command.Command.TheViews.{out-Command};
 ghost use Rattle.mcf_suite.specs.Asking.{IsMcf, IsReading, IsSolve, engine_by};
 
-use crate::choice::{Choice, EngineChoice};
 use clap::{Arg, Command, Error};
+use mcf_solver::{Choice, EngineChoice};
 use std::alloc::{AllocError, Global};
 use std::convert::AsStr;
 

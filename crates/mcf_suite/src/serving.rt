@@ -3,16 +3,13 @@ ghost use Rattle.std.specs.Prelude.{◌≡◌, ◌≢◌, ◌≤◌, ◌⊎◌, 
 ghost use Rattle.std.specs.Fn.{FnOnceReturnsAt};
 ghost use Rattle.std.specs.Io.KnownBytes.{Appends};
 ghost use Rattle.clap.specs.Words.{kind_of};
-ghost use Rattle.mcf_suite.specs.Devices.{CountsOneFailure};
+ghost use Rattle.mcf_solver.specs.Devices.{CountsOneFailure};
 ghost use Rattle.mcf_suite.specs.Serving.{GivesBytes, Serves, fault_line, status_of};
 
 use crate::asking::command;
-use crate::choice::Kind;
-use crate::device::{Sink, Source};
-use crate::fault::RunFault;
-use crate::running::{run, send};
 use clap::Error;
 use clap::error::ErrorKind;
+use mcf_solver::{Kind, RunFault, Sink, Source, run, send};
 use std::alloc::{AllocError, Global};
 use std::convert::AsStr;
 
@@ -43,7 +40,7 @@ impl Failure {
 
 impl From<AllocError> for Failure {
     ghost use Rattle.std.specs.Prelude.{◌≡◌};
-    ghost use Rattle.mcf_suite.specs.declared.fault.RunFault.TheVariants.{NoMemory as OutOfMemory};
+    ghost use Rattle.mcf_solver.specs.declared.fault.RunFault.TheVariants.{NoMemory as OutOfMemory};
     ghost use Rattle.mcf_suite.specs.declared.serving.Failure.{Failure};
 
     ghost from_gives = { λ _ failure. failure ≡ Failure.Run OutOfMemory };

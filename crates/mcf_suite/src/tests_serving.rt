@@ -1,11 +1,16 @@
 //! Runs of the command `mcf`: its words, its statuses and its lines.
-use crate::tests_running::{FOUR_NODES, LEAST};
 use crate::{Asked, Choice, EngineChoice, FromReader, IntoWriter, command, serve};
 use clap::Error;
 use mcf_text::NoMemory;
 use std::alloc::Global;
 use std::io::{self, ErrorKind, Read, Write};
 use std::test::Fail;
+
+const FOUR_NODES: &str =
+    "p min 4 5\nn 1 4\nn 4 -4\na 1 2 0 4 2\na 1 3 0 2 2\na 2 3 0 2 1\na 2 4 0 3 3\na 3 4 0 5 1\n";
+
+const LEAST: &str =
+    "s 14\nf 1 2 2\nf 1 3 2\nf 2 3 2\nf 2 4 0\nf 3 4 4\ny 1 0\ny 2 -2\ny 3 -3\ny 4 -4\n";
 
 const TOO_NARROW: &str = "p min 2 1\nn 1 3\nn 2 -3\na 1 2 0 2 1\n";
 

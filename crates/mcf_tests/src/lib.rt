@@ -19,6 +19,10 @@ mod networks;
 #[cfg(test)]
 mod prices;
 #[cfg(test)]
+mod running;
+#[cfg(test)]
 mod sets;
+#[cfg(test)]
+mod solving;
 #[cfg(test)]
 mod text;

@@ -1,0 +1,135 @@
+-- Bytes given and taken by one call after another.
+use Rattle.std.proofs.Common.{◌≡◌, ◌++◌, ◌+◌, ◌<◌, ◌≤◌, ℕ, List, [], Option, None, Some, IfSome, Result, Ok, Err, IfErr, length, take, drop, sym, ap, ◌∙◌, append_assoc, length-append, arith, ◌-◌}
+use Rattle.std.proofs.Math.Seq.{take-add}
+use Rattle.std.proofs.lemmas.List.{append-nil, length-take, length-take-le, take-append-drop, take_rest}
+use Rattle.std.specs.Io.KnownBytes.{Appends, Consumes, IsAtEnd, Keeps}
+use Rattle.mcf_solver.specs.declared.choice.Kind.{Kind}
+use Rattle.mcf_solver.specs.Answering.{AppendsAnswer}
+use Rattle.mcf_solver.specs.Running.{SendsAnswer, SendsBeginning, TakesBeginning}
+
+-- some bytes, and then some more
+pub consumes-then : (first next last : Option (List ℕ)) (bytes more : List ℕ)
+    → Consumes first next bytes → Consumes next last more → Consumes first last (bytes ++ more)
+consumes-then None next last bytes more p q = tt
+consumes-then (Some xs) None last bytes more p q = absurd p
+consumes-then (Some xs) (Some ys) None bytes more p q = absurd q
+consumes-then (Some xs) (Some ys) (Some zs) bytes more p q =
+    p ∙ ap (λ t. bytes ++ t) q ∙ sym (append_assoc bytes more zs)
+
+-- all bytes, once none is left
+pub consumes-all : (first last : Option (List ℕ)) (bytes : List ℕ)
+    → Consumes first last bytes → IsAtEnd last → IfSome first (λ xs. xs ≡ bytes)
+consumes-all None last bytes p q = tt
+consumes-all (Some xs) None bytes p q = absurd p
+consumes-all (Some xs) (Some ys) bytes p q = p ∙ ap (λ t. bytes ++ t) q ∙ append-nil bytes
+
+-- no more bytes are given than there are
+pub consumes-within : (first last : Option (List ℕ)) (bytes : List ℕ) (limit : ℕ)
+    → Consumes first last bytes → limit < length bytes → IfSome first (λ xs. limit < length xs)
+consumes-within None last bytes limit p q = tt
+consumes-within (Some xs) None bytes limit p q = absurd p
+consumes-within (Some xs) (Some ys) bytes limit p q = omega (arith, simp length-append at (ap length p))
+
+-- some bytes, and then some more
+pub appends-then : (first next last : Option (List ℕ)) (bytes more : List ℕ)
+    → Appends first next bytes → Appends next last more → Appends first last (bytes ++ more)
+appends-then None next last bytes more p q = tt
+appends-then (Some xs) None last bytes more p q = absurd p
+appends-then (Some xs) (Some ys) None bytes more p q = absurd q
+appends-then (Some xs) (Some ys) (Some zs) bytes more p q =
+    q ∙ ap (λ t. t ++ more) p ∙ append_assoc xs bytes more
+
+-- some bytes, and then no more
+pub appends-kept : (first next last : Option (List ℕ)) (bytes : List ℕ)
+    → Appends first next bytes → Keeps next last → Appends first last bytes
+appends-kept None next last bytes p q = tt
+appends-kept (Some xs) None last bytes p q = absurd p
+appends-kept (Some xs) (Some ys) None bytes p q = absurd q
+appends-kept (Some xs) (Some ys) (Some zs) bytes p q = q ∙ p
+
+-- a piece from where the last one ended
+pub appends-piece : (first next last : Option (List ℕ)) (text : List ℕ) (taken count : ℕ)
+    → Appends first next (take taken text) → Appends next last (take count (take (length text - taken) (drop taken text)))
+    → Appends first last (take (taken + count) text)
+appends-piece first next last text taken count p q =
+    let more = take count (drop taken text) in
+    let piece = rw (take_rest text taken) at q in
+    rw (take-add taken count text) (appends-then first next last (take taken text) more p piece)
+
+-- a beginning, and then no more
+pub begins : (first next last : Option (List ℕ)) (text : List ℕ) (taken : ℕ)
+    → Appends first next (take taken text) → Keeps next last → TakesBeginning first last text
+begins first next last text taken p q = record {
+  part = take taken text;
+  rest = drop taken text;
+  whole = sym (take-append-drop taken text);
+  taken = appends-kept first next last (take taken text) p q;
+}
+
+-- a read of no bytes: all bytes were given before
+pub read-end : (first next last : Option (List ℕ)) (bytes piece : List ℕ) (count : ℕ)
+    → Consumes first next bytes → Consumes next last (take count piece) → IsAtEnd last → count ≡ 0
+    → IfSome first (λ xs. xs ≡ bytes)
+read-end first next last bytes piece count p q end none =
+    let nothing : Consumes next last [] = rw none at q in
+    let all = consumes-then first next last bytes [] p nothing in
+    let exact : Consumes first last bytes = rw append-nil at all in
+    consumes-all first last bytes exact end
+
+-- a read of more bytes than there is room for
+pub read-over : (first next last : Option (List ℕ)) (bytes piece : List ℕ) (count limit : ℕ)
+    → Consumes first next bytes → Consumes next last (take count piece) → count ≤ length piece
+    → limit - length bytes < count → IfSome first (λ xs. limit < length xs)
+read-over first next last bytes piece count limit p q within over =
+    let all = consumes-then first next last bytes (take count piece) p q in
+    consumes-within first last (bytes ++ take count piece) limit all
+    (omega (arith, length-append bytes (take count piece), length-take-le count piece within))
+
+-- a read of bytes that there is room for
+pub read-fits : (bytes piece : List ℕ) (count limit : ℕ)
+    → length bytes ≤ limit → count ≤ limit - length bytes → length (bytes ++ take count piece) ≤ limit
+read-fits bytes piece count limit held within =
+    omega (arith, length-append bytes (take count piece), length-take count piece)
+
+-- the text that was appended to nothing is what was sent
+pub sent-is-appended : (input : List ℕ) (kind : Kind) (before after sent : List ℕ) → before ≡ []
+    → (appends : AppendsAnswer input kind before after) → sent ≡ after → sent ≡ appends.text
+sent-is-appended input kind before after sent nothing appends whole =
+    whole ∙ appends.appended ∙ ap (λ bytes. bytes ++ appends.text) nothing
+
+-- what is sent of all that was given
+pub sends-answer : (given old new : Option (List ℕ)) (gathered input before after sent : List ℕ) (kind : Kind)
+    → IfSome given (λ bytes. bytes ≡ gathered) → input ≡ gathered → before ≡ []
+    → AppendsAnswer input kind before after → sent ≡ after → Appends old new sent
+    → SendsAnswer given kind old new
+sends-answer given old new gathered input before after sent kind all same nothing appends whole taken =
+    let text = sent-is-appended input kind before after sent nothing appends whole in
+    record {
+      input = input;
+      text = appends.text;
+      is_given = rw same all;
+      answer = appends.answer;
+      taken = rw (← text) taken;
+    }
+
+-- a beginning of what is sent of all that was given
+pub sends-beginning : (given old new : Option (List ℕ)) (gathered input before after sent : List ℕ) (kind : Kind)
+    → IfSome given (λ bytes. bytes ≡ gathered) → input ≡ gathered → before ≡ []
+    → AppendsAnswer input kind before after → sent ≡ after → TakesBeginning old new sent
+    → SendsBeginning given old new
+sends-beginning given old new gathered input before after sent kind all same nothing appends whole taken =
+    let text = sent-is-appended input kind before after sent nothing appends whole in
+    record {
+      input = input;
+      kind = kind;
+      text = appends.text;
+      is_given = rw same all;
+      answer = appends.answer;
+      taken = rw (← text) taken;
+    }
+
+-- a fact of each error is one of any error
+pub if-err : {A E : Type 0} (result : Result A E) (Q : E → Type 0) (P : Type 0) → P
+    → IfErr result (λ error. Q error → P)
+if-err (Ok x) Q P p = tt
+if-err (Err e) Q P p = λ _. p

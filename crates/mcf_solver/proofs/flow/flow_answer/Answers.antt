@@ -1,0 +1,26 @@
+use Rattle.std.proofs.Common.{List, ℤ, ap, subst, sym, ◌∙◌, lit<, to_z, of_z}
+use Rattle.std.specs.Int.{w128}
+use Rattle.mcf_answer.specs.Ranges.{amount_limit}
+use Rattle.mcf_answer.specs.Solution.{Solution}
+use Rattle.mcf_checker.specs.Correct.{amounts, sent_ends}
+use Rattle.mcf_instance.specs.Flow.{AreGreatestPrices, cost}
+use Rattle.mcf_instance.proofs.Bounds.{read_back}
+use Rattle.mcf_network.specs.Removal.{net_of}
+use Rattle.mcf_solver.proofs.LeastSolutions.{IsMadeOf, is_least_solution}
+use Rattle.mcf_solver.proofs.flow.flow_answer.Goals as goal
+
+pub returns-clause-solution : goal.returns-clause-solution
+returns-clause-solution c =
+    let g = c.args.instance.now in
+    let s = c.args.state.now in
+    let answer : Solution = record { cost = to_z w128 (of_z w128 c.total_cost-cost.result); sent = c.new.result; prices = c.new-2.result } in
+    let made : IsMadeOf g s c.in_ok-flow.flow.items answer = record {
+      restored_is = c.in_ok-flow.ensures.value;
+      ends = ap sent_ends c.new.ensures ∙ c.in_ok-sent.ensures.ends;
+      carried = ap amounts c.new.ensures ∙ c.in_ok-sent.ensures.flow ∙ c.deref-2.ensures.value;
+      greatest = subst (λ (prices : List ℤ). AreGreatestPrices (net_of g) prices s.amounts) (sym c.new-2.ensures) c.requires.shown.greatest;
+      cost_is = read_back c.total_cost-cost.result amount_limit c.total_cost-cost.ensures.small (lit< tt)
+          ∙ c.total_cost-cost.ensures.value
+          ∙ ap (cost g.arcs) c.deref.ensures.value;
+    } in
+    is_least_solution g s c.in_ok-flow.flow.items answer c.requires.least made c.restored_least_flows_are_least.ensures c.greatest_prices_carry_over.ensures c.total_cost-cost.ensures.well_formed

@@ -1,0 +1,74 @@
+-- The answer that is owed for an instance text: the first fault; or a least flow with its cost and prices
+-- that show it; or a node set that blocks every flow.
+use Rattle.std.specs.Prelude.{◌≡◌, ◌++◌, ◌+◌, ◌<◌, ℕ, true, List, length, ℤ, Result, Ok, Err}
+use Rattle.mcf_answer.specs.BlockingSet.{BlockingSet}
+use Rattle.mcf_answer.specs.Solution.{Solution}
+use Rattle.mcf_answer.specs.Spelling.{IsAnswer}
+use Rattle.mcf_answer.specs.Written.{written}
+use Rattle.mcf_answer.specs.declared.answers.Answer.{Answer}
+use Rattle.mcf_answer.specs.declared.answers.Answer.TheVariants.{Flow, Blocked, Refused}
+use Rattle.mcf_checker.specs.Correct.{IsCorrect, IsRightSet, IsRightSolution, amounts}
+use Rattle.mcf_checker.specs.Judging.{accepts, verdict}
+use Rattle.mcf_feas.specs.Chosen.{IsChosen}
+use Rattle.mcf_instance.specs.Blocking.{in_list}
+use Rattle.mcf_instance.specs.Fault.{Fault}
+use Rattle.mcf_instance.specs.Flow.{IsFeasible, IsLeast}
+use Rattle.mcf_instance.specs.Limits.{limits}
+use Rattle.mcf_instance.specs.Network.{Network}
+use Rattle.mcf_instance.specs.Reading.{reading}
+use Rattle.mcf_solver.specs.declared.choice.Kind.{Kind}
+use Rattle.mcf_solver.specs.declared.choice.Kind.TheVariants.{Flow as WithFlow, Blocked as WithSet, Refused as WithRefusal}
+use Rattle.mcf_solver.specs.Chosen.{IsChosenSolution}
+
+-- a flow that no feasible flow undercuts, its cost, and the greatest prices not above 0 that show it
+pub record IsLeastSolution (g : Network) (a : Solution) : Type 0 where
+  pub right : IsRightSolution g a
+  pub least : IsLeast g (amounts a.sent)
+  pub chosen : IsChosenSolution g a
+
+-- nodes that must send or take more than they can, so that no flow is feasible
+pub record IsNoFlowProof (g : Network) (a : BlockingSet) : Type 0 where
+  pub right : IsRightSet g a
+  pub none : (flow : List ℤ) → ¬ IsFeasible g flow
+  pub chosen : IsChosen g (in_list a.nodes) a.side
+
+-- the answer that is owed for what an instance text stands for
+abbrev pub IsOwed : Result Network Fault → Answer → Type 0
+IsOwed (Err fault) (Refused r) = r ≡ fault
+IsOwed (Ok g) (Flow a) = IsLeastSolution g a
+IsOwed (Ok g) (Blocked a) = IsNoFlowProof g a
+IsOwed (Err fault) (Flow a) = ⊥
+IsOwed (Err fault) (Blocked a) = ⊥
+IsOwed (Ok g) (Refused r) = ⊥
+
+abbrev pub answer_kind : Answer → Kind
+answer_kind (Flow a) = WithFlow
+answer_kind (Blocked a) = WithSet
+answer_kind (Refused r) = WithRefusal
+
+-- the text is what is written of the answer that is owed, and the checker accepts it
+pub record IsAnswerTo (input : List ℕ) (kind : Kind) (text : List ℕ) : Type 0 where
+  pub answer : Answer
+  pub in_range : IsAnswer answer
+  pub written : text ≡ written answer
+  pub owed : IsOwed (reading limits input) answer
+  pub is_kind : kind ≡ answer_kind answer
+  pub correct : IsCorrect input text
+  pub accepted : accepts (verdict input text) ≡ true
+
+-- such a text comes after the bytes that were there
+pub record AppendsAnswer (input : List ℕ) (kind : Kind) (old new : List ℕ) : Type 0 where
+  pub text : List ℕ
+  pub appended : new ≡ old ++ text
+  pub answer : IsAnswerTo input kind text
+
+-- the written text of the answer that is owed doesn't fit the room after the bytes that are there
+pub record LacksRoom (input : List ℕ) (capacity bytes : ℕ) : Type 0 where
+  pub answer : Answer
+  pub owed : IsOwed (reading limits input) answer
+  pub short : capacity < bytes + length (written answer)
+
+-- the text has a first fault
+pub record HasFault (input : List ℕ) : Type 0 where
+  pub fault : Fault
+  pub read : reading limits input ≡ Err fault

@@ -1,0 +1,63 @@
+//! Why a run ended without an answer.
+ghost use Rattle.std.specs.Prelude.{◌≡◌};
+ghost use Rattle.mcf_solver.specs.declared.fault.RunFault.TheVariants.{NoMemory as OutOfMemory};
+
+use mcf_text::NoMemory;
+use std::alloc::{AllocError, AllocFailed};
+use std::error::Error;
+use std::fmt;
+
+/// Why a run ended without an answer.
+#[derive(Clone, Copy, Debug, PartialEq, Eq)]
+pub enum RunFault {
+    /// The source failed.
+    Read,
+    /// The sink failed.
+    Write,
+    /// There was no memory.
+    NoMemory,
+    /// The source gave more than 10^18 bytes.
+    TooLong,
+}
+
+impl fmt::Display for RunFault {
+    ghost use Rattle.std.specs.Prelude.{Some};
+    ghost use Rattle.mcf_solver.specs.Running.{fault_text};
+
+    ghost output = { λ f. Some (fault_text f) };
+
+    fn fmt<W: fmt::Write>(&self, f: &mut fmt::Formatter<W>) -> fmt::Result {
+        match self {
+            RunFault::Read => write!(f, "mcf: read failed"),
+            RunFault::Write => write!(f, "mcf: write failed"),
+            RunFault::NoMemory => write!(f, "mcf: out of memory"),
+            RunFault::TooLong => write!(f, "mcf: input too long"),
+        }
+    }
+}
+
+impl Error for RunFault {}
+
+impl From<NoMemory> for RunFault {
+    ghost from_gives = { λ _ fault. fault ≡ OutOfMemory };
+
+    fn from(_error: NoMemory) -> RunFault {
+        RunFault::NoMemory
+    }
+}
+
+impl From<AllocError> for RunFault {
+    ghost from_gives = { λ _ fault. fault ≡ OutOfMemory };
+
+    fn from(_error: AllocError) -> RunFault {
+        RunFault::NoMemory
+    }
+}
+
+impl<T: Drop> From<AllocFailed<T>> for RunFault {
+    ghost from_gives = { λ _ fault. fault ≡ OutOfMemory };
+
+    fn from(_error: AllocFailed<T>) -> RunFault {
+        RunFault::NoMemory
+    }
+}

@@ -1,0 +1,83 @@
+//! The answer for a least state.
+ghost use Rattle.std.specs.Prelude.{◌≡◌, ◌≤◌, IfOk, OnErr, length};
+ghost use Rattle.std.specs.List.{All};
+ghost use Rattle.mcf_answer.specs.Ranges.{IsAmount};
+ghost use Rattle.mcf_answer.specs.Solution.{IsSent};
+ghost use Rattle.mcf_checker.specs.Correct.{amounts, arc_ends, sent_ends};
+ghost use Rattle.mcf_instance.specs.Flow.{IsWithinBounds, cost};
+ghost use Rattle.mcf_instance.specs.Limits.{limits};
+ghost use Rattle.mcf_instance.specs.WellFormed.{IsWellFormed};
+ghost use Rattle.mcf_network.specs.Removal.{net_of};
+ghost use Rattle.mcf_prices.specs.Outcomes.{AreStatePrices, IsLeastState};
+ghost use Rattle.mcf_solver.specs.Answering.{IsLeastSolution};
+
+use mcf_answer::{FlowAnswer, PriceList, Sent, SentList};
+use mcf_instance::Instance;
+use mcf_network::{State, greatest_prices_carry_over, restore, restored_least_flows_are_least};
+use mcf_text::{ArcId, NoMemory};
+use std::alloc::Global;
+
+/// The answer for a least state of the net of an instance, with its prices: its flow, the flow's cost, and the
+/// prices, which show the flow as they show the state.
+///
+/// # Errors
+///
+/// Want of memory; an instance without arcs wants none.
+pub(crate) fn flow_answer(
+    alloc: Global,
+    instance: &Instance,
+    state: &State<'_>,
+    prices: Vec<i128>,
+) -> Result<FlowAnswer, NoMemory>
+    requires least { IsLeastState (net_of instance.now) state.now }
+    requires shown { AreStatePrices (net_of instance.now) state.now prices.items }
+    ensures solution { IfOk result (IsLeastSolution instance.now) }
+    ensures wants { OnErr result (1 ≤ length instance.now.arcs) }
+{
+    restored_least_flows_are_least();
+    greatest_prices_carry_over();
+    let flow = restore(alloc, instance, state)?;
+    let cost = total_cost(instance, &flow);
+    let sent = sent_along(alloc, instance, &flow)?;
+    Ok(FlowAnswer {
+        cost,
+        sent: SentList::new(sent),
+        prices: PriceList::new(prices),
+    })
+}
+
+// The cost of a flow: the sum over the arcs of cost times flow.
+fn total_cost(instance: &Instance, flow: &[i128]) -> i128
+    requires { IsWithinBounds instance.now.arcs flow.now }
+    ensures value { result ≡ cost instance.now.arcs flow.now }
+    ensures small { IsAmount result }
+    ensures well_formed { IsWellFormed limits instance.now }
+{
+    let mut total = 0;
+    for i in 0..instance.arc_count() {
+        let arc = instance.arc(ArcId::new(i + 1));
+        total += arc.cost * flow[i as usize];
+    }
+    total
+}
+
+// What each arc carries, with its ends, in the order of the arcs.
+fn sent_along(alloc: Global, instance: &Instance, flow: &[i128]) -> Result<Vec<Sent>, NoMemory>
+    requires { IsWithinBounds instance.now.arcs flow.now }
+    ensures ends { IfOk result (λ sent. sent_ends sent.items ≡ arc_ends instance.now) }
+    ensures flow { IfOk result (λ sent. amounts sent.items ≡ flow.now) }
+    ensures fit { IfOk result (λ sent. All IsSent sent.items) }
+    ensures wants { OnErr result (1 ≤ length instance.now.arcs) }
+{
+    let count = instance.arc_count();
+    let mut sent = Vec::with_capacity(alloc, count as usize)?;
+    for i in 0..count {
+        let arc = instance.arc(ArcId::new(i + 1));
+        sent.push(Sent {
+            src: arc.src,
+            dst: arc.dst,
+            flow: flow[i as usize],
+        })?;
+    }
+    Ok(sent)
+}

@@ -1,0 +1,22 @@
+#![tactic(auto)]
+
+//! A DIMACS text is read, solved by an engine, and answered with its evidence; and so from a source to a sink.
+//!
+//! It stands on all the crates below, and of `mcf_checker` on its definitions alone. It doesn't speak of the
+//! command line, which `mcf_suite` adds. Definitions stand in `specs/`: `Chosen` says which of several right
+//! answers is given, `Answering` what is owed for a text, `Devices` and `Running` what a run from a source to a
+//! sink does.
+
+mod choice;
+mod device;
+mod fault;
+mod flow;
+mod running;
+mod set;
+mod solving;
+
+pub use choice::{Choice, EngineChoice, Kind};
+pub use device::{FromReader, IntoWriter, Sink, SinkFault, Source, SourceFault};
+pub use fault::RunFault;
+pub use running::{run, send};
+pub use solving::solve_text;

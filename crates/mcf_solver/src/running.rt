@@ -1,0 +1,112 @@
+//! From a source to a sink.
+ghost use Rattle.std.specs.Prelude.{◌≡◌, ◌≢◌, IfErr, IfOk, IfSome, OnErr, OnOk, length};
+ghost use Rattle.std.specs.Io.KnownBytes.{Appends};
+ghost use Rattle.mcf_solver.specs.Devices.{CountsOneFailure};
+ghost use Rattle.mcf_solver.specs.Running.{IsTakenWhole, IsTooLong, SendsAnswer, SendsBeginning, TakesBeginning};
+
+use crate::choice::{Choice, Kind};
+use crate::device::{Sink, Source};
+use crate::fault::RunFault;
+use crate::solving::solve_text;
+use std::alloc::{AllocError, Global};
+
+// How many bytes are asked for at once.
+const PIECE: usize = 65_536;
+
+// The most bytes that are taken from a source.
+const TEXT_LIMIT: usize = 1_000_000_000_000_000_000;
+
+/// Reads an instance text to its end, solves it, and then writes the answer and finishes.
+///
+/// Nothing is tried again: the first failure of the source or of the sink ends the run.
+///
+/// # Errors
+///
+/// `Read`, `NoMemory` and `TooLong` (more than 10^18 bytes) come before the first byte is written. After
+/// `Write` the sink took a beginning of an answer, perhaps all of it.
+pub fn run<S: Source, K: Sink>(
+    alloc: Global,
+    source: &mut S,
+    sink: &mut K,
+    choice: Choice,
+) -> Result<Kind, RunFault>
+    ensures whole { OnOk result (IsTakenWhole (S.remaining source.old)) }
+    ensures answer { IfOk result (λ kind. SendsAnswer (S.remaining source.old) kind (K.contents sink.old) (K.contents sink.new)) }
+    ensures finished { OnOk result (K.IsFinished sink.new) }
+    ensures worked { OnOk result (K.failures sink.new ≡ K.failures sink.old) }
+    ensures write_failed { IfErr result (λ fault. fault ≡ RunFault.Write → CountsOneFailure (K.failures sink.old) (K.failures sink.new)) }
+    ensures beginning { IfErr result (λ fault. fault ≡ RunFault.Write → SendsBeginning (S.remaining source.old) (K.contents sink.old) (K.contents sink.new)) }
+    ensures read_failed { IfErr result (λ fault. fault ≡ RunFault.Read → CountsOneFailure (S.failures source.old) (S.failures source.new)) }
+    ensures unfailed { OnOk result (S.failures source.new ≡ S.failures source.old) }
+    ensures unfailed_otherwise { IfErr result (λ fault. fault ≢ RunFault.Read → S.failures source.new ≡ S.failures source.old) }
+    ensures too_long { IfErr result (λ fault. fault ≡ RunFault.TooLong → IsTooLong (S.remaining source.old)) }
+    ensures untouched { IfErr result (λ fault. fault ≢ RunFault.Write → sink.new ≡ sink.old) }
+{
+    let text = gather(alloc, source)?;
+    let mut answer = Vec::new(alloc);
+    let kind = solve_text(alloc, &text, choice, &mut answer)?;
+    send(sink, &answer)?;
+    Ok(kind)
+}
+
+// All bytes of a source.
+fn gather<S: Source>(alloc: Global, source: &mut S) -> Result<Vec<u8>, RunFault>
+    ensures whole { OnOk result (IsTakenWhole (S.remaining source.old)) }
+    ensures all { IfOk result (λ text. IfSome (S.remaining source.old) (λ bytes. bytes ≡ text.items)) }
+    ensures read_failed { IfErr result (λ fault. fault ≡ RunFault.Read → CountsOneFailure (S.failures source.old) (S.failures source.new)) }
+    ensures unfailed { OnOk result (S.failures source.new ≡ S.failures source.old) }
+    ensures unfailed_otherwise { IfErr result (λ fault. fault ≢ RunFault.Read → S.failures source.new ≡ S.failures source.old) }
+    ensures too_long { IfErr result (λ fault. fault ≡ RunFault.TooLong → IsTooLong (S.remaining source.old)) }
+    ensures no_write { IfErr result (λ fault. fault ≢ RunFault.Write) }
+{
+    let mut text = Vec::new(alloc);
+    let mut room = zeros(alloc, PIECE)?;
+    let piece = room.as_mut_slice();
+    'reads: loop {
+        let Ok(count) = source.read(piece) else {
+            return Err(RunFault::Read);
+        };
+        if count == 0 {
+            return Ok(text);
+        }
+        if TEXT_LIMIT - text.len() < count {
+            return Err(RunFault::TooLong);
+        }
+        text.extend_from_slice(&piece[..count])?;
+    }
+}
+
+// Room for a piece.
+fn zeros(alloc: Global, size: usize) -> Result<Vec<u8>, AllocError>
+    ensures { IfOk result (λ piece. length piece.items ≡ size) }
+{
+    vec![in alloc; 0; size]
+}
+
+/// Writes a text and finishes.
+///
+/// Nothing is tried again: the first failure of the sink ends it.
+///
+/// # Errors
+///
+/// `Write`, and no other. The sink took a beginning of the text, perhaps all of it.
+pub fn send<K: Sink>(sink: &mut K, text: &[u8]) -> Result<(), RunFault>
+    ensures taken { OnOk result (Appends (K.contents sink.old) (K.contents sink.new) text.now) }
+    ensures finished { OnOk result (K.IsFinished sink.new) }
+    ensures worked { OnOk result (K.failures sink.new ≡ K.failures sink.old) }
+    ensures is_write { IfErr result (λ fault. fault ≡ RunFault.Write) }
+    ensures failed { OnErr result (CountsOneFailure (K.failures sink.old) (K.failures sink.new)) }
+    ensures beginning { OnErr result (TakesBeginning (K.contents sink.old) (K.contents sink.new) text.now) }
+{
+    let mut taken = 0;
+    'writes: while taken < text.len() {
+        match sink.write(&text[taken..]) {
+            Ok(count) => taken += count,
+            Err(_) => return Err(RunFault::Write),
+        }
+    }
+    match sink.finish() {
+        Ok(()) => Ok(()),
+        Err(_) => Err(RunFault::Write),
+    }
+}

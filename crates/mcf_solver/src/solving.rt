@@ -1,0 +1,109 @@
+//! Instance texts solved.
+ghost use Rattle.std.specs.Prelude.{◌≡◌, ◌↔◌, ◌≤◌, ◌⊎◌, IfOk, OnErr, vec_capacity, vec_len};
+ghost use Rattle.mcf_checker.specs.Correct.{HasNoFlow};
+ghost use Rattle.mcf_network.specs.Removal.{net_of};
+ghost use Rattle.mcf_solver.specs.Answering.{AppendsAnswer, HasFault, IsOwed, LacksRoom, answer_kind};
+ghost use Rattle.mcf_instance.specs.Fault.{header};
+ghost use Rattle.mcf_instance.specs.Limits.{limits};
+ghost use Rattle.mcf_instance.specs.Network.{node_count};
+ghost use Rattle.mcf_instance.specs.Reading.{reading};
+ghost use Rattle.mcf_text.specs.Row.{rows};
+ghost use Rattle.std.specs.Prelude.{Ok};
+
+use crate::choice::{Choice, EngineChoice, Kind};
+use crate::flow::flow_answer;
+use crate::set::set_answer;
+use mcf_answer::{Answer, write};
+use mcf_checker::correct_answers_are_accepted;
+use mcf_instance::{Instance, read};
+use mcf_network::Net;
+use mcf_prices::{Cancel, Engine, Outcome};
+use mcf_text::NoMemory;
+use std::alloc::Global;
+
+/// Appends the answer to an instance text: the first fault of the text; or a feasible flow that no feasible
+/// flow undercuts, with its cost and the greatest prices not above 0 that show it; or a node set that must
+/// send or take more than it can, so that no flow is feasible.
+///
+/// The checker accepts that answer, whatever engine was chosen. Which of several least flows is given, and
+/// which of several blocking sets where the supplies add up to 0, depends on the engine. (Optimality by
+/// reduced costs: Ahuja, Magnanti and Orlin, Network Flows, chapter 9.)
+///
+/// # Errors
+///
+/// Want of memory, only where the problem line names nodes or the answer's text doesn't fit the capacity that
+/// `out` has. The bytes of `out` are then those that it had.
+pub fn solve_text(
+    alloc: Global,
+    input: &[u8],
+    choice: Choice,
+    out: &mut Vec<u8>,
+) -> Result<Kind, NoMemory>
+    ensures answer { IfOk result (λ kind. AppendsAnswer input.now kind out.old.items out.new.items) }
+    ensures refused { IfOk result (λ kind. (kind ≡ Kind.Refused) ↔ HasFault input.now) }
+    ensures none { IfOk result (λ kind. kind ≡ Kind.Blocked → HasNoFlow input.now) }
+    ensures err { OnErr result (out.new.items ≡ out.old.items) }
+    ensures wants { OnErr result ((1 ≤ (header (rows input.now)).nodes) ⊎ LacksRoom input.now (vec_capacity out.old) (vec_len out.old)) }
+{
+    correct_answers_are_accepted();
+    let answer = answer_to(alloc, input, choice)?;
+    write(&answer, out)?;
+    Ok(answer_kind(&answer))
+}
+
+// The answer to an instance text.
+fn answer_to(alloc: Global, input: &[u8], choice: Choice) -> Result<Answer, NoMemory>
+    ensures owed { IfOk result (IsOwed (reading limits input.now)) }
+    ensures wants { OnErr result (1 ≤ (header (rows input.now)).nodes) }
+{
+    match read(alloc, input)? {
+        Ok(instance) => solve_instance(alloc, &instance, choice),
+        Err(refusal) => Ok(Answer::Refused(refusal)),
+    }
+}
+
+// The answer to an instance, by the engine that is chosen.
+fn solve_instance(alloc: Global, instance: &Instance, choice: Choice) -> Result<Answer, NoMemory>
+    ensures owed { IfOk result (IsOwed (Ok instance.now)) }
+    ensures wants { OnErr result (1 ≤ node_count instance.now) }
+{
+    match choice.engine {
+        EngineChoice::Auto | EngineChoice::Cancel => {
+            solve_by(alloc, instance, &mut Cancel::new())
+        }
+    }
+}
+
+// The answer to an instance, by an engine that takes its net.
+fn solve_by<E: Engine>(
+    alloc: Global,
+    instance: &Instance,
+    engine: &mut E,
+) -> Result<Answer, NoMemory>
+    requires { E.Takes (net_of instance.now) }
+    ensures owed { IfOk result (IsOwed (Ok instance.now)) }
+    ensures wants { OnErr result (1 ≤ node_count instance.now) }
+{
+    let net = Net::of(alloc, instance)?;
+    match engine.solve(alloc, &net)? {
+        Outcome::Least(state, prices) => {
+            let flow = flow_answer(alloc, instance, &state, prices)?;
+            Ok(Answer::Flow(flow))
+        }
+        Outcome::Blocked(set, side) => {
+            let set = set_answer(alloc, instance, &net, &set, side)?;
+            Ok(Answer::Blocked(set))
+        }
+    }
+}
+
+// What an answer holds.
+fn answer_kind(answer: &Answer) -> Kind
+    ensures { result ≡ answer_kind answer.now }
+{
+    match answer {
+        Answer::Flow(_) => Kind::Flow,
+        Answer::Blocked(_) => Kind::Blocked,
+        Answer::Refused(_) => Kind::Refused,
+    }
+}

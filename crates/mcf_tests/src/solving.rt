@@ -1,0 +1,208 @@
+//! Worked instances solved.
+//!
+//! Rows stand in statics, and a row is judged by a function that answers whether it holds: a test of many
+//! assertions, or one that makes its rows, takes long to prove.
+use mcf_checker::{Verdict, check};
+use mcf_solver::{Choice, EngineChoice, Kind, solve_text};
+use mcf_text::NoMemory;
+use std::alloc::Global;
+use std::test::Fail;
+
+// All engines.
+static ENGINES: [EngineChoice; 2] = [EngineChoice::Auto, EngineChoice::Cancel];
+
+// An instance, its answer, and what kind of answer that is.
+struct Worked {
+    kind: Kind,
+    instance: &'static str,
+    answer: &'static str,
+}
+
+static WORKED: [Worked; 23] = [
+    Worked {
+        kind: Kind::Flow,
+        instance: "p min 4 5\nn 1 4\nn 4 -4\na 1 2 0 4 2\na 1 3 0 2 2\na 2 3 0 2 1\na 2 4 0 3 3\na 3 4 0 5 1\n",
+        answer: "s 14\nf 1 2 2\nf 1 3 2\nf 2 3 2\nf 2 4 0\nf 3 4 4\ny 1 0\ny 2 -2\ny 3 -3\ny 4 -4\n",
+    },
+    Worked {
+        kind: Kind::Flow,
+        instance: "p min 0 0\n",
+        answer: "s 0\n",
+    },
+    Worked {
+        kind: Kind::Flow,
+        instance: "p asn 0 0\n",
+        answer: "s 0\n",
+    },
+    Worked {
+        kind: Kind::Flow,
+        instance: "p min 1 1\na 1 1 0 7 -3\n",
+        answer: "s -21\nf 1 1 7\ny 1 0\n",
+    },
+    Worked {
+        kind: Kind::Flow,
+        instance: "p min 2 2\nn 1 3\nn 2 -3\na 1 2 0 2 1\na 1 2 0 2 5\n",
+        answer: "s 7\nf 1 2 2\nf 1 2 1\ny 1 0\ny 2 -5\n",
+    },
+    Worked {
+        kind: Kind::Flow,
+        instance: "p min 2 1\nn 1 4\nn 2 -4\na 1 2 4 4 -2\n",
+        answer: "s -8\nf 1 2 4\ny 1 0\ny 2 0\n",
+    },
+    Worked {
+        kind: Kind::Flow,
+        instance: "p min 2 1\nn 1 -3\nn 2 3\na 1 2 -3 -3 1\n",
+        answer: "s -3\nf 1 2 -3\ny 1 0\ny 2 0\n",
+    },
+    Worked {
+        kind: Kind::Flow,
+        instance: "p asn 4 4\nn 1\nn 2\na 1 3 5\na 1 4 1\na 2 3 2\na 2 4 1\n",
+        answer: "s 3\nf 1 3 0\nf 1 4 1\nf 2 3 1\nf 2 4 0\ny 1 0\ny 2 0\ny 3 -2\ny 4 -1\n",
+    },
+    Worked {
+        kind: Kind::Flow,
+        instance: "p asn 4 4\nn 1\nn 2\na 1 3 5\na 1 4 1\na 2 3 2\na 2 4 -9\n",
+        answer: "s -4\nf 1 3 1\nf 1 4 0\nf 2 3 0\nf 2 4 1\ny 1 0\ny 2 -3\ny 3 -5\ny 4 0\n",
+    },
+    Worked {
+        kind: Kind::Flow,
+        instance: "p min 2 1\nn 1 1000000000000000\nn 2 -1000000000000000\na 1 2 0 1000000000000000 1000000000000\n",
+        answer: "s 1000000000000000000000000000\nf 1 2 1000000000000000\ny 1 0\ny 2 -1000000000000\n",
+    },
+    Worked {
+        kind: Kind::Flow,
+        instance: "p min 2 2\na 1 2 0 1000000000000000 -1\na 2 1 0 1000000000000000 0\n",
+        answer: "s -1000000000000000\nf 1 2 1000000000000000\nf 2 1 1000000000000000\ny 1 0\ny 2 0\n",
+    },
+    Worked {
+        kind: Kind::Flow,
+        instance: "p min 3 4\na 1 2 0 5 0\na 2 3 0 5 0\na 3 1 0 5 0\na 1 3 0 5 -1\n",
+        answer: "s -5\nf 1 2 0\nf 2 3 0\nf 3 1 5\nf 1 3 5\ny 1 0\ny 2 0\ny 3 0\n",
+    },
+    Worked {
+        kind: Kind::Flow,
+        instance: "p min 3 3\nn 1 5\nn 3 -5\na 1 2 2 10 3\na 2 3 0 10 1\na 1 3 0 10 2\n",
+        answer: "s 14\nf 1 2 2\nf 2 3 2\nf 1 3 3\ny 1 0\ny 2 -1\ny 3 -2\n",
+    },
+    Worked {
+        kind: Kind::Flow,
+        instance: "c sample\r\n\r\n\tp min 2 1\r\nn 01 +3\nn 2 -003\na 1 2 0 4 7",
+        answer: "s 21\nf 1 2 3\ny 1 0\ny 2 -7\n",
+    },
+    Worked {
+        kind: Kind::Blocked,
+        instance: "p min 1 0\nn 1 -1\n",
+        answer: "i 1 take\nx 1\n",
+    },
+    Worked {
+        kind: Kind::Blocked,
+        instance: "p min 2 1\nn 1 3\nn 2 -3\na 1 2 0 2 1\n",
+        answer: "i 1 send\nx 1\n",
+    },
+    Worked {
+        kind: Kind::Blocked,
+        instance: "p min 2 2\na 1 2 2 5 1\na 2 1 0 1 0\n",
+        answer: "i 1 send\nx 2\n",
+    },
+    Worked {
+        kind: Kind::Blocked,
+        instance: "p asn 4 2\nn 1\nn 2\na 1 3 1\na 2 3 1\n",
+        answer: "i 3 send\nx 1\nx 2\nx 3\n",
+    },
+    Worked {
+        kind: Kind::Blocked,
+        instance: "p asn 3 2\nn 1\nn 2\na 1 3 4\na 2 3 4\n",
+        answer: "i 3 send\nx 1\nx 2\nx 3\n",
+    },
+    Worked {
+        kind: Kind::Blocked,
+        instance: "p min 2 1\nn 1 2\na 1 2 0 5 1\n",
+        answer: "i 2 send\nx 1\nx 2\n",
+    },
+    Worked {
+        kind: Kind::Refused,
+        instance: "",
+        answer: "r 1 no-p\n",
+    },
+    Worked {
+        kind: Kind::Refused,
+        instance: "p min 2 1\na 1 2 -3 -3 1\nn 1 -3\n",
+        answer: "r 3 late-n\n",
+    },
+    Worked {
+        kind: Kind::Refused,
+        instance: "p min 2 2\na 1 2 0 1 1\n",
+        answer: "r 3 missing\n",
+    },
+];
+
+// What is written of an instance by an engine, after bytes that were there.
+fn answered(
+    alloc: Global,
+    before: &str,
+    instance: &str,
+    engine: EngineChoice,
+) -> Result<(Kind, Vec<u8>), NoMemory> {
+    let mut out = Vec::new(alloc);
+    out.extend_from_slice(before.as_bytes())?;
+    let kind = solve_text(alloc, instance.as_bytes(), Choice { engine }, &mut out)?;
+    Ok((kind, out))
+}
+
+// Whether an engine answers so, after bytes that were there.
+fn is_answered(alloc: Global, worked: &Worked, engine: EngineChoice) -> Result<bool, NoMemory> {
+    let before = "kept\n";
+    let (kind, out) = answered(alloc, before, worked.instance, engine)?;
+    let answer = out.strip_prefix(before.as_bytes());
+    Ok(kind == worked.kind && answer == Some(worked.answer.as_bytes()))
+}
+
+// Whether the checker accepts the answer.
+fn is_accepted(alloc: Global, worked: &Worked) -> Result<bool, NoMemory> {
+    let verdict = check(alloc, worked.instance.as_bytes(), worked.answer.as_bytes())?;
+    Ok(matches!(
+        verdict,
+        Verdict::Flow(_) | Verdict::Blocked(_) | Verdict::Refused(_)
+    ))
+}
+
+// Whether each engine answers so, and the checker accepts it.
+fn is_right(alloc: Global, worked: &Worked) -> Result<bool, NoMemory> {
+    for engine in &ENGINES {
+        if !is_answered(alloc, worked, *engine)? {
+            return Ok(false);
+        }
+    }
+    is_accepted(alloc, worked)
+}
+
+// Each answer comes after the bytes that were there, and the checker accepts it.
+#[test]
+fn worked_instances(rt: HostRuntime) -> Result<(), Fail> {
+    for worked in &WORKED {
+        assert!(rt; is_right(rt.alloc(), worked)?, "at {}", worked.instance);
+    }
+    Ok(())
+}
+
+// Whether an engine answers an instance with a flow of a cost that the checker accepts.
+fn costs(
+    alloc: Global,
+    instance: &str,
+    engine: EngineChoice,
+    cost: i128,
+) -> Result<bool, NoMemory> {
+    let (kind, out) = answered(alloc, "", instance, engine)?;
+    let verdict = check(alloc, instance.as_bytes(), &out)?;
+    Ok(kind == Kind::Flow && verdict == Verdict::Flow(cost))
+}
+
+// Two arcs of one cost: either may carry what the other doesn't.
+#[test]
+fn one_of_several_least_flows(rt: HostRuntime) -> Result<(), Fail> {
+    let instance = "p min 2 2\nn 1 3\nn 2 -3\na 1 2 0 3 4\na 1 2 0 3 4\n";
+    for engine in &ENGINES {
+        assert!(rt; costs(rt.alloc(), instance, *engine, 12)?);
+    }
+    Ok(())
+}
