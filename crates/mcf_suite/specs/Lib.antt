@@ -11,4 +11,5 @@ pub use Rattle.mcf_solver.specs.Running
 pub use Rattle.mcf_solver.specs.Spelling
 pub use Rattle.mcf_solver.specs.Written
 pub mod Asking
+pub mod Failing
 pub mod Serving

@@ -1,10 +1,12 @@
 //! The command `mcf`, over two sources and two sinks.
-ghost use Rattle.std.specs.Prelude.{◌≡◌, ◌≢◌, ◌≤◌, ◌⊎◌, ℕ, List, IfOk, MatchOption, OnErr, OnOk, map};
+ghost use Rattle.std.specs.Prelude.{◌≡◌, ◌≢◌, ◌≤◌, ◌⊎◌, ℕ, List, IfErr, IfOk, MatchOption, OnOk, map};
 ghost use Rattle.std.specs.Fn.{FnOnceReturnsAt};
 ghost use Rattle.std.specs.Io.KnownBytes.{Appends};
 ghost use Rattle.clap.specs.Words.{kind_of};
 ghost use Rattle.mcf_solver.specs.Devices.{CountsOneFailure};
-ghost use Rattle.mcf_suite.specs.Serving.{GivesBytes, Serves, fault_line, status_of};
+ghost use Rattle.mcf_solver.specs.Running.{TakesBeginning};
+ghost use Rattle.mcf_suite.specs.Failing.{IsFailure, IsHelpFailure, failure_text};
+ghost use Rattle.mcf_suite.specs.Serving.{GivesBytes, Serves, ServesInPart, Tells, fault_line, status_of};
 
 use crate::asking::command;
 use clap::Error;
@@ -28,8 +30,13 @@ enum Failure {
 }
 
 impl Failure {
+    ghost use Rattle.std.specs.Prelude.{◌≡◌};
+    ghost use Rattle.mcf_suite.specs.Failing.{failure_text};
+
     // The text that says so.
-    fn text(&self) -> &str {
+    fn text(&self) -> &str
+        ensures { result.now ≡ failure_text self.now }
+    {
         match self {
             Failure::Usage(text) => text.as_str(),
             Failure::Open => "mcf: cannot open the file\n",
@@ -109,7 +116,13 @@ pub fn serve<W: AsStr, S: Source + Drop, P: FnOnce(&str) -> Option<S>, O: Sink, 
     ensures failed { O.failures out.new ≢ O.failures out.old → result ≡ 3 }
     ensures untouched { result ≡ 3
         → (out.new ≡ out.old) ⊎ CountsOneFailure (O.failures out.old) (O.failures out.new) }
+    ensures beginning { result ≡ 3 → (out.new ≡ out.old)
+        ⊎ ServesInPart (map W.text words.now) (GivesBytes S.remaining input (FnOnceReturnsAt P.FnOnce opener))
+        (O.contents out.old) (O.contents out.new) }
     ensures quiet { result ≢ 3 → err.new ≡ err.old }
+    ensures told { result ≡ 3 → Tells (map W.text words.now) (FnOnceReturnsAt P.FnOnce opener)
+        (out.new ≡ out.old) (CountsOneFailure (O.failures out.old) (O.failures out.new))
+        (E.contents err.old) (E.contents err.new) }
 {
     match answer(alloc, words, input, opener, out) {
         Ok(status) => status,
@@ -135,8 +148,10 @@ fn answer<W: AsStr, S: Source + Drop, P: FnOnce(&str) -> Option<S>, O: Sink>(
         status (O.contents out.old) (O.contents out.new)) }
     ensures finished { OnOk result (O.IsFinished out.new) }
     ensures worked { OnOk result (O.failures out.new ≡ O.failures out.old) }
-    ensures untouched { OnErr result
-        ((out.new ≡ out.old) ⊎ CountsOneFailure (O.failures out.old) (O.failures out.new)) }
+    ensures failed { IfErr result (IsFailure (map W.text words.now) (FnOnceReturnsAt P.FnOnce opener) (out.new ≡ out.old)
+        (CountsOneFailure (O.failures out.old) (O.failures out.new)
+        × ServesInPart (map W.text words.now) (GivesBytes S.remaining input (FnOnceReturnsAt P.FnOnce opener))
+        (O.contents out.old) (O.contents out.new))) }
 {
     let asked = match command(alloc, words) {
         Ok(asked) => asked,
@@ -171,8 +186,9 @@ fn print_help<O: Sink>(alloc: Global, error: &Error, out: &mut O) -> Result<u8, 
     ensures taken { OnOk result ((text : List ℕ) × Appends (O.contents out.old) (O.contents out.new) text) }
     ensures finished { OnOk result (O.IsFinished out.new) }
     ensures worked { OnOk result (O.failures out.new ≡ O.failures out.old) }
-    ensures untouched { OnErr result
-        ((out.new ≡ out.old) ⊎ CountsOneFailure (O.failures out.old) (O.failures out.new)) }
+    ensures failed { IfErr result (IsHelpFailure (kind_of error.now) (out.new ≡ out.old)
+        (CountsOneFailure (O.failures out.old) (O.failures out.new)
+        × ((text : List ℕ) × TakesBeginning (O.contents out.old) (O.contents out.new) text))) }
 {
     match error.kind() {
         ErrorKind::OutOfMemory => Err(Failure::Run(RunFault::NoMemory)),

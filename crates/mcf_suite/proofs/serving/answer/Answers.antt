@@ -1,6 +1,7 @@
-use Rattle.std.proofs.Common.{inl}
+use Rattle.std.proofs.Common.{inl, map, refl}
 use Rattle.std.specs.Fn.{FnOnceReturnsAt}
-use Rattle.mcf_suite.proofs.ServedLemmas.{gives_bytes, help_is_served}
+use Rattle.mcf_suite.specs.Serving.{GivesBytes}
+use Rattle.mcf_suite.proofs.ServedLemmas.{gives_bytes, help_failed, help_is_served, run_failed, unopened}
 use Rattle.mcf_suite.proofs.serving.answer.Goals as goal
 
 pub returns-in-Err-clause-served : goal.returns-in-Err-clause-served
@@ -9,14 +10,54 @@ returns-in-Err-clause-served g c = help_is_served _ _ c.in-Err.ensures.app c.in-
 
 pub returns-clause-served : goal.returns-clause-served
 returns-clause-served g c = inl (record {
-  app = c.in-Ok.ensures.app;
-  is_mcf = c.in-Ok.ensures.is_mcf;
-  faultless = c.in-Ok.ensures.faults;
-  asked = c.in-Ok.asked;
-  asks = c.in-Ok.ensures.asks;
   given = g.S.Source.remaining c.in-Some.source;
-  is_given = gives_bytes g.S.Source.remaining c.args.input c.in-Some.source (FnOnceReturnsAt g.P.FnOnce c.args.opener) c.in-Ok.asked.file c.in-Some.ensures;
+  asked = record {
+    app = c.in-Ok.ensures.app;
+    is_mcf = c.in-Ok.ensures.is_mcf;
+    faultless = c.in-Ok.ensures.faults;
+    asked = c.in-Ok.asked;
+    asks = c.in-Ok.ensures.asks;
+    holds = gives_bytes g.S.Source.remaining c.args.input c.in-Some.source (FnOnceReturnsAt g.P.FnOnce c.args.opener) c.in-Ok.asked.file c.in-Some.ensures;
+  };
   kind = c.in_ok-kind.kind;
   is_status = c.status_of.ensures;
   sent = c.in_ok-kind.ensures.answer;
 })
+
+pub returns-in-Err-clause-failed : goal.returns-in-Err-clause-failed
+returns-in-Err-clause-failed g c = help_failed (map g.W.AsStr.text c.args.words.now) (FnOnceReturnsAt g.P.FnOnce c.args.opener)
+    (GivesBytes g.S.Source.remaining c.args.input (FnOnceReturnsAt g.P.FnOnce c.args.opener)) c.in-Err.ensures.app c.in-Err.error c.print_help.result _ _ _ _
+    c.in-Err.ensures.is_mcf c.in-Err.ensures.faults c.print_help.ensures.failed
+
+pub returns-in_default-clause-failed : goal.returns-in_default-clause-failed
+returns-in_default-clause-failed g c = (
+  refl,
+  record {
+    app = c.in-Ok.ensures.app;
+    is_mcf = c.in-Ok.ensures.is_mcf;
+    faultless = c.in-Ok.ensures.faults;
+    asked = c.in-Ok.asked;
+    asks = c.in-Ok.ensures.asks;
+    holds = unopened (FnOnceReturnsAt g.P.FnOnce c.args.opener) c.args.input c.in-Ok.asked.file c.in_default.ensures;
+  },
+)
+
+pub returns-in_err-kind-clause-failed : goal.returns-in_err-kind-clause-failed
+returns-in_err-kind-clause-failed g c =
+    let ends = c.in_err-kind.ensures in
+    run_failed (map g.W.AsStr.text c.args.words.now) (FnOnceReturnsAt g.P.FnOnce c.args.opener) c.in_err-kind.field-0.0 c.from_residual.result _ _
+    c.from_residual.ensures.1 (λ e. (
+      ends.write_failed e,
+      inl (record {
+        given = g.S.Source.remaining c.in-Some.source;
+        asked = record {
+          app = c.in-Ok.ensures.app;
+          is_mcf = c.in-Ok.ensures.is_mcf;
+          faultless = c.in-Ok.ensures.faults;
+          asked = c.in-Ok.asked;
+          asks = c.in-Ok.ensures.asks;
+          holds = gives_bytes g.S.Source.remaining c.args.input c.in-Some.source (FnOnceReturnsAt g.P.FnOnce c.args.opener) c.in-Ok.asked.file c.in-Some.ensures;
+        };
+        sent = ends.beginning e;
+      }),
+    )) ends.untouched

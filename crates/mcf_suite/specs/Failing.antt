@@ -1,0 +1,34 @@
+-- Why a run of the command gives no answer, and what is then told.
+use Rattle.std.specs.Prelude.{◌≡◌, ◌≢◌, ℕ, List, Option}
+use Rattle.std.specs.String.{string_bytes}
+use Rattle.clap.specs.Words.{Text}
+use Rattle.clap.specs.declared.error.kind.ErrorKind.{ErrorKind}
+use Rattle.clap.specs.declared.error.kind.ErrorKind.TheVariants.{DisplayHelp, OutOfMemory}
+use Rattle.mcf_solver.specs.declared.fault.RunFault.TheVariants.{Read, Write, NoMemory, TooLong}
+use Rattle.mcf_suite.specs.declared.serving.Failure.{Failure}
+use Rattle.mcf_suite.specs.declared.serving.Failure.TheVariants.{Usage, Open, Run}
+use Rattle.mcf_suite.specs.Serving.{AsksToSolve, HaveUsageFault, IsUnopened, fault_line, open_line}
+
+-- the text that tells of a failure
+abbrev pub failure_text : Failure → List ℕ
+failure_text (Usage text) = string_bytes text
+failure_text Open = open_line
+failure_text (Run fault) = fault_line fault
+
+-- what is so of the words and of the sink where there is no answer: it is as it was, or writing on it failed
+abbrev pub IsFailure : {S : Type 0} → List Text → (Text → Option S → Type 0) → Type 0 → Type 0 → Failure → Type 0
+IsFailure words Opens untouched failed (Usage text) = untouched × HaveUsageFault words
+IsFailure words Opens untouched failed Open = untouched × AsksToSolve words (IsUnopened Opens)
+IsFailure words Opens untouched failed (Run Read) = untouched
+IsFailure words Opens untouched failed (Run Write) = failed
+IsFailure words Opens untouched failed (Run NoMemory) = untouched
+IsFailure words Opens untouched failed (Run TooLong) = untouched
+
+-- the same where the words aren't taken, by the kind of their fault
+abbrev pub IsHelpFailure : ErrorKind → Type 0 → Type 0 → Failure → Type 0
+IsHelpFailure kind untouched failed (Usage text) = untouched × ((kind ≢ OutOfMemory) × (kind ≢ DisplayHelp))
+IsHelpFailure kind untouched failed Open = ⊥
+IsHelpFailure kind untouched failed (Run Read) = ⊥
+IsHelpFailure kind untouched failed (Run Write) = (kind ≡ DisplayHelp) × failed
+IsHelpFailure kind untouched failed (Run NoMemory) = untouched
+IsHelpFailure kind untouched failed (Run TooLong) = ⊥
