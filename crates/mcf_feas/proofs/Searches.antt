@@ -16,10 +16,11 @@ use Rattle.mcf_network.specs.States.{Pseudoflow, IsPseudoflow, room_of, surplus_
 use Rattle.mcf_network.specs.Stuck.{IsStuck}
 use Rattle.mcf_network.specs.Walks.{HasRoom}
 use Rattle.mcf_network.proofs.ArcLaws.{tail_is_node}
+use Rattle.mcf_network.proofs.Lists.{Contains-cons}
+use Rattle.mcf_network.proofs.Marks.{count_none, counted_new, marked_new, marked_only, marked_still, unmarked}
 use Rattle.mcf_feas.specs.declared.search.Link.{Link}
 use Rattle.mcf_feas.specs.declared.search.Visit.{Visit}
 use Rattle.mcf_feas.specs.Searching.{IsFound, IsReachedBy, IsScanned, IsSearch, node_at, visit_at}
-use Rattle.mcf_feas.proofs.Marks.{count_none, counted_new, marked_new, marked_only, marked_still, unmarked}
 
 -- ---- one visit more
 
@@ -219,10 +220,6 @@ scanning_first s table visits place list ok h lists =
       left = λ r room from. inr (lists.every r (record { arc = room.arc; from = from }));
     }
 
-contains_rest : (r q : Rid) (rest : List Rid) → Contains (r ∷ rest) q → (r ≡ q) ⊎ Contains rest q
-contains_rest r q rest (zero, l, e) = inl e
-contains_rest r q rest (suc k, l, e) = inr (k, omega arith, e)
-
 module _ (s : Pseudoflow) (table : List Bool) (visits : List Visit) (place : ℕ) (r : Rid) (rest : List Rid) (old : IsScanning s table visits place (r ∷ rest)) where
   pub scanning_leaves : Leaves s.net (node_at visits place) r
   scanning_leaves = All-head (Leaves s.net (node_at visits place)) r rest old.each
@@ -236,7 +233,7 @@ module _ (s : Pseudoflow) (table : List Bool) (visits : List Visit) (place : ℕ
         each = All-tail (Leaves s.net (node_at visits place)) r rest old.each;
         left = λ q room from. elim (old.left q room from) [
           | inl m ↦ inl m
-          | inr c ↦ elim (contains_rest r q rest c) [
+          | inr c ↦ elim (Contains-cons r rest q c) [
             | inl e ↦ absurd (let at = ap (room_of s) e in let p = room.room in omega (arith, ints, at, p, none))
             | inr more ↦ inr more
           ]
@@ -252,7 +249,7 @@ module _ (s : Pseudoflow) (table : List Bool) (visits : List Visit) (place : ℕ
         each = All-tail (Leaves s.net (node_at visits place)) r rest old.each;
         left = λ q room from. elim (old.left q room from) [
           | inl m ↦ inl m
-          | inr c ↦ elim (contains_rest r q rest c) [
+          | inr c ↦ elim (Contains-cons r rest q c) [
             | inl e ↦ inl (ap (λ (x : Rid). in_table table (head s.net x)) (sym e) ∙ marked)
             | inr more ↦ inr more
           ]
@@ -283,7 +280,7 @@ module _ (s : Pseudoflow) (table : List Bool) (visits : List Visit) (place : ℕ
         each = rw kept (All-tail (Leaves s.net (node_at visits place)) r rest old.each);
         left = λ q has from. elim (old.left q has (from ∙ kept)) [
           | inl m ↦ inl (marked_still table to (head s.net q) here m)
-          | inr c ↦ elim (contains_rest r q rest c) [
+          | inr c ↦ elim (Contains-cons r rest q c) [
             | inl e ↦ inl (ap (λ (x : Rid). in_table (with_node table to) (head s.net x)) (sym e) ∙ ap (in_table (with_node table to)) end ∙ marked_new table to here)
             | inr more ↦ inr more
           ]

@@ -1,7 +1,8 @@
 -- The path to a visited node, from its end.
 use Rattle.std.proofs.Common.{◌≡◌, ◌≢◌, ℕ, ◌-◌, ◌<◌, List, [], ◌∷◌, length, get_or, refl, ap, sym, subst, ◌∙◌, arith, ℤ, pos, ◌+ℤ◌, ◌≤ℤ◌, ◌<ℤ◌, ◌⊎◌, inl, inr, Option, Some, None, suc}
 use Rattle.std.specs.List.{All, AllPairs, Any}
-use Rattle.std.proofs.lemmas.Int.{ints}
+use Rattle.std.specs.Int.{int_min}
+use Rattle.std.proofs.lemmas.Int.{by_lt_z, clamps, ints}
 use Rattle.std.proofs.lemmas.List.{get_or_default}
 use Rattle.std.proofs.lemmas.List.Elements.{All-cons}
 use Rattle.std.proofs.lemmas.List.Kept.{AllPairs-cons}
@@ -12,6 +13,27 @@ use Rattle.mcf_network.specs.Walks.{HasRoomFor, IsWalk}
 use Rattle.mcf_feas.specs.declared.search.Link.{Link}
 use Rattle.mcf_feas.specs.declared.search.Visit.{Visit}
 use Rattle.mcf_feas.specs.Searching.{IsFound, IsTreeLink, IsPath, IsReachedBy, IsForest, TakesAll, node_at}
+
+-- what the lesser of two numbers above 0 is
+pub record IsLesser (x y least : ℤ) : Type 0 where
+  pub positive : pos 0 <ℤ least
+  pub first : least ≤ℤ x
+  pub second : least ≤ℤ y
+  pub either : (least ≡ x) ⊎ (least ≡ y)
+
+lesser : (x y : ℤ) → pos 0 <ℤ x → pos 0 <ℤ y → IsLesser x y (int_min x y)
+lesser x y px py =
+    record {
+      positive = omega (arith, ints, clamps, px, py);
+      first = omega (arith, ints, clamps);
+      second = omega (arith, ints, clamps);
+      either = by_lt_z x y (λ p. inl (omega (arith, ints, clamps, p))) (λ p. inr (omega (arith, ints, clamps, p)));
+    }
+
+-- the lesser of two numbers, as the code gives it: y is read as r, and the lesser, m, as least
+pub lesser_read : (x r y m least : ℤ) → pos 0 <ℤ x → pos 0 <ℤ y → r ≡ y → m ≡ int_min x r → least ≡ m → IsLesser x y least
+lesser_read x r y m least px py er em e =
+    subst (λ (z : ℤ). IsLesser x y z) (sym (e ∙ em ∙ ap (int_min x) er)) (lesser x y px py)
 
 -- a residual arc enters a node visited after this place
 abbrev EntersLater : Pseudoflow → List Visit → ℕ → Rid → Type 0

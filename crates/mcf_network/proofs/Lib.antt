@@ -1,4 +1,6 @@
 pub mod ArcLaws
+pub mod Lists
+pub mod Marks
 pub mod OutsLaws
 pub mod RemovalLaws
 pub mod RestoringLaws

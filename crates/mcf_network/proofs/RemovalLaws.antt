@@ -7,6 +7,7 @@ use Rattle.std.proofs.lemmas.Int.{ints}
 use Rattle.std.proofs.lemmas.Bool.{cases_eq, eq-eqb, ne_eqb}
 use Rattle.std.proofs.lemmas.List.{ext_get_or, get_or-map, length-map, map-append, map_more}
 use Rattle.std.proofs.lemmas.Option.{get_or_from_slice_get}
+use Rattle.std.proofs.lemmas.Simd.{map-map}
 use Rattle.std.proofs.lemmas.List.Elements.{All-head, All-tail, All-map}
 use Rattle.std.proofs.lemmas.List.FromFn.{get_or-map-range_with_len, length-map-range_with_len}
 use Rattle.mcf_instance.specs.declared.arc.Arc.{Arc}
@@ -171,10 +172,6 @@ net_supplies_small g ok k d h =
     let n = length-map-range_with_len (supply_left g) 1 (node_count g) in
     let at = get_or-map-range_with_len (supply_left g) 1 (node_count g) k (k + 1) d (omega (arith, h, n)) (omega arith) in
     rw at (rw (left_all g (k + 1)) at (left_small g (length g.arcs) (k + 1) ok (omega (arith, h, n)) (omega arith)))
-
-map-map : (f : Arc → ℕ) (h : Arc → Arc) (arcs : List Arc) → map f (map h arcs) ≡ map (λ a. f (h a)) arcs
-map-map f h [] = refl
-map-map f h (a ∷ arcs) = ap (λ xs. f (h a) ∷ xs) (map-map f h arcs)
 
 net_total : (g : Network) → sum (map weight g.arcs) ≤ total_limit → sum (map weight (map without_low g.arcs)) ≤ net_total_limit
 net_total g h =

@@ -5,7 +5,7 @@ use Rattle.std.specs.List.{All, range_with_len}
 use Rattle.std.proofs.Math.IntN.{◌*ℤ◌}
 use Rattle.std.proofs.lemmas.Int.{ints}
 use Rattle.std.proofs.lemmas.Bool.{cases_eq, eq-eqb, false≢true, ne_eqb}
-use Rattle.std.proofs.lemmas.List.{length-map, take_all, take_more}
+use Rattle.std.proofs.lemmas.List.{length-map, take_all}
 use Rattle.std.proofs.lemmas.List.Elements.{All-head, All-tail}
 use Rattle.std.proofs.lemmas.List.FromFn.{length-map-range_with_len}
 use Rattle.mcf_instance.specs.declared.arc.Arc.{Arc}
@@ -24,6 +24,7 @@ use Rattle.mcf_network.specs.Removal.{is_loop, lows, net_of, supply_left, width_
 use Rattle.mcf_network.specs.Residual.{no_arc}
 use Rattle.mcf_network.specs.States.{Pseudoflow, HasNoSurplus, IsPseudoflow}
 use Rattle.mcf_network.specs.Restoring.{fixed_cost, is_earning_loop, restored, restored_flow}
+use Rattle.mcf_network.proofs.Lists.{take_next}
 use Rattle.mcf_network.proofs.RemovalLaws.{net_of-node_count, net_supply, width_loop, width_plain}
 use Rattle.mcf_network.proofs.StateLaws.{when-add, when-sub, when-zero}
 use Rattle.mcf_network.proofs.StuckLaws.{feasible_of_state}
@@ -336,7 +337,7 @@ pub restored_next : (arcs : List Arc) (amounts : List ℤ) (i : ℕ) (a : Arc) (
 restored_next arcs amounts i a x y before after n h ea ex ey eb e =
     let at = get_or-restored arcs amounts i h n in
     let is : y ≡ get_or (restored arcs amounts) i (pos 0) = rw (at, ea, ex) ey in
-    e ∙ ap (λ (xs : List ℤ). xs ++ y ∷ []) eb ∙ ap (λ (z : ℤ). take i (restored arcs amounts) ++ z ∷ []) is ∙ sym (take_more (restored arcs amounts) i (pos 0) (omega (arith, h, length-restored arcs amounts n)))
+    take_next (restored arcs amounts) i y (pos 0) before after eb (omega (arith, h, length-restored arcs amounts n)) (sym is) e
 
 pub net_of-arc_count : (g : Network) → length (net_of g).arcs ≡ length g.arcs
 unfolding net_of

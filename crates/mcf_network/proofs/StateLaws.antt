@@ -55,16 +55,6 @@ read_written xs i v a d l =
       | inr n ↦ inr (n, get_or-set_other xs i v a d n)
     ]
 
--- ---- surpluses
-
--- x less at node i, and then x more at node j
-pub move_two : (xs : List ℤ) (i j v : ℕ) (a b x : ℤ) → IsNode (length xs) i → IsNode (length xs) j → IsNode (length xs) v → a ≡ at_node xs i -ℤ x → b ≡ at_node (set xs (i - 1) a) j +ℤ x → at_node (set (set xs (i - 1) a) (j - 1) b) v ≡ at_node xs v -ℤ when (eqb i v) x +ℤ when (eqb j v) x
-move_two xs i j v a b x hi hj hv ea eb =
-    let n = length-set xs (i - 1) a in
-    let first = add_at_node xs i v (at_node xs i) (neg_ℤ x) a hi hv refl ea in
-    let second = add_at_node (set xs (i - 1) a) j v (at_node (set xs (i - 1) a) j) x b (omega (arith, n)) (omega (arith, n)) refl eb in
-    omega (arith, ints, first, second, when-neg (eqb i v) x)
-
 -- ---- amounts
 
 -- an amount from 0 to the width in place of that of an arc
@@ -168,14 +158,6 @@ zero_keeps g ok =
     }
 
 -- ---- what the code of a push does
-
--- the second entry that is read, once the first is written, is small too
-pub second_small : (xs : List ℤ) (i j : ℕ) (a q x : ℤ) → IsNode (length xs) i → IsNode (length xs) j → IsUpTo (10 ^ 30) x → ((v : ℕ) → IsNode (length xs) v → IsUpTo (10 ^ 30) (at_node xs v)) → a ≡ at_node xs i -ℤ x → q ≡ get_or (set xs (i - 1) a) (j - 1) q → (q ≡ at_node (set xs (i - 1) a) j) × IsUpTo (2 * 10 ^ 30) q
-second_small xs i j a q x hi hj small each ea eq =
-    let l = length-set xs (i - 1) a in
-    let read : q ≡ at_node (set xs (i - 1) a) j = get_or_read (set xs (i - 1) a) (j - 1) q (omega (arith, l)) eq (pos 0) in
-    let was = add_at_node xs i j (at_node xs i) (neg_ℤ x) a hi hj refl ea in
-    (read, omega (arith, ints, read, was, each j hj, when_up_to (eqb i j) (10 ^ 30) (neg_ℤ x) (omega (arith, ints, small))))
 
 -- the new amount, as the code gives it
 pub changed_is : (b : Bool) (y a x : ℤ) → pos 0 ≤ℤ a → a ≤ℤ pos width_limit → pos 0 ≤ℤ x → x ≤ℤ pos width_limit → y ≡ cond b (to_z w64 (of_z w64 a) -ℤ to_z w128 (of_z w128 x)) (to_z w64 (of_z w64 a) +ℤ to_z w128 (of_z w128 x)) → to_z w64 (of_z w64 y) ≡ cond b (a -ℤ x) (a +ℤ x)

@@ -1,5 +1,5 @@
 //! What the nodes have left to send.
-ghost use Rattle.std.specs.Prelude.{◌≡◌, ◌+ℤ◌, ◌-ℤ◌, ◌^◌, ◌==◌, ℕ, length};
+ghost use Rattle.std.specs.Prelude.{◌≡◌, ◌+ℤ◌, ◌-ℤ◌, ◌*◌, ◌^◌, ◌==◌, ℕ, length};
 ghost use Rattle.mcf_instance.specs.Network.{IsNode, at_node, when};
 ghost use Rattle.mcf_instance.specs.WellFormed.{IsUpTo};
 
@@ -17,8 +17,17 @@ pub(crate) fn move_surplus(surpluses: &mut Vec<i128>, from: NodeId, to: NodeId, 
     if x == 0 {
         return;
     }
-    let less = surpluses[from.get() as usize - 1] - x;
-    surpluses[from.get() as usize - 1] = less;
-    let more = surpluses[to.get() as usize - 1] + x;
-    surpluses[to.get() as usize - 1] = more;
+    add_surplus(surpluses, from, -x);
+    add_surplus(surpluses, to, x);
+}
+
+// Adds `x` to what a node has left to send.
+fn add_surplus(surpluses: &mut Vec<i128>, u: NodeId, x: i128)
+    requires node { IsNode (length surpluses.old.items) u }
+    requires x { IsUpTo (10 ^ 30) x }
+    requires surplus { IsUpTo (2 * 10 ^ 30) (at_node surpluses.old.items u) }
+    ensures length { length surpluses.new.items ≡ length surpluses.old.items }
+    ensures each { (v : ℕ) → IsNode (length surpluses.old.items) v → at_node surpluses.new.items v ≡ at_node surpluses.old.items v +ℤ when (u == v) x }
+{
+    surpluses[u.get() as usize - 1] += x;
 }
