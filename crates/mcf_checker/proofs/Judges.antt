@@ -18,42 +18,24 @@ use Rattle.mcf_checker.specs.declared.verdict.Verdict.TheVariants.{BadRefusal, B
 use Rattle.mcf_checker.proofs.Sets.{IsRightSet-from_accepts, accepts-from_IsRightSet, at_right_set}
 use Rattle.mcf_checker.proofs.Solutions.{IsRightSolution-from_accepts, accepts-from_IsRightSolution, at_right}
 use Rattle.mcf_instance.specs.Blocking.{in_list}
-use Rattle.mcf_instance.specs.Fault.{Fault, code_of_word, code_word}
+use Rattle.mcf_instance.specs.Fault.{Fault, code_word}
 use Rattle.mcf_instance.specs.Limits.{limits}
 use Rattle.mcf_instance.specs.Network.{Network}
 use Rattle.mcf_instance.specs.Reading.{reading}
 use Rattle.mcf_instance.specs.WellFormed.{IsWellFormed}
 use Rattle.mcf_instance.specs.declared.code.Code.{Code}
-use Rattle.mcf_instance.specs.declared.code.Code.TheVariants.{Kind, Fields, Problem, Number, SecondP, BeforeP, Size, Node, LateN, Twice, Supply, Bound, Order, Cost, Extra, Side, NoP, Missing}
 use Rattle.mcf_instance.proofs.Duality.{shown_flows_are_least_lem}
 use Rattle.mcf_instance.proofs.Hoffman.{blocked_has_no_flow_lem}
+use Rattle.mcf_instance.proofs.Words.{code_of_word-known}
 
 -- ---- refusals
-
-word_back : (code : Code) → code_of_word (code_word code) ≡ Some code
-word_back Kind = refl
-word_back Fields = refl
-word_back Problem = refl
-word_back Number = refl
-word_back SecondP = refl
-word_back BeforeP = refl
-word_back Size = refl
-word_back Node = refl
-word_back LateN = refl
-word_back Twice = refl
-word_back Supply = refl
-word_back Bound = refl
-word_back Order = refl
-word_back Cost = refl
-word_back Extra = refl
-word_back Side = refl
-word_back NoP = refl
-word_back Missing = refl
 
 -- codes with one word are one code
 same_code : (c d : Code) → code_word c ≡ code_word d → c ≡ d
 same_code c d e =
-    let s : Some c ≡ Some d = sym (word_back c) ∙ ap code_of_word e ∙ word_back d in cc
+    let first = (code_of_word-known (code_word c) c).1 refl in
+    let second = (code_of_word-known (code_word c) d).1 (sym e) in
+    let s : Some c ≡ Some d = sym first ∙ second in cc
 
 pub same_fault-true : (r s : Fault) → same_fault r s ≡ true → r ≡ s
 same_fault-true r s e =

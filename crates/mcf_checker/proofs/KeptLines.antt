@@ -1,6 +1,6 @@
 -- An answer text has a line that is neither blank nor a comment.
-use Rattle.std.proofs.Common.{◌≡◌, ℕ, suc, Bool, true, false, List, [], ◌∷◌, length, Result, Ok, Err, arith, refl, sym, ap, ◌∙◌}
-use Rattle.std.specs.Prelude.{OnErr, filter, map}
+use Rattle.std.proofs.Common.{◌≡◌, ℕ, suc, Bool, true, false, List, [], ◌∷◌, length, arith, refl, sym, ap, ◌∙◌}
+use Rattle.std.specs.Prelude.{filter, map}
 use Rattle.std.specs.List.{list_any}
 use Rattle.std.proofs.lemmas.Bool.{false≢true}
 use Rattle.mcf_answer.specs.Parsing.{has_kept_line}
@@ -40,8 +40,3 @@ spelled_kept text a h = decide (has_kept_line text) refl
     decide : (b : Bool) → has_kept_line text ≡ b → has_kept_line text ≡ true
     decide true e = e
     decide false e = absurd (no_lines a (sym h.lines ∙ ap (λ (kept : List (ℕ × List ℕ)). map tokens (map row_of kept)) (none_left (λ (line : ℕ × List ℕ). is_kept line.1) (numbered_lines 1 text) e)))
-
--- what holds holds of an error
-pub on_err : {T E : Type 0} (r : Result T E) (P : Type 0) → P → OnErr r P
-on_err (Ok x) P p = tt
-on_err (Err e) P p = p

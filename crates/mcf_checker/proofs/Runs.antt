@@ -5,7 +5,7 @@ use Rattle.std.specs.Fn.{Called, CalledAt, Mut}
 use Rattle.std.specs.Io.KnownBytes.{Appends}
 use Rattle.mcf_checker.specs.Judging.{accepts, verdict}
 use Rattle.mcf_checker.specs.Printed.{printed_line}
-use Rattle.mcf_checker.specs.Runs.{JudgesAndPrints}
+use Rattle.mcf_checker.specs.Runs.{AsksForFiles, JudgesAndPrints}
 
 -- a call at the text of the word at a place
 pub called-at_word : {F R S : Type 0} (calls : Mut F (Bor (List ℕ) × Unit {0}) R) (text_of : S → List ℕ) (words : List S) (place : ℕ)
@@ -31,3 +31,17 @@ pub judges-from_parts : {F V E X : Type 0} (calls : Mut F (Bor (List ℕ) × Uni
 judges-from_parts calls bytes read between last words input text (Ok status) old new first second is printed =
     record { input = input; text = text; between = between; last = last; input_read = first; text_read = second; status_is = is; printed_is = printed }
 judges-from_parts calls bytes read between last words input text (Err fault) old new first second is printed = tt
+
+-- which files are asked for: the first couldn't be read, or the second couldn't, or both were read
+module _ {F V E : Type 0} (calls : Mut F (Bor (List ℕ) × Unit {0}) (Result V E)) (read between : F) (words : List (List ℕ)) (of_input of_answer : E → Type 0) (of_both : Type 0) where
+  pub asks-from_input : (fault : E) → CalledAt calls read (slice_index_or words 1 []) (Err fault) between → of_input fault → AsksForFiles calls read words of_input of_answer of_both
+  asks-from_input fault first holds =
+      record { given = Err fault; between = between; called = first; outcome = holds }
+
+  pub asks-from_answer : (last : F) (input : V) (fault : E) → CalledAt calls read (slice_index_or words 1 []) (Ok input) between → CalledAt calls between (slice_index_or words 2 []) (Err fault) last → of_answer fault → AsksForFiles calls read words of_input of_answer of_both
+  asks-from_answer last input fault first second holds =
+      record { given = Ok input; between = between; called = first; outcome = record { given = Err fault; last = last; called = second; outcome = holds } }
+
+  pub asks-from_both : (last : F) (input text : V) → CalledAt calls read (slice_index_or words 1 []) (Ok input) between → CalledAt calls between (slice_index_or words 2 []) (Ok text) last → of_both → AsksForFiles calls read words of_input of_answer of_both
+  asks-from_both last input text first second holds =
+      record { given = Ok input; between = between; called = first; outcome = record { given = Ok text; last = last; called = second; outcome = holds } }

@@ -2,6 +2,7 @@ use Rattle.std.proofs.Common.{◌≡◌, ℕ, ℤ, Err, Ok, inr, sym, ◌∙◌}
 use Rattle.std.specs.Bool.{IsTrue}
 use Rattle.std.specs.Prelude.{◌↔◌}
 use Rattle.std.proofs.lemmas.Result.{IfOk-weaker}
+use Rattle.mcf_answer.proofs.Room.{on_err}
 use Rattle.mcf_answer.specs.Parsing.{parsing}
 use Rattle.mcf_instance.specs.Limits.{limits}
 use Rattle.mcf_instance.specs.Reading.{reading}
@@ -9,7 +10,7 @@ use Rattle.mcf_checker.specs.Correct.{GivesLeastFlow, HasNoFlow, IsCorrect}
 use Rattle.mcf_checker.specs.Judging.{accepts, judged, verdict}
 use Rattle.mcf_checker.specs.declared.verdict.Verdict.{Verdict}
 use Rattle.mcf_checker.specs.declared.verdict.Verdict.TheVariants.{BadShape, Blocked as SetAccepted, Flow as FlowAccepted}
-use Rattle.mcf_checker.proofs.KeptLines.{on_err, spelled_kept}
+use Rattle.mcf_checker.proofs.KeptLines.{spelled_kept}
 use Rattle.mcf_checker.proofs.Judges.{ParsesExactly, exact_at, instance_reads, least_at, none_at, refused_reads, verdict_is, verdict_misfit}
 use Rattle.mcf_checker.proofs.checking.check.Goals as goal
 
