@@ -1,5 +1,6 @@
 //! Why a run ended without an answer.
 ghost use Rattle.std.specs.Prelude.{◌≡◌};
+ghost use Rattle.mcf_solver.specs.Running.{fault_text};
 ghost use Rattle.mcf_solver.specs.declared.fault.RunFault.TheVariants.{NoMemory as OutOfMemory};
 
 use mcf_text::NoMemory;
@@ -22,17 +23,23 @@ pub enum RunFault {
 
 impl fmt::Display for RunFault {
     ghost use Rattle.std.specs.Prelude.{Some};
-    ghost use Rattle.mcf_solver.specs.Running.{fault_text};
 
     ghost output = { λ f. Some (fault_text f) };
 
     fn fmt<W: fmt::Write>(&self, f: &mut fmt::Formatter<W>) -> fmt::Result {
-        match self {
-            RunFault::Read => write!(f, "mcf: read failed"),
-            RunFault::Write => write!(f, "mcf: write failed"),
-            RunFault::NoMemory => write!(f, "mcf: out of memory"),
-            RunFault::TooLong => write!(f, "mcf: input too long"),
-        }
+        f.write_str(fault_text(*self))
+    }
+}
+
+// What a fault says.
+fn fault_text(fault: RunFault) -> &'static str
+    ensures { result.now ≡ fault_text fault }
+{
+    match fault {
+        RunFault::Read => "mcf: read failed",
+        RunFault::Write => "mcf: write failed",
+        RunFault::NoMemory => "mcf: out of memory",
+        RunFault::TooLong => "mcf: input too long",
     }
 }
 
