@@ -57,6 +57,13 @@ pub lines_more : {X : Type 0} (line : X → List Token) (old : List ℕ) (xs : L
     → (old ++ flat_map line_text (map line xs)) ++ line_text (line x) ≡ old ++ flat_map line_text (map line (xs ++ x ∷ []))
 lines_more line old xs x = flat_map_more line_text old (map line xs) (line x) ∙ ap (λ ls. old ++ flat_map line_text ls) (sym (map_push line xs x))
 
+-- the lines of the items before one, and that of the one
+pub lines_next : {X : Type 0} (line : X → List Token) (old : List ℕ) (xs : List X) (k : ℕ) (x : X) → k < length xs → x ≡ get_or xs k x
+    → (old ++ flat_map line_text (map line (take k xs))) ++ line_text (line x) ≡ old ++ flat_map line_text (map line (take (k + 1) xs))
+lines_next line old xs k x inside is =
+    lines_more line old (take k xs) x
+    ∙ ap (λ some. old ++ flat_map line_text (map line some)) (ap (λ y. take k xs ++ y ∷ []) is ∙ sym (take_more xs k x inside))
+
 -- the prices so far, and one more
 pub prices_more : (old : List ℕ) (prices : List ℤ) (k : ℕ) → k < length prices
     → (old ++ flat_map line_text (map price_line (enumerate_from 1 (take k prices)))) ++ line_text (price_line (k + 1, get_or prices k (pos 0)))

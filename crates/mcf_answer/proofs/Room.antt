@@ -1,6 +1,7 @@
 -- A text that didn't fit: where a part of it didn't fit after what stands before the part, the text didn't either.
 use Rattle.std.proofs.Common.{◌≡◌, ℕ, zero, suc, List, [], ◌∷◌, ◌++◌, ◌+◌, ◌<◌, ◌≤◌, length, take, get_or, pos, refl, ap, ◌∙◌, arith}
 use Rattle.std.specs.Prelude.{ℤ, Result, Ok, Err, OnErr, map, flat_map}
+use Rattle.std.specs.Fmt.{signed_decimal}
 use Rattle.std.specs.List.{enumerate_from}
 use Rattle.std.proofs.lemmas.List.{get_or-map, length-append, length-map, take-map}
 use Rattle.std.proofs.lemmas.List.Folds.{length-flat_map-take}
@@ -21,6 +22,15 @@ pub on_err : {T E : Type 0} (r : Result T E) (P : Type 0) → P → OnErr r P
 on_err (Ok x) P p = tt
 on_err (Err e) P p = p
 
+-- the word of a line
+pub word_within : (word : List ℕ) (numbers : List ℤ) → length word ≤ length (line_text (Word word ∷ map Number numbers))
+word_within word numbers =
+    omega (
+      arith,
+      ap length (line_text-numbers word numbers) ∙ length-append (word ++ flat_map field_text numbers) (10 ∷ []),
+      length-append word (flat_map field_text numbers),
+    )
+
 -- the numbers of a line before one of them, and that one
 pub number_within : (word : List ℕ) (numbers : List ℤ) (k : ℕ) → k < length numbers
     → length (word ++ flat_map field_text (take k numbers)) + length (field_text (get_or numbers k (pos 0))) ≤ length (line_text (Word word ∷ map Number numbers))
@@ -38,6 +48,17 @@ pub end_within : (word : List ℕ) (numbers : List ℤ) (k : ℕ) → length num
     → length (word ++ flat_map field_text (take k numbers)) + length {A = ℕ} (10 ∷ []) ≤ length (line_text (Word word ∷ map Number numbers))
 end_within word numbers k past =
     omega (arith, ap length (numbers_all [] word numbers k past), length-append (word ++ flat_map field_text (take k numbers)) (10 ∷ []))
+
+-- the parts of a line of a word, a number and a word
+pub length-word_line : (word last : List ℕ) (z : ℤ) → length (line_text (Word word ∷ Number z ∷ Word last ∷ [])) ≡ length word + length (field_text z) + 1 + length last + 1
+length-word_line word last z =
+    let parts : line_text (Word word ∷ Number z ∷ Word last ∷ []) ≡ (word ++ 32 ∷ (signed_decimal z ++ 32 ∷ last)) ++ 10 ∷ [] = refl in
+    omega (
+      arith,
+      ap length parts ∙ length-append (word ++ 32 ∷ (signed_decimal z ++ 32 ∷ last)) (10 ∷ []),
+      length-append word (32 ∷ (signed_decimal z ++ 32 ∷ last)),
+      length-append (signed_decimal z) (32 ∷ last),
+    )
 
 -- the lines of the items before one, and that of the one
 line_within : {X : Type 0} (line : X → List Token) (xs : List X) (k : ℕ) (d : X) → k < length xs

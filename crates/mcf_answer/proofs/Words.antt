@@ -1,12 +1,11 @@
--- Words are no numbers.
+-- The words of codes: they are plain, and no numbers.
 use Rattle.std.proofs.Common.{◌≡◌, ℕ, Bool, true, false, not, cond, List, length, Some, None, refl, sym, ap, subst, ◌∙◌}
-use Rattle.std.specs.Prelude.{Option, bytes_eq, nat_eq, nat_lt, ◌&&◌}
+use Rattle.std.specs.Prelude.{Option, bytes_eq, nat_eq, nat_lt, slice_get, ◌&&◌}
 use Rattle.std.specs.List.{list_all, position_or_len}
 use Rattle.std.proofs.lemmas.Bool.{and_parts, not-true}
 use Rattle.std.proofs.lemmas.List.Folds.{find_at}
 use Rattle.std.proofs.lemmas.List.Sums.{AllPass-from_list_all}
 use Rattle.std.proofs.lemmas.Option.{get_or_from_slice_get, slice_get_within}
-use Rattle.std.specs.Prelude.{slice_get}
 use Rattle.mcf_answer.specs.Said.{code_of}
 use Rattle.mcf_answer.specs.Token.{Token, Word, token_of}
 use Rattle.mcf_instance.specs.Fault.{all_codes, code_of_word, code_word}

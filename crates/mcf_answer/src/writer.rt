@@ -116,11 +116,8 @@ fn put_flow(out: &mut Vec<u8>, s: Sent) -> Result<(), NoMemory>
     ensures capacity { vec_capacity out.old ≤ vec_capacity out.new }
     ensures refused { OnErr result (vec_capacity out.old < vec_len out.old + length (line_text (flow_line s))) }
 {
-    put_line(
-        out,
-        b"f",
-        &[i128::from(s.src.get()), i128::from(s.dst.get()), s.flow],
-    )
+    let numbers = [i128::from(s.src.get()), i128::from(s.dst.get()), s.flow];
+    put_line(out, b"f", &numbers)
 }
 
 // Appends the price lines, from node 1 on.

@@ -1,10 +1,19 @@
-use Rattle.std.proofs.Common.{take, vec_len, vec_capacity}
+use Rattle.std.proofs.Common.{ℕ, List, ◌++◌, take, vec_len, vec_capacity, ap, ◌∙◌, arith}
 use Rattle.std.specs.Prelude.{flat_map, map}
 use Rattle.mcf_answer.specs.Spelling.{member_line}
 use Rattle.mcf_answer.specs.Written.{line_text}
-use Rattle.mcf_answer.proofs.Appends.{keeps}
+use Rattle.mcf_answer.proofs.Appends.{keeps, lines_next}
 use Rattle.mcf_answer.proofs.Room.{line_refused, on_err}
 use Rattle.mcf_answer.proofs.writer.put_nodes.Goals as goal
+
+pub loop-node-preserved : goal.loop-node-preserved
+loop-node-preserved c = record {
+  text =
+      c.in_ok-put_node.ensures.ok
+      ∙ ap (λ (front : List ℕ). front ++ line_text (member_line c.node-item.result)) c.loop-node.invariant.text
+      ∙ lines_next member_line c.args.out.now.items c.args.nodes.now c.loop-node.node-index c.node-item.result c.loop-node-test.true c.node-item.is;
+  grown = omega (arith, c.loop-node.invariant.grown, c.put_node.ensures.capacity);
+}
 
 pub returns-in_err-put_node-clause-refused : goal.returns-in_err-put_node-clause-refused
 returns-in_err-put_node-clause-refused c =
