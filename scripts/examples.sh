@@ -1,6 +1,8 @@
 #!/bin/sh
 # Runs the programs of bin/ on the pairs of examples/: what `mcf solve` writes must be the answer there,
-# byte for byte, and `mcfcheck` must accept that answer. Whatever program isn't there yet is passed over.
+# byte for byte, and `mcfcheck` must accept that answer. Then on a text of several pieces, from a file and from
+# standard input, and on words, files and a want of memory that leave no answer: what is said then is compared
+# too. `main` has no contract, so this is what judges it. Whatever program isn't there yet is passed over.
 set -u
 cd "$(dirname "$0")/.." || exit 1
 
@@ -10,7 +12,8 @@ if [ ! -x bin/mcfcheck ] && [ ! -x bin/mcf ]; then
 fi
 
 written=$(mktemp) || exit 1
-trap 'rm -f "$written" "$written.err"' EXIT
+long=$written.long
+trap 'rm -f "$written" "$written.err" "$long.min" "$long.ans" "$written.large"' EXIT
 pairs=0
 wrong=0
 
@@ -37,37 +40,85 @@ report() {
     wrong=$((wrong + 1))
 }
 
+# `mcfcheck` accepts the answer of a file for the instance of another, and says nothing else.
+accepts() {
+    bin/mcfcheck "$1" "$2" > "$written" 2> "$written.err"
+    status=$?
+    [ "$status" -eq 0 ] && [ "$(cat "$written")" = "$(verdict_of "$(head -n 1 "$2")")" ] && [ ! -s "$written.err" ] ||
+        report "mcfcheck $1 $2: status $status, $(cat "$written" "$written.err")"
+}
+
+# `mcf` with these words, whose standard input is a file, writes the bytes of an answer, and says nothing else.
+answers() {
+    answer=$1
+    input=$2
+    shift 2
+    bin/mcf "$@" < "$input" > "$written" 2> "$written.err"
+    status=$?
+    [ "$status" -eq "$(status_of "$(head -n 1 "$answer")")" ] && cmp -s "$written" "$answer" && [ ! -s "$written.err" ] ||
+        report "mcf $* with input $input: status $status, and not the bytes of $answer alone"
+}
+
+# A run without an answer: status 3, nothing on standard output, and this text on standard error.
+tells() {
+    text=$1
+    shift
+    "$@" > "$written" 2> "$written.err" < /dev/null
+    status=$?
+    [ "$status" -eq 3 ] && [ ! -s "$written" ] && [ "$(cat "$written.err")" = "$text" ] ||
+        report "$*: status $status, and not '$text' on standard error alone"
+}
+
+# The same with little memory, where the shell can refuse it.
+tells_with_little() {
+    (ulimit -v 300000) 2> /dev/null || return 0
+    text=$1
+    shift
+    tells "$text" sh -c 'ulimit -v 300000; exec "$@"' sh "$@"
+}
+
 for instance in examples/*.min examples/*.asn; do
     answer=${instance%.*}.ans
-    first=$(head -n 1 "$answer")
     pairs=$((pairs + 1))
-    if [ -x bin/mcfcheck ]; then
-        printed=$(bin/mcfcheck "$instance" "$answer" 2>&1)
-        status=$?
-        [ "$status" -eq 0 ] && [ "$printed" = "$(verdict_of "$first")" ] ||
-            report "mcfcheck $instance $answer: status $status, $printed"
-    fi
-    if [ -x bin/mcf ]; then
-        bin/mcf solve "$instance" > "$written"
-        status=$?
-        [ "$status" -eq "$(status_of "$first")" ] && cmp -s "$written" "$answer" ||
-            report "mcf solve $instance: status $status, and not the bytes of $answer"
-    fi
+    [ ! -x bin/mcfcheck ] || accepts "$instance" "$answer"
+    [ ! -x bin/mcf ] || answers "$answer" /dev/null solve "$instance"
 done
 
-# a file that isn't there: status 3, nothing on standard output, a line on standard error
-missing() {
-    program=$1
-    shift
-    "$program" "$@" > "$written" 2> "$written.err"
-    status=$?
-    [ "$status" -eq 3 ] && [ ! -s "$written" ] && [ "$(wc -l < "$written.err")" -eq 1 ] ||
-        report "$program $*: status $status for a file that isn't there"
-}
+# A text of 120,000 bytes, which comes in several pieces, and its answer; then a file that no memory holds.
+arcs=10000
+{ echo "p min 2 $arcs"; yes 'a 1 2 0 0 0' | head -n $arcs; } > "$long.min" || exit 1
+{ echo 's 0'; yes 'f 1 2 0' | head -n $arcs; echo 'y 1 0'; echo 'y 2 0'; } > "$long.ans" || exit 1
+truncate -s 64G "$written.large" || exit 1
+unreadable=$(printf '\377')
 pair=examples/transport
-[ ! -x bin/mcf ] || missing bin/mcf solve examples/none.min
-[ ! -x bin/mcfcheck ] || missing bin/mcfcheck examples/none.min $pair.ans
-[ ! -x bin/mcfcheck ] || missing bin/mcfcheck $pair.min examples/none.ans
+
+if [ -x bin/mcfcheck ]; then
+    accepts "$long.min" "$long.ans"
+    tells 'mcfcheck: cannot read the instance' bin/mcfcheck examples/none.min $pair.ans
+    tells 'mcfcheck: cannot read the answer' bin/mcfcheck $pair.min examples/none.ans
+    tells 'usage: mcfcheck INSTANCE ANSWER' bin/mcfcheck $pair.min
+    tells 'usage: mcfcheck INSTANCE ANSWER' bin/mcfcheck $pair.min $pair.ans $pair.ans
+    tells 'usage: mcfcheck INSTANCE ANSWER' bin/mcfcheck $pair.min $pair.ans "$unreadable"
+    tells_with_little 'mcfcheck: out of memory' bin/mcfcheck "$written.large" $pair.ans
+fi
+if [ -x bin/mcf ]; then
+    answers "$long.ans" /dev/null solve "$long.min"
+    answers "$long.ans" "$long.min" solve
+    answers $pair.ans /dev/null solve --engine cancel $pair.min
+    tells 'mcf: cannot open the file' bin/mcf solve examples/none.min
+    tells "error: unexpected argument '$pair.min' found
+
+Usage: mcf solve [OPTIONS] [FILE]
+
+For more information, try '--help'." bin/mcf solve $pair.min $pair.min
+    tells "error: 'mcf' requires a subcommand but one was not provided
+  [subcommands: solve, help]
+
+Usage: mcf <COMMAND>
+
+For more information, try '--help'." bin/mcf solve "$unreadable"
+    tells_with_little 'mcf: out of memory' bin/mcf solve "$written.large"
+fi
 
 [ "$wrong" -eq 0 ] || { echo "examples: $wrong wrong of $pairs pairs"; exit 1; }
 [ ! -x bin/mcf ] || echo "examples: mcf writes the answers of all $pairs instances"

@@ -11,6 +11,16 @@ use Rattle.mcf_checker.proofs.solution.nets_of.Goals as goal
 pub arc_at-arc-requires : goal.arc_at-arc-requires
 arc_at-arc-requires c = omega (arith, count_is c.args.instance.now.arcs c.args.sent.now c.requires)
 
+pub overflow_sub-get : goal.overflow_sub-get
+overflow_sub-get c =
+    let ends = arc_has (HasEnds (node_count c.args.instance.now)) c.args.instance.now.arcs c.loop-place.place c.arc_at-arc.result c.arc_at-arc.ensures.value c.arc_at-arc.ensures.well_formed.ends in
+    omega (arith, ends.src_is_node, c.get.ensures)
+
+pub index_mut-requires : goal.index_mut-requires
+index_mut-requires c =
+    let ends = arc_has (HasEnds (node_count c.args.instance.now)) c.args.instance.now.arcs c.loop-place.place c.arc_at-arc.result c.arc_at-arc.ensures.value c.arc_at-arc.ensures.well_formed.ends in
+    omega (arith, ends.src_is_node, c.get.ensures, c.loop-place.invariant.one_per_node, c.loop-place.nets.ok)
+
 pub overflow_add-index_mut : goal.overflow_add-index_mut
 overflow_add-index_mut c =
     let w = c.arc_at-arc.ensures.well_formed in
