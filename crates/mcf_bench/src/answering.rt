@@ -11,8 +11,7 @@ pub fn run(rt: &HostRuntime, text: &[u8]) -> io::Result<()> {
     let time = start.elapsed(rt)?;
     match parsed {
         Ok(Ok(answer)) => run_on(rt, &answer, text, time),
-        Ok(Err(shape)) => println!(rt; "no answer at line {}", shape.line),
-        Err(_) => println!(rt; "out of memory"),
+        _ => println!(rt; "no answer"),
     }
 }
 

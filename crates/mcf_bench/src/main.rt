@@ -33,15 +33,7 @@ enum Part {
 
 fn main(rt: HostRuntime) -> io::Result<ExitCode> {
     let words = words(&rt)?;
-    if words.len() < 2 {
-        println!(rt; "{USAGE}")?;
-        return Ok(ExitCode::SUCCESS);
-    }
-    if run(&rt, &words)? {
-        return Ok(ExitCode::SUCCESS);
-    }
-    eprintln!(rt; "{USAGE}")?;
-    Ok(ExitCode::FAILURE)
+    run(&rt, &words)
 }
 
 // The words of the command line, the program's name first.
@@ -50,28 +42,35 @@ fn words(rt: &HostRuntime) -> io::Result<Vec<String>> {
     Ok(words)
 }
 
-// Runs the part that the words name, and says whether they name one.
-fn run(rt: &HostRuntime, words: &[String]) -> io::Result<bool> {
+// Runs the part that the words name.
+fn run(rt: &HostRuntime, words: &[String]) -> io::Result<ExitCode> {
     let Some(part) = words.get(1) else {
-        return Ok(false);
+        println!(rt; "{USAGE}")?;
+        return Ok(ExitCode::SUCCESS);
     };
     let Some(path) = words.get(2) else {
-        return Ok(false);
+        return refuse(rt);
     };
     let more = words.get(3);
     if let Some(part) = part_of(part.as_str()) {
         run_on_file(rt, part, path.as_str(), times_of(more))?;
-        return Ok(true);
+        return Ok(ExitCode::SUCCESS);
     }
     let Some(answer) = more else {
-        return Ok(false);
+        return refuse(rt);
     };
     match part.as_str() {
         "check" => judging::run(rt, path.as_str(), answer.as_str())?,
         "recover" => recovering::run(rt, path.as_str(), answer.as_str(), times_of(words.get(4)))?,
-        _ => return Ok(false),
+        _ => return refuse(rt),
     }
-    Ok(true)
+    Ok(ExitCode::SUCCESS)
+}
+
+// Words that name no part.
+fn refuse(rt: &HostRuntime) -> io::Result<ExitCode> {
+    eprintln!(rt; "{USAGE}")?;
+    Ok(ExitCode::FAILURE)
 }
 
 // The part of this name that needs one file.

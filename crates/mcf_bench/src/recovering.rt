@@ -2,10 +2,9 @@
 ghost use Rattle.std.specs.Prelude.{◌≡◌};
 ghost use Rattle.mcf_instance.specs.Network.{IsArcNumber};
 
-use crate::reading::instance_of;
+use crate::reading::net_of;
 use crate::tell_time;
-use mcf_answer::{Answer, Sent, parse};
-use mcf_instance::Instance;
+use mcf_answer::{Answer, FlowAnswer, Sent, parse};
 use mcf_network::{Net, Rid, State};
 use mcf_prices::{Recovered, recover};
 use mcf_text::{ArcId, NoMemory};
@@ -19,28 +18,28 @@ use std::{fs, io};
 pub fn run(rt: &HostRuntime, instance: &str, answer: &str, times: u32) -> io::Result<()> {
     let instance = fs::read(rt, instance)?;
     let answer = fs::read(rt, answer)?;
-    run_on_texts(rt, &instance, &answer, times)
+    run_on(rt, &instance, &answer, times)
 }
 
 // Recovers prices from the answer of a text for the instance of another.
-fn run_on_texts(rt: &HostRuntime, instance: &[u8], answer: &[u8], times: u32) -> io::Result<()> {
-    let Some(instance) = instance_of(rt.alloc(), instance) else {
-        return println!(rt; "no instance");
+fn run_on(rt: &HostRuntime, instance: &[u8], answer: &[u8], times: u32) -> io::Result<()> {
+    let Some(net) = net_of(rt.alloc(), instance) else {
+        return println!(rt; "no net");
     };
-    match parse(rt.alloc(), answer) {
-        Ok(Ok(Answer::Flow(flow))) => run_on(rt, &instance, flow.sent.as_slice(), times),
-        _ => println!(rt; "no flow"),
+    let Some(flow) = flow_of(rt.alloc(), answer) else {
+        return println!(rt; "no flow");
+    };
+    match state_of(rt.alloc(), &net, flow.sent.as_slice()) {
+        Ok(state) => run_from(rt, &state, times),
+        Err(_) => println!(rt; "out of memory"),
     }
 }
 
-// Recovers prices from what is sent on the arcs of an instance.
-fn run_on(rt: &HostRuntime, instance: &Instance, sent: &[Sent], times: u32) -> io::Result<()> {
-    let Ok(net) = Net::of(rt.alloc(), instance) else {
-        return println!(rt; "out of memory");
-    };
-    match state_of(rt.alloc(), &net, sent) {
-        Ok(state) => run_from(rt, &state, times),
-        Err(_) => println!(rt; "out of memory"),
+// The flow answer of a text, if there is memory and the text is one.
+fn flow_of(alloc: Global, text: &[u8]) -> Option<FlowAnswer> {
+    match parse(alloc, text) {
+        Ok(Ok(Answer::Flow(flow))) => Some(flow),
+        _ => None,
     }
 }
 
@@ -54,15 +53,14 @@ fn run_from(rt: &HostRuntime, state: &State<'_>, times: u32) -> io::Result<()> {
 }
 
 // Prints what a result holds.
-fn tell(rt: &HostRuntime, outcome: Result<Option<Recovered>, NoMemory>) -> io::Result<()> {
+fn tell(rt: &HostRuntime, outcome: Result<Recovered, NoMemory>) -> io::Result<()> {
     match outcome {
-        Ok(Some(Recovered::Prices(prices))) => println!(rt;
+        Ok(Recovered::Prices(prices)) => println!(rt;
             "prices {} sum {}",
             prices.len(),
             total(prices.as_slice())
         ),
-        Ok(Some(Recovered::Cycle(walk))) => println!(rt; "cycle {}", walk.len()),
-        Ok(None) => println!(rt; "nothing was asked"),
+        Ok(Recovered::Cycle(walk)) => println!(rt; "cycle {}", walk.len()),
         Err(_) => println!(rt; "out of memory"),
     }
 }
@@ -89,11 +87,11 @@ fn push_within(state: &mut State<'_>, arc: ArcId, amount: i128)
     }
 }
 
-// The last of so many results.
-fn repeat(alloc: Global, state: &State<'_>, times: u32) -> Result<Option<Recovered>, NoMemory> {
-    let mut last = None;
-    for _ in 0..times {
-        last = Some(recover(alloc, state)?);
+// The last of so many results, one at least.
+fn repeat(alloc: Global, state: &State<'_>, times: u32) -> Result<Recovered, NoMemory> {
+    let mut last = recover(alloc, state)?;
+    for _ in 1..times {
+        last = recover(alloc, state)?;
     }
     Ok(last)
 }

@@ -15,7 +15,7 @@ const LOW: i128 = -999_999_999_999_999_999;
 const HIGH: i128 = 999_999_999_999_999_999;
 
 // What a text holds.
-#[derive(Clone, Copy, Debug)]
+#[derive(Clone, Copy)]
 struct Tally {
     lines: u64,
     fields: u64,

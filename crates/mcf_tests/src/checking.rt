@@ -17,107 +17,123 @@ const LATE_NODE: &str = "p min 2 1\na 1 2 -3 -3 1\nn 1 -3\n";
 
 const TWO_ROWS_ONE_COLUMN: &str = "p asn 4 2\nn 1\nn 2\na 1 3 1\na 2 3 1\n";
 
-// What is printed of the verdict on an answer.
-fn printed(alloc: Global, instance: &str, answer: &str) -> Result<String, NoMemory> {
+// Whether this is printed of the verdict on an answer.
+fn is_printed(alloc: Global, instance: &str, answer: &str, want: &str) -> Result<bool, NoMemory> {
     let verdict = check(alloc, instance.as_bytes(), answer.as_bytes())?;
-    Ok(format!(in alloc; "{verdict}")?)
+    let printed = format!(in alloc; "{verdict}")?;
+    Ok(printed.as_str() == want)
 }
+
+static FLOWS: [(&str, &str); 16] = [
+    (LEAST, "accepted flow 14"),
+    (
+        "s 15\nf 1 2 2\nf 1 3 2\nf 2 3 2\nf 2 4 0\nf 3 4 4\ny 1 0\ny 2 -2\ny 3 -3\ny 4 -4\n",
+        "rejected cost",
+    ),
+    (
+        "s 14\nf 1 2 3\nf 1 3 2\nf 2 3 2\nf 2 4 0\nf 3 4 4\ny 1 0\ny 2 -2\ny 3 -3\ny 4 -4\n",
+        "rejected node 1",
+    ),
+    (
+        "s 14\nf 1 2 5\nf 1 3 2\nf 2 3 2\nf 2 4 0\nf 3 4 4\ny 1 0\ny 2 -2\ny 3 -3\ny 4 -4\n",
+        "rejected arc 1",
+    ),
+    (
+        "s 14\nf 1 2 2\nf 1 3 2\nf 2 3 2\nf 2 4 0\nf 3 4 4\ny 1 0\ny 2 -2\ny 3 -3\ny 4 -9\n",
+        "rejected price 4",
+    ),
+    (
+        "s 14\nf 1 2 2\nf 1 3 2\nf 2 3 2\nf 2 4 0\nf 3 4 4\ny 1 100\ny 2 98\ny 3 97\ny 4 96\n",
+        "accepted flow 14",
+    ),
+    (
+        "s 14\nf 1 3 2\nf 1 2 2\nf 2 3 2\nf 2 4 0\nf 3 4 4\ny 1 0\ny 2 -2\ny 3 -3\ny 4 -4\n",
+        "rejected arc 1",
+    ),
+    (
+        "s 14\nf 1 2 2\nf 1 3 2\nf 2 3 2\nf 2 4 0\nf 3 4 4\ny 1 0\ny 2 -2\ny 3 -3\n",
+        "rejected node 4",
+    ),
+    (
+        "s 14\nf 1 2 2\nf 1 3 2\nf 2 3 2\nf 2 4 0\nf 3 4 4\ny 1 0\ny 2 -2\ny 3 -3\ny 4 -4\ny 5 0\n",
+        "rejected node 5",
+    ),
+    ("s 14\n", "rejected arc 1"),
+    (
+        "s 14\nf 1 2 2\nf 1 3 2\nf 2 3 2\nf 2 4 0\nf 3 4 4\nf 3 4 0\ny 1 0\ny 2 -2\ny 3 -3\ny 4 -4\n",
+        "rejected arc 6",
+    ),
+    (
+        "s 14\nf 1 2 2\nf 1 3 2\nf 2 3 2\nf 2 4 0\ny 1 0\ny 2 -2\ny 3 -3\ny 4 -4\nf 3 4 4\n",
+        "rejected shape 10",
+    ),
+    ("", "rejected shape 1"),
+    ("r 1 kind\n", "rejected kind"),
+    (
+        "s 14\nf 1 2 10000000000000000000000000000000000000\n",
+        "rejected arc 1",
+    ),
+    (
+        "s 14\nf 1 2 2\nf 1 3 2\nf 2 3 2\nf 2 4 0\nf 3 4 4\ny 1 10000000000000000000000000000000000000\ny 2 -10000000000000000000000000000000000000\ny 3 -3\ny 4 -4\n",
+        "rejected price 1",
+    ),
+];
 
 #[test]
 fn flows_for_the_four_nodes(rt: HostRuntime) -> Result<(), Fail> {
-    for (answer, want) in [
-        (LEAST, "accepted flow 14"),
-        (
-            "s 15\nf 1 2 2\nf 1 3 2\nf 2 3 2\nf 2 4 0\nf 3 4 4\ny 1 0\ny 2 -2\ny 3 -3\ny 4 -4\n",
-            "rejected cost",
-        ),
-        (
-            "s 14\nf 1 2 3\nf 1 3 2\nf 2 3 2\nf 2 4 0\nf 3 4 4\ny 1 0\ny 2 -2\ny 3 -3\ny 4 -4\n",
-            "rejected node 1",
-        ),
-        (
-            "s 14\nf 1 2 5\nf 1 3 2\nf 2 3 2\nf 2 4 0\nf 3 4 4\ny 1 0\ny 2 -2\ny 3 -3\ny 4 -4\n",
-            "rejected arc 1",
-        ),
-        (
-            "s 14\nf 1 2 2\nf 1 3 2\nf 2 3 2\nf 2 4 0\nf 3 4 4\ny 1 0\ny 2 -2\ny 3 -3\ny 4 -9\n",
-            "rejected price 4",
-        ),
-        (
-            "s 14\nf 1 2 2\nf 1 3 2\nf 2 3 2\nf 2 4 0\nf 3 4 4\ny 1 100\ny 2 98\ny 3 97\ny 4 96\n",
-            "accepted flow 14",
-        ),
-        (
-            "s 14\nf 1 3 2\nf 1 2 2\nf 2 3 2\nf 2 4 0\nf 3 4 4\ny 1 0\ny 2 -2\ny 3 -3\ny 4 -4\n",
-            "rejected arc 1",
-        ),
-        (
-            "s 14\nf 1 2 2\nf 1 3 2\nf 2 3 2\nf 2 4 0\nf 3 4 4\ny 1 0\ny 2 -2\ny 3 -3\n",
-            "rejected node 4",
-        ),
-        (
-            "s 14\nf 1 2 2\nf 1 3 2\nf 2 3 2\nf 2 4 0\nf 3 4 4\ny 1 0\ny 2 -2\ny 3 -3\ny 4 -4\ny 5 0\n",
-            "rejected node 5",
-        ),
-        ("s 14\n", "rejected arc 1"),
-        (
-            "s 14\nf 1 2 2\nf 1 3 2\nf 2 3 2\nf 2 4 0\nf 3 4 4\nf 3 4 0\ny 1 0\ny 2 -2\ny 3 -3\ny 4 -4\n",
-            "rejected arc 6",
-        ),
-        (
-            "s 14\nf 1 2 2\nf 1 3 2\nf 2 3 2\nf 2 4 0\ny 1 0\ny 2 -2\ny 3 -3\ny 4 -4\nf 3 4 4\n",
-            "rejected shape 10",
-        ),
-        ("", "rejected shape 1"),
-        ("r 1 kind\n", "rejected kind"),
-        (
-            "s 14\nf 1 2 10000000000000000000000000000000000000\n",
-            "rejected arc 1",
-        ),
-        (
-            "s 14\nf 1 2 2\nf 1 3 2\nf 2 3 2\nf 2 4 0\nf 3 4 4\ny 1 10000000000000000000000000000000000000\ny 2 -10000000000000000000000000000000000000\ny 3 -3\ny 4 -4\n",
-            "rejected price 1",
-        ),
-    ] {
-        assert_eq!(rt; printed(rt.alloc(), FOUR_NODES, answer)?.as_str(), want);
+    for (answer, want) in &FLOWS {
+        assert!(rt; is_printed(rt.alloc(), FOUR_NODES, answer, want)?);
     }
     Ok(())
 }
 
+static SETS_AND_REFUSALS: [(&str, &str, &str); 15] = [
+    (TOO_NARROW, "i 1 send\nx 1\n", "accepted blocked 1"),
+    (TOO_NARROW, "i 1 take\nx 2\n", "accepted blocked 1"),
+    (TOO_NARROW, "i 1 send\nx 2\n", "rejected set"),
+    (TOO_NARROW, "i 1 send\nx 9\n", "rejected set"),
+    (TOO_NARROW, "i 2 send\nx 1\n", "rejected shape 3"),
+    (TOO_NARROW, "i 2 send\nx 1\nx 1\n", "rejected shape 3"),
+    (TWO_ROWS_ONE_COLUMN, "i 1 take\nx 4\n", "accepted blocked 1"),
+    (TWO_ROWS_ONE_COLUMN, "i 2 send\nx 1\nx 2\n", "rejected set"),
+    (LATE_NODE, "r 3 late-n\n", "accepted refusal 3 late-n"),
+    (
+        LATE_NODE,
+        "c mine\n  r   +03 late-n",
+        "accepted refusal 3 late-n",
+    ),
+    (LATE_NODE, "r 2 late-n\n", "rejected refusal"),
+    (LATE_NODE, "r 3 kind\n", "rejected refusal"),
+    (LATE_NODE, "s 0\n", "rejected kind"),
+    (LATE_NODE, "i 1 send\nx 1\n", "rejected kind"),
+    ("p min 0 0\n", "s 0\n", "accepted flow 0"),
+];
+
 #[test]
 fn sets_and_refusals(rt: HostRuntime) -> Result<(), Fail> {
-    for (instance, answer, want) in [
-        (TOO_NARROW, "i 1 send\nx 1\n", "accepted blocked 1"),
-        (TOO_NARROW, "i 1 take\nx 2\n", "accepted blocked 1"),
-        (TOO_NARROW, "i 1 send\nx 2\n", "rejected set"),
-        (TOO_NARROW, "i 1 send\nx 9\n", "rejected set"),
-        (TOO_NARROW, "i 2 send\nx 1\n", "rejected shape 3"),
-        (TOO_NARROW, "i 2 send\nx 1\nx 1\n", "rejected shape 3"),
-        (TWO_ROWS_ONE_COLUMN, "i 1 take\nx 4\n", "accepted blocked 1"),
-        (TWO_ROWS_ONE_COLUMN, "i 2 send\nx 1\nx 2\n", "rejected set"),
-        (LATE_NODE, "r 3 late-n\n", "accepted refusal 3 late-n"),
-        (
-            LATE_NODE,
-            "c mine\n  r   +03 late-n",
-            "accepted refusal 3 late-n",
-        ),
-        (LATE_NODE, "r 2 late-n\n", "rejected refusal"),
-        (LATE_NODE, "r 3 kind\n", "rejected refusal"),
-        (LATE_NODE, "s 0\n", "rejected kind"),
-        (LATE_NODE, "i 1 send\nx 1\n", "rejected kind"),
-        ("p min 0 0\n", "s 0\n", "accepted flow 0"),
-    ] {
-        assert_eq!(rt; printed(rt.alloc(), instance, answer)?.as_str(), want);
+    for (instance, answer, want) in &SETS_AND_REFUSALS {
+        assert!(rt; is_printed(rt.alloc(), instance, answer, want)?);
     }
     Ok(())
+}
+
+// Whether this is the verdict on the first bytes of the answer, however many from the one count to the other.
+fn are_judged(alloc: Global, from: usize, to: usize, want: Verdict) -> Result<bool, NoMemory> {
+    for cut in from..=to {
+        let Some(text) = LEAST.as_bytes().get(..cut) else {
+            return Ok(false);
+        };
+        if check(alloc, FOUR_NODES.as_bytes(), text)? != want {
+            return Ok(false);
+        }
+    }
+    Ok(true)
 }
 
 #[test]
 fn first_bytes_of_the_answer(rt: HostRuntime) -> Result<(), Fail> {
-    let instance = FOUR_NODES.as_bytes();
-    let answer = LEAST.as_bytes();
     for (from, to, want) in [
-        (0usize, 2usize, Verdict::BadShape(1)),
+        (0, 2, Verdict::BadShape(1)),
         (3, 5, Verdict::BadArc(1)),
         (6, 11, Verdict::BadShape(2)),
         (12, 13, Verdict::BadArc(2)),
@@ -128,11 +144,7 @@ fn first_bytes_of_the_answer(rt: HostRuntime) -> Result<(), Fail> {
         (66, 70, Verdict::BadShape(10)),
         (71, 72, Verdict::Flow(14)),
     ] {
-        for cut in from..=to {
-            if cut <= answer.len() {
-                assert_eq!(rt; check(rt.alloc(), instance, &answer[..cut])?, want);
-            }
-        }
+        assert!(rt; are_judged(rt.alloc(), from, to, want)?);
     }
     Ok(())
 }
@@ -185,125 +197,110 @@ fn is_without_memory(status: u8, said: &[u8]) -> bool {
     status == 3 && said == OUT_OF_MEMORY.as_bytes()
 }
 
+// The status of a run of the command with these words.
+fn run(alloc: Global, words: &[&str], out: &mut impl Write, err: &mut impl Write) -> u8 {
+    judge(alloc, words, |name: &str| file(alloc, name), out, err)
+}
+
+// A command line, and the status, the output and what is said of its run.
+type Run = (&'static [&'static str], u8, &'static str, &'static str);
+
+// Whether a run is as the row has it.
+fn is_run(alloc: Global, row: &Run) -> Result<bool, NoMemory> {
+    let (words, status, printed, said) = *row;
+    let mut out = Vec::with_capacity(alloc, 64)?;
+    let mut err = Vec::with_capacity(alloc, 64)?;
+    let given = run(alloc, words, &mut out, &mut err);
+    let is_wanting = is_without_memory(given, err.as_slice());
+    let is_meant = said == OUT_OF_MEMORY;
+    if is_wanting && !is_meant {
+        return Err(NoMemory);
+    }
+    let is_printed = out.as_slice() == printed.as_bytes();
+    let is_said = err.as_slice() == said.as_bytes();
+    Ok(given == status && is_printed && is_said)
+}
+
+static RUNS: [Run; 8] = [
+    (
+        &["mcfcheck", "instance", "answer"],
+        0,
+        "accepted flow 14\n",
+        "",
+    ),
+    (
+        &["mcfcheck", "instance", "wrong"],
+        1,
+        "rejected arc 1\n",
+        "",
+    ),
+    (
+        &["mcfcheck", "none", "large"],
+        3,
+        "",
+        "mcfcheck: cannot read the instance\n",
+    ),
+    (
+        &["mcfcheck", "instance", "none"],
+        3,
+        "",
+        "mcfcheck: cannot read the answer\n",
+    ),
+    (&["mcfcheck", "large", "none"], 3, "", OUT_OF_MEMORY),
+    (&["mcfcheck", "instance", "large"], 3, "", OUT_OF_MEMORY),
+    (
+        &["mcfcheck", "instance"],
+        3,
+        "",
+        "usage: mcfcheck INSTANCE ANSWER\n",
+    ),
+    (
+        &["mcfcheck", "instance", "answer", "more"],
+        3,
+        "",
+        "usage: mcfcheck INSTANCE ANSWER\n",
+    ),
+];
+
 #[test]
 fn runs_of_the_command(rt: HostRuntime) -> Result<(), Fail> {
-    for (words, status, printed, said) in [
-        (
-            ["mcfcheck", "instance", "answer"].as_slice(),
-            0,
-            "accepted flow 14\n",
-            "",
-        ),
-        (
-            ["mcfcheck", "instance", "wrong"].as_slice(),
-            1,
-            "rejected arc 1\n",
-            "",
-        ),
-        (
-            ["mcfcheck", "none", "large"].as_slice(),
-            3,
-            "",
-            "mcfcheck: cannot read the instance\n",
-        ),
-        (
-            ["mcfcheck", "instance", "none"].as_slice(),
-            3,
-            "",
-            "mcfcheck: cannot read the answer\n",
-        ),
-        (
-            ["mcfcheck", "large", "none"].as_slice(),
-            3,
-            "",
-            OUT_OF_MEMORY,
-        ),
-        (
-            ["mcfcheck", "instance", "large"].as_slice(),
-            3,
-            "",
-            OUT_OF_MEMORY,
-        ),
-        (
-            ["mcfcheck", "instance"].as_slice(),
-            3,
-            "",
-            "usage: mcfcheck INSTANCE ANSWER\n",
-        ),
-        (
-            ["mcfcheck", "instance", "answer", "more"].as_slice(),
-            3,
-            "",
-            "usage: mcfcheck INSTANCE ANSWER\n",
-        ),
-    ] {
-        let alloc = rt.alloc();
-        let mut out = Vec::with_capacity(alloc, 64)?;
-        let mut err = Vec::with_capacity(alloc, 64)?;
-        let given = judge(
-            alloc,
-            words,
-            |name: &str| file(alloc, name),
-            &mut out,
-            &mut err,
-        );
-        if said != OUT_OF_MEMORY && is_without_memory(given, err.as_slice()) {
-            return Err("out of memory".into());
-        }
-        assert_eq!(rt; given, status);
-        assert_eq!(rt; out.as_slice(), printed.as_bytes());
-        assert_eq!(rt; err.as_slice(), said.as_bytes());
+    for row in &RUNS {
+        assert!(rt; is_run(rt.alloc(), row)?);
     }
     Ok(())
+}
+
+// The words of a run that judges the least flow.
+const WORDS: &[&str] = &["mcfcheck", "instance", "answer"];
+
+// Whether a run says that its output can't be written.
+fn is_write_told(alloc: Global) -> Result<bool, NoMemory> {
+    let mut err = Vec::with_capacity(alloc, 64)?;
+    let given = run(alloc, WORDS, &mut Closed, &mut err);
+    if is_without_memory(given, err.as_slice()) {
+        return Err(NoMemory);
+    }
+    let is_said = err.as_slice() == b"mcfcheck: write failed\n".as_slice();
+    Ok(given == 3 && is_said)
 }
 
 #[test]
 fn writers_that_fail(rt: HostRuntime) -> Result<(), Fail> {
-    let alloc = rt.alloc();
-    let words = ["mcfcheck", "instance", "answer"].as_slice();
-    let mut err = Vec::with_capacity(alloc, 64)?;
-    let given = judge(
-        alloc,
-        words,
-        |name: &str| file(alloc, name),
-        &mut Closed,
-        &mut err,
-    );
-    if is_without_memory(given, err.as_slice()) {
-        return Err("out of memory".into());
-    }
-    assert_eq!(rt; given, 3);
-    assert_eq!(rt; err.as_slice(), b"mcfcheck: write failed\n".as_slice());
-    let given = judge(
-        alloc,
-        words,
-        |name: &str| file(alloc, name),
-        &mut Closed,
-        &mut Closed,
-    );
-    assert_eq!(rt; given, 3);
-    let given = judge(
-        alloc,
-        words,
-        |name: &str| file(alloc, name),
-        &mut Stuck,
-        &mut Closed,
-    );
-    assert_eq!(rt; given, 3);
+    assert!(rt; is_write_told(rt.alloc())?);
+    assert!(rt; run(rt.alloc(), WORDS, &mut Closed, &mut Closed) == 3);
+    assert!(rt; run(rt.alloc(), WORDS, &mut Stuck, &mut Closed) == 3);
     Ok(())
+}
+
+// Whether this is a fault as text.
+fn is_fault(alloc: Global, fault: FileFault, want: &str) -> Result<bool, NoMemory> {
+    let text = format!(in alloc; "{fault}")?;
+    Ok(text.as_str() == want)
 }
 
 #[test]
 fn faults_of_files_as_text(rt: HostRuntime) -> Result<(), Fail> {
-    let memory = FileFault::NoMemory;
-    let unreadable = FileFault::Unreadable;
-    assert_eq!(rt;
-        format!(in rt.alloc(); "{memory}")?.as_str(),
-        "out of memory"
-    );
-    assert_eq!(rt;
-        format!(in rt.alloc(); "{unreadable}")?.as_str(),
-        "cannot read the file"
-    );
+    assert!(rt; is_fault(rt.alloc(), FileFault::NoMemory, "out of memory")?);
+    assert!(rt; is_fault(rt.alloc(), FileFault::Unreadable, "cannot read the file")?);
     Ok(())
 }

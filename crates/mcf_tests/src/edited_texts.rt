@@ -1,7 +1,7 @@
 //! Texts with one byte changed: each is judged, and what is accepted is right by a plain judge.
 use mcf_answer::{Answer, FlowAnswer, parse};
 use mcf_checker::{Verdict, check};
-use mcf_instance::{Instance, read};
+use mcf_instance::{Arc, Instance, read};
 use mcf_text::{ArcId, NoMemory, NodeId};
 use std::alloc::Global;
 use std::test::Fail;
@@ -35,41 +35,68 @@ fn net_of(answer: &FlowAnswer, node: NodeId) -> i128 {
     net
 }
 
-// Whether the flow answer is right, arc by arc and node by node.
-fn is_right_flow(instance: &Instance, answer: &FlowAnswer) -> bool {
-    let sent = answer.sent.as_slice();
-    let prices = answer.prices.as_slice();
-    let arcs = instance.arc_count();
-    let nodes = instance.node_count();
-    if sent.len() != arcs as usize || prices.len() != nodes as usize {
+// Whether a flow answer has a line for an arc, with a flow that the arc takes and its reduced cost allows.
+fn is_right_arc(answer: &FlowAnswer, arc: Arc, place: usize) -> bool {
+    let Some(line) = answer.sent.as_slice().get(place) else {
+        return false;
+    };
+    let flow = line.flow;
+    if line.src != arc.src || line.dst != arc.dst || flow < arc.low || arc.cap < flow {
         return false;
     }
-    let mut cost = 0i128;
-    for place in 0..arcs {
-        let arc = instance.arc(ArcId::new(place + 1));
-        let Some(line) = sent.get(place as usize) else {
-            return false;
-        };
-        let flow = line.flow;
-        if line.src != arc.src || line.dst != arc.dst || flow < arc.low || arc.cap < flow {
-            return false;
-        }
-        let reduced = arc
-            .cost
-            .wrapping_sub(price_of(prices, arc.src))
-            .wrapping_add(price_of(prices, arc.dst));
-        if (reduced > 0 && flow != arc.low) || (reduced < 0 && flow != arc.cap) {
-            return false;
-        }
-        cost = cost.wrapping_add(arc.cost.wrapping_mul(flow));
+    let prices = answer.prices.as_slice();
+    let reduced = arc
+        .cost
+        .wrapping_sub(price_of(prices, arc.src))
+        .wrapping_add(price_of(prices, arc.dst));
+    (reduced <= 0 || flow == arc.low) && (reduced >= 0 || flow == arc.cap)
+}
+
+// Whether a flow answer has a line for each arc, each of them right.
+fn are_right_arcs(instance: &Instance, answer: &FlowAnswer) -> bool {
+    if answer.sent.len() != instance.arc_count() as usize {
+        return false;
     }
-    for place in 0..nodes {
+    for place in 0..instance.arc_count() {
+        if !is_right_arc(answer, instance.arc(ArcId::new(place + 1)), place as usize) {
+            return false;
+        }
+    }
+    true
+}
+
+// Whether a flow answer has a price for each node, and sends its supply.
+fn are_right_nodes(instance: &Instance, answer: &FlowAnswer) -> bool {
+    if answer.prices.len() != instance.node_count() as usize {
+        return false;
+    }
+    for place in 0..instance.node_count() {
         let node = NodeId::new(place + 1);
         if net_of(answer, node) != instance.supply(node) {
             return false;
         }
     }
-    cost == answer.cost
+    true
+}
+
+// The sum of what the lines of a flow answer cost.
+fn cost_of(instance: &Instance, answer: &FlowAnswer) -> i128 {
+    let mut cost = 0i128;
+    for place in 0..instance.arc_count() {
+        let arc = instance.arc(ArcId::new(place + 1));
+        if let Some(line) = answer.sent.as_slice().get(place as usize) {
+            cost = cost.wrapping_add(arc.cost.wrapping_mul(line.flow));
+        }
+    }
+    cost
+}
+
+// Whether a flow answer is right, arc by arc and node by node.
+fn is_right_flow(instance: &Instance, answer: &FlowAnswer) -> bool {
+    let are_arcs = are_right_arcs(instance, answer);
+    let are_nodes = are_right_nodes(instance, answer);
+    let cost = cost_of(instance, answer);
+    are_arcs && are_nodes && cost == answer.cost
 }
 
 // Whether the answer text is right for the instance text; no set blocks an instance with a flow like this.
@@ -93,52 +120,77 @@ fn is_judged_right(alloc: Global, input: &[u8], text: &[u8]) -> Result<bool, NoM
     Ok(accepted == is_right(alloc, input, text)?)
 }
 
-// The text with so many bytes at the place taken out, and this one put in.
+// The text with so many bytes at the place taken out, and these put in.
 fn edited(
     alloc: Global,
     text: &[u8],
     place: usize,
     taken: usize,
-    put: Option<u8>,
+    put: &[u8],
 ) -> Result<Vec<u8>, NoMemory> {
+    let before = text.get(..place).unwrap_or(text);
+    let after = text.get(place.saturating_add(taken)..).unwrap_or(b"");
     let mut out = Vec::new(alloc);
-    for (at, byte) in text.iter().enumerate() {
-        if at == place {
-            if let Some(put) = put {
-                out.push(put)?;
-            }
-        }
-        if at < place || at - place >= taken {
-            out.push(*byte)?;
+    out.extend_from_slice(before)?;
+    out.extend_from_slice(put)?;
+    out.extend_from_slice(after)?;
+    Ok(out)
+}
+
+// Which of the two texts is edited.
+#[derive(Clone, Copy)]
+enum EditedText {
+    Instance,
+    Answer,
+}
+
+impl EditedText {
+    // The text that is edited.
+    fn text(self) -> &'static [u8] {
+        match self {
+            EditedText::Instance => INSTANCE,
+            EditedText::Answer => ANSWER,
         }
     }
-    Ok(out)
+
+    // Whether the two texts are judged right with so many bytes of this one taken out, and these put in.
+    fn is_right_with(
+        self,
+        alloc: Global,
+        place: usize,
+        taken: usize,
+        put: &[u8],
+    ) -> Result<bool, NoMemory> {
+        let text = edited(alloc, self.text(), place, taken, put)?;
+        match self {
+            EditedText::Instance => is_judged_right(alloc, &text, ANSWER),
+            EditedText::Answer => is_judged_right(alloc, INSTANCE, &text),
+        }
+    }
+
+    // Whether they are with each edit of the byte at a place.
+    fn is_right_at(self, alloc: Global, place: usize) -> Result<bool, NoMemory> {
+        if !self.is_right_with(alloc, place, 1, b"")? {
+            return Ok(false);
+        }
+        for byte in BYTES {
+            for taken in 0..2 {
+                if !self.is_right_with(alloc, place, taken, &[*byte])? {
+                    return Ok(false);
+                }
+            }
+        }
+        Ok(true)
+    }
 }
 
 #[test]
 fn texts_with_one_byte_changed(rt: HostRuntime) -> Result<(), Fail> {
-    let alloc = rt.alloc();
-    let mut count = 0u32;
-    for place in 0..INSTANCE.len() {
-        let text = edited(alloc, INSTANCE, place, 1, None)?;
-        assert!(rt; is_judged_right(alloc, &text, ANSWER)?);
-        for byte in BYTES {
-            for taken in 0..2 {
-                let text = edited(alloc, INSTANCE, place, taken, Some(*byte))?;
-                assert!(rt; is_judged_right(alloc, &text, ANSWER)?);
-                count = count.wrapping_add(1);
-            }
-        }
-    }
-    for place in 0..ANSWER.len() {
-        let text = edited(alloc, ANSWER, place, 1, None)?;
-        assert!(rt; is_judged_right(alloc, INSTANCE, &text)?);
-        for byte in BYTES {
-            for taken in 0..2 {
-                let text = edited(alloc, ANSWER, place, taken, Some(*byte))?;
-                assert!(rt; is_judged_right(alloc, INSTANCE, &text)?);
-                count = count.wrapping_add(1);
-            }
+    let mut count = 0usize;
+    for which in [EditedText::Instance, EditedText::Answer] {
+        for place in 0..which.text().len() {
+            assert!(rt; which.is_right_at(rt.alloc(), place)?);
+            count = count.wrapping_add(BYTES.len()).wrapping_add(BYTES.len());
         }
     }
     assert!(rt; count >= 10_000);

@@ -2,19 +2,14 @@
 ghost use Rattle.std.specs.Prelude.{◌≡◌, length};
 ghost use Rattle.mcf_instance.specs.Network.{node_count};
 
+use crate::instances::instance_of;
+use crate::networks::net_of;
 use mcf_feas::{Feas, answers_are_exact, blocked_has_no_state, feasible};
-use mcf_instance::{Instance, Side, read};
+use mcf_instance::{Instance, Side};
 use mcf_network::{Net, NodeSet, State, restore};
-use mcf_text::{ArcId, NodeId};
+use mcf_text::{ArcId, NoMemory, NodeId};
 use std::alloc::Global;
 use std::test::Fail;
-
-// The net of a text.
-fn net_of(alloc: Global, text: &[u8]) -> Result<Net, Fail> {
-    let instance = read(alloc, text)?.ok().ok_or("refused")?;
-    let net = Net::of(alloc, &instance)?;
-    Ok(net)
-}
 
 // Whether a set of nodes is that of the listed nodes.
 fn is_set_of(net: &Net, set: &NodeSet, nodes: &[u32]) -> bool
@@ -83,35 +78,49 @@ static FEASIBLE: [&[u8]; 6] = [
     b"p min 0 0",
 ];
 
+// Whether the net of a text is blocked by a side, by the set of the listed nodes.
+fn is_blocked(alloc: Global, text: &[u8], side: Side, nodes: &[u32]) -> Result<bool, NoMemory> {
+    let Some(net) = net_of(alloc, text)? else {
+        return Ok(false);
+    };
+    match feasible(alloc, &net)? {
+        Feas::Flow(_) => Ok(false),
+        Feas::Blocked(set, by) => {
+            let is_set = is_set_of(&net, &set, nodes);
+            Ok(is_set && by == side)
+        }
+    }
+}
+
 #[test]
 fn infeasible_nets_are_blocked(rt: HostRuntime) -> Result<(), Fail> {
     for (text, side, nodes) in BLOCKED.iter() {
-        let net = net_of(rt.alloc(), text)?;
-        match feasible(rt.alloc(), &net)? {
-            Feas::Flow(_) => return Err("a flow".into()),
-            Feas::Blocked(set, by) => {
-                assert_eq!(rt; by, *side);
-                assert!(rt; is_set_of(&net, &set, nodes));
-            }
-        }
+        assert!(rt; is_blocked(rt.alloc(), text, *side, nodes)?);
     }
     Ok(())
+}
+
+// Whether the net of a text has a feasible flow, by a plain sum over the arcs.
+fn has_flow(alloc: Global, text: &[u8]) -> Result<bool, NoMemory> {
+    let Some(net) = net_of(alloc, text)? else {
+        return Ok(false);
+    };
+    match feasible(alloc, &net)? {
+        Feas::Flow(state) => Ok(meets_supplies(&state)),
+        Feas::Blocked(_, _) => Ok(false),
+    }
 }
 
 #[test]
 fn feasible_nets_have_a_flow(rt: HostRuntime) -> Result<(), Fail> {
     for text in FEASIBLE.iter() {
-        let net = net_of(rt.alloc(), text)?;
-        match feasible(rt.alloc(), &net)? {
-            Feas::Flow(state) => assert!(rt; meets_supplies(&state)),
-            Feas::Blocked(_, _) => return Err("blocked".into()),
-        }
+        assert!(rt; has_flow(rt.alloc(), text)?);
     }
     Ok(())
 }
 
 // The flow of an instance for which the state that it is answered with stands.
-fn restored_flow(alloc: Global, instance: &Instance) -> Result<Option<Vec<i128>>, Fail> {
+fn restored_flow(alloc: Global, instance: &Instance) -> Result<Option<Vec<i128>>, NoMemory> {
     let net = Net::of(alloc, instance)?;
     match feasible(alloc, &net)? {
         Feas::Flow(state) => {
@@ -119,6 +128,17 @@ fn restored_flow(alloc: Global, instance: &Instance) -> Result<Option<Vec<i128>>
             Ok(Some(flow))
         }
         Feas::Blocked(_, _) => Ok(None),
+    }
+}
+
+// Whether this is the flow for which the state of a text stands.
+fn is_restored(alloc: Global, text: &[u8], want: &[i128]) -> Result<bool, NoMemory> {
+    let Some(instance) = instance_of(alloc, text)? else {
+        return Ok(false);
+    };
+    match restored_flow(alloc, &instance)? {
+        Some(flow) => Ok(flow.as_slice() == want),
+        None => Ok(false),
     }
 }
 
@@ -136,9 +156,7 @@ static RESTORED: [(&[u8], &[i128]); 5] = [
 #[test]
 fn states_are_restored(rt: HostRuntime) -> Result<(), Fail> {
     for (text, flow) in RESTORED.iter() {
-        let instance = read(rt.alloc(), text)?.ok().ok_or("refused")?;
-        let restored = restored_flow(rt.alloc(), &instance)?.ok_or("blocked")?;
-        assert_eq!(rt; restored.as_slice(), *flow);
+        assert!(rt; is_restored(rt.alloc(), text, flow)?);
     }
     Ok(())
 }

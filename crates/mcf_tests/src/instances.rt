@@ -1,51 +1,89 @@
 //! Texts, and what they stand for.
-use mcf_instance::{Arc, Code, Instance, Problem, Refusal, read};
-use mcf_text::{ArcId, NodeId};
+use mcf_instance::{Arc, Code, Instance, Problem, read};
+use mcf_text::{ArcId, NoMemory, NodeId};
 use std::alloc::Global;
 use std::test::Fail;
 
-// The refusal of a text.
-fn refusal_of(alloc: Global, text: &[u8]) -> Result<Refusal, Fail> {
-    match read(alloc, text).map_err(|_| "no memory")? {
-        Ok(_) => Err("no refusal".into()),
-        Err(refusal) => Ok(refusal),
+/// The instance of a text, if that is one.
+pub fn instance_of(alloc: Global, text: &[u8]) -> Result<Option<Instance>, NoMemory> {
+    match read(alloc, text)? {
+        Ok(instance) => Ok(Some(instance)),
+        Err(_) => Ok(None),
     }
 }
 
-// The instance of a text.
-fn instance_of(alloc: Global, text: &[u8]) -> Result<Instance, Fail> {
-    match read(alloc, text).map_err(|_| "no memory")? {
-        Ok(instance) => Ok(instance),
-        Err(_) => Err("refused".into()),
-    }
+// Whether a text is refused at a line for what this word says.
+fn is_refused(alloc: Global, text: &[u8], line: u128, word: &str) -> Result<bool, NoMemory> {
+    let Err(refusal) = read(alloc, text)? else {
+        return Ok(false);
+    };
+    let is_word = refusal.code.word() == word;
+    let is_code = Code::of(word.as_bytes()) == Some(refusal.code);
+    Ok(refusal.line == line && is_word && is_code)
 }
 
-// The arc of this number, if there is one.
-fn arc_at(instance: &Instance, k: u32) -> Option<Arc> {
-    if 1 <= k && k <= instance.arc_count() {
-        Some(instance.arc(ArcId::new(k)))
-    } else {
-        None
-    }
-}
+// The ends of an arc, its least and its greatest flow, and its cost.
+type Row = (u32, u32, i128, i128, i128);
 
-// The supply of the node of this number, if there is one.
-fn supply_at(instance: &Instance, v: u32) -> Option<i128> {
-    if 1 <= v && v <= instance.node_count() {
-        Some(instance.supply(NodeId::new(v)))
-    } else {
-        None
-    }
-}
-
-fn arc(src: u32, dst: u32, low: i128, cap: i128, cost: i128) -> Option<Arc> {
-    Some(Arc {
+// The arc of a row.
+fn arc_of(row: Row) -> Arc {
+    let (src, dst, low, cap, cost) = row;
+    Arc {
         src: NodeId::new(src),
         dst: NodeId::new(dst),
         low,
         cap,
         cost,
-    })
+    }
+}
+
+// Whether these are the arcs.
+fn has_arcs(instance: &Instance, arcs: &[Row]) -> bool {
+    if arcs.len() != instance.arc_count() as usize {
+        return false;
+    }
+    for place in 0..instance.arc_count() {
+        let Some(row) = arcs.get(place as usize) else {
+            return false;
+        };
+        if instance.arc(ArcId::new(place + 1)) != arc_of(*row) {
+            return false;
+        }
+    }
+    true
+}
+
+// Whether these are the supplies of the nodes.
+fn has_supplies(instance: &Instance, supplies: &[i128]) -> bool {
+    if supplies.len() != instance.node_count() as usize {
+        return false;
+    }
+    for place in 0..instance.node_count() {
+        let Some(supply) = supplies.get(place as usize) else {
+            return false;
+        };
+        if instance.supply(NodeId::new(place + 1)) != *supply {
+            return false;
+        }
+    }
+    true
+}
+
+// Whether a text is an instance of a problem with nodes of these supplies and these arcs.
+fn is_instance(
+    alloc: Global,
+    text: &[u8],
+    problem: Problem,
+    supplies: &[i128],
+    arcs: &[Row],
+) -> Result<bool, NoMemory> {
+    let Some(instance) = instance_of(alloc, text)? else {
+        return Ok(false);
+    };
+    let is_problem = instance.problem() == problem;
+    let are_supplies = has_supplies(&instance, supplies);
+    let are_arcs = has_arcs(&instance, arcs);
+    Ok(is_problem && are_supplies && are_arcs)
 }
 
 static FAULTY_TEXTS: [(&[u8], u128, &str); 39] = [
@@ -96,87 +134,87 @@ static FAULTY_TEXTS: [(&[u8], u128, &str); 39] = [
 
 #[test]
 fn faulty_texts_are_refused(rt: HostRuntime) -> Result<(), Fail> {
+    assert!(rt; Code::of(b"bounds").is_none());
     for (text, line, word) in FAULTY_TEXTS.iter() {
-        let refusal = refusal_of(rt.alloc(), text)?;
-        assert_eq!(rt; refusal.line, *line);
-        assert_eq!(rt; refusal.code.word(), *word);
-        assert_eq!(rt; Code::of(word.as_bytes()), Some(refusal.code));
+        assert!(rt; is_refused(rt.alloc(), text, *line, word)?);
     }
-    assert_eq!(rt; Code::of(b"bounds"), None);
     Ok(())
 }
+
+static FOUR_NODES: [Row; 5] = [
+    (1, 2, 0, 4, 2),
+    (1, 3, 0, 2, 2),
+    (2, 3, 0, 2, 1),
+    (2, 4, 0, 3, 3),
+    (3, 4, 0, 5, 1),
+];
 
 #[test]
 fn four_nodes_and_five_arcs(rt: HostRuntime) -> Result<(), Fail> {
     let text =
         b"p min 4 5\nn 1 4\nn 4 -4\na 1 2 0 4 2\na 1 3 0 2 2\na 2 3 0 2 1\na 2 4 0 3 3\na 3 4 0 5 1\n";
-    let instance = instance_of(rt.alloc(), text)?;
-    assert_eq!(rt; instance.problem(), Problem::Min);
-    assert_eq!(rt; instance.node_count(), 4);
-    assert_eq!(rt; instance.arc_count(), 5);
-    assert_eq!(rt; supply_at(&instance, 1), Some(4));
-    assert_eq!(rt; supply_at(&instance, 2), Some(0));
-    assert_eq!(rt; supply_at(&instance, 4), Some(-4));
-    assert_eq!(rt; arc_at(&instance, 1), arc(1, 2, 0, 4, 2));
-    assert_eq!(rt; arc_at(&instance, 4), arc(2, 4, 0, 3, 3));
-    assert_eq!(rt; arc_at(&instance, 5), arc(3, 4, 0, 5, 1));
+    let supplies = [4, 0, 0, -4];
+    assert!(rt; is_instance(rt.alloc(), text, Problem::Min, &supplies, &FOUR_NODES)?);
     Ok(())
 }
+
+static LOOP_AND_PARALLELS: [Row; 4] = [
+    (1, 1, 0, 7, -3),
+    (1, 2, -3, -3, 1),
+    (1, 2, -3, -3, 1),
+    (1, 2, -3, 4, 0),
+];
 
 #[test]
 fn loops_and_parallel_arcs_are_kept(rt: HostRuntime) -> Result<(), Fail> {
     let text =
         b"p min 2 4\nn 1 -3\nn 2 3\na 1 1 0 7 -3\na 1 2 -3 -3 1\na 1 2 -3 -3 1\na 1 2 -3 4 0\n";
-    let instance = instance_of(rt.alloc(), text)?;
-    assert_eq!(rt; instance.arc_count(), 4);
-    assert_eq!(rt; supply_at(&instance, 1), Some(-3));
-    assert_eq!(rt; arc_at(&instance, 1), arc(1, 1, 0, 7, -3));
-    assert_eq!(rt; arc_at(&instance, 2), arc(1, 2, -3, -3, 1));
-    assert_eq!(rt; arc_at(&instance, 3), arc(1, 2, -3, -3, 1));
-    assert_eq!(rt; arc_at(&instance, 4), arc(1, 2, -3, 4, 0));
+    let supplies = [-3, 3];
+    assert!(rt;
+        is_instance(
+            rt.alloc(),
+            text,
+            Problem::Min,
+            &supplies,
+            &LOOP_AND_PARALLELS
+        )?
+    );
     Ok(())
 }
+
+static TWO_SIDES: [Row; 4] = [
+    (1, 2, 0, 1, 5),
+    (1, 4, 0, 1, 2),
+    (3, 2, 0, 1, -1),
+    (3, 4, 0, 1, 7),
+];
 
 #[test]
 fn assignments_have_two_sides(rt: HostRuntime) -> Result<(), Fail> {
     let text = b"p asn 4 4\nn 1\nn 3\na 1 2 5\na 1 4 2\na 3 2 -1\na 3 4 7\n";
-    let instance = instance_of(rt.alloc(), text)?;
-    assert_eq!(rt; instance.problem(), Problem::Asn);
-    assert_eq!(rt; instance.node_count(), 4);
-    assert_eq!(rt; supply_at(&instance, 1), Some(1));
-    assert_eq!(rt; supply_at(&instance, 2), Some(-1));
-    assert_eq!(rt; supply_at(&instance, 3), Some(1));
-    assert_eq!(rt; supply_at(&instance, 4), Some(-1));
-    assert_eq!(rt; instance.arc_count(), 4);
-    assert_eq!(rt; arc_at(&instance, 3), arc(3, 2, 0, 1, -1));
+    let supplies = [1, -1, 1, -1];
+    assert!(rt; is_instance(rt.alloc(), text, Problem::Asn, &supplies, &TWO_SIDES)?);
     Ok(())
 }
+
+static ONE_ARC: [Row; 1] = [(1, 2, 0, 4, 7)];
 
 #[test]
 fn every_leniency(rt: HostRuntime) -> Result<(), Fail> {
     let text = b"c sample\r\n\r\n\tp min 2 1\r\nn 01 +3\nn 2 -003\na 1 2 0 4 7";
-    let instance = instance_of(rt.alloc(), text)?;
-    assert_eq!(rt; supply_at(&instance, 1), Some(3));
-    assert_eq!(rt; supply_at(&instance, 2), Some(-3));
-    assert_eq!(rt; instance.arc_count(), 1);
-    assert_eq!(rt; arc_at(&instance, 1), arc(1, 2, 0, 4, 7));
+    assert!(rt; is_instance(rt.alloc(), text, Problem::Min, &[3, -3], &ONE_ARC)?);
     Ok(())
 }
 
 #[test]
 fn instances_without_nodes(rt: HostRuntime) -> Result<(), Fail> {
-    let least = instance_of(rt.alloc(), b"p min 0 0\n")?;
-    assert_eq!(rt; least.problem(), Problem::Min);
-    assert_eq!(rt; least.node_count(), 0);
-    assert_eq!(rt; least.arc_count(), 0);
-    let none = instance_of(rt.alloc(), b"p asn 0 0")?;
-    assert_eq!(rt; none.problem(), Problem::Asn);
-    assert_eq!(rt; none.node_count(), 0);
+    assert!(rt; is_instance(rt.alloc(), b"p min 0 0\n", Problem::Min, &[], &[])?);
+    assert!(rt; is_instance(rt.alloc(), b"p asn 0 0", Problem::Asn, &[], &[])?);
     Ok(())
 }
 
 // A text of one arc, whose cap is a million times this digit and then a 4.
-fn text_of_long_cap(alloc: Global, digit: u8) -> Result<Vec<u8>, Fail> {
+fn text_of_long_cap(alloc: Global, digit: u8) -> Result<Vec<u8>, NoMemory> {
     let mut text = b"p min 2 1\na 1 2 0 ".to_vec(alloc)?;
     for _ in 0..1_000_000 {
         text.push(digit)?;
@@ -188,11 +226,8 @@ fn text_of_long_cap(alloc: Global, digit: u8) -> Result<Vec<u8>, Fail> {
 #[test]
 fn numbers_of_a_million_digits(rt: HostRuntime) -> Result<(), Fail> {
     let nines = text_of_long_cap(rt.alloc(), b'9')?;
-    let refusal = refusal_of(rt.alloc(), &nines)?;
-    assert_eq!(rt; refusal.line, 2);
-    assert_eq!(rt; refusal.code, Code::Bound);
+    assert!(rt; is_refused(rt.alloc(), &nines, 2, "bound")?);
     let zeros = text_of_long_cap(rt.alloc(), b'0')?;
-    let instance = instance_of(rt.alloc(), &zeros)?;
-    assert_eq!(rt; arc_at(&instance, 1), arc(1, 2, 0, 4, 7));
+    assert!(rt; is_instance(rt.alloc(), &zeros, Problem::Min, &[0, 0], &ONE_ARC)?);
     Ok(())
 }

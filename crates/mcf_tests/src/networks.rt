@@ -2,92 +2,112 @@
 ghost use Rattle.std.specs.Prelude.{◌≡◌, ◌∷◌, [], IsTrue, false};
 ghost use Rattle.mcf_network.specs.States.{HasNoSurplus};
 
-use mcf_instance::read;
+use crate::instances::instance_of;
 use mcf_network::{
     Net, NodeSet, Rid, State, feasible_flows_are_states, greatest_prices_carry_over,
     net_flows_cost_no_more, nets_block_alike, push_along, restore, restored_least_flows_are_least,
     room_along, stuck_sets_block,
 };
-use mcf_text::{ArcId, NodeId};
+use mcf_text::{ArcId, NoMemory, NodeId};
 use std::alloc::Global;
 use std::test::Fail;
 
-// The net of a text.
-fn net_of(alloc: Global, text: &[u8]) -> Result<Net, Fail> {
-    match read(alloc, text).map_err(|_| "no memory")? {
-        Ok(instance) => {
-            let net = Net::of(alloc, &instance).map_err(|_| "no memory")?;
-            Ok(net)
+/// The net of a text, if that is an instance.
+pub fn net_of(alloc: Global, text: &[u8]) -> Result<Option<Net>, NoMemory> {
+    match instance_of(alloc, text)? {
+        Some(instance) => Ok(Some(Net::of(alloc, &instance)?)),
+        None => Ok(None),
+    }
+}
+
+// Whether these are the widths of the arcs.
+fn has_widths(net: &Net, widths: &[i128]) -> bool {
+    if widths.len() != net.arc_count() as usize {
+        return false;
+    }
+    for place in 0..net.arc_count() {
+        let Some(width) = widths.get(place as usize) else {
+            return false;
+        };
+        if net.width(ArcId::new(place + 1)) != *width {
+            return false;
         }
-        Err(_) => Err("refused".into()),
     }
+    true
 }
 
-// The width of the arc of this number, if there is one.
-fn width_at(net: &Net, k: u32) -> Option<i128> {
-    if 1 <= k && k <= net.arc_count() {
-        Some(net.width(ArcId::new(k)))
-    } else {
-        None
+// Whether these are the supplies of the nodes.
+fn has_supplies(net: &Net, supplies: &[i128]) -> bool {
+    if supplies.len() != net.node_count() as usize {
+        return false;
     }
+    for place in 0..net.node_count() {
+        let Some(supply) = supplies.get(place as usize) else {
+            return false;
+        };
+        if net.supply(NodeId::new(place + 1)) != *supply {
+            return false;
+        }
+    }
+    true
 }
 
-// The supply of the node of this number, if there is one.
-fn supply_at(net: &Net, v: u32) -> Option<i128> {
-    if 1 <= v && v <= net.node_count() {
-        Some(net.supply(NodeId::new(v)))
-    } else {
-        None
+// How many residual arcs leave the first node, or 0 where there is none.
+fn leaving_first(net: &Net) -> usize {
+    if net.node_count() < 1 {
+        return 0;
     }
+    net.leaving(NodeId::new(1)).count()
 }
 
-// How many residual arcs leave the node of this number, if there is one.
-fn leaving_count(net: &Net, v: u32) -> Option<usize> {
-    if 1 <= v && v <= net.node_count() {
-        Some(net.leaving(NodeId::new(v)).count())
-    } else {
-        None
-    }
+// Whether the net of a text has arcs of these widths and nodes of these supplies, and so many residual arcs
+// leave the first node.
+fn is_net(
+    alloc: Global,
+    text: &[u8],
+    widths: &[i128],
+    supplies: &[i128],
+    leaving: usize,
+) -> Result<bool, NoMemory> {
+    let Some(net) = net_of(alloc, text)? else {
+        return Ok(false);
+    };
+    let are_widths = has_widths(&net, widths);
+    let are_supplies = has_supplies(&net, supplies);
+    let count = leaving_first(&net);
+    Ok(are_widths && are_supplies && count == leaving)
 }
 
 #[test]
 fn a_lower_bound_moves_supplies(rt: HostRuntime) -> Result<(), Fail> {
-    let net = net_of(rt.alloc(), b"p min 2 2\na 1 2 2 5 1\na 2 1 0 1 0\n")?;
-    assert_eq!(rt; width_at(&net, 1), Some(3));
-    assert_eq!(rt; width_at(&net, 2), Some(1));
-    assert_eq!(rt; supply_at(&net, 1), Some(-2));
-    assert_eq!(rt; supply_at(&net, 2), Some(2));
-    assert_eq!(rt; leaving_count(&net, 1), Some(2));
+    let text = b"p min 2 2\na 1 2 2 5 1\na 2 1 0 1 0\n";
+    assert!(rt; is_net(rt.alloc(), text, &[3, 1], &[-2, 2], 2)?);
     Ok(())
 }
 
 #[test]
 fn supplies_are_those_left(rt: HostRuntime) -> Result<(), Fail> {
     let text = b"p min 3 3\nn 1 5\nn 3 -5\na 1 2 2 10 3\na 2 3 0 10 1\na 1 3 0 10 2\n";
-    let net = net_of(rt.alloc(), text)?;
-    assert_eq!(rt; width_at(&net, 1), Some(8));
-    assert_eq!(rt; width_at(&net, 2), Some(10));
-    assert_eq!(rt; width_at(&net, 3), Some(10));
-    assert_eq!(rt; supply_at(&net, 1), Some(3));
-    assert_eq!(rt; supply_at(&net, 2), Some(2));
-    assert_eq!(rt; supply_at(&net, 3), Some(-5));
+    assert!(rt; is_net(rt.alloc(), text, &[8, 10, 10], &[3, 2, -5], 2)?);
     Ok(())
 }
 
 #[test]
 fn a_loop_has_no_width(rt: HostRuntime) -> Result<(), Fail> {
-    let net = net_of(rt.alloc(), b"p min 1 1\na 1 1 0 7 -3\n")?;
-    assert_eq!(rt; width_at(&net, 1), Some(0));
-    assert_eq!(rt; leaving_count(&net, 1), Some(2));
+    let text = b"p min 1 1\na 1 1 0 7 -3\n";
+    assert!(rt; is_net(rt.alloc(), text, &[0], &[0], 2)?);
     Ok(())
 }
 
+// Three units are to go over an arc that carries four.
+const WIDE_ARC: &[u8] = b"p min 2 1\nn 1 3\nn 2 -3\na 1 2 0 4 7\n";
+
 // Pushes two units along the first arc, if it has room for them, and gives the surplus of the first node.
-fn surplus_after_push(alloc: Global, net: &Net) -> Result<Option<i128>, Fail> {
+fn surplus_after_push(alloc: Global, net: &Net) -> Result<Option<i128>, NoMemory> {
     if net.node_count() < 2 || net.arc_count() < 1 {
         return Ok(None);
     }
-    let mut state = State::zero(alloc, net).map_err(|_| "no memory")?;
+    let mut state = State::zero(alloc, net)?;
     let first = ArcId::new(1);
     let room = state.room(Rid {
         arc: first,
@@ -108,17 +128,18 @@ fn surplus_after_push(alloc: Global, net: &Net) -> Result<Option<i128>, Fail> {
 
 #[test]
 fn a_push_moves_surplus(rt: HostRuntime) -> Result<(), Fail> {
-    let net = net_of(rt.alloc(), b"p min 2 1\nn 1 3\nn 2 -3\na 1 2 0 4 7\n")?;
-    assert_eq!(rt; surplus_after_push(rt.alloc(), &net)?, Some(1));
+    let net = net_of(rt.alloc(), WIDE_ARC)?.ok_or("refused")?;
+    let surplus = surplus_after_push(rt.alloc(), &net)?;
+    assert!(rt; matches!(surplus, Some(1)));
     Ok(())
 }
 
 // How many nodes a set has before a node is put in, then, and after it is emptied.
-fn sizes_of_set(alloc: Global, net: &Net) -> Result<Option<(u32, u32, u32)>, Fail> {
+fn sizes_of_set(alloc: Global, net: &Net) -> Result<Option<(u32, u32, u32)>, NoMemory> {
     if net.node_count() < 2 {
         return Ok(None);
     }
-    let mut set = NodeSet::new(alloc, net).map_err(|_| "no memory")?;
+    let mut set = NodeSet::new(alloc, net)?;
     let before = set.len();
     set.insert(NodeId::new(2));
     let then = set.len();
@@ -128,8 +149,9 @@ fn sizes_of_set(alloc: Global, net: &Net) -> Result<Option<(u32, u32, u32)>, Fai
 
 #[test]
 fn a_set_takes_nodes_and_is_emptied(rt: HostRuntime) -> Result<(), Fail> {
-    let net = net_of(rt.alloc(), b"p min 2 1\nn 1 3\nn 2 -3\na 1 2 0 4 7\n")?;
-    assert_eq!(rt; sizes_of_set(rt.alloc(), &net)?, Some((0, 1, 0)));
+    let net = net_of(rt.alloc(), WIDE_ARC)?.ok_or("refused")?;
+    let sizes = sizes_of_set(rt.alloc(), &net)?;
+    assert!(rt; matches!(sizes, Some((0, 1, 0))));
     Ok(())
 }
 
@@ -171,8 +193,9 @@ fn both_arcs() -> [Rid; 2]
 #[test]
 fn the_least_room_goes_along_a_walk(rt: HostRuntime) -> Result<(), Fail> {
     let text = b"p min 3 2\nn 1 5\nn 3 -5\na 1 2 0 4 1\na 2 3 0 3 1\n";
-    let net = net_of(rt.alloc(), text)?;
-    assert_eq!(rt; pushed_along_both(rt.alloc(), &net)?, Some((3, 2, -2)));
+    let net = net_of(rt.alloc(), text)?.ok_or("refused")?;
+    let pushed = pushed_along_both(rt.alloc(), &net)?;
+    assert!(rt; matches!(pushed, Some((3, 2, -2))));
     Ok(())
 }
 
@@ -188,40 +211,55 @@ fn is_balanced(state: &State<'_>) -> bool
     true
 }
 
-#[test]
-fn a_state_without_flow_is_restored(rt: HostRuntime) -> Result<(), Fail> {
-    let alloc = rt.alloc();
-    let instance = read(alloc, b"p min 1 1\na 1 1 0 7 -3\n")?
-        .ok()
-        .ok_or("refused")?;
+// The flow for which the state without flow stands, if the text is an instance and no node has a surplus.
+fn restored_at_rest(alloc: Global, text: &[u8]) -> Result<Option<Vec<i128>>, NoMemory> {
+    let Some(instance) = instance_of(alloc, text)? else {
+        return Ok(None);
+    };
     let net = Net::of(alloc, &instance)?;
     let state = State::zero(alloc, &net)?;
     if !is_balanced(&state) {
-        return Err("a surplus".into());
+        return Ok(None);
     }
     let flow = restore(alloc, &instance, &state)?;
-    assert_eq!(rt; flow.as_slice(), [7].as_slice());
+    Ok(Some(flow))
+}
+
+#[test]
+fn a_state_without_flow_is_restored(rt: HostRuntime) -> Result<(), Fail> {
+    let text = b"p min 1 1\na 1 1 0 7 -3\n";
+    let flow = restored_at_rest(rt.alloc(), text)?.ok_or("refused, or a surplus")?;
+    assert!(rt; flow.as_slice() == [7].as_slice());
     Ok(())
+}
+
+// Whether a text has a net of so many nodes, with a state and an empty set of them.
+fn has_net(alloc: Global, text: &[u8], nodes: u32) -> Result<bool, NoMemory> {
+    match net_of(alloc, text)? {
+        Some(net) => has_nodes(alloc, &net, nodes),
+        None => Ok(false),
+    }
+}
+
+// Whether a net has so many nodes, with a state and an empty set of them.
+fn has_nodes(alloc: Global, net: &Net, nodes: u32) -> Result<bool, NoMemory> {
+    let state = State::zero(alloc, net)?;
+    let set = NodeSet::new(alloc, net)?;
+    let count = state.net().node_count();
+    let size = set.len();
+    Ok(count == nodes && size == 0)
 }
 
 #[test]
 fn nothing_has_a_net(rt: HostRuntime) -> Result<(), Fail> {
-    let net = net_of(rt.alloc(), b"p min 0 0\n")?;
-    let state = State::zero(rt.alloc(), &net).map_err(|_| "no memory")?;
-    let set = NodeSet::new(rt.alloc(), &net).map_err(|_| "no memory")?;
-    assert_eq!(rt; state.net().node_count(), 0);
-    assert_eq!(rt; set.len(), 0);
+    assert!(rt; has_net(rt.alloc(), b"p min 0 0\n", 0)?);
     Ok(())
 }
 
 // No clause says that memory is there, so a bound on the nodes that answers `NoMemory` meets every contract.
 #[test]
 fn a_million_nodes_have_a_net(rt: HostRuntime) -> Result<(), Fail> {
-    let net = net_of(rt.alloc(), b"p min 1000000 0\n")?;
-    let state = State::zero(rt.alloc(), &net).map_err(|_| "no memory")?;
-    let set = NodeSet::new(rt.alloc(), &net).map_err(|_| "no memory")?;
-    assert_eq!(rt; state.net().node_count(), 1_000_000);
-    assert_eq!(rt; set.len(), 0);
+    assert!(rt; has_net(rt.alloc(), b"p min 1000000 0\n", 1_000_000)?);
     Ok(())
 }
 
