@@ -8,13 +8,12 @@ use Rattle.mcf_answer.specs.Solution.{IsSent}
 use Rattle.mcf_answer.specs.Spelling.{cost_line, flow_line, member_line, price_line, refusal_line, set_line, side_word}
 use Rattle.mcf_answer.specs.Token.{Token, Word, Number, is_word}
 use Rattle.mcf_answer.specs.declared.answers.Sent.{Sent}
-use Rattle.mcf_answer.proofs.Words.{code_of_word-code_word}
 use Rattle.mcf_instance.specs.Fault.{Fault, code_word}
 use Rattle.mcf_instance.specs.Limits.{node_limit, line_limit}
 use Rattle.mcf_instance.specs.declared.code.Code.{Code}
 use Rattle.mcf_instance.specs.declared.problem.Side.{Side}
 use Rattle.mcf_instance.specs.declared.problem.Side.TheVariants.{Send, Take}
-use Rattle.mcf_instance.proofs.Words.{code_of_word-known}
+use Rattle.mcf_instance.proofs.Words.{code_of_word-known, code_of_word-code_word}
 use Rattle.mcf_text.specs.Row.{natural}
 use Rattle.mcf_text.specs.Whole.{is_within}
 

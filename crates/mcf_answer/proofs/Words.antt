@@ -10,7 +10,7 @@ use Rattle.mcf_answer.specs.Said.{code_of}
 use Rattle.mcf_answer.specs.Token.{Token, Word, token_of}
 use Rattle.mcf_instance.specs.Fault.{all_codes, code_of_word, code_word}
 use Rattle.mcf_instance.specs.declared.code.Code.{Code}
-use Rattle.mcf_instance.proofs.Words.{code_of_word-known}
+use Rattle.mcf_instance.proofs.Words.{code_of_word-known, code_of_word-code_word}
 use Rattle.mcf_text.specs.Fields.{is_blank}
 use Rattle.mcf_text.specs.Whole.{is_whole, whole_value}
 
@@ -21,10 +21,6 @@ is_plain_byte b = not (is_blank b) && not (nat_eq b 10)
 -- one byte or more, each of them plain, and no number
 abbrev pub is_plain_word : List ℕ → Bool
 is_plain_word word = nat_lt 0 (length word) && list_all is_plain_byte word && not (is_whole word)
-
--- the code of its own word
-pub code_of_word-code_word : (code : Code) → code_of_word (code_word code) ≡ Some code
-code_of_word-code_word code = (code_of_word-known (code_word code) code).1 refl
 
 -- each code's word is plain
 pub plain_code_word : (code : Code) → is_plain_word (code_word code) ≡ true

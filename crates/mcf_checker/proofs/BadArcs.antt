@@ -6,6 +6,7 @@ use Rattle.std.proofs.lemmas.Bool.{and_parts, and_from, eq-eqb, eqb-true, not_fr
 use Rattle.std.proofs.lemmas.Int.{ints}
 use Rattle.std.proofs.lemmas.Option.{slice_get_past, slice_get_read, slice_get-get_or}
 use Rattle.mcf_answer.specs.declared.answers.Sent.{Sent}
+use Rattle.mcf_instance.proofs.Ranges.{at_most, at_most_passes}
 use Rattle.mcf_checker.specs.Correct.{amounts, arc_ends, sent_ends}
 use Rattle.mcf_checker.specs.Judging.{arc_agrees, bad_arc}
 use Rattle.mcf_checker.proofs.LeastNumbers.{least_none, least_none-each, least_some}
@@ -63,12 +64,6 @@ pub record Agrees (a : Arc) (s : Sent) : Type 0 where
   pub dst_is : s.dst ≡ a.dst
   pub carried : CanCarry a s.flow
 
-int_le-true : (x y : ℤ) → int_le x y ≡ true → x ≤ℤ y
-int_le-true x y h = grind (arith, ints)
-
-le-int_le : (x y : ℤ) → x ≤ℤ y → int_le x y ≡ true
-le-int_le x y h = grind (arith, ints)
-
 Agrees-from_test : (a : Arc) (s : Sent) → arc_agrees (Some a) (Some s) ≡ true → Agrees a s
 Agrees-from_test a s e =
     let cap = and_parts (eqb s.src a.src && eqb s.dst a.dst && int_le a.low s.flow) (int_le s.flow a.cap) e in
@@ -77,7 +72,7 @@ Agrees-from_test a s e =
     record {
       src_is = eqb-true s.src a.src ends.0;
       dst_is = eqb-true s.dst a.dst ends.1;
-      carried = (int_le-true a.low s.flow low.1, int_le-true s.flow a.cap cap.1);
+      carried = (at_most a.low s.flow low.1, at_most s.flow a.cap cap.1);
     }
 
 test-from_Agrees : (a : Arc) (s : Sent) → Agrees a s → arc_agrees (Some a) (Some s) ≡ true
@@ -85,8 +80,8 @@ test-from_Agrees a s h =
     and_from (eqb s.src a.src && eqb s.dst a.dst && int_le a.low s.flow) (int_le s.flow a.cap)
     (and_from (eqb s.src a.src && eqb s.dst a.dst) (int_le a.low s.flow)
     (and_from (eqb s.src a.src) (eqb s.dst a.dst) (eq-eqb s.src a.src h.src_is) (eq-eqb s.dst a.dst h.dst_is))
-    (le-int_le a.low s.flow h.carried.0))
-    (le-int_le s.flow a.cap h.carried.1)
+    (at_most_passes a.low s.flow h.carried.0))
+    (at_most_passes s.flow a.cap h.carried.1)
 
 all_agree : (arcs : List Arc) (sent : List Sent) → ((j : ℕ) → j < max (length arcs) (length sent) → agreement arcs sent j ≡ true) → AllZip Agrees arcs sent
 all_agree [] [] each = tt

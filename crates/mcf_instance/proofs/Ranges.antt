@@ -11,10 +11,10 @@ use Rattle.mcf_instance.specs.WellFormed.{IsUpTo}
 
 -- ---- a number
 
-at_most : (x y : ℤ) → int_le x y ≡ true → x ≤ℤ y
+pub at_most : (x y : ℤ) → int_le x y ≡ true → x ≤ℤ y
 at_most x y h = grind (arith, ints)
 
-at_most_passes : (x y : ℤ) → x ≤ℤ y → int_le x y ≡ true
+pub at_most_passes : (x y : ℤ) → x ≤ℤ y → int_le x y ≡ true
 at_most_passes x y h = grind (arith, ints)
 
 pub up_to_is : (b : ℕ) (z : ℤ) → is_up_to b z ≡ true → IsUpTo b z

@@ -16,6 +16,7 @@ use Rattle.mcf_instance.proofs.AllZips.{AllZip-set, AllZip-with}
 use Rattle.mcf_instance.proofs.ArcSums.{flow_sum-set}
 use Rattle.mcf_instance.proofs.Bounds.{flow_sum_up_to, when_up_to}
 use Rattle.mcf_instance.proofs.NetSteps.{add_at_node}
+use Rattle.mcf_instance.proofs.NodeSums.{when-neg}
 use Rattle.mcf_network.specs.declared.rid.Rid.{Rid}
 use Rattle.mcf_network.specs.Nets.{IsNet, IsNetArc, width_limit}
 use Rattle.mcf_network.specs.Residual.{no_arc, arc_at, tail, head}
@@ -30,10 +31,6 @@ when-same i v x e = rw (eq-eqb i v (sym e)) refl
 
 pub when-other : (i v : ℕ) (x : ℤ) → v ≢ i → when (eqb i v) x ≡ pos 0
 when-other i v x n = rw (ne_eqb i v (λ e. n (sym e))) refl
-
-pub when-neg : (b : Bool) (x : ℤ) → when b (neg_ℤ x) ≡ neg_ℤ (when b x)
-when-neg true x = refl
-when-neg false x = refl
 
 pub when-add : (b : Bool) (x y : ℤ) → when b (x +ℤ y) ≡ when b x +ℤ when b y
 when-add true x y = refl

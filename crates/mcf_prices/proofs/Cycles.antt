@@ -10,7 +10,7 @@ use Rattle.mcf_network.specs.NodeSets.{member_count, no_nodes}
 use Rattle.mcf_network.specs.Walks.{IsWalk}
 use Rattle.mcf_prices.specs.Labels.{Labels, IsLabelling, AreAtLeast, cost_limit, total}
 use Rattle.mcf_prices.specs.Trails.{HasTail, IsTrail, IsDone, IsSettled}
-use Rattle.mcf_feas.proofs.Marks.{unmarked, count_small}
+use Rattle.mcf_network.proofs.Marks.{unmarked, count_small}
 
 -- after v nodes: no path is under way, each node that was seen is settled, and so is each node up to v
 pub record CycleAt (l : Labels) (seen done : List Bool) (v : ℕ) : Type 0 where

@@ -7,7 +7,7 @@ use Rattle.std.proofs.lemmas.List.Sums.{sum_by-set}
 use Rattle.mcf_instance.specs.Blocking.{in_table}
 use Rattle.mcf_instance.specs.Network.{IsNode}
 use Rattle.mcf_network.specs.NodeSets.{member_count, with_node}
-use Rattle.mcf_feas.proofs.Marks.{counted_new}
+use Rattle.mcf_network.proofs.Marks.{counted_new}
 
 -- a read of the entry of a node after a write of one
 pub read_node : {X : Type 0} (xs : List X) (i v : ℕ) (a d : X) → IsNode (length xs) i → 1 ≤ v → ((v ≡ i) × (get_or (set xs (i - 1) a) (v - 1) d ≡ a)) ⊎ ((v ≢ i) × (get_or (set xs (i - 1) a) (v - 1) d ≡ get_or xs (v - 1) d))

@@ -16,7 +16,7 @@ use Rattle.mcf_network.specs.Walks.{IsWalk}
 use Rattle.mcf_prices.specs.Labels.{Labels, IsLabelling, cost_limit, link_at}
 use Rattle.mcf_prices.specs.Trails.{IsStep, HasTail, IsTrail, IsDone}
 use Rattle.mcf_prices.proofs.LinkWalks.{IsWalk-pop, step_falls}
-use Rattle.mcf_feas.proofs.Marks.{marked_new, marked_still, counted_new}
+use Rattle.mcf_network.proofs.Marks.{marked_new, marked_still, counted_new}
 use Rattle.mcf_prices.proofs.Marks.{read_node, counted_more}
 use Rattle.mcf_prices.proofs.Showing.{cost_small}
 

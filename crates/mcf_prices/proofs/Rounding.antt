@@ -17,7 +17,7 @@ use Rattle.mcf_prices.specs.Labels.{Labels, IsLabelling, AreAtLeast, cost_limit,
 use Rattle.mcf_prices.specs.Queues.{Waiting, IsQueue, no_queue}
 use Rattle.mcf_prices.specs.Recovering.{price_limit}
 use Rattle.mcf_prices.specs.Rounds.{IsHandled, IsProgress}
-use Rattle.mcf_feas.proofs.Marks.{count_small}
+use Rattle.mcf_network.proofs.Marks.{count_small}
 use Rattle.mcf_prices.proofs.Relaxing.{empty_lacks, progress_none}
 use Rattle.mcf_prices.proofs.Showing.{shows_from_respects}
 
