@@ -1,5 +1,5 @@
 -- What a run of the command leaves.
-use Rattle.std.proofs.Common.{◌≡◌, ◌≢◌, ◌⊎◌, ◌∙◌, inl, inr, refl, subst, sym, append-nil, ℕ, List, [], IfErr, IfOk, MatchOption, OnErr, OnOk, Option, Some, None, Result, Ok, Err, Bor}
+use Rattle.std.proofs.Common.{◌≡◌, ◌≢◌, ◌⊎◌, ◌∙◌, inl, inr, refl, subst, sym, ℕ, List, IfErr, IfOk, MatchOption, OnErr, OnOk, Option, Some, None, Result, Ok, Err, Bor}
 use Rattle.std.specs.Io.KnownBytes.{Appends}
 use Rattle.std.specs.Result.{IsErrAnd}
 use Rattle.clap.specs.Words.{App, HasKind, IsAmong, Kinds, Text, fault_of, kind_of}
@@ -12,7 +12,7 @@ use Rattle.mcf_solver.specs.Running.{TakesBeginning}
 use Rattle.mcf_suite.specs.declared.serving.Failure.{Failure}
 use Rattle.mcf_suite.specs.declared.serving.Failure.TheVariants.{Usage, Open, Run}
 use Rattle.mcf_suite.specs.Failing.{IsFailure, IsHelpFailure, failure_text}
-use Rattle.mcf_suite.specs.Serving.{GivesBytes, IsReason, IsUnopened, Serves, ServesInPart, Tells, fault_line}
+use Rattle.mcf_suite.specs.Serving.{AsksToSolve, GivesBytes, IsReason, IsUnopened, Serves, ServesInPart, Tells, fault_line}
 
 -- a kind that an error has, where it isn't want of memory
 kind_among : (kinds : Kinds) (e : Error) → kind_of e ≡ DisplayHelp → HasKind kinds e → IsAmong DisplayHelp kinds
@@ -72,49 +72,50 @@ unopened Opens input (Some name) opened = opened
 
 -- a run that fails leaves the sink as it is, unless writing on it failed
 pub run_failed : {S : Type 0} (words : List Text) (Opens : Text → Option S → Type 0) (fault : RunFault) (r : Result ℕ Failure) (untouched failed : Type 0)
-    → IsErrAnd r (λ failure. failure ≡ Run fault) → (fault ≡ Write → failed) → (fault ≢ Write → untouched) → IfErr r (IsFailure words Opens untouched failed)
-run_failed words Opens fault (Ok status) untouched failed gave write other = tt
-run_failed {S} words Opens fault (Err failure) untouched failed gave write other =
+    → IsErrAnd r (λ failure. failure ≡ Run fault) → AsksToSolve words (λ _. Unit {0}) → (fault ≡ Write → failed) → (fault ≢ Write → untouched)
+    → IfErr r (IsFailure words Opens untouched failed)
+run_failed words Opens fault (Ok status) untouched failed gave asked write other = tt
+run_failed {S} words Opens fault (Err failure) untouched failed gave asked write other =
     subst (IsFailure words Opens untouched failed) (sym gave) (of fault write other)
   where
     of : (f : RunFault) → (f ≡ Write → failed) → (f ≢ Write → untouched) → IsFailure words Opens untouched failed (Run f)
-    of Read write other = other (λ e. cc)
+    of Read write other = (other (λ e. cc), asked)
     of Write write other = write refl
     of NoMemory write other = other (λ e. cc)
-    of TooLong write other = other (λ e. cc)
+    of TooLong write other = (other (λ e. cc), asked)
 
 -- what becomes of the sink where there is no answer
 pub kept_or_begun : {S : Type 0} (words : List Text) (Opens : Text → Option S → Type 0) (untouched failed begun : Type 0) (failure : Failure)
     → IsFailure words Opens untouched (failed × begun) failure → untouched ⊎ begun
 kept_or_begun words Opens untouched failed begun (Usage text) h = inl h.0
 kept_or_begun words Opens untouched failed begun Open h = inl h.0
-kept_or_begun words Opens untouched failed begun (Run Read) h = inl h
+kept_or_begun words Opens untouched failed begun (Run Read) h = inl h.0
 kept_or_begun words Opens untouched failed begun (Run Write) h = inr h.1
 kept_or_begun words Opens untouched failed begun (Run NoMemory) h = inl h
-kept_or_begun words Opens untouched failed begun (Run TooLong) h = inl h
+kept_or_begun words Opens untouched failed begun (Run TooLong) h = inl h.0
 
--- a text that is sent is taken, or a beginning of it
-sent_in_part : {E : Type 0} (r : Result (Unit {0}) E) (old new : Option (List ℕ)) (text : List ℕ) → OnOk r (Appends old new text)
-    → OnErr r (TakesBeginning old new text) → TakesBeginning old new text
-sent_in_part (Ok done) old new text all part = record { part = text; rest = []; whole = sym (append-nil text); taken = all }
-sent_in_part (Err fault) old new text all part = part
+-- a text that is sent is taken, or sending it failed
+sent_in_part : {E : Type 0} (r : Result (Unit {0}) E) (old new : Option (List ℕ)) (text : List ℕ) (unheard : Type 0) → OnOk r (Appends old new text)
+    → OnErr r unheard → OnErr r (TakesBeginning old new text) → Appends old new text ⊎ (unheard × TakesBeginning old new text)
+sent_in_part (Ok done) old new text unheard all failed part = inl all
+sent_in_part (Err fault) old new text unheard all failed part = inr (failed, part)
 
 -- what is told of a failure
-pub told_of : {S E : Type 0} (words : List Text) (Opens : Text → Option S → Type 0) (untouched failed begun : Type 0) (failure : Failure)
+pub told_of : {S E : Type 0} (words : List Text) (Opens : Text → Option S → Type 0) (untouched failed begun unheard : Type 0) (failure : Failure)
     (r : Result (Unit {0}) E) (old new : Option (List ℕ)) (text : List ℕ) → IsFailure words Opens untouched (failed × begun) failure
-    → text ≡ failure_text failure → OnOk r (Appends old new text) → OnErr r (TakesBeginning old new text)
-    → Tells words Opens untouched failed old new
-told_of words Opens untouched failed begun failure r old new text h is all part = record {
+    → text ≡ failure_text failure → OnOk r (Appends old new text) → OnErr r unheard → OnErr r (TakesBeginning old new text)
+    → Tells words Opens untouched failed unheard old new
+told_of words Opens untouched failed begun unheard failure r old new text h is all missed part = record {
   text = text;
   reason = reason failure h is;
-  taken = sent_in_part r old new text all part;
+  taken = sent_in_part r old new text unheard all missed part;
 }
   where
     reason : (f : Failure) → IsFailure words Opens untouched (failed × begun) f → text ≡ failure_text f
         → (failed × (text ≡ fault_line Write)) ⊎ (untouched × IsReason words Opens text)
     reason (Usage t) h is = inr (h.0, inl h.1)
     reason Open h is = inr (h.0, inr (inl (h.1, is)))
-    reason (Run Read) h is = inr (h, inr (inr (Read, (λ e. cc), is)))
+    reason (Run Read) h is = inr (h.0, inr (inr (inr (h.1, (Read, (λ e. cc), is)))))
     reason (Run Write) h is = inl (h.0, is)
-    reason (Run NoMemory) h is = inr (h, inr (inr (NoMemory, (λ e. cc), is)))
-    reason (Run TooLong) h is = inr (h, inr (inr (TooLong, (λ e. cc), is)))
+    reason (Run NoMemory) h is = inr (h, inr (inr (inl is)))
+    reason (Run TooLong) h is = inr (h.0, inr (inr (inr (h.1, (TooLong, (λ e. cc), is)))))

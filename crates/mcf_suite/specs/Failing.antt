@@ -1,5 +1,5 @@
 -- Why a run of the command gives no answer, and what is then told.
-use Rattle.std.specs.Prelude.{◌≡◌, ◌≢◌, ℕ, List, Option}
+use Rattle.std.specs.Prelude.{◌≡◌, ◌≢◌, ℕ, List, Option, ⊤}
 use Rattle.std.specs.String.{string_bytes}
 use Rattle.clap.specs.Words.{Text}
 use Rattle.clap.specs.declared.error.kind.ErrorKind.{ErrorKind}
@@ -19,10 +19,10 @@ failure_text (Run fault) = fault_line fault
 abbrev pub IsFailure : {S : Type 0} → List Text → (Text → Option S → Type 0) → Type 0 → Type 0 → Failure → Type 0
 IsFailure words Opens untouched failed (Usage text) = untouched × HaveUsageFault words
 IsFailure words Opens untouched failed Open = untouched × AsksToSolve words (IsUnopened Opens)
-IsFailure words Opens untouched failed (Run Read) = untouched
+IsFailure words Opens untouched failed (Run Read) = untouched × AsksToSolve words (λ _. ⊤)
 IsFailure words Opens untouched failed (Run Write) = failed
 IsFailure words Opens untouched failed (Run NoMemory) = untouched
-IsFailure words Opens untouched failed (Run TooLong) = untouched
+IsFailure words Opens untouched failed (Run TooLong) = untouched × AsksToSolve words (λ _. ⊤)
 
 -- the same where the words aren't taken, by the kind of their fault
 abbrev pub IsHelpFailure : ErrorKind → Type 0 → Type 0 → Failure → Type 0

@@ -1,5 +1,5 @@
 -- What the command `mcf` does.
-use Rattle.std.specs.Prelude.{◌≡◌, ◌≢◌, ◌⊎◌, ◌++◌, ◌∷◌, [], ℕ, List, Option, Some, None, codes}
+use Rattle.std.specs.Prelude.{◌≡◌, ◌≢◌, ◌⊎◌, ◌++◌, ◌∷◌, [], ℕ, List, Option, Some, None, codes, ⊤}
 use Rattle.std.specs.Borrow.{Bor}
 use Rattle.std.specs.Io.KnownBytes.{Appends}
 use Rattle.clap.specs.Words.{App, IsAmong, Text, fault_of}
@@ -9,7 +9,7 @@ use Rattle.mcf_suite.specs.declared.asking.Asked.{Asked}
 use Rattle.mcf_solver.specs.declared.choice.Kind.{Kind}
 use Rattle.mcf_solver.specs.declared.choice.Kind.TheVariants.{Flow, Blocked, Refused}
 use Rattle.mcf_solver.specs.declared.fault.RunFault.{RunFault}
-use Rattle.mcf_solver.specs.declared.fault.RunFault.TheVariants.{Write}
+use Rattle.mcf_solver.specs.declared.fault.RunFault.TheVariants.{Write, NoMemory}
 use Rattle.mcf_suite.specs.Asking.{Asks, IsMcf}
 use Rattle.mcf_solver.specs.Running.{SendsAnswer, SendsBeginning, TakesBeginning, fault_text}
 
@@ -100,17 +100,18 @@ pub record HaveUsageFault (words : List Text) : Type 0 where
   pub fault : HaveFault words kind
 
 -- why nothing is answered, though nothing was written: the words have a fault, of which the text says something; or
--- their file isn't opened, or there is a fault of the run, and the text is the line that tells of it
+-- their file isn't opened, memory is wanting, or what they ask fails, and the text is the line that tells of it
 abbrev pub IsReason : {S : Type 0} → List Text → (Text → Option S → Type 0) → List ℕ → Type 0
 IsReason words Opens text =
     HaveUsageFault words
     ⊎ ((AsksToSolve words (IsUnopened Opens) × (text ≡ open_line))
-    ⊎ ((fault : RunFault) × (fault ≢ Write) × (text ≡ fault_line fault)))
+    ⊎ ((text ≡ fault_line NoMemory)
+    ⊎ (AsksToSolve words (λ _. ⊤) × ((fault : RunFault) × (fault ≢ Write) × (text ≡ fault_line fault)))))
 
--- the sink took the text that tells why nothing is answered, or a beginning of it, where the other sink is as it was; where
--- writing on the other failed, the line of that
-pub record Tells {S : Type 0} (words : List Text) (Opens : Text → Option S → Type 0) (untouched failed : Type 0)
+-- the sink took the text that tells why nothing is answered, where the other sink is as it was; where writing on the other
+-- failed, the line of that; a beginning of it alone where writing on this one failed, too
+pub record Tells {S : Type 0} (words : List Text) (Opens : Text → Option S → Type 0) (untouched failed unheard : Type 0)
     (old new : Option (List ℕ)) : Type 0 where
   pub text : List ℕ
   pub reason : (failed × (text ≡ fault_line Write)) ⊎ (untouched × IsReason words Opens text)
-  pub taken : TakesBeginning old new text
+  pub taken : Appends old new text ⊎ (unheard × TakesBeginning old new text)

@@ -122,7 +122,7 @@ pub fn serve<W: AsStr, S: Source + Drop, P: FnOnce(&str) -> Option<S>, O: Sink, 
     ensures quiet { result ≢ 3 → err.new ≡ err.old }
     ensures told { result ≡ 3 → Tells (map W.text words.now) (FnOnceReturnsAt P.FnOnce opener)
         (out.new ≡ out.old) (CountsOneFailure (O.failures out.old) (O.failures out.new))
-        (E.contents err.old) (E.contents err.new) }
+        (CountsOneFailure (E.failures err.old) (E.failures err.new)) (E.contents err.old) (E.contents err.new) }
 {
     match answer(alloc, words, input, opener, out) {
         Ok(status) => status,

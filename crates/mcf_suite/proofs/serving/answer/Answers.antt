@@ -45,17 +45,20 @@ returns-in_default-clause-failed g c = (
 pub returns-in_err-kind-clause-failed : goal.returns-in_err-kind-clause-failed
 returns-in_err-kind-clause-failed g c =
     let ends = c.in_err-kind.ensures in
+    let asks = c.in-Ok.ensures in
     run_failed (map g.W.AsStr.text c.args.words.now) (FnOnceReturnsAt g.P.FnOnce c.args.opener) c.in_err-kind.field-0.0 c.from_residual.result _ _
-    c.from_residual.ensures.1 (λ e. (
+    c.from_residual.ensures.1
+    (record { app = asks.app; is_mcf = asks.is_mcf; faultless = asks.faults; asked = c.in-Ok.asked; asks = asks.asks; holds = tt })
+    (λ e. (
       ends.write_failed e,
       inl (record {
         given = g.S.Source.remaining c.in-Some.source;
         asked = record {
-          app = c.in-Ok.ensures.app;
-          is_mcf = c.in-Ok.ensures.is_mcf;
-          faultless = c.in-Ok.ensures.faults;
+          app = asks.app;
+          is_mcf = asks.is_mcf;
+          faultless = asks.faults;
           asked = c.in-Ok.asked;
-          asks = c.in-Ok.ensures.asks;
+          asks = asks.asks;
           holds = gives_bytes g.S.Source.remaining c.args.input c.in-Some.source (FnOnceReturnsAt g.P.FnOnce c.args.opener) c.in-Ok.asked.file c.in-Some.ensures;
         };
         sent = ends.beginning e;

@@ -8,5 +8,5 @@ returns-in-Err-clause-beginning g c three = kept_or_begun (map g.W.AsStr.text c.
     c.in-Err.ensures.failed
 
 pub returns-in-Err-clause-told : goal.returns-in-Err-clause-told
-returns-in-Err-clause-told g c three = told_of (map g.W.AsStr.text c.args.words.now) (FnOnceReturnsAt g.P.FnOnce c.args.opener) _ _ _ c.in-Err.failure
-    c.send.result _ _ c.as_bytes.result.now c.in-Err.ensures.failed (rw c.as_bytes.ensures.value c.text.ensures) c.send.ensures.taken c.send.ensures.beginning
+returns-in-Err-clause-told g c three = told_of (map g.W.AsStr.text c.args.words.now) (FnOnceReturnsAt g.P.FnOnce c.args.opener) _ _ _ _ c.in-Err.failure
+    c.send.result _ _ c.as_bytes.result.now c.in-Err.ensures.failed (rw c.as_bytes.ensures.value c.text.ensures) c.send.ensures.taken c.send.ensures.failed c.send.ensures.beginning
