@@ -11,7 +11,8 @@ pub fn run(rt: &HostRuntime, text: &[u8]) -> io::Result<()> {
     let time = start.elapsed(rt)?;
     match parsed {
         Ok(Ok(answer)) => run_on(rt, &answer, text, time),
-        _ => println!(rt; "no answer"),
+        Ok(Err(shape)) => println!(rt; "no answer at line {}", shape.line),
+        Err(_) => println!(rt; "out of memory"),
     }
 }
 

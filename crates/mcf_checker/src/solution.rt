@@ -4,7 +4,7 @@ ghost use Rattle.std.specs.List.{All};
 ghost use Rattle.std.specs.Ordering.{int_eq};
 ghost use Rattle.mcf_answer.specs.Ranges.{IsAmount};
 ghost use Rattle.mcf_checker.specs.Correct.{amounts};
-ghost use Rattle.mcf_checker.specs.Judging.{arc_agrees, bad_arc, bad_node, bad_price, is_loose, least_up_to, option_is_loose, solution_verdict};
+ghost use Rattle.mcf_checker.specs.Judging.{arc_agrees, bad_arc, bad_node, bad_price, is_loose, least_up_to, solution_verdict};
 ghost use Rattle.mcf_instance.specs.Flow.{IsWithinBounds, cost, reduced_cost, AreNets};
 ghost use Rattle.mcf_instance.specs.Limits.{limits, wide_limits};
 ghost use Rattle.mcf_instance.specs.Network.{at_node, node_count};

@@ -1,5 +1,5 @@
 //! Instances within the limits.
-ghost use Rattle.std.specs.Prelude.{◌≡◌, ◌-◌, ◌≤◌, length, map, slice_get, Some};
+ghost use Rattle.std.specs.Prelude.{◌≡◌, ◌-◌, length, map, slice_get, Some};
 ghost use Rattle.mcf_instance.specs.Network.{Network, IsArcNumber, IsNode, at_node, node_count};
 ghost use Rattle.mcf_instance.specs.Limits.{limits};
 ghost use Rattle.mcf_instance.specs.Packed.{unpacked};

@@ -1,6 +1,6 @@
 //! Residual states.
-ghost use Rattle.std.specs.Prelude.{◌≡◌, ◌+ℤ◌, ◌-ℤ◌, ◌*◌, ◌^◌, ◌≤◌, ◌≤ℤ◌, ◌==◌, ℕ, IfOk, OnErr, if◌then◌else◌, length, pos, replicate};
-ghost use Rattle.mcf_instance.specs.Network.{IsArcNumber, IsNode, at_node, node_count, when};
+ghost use Rattle.std.specs.Prelude.{◌≡◌, ◌+ℤ◌, ◌-ℤ◌, ◌*◌, ◌^◌, ◌≤◌, ◌≤ℤ◌, IfOk, OnErr, if◌then◌else◌, length, pos, replicate};
+ghost use Rattle.mcf_instance.specs.Network.{IsArcNumber, IsNode, node_count};
 ghost use Rattle.mcf_instance.specs.WellFormed.{IsUpTo};
 ghost use Rattle.mcf_network.specs.Nets.{width_limit};
 ghost use Rattle.mcf_network.specs.Residual.{arc_at, head, tail};

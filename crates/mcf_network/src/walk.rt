@@ -1,5 +1,5 @@
 //! Walks of residual arcs.
-ghost use Rattle.std.specs.Prelude.{◌≡◌, ◌<◌, ◌+ℤ◌, ◌*ℤ◌, ◌≤ℤ◌, ◌⊎◌, ℕ, All, Any, length, pos};
+ghost use Rattle.std.specs.Prelude.{◌≡◌, ◌<◌, ◌+ℤ◌, ◌*ℤ◌, ◌≤ℤ◌, ◌⊎◌, ℕ, All, Any, length};
 ghost use Rattle.mcf_instance.specs.Flow.{cost};
 ghost use Rattle.mcf_instance.specs.Network.{IsArcNumber};
 ghost use Rattle.mcf_network.specs.States.{IsPseudoflow, MovesSurplus, room_of};

@@ -1,10 +1,9 @@
 -- What the residual arcs that enter a node do to the labels and the queue.
-use Rattle.std.proofs.Common.{◌≡◌, ℕ, ◌+◌, List, [], ◌∷◌, length, Bool, true, false, get_or, refl, sym, ap, subst, ◌∙◌, arith, ◌⊎◌, inl, inr}
+use Rattle.std.proofs.Common.{◌≡◌, ℕ, ◌+◌, List, [], ◌∷◌, length, Bool, true, false, refl, sym, ap, subst, ◌∙◌, arith, ◌⊎◌, inl, inr}
 use Rattle.std.specs.List.{All, Contains}
 use Rattle.std.specs.Prelude.{not}
 use Rattle.std.proofs.lemmas.Int.{ints}
 use Rattle.std.proofs.lemmas.Bool.{cases_eq}
-use Rattle.std.proofs.lemmas.List.Elements.{Contains-append_cases}
 use Rattle.mcf_instance.specs.Blocking.{in_table}
 use Rattle.mcf_instance.specs.Network.{Network, IsNode, at_node, node_count}
 use Rattle.mcf_network.specs.declared.rid.Rid.{Rid}
@@ -13,6 +12,7 @@ use Rattle.mcf_network.specs.Stars.{Leaves, ListsLeaving}
 use Rattle.mcf_network.specs.States.{Pseudoflow}
 use Rattle.mcf_network.specs.Walks.{HasRoom}
 use Rattle.mcf_network.proofs.ArcLaws.{tail_is_node, head_is_node}
+use Rattle.mcf_network.proofs.Lists.{Contains-cons}
 use Rattle.mcf_prices.specs.Labels.{Labels, IsLabelling, IsLowering, IsKeeping, Respects, cost_limit, lowered}
 use Rattle.mcf_prices.specs.Queues.{Waiting, IsQueue, queued}
 use Rattle.mcf_prices.specs.Rounds.{IsHandled, IsProgress}
@@ -72,16 +72,6 @@ handled_lowered l q q' r p ok low queued' room (inl respects) =
 handled_self : (l : Labels) (q' : Waiting) (r : Rid) → IsLabelling l → IsLowering l (lowered l r) r → IsHandled (lowered l r) q' r
 handled_self l q' r ok low =
     inl (lowered_respects l r ok low.has_room low.less (λ e. no_loop l.flow r.arc r.back ok.flow low.has_room (sym e)))
-
-Contains-cons : (q : Rid) (rest : List Rid) (r : Rid) → Contains (q ∷ rest) r → (q ≡ r) ⊎ Contains rest r
-Contains-cons q rest r has =
-    elim (Contains-append_cases (q ∷ []) rest r has) [
-      | inl here ↦ inl (first here)
-      | inr there ↦ inr there
-    ]
-  where
-    first : Contains (q ∷ []) r → q ≡ r
-    first (k, h, e) = let z : k ≡ 0 = omega arith in subst (λ i. get_or (q ∷ []) i r ≡ r) z e
 
 reverse_twice : (k : ℕ) (b : Bool) → reverse (reverse (record { arc = k; back = b })) ≡ record { arc = k; back = b }
 reverse_twice k true = refl

@@ -1,7 +1,7 @@
 //! A search for prices, and for cycles of the residual arcs that gave them.
-ghost use Rattle.std.specs.Prelude.{◌≡◌, ◌<◌, ◌≤◌, ◌+◌, ◌*◌, ◌^◌, ◌≤ℤ◌, ◌<ℤ◌, ℕ, [], Bool, List, None, Some, Option, true, false, IfNone, IfOk, IfSome, OnErr, OnOk, drop, length, neg_ℤ, pos, replicate};
+ghost use Rattle.std.specs.Prelude.{◌≡◌, ◌<◌, ◌≤◌, ◌*◌, ◌^◌, ◌≤ℤ◌, ◌<ℤ◌, ℕ, [], None, Some, Option, true, false, IfNone, IfOk, IfSome, OnErr, OnOk, drop, length, neg_ℤ, pos, replicate};
 ghost use Rattle.std.specs.Bool.{OnFalse, OnTrue};
-ghost use Rattle.std.specs.List.{All, Contains, HoldsAt};
+ghost use Rattle.std.specs.List.{All, HoldsAt};
 ghost use Rattle.mcf_instance.specs.Blocking.{in_table};
 ghost use Rattle.mcf_instance.specs.Network.{IsArcNumber, IsNode, at_node, node_count};
 ghost use Rattle.mcf_network.specs.NodeSets.{member_count};

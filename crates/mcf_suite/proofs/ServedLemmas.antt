@@ -1,18 +1,19 @@
 -- What a run of the command leaves.
-use Rattle.std.proofs.Common.{◌≡◌, ◌≢◌, ◌⊎◌, ◌∙◌, inl, inr, refl, subst, sym, ℕ, List, IfErr, IfOk, MatchOption, OnErr, OnOk, Option, Some, None, Result, Ok, Err, Bor}
+use Rattle.std.proofs.Common.{◌≡◌, ◌≢◌, ◌⊎◌, ◌∙◌, inl, inr, refl, subst, sym, ℕ, List, [], IfErr, IfOk, MatchOption, OnErr, OnOk, Option, Some, None, Result, Ok, Err, Bor}
 use Rattle.std.specs.Io.KnownBytes.{Appends}
 use Rattle.std.specs.Result.{IsErrAnd}
 use Rattle.clap.specs.Words.{App, HasKind, IsAmong, Kinds, Text, fault_of, kind_of}
 use Rattle.clap.specs.declared.error.Error.{Error}
 use Rattle.clap.specs.declared.error.kind.ErrorKind.TheVariants.{DisplayHelp, OutOfMemory}
-use Rattle.mcf_suite.specs.Asking.{IsMcf}
+use Rattle.mcf_suite.specs.Asking.{Asks, IsMcf}
+use Rattle.mcf_suite.specs.declared.asking.Asked.{Asked}
 use Rattle.mcf_solver.specs.declared.fault.RunFault.{RunFault}
 use Rattle.mcf_solver.specs.declared.fault.RunFault.TheVariants.{Read, Write, NoMemory, TooLong}
 use Rattle.mcf_solver.specs.Running.{TakesBeginning}
 use Rattle.mcf_suite.specs.declared.serving.Failure.{Failure}
 use Rattle.mcf_suite.specs.declared.serving.Failure.TheVariants.{Usage, Open, Run}
 use Rattle.mcf_suite.specs.Failing.{IsFailure, IsHelpFailure, failure_text}
-use Rattle.mcf_suite.specs.Serving.{AsksToSolve, GivesBytes, IsReason, IsUnopened, Serves, ServesInPart, Tells, fault_line}
+use Rattle.mcf_suite.specs.Serving.{AsksToSolve, FailsToGive, GivesTooMuch, IsReason, IsSource, IsUnopened, Serves, ServesInPart, Tells, fault_line}
 
 -- a kind that an error has, where it isn't want of memory
 kind_among : (kinds : Kinds) (e : Error) → kind_of e ≡ DisplayHelp → HasKind kinds e → IsAmong DisplayHelp kinds
@@ -32,28 +33,34 @@ help_is_served words Gives app e (Ok status) old new is_mcf has is_zero help tak
 })
 help_is_served words Gives app e (Err f) old new is_mcf has is_zero help taken = tt
 
--- the bytes of a source are those that the file gives
-pub gives_bytes : {S : Type 0} (remaining : S → Option (List ℕ)) (input source : S) (Opens : Text → Option S → Type 0)
-    (file : Option (Bor Text)) → MatchOption file (Some source ≡ Some input) (λ name. Opens name.now (Some source))
-    → GivesBytes remaining input Opens file (remaining source)
-gives_bytes remaining input source Opens None same = let same_source : source ≡ input = cc in cc
-gives_bytes remaining input source Opens (Some name) opened = (source, opened, refl)
+-- words without a fault that ask for this
+pub asks_to_solve : {words : List Text} {of_file : Option (Bor Text) → Type 0} (app : App) (asked : Asked) → IsMcf app → fault_of app words ≡ []
+    → Asks app words asked → of_file asked.file → AsksToSolve words of_file
+asks_to_solve app asked is_mcf faultless asks holds =
+    record { app = app; is_mcf = is_mcf; faultless = faultless; asked = asked; asks = asks; holds = holds }
+
+-- what is opened is the source of the file
+pub is_source : {S : Type 0} (input source : S) (Opens : Text → Option S → Type 0) (file : Option (Bor Text))
+    → MatchOption file (Some source ≡ Some input) (λ name. Opens name.now (Some source)) → IsSource input Opens file source
+is_source input source Opens None same = cc
+is_source input source Opens (Some name) opened = opened
 
 -- words that aren't taken: they ask for help that can't be written, or have another fault
-pub help_failed : {S : Type 0} (words : List Text) (Opens : Text → Option S → Type 0) (Gives : Option (Bor Text) → Option (List ℕ) → Type 0)
-    (app : App) (e : Error) (r : Result ℕ Failure) (old new : Option (List ℕ)) (untouched failed : Type 0) → IsMcf app → HasKind (fault_of app words) e
+pub help_failed : {S : Type 0} (remaining : S → Option (List ℕ)) (failures : S → ℕ) (input : S) (Opens : Text → Option S → Type 0) (words : List Text)
+    (Gives : Option (Bor Text) → Option (List ℕ) → Type 0) (app : App) (e : Error) (r : Result ℕ Failure) (old new : Option (List ℕ))
+    (untouched failed : Type 0) → IsMcf app → HasKind (fault_of app words) e
     → IfErr r (IsHelpFailure (kind_of e) untouched (failed × ((text : List ℕ) × TakesBeginning old new text)))
-    → IfErr r (IsFailure words Opens untouched (failed × ServesInPart words Gives old new))
-help_failed words Opens Gives app e (Ok status) old new untouched failed is_mcf has h = tt
-help_failed words Opens Gives app e (Err (Usage text)) old new untouched failed is_mcf has h =
+    → IfErr r (IsFailure remaining failures input Opens words untouched (failed × ServesInPart words Gives old new))
+help_failed remaining failures input Opens words Gives app e (Ok status) old new untouched failed is_mcf has h = tt
+help_failed remaining failures input Opens words Gives app e (Err (Usage text)) old new untouched failed is_mcf has h =
     (h.0, record { kind = kind_of e; no_help = h.1.1; fault = record { app = app; is_mcf = is_mcf; among = other has } })
   where
     other : HasKind (fault_of app words) e → IsAmong (kind_of e) (fault_of app words)
     other (inl memory) = absurd (h.1.0 memory)
     other (inr among) = among
-help_failed words Opens Gives app e (Err Open) old new untouched failed is_mcf has h = absurd h
-help_failed words Opens Gives app e (Err (Run Read)) old new untouched failed is_mcf has h = absurd h
-help_failed words Opens Gives app e (Err (Run Write)) old new untouched failed is_mcf has h = (
+help_failed remaining failures input Opens words Gives app e (Err Open) old new untouched failed is_mcf has h = absurd h
+help_failed remaining failures input Opens words Gives app e (Err (Run Read)) old new untouched failed is_mcf has h = absurd h
+help_failed remaining failures input Opens words Gives app e (Err (Run Write)) old new untouched failed is_mcf has h = (
   h.1.0,
   inr (record {
     asked = record { app = app; is_mcf = is_mcf; among = kind_among (fault_of app words) e h.0 has };
@@ -61,8 +68,8 @@ help_failed words Opens Gives app e (Err (Run Write)) old new untouched failed i
     taken = h.1.1.1;
   }),
 )
-help_failed words Opens Gives app e (Err (Run NoMemory)) old new untouched failed is_mcf has h = h
-help_failed words Opens Gives app e (Err (Run TooLong)) old new untouched failed is_mcf has h = absurd h
+help_failed remaining failures input Opens words Gives app e (Err (Run NoMemory)) old new untouched failed is_mcf has h = h
+help_failed remaining failures input Opens words Gives app e (Err (Run TooLong)) old new untouched failed is_mcf has h = absurd h
 
 -- a file that is named, for which the opener gives nothing
 pub unopened : {S : Type 0} (Opens : Text → Option S → Type 0) (input : S) (file : Option (Bor Text))
@@ -71,28 +78,30 @@ unopened Opens input None same = cc
 unopened Opens input (Some name) opened = opened
 
 -- a run that fails leaves the sink as it is, unless writing on it failed
-pub run_failed : {S : Type 0} (words : List Text) (Opens : Text → Option S → Type 0) (fault : RunFault) (r : Result ℕ Failure) (untouched failed : Type 0)
-    → IsErrAnd r (λ failure. failure ≡ Run fault) → AsksToSolve words (λ _. Unit {0}) → (fault ≡ Write → failed) → (fault ≢ Write → untouched)
-    → IfErr r (IsFailure words Opens untouched failed)
-run_failed words Opens fault (Ok status) untouched failed gave asked write other = tt
-run_failed {S} words Opens fault (Err failure) untouched failed gave asked write other =
-    subst (IsFailure words Opens untouched failed) (sym gave) (of fault write other)
+pub run_failed : {S : Type 0} (remaining : S → Option (List ℕ)) (failures : S → ℕ) (input : S) (Opens : Text → Option S → Type 0) (words : List Text)
+    (fault : RunFault) (r : Result ℕ Failure) (untouched failed : Type 0) → IsErrAnd r (λ failure. failure ≡ Run fault)
+    → (fault ≡ Read → AsksToSolve words (FailsToGive failures input Opens)) → (fault ≡ TooLong → AsksToSolve words (GivesTooMuch remaining input Opens))
+    → (fault ≡ Write → failed) → (fault ≢ Write → untouched) → IfErr r (IsFailure remaining failures input Opens words untouched failed)
+run_failed remaining failures input Opens words fault (Ok status) untouched failed gave read long write other = tt
+run_failed remaining failures input Opens words fault (Err failure) untouched failed gave read long write other =
+    subst (IsFailure remaining failures input Opens words untouched failed) (sym gave) (of fault read long write other)
   where
-    of : (f : RunFault) → (f ≡ Write → failed) → (f ≢ Write → untouched) → IsFailure words Opens untouched failed (Run f)
-    of Read write other = (other (λ e. cc), asked)
-    of Write write other = write refl
-    of NoMemory write other = other (λ e. cc)
-    of TooLong write other = (other (λ e. cc), asked)
+    of : (f : RunFault) → (f ≡ Read → AsksToSolve words (FailsToGive failures input Opens)) → (f ≡ TooLong → AsksToSolve words (GivesTooMuch remaining input Opens))
+        → (f ≡ Write → failed) → (f ≢ Write → untouched) → IsFailure remaining failures input Opens words untouched failed (Run f)
+    of Read read long write other = (other (λ e. cc), read refl)
+    of Write read long write other = write refl
+    of NoMemory read long write other = other (λ e. cc)
+    of TooLong read long write other = (other (λ e. cc), long refl)
 
 -- what becomes of the sink where there is no answer
-pub kept_or_begun : {S : Type 0} (words : List Text) (Opens : Text → Option S → Type 0) (untouched failed begun : Type 0) (failure : Failure)
-    → IsFailure words Opens untouched (failed × begun) failure → untouched ⊎ begun
-kept_or_begun words Opens untouched failed begun (Usage text) h = inl h.0
-kept_or_begun words Opens untouched failed begun Open h = inl h.0
-kept_or_begun words Opens untouched failed begun (Run Read) h = inl h.0
-kept_or_begun words Opens untouched failed begun (Run Write) h = inr h.1
-kept_or_begun words Opens untouched failed begun (Run NoMemory) h = inl h
-kept_or_begun words Opens untouched failed begun (Run TooLong) h = inl h.0
+pub kept_or_begun : {S : Type 0} (remaining : S → Option (List ℕ)) (failures : S → ℕ) (input : S) (Opens : Text → Option S → Type 0) (words : List Text)
+    (untouched failed begun : Type 0) (failure : Failure) → IsFailure remaining failures input Opens words untouched (failed × begun) failure → untouched ⊎ begun
+kept_or_begun remaining failures input Opens words untouched failed begun (Usage text) h = inl h.0
+kept_or_begun remaining failures input Opens words untouched failed begun Open h = inl h.0
+kept_or_begun remaining failures input Opens words untouched failed begun (Run Read) h = inl h.0
+kept_or_begun remaining failures input Opens words untouched failed begun (Run Write) h = inr h.1
+kept_or_begun remaining failures input Opens words untouched failed begun (Run NoMemory) h = inl h
+kept_or_begun remaining failures input Opens words untouched failed begun (Run TooLong) h = inl h.0
 
 -- a text that is sent is taken, or sending it failed
 sent_in_part : {E : Type 0} (r : Result (Unit {0}) E) (old new : Option (List ℕ)) (text : List ℕ) (unheard : Type 0) → OnOk r (Appends old new text)
@@ -101,21 +110,22 @@ sent_in_part (Ok done) old new text unheard all failed part = inl all
 sent_in_part (Err fault) old new text unheard all failed part = inr (failed, part)
 
 -- what is told of a failure
-pub told_of : {S E : Type 0} (words : List Text) (Opens : Text → Option S → Type 0) (untouched failed begun unheard : Type 0) (failure : Failure)
-    (r : Result (Unit {0}) E) (old new : Option (List ℕ)) (text : List ℕ) → IsFailure words Opens untouched (failed × begun) failure
-    → text ≡ failure_text failure → OnOk r (Appends old new text) → OnErr r unheard → OnErr r (TakesBeginning old new text)
-    → Tells words Opens untouched failed unheard old new
-told_of words Opens untouched failed begun unheard failure r old new text h is all missed part = record {
+pub told_of : {S E : Type 0} (remaining : S → Option (List ℕ)) (failures : S → ℕ) (input : S) (Opens : Text → Option S → Type 0) (words : List Text)
+    (untouched failed begun unheard : Type 0) (failure : Failure) (r : Result (Unit {0}) E) (old new : Option (List ℕ)) (text : List ℕ)
+    → IsFailure remaining failures input Opens words untouched (failed × begun) failure → text ≡ failure_text failure → OnOk r (Appends old new text)
+    → OnErr r unheard → OnErr r (TakesBeginning old new text)
+    → Tells (IsReason remaining failures input Opens words) untouched failed unheard old new
+told_of remaining failures input Opens words untouched failed begun unheard failure r old new text h is all missed part = record {
   text = text;
   reason = reason failure h is;
   taken = sent_in_part r old new text unheard all missed part;
 }
   where
-    reason : (f : Failure) → IsFailure words Opens untouched (failed × begun) f → text ≡ failure_text f
-        → (failed × (text ≡ fault_line Write)) ⊎ (untouched × IsReason words Opens text)
+    reason : (f : Failure) → IsFailure remaining failures input Opens words untouched (failed × begun) f → text ≡ failure_text f
+        → (failed × (text ≡ fault_line Write)) ⊎ (untouched × IsReason remaining failures input Opens words text)
     reason (Usage t) h is = inr (h.0, inl h.1)
     reason Open h is = inr (h.0, inr (inl (h.1, is)))
-    reason (Run Read) h is = inr (h.0, inr (inr (inr (h.1, (Read, (λ e. cc), is)))))
+    reason (Run Read) h is = inr (h.0, inr (inr (inl (h.1, is))))
     reason (Run Write) h is = inl (h.0, is)
-    reason (Run NoMemory) h is = inr (h, inr (inr (inl is)))
-    reason (Run TooLong) h is = inr (h.0, inr (inr (inr (h.1, (TooLong, (λ e. cc), is)))))
+    reason (Run NoMemory) h is = inr (h, inr (inr (inr (inr is))))
+    reason (Run TooLong) h is = inr (h.0, inr (inr (inr (inl (h.1, is)))))

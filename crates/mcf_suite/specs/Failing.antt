@@ -1,5 +1,5 @@
 -- Why a run of the command gives no answer, and what is then told.
-use Rattle.std.specs.Prelude.{◌≡◌, ◌≢◌, ℕ, List, Option, ⊤}
+use Rattle.std.specs.Prelude.{◌≡◌, ◌≢◌, ℕ, List, Option}
 use Rattle.std.specs.String.{string_bytes}
 use Rattle.clap.specs.Words.{Text}
 use Rattle.clap.specs.declared.error.kind.ErrorKind.{ErrorKind}
@@ -7,7 +7,7 @@ use Rattle.clap.specs.declared.error.kind.ErrorKind.TheVariants.{DisplayHelp, Ou
 use Rattle.mcf_solver.specs.declared.fault.RunFault.TheVariants.{Read, Write, NoMemory, TooLong}
 use Rattle.mcf_suite.specs.declared.serving.Failure.{Failure}
 use Rattle.mcf_suite.specs.declared.serving.Failure.TheVariants.{Usage, Open, Run}
-use Rattle.mcf_suite.specs.Serving.{AsksToSolve, HaveUsageFault, IsUnopened, fault_line, open_line}
+use Rattle.mcf_suite.specs.Serving.{AsksToSolve, FailsToGive, GivesTooMuch, HaveUsageFault, IsUnopened, fault_line, open_line}
 
 -- the text that tells of a failure
 abbrev pub failure_text : Failure → List ℕ
@@ -15,14 +15,18 @@ failure_text (Usage text) = string_bytes text
 failure_text Open = open_line
 failure_text (Run fault) = fault_line fault
 
--- what is so of the words and of the sink where there is no answer: it is as it was, or writing on it failed
-abbrev pub IsFailure : {S : Type 0} → List Text → (Text → Option S → Type 0) → Type 0 → Type 0 → Failure → Type 0
-IsFailure words Opens untouched failed (Usage text) = untouched × HaveUsageFault words
-IsFailure words Opens untouched failed Open = untouched × AsksToSolve words (IsUnopened Opens)
-IsFailure words Opens untouched failed (Run Read) = untouched × AsksToSolve words (λ _. ⊤)
-IsFailure words Opens untouched failed (Run Write) = failed
-IsFailure words Opens untouched failed (Run NoMemory) = untouched
-IsFailure words Opens untouched failed (Run TooLong) = untouched × AsksToSolve words (λ _. ⊤)
+-- what is so of the words, of the source and of the sink where there is no answer: the sink is as it was, or writing on it
+-- failed
+abbrev pub IsFailure : {S : Type 0} → (S → Option (List ℕ)) → (S → ℕ) → S → (Text → Option S → Type 0) → List Text
+    → Type 0 → Type 0 → Failure → Type 0
+IsFailure remaining failures input Opens words untouched failed (Usage text) = untouched × HaveUsageFault words
+IsFailure remaining failures input Opens words untouched failed Open = untouched × AsksToSolve words (IsUnopened Opens)
+IsFailure remaining failures input Opens words untouched failed (Run Read) =
+    untouched × AsksToSolve words (FailsToGive failures input Opens)
+IsFailure remaining failures input Opens words untouched failed (Run Write) = failed
+IsFailure remaining failures input Opens words untouched failed (Run NoMemory) = untouched
+IsFailure remaining failures input Opens words untouched failed (Run TooLong) =
+    untouched × AsksToSolve words (GivesTooMuch remaining input Opens)
 
 -- the same where the words aren't taken, by the kind of their fault
 abbrev pub IsHelpFailure : ErrorKind → Type 0 → Type 0 → Failure → Type 0

@@ -1,5 +1,5 @@
 -- What the command `mcf` does.
-use Rattle.std.specs.Prelude.{◌≡◌, ◌≢◌, ◌⊎◌, ◌++◌, ◌∷◌, [], ℕ, List, Option, Some, None, codes, ⊤}
+use Rattle.std.specs.Prelude.{◌≡◌, ◌≢◌, ◌⊎◌, ◌++◌, ◌∷◌, [], ℕ, List, Option, Some, None, codes}
 use Rattle.std.specs.Borrow.{Bor}
 use Rattle.std.specs.Io.KnownBytes.{Appends}
 use Rattle.clap.specs.Words.{App, IsAmong, Text, fault_of}
@@ -9,9 +9,10 @@ use Rattle.mcf_suite.specs.declared.asking.Asked.{Asked}
 use Rattle.mcf_solver.specs.declared.choice.Kind.{Kind}
 use Rattle.mcf_solver.specs.declared.choice.Kind.TheVariants.{Flow, Blocked, Refused}
 use Rattle.mcf_solver.specs.declared.fault.RunFault.{RunFault}
-use Rattle.mcf_solver.specs.declared.fault.RunFault.TheVariants.{Write, NoMemory}
+use Rattle.mcf_solver.specs.declared.fault.RunFault.TheVariants.{Read, Write, NoMemory, TooLong}
 use Rattle.mcf_suite.specs.Asking.{Asks, IsMcf}
-use Rattle.mcf_solver.specs.Running.{SendsAnswer, SendsBeginning, TakesBeginning, fault_text}
+use Rattle.mcf_solver.specs.Devices.{CountsOneFailure}
+use Rattle.mcf_solver.specs.Running.{IsTakenWhole, IsTooLong, SendsAnswer, SendsBeginning, TakesBeginning, fault_text}
 
 -- the status that tells of an answer
 abbrev pub status_of : Kind → ℕ
@@ -19,12 +20,24 @@ status_of Flow = 0
 status_of Blocked = 1
 status_of Refused = 2
 
--- the bytes of the source: what the opener gives for the name of a file, and the input where there is no file
+-- the source: what the opener gives for the name of a file, and the input where there is no file
+abbrev pub IsSource : {S : Type 0} → S → (Text → Option S → Type 0) → Option (Bor Text) → S → Type 0
+IsSource input Opens None source = source ≡ input
+IsSource input Opens (Some name) source = Opens name.now (Some source)
+
+-- the bytes of the source
 abbrev pub GivesBytes : {S : Type 0} → (S → Option (List ℕ)) → S → (Text → Option S → Type 0)
     → Option (Bor Text) → Option (List ℕ) → Type 0
-GivesBytes remaining input Opens None given = given ≡ remaining input
-GivesBytes {S} remaining input Opens (Some name) given =
-    (source : S) × Opens name.now (Some source) × (given ≡ remaining source)
+GivesBytes {S} remaining input Opens file given = (source : S) × IsSource input Opens file source × (given ≡ remaining source)
+
+-- the source fails once
+abbrev pub FailsToGive : {S : Type 0} → (S → ℕ) → S → (Text → Option S → Type 0) → Option (Bor Text) → Type 0
+FailsToGive {S} failures input Opens file =
+    (source after : S) × IsSource input Opens file source × CountsOneFailure (failures source) (failures after)
+
+-- the source has more bytes than are taken from one
+abbrev pub GivesTooMuch : {S : Type 0} → (S → Option (List ℕ)) → S → (Text → Option S → Type 0) → Option (Bor Text) → Type 0
+GivesTooMuch {S} remaining input Opens file = (source : S) × IsSource input Opens file source × IsTooLong (remaining source)
 
 -- the words have no fault and ask to solve, and this holds of the file that they name
 pub record AsksToSolve (words : List Text) (of_file : Option (Bor Text) → Type 0) : Type 0 where
@@ -41,11 +54,12 @@ pub record HaveFault (words : List Text) (kind : ErrorKind) : Type 0 where
   pub is_mcf : IsMcf app
   pub among : IsAmong kind (fault_of app words)
 
--- the sink took an answer to the text that the source of their file gives, and the status tells which
+-- the sink took an answer to the text that the source of their file gives, which isn't too long, and the status tells which
 pub record Solves (words : List Text) (Gives : Option (Bor Text) → Option (List ℕ) → Type 0) (status : ℕ)
     (old new : Option (List ℕ)) : Type 0 where
   pub given : Option (List ℕ)
   pub asked : AsksToSolve words (λ file. Gives file given)
+  pub whole : IsTakenWhole given
   pub kind : Kind
   pub is_status : status ≡ status_of kind
   pub sent : SendsAnswer given kind old new
@@ -99,19 +113,19 @@ pub record HaveUsageFault (words : List Text) : Type 0 where
   pub no_help : kind ≢ DisplayHelp
   pub fault : HaveFault words kind
 
--- why nothing is answered, though nothing was written: the words have a fault, of which the text says something; or
--- their file isn't opened, memory is wanting, or what they ask fails, and the text is the line that tells of it
-abbrev pub IsReason : {S : Type 0} → List Text → (Text → Option S → Type 0) → List ℕ → Type 0
-IsReason words Opens text =
+-- why nothing is answered, though nothing was written: the words have a fault, of which the text says something; or their
+-- file isn't opened, its source fails or has too many bytes, or memory is wanting, and the text is the line that tells of it
+abbrev pub IsReason : {S : Type 0} → (S → Option (List ℕ)) → (S → ℕ) → S → (Text → Option S → Type 0) → List Text → List ℕ → Type 0
+IsReason remaining failures input Opens words text =
     HaveUsageFault words
     ⊎ ((AsksToSolve words (IsUnopened Opens) × (text ≡ open_line))
-    ⊎ ((text ≡ fault_line NoMemory)
-    ⊎ (AsksToSolve words (λ _. ⊤) × ((fault : RunFault) × (fault ≢ Write) × (text ≡ fault_line fault)))))
+    ⊎ ((AsksToSolve words (FailsToGive failures input Opens) × (text ≡ fault_line Read))
+    ⊎ ((AsksToSolve words (GivesTooMuch remaining input Opens) × (text ≡ fault_line TooLong))
+    ⊎ (text ≡ fault_line NoMemory))))
 
 -- the sink took the text that tells why nothing is answered, where the other sink is as it was; where writing on the other
 -- failed, the line of that; a beginning of it alone where writing on this one failed, too
-pub record Tells {S : Type 0} (words : List Text) (Opens : Text → Option S → Type 0) (untouched failed unheard : Type 0)
-    (old new : Option (List ℕ)) : Type 0 where
+pub record Tells (IsReasonFor : List ℕ → Type 0) (untouched failed unheard : Type 0) (old new : Option (List ℕ)) : Type 0 where
   pub text : List ℕ
-  pub reason : (failed × (text ≡ fault_line Write)) ⊎ (untouched × IsReason words Opens text)
+  pub reason : (failed × (text ≡ fault_line Write)) ⊎ (untouched × IsReasonFor text)
   pub taken : Appends old new text ⊎ (unheard × TakesBeginning old new text)

@@ -6,7 +6,7 @@ ghost use Rattle.clap.specs.Words.{kind_of};
 ghost use Rattle.mcf_solver.specs.Devices.{CountsOneFailure};
 ghost use Rattle.mcf_solver.specs.Running.{TakesBeginning};
 ghost use Rattle.mcf_suite.specs.Failing.{IsFailure, IsHelpFailure, failure_text};
-ghost use Rattle.mcf_suite.specs.Serving.{GivesBytes, Serves, ServesInPart, Tells, fault_line, status_of};
+ghost use Rattle.mcf_suite.specs.Serving.{GivesBytes, IsReason, Serves, ServesInPart, Tells, fault_line, status_of};
 
 use crate::asking::command;
 use clap::Error;
@@ -120,7 +120,8 @@ pub fn serve<W: AsStr, S: Source + Drop, P: FnOnce(&str) -> Option<S>, O: Sink, 
         ⊎ ServesInPart (map W.text words.now) (GivesBytes S.remaining input (FnOnceReturnsAt P.FnOnce opener))
         (O.contents out.old) (O.contents out.new) }
     ensures quiet { result ≢ 3 → err.new ≡ err.old }
-    ensures told { result ≡ 3 → Tells (map W.text words.now) (FnOnceReturnsAt P.FnOnce opener)
+    ensures told { result ≡ 3
+        → Tells (IsReason S.remaining S.failures input (FnOnceReturnsAt P.FnOnce opener) (map W.text words.now))
         (out.new ≡ out.old) (CountsOneFailure (O.failures out.old) (O.failures out.new))
         (CountsOneFailure (E.failures err.old) (E.failures err.new)) (E.contents err.old) (E.contents err.new) }
 {
@@ -148,7 +149,8 @@ fn answer<W: AsStr, S: Source + Drop, P: FnOnce(&str) -> Option<S>, O: Sink>(
         status (O.contents out.old) (O.contents out.new)) }
     ensures finished { OnOk result (O.IsFinished out.new) }
     ensures worked { OnOk result (O.failures out.new ≡ O.failures out.old) }
-    ensures failed { IfErr result (IsFailure (map W.text words.now) (FnOnceReturnsAt P.FnOnce opener) (out.new ≡ out.old)
+    ensures failed { IfErr result (IsFailure S.remaining S.failures input (FnOnceReturnsAt P.FnOnce opener)
+        (map W.text words.now) (out.new ≡ out.old)
         (CountsOneFailure (O.failures out.old) (O.failures out.new)
         × ServesInPart (map W.text words.now) (GivesBytes S.remaining input (FnOnceReturnsAt P.FnOnce opener))
         (O.contents out.old) (O.contents out.new))) }

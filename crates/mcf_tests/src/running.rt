@@ -3,6 +3,7 @@ ghost use Rattle.std.specs.Prelude.{IsTrue};
 
 use mcf_solver::{
     Choice, FromReader, IntoWriter, Kind, RunFault, Sink, SinkFault, Source, SourceFault, run,
+    send,
 };
 use mcf_text::NoMemory;
 use std::alloc::Global;
@@ -202,6 +203,23 @@ fn pieces_of_each_size(rt: HostRuntime) -> Result<(), Fail> {
     for size in 1..=84usize {
         assert!(rt; is_carried(rt.alloc(), size)?, "at {size}");
     }
+    Ok(())
+}
+
+// Whether a text comes whole to a sink that takes pieces of a size.
+fn is_sent(alloc: Global, text: &str, size: usize) -> Result<bool, NoMemory> {
+    let mut sink = Taker::new(alloc, size, NEVER)?;
+    let is_ok = send(&mut sink, text.as_bytes()).is_ok();
+    let is_taken = sink.taken.as_slice() == text.as_bytes();
+    Ok(is_ok && is_taken && sink.is_finished)
+}
+
+#[test]
+fn texts_that_are_sent(rt: HostRuntime) -> Result<(), Fail> {
+    let alloc = rt.alloc();
+    assert!(rt; is_sent(alloc, "", 1)?);
+    assert!(rt; is_sent(alloc, LEAST, 1)?);
+    assert!(rt; is_sent(alloc, LEAST, 72)?);
     Ok(())
 }
 

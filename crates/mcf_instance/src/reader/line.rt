@@ -1,5 +1,5 @@
 //! What one line says: the tests of its fields, in the order in which faults are looked for.
-ghost use Rattle.std.specs.Prelude.{◌≡◌, ◌≤ℤ◌, ◌<ℤ◌, map, length, bytes_eq, codes, pos, ◌<◌, ◌^◌, ◌≤◌, ◌&&◌, IfSome, IfOk};
+ghost use Rattle.std.specs.Prelude.{◌≡◌, ◌≤ℤ◌, ◌<ℤ◌, map, length, bytes_eq, pos, ◌<◌, ◌^◌, ◌≤◌, ◌&&◌, IfSome, IfOk};
 ghost use Rattle.mcf_instance.specs.Blocking.{in_table};
 ghost use Rattle.mcf_instance.specs.Fault.{is_up_to};
 ghost use Rattle.mcf_instance.specs.Limits.{arc_limit, limits, node_limit};
@@ -93,6 +93,7 @@ fn problem_of(word: &[u8]) -> Result<Problem, Code>
     }
 }
 
+// Whether there may be so many nodes and arcs.
 fn sizes_fit(nodes: i64, arcs: i64) -> bool
     ensures { result ≡ is_within (pos 0) (pos node_limit) nodes && is_within (pos 0) (pos arc_limit) arcs }
 {
