@@ -2,8 +2,7 @@
 ghost use Rattle.std.specs.Prelude.{IsTrue};
 
 use mcf_solver::{
-    Choice, FromReader, IntoWriter, Kind, RunFault, Sink, SinkFault, Source, SourceFault, run,
-    send,
+    Choice, FromReader, IntoWriter, Kind, RunFault, Sink, SinkFault, Source, SourceFault, run, send,
 };
 use mcf_text::NoMemory;
 use std::alloc::Global;

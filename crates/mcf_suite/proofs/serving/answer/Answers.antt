@@ -30,7 +30,7 @@ pub returns-in_default-clause-failed : goal.returns-in_default-clause-failed
 returns-in_default-clause-failed g c = (
   refl,
   asks_to_solve c.in-Ok.ensures.app c.in-Ok.asked c.in-Ok.ensures.is_mcf c.in-Ok.ensures.faults c.in-Ok.ensures.asks
-    (unopened (FnOnceReturnsAt g.P.FnOnce c.args.opener) c.args.input c.in-Ok.asked.file c.in_default.ensures),
+      (unopened (FnOnceReturnsAt g.P.FnOnce c.args.opener) c.args.input c.in-Ok.asked.file c.in_default.ensures),
 )
 
 pub returns-in_err-kind-clause-failed : goal.returns-in_err-kind-clause-failed
