@@ -39,8 +39,9 @@ pub(crate) enum Draft {
 }
 
 impl FlowAnswer {
-    ghost use Rattle.std.specs.Prelude.{◌≡◌, IfOk, Some, None, if◌then◌else◌};
+    ghost use Rattle.std.specs.Prelude.{◌≡◌, IfOk, IsTrue, OnErr, Some, None, if◌then◌else◌};
     ghost use Rattle.mcf_answer.specs.Draft.{priced, solution_after};
+    ghost use Rattle.mcf_answer.specs.Parsing.{says_item};
     ghost use Rattle.mcf_answer.specs.Ranges.{IsAmount, IsNodeInRange};
     ghost use Rattle.mcf_answer.specs.Token.{tokens_of};
     ghost use Rattle.mcf_text.specs.Fields.{fields_of};
@@ -61,7 +62,8 @@ impl FlowAnswer {
     // Takes a line in, if it fits.
     #[tactic(auto, unfolding(crate::specs::Draft::solution_after))]
     fn take(&mut self, line: &[u8]) -> Result<bool, NoMemory>
-        ensures { IfOk result (λ fit. (if fit then Some self.new else None) ≡ solution_after self.old (tokens_of (fields_of line.now))) }
+        ensures value { IfOk result (λ fit. (if fit then Some self.new else None) ≡ solution_after self.old (tokens_of (fields_of line.now))) }
+        ensures wants { OnErr result (IsTrue (says_item (tokens_of (fields_of line.now)))) }
     {
         if let Some(sent) = flow_line(line) {
             if !self.prices.is_empty() {
@@ -78,15 +80,17 @@ impl FlowAnswer {
 }
 
 impl SetDraft {
-    ghost use Rattle.std.specs.Prelude.{◌≡◌, IfOk, Some, None, if◌then◌else◌};
+    ghost use Rattle.std.specs.Prelude.{◌≡◌, IfOk, IsTrue, OnErr, Some, None, if◌then◌else◌};
     ghost use Rattle.mcf_answer.specs.Draft.{set_after};
+    ghost use Rattle.mcf_answer.specs.Parsing.{says_item};
     ghost use Rattle.mcf_answer.specs.Token.{tokens_of};
     ghost use Rattle.mcf_text.specs.Fields.{fields_of};
 
     // Takes a line in, if it fits.
     #[tactic(auto, unfolding(crate::specs::Draft::set_after))]
     fn take(&mut self, line: &[u8]) -> Result<bool, NoMemory>
-        ensures { IfOk result (λ fit. (if fit then Some self.new else None) ≡ set_after self.old (tokens_of (fields_of line.now))) }
+        ensures value { IfOk result (λ fit. (if fit then Some self.new else None) ≡ set_after self.old (tokens_of (fields_of line.now))) }
+        ensures wants { OnErr result (IsTrue (says_item (tokens_of (fields_of line.now)))) }
     {
         let Some(node) = member_line(line) else {
             return Ok(false);
@@ -101,8 +105,9 @@ impl SetDraft {
 }
 
 impl Draft {
-    ghost use Rattle.std.specs.Prelude.{◌≡◌, IfOk, Some, None, if◌then◌else◌, option_map};
+    ghost use Rattle.std.specs.Prelude.{◌≡◌, IfOk, IsTrue, OnErr, Some, None, if◌then◌else◌, option_map};
     ghost use Rattle.mcf_answer.specs.Draft.{after, answer_of_draft, opened};
+    ghost use Rattle.mcf_answer.specs.Parsing.{says_item};
     ghost use Rattle.mcf_answer.specs.Said.{opening_said};
     ghost use Rattle.mcf_answer.specs.Token.{tokens_of};
     ghost use Rattle.mcf_text.specs.Fields.{fields_of};
@@ -133,7 +138,8 @@ impl Draft {
     /// Takes a kept line in, if it fits.
     #[tactic(auto, unfolding(crate::specs::Draft::after))]
     pub(crate) fn take(&mut self, alloc: Global, line: &[u8]) -> Result<bool, NoMemory>
-        ensures { IfOk result (λ fit. (if fit then Some self.new else None) ≡ after self.old (tokens_of (fields_of line.now))) }
+        ensures value { IfOk result (λ fit. (if fit then Some self.new else None) ≡ after self.old (tokens_of (fields_of line.now))) }
+        ensures wants { OnErr result (IsTrue (says_item (tokens_of (fields_of line.now)))) }
     {
         match self {
             Draft::Empty => match Draft::open(alloc, line) {

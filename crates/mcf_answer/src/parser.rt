@@ -2,7 +2,7 @@
 ghost use Rattle.std.specs.Prelude.{◌≡◌, ◌↔◌, length, IfErr, IfOk, IsTrue, Ok, OnErr, Some};
 ghost use Rattle.mcf_answer.specs.Draft.{run};
 ghost use Rattle.mcf_answer.specs.Fits.{misfit};
-ghost use Rattle.mcf_answer.specs.Parsing.{has_kept_line, parsing};
+ghost use Rattle.mcf_answer.specs.Parsing.{has_item_line, parsing};
 ghost use Rattle.mcf_answer.specs.Spelling.{Spells};
 ghost use Rattle.mcf_answer.specs.declared.answers.Answer.{Answer};
 ghost use Rattle.mcf_answer.specs.declared.draft.Draft.TheVariants.{Empty};
@@ -22,12 +22,12 @@ use std::alloc::Global;
 ///
 /// # Errors
 ///
-/// Want of memory; a text of blank lines and comments alone wants none.
+/// Want of memory; a text without a line `f`, `y` or `x` that says something wants none.
 pub fn parse(alloc: Global, text: &[u8]) -> Result<Result<Answer, Shape>, NoMemory>
     ensures spelled { IfOk result (λ r. (a : Answer) → (r ≡ Ok a) ↔ Spells text.now a) }
     ensures misfit { IfOk result (λ r. IfErr r (λ shape. misfit text.now ≡ Some shape.line)) }
     ensures value { IfOk result (λ r. r ≡ parsing text.now) }
-    ensures wants { OnErr result (IsTrue (has_kept_line text.now)) }
+    ensures wants { OnErr result (IsTrue (has_item_line text.now)) }
 {
     read_answer(alloc, text)
 }
@@ -35,7 +35,7 @@ pub fn parse(alloc: Global, text: &[u8]) -> Result<Result<Answer, Shape>, NoMemo
 // The answer that the lines of a text give.
 fn read_answer(alloc: Global, text: &[u8]) -> Result<Result<Answer, Shape>, NoMemory>
     ensures value { IfOk result (λ r. r ≡ parsing text.now) }
-    ensures wants { OnErr result (IsTrue (has_kept_line text.now)) }
+    ensures wants { OnErr result (IsTrue (has_item_line text.now)) }
 {
     let draft = match read_lines(alloc, text)? {
         Ok(draft) => draft,
@@ -52,7 +52,7 @@ fn read_answer(alloc: Global, text: &[u8]) -> Result<Result<Answer, Shape>, NoMe
 // The state after all lines, or the number of the first that doesn't fit.
 fn read_lines(alloc: Global, text: &[u8]) -> Result<Result<Draft, u128>, NoMemory>
     ensures value { IfOk result (λ r. r ≡ run Empty (numbered_lines 1 text.now)) }
-    ensures wants { OnErr result (IsTrue (has_kept_line text.now)) }
+    ensures wants { OnErr result (IsTrue (has_item_line text.now)) }
 {
     let mut draft = Draft::Empty;
     for line in lines(text) {

@@ -5,7 +5,6 @@ pub mod ChangedAnswers
 pub mod FlowLines
 pub mod JudgedTexts
 pub mod Judges
-pub mod KeptLines
 pub mod LeastNumbers
 pub mod Runs
 pub mod Sets

@@ -1,7 +1,8 @@
 //! The verdict on a blocked answer.
-ghost use Rattle.std.specs.Prelude.{◌≡◌, IfOk, nat_le};
+ghost use Rattle.std.specs.Prelude.{◌≡◌, ◌≤◌, IfOk, OnErr, nat_le};
 ghost use Rattle.std.specs.List.{list_all};
 ghost use Rattle.mcf_checker.specs.Judging.{set_verdict};
+ghost use Rattle.mcf_instance.specs.Network.{node_count};
 
 use crate::verdict::Verdict;
 use mcf_answer::BlockedAnswer;
@@ -19,13 +20,14 @@ fn are_nodes(count: u32, nodes: &[NodeId]) -> bool
 /// The verdict on a blocked answer for an instance.
 ///
 /// # Errors
-/// `NoMemory` where there is no memory for the table of the set.
+/// `NoMemory` where there is no memory for the table of the set; an instance without nodes wants none.
 pub(crate) fn set_verdict(
     alloc: Global,
     instance: &Instance,
     answer: &BlockedAnswer,
 ) -> Result<Verdict, NoMemory>
-    ensures { IfOk result (λ v. v ≡ set_verdict instance.now answer.now) }
+    ensures value { IfOk result (λ v. v ≡ set_verdict instance.now answer.now) }
+    ensures wants { OnErr result (1 ≤ node_count instance.now) }
 {
     let nodes = answer.nodes.as_slice();
     let count = instance.node_count();

@@ -1,5 +1,5 @@
 //! The verdict on a flow answer.
-ghost use Rattle.std.specs.Prelude.{◌≡◌, ◌<◌, ◌&&◌, ◌||◌, IfOk, None, Some, length, max, nat_lt, not, pos, slice_get, slice_index_or};
+ghost use Rattle.std.specs.Prelude.{◌≡◌, ◌<◌, ◌≤◌, ◌&&◌, ◌||◌, IfOk, None, OnErr, Some, length, max, nat_lt, not, pos, slice_get, slice_index_or};
 ghost use Rattle.std.specs.List.{All};
 ghost use Rattle.std.specs.Ordering.{int_eq};
 ghost use Rattle.mcf_answer.specs.Ranges.{IsAmount};
@@ -68,10 +68,12 @@ fn first_bad_arc(instance: &Instance, sent: &[Sent]) -> Option<u64>
 // What leaves each node less what enters it, in the order of the nodes.
 fn nets_of(alloc: Global, instance: &Instance, sent: &[Sent]) -> Result<Vec<i128>, NoMemory>
     requires { IsWithinBounds instance.now.arcs (amounts sent.now) }
-    ensures { IfOk result
+    ensures value { IfOk result
         (λ nets. AreNets (node_count instance.now) instance.now.arcs (amounts sent.now) nets.items) }
+    ensures wants { OnErr result (1 ≤ node_count instance.now) }
 {
-    let mut nets = vec![in alloc; 0i128; instance.node_count() as usize]?;
+    let mut nets = Vec::new(alloc);
+    nets.resize(instance.node_count() as usize, 0)?;
     for (place, line) in sent.iter().enumerate() {
         let arc = arc_at(instance, place);
         nets[arc.src.get() as usize - 1] += line.flow;
@@ -115,7 +117,8 @@ fn first_bad_node(
     answer: &FlowAnswer,
 ) -> Result<Option<u32>, NoMemory>
     requires { bad_arc instance.now answer.now.sent ≡ None }
-    ensures { IfOk result (λ v. v ≡ bad_node instance.now answer.now) }
+    ensures value { IfOk result (λ v. v ≡ bad_node instance.now answer.now) }
+    ensures wants { OnErr result (1 ≤ node_count instance.now) }
 {
     let nets = nets_of(alloc, instance, answer.sent.as_slice())?;
     Ok(first_unmet(instance, &nets, answer.prices.as_slice().len()))
@@ -180,13 +183,14 @@ fn has_cost(instance: &Instance, sent: &[Sent], stated: i128) -> bool
 /// The verdict on a flow answer for an instance.
 ///
 /// # Errors
-/// `NoMemory` where there is no memory for the nets of the nodes.
+/// `NoMemory` where there is no memory for the nets of the nodes; an instance without nodes wants none.
 pub(crate) fn solution_verdict(
     alloc: Global,
     instance: &Instance,
     answer: &FlowAnswer,
 ) -> Result<Verdict, NoMemory>
-    ensures { IfOk result (λ v. v ≡ solution_verdict instance.now answer.now) }
+    ensures value { IfOk result (λ v. v ≡ solution_verdict instance.now answer.now) }
+    ensures wants { OnErr result (1 ≤ node_count instance.now) }
 {
     if let Some(arc) = first_bad_arc(instance, answer.sent.as_slice()) {
         return Ok(Verdict::BadArc(arc));

@@ -11,6 +11,7 @@ pub mod FaultyTexts
 pub mod FittingItems
 pub mod NamedNodes
 pub mod GoodTexts
+pub mod HeaderNodes
 pub mod Hoffman
 pub mod IntLaws
 pub mod Items

@@ -1,16 +1,15 @@
-use Rattle.std.proofs.Common.{◌≡◌, ℕ, ℤ, Err, Ok, inr, sym, ◌∙◌}
+use Rattle.std.proofs.Common.{◌≡◌, ℕ, ℤ, Err, Ok, inl, sym, ◌∙◌}
 use Rattle.std.specs.Bool.{IsTrue}
 use Rattle.std.specs.Prelude.{◌↔◌}
-use Rattle.std.proofs.lemmas.Result.{IfOk-weaker}
-use Rattle.mcf_answer.proofs.Room.{on_err}
+use Rattle.std.proofs.lemmas.Result.{IfOk-weaker, on_err_weaker}
 use Rattle.mcf_answer.specs.Parsing.{parsing}
+use Rattle.mcf_instance.proofs.HeaderNodes.{instance_named}
 use Rattle.mcf_instance.specs.Limits.{limits}
 use Rattle.mcf_instance.specs.Reading.{reading}
 use Rattle.mcf_checker.specs.Correct.{GivesLeastFlow, HasNoFlow, IsCorrect}
 use Rattle.mcf_checker.specs.Judging.{accepts, judged, verdict}
 use Rattle.mcf_checker.specs.declared.verdict.Verdict.{Verdict}
 use Rattle.mcf_checker.specs.declared.verdict.Verdict.TheVariants.{BadShape, Blocked as SetAccepted, Flow as FlowAccepted}
-use Rattle.mcf_checker.proofs.KeptLines.{spelled_kept}
 use Rattle.mcf_checker.proofs.Judges.{ParsesExactly, exact_at, instance_reads, least_at, none_at, refused_reads, verdict_is, verdict_misfit}
 use Rattle.mcf_checker.proofs.checking.check.Goals as goal
 
@@ -83,9 +82,8 @@ returns-in-Ok-outcome-clause-none c =
 
 pub returns-in-Ok-outcome-clause-wants : goal.returns-in-Ok-outcome-clause-wants
 returns-in-Ok-outcome-clause-wants c =
-    let text = c.args.answer.now in
-    let kept = spelled_kept text c.in-Ok.answer ((c.in_ok-answer.ensures.spelled c.in-Ok.answer).0 c.in-Ok.is) in
-    on_err c.instance_verdict.result _ (inr kept)
+    on_err_weaker c.instance_verdict.result
+    (λ some. inl (instance_named c.args.input.now c.in-Ok-outcome.instance (sym c.in_ok-outcome.ensures.exact ∙ c.in-Ok-outcome.is) some)) c.instance_verdict.ensures.wants
 
 -- ---- a fault
 

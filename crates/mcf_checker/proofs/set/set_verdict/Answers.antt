@@ -6,15 +6,15 @@ use Rattle.mcf_instance.specs.Network.{node_count}
 use Rattle.mcf_checker.proofs.Sets.{at_blocking, at_not_blocking, at_strangers}
 use Rattle.mcf_checker.proofs.set.set_verdict.Goals as goal
 
-pub returns-then-not-are_nodes : goal.returns-then-not-are_nodes
-returns-then-not-are_nodes c =
+pub returns-then-not-are_nodes-clause-value : goal.returns-then-not-are_nodes-clause-value
+returns-then-not-are_nodes-clause-value c =
     let nodes : c.as_slice-nodes.result.now ≡ c.args.answer.now.nodes = c.as_slice-nodes.ensures ∙ ap (λ (a : BlockingSet). a.nodes) c.answer.view_is in
     let count : c.node_count-count.result ≡ node_count c.args.instance.now = c.node_count-count.ensures.value in
     let test = rw (nodes, count) at c.are_nodes.ensures in
     at_strangers c.args.instance.now c.args.answer.now (sym test ∙ c.if-not-are_nodes.true)
 
-pub returns-then-blocks : goal.returns-then-blocks
-returns-then-blocks c =
+pub returns-then-blocks-clause-value : goal.returns-then-blocks-clause-value
+returns-then-blocks-clause-value c =
     let nodes : c.as_slice-nodes.result.now ≡ c.args.answer.now.nodes = c.as_slice-nodes.ensures ∙ ap (λ (a : BlockingSet). a.nodes) c.answer.view_is in
     let count : c.node_count-count.result ≡ node_count c.args.instance.now = c.node_count-count.ensures.value in
     let side : c.answer.inside.side ≡ c.args.answer.now.side = ap (λ (a : BlockingSet). a.side) c.answer.view_is in
@@ -24,8 +24,8 @@ returns-then-blocks c =
     let test = rw (nodes, count) at c.are_nodes.ensures in
     rw nodes (at_blocking c.args.instance.now c.args.answer.now (sym test ∙ c.if-not-are_nodes.false) (same.0 (exact.0 c.if-blocks.true)))
 
-pub returns : goal.returns
-returns c =
+pub returns-clause-value : goal.returns-clause-value
+returns-clause-value c =
     let nodes : c.as_slice-nodes.result.now ≡ c.args.answer.now.nodes = c.as_slice-nodes.ensures ∙ ap (λ (a : BlockingSet). a.nodes) c.answer.view_is in
     let count : c.node_count-count.result ≡ node_count c.args.instance.now = c.node_count-count.ensures.value in
     let side : c.answer.inside.side ≡ c.args.answer.now.side = ap (λ (a : BlockingSet). a.side) c.answer.view_is in

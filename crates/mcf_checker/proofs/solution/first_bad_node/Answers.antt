@@ -13,10 +13,10 @@ nets_of-requires c =
     let P = λ (s : List Sent). IsWithinBounds c.args.instance.now.arcs (amounts s) in
     subst P (sym sent) (AllAgree-from_none c.args.instance.now c.args.answer.now.sent c.requires).within_bounds
 
-pub returns : goal.returns
-returns c =
+pub returns-clause-value : goal.returns-clause-value
+returns-clause-value c =
     let sent : c.as_slice.result.now ≡ c.args.answer.now.sent = c.as_slice.ensures ∙ ap (λ (a : Solution). a.sent) c.answer.view_is in
     let prices : c.as_slice-2.result.now ≡ c.args.answer.now.prices = c.as_slice-2.ensures ∙ ap (λ (a : Solution). a.prices) c.answer.view_is in
-    let known = rw sent at c.in_ok-nets.ensures in
+    let known = rw sent at c.in_ok-nets.ensures.value in
     let first = rw (c.deref.ensures.value, prices) at c.first_unmet.ensures in
     first ∙ bad_node-table c.args.instance.now c.args.answer.now c.in_ok-nets.nets.items known

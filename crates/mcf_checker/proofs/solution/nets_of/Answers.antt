@@ -53,8 +53,8 @@ loop-place-preserved c =
     let t = net_at_second c.args.instance.now.arcs c.args.sent.now c.loop-place.place c.arc_at-arc.result c.index-sent-place.result c.arc_at-arc.ensures.value c.index-sent-place.is (node_count c.args.instance.now) c.loop-place.nets.items c.get.result c.get-in-loop-place.result c.get.ensures c.get-in-loop-place.ensures w.ends w.within_wide.arcs w.arcs c.requires c.loop-place.invariant c.loop-place-test.true c.index_mut.result.now c.index_mut-in-loop-place.result.now c.index_mut.ensures.value written in
     simp (s.flow_read, s.entry_read, s.sum_read, t.entry_read, t.difference_read) t.next
 
-pub returns : goal.returns
-returns c =
+pub returns-clause-value : goal.returns-clause-value
+returns-clause-value c =
     let all = take_whole c.args.instance.now.arcs c.loop-place.place (omega (arith, count_is c.args.instance.now.arcs c.args.sent.now c.requires)) in
     let P = λ (arcs : List Arc). AreNets (node_count c.args.instance.now) arcs (amounts c.args.sent.now) c.loop-place.nets.items in
     subst P all c.loop-place.invariant
