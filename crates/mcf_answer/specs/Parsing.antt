@@ -3,13 +3,11 @@ use Rattle.std.specs.Prelude.{◌||◌, ℕ, Bool, List, [], ◌∷◌, map, Opt
 use Rattle.std.specs.List.{list_any}
 use Rattle.mcf_answer.specs.Fits.{misfit, sent_lines, price_lines, member_lines}
 use Rattle.mcf_answer.specs.Said.{Opening, OpensFlow, OpensSet, OpensRefusal, member_said, opening_said, price_said, sent_said}
-use Rattle.mcf_answer.specs.Token.{Token, token_lines, tokens_of}
+use Rattle.mcf_answer.specs.Token.{Token, token_lines}
 use Rattle.mcf_answer.specs.declared.answers.Answer.{Answer}
 use Rattle.mcf_answer.specs.declared.answers.Answer.TheVariants.{Flow, Blocked, Refused}
 use Rattle.mcf_answer.specs.declared.shape.Shape.{Shape}
 use Rattle.mcf_instance.specs.Fault.{Fault}
-use Rattle.mcf_text.specs.Fields.{fields_of}
-use Rattle.mcf_text.specs.Lines.{numbered_lines}
 use Rattle.mcf_instance.specs.declared.code.Code.TheVariants.{Kind}
 
 -- what stands for a refusal where there is none
@@ -42,6 +40,6 @@ parsing text = parsing_of (misfit text) (answer_of_lines (token_lines text))
 abbrev pub says_item : List Token → Bool
 says_item line = is_some (sent_said line) || (is_some (price_said line) || is_some (member_said line))
 
--- a line of the text does
+-- a kept line of the text does
 abbrev pub has_item_line : List ℕ → Bool
-has_item_line text = list_any (λ line. says_item (tokens_of (fields_of line.1))) (numbered_lines 1 text)
+has_item_line text = list_any says_item (token_lines text)

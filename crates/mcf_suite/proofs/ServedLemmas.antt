@@ -93,15 +93,25 @@ run_failed remaining failures input Opens words fault (Err failure) untouched fa
     of NoMemory read long write other = other (λ e. cc)
     of TooLong read long write other = (other (λ e. cc), long refl)
 
+-- why there is no answer: writing on the sink failed; or it is as it was, and the text of the failure gives a reason
+reason_of : {S : Type 0} (remaining : S → Option (List ℕ)) (failures : S → ℕ) (input : S) (Opens : Text → Option S → Type 0) (words : List Text)
+    (untouched failed : Type 0) (failure : Failure) → IsFailure remaining failures input Opens words untouched failed failure
+    → (failed × (failure_text failure ≡ fault_line Write)) ⊎ (untouched × IsReason remaining failures input Opens words (failure_text failure))
+reason_of remaining failures input Opens words untouched failed (Usage text) h = inr (h.0, inl h.1)
+reason_of remaining failures input Opens words untouched failed Open h = inr (h.0, inr (inl (h.1, refl)))
+reason_of remaining failures input Opens words untouched failed (Run Read) h = inr (h.0, inr (inr (inl (h.1, refl))))
+reason_of remaining failures input Opens words untouched failed (Run Write) h = inl (h, refl)
+reason_of remaining failures input Opens words untouched failed (Run NoMemory) h = inr (h, inr (inr (inr (inr refl))))
+reason_of remaining failures input Opens words untouched failed (Run TooLong) h = inr (h.0, inr (inr (inr (inl (h.1, refl)))))
+
 -- what becomes of the sink where there is no answer
 pub kept_or_begun : {S : Type 0} (remaining : S → Option (List ℕ)) (failures : S → ℕ) (input : S) (Opens : Text → Option S → Type 0) (words : List Text)
     (untouched failed begun : Type 0) (failure : Failure) → IsFailure remaining failures input Opens words untouched (failed × begun) failure → untouched ⊎ begun
-kept_or_begun remaining failures input Opens words untouched failed begun (Usage text) h = inl h.0
-kept_or_begun remaining failures input Opens words untouched failed begun Open h = inl h.0
-kept_or_begun remaining failures input Opens words untouched failed begun (Run Read) h = inl h.0
-kept_or_begun remaining failures input Opens words untouched failed begun (Run Write) h = inr h.1
-kept_or_begun remaining failures input Opens words untouched failed begun (Run NoMemory) h = inl h
-kept_or_begun remaining failures input Opens words untouched failed begun (Run TooLong) h = inl h.0
+kept_or_begun remaining failures input Opens words untouched failed begun failure h =
+    elim (reason_of remaining failures input Opens words untouched (failed × begun) failure h) [
+      | inl (write, told) ↦ inr write.1
+      | inr (kept, told) ↦ inl kept
+    ]
 
 -- a text that is sent is taken, or sending it failed
 sent_in_part : {E : Type 0} (r : Result (Unit {0}) E) (old new : Option (List ℕ)) (text : List ℕ) (unheard : Type 0) → OnOk r (Appends old new text)
@@ -117,15 +127,9 @@ pub told_of : {S E : Type 0} (remaining : S → Option (List ℕ)) (failures : S
     → Tells (IsReason remaining failures input Opens words) untouched failed unheard old new
 told_of remaining failures input Opens words untouched failed begun unheard failure r old new text h is all missed part = record {
   text = text;
-  reason = reason failure h is;
+  reason = elim (reason_of remaining failures input Opens words untouched (failed × begun) failure h) [
+    | inl (write, told) ↦ inl (write.0, is ∙ told)
+    | inr (kept, told) ↦ inr (kept, subst (IsReason remaining failures input Opens words) (sym is) told)
+  ];
   taken = sent_in_part r old new text unheard all missed part;
 }
-  where
-    reason : (f : Failure) → IsFailure remaining failures input Opens words untouched (failed × begun) f → text ≡ failure_text f
-        → (failed × (text ≡ fault_line Write)) ⊎ (untouched × IsReason remaining failures input Opens words text)
-    reason (Usage t) h is = inr (h.0, inl h.1)
-    reason Open h is = inr (h.0, inr (inl (h.1, is)))
-    reason (Run Read) h is = inr (h.0, inr (inr (inl (h.1, is))))
-    reason (Run Write) h is = inl (h.0, is)
-    reason (Run NoMemory) h is = inr (h, inr (inr (inr (inr is))))
-    reason (Run TooLong) h is = inr (h.0, inr (inr (inr (inl (h.1, is)))))

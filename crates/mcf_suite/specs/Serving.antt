@@ -30,7 +30,7 @@ abbrev pub GivesBytes : {S : Type 0} → (S → Option (List ℕ)) → S → (Te
     → Option (Bor Text) → Option (List ℕ) → Type 0
 GivesBytes {S} remaining input Opens file given = (source : S) × IsSource input Opens file source × (given ≡ remaining source)
 
--- the source fails once
+-- the source can fail: some state counts one failure more than it
 abbrev pub FailsToGive : {S : Type 0} → (S → ℕ) → S → (Text → Option S → Type 0) → Option (Bor Text) → Type 0
 FailsToGive {S} failures input Opens file =
     (source after : S) × IsSource input Opens file source × CountsOneFailure (failures source) (failures after)
