@@ -1,4 +1,7 @@
 //! The residual arcs that leave a node, as an iterator.
+ghost use Rattle.std.specs.Prelude.{◌≡◌, ◌∷◌, [], List, IfNone, IfSome};
+ghost use Rattle.mcf_network.specs.declared.rid.Rid.{Rid};
+
 use crate::rid::Rid;
 use std::marker::Model;
 
@@ -15,6 +18,17 @@ impl<'a> Model for Leaving<'a> {
     ghost Value = { List Rid };
 
     ghost view = { λ it. it.rest.now };
+}
+
+impl<'a> Leaving<'a> {
+    /// The first of the residual arcs that are still to come.
+    pub fn first(&self) -> Option<Rid>
+        ensures some { IfSome result (λ r. (more : List Rid) × (self.now ≡ r ∷ more)) }
+        ensures none { IfNone result (self.now ≡ []) }
+    {
+        let (first, _) = self.rest.split_first()?;
+        Some(*first)
+    }
 }
 
 impl<'a> Iterator for Leaving<'a> {
