@@ -108,7 +108,8 @@ def prove(below, names, progress):
     rank, left, running = heights(below, names), set(names), {}
     room = places()
     while left or running:
-        ready = sorted((n for n in left if not any(b in names and b not in done(names, left, running) for b in below[n])), key=lambda n: -rank[n])
+        unproved = left | running.keys()
+        ready = sorted((n for n in left if unproved.isdisjoint(below[n])), key=lambda n: -rank[n])
         begins = ready[: room - len(running)]
         for name in begins:
             left.remove(name)
@@ -116,7 +117,7 @@ def prove(below, names, progress):
             jobs = max(1, room // (len(running) + len(begins)))
             running[name] = subprocess.Popen(command(name, jobs), cwd=TOP / "crates" / name, stdout=log, stderr=subprocess.STDOUT)
         if begins:
-            progress.show(f"proving {', '.join(sorted(running))}; {len(left)} left")
+            progress.show(f"proving {', '.join(sorted(running))}; {len(left)} more wait" if left else f"proving and building {', '.join(sorted(running))}")
         time.sleep(0.2)
         for name in [n for n, p in running.items() if p.poll() is not None]:
             if running.pop(name).returncode != 0:
@@ -124,11 +125,6 @@ def prove(below, names, progress):
                     other.terminate()
                 return name
     return None
-
-
-def done(names, left, running):
-    """The crates that are neither waiting nor at work."""
-    return {n for n in names if n not in left and n not in running}
 
 
 def build(programs):

@@ -217,7 +217,7 @@ def disagreements():
     missing = [f"{c} {m}: {n} is in no table" for c, pairs in sorted(public.items()) for m, n in sorted(pairs) if n not in names.get(c, set())]
     all_told = {n for ns in names.values() for n in ns}
     everywhere = {n for ns in here.values() for n in ns} | {d.name for d in definitions.values()}
-    return missing + [f"{n} stands in a table, and in no spec file" for n in sorted(all_told - everywhere)]
+    return missing + [f"{n} stands in a table, and in no spec file" for n in sorted(all_told - everywhere) if re.fullmatch(WORD, n)]
 
 
 def main():
