@@ -18,7 +18,8 @@ use Rattle.mcf_network.proofs.WalkLaws.{along_ok, along_net, moves_along, cost_a
 use Rattle.mcf_feas.specs.Feasible.{IsFeasibleState}
 use Rattle.mcf_prices.specs.NegativeCycles.{IsCancelled, IsNegativeCycle}
 use Rattle.mcf_prices.specs.Outcomes.{AreStatePrices, IsLeastState}
-use Rattle.mcf_prices.specs.Recovering.{price_limit}
+use Rattle.mcf_prices.specs.Recovering.{AreSmallPrices}
+use Rattle.mcf_prices.proofs.PriceFloors.{greatest_are_small}
 use Rattle.mcf_prices.proofs.Cycles.{nat_abs_falls}
 
 pub cycle_some : (s : Pseudoflow) (walk : List Rid) → IsNegativeCycle s walk → 0 < length walk
@@ -91,11 +92,11 @@ least_from_prices g s ys ok prices =
       least = subst (λ n. IsLeast n s.amounts) ok.of_net (shown_flows_are_least_lem s.net ys s.amounts ok.flow.of_net.ends (feasible_of_state s ok.flow ok.no_surplus) prices.low.show_flow);
     }
 
-pub state_prices : (g : Network) (s : Pseudoflow) (ys : List ℤ) → IsFeasibleState g s → AreGreatestPrices s.net ys s.amounts → All (IsUpTo price_limit) ys → AreStatePrices g s ys
-state_prices g s ys ok greatest small =
+pub state_prices : (g : Network) (s : Pseudoflow) (ys : List ℤ) → IsFeasibleState g s → AreGreatestPrices s.net ys s.amounts → AreStatePrices g s ys
+state_prices g s ys ok greatest =
     record {
       greatest = subst (λ n. AreGreatestPrices n ys s.amounts) ok.of_net greatest;
-      small = small;
+      small = subst (λ n. AreSmallPrices n ys) ok.of_net (greatest_are_small s ys ok.flow greatest);
     }
 
 -- there is room for 1 along a negative cycle

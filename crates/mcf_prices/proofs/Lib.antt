@@ -5,6 +5,7 @@ pub mod Lowering
 pub mod Marks
 pub mod Offers
 pub mod Paths
+pub mod PriceFloors
 pub mod QueueLaws
 pub mod Relaxing
 pub mod Rounding

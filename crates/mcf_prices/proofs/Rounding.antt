@@ -15,7 +15,6 @@ use Rattle.mcf_network.specs.Walks.{HasRoom}
 use Rattle.mcf_network.proofs.ArcLaws.{head_is_node}
 use Rattle.mcf_prices.specs.Labels.{Labels, IsLabelling, AreAtLeast, cost_limit, total}
 use Rattle.mcf_prices.specs.Queues.{Waiting, IsQueue, no_queue}
-use Rattle.mcf_prices.specs.Recovering.{price_limit}
 use Rattle.mcf_prices.specs.Rounds.{IsHandled, IsProgress}
 use Rattle.mcf_network.proofs.Marks.{count_small}
 use Rattle.mcf_prices.proofs.Relaxing.{empty_lacks, progress_none}
@@ -169,20 +168,3 @@ round_falls l l' p q d n empty progress some =
     positive : (xs : List ℕ) → (xs ≡ [] → ⊥) → 0 < length xs
     positive [] n = absurd (n refl)
     positive (x ∷ xs) n = omega arith
-
--- prices that are not far below 0, and not above it
-pub small_prices : (ys : List ℤ) (f : ℕ) → f ≤ price_limit → AreAtLeast f ys → AreNotAboveZero ys → All (IsUpTo price_limit) ys
-small_prices ys f few floor up k d h =
-    let back : k + 1 - 1 ≡ k = omega arith in
-    let low = rw back at (floor (k + 1) (omega arith, omega (arith, h))) in
-    let same = get_or_default ys k (pos 0) d h in
-    let high = up k d h in
-    (omega (arith, ints, low, same, few), omega (arith, ints, high))
-
--- where nobody fell, the prices are those of the head of the round, which are not far below 0
-pub recovered_small : (s : Pseudoflow) (l l' : Labels) (q : Waiting) (ys : List ℤ) → l.flow ≡ s → IsLabelling l → AreAtLeast (cost_limit * node_count s.net) l.prices → IsLabelling l' → (q.nodes ≡ [] → l'.prices ≡ l.prices) → q.nodes ≡ [] → ys ≡ l'.prices → All (IsUpTo price_limit) ys
-recovered_small s l l' q ys same ok floor after still none is =
-    let limit = ok.flow.of_net.nodes in
-    let count = ap (λ (t : Pseudoflow). node_count t.net) same in
-    let back = sym (is ∙ still none) in
-    small_prices ys (cost_limit * node_count s.net) (omega (arith, limit, count)) (subst (λ xs. AreAtLeast (cost_limit * node_count s.net) xs) back floor) (subst AreNotAboveZero (sym is) after.not_above_zero)

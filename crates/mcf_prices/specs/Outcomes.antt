@@ -1,25 +1,23 @@
 -- What an engine answers.
 use Rattle.std.specs.Prelude.{ℤ, List}
-use Rattle.std.specs.List.{All}
 use Rattle.mcf_instance.specs.Flow.{AreGreatestPrices, IsLeast}
 use Rattle.mcf_instance.specs.Network.{Network}
-use Rattle.mcf_instance.specs.WellFormed.{IsUpTo}
 use Rattle.mcf_network.specs.States.{Pseudoflow}
 use Rattle.mcf_feas.specs.Chosen.{IsChosenBlock}
 use Rattle.mcf_feas.specs.Feasible.{IsFeasibleState}
 use Rattle.mcf_prices.specs.declared.engine.Outcome.{Outcome}
 use Rattle.mcf_prices.specs.declared.engine.Outcome.TheVariants.{Least, Blocked}
-use Rattle.mcf_prices.specs.Recovering.{price_limit}
+use Rattle.mcf_prices.specs.Recovering.{AreSmallPrices}
 
 -- a state of the net without surplus, such that no feasible flow of the net costs less
 pub record IsLeastState (g : Network) (s : Pseudoflow) : Type 0 where
   pub feasible : IsFeasibleState g s
   pub least : IsLeast g s.amounts
 
--- the greatest prices not above 0 that show the amounts of a state, none further below 0 than the limit
+-- the greatest prices not above 0 that show the amounts of a state, within n - 1 times the greatest size of a cost
 pub record AreStatePrices (g : Network) (s : Pseudoflow) (prices : List ℤ) : Type 0 where
   pub greatest : AreGreatestPrices g prices s.amounts
-  pub small : All (IsUpTo price_limit) prices
+  pub small : AreSmallPrices g prices
 
 -- a least state, made as told, with its prices, or a node set that blocks
 abbrev pub IsOutcome : (Pseudoflow → Type 0) → Network → Outcome → Type 0

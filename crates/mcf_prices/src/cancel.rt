@@ -1,5 +1,5 @@
 //! The plain engine.
-ghost use Rattle.std.specs.Prelude.{◌≤◌, IfOk, OnErr, ⊤};
+ghost use Rattle.std.specs.Prelude.{◌≡◌, ◌≤◌, IfOk, OnErr, ⊤};
 ghost use Rattle.mcf_feas.specs.Feasible.{IsFeasibleState};
 ghost use Rattle.mcf_instance.specs.Network.{node_count};
 ghost use Rattle.mcf_prices.specs.NegativeCycles.{IsCancelled, IsNegativeCycle};
@@ -45,6 +45,7 @@ impl Engine for Cancel {
     fn solve<'n>(&mut self, alloc: Global, net: &'n Net) -> Result<Outcome<'n>, NoMemory>
         ensures outcome { IfOk result (IsOutcome (λ _. ⊤) net.now) }
         ensures wants { OnErr result (1 ≤ node_count net.now) }
+        ensures err { OnErr result (self.new ≡ self.old) }
     {
         match feasible(alloc, net)? {
             Feas::Flow(state) => {

@@ -1,5 +1,5 @@
 //! What every engine is.
-ghost use Rattle.std.specs.Prelude.{◌≤◌, IfOk, IsTrue, OnErr, ◌↔◌};
+ghost use Rattle.std.specs.Prelude.{◌≡◌, ◌≤◌, IfOk, IsTrue, OnErr, ◌↔◌};
 ghost use Rattle.mcf_instance.specs.Network.{Network, node_count};
 ghost use Rattle.mcf_network.specs.States.{Pseudoflow};
 ghost use Rattle.mcf_prices.specs.Outcomes.{IsOutcome};
@@ -35,9 +35,10 @@ pub trait Engine {
     ///
     /// # Errors
     ///
-    /// Want of memory, where a growth was refused; a net without nodes wants none. The engine can be asked again.
+    /// Want of memory, where a growth was refused; a net without nodes wants none. The engine is then as it was.
     fn solve<'n>(&mut self, alloc: Global, net: &'n Net) -> Result<Outcome<'n>, NoMemory>
         requires { Takes net.now }
         ensures outcome { IfOk result (IsOutcome (λ s. Made self.old net.now s self.new) net.now) }
-        ensures wants { OnErr result (1 ≤ node_count net.now) };
+        ensures wants { OnErr result (1 ≤ node_count net.now) }
+        ensures err { OnErr result (self.new ≡ self.old) };
 }

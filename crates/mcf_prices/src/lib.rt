@@ -15,5 +15,5 @@ mod search;
 
 pub use cancel::Cancel;
 pub use engine::{Engine, Outcome};
-pub use laws::least_states_have_no_cycle;
+pub use laws::{greatest_prices_are_small, least_states_have_no_cycle};
 pub use recovered::{Recovered, recover};

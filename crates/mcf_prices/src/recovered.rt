@@ -25,15 +25,15 @@ pub enum Recovered {
 /// It lowers the prices of nodes, from 0, along residual arcs with room, in rounds: the nodes whose price fell
 /// in a round relax the residual arcs that enter them in the next (Bellman, Ford and Moore; Ahuja, Magnanti and
 /// Orlin, Network Flows, sections 5.4 and 5.5). After each round it looks for a cycle of the arcs that gave the
-/// prices. So there are at most as many rounds as nodes, each in time linear in the nodes and arcs, and no
-/// price that is answered is further below 0 than 10^21.
+/// prices. So there are at most as many rounds as nodes, each in time linear in the nodes and arcs, and of n
+/// nodes no price that is answered is further below 0 than n - 1 times the greatest size of a cost.
 ///
 /// # Errors
 ///
 /// Want of memory, where a growth was refused; a net without nodes wants none.
 pub fn recover(alloc: Global, state: &State<'_>) -> Result<Recovered, NoMemory>
     ensures recovered { IfOk result (IsRecovered state.now) }
-    ensures small { IfOk result HasSmallPrices }
+    ensures small { IfOk result (HasSmallPrices state.now.net) }
     ensures wants { OnErr result (1 ≤ node_count state.now.net) }
 {
     let net = state.net();

@@ -2,12 +2,13 @@ use Rattle.std.proofs.Common.{◌≡◌, ◌*◌, [], arith, rules, ap, subst, s
 use Rattle.std.proofs.lemmas.Bool.{true≢false}
 use Rattle.std.proofs.lemmas.List.{length-replicate}
 use Rattle.mcf_instance.specs.Network.{Network, node_count}
-use Rattle.mcf_network.specs.States.{Pseudoflow}
+use Rattle.mcf_network.specs.States.{Pseudoflow, IsPseudoflow}
 use Rattle.mcf_network.specs.Walks.{HasRoom}
 use Rattle.mcf_prices.specs.Labels.{AreAtLeast, cost_limit}
 use Rattle.mcf_prices.specs.Queues.{Waiting, no_queue}
 use Rattle.mcf_prices.proofs.Cycles.{height_falls}
-use Rattle.mcf_prices.proofs.Rounding.{start_floor, all_wait, floor_between, recovered_prices, recovered_small, round_falls}
+use Rattle.mcf_prices.proofs.PriceFloors.{greatest_are_small}
+use Rattle.mcf_prices.proofs.Rounding.{start_floor, all_wait, floor_between, recovered_prices, round_falls}
 use Rattle.mcf_prices.proofs.recovered.recover.Goals as goal
 
 pub rounds-init : goal.rounds-init
@@ -37,7 +38,9 @@ returns-then-is_empty-clause-recovered c =
 pub returns-then-is_empty-clause-small : goal.returns-then-is_empty-clause-small
 returns-then-is_empty-clause-small c =
     let none : c.round.new.fallen.nodes ≡ [] = c.if-is_empty.ensures.value.0 refl in
-    recovered_small c.args.state.now c.rounds.search c.round.new.self c.round.new.fallen _ c.rounds.invariant.flow c.rounds.invariant.labelling c.rounds.invariant.floor c.in_ok-round.ensures.progress.valid c.in_ok-round.ensures.still none c.into_prices.ensures
+    let flow = c.in_ok-round.ensures.progress.flow ∙ c.rounds.invariant.flow in
+    let pseudoflow = subst IsPseudoflow flow c.in_ok-round.ensures.progress.valid.flow in
+    greatest_are_small c.args.state.now _ pseudoflow (recovered_prices c.args.state.now c.rounds.search c.round.new.self _ c.round.new.fallen _ _ c.rounds.invariant.flow c.in_ok-round.ensures.progress c.in_ok-round.ensures.handled none c.into_prices.ensures)
 
 pub rounds-smaller : goal.rounds-smaller
 rounds-smaller c =
