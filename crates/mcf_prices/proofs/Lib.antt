@@ -1,5 +1,10 @@
 pub mod Cancelling
 pub mod Cycles
+pub mod HeapLowered
+pub mod HeapOrder
+pub mod HeapPlaces
+pub mod HeapReads
+pub mod HeapViews
 pub mod LinkWalks
 pub mod Lowering
 pub mod Marks

@@ -4,9 +4,12 @@ pub use Rattle.mcf_instance.specs.Blocking
 pub use Rattle.mcf_instance.specs.Flow
 pub use Rattle.mcf_instance.specs.Network
 pub use Rattle.mcf_network.specs.Nets
+pub use Rattle.mcf_network.specs.NodeSets
 pub use Rattle.mcf_network.specs.Residual
 pub use Rattle.mcf_network.specs.States
 pub use Rattle.mcf_network.specs.Walks
+pub mod Heaps
+pub mod ItemHeaps
 pub mod Labels
 pub mod Laws
 pub mod NegativeCycles

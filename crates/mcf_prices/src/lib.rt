@@ -3,11 +3,13 @@
 //! The greatest prices that show a flow, or a negative cycle, and engines that answer nets.
 //!
 //! It stands on `mcf_network` and `mcf_feas`. Definitions stand in `specs/`: `NegativeCycles` and `Recovering`
-//! say what `recover` answers, `Outcomes` what an engine answers, and `Labels`, `Queues`, `Rounds` and `Trails`
-//! what the search for prices keeps.
+//! say what `recover` answers, `Outcomes` what an engine answers, `Heaps` what a heap of nodes holds, `Labels`,
+//! `Queues`, `Rounds` and `Trails` what the search for prices keeps, and `ItemHeaps` how a heap is laid out.
 
 mod cancel;
 mod engine;
+mod heap;
+mod item_heap;
 mod laws;
 mod queue;
 mod recovered;
@@ -15,5 +17,6 @@ mod search;
 
 pub use cancel::Cancel;
 pub use engine::{Engine, Outcome};
+pub use heap::Heap;
 pub use laws::{greatest_prices_are_small, least_states_have_no_cycle};
 pub use recovered::{Recovered, recover};

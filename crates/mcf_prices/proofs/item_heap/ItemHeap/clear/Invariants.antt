@@ -1,0 +1,14 @@
+use Rattle.std.proofs.Common.{◌≡◌, length}
+use Rattle.mcf_prices.specs.ItemHeaps.{IsPlaced}
+use Rattle.mcf_prices.proofs.item_heap.ItemHeap.clear.Given as goal
+
+abbrev pub invariant-items : goal.invariant-items
+invariant-items l =
+    record {
+      placed : IsPlaced l.self.count l.self.slots.items l.self.places.items;
+      items : length l.self.places.items ≡ length l.initial.self.places.items;
+      keys : l.self.keys ≡ l.initial.self.keys;
+    }
+
+abbrev pub decreases-items : goal.decreases-items
+decreases-items l = l.self.count

@@ -1,0 +1,20 @@
+use Rattle.std.proofs.Common.{◌≡◌, arith, replicate, rules, pos, ℤ, ℕ}
+use Rattle.std.proofs.lemmas.List.{length-replicate}
+use Rattle.mcf_prices.proofs.HeapPlaces.{none_placed, table_zeros}
+use Rattle.mcf_prices.proofs.item_heap.ItemHeap.new.Goals as goal
+
+pub returns-clause-valid : goal.returns-clause-valid
+returns-clause-valid c =
+    let k : c.resize.new.self.items ≡ replicate c.args.items (pos 0) = search rules in
+    let s : c.resize-2.new.self.items ≡ replicate c.args.items 0 = search rules in
+    let p : c.resize-3.new.self.items ≡ replicate c.args.items 0 = search rules in
+    record {
+      placed = rw (s, p) (none_placed c.args.items);
+      ordered = λ p j h l. absurd (omega (arith, l));
+      keys = rw (k, p) (omega (arith, length-replicate {A = ℤ} c.args.items (pos 0), length-replicate {A = ℕ} c.args.items 0));
+    }
+
+pub returns-clause-none : goal.returns-clause-none
+returns-clause-none c =
+    let p : c.resize-3.new.self.items ≡ replicate c.args.items 0 = search rules in
+    rw p (table_zeros c.args.items)

@@ -1,0 +1,20 @@
+use Rattle.std.proofs.Common.{ap, sym, ◌∙◌, arith, set, false}
+use Rattle.mcf_prices.specs.ItemHeaps.{table_of}
+use Rattle.mcf_prices.proofs.HeapPlaces.{read_is}
+use Rattle.mcf_prices.proofs.HeapViews.{precedes_all}
+use Rattle.mcf_prices.proofs.item_heap.ItemHeap.pop.Goals as goal
+
+pub returns-clause-precedes : goal.returns-clause-precedes
+returns-clause-precedes c =
+    let h = c.requires.valid in
+    let some = c.if-self-eq0.false in
+    let within = h.placed.within in
+    precedes_all c.args.self.now _ h (omega (arith, some)) (read_is c.args.self.now.slots.items 0 c.index-first.result.now c.index-first.ensures (omega (arith, some, within)))
+
+pub returns-clause-taken : goal.returns-clause-taken
+returns-clause-taken c =
+    let h = c.requires.valid in
+    let some = c.if-self-eq0.false in
+    let within = h.placed.within in
+    let is = read_is c.args.self.now.slots.items 0 c.index-first.result.now c.index-first.ensures (omega (arith, some, within)) in
+    c.take_first.ensures.table ∙ ap (λ x. set (table_of c.args.self.now.places.items) x false) (sym is)
