@@ -7,4 +7,5 @@ pub mod RestoringLaws
 pub mod StarLaws
 pub mod StateLaws
 pub mod StuckLaws
+pub mod TreeLaws
 pub mod WalkLaws

@@ -325,7 +325,7 @@ length-restored [] amounts h = refl
 length-restored (a ∷ arcs) [] h = absurd (omega (arith, h))
 length-restored (a ∷ arcs) (x ∷ amounts) h = ap suc (length-restored arcs amounts (omega (arith, h)))
 
-get_or-restored : (arcs : List Arc) (amounts : List ℤ) (i : ℕ) → i < length arcs → length arcs ≡ length amounts → get_or (restored arcs amounts) i (pos 0) ≡ restored_flow (get_or arcs i no_arc) (get_or amounts i (pos 0))
+pub get_or-restored : (arcs : List Arc) (amounts : List ℤ) (i : ℕ) → i < length arcs → length arcs ≡ length amounts → get_or (restored arcs amounts) i (pos 0) ≡ restored_flow (get_or arcs i no_arc) (get_or amounts i (pos 0))
 get_or-restored [] amounts i l h = absurd (omega arith)
 get_or-restored (a ∷ arcs) [] i l h = absurd (omega (arith, h))
 get_or-restored (a ∷ arcs) (x ∷ amounts) zero l h = refl

@@ -1,5 +1,5 @@
 -- Laws of states, and of a network and its net.
-use Rattle.std.specs.Prelude.{ℕ, Bool, List, ℤ, ◌+ℤ◌, ◌≤ℤ◌, ◌↔◌}
+use Rattle.std.specs.Prelude.{◌≡◌, ℕ, Bool, List, length, ℤ, ◌+ℤ◌, ◌≤ℤ◌, ◌↔◌}
 use Rattle.std.specs.List.{All}
 use Rattle.mcf_instance.specs.declared.problem.Side.{Side}
 use Rattle.mcf_instance.specs.declared.problem.Side.TheVariants.{Send}
@@ -12,6 +12,7 @@ use Rattle.mcf_network.specs.Removal.{net_of}
 use Rattle.mcf_network.specs.Restoring.{fixed_cost, restored}
 use Rattle.mcf_network.specs.States.{Pseudoflow, IsPseudoflow, HasNoSurplus}
 use Rattle.mcf_network.specs.Stuck.{IsStuck}
+use Rattle.mcf_network.specs.TreeSolutions.{IsTreeSolution}
 
 -- amounts are a feasible flow of a net exactly where they are a state without surplus
 abbrev pub FeasibleFlowsAreStates : Type 0
@@ -42,3 +43,8 @@ RestoredLeastFlowsAreLeast =
 abbrev pub GreatestPricesCarryOver : Type 0
 GreatestPricesCarryOver =
     (g : Network) (prices amounts : List ℤ) → IsFeasible (net_of g) amounts → AreGreatestPrices (net_of g) prices amounts ↔ AreGreatestPrices g prices (restored g.arcs amounts)
+
+-- a tree solution of the net stands for a tree solution of the network
+abbrev pub RestoredTreeSolutionsAreTreeSolutions : Type 0
+RestoredTreeSolutionsAreTreeSolutions =
+    (g : Network) (amounts : List ℤ) → length amounts ≡ length g.arcs → IsTreeSolution (net_of g) amounts → IsTreeSolution g (restored g.arcs amounts)

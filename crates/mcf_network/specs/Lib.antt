@@ -15,4 +15,5 @@ pub mod Stars
 pub mod States
 pub mod Stored
 pub mod Stuck
+pub mod TreeSolutions
 pub mod Walks

@@ -1,5 +1,5 @@
 //! Laws of states and of nets, each the contract of a function that does nothing.
-ghost use Rattle.mcf_network.specs.Laws.{FeasibleFlowsAreStates, GreatestPricesCarryOver, NetFlowsCostNoMore, NetsBlockAlike, RestoredLeastFlowsAreLeast, StuckSetsBlock};
+ghost use Rattle.mcf_network.specs.Laws.{FeasibleFlowsAreStates, GreatestPricesCarryOver, NetFlowsCostNoMore, NetsBlockAlike, RestoredLeastFlowsAreLeast, RestoredTreeSolutionsAreTreeSolutions, StuckSetsBlock};
 
 /// The states of a net without surplus are its feasible flows.
 pub fn feasible_flows_are_states()
@@ -30,4 +30,10 @@ pub fn restored_least_flows_are_least()
 /// A flow of the net and the flow for which it stands have the same greatest prices not above 0.
 pub fn greatest_prices_carry_over()
     ensures { GreatestPricesCarryOver }
+{}
+
+/// The flow for which a tree solution of the net stands is a tree solution: an arc of the net at a bound
+/// stands for an arc at a bound, and every loop is at one.
+pub fn restored_tree_solutions_are_tree_solutions()
+    ensures { RestoredTreeSolutionsAreTreeSolutions }
 {}

@@ -5,8 +5,9 @@
 //! It stands on `mcf_instance`, and speaks of a net as of an instance: a network whose lows are 0 and
 //! whose caps are the widths. Definitions stand in `specs/`: `Nets` says what every net keeps, `Residual`
 //! and `Stars` what leaves a node, `States` and `Walks` what a push does, `NodeSets` and `Stuck` what a
-//! search reaches, `Removal` and `Restoring` how the net of an instance is made and how its states stand
-//! for flows of the instance, and `Laws` what carries over from one to the other.
+//! search reaches, `TreeSolutions` which flows have no cycle of free arcs, `Removal` and `Restoring` how the
+//! net of an instance is made and how its states stand for flows of the instance, and `Laws` what carries
+//! over from one to the other.
 
 mod laws;
 mod leaving;
@@ -23,7 +24,8 @@ mod walk;
 
 pub use laws::{
     feasible_flows_are_states, greatest_prices_carry_over, net_flows_cost_no_more,
-    nets_block_alike, restored_least_flows_are_least, stuck_sets_block,
+    nets_block_alike, restored_least_flows_are_least, restored_tree_solutions_are_tree_solutions,
+    stuck_sets_block,
 };
 pub use leaving::Leaving;
 pub use net::Net;
