@@ -1,0 +1,13 @@
+pub mod CurrentLaws
+pub mod Fillings
+pub mod Heights
+pub mod QueueLaws
+pub mod Methods
+pub mod NoCycles
+pub mod Rises
+pub mod RunLaws
+pub mod ScaleLaws
+pub mod Scans
+pub mod Settling
+pub mod Sizes
+pub mod StepLaws

@@ -1,0 +1,35 @@
+use Rattle.std.proofs.Common.{◌≡◌, rules}
+use Rattle.mcf_scaling.proofs.CurrentLaws.{begin_current}
+use Rattle.mcf_scaling.proofs.Methods.{begun_made}
+use Rattle.mcf_scaling.specs.Refinements.{Refinement}
+use Rattle.mcf_scaling.proofs.refine.Refine.begin.Goals as goal
+
+pub invariant_of-self : goal.invariant_of-self
+invariant_of-self c =
+    let a : Refinement = record {
+      flow = c.self.inside.state;
+      prices = c.self.inside.prices.items;
+      before = c.self.inside.before.items;
+      scale =
+          c.self.inside.scale;
+    } in
+    let copied : c.copy_from_slice.new.self.items ≡ a.prices = search rules in (
+      begun_made a c.args.self.now c.fill.new.state c.deref.result.now c.copy_from_slice.new.self.items c.self.view_is c.self.invariant.0
+          c.requires.scale c.requires.rest c.fill.ensures c.deref.ensures.value copied,
+      begin_current a c.fill.new.state c.deref.result.now
+          c.self.inside.rests.items c.fill.ensures c.deref.ensures.value c.self.invariant.1,
+      c.tidy.ensures,
+    )
+
+pub returns-clause-valid : goal.returns-clause-valid
+returns-clause-valid c =
+    let a : Refinement = record {
+      flow = c.self.inside.state;
+      prices = c.self.inside.prices.items;
+      before = c.self.inside.before.items;
+      scale =
+          c.self.inside.scale;
+    } in
+    let copied : c.copy_from_slice.new.self.items ≡ a.prices = search rules in
+    begun_made a c.args.self.now c.fill.new.state c.deref.result.now c.copy_from_slice.new.self.items c.self.view_is c.self.invariant.0
+    c.requires.scale c.requires.rest c.fill.ensures c.deref.ensures.value copied

@@ -1,0 +1,65 @@
+use Rattle.std.proofs.Common.{ap, ◌∙◌}
+use Rattle.mcf_instance.specs.Network.{Network}
+use Rattle.mcf_network.specs.Residual.{head}
+use Rattle.mcf_network.proofs.StateLaws.{rid}
+use Rattle.mcf_scaling.proofs.CurrentLaws.{push_current}
+use Rattle.mcf_scaling.proofs.QueueLaws.{arc_of, push_holds, share_low}
+use Rattle.mcf_scaling.proofs.Methods.{push_low, push_made}
+use Rattle.mcf_scaling.specs.Refinements.{Refinement}
+use Rattle.mcf_scaling.proofs.refine.Refine.push.Goals as goal
+
+pub push_share-amount-requires-clause-active : goal.push_share-amount-requires-clause-active
+push_share-amount-requires-clause-active c =
+    let a : Refinement = record {
+      flow = c.self.inside.state;
+      prices = c.self.inside.prices.items;
+      before = c.self.inside.before.items;
+      scale =
+          c.self.inside.scale;
+    } in
+    push_low a c.args.self.now c.args.r c.self.view_is c.requires.active
+
+pub invariant_of-self : goal.invariant_of-self
+invariant_of-self c =
+    let a : Refinement = record {
+      flow = c.self.inside.state;
+      prices = c.self.inside.prices.items;
+      before = c.self.inside.before.items;
+      scale =
+          c.self.inside.scale;
+    } in (
+      push_made a c.args.self.now c.args.r c.push_share-amount.result c.push_share-amount.new.state c.self.view_is c.self.invariant.0
+          c.requires.admissible c.requires.active c.push_share-amount.ensures.value c.push_share-amount.ensures.amount,
+      push_current a c.args.self.now
+          c.args.r c.push_share-amount.result c.push_share-amount.new.state c.self.inside.rests.items c.self.view_is c.self.invariant.0
+          c.requires.admissible c.requires.active c.push_share-amount.ensures.value c.push_share-amount.ensures.amount c.self.invariant.1,
+      c.tidy.ensures,
+    )
+
+pub returns-clause-valid : goal.returns-clause-valid
+returns-clause-valid c =
+    let a : Refinement = record {
+      flow = c.self.inside.state;
+      prices = c.self.inside.prices.items;
+      before = c.self.inside.before.items;
+      scale =
+          c.self.inside.scale;
+    } in
+    push_made a c.args.self.now c.args.r c.push_share-amount.result c.push_share-amount.new.state c.self.view_is c.self.invariant.0
+    c.requires.admissible c.requires.active c.push_share-amount.ensures.value c.push_share-amount.ensures.amount
+
+pub tidy-requires : goal.tidy-requires
+tidy-requires c =
+    let a : Refinement = record {
+      flow = c.self.inside.state;
+      prices = c.self.inside.prices.items;
+      before = c.self.inside.before.items;
+      scale =
+          c.self.inside.scale;
+    } in
+    push_holds a.flow c.push_share-amount.new.state c.self.inside.queue c.enqueue.new.queue c.args.r.arc c.args.r.back c.push_share-amount.result
+    c.route-to.result.1 c.self.invariant.0.flow (arc_of a c.args.self.now c.args.r c.self.view_is c.requires.admissible)
+    (share_low a c.args.self.now c.args.r c.push_share-amount.result c.self.view_is c.requires.admissible c.requires.active
+    c.push_share-amount.ensures.amount) c.push_share-amount.ensures.value
+    (c.route-to.ensures.head ∙ ap (λ (g : Network). head g (rid c.args.r.arc c.args.r.back)) c.net.ensures.value) c.self.invariant.2
+    c.enqueue.ensures.kept c.enqueue.ensures.here c.enqueue.ensures.size c.enqueue.ensures.valid

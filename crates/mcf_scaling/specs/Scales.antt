@@ -1,0 +1,27 @@
+-- The scale of the first phase.
+use Rattle.std.specs.Prelude.{◌≡◌, ℕ, ◌+◌, ◌*◌, ◌^◌, ◌≤◌, List, [], ◌∷◌, max, unsigned_abs, pos, replicate}
+use Rattle.mcf_instance.specs.declared.arc.Arc.{Arc}
+use Rattle.mcf_instance.specs.Network.{Network, node_count}
+use Rattle.mcf_network.specs.States.{Pseudoflow}
+use Rattle.mcf_scaling.specs.Refinements.{Refinement}
+
+-- the greatest size of the cost of an arc, 0 without arcs
+abbrev pub greatest_cost : List Arc → ℕ
+greatest_cost [] = 0
+greatest_cost (a ∷ arcs) = max (unsigned_abs a.cost) (greatest_cost arcs)
+
+-- the least number whose power of 2 is at least so much
+pub record IsLeastScale (need scale : ℕ) : Type 0 where
+  pub enough : need ≤ 2 ^ scale
+  pub least : (k : ℕ) → need ≤ 2 ^ k → scale ≤ k
+
+-- how many phases a net takes
+abbrev pub ArePhases : Network → ℕ → Type 0
+ArePhases g k = IsLeastScale ((node_count g + 1) * greatest_cost g.arcs) k
+
+-- prices 0, and the greatest e of a net
+pub record IsStart (s : Pseudoflow) (a : Refinement) : Type 0 where
+  pub flow : a.flow ≡ s
+  pub prices : a.prices ≡ replicate (node_count s.net) (pos 0)
+  pub before : a.before ≡ replicate (node_count s.net) (pos 0)
+  pub scale : ArePhases s.net a.scale

@@ -1,0 +1,21 @@
+#![tactic(auto)]
+
+//! Cost scaling, an engine for every net (Goldberg and Tarjan; Ahuja, Magnanti and Orlin, Network Flows, section 10.3).
+//!
+//! It stands on `mcf_network`, `mcf_feas` and `mcf_prices`. Definitions stand in `specs/`: `Refinements` and
+//! `Optimality` say what a refinement holds and keeps, `Phases` what its steps do and what runs of them are, `Scales`
+//! how many phases a net takes, `Made` how the engine made a state, `Laws` what holds of steps and phases, and
+//! `Currents` and `Queues` what the current arcs and the queue of a refinement keep.
+
+mod currents;
+mod filling;
+mod laws;
+mod pricing;
+mod queue;
+mod refine;
+mod scale;
+mod scaling;
+
+pub use laws::{nearly_least_have_no_cycle, phases_end, prices_rise_little, runs_keep_bounds};
+pub use refine::Refine;
+pub use scaling::Scaling;

@@ -1,0 +1,121 @@
+//! Nodes that wait, first in, first out.
+ghost use Rattle.std.specs.Prelude.{◌≡◌, ◌∷◌, ◌≤◌, ◌<ℤ◌, [], ℕ, List, IfNone, IfOk, IfSome, OnErr, length, pos};
+ghost use Rattle.mcf_instance.specs.Network.{IsNode, node_count};
+ghost use Rattle.std.specs.List.{Contains};
+ghost use Rattle.mcf_network.specs.States.{surplus_at};
+ghost use Rattle.mcf_scaling.specs.Queues.{HoldsActive, IsQueue, IsPopped, IsQueueOf, queued, no_queue};
+
+use mcf_network::{Net, State};
+use mcf_text::{NoMemory, NodeId};
+use std::alloc::Global;
+use std::collections::VecDeque;
+use std::marker::Model;
+
+/// Nodes of a net that wait, each once, in room made beforehand for all of them.
+#[derive(Drop)]
+pub(crate) struct Queue {
+    marks: Vec<bool>,
+    nodes: VecDeque<NodeId>,
+}
+
+impl Model for Queue {
+    ghost use Rattle.std.specs.Prelude.{◌≤◌, length};
+    ghost use Rattle.std.specs.VecDeque.{deque_capacity};
+    ghost use Rattle.mcf_scaling.specs.Queues.{IsQueue, Waiting};
+
+    ghost Value = { Waiting };
+
+    ghost view = { λ q. record { table = q.marks.items; nodes = q.nodes.items } };
+
+    ghost invariant = { λ q. IsQueue (record { table = q.marks.items; nodes = q.nodes.items }) × (length q.marks.items ≤ deque_capacity q.nodes) };
+}
+
+impl Queue {
+    /// The queue in which no node of a net waits.
+    pub(crate) fn new(alloc: Global, net: &Net) -> Result<Queue, NoMemory>
+        ensures value { IfOk result (λ q. q ≡ no_queue (node_count net.now)) }
+        ensures wants { OnErr result (1 ≤ node_count net.now) }
+    {
+        let nodes = net.node_count() as usize;
+        let mut marks = Vec::new(alloc);
+        marks.resize(nodes, false)?;
+        Ok(Queue {
+            marks,
+            nodes: VecDeque::with_capacity(alloc, nodes)?,
+        })
+    }
+
+    /// Puts a node at the end, if it doesn't wait already.
+    pub(crate) fn insert(&mut self, v: NodeId)
+        requires { IsNode (length self.old.table) v }
+        ensures value { self.new ≡ queued self.old v }
+        ensures valid { IsQueue self.new }
+    {
+        let i = v.get() as usize - 1;
+        if !self.marks[i] {
+            self.nodes.push_back_reserved(v);
+            self.marks[i] = true;
+        }
+    }
+
+    /// The first node, if one waits.
+    pub(crate) fn front(&self) -> Option<NodeId>
+        ensures some { IfSome result (λ v. (rest : List ℕ) × (self.now.nodes ≡ v ∷ rest)) }
+        ensures none { IfNone result (self.now.nodes ≡ []) }
+        ensures valid { IsQueue self.now }
+    {
+        let first = self.nodes.front()?;
+        Some(*first)
+    }
+
+    /// Takes the first node off, if one waits, and says which it was.
+    pub(crate) fn pop(&mut self) -> Option<NodeId>
+        ensures some { IfSome result (IsPopped self.old self.new) }
+        ensures none { IfNone result (self.new ≡ self.old) }
+        ensures empty { IfNone result (self.old.nodes ≡ []) }
+        ensures valid { IsQueue self.new }
+    {
+        let first = self.nodes.pop_front()?;
+        self.marks[first.get() as usize - 1] = false;
+        Some(first)
+    }
+}
+
+/// Puts a node into the queue, if it has a surplus.
+pub(crate) fn enqueue(state: &State<'_>, queue: &mut Queue, v: NodeId)
+    requires node { IsNode (node_count state.now.net) v }
+    requires size { length queue.old.table ≡ node_count state.now.net }
+    requires valid { IsQueue queue.old }
+    ensures kept { (u : ℕ) → Contains queue.old.nodes u → Contains queue.new.nodes u }
+    ensures here { pos 0 <ℤ surplus_at state.now v → Contains queue.new.nodes v }
+    ensures size { length queue.new.table ≡ length queue.old.table }
+    ensures valid { IsQueue queue.new }
+{
+    if state.surplus(v) > 0 {
+        queue.insert(v);
+    }
+}
+
+/// Puts each node with a surplus into the queue.
+pub(crate) fn enqueue_all(state: &State<'_>, queue: &mut Queue)
+    requires size { length queue.old.table ≡ node_count state.now.net }
+    requires valid { IsQueue queue.old }
+    ensures { HoldsActive state.now queue.new }
+{
+    'nodes: for number in 0..state.net().node_count() {
+        enqueue(state, queue, NodeId::new(number + 1));
+    }
+}
+
+/// Takes nodes without a surplus off, until the first has one.
+pub(crate) fn tidy(state: &State<'_>, queue: &mut Queue)
+    requires { HoldsActive state.now queue.old }
+    ensures { IsQueueOf state.now queue.new }
+{
+    'fronts: while let Some(v) = queue.front() {
+        if state.surplus(v) > 0 {
+            break;
+        }
+        queue.pop();
+    }
+}

@@ -1,0 +1,276 @@
+//! Refining a state, phase by phase (Goldberg and Tarjan; Ahuja, Magnanti and Orlin, Network Flows, section 10.3).
+ghost use Rattle.std.specs.Prelude.{◌≡◌, ◌<ℤ◌, replicate, ◌↔◌, ◌*◌, ◌^◌, ◌≤◌, ◌≤ℤ◌, ◌+ℤ◌, ◌-◌, ℕ, ℤ, length, slice_set, IfNone, IfOk, IfSome, IsTrue, OnErr, pos};
+ghost use Rattle.std.specs.Bool.{OnFalse, OnTrue};
+ghost use Rattle.std.specs.Int.{int_min};
+ghost use Rattle.mcf_feas.specs.Feasible.{IsFeasibleState};
+ghost use Rattle.mcf_instance.specs.Network.{IsArcNumber, IsNode, at_node, node_count};
+ghost use Rattle.mcf_instance.specs.WellFormed.{IsUpTo};
+ghost use Rattle.mcf_network.specs.declared.rid.Rid.{Rid};
+ghost use Rattle.mcf_network.specs.Residual.{tail};
+ghost use Rattle.mcf_network.specs.States.{IsPseudoflow, pushed, room_of, surplus_at};
+ghost use Rattle.mcf_scaling.specs.Optimality.{AreSmallPrices, IsAdmissible, IsLeastReduced};
+ghost use Rattle.mcf_network.specs.Walks.{HasRoom};
+ghost use Rattle.mcf_scaling.specs.Phases.{IsBegun, IsDone, IsPush, IsRelabel};
+ghost use Rattle.mcf_scaling.specs.Refinements.{IsActive, IsNodeOf, IsRefinement, reduced, within};
+ghost use Rattle.mcf_scaling.specs.Scales.{IsStart};
+
+use crate::currents::{all_leaving, next_admissible};
+use crate::filling::fill;
+use crate::pricing::{least_reduced, reduced_cost};
+use crate::queue::{Queue, enqueue, enqueue_all, tidy};
+use crate::scale::{first_scale, power};
+use mcf_network::{Leaving, Rid, State};
+use mcf_text::{ArcId, NoMemory, NodeId};
+use std::alloc::Global;
+use std::marker::Model;
+
+/// A state that is refined phase by phase, by pushes and relabels, until it is least.
+///
+/// All costs are taken times the count of nodes plus 1. A residual arc with room and negative reduced cost is
+/// admissible, and a node of surplus above 0 is active. At each time the state is e-optimal: no residual arc with room
+/// has a reduced cost below -e, where e is a power of 2 that each phase halves. In a phase no price rises by more than
+/// 3ne, where n is the count of nodes, so no node is relabelled more than 3n times.
+///
+/// Only `start` takes memory. A clause sees the state, the prices, those at the beginning of the phase, and the
+/// power of 2.
+#[derive(Drop)]
+pub struct Refine<'n> {
+    state: State<'n>,
+    prices: Vec<i128>,
+    // the prices when the phase began
+    before: Vec<i128>,
+    // e is 2 to this power
+    scale: u32,
+    // for each node, the residual arcs from its current arc on: none of those before it is admissible
+    rests: Vec<Leaving<'n>>,
+    // each active node, and the first is active
+    queue: Queue,
+}
+
+impl<'n> Model for Refine<'n> {
+    ghost use Rattle.mcf_scaling.specs.Currents.{AreCurrent};
+    ghost use Rattle.mcf_scaling.specs.Queues.{IsQueueOf};
+    ghost use Rattle.mcf_scaling.specs.Refinements.{IsRefinement, Refinement};
+
+    ghost Value = { Refinement };
+
+    ghost view = { λ a. record { flow = a.state; prices = a.prices.items; before = a.before.items; scale = a.scale } };
+
+    ghost invariant = { λ a. IsRefinement (record { flow = a.state; prices = a.prices.items; before = a.before.items; scale = a.scale })
+        × AreCurrent a.state a.prices.items a.rests.items
+        × IsQueueOf a.state a.queue };
+}
+
+impl<'n> Refine<'n> {
+    /// The refinement of a state without surplus: prices 0, and e the least power of 2 that is at least the greatest
+    /// size of a cost times the count of nodes plus 1. That is 1 where all costs are 0.
+    ///
+    /// # Errors
+    ///
+    /// Want of memory, where a growth was refused; a net without nodes wants none.
+    pub fn start(alloc: Global, state: State<'n>) -> Result<Refine<'n>, NoMemory>
+        requires { IsFeasibleState state.net state }
+        ensures value { IfOk result (IsStart state.entry) }
+        ensures valid { IfOk result IsRefinement }
+        ensures wants { OnErr result (1 ≤ node_count state.entry.net) }
+    {
+        let net = state.net();
+        let nodes = net.node_count() as usize;
+        let scale = first_scale(net);
+        let prices = zeros(alloc, nodes)?;
+        let before = zeros(alloc, nodes)?;
+        let rests = all_leaving(alloc, net)?;
+        let queue = Queue::new(alloc, net)?;
+        Ok(Refine {
+            state,
+            prices,
+            before,
+            scale,
+            rests,
+            queue,
+        })
+    }
+
+    /// A node of surplus above 0, if there is one: the first of those that wait.
+    pub fn active(&self) -> Option<NodeId>
+        ensures some { IfSome result (IsActive self.now) }
+        ensures none { IfNone result ((v : ℕ) → ¬ IsActive self.now v) }
+        ensures valid { IsRefinement self.now }
+    {
+        self.queue.front()
+    }
+
+    /// Whether e is 1 and no node is active.
+    pub fn done(&self) -> bool
+        ensures yes { OnTrue result (IsDone self.now) }
+        ensures no { OnFalse result (¬ IsDone self.now) }
+    {
+        let rest = self.active().is_none();
+        self.scale == 0 && rest
+    }
+
+    /// The state.
+    pub fn state(&self) -> &State<'n>
+        ensures value { result.now ≡ self.now.flow }
+        ensures valid { IsRefinement self.now }
+    {
+        &self.state
+    }
+
+    /// The price of a node, from 0 to 10^29.
+    pub fn price(&self, v: NodeId) -> i128
+        requires { IsNodeOf self.now v }
+        ensures value { result ≡ at_node self.now.prices v }
+    {
+        self.prices[v.get() as usize - 1]
+    }
+
+    /// The reduced cost of a residual arc: its cost times the count of nodes plus 1, less the price of its tail plus that
+    /// of its head.
+    pub fn reduced(&self, r: Rid) -> i128
+        requires { IsArcNumber self.now.flow.net r.arc }
+        ensures value { result ≡ reduced self.now r }
+    {
+        let (arc, back) = (r.arc, r.back);
+        reduced_cost(self.state.net(), &self.prices, Rid { arc, back })
+    }
+
+    /// A residual arc with room and negative reduced cost that leaves a node, if there is one: the first from the node's
+    /// current arc on.
+    pub fn admissible(&mut self, v: NodeId) -> Option<Rid>
+        requires { IsNodeOf self.old v }
+        ensures some { IfSome result (λ r. IsAdmissible self.old.flow self.old.prices r × (tail self.old.flow.net r ≡ v)) }
+        ensures none { IfNone result ((r : Rid) → tail self.old.flow.net r ≡ v → ¬ IsAdmissible self.old.flow self.old.prices r) }
+        ensures same { self.new ≡ self.old }
+        ensures valid { IsRefinement self.new }
+    {
+        let i = v.get() as usize - 1;
+        next_admissible(&self.state, &self.prices, v.get(), &mut self.rests[i])
+    }
+
+    /// Pushes the lesser of the surplus of its tail and its room along a residual arc with room and negative
+    /// reduced cost, from a node of surplus above 0, and says how much that is.
+    pub fn push(&mut self, r: Rid) -> i128
+        requires admissible { IsAdmissible self.old.flow self.old.prices r }
+        requires active { IsActive self.old (tail self.old.flow.net r) }
+        ensures step { IsPush self.old self.new r }
+        ensures amount { result ≡ int_min (surplus_at self.old.flow (tail self.old.flow.net r)) (room_of self.old.flow r) }
+        ensures valid { IsRefinement self.new }
+    {
+        let (arc, back) = (r.arc, r.back);
+        let (_, to) = self.state.net().route(Rid { arc, back });
+        let amount = push_share(&mut self.state, arc, back);
+        enqueue(&self.state, &mut self.queue, to);
+        tidy(&self.state, &mut self.queue);
+        amount
+    }
+
+    /// Raises the price of a node of surplus above 0 that no residual arc with room and negative reduced cost
+    /// leaves, by e and the least reduced cost of those with room that leave it, and says by how much that is.
+    pub fn relabel(&mut self, v: NodeId) -> i128
+        requires active { IsActive self.old v }
+        requires stuck { (r : Rid) → tail self.old.flow.net r ≡ v → ¬ IsAdmissible self.old.flow self.old.prices r }
+        ensures step { IsRelabel self.old self.new v result }
+        ensures high { pos (within self.old) ≤ℤ result }
+        ensures valid { IsRefinement self.new }
+    {
+        let rise = rise_of(&self.state, &self.prices, v, self.scale);
+        raise(&mut self.prices, v, rise);
+        let net = self.state.net();
+        self.rests[v.get() as usize - 1] = net.leaving(v);
+        rise
+    }
+
+    /// Begins a phase: halves e, and fills each residual arc of negative reduced cost.
+    pub fn begin(&mut self)
+        requires scale { 1 ≤ self.old.scale }
+        requires rest { (v : ℕ) → ¬ IsActive self.old v }
+        ensures step { IsBegun self.old self.new }
+        ensures valid { IsRefinement self.new }
+    {
+        fill(&mut self.state, &self.prices);
+        self.before.copy_from_slice(&self.prices);
+        self.scale -= 1;
+        enqueue_all(&self.state, &mut self.queue);
+        tidy(&self.state, &mut self.queue);
+    }
+
+    /// The state, without what refines it.
+    pub fn into_state(self) -> State<'n>
+        ensures value { result ≡ self.entry.flow }
+        ensures valid { IsPseudoflow result }
+    {
+        let Refine {
+            state,
+            prices: _,
+            before: _,
+            scale: _,
+            rests: _,
+            queue: _,
+        } = self;
+        state
+    }
+}
+
+// Pushes the lesser of the surplus of its tail and its room along a residual arc.
+fn push_share(state: &mut State<'_>, arc: ArcId, back: bool) -> i128
+    requires arc { IsArcNumber state.old.net arc }
+    requires active { pos 0 ≤ℤ surplus_at state.old (tail state.old.net (record { arc = arc; back = back })) }
+    ensures value { state.new ≡ pushed state.old (record { arc = arc; back = back }) result }
+    ensures amount { result ≡ int_min (surplus_at state.old (tail state.old.net (record { arc = arc; back = back })))
+        (room_of state.old (record { arc = arc; back = back })) }
+    ensures valid { IsPseudoflow state.new }
+{
+    let (from, _) = state.net().route(Rid { arc, back });
+    let amount = state.surplus(from).min(state.room(Rid { arc, back }));
+    state.push(Rid { arc, back }, amount);
+    amount
+}
+
+// By how much the price of a node is raised: by e and the least reduced cost of the residual arcs with room that
+// leave it, of which there is one.
+fn rise_of(state: &State<'_>, prices: &[i128], v: NodeId, scale: u32) -> i128
+    requires flow { IsPseudoflow state.now }
+    requires prices { AreSmallPrices (node_count state.now.net) prices.now }
+    requires node { IsNode (node_count state.now.net) v }
+    requires scale { scale ≤ 70 }
+    requires some { ((r : Rid) → tail state.now.net r ≡ v → ¬ HasRoom state.now r) → ⊥ }
+    ensures value { (least : ℤ) × IsLeastReduced state.now prices.now v least × (result ≡ least +ℤ pos (2 ^ scale)) }
+    ensures small { IsUpTo (10 ^ 31) result }
+{
+    let Some(least) = least_reduced(state, prices, v) else {
+        unreachable!()
+    };
+    sum(least, power(scale))
+}
+
+// The sum of two numbers.
+fn sum(a: i128, b: i128) -> i128
+    requires a { IsUpTo (10 ^ 31) a }
+    requires b { IsUpTo (10 ^ 31) b }
+    ensures { result ≡ a +ℤ b }
+{
+    a + b
+}
+
+// Raises the price of a node.
+fn raise(prices: &mut Vec<i128>, v: NodeId, rise: i128)
+    requires prices { AreSmallPrices (length prices.old.items) prices.old.items }
+    requires node { IsNode (length prices.old.items) v }
+    requires rise { IsUpTo (10 ^ 31) rise }
+    ensures { prices.new.items ≡ slice_set prices.old.items (v - 1) (at_node prices.old.items v +ℤ rise) }
+{
+    let i = v.get() as usize - 1;
+    let raised = sum(prices[i], rise);
+    prices[i] = raised;
+}
+
+// So many zeros.
+fn zeros(alloc: Global, count: usize) -> Result<Vec<i128>, NoMemory>
+    ensures value { IfOk result (λ made. made.items ≡ replicate count (pos 0)) }
+    ensures wants { OnErr result (1 ≤ count) }
+{
+    let mut made = Vec::new(alloc);
+    made.resize(count, 0)?;
+    Ok(made)
+}

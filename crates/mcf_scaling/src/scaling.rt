@@ -1,0 +1,134 @@
+//! The engine.
+ghost use Rattle.std.specs.Prelude.{◌≡◌, ◌≤◌, ◌⊎◌, ℕ, ℤ, IfNone, IfOk, IfSome, OnErr};
+ghost use Rattle.mcf_feas.specs.Feasible.{IsFeasibleState};
+ghost use Rattle.mcf_instance.specs.Network.{node_count};
+ghost use Rattle.mcf_network.specs.declared.rid.Rid.{Rid};
+ghost use Rattle.mcf_prices.specs.Outcomes.{AreStatePrices, IsLeastState, IsOutcome};
+ghost use Rattle.mcf_scaling.specs.Made.{IsScaled};
+ghost use Rattle.mcf_scaling.specs.Phases.{IsPush, IsRelabel, Run};
+ghost use Rattle.mcf_scaling.specs.Refinements.{Refinement, IsActive, IsNodeOf, IsRefinement};
+
+use crate::refine::Refine;
+use mcf_feas::{Feas, feasible};
+use mcf_network::{Net, Rid, State};
+use mcf_prices::{Engine, Outcome, Recovered, recover};
+use mcf_text::{NoMemory, NodeId};
+use std::alloc::Global;
+
+/// Cost scaling: a feasible flow, refined by phases until it is least (Goldberg and Tarjan; Ahuja, Magnanti and Orlin,
+/// Network Flows, section 10.3).
+///
+/// It takes every net. How it made a state is a relation of its contract, `IsScaled`: counted steps, as many phases as
+/// the costs and the count of nodes ask, and in none of them a price that rises by more than 3ne.
+#[derive(Clone, Copy, Debug, Default)]
+pub struct Scaling;
+
+impl Scaling {
+    /// The engine, which keeps nothing.
+    pub fn new() -> Scaling {
+        Scaling
+    }
+}
+
+impl Engine for Scaling {
+    ghost use Rattle.std.specs.Prelude.{⊤};
+    ghost use Rattle.mcf_scaling.specs.Made.{IsScaled};
+
+    ghost Takes = { λ _. ⊤ };
+
+    ghost Made = { λ _ g s _. IsScaled g s };
+
+    fn takes(&self, _net: &Net) -> bool {
+        true
+    }
+
+    /// A least state of the net, with its prices, or a node set that shows that there is none.
+    ///
+    /// # Errors
+    ///
+    /// Want of memory, where a growth was refused; a net without nodes wants none. The engine is as it was.
+    fn solve<'n>(&mut self, alloc: Global, net: &'n Net) -> Result<Outcome<'n>, NoMemory>
+        ensures outcome { IfOk result (IsOutcome (IsScaled net.now) net.now) }
+        ensures wants { OnErr result (1 ≤ node_count net.now) }
+        ensures err { OnErr result (self.new ≡ self.old) }
+    {
+        match feasible(alloc, net)? {
+            Feas::Flow(state) => {
+                let (least, prices) = refine(alloc, state)?;
+                Ok(Outcome::Least(least, prices))
+            }
+            Feas::Blocked(set, side) => Ok(Outcome::Blocked(set, side)),
+        }
+    }
+}
+
+// Refines a state without surplus, phase by phase: it is then least, and has prices.
+fn refine<'n>(alloc: Global, state: State<'n>) -> Result<(State<'n>, Vec<i128>), NoMemory>
+    requires { IsFeasibleState state.net state }
+    ensures least { IfOk result (λ found. IsLeastState state.entry.net found.0) }
+    ensures shown { IfOk result (λ found. AreStatePrices state.entry.net found.0 found.1.items) }
+    ensures made { IfOk result (λ found. IsScaled state.entry.net found.0) }
+    ensures wants { OnErr result (1 ≤ node_count state.entry.net) }
+{
+    let mut refine = Refine::start(alloc, state)?;
+    'phases: while !refine.done() {
+        refine.begin();
+        settle(&mut refine);
+    }
+    let least = refine.into_state();
+    match recover(alloc, &least)? {
+        Recovered::Prices(prices) => Ok((least, prices)),
+        Recovered::Cycle(_) => unreachable!(),
+    }
+}
+
+// Takes steps until no node is active: depth first, from the node to which the last push led where that is active,
+// else from the first of the queue.
+fn settle(refine: &mut Refine<'_>)
+    requires valid { IsRefinement refine.old }
+    ensures run { (a : Refinement) (k : ℕ) → Run a refine.old k → Run a refine.new k }
+    ensures rest { (v : ℕ) → ¬ IsActive refine.new v }
+    ensures scale { refine.new.scale ≡ refine.old.scale }
+    ensures valid { IsRefinement refine.new }
+{
+    let mut next = refine.active();
+    'steps: while let Some(v) = next {
+        next = step(refine, v);
+    }
+}
+
+// Pushes from an active node, or raises its price, and says which active node is next, if there is one.
+fn step(refine: &mut Refine<'_>, v: NodeId) -> Option<NodeId>
+    requires { IsActive refine.old v }
+    ensures step { ((r : Rid) × IsPush refine.old refine.new r) ⊎ ((rise : ℤ) × IsRelabel refine.old refine.new v rise) }
+    ensures some { IfSome result (IsActive refine.new) }
+    ensures none { IfNone result ((u : ℕ) → ¬ IsActive refine.new u) }
+    ensures valid { IsRefinement refine.new }
+{
+    match refine.admissible(v) {
+        Some(r) => {
+            let (_, to) = refine.state().net().route(Rid {
+                arc: r.arc,
+                back: r.back,
+            });
+            refine.push(r);
+            next_active(refine, to)
+        }
+        None => {
+            refine.relabel(v);
+            Some(v)
+        }
+    }
+}
+
+// A node if it is active, else another that is, if there is one.
+fn next_active(refine: &Refine<'_>, v: NodeId) -> Option<NodeId>
+    requires { IsNodeOf refine.now v }
+    ensures some { IfSome result (IsActive refine.now) }
+    ensures none { IfNone result ((u : ℕ) → ¬ IsActive refine.now u) }
+{
+    if refine.state().surplus(v) > 0 {
+        return Some(v);
+    }
+    refine.active()
+}
