@@ -3,11 +3,10 @@ ghost use Rattle.std.specs.Prelude.{◌≡◌, ◌≤◌, ◌↔◌, ◌⊎◌, 
 ghost use Rattle.mcf_answer.specs.Parsing.{has_item_line};
 ghost use Rattle.mcf_checker.specs.Correct.{GivesLeastFlow, HasNoFlow, IsCorrect};
 ghost use Rattle.mcf_checker.specs.Judging.{accepts, judged, same_fault, verdict};
-ghost use Rattle.mcf_instance.specs.Fault.{header};
 ghost use Rattle.mcf_instance.specs.Limits.{limits};
+ghost use Rattle.mcf_instance.specs.Memory.{NamesNodes};
 ghost use Rattle.mcf_instance.specs.Network.{node_count};
 ghost use Rattle.mcf_instance.specs.WellFormed.{IsWellFormed};
-ghost use Rattle.mcf_text.specs.Row.{rows};
 
 use crate::set::set_verdict;
 use crate::solution::solution_verdict;
@@ -74,14 +73,14 @@ fn instance_verdict(
 ///
 /// # Errors
 /// `NoMemory` where there is no memory for what the texts say: an instance text whose first problem line
-/// isn't good, or names no nodes, wants none, nor does an answer text without a line `f`, `y` or `x` that says
-/// something.
+/// isn't good, names no nodes or comes after a fault wants none, nor does an answer text without a line `f`,
+/// `y` or `x` that says something.
 pub fn check(alloc: Global, input: &[u8], answer: &[u8]) -> Result<Verdict, NoMemory>
     ensures verdict { IfOk result (λ v. v ≡ verdict input.now answer.now) }
     ensures exact { IfOk result (λ v. IsTrue (accepts v) ↔ IsCorrect input.now answer.now) }
     ensures least { IfOk result (λ v. (total : ℤ) → v ≡ Verdict.Flow total → GivesLeastFlow input.now answer.now total) }
     ensures none { IfOk result (λ v. (count : ℕ) → v ≡ Verdict.Blocked count → HasNoFlow input.now) }
-    ensures wants { OnErr result ((1 ≤ (header (rows input.now)).nodes) ⊎ IsTrue (has_item_line answer.now)) }
+    ensures wants { OnErr result (NamesNodes limits input.now ⊎ IsTrue (has_item_line answer.now)) }
 {
     let outcome = read(alloc, input)?;
     let answer = match parse(alloc, answer)? {

@@ -8,6 +8,7 @@ pub mod CutTexts
 pub mod Duality
 pub mod Faults
 pub mod FaultyTexts
+pub mod FirstFaults
 pub mod FittingItems
 pub mod NamedNodes
 pub mod GoodTexts

@@ -32,10 +32,10 @@ number_of_item n (y ∷ ys) (b ∷ before) m x rest e =
 
 -- ---- rows
 
-kept_rows-append : (xs ys : List (ℕ × List ℕ)) → kept_rows (xs ++ ys) ≡ kept_rows xs ++ kept_rows ys
+pub kept_rows-append : (xs ys : List (ℕ × List ℕ)) → kept_rows (xs ++ ys) ≡ kept_rows xs ++ kept_rows ys
 kept_rows-append xs ys = ap (map row_of) (filter-append (λ line. is_kept line.1) xs ys) ∙ map-append row_of (filter (λ line. is_kept line.1) xs) (filter (λ line. is_kept line.1) ys)
 
-kept_one : (x : ℕ × List ℕ) → is_kept x.1 ≡ true → kept_rows (x ∷ []) ≡ row_of x ∷ []
+pub kept_one : (x : ℕ × List ℕ) → is_kept x.1 ≡ true → kept_rows (x ∷ []) ≡ row_of x ∷ []
 kept_one x e = ap (λ b. map row_of (cond b (x ∷ []) [])) e
 
 kept_none : (x : ℕ × List ℕ) → is_kept x.1 ≡ false → kept_rows (x ∷ []) ≡ []
@@ -81,7 +81,7 @@ read_unkept text s next x rest h unkept =
 
 -- ---- the end
 
-first_fault_stays : (xs ys : List Row) (fault : Fault) → slice_get (faults limits xs) 0 ≡ Some fault → slice_get (faults limits (xs ++ ys)) 0 ≡ Some fault
+pub first_fault_stays : (xs ys : List Row) (fault : Fault) → slice_get (faults limits xs) 0 ≡ Some fault → slice_get (faults limits (xs ++ ys)) 0 ≡ Some fault
 first_fault_stays xs [] fault e = ap (λ rs. slice_get (faults limits rs) 0) (append-nil xs) ∙ e
 first_fault_stays xs (y ∷ ys) fault e =
     ap (λ rs. slice_get (faults limits rs) 0) (sym (append_assoc xs (y ∷ []) ys))

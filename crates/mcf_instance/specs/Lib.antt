@@ -7,6 +7,7 @@ pub mod Flow
 pub mod Laws
 pub mod Limits
 pub mod LineReader
+pub mod Memory
 pub mod Network
 pub mod Packed
 pub mod ReaderSound

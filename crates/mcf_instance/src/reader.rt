@@ -1,9 +1,8 @@
 //! The one-pass reader of instance texts.
-ghost use Rattle.std.specs.Prelude.{◌≡◌, ◌≤◌, IfOk, OnErr};
-ghost use Rattle.mcf_instance.specs.Fault.{header};
+ghost use Rattle.std.specs.Prelude.{◌≡◌, IfOk, OnErr};
 ghost use Rattle.mcf_instance.specs.Limits.{limits};
+ghost use Rattle.mcf_instance.specs.Memory.{NamesNodes};
 ghost use Rattle.mcf_instance.specs.Reading.{reading};
-ghost use Rattle.mcf_text.specs.Row.{rows};
 
 mod fields;
 mod line;
@@ -23,11 +22,11 @@ use std::alloc::Global;
 /// names and for the arcs that come, and not for those that it names.
 ///
 /// # Errors
-/// `NoMemory` where there is no memory for them; a text whose first problem line isn't good, or names no
-/// nodes, wants none.
+/// `NoMemory` where there is no memory for them; a text whose first problem line isn't good, names no nodes
+/// or comes after a fault wants none.
 pub fn read(alloc: Global, text: &[u8]) -> Result<Result<Instance, Refusal>, NoMemory>
     ensures exact { IfOk result (λ outcome. outcome ≡ reading limits text.now) }
-    ensures wants { OnErr result (1 ≤ (header (rows text.now)).nodes) }
+    ensures wants { OnErr result (NamesNodes limits text.now) }
 {
     let mut state = State::new(alloc);
     let mut next = 1;

@@ -9,6 +9,7 @@
 mod arc;
 mod decimal;
 mod error;
+mod laws;
 mod node;
 mod number;
 mod parts;
@@ -17,6 +18,7 @@ mod split;
 pub use arc::ArcId;
 pub use decimal::{put_number, whole};
 pub use error::NoMemory;
+pub use laws::ids_are_ordered_by_number;
 pub use node::NodeId;
 pub use number::Whole;
 pub use parts::{Fields, Line, Lines};

@@ -1,6 +1,6 @@
 //! The reader's state: what the lines so far say.
-ghost use Rattle.std.specs.Prelude.{◌≡◌, ◌++◌, ◌∷◌, [], List, map, length, OnOk, OnErr, ◌≤◌, IsTrue};
-ghost use Rattle.mcf_instance.specs.Fault.{header};
+ghost use Rattle.std.specs.Prelude.{◌≡◌, ◌++◌, ◌∷◌, [], List, map, length, slice_get, None, OnOk, OnErr, ◌≤◌, IsTrue};
+ghost use Rattle.mcf_instance.specs.Fault.{faults, header};
 ghost use Rattle.mcf_instance.specs.Limits.{limits, line_limit};
 ghost use Rattle.mcf_instance.specs.ReaderSound.{ItemFits};
 ghost use Rattle.mcf_instance.specs.ReaderState.{empty, item_of, with_item, item_grows, outcome_grows, after_row, refusal_after, finished};
@@ -148,7 +148,8 @@ impl State {
             → Stands limits self.new (lines ++ row_of (number, line.now) ∷ [])) }
         ensures err { OnErr result (self.new ≡ self.old) }
         ensures wants { OnErr result ((lines : List Row) → Stands limits self.old lines
-            → 1 ≤ (header (lines ++ row_of (number, line.now) ∷ [])).nodes) }
+            → (1 ≤ (header (lines ++ row_of (number, line.now) ∷ [])).nodes)
+            × (slice_get (faults limits (lines ++ row_of (number, line.now) ∷ [])) 0 ≡ None)) }
     {
         let first = first_fields(line);
         self.advance(alloc, number, &first.fields[..first.count])

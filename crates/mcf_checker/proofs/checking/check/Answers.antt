@@ -3,7 +3,7 @@ use Rattle.std.specs.Bool.{IsTrue}
 use Rattle.std.specs.Prelude.{◌↔◌}
 use Rattle.std.proofs.lemmas.Result.{IfOk-weaker, on_err_weaker}
 use Rattle.mcf_answer.specs.Parsing.{parsing}
-use Rattle.mcf_instance.proofs.HeaderNodes.{instance_named}
+use Rattle.mcf_instance.proofs.HeaderNodes.{instance_names_nodes}
 use Rattle.mcf_instance.specs.Limits.{limits}
 use Rattle.mcf_instance.specs.Reading.{reading}
 use Rattle.mcf_checker.specs.Correct.{GivesLeastFlow, HasNoFlow, IsCorrect}
@@ -83,7 +83,7 @@ returns-in-Ok-outcome-clause-none c =
 pub returns-in-Ok-outcome-clause-wants : goal.returns-in-Ok-outcome-clause-wants
 returns-in-Ok-outcome-clause-wants c =
     on_err_weaker c.instance_verdict.result
-    (λ some. inl (instance_named c.args.input.now c.in-Ok-outcome.instance (sym c.in_ok-outcome.ensures.exact ∙ c.in-Ok-outcome.is) some)) c.instance_verdict.ensures.wants
+    (λ some. inl (instance_names_nodes c.args.input.now c.in-Ok-outcome.instance (sym c.in_ok-outcome.ensures.exact ∙ c.in-Ok-outcome.is) some)) c.instance_verdict.ensures.wants
 
 -- ---- a fault
 

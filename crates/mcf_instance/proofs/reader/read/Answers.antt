@@ -2,7 +2,7 @@ use Rattle.std.proofs.Common.{◌≡◌, ℕ, List, [], ◌∙◌, ap, arith, fa
 use Rattle.mcf_text.specs.Fields.{is_kept}
 use Rattle.std.proofs.lemmas.Result.{err_from_is_err_and}
 use Rattle.mcf_instance.proofs.NamedNodes.{text_names_nodes}
-use Rattle.mcf_instance.proofs.WholeTexts.{kept_first, read_nothing, read_number, read_kept, read_unkept, read_refused, read_all}
+use Rattle.mcf_instance.proofs.WholeTexts.{read_nothing, read_number, read_kept, read_unkept, read_refused, read_all}
 use Rattle.mcf_instance.proofs.reader.read.Goals as goal
 use Rattle.mcf_instance.proofs.reader.read.Goals.{then-is_kept+in_ok-step+in_default, else-is_kept}
 
@@ -51,6 +51,6 @@ returns-in_err-step c =
     let before = rw c.in-Some.ensures.steps at c.loop-line.invariant.read in
     let x : ℕ × List ℕ = (c.in-Some.line.number, c.in-Some.line.bytes.now) in
     let kept : is_kept c.in-Some.line.bytes.now ≡ true = sym c.is_kept.ensures ∙ c.if-is_kept.true in
-    let named = text_names_nodes _ _ _ x _ before c.in_err-step.ensures.wants (kept_first x c.next.new.self kept) in
+    let named = text_names_nodes _ _ _ x _ before c.in_err-step.ensures.wants kept in
     let p = err_from_is_err_and c.from_residual.result c.from_residual.ensures.1 in
     rw p.1 (record { exact = tt; wants = named })
