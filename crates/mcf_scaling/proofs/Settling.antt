@@ -11,7 +11,6 @@ use Rattle.mcf_network.specs.States.{Pseudoflow, surplus_at}
 use Rattle.mcf_feas.specs.Feasible.{IsFeasibleState}
 use Rattle.mcf_prices.specs.NegativeCycles.{IsNegativeCycle}
 use Rattle.mcf_prices.specs.Outcomes.{AreStatePrices, IsLeastState}
-use Rattle.mcf_prices.specs.Recovering.{price_limit}
 use Rattle.mcf_prices.proofs.Cancelling.{least_from_prices, state_prices}
 use Rattle.mcf_scaling.specs.Made.{IsScaled}
 use Rattle.mcf_scaling.specs.Optimality.{IsOptimalWithin}
@@ -168,9 +167,9 @@ end_least s b t ys at e prices =
     least_from_prices s.net t ys (subst (λ (x : Pseudoflow). IsFeasibleState s.net x) (sym e) (end_feasible s b at)) prices
 
 pub end_prices : (s : Pseudoflow) (b : Refinement) (t : Pseudoflow) (ys : List ℤ) → IsUnderWay s b → t ≡ b.flow → AreGreatestPrices t.net ys t.amounts
-    → All (IsUpTo price_limit) ys → AreStatePrices s.net t ys
-end_prices s b t ys at e prices small =
-    state_prices s.net t ys (subst (λ (x : Pseudoflow). IsFeasibleState s.net x) (sym e) (end_feasible s b at)) prices small
+    → AreStatePrices s.net t ys
+end_prices s b t ys at e prices =
+    state_prices s.net t ys (subst (λ (x : Pseudoflow). IsFeasibleState s.net x) (sym e) (end_feasible s b at)) prices
 
 -- want of memory, where the net has nodes
 on_err_any : {X E : Type 0} (P : Type 0) (x : Result X E) → P → OnErr x P

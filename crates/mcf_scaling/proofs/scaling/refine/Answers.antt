@@ -28,8 +28,7 @@ returns-clause-least c =
 pub returns-clause-shown : goal.returns-clause-shown
 returns-clause-shown c =
     let found = rw c.in-Prices.is at c.in_ok-prices.ensures.recovered in
-    let small = rw c.in-Prices.is at c.in_ok-prices.ensures.small in
-    end_prices c.args.state c.phases.refine c.into_state-least.result c.in-Prices.prices.items c.phases.invariant c.into_state-least.ensures.value found small
+    end_prices c.args.state c.phases.refine c.into_state-least.result c.in-Prices.prices.items c.phases.invariant c.into_state-least.ensures.value found
 
 pub returns-clause-made : goal.returns-clause-made
 returns-clause-made c =
