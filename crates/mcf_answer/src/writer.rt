@@ -16,12 +16,14 @@ use mcf_text::{NoMemory, NodeId, put_number};
 /// Appends the text of an answer: fields with one blank between them, numbers in decimal without a plus
 /// sign and without leading zeros, each line ended by byte 10.
 ///
-/// Fails only where the vector has to grow and no memory is given; it then holds what it held.
+/// Fails only where the vector has to grow and no memory is given; it then holds what it held. It never gives
+/// back room that was reserved.
 #[tactic(auto, using(crate::proofs::Parsed::reads_back))]
 pub fn write(answer: &Answer, out: &mut Vec<u8>) -> Result<(), NoMemory>
     ensures ok { OnOk result (out.new.items ≡ out.old.items ++ written answer.now) }
     ensures err { OnErr result (out.new.items ≡ out.old.items) }
     ensures refused { OnErr result (vec_capacity out.old < vec_len out.old + length (written answer.now)) }
+    ensures capacity { vec_capacity out.old ≤ vec_capacity out.new }
     ensures in_range { IsAnswer answer.now }
     ensures spells { Spells (written answer.now) answer.now }
     ensures reads_back { parsing (written answer.now) ≡ Ok answer.now }
