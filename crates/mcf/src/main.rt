@@ -54,8 +54,8 @@ fn main(rt: HostRuntime) -> ExitCode {
         Ok(words) => serve(
             rt.alloc(),
             &words,
-            FromReader::new(Input::Stdin(rt.stdin())),
-            |path: &str| open(&rt, path),
+            &mut FromReader::new(Input::Stdin(rt.stdin())),
+            &mut |path: &str| open(&rt, path),
             &mut IntoWriter::new(rt.stdout()),
             &mut IntoWriter::new(rt.stderr()),
         ),

@@ -3,6 +3,7 @@ use Rattle.std.proofs.Common.{◌≡◌, ◌++◌, ◌+◌, ◌<◌, ◌≤◌, 
 use Rattle.std.proofs.Math.Seq.{take-add}
 use Rattle.std.proofs.lemmas.List.{append-nil, length-take, length-take-le, take-append-drop, take_rest}
 use Rattle.std.specs.Io.KnownBytes.{Appends, Consumes, IsAtEnd, Keeps}
+use Rattle.mcf_solver.specs.declared.choice.Choice.{Choice}
 use Rattle.mcf_solver.specs.declared.choice.Kind.{Kind}
 use Rattle.mcf_solver.specs.Answering.{AppendsAnswer}
 use Rattle.mcf_solver.specs.Running.{SendsAnswer, SendsBeginning, TakesBeginning}
@@ -92,18 +93,18 @@ read-fits bytes piece count limit held within =
     omega (arith, length-append bytes (take count piece), length-take count piece)
 
 -- the text that was appended to nothing is what was sent
-pub sent-is-appended : (input : List ℕ) (kind : Kind) (before after sent : List ℕ) → before ≡ []
-    → (appends : AppendsAnswer input kind before after) → sent ≡ after → sent ≡ appends.text
-sent-is-appended input kind before after sent nothing appends whole =
+pub sent-is-appended : (choice : Choice) (input : List ℕ) (kind : Kind) (before after sent : List ℕ) → before ≡ []
+    → (appends : AppendsAnswer choice input kind before after) → sent ≡ after → sent ≡ appends.text
+sent-is-appended choice input kind before after sent nothing appends whole =
     whole ∙ appends.appended ∙ ap (λ bytes. bytes ++ appends.text) nothing
 
 -- what is sent of all that was given
-pub sends-answer : (given old new : Option (List ℕ)) (gathered input before after sent : List ℕ) (kind : Kind)
+pub sends-answer : (choice : Choice) (given old new : Option (List ℕ)) (gathered input before after sent : List ℕ) (kind : Kind)
     → IfSome given (λ bytes. bytes ≡ gathered) → input ≡ gathered → before ≡ []
-    → AppendsAnswer input kind before after → sent ≡ after → Appends old new sent
-    → SendsAnswer given kind old new
-sends-answer given old new gathered input before after sent kind all same nothing appends whole taken =
-    let text = sent-is-appended input kind before after sent nothing appends whole in
+    → AppendsAnswer choice input kind before after → sent ≡ after → Appends old new sent
+    → SendsAnswer choice given kind old new
+sends-answer choice given old new gathered input before after sent kind all same nothing appends whole taken =
+    let text = sent-is-appended choice input kind before after sent nothing appends whole in
     record {
       input = input;
       text = appends.text;
@@ -113,12 +114,12 @@ sends-answer given old new gathered input before after sent kind all same nothin
     }
 
 -- a beginning of what is sent of all that was given
-pub sends-beginning : (given old new : Option (List ℕ)) (gathered input before after sent : List ℕ) (kind : Kind)
+pub sends-beginning : (choice : Choice) (given old new : Option (List ℕ)) (gathered input before after sent : List ℕ) (kind : Kind)
     → IfSome given (λ bytes. bytes ≡ gathered) → input ≡ gathered → before ≡ []
-    → AppendsAnswer input kind before after → sent ≡ after → TakesBeginning old new sent
-    → SendsBeginning given old new
-sends-beginning given old new gathered input before after sent kind all same nothing appends whole taken =
-    let text = sent-is-appended input kind before after sent nothing appends whole in
+    → AppendsAnswer choice input kind before after → sent ≡ after → TakesBeginning old new sent
+    → SendsBeginning choice given old new
+sends-beginning choice given old new gathered input before after sent kind all same nothing appends whole taken =
+    let text = sent-is-appended choice input kind before after sent nothing appends whole in
     record {
       input = input;
       kind = kind;

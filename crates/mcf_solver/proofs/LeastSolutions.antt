@@ -1,12 +1,14 @@
 -- The answer that a least state of the net stands for.
-use Rattle.std.proofs.Common.{◌≡◌, List, sym, ap, ◌∙◌, ℤ}
-use Rattle.std.specs.List.{AllZip}
+use Rattle.std.proofs.Common.{◌≡◌, List, sym, ap, ◌∙◌, ℤ, arith}
+use Rattle.std.specs.List.{All, AllZip}
+use Rattle.std.proofs.lemmas.Int.{ints}
+use Rattle.mcf_answer.specs.Ranges.{IsAmount}
 use Rattle.mcf_answer.specs.Solution.{Solution}
 use Rattle.mcf_checker.specs.Correct.{amounts, arc_ends, sent_ends}
 use Rattle.mcf_instance.specs.Flow.{AreGreatestPrices, CanCarry, cost}
 use Rattle.mcf_instance.specs.Limits.{limits}
 use Rattle.mcf_instance.specs.Network.{Network}
-use Rattle.mcf_instance.specs.WellFormed.{IsWellFormed}
+use Rattle.mcf_instance.specs.WellFormed.{IsUpTo, IsWellFormed}
 use Rattle.mcf_instance.proofs.AllZips.{length-AllZip}
 use Rattle.mcf_network.specs.Laws.{GreatestPricesCarryOver, RestoredLeastFlowsAreLeast}
 use Rattle.mcf_network.specs.Removal.{net_of}
@@ -14,9 +16,14 @@ use Rattle.mcf_network.specs.Restoring.{restored}
 use Rattle.mcf_network.specs.States.{Pseudoflow}
 use Rattle.mcf_network.proofs.RestoringLaws.{net_of-arc_count}
 use Rattle.mcf_prices.specs.Outcomes.{IsLeastState}
+use Rattle.mcf_prices.specs.Recovering.{price_limit}
 use Rattle.mcf_solver.specs.Answering.{IsLeastSolution}
 use Rattle.mcf_solver.specs.Chosen.{IsLoopSettled}
 use Rattle.mcf_solver.proofs.LoopFlows.{loops_settled}
+
+-- prices within their limit are amounts
+pub amounts_from_prices : (prices : List ℤ) → All (IsUpTo price_limit) prices → All IsAmount prices
+amounts_from_prices prices small k d h = let here = small k d h in (omega (arith, ints, here), omega (arith, ints, here))
 
 -- the parts of an answer to an instance, made of a least state
 pub record IsMadeOf (g : Network) (s : Pseudoflow) (flow : List ℤ) (a : Solution) : Type 0 where

@@ -2,6 +2,7 @@ pub mod BlockingNodes
 pub mod DeviceLaws
 pub mod LeastSolutions
 pub mod LoopFlows
+pub mod Making
 pub mod MemberLists
 pub mod SentLists
 pub mod SupplyTotals

@@ -19,6 +19,8 @@ use Rattle.mcf_instance.specs.Reading.{reading}
 use Rattle.mcf_solver.specs.declared.choice.Kind.{Kind}
 use Rattle.mcf_solver.specs.declared.choice.Kind.TheVariants.{Flow as WithFlow, Blocked as WithSet, Refused as WithRefusal}
 use Rattle.mcf_solver.specs.Chosen.{IsChosenSolution}
+use Rattle.mcf_solver.specs.Making.{HasMadeFlow, IsMadeBy}
+use Rattle.mcf_solver.specs.declared.choice.Choice.{Choice}
 
 -- a flow that no feasible flow undercuts, its cost, and the greatest prices not above 0 that show it
 pub record IsLeastSolution (g : Network) (a : Solution) : Type 0 where
@@ -47,20 +49,21 @@ answer_kind (Blocked a) = WithSet
 answer_kind (Refused r) = WithRefusal
 
 -- the text is what is written of the answer that is owed, and the checker accepts it
-pub record IsAnswerTo (input : List ℕ) (kind : Kind) (text : List ℕ) : Type 0 where
+pub record IsAnswerTo (choice : Choice) (input : List ℕ) (kind : Kind) (text : List ℕ) : Type 0 where
   pub answer : Answer
   pub in_range : IsAnswer answer
   pub written : text ≡ written answer
   pub owed : IsOwed (reading limits input) answer
+  pub made : HasMadeFlow (IsMadeBy choice) (reading limits input) answer
   pub is_kind : kind ≡ answer_kind answer
   pub correct : IsCorrect input text
   pub accepted : accepts (verdict input text) ≡ true
 
 -- such a text comes after the bytes that were there
-pub record AppendsAnswer (input : List ℕ) (kind : Kind) (old new : List ℕ) : Type 0 where
+pub record AppendsAnswer (choice : Choice) (input : List ℕ) (kind : Kind) (old new : List ℕ) : Type 0 where
   pub text : List ℕ
   pub appended : new ≡ old ++ text
-  pub answer : IsAnswerTo input kind text
+  pub answer : IsAnswerTo choice input kind text
 
 -- the written text of the answer that is owed doesn't fit the room after the bytes that are there
 pub record LacksRoom (input : List ℕ) (capacity bytes : ℕ) : Type 0 where

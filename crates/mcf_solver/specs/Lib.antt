@@ -9,4 +9,5 @@ pub use Rattle.mcf_instance.specs.Reading
 pub mod Answering
 pub mod Chosen
 pub mod Devices
+pub mod Making
 pub mod Running

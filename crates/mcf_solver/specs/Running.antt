@@ -1,6 +1,7 @@
 -- What a run from a source to a sink does.
 use Rattle.std.specs.Prelude.{◌≡◌, ◌++◌, ◌^◌, ◌<◌, ◌≤◌, ℕ, List, length, Option, IfSome, codes}
 use Rattle.std.specs.Io.KnownBytes.{Appends}
+use Rattle.mcf_solver.specs.declared.choice.Choice.{Choice}
 use Rattle.mcf_solver.specs.declared.choice.Kind.{Kind}
 use Rattle.mcf_solver.specs.declared.fault.RunFault.{RunFault}
 use Rattle.mcf_solver.specs.declared.fault.RunFault.TheVariants.{Read, Write, NoMemory, TooLong}
@@ -11,11 +12,11 @@ abbrev pub text_limit : ℕ
 text_limit = 10 ^ 18
 
 -- the sink took the text of an answer to what the source gave; a source that names no bytes gave some
-pub record SendsAnswer (given : Option (List ℕ)) (kind : Kind) (old new : Option (List ℕ)) : Type 0 where
+pub record SendsAnswer (choice : Choice) (given : Option (List ℕ)) (kind : Kind) (old new : Option (List ℕ)) : Type 0 where
   pub input : List ℕ
   pub text : List ℕ
   pub is_given : IfSome given (λ bytes. bytes ≡ input)
-  pub answer : IsAnswerTo input kind text
+  pub answer : IsAnswerTo choice input kind text
   pub taken : Appends old new text
 
 -- a beginning of the text was taken, perhaps all of it
@@ -26,12 +27,12 @@ pub record TakesBeginning (old new : Option (List ℕ)) (text : List ℕ) : Type
   pub taken : Appends old new part
 
 -- the sink took a beginning of such a text
-pub record SendsBeginning (given : Option (List ℕ)) (old new : Option (List ℕ)) : Type 0 where
+pub record SendsBeginning (choice : Choice) (given : Option (List ℕ)) (old new : Option (List ℕ)) : Type 0 where
   pub input : List ℕ
   pub kind : Kind
   pub text : List ℕ
   pub is_given : IfSome given (λ bytes. bytes ≡ input)
-  pub answer : IsAnswerTo input kind text
+  pub answer : IsAnswerTo choice input kind text
   pub taken : TakesBeginning old new text
 
 -- more bytes than are taken from a source

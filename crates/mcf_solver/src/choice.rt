@@ -26,3 +26,10 @@ pub enum Kind {
     /// A refusal that names the first bad line.
     Refused,
 }
+
+// Which engine a choice means, for the problem at hand.
+#[derive(Clone, Copy, Debug, PartialEq, Eq)]
+pub(crate) enum Meant {
+    // The plain engine.
+    ByCancel,
+}

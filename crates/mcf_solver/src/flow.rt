@@ -8,12 +8,14 @@ ghost use Rattle.mcf_instance.specs.Flow.{IsWithinBounds, cost};
 ghost use Rattle.mcf_instance.specs.Limits.{limits};
 ghost use Rattle.mcf_instance.specs.WellFormed.{IsWellFormed};
 ghost use Rattle.mcf_network.specs.Removal.{net_of};
+ghost use Rattle.mcf_network.specs.Restoring.{restored};
 ghost use Rattle.mcf_prices.specs.Outcomes.{AreStatePrices, IsLeastState};
 ghost use Rattle.mcf_solver.specs.Answering.{IsLeastSolution};
 
 use mcf_answer::{FlowAnswer, PriceList, Sent, SentList};
 use mcf_instance::Instance;
 use mcf_network::{State, greatest_prices_carry_over, restore, restored_least_flows_are_least};
+use mcf_prices::greatest_prices_are_small;
 use mcf_text::{ArcId, NoMemory};
 use std::alloc::Global;
 
@@ -32,10 +34,12 @@ pub(crate) fn flow_answer(
     requires least { IsLeastState (net_of instance.now) state.now }
     requires shown { AreStatePrices (net_of instance.now) state.now prices.items }
     ensures solution { IfOk result (IsLeastSolution instance.now) }
+    ensures restores { IfOk result (λ a. amounts a.sent ≡ restored instance.now.arcs state.now.amounts) }
     ensures wants { OnErr result (1 ≤ length instance.now.arcs) }
 {
     restored_least_flows_are_least();
     greatest_prices_carry_over();
+    greatest_prices_are_small();
     let flow = restore(alloc, instance, state)?;
     let cost = total_cost(instance, &flow);
     let sent = sent_along(alloc, instance, &flow)?;

@@ -23,7 +23,7 @@ const TEXT_LIMIT: usize = 1_000_000_000_000_000_000;
 /// # Errors
 ///
 /// `Read`, `NoMemory` and `TooLong` (more than 10^18 bytes) come before the first byte is written. After
-/// `Write` the sink took a beginning of an answer, perhaps all of it.
+/// `Write` the sink took a beginning of an answer, perhaps all of it, and the source had no more bytes than that.
 pub fn run<S: Source, K: Sink>(
     alloc: Global,
     source: &mut S,
@@ -31,11 +31,12 @@ pub fn run<S: Source, K: Sink>(
     choice: Choice,
 ) -> Result<Kind, RunFault>
     ensures whole { OnOk result (IsTakenWhole (S.remaining source.old)) }
-    ensures answer { IfOk result (λ kind. SendsAnswer (S.remaining source.old) kind (K.contents sink.old) (K.contents sink.new)) }
+    ensures whole_if_begun { IfErr result (λ fault. fault ≡ RunFault.Write → IsTakenWhole (S.remaining source.old)) }
+    ensures answer { IfOk result (λ kind. SendsAnswer choice (S.remaining source.old) kind (K.contents sink.old) (K.contents sink.new)) }
     ensures finished { OnOk result (K.IsFinished sink.new) }
     ensures worked { OnOk result (K.failures sink.new ≡ K.failures sink.old) }
     ensures write_failed { IfErr result (λ fault. fault ≡ RunFault.Write → CountsOneFailure (K.failures sink.old) (K.failures sink.new)) }
-    ensures beginning { IfErr result (λ fault. fault ≡ RunFault.Write → SendsBeginning (S.remaining source.old) (K.contents sink.old) (K.contents sink.new)) }
+    ensures beginning { IfErr result (λ fault. fault ≡ RunFault.Write → SendsBeginning choice (S.remaining source.old) (K.contents sink.old) (K.contents sink.new)) }
     ensures read_failed { IfErr result (λ fault. fault ≡ RunFault.Read → CountsOneFailure (S.failures source.old) (S.failures source.new)) }
     ensures unfailed { OnOk result (S.failures source.new ≡ S.failures source.old) }
     ensures unfailed_otherwise { IfErr result (λ fault. fault ≢ RunFault.Read → S.failures source.new ≡ S.failures source.old) }

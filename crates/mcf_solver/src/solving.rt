@@ -1,8 +1,10 @@
 //! Instance texts solved.
-ghost use Rattle.std.specs.Prelude.{◌≡◌, ◌↔◌, ◌≤◌, ◌⊎◌, IfOk, OnErr, vec_capacity, vec_len};
+ghost use Rattle.std.specs.Prelude.{◌≡◌, ◌↔◌, ◌≤◌, ◌⊎◌, IfOk, OnErr, OnOk, drop, length, true, vec_capacity, vec_len};
 ghost use Rattle.mcf_checker.specs.Correct.{HasNoFlow};
 ghost use Rattle.mcf_network.specs.Removal.{net_of};
+ghost use Rattle.mcf_checker.specs.Judging.{accepts, verdict};
 ghost use Rattle.mcf_solver.specs.Answering.{AppendsAnswer, HasFault, IsOwed, LacksRoom, answer_kind};
+ghost use Rattle.mcf_solver.specs.Making.{HasMadeFlow, IsMadeBy, meant};
 ghost use Rattle.mcf_instance.specs.Fault.{header};
 ghost use Rattle.mcf_instance.specs.Limits.{limits};
 ghost use Rattle.mcf_instance.specs.Network.{node_count};
@@ -10,12 +12,12 @@ ghost use Rattle.mcf_instance.specs.Reading.{reading};
 ghost use Rattle.mcf_text.specs.Row.{rows};
 ghost use Rattle.std.specs.Prelude.{Ok};
 
-use crate::choice::{Choice, EngineChoice, Kind};
+use crate::choice::{Choice, EngineChoice, Kind, Meant};
 use crate::flow::flow_answer;
 use crate::set::set_answer;
 use mcf_answer::{Answer, write};
 use mcf_checker::correct_answers_are_accepted;
-use mcf_instance::{Instance, read};
+use mcf_instance::{Instance, Problem, read};
 use mcf_network::Net;
 use mcf_prices::{Cancel, Engine, Outcome};
 use mcf_text::NoMemory;
@@ -26,24 +28,27 @@ use std::alloc::Global;
 /// send or take more than it can, so that no flow is feasible.
 ///
 /// The checker accepts that answer, whatever engine was chosen. Which of several least flows is given, and
-/// which of several blocking sets where the supplies add up to 0, depends on the engine. (Optimality by
+/// which of several blocking sets where the supplies add up to 0, depends on the engine: a flow is the one that
+/// a least state stands for, made by a new engine that the choice means for the problem at hand. (Optimality by
 /// reduced costs: Ahuja, Magnanti and Orlin, Network Flows, chapter 9.)
 ///
 /// # Errors
 ///
 /// Want of memory, only where the problem line names nodes or the answer's text doesn't fit the capacity that
-/// `out` has. The bytes of `out` are then those that it had.
+/// `out` has. The bytes of `out` are then those that it had. Its capacity never shrinks.
 pub fn solve_text(
     alloc: Global,
     input: &[u8],
     choice: Choice,
     out: &mut Vec<u8>,
 ) -> Result<Kind, NoMemory>
-    ensures answer { IfOk result (λ kind. AppendsAnswer input.now kind out.old.items out.new.items) }
+    ensures answer { IfOk result (λ kind. AppendsAnswer choice input.now kind out.old.items out.new.items) }
+    ensures accepted { OnOk result (accepts (verdict input.now (drop (length out.old.items) out.new.items)) ≡ true) }
     ensures refused { IfOk result (λ kind. (kind ≡ Kind.Refused) ↔ HasFault input.now) }
     ensures none { IfOk result (λ kind. kind ≡ Kind.Blocked → HasNoFlow input.now) }
     ensures err { OnErr result (out.new.items ≡ out.old.items) }
     ensures wants { OnErr result ((1 ≤ (header (rows input.now)).nodes) ⊎ LacksRoom input.now (vec_capacity out.old) (vec_len out.old)) }
+    ensures capacity { vec_capacity out.old ≤ vec_capacity out.new }
 {
     correct_answers_are_accepted();
     let answer = answer_to(alloc, input, choice)?;
@@ -54,6 +59,7 @@ pub fn solve_text(
 // The answer to an instance text.
 fn answer_to(alloc: Global, input: &[u8], choice: Choice) -> Result<Answer, NoMemory>
     ensures owed { IfOk result (IsOwed (reading limits input.now)) }
+    ensures made { IfOk result (HasMadeFlow (IsMadeBy choice) (reading limits input.now)) }
     ensures wants { OnErr result (1 ≤ (header (rows input.now)).nodes) }
 {
     match read(alloc, input)? {
@@ -65,12 +71,20 @@ fn answer_to(alloc: Global, input: &[u8], choice: Choice) -> Result<Answer, NoMe
 // The answer to an instance, by the engine that is chosen.
 fn solve_instance(alloc: Global, instance: &Instance, choice: Choice) -> Result<Answer, NoMemory>
     ensures owed { IfOk result (IsOwed (Ok instance.now)) }
+    ensures made { IfOk result (HasMadeFlow (IsMadeBy choice) (Ok instance.now)) }
     ensures wants { OnErr result (1 ≤ node_count instance.now) }
 {
-    match choice.engine {
-        EngineChoice::Auto | EngineChoice::Cancel => {
-            solve_by(alloc, instance, &mut Cancel::new())
-        }
+    match engine_meant(choice.engine, instance.problem()) {
+        Meant::ByCancel => solve_by(alloc, instance, &mut Cancel::new()),
+    }
+}
+
+// The engine that is meant for a problem.
+fn engine_meant(engine: EngineChoice, _problem: Problem) -> Meant
+    ensures { result ≡ meant engine _problem }
+{
+    match engine {
+        EngineChoice::Auto | EngineChoice::Cancel => Meant::ByCancel,
     }
 }
 
@@ -82,6 +96,7 @@ fn solve_by<E: Engine>(
 ) -> Result<Answer, NoMemory>
     requires { E.Takes (net_of instance.now) }
     ensures owed { IfOk result (IsOwed (Ok instance.now)) }
+    ensures made { IfOk result (HasMadeFlow (λ g s. E.Made engine.old g s engine.new) (Ok instance.now)) }
     ensures wants { OnErr result (1 ≤ node_count instance.now) }
 {
     let net = Net::of(alloc, instance)?;

@@ -1,17 +1,16 @@
 //! The command `mcf`, over two sources and two sinks.
-ghost use Rattle.std.specs.Prelude.{◌≡◌, ◌≢◌, ◌≤◌, ◌⊎◌, ℕ, List, IfErr, IfOk, MatchOption, OnOk, map};
-ghost use Rattle.std.specs.Fn.{FnOnceReturnsAt};
+ghost use Rattle.std.specs.Prelude.{◌≡◌, ◌≢◌, ◌≤◌, ◌⊎◌, ℕ, List, None, IfErr, IfOk, OnOk, map};
 ghost use Rattle.std.specs.Io.KnownBytes.{Appends};
 ghost use Rattle.clap.specs.Words.{kind_of};
 ghost use Rattle.mcf_solver.specs.Devices.{CountsOneFailure};
 ghost use Rattle.mcf_solver.specs.Running.{TakesBeginning};
-ghost use Rattle.mcf_suite.specs.Failing.{IsFailure, IsHelpFailure, failure_text};
-ghost use Rattle.mcf_suite.specs.Serving.{GivesBytes, IsReason, Serves, ServesInPart, Tells, fault_line, status_of};
+ghost use Rattle.mcf_suite.specs.Failing.{IsFailure, IsHelpFailure, IsRunFailure, failure_text};
+ghost use Rattle.mcf_suite.specs.Serving.{Answers, AnswersInPart, AsksToSolve, GivesBytes, IsAskedFor, IsReason, OpensBy, Serves, ServesInPart, Tells, fault_line, status_of};
 
 use crate::asking::command;
 use clap::Error;
 use clap::error::ErrorKind;
-use mcf_solver::{Kind, RunFault, Sink, Source, run, send};
+use mcf_solver::{Choice, Kind, RunFault, Sink, Source, run, send};
 use std::alloc::{AllocError, Global};
 use std::convert::AsStr;
 
@@ -94,36 +93,46 @@ fn status_of(kind: Kind) -> u8
 /// Does what the words of a command line ask, and gives the exit status.
 ///
 /// The words begin with the name of the program: `mcf solve [--engine auto|cancel] [FILE]`. They are judged
-/// first; then `opener` opens FILE, or `input` is taken where there is none. The answer goes to `out`. Status
+/// first; then `opener` opens FILE, or `input` is read where there is none. The answer goes to `out`. Status
 /// 0 tells of a flow, or of help that was asked for and printed on `out`; 1 of a blocking set; 2 of a refusal.
 /// Status 3 is given, with one line on `err` or the text of the usage fault, where the words aren't a command
 /// of `mcf`, the file can't be opened, reading or writing fails, memory is wanting or the input is too long. A
 /// text that can't be written on `err` changes nothing.
-pub fn serve<W: AsStr, S: Source + Drop, P: FnOnce(&str) -> Option<S>, O: Sink, E: Sink>(
+///
+/// Where the words have a fault, ask for help or name a file, `input` is as it was; where they have a fault, ask
+/// for help or name no file, `opener` is. It is called once at most.
+pub fn serve<W: AsStr, S: Source + Drop, P: FnMut(&str) -> Option<S>, O: Sink, E: Sink>(
     alloc: Global,
     words: &[W],
-    input: S,
-    opener: P,
+    input: &mut S,
+    opener: &mut P,
     out: &mut O,
     err: &mut E,
 ) -> u8
-    requires { P.IsAlwaysCallable opener }
+    requires { P.IsAlwaysCallable opener.old }
     ensures status { result ≤ 3 }
     ensures served { (result ≡ 3)
-        ⊎ Serves (map W.text words.now) (GivesBytes S.remaining input (FnOnceReturnsAt P.FnOnce opener))
+        ⊎ Serves (map W.text words.now) (GivesBytes S.remaining input.old input.new (OpensBy P.FnMut opener.old opener.new))
         result (O.contents out.old) (O.contents out.new) }
     ensures finished { result ≢ 3 → O.IsFinished out.new }
     ensures failed { O.failures out.new ≢ O.failures out.old → result ≡ 3 }
     ensures untouched { result ≡ 3
         → (out.new ≡ out.old) ⊎ CountsOneFailure (O.failures out.old) (O.failures out.new) }
     ensures beginning { result ≡ 3 → (out.new ≡ out.old)
-        ⊎ ServesInPart (map W.text words.now) (GivesBytes S.remaining input (FnOnceReturnsAt P.FnOnce opener))
+        ⊎ ServesInPart (map W.text words.now) (GivesBytes S.remaining input.old input.new (OpensBy P.FnMut opener.old opener.new))
         (O.contents out.old) (O.contents out.new) }
     ensures quiet { result ≢ 3 → err.new ≡ err.old }
     ensures told { result ≡ 3
-        → Tells (IsReason S.remaining S.failures input (FnOnceReturnsAt P.FnOnce opener) (map W.text words.now))
+        → Tells (IsReason S.remaining S.failures input.old input.new (OpensBy P.FnMut opener.old opener.new) (map W.text words.now))
         (out.new ≡ out.old) (CountsOneFailure (O.failures out.old) (O.failures out.new))
-        (CountsOneFailure (E.failures err.old) (E.failures err.new)) (E.contents err.old) (E.contents err.new) }
+        (E.IsFinished err.new) (CountsOneFailure (E.failures err.old) (E.failures err.new))
+        (E.contents err.old) (E.contents err.new) }
+    ensures unread { (input.new ≡ input.old) ⊎ AsksToSolve (map W.text words.now) (λ asked. asked.file ≡ None) }
+    ensures unasked { (opener.new ≡ opener.old)
+        ⊎ AsksToSolve (map W.text words.now) (λ asked. IsAskedFor (OpensBy P.FnMut opener.old opener.new) asked.file) }
+    ensures unfailed { result ≢ 3 → S.failures input.new ≡ S.failures input.old }
+    ensures failed_once { (S.failures input.new ≡ S.failures input.old)
+        ⊎ CountsOneFailure (S.failures input.old) (S.failures input.new) }
 {
     match answer(alloc, words, input, opener, out) {
         Ok(status) => status,
@@ -135,50 +144,77 @@ pub fn serve<W: AsStr, S: Source + Drop, P: FnOnce(&str) -> Option<S>, O: Sink, 
 }
 
 // Writes the answer that the words ask for, or the help, and gives the status.
-fn answer<W: AsStr, S: Source + Drop, P: FnOnce(&str) -> Option<S>, O: Sink>(
+fn answer<W: AsStr, S: Source + Drop, P: FnMut(&str) -> Option<S>, O: Sink>(
     alloc: Global,
     words: &[W],
-    input: S,
-    opener: P,
+    input: &mut S,
+    opener: &mut P,
     out: &mut O,
 ) -> Result<u8, Failure>
-    requires { P.IsAlwaysCallable opener }
+    requires { P.IsAlwaysCallable opener.old }
     ensures status { IfOk result (λ status. status ≤ 2) }
     ensures served { IfOk result (λ status.
-        Serves (map W.text words.now) (GivesBytes S.remaining input (FnOnceReturnsAt P.FnOnce opener))
+        Serves (map W.text words.now) (GivesBytes S.remaining input.old input.new (OpensBy P.FnMut opener.old opener.new))
         status (O.contents out.old) (O.contents out.new)) }
     ensures finished { OnOk result (O.IsFinished out.new) }
     ensures worked { OnOk result (O.failures out.new ≡ O.failures out.old) }
-    ensures failed { IfErr result (IsFailure S.remaining S.failures input (FnOnceReturnsAt P.FnOnce opener)
+    ensures failed { IfErr result (IsFailure S.remaining S.failures input.old input.new (OpensBy P.FnMut opener.old opener.new)
         (map W.text words.now) (out.new ≡ out.old)
         (CountsOneFailure (O.failures out.old) (O.failures out.new)
-        × ServesInPart (map W.text words.now) (GivesBytes S.remaining input (FnOnceReturnsAt P.FnOnce opener))
+        × ServesInPart (map W.text words.now) (GivesBytes S.remaining input.old input.new (OpensBy P.FnMut opener.old opener.new))
         (O.contents out.old) (O.contents out.new))) }
+    ensures unread { (input.new ≡ input.old) ⊎ AsksToSolve (map W.text words.now) (λ asked. asked.file ≡ None) }
+    ensures unasked { (opener.new ≡ opener.old)
+        ⊎ AsksToSolve (map W.text words.now) (λ asked. IsAskedFor (OpensBy P.FnMut opener.old opener.new) asked.file) }
+    ensures unfailed { OnOk result (S.failures input.new ≡ S.failures input.old) }
+    ensures failed_once { (S.failures input.new ≡ S.failures input.old)
+        ⊎ CountsOneFailure (S.failures input.old) (S.failures input.new) }
 {
     let asked = match command(alloc, words) {
         Ok(asked) => asked,
         Err(error) => return print_help(alloc, &error, out),
     };
-    let Some(mut source) = source_of(asked.file, input, opener) else {
-        return Err(Failure::Open);
-    };
-    let kind = run(alloc, &mut source, out, asked.choice)?;
-    Ok(status_of(kind))
+    match asked.file {
+        Some(name) => {
+            let Some(mut source) = open(opener, name) else {
+                return Err(Failure::Open);
+            };
+            answer_from(alloc, &mut source, out, asked.choice)
+        }
+        None => answer_from(alloc, input, out, asked.choice),
+    }
 }
 
-// The source of the file, or the input where there is no file.
-fn source_of<S: Drop, P: FnOnce(&str) -> Option<S>>(
-    file: Option<&str>,
-    input: S,
-    opener: P,
-) -> Option<S>
-    requires { P.IsAlwaysCallable opener }
-    ensures { MatchOption file.entry (result ≡ Some input) (λ name. FnOnceReturnsAt P.FnOnce opener name.now result) }
+// What the opener gives for the name of a file.
+fn open<S, P: FnMut(&str) -> Option<S>>(opener: &mut P, name: &str) -> Option<S>
+    requires { P.IsAlwaysCallable opener.old }
+    ensures { OpensBy P.FnMut opener.old opener.new name.now result }
 {
-    match file {
-        Some(name) => opener(name),
-        None => Some(input),
-    }
+    opener(name)
+}
+
+// Writes the answer to what a source gives, and gives the status.
+fn answer_from<S: Source, O: Sink>(
+    alloc: Global,
+    source: &mut S,
+    out: &mut O,
+    choice: Choice,
+) -> Result<u8, Failure>
+    ensures status { IfOk result (λ status. status ≤ 2) }
+    ensures answered { IfOk result (λ status.
+        Answers choice (S.remaining source.old) status (O.contents out.old) (O.contents out.new)) }
+    ensures finished { OnOk result (O.IsFinished out.new) }
+    ensures worked { OnOk result (O.failures out.new ≡ O.failures out.old) }
+    ensures failed { IfErr result (IsRunFailure (S.remaining source.old) (S.failures source.old) (S.failures source.new)
+        (out.new ≡ out.old)
+        (CountsOneFailure (O.failures out.old) (O.failures out.new)
+        × AnswersInPart choice (S.remaining source.old) (O.contents out.old) (O.contents out.new))) }
+    ensures unfailed { OnOk result (S.failures source.new ≡ S.failures source.old) }
+    ensures failed_once { (S.failures source.new ≡ S.failures source.old)
+        ⊎ CountsOneFailure (S.failures source.old) (S.failures source.new) }
+{
+    let kind = run(alloc, source, out, choice)?;
+    Ok(status_of(kind))
 }
 
 // Prints the help where the words ask for it, and gives the status.

@@ -63,8 +63,8 @@ fn served(
     let status = serve(
         alloc,
         words,
-        FromReader::new(input.as_bytes()),
-        |_name: &str| {
+        &mut FromReader::new(input.as_bytes()),
+        &mut |_name: &str| {
             opened = true;
             match file {
                 Some(text) => Some(FromReader::new(text.as_bytes())),
@@ -334,8 +334,8 @@ fn status_of<R: Read + Drop, O: Write + Drop, E: Write + Drop>(
     serve(
         alloc,
         words,
-        FromReader::new(reader),
-        |_name: &str| None,
+        &mut FromReader::new(reader),
+        &mut |_name: &str| None,
         &mut IntoWriter::new(out),
         &mut IntoWriter::new(err),
     )

@@ -7,7 +7,10 @@ ghost use Rattle.mcf_prices.specs.Outcomes.{AreStatePrices, IsLeastState, IsOutc
 use mcf_feas::{Feas, feasible};
 use mcf_instance::{Problem, read};
 use mcf_network::{Net, State, push_along};
-use mcf_prices::{Cancel, Engine, Outcome, Recovered, least_states_have_no_cycle, recover};
+use mcf_prices::{
+    Cancel, Engine, Outcome, Recovered, greatest_prices_are_small, least_states_have_no_cycle,
+    recover,
+};
 use mcf_text::{ArcId, NoMemory};
 use std::alloc::Global;
 use std::test::Fail;
@@ -218,5 +221,6 @@ fn asks_the_engine_that_takes_the_net(rt: HostRuntime) -> Result<(), Fail> {
 #[test]
 fn the_law_does_nothing(_rt: HostRuntime) -> Result<(), Fail> {
     least_states_have_no_cycle();
+    greatest_prices_are_small();
     Ok(())
 }

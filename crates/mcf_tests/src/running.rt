@@ -183,6 +183,11 @@ fn offers_the_rest(offered: &[usize], size: usize) -> bool {
     left == 0
 }
 
+// How many reads take the text in pieces of a size, with the one that finds its end.
+fn reads_of(size: usize) -> u64 {
+    FOUR_NODES.len().div_ceil(size.max(1)).saturating_add(1) as u64
+}
+
 // Whether a run of pieces of a size takes the whole answer to a sink, with no call too many.
 fn is_carried(alloc: Global, size: usize) -> Result<bool, NoMemory> {
     let mut source = Giver::new(FOUR_NODES.as_bytes(), size, NEVER);
@@ -193,7 +198,8 @@ fn is_carried(alloc: Global, size: usize) -> Result<bool, NoMemory> {
             && sink.taken.as_slice() == LEAST.as_bytes()
             && sink.is_finished
             && offers_the_rest(&sink.offered, size)
-            && (size != 1 || source.calls == 84 && sink.calls == 73),
+            && source.calls == reads_of(size)
+            && (size != 1 || sink.calls == 73),
     )
 }
 
@@ -303,6 +309,126 @@ fn readers_and_writers(rt: HostRuntime) -> Result<(), Fail> {
     assert!(rt; is_written(alloc)?);
     assert!(rt; ends_with(alloc, ErrorKind::BrokenPipe)?);
     assert!(rt; ends_with(alloc, ErrorKind::Interrupted)?);
+    Ok(())
+}
+
+// A reader that gives a byte at a call, fails at a chosen one, and then works again.
+#[derive(Drop)]
+struct Faltering<'a> {
+    rest: &'a [u8],
+    kind: ErrorKind,
+    fails_at: u64,
+    calls: u64,
+}
+
+impl Read for Faltering<'_> {
+    fn read(&mut self, piece: &mut [u8]) -> io::Result<usize> {
+        self.calls = self.calls.saturating_add(1);
+        if self.calls == self.fails_at {
+            return Err(io::Error::from(self.kind));
+        }
+        let count = piece.len().min(self.rest.len()).min(1);
+        piece[..count].copy_from_slice(&self.rest[..count]);
+        self.rest = &self.rest[count..];
+        Ok(count)
+    }
+}
+
+// Whether a run ends at the read that fails, and writes nothing, though the reader would work again.
+fn ends_at_error_of_read(alloc: Global, kind: ErrorKind, fails_at: u64) -> Result<bool, NoMemory> {
+    let mut nothing = Vec::new(alloc);
+    let mut reader = Faltering {
+        rest: FOUR_NODES.as_bytes(),
+        kind,
+        fails_at,
+        calls: 0,
+    };
+    let ended = carried(alloc, &mut reader, &mut nothing)?;
+    Ok(ended == Err(RunFault::Read) && nothing.is_empty() && reader.calls == fails_at)
+}
+
+// A writer that takes a byte at a call, fails at a chosen call, of which a flush is one, and then works again.
+#[derive(Drop)]
+struct Stumbling {
+    written: Vec<u8>,
+    kind: ErrorKind,
+    fails_at: u64,
+    calls: u64,
+}
+
+impl Write for Stumbling {
+    fn write(&mut self, bytes: &[u8]) -> io::Result<usize> {
+        self.calls = self.calls.saturating_add(1);
+        let count = bytes.len().min(1);
+        if self.calls != self.fails_at && self.written.extend_from_slice(&bytes[..count]).is_ok() {
+            return Ok(count);
+        }
+        Err(io::Error::from(self.kind))
+    }
+
+    fn flush(&mut self) -> io::Result<()> {
+        self.calls = self.calls.saturating_add(1);
+        if self.calls == self.fails_at {
+            return Err(io::Error::from(self.kind));
+        }
+        Ok(())
+    }
+}
+
+// Whether a run ends at the call of the writer that fails, after the bytes of the calls before it, though the
+// writer would work again.
+fn ends_at_error_of_write(alloc: Global, kind: ErrorKind, fails_at: u64) -> Result<bool, NoMemory> {
+    let mut writer = Stumbling {
+        written: Vec::with_capacity(alloc, LEAST.len())?,
+        kind,
+        fails_at,
+        calls: 0,
+    };
+    let ended = carried(alloc, FOUR_NODES.as_bytes(), &mut writer)?;
+    Ok(
+        ended == Err(RunFault::Write)
+            && writer.calls == fails_at
+            && writer.written.len() as u64 == fails_at.saturating_sub(1)
+            && LEAST.as_bytes().starts_with(&writer.written),
+    )
+}
+
+// Kinds of errors.
+static KINDS: [ErrorKind; 3] = [
+    ErrorKind::BrokenPipe,
+    ErrorKind::Interrupted,
+    ErrorKind::Other,
+];
+
+// The first calls of a reader, those in the midst of the text, and the one that would find its end.
+static READS: [u64; 5] = [1, 2, 40, 83, 84];
+
+// The first calls of a writer, those in the midst of the answer, and the flush.
+static WRITES: [u64; 5] = [1, 2, 40, 72, 73];
+
+#[test]
+fn readers_that_fail_once(rt: HostRuntime) -> Result<(), Fail> {
+    for kind in &KINDS {
+        for call in &READS {
+            assert!(rt;
+                ends_at_error_of_read(rt.alloc(), *kind, *call)?,
+                "at {call}"
+            );
+        }
+    }
+    Ok(())
+}
+
+#[test]
+fn writers_that_fail_once(rt: HostRuntime) -> Result<(), Fail> {
+    for kind in &KINDS {
+        for call in &WRITES {
+            assert!(rt;
+                ends_at_error_of_write(rt.alloc(), *kind, *call)?,
+                "at {call}"
+            );
+        }
+    }
     Ok(())
 }
 

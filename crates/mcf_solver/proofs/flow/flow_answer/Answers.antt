@@ -1,13 +1,24 @@
-use Rattle.std.proofs.Common.{List, ℤ, ap, subst, sym, ◌∙◌, lit<, to_z, of_z}
+use Rattle.std.proofs.Common.{List, ℤ, ap, rules, subst, sym, ◌∙◌, lit<, to_z, of_z}
+use Rattle.std.specs.List.{All}
 use Rattle.std.specs.Int.{w128}
-use Rattle.mcf_answer.specs.Ranges.{amount_limit}
+use Rattle.mcf_answer.specs.Ranges.{IsAmount, amount_limit}
 use Rattle.mcf_answer.specs.Solution.{Solution}
 use Rattle.mcf_checker.specs.Correct.{amounts, sent_ends}
 use Rattle.mcf_instance.specs.Flow.{AreGreatestPrices, cost}
+use Rattle.mcf_instance.specs.Network.{Network}
 use Rattle.mcf_instance.proofs.Bounds.{read_back}
 use Rattle.mcf_network.specs.Removal.{net_of}
-use Rattle.mcf_solver.proofs.LeastSolutions.{IsMadeOf, is_least_solution}
+use Rattle.mcf_solver.proofs.LeastSolutions.{IsMadeOf, amounts_from_prices, is_least_solution}
 use Rattle.mcf_solver.proofs.flow.flow_answer.Goals as goal
+
+pub invariant_of-result : goal.invariant_of-result
+invariant_of-result c =
+    let s = c.args.state.now in
+    let net = sym c.requires.least.feasible.of_net in
+    let greatest = subst (λ (g : Network). AreGreatestPrices g c.args.prices.items s.amounts) net c.requires.shown.greatest in
+    let small = (c.greatest_prices_are_small.ensures s c.args.prices.items c.requires.least.feasible.flow greatest).1 in
+    let prices : All IsAmount c.new-2.result = subst (λ (ys : List ℤ). All IsAmount ys) (sym c.new-2.ensures) (amounts_from_prices c.args.prices.items small) in
+    search rules
 
 pub returns-clause-solution : goal.returns-clause-solution
 returns-clause-solution c =

@@ -1,0 +1,13 @@
+use Rattle.std.proofs.Common.{◌≡◌, ◌++◌, ◌∙◌, ap, length, drop, rules, true}
+use Rattle.std.proofs.Math.Seq.{drop-append_seam}
+use Rattle.mcf_answer.specs.Written.{written}
+use Rattle.mcf_checker.specs.Judging.{accepts, verdict}
+use Rattle.mcf_solver.proofs.solving.solve_text.Goals as goal
+
+pub returns-clause-accepted : goal.returns-clause-accepted
+returns-clause-accepted c =
+    let old = c.args.out.now.items in
+    let text = written c.in_ok-answer.answer in
+    let added : drop (length old) c.write.new.out.items ≡ text = ap (drop (length old)) c.in_ok-write.ensures.ok ∙ drop-append_seam old text in
+    let accepted : accepts (verdict c.args.input.now text) ≡ true = search rules in
+    ap (λ t. accepts (verdict c.args.input.now t)) added ∙ accepted
