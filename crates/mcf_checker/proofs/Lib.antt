@@ -7,5 +7,6 @@ pub mod JudgedTexts
 pub mod Judges
 pub mod LeastNumbers
 pub mod Runs
+pub mod Sent
 pub mod Sets
 pub mod Solutions

@@ -3,11 +3,13 @@ pub use Rattle.mcf_answer.specs.Spelling
 pub use Rattle.mcf_instance.specs.Fault
 pub use Rattle.mcf_instance.specs.Flow
 pub use Rattle.mcf_instance.specs.Limits
+pub use Rattle.mcf_instance.specs.Memory
 pub use Rattle.mcf_instance.specs.Reading
 pub use Rattle.mcf_text.specs.Row
 pub mod Correct
 pub mod Failures
 pub mod Judging
 pub mod Laws
+pub mod Lines
 pub mod Printed
 pub mod Runs

@@ -1,11 +1,11 @@
 //! The command `mcfcheck`, over a reader of files and two writers.
-ghost use Rattle.std.specs.Prelude.{◌≡◌, ◌≢◌, ◌⊎◌, Err, IfErr, IfOk, OnOk, if◌then◌else◌, length, map};
-ghost use Rattle.std.specs.Io.KnownBytes.{Appends};
+ghost use Rattle.std.specs.Prelude.{◌≡◌, ◌≢◌, ◌≤◌, ◌⊎◌, Err, IfErr, IfOk, OnOk, if◌then◌else◌, length, map};
+ghost use Rattle.std.specs.Io.KnownBytes.{Appends, WriteAppends};
 ghost use Rattle.std.specs.String.{string_bytes};
-ghost use Rattle.mcf_checker.specs.Failures.{failure_of};
+ghost use Rattle.mcf_checker.specs.Failures.{failure_line};
 ghost use Rattle.mcf_checker.specs.Judging.{accepts, verdict};
 ghost use Rattle.mcf_checker.specs.Printed.{printed_line};
-ghost use Rattle.mcf_checker.specs.Runs.{AsksForFiles, JudgesAndPrints, ReadsFiles};
+ghost use Rattle.mcf_checker.specs.Runs.{AsksOnce, IsReason, IsUnprinted, JudgesAndPrints, ReadsFiles, TakesBeginning, Tells};
 
 use crate::checking::check;
 use crate::verdict::Verdict;
@@ -80,7 +80,8 @@ impl From<NoMemory> for Failure {
 
 // The status of a verdict: 0 where it accepts, else 1.
 fn status_of(verdict: &Verdict) -> u8
-    ensures { result ≡ (if accepts verdict.now then 0 else 1) }
+    ensures value { result ≡ (if accepts verdict.now then 0 else 1) }
+    ensures small { result ≤ 1 }
 {
     match verdict {
         Verdict::Flow(_) | Verdict::Blocked(_) | Verdict::Refused(_) => 0,
@@ -100,10 +101,42 @@ fn line_of(alloc: Global, verdict: &Verdict) -> Result<String, NoMemory>
 fn outcome_of(alloc: Global, input: &[u8], answer: &[u8]) -> Result<(String, u8), NoMemory>
     ensures line { IfOk result (λ o. string_bytes o.0 ≡ printed_line (verdict input.now answer.now)) }
     ensures status { IfOk result (λ o. o.1 ≡ (if accepts (verdict input.now answer.now) then 0 else 1)) }
+    ensures small { IfOk result (λ o. o.1 ≤ 1) }
 {
     let verdict = check(alloc, input, answer)?;
     let line = line_of(alloc, &verdict)?;
     Ok((line, status_of(&verdict)))
+}
+
+// Takes at least one byte of a piece that isn't empty, from its beginning, and answers how many. An interrupted write
+// fails, and so does one that takes no byte.
+fn write_some<W: Write>(writer: &mut W, piece: &[u8]) -> Result<usize, Failure>
+    ensures bound { IfOk result (λ count. (1 ≤ count) × (count ≤ length piece.now)) }
+    ensures bytes { WriteAppends (W.contents writer.old) (W.contents writer.new) result piece.now }
+{
+    match writer.write(piece) {
+        Ok(0) | Err(_) => Err(Failure::Write),
+        Ok(count) => Ok(count),
+    }
+}
+
+// Writes a text and flushes. Nothing is tried again: the first failure ends it.
+fn send<W: Write>(writer: &mut W, text: &[u8]) -> Result<(), Failure>
+    ensures taken { OnOk result (Appends (W.contents writer.old) (W.contents writer.new) text.now) }
+    ensures beginning { TakesBeginning (W.contents writer.old) (W.contents writer.new) text.now }
+    ensures is_write { IfErr result (λ failure. failure ≡ Failure.Write) }
+{
+    let mut taken = 0;
+    'writes: while taken < text.len() {
+        match write_some(writer, &text[taken..]) {
+            Ok(count) => taken += count,
+            Err(_) => return Err(Failure::Write),
+        }
+    }
+    match writer.flush() {
+        Ok(()) => Ok(()),
+        Err(_) => Err(Failure::Write),
+    }
 }
 
 // Prints the verdict on an answer text for an instance text, and gives the status.
@@ -114,35 +147,33 @@ fn print_outcome<O: Write>(
     out: &mut O,
 ) -> Result<u8, Failure>
     ensures status { IfOk result (λ status. status ≡ (if accepts (verdict input.now answer.now) then 0 else 1)) }
+    ensures small { IfOk result (λ status. status ≤ 1) }
     ensures printed { OnOk result
         (Appends (O.contents out.old) (O.contents out.new) (printed_line (verdict input.now answer.now))) }
-    ensures tells { IfErr result (λ failure. (failure ≡ Failure.Write) ⊎ (failure ≡ Failure.NoMemory)) }
+    ensures unprinted { IfErr result (λ failure.
+        IsUnprinted input.now answer.now (out.new ≡ out.old) (O.contents out.old) (O.contents out.new) (failure_line failure)) }
 {
     let (line, status) = outcome_of(alloc, input, answer)?;
-    match out.write_all(line.as_bytes()) {
-        Ok(()) => {}
-        Err(_) => return Err(Failure::Write),
-    }
-    match out.flush() {
-        Ok(()) => Ok(status),
-        Err(_) => Err(Failure::Write),
-    }
+    send(out, line.as_bytes())?;
+    Ok(status)
 }
 
-// Judges the answer in the second file for the instance in the first, prints the line, and gives the status.
+// Judges the answer in the second file for the instance in the first, prints the line, and gives the status. The
+// reader of files is lent, so that its state tells which calls were made.
 fn run<S: AsStr, R: FnMut(&str) -> Result<Vec<u8>, FileFault>, O: Write>(
     alloc: Global,
     words: &[S],
-    mut read: R,
+    read: &mut R,
     out: &mut O,
 ) -> Result<u8, Failure>
-    requires { R.IsAlwaysCallable read }
-    ensures judged { IfOk result (λ status. JudgesAndPrints R.FnMut (λ file. file.items) read (map S.text words.now) status (O.contents out.old) (O.contents out.new)) }
-    ensures usage { length words.now ≢ 3 → (result ≡ Err Failure.Usage) × (out.new ≡ out.old) }
-    ensures reads { length words.now ≡ 3 → ReadsFiles R.FnMut read (map S.text words.now) (out.new ≡ out.old) }
-    ensures tells { length words.now ≡ 3 → AsksForFiles R.FnMut read (map S.text words.now)
-        (λ fault. result ≡ Err (failure_of fault Failure.Instance)) (λ fault. result ≡ Err (failure_of fault Failure.Answer))
-        (IfErr result (λ failure. (failure ≡ Failure.Write) ⊎ (failure ≡ Failure.NoMemory))) }
+    requires { R.IsAlwaysCallable read.old }
+    ensures judged { IfOk result (λ status. JudgesAndPrints R.FnMut (λ file. file.items) read.old (map S.text words.now) status (O.contents out.old) (O.contents out.new)) }
+    ensures small { IfOk result (λ status. status ≤ 1) }
+    ensures usage { length words.now ≢ 3 → (result ≡ Err Failure.Usage) × (out.new ≡ out.old) × (read.new ≡ read.old) }
+    ensures reads { length words.now ≡ 3 → ReadsFiles R.FnMut read.old (map S.text words.now) (out.new ≡ out.old) }
+    ensures once { length words.now ≡ 3 → AsksOnce R.FnMut read.old (map S.text words.now) read.new }
+    ensures reason { IfErr result (λ failure. IsReason R.FnMut (λ file. file.items) read.old (map S.text words.now)
+        (out.new ≡ out.old) (O.contents out.old) (O.contents out.new) (failure_line failure)) }
 {
     let [_, instance, answer] = words else {
         return Err(Failure::Usage);
@@ -163,12 +194,12 @@ fn run<S: AsStr, R: FnMut(&str) -> Result<Vec<u8>, FileFault>, O: Write>(
 /// `words` are the name of the program, the name of the instance's file and that of the answer's. `read`
 /// gives the bytes of a file; the instance is read first. The verdict is one line on `out`, and the status
 /// is 0 where it accepts and 1 where it doesn't. Status 3 is given, with one line on `err`, for another
-/// number of words, a file that can't be read, a line that can't be written, and want of memory. A line
-/// that can't be written on `err` changes nothing.
+/// number of words, a file that can't be read, a line that can't be written, and want of memory. Nothing that
+/// fails is tried again. A line that can't be written on `err` changes nothing.
 pub fn judge<S: AsStr, R: FnMut(&str) -> Result<Vec<u8>, FileFault>, O: Write, E: Write>(
     alloc: Global,
     words: &[S],
-    read: R,
+    mut read: R,
     out: &mut O,
     err: &mut E,
 ) -> u8
@@ -177,11 +208,13 @@ pub fn judge<S: AsStr, R: FnMut(&str) -> Result<Vec<u8>, FileFault>, O: Write, E
     ensures usage { length words.now ≢ 3 → (result ≡ 3) × (out.new ≡ out.old) }
     ensures reads { length words.now ≡ 3 → ReadsFiles R.FnMut read (map S.text words.now) (out.new ≡ out.old) }
     ensures quiet { (result ≡ 3) ⊎ (err.new ≡ err.old) }
+    ensures told { result ≡ 3 → Tells (IsReason R.FnMut (λ file. file.items) read (map S.text words.now)
+        (out.new ≡ out.old) (O.contents out.old) (O.contents out.new)) (E.contents err.old) (E.contents err.new) }
 {
-    match run(alloc, words, read, out) {
+    match run(alloc, words, &mut read, out) {
         Ok(status) => status,
         Err(failure) => {
-            let _ = err.write_all(failure.text().as_bytes());
+            let _ = send(err, failure.text().as_bytes());
             FAILED
         }
     }
