@@ -21,6 +21,8 @@ mod prices;
 #[cfg(test)]
 mod running;
 #[cfg(test)]
+mod scaling;
+#[cfg(test)]
 mod sets;
 #[cfg(test)]
 mod solving;
