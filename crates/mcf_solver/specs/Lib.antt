@@ -3,9 +3,15 @@ pub use Rattle.mcf_answer.specs.Written
 pub use Rattle.mcf_checker.specs.Correct
 pub use Rattle.mcf_checker.specs.Judging
 pub use Rattle.mcf_feas.specs.Chosen as ChosenBlocks
+pub use Rattle.mcf_instance.specs.Fault
 pub use Rattle.mcf_instance.specs.Flow
 pub use Rattle.mcf_instance.specs.Limits
 pub use Rattle.mcf_instance.specs.Reading
+pub use Rattle.mcf_network.specs.Removal
+pub use Rattle.mcf_network.specs.Restoring
+pub use Rattle.mcf_network.specs.States
+pub use Rattle.mcf_prices.specs.Outcomes
+pub use Rattle.mcf_text.specs.Row
 pub mod Answering
 pub mod Chosen
 pub mod Devices

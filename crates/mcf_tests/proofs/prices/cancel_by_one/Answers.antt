@@ -11,8 +11,7 @@ returns-in-Prices-clause-least c =
 pub returns-in-Prices-clause-shown : goal.returns-in-Prices-clause-shown
 returns-in-Prices-clause-shown c =
     let found = rw c.in-Prices.is at c.in_ok-prices.ensures.recovered in
-    let small = rw c.in-Prices.is at c.in_ok-prices.ensures.small in
-    state_prices c.args.state.net c.cycles.state _ c.cycles.invariant found small
+    state_prices c.args.state.net c.cycles.state _ c.cycles.invariant found
 
 pub push_along-requires : goal.push_along-requires
 push_along-requires c =
