@@ -3,6 +3,7 @@ pub mod Appends
 pub mod Grows
 pub mod LinesRead
 pub mod Parsed
+pub mod RangeEnds
 pub mod Room
 pub mod SaidLemmas
 pub mod Simulation

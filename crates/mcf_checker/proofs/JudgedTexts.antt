@@ -127,3 +127,33 @@ a_set_that_must_send_what_it_can = refl
 a_matching_that_is_not_least : verdict two_by_two (codes "s 6\nf 1 3 1\nf 1 4 0\nf 2 3 0\nf 2 4 1\ny 1 0\ny 2 0\ny 3 -2\ny 4 -1\n") ≡ BadPrice 1
 unfolding verdict judged solution_verdict set_verdict reading first_fault first_fault_of_lines faults fault_of_line fault_at_end instance_of_lines parsing answer_of_lines misfit misfit_of_lines misfits fits is_complete cost_said sent_said price_said set_said member_said refusal_said opening_said
 a_matching_that_is_not_least = refl
+
+-- ---- two neighbouring verdicts apply: the first of the table is given
+
+shape_before_kind : verdict late_node (codes "s 0\nx 1\n") ≡ BadShape 2
+unfolding verdict judged solution_verdict set_verdict reading first_fault first_fault_of_lines faults fault_of_line fault_at_end instance_of_lines parsing answer_of_lines misfit misfit_of_lines misfits fits is_complete cost_said sent_said price_said set_said member_said refusal_said opening_said
+shape_before_kind = refl
+
+kind_before_arc : verdict late_node (codes "s 0\nf 9 9 9\n") ≡ BadKind
+unfolding verdict judged solution_verdict set_verdict reading first_fault first_fault_of_lines faults fault_of_line fault_at_end instance_of_lines parsing answer_of_lines misfit misfit_of_lines misfits fits is_complete cost_said sent_said price_said set_said member_said refusal_said opening_said
+kind_before_arc = refl
+
+arc_before_node : verdict four_nodes (codes "s 14\nf 1 2 2\nf 1 3 3\nf 2 3 2\nf 2 4 0\nf 3 4 4\ny 1 0\ny 2 -2\ny 3 -3\n") ≡ BadArc 2
+unfolding verdict judged solution_verdict set_verdict reading first_fault first_fault_of_lines faults fault_of_line fault_at_end instance_of_lines parsing answer_of_lines misfit misfit_of_lines misfits fits is_complete cost_said sent_said price_said set_said member_said refusal_said opening_said
+arc_before_node = refl
+
+node_before_price : verdict four_nodes (codes "s 14\nf 1 2 2\nf 1 3 2\nf 2 3 2\nf 2 4 0\nf 3 4 3\ny 1 0\ny 2 -2\ny 3 -3\ny 4 -9\n") ≡ BadNode 3
+unfolding verdict judged solution_verdict set_verdict reading first_fault first_fault_of_lines faults fault_of_line fault_at_end instance_of_lines parsing answer_of_lines misfit misfit_of_lines misfits fits is_complete cost_said sent_said price_said set_said member_said refusal_said opening_said
+node_before_price = refl
+
+price_before_cost : verdict four_nodes (codes "s 15\nf 1 2 2\nf 1 3 2\nf 2 3 2\nf 2 4 0\nf 3 4 4\ny 1 0\ny 2 -2\ny 3 -3\ny 4 -9\n") ≡ BadPrice 4
+unfolding verdict judged solution_verdict set_verdict reading first_fault first_fault_of_lines faults fault_of_line fault_at_end instance_of_lines parsing answer_of_lines misfit misfit_of_lines misfits fits is_complete cost_said sent_said price_said set_said member_said refusal_said opening_said
+price_before_cost = refl
+
+a_flow_at_its_low : verdict four_nodes (codes "s 14\nf 1 2 2\nf 1 3 2\nf 2 3 2\nf 2 4 -1\nf 3 4 4\ny 1 0\ny 2 -2\ny 3 -3\ny 4 -4\n") ≡ BadArc 4
+unfolding verdict judged solution_verdict set_verdict reading first_fault first_fault_of_lines faults fault_of_line fault_at_end instance_of_lines parsing answer_of_lines misfit misfit_of_lines misfits fits is_complete cost_said sent_said price_said set_said member_said refusal_said opening_said
+a_flow_at_its_low = refl
+
+a_node_past_the_last_before_blocking : verdict too_narrow (codes "i 2 send\nx 1\nx 3\n") ≡ BadSet
+unfolding verdict judged solution_verdict set_verdict reading first_fault first_fault_of_lines faults fault_of_line fault_at_end instance_of_lines parsing answer_of_lines misfit misfit_of_lines misfits fits is_complete cost_said sent_said price_said set_said member_said refusal_said opening_said
+a_node_past_the_last_before_blocking = refl

@@ -62,6 +62,7 @@ fault_after n xs (y ∷ ys) f none h e = go (fault_of_line limits xs y) refl (λ
   where
     joined : slice_get (faults limits ((xs ++ y ∷ []) ++ ys)) 0 ≡ Some f
     joined = ap (λ rs. slice_get (faults limits rs) 0) (append_assoc xs (y ∷ []) ys) ∙ e
+
     go : (o : Option Code) → fault_of_line limits xs y ≡ o → (slice_get (faults limits (xs ++ y ∷ [])) 0 ≡ None → slice_get (faults limits ((xs ++ y ∷ []) ++ ys)) 0 ≡ Some f → n < f.line) → n < f.line
     go (Some code) is later =
         let here : slice_get (faults limits (xs ++ y ∷ [])) 0 ≡ Some (record { line = y.number; code = code }) = first_fault_more xs y ∙ ap (λ o. option_or o (as_fault limits (xs, y))) none ∙ ap (option_map (λ c. record { line = y.number; code = c })) is in

@@ -22,6 +22,7 @@ pub mod NetSteps
 pub mod NodeLines
 pub mod NodeSums
 pub mod PackedArcs
+pub mod RangeEnds
 pub mod Ranges
 pub mod SameSets
 pub mod SevenFields

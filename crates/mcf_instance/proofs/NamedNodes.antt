@@ -57,11 +57,13 @@ step_names_nodes s lines row stands none grows = go (item_of limits s row.fields
   where
     held : Holds s lines
     held = stands.holds none
+
     faultless : (item : Item) → item_of limits s row.fields ≡ Ok item → slice_get (faults limits (lines ++ row ∷ [])) 0 ≡ None
     faultless item is =
         let line : fault_of_line limits lines row ≡ None = sym (same_fault s lines row held) ∙ ap fault_of is in
         let before : slice_get (faults limits lines) 0 ≡ None = sym stands.refusal_is ∙ none in
         first_fault_more lines row ∙ ap (λ o. option_or o (as_fault limits (lines, row))) before ∙ ap (option_map (λ code. record { line = row.number; code = code })) line
+
     go : (r : Result Item Code) → item_of limits s row.fields ≡ r → outcome_grows r ≡ true → (1 ≤ (header (lines ++ row ∷ [])).nodes) × (slice_get (faults limits (lines ++ row ∷ [])) 0 ≡ None)
     go (Err e) is g = cc
     go (Ok (Supply v z)) is g = cc

@@ -1,7 +1,7 @@
 //! Worked answers, and texts that are none.
 use mcf_answer::{
     Answer, FlowAnswer, NodeList, PriceList, SentList, Shape, no_text_spells_two_answers, parse,
-    what_is_written_is_read_back, write,
+    texts_stand_for_what_they_spell, what_is_written_is_read_back, write,
 };
 use mcf_instance::{Code, Refusal, Side};
 use mcf_text::{NoMemory, NodeId};
@@ -184,5 +184,6 @@ fn want_of_memory_leaves_the_text(rt: HostRuntime) -> Result<(), Fail> {
 #[test]
 fn the_laws_are_called() {
     no_text_spells_two_answers();
+    texts_stand_for_what_they_spell();
     what_is_written_is_read_back();
 }

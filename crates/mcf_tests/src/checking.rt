@@ -2,6 +2,7 @@
 use mcf_checker::{FileFault, Verdict, check, judge};
 use mcf_text::NoMemory;
 use std::alloc::Global;
+use std::fmt;
 use std::io::{self, ErrorKind, Write};
 use std::test::Fail;
 
@@ -289,6 +290,240 @@ fn writers_that_fail(rt: HostRuntime) -> Result<(), Fail> {
     assert!(rt; is_write_told(rt.alloc())?);
     assert!(rt; run(rt.alloc(), WORDS, &mut Closed, &mut Closed) == 3);
     assert!(rt; run(rt.alloc(), WORDS, &mut Stuck, &mut Closed) == 3);
+    Ok(())
+}
+
+// How a writer fails.
+#[derive(Clone, Copy)]
+enum Failing {
+    // Each call beyond its room is an error of this kind.
+    Error(ErrorKind),
+    // Each call beyond its room takes no byte.
+    Nothing,
+    // One call beyond its room is an error, and the calls after it take all.
+    Once,
+}
+
+// A writer with room for so many bytes, which counts what it took and the calls after the first that failed.
+#[derive(Drop)]
+struct Narrow {
+    failing: Failing,
+    room: usize,
+    held: Vec<u8>,
+    failed: bool,
+    calls_after: usize,
+}
+
+impl Narrow {
+    // A writer that has taken nothing.
+    fn new(alloc: Global, failing: Failing, room: usize) -> Result<Narrow, NoMemory> {
+        Ok(Narrow {
+            failing,
+            room,
+            held: Vec::with_capacity(alloc, 128)?,
+            failed: false,
+            calls_after: 0,
+        })
+    }
+
+    // What a call answers that there is no room for.
+    fn fail(&mut self) -> io::Result<usize> {
+        self.failed = true;
+        match self.failing {
+            Failing::Error(kind) => Err(io::Error::from(kind)),
+            Failing::Nothing => Ok(0),
+            Failing::Once => Err(io::Error::from(ErrorKind::Interrupted)),
+        }
+    }
+
+    // Counts a call that comes after one that failed.
+    fn count(&mut self) {
+        if self.failed {
+            self.calls_after = self.calls_after.wrapping_add(1);
+        }
+    }
+}
+
+impl Write for Narrow {
+    fn write(&mut self, bytes: &[u8]) -> io::Result<usize> {
+        self.count();
+        if self.failed && matches!(self.failing, Failing::Once) {
+            return Ok(bytes.len());
+        }
+        let left = self.room.saturating_sub(self.held.len());
+        let taken = left.min(bytes.len());
+        if taken == 0 {
+            return self.fail();
+        }
+        for byte in bytes.get(..taken).unwrap_or(b"") {
+            let _ = self.held.push(*byte);
+        }
+        Ok(taken)
+    }
+
+    fn flush(&mut self) -> io::Result<()> {
+        self.count();
+        Ok(())
+    }
+}
+
+const ACCEPTED: &[u8] = b"accepted flow 14\n";
+
+// Whether a run with so much room for its output writes a beginning of the line and no more, says that writing failed,
+// and asks the writer for nothing afterwards.
+fn is_cut(alloc: Global, failing: Failing, room: usize) -> Result<bool, NoMemory> {
+    let mut out = Narrow::new(alloc, failing, room)?;
+    let mut err = Vec::with_capacity(alloc, 64)?;
+    let given = run(alloc, WORDS, &mut out, &mut err);
+    if is_without_memory(given, err.as_slice()) {
+        return Err(NoMemory);
+    }
+    let is_said = err.as_slice() == b"mcfcheck: write failed\n".as_slice();
+    let is_beginning = ACCEPTED.get(..room) == Some(out.held.as_slice());
+    Ok(given == 3 && is_said && is_beginning && out.calls_after == 0)
+}
+
+static FAILINGS: [Failing; 5] = [
+    Failing::Error(ErrorKind::BrokenPipe),
+    Failing::Error(ErrorKind::Interrupted),
+    Failing::Error(ErrorKind::OutOfMemory),
+    Failing::Nothing,
+    Failing::Once,
+];
+
+#[test]
+fn writers_with_little_room(rt: HostRuntime) -> Result<(), Fail> {
+    for failing in &FAILINGS {
+        for room in 0..ACCEPTED.len() {
+            assert!(rt; is_cut(rt.alloc(), *failing, room)?);
+        }
+    }
+    Ok(())
+}
+
+// Whether the line that tells of other words than three is cut, where there is so much room for it.
+fn is_told_in_part(alloc: Global, failing: Failing, room: usize) -> Result<bool, NoMemory> {
+    let usage = b"usage: mcfcheck INSTANCE ANSWER\n".as_slice();
+    let mut out = Vec::with_capacity(alloc, 64)?;
+    let mut err = Narrow::new(alloc, failing, room)?;
+    let given = run(alloc, &["mcfcheck"], &mut out, &mut err);
+    let is_beginning = usage.get(..room) == Some(err.held.as_slice());
+    Ok(given == 3 && out.is_empty() && is_beginning && err.calls_after == 0)
+}
+
+#[test]
+fn what_is_said_is_cut_too(rt: HostRuntime) -> Result<(), Fail> {
+    for failing in &FAILINGS {
+        for room in 0..20 {
+            assert!(rt; is_told_in_part(rt.alloc(), *failing, room)?);
+        }
+    }
+    Ok(())
+}
+
+// How often a run asks for a file, and the name that it asks for last.
+fn asked(alloc: Global, words: &[&str]) -> Result<(usize, Vec<u8>), NoMemory> {
+    let mut calls = 0usize;
+    let mut last = Vec::with_capacity(alloc, 64)?;
+    let mut out = Vec::with_capacity(alloc, 64)?;
+    let mut err = Vec::with_capacity(alloc, 64)?;
+    let reader = |name: &str| {
+        calls = calls.wrapping_add(1);
+        last.clear();
+        let _ = last.extend_from_slice(name.as_bytes());
+        file(alloc, name)
+    };
+    let _status = judge(alloc, words, reader, &mut out, &mut err);
+    Ok((calls, last))
+}
+
+// Whether a run asks for so many files, the last of them this one.
+fn is_asked(alloc: Global, row: &(&[&str], usize, &str)) -> Result<bool, NoMemory> {
+    let (words, count, name) = *row;
+    let (calls, last) = asked(alloc, words)?;
+    Ok(calls == count && last.as_slice() == name.as_bytes())
+}
+
+static ASKED: [(&[&str], usize, &str); 8] = [
+    (&["mcfcheck", "instance", "answer"], 2, "answer"),
+    (&["mcfcheck", "instance", "wrong"], 2, "wrong"),
+    (&["mcfcheck", "none", "answer"], 1, "none"),
+    (&["mcfcheck", "large", "answer"], 1, "large"),
+    (&["mcfcheck", "instance", "none"], 2, "none"),
+    (&["mcfcheck", "instance", "large"], 2, "large"),
+    (&["mcfcheck", "instance"], 0, ""),
+    (&["mcfcheck", "instance", "answer", "more"], 0, ""),
+];
+
+#[test]
+fn files_that_are_asked_for(rt: HostRuntime) -> Result<(), Fail> {
+    for row in &ASKED {
+        assert!(rt; is_asked(rt.alloc(), row)?);
+    }
+    Ok(())
+}
+
+// A text with room for so many bytes, which takes whole pieces alone.
+#[derive(Drop)]
+struct NarrowText {
+    room: usize,
+    held: Vec<u8>,
+}
+
+impl fmt::Write for NarrowText {
+    fn write_str(&mut self, piece: &str) -> fmt::Result {
+        let left = self.room.saturating_sub(self.held.len());
+        if left < piece.len() || self.held.extend_from_slice(piece.as_bytes()).is_err() {
+            return Err(fmt::Error);
+        }
+        Ok(())
+    }
+}
+
+// What is held of a verdict where there is room for so many bytes, or nothing where showing it failed.
+fn shown(alloc: Global, verdict: &Verdict, room: usize) -> Result<Option<Vec<u8>>, NoMemory> {
+    let mut text = NarrowText {
+        room,
+        held: Vec::with_capacity(alloc, 128)?,
+    };
+    let outcome = fmt::Write::write(&mut text, verdict);
+    let NarrowText { room: _, held } = text;
+    Ok(outcome.ok().map(|()| held))
+}
+
+// Whether a verdict is shown as this text where there is room for it, and fails with any less.
+fn is_shown(alloc: Global, verdict: &Verdict, want: &str) -> Result<bool, NoMemory> {
+    for room in 0..want.len() {
+        if shown(alloc, verdict, room)?.is_some() {
+            return Ok(false);
+        }
+    }
+    match shown(alloc, verdict, want.len())? {
+        Some(held) => Ok(held.as_slice() == want.as_bytes()),
+        None => Ok(false),
+    }
+}
+
+const LIMIT: u128 = 10_000_000_000_000_000_000_000_000_000_000_000_000;
+
+#[test]
+fn verdicts_as_text(rt: HostRuntime) -> Result<(), Fail> {
+    for (verdict, want) in [
+        (
+            Verdict::Flow(-10_000_000_000_000_000_000_000_000_000_000_000_000),
+            "accepted flow -10000000000000000000000000000000000000",
+        ),
+        (Verdict::Flow(-1), "accepted flow -1"),
+        (
+            Verdict::BadShape(LIMIT),
+            "rejected shape 10000000000000000000000000000000000000",
+        ),
+        (Verdict::Blocked(1_000_000), "accepted blocked 1000000"),
+        (Verdict::BadNode(1_000_001), "rejected node 1000001"),
+        (Verdict::BadCost, "rejected cost"),
+    ] {
+        assert!(rt; is_shown(rt.alloc(), &verdict, want)?);
+    }
     Ok(())
 }
 

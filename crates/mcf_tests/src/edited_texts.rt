@@ -1,8 +1,7 @@
 //! Texts with one byte changed: each is judged, and what is accepted is right by a plain judge.
-use mcf_answer::{Answer, FlowAnswer, parse};
+use crate::plain::is_right;
 use mcf_checker::{Verdict, check};
-use mcf_instance::{Arc, Instance, read};
-use mcf_text::{ArcId, NoMemory, NodeId};
+use mcf_text::NoMemory;
 use std::alloc::Global;
 use std::test::Fail;
 
@@ -15,102 +14,8 @@ const ANSWER: &[u8] =
 // The bytes that are put in.
 const BYTES: &[u8] = b"0123456789 -+.\n\t\rpnacsfyixr\x00\x7f\x80\xc3\xff_";
 
-// The price of a node, 0 where there is none.
-fn price_of(prices: &[i128], node: NodeId) -> i128 {
-    let place = (node.get() as usize).wrapping_sub(1);
-    prices.get(place).copied().unwrap_or(0)
-}
-
-// What leaves a node less what enters it.
-fn net_of(answer: &FlowAnswer, node: NodeId) -> i128 {
-    let mut net = 0i128;
-    for line in answer.sent.as_slice() {
-        if line.src == node {
-            net = net.wrapping_add(line.flow);
-        }
-        if line.dst == node {
-            net = net.wrapping_sub(line.flow);
-        }
-    }
-    net
-}
-
-// Whether a flow answer has a line for an arc, with a flow that the arc takes and its reduced cost allows.
-fn is_right_arc(answer: &FlowAnswer, arc: Arc, place: usize) -> bool {
-    let Some(line) = answer.sent.as_slice().get(place) else {
-        return false;
-    };
-    let flow = line.flow;
-    if line.src != arc.src || line.dst != arc.dst || flow < arc.low || arc.cap < flow {
-        return false;
-    }
-    let prices = answer.prices.as_slice();
-    let reduced = arc
-        .cost
-        .wrapping_sub(price_of(prices, arc.src))
-        .wrapping_add(price_of(prices, arc.dst));
-    (reduced <= 0 || flow == arc.low) && (reduced >= 0 || flow == arc.cap)
-}
-
-// Whether a flow answer has a line for each arc, each of them right.
-fn are_right_arcs(instance: &Instance, answer: &FlowAnswer) -> bool {
-    if answer.sent.len() != instance.arc_count() as usize {
-        return false;
-    }
-    for place in 0..instance.arc_count() {
-        if !is_right_arc(answer, instance.arc(ArcId::new(place + 1)), place as usize) {
-            return false;
-        }
-    }
-    true
-}
-
-// Whether a flow answer has a price for each node, and sends its supply.
-fn are_right_nodes(instance: &Instance, answer: &FlowAnswer) -> bool {
-    if answer.prices.len() != instance.node_count() as usize {
-        return false;
-    }
-    for place in 0..instance.node_count() {
-        let node = NodeId::new(place + 1);
-        if net_of(answer, node) != instance.supply(node) {
-            return false;
-        }
-    }
-    true
-}
-
-// The sum of what the lines of a flow answer cost.
-fn cost_of(instance: &Instance, answer: &FlowAnswer) -> i128 {
-    let mut cost = 0i128;
-    for place in 0..instance.arc_count() {
-        let arc = instance.arc(ArcId::new(place + 1));
-        if let Some(line) = answer.sent.as_slice().get(place as usize) {
-            cost = cost.wrapping_add(arc.cost.wrapping_mul(line.flow));
-        }
-    }
-    cost
-}
-
-// Whether a flow answer is right, arc by arc and node by node.
-fn is_right_flow(instance: &Instance, answer: &FlowAnswer) -> bool {
-    let are_arcs = are_right_arcs(instance, answer);
-    let are_nodes = are_right_nodes(instance, answer);
-    let cost = cost_of(instance, answer);
-    are_arcs && are_nodes && cost == answer.cost
-}
-
-// Whether the answer text is right for the instance text; no set blocks an instance with a flow like this.
-fn is_right(alloc: Global, input: &[u8], text: &[u8]) -> Result<bool, NoMemory> {
-    let outcome = read(alloc, input)?;
-    let answer = parse(alloc, text)?;
-    Ok(match (&outcome, &answer) {
-        (Ok(instance), Ok(Answer::Flow(flow))) => is_right_flow(instance, flow),
-        (Err(fault), Ok(Answer::Refused(refusal))) => fault == refusal,
-        _ => false,
-    })
-}
-
-// Whether the verdict on the texts is one that accepts, which it is only where the plain judge agrees.
+// Whether the verdict on the texts accepts exactly where the plain judge does. No such text has a blocking set for its
+// answer, and no refusal.
 fn is_judged_right(alloc: Global, input: &[u8], text: &[u8]) -> Result<bool, NoMemory> {
     let verdict = check(alloc, input, text)?;
     let accepted = matches!(

@@ -15,7 +15,11 @@ mod feasibility;
 #[cfg(test)]
 mod instances;
 #[cfg(test)]
+mod large;
+#[cfg(test)]
 mod networks;
+#[cfg(test)]
+mod plain;
 #[cfg(test)]
 mod prices;
 #[cfg(test)]

@@ -6,7 +6,7 @@ use crate::instances::instance_of;
 use mcf_network::{
     Net, NodeSet, Rid, State, feasible_flows_are_states, greatest_prices_carry_over,
     net_flows_cost_no_more, nets_block_alike, push_along, restore, restored_least_flows_are_least,
-    room_along, stuck_sets_block,
+    restored_tree_solutions_are_tree_solutions, room_along, stuck_sets_block,
 };
 use mcf_text::{ArcId, NoMemory, NodeId};
 use std::alloc::Global;
@@ -58,6 +58,25 @@ fn leaving_first(net: &Net) -> usize {
         return 0;
     }
     net.leaving(NodeId::new(1)).count()
+}
+
+// The first residual arc that leaves the last node, if the net of a text has a node and there is one.
+fn first_leaving(alloc: Global, text: &[u8]) -> Result<Option<Rid>, NoMemory> {
+    let Some(net) = net_of(alloc, text)? else {
+        return Ok(None);
+    };
+    if net.node_count() < 1 {
+        return Ok(None);
+    }
+    Ok(net.leaving(NodeId::new(net.node_count())).first())
+}
+
+#[test]
+fn the_first_of_the_arcs_that_leave(rt: HostRuntime) -> Result<(), Fail> {
+    let first = first_leaving(rt.alloc(), WIDE_ARC)?.ok_or("none")?;
+    assert!(rt; first.arc.get() == 1 && first.back);
+    assert!(rt; first_leaving(rt.alloc(), b"p min 1 0\n")?.is_none());
+    Ok(())
 }
 
 // Whether the net of a text has arcs of these widths and nodes of these supplies, and so many residual arcs
@@ -270,6 +289,7 @@ fn laws_do_nothing(_rt: HostRuntime) -> Result<(), Fail> {
     net_flows_cost_no_more();
     nets_block_alike();
     restored_least_flows_are_least();
+    restored_tree_solutions_are_tree_solutions();
     stuck_sets_block();
     Ok(())
 }

@@ -136,24 +136,24 @@ static WORKED: [Worked; 23] = [
     },
 ];
 
-// What is written of an instance by an engine, after bytes that were there.
-fn answered(
+/// What is written of an instance by an engine, after bytes that were there.
+pub fn answered(
     alloc: Global,
-    before: &str,
-    instance: &str,
+    before: &[u8],
+    instance: &[u8],
     engine: EngineChoice,
 ) -> Result<(Kind, Vec<u8>), NoMemory> {
     let mut out = Vec::new(alloc);
-    out.extend_from_slice(before.as_bytes())?;
-    let kind = solve_text(alloc, instance.as_bytes(), Choice { engine }, &mut out)?;
+    out.extend_from_slice(before)?;
+    let kind = solve_text(alloc, instance, Choice { engine }, &mut out)?;
     Ok((kind, out))
 }
 
 // Whether an engine answers so, after bytes that were there.
 fn is_answered(alloc: Global, worked: &Worked, engine: EngineChoice) -> Result<bool, NoMemory> {
-    let before = "kept\n";
-    let (kind, out) = answered(alloc, before, worked.instance, engine)?;
-    let answer = out.strip_prefix(before.as_bytes());
+    let before = b"kept\n".as_slice();
+    let (kind, out) = answered(alloc, before, worked.instance.as_bytes(), engine)?;
+    let answer = out.strip_prefix(before);
     Ok(kind == worked.kind && answer == Some(worked.answer.as_bytes()))
 }
 
@@ -192,7 +192,7 @@ fn costs(
     engine: EngineChoice,
     cost: i128,
 ) -> Result<bool, NoMemory> {
-    let (kind, out) = answered(alloc, "", instance, engine)?;
+    let (kind, out) = answered(alloc, b"", instance.as_bytes(), engine)?;
     let verdict = check(alloc, instance.as_bytes(), &out)?;
     Ok(kind == Kind::Flow && verdict == Verdict::Flow(cost))
 }

@@ -1,6 +1,9 @@
 //! What no clause says: values from the rules of the format, printed text, and each call with
 //! ample memory.
-use mcf_text::{ArcId, NoMemory, NodeId, Whole, fields, is_kept, lines, put_number, whole};
+use mcf_text::{
+    ArcId, NoMemory, NodeId, Whole, fields, ids_are_ordered_by_number, is_kept, lines, put_number,
+    whole,
+};
 use std::test::Fail;
 
 // Whether the lines of a text are these, with their numbers, and no more come after them.
@@ -241,6 +244,8 @@ fn numbers_of_nodes_and_arcs(rt: HostRuntime) {
     assert!(rt; NodeId::new(1) < NodeId::new(2));
     assert!(rt; NodeId::new(7).get() == 7);
     assert!(rt; ArcId::new(1) < ArcId::new(2));
+    assert!(rt; NodeId::new(9) < NodeId::new(10) && ArcId::new(9) < ArcId::new(10));
+    ids_are_ordered_by_number();
     assert!(rt; ArcId::new(3).get() == 3);
 }
 
