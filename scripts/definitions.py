@@ -115,6 +115,8 @@ START = [
     ("mcf_checker", "Correct", "HasNoFlow"),
 ]
 LEAVES = {("mcf_checker", "Judging", "verdict"), ("mcf_checker", "Judging", "accepts")}
+# Which engine made the state behind a flow, and how: what the flow costs doesn't rest on it.
+MAKING = {("mcf_solver", "Making", "HasMadeFlow"), ("mcf_solver", "Making", "IsMadeBy")}
 
 # The chapters: a title, what a reader should know, and the modules in reading order.
 CHAPTERS = [
@@ -151,10 +153,11 @@ def headline():
     """The page for a reader who wants to believe the theorem and nothing else."""
     definitions, imports = read_specs()
     found, types = reached(START, LEAVES, definitions, imports)
+    core = reached(START, LEAVES | MAKING, definitions, imports)[0] - LEAVES - MAKING
     order = [tuple(m.split()) for _, _, modules in CHAPTERS for m in modules]
     rest = sorted({k[:2] for k in found} - set(order))
     chapters = CHAPTERS[:-1] + ([("More that these cite", "", [" ".join(m) for m in rest])] if rest else []) + CHAPTERS[-1:]
-    parts, lines = [], 0
+    parts, lines, core_lines = [], 0, 0
     for title, note, modules in chapters:
         here = [d for m in modules for k, d in definitions.items() if k in found and k not in LEAVES and k[:2] == tuple(m.split())]
         if not here:
@@ -163,6 +166,7 @@ def headline():
         for module in dict.fromkeys((d.crate, d.module) for d in here):
             block = "\n\n".join((f"-- {d.note}\n" if d.note else "") + d.text for d in here if (d.crate, d.module) == module)
             lines += len(block.splitlines())
+            core_lines += sum(len(d.text.splitlines()) + 2 for d in here if (d.crate, d.module) == module and (d.crate, d.module, d.name) in core)
             parts.append(f"`crates/{module[0]}/specs/{module[1]}.antt`\n\n" + fence("", block))
     kinds = "\n\n".join(t for t in (type_text(*x) for x in sorted(types)) if t)
     both = clauses("mcf_solver", "solving.rt", "solve_text") + "\n\n" + clauses("mcf_checker", "checking.rt", "check")
@@ -175,10 +179,12 @@ feasible flow undercuts, with prices whose reduced costs show it, or a node set 
 accepts such answers, and only texts that are so.**
 
 That sentence is the contract of two functions, and the prover accepts their bodies. Whoever wants to believe it, and nothing else, reads the contracts
-below and the {lines} lines of definitions that they rest on, {len(found) - len(LEAVES)} definitions in all; no engine, no net and no proof is among what a flow's least cost
-rests on. `IfOk r P` says that P holds of what an `Ok` holds, `OnErr r P` that P holds if it is an error; `x.now` is the value behind a
-reference, `x.old` and `x.new` what it was before and after the call; `.items` are the elements of a vector. The lists, options and numbers are those of
-the kit's library, numbers without bound; `ℕ` counts from 0, `ℤ` are whole numbers.
+below and the definitions that they rest on: {len(core)}, in some {core_lines} lines, for what an answer says, and {len(found) - len(LEAVES) - len(core)} more for which engine made its
+flow and how, {lines} lines in all. No engine, no net and no proof is among what the least cost of a flow rests on.
+
+`IfOk r P` says that P holds of what an `Ok` holds, `OnErr r P` that P holds if it is an error; `x.now` is the value behind a reference, `x.old` and
+`x.new` what it was before and after the call; `.items` are the elements of a vector. The lists, options and numbers are those of the kit's library,
+numbers without bound; `ℕ` counts from 0, `ℤ` are whole numbers.
 
 {fence("rust", both)}
 What the verdict is made of is left out: by the clause `exact` of `check` it accepts exactly where the answer text is correct, so that is all to know of it.
