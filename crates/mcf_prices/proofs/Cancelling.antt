@@ -4,7 +4,6 @@ use Rattle.std.specs.List.{All, Any}
 use Rattle.std.proofs.lemmas.Int.{ints}
 use Rattle.mcf_instance.specs.Flow.{AreGreatestPrices, IsFeasible, IsLeast, cost}
 use Rattle.mcf_instance.specs.Network.{Network, IsArcNumber, node_count}
-use Rattle.mcf_instance.specs.WellFormed.{IsUpTo}
 use Rattle.mcf_instance.proofs.Bounds.{cost_up_to}
 use Rattle.mcf_instance.proofs.Duality.{shown_flows_are_least_lem}
 use Rattle.mcf_instance.proofs.IntLaws.{mul_below_zero}

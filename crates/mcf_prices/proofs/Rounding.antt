@@ -1,13 +1,12 @@
 -- A round: the nodes that wait relax the residual arcs that enter them, one after another.
 use Rattle.std.proofs.Common.{◌≡◌, ℕ, ◌<◌, ◌≤◌, ◌+◌, ◌-◌, ◌*◌, ◌^◌, List, [], ◌∷◌, length, get_or, replicate, ℤ, pos, ◌<ℤ◌, refl, sym, ap, subst, ◌∙◌, arith, ◌⊎◌, inl, inr}
-use Rattle.std.specs.List.{All, Contains}
+use Rattle.std.specs.List.{Contains}
 use Rattle.std.proofs.lemmas.Int.{ints}
 use Rattle.std.proofs.lemmas.Bool.{cases_eq, cases_lt}
 use Rattle.std.proofs.lemmas.List.{get_or_default, get_or-replicate, length-replicate}
-use Rattle.mcf_instance.specs.Flow.{AreGreatestPrices, AreNotAboveZero}
+use Rattle.mcf_instance.specs.Flow.{AreGreatestPrices}
 use Rattle.mcf_instance.specs.Limits.{node_limit}
 use Rattle.mcf_instance.specs.Network.{Network, IsNode, at_node, node_count}
-use Rattle.mcf_instance.specs.WellFormed.{IsUpTo}
 use Rattle.mcf_network.specs.declared.rid.Rid.{Rid}
 use Rattle.mcf_network.specs.Residual.{head}
 use Rattle.mcf_network.specs.States.{Pseudoflow}

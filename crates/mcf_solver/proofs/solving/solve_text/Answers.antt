@@ -1,4 +1,4 @@
-use Rattle.std.proofs.Common.{◌≡◌, ◌++◌, ◌∙◌, ap, length, drop, rules, true}
+use Rattle.std.proofs.Common.{◌≡◌, ◌∙◌, ap, length, drop, rules, true}
 use Rattle.std.proofs.Math.Seq.{drop-append_seam}
 use Rattle.mcf_answer.specs.Written.{written}
 use Rattle.mcf_checker.specs.Judging.{accepts, verdict}
