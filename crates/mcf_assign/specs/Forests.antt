@@ -41,6 +41,13 @@ pub record IsOrder (s : Pseudoflow) (q : Search) (source : ℕ) (order : List �
   pub pairs : (k : ℕ) → IsPair s k → Settled q (row_of s k) → place order (column_of s k) < place order (row_of s k)
   pub links : (v : ℕ) → IsColumn s v → Settled q v → place order (row_of s (link_at q v)) < place order v
 
+-- the list has the settled nodes, each once
+pub record IsListing (nodes : ℕ) (q : Search) (order : List ℕ) : Type 0 where
+  pub once : AllPairs (λ u v. u ≢ v) order
+  pub each : All (IsNode nodes) order
+  pub listed : (v : ℕ) → IsNode nodes v → Settled q v → Contains order v
+  pub members : (v : ℕ) → Contains order v → Settled q v
+
 -- an arc of reduced cost 0 from a settled row to a column
 pub record IsTightArc (s : Pseudoflow) (q : Search) (z : List ℤ) (k v : ℕ) : Type 0 where
   pub arc : IsArcNumber s.net k
