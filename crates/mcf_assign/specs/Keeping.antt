@@ -1,8 +1,8 @@
 -- What a matching keeps between searches, and what a search that is over has shown.
-use Rattle.std.specs.Prelude.{◌≡◌, ℕ, ◌≤◌, ◌^◌, Bool, true, List, [], length, ℤ, pos, neg_ℤ, vec_capacity}
+use Rattle.std.specs.Prelude.{◌≡◌, ℕ, ◌<◌, ◌≤◌, ◌^◌, Bool, true, List, [], length, ℤ, pos, neg_ℤ, ◌<ℤ◌, ◌≤ℤ◌, vec_capacity}
 use Rattle.std.specs.List.{All, Contains}
 use Rattle.mcf_instance.specs.Limits.{wide_limits}
-use Rattle.mcf_instance.specs.Network.{IsNode, at_node, node_count}
+use Rattle.mcf_instance.specs.Network.{Network, IsNode, at_node, node_count}
 use Rattle.mcf_instance.specs.WellFormed.{IsUpTo}
 use Rattle.mcf_network.specs.States.{Pseudoflow}
 use Rattle.mcf_assign.specs.declared.search.Tables.{Tables}
@@ -36,6 +36,13 @@ AreNearZero s y = (v : ℕ) → IsNode (node_count s.net) v → IsUpTo reach_lim
 -- the price with which each row begins: so far below 0 that no arc has a negative reduced cost
 abbrev pub first_price : ℤ
 first_price = neg_ℤ (pos wide_limits.cost)
+
+-- the first prices of so many nodes: those of rows, and 0 for the others
+pub record AreFirstPrices (g : Network) (y : List ℤ) (nodes : ℕ) : Type 0 where
+  pub one_per_node : length y ≡ node_count g
+  pub rows : (v : ℕ) → IsNode nodes v → pos 0 <ℤ at_node g.supplies v → at_node y v ≡ first_price
+  pub others : (v : ℕ) → IsNode nodes v → at_node g.supplies v ≤ℤ pos 0 → at_node y v ≡ pos 0
+  pub rest : (v : ℕ) → nodes < v → at_node y v ≡ pos 0
 
 abbrev pub FreeRowsAreFirst : Pseudoflow → List ℤ → Type 0
 FreeRowsAreFirst s y = (v : ℕ) → IsRow s v → ¬ IsMatchedRow s v → at_node y v ≡ first_price
