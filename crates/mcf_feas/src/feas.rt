@@ -3,8 +3,9 @@ ghost use Rattle.std.specs.Prelude.{◌≤◌, IfOk, OnErr};
 ghost use Rattle.mcf_instance.specs.Network.{node_count};
 ghost use Rattle.mcf_feas.specs.Feasible.{IsFeas};
 
+use crate::preflow::Preflow;
 use crate::search::Search;
-use crate::supplies::{all_nodes, supply_total};
+use crate::supplies::unbalanced;
 use mcf_instance::Side;
 use mcf_network::{Net, NodeSet, State};
 use mcf_text::NoMemory;
@@ -24,9 +25,11 @@ pub enum Feas<'n> {
 /// Where the supplies do not add up to 0, the set is all nodes, and the side is `Take` exactly where they add
 /// up to less than 0. Where they add up to 0, the set blocks by `Send`.
 ///
-/// It finds augmenting paths by breadth-first search from the nodes with a surplus (Ford and Fulkerson;
-/// Edmonds and Karp; Ahuja, Magnanti and Orlin, Network Flows, chapters 6 and 7). The time of each search
-/// is linear in the nodes and arcs, and so is the memory.
+/// It pushes surplus down the levels of the nodes, first in, first out (Goldberg and Tarjan; Ahuja, Magnanti
+/// and Orlin, Network Flows, section 7.7), in rounds. After each round a breadth-first search from the nodes with a surplus shows
+/// that none is left, or that it can't leave the nodes reached, or finds an augmenting path (chapter 6). The
+/// time of each round is linear in the nodes and arcs, but for nodes that are visited more often than others,
+/// and so is the memory, which is taken before the first round.
 ///
 /// # Errors
 ///
@@ -35,18 +38,19 @@ pub fn feasible<'n>(alloc: Global, net: &'n Net) -> Result<Feas<'n>, NoMemory>
     ensures answer { IfOk result (IsFeas net.now) }
     ensures wants { OnErr result (1 ≤ node_count net.now) }
 {
-    let total = supply_total(net);
-    if total != 0 {
-        let side = if total < 0 { Side::Take } else { Side::Send };
-        return Ok(Feas::Blocked(all_nodes(alloc, net)?, side));
+    if let Some((set, side)) = unbalanced(alloc, net)? {
+        return Ok(Feas::Blocked(set, side));
     }
     let mut state = State::zero(alloc, net)?;
+    let mut preflow = Preflow::new(alloc, net)?;
     let mut search = Search::new(alloc, net)?;
+    preflow.round(&mut state)?;
     while search.start(&state)? {
         if !search.run(&state)? {
             return Ok(Feas::Blocked(search.into_reached(), Side::Send));
         }
         search.augment(&mut state)?;
+        preflow.round(&mut state)?;
     }
     Ok(Feas::Flow(state))
 }

@@ -8,8 +8,11 @@
 
 mod feas;
 mod laws;
+mod levels;
+mod preflow;
 mod search;
 mod supplies;
 
 pub use feas::{Feas, feasible};
 pub use laws::{answers_are_exact, blocked_has_no_state};
+pub use supplies::unbalanced;

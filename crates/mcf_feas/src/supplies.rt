@@ -1,16 +1,40 @@
 //! The supplies of a net, and the set of its nodes.
-ghost use Rattle.std.specs.Prelude.{◌≡◌, ◌≤◌, ℕ, true, IfOk, OnErr, length};
+ghost use Rattle.std.specs.Prelude.{◌≡◌, ◌≢◌, ◌≤◌, ℕ, true, pos, IfNone, IfOk, IfSome, OnErr, length};
 ghost use Rattle.mcf_instance.specs.Blocking.{in_table};
 ghost use Rattle.mcf_instance.specs.Network.{IsNode, node_count};
 ghost use Rattle.mcf_network.specs.Nets.{IsNet};
-ghost use Rattle.mcf_feas.specs.Chosen.{supply_total};
+ghost use Rattle.mcf_feas.specs.Chosen.{IsChosenBlock, supply_total};
 
+use mcf_instance::Side;
 use mcf_network::{Net, NodeSet};
 use mcf_text::{NoMemory, NodeId};
 use std::alloc::Global;
 
-/// What the supplies of all nodes add up to.
-pub(crate) fn supply_total(net: &Net) -> i128
+/// The set of all nodes with the side by which it blocks, where the supplies do not add up to 0.
+///
+/// The side is `Take` exactly where they add up to less than 0.
+///
+/// # Errors
+///
+/// Want of memory, where a growth was refused; a net without nodes wants none, nor does one whose supplies add
+/// up to 0.
+pub fn unbalanced(alloc: Global, net: &Net) -> Result<Option<(NodeSet, Side)>, NoMemory>
+    ensures block { IfOk result (λ found. IfSome found (λ block. IsChosenBlock net.now block.0 block.1)) }
+    ensures uneven { IfOk result (λ found. IfSome found (λ _. supply_total net.now ≢ pos 0)) }
+    ensures even { IfOk result (λ found. IfNone found (supply_total net.now ≡ pos 0)) }
+    ensures wants { OnErr result (1 ≤ node_count net.now) }
+{
+    let total = supply_total(net);
+    if total == 0 {
+        return Ok(None);
+    }
+    let set = all_nodes(alloc, net)?;
+    let side = if total < 0 { Side::Take } else { Side::Send };
+    Ok(Some((set, side)))
+}
+
+// What the supplies of all nodes add up to.
+fn supply_total(net: &Net) -> i128
     ensures value { result ≡ supply_total net.now }
     ensures of_net { IsNet net.now }
 {
@@ -21,8 +45,8 @@ pub(crate) fn supply_total(net: &Net) -> i128
     total
 }
 
-/// The set of all nodes.
-pub(crate) fn all_nodes(alloc: Global, net: &Net) -> Result<NodeSet, NoMemory>
+// The set of all nodes.
+fn all_nodes(alloc: Global, net: &Net) -> Result<NodeSet, NoMemory>
     ensures one_per_node { IfOk result (λ set. length set ≡ node_count net.now) }
     ensures all { IfOk result (λ set. (v : ℕ) → IsNode (node_count net.now) v → in_table set v ≡ true) }
     ensures wants { OnErr result (1 ≤ node_count net.now) }
