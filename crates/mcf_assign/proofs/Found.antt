@@ -1,0 +1,97 @@
+-- A search that is over and found a column that isn't matched.
+use Rattle.std.proofs.Common.{◌≡◌, ◌≢◌, ℕ, ◌+◌, ◌-◌, ◌*◌, ◌^◌, ◌<◌, ◌≤◌, Bool, true, false, List, [], ◌∷◌, ◌++◌, length, Some, ℤ, pos, neg_ℤ, ◌+ℤ◌, ◌-ℤ◌, ◌≤ℤ◌, refl, sym, ◌∙◌, ap, subst, arith, ◌⊎◌, inl, inr, length-set}
+use Rattle.std.specs.List.{Contains}
+use Rattle.std.proofs.lemmas.Int.{ints}
+use Rattle.mcf_instance.specs.Blocking.{in_table}
+use Rattle.mcf_instance.specs.Limits.{wide_limits}
+use Rattle.mcf_instance.specs.Network.{IsArcNumber, IsNode, at_node, node_count}
+use Rattle.mcf_instance.specs.WellFormed.{IsUpTo}
+use Rattle.mcf_network.specs.NodeSets.{member_count, with_node}
+use Rattle.mcf_network.specs.States.{Pseudoflow}
+use Rattle.mcf_network.proofs.Marks.{count_small, counted_new}
+use Rattle.mcf_assign.specs.declared.search.Target.{Target}
+use Rattle.mcf_assign.specs.Forests.{IsForest, IsTightArc}
+use Rattle.mcf_assign.specs.Keeping.{IsEnded}
+use Rattle.mcf_assign.specs.Matchings.{AreMatchingPrices, IsColumn, IsMatchedColumn, IsPartialMatching, column_of, row_of}
+use Rattle.mcf_assign.specs.Searches.{AreRaised, HasEntries, IsBestUpTo, Search, Settled, Waits, dist_at, link_at, reach_of}
+use Rattle.mcf_assign.proofs.Nearest.{not_true}
+use Rattle.mcf_assign.proofs.PairLaws.{column_is, row_is}
+use Rattle.mcf_assign.proofs.Raised.{link_tight, raised_ok, target_tight}
+use Rattle.mcf_assign.proofs.Stepping.{reach_small}
+
+module _ (s : Pseudoflow) (y : List ℤ) (q : Search) (source : ℕ) (order : List ℕ) (t : Target) (ok : IsPartialMatching s) (shown : AreMatchingPrices s y) (entries : HasEntries (node_count s.net) q) (ended : IsEnded s y q source order) (best : q.best ≡ Some t) where
+  pub found_arc : IsArcNumber s.net t.arc
+  found_arc = (ended.search.best t best).0.arc
+
+  pub found_free : ¬ IsMatchedColumn s (column_of s t.arc)
+  found_free = (ended.search.best t best).1
+
+  pub found_column : IsColumn s (column_of s t.arc)
+  found_column = column_is s t.arc ok found_arc
+
+  -- the column at the end wasn't settled
+  pub found_new : ¬ Settled q (column_of s t.arc)
+  found_new h = found_free (ended.search.settled_columns (column_of s t.arc) found_column h).0
+
+  pub found_room : length order + 1 ≤ node_count s.net
+  found_room =
+      let count = entries.settled_count in
+      let n = found_column.0 in
+      let node : IsNode (length q.settled) (column_of s t.arc) = (n.0, omega (arith, n, count)) in
+      let more = counted_new q.settled (column_of s t.arc) node (not_true (in_table q.settled (column_of s t.arc)) found_new) in
+      let few = count_small (with_node q.settled (column_of s t.arc)) in
+      let same = length-set q.settled (column_of s t.arc - 1) true in
+      let tally = ended.order_ok.tally in
+      omega (arith, more, few, same, tally, count)
+
+  nearest : (w : ℕ) → IsNode (node_count s.net) w → Waits q w → t.dist ≤ℤ dist_at q w
+  nearest w n h = subst (λ b. IsBestUpTo b (dist_at q w)) best (ended.over w n h)
+
+  pub found_prices : (z : List ℤ) → AreRaised s q t.dist y z → AreMatchingPrices s z
+  found_prices z raised = raised_ok s y z q source t ok ended.search shown best nearest raised
+
+  pub found_forest : (z : List ℤ) → AreRaised s q t.dist y z → IsForest s q source order z
+  found_forest z raised =
+      record {
+        matching = ok;
+        not_matched = ended.search.not_matched;
+        tight = (found_prices z raised).tight;
+        rows = ended.order_ok.rows;
+        columns = λ k p h. (ended.search.pairs k p h).0;
+        pairs = ended.order_ok.pairs;
+        links = λ v column h.
+            let l = (ended.search.settled_columns v column h).1 in
+            record {
+              arc = l.arc;
+              from = l.from;
+              to = l.to;
+              tight = link_tight s y z q source t ok ended.search shown best nearest raised v column h;
+            };
+        earlier = ended.order_ok.links;
+      }
+
+  pub found_tight : (z : List ℤ) → AreRaised s q t.dist y z → IsTightArc s q z t.arc (column_of s t.arc)
+  found_tight z raised =
+      record {
+        arc = found_arc;
+        from = (ended.search.best t best).0.from;
+        to = refl;
+        tight = target_tight s y z q source t ok ended.search shown best nearest raised;
+      }
+
+  -- ---- no distance is far from 0
+
+  module _ (small : (v : ℕ) → IsNode (node_count s.net) v → IsUpTo (10 ^ 29) (at_node y v)) where
+    pub found_near : (v : ℕ) → IsNode (node_count s.net) v → Settled q v → IsUpTo (10 ^ 32) (dist_at q v)
+    found_near v n h =
+        let near = (reach_small s y q source ok entries ended.near).settled v n h in
+        let a = small source ended.search.is_row.0 in
+        let b = small v n in
+        (omega (arith, ints, near, a, b), omega (arith, ints, near, a, b))
+
+    pub found_dist : IsUpTo (10 ^ 32) t.dist
+    found_dist =
+        let near = (reach_small s y q source ok entries ended.near).best t best in
+        let a = small source ended.search.is_row.0 in
+        let b = small (column_of s t.arc) found_column.0 in
+        (omega (arith, ints, near, a, b), omega (arith, ints, near, a, b))

@@ -1,0 +1,296 @@
+-- What a matching keeps, and what a search did to it.
+use Rattle.std.proofs.Common.{◌≡◌, ◌≢◌, ℕ, ◌+◌, ◌-◌, ◌*◌, ◌^◌, ◌<◌, ◌≤◌, Bool, true, false, ltb, List, [], ◌∷◌, ◌++◌, length, get_or, take, drop, replicate, None, Some, ℤ, pos, neg_ℤ, ◌+ℤ◌, ◌-ℤ◌, ◌≤ℤ◌, ◌<ℤ◌, refl, sym, ◌∙◌, ap, subst, arith, ◌⊎◌, inl, inr, vec_capacity}
+use Rattle.std.specs.List.{All, AllPairs, Contains}
+use Rattle.std.proofs.lemmas.Int.{ints, by_lt_z}
+use Rattle.std.proofs.lemmas.Bool.{cases_eq, ltb-true, lt-ltb}
+use Rattle.std.proofs.Math.Seq.{take-append_seam}
+use Rattle.std.proofs.lemmas.List.{get_or_default, get_or-replicate, length-replicate}
+use Rattle.std.proofs.lemmas.List.Elements.{All-contains, Contains-append_left, Contains-get_or, Contains-push, Contains-push_cases}
+use Rattle.std.proofs.lemmas.List.Quantifiers.{all_pairs_push}
+use Rattle.mcf_instance.specs.declared.problem.Problem.TheVariants.{Asn}
+use Rattle.mcf_instance.specs.declared.problem.Side.TheVariants.{Send}
+use Rattle.mcf_instance.specs.Blocking.{in_table}
+use Rattle.mcf_instance.specs.Limits.{wide_limits}
+use Rattle.mcf_instance.specs.Network.{Network, IsArcNumber, IsNode, at_node, node_count}
+use Rattle.mcf_instance.specs.WellFormed.{IsUpTo}
+use Rattle.mcf_network.specs.declared.rid.Rid.{Rid}
+use Rattle.mcf_network.specs.Residual.{head, tail}
+use Rattle.mcf_network.specs.States.{Pseudoflow, IsPseudoflow, amount_at}
+use Rattle.mcf_network.specs.Stuck.{IsStuck}
+use Rattle.mcf_network.specs.Walks.{HasRoom}
+use Rattle.mcf_network.proofs.ArcLaws.{head_is_node, net_arc_at, tail_is_node}
+use Rattle.mcf_network.proofs.Marks.{count_small}
+use Rattle.mcf_network.proofs.StuckLaws.{stuck_sets_block_lem}
+use Rattle.mcf_assign.specs.declared.search.Tables.{Tables}
+use Rattle.mcf_assign.specs.declared.search.Target.{Target}
+use Rattle.mcf_assign.specs.Extending.{Assigned, IsGrown, IsMatched, IsSettledList, IsShownMatching, IsStopped}
+use Rattle.mcf_assign.specs.Forests.{IsChangedWithin, IsOrder, IsReachable}
+use Rattle.mcf_assign.specs.Heaps.{IsHeap}
+use Rattle.mcf_assign.specs.Keeping.{AreFirstPrices, AreNearZero, FreeRowsAreFirst, IsEnded, IsIdle, IsKept, first_price}
+use Rattle.mcf_assign.specs.Matchings.{AreMatchingPrices, AreMates, IsColumn, IsMatchedColumn, IsMatchedRow, IsPair, IsPartialMatching, IsRow, column_of, reduced, row_of}
+use Rattle.mcf_assign.specs.Searches.{AreRaised, HasEntries, Search, Settled, dist_at, reach_of, search_of}
+use Rattle.mcf_assign.specs.Turning.{IsExtended}
+use Rattle.mcf_assign.proofs.Beginning.{over_stuck}
+use Rattle.mcf_assign.proofs.Found.{found_arc, found_column, found_free, found_new, found_prices}
+use Rattle.mcf_assign.proofs.LeastMatchings.{least_matching}
+use Rattle.mcf_assign.proofs.PairLaws.{column_is, pairing_at, row_column, row_is}
+use Rattle.mcf_assign.proofs.Raised.{settled_or_not}
+use Rattle.mcf_assign.proofs.Surpluses.{row_or_column}
+
+-- what a mutable slice of a whole vector leaves
+pub written : {X : Type 0} (n : ℕ) (xs ys : List X) → n ≡ length xs → take n (xs ++ ys) ≡ xs
+written n xs ys e = ap (λ k. take k (xs ++ ys)) e ∙ take-append_seam xs ys
+
+pub shown_kept : (s : Pseudoflow) (y : List ℤ) (mates : List ℕ) (tables : Tables) (reached : List Bool) → IsKept s y mates tables reached → (m : Assigned) → m.flow ≡ s → m.prices ≡ y → IsShownMatching m
+shown_kept s y mates tables reached kept m ef ep =
+    let ok = subst IsPartialMatching (sym ef) kept.matching in
+    let shown : AreMatchingPrices m.flow m.prices = subst (λ x. AreMatchingPrices m.flow x) (sym ep) (subst (λ x. AreMatchingPrices x y) (sym ef) kept.shown) in
+    record { matching = ok; shown = shown; least = least_matching m.flow m.prices ok shown }
+
+-- prices near 0 are small enough for a search
+pub near_small : (s : Pseudoflow) (y y' : List ℤ) → AreNearZero s y → y' ≡ y → (v : ℕ) → IsNode (node_count s.net) v → IsUpTo (10 ^ 29) (at_node y' v)
+near_small s y y' near e v n =
+    let x = near v n in
+    let same = ap (λ z. at_node z v) e in
+    (omega (arith, ints, x, same), omega (arith, ints, x, same))
+
+-- ---- whether a node is matched, as its mate tells
+
+pub mates_tell : (s : Pseudoflow) (mates : List ℕ) (v i x : ℕ) → IsPartialMatching s → AreMates s mates → IsNode (node_count s.net) v → i ≡ v → x ≡ get_or mates (i - 1) x → (ltb 0 x ≡ true → IsMatched s v) × (IsMatched s v → ltb 0 x ≡ true)
+mates_tell s mates v i x ok mated n ei ex =
+    (λ h. forth (ltb-true 0 x h), λ h. lt-ltb 0 x (back h))
+  where
+    same : x ≡ get_or mates (v - 1) 0
+    same = (let count = mated.count in ex ∙ get_or_default mates (i - 1) x 0 (omega (arith, n, ei, count)) ∙ ap (λ j. get_or mates (j - 1) 0) ei)
+
+    forth : 0 < x → IsMatched s v
+    forth some =
+        let here : 0 < get_or mates (v - 1) 0 = omega (arith, same, some) in
+        elim (row_or_column s v ok n) [
+          | inl row ↦ (let p = mated.row v row here in (get_or mates (v - 1) 0, p.0, inl p.1))
+          | inr column ↦ (let p = mated.column v column here in (get_or mates (v - 1) 0, p.0, inr p.1))
+        ]
+
+    back : IsMatched s v → 0 < x
+    back (k, p, inl e) =
+        elim (cases_eq x 0) [
+          | inl none ↦ absurd (mated.no_row v (subst (λ u. IsRow s u) e (row_is s k ok p.arc)) (sym same ∙ none) (k, p, e))
+          | inr m ↦ omega (arith, m)
+        ]
+    back (k, p, inr e) =
+        elim (cases_eq x 0) [
+          | inl none ↦ absurd (mated.no_column v (subst (λ u. IsColumn s u) e (column_is s k ok p.arc)) (sym same ∙ none) (k, p, e))
+          | inr m ↦ omega (arith, m)
+        ]
+
+-- ---- one row more
+
+module _ (s : Pseudoflow) (y z : List ℤ) (q : Search) (row : ℕ) (order : List ℕ) (t : Target) (ok : IsPartialMatching s) (shown : AreMatchingPrices s y) (entries : HasEntries (node_count s.net) q) (ended : IsEnded s y q row order) (best : q.best ≡ Some t) (raised : AreRaised s q t.dist y z) where
+  abbrev c : ℕ
+  c = column_of s t.arc
+
+  settled_more : IsSettledList (node_count s.net) row (order ++ c ∷ [])
+  settled_more =
+      let o = ended.order_ok in
+      let column = found_column s y q row order t ok shown entries ended best in
+      let fresh : ¬ Contains order c = λ (h : Contains order c). found_new s y q row order t ok shown entries ended best (o.members c h) in
+      record {
+        rest = o.rest ++ c ∷ [];
+        first = ap (λ l. l ++ c ∷ []) o.first;
+        once = all_pairs_push (λ u v. u ≢ v) order c o.once (λ k d l e. fresh (subst (λ v. Contains order v) e (Contains-get_or order k d l)));
+        each = λ k d l. elim (Contains-push_cases order c (get_or (order ++ c ∷ []) k d) (Contains-get_or (order ++ c ∷ []) k d l)) [
+          | inl was ↦ All-contains (IsNode (node_count s.net)) order (get_or (order ++ c ∷ []) k d) o.nodes was
+          | inr e ↦ subst (λ v. IsNode (node_count s.net) v) e column.0
+        ];
+      }
+
+  listed_more : (v : ℕ) → IsNode (node_count s.net) v → Settled q v → Contains (order ++ c ∷ []) v
+  listed_more v n h = Contains-append_left order (c ∷ []) v (ended.order_ok.listed v n h)
+
+  pub grown_from : (s' : Pseudoflow) (y0 y1 : List ℤ) (l0 l1 : List ℕ) (r0 r1 : List Bool) → IsExtended s s' z row c → IsChangedWithin s s' q c → l1 ≡ order ++ c ∷ [] → IsGrown (record { flow = s; prices = y0; settled = l0; reached = r0 }) row (record { flow = s'; prices = y1; settled = l1; reached = r1 })
+  grown_from s' y0 y1 l0 l1 r0 r1 ext changed e =
+      record {
+        net = ext.net;
+        rows = λ v. (λ h. ext.rows v h, λ h. row_now v h);
+        columns = ext.columns_kept;
+        settled = subst (λ l. IsSettledList (node_count s.net) row l) (sym e) settled_more;
+        changed = λ k arc n. elim (changed k arc) [
+          | inl same ↦ absurd (n same)
+          | inr both ↦ (
+            subst (λ l. Contains l (row_of s k)) (sym e) (listed_more (row_of s k) (row_is s k ok arc).0 both.0),
+            elim both.1 [
+              | inl h ↦ subst (λ l. Contains l (column_of s k)) (sym e) (listed_more (column_of s k) (column_is s k ok arc).0 h)
+              | inr at ↦ subst (λ l. Contains l (column_of s k)) (sym e) (subst (λ v. Contains (order ++ c ∷ []) v) (sym at) (Contains-push order c))
+            ],
+          )
+        ];
+      }
+    where
+      row_now : (v : ℕ) → IsMatchedRow s v ⊎ (v ≡ row) → IsMatchedRow s' v
+      row_now v (inl h) = ext.rows_kept v h
+      row_now v (inr at) = subst (λ u. IsMatchedRow s' u) (sym at) ext.row_matched
+
+  module _ (near : AreNearZero s y) (first : FreeRowsAreFirst s y) (row_is_row : IsRow s row) where
+    near_now : AreNearZero s z
+    near_now v n =
+        let column = found_column s y q row order t ok shown entries ended best in
+        let top = ended.near.best t best in
+        let at_row = first row row_is_row ended.search.not_matched in
+        let at_column = shown.free c column (found_free s y q row order t ok shown entries ended best) in
+        let few = count_small q.settled in
+        let count = entries.settled_count in
+        let nodes = ok.flow.of_net.nodes in
+        let was = near v n in
+        elim (settled_or_not q v) [
+          | inl h ↦ (
+              let now = raised.settled v n h in
+              let far = ended.near.settled v n h in
+              (omega (arith, ints, top, at_row, at_column, few, count, nodes, now, far), omega (arith, ints, top, at_row, at_column, few, count, nodes, now, far)))
+          | inr g ↦ (let now = raised.others v n g in (omega (arith, ints, now, was), omega (arith, ints, now, was)))
+        ]
+
+    module _ (amounts : List ℤ) (ext : IsExtended s (record { net = s.net; amounts = amounts }) z row c) where
+      shown_now : AreMatchingPrices (record { net = s.net; amounts = amounts }) z
+      shown_now =
+          let prices = found_prices s y q row order t ok shown entries ended best z raised in
+          record {
+            count = prices.count;
+            low = prices.low;
+            tight = ext.tight;
+            columns = prices.columns;
+            free = λ v column none. prices.free v column (λ m. none (ext.columns_kept v m));
+          }
+
+      first_now : FreeRowsAreFirst (record { net = s.net; amounts = amounts }) z
+      first_now v is none =
+          let unsettled : ¬ Settled q v = λ (h : Settled q v). elim (ended.order_ok.rows v is h) [
+            | inl e ↦ none (subst (λ u. IsMatchedRow (record { net = s.net; amounts = amounts }) u) (sym e) ext.row_matched)
+            | inr m ↦ none (ext.rows_kept v m)
+          ] in
+          raised.others v is.0 unsettled ∙ first v is (λ m. none (ext.rows_kept v m))
+
+  idle_more : (tables tables' : Tables) → search_of tables ≡ q → order ≡ tables.order.items → IsHeap tables.heap → node_count s.net ≤ vec_capacity tables.order → tables'.heap ≡ tables.heap → search_of tables' ≡ search_of tables → tables'.order.items ≡ tables.order.items ++ c ∷ [] → vec_capacity tables'.order ≡ vec_capacity tables.order → IsIdle (node_count s.net) tables'
+  idle_more tables tables' eq eo heap room eh es el ec =
+      let same = es ∙ eq in
+      let list : tables'.order.items ≡ order ++ c ∷ [] = el ∙ ap (λ l. l ++ c ∷ []) (sym eo) in
+      record {
+        heap = subst IsHeap (sym eh) heap;
+        entries = subst (λ (x : Search). HasEntries (node_count s.net) x) (sym same) entries;
+        room = omega (arith, room, ec);
+        each = subst (λ (l : List ℕ). All (IsNode (node_count s.net)) l) (sym list) settled_more.each;
+        listed = λ v n h. subst (λ (l : List ℕ). Contains l v) (sym list) (listed_more v n (subst (λ (x : Search). Settled x v) same h));
+      }
+
+pub kept_grown : (s s' : Pseudoflow) (y z : List ℤ) (mates' : List ℕ) (tables tables' : Tables) (reached : List Bool) (row : ℕ) (t : Target) → IsPartialMatching s → AreMatchingPrices s y → AreNearZero s y → FreeRowsAreFirst s y → length reached ≡ node_count s.net → IsHeap tables.heap → HasEntries (node_count s.net) (search_of tables) → node_count s.net ≤ vec_capacity tables.order → IsRow s row → IsEnded s y (search_of tables) row tables.order.items → tables.best ≡ Some t → AreRaised s (search_of tables) t.dist y z → IsExtended s s' z row (column_of s t.arc) → AreMates s' mates' → tables'.heap ≡ tables.heap → search_of tables' ≡ search_of tables → tables'.order.items ≡ tables.order.items ++ column_of s t.arc ∷ [] → vec_capacity tables'.order ≡ vec_capacity tables.order → IsKept s' z mates' tables' reached
+kept_grown s s' y z mates' tables tables' reached row t ok shown near first count heap entries room is ended best raised ext mated eh es el ec =
+    let at_net : Network → Pseudoflow = λ (n : Network). record { net = n; amounts = s'.amounts } in
+    let P : Network → Type 0 = λ (n : Network). IsExtended s (record { net = n; amounts = s'.amounts }) z row (column_of s t.arc) → AreMates (record { net = n; amounts = s'.amounts }) mates' → IsKept (record { net = n; amounts = s'.amounts }) z mates' tables' reached in
+    subst P (sym ext.net) (λ x m. record {
+      matching = x.matching;
+      shown = shown_now s y z (search_of tables) row tables.order.items t ok shown entries ended best raised near first is s'.amounts x;
+      mated = m;
+      idle = idle_more s y z (search_of tables) row tables.order.items t ok shown entries ended best raised tables tables' refl refl heap room eh es el ec;
+      near = near_now s y z (search_of tables) row tables.order.items t ok shown entries ended best raised near first is;
+      free_rows = first_now s y z (search_of tables) row tables.order.items t ok shown entries ended best raised near first is s'.amounts x;
+      count = count;
+    }) ext mated
+
+-- ---- none more
+
+pub stopped_from : (s : Pseudoflow) (y y' y0 : List ℤ) (q : Search) (row : ℕ) (order l0 list : List ℕ) (r0 set : List Bool) → IsPartialMatching s → IsEnded s y q row order → q.best ≡ None → length set ≡ node_count s.net → ((v : ℕ) → IsNode (node_count s.net) v → (in_table set v ≡ true → Contains order v) × (Contains order v → in_table set v ≡ true)) → y' ≡ y0 → list ≡ order → IsStopped (record { flow = s; prices = y0; settled = l0; reached = r0 }) row (record { flow = s; prices = y'; settled = list; reached = set })
+stopped_from s y y' y0 q row order l0 list r0 set ok ended none count members ep el =
+    record {
+      flow = refl;
+      prices = ep;
+      settled = subst (λ l. IsSettledList (node_count s.net) row l) (sym el) (record { rest = o.rest; first = o.first; once = o.once; each = o.nodes });
+      one_per_node = count;
+      all = λ v n. subst (λ l. (in_table set v ≡ true → Contains l v) × (Contains l v → in_table set v ≡ true)) (sym el) (members v n);
+      reachable = λ v n. (λ h. o.reachable v n (out v n h), λ r. into v n (r (in_table q.settled) stuck.closed ended.search.source_settled));
+      blocks = stuck_sets_block_lem s (in_table set) ok.flow now;
+    }
+  where
+    o : IsOrder s q row order
+    o = ended.order_ok
+
+    out : (v : ℕ) → IsNode (node_count s.net) v → in_table set v ≡ true → Settled q v
+    out v n h = o.members v ((members v n).0 h)
+
+    into : (v : ℕ) → IsNode (node_count s.net) v → Settled q v → in_table set v ≡ true
+    into v n h = (members v n).1 (o.listed v n h)
+
+    stuck : IsStuck s (in_table q.settled)
+    stuck = over_stuck s y q row ok ended.search ended.over none
+
+    now : IsStuck s (in_table set)
+    now =
+        record {
+          closed = λ r room h. into (head s.net r) (head_is_node s.net r.arc r.back ok.flow.of_net room.arc) (stuck.closed r room (out (tail s.net r) (tail_is_node s.net r.arc r.back ok.flow.of_net room.arc) h));
+          no_deficit = λ v n h. stuck.no_deficit v n (out v n h);
+          source = (let x = stuck.source in (x.0, x.1, into x.0 x.1 x.2, x.3));
+        }
+
+-- ---- the first matching
+
+abbrev first_state : Network → Pseudoflow
+first_state g = record { net = g; amounts = replicate (length g.arcs) (pos 0) }
+
+no_pair : (g : Network) (k : ℕ) → IsPair (first_state g) k → ⊥
+no_pair g k p =
+    let one = p.one in
+    let arc = p.arc in
+    let zero_at : get_or (replicate (length g.arcs) (pos 0)) (k - 1) (pos 0) ≡ pos 0 = get_or-replicate (length g.arcs) (k - 1) (pos 0) (pos 0) (omega arith) in
+    omega (arith, ints, one, zero_at)
+
+pub kept_first : (g : Network) (y : List ℤ) (mates : List ℕ) (tables : Tables) (reached : List Bool) → IsPseudoflow (first_state g) → g.problem ≡ Asn → AreFirstPrices g y (node_count g) → mates ≡ replicate (node_count g) 0 → IsIdle (node_count g) tables → length reached ≡ node_count g → IsKept (first_state g) y mates tables reached
+kept_first g y mates tables reached flow asn first em idle count =
+    record {
+      matching = ok;
+      shown = record {
+        count = first.one_per_node;
+        low = λ k arc.
+            let row = row_is (first_state g) k ok arc in
+            let column = column_is (first_state g) k ok arc in
+            let a = row_price (row_of (first_state g) k) row in
+            let b = column_price (column_of (first_state g) k) column in
+            let cost = (net_arc_at g k flow.of_net arc).cost_small in
+            omega (arith, ints, a, b, cost);
+        tight = λ k p. absurd (no_pair g k p);
+        columns = λ v column. (let b = column_price v column in omega (arith, ints, b));
+        free = λ v column none. column_price v column;
+      };
+      mated = record {
+        count = ap (λ (l : List ℕ). length l) em ∙ length-replicate (node_count g) 0;
+        column = λ v h some. absurd (no_mate v h.0 some);
+        no_column = λ v h zero m. no_pair g m.0 m.1;
+        row = λ v h some. absurd (no_mate v h.0 some);
+        no_row = λ v h zero m. no_pair g m.0 m.1;
+      };
+      idle = idle;
+      near = λ v n. elim (row_or_column (first_state g) v ok n) [
+        | inl row ↦ (let a = row_price v row in (omega (arith, ints, a), omega (arith, ints, a)))
+        | inr column ↦ (let b = column_price v column in (omega (arith, ints, b), omega (arith, ints, b)))
+      ];
+      free_rows = λ v row none. row_price v row;
+      count = count;
+    }
+  where
+    ok : IsPartialMatching (first_state g)
+    ok =
+        record {
+          flow = flow;
+          problem = asn;
+          once_in_row = λ k j p q e. absurd (no_pair g k p);
+          once_in_column = λ k j p q e. absurd (no_pair g k p);
+        }
+
+    row_price : (v : ℕ) → IsRow (first_state g) v → at_node y v ≡ first_price
+    row_price v row = first.rows v row.0 (let one = row.1 in omega (arith, ints, one))
+
+    column_price : (v : ℕ) → IsColumn (first_state g) v → at_node y v ≡ pos 0
+    column_price v column = first.others v column.0 (let less = column.1 in omega (arith, ints, less))
+
+    no_mate : (v : ℕ) → IsNode (node_count g) v → 0 < get_or mates (v - 1) 0 → ⊥
+    no_mate v n some =
+        let at = ap (λ (l : List ℕ). get_or l (v - 1) 0) em in
+        let zero_at = get_or-replicate {A = ℕ} (node_count g) (v - 1) 0 0 (omega (arith, n)) in
+        omega (arith, at, zero_at, some)

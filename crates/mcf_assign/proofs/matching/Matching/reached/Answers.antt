@@ -1,0 +1,9 @@
+use Rattle.std.proofs.Common.{ap, sym}
+use Rattle.mcf_assign.specs.Extending.{Assigned}
+use Rattle.mcf_assign.proofs.Kept.{shown_kept}
+use Rattle.mcf_assign.proofs.matching.Matching.reached.Goals as goal
+
+pub returns-clause-shown : goal.returns-clause-shown
+returns-clause-shown c =
+    let i = c.self.inside in
+    shown_kept i.state i.prices.items i.mates.items i.tables i.reached c.self.invariant c.args.self.now (sym (ap (λ (m : Assigned). m.flow) c.self.view_is)) (sym (ap (λ (m : Assigned). m.prices) c.self.view_is))

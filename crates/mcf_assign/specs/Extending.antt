@@ -1,0 +1,61 @@
+-- What a matching is to its callers, and what one search does to it.
+use Rattle.std.specs.Prelude.{◌≡◌, ◌≢◌, ◌↔◌, ℕ, Bool, true, List, ◌∷◌, length, ℤ, ◌⊎◌}
+use Rattle.std.specs.List.{All, AllPairs, Contains}
+use Rattle.mcf_instance.specs.declared.problem.Side.TheVariants.{Send}
+use Rattle.mcf_instance.specs.Blocking.{Blocks, in_table}
+use Rattle.mcf_instance.specs.Network.{IsArcNumber, IsNode, node_count}
+use Rattle.mcf_network.specs.States.{Pseudoflow, amount_at}
+use Rattle.mcf_assign.specs.declared.extended.Extended.{Extended}
+use Rattle.mcf_assign.specs.declared.extended.Extended.TheVariants.{Matched, Blocked}
+use Rattle.mcf_assign.specs.Forests.{IsReachable}
+use Rattle.mcf_assign.specs.Matchings.{AreMatchingPrices, IsLeastMatching, IsMatchedColumn, IsMatchedRow, IsPair, IsPartialMatching, column_of, row_of}
+
+-- the amounts, the prices, the nodes that the last search settled in their order, and the table of the set that the
+-- last search reached that found no path
+pub record Assigned : Type 0 where
+  pub flow : Pseudoflow
+  pub prices : List ℤ
+  pub settled : List ℕ
+  pub reached : List Bool
+
+-- an arc of amount 1 ends at the node
+abbrev pub IsMatched : Pseudoflow → ℕ → Type 0
+IsMatched s v = (k : ℕ) × IsPair s k × ((row_of s k ≡ v) ⊎ (column_of s k ≡ v))
+
+-- a partial matching with prices that show it, so that no other that matches the same rows costs less
+pub record IsShownMatching (m : Assigned) : Type 0 where
+  pub matching : IsPartialMatching m.flow
+  pub shown : AreMatchingPrices m.flow m.prices
+  pub least : IsLeastMatching m.flow
+
+-- nodes of the net, none twice, the row first
+pub record IsSettledList (nodes row : ℕ) (list : List ℕ) : Type 0 where
+  pub rest : List ℕ
+  pub first : list ≡ row ∷ rest
+  pub once : AllPairs (λ u v. u ≢ v) list
+  pub each : All (IsNode nodes) list
+
+-- the rows that are matched are those before and the row asked, matched columns stay matched, and the search settled
+-- both ends of each arc whose amount changed
+pub record IsGrown (old : Assigned) (row : ℕ) (new : Assigned) : Type 0 where
+  pub net : new.flow.net ≡ old.flow.net
+  pub rows : (v : ℕ) → IsMatchedRow new.flow v ↔ (IsMatchedRow old.flow v ⊎ (v ≡ row))
+  pub columns : (v : ℕ) → IsMatchedColumn old.flow v → IsMatchedColumn new.flow v
+  pub settled : IsSettledList (node_count old.flow.net) row new.settled
+  pub changed : (k : ℕ) → IsArcNumber old.flow.net k → amount_at new.flow k ≢ amount_at old.flow k → Contains new.settled (row_of old.flow k) × Contains new.settled (column_of old.flow k)
+
+-- no amount and no price changed; what was reached is what was settled, and that is the row and every node to which
+-- residual arcs with room lead from it; it must send more than it can
+pub record IsStopped (old : Assigned) (row : ℕ) (new : Assigned) : Type 0 where
+  pub flow : new.flow ≡ old.flow
+  pub prices : new.prices ≡ old.prices
+  pub settled : IsSettledList (node_count old.flow.net) row new.settled
+  pub one_per_node : length new.reached ≡ node_count old.flow.net
+  pub all : (v : ℕ) → IsNode (node_count old.flow.net) v → (in_table new.reached v ≡ true) ↔ Contains new.settled v
+  pub reachable : (v : ℕ) → IsNode (node_count old.flow.net) v → (in_table new.reached v ≡ true) ↔ IsReachable old.flow row v
+  pub blocks : Blocks old.flow.net (in_table new.reached) Send
+
+-- what one search from a row does
+abbrev pub IsExtension : Assigned → ℕ → Extended → Assigned → Type 0
+IsExtension old row Matched new = IsGrown old row new
+IsExtension old row Blocked new = IsStopped old row new

@@ -1,0 +1,57 @@
+-- What a matching keeps between searches, and what a search that is over has shown.
+use Rattle.std.specs.Prelude.{◌≡◌, ℕ, ◌<◌, ◌≤◌, ◌^◌, Bool, true, List, [], length, ℤ, pos, neg_ℤ, ◌<ℤ◌, ◌≤ℤ◌, vec_capacity}
+use Rattle.std.specs.List.{All, Contains}
+use Rattle.mcf_instance.specs.Limits.{wide_limits}
+use Rattle.mcf_instance.specs.Network.{Network, IsNode, at_node, node_count}
+use Rattle.mcf_instance.specs.WellFormed.{IsUpTo}
+use Rattle.mcf_network.specs.States.{Pseudoflow}
+use Rattle.mcf_assign.specs.declared.search.Tables.{Tables}
+use Rattle.mcf_assign.specs.Forests.{IsOrder}
+use Rattle.mcf_assign.specs.Heaps.{IsHeap}
+use Rattle.mcf_assign.specs.Matchings.{AreMatchingPrices, AreMates, IsMatchedRow, IsPartialMatching, IsRow}
+use Rattle.mcf_assign.specs.Searches.{HasEntries, IsNear, IsOver, IsSearch, Search, Settled, reach_of, search_of}
+
+-- tables for so many nodes: what is settled is listed, and there is room to list every node
+pub record IsIdle (nodes : ℕ) (tables : Tables) : Type 0 where
+  pub heap : IsHeap tables.heap
+  pub entries : HasEntries nodes (search_of tables)
+  pub room : nodes ≤ vec_capacity tables.order
+  pub each : All (IsNode nodes) tables.order.items
+  pub listed : (v : ℕ) → IsNode nodes v → Settled (search_of tables) v → Contains tables.order.items v
+
+-- a search that is over, with the list of what it settled
+pub record IsEnded (s : Pseudoflow) (y : List ℤ) (q : Search) (source : ℕ) (order : List ℕ) : Type 0 where
+  pub search : IsSearch s y q source []
+  pub over : IsOver (node_count s.net) q
+  pub near : IsNear s y q source (reach_of q)
+  pub order_ok : IsOrder s q source order
+
+-- how far from 0 a price may lie: twice the length of the longest walk of a search, and some more
+abbrev pub reach_limit : ℕ
+reach_limit = 10 ^ 22
+
+abbrev pub AreNearZero : Pseudoflow → List ℤ → Type 0
+AreNearZero s y = (v : ℕ) → IsNode (node_count s.net) v → IsUpTo reach_limit (at_node y v)
+
+-- the price with which each row begins: so far below 0 that no arc has a negative reduced cost
+abbrev pub first_price : ℤ
+first_price = neg_ℤ (pos wide_limits.cost)
+
+-- the first prices of so many nodes: those of rows, and 0 for the others
+pub record AreFirstPrices (g : Network) (y : List ℤ) (nodes : ℕ) : Type 0 where
+  pub one_per_node : length y ≡ node_count g
+  pub rows : (v : ℕ) → IsNode nodes v → pos 0 <ℤ at_node g.supplies v → at_node y v ≡ first_price
+  pub others : (v : ℕ) → IsNode nodes v → at_node g.supplies v ≤ℤ pos 0 → at_node y v ≡ pos 0
+  pub rest : (v : ℕ) → nodes < v → at_node y v ≡ pos 0
+
+abbrev pub FreeRowsAreFirst : Pseudoflow → List ℤ → Type 0
+FreeRowsAreFirst s y = (v : ℕ) → IsRow s v → ¬ IsMatchedRow s v → at_node y v ≡ first_price
+
+pub record IsKept (s : Pseudoflow) (y : List ℤ) (mates : List ℕ) (tables : Tables) (reached : List Bool) : Type 0 where
+  pub matching : IsPartialMatching s
+  pub shown : AreMatchingPrices s y
+  pub mated : AreMates s mates
+  pub idle : IsIdle (node_count s.net) tables
+  pub near : AreNearZero s y
+  pub free_rows : FreeRowsAreFirst s y
+  pub count : length reached ≡ node_count s.net

@@ -1,0 +1,140 @@
+//! A whole search, and the matching made greater by what it found.
+ghost use Rattle.std.specs.Prelude.{◌≡◌, ◌≢◌, ◌+◌, ◌-◌, ◌^◌, ◌<◌, ◌≤◌, ◌∷◌, ◌++◌, ◌↔◌, ℕ, ℤ, Bool, List, [], Some, false, true, IfOk, OnErr, length, pos, vec_capacity};
+ghost use Rattle.std.specs.List.{All, Contains};
+ghost use Rattle.mcf_instance.specs.Blocking.{in_table};
+ghost use Rattle.mcf_instance.specs.Network.{IsNode, at_node, node_count};
+ghost use Rattle.mcf_instance.specs.WellFormed.{IsUpTo};
+ghost use Rattle.mcf_assign.specs.Forests.{IsChangedWithin};
+ghost use Rattle.mcf_assign.specs.Heaps.{IsHeap};
+ghost use Rattle.mcf_assign.specs.Keeping.{IsEnded, IsIdle};
+ghost use Rattle.mcf_assign.specs.Matchings.{AreMatchingPrices, AreMates, IsMatchedRow, IsPartialMatching, IsRow, column_of};
+ghost use Rattle.mcf_assign.specs.Searches.{AreRaised, HasEntries, Settled, search_of};
+ghost use Rattle.mcf_assign.specs.Turning.{IsExtended};
+
+use crate::heap::Heap;
+use crate::search::{Tables, Target};
+use mcf_network::{Net, NodeSet, State};
+use mcf_text::{ArcId, NoMemory, NodeId};
+use std::alloc::Global;
+
+impl Tables {
+    /// The tables for a net, with all the room that its searches need.
+    pub(crate) fn new(alloc: Global, net: &Net) -> Result<Tables, NoMemory>
+        ensures idle { IfOk result (IsIdle (node_count net.now)) }
+        ensures order { IfOk result (λ tables. tables.order.items ≡ []) }
+        ensures wants { OnErr result (1 ≤ node_count net.now) }
+    {
+        let nodes = net.node_count() as usize;
+        let mut marks = Vec::new(alloc);
+        marks.resize(nodes, false)?;
+        let mut links = Vec::new(alloc);
+        links.resize(nodes, 0)?;
+        Ok(Tables {
+            heap: Heap::new(alloc, nodes)?,
+            marks,
+            links,
+            best: None,
+            order: Vec::with_capacity(alloc, nodes)?,
+        })
+    }
+
+    /// Searches for a shortest augmenting path from a row that is not matched, and gives its last arc if there is one.
+    pub(crate) fn search(
+        &mut self,
+        state: &State<'_>,
+        prices: &[i128],
+        mates: &[u32],
+        source: NodeId,
+    ) -> Option<Target>
+        requires matching { IsPartialMatching state.now }
+        requires prices { AreMatchingPrices state.now prices.now }
+        requires mates { AreMates state.now mates.now }
+        requires idle { IsIdle (node_count state.now.net) self.old }
+        requires small { (v : ℕ) → IsNode (node_count state.now.net) v → IsUpTo (10 ^ 29) (at_node prices.now v) }
+        requires row { IsRow state.now source }
+        requires free { ¬ IsMatchedRow state.now source }
+        ensures heap { IsHeap self.new.heap }
+        ensures entries { HasEntries (node_count state.now.net) (search_of self.new) }
+        ensures room { node_count state.now.net ≤ vec_capacity self.new.order }
+        ensures ended { IsEnded state.now prices.now (search_of self.new) source self.new.order.items }
+        ensures best { result ≡ self.new.best }
+    {
+        self.reset();
+        self.begin(state, source);
+        self.run(state, prices, mates, source);
+        self.best
+    }
+
+    /// Matches the row of a search that found a path which ends with an arc: prices rise, the path is turned, and the
+    /// column at its end is settled too.
+    pub(crate) fn augment(
+        &mut self,
+        state: &mut State<'_>,
+        prices: &mut [i128],
+        mates: &mut [u32],
+        target: Target,
+    )
+        requires matching { IsPartialMatching state.old }
+        requires prices { AreMatchingPrices state.old prices.old }
+        requires mates { AreMates state.old mates.old }
+        requires entries { HasEntries (node_count state.old.net) (search_of self.old) }
+        requires best { self.old.best ≡ Some target }
+        requires ended { (source : ℕ) × IsEnded state.old prices.old (search_of self.old) source self.old.order.items }
+        requires small { (v : ℕ) → IsNode (node_count state.old.net) v → IsUpTo (10 ^ 29) (at_node prices.old v) }
+        requires room { node_count state.old.net ≤ vec_capacity self.old.order }
+        ensures raised { AreRaised state.old (search_of self.old) target.dist prices.old prices.new }
+        ensures extended { (source : ℕ) → IsEnded state.old prices.old (search_of self.old) source self.old.order.items → IsExtended state.old state.new prices.new source (column_of state.old target.arc) }
+        ensures mates { AreMates state.new mates.new }
+        ensures changed { IsChangedWithin state.old state.new (search_of self.old) (column_of state.old target.arc) }
+        ensures order { self.new.order.items ≡ self.old.order.items ++ column_of state.old target.arc ∷ [] }
+        ensures room { vec_capacity self.new.order ≡ vec_capacity self.old.order }
+        ensures tables { search_of self.new ≡ search_of self.old }
+        ensures heap { self.new.heap ≡ self.old.heap }
+    {
+        let arc = ArcId::new(target.arc);
+        self.raise(prices, target.dist);
+        self.turn(state, mates, arc);
+        let (_, column) = state.net().ends(arc);
+        self.order.push_reserved(column);
+    }
+
+    // Takes back what the search before left, in time of what it settled.
+    fn reset(&mut self)
+        requires heap { IsHeap self.old.heap }
+        requires each { All (IsNode (length self.old.marks.items)) self.old.order.items }
+        requires listed { (v : ℕ) → IsNode (length self.old.marks.items) v → Settled (search_of self.old) v → Contains self.old.order.items v }
+        ensures heap { IsHeap self.new.heap }
+        ensures empty { self.new.heap.count ≡ 0 }
+        ensures entries { (nodes : ℕ) → HasEntries nodes (search_of self.old) → HasEntries nodes (search_of self.new) }
+        ensures unsettled { (v : ℕ) → in_table self.new.marks.items v ≡ false }
+        ensures none { self.new.order.items ≡ [] }
+        ensures room { vec_capacity self.new.order ≡ vec_capacity self.old.order }
+    {
+        self.heap.clear();
+        unmark(self.marks.as_mut_slice(), self.order.as_slice());
+        self.order.clear();
+    }
+}
+
+// Takes back the marks of listed nodes: all, where each marked node is listed.
+fn unmark(marks: &mut [bool], nodes: &[NodeId])
+    requires each { All (IsNode (length marks.old)) nodes.now }
+    requires listed { (v : ℕ) → IsNode (length marks.old) v → in_table marks.old v ≡ true → Contains nodes.now v }
+    ensures { (v : ℕ) → in_table marks.new v ≡ false }
+{
+    'nodes: for v in nodes {
+        marks[v.get() as usize - 1] = false;
+    }
+}
+
+/// Puts listed nodes into a set, in place of those that it had.
+pub(crate) fn fill(set: &mut NodeSet, nodes: &[NodeId])
+    requires { All (IsNode (length set.old)) nodes.now }
+    ensures count { length set.new ≡ length set.old }
+    ensures members { (v : ℕ) → IsNode (length set.old) v → (in_table set.new v ≡ true) ↔ Contains nodes.now v }
+{
+    set.clear();
+    'nodes: for v in nodes {
+        set.insert(*v);
+    }
+}

@@ -1,0 +1,151 @@
+//! Partial matchings, made greater row by row.
+ghost use Rattle.std.specs.Prelude.{◌≡◌, ◌+◌, ◌-◌, ◌≤◌, ◌↔◌, ℕ, [], IfOk, IsTrue, OnErr, length, pos, neg_ℤ, replicate};
+ghost use Rattle.mcf_instance.specs.declared.problem.Problem.TheVariants.{Asn};
+ghost use Rattle.mcf_instance.specs.Network.{IsNode, at_node, node_count};
+ghost use Rattle.mcf_assign.specs.Extending.{IsExtension, IsMatched, IsShownMatching};
+ghost use Rattle.mcf_assign.specs.Keeping.{AreFirstPrices, first_price};
+ghost use Rattle.mcf_assign.specs.Matchings.{IsMatchedRow, IsRow};
+
+use crate::augmenting::fill;
+use crate::extended::Extended;
+use crate::search::Tables;
+use mcf_network::{Net, NodeSet, State};
+use mcf_text::{NoMemory, NodeId};
+use std::alloc::Global;
+use std::marker::Model;
+
+/// A partial matching of the net of an assignment, with prices that show that no other matches the same rows for less.
+///
+/// Rows are the nodes of supply 1, columns those of supply -1. A clause sees the amounts, the prices, the nodes that
+/// the last search settled, and the table of the set that the last search reached that found no path.
+#[derive(Drop)]
+pub struct Matching<'n> {
+    state: State<'n>,
+    prices: Vec<i128>,
+    mates: Vec<u32>,
+    tables: Tables,
+    reached: NodeSet,
+}
+
+impl<'n> Model for Matching<'n> {
+    ghost use Rattle.mcf_assign.specs.Extending.{Assigned};
+
+    ghost Value = { Assigned };
+
+    ghost use Rattle.mcf_assign.specs.Keeping.{IsKept};
+
+    ghost view = { λ a. record { flow = a.state; prices = a.prices.items; settled = a.tables.order.items; reached = a.reached } };
+
+    ghost invariant = { λ a. IsKept a.state a.prices.items a.mates.items a.tables a.reached };
+}
+
+impl<'n> Matching<'n> {
+    /// The matching without pairs.
+    ///
+    /// All the room that its searches need is made here.
+    ///
+    /// # Errors
+    ///
+    /// Want of memory, where a growth was refused; a net without nodes wants none.
+    pub fn start(alloc: Global, net: &'n Net) -> Result<Matching<'n>, NoMemory>
+        requires { net.now.problem ≡ Asn }
+        ensures value { IfOk result (λ m. m.flow ≡ record { net = net.now; amounts = replicate (length net.now.arcs) (pos 0) }) }
+        ensures shown { IfOk result IsShownMatching }
+        ensures settled { IfOk result (λ m. m.settled ≡ []) }
+        ensures wants { OnErr result (1 ≤ node_count net.now) }
+    {
+        let state = State::zero(alloc, net)?;
+        let prices = first_prices(alloc, net)?;
+        let mates = no_mates(alloc, net)?;
+        Ok(Matching {
+            state,
+            prices,
+            mates,
+            tables: Tables::new(alloc, net)?,
+            reached: NodeSet::new(alloc, net)?,
+        })
+    }
+
+    /// Matches one row more, or finds a set that must send more than it can.
+    ///
+    /// It searches for a shortest augmenting path from the row by reduced costs (Dijkstra; Ahuja, Magnanti and Orlin,
+    /// Network Flows, sections 9.7 and 12.4), and ends at the first column that isn't matched. Costs may have either
+    /// sign.
+    pub fn extend(&mut self, row: NodeId) -> Extended
+        requires row { IsRow self.old.flow row }
+        requires free { ¬ IsMatchedRow self.old.flow row }
+        ensures extended { IsExtension self.old row result self.new }
+        ensures shown { IsShownMatching self.new }
+    {
+        let prices = self.prices.as_slice();
+        let mates = self.mates.as_slice();
+        let found = self.tables.search(&self.state, prices, mates, row);
+        match found {
+            Some(target) => {
+                let prices = self.prices.as_mut_slice();
+                let mates = self.mates.as_mut_slice();
+                self.tables.augment(&mut self.state, prices, mates, target);
+                Extended::Matched
+            }
+            None => {
+                fill(&mut self.reached, self.tables.order.as_slice());
+                Extended::Blocked
+            }
+        }
+    }
+
+    /// Whether an arc of amount 1 ends at a node.
+    pub fn matched(&self, v: NodeId) -> bool
+        requires { IsNode (node_count self.now.flow.net) v }
+        ensures value { IsTrue result ↔ IsMatched self.now.flow v }
+        ensures shown { IsShownMatching self.now }
+    {
+        self.mates[v.get() as usize - 1] > 0
+    }
+
+    /// The nodes that the last search settled, in that order; none before the first.
+    pub fn settled(&self) -> &[NodeId]
+        ensures value { result.now ≡ self.now.settled }
+        ensures shown { IsShownMatching self.now }
+    {
+        self.tables.order.as_slice()
+    }
+
+    /// The set that the last search reached that found no path; empty before there is one.
+    pub fn reached(&self) -> &NodeSet
+        ensures value { result.now ≡ self.now.reached }
+        ensures shown { IsShownMatching self.now }
+    {
+        &self.reached
+    }
+}
+
+// The prices before the first search: those of columns are 0, and those of rows so far below it that no arc has a
+// negative reduced cost.
+fn first_prices(alloc: Global, net: &Net) -> Result<Vec<i128>, NoMemory>
+    ensures prices { IfOk result (λ made. AreFirstPrices net.now made.items (node_count net.now)) }
+    ensures wants { OnErr result (1 ≤ node_count net.now) }
+{
+    let nodes = net.node_count();
+    let mut prices = Vec::new(alloc);
+    prices.resize(nodes as usize, 0)?;
+    'nodes: for number in 0..nodes {
+        if net.supply(NodeId::new(number + 1)) > 0 {
+            prices[number as usize] = FIRST_PRICE;
+        }
+    }
+    Ok(prices)
+}
+
+// The mates before the first search: there are none.
+fn no_mates(alloc: Global, net: &Net) -> Result<Vec<u32>, NoMemory>
+    ensures value { IfOk result (λ made. made.items ≡ replicate (node_count net.now) 0) }
+    ensures wants { OnErr result (1 ≤ node_count net.now) }
+{
+    let mut mates = Vec::new(alloc);
+    mates.resize(net.node_count() as usize, 0)?;
+    Ok(mates)
+}
+
+// The price with which a row begins: no cost is further below 0.
+const FIRST_PRICE: i128 = -1_000_000_000_000_000;
