@@ -1,0 +1,68 @@
+-- The amounts of a basis: those of the arcs of the net, and those of the artificial arcs.
+use Rattle.std.proofs.Common.{◌≡◌, ◌≢◌, ℕ, zero, suc, ◌+◌, ◌-◌, ◌<◌, ◌≤◌, ◌++◌, ◌⊎◌, inl, inr, Bool, true, false, eqb, List, [], ◌∷◌, length, map, take, drop, get_or, refl, sym, ap, ◌∙◌, arith, subst, ℤ, pos, ◌+ℤ◌, ◌-ℤ◌, ◌*ℤ◌, ◌≤ℤ◌}
+use Rattle.std.specs.List.{range_with_len}
+use Rattle.std.proofs.lemmas.Int.{ints}
+use Rattle.std.proofs.lemmas.List.{get_or-take, get_or-drop, take-append-drop, length-take-le, length-drop}
+use Rattle.mcf_instance.specs.declared.arc.Arc.{Arc}
+use Rattle.mcf_instance.specs.Flow.{net, outflow, inflow}
+use Rattle.mcf_instance.specs.Network.{Network, IsArcNumber, IsNode, at_node, flow_sum, node_count, when}
+use Rattle.mcf_instance.proofs.ArcSums.{flow_sum-append}
+use Rattle.mcf_network.specs.Nets.{IsNet, IsNetArc}
+use Rattle.mcf_network.specs.Residual.{no_arc, arc_at}
+use Rattle.mcf_network.proofs.ArcLaws.{net_arc_at}
+use Rattle.mcf_network.proofs.StateLaws.{when-zero}
+use Rattle.mcf_basis.specs.Artificial.{artificial_arc, with_artificial}
+use Rattle.mcf_basis.specs.Bases.{IsBasis}
+use Rattle.mcf_basis.specs.Laws.{HasNoArtificial}
+use Rattle.mcf_basis.specs.Structures.{TreeStructure, carried, state_of}
+use Rattle.mcf_basis.proofs.Labels.{label_count, own_arc}
+
+-- a sum over all arcs: that over the arcs of the net, and that over the artificial ones
+pub split_sum : (t : Arc → ℤ → ℤ) (g : Network) (amounts : List ℤ) → length g.arcs ≤ length amounts →
+    flow_sum t (with_artificial g).arcs amounts ≡ flow_sum t g.arcs (take (length g.arcs) amounts) +ℤ flow_sum t (map (artificial_arc g) (range_with_len 1 (node_count g))) (drop (length g.arcs) amounts)
+unfolding with_artificial
+split_sum t g amounts h =
+    ap (flow_sum t (g.arcs ++ map (artificial_arc g) (range_with_len 1 (node_count g)))) (sym (take-append-drop (length g.arcs) amounts))
+    ∙ flow_sum-append t g.arcs (map (artificial_arc g) (range_with_len 1 (node_count g))) (take (length g.arcs) amounts) (drop (length g.arcs) amounts) (sym (length-take-le (length g.arcs) amounts h))
+
+-- a sum over amounts that are all 0
+pub sum_of_zeros : (t : Arc → ℤ → ℤ) → ((a : Arc) → t a (pos 0) ≡ pos 0) → (arcs : List Arc) (flow : List ℤ) → ((i : ℕ) → i < length flow → get_or flow i (pos 0) ≡ pos 0) → flow_sum t arcs flow ≡ pos 0
+sum_of_zeros t zeros [] flow each = refl
+sum_of_zeros t zeros (a ∷ arcs) [] each = refl
+sum_of_zeros t zeros (a ∷ arcs) (f ∷ flow) each =
+    let here : f ≡ pos 0 = each 0 (omega arith) in
+    let first : t a f ≡ pos 0 = ap (t a) here ∙ zeros a in
+    let rest : flow_sum t arcs flow ≡ pos 0 = sum_of_zeros t zeros arcs flow (λ i h. each (suc i) (omega arith)) in
+    omega (arith, ints, first, rest)
+
+module _ (b : TreeStructure) (ok : IsBasis b) where
+  pub amount_count : length b.amounts ≡ length b.net.arcs + node_count b.net
+  amount_count = ok.flow.one_per_label ∙ label_count b.net
+
+  pub own_count : length (state_of b).amounts ≡ length b.net.arcs
+  own_count = let e = amount_count in length-take-le (length b.net.arcs) b.amounts (omega (arith, e))
+
+  -- the amount of an arc of the net, in the state and in the basis
+  pub own_carried : (k : ℕ) (d : ℤ) → IsArcNumber b.net k → get_or (state_of b).amounts (k - 1) d ≡ get_or b.amounts (k - 1) d
+  own_carried k d h = get_or-take (length b.net.arcs) b.amounts (k - 1) d (omega arith)
+
+  -- without artificial amounts the net at a node is that over the arcs of the net
+  no_rest : HasNoArtificial b → (i : ℕ) → i < length (drop (length b.net.arcs) b.amounts) → get_or (drop (length b.net.arcs) b.amounts) i (pos 0) ≡ pos 0
+  no_rest none i h =
+      let e = amount_count in
+      let l : length (drop (length b.net.arcs) b.amounts) ≡ length b.amounts - length b.net.arcs = length-drop (length b.net.arcs) b.amounts in
+      let place : length b.net.arcs + (i + 1) - 1 ≡ length b.net.arcs + i = omega arith in
+      get_or-drop (length b.net.arcs) b.amounts i (pos 0) ∙ (sym (ap (λ j. get_or b.amounts j (pos 0)) place) ∙ none (i + 1) (omega (arith, e, l, h), omega (arith, e, l, h)))
+
+  pub net_without : HasNoArtificial b → (v : ℕ) → net (with_artificial b.net).arcs b.amounts v ≡ net b.net.arcs (state_of b).amounts v
+  net_without none v =
+      let e = amount_count in
+      let out : outflow (with_artificial b.net).arcs b.amounts v ≡ outflow b.net.arcs (state_of b).amounts v +ℤ outflow (map (artificial_arc b.net) (range_with_len 1 (node_count b.net))) (drop (length b.net.arcs) b.amounts) v =
+      split_sum (λ a f. when (eqb a.src v) f) b.net b.amounts (omega (arith, e)) in
+      let inn : inflow (with_artificial b.net).arcs b.amounts v ≡ inflow b.net.arcs (state_of b).amounts v +ℤ inflow (map (artificial_arc b.net) (range_with_len 1 (node_count b.net))) (drop (length b.net.arcs) b.amounts) v =
+      split_sum (λ a f. when (eqb a.dst v) f) b.net b.amounts (omega (arith, e)) in
+      let out0 : outflow (map (artificial_arc b.net) (range_with_len 1 (node_count b.net))) (drop (length b.net.arcs) b.amounts) v ≡ pos 0 =
+      sum_of_zeros (λ a f. when (eqb a.src v) f) (λ a. when-zero (eqb a.src v)) (map (artificial_arc b.net) (range_with_len 1 (node_count b.net))) (drop (length b.net.arcs) b.amounts) (no_rest none) in
+      let inn0 : inflow (map (artificial_arc b.net) (range_with_len 1 (node_count b.net))) (drop (length b.net.arcs) b.amounts) v ≡ pos 0 =
+      sum_of_zeros (λ a f. when (eqb a.dst v) f) (λ a. when-zero (eqb a.dst v)) (map (artificial_arc b.net) (range_with_len 1 (node_count b.net))) (drop (length b.net.arcs) b.amounts) (no_rest none) in
+      omega (arith, ints, out, inn, out0, inn0)

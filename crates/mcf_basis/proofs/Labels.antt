@@ -1,0 +1,95 @@
+-- The arcs of a net with its artificial arcs, by their labels.
+use Rattle.std.proofs.Common.{◌≡◌, ◌≢◌, ℕ, ◌+◌, ◌-◌, ◌<◌, ◌≤◌, ◌++◌, ◌⊎◌, inl, inr, Bool, true, false, List, length, map, refl, ap, sym, ◌∙◌, arith, subst, get_or, ℤ, pos, length-append}
+use Rattle.std.specs.List.{range_with_len}
+use Rattle.std.proofs.lemmas.Bool.{cases_lt}
+use Rattle.std.proofs.lemmas.List.{get_or_append_left, get_or-append-add, length-map}
+use Rattle.std.proofs.lemmas.List.FromFn.{length-range_with_len, length-map-range_with_len, get_or-map-range_with_len}
+use Rattle.mcf_instance.specs.declared.arc.Arc.{Arc}
+use Rattle.mcf_instance.specs.Network.{Network, IsArcNumber, IsNode, node_count}
+use Rattle.mcf_network.specs.Nets.{IsNet}
+use Rattle.mcf_network.specs.Residual.{no_arc, arc_at}
+use Rattle.mcf_network.proofs.ArcLaws.{ends_at}
+use Rattle.mcf_basis.specs.Artificial.{IsLabel, artificial_arc, artificial_cost, is_sender, with_artificial}
+use Rattle.mcf_basis.specs.Structures.{Joins}
+use Rattle.mcf_basis.specs.Structures.Joins.{out_of, into}
+
+pub label_count : (g : Network) → length (with_artificial g).arcs ≡ length g.arcs + node_count g
+unfolding with_artificial
+label_count g =
+    length-append g.arcs (map (artificial_arc g) (range_with_len 1 (node_count g)))
+    ∙ ap (λ k. length g.arcs + k) (length-map-range_with_len (artificial_arc g) 1 (node_count g))
+
+-- an arc of the net by its number
+pub own_arc : (g : Network) (k : ℕ) → IsArcNumber g k → arc_at (with_artificial g) k ≡ arc_at g k
+unfolding with_artificial
+own_arc g k h =
+    get_or_append_left g.arcs (map (artificial_arc g) (range_with_len 1 (node_count g))) no_arc (k - 1) (omega arith)
+
+-- an artificial arc by its node
+pub added_arc : (g : Network) (v label : ℕ) → IsNode (node_count g) v → label ≡ length g.arcs + v → arc_at (with_artificial g) label ≡ artificial_arc g v
+unfolding with_artificial
+added_arc g v label h e =
+    let place : label - 1 ≡ length g.arcs + (v - 1) = omega arith in
+    ap (λ i. get_or (g.arcs ++ map (artificial_arc g) (range_with_len 1 (node_count g))) i no_arc) place
+    ∙ (get_or-append-add g.arcs (map (artificial_arc g) (range_with_len 1 (node_count g))) (v - 1) no_arc
+    ∙ get_or-map-range_with_len (artificial_arc g) 1 (node_count g) (v - 1) v no_arc (omega arith) (omega arith))
+
+-- a label is that of an arc of the net, or of an artificial arc
+pub data LabelCase (g : Network) (label : ℕ) : Type 0 where
+  own : IsArcNumber g label → LabelCase g label
+  added : (v : ℕ) → IsNode (node_count g) v → label ≡ length g.arcs + v → LabelCase g label
+
+pub label_case : (g : Network) (label : ℕ) → IsLabel g label → LabelCase g label
+label_case g label h =
+    let count : length (with_artificial g).arcs ≡ length g.arcs + node_count g = label_count g in
+    elim (cases_lt (length g.arcs) label) [
+      | inl gt ↦ added (label - length g.arcs) (omega arith, omega arith) (omega arith)
+      | inr le ↦ own (omega arith, omega arith)
+    ]
+
+pub own_label : (g : Network) (k : ℕ) → IsArcNumber g k → IsLabel g k
+own_label g k h =
+    let count : length (with_artificial g).arcs ≡ length g.arcs + node_count g = label_count g in (omega arith, omega arith)
+
+pub added_label : (g : Network) (v : ℕ) → IsNode (node_count g) v → IsLabel g (length g.arcs + v)
+added_label g v h =
+    let count : length (with_artificial g).arcs ≡ length g.arcs + node_count g = label_count g in (omega arith, omega arith)
+
+-- an artificial arc joins its node and the root
+one_is_root : (g : Network) (v : ℕ) (sender : Bool) → is_sender g v ≡ sender → ((artificial_arc g v).src ≡ 0) ⊎ ((artificial_arc g v).dst ≡ 0)
+one_is_root g v true e = inr (rw e refl)
+one_is_root g v false e = inl (rw e refl)
+
+one_is_node : (g : Network) (v : ℕ) (sender : Bool) → is_sender g v ≡ sender → ((artificial_arc g v).src ≡ v) ⊎ ((artificial_arc g v).dst ≡ v)
+one_is_node g v true e = inl (rw e refl)
+one_is_node g v false e = inr (rw e refl)
+
+-- an arc at the root is artificial
+pub root_arc : (g : Network) (label v : ℕ) → IsNet g → IsLabel g label → 0 < v → Joins g label v 0 → (arc_at (with_artificial g) label).cost ≡ pos (artificial_cost g)
+root_arc g label v ok h up joins =
+    elim (label_case g label h) [
+      | own k ↦ absurd (let same = own_arc g label k in let ends = ends_at g label ok k in
+          elim joins [
+            | out_of s d ↦ (let e : (arc_at g label).dst ≡ 0 = sym (ap (λ a. a.dst) same) ∙ d in omega (arith, ends.dst_is_node))
+            | into s d ↦ (let e : (arc_at g label).src ≡ 0 = sym (ap (λ a. a.src) same) ∙ s in omega (arith, ends.src_is_node))
+          ])
+      | added u node e ↦ ap (λ a. a.cost) (added_arc g u label node e)
+    ]
+
+-- an arc between two nodes is an arc of the net
+pub inner_arc : (g : Network) (label u v : ℕ) → IsLabel g label → 0 < u → 0 < v → Joins g label u v → IsArcNumber g label
+inner_arc g label u v h pu pv joins =
+    elim (label_case g label h) [
+      | own k ↦ k
+      | added w node e ↦ absurd (let same = added_arc g w label node e in
+          elim (one_is_root g w (is_sender g w) refl) [
+            | inl s ↦ elim joins [
+              | out_of a b ↦ (let z : u ≡ 0 = sym a ∙ (ap (λ x. x.src) same ∙ s) in omega arith)
+              | into a b ↦ (let z : v ≡ 0 = sym a ∙ (ap (λ x. x.src) same ∙ s) in omega arith)
+            ]
+            | inr d ↦ elim joins [
+              | out_of a b ↦ (let z : v ≡ 0 = sym b ∙ (ap (λ x. x.dst) same ∙ d) in omega arith)
+              | into a b ↦ (let z : u ≡ 0 = sym b ∙ (ap (λ x. x.dst) same ∙ d) in omega arith)
+            ]
+          ])
+    ]

@@ -1,0 +1,119 @@
+-- The flow of a basis at which no arc is eligible.
+use Rattle.std.proofs.Common.{◌≡◌, ◌≢◌, ℕ, zero, suc, ◌+◌, ◌-◌, ◌<◌, ◌≤◌, ◌⊎◌, inl, inr, List, length, drop, get_or, refl, sym, ap, ◌∙◌, arith, subst, ℤ, pos, negsuc, ◌+ℤ◌, ◌-ℤ◌, ◌<ℤ◌, ◌≤ℤ◌}
+use Rattle.std.specs.List.{AllZip}
+use Rattle.std.proofs.lemmas.Int.{ints}
+use Rattle.std.proofs.lemmas.Grind.{get_or_after_one}
+use Rattle.std.proofs.lemmas.List.{get_or_default}
+use Rattle.mcf_instance.specs.declared.arc.Arc.{Arc}
+use Rattle.mcf_instance.specs.Flow.{CanCarry, IsComplementary, IsFeasible, Shows, net, reduced_cost}
+use Rattle.mcf_instance.specs.Network.{Network, IsArcNumber, IsNode, at_node, node_count}
+use Rattle.mcf_instance.specs.WellFormed.{HasEnds}
+use Rattle.mcf_instance.proofs.AllZips.{AllZip_from}
+use Rattle.mcf_network.specs.Nets.{IsNet, IsNetArc}
+use Rattle.mcf_network.specs.Residual.{no_arc, arc_at}
+use Rattle.mcf_network.proofs.ArcLaws.{ends_at, net_arc_at}
+use Rattle.mcf_basis.specs.Artificial.{with_artificial}
+use Rattle.mcf_basis.specs.Bases.{CanHold, IsAtBound, IsBasis}
+use Rattle.mcf_basis.specs.Laws.{HasNoArtificial, LastBasesAreShown}
+use Rattle.mcf_basis.specs.Pivots.{IsEligible}
+use Rattle.mcf_basis.specs.Structures.{TreeStructure, IsInTree, carried, price_at, reduced_at, state_of}
+use Rattle.mcf_basis.specs.Violations.{HasNoEligible}
+use Rattle.mcf_basis.proofs.Flows.{net_without, own_carried, own_count}
+use Rattle.mcf_basis.proofs.Labels.{own_label}
+use Rattle.mcf_basis.proofs.Offers.{not_in_tree, own_reduced}
+
+zero_or_more : (z : ℤ) → pos 0 ≤ℤ z → (z ≡ pos 0) ⊎ (pos 0 <ℤ z)
+zero_or_more (pos zero) h = inl refl
+zero_or_more (pos (suc n)) h = inr (omega (arith, ints))
+zero_or_more (negsuc n) h = absurd (omega (arith, ints))
+
+pub node_count_added : (g : Network) → node_count g ≡ node_count (with_artificial g)
+unfolding with_artificial
+node_count_added g = refl
+
+pub supply_added : (g : Network) (v : ℕ) → at_node (with_artificial g).supplies v ≡ at_node g.supplies v
+unfolding with_artificial
+supply_added g v = refl
+
+module _ (b : TreeStructure) (ok : IsBasis b) where
+  -- what the arc at a place carries, whatever the reads give past the end
+  read_arc : (i : ℕ) (x : Arc) → i < length b.net.arcs → get_or b.net.arcs i x ≡ arc_at b.net (i + 1)
+  read_arc i x h = let place : i + 1 - 1 ≡ i = omega arith in get_or_default b.net.arcs i x no_arc h ∙ ap (λ j. get_or b.net.arcs j no_arc) (sym place)
+
+  read_own : (i : ℕ) (y : ℤ) → i < length b.net.arcs → get_or (state_of b).amounts i y ≡ carried b (i + 1)
+  read_own i y h =
+      let place : i + 1 - 1 ≡ i = omega arith in
+      let count = own_count b ok in
+      get_or_default (state_of b).amounts i y (pos 0) (omega (arith, count, h)) ∙ (ap (λ j. get_or (state_of b).amounts j (pos 0)) (sym place) ∙ own_carried b ok (i + 1) (pos 0) (omega arith, omega arith))
+
+  held : (i : ℕ) → i < length b.net.arcs → CanCarry (arc_at b.net (i + 1)) (carried b (i + 1))
+  held i h =
+      let k : IsArcNumber b.net (i + 1) = (omega arith, omega arith) in
+      let a : IsNetArc (arc_at b.net (i + 1)) = net_arc_at b.net (i + 1) ok.of_net k in
+      let c : CanHold b.net (i + 1) (carried b (i + 1)) = ok.flow.within_bounds (i + 1) (own_label b.net (i + 1) k) in
+      let low = a.no_low in
+      let from = c.low in
+      (omega (arith, ints, low, from), c.high k.1)
+
+  pub within : AllZip CanCarry b.net.arcs (state_of b).amounts
+  within =
+      AllZip_from CanCarry b.net.arcs (state_of b).amounts (sym (own_count b ok))
+      (λ i h x y. rw (read_arc i x h, read_own i y h) (held i h))
+
+  pub feasible : HasNoArtificial b → IsFeasible b.net (state_of b).amounts
+  feasible none = record {
+    within_bounds = within;
+    meets_supplies = λ v h. (let s = ok.flow.no_surplus v (subst (λ n. IsNode n v) (node_count_added b.net) h) in
+        let n = net_without b ok none v in
+        let sup : at_node (with_artificial b.net).supplies v ≡ at_node b.net.supplies v = supply_added b.net v in
+        omega (arith, ints, s, n, sup));
+  }
+
+  -- the reduced cost by the prices of the nodes alone
+  node_price : (v : ℕ) → IsNode (node_count b.net) v → at_node (drop 1 b.prices) v ≡ price_at b v
+  node_price v h =
+      let place : 1 + (v - 1) ≡ v = omega arith in
+      get_or_after_one b.prices (v - 1) (pos 0) ∙ ap (price_at b) place
+
+  own_reduced_cost : (k : ℕ) → IsArcNumber b.net k → reduced_cost (drop 1 b.prices) (arc_at b.net k) ≡ reduced_at b k
+  own_reduced_cost k h =
+      let ends : HasEnds (node_count b.net) (arc_at b.net k) = ends_at b.net k ok.of_net h in
+      let s = node_price (arc_at b.net k).src ends.src_is_node in
+      let d = node_price (arc_at b.net k).dst ends.dst_is_node in
+      let r = own_reduced b k h in
+      omega (arith, ints, s, d, r)
+
+  module _ (none : HasNoEligible b) where
+    -- an arc of positive reduced cost carries nothing, one of negative reduced cost all that it can
+    shown : (k : ℕ) → IsArcNumber b.net k → IsComplementary (drop 1 b.prices) (arc_at b.net k) (carried b k)
+    shown k h =
+        let r = own_reduced_cost k h in
+        let a : IsNetArc (arc_at b.net k) = net_arc_at b.net k ok.of_net h in
+        let no_low = a.no_low in
+        let width = a.width_low in
+        (λ high. (let rise : pos 0 <ℤ reduced_at b k = omega (arith, ints, r, high) in
+            let out : ¬ IsInTree b k = not_in_tree b k ok (λ z. omega (arith, ints, z, rise)) in
+            elim (ok.at_bounds k (own_label b.net k h) out) [
+              | inl z ↦ (omega (arith, ints, z, no_low))
+              | inr f ↦ elim (zero_or_more (arc_at b.net k).cap width) [
+                | inl c ↦ (let full = f.1 in omega (arith, ints, full, c, no_low))
+                | inr wide ↦ absurd (none k (record { arc = h; outside = out; wide = wide; gains = inr (f.1, rise) }))
+              ]
+            ]),
+         λ low. (let fall : reduced_at b k <ℤ pos 0 = omega (arith, ints, r, low) in
+            let out : ¬ IsInTree b k = not_in_tree b k ok (λ z. omega (arith, ints, z, fall)) in
+            elim (ok.at_bounds k (own_label b.net k h) out) [
+              | inl z ↦ elim (zero_or_more (arc_at b.net k).cap width) [
+                | inl c ↦ (omega (arith, ints, z, c))
+                | inr wide ↦ absurd (none k (record { arc = h; outside = out; wide = wide; gains = inl (z, fall) }))
+              ]
+              | inr f ↦ f.1
+            ]))
+
+    pub shows : Shows b.net.arcs (drop 1 b.prices) (state_of b).amounts
+    shows =
+        AllZip_from (IsComplementary (drop 1 b.prices)) b.net.arcs (state_of b).amounts (sym (own_count b ok))
+        (λ i h x y. rw (read_arc i x h, read_own i y h) (shown (i + 1) (omega arith, omega arith)))
+
+pub last_bases_are_shown_lem : LastBasesAreShown
+last_bases_are_shown_lem b ok none empty = (feasible b ok empty, shows b ok none)

@@ -1,0 +1,14 @@
+pub mod Labels
+pub mod TreePrices
+pub mod LeastFound
+pub mod Offers
+pub mod Views
+pub mod MostViolated
+pub mod RankLaws
+pub mod Flows
+pub mod LastBases
+pub mod TreeFlows
+pub mod RankDepths
+pub mod StarBases
+pub mod Pushes
+pub mod StrongPivot

@@ -1,0 +1,168 @@
+-- The offer of an arc says whether it can enter.
+use Rattle.std.proofs.Common.{◌≡◌, ◌≢◌, ℕ, ◌+◌, ◌-◌, ◌*◌, ◌^◌, ◌<◌, ◌≤◌, ◌⊎◌, inl, inr, Bool, true, false, cond, eqb, List, length, get_or, refl, ap, sym, ◌∙◌, arith, subst, ℤ, pos, negsuc, neg_ℤ, ◌+ℤ◌, ◌-ℤ◌, ◌<ℤ◌, ◌≤ℤ◌}
+use Rattle.std.specs.Prelude.{unsigned_abs}
+use Rattle.std.proofs.lemmas.Int.{ints}
+use Rattle.std.proofs.lemmas.Bool.{cond-true, cond-false, ne_eqb, eq-eqb}
+use Rattle.std.proofs.lemmas.List.{get_or_read}
+use Rattle.mcf_instance.specs.declared.arc.Arc.{Arc}
+use Rattle.mcf_instance.specs.Limits.{wide_limits}
+use Rattle.mcf_instance.specs.Network.{Network, IsArcNumber, IsNode, node_count}
+use Rattle.mcf_instance.specs.WellFormed.{IsUpTo, HasEnds}
+use Rattle.mcf_network.specs.Nets.{IsNet, IsNetArc}
+use Rattle.mcf_network.specs.Residual.{arc_at}
+use Rattle.mcf_network.proofs.ArcLaws.{ends_at, net_arc_at}
+use Rattle.mcf_basis.specs.declared.offer.Offer.{Offer}
+use Rattle.mcf_basis.specs.Artificial.{with_artificial}
+use Rattle.mcf_basis.specs.Bases.{IsBasis}
+use Rattle.mcf_basis.specs.Layouts.{Layout, IsLaidOut, IsOffer, amount_outside, basis_in, forward_offer, no_offer, offer_at, turned_offer}
+use Rattle.mcf_basis.specs.Layouts.IsOffer.{closed, forward, turned}
+use Rattle.mcf_basis.specs.Pivots.{IsEligible}
+use Rattle.mcf_basis.specs.Structures.{TreeStructure, IsInTree, carried, price_at, reduced_at}
+use Rattle.mcf_basis.specs.Violations.{violation}
+use Rattle.mcf_basis.proofs.Labels.{own_arc}
+use Rattle.mcf_basis.proofs.Views.{carried_outside}
+
+-- the reduced cost of an arc of the net, by the arc itself
+pub own_reduced : (b : TreeStructure) (k : ℕ) → IsArcNumber b.net k → reduced_at b k ≡ (arc_at b.net k).cost -ℤ price_at b (arc_at b.net k).src +ℤ price_at b (arc_at b.net k).dst
+own_reduced b k h = ap (λ a. a.cost -ℤ price_at b a.src +ℤ price_at b a.dst) (own_arc b.net k h)
+
+-- the reduced cost of a residual arc that is offered
+abbrev pub offered : TreeStructure → Offer → ℤ
+offered b o = o.cost -ℤ price_at b o.from +ℤ price_at b o.to
+
+-- an arc of reduced cost other than 0 is outside the tree
+pub not_in_tree : (b : TreeStructure) (k : ℕ) → IsBasis b → reduced_at b k ≢ pos 0 → ¬ IsInTree b k
+not_in_tree b k ok ne t =
+    ne (ap (reduced_at b) (sym t.labelled) ∙ ok.prices.balanced t.node t.is_node)
+
+pub record IsReadOffer (b : TreeStructure) (k : ℕ) (o : Offer) : Type 0 where
+  pub from : o.from ≤ node_count b.net
+  pub to : o.to ≤ node_count b.net
+  pub cost : IsUpTo wide_limits.cost o.cost
+  pub eligible : offered b o <ℤ pos 0 → IsEligible b k
+  pub only : IsEligible b k → offered b o <ℤ pos 0
+  pub size : offered b o <ℤ pos 0 → offered b o ≡ neg_ℤ (pos (violation b k))
+
+below_size : (z : ℤ) → z <ℤ pos 0 → z ≡ neg_ℤ (pos (unsigned_abs z))
+below_size (pos n) h = absurd (omega (arith, ints))
+below_size (negsuc n) h = omega (arith, ints)
+
+above_size : (z y : ℤ) → pos 0 <ℤ z → y ≡ neg_ℤ z → y ≡ neg_ℤ (pos (unsigned_abs z))
+above_size (pos n) y h e = e
+above_size (negsuc n) y h e = absurd (omega (arith, ints))
+
+module _ (l : Layout) (k : ℕ) (ok : IsLaidOut l) (h : IsArcNumber l.net k) where
+  arc_ok : IsNetArc (arc_at l.net k)
+  unfolding basis_in
+  arc_ok = net_arc_at l.net k ok.basis.of_net h
+
+  ends_ok : HasEnds (node_count l.net) (arc_at l.net k)
+  unfolding basis_in
+  ends_ok = ends_at l.net k ok.basis.of_net h
+
+  reduced_is : reduced_at (basis_in l) k ≡ (arc_at l.net k).cost -ℤ price_at (basis_in l) (arc_at l.net k).src +ℤ price_at (basis_in l) (arc_at l.net k).dst
+  unfolding basis_in
+  reduced_is = own_reduced (basis_in l) k h
+
+  -- an arc outside the tree carries nothing where its offer goes forward
+  empty : offer_at l k ≡ forward_offer l.net k → ¬ IsInTree (basis_in l) k → carried (basis_in l) k ≡ pos 0
+  empty e out = carried_outside l k h out ∙ cond-true _ _ _ (eq-eqb _ _ (ap (λ o. o.from) e))
+
+  -- and all that it can where it is turned
+  full : offer_at l k ≡ turned_offer l.net k → (arc_at l.net k).src ≢ (arc_at l.net k).dst → ¬ IsInTree (basis_in l) k → carried (basis_in l) k ≡ (arc_at l.net k).cap
+  full e ne out = carried_outside l k h out ∙ cond-false _ _ _ (ne_eqb _ _ (λ q. ne (sym q ∙ ap (λ o. o.from) e)))
+
+  read_closed : (arc_at l.net k).cap ≡ pos 0 → offer_at l k ≡ no_offer → IsReadOffer (basis_in l) k (offer_at l k)
+  unfolding basis_in
+  read_closed cap e = rw e (record {
+    from = omega arith;
+    to = omega arith;
+    cost = (omega (arith, ints), omega (arith, ints));
+    eligible = λ neg. absurd (omega (arith, ints));
+    only = λ el. absurd (let w = el.wide in omega (arith, ints, cap, w));
+    size = λ neg. absurd (omega (arith, ints));
+  })
+
+  read_forward : pos 0 <ℤ (arc_at l.net k).cap → offer_at l k ≡ forward_offer l.net k → IsReadOffer (basis_in l) k (offer_at l k)
+  unfolding basis_in
+  read_forward wide e =
+      let a = arc_ok in
+      let n = ends_ok in
+      let r = reduced_is in
+      rw e (record {
+        from = n.src_is_node.1;
+        to = n.dst_is_node.1;
+        cost = a.cost_small;
+        eligible = λ neg. (let low : reduced_at (basis_in l) k <ℤ pos 0 = rw r neg in
+            let out : ¬ IsInTree (basis_in l) k = not_in_tree (basis_in l) k ok.basis (λ z. omega (arith, ints)) in
+            record { arc = h; outside = out; wide = wide; gains = inl (empty e out, low) });
+        only = λ el. elim el.gains [
+          | inl g ↦ (rw r at g.1)
+          | inr g ↦ absurd (let z = empty e el.outside in let f = g.0 in omega (arith, ints, z, f, wide))
+        ];
+        size = λ neg. (let low : reduced_at (basis_in l) k <ℤ pos 0 = rw r neg in sym r ∙ below_size (reduced_at (basis_in l) k) low);
+      })
+
+  read_turned : pos 0 <ℤ (arc_at l.net k).cap → offer_at l k ≡ turned_offer l.net k → IsReadOffer (basis_in l) k (offer_at l k)
+  unfolding basis_in
+  read_turned wide e =
+      let a = arc_ok in
+      let n = ends_ok in
+      let r = reduced_is in
+      let apart : (arc_at l.net k).src ≢ (arc_at l.net k).dst = (λ q. (let z = a.no_loop_width q in omega (arith, ints, z, wide))) in
+      rw e (record {
+        from = n.dst_is_node.1;
+        to = n.src_is_node.1;
+        cost = (let c = a.cost_small in (omega (arith, ints, c), omega (arith, ints, c)));
+        eligible = λ neg. (let high : pos 0 <ℤ reduced_at (basis_in l) k = omega (arith, ints, r, neg) in
+            let out : ¬ IsInTree (basis_in l) k = not_in_tree (basis_in l) k ok.basis (λ z. omega (arith, ints)) in
+            record { arc = h; outside = out; wide = wide; gains = inr (full e apart out, high) });
+        only = λ el. elim el.gains [
+          | inl g ↦ absurd (let f = full e apart el.outside in let z = g.0 in omega (arith, ints, z, f, wide))
+          | inr g ↦ (let high = g.1 in omega (arith, ints, r, high))
+        ];
+        size = λ neg. above_size (reduced_at (basis_in l) k) _ (omega (arith, ints, r, neg)) (omega (arith, ints, r));
+      })
+
+  pub read_offer : IsReadOffer (basis_in l) k (offer_at l k)
+  read_offer = elim (ok.offers k h) [
+    | closed cap e ↦ read_closed cap e
+    | forward wide e ↦ read_forward wide e
+    | turned wide e ↦ read_turned wide e
+  ]
+
+-- the offer that the code reads
+pub offer_read : (l : Layout) (b : TreeStructure) (k i : ℕ) (o : Offer) → basis_in l ≡ b → IsLaidOut l → IsArcNumber b.net k → i ≡ k - 1 → o ≡ get_or l.offers i o → IsReadOffer b k o
+unfolding basis_in
+offer_read l b k i o e ok h same read =
+    let count : length l.offers ≡ length l.net.arcs = ok.offers_size in
+    let here : IsArcNumber l.net k = own l b e h in
+    let is : o ≡ offer_at l k = get_or_read l.offers i o (omega arith) read no_offer ∙ ap (λ j. get_or l.offers j no_offer) same in
+    rw is (subst (λ x. IsReadOffer x k (offer_at l k)) e (read_offer l k ok here))
+  where
+    own : (l : Layout) (b : TreeStructure) → basis_in l ≡ b → IsArcNumber b.net k → IsArcNumber l.net k
+    own = λ l b e h. subst (λ x. IsArcNumber x.net k) (sym e) h
+
+pub offer_in_range : (l : Layout) (b : TreeStructure) (k i : ℕ) → basis_in l ≡ b → IsLaidOut l → IsArcNumber b.net k → i ≡ k - 1 → i < length l.offers
+unfolding basis_in
+offer_in_range l b k i e ok h same =
+    let here : IsArcNumber l.net k = subst (λ x. IsArcNumber x.net k) (sym e) h in
+    let count : length l.offers ≡ length l.net.arcs = ok.offers_size in
+    omega arith
+
+-- an arc as the code reads it, and its reduced cost
+pub record IsReadReduced (b : TreeStructure) (k src dst : ℕ) (c : ℤ) : Type 0 where
+  pub cost : IsUpTo wide_limits.cost c
+  pub value : reduced_at b k ≡ c -ℤ price_at b src +ℤ price_at b dst
+
+pub reduced_read : (b : TreeStructure) (g : Network) (k src dst : ℕ) (c : ℤ) → g ≡ b.net → IsBasis b → IsArcNumber b.net k → src ≡ (arc_at g k).src → dst ≡ (arc_at g k).dst → c ≡ (arc_at g k).cost → IsReadReduced b k src dst c
+reduced_read b g k src dst c net ok h is_src is_dst is_cost =
+    let a : IsNetArc (arc_at b.net k) = net_arc_at b.net k ok.of_net h in
+    let small = a.cost_small in
+    let s : src ≡ (arc_at b.net k).src = is_src ∙ ap (λ n. (arc_at n k).src) net in
+    let d : dst ≡ (arc_at b.net k).dst = is_dst ∙ ap (λ n. (arc_at n k).dst) net in
+    let e : c ≡ (arc_at b.net k).cost = is_cost ∙ ap (λ n. (arc_at n k).cost) net in
+    record {
+      cost = rw e small;
+      value = rw (s, d, e) (own_reduced b k h);
+    }

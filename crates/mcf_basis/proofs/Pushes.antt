@@ -1,0 +1,109 @@
+-- Arcs by their labels, what they can still carry, and what a push along an arc leaves of its room.
+use Rattle.std.proofs.Common.{◌≡◌, ◌≢◌, ℕ, suc, ◌+◌, ◌-◌, ◌<◌, ◌≤◌, List, length, Option, Some, None, refl, sym, ap, ◌∙◌, subst, arith, inl, inr, ◌⊎◌, ℤ, pos, ◌+ℤ◌, ◌≤ℤ◌}
+use Rattle.std.specs.Prelude.{slice_index}
+use Rattle.std.proofs.lemmas.Int.{ints}
+use Rattle.mcf_links.specs.Rooted.{climb, IsRooted}
+
+-- at most the limit, if there is one
+abbrev pub IsWithin : Option ℤ → ℤ → Type 0
+IsWithin None n = Unit {0}
+IsWithin (Some limit) n = n ≤ℤ limit
+
+pub record Arcs : Type 0 where
+  pub tail : ℕ → ℕ
+  pub head : ℕ → ℕ
+  pub limit : ℕ → Option ℤ
+
+-- the arc joins u and v, in one direction or the other
+pub data JoinsEnds (g : Arcs) (arc u v : ℕ) : Type 0 where
+  out_of : g.tail arc ≡ u → g.head arc ≡ v → JoinsEnds g arc u v
+  into : g.tail arc ≡ v → g.head arc ≡ u → JoinsEnds g arc u v
+
+-- d more can go from the end v of the arc to its other end
+pub record CanLeave (g : Arcs) (amount : ℕ → ℤ) (arc v : ℕ) (d : ℤ) : Type 0 where
+  pub forward : g.tail arc ≡ v → IsWithin (g.limit arc) (amount arc +ℤ d)
+  pub backward : g.tail arc ≢ v → d ≤ℤ amount arc
+
+-- d went from the end v of the arc to its other end
+pub record Leaves (g : Arcs) (old new : ℕ → ℤ) (arc v : ℕ) (d : ℤ) : Type 0 where
+  pub forward : g.tail arc ≡ v → new arc ≡ old arc +ℤ d
+  pub backward : g.tail arc ≢ v → new arc +ℤ d ≡ old arc
+
+-- the tree is made of arcs that join each node and its parent
+pub record IsTreeOf (g : Arcs) (ps ls : List ℕ) (d : ℕ → ℕ) : Type 0 where
+  pub rooted : IsRooted ps d
+  pub joined : (v : ℕ) → 0 < v → v < length ps → JoinsEnds g (slice_index ls v) v (slice_index ps v)
+
+-- The arc enter leads from a to b. From a the path goes up i nodes to the apex, from b it goes up j nodes.
+pub record IsCycle (g : Arcs) (ps ls : List ℕ) (d : ℕ → ℕ) (enter a b i j : ℕ) : Type 0 where
+  pub left_in_range : a < length ps
+  pub right_in_range : b < length ps
+  pub left_short : i ≤ d a
+  pub right_short : j ≤ d b
+  pub closed : climb ps i a ≡ climb ps j b
+  pub apart : a ≢ b
+  pub joined : JoinsEnds g enter a b
+  pub outside : (v : ℕ) → 0 < v → v < length ps → slice_index ls v ≢ enter
+
+-- delta goes down from the apex to a, over the entering arc and up from b to the apex, and no other amount changes
+pub record IsPushed (g : Arcs) (ps ls : List ℕ) (old new : ℕ → ℤ) (enter a b i j : ℕ) (delta : ℤ) : Type 0 where
+  pub some : pos 0 ≤ℤ delta
+  pub left : (k : ℕ) → k < i → Leaves g old new (slice_index ls (climb ps k a)) (slice_index ps (climb ps k a)) delta
+  pub entering : Leaves g old new enter a delta
+  pub right : (k : ℕ) → k < j → Leaves g old new (slice_index ls (climb ps k b)) (climb ps k b) delta
+  pub others : (arc : ℕ) → arc ≢ enter → ((k : ℕ) → k < i → arc ≢ slice_index ls (climb ps k a)) → ((k : ℕ) → k < j → arc ≢ slice_index ls (climb ps k b)) → new arc ≡ old arc
+
+-- each arc of the tree has room toward the root
+pub record HasRoomUp (g : Arcs) (ps ls : List ℕ) (amount : ℕ → ℤ) : Type 0 where
+  pub room : (v : ℕ) → 0 < v → v < length ps → CanLeave g amount (slice_index ls v) v (pos 1)
+
+pub IsWithin-le : (o : Option ℤ) (m n : ℤ) → m ≤ℤ n → IsWithin o n → IsWithin o m
+IsWithin-le None m n h p = tt
+IsWithin-le (Some w) m n h p = omega (arith, ints, h, p)
+
+-- an end that isn't the tail is the head
+pub other_end : (g : Arcs) (arc u v : ℕ) → JoinsEnds g arc u v → g.tail arc ≢ v → g.tail arc ≡ u
+other_end g arc u v (out_of t h) ne = t
+other_end g arc u v (into t h) ne = absurd (ne t)
+
+pub JoinsEnds-sym : (g : Arcs) (arc u v : ℕ) → JoinsEnds g arc u v → JoinsEnds g arc v u
+JoinsEnds-sym g arc u v (out_of t h) = into t h
+JoinsEnds-sym g arc u v (into t h) = out_of t h
+
+pub CanLeave-le : (g : Arcs) (x : ℕ → ℤ) (arc v : ℕ) (d e : ℤ) → d ≤ℤ e → CanLeave g x arc v e → CanLeave g x arc v d
+CanLeave-le g x arc v d e h c = record {
+  forward = λ t. IsWithin-le (g.limit arc) (x arc +ℤ d) (x arc +ℤ e) (omega (arith, ints, h)) (c.forward t);
+  backward = λ t. (let b : e ≤ℤ x arc = c.backward t in omega (arith, ints, h, b));
+}
+
+module _ (g : Arcs) (old new : ℕ → ℤ) (arc u v : ℕ) (d : ℤ) (apart : u ≢ v) (joins : JoinsEnds g arc u v) (pushed : Leaves g old new arc u d) where
+  -- what went from u can go back from v
+  pub CanLeave-back : IsWithin (g.limit arc) (old arc) → pos 0 ≤ℤ old arc → CanLeave g new arc v d
+  CanLeave-back fits low = record {
+    forward = λ t. (let e : new arc +ℤ d ≡ old arc = pushed.backward (λ q. apart (sym q ∙ t)) in rw e fits);
+    backward = λ t. (let e : new arc ≡ old arc +ℤ d = pushed.forward (other_end g arc u v joins t) in omega (arith, ints, e, low));
+  }
+
+  -- where one more could have gone from u, one can still go
+  pub CanLeave-more : CanLeave g old arc u (d +ℤ pos 1) → CanLeave g new arc u (pos 1)
+  CanLeave-more c = record {
+    forward = λ t. (let e : new arc ≡ old arc +ℤ d = pushed.forward t in
+        IsWithin-le (g.limit arc) (new arc +ℤ pos 1) (old arc +ℤ (d +ℤ pos 1)) (omega (arith, ints, e)) (c.forward t));
+    backward = λ t. (let e : new arc +ℤ d ≡ old arc = pushed.backward t in
+        let b : (d +ℤ pos 1) ≤ℤ old arc = c.backward t in omega (arith, ints, e, b));
+  }
+
+  -- what could go from v still can
+  pub CanLeave-kept : pos 0 ≤ℤ d → CanLeave g old arc v (pos 1) → CanLeave g new arc v (pos 1)
+  CanLeave-kept some c = record {
+    forward = λ t. (let e : new arc +ℤ d ≡ old arc = pushed.backward (λ q. apart (sym q ∙ t)) in
+        IsWithin-le (g.limit arc) (new arc +ℤ pos 1) (old arc +ℤ pos 1) (omega (arith, ints, e, some)) (c.forward t));
+    backward = λ t. (let e : new arc ≡ old arc +ℤ d = pushed.forward (other_end g arc u v joins t) in
+        let b : pos 1 ≤ℤ old arc = c.backward t in omega (arith, ints, e, b, some));
+  }
+
+pub CanLeave-same : (g : Arcs) (old new : ℕ → ℤ) (arc v : ℕ) (d : ℤ) → new arc ≡ old arc → CanLeave g old arc v d → CanLeave g new arc v d
+CanLeave-same g old new arc v d e c = record {
+  forward = λ t. rw e (c.forward t);
+  backward = λ t. rw e (c.backward t);
+}

@@ -1,0 +1,283 @@
+-- The star of the artificial arcs is a basis.
+use Rattle.std.proofs.Common.{◌≡◌, ◌≢◌, ℕ, zero, suc, ◌+◌, ◌-◌, ◌<◌, ◌≤◌, ◌++◌, ◌⊎◌, inl, inr, Bool, true, false, not, cond, eqb, List, [], ◌∷◌, length, map, take, drop, replicate, get_or, refl, sym, ap, ◌∙◌, arith, subst, ℤ, pos, negsuc, neg_ℤ, ◌+ℤ◌, ◌-ℤ◌, ◌<ℤ◌, ◌≤ℤ◌, length-append}
+use Rattle.std.specs.Prelude.{unsigned_abs, int_le}
+use Rattle.std.specs.List.{All, range_with_len}
+use Rattle.std.proofs.lemmas.Int.{ints}
+use Rattle.std.proofs.lemmas.Bool.{cases_Bool, cases_eq, eq-eqb, true≢false}
+use Rattle.std.proofs.lemmas.List.{get_or-take, get_or-drop, get_or-replicate, get_or_append_left, get_or-append-add, length-replicate}
+use Rattle.std.proofs.lemmas.List.Elements.{All-nil, All-cons}
+use Rattle.std.proofs.lemmas.List.FromFn.{get_or-map-range_with_len, length-map-range_with_len}
+use Rattle.mcf_instance.specs.declared.arc.Arc.{Arc}
+use Rattle.mcf_instance.specs.Flow.{net, outflow, inflow}
+use Rattle.mcf_instance.specs.Network.{Network, IsArcNumber, IsNode, at_node, flow_sum, node_count, when}
+use Rattle.mcf_instance.proofs.Ranges.{at_most, at_most_passes}
+use Rattle.mcf_network.specs.declared.rid.Rid.{Rid}
+use Rattle.mcf_network.specs.Nets.{IsNet, IsNetArc}
+use Rattle.mcf_network.specs.Residual.{no_arc, arc_at}
+use Rattle.mcf_network.specs.States.{HasNoSurplus, surplus_at}
+use Rattle.mcf_network.proofs.ArcLaws.{net_arc_at}
+use Rattle.mcf_network.proofs.StateLaws.{when-same, when-other, when-zero}
+use Rattle.mcf_tree.specs.SpanningTree.{SpanningTree, IsSpanning, IsStar, depth_of, label_of, parent_of, size_of}
+use Rattle.mcf_basis.specs.Artificial.{IsLabel, artificial_arc, artificial_cost, is_sender, with_artificial}
+use Rattle.mcf_basis.specs.Bases.{CanHold, HasTreeArc, HasTreePrices, IsAtBound, IsBasis, IsFullFlow}
+use Rattle.mcf_basis.specs.Starts.{start_amounts, start_price, start_prices}
+use Rattle.mcf_basis.specs.Structures.{TreeStructure, CanTake, IsInTree, Joins, carried, full_state, leaving, price_at, reduced_at, up_path}
+use Rattle.mcf_basis.specs.Structures.Joins.{out_of, into}
+use Rattle.mcf_basis.proofs.Flows.{split_sum, sum_of_zeros}
+use Rattle.mcf_basis.proofs.Labels.{LabelCase, added_arc, added_label, label_case, label_count}
+use Rattle.mcf_basis.proofs.Labels.LabelCase.{own, added}
+use Rattle.mcf_basis.proofs.LastBases.{node_count_added, supply_added}
+use Rattle.mcf_basis.proofs.TreeFlows.{single_term}
+
+below_zero : (x : ℤ) → int_le (pos 0) x ≡ false → x <ℤ pos 0
+below_zero (pos n) e = absurd (true≢false (sym (at_most_passes (pos 0) (pos n) (omega (arith, ints))) ∙ e))
+below_zero (negsuc n) e = omega (arith, ints)
+
+size_low : (x : ℤ) → pos 0 ≤ℤ x → pos (unsigned_abs x) ≡ x
+size_low (pos n) h = refl
+size_low (negsuc n) h = absurd (omega (arith, ints))
+
+size_below : (x : ℤ) → x <ℤ pos 0 → pos (unsigned_abs x) ≡ neg_ℤ x
+size_below (pos n) h = absurd (omega (arith, ints))
+size_below (negsuc n) h = omega (arith, ints)
+
+-- the ends of an artificial arc
+sender_src : (g : Network) (v : ℕ) → is_sender g v ≡ true → (artificial_arc g v).src ≡ v
+sender_src g v e = rw e refl
+
+sender_dst : (g : Network) (v : ℕ) → is_sender g v ≡ true → (artificial_arc g v).dst ≡ 0
+sender_dst g v e = rw e refl
+
+taker_src : (g : Network) (v : ℕ) → is_sender g v ≡ false → (artificial_arc g v).src ≡ 0
+taker_src g v e = rw e refl
+
+taker_dst : (g : Network) (v : ℕ) → is_sender g v ≡ false → (artificial_arc g v).dst ≡ v
+taker_dst g v e = rw e refl
+
+-- an artificial arc has no end at another node
+apart_src : (g : Network) (u v : ℕ) → 0 < v → u ≢ v → (artificial_arc g u).src ≢ v
+apart_src g u v up ne q = elim (cases_Bool (is_sender g u)) [
+  | inl e ↦ ne (sym (sender_src g u e) ∙ q)
+  | inr e ↦ (let z : 0 ≡ v = sym (taker_src g u e) ∙ q in omega (arith, z, up))
+]
+
+apart_dst : (g : Network) (u v : ℕ) → 0 < v → u ≢ v → (artificial_arc g u).dst ≢ v
+apart_dst g u v up ne q = elim (cases_Bool (is_sender g u)) [
+  | inl e ↦ (let z : 0 ≡ v = sym (sender_dst g u e) ∙ q in omega (arith, z, up))
+  | inr e ↦ ne (sym (taker_dst g u e) ∙ q)
+]
+
+-- the artificial arcs, and what they carry at the start
+abbrev star_arcs : Network → List Arc
+star_arcs g = map (artificial_arc g) (range_with_len 1 (node_count g))
+
+abbrev star_amount : Network → ℕ → ℤ
+star_amount g u = pos (unsigned_abs (at_node g.supplies u))
+
+abbrev star_flow : Network → List ℤ
+star_flow g = map (λ u. pos (unsigned_abs (at_node g.supplies u))) (range_with_len 1 (node_count g))
+
+-- what the artificial arcs carry away from a node is its supply
+module _ (g : Network) (v : ℕ) (h : IsNode (node_count g) v) where
+  star_size : length (star_flow g) ≡ length (star_arcs g)
+  star_size = length-map-range_with_len (λ u. pos (unsigned_abs (at_node g.supplies u))) 1 (node_count g) ∙ sym (length-map-range_with_len (artificial_arc g) 1 (node_count g))
+
+  arc_at_place : (i : ℕ) → i < node_count g → get_or (star_arcs g) i no_arc ≡ artificial_arc g (i + 1)
+  arc_at_place i l = get_or-map-range_with_len (artificial_arc g) 1 (node_count g) i (i + 1) no_arc l (omega arith)
+
+  flow_at_place : (i : ℕ) → i < node_count g → get_or (star_flow g) i (pos 0) ≡ pos (unsigned_abs (at_node g.supplies (i + 1)))
+  flow_at_place i l = get_or-map-range_with_len (λ u. pos (unsigned_abs (at_node g.supplies u))) 1 (node_count g) i (i + 1) (pos 0) l (omega arith)
+
+  star_out : outflow (star_arcs g) (star_flow g) v ≡ when (eqb (artificial_arc g v).src v) (pos (unsigned_abs (at_node g.supplies v)))
+  star_out =
+      let n = length-map-range_with_len (artificial_arc g) 1 (node_count g) in
+      let back : v - 1 + 1 ≡ v = omega arith in
+      single_term (λ a f. when (eqb a.src v) f) (star_arcs g) (star_flow g) (v - 1) star_size (omega (arith, n, h))
+      (λ i l ne. (let m : i < node_count g = omega (arith, n, l) in
+          subst (λ a. when (eqb a.src v) (get_or (star_flow g) i (pos 0)) ≡ pos 0) (sym (arc_at_place i m))
+          (when-other (artificial_arc g (i + 1)).src v _ (λ q. apart_src g (i + 1) v (omega arith) (λ e. ne (omega arith)) (sym q)))))
+      ∙ (ap (λ a. when (eqb a.src v) (get_or (star_flow g) (v - 1) (pos 0))) (arc_at_place (v - 1) (omega arith) ∙ ap (artificial_arc g) back)
+      ∙ ap (when (eqb (artificial_arc g v).src v)) (flow_at_place (v - 1) (omega arith) ∙ ap (λ u. pos (unsigned_abs (at_node g.supplies u))) back))
+
+  star_in : inflow (star_arcs g) (star_flow g) v ≡ when (eqb (artificial_arc g v).dst v) (pos (unsigned_abs (at_node g.supplies v)))
+  star_in =
+      let n = length-map-range_with_len (artificial_arc g) 1 (node_count g) in
+      let back : v - 1 + 1 ≡ v = omega arith in
+      single_term (λ a f. when (eqb a.dst v) f) (star_arcs g) (star_flow g) (v - 1) star_size (omega (arith, n, h))
+      (λ i l ne. (let m : i < node_count g = omega (arith, n, l) in
+          subst (λ a. when (eqb a.dst v) (get_or (star_flow g) i (pos 0)) ≡ pos 0) (sym (arc_at_place i m))
+          (when-other (artificial_arc g (i + 1)).dst v _ (λ q. apart_dst g (i + 1) v (omega arith) (λ e. ne (omega arith)) (sym q)))))
+      ∙ (ap (λ a. when (eqb a.dst v) (get_or (star_flow g) (v - 1) (pos 0))) (arc_at_place (v - 1) (omega arith) ∙ ap (artificial_arc g) back)
+      ∙ ap (when (eqb (artificial_arc g v).dst v)) (flow_at_place (v - 1) (omega arith) ∙ ap (λ u. pos (unsigned_abs (at_node g.supplies u))) back))
+
+  pub star_net : net (star_arcs g) (star_flow g) v ≡ at_node g.supplies v
+  star_net =
+      let out = star_out in
+      let inn = star_in in
+      elim (cases_Bool (is_sender g v)) [
+        | inl e ↦ (let s = when-same (artificial_arc g v).src v (pos (unsigned_abs (at_node g.supplies v))) (sym (sender_src g v e)) in
+            let d = when-other (artificial_arc g v).dst v (pos (unsigned_abs (at_node g.supplies v))) (λ q. (let z : v ≡ 0 = q ∙ sender_dst g v e in omega (arith, z, h))) in
+            let size = size_low (at_node g.supplies v) (at_most (pos 0) (at_node g.supplies v) e) in
+            omega (arith, ints, out, inn, s, d, size))
+        | inr e ↦ (let s = when-other (artificial_arc g v).src v (pos (unsigned_abs (at_node g.supplies v))) (λ q. (let z : v ≡ 0 = q ∙ taker_src g v e in omega (arith, z, h))) in
+            let d = when-same (artificial_arc g v).dst v (pos (unsigned_abs (at_node g.supplies v))) (sym (taker_dst g v e)) in
+            let size = size_below (at_node g.supplies v) (below_zero (at_node g.supplies v) e) in
+            omega (arith, ints, out, inn, s, d, size))
+      ]
+
+dropped : (n : ℕ) (xs : List ℤ) → drop n (replicate n (pos 0) ++ xs) ≡ xs
+dropped zero xs = refl
+dropped (suc n) xs = dropped n xs
+
+taken : (n : ℕ) (xs : List ℤ) (i : ℕ) → i < length (take n (replicate n (pos 0) ++ xs)) → get_or (take n (replicate n (pos 0) ++ xs)) i (pos 0) ≡ pos 0
+taken zero xs i h = absurd (omega arith)
+taken (suc n) xs zero h = refl
+taken (suc n) xs (suc i) h = taken n xs i (omega arith)
+
+-- the star with these amounts and prices is a basis
+module _ (b : TreeStructure) (ok : IsNet b.net) (spanning : IsSpanning b.tree) (star : IsStar b.tree (node_count b.net) (length b.net.arcs)) (amounts : b.amounts ≡ start_amounts b.net) (prices : b.prices ≡ start_prices b.net) where
+  star_label : (v : ℕ) → IsNode (node_count b.net) v → label_of b.tree v ≡ length b.net.arcs + v
+  star_label v h = star.label v (omega arith) h.1
+
+  star_parent : (v : ℕ) → IsNode (node_count b.net) v → parent_of b.tree v ≡ 0
+  star_parent v h = star.parent v h.1
+
+  star_arc : (v : ℕ) → IsNode (node_count b.net) v → arc_at (with_artificial b.net) (label_of b.tree v) ≡ artificial_arc b.net v
+  star_arc v h = added_arc b.net v (label_of b.tree v) h (star_label v h)
+
+  own_empty : (k : ℕ) → IsArcNumber b.net k → carried b k ≡ pos 0
+  own_empty k h =
+      let n = length-replicate (length b.net.arcs) (pos 0) in
+      ap (λ xs. get_or xs (k - 1) (pos 0)) amounts
+      ∙ (get_or_append_left (replicate (length b.net.arcs) (pos 0)) (star_flow b.net) (pos 0) (k - 1) (omega (arith, n, h)) ∙ get_or-replicate (length b.net.arcs) (k - 1) (pos 0) (pos 0) (omega arith))
+
+  added_amount : (v label : ℕ) → IsNode (node_count b.net) v → label ≡ length b.net.arcs + v → carried b label ≡ star_amount b.net v
+  added_amount v label h e =
+      let n = length-replicate (length b.net.arcs) (pos 0) in
+      let place : label - 1 ≡ length (replicate (length b.net.arcs) (pos 0)) + (v - 1) = omega (arith, n, e, h) in
+      ap (λ xs. get_or xs (label - 1) (pos 0)) amounts
+      ∙ (ap (λ i. get_or (replicate (length b.net.arcs) (pos 0) ++ star_flow b.net) i (pos 0)) place
+      ∙ (get_or-append-add (replicate (length b.net.arcs) (pos 0)) (star_flow b.net) (v - 1) (pos 0)
+      ∙ get_or-map-range_with_len (λ u. pos (unsigned_abs (at_node b.net.supplies u))) 1 (node_count b.net) (v - 1) v (pos 0) (omega arith) (omega arith)))
+
+  node_start_price : (v : ℕ) → IsNode (node_count b.net) v → price_at b v ≡ start_price b.net v
+  node_start_price v h = ap (λ xs. get_or xs v (pos 0)) prices ∙ later v h
+    where
+      later : (v : ℕ) → IsNode (node_count b.net) v → get_or (start_prices b.net) v (pos 0) ≡ start_price b.net v
+      later zero h = absurd (omega arith)
+      later (suc i) h = get_or-map-range_with_len (start_price b.net) 1 (node_count b.net) i (suc i) (pos 0) (omega arith) (omega arith)
+
+  root_start_price : price_at b 0 ≡ pos 0
+  root_start_price = ap (λ xs. get_or xs 0 (pos 0)) prices
+
+  star_joins : (v : ℕ) → IsNode (node_count b.net) v → HasTreeArc b v
+  star_joins v h =
+      let arc = star_arc v h in
+      let up = star_parent v h in
+      record {
+        label = subst (IsLabel b.net) (sym (star_label v h)) (added_label b.net v h);
+        joins = elim (cases_Bool (is_sender b.net v)) [
+          | inl e ↦ out_of (ap (λ a. a.src) arc ∙ sender_src b.net v e) (ap (λ a. a.dst) arc ∙ (sender_dst b.net v e ∙ sym up))
+          | inr e ↦ into (ap (λ a. a.src) arc ∙ (taker_src b.net v e ∙ sym up)) (ap (λ a. a.dst) arc ∙ taker_dst b.net v e)
+        ];
+      }
+
+  star_balanced : (v : ℕ) → IsNode (node_count b.net) v → reduced_at b (label_of b.tree v) ≡ pos 0
+  star_balanced v h =
+      let cut : reduced_at b (label_of b.tree v) ≡ (artificial_arc b.net v).cost -ℤ price_at b (artificial_arc b.net v).src +ℤ price_at b (artificial_arc b.net v).dst = ap (λ a. a.cost -ℤ price_at b a.src +ℤ price_at b a.dst) (star_arc v h) in
+      let root = root_start_price in
+      let here = node_start_price v h in
+      elim (cases_Bool (is_sender b.net v)) [
+        | inl e ↦ (let s = ap (price_at b) (sender_src b.net v e) in
+            let d = ap (price_at b) (sender_dst b.net v e) in
+            let p : start_price b.net v ≡ pos (artificial_cost b.net) = rw e refl in
+            omega (arith, ints, cut, root, here, s, d, p))
+        | inr e ↦ (let s = ap (price_at b) (taker_src b.net v e) in
+            let d = ap (price_at b) (taker_dst b.net v e) in
+            let p : start_price b.net v ≡ neg_ℤ (pos (artificial_cost b.net)) = rw e refl in
+            omega (arith, ints, cut, root, here, s, d, p))
+      ]
+
+  star_prices : HasTreePrices b
+  star_prices = record {
+    one_per_node = (let n = length-map-range_with_len (start_price b.net) 1 (node_count b.net) in let l : length b.prices ≡ length (start_prices b.net) = ap length prices in omega (arith, n, l));
+    root = root_start_price;
+    balanced = star_balanced;
+  }
+
+  star_amount_count : length b.amounts ≡ length (with_artificial b.net).arcs
+  star_amount_count =
+      let l : length b.amounts ≡ length (start_amounts b.net) = ap length amounts in
+      let a = length-append (replicate (length b.net.arcs) (pos 0)) (star_flow b.net) in
+      let r = length-replicate (length b.net.arcs) (pos 0) in
+      let n = length-map-range_with_len (λ u. pos (unsigned_abs (at_node b.net.supplies u))) 1 (node_count b.net) in
+      let count = label_count b.net in
+      omega (arith, l, a, r, n, count)
+
+  star_held : (label : ℕ) → IsLabel b.net label → CanHold b.net label (carried b label)
+  star_held label h = elim (label_case b.net label h) [
+    | own k ↦ (let z = own_empty label k in
+        let a : IsNetArc (arc_at b.net label) = net_arc_at b.net label ok k in
+        let w = a.width_low in
+        record { low = omega (arith, ints, z); high = λ l. omega (arith, ints, z, w) })
+    | added v node e ↦ (let x = added_amount v label node e in
+        record { low = omega (arith, ints, x); high = λ l. absurd (omega (arith, e, l, node)) })
+  ]
+
+  star_bounds : (label : ℕ) → IsLabel b.net label → ¬ IsInTree b label → IsAtBound b label
+  star_bounds label h out = elim (label_case b.net label h) [
+    | own k ↦ inl (own_empty label k)
+    | added v node e ↦ absurd (out (record { node = v; is_node = node; labelled = star_label v node ∙ sym e }))
+  ]
+
+  star_no_surplus : HasNoSurplus (full_state b)
+  star_no_surplus v h =
+      let node : IsNode (node_count b.net) v = subst (λ n. IsNode n v) (sym (node_count_added b.net)) h in
+      let r = length-replicate (length b.net.arcs) (pos 0) in
+      let cut : net (with_artificial b.net).arcs b.amounts v ≡ net (with_artificial b.net).arcs (start_amounts b.net) v = ap (λ xs. net (with_artificial b.net).arcs xs v) amounts in
+      let size : length b.net.arcs ≤ length (start_amounts b.net) = (let a = length-append (replicate (length b.net.arcs) (pos 0)) (star_flow b.net) in omega (arith, a, r)) in
+      let out = split_sum (λ a f. when (eqb a.src v) f) b.net (start_amounts b.net) size in
+      let inn = split_sum (λ a f. when (eqb a.dst v) f) b.net (start_amounts b.net) size in
+      let rest : drop (length b.net.arcs) (start_amounts b.net) ≡ star_flow b.net = dropped (length b.net.arcs) (star_flow b.net) in
+      let zeros = taken (length b.net.arcs) (star_flow b.net) in
+      let out0 : flow_sum (λ a f. when (eqb a.src v) f) b.net.arcs (take (length b.net.arcs) (start_amounts b.net)) ≡ pos 0 = sum_of_zeros (λ a f. when (eqb a.src v) f) (λ a. when-zero (eqb a.src v)) b.net.arcs (take (length b.net.arcs) (start_amounts b.net)) zeros in
+      let inn0 : flow_sum (λ a f. when (eqb a.dst v) f) b.net.arcs (take (length b.net.arcs) (start_amounts b.net)) ≡ pos 0 = sum_of_zeros (λ a f. when (eqb a.dst v) f) (λ a. when-zero (eqb a.dst v)) b.net.arcs (take (length b.net.arcs) (start_amounts b.net)) zeros in
+      let out1 : flow_sum (λ a f. when (eqb a.src v) f) (star_arcs b.net) (drop (length b.net.arcs) (start_amounts b.net)) ≡ flow_sum (λ a f. when (eqb a.src v) f) (star_arcs b.net) (star_flow b.net) = ap (flow_sum (λ a f. when (eqb a.src v) f) (star_arcs b.net)) rest in
+      let inn1 : flow_sum (λ a f. when (eqb a.dst v) f) (star_arcs b.net) (drop (length b.net.arcs) (start_amounts b.net)) ≡ flow_sum (λ a f. when (eqb a.dst v) f) (star_arcs b.net) (star_flow b.net) = ap (flow_sum (λ a f. when (eqb a.dst v) f) (star_arcs b.net)) rest in
+      let away = star_net b.net v node in
+      let supply = supply_added b.net v in
+      omega (arith, ints, cut, out, inn, out0, inn0, out1, inn1, away, supply)
+
+  star_strong : (v : ℕ) → IsNode (node_count b.net) v → All (λ r. CanTake b r (pos 1)) (up_path b (depth_of b.tree v) v)
+  star_strong v h =
+      let inside : v < size_of b.tree = (let size = star.size in omega (arith, size, h)) in
+      let falls = spanning.rooted.falls v (omega arith) inside in
+      let top : depth_of b.tree (parent_of b.tree v) ≡ 0 = ap (depth_of b.tree) (star_parent v h) ∙ spanning.rooted.root in
+      let one : depth_of b.tree v ≡ 1 = omega (arith, falls, top) in
+      subst (λ d. All (λ r. CanTake b r (pos 1)) (up_path b d v)) (sym one)
+      (All-cons (λ r. CanTake b r (pos 1)) (leaving b.net (label_of b.tree v) v) [] room (All-nil (λ r. CanTake b r (pos 1))))
+    where
+      room : CanTake b (leaving b.net (label_of b.tree v) v) (pos 1)
+      room = record {
+        forward = λ f l. absurd (let e = star_label v h in omega (arith, e, l, h));
+        backward = λ back. (let amount = added_amount v (label_of b.tree v) h (star_label v h) in
+            elim (cases_Bool (is_sender b.net v)) [
+              | inl e ↦ absurd (let src : (arc_at (with_artificial b.net) (label_of b.tree v)).src ≡ v = ap (λ a. a.src) (star_arc v h) ∙ sender_src b.net v e in
+                  true≢false (sym back ∙ ap not (eq-eqb _ _ src)))
+              | inr e ↦ (let size = size_below (at_node b.net.supplies v) (below_zero (at_node b.net.supplies v) e) in
+                  let low = below_zero (at_node b.net.supplies v) e in
+                  omega (arith, ints, amount, size, low))
+            ]);
+      }
+
+  pub star_is_basis : IsBasis b
+  star_is_basis = record {
+    of_net = ok;
+    spanning = spanning;
+    size = star.size;
+    tree_arcs = star_joins;
+    flow = record { of_net = refl; one_per_label = star_amount_count; within_bounds = star_held; no_surplus = star_no_surplus };
+    at_bounds = star_bounds;
+    prices = star_prices;
+    strong = star_strong;
+  }

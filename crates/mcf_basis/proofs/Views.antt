@@ -1,0 +1,58 @@
+-- What is read of a basis that is stored.
+use Rattle.std.proofs.Common.{◌≡◌, ◌≢◌, ℕ, ◌+◌, ◌-◌, ◌*◌, ◌^◌, ◌<◌, ◌≤◌, Bool, true, false, cond, eqb, leb, List, length, map, get_or, Option, Some, None, refl, ap, sym, ◌∙◌, arith, subst, ℤ, pos}
+use Rattle.std.specs.List.{find, range_with_len}
+use Rattle.std.proofs.lemmas.Int.{ints}
+use Rattle.std.proofs.lemmas.Bool.{cond-true, cond-false, ne_eqb, le-leb}
+use Rattle.std.proofs.lemmas.List.FromFn.{get_or-map-range_with_len}
+use Rattle.mcf_instance.specs.Network.{Network, IsArcNumber, IsNode, node_count}
+use Rattle.mcf_instance.specs.WellFormed.{IsUpTo}
+use Rattle.mcf_network.specs.Residual.{arc_at}
+use Rattle.mcf_tree.specs.SpanningTree.{label_of}
+use Rattle.mcf_basis.specs.Artificial.{IsLabel}
+use Rattle.mcf_basis.specs.Bases.{IsBasis}
+use Rattle.mcf_basis.specs.Layouts.{Layout, IsLaidOut, amount_by, amount_in, amount_outside, basis_in, node_below}
+use Rattle.mcf_basis.specs.Structures.{TreeStructure, IsInTree, carried, price_at}
+use Rattle.mcf_basis.proofs.LeastFound.{IsFoundAt, found_at, found_nowhere}
+use Rattle.mcf_basis.proofs.TreePrices.{price_small}
+
+pub view_net : (l : Layout) (b : TreeStructure) → basis_in l ≡ b → l.net ≡ b.net
+unfolding basis_in
+view_net l b e = ap (λ x. x.net) e
+
+pub view_basis : (l : Layout) (b : TreeStructure) → basis_in l ≡ b → IsLaidOut l → IsBasis b
+view_basis l b e ok = subst IsBasis e ok.basis
+
+pub record IsReadPrice (l : Layout) (b : TreeStructure) (v : ℕ) : Type 0 where
+  pub in_range : v < length l.table.prices
+  pub value : get_or l.table.prices v (pos 0) ≡ price_at b v
+  pub small : IsUpTo (3 * 10 ^ 36) (get_or l.table.prices v (pos 0))
+
+pub read_price : (l : Layout) (b : TreeStructure) (v : ℕ) → basis_in l ≡ b → IsLaidOut l → v ≤ node_count b.net → IsReadPrice l b v
+unfolding basis_in
+read_price l b v e ok h =
+    let nodes : node_count l.net ≡ node_count b.net = ap (λ x. node_count x.net) e in
+    let count : length l.table.prices ≡ node_count l.net + 1 = ok.basis.prices.one_per_node in
+    record {
+      in_range = omega arith;
+      value = ap (λ x. price_at x v) e;
+      small = price_small (basis_in l) ok.basis v (omega arith);
+    }
+
+-- what the arc of a label carries, by how it is stored
+pub carried_in : (l : Layout) (label : ℕ) → 1 ≤ label → label ≤ length l.net.arcs + node_count l.net → carried (basis_in l) label ≡ amount_in l label
+unfolding basis_in
+carried_in l label low high =
+    get_or-map-range_with_len (amount_in l) 1 (length l.net.arcs + node_count l.net) (label - 1) label (pos 0) (omega arith) (omega arith)
+
+pub own_amount : (l : Layout) (k : ℕ) → IsArcNumber l.net k → carried (basis_in l) k ≡ amount_by l k (node_below l k)
+own_amount l k h = carried_in l k (omega arith) (omega arith) ∙ cond-true _ _ _ (le-leb k (length l.net.arcs) (omega arith))
+
+-- an arc outside the tree has no node below it
+pub none_below : (l : Layout) (k : ℕ) → ¬ IsInTree (basis_in l) k → node_below l k ≡ None
+unfolding basis_in
+none_below l k out =
+    found_nowhere (λ v. eqb (label_of l.tree v) k) 1 (node_count l.net)
+    (λ v low high. ne_eqb (label_of l.tree v) k (λ e. out (record { node = v; is_node = (low, omega arith); labelled = e })))
+
+pub carried_outside : (l : Layout) (k : ℕ) → IsArcNumber l.net k → ¬ IsInTree (basis_in l) k → carried (basis_in l) k ≡ amount_outside l k
+carried_outside l k h out = own_amount l k h ∙ ap (amount_by l k) (none_below l k out)

@@ -1,0 +1,70 @@
+use Rattle.std.proofs.Common.{◌≡◌, ℕ, ◌*◌, ◌^◌, ◌≤◌, length, ap, sym, ◌∙◌, arith, ℤ, pos, subst}
+use Rattle.std.proofs.lemmas.Int.{ints}
+use Rattle.mcf_instance.specs.Network.{Network, IsArcNumber, IsNode, node_count}
+use Rattle.mcf_instance.specs.WellFormed.{IsUpTo}
+use Rattle.mcf_network.specs.Residual.{arc_at}
+use Rattle.mcf_basis.specs.Layouts.{Layout}
+use Rattle.mcf_basis.specs.Structures.{price_at}
+use Rattle.mcf_basis.proofs.Offers.{IsReadReduced, reduced_read}
+use Rattle.mcf_basis.proofs.Views.{view_net, view_basis}
+use Rattle.mcf_basis.proofs.basis.Basis.reduced.Goals as goal
+
+pub ends-src-requires : goal.ends-src-requires
+ends-src-requires c =
+    let l : Layout = record { net = c.self.inside.net.now; tree = c.self.inside.tree; offers = c.self.inside.offers.items; rooms = c.self.inside.rooms.items; artificial = c.self.inside.artificial.items; table = c.self.inside.table } in
+    let net = view_net l c.args.self.now c.self.view_is in
+    subst (λ (g : Network). IsArcNumber g c.args.k) (sym net) c.requires
+
+pub price-requires : goal.price-requires
+price-requires c =
+    let l : Layout = record { net = c.self.inside.net.now; tree = c.self.inside.tree; offers = c.self.inside.offers.items; rooms = c.self.inside.rooms.items; artificial = c.self.inside.artificial.items; table = c.self.inside.table } in
+    let net = view_net l c.args.self.now c.self.view_is in
+    subst (λ (g : Network). IsNode (node_count g) c.ends-src.result.0) net c.ends-src.ensures.src_is_node
+
+pub price-requires-2 : goal.price-requires-2
+price-requires-2 c =
+    let l : Layout = record { net = c.self.inside.net.now; tree = c.self.inside.tree; offers = c.self.inside.offers.items; rooms = c.self.inside.rooms.items; artificial = c.self.inside.artificial.items; table = c.self.inside.table } in
+    let net = view_net l c.args.self.now c.self.view_is in
+    subst (λ (g : Network). IsNode (node_count g) c.ends-src.result.1) net c.ends-src.ensures.dst_is_node
+
+pub overflow_sub-result : goal.overflow_sub-result
+overflow_sub-result c =
+    let l : Layout = record { net = c.self.inside.net.now; tree = c.self.inside.tree; offers = c.self.inside.offers.items; rooms = c.self.inside.rooms.items; artificial = c.self.inside.artificial.items; table = c.self.inside.table } in
+    let net = view_net l c.args.self.now c.self.view_is in
+    let r = reduced_read c.args.self.now c.self.inside.net.now c.args.k c.ends-src.result.0 c.ends-src.result.1 c.cost.result net (view_basis l c.args.self.now c.self.view_is c.self.invariant) c.requires c.ends-src.ensures.src c.ends-src.ensures.dst c.cost.ensures.value in
+    let cost = r.cost in
+    let price = c.price.ensures.small in
+    omega (arith, ints, cost, price)
+
+pub overflow_add-result : goal.overflow_add-result
+overflow_add-result c =
+    let l : Layout = record { net = c.self.inside.net.now; tree = c.self.inside.tree; offers = c.self.inside.offers.items; rooms = c.self.inside.rooms.items; artificial = c.self.inside.artificial.items; table = c.self.inside.table } in
+    let net = view_net l c.args.self.now c.self.view_is in
+    let r = reduced_read c.args.self.now c.self.inside.net.now c.args.k c.ends-src.result.0 c.ends-src.result.1 c.cost.result net (view_basis l c.args.self.now c.self.view_is c.self.invariant) c.requires c.ends-src.ensures.src c.ends-src.ensures.dst c.cost.ensures.value in
+    let cost = r.cost in
+    let price = c.price.ensures.small in
+    let second = c.price-2.ensures.small in
+    omega (arith, ints, cost, price, second)
+
+pub returns-clause-value : goal.returns-clause-value
+returns-clause-value c =
+    let l : Layout = record { net = c.self.inside.net.now; tree = c.self.inside.tree; offers = c.self.inside.offers.items; rooms = c.self.inside.rooms.items; artificial = c.self.inside.artificial.items; table = c.self.inside.table } in
+    let net = view_net l c.args.self.now c.self.view_is in
+    let r = reduced_read c.args.self.now c.self.inside.net.now c.args.k c.ends-src.result.0 c.ends-src.result.1 c.cost.result net (view_basis l c.args.self.now c.self.view_is c.self.invariant) c.requires c.ends-src.ensures.src c.ends-src.ensures.dst c.cost.ensures.value in
+    let cost = r.cost in
+    let price = c.price.ensures.small in
+    let first_value = c.price.ensures.value in
+    let second = c.price-2.ensures.small in
+    let second_value = c.price-2.ensures.value in
+    let value = r.value in
+    omega (arith, ints, cost, price, second, first_value, second_value, value)
+
+pub returns-clause-small : goal.returns-clause-small
+returns-clause-small c =
+    let l : Layout = record { net = c.self.inside.net.now; tree = c.self.inside.tree; offers = c.self.inside.offers.items; rooms = c.self.inside.rooms.items; artificial = c.self.inside.artificial.items; table = c.self.inside.table } in
+    let net = view_net l c.args.self.now c.self.view_is in
+    let r = reduced_read c.args.self.now c.self.inside.net.now c.args.k c.ends-src.result.0 c.ends-src.result.1 c.cost.result net (view_basis l c.args.self.now c.self.view_is c.self.invariant) c.requires c.ends-src.ensures.src c.ends-src.ensures.dst c.cost.ensures.value in
+    let cost = r.cost in
+    let price = c.price.ensures.small in
+    let second = c.price-2.ensures.small in
+    omega (arith, ints, cost, price, second)

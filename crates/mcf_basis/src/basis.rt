@@ -1,0 +1,119 @@
+//! Bases.
+ghost use Rattle.std.specs.Prelude.{◌≡◌, ◌+◌, ◌*◌, ◌^◌, ◌≤◌, ◌<ℤ◌, IsTrue, length, neg_ℤ, pos, ◌↔◌};
+ghost use Rattle.mcf_instance.specs.Network.{IsArcNumber, IsNode, node_count};
+ghost use Rattle.mcf_instance.specs.WellFormed.{IsUpTo};
+ghost use Rattle.mcf_basis.specs.Bases.{IsBasis};
+ghost use Rattle.mcf_basis.specs.Pivots.{IsEligible};
+ghost use Rattle.mcf_basis.specs.Structures.{price_at, reduced_at};
+ghost use Rattle.mcf_basis.specs.Violations.{IsMostViolatedPick, violation};
+
+use crate::offer::Offer;
+use crate::price_table::PriceTable;
+use crate::rooms::Rooms;
+use mcf_network::Net;
+use mcf_text::{ArcId, NodeId};
+use mcf_tree::Tree;
+use std::marker::Model;
+
+/// A basis of a net: a spanning tree over a root and the nodes, with an artificial arc for each node, an amount for each arc and a
+/// price for each node.
+///
+/// Each amount is within its bounds, and no node has a surplus; an arc outside the tree carries nothing or all that it can, and the
+/// arcs of the tree have reduced cost 0. From each node one more can go along the tree to the root: the tree is strongly feasible
+/// (Cunningham; Ahuja, Magnanti and Orlin, Network Flows, sections 11.2 and 11.6).
+#[derive(Drop)]
+pub struct Basis<'n> {
+    net: &'n Net,
+    tree: Tree,
+    offers: Vec<Offer>,
+    rooms: Vec<Rooms>,
+    artificial: Vec<i128>,
+    table: PriceTable,
+}
+
+impl<'n> Model for Basis<'n> {
+    ghost use Rattle.mcf_basis.specs.Structures.{TreeStructure};
+    ghost use Rattle.mcf_basis.specs.Layouts.{IsLaidOut, basis_in};
+
+    ghost Value = { TreeStructure };
+
+    ghost view = { λ b. basis_in (record { net = b.net.now; tree = b.tree; offers = b.offers.items; rooms = b.rooms.items; artificial = b.artificial.items; table = b.table }) };
+
+    ghost invariant = { λ b. IsLaidOut (record { net = b.net.now; tree = b.tree; offers = b.offers.items; rooms = b.rooms.items; artificial = b.artificial.items; table = b.table }) };
+}
+
+impl<'n> Basis<'n> {
+    /// The net.
+    pub fn net(&self) -> &'n Net
+        ensures value { result.now ≡ self.now.net }
+        ensures basis { IsBasis self.now }
+    {
+        self.net
+    }
+
+    /// The price of a node; that of the root is 0.
+    pub fn price(&self, v: NodeId) -> i128
+        requires { IsNode (node_count self.now.net) v }
+        ensures value { result ≡ price_at self.now v }
+        ensures small { IsUpTo (3 * 10 ^ 36) result }
+        ensures basis { IsBasis self.now }
+    {
+        self.table.get(v.get())
+    }
+
+    /// The reduced cost of an arc: its cost less the price of the node that it leaves, plus that of the node that it enters.
+    pub fn reduced(&self, k: ArcId) -> i128
+        requires { IsArcNumber self.now.net k }
+        ensures value { result ≡ reduced_at self.now k }
+        ensures small { IsUpTo (7 * 10 ^ 36) result }
+        ensures basis { IsBasis self.now }
+    {
+        let (src, dst) = self.net.ends(k);
+        self.net.cost(k) - self.price(src) + self.price(dst)
+    }
+
+    // The reduced cost of the residual arc that an arc offers.
+    fn offered(&self, k: ArcId) -> i128
+        requires { IsArcNumber self.now.net k }
+        ensures eligible { (result <ℤ pos 0) ↔ IsEligible self.now k }
+        ensures violation { result <ℤ pos 0 → result ≡ neg_ℤ (pos (violation self.now k)) }
+        ensures small { IsUpTo (7 * 10 ^ 36) result }
+        ensures basis { IsBasis self.now }
+    {
+        let offer = self.offers[k.get() as usize - 1];
+        i128::from(offer.cost) - self.table.get(offer.from) + self.table.get(offer.to)
+    }
+
+    /// Whether an arc can enter: it is outside the tree, it can carry something, and it gains by carrying more where it carries
+    /// nothing, or by carrying less where it is full. Artificial arcs never enter.
+    pub fn eligible(&self, k: ArcId) -> bool
+        requires { IsArcNumber self.now.net k }
+        ensures value { IsTrue result ↔ IsEligible self.now k }
+        ensures basis { IsBasis self.now }
+    {
+        self.offered(k) < 0
+    }
+
+    /// Of the arcs from number `first` up to but not including `end` the eligible one of greatest violation, that is of greatest size of
+    /// the reduced cost, and of several such the one of least number.
+    pub fn most_violated(&self, first: u32, end: u32) -> Option<ArcId>
+        requires low { 1 ≤ first }
+        requires order { first ≤ end }
+        requires high { end ≤ length self.now.net.arcs + 1 }
+        ensures value { IsMostViolatedPick self.now first end result }
+        ensures basis { IsBasis self.now }
+    {
+        // Called for its clause alone: this is a basis.
+        let _net = self.net();
+        let mut found = None;
+        let mut least = 0;
+        'arcs: for number in first..end {
+            let value = self.offered(ArcId::new(number));
+            if value < least {
+                least = value;
+                found = Some(ArcId::new(number));
+            }
+        }
+        found
+    }
+}

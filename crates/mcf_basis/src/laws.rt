@@ -1,0 +1,27 @@
+//! Laws of bases, each the contract of a function that does nothing.
+ghost use Rattle.mcf_basis.specs.Laws.{BasesAreTreeSolutions, LastBasesAreShown, RanksBoundPivots, RanksCountDown, RanksFall};
+
+/// Where the pair of the cost and the sum of the prices falls, the number that stands for it falls.
+pub fn ranks_fall()
+    ensures { RanksFall }
+{}
+
+/// And so does this number counted from below all such numbers of the net.
+pub fn ranks_count_down()
+    ensures { RanksCountDown }
+{}
+
+/// There are no more pivots than the bound from the start on, whatever the rule.
+pub fn ranks_bound_pivots()
+    ensures { RanksBoundPivots }
+{}
+
+/// The flow of a basis is a tree solution: the arcs whose flow is at neither bound hold no cycle.
+pub fn bases_are_tree_solutions()
+    ensures { BasesAreTreeSolutions }
+{}
+
+/// Where no arc is eligible and no artificial arc carries anything, the flow is feasible, and the prices show it, so that it is least.
+pub fn last_bases_are_shown()
+    ensures { LastBasesAreShown }
+{}

@@ -1,0 +1,19 @@
+#![tactic(auto)]
+
+//! Bases of the network simplex: a spanning tree over a root and the nodes of a net, with an artificial arc for each node, amounts
+//! and prices (Ahuja, Magnanti and Orlin, Network Flows, chapter 11).
+//!
+//! It stands on `mcf_network` and `mcf_tree`. Definitions stand in `specs/`: `Artificial` adds the artificial arcs to a net,
+//! `Structures` has what a clause sees of a basis, its paths and its cycles, `Bases` says what every basis keeps, `Starts` with
+//! which one a run begins, `Pivots` what one pivot does, `Ranks` how many there can be, and `Layouts` how a basis is stored.
+
+mod basis;
+mod laws;
+mod offer;
+mod price_table;
+mod rooms;
+
+pub use basis::Basis;
+pub use laws::{
+    bases_are_tree_solutions, last_bases_are_shown, ranks_bound_pivots, ranks_count_down, ranks_fall,
+};
