@@ -1,4 +1,5 @@
 -- Where the flow of an answer comes from.
+use Rattle.std.proofs.Common.{◌≡◌, subst}
 use Rattle.std.specs.Prelude.{Result, Ok, Err, IfOk}
 use Rattle.mcf_answer.specs.declared.answers.Answer.{Answer}
 use Rattle.mcf_answer.specs.declared.answers.Answer.TheVariants.{Flow, Blocked, Refused}
@@ -8,7 +9,6 @@ use Rattle.mcf_network.specs.States.{Pseudoflow}
 use Rattle.mcf_solver.specs.Making.{HasMadeFlow, IsMadeBy, IsMadeByEngine, meant}
 use Rattle.mcf_solver.specs.declared.choice.Choice.{Choice}
 use Rattle.mcf_solver.specs.declared.choice.Meant.{Meant}
-use Rattle.mcf_solver.specs.declared.choice.Meant.TheVariants.{ByCancel}
 
 -- what was made one way was made another
 pub made_otherwise : (P Q : Network → Pseudoflow → Type 0) (g : Network) → ((s : Pseudoflow) → P (net_of g) s → Q (net_of g) s)
@@ -22,9 +22,8 @@ pub made_otherwise_if_ok : {E : Type 0} (P Q : Network → Pseudoflow → Type 0
 made_otherwise_if_ok P Q g step (Ok a) h = made_otherwise P Q g step a h
 made_otherwise_if_ok P Q g step (Err e) h = tt
 
--- any state is made by the plain engine
-made_by_cancel : (m : Meant) (choice : Choice) (g : Network) (s : Pseudoflow) → IsMadeByEngine m choice g s
-made_by_cancel ByCancel choice g s = tt
-
-pub made_by_meant : (choice : Choice) (g : Network) (s : Pseudoflow) → IsMadeBy choice g s
-made_by_meant choice g s = made_by_cancel (meant choice.engine g.problem) choice g s
+-- what the engine made that is meant is made as the choice means
+pub made_by_meant : (m : Meant) (choice : Choice) (g : Network) (s : Pseudoflow) → m ≡ meant choice.engine g.problem
+    → IsMadeByEngine m choice (net_of g) s → IsMadeBy choice (net_of g) s
+unfolding net_of
+made_by_meant m choice g s is made = subst (λ x. IsMadeByEngine x choice (net_of g) s) is made

@@ -11,6 +11,7 @@ pub use Rattle.mcf_network.specs.Removal
 pub use Rattle.mcf_network.specs.Restoring
 pub use Rattle.mcf_network.specs.States
 pub use Rattle.mcf_prices.specs.Outcomes
+pub use Rattle.mcf_scaling.specs.Made
 pub use Rattle.mcf_text.specs.Row
 pub mod Answering
 pub mod Chosen

@@ -13,18 +13,21 @@ use Rattle.mcf_network.specs.States.{Pseudoflow}
 use Rattle.mcf_prices.specs.Outcomes.{IsLeastState}
 use Rattle.mcf_solver.specs.declared.choice.Choice.{Choice}
 use Rattle.mcf_solver.specs.declared.choice.EngineChoice.{EngineChoice}
-use Rattle.mcf_solver.specs.declared.choice.EngineChoice.TheVariants.{Auto, Cancel}
+use Rattle.mcf_scaling.specs.Made.{IsScaled}
+use Rattle.mcf_solver.specs.declared.choice.EngineChoice.TheVariants.{Auto, Cancel, Scaling}
 use Rattle.mcf_solver.specs.declared.choice.Meant.{Meant}
-use Rattle.mcf_solver.specs.declared.choice.Meant.TheVariants.{ByCancel}
+use Rattle.mcf_solver.specs.declared.choice.Meant.TheVariants.{ByCancel, ByScaling}
 
 -- the engine that a choice means for a problem
 abbrev pub meant : EngineChoice → Problem → Meant
-meant Auto problem = ByCancel
+meant Auto problem = ByScaling
 meant Cancel problem = ByCancel
+meant Scaling problem = ByScaling
 
--- the net's state was made by a new engine of this name; the plain engine asks nothing of how
+-- the net's state was made by a new engine of this name; the plain engine asks nothing of how, and cost scaling counts its steps
 abbrev pub IsMadeByEngine : Meant → Choice → Network → Pseudoflow → Type 0
 IsMadeByEngine ByCancel choice g s = ⊤
+IsMadeByEngine ByScaling choice g s = IsScaled g s
 
 -- by a new engine that the choice means for the problem of the net
 abbrev pub IsMadeBy : Choice → Network → Pseudoflow → Type 0

@@ -6,8 +6,10 @@ pub enum EngineChoice {
     /// The one that suits the problem.
     #[default]
     Auto,
-    /// Cycle cancelling.
+    /// Cycle cancelling: slow, and short.
     Cancel,
+    /// Cost scaling.
+    Scaling,
 }
 
 /// How an instance is solved.
@@ -32,4 +34,6 @@ pub enum Kind {
 pub(crate) enum Meant {
     // The plain engine.
     ByCancel,
+    // Cost scaling.
+    ByScaling,
 }

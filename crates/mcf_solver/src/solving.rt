@@ -20,6 +20,7 @@ use mcf_checker::correct_answers_are_accepted;
 use mcf_instance::{Instance, Problem, read};
 use mcf_network::Net;
 use mcf_prices::{Cancel, Engine, Outcome};
+use mcf_scaling::Scaling;
 use mcf_text::NoMemory;
 use std::alloc::Global;
 
@@ -76,6 +77,7 @@ fn solve_instance(alloc: Global, instance: &Instance, choice: Choice) -> Result<
 {
     match engine_meant(choice.engine, instance.problem()) {
         Meant::ByCancel => solve_by(alloc, instance, &mut Cancel::new()),
+        Meant::ByScaling => solve_by(alloc, instance, &mut Scaling::new()),
     }
 }
 
@@ -84,7 +86,8 @@ fn engine_meant(engine: EngineChoice, _problem: Problem) -> Meant
     ensures { result ≡ meant engine _problem }
 {
     match engine {
-        EngineChoice::Auto | EngineChoice::Cancel => Meant::ByCancel,
+        EngineChoice::Cancel => Meant::ByCancel,
+        EngineChoice::Auto | EngineChoice::Scaling => Meant::ByScaling,
     }
 }
 

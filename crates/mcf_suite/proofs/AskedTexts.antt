@@ -5,7 +5,7 @@ use Rattle.clap.specs.Words.{Text, fault_of, first_of, subcommand_of, takes}
 use Rattle.clap.specs.declared.error.kind.ErrorKind.TheVariants.{DisplayHelp, InvalidValue, MissingSubcommand, UnknownArgument}
 use Rattle.clap.proofs.OnLiterals.{clap_on_literals}
 use Rattle.mcf_solver.specs.declared.choice.EngineChoice.{EngineChoice}
-use Rattle.mcf_solver.specs.declared.choice.EngineChoice.TheVariants.{Auto, Cancel}
+use Rattle.mcf_solver.specs.declared.choice.EngineChoice.TheVariants.{Auto, Cancel, Scaling}
 use Rattle.mcf_suite.specs.Asking.{engine_by, mcf_app}
 use Rattle.mcf_suite.proofs.AskedLemmas.{some_names}
 
@@ -28,6 +28,10 @@ with_equals : asked_by (codes "mcf" ∷ codes "solve" ∷ codes "-" ∷ codes "-
     ≡ Some (codes "solve", Auto, Some (codes "-"))
 unfolding clap_on_literals asked_by some_names
 with_equals = refl
+
+with_scaling : asked_by (codes "mcf" ∷ codes "solve" ∷ codes "--engine=scaling" ∷ []) ≡ Some (codes "solve", Scaling, None)
+unfolding clap_on_literals asked_by some_names
+with_scaling = refl
 
 taken : takes (mcf_app some_names) (codes "mcf" ∷ codes "solve" ∷ codes "--engine" ∷ codes "cancel" ∷ codes "a.min" ∷ []) ≡ true
 unfolding clap_on_literals some_names

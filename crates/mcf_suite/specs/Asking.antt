@@ -1,5 +1,5 @@
 -- What the words of a command line ask.
-use Rattle.std.specs.Prelude.{◌≡◌, true, false, List, [], ◌∷◌, Option, Some, Result, IfOk, IfErr, codes, option_map, if◌then◌else◌}
+use Rattle.std.specs.Prelude.{◌≡◌, Bool, true, false, List, [], ◌∷◌, Option, Some, Result, IfOk, IfErr, codes, option_map, if◌then◌else◌}
 use Rattle.std.specs.Borrow.{Bor}
 use Rattle.std.specs.Option.{option_map_or}
 use Rattle.std.specs.Str.{bytes_eq}
@@ -10,11 +10,11 @@ use Rattle.clap.specs.declared.error.Error.{Error}
 use Rattle.clap.specs.declared.error.kind.ErrorKind.TheVariants.{OutOfMemory}
 use Rattle.mcf_suite.specs.declared.asking.Asked.{Asked}
 use Rattle.mcf_solver.specs.declared.choice.EngineChoice.{EngineChoice}
-use Rattle.mcf_solver.specs.declared.choice.EngineChoice.TheVariants.{Auto, Cancel}
+use Rattle.mcf_solver.specs.declared.choice.EngineChoice.TheVariants.{Auto, Cancel, Scaling}
 
 -- the names of the engines
 abbrev pub engine_names : List Text
-engine_names = codes "auto" ∷ codes "cancel" ∷ []
+engine_names = codes "auto" ∷ codes "cancel" ∷ codes "scaling" ∷ []
 
 -- `--engine ENGINE`, one of these names, and `auto` where it is left out
 abbrev pub engine_rule : Bor (List (Bor Text)) → Rule
@@ -53,9 +53,16 @@ pub record IsMcf (app : App) : Type 0 where
   pub spelled : texts names.now ≡ engine_names
   pub reads : app ≡ mcf_app names
 
+-- a word was given, and it is this one
+abbrev pub is_given : Option Text → Text → Bool
+is_given name word = option_map_or (λ n. bytes_eq n word) name false
+
 -- the engine that a name asks for
 abbrev pub engine_by : Option Text → EngineChoice
-engine_by name = if option_map_or (λ n. bytes_eq n (codes "cancel")) name false then Cancel else Auto
+engine_by name =
+    if is_given name (codes "cancel") then Cancel
+    else (if is_given name (codes "scaling") then Scaling
+    else Auto)
 
 -- what is asked is what the matches of the subcommand hold that the words name
 pub record Asks (app : App) (words : List Text) (asked : Asked) : Type 0 where

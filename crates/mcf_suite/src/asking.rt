@@ -19,9 +19,9 @@ pub struct Asked<'a> {
 }
 
 // The names of the engines.
-static ENGINES: [&str; 2] = ["auto", "cancel"];
+static ENGINES: [&str; 3] = ["auto", "cancel", "scaling"];
 
-/// Reads what the words of a command line ask: `mcf solve [--engine auto|cancel] [FILE]`.
+/// Reads what the words of a command line ask: `mcf solve [--engine auto|cancel|scaling] [FILE]`.
 ///
 /// The words begin with the name of the program, which isn't read.
 ///
@@ -65,7 +65,7 @@ fn solve<'a>(alloc: Global) -> Result<Command<'a>, AllocError>
         .value_name("ENGINE")
         .value_parser(ENGINES.as_slice())
         .default_value("auto")
-        .help("What solves the instance");
+        .help("What solves the instance: auto chooses, scaling is cost scaling, cancel is slow and short");
     let file = Arg::new(alloc, "file").value_name("FILE").help(
         "The file of the instance; without one it is read from standard input",
     );
@@ -81,6 +81,7 @@ fn engine_of(name: Option<&str>) -> EngineChoice
 {
     match name {
         Some("cancel") => EngineChoice::Cancel,
+        Some("scaling") => EngineChoice::Scaling,
         _ => EngineChoice::Auto,
     }
 }
