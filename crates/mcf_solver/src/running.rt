@@ -23,7 +23,7 @@ const TEXT_LIMIT: usize = 1_000_000_000_000_000_000;
 /// # Errors
 ///
 /// `Read`, `NoMemory` and `TooLong` (more than 10^18 bytes) come before the first byte is written. After
-/// `Write` the sink took a beginning of an answer, perhaps all of it, and the source had no more bytes than that.
+/// `Write` the sink took a beginning of an answer, perhaps all of it; the source then had no more than 10^18 bytes.
 pub fn run<S: Source, K: Sink>(
     alloc: Global,
     source: &mut S,
