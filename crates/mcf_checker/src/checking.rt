@@ -69,7 +69,7 @@ fn instance_verdict(
 /// applies.
 ///
 /// Any texts are judged, with prices of any size that an answer may have, and any node set that blocks. The
-/// time is linear in the two texts.
+/// time is about linear in the two texts.
 ///
 /// # Errors
 /// `NoMemory` where there is no memory for what the texts say: an instance text whose first problem line

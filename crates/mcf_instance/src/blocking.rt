@@ -142,7 +142,7 @@ fn blocks_by_take(instance: &Instance, table: &[bool]) -> bool
 /// Whether the set that the table marks must send more than it can, or take more than it can, so that no
 /// flow is feasible (Hoffman's condition; Ahuja, Magnanti and Orlin, Network Flows, chapter 6).
 ///
-/// The table has an entry for each node, in order. The time is linear in the nodes and arcs.
+/// The table has an entry for each node, in order. The time is about linear in the nodes and arcs.
 pub fn blocks(instance: &Instance, table: &[bool], side: Side) -> bool
     requires { length table.now ≡ node_count instance.now }
     ensures exact { IsTrue result ↔ Blocks instance.now (in_table table.now) side }

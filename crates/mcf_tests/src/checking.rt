@@ -326,16 +326,6 @@ impl Narrow {
         })
     }
 
-    // What a call answers that there is no room for.
-    fn fail(&mut self) -> io::Result<usize> {
-        self.failed = true;
-        match self.failing {
-            Failing::Error(kind) => Err(io::Error::from(kind)),
-            Failing::Nothing => Ok(0),
-            Failing::Once => Err(io::Error::from(ErrorKind::Interrupted)),
-        }
-    }
-
     // Counts a call that comes after one that failed.
     fn count(&mut self) {
         if self.failed {
@@ -353,7 +343,12 @@ impl Write for Narrow {
         let left = self.room.saturating_sub(self.held.len());
         let taken = left.min(bytes.len());
         if taken == 0 {
-            return self.fail();
+            self.failed = true;
+            return match self.failing {
+                Failing::Error(kind) => Err(io::Error::from(kind)),
+                Failing::Nothing => Ok(0),
+                Failing::Once => Err(io::Error::from(ErrorKind::Interrupted)),
+            };
         }
         for byte in bytes.get(..taken).unwrap_or(b"") {
             let _ = self.held.push(*byte);
