@@ -1,4 +1,4 @@
-use Rattle.std.proofs.Common.{◌≡◌, length, subst, sym, ap, ◌∙◌}
+use Rattle.std.proofs.Common.{subst, sym, ap, ◌∙◌}
 use Rattle.mcf_instance.specs.Network.{Network, IsNode, node_count}
 use Rattle.mcf_feas.specs.Pushing.{AreNodes}
 use Rattle.mcf_feas.proofs.Excess.{pushed_more}
@@ -18,7 +18,7 @@ visit-requires-clause-node c =
 pub visits-preserved : goal.visits-preserved
 visits-preserved c =
     let old = c.visits.invariant in
-    let step = c.in_ok-visit.ensures in
+    let step = c.in_ok-cost.ensures in
     let count = ap node_count old.pushed.net in
     record {
       pushed = pushed_more c.args.state.now c.visits.state c.visit.new.state old.pushed step.pushed;
