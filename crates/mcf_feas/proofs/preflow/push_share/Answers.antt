@@ -22,4 +22,9 @@ returns-clause-pushed c =
     let r = rid c.args.arc c.args.back in
     let ok = c.net.ensures.valid in
     let same : to_z w128 (of_z w128 c.share-amount.result) ≡ c.share-amount.result = search (rules, to_z-of_z) in
-    pushed_one s c.push.new.self (tail s.net r) (head s.net r) c.share-amount.result (ap (λ (t : Pseudoflow). t.net) c.push.ensures.value) c.push.ensures.valid (rw same at c.push.ensures.surpluses) (tail_is_node s.net c.args.arc c.args.back ok.of_net c.requires.arc) (head_is_node s.net c.args.arc c.args.back ok.of_net c.requires.arc) c.share-amount.ensures.low c.share-amount.ensures.held
+    let net = ap (λ (t : Pseudoflow). t.net) c.push.ensures.value in
+    let moves = rw same at c.push.ensures.surpluses in
+    let from = tail_is_node s.net c.args.arc c.args.back ok.of_net c.requires.arc in
+    let to = head_is_node s.net c.args.arc c.args.back ok.of_net c.requires.arc in
+    let share = c.share-amount.ensures in
+    pushed_one s c.push.new.self (tail s.net r) (head s.net r) c.share-amount.result net c.push.ensures.valid moves from to share.low share.held

@@ -8,12 +8,14 @@ use Rattle.mcf_feas.proofs.preflow.visit_all.Goals as goal
 pub visit-requires-clause-nodes : goal.visit-requires-clause-nodes
 visit-requires-clause-nodes c =
     let old = c.visits.invariant in
-    subst (λ (g : Network). AreNodes (node_count g) c.pop_front.new.self.items) (sym old.pushed.net) (the_rest (node_count c.args.state.now.net) c.visits.queue.items c.pop_front.new.self.items c.in-Some.node c.in-Some.ensures.items old.nodes)
+    subst (λ (g : Network). AreNodes (node_count g) c.pop_front.new.self.items) (sym old.pushed.net) (the_rest
+    (node_count c.args.state.now.net) c.visits.queue.items c.pop_front.new.self.items c.in-Some.node c.in-Some.ensures.items old.nodes)
 
 pub visit-requires-clause-node : goal.visit-requires-clause-node
 visit-requires-clause-node c =
     let old = c.visits.invariant in
-    subst (λ (g : Network). IsNode (node_count g) c.in-Some.node) (sym old.pushed.net) (the_first (node_count c.args.state.now.net) c.visits.queue.items c.pop_front.new.self.items c.in-Some.node c.in-Some.ensures.items old.nodes)
+    subst (λ (g : Network). IsNode (node_count g) c.in-Some.node) (sym old.pushed.net) (the_first
+    (node_count c.args.state.now.net) c.visits.queue.items c.pop_front.new.self.items c.in-Some.node c.in-Some.ensures.items old.nodes)
 
 pub visits-preserved : goal.visits-preserved
 visits-preserved c =
