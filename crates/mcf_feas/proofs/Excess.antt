@@ -1,5 +1,5 @@
 -- What the nodes with a surplus have left to send: it grows with no push, and falls with each path.
-use Rattle.std.proofs.Common.{◌≡◌, ◌≢◌, ℕ, ◌<◌, ◌≤◌, true, eqb, refl, ap, subst, sym, ◌∙◌, arith, ℤ, pos, negsuc, ◌+ℤ◌, ◌-ℤ◌, ◌≤ℤ◌, ◌<ℤ◌, inl, inr}
+use Rattle.std.proofs.Common.{◌≡◌, ℕ, ◌<◌, true, eqb, refl, ap, ◌∙◌, arith, ℤ, pos, negsuc, ◌+ℤ◌, ◌-ℤ◌, ◌≤ℤ◌, ◌<ℤ◌, inl, inr}
 use Rattle.std.proofs.lemmas.Int.{ints, by_lt_z}
 use Rattle.std.proofs.lemmas.Bool.{cases_eq}
 use Rattle.mcf_instance.specs.Network.{Network, IsNode, node_count, node_sum, when}
@@ -25,7 +25,9 @@ above_zero_least (negsuc n) = omega (arith, ints)
 above_zero-more : (x y : ℤ) → pos 0 ≤ℤ y → pos (above_zero (x +ℤ y)) ≤ℤ (pos (above_zero x) +ℤ y)
 above_zero-more x y h =
     let least = above_zero_least x in
-    by_lt_z (x +ℤ y) (pos 0) (λ p. let low = above_zero-low (x +ℤ y) (omega (arith, ints, p)) in omega (arith, ints, low, h)) (λ p. let high = above_zero-high (x +ℤ y) (omega (arith, ints, p)) in omega (arith, ints, high, least))
+    by_lt_z (x +ℤ y) (pos 0)
+    (λ p. let low = above_zero-low (x +ℤ y) (omega (arith, ints, p)) in omega (arith, ints, low, h))
+    (λ p. let high = above_zero-high (x +ℤ y) (omega (arith, ints, p)) in omega (arith, ints, high, least))
 
 -- x of what u has left to send moves from u to w
 module _ (n : ℕ) (f g : ℕ → ℤ) (u w : ℕ) (x : ℤ) (moved : (v : ℕ) → IsNode n v → g v ≡ f v -ℤ when (eqb u v) x +ℤ when (eqb w v) x) (from : x ≤ℤ f u) where
@@ -35,11 +37,18 @@ module _ (n : ℕ) (f g : ℕ → ℤ) (u w : ℕ) (x : ℤ) (moved : (v : ℕ) 
     falls_at v h = elim (cases_eq v u) [
       | inl e ↦ elim (cases_eq v w) [
         | inl d ↦ (let a = ap f e in let b = ap f d in absurd (omega (arith, ints, a, b, from, to, positive)))
-        | inr d ↦ (let m = moved v h in let a = ap f e in let s = when-same u v x e in let o = when-other w v x d in omega (arith, ints, m, a, s, o, from, above_zero-high (g v) (omega (arith, ints, m, a, s, o, from)), above_zero-high (f v) (omega (arith, ints, a, from, positive))))
+        | inr d ↦ (let m = moved v h in let a = ap f e in let s = when-same u v x e in let o = when-other w v x d in
+            let after = above_zero-high (g v) (omega (arith, ints, m, a, s, o, from)) in
+            let before = above_zero-high (f v) (omega (arith, ints, a, from, positive)) in
+            omega (arith, ints, m, a, s, o, from, after, before))
       ]
       | inr e ↦ elim (cases_eq v w) [
-        | inl d ↦ (let m = moved v h in let b = ap f d in let s = when-other u v x e in let o = when-same w v x d in omega (arith, ints, m, b, s, o, above_zero-low (g v) (omega (arith, ints, m, b, s, o, to)), above_zero-low (f v) (omega (arith, ints, b, to, positive))))
-        | inr d ↦ (let m = moved v h in let s = when-other u v x e in let o = when-other w v x d in let z : g v ≡ f v = omega (arith, ints, m, s, o) in let same = ap above_zero z in omega (arith, ints, s, same))
+        | inl d ↦ (let m = moved v h in let b = ap f d in let s = when-other u v x e in let o = when-same w v x d in
+            let after = above_zero-low (g v) (omega (arith, ints, m, b, s, o, to)) in
+            let before = above_zero-low (f v) (omega (arith, ints, b, to, positive)) in
+            omega (arith, ints, m, b, s, o, after, before))
+        | inr d ↦ (let m = moved v h in let s = when-other u v x e in let o = when-other w v x d in
+            let z : g v ≡ f v = omega (arith, ints, m, s, o) in let same = ap above_zero z in omega (arith, ints, s, same))
       ]
     ]
 
@@ -55,12 +64,19 @@ module _ (n : ℕ) (f g : ℕ → ℤ) (u w : ℕ) (x : ℤ) (moved : (v : ℕ) 
     rises_at_most : (v : ℕ) → IsNode n v → pos (above_zero (g v)) ≤ℤ (pos (above_zero (f v)) -ℤ when (eqb u v) x +ℤ when (eqb w v) x)
     rises_at_most v h = elim (cases_eq v u) [
       | inl e ↦ elim (cases_eq v w) [
-        | inl d ↦ (let m = moved v h in let s = when-same u v x e in let o = when-same w v x d in let z : g v ≡ f v = omega (arith, ints, m, s, o) in let same = ap above_zero z in omega (arith, ints, s, o, same))
-        | inr d ↦ (let m = moved v h in let a = ap f e in let s = when-same u v x e in let o = when-other w v x d in omega (arith, ints, m, a, s, o, from, above_zero-high (g v) (omega (arith, ints, m, a, s, o, from)), above_zero-high (f v) (omega (arith, ints, a, from, low))))
+        | inl d ↦ (let m = moved v h in let s = when-same u v x e in let o = when-same w v x d in let z : g v ≡ f v = omega (arith, ints, m, s, o) in
+            let same = ap above_zero z in omega (arith, ints, s, o, same))
+        | inr d ↦ (let m = moved v h in let a = ap f e in let s = when-same u v x e in let o = when-other w v x d in
+            let after = above_zero-high (g v) (omega (arith, ints, m, a, s, o, from)) in
+            let before = above_zero-high (f v) (omega (arith, ints, a, from, low)) in
+            omega (arith, ints, m, a, s, o, from, after, before))
       ]
       | inr e ↦ elim (cases_eq v w) [
-        | inl d ↦ (let m = moved v h in let s = when-other u v x e in let o = when-same w v x d in let z : g v ≡ f v +ℤ x = omega (arith, ints, m, s, o) in let same = ap above_zero z in let more = above_zero-more (f v) x low in omega (arith, ints, s, o, same, more))
-        | inr d ↦ (let m = moved v h in let s = when-other u v x e in let o = when-other w v x d in let z : g v ≡ f v = omega (arith, ints, m, s, o) in let same = ap above_zero z in omega (arith, ints, s, o, same))
+        | inl d ↦ (let m = moved v h in let s = when-other u v x e in let o = when-same w v x d in
+            let z : g v ≡ f v +ℤ x = omega (arith, ints, m, s, o) in let same = ap above_zero z in let more = above_zero-more (f v) x low in
+            omega (arith, ints, s, o, same, more))
+        | inr d ↦ (let m = moved v h in let s = when-other u v x e in let o = when-other w v x d in
+            let z : g v ≡ f v = omega (arith, ints, m, s, o) in let same = ap above_zero z in omega (arith, ints, s, o, same))
       ]
     ]
 
@@ -76,12 +92,14 @@ module _ (n : ℕ) (f g : ℕ → ℤ) (u w : ℕ) (x : ℤ) (moved : (v : ℕ) 
 excess_at : (s : Pseudoflow) → pos (excess s) ≡ node_sum (λ v. pos (above_zero (surplus_at s v))) (node_count s.net)
 unfolding excess
 excess_at s =
-    above_zero-high (node_sum (λ v. pos (above_zero (surplus_at s v))) (node_count s.net)) (node_sum_at_least_zero (λ v. pos (above_zero (surplus_at s v))) (node_count s.net) (λ v h. omega (arith, ints)))
+    above_zero-high (node_sum (λ v. pos (above_zero (surplus_at s v))) (node_count s.net)) (node_sum_at_least_zero (λ v. pos (above_zero
+    (surplus_at s v))) (node_count s.net) (λ v h. omega (arith, ints)))
 
 pub excess_falls : (s s' : Pseudoflow) → IsAugmented s s' → excess s' < excess s
 excess_falls s s' step =
     let same = ap (λ (g : Network). node_sum (λ v. pos (above_zero (surplus_at s' v))) (node_count g)) step.net in
-    let fall = total_falls (node_count s.net) (surplus_at s) (surplus_at s') step.source step.target step.amount step.moves step.held step.positive step.taken step.is_node in
+    let fall = total_falls (node_count s.net) (surplus_at s)
+    (surplus_at s') step.source step.target step.amount step.moves step.held step.positive step.taken step.is_node in
     omega (arith, ints, excess_at s, excess_at s', same, fall, step.positive)
 
 -- ---- pushes

@@ -26,10 +26,10 @@ pub enum Feas<'n> {
 /// up to less than 0. Where they add up to 0, the set blocks by `Send`.
 ///
 /// It pushes surplus down the levels of the nodes, first in, first out (Goldberg and Tarjan; Ahuja, Magnanti
-/// and Orlin, Network Flows, section 7.7), in rounds. After each round a breadth-first search from the nodes with a surplus shows
-/// that none is left, or that it can't leave the nodes reached, or finds an augmenting path (chapter 6). The
-/// time of each round is linear in the nodes and arcs, but for nodes that are visited more often than others,
-/// and so is the memory, which is taken before the first round.
+/// and Orlin, Network Flows, section 7.7), in rounds. After each round a breadth-first search from the nodes with
+/// a surplus shows that none is left, or that none can leave the nodes reached, or finds an augmenting path
+/// (chapter 6). The time of a round is mostly linear in the nodes and arcs. The memory is linear in the nodes and
+/// arcs, and is taken before the first round.
 ///
 /// # Errors
 ///

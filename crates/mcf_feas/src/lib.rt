@@ -3,8 +3,8 @@
 //! Whether a net has a feasible flow: a state without surplus, or a set of nodes that blocks every flow.
 //!
 //! It stands on `mcf_network`. Definitions stand in `specs/`: `Chosen` says which node set is named where no
-//! flow is feasible, `Feasible` what `feasible` answers, `Exactness` what follows from such an answer, and
-//! `Searching` what a search keeps.
+//! flow is feasible, `Feasible` what `feasible` answers, `Exactness` what follows from such an answer,
+//! `Pushing` what pushes keep, and `Searching` what a search keeps.
 
 mod feas;
 mod laws;

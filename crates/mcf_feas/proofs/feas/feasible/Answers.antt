@@ -1,7 +1,6 @@
 use Rattle.std.proofs.Common.{◌≡◌, ◌∙◌, ap, arith, sym, subst, pos}
 use Rattle.mcf_instance.specs.declared.problem.Side.TheVariants.{Send}
 use Rattle.mcf_instance.specs.Network.{Network, node_count}
-use Rattle.mcf_network.specs.States.{Pseudoflow}
 use Rattle.mcf_feas.specs.Chosen.{IsChosenBlock, supply_total}
 use Rattle.mcf_feas.proofs.Choices.{chosen_stuck}
 use Rattle.mcf_feas.proofs.Wholes.{settled}
@@ -24,7 +23,8 @@ returns-then-not-branch-clause-answer c =
     let same = c.loop-search.invariant.of_net in
     let balanced : supply_total c.args.net.now ≡ pos 0 = rw c.in_default.is at c.in_ok-set.ensures.even in
     let stuck = rw c.if-not-branch.true at c.in_ok-run.ensures.found in
-    rw c.into_reached.ensures (subst (λ (g : Network). IsChosenBlock g c.run.new.self.reached Send) same (chosen_stuck s _ c.loop-search.invariant.flow c.in_ok-run.ensures.nodes stuck (ap supply_total same ∙ balanced)))
+    rw c.into_reached.ensures (subst (λ (g : Network). IsChosenBlock g c.run.new.self.reached Send) same
+    (chosen_stuck s _ c.loop-search.invariant.flow c.in_ok-run.ensures.nodes stuck (ap supply_total same ∙ balanced)))
 
 pub returns-clause-answer : goal.returns-clause-answer
 returns-clause-answer c =

@@ -1,4 +1,4 @@
-use Rattle.std.proofs.Common.{subst}
+use Rattle.std.proofs.Common.{subst, ap, ◌∙◌}
 use Rattle.std.proofs.lemmas.List.Elements.{All-tail}
 use Rattle.mcf_instance.specs.Network.{Network, node_count}
 use Rattle.mcf_network.specs.Stars.{Leaves}
@@ -14,6 +14,7 @@ arcs-preserved c =
       can_next = tt;
       is_finite = tt;
       pushed = pushed_more c.args.state.now c.arcs.state c.push_share.new.state old.pushed step.pushed;
+      levels = step.levels ∙ ap node_count old.pushed.net;
       nodes = subst (λ (g : Network). AreNodes (node_count g) c.push_share.new.queue.items) old.pushed.net step.nodes;
       leaves = All-tail (Leaves c.args.state.now.net c.args.from) c.in-Some.along c.next.new.self (rw c.in-Some.ensures.steps at old.leaves);
     }

@@ -10,3 +10,6 @@ invariant-visits l =
       levels : length l.levels.items ≡ node_count l.initial.state.net;
       nodes : AreNodes (node_count l.initial.state.net) l.queue.items;
     }
+
+abbrev pub decreases-visits : goal.decreases-visits
+decreases-visits l = l.budget

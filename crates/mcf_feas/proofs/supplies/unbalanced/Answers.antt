@@ -13,6 +13,8 @@ returns-clause-block c =
     let set = c.in_ok-set.ensures in
     let ne = c.if-total-eq0.false in
     elim c.if-total-lt0.branch [
-      | then-total-lt0 w ↦ (let low : supply_total g <ℤ pos 0 = omega (arith, ints, total, w.if-total-lt0.true) in rw w.side-is (chosen_take g _ ok set.one_per_node set.all low))
-      | else-total-lt0 w ↦ (let high : pos 0 <ℤ supply_total g = omega (arith, ints, total, w.if-total-lt0.false, ne) in rw w.side-is (chosen_send g _ ok set.one_per_node set.all high))
+      | then-total-lt0 w ↦ (let low : supply_total g <ℤ pos 0 = omega (arith, ints, total, w.if-total-lt0.true) in
+          rw w.side-is (chosen_take g _ ok set.one_per_node set.all low))
+      | else-total-lt0 w ↦ (let high : pos 0 <ℤ supply_total g = omega (arith, ints, total, w.if-total-lt0.false, ne) in
+          rw w.side-is (chosen_send g _ ok set.one_per_node set.all high))
     ]
