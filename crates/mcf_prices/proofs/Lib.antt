@@ -5,12 +5,17 @@ pub mod HeapOrder
 pub mod HeapPlaces
 pub mod HeapReads
 pub mod HeapViews
+pub mod LabelLengths
 pub mod LinkWalks
 pub mod Lowering
 pub mod Marks
+pub mod NearLaws
 pub mod Offers
 pub mod Paths
 pub mod QueueLaws
+pub mod RaisedPrices
+pub mod RaisingLoops
+pub mod RaisingSteps
 pub mod Relaxing
 pub mod Rounding
 pub mod Showing
