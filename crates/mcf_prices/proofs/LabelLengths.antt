@@ -41,7 +41,8 @@ scaled_up_to scale c fits small =
     (omega (arith, ints, h), omega (arith, ints, h))
 
 -- one arc more
-pub length_next : (scale slack waiting nodes : ℕ) (c z z' : ℤ) → scale ≤ node_limit + 1 → IsUpTo cost_limit c → z' ≡ z +ℤ (c *ℤ pos scale +ℤ pos slack) → IsLength scale slack (waiting + 1) nodes z → IsLength scale slack waiting nodes z'
+pub length_next : (scale slack waiting nodes : ℕ) (c z z' : ℤ) → scale ≤ node_limit + 1 → IsUpTo cost_limit c → z' ≡ z +ℤ (c *ℤ pos scale +ℤ pos slack)
+    → IsLength scale slack (waiting + 1) nodes z → IsLength scale slack waiting nodes z'
 length_next scale slack waiting nodes c z z' fits small is h =
     let few = h.few in
     let value = h.value in
@@ -77,7 +78,8 @@ rounded_price scale slack nodes z g fits h round =
     let value = h.value in
     let slack_fits = slack_below scale slack h.arcs nodes fits h.few in
     let up : h.price <ℤ (g +ℤ pos 1) = cancelled h.price (g +ℤ pos 1) scale (omega (arith, ints, next, value)) in
-    let down : g <ℤ (h.price +ℤ pos 1) = cancelled g (h.price +ℤ pos 1) scale (omega (arith, ints, below, value, slack_fits, add-mul h.price (pos 1) (pos scale), one-mul (pos scale))) in
+    let down : g <ℤ (h.price +ℤ pos 1) = cancelled g (h.price +ℤ pos 1) scale
+    (omega (arith, ints, below, value, slack_fits, add-mul h.price (pos 1) (pos scale), one-mul (pos scale))) in
     omega (arith, ints, up, down)
 
 -- a price that a label is no less than is no greater than the label rounded down
@@ -88,11 +90,13 @@ rounded_above scale z g x low round =
     omega (arith, ints, less)
 
 -- labels that respect an arc respect it after they are rounded down
-pub rounded_respects : (scale slack nodes : ℕ) (c z z' g g' : ℤ) → slack * nodes < scale → IsLength scale slack 1 nodes z' → z ≤ℤ (z' +ℤ (c *ℤ pos scale +ℤ pos slack)) → IsRoundedDown scale z g → IsRoundedDown scale z' g' → g ≤ℤ (c +ℤ g')
+pub rounded_respects : (scale slack nodes : ℕ) (c z z' g g' : ℤ) → slack * nodes < scale → IsLength scale slack 1 nodes z'
+    → z ≤ℤ (z' +ℤ (c *ℤ pos scale +ℤ pos slack)) → IsRoundedDown scale z g → IsRoundedDown scale z' g' → g ≤ℤ (c +ℤ g')
 rounded_respects scale slack nodes c z z' g g' fits h step round round' =
     let below = round.below in
     let value = h.value in
     let same = rounded_price scale slack nodes z' g' fits h round' in
     let slack_fits = slack_below scale slack h.arcs nodes fits h.few in
-    let less : g <ℤ (c +ℤ h.price +ℤ pos 1) = cancelled g (c +ℤ h.price +ℤ pos 1) scale (omega (arith, ints, below, step, value, slack_fits, add-mul (c +ℤ h.price) (pos 1) (pos scale), add-mul c h.price (pos scale), one-mul (pos scale))) in
+    let less : g <ℤ (c +ℤ h.price +ℤ pos 1) = cancelled g (c +ℤ h.price +ℤ pos 1) scale
+    (omega (arith, ints, below, step, value, slack_fits, add-mul (c +ℤ h.price) (pos 1) (pos scale), add-mul c h.price (pos scale), one-mul (pos scale))) in
     omega (arith, ints, less, same)

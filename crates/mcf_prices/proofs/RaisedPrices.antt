@@ -1,5 +1,6 @@
 -- The labels at the end of a search for the greatest prices, divided by the scale and rounded down.
-use Rattle.std.proofs.Common.{◌≡◌, ℕ, ◌+◌, ◌-◌, ◌*◌, ◌<◌, ◌≤◌, List, [], length, get_or, ℤ, pos, neg_ℤ, ◌*ℤ◌, ◌≤ℤ◌, ◌<ℤ◌, false, ap, subst, ◌∙◌, arith, inl, inr}
+use Rattle.std.proofs.Common.{◌≡◌, ℕ, ◌+◌, ◌-◌, ◌*◌, ◌<◌, ◌≤◌, List, [], length, get_or, ℤ, pos, neg_ℤ, ◌*ℤ◌, ◌≤ℤ◌, ◌<ℤ◌, false, ap, subst, ◌∙◌, arith, inl}
+use Rattle.std.proofs.Common.{inr}
 use Rattle.std.proofs.lemmas.Int.{ints}
 use Rattle.std.proofs.lemmas.List.{get_or_default}
 use Rattle.std.specs.Prelude.{unsigned_abs}
@@ -23,7 +24,8 @@ use Rattle.mcf_prices.proofs.Rounding.{small_prices}
 use Rattle.mcf_prices.proofs.Showing.{shows_from_respects}
 
 -- the opposite of a quotient that was rounded up
-pub rounded_is : (scale depth q : ℕ) (z g : ℤ) → z ≤ℤ pos 0 → depth ≡ unsigned_abs z → g ≡ neg_ℤ (pos q) → depth ≤ q * scale → q * scale < depth + scale → IsRoundedDown scale z g
+pub rounded_is : (scale depth q : ℕ) (z g : ℤ) → z ≤ℤ pos 0 → depth ≡ unsigned_abs z → g ≡ neg_ℤ (pos q) → depth ≤ q * scale → q * scale < depth + scale
+    → IsRoundedDown scale z g
 rounded_is scale depth q z g high depth_is is enough least =
     let times : g *ℤ pos scale ≡ neg_ℤ (pos (q * scale)) = ap (λ x. x *ℤ pos scale) is ∙ neg-mul (pos q) (pos scale) in
     let same : z ≡ neg_ℤ (pos depth) = low z high depth_is in
@@ -35,7 +37,8 @@ rounded_is scale depth q z g high depth_is is enough least =
     low : (x : ℤ) → x ≤ℤ pos 0 → depth ≡ unsigned_abs x → x ≡ neg_ℤ (pos depth)
     low x l e = omega (arith, ints)
 
-module _ (s : Pseudoflow) (scale slack : ℕ) (y : List ℤ) (flow : IsPseudoflow s) (near : AreNearPrices s scale slack y) (h : Keyed) (z : List ℤ) (search : IsRaising s scale slack y h []) (none : NoneWaits h) (rounded : AreRounded scale y h z) where
+module _ (s : Pseudoflow) (scale slack : ℕ) (y : List ℤ) (flow : IsPseudoflow s) (near : AreNearPrices s scale slack y) (h : Keyed) (z : List ℤ)
+    (search : IsRaising s scale slack y h []) (none : NoneWaits h) (rounded : AreRounded scale y h z) where
   all_settled : (v : ℕ) → Settled h v
   all_settled v = ap (λ t. get_or t (v - 1) false) none ∙ unmarked (length h.waiting) v
 
@@ -73,7 +76,9 @@ module _ (s : Pseudoflow) (scale slack : ℕ) (y : List ℤ) (flow : IsPseudoflo
       let from = tail_is_node s.net r.arc r.back flow.of_net room.arc in
       let to = head_is_node s.net r.arc r.back flow.of_net room.arc in
       elim (search.respects r room (all_settled (head s.net r))) [
-        | inl a ↦ rounded_respects scale slack (node_count s.net) (unit_cost s.net r) (label y h (tail s.net r)) (label y h (head s.net r)) (at_node z (tail s.net r)) (at_node z (head s.net r)) near.slack_small (walk (head s.net r) to) a (round (tail s.net r) from) (round (head s.net r) to)
+        | inl a ↦ rounded_respects scale slack (node_count s.net) (unit_cost s.net r) (label y h (tail s.net r)) (label y h (head s.net r))
+            (at_node z (tail s.net r)) (at_node z (head s.net r)) near.slack_small (walk (head s.net r) to) a (round (tail s.net r) from)
+            (round (head s.net r) to)
         | inr has ↦ absurd (none_contained _ has)
       ]
 

@@ -1,5 +1,6 @@
 -- The loops over all nodes before and after a search for the greatest prices.
-use Rattle.std.proofs.Common.{◌≡◌, ◌≢◌, ℕ, ◌+◌, ◌-◌, ◌<◌, ◌≤◌, true, false, List, length, set, ℤ, pos, neg_ℤ, ◌+ℤ◌, refl, sym, ap, subst, ◌∙◌, arith, ◌⊎◌, inl, inr, length-set}
+use Rattle.std.proofs.Common.{◌≡◌, ◌≢◌, ℕ, ◌+◌, ◌-◌, ◌<◌, ◌≤◌, true, false, List, length, set, ℤ, pos, neg_ℤ, ◌+ℤ◌, refl, sym, ap, subst, ◌∙◌, arith, ◌⊎◌, inl}
+use Rattle.std.proofs.Common.{inr, length-set}
 use Rattle.std.proofs.lemmas.Int.{ints}
 use Rattle.mcf_instance.specs.Blocking.{in_table}
 use Rattle.mcf_instance.specs.Network.{IsNode, at_node}
@@ -26,7 +27,8 @@ wait_start y h keys waiting none =
       rest = λ v l. ap (λ t. in_table t v) none ∙ unmarked (length h.waiting) v;
     }
 
-pub wait_next : (y : List ℤ) (h : Keyed) (i v : ℕ) (key : ℤ) → AreWaiting y h i → i < length y → v ≡ i + 1 → key ≡ neg_ℤ (at_node y v) → AreWaiting y (waiting_with h v key) (i + 1)
+pub wait_next : (y : List ℤ) (h : Keyed) (i v : ℕ) (key : ℤ) → AreWaiting y h i → i < length y → v ≡ i + 1 → key ≡ neg_ℤ (at_node y v)
+    → AreWaiting y (waiting_with h v key) (i + 1)
 wait_next y h i v key so inside is key_is =
     let n = so.key_count in
     let m = so.waiting_count in
@@ -72,16 +74,20 @@ round_start scale y h =
 pub label_next : (scale : ℕ) (y z : List ℤ) (h : Keyed) (i v : ℕ) → AreRoundedUpTo scale y h z i → v ≡ i + 1 → label z h v ≡ label y h v
 label_next scale y z h i v so is = ap (λ x. x +ℤ at_node h.keys v) (so.rest v (omega (arith, is)))
 
-pub round_next : (scale : ℕ) (y z : List ℤ) (h : Keyed) (i v : ℕ) (x p : ℤ) → AreRoundedUpTo scale y h z i → i < length z → v ≡ i + 1 → x ≡ label z h v → IsRoundedDown scale x p → AreRoundedUpTo scale y h (set z i p) (i + 1)
+pub round_next : (scale : ℕ) (y z : List ℤ) (h : Keyed) (i v : ℕ) (x p : ℤ) → AreRoundedUpTo scale y h z i → i < length z → v ≡ i + 1 → x ≡ label z h v
+    → IsRoundedDown scale x p → AreRoundedUpTo scale y h (set z i p) (i + 1)
 round_next scale y z h i v x p so inside is x_is round =
     let back : v - 1 ≡ i = omega (arith, is) in
     let node : IsNode (length z) v = (omega (arith, is), omega (arith, is, inside)) in
-    let read : (u : ℕ) → 1 ≤ u → ((u ≡ v) × (at_node (set z i p) u ≡ p)) ⊎ ((u ≢ v) × (at_node (set z i p) u ≡ at_node z u)) = λ (u : ℕ) (k : 1 ≤ u). subst (λ j. ((u ≡ v) × (at_node (set z j p) u ≡ p)) ⊎ ((u ≢ v) × (at_node (set z j p) u ≡ at_node z u))) back (read_node z v u p (pos 0) node k) in
+    let read : (u : ℕ) → 1 ≤ u
+    → ((u ≡ v) × (at_node (set z i p) u ≡ p)) ⊎ ((u ≢ v) × (at_node (set z i p) u ≡ at_node z u)) = λ (u : ℕ) (k : 1 ≤ u). subst
+    (λ j. ((u ≡ v) × (at_node (set z j p) u ≡ p)) ⊎ ((u ≢ v) × (at_node (set z j p) u ≡ at_node z u))) back (read_node z v u p (pos 0) node k) in
     let here : x ≡ label y h v = x_is ∙ label_next scale y z h i v so is in
     record {
       count = length-set z i p ∙ so.count;
       each = λ u n. elim (read u n.0) [
-        | inl (e, a) ↦ subst (λ q. IsRoundedDown scale (label y h u) q) (sym a) (subst (λ q. IsRoundedDown scale q p) (here ∙ ap (λ w. label y h w) (sym e)) round)
+        | inl (e, a) ↦ subst (λ q. IsRoundedDown scale (label y h u) q) (sym a)
+            (subst (λ q. IsRoundedDown scale q p) (here ∙ ap (λ w. label y h w) (sym e)) round)
         | inr (o, a) ↦ subst (λ q. IsRoundedDown scale (label y h u) q) (sym a) (so.each u (n.0, omega (arith, n, o, is)))
       ];
       rest = λ u l. elim (read u (omega (arith, l))) [

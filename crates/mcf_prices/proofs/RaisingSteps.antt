@@ -1,5 +1,6 @@
 -- What the steps of a search for the greatest prices keep.
-use Rattle.std.proofs.Common.{◌≡◌, ◌≢◌, ℕ, ◌+◌, ◌-◌, ◌^◌, ◌≤◌, Bool, true, false, List, [], ◌∷◌, length, set, ℤ, pos, ◌+ℤ◌, ◌-ℤ◌, ◌*ℤ◌, ◌≤ℤ◌, ◌<ℤ◌, refl, sym, ap, subst, ◌∙◌, arith, ◌⊎◌, inl, inr, length-set}
+use Rattle.std.proofs.Common.{◌≡◌, ◌≢◌, ℕ, ◌+◌, ◌-◌, ◌^◌, ◌≤◌, Bool, true, false, List, [], ◌∷◌, length, set, ℤ, pos, ◌+ℤ◌, ◌-ℤ◌, ◌*ℤ◌, ◌≤ℤ◌, ◌<ℤ◌, refl, sym}
+use Rattle.std.proofs.Common.{ap, subst, ◌∙◌, arith, ◌⊎◌, inl, inr, length-set}
 use Rattle.std.specs.Prelude.{◌↔◌}
 use Rattle.std.specs.List.{Contains}
 use Rattle.std.proofs.lemmas.Bool.{true≢false}
@@ -109,12 +110,14 @@ module _ (s : Pseudoflow) (scale slack : ℕ) (y : List ℤ) (flow : IsPseudoflo
   started h ready =
       let count = near.one_per_node in
       let node : (v : ℕ) → IsNode (node_count s.net) v → IsNode (length y) v = λ (v : ℕ) (n : IsNode (node_count s.net) v). (n.0, omega (arith, n, count)) in
-      let waits : (v : ℕ) → IsNode (node_count s.net) v → Settled h v → ⊥ = λ (v : ℕ) (n : IsNode (node_count s.net) v) (e : Settled h v). waits_or_settled h v (ready.waits v (node v n)) e in
+      let waits : (v : ℕ) → IsNode (node_count s.net) v → Settled h v
+      → ⊥ = λ (v : ℕ) (n : IsNode (node_count s.net) v) (e : Settled h v). waits_or_settled h v (ready.waits v (node v n)) e in
       record {
         key_count = ready.key_count ∙ count;
         waiting_count = ready.waiting_count ∙ count;
         not_above = λ v n. let z = ready.zero v (node v n) in omega (arith, ints, z);
-        lengths = λ v n. length_zero scale slack (member_count h.waiting) (node_count s.net) (label y h v) (omega (arith, count_small h.waiting, ready.waiting_count, count)) (ready.zero v (node v n));
+        lengths = λ v n. length_zero scale slack (member_count h.waiting) (node_count s.net) (label y h v)
+            (omega (arith, count_small h.waiting, ready.waiting_count, count)) (ready.zero v (node v n));
         shorter = λ v n e. absurd (waits v n e);
         above = λ others low v n.
             let up = low.not_above_zero (v - 1) (pos 0) (omega (arith, n, low.one_per_node)) in
@@ -161,10 +164,12 @@ module _ (s : Pseudoflow) (scale slack : ℕ) (y : List ℤ) (flow : IsPseudoflo
           key_count = search.key_count;
           waiting_count = length-set h.waiting (w - 1) false ∙ search.waiting_count;
           not_above = search.not_above;
-          lengths = λ v n. length_fewer scale slack (member_count h.waiting) (member_count (without h w).waiting) (node_count s.net) (label y h v) (omega (arith, fewer)) (search.lengths v n);
+          lengths = λ v n. length_fewer scale slack (member_count h.waiting) (member_count (without h w).waiting) (node_count s.net) (label y h v)
+              (omega (arith, fewer)) (search.lengths v n);
           shorter = λ v n e. elim (settled_before v n.0 e) [
             | inl is ↦ subst (λ m. IsLength scale slack m (node_count s.net) (label y h v)) (sym fewer) (search.lengths v n)
-            | inr was ↦ length_fewer scale slack (member_count h.waiting + 1) (member_count (without h w).waiting + 1) (node_count s.net) (label y h v) (omega (arith, fewer)) (search.shorter v n was)
+            | inr was ↦ length_fewer scale slack (member_count h.waiting + 1) (member_count (without h w).waiting + 1) (node_count s.net) (label y h v)
+                (omega (arith, fewer)) (search.shorter v n was)
           ];
           above = search.above;
           level = λ u v m n e waits. elim (settled_before u m.0 e) [
@@ -183,13 +188,15 @@ module _ (s : Pseudoflow) (scale slack : ℕ) (y : List ℤ) (flow : IsPseudoflo
   -- ---- a residual arc is respected
 
   -- the tail is settled, with a key no greater than that of the head
-  pub settled_respects : (h : Keyed) (r : Rid) → IsLastSettled (node_count s.net) h (head s.net r) → Settled h (tail s.net r) → RespectsLabel s scale slack y h r
+  pub settled_respects : (h : Keyed) (r : Rid) → IsLastSettled (node_count s.net) h (head s.net r) → Settled h (tail s.net r)
+      → RespectsLabel s scale slack y h r
   settled_respects h r last settled room =
       let low = last.last (tail s.net r) (tail_node r room) settled in
       let cheap = near.near r room in
       omega (arith, ints, low, cheap)
 
-  pub kept : (h : Keyed) (out : Rid) (rest : List Rid) → RespectsLabel s scale slack y h (reverse out) → IsRaising s scale slack y h (out ∷ rest) → IsRaising s scale slack y h rest
+  pub kept : (h : Keyed) (out : Rid) (rest : List Rid) → RespectsLabel s scale slack y h (reverse out) → IsRaising s scale slack y h (out ∷ rest)
+      → IsRaising s scale slack y h rest
   kept h out rest respects search =
       record {
         key_count = search.key_count;
@@ -210,8 +217,12 @@ module _ (s : Pseudoflow) (scale slack : ℕ) (y : List ℤ) (flow : IsPseudoflo
 
   -- ---- the key of the tail is lowered
 
-  module _ (h : Keyed) (r : Rid) (key : ℤ) (room : HasRoom s r) (key_count : length h.keys ≡ node_count s.net) (last : IsLastSettled (node_count s.net) h (head s.net r)) (waits : Waits h (tail s.net r)) (is : key ≡ label y h (head s.net r) +ℤ step s scale slack r -ℤ at_node y (tail s.net r)) where
-    lower_read : (v : ℕ) → 1 ≤ v → ((v ≡ tail s.net r) × (at_node (with_key h (tail s.net r) key).keys v ≡ key)) ⊎ ((v ≢ tail s.net r) × (at_node (with_key h (tail s.net r) key).keys v ≡ at_node h.keys v))
+  module _ (h : Keyed) (r : Rid) (key : ℤ) (room : HasRoom s r) (key_count : length h.keys ≡ node_count s.net)
+      (last : IsLastSettled (node_count s.net) h (head s.net r)) (waits : Waits h (tail s.net r))
+      (is : key ≡ label y h (head s.net r) +ℤ step s scale slack r -ℤ at_node y (tail s.net r)) where
+    lower_read : (v : ℕ) → 1 ≤ v
+        → ((v ≡ tail s.net r) × (at_node (with_key h (tail s.net r) key).keys v ≡ key)) ⊎
+        ((v ≢ tail s.net r) × (at_node (with_key h (tail s.net r) key).keys v ≡ at_node h.keys v))
     lower_read v low =
         let n = tail_node r room in
         read_node h.keys (tail s.net r) v key (pos 0) (n.0, omega (arith, n, key_count)) low
@@ -227,7 +238,8 @@ module _ (s : Pseudoflow) (scale slack : ℕ) (y : List ℤ) (flow : IsPseudoflo
     settled_label : (v : ℕ) → 1 ≤ v → Settled h v → label y (with_key h (tail s.net r) key) v ≡ label y h v
     settled_label v low e = ap (λ z. at_node y v +ℤ z) (settled_key v low e)
 
-    tail_label : (v : ℕ) → v ≡ tail s.net r → at_node (with_key h (tail s.net r) key).keys v ≡ key → label y (with_key h (tail s.net r) key) v ≡ label y h (head s.net r) +ℤ step s scale slack r
+    tail_label : (v : ℕ) → v ≡ tail s.net r → at_node (with_key h (tail s.net r) key).keys v ≡ key
+        → label y (with_key h (tail s.net r) key) v ≡ label y h (head s.net r) +ℤ step s scale slack r
     tail_label v e k =
         let same = ap (at_node y) e in
         omega (arith, ints, is, k, same)
@@ -235,7 +247,8 @@ module _ (s : Pseudoflow) (scale slack : ℕ) (y : List ℤ) (flow : IsPseudoflo
     pub lowered_keeps : KeepsSettled (node_count s.net) h (with_key h (tail s.net r) key)
     lowered_keeps = record { waiting = refl; keys = λ v n e. settled_key v n.0 e }
 
-    module _ (less : key <ℤ at_node h.keys (tail s.net r)) (out : Rid) (back : reverse out ≡ r) (rest : List Rid) (search : IsRaising s scale slack y h (out ∷ rest)) where
+    module _ (less : key <ℤ at_node h.keys (tail s.net r)) (out : Rid) (back : reverse out ≡ r) (rest : List Rid)
+        (search : IsRaising s scale slack y h (out ∷ rest)) where
       no_rise : (v : ℕ) → 1 ≤ v → label y (with_key h (tail s.net r) key) v ≤ℤ label y h v
       no_rise v low =
           elim (lower_read v low) [
@@ -243,26 +256,32 @@ module _ (s : Pseudoflow) (scale slack : ℕ) (y : List ℤ) (flow : IsPseudoflo
             | inr (_, same) ↦ omega (arith, ints, same)
           ]
 
-      lowered_lengths : (v : ℕ) → IsNode (node_count s.net) v → IsLength scale slack (member_count h.waiting) (node_count s.net) (label y (with_key h (tail s.net r) key) v)
+      lowered_lengths : (v : ℕ) → IsNode (node_count s.net) v
+          → IsLength scale slack (member_count h.waiting) (node_count s.net) (label y (with_key h (tail s.net r) key) v)
       lowered_lengths v n =
           elim (lower_read v n.0) [
-            | inl (e, k) ↦ length_next scale slack (member_count h.waiting) (node_count s.net) (unit_cost s.net r) (label y h (head s.net r)) _ near.scale_small (cost_small s.net r.arc r.back flow.of_net room.arc) (tail_label v e k) (search.shorter (head s.net r) last.is_node last.is_settled)
+            | inl (e, k) ↦ length_next scale slack (member_count h.waiting) (node_count s.net) (unit_cost s.net r) (label y h (head s.net r)) _
+                near.scale_small (cost_small s.net r.arc r.back flow.of_net room.arc) (tail_label v e k)
+                (search.shorter (head s.net r) last.is_node last.is_settled)
             | inr (_, same) ↦ subst (λ z. IsLength scale slack (member_count h.waiting) (node_count s.net) (at_node y v +ℤ z)) (sym same) (search.lengths v n)
           ]
 
-      lowered_above : (others : List ℤ) → AreLowPrices s.net others s.amounts → (v : ℕ) → IsNode (node_count s.net) v → (at_node others v *ℤ pos scale) ≤ℤ label y (with_key h (tail s.net r) key) v
+      lowered_above : (others : List ℤ) → AreLowPrices s.net others s.amounts → (v : ℕ) → IsNode (node_count s.net) v
+          → (at_node others v *ℤ pos scale) ≤ℤ label y (with_key h (tail s.net r) key) v
       lowered_above others low v n =
           elim (lower_read v n.0) [
             | inl (e, k) ↦ (
                 let shown = respects_from_shows s others r.arc r.back flow low.show_flow room in
-                let scaled = mul-mono_left (at_node others (tail s.net r)) (unit_cost s.net r +ℤ at_node others (head s.net r)) (pos scale) (omega (arith, ints)) shown in
+                let scaled = mul-mono_left (at_node others (tail s.net r)) (unit_cost s.net r +ℤ at_node others (head s.net r)) (pos scale)
+                (omega (arith, ints)) shown in
                 let there = search.above others low (head s.net r) last.is_node in
                 let same = ap (λ x. at_node others x *ℤ pos scale) e in
                 omega (arith, ints, scaled, there, same, tail_label v e k, add-mul (unit_cost s.net r) (at_node others (head s.net r)) (pos scale)))
             | inr (_, same) ↦ (let old = search.above others low v n in omega (arith, ints, same, old))
           ]
 
-      lowered_level : (u v : ℕ) → IsNode (node_count s.net) u → IsNode (node_count s.net) v → Settled h u → Waits h v → at_node (with_key h (tail s.net r) key).keys u ≤ℤ at_node (with_key h (tail s.net r) key).keys v
+      lowered_level : (u v : ℕ) → IsNode (node_count s.net) u → IsNode (node_count s.net) v → Settled h u → Waits h v
+          → at_node (with_key h (tail s.net r) key).keys u ≤ℤ at_node (with_key h (tail s.net r) key).keys v
       lowered_level u v m n settled waits' =
           let left = settled_key u m.0 settled in
           elim (lower_read v n.0) [
@@ -277,7 +296,8 @@ module _ (s : Pseudoflow) (scale slack : ℕ) (y : List ℤ) (flow : IsPseudoflo
             waiting_count = search.waiting_count;
             not_above = λ v n. let old = search.not_above v n in let low = no_rise v n.0 in omega (arith, ints, old, low);
             lengths = lowered_lengths;
-            shorter = λ v n e. subst (λ z. IsLength scale slack (member_count h.waiting + 1) (node_count s.net) z) (sym (settled_label v n.0 e)) (search.shorter v n e);
+            shorter = λ v n e. subst (λ z. IsLength scale slack (member_count h.waiting + 1) (node_count s.net) z) (sym (settled_label v n.0 e))
+                (search.shorter v n e);
             above = lowered_above;
             level = lowered_level;
             respects = λ q has_room e.
@@ -291,10 +311,12 @@ module _ (s : Pseudoflow) (scale slack : ℕ) (y : List ℤ) (flow : IsPseudoflo
                 ];
           }
         where
-          self : (q : Rid) → r ≡ q → label y (with_key h (tail s.net r) key) (tail s.net q) ≤ℤ (label y (with_key h (tail s.net r) key) (head s.net q) +ℤ step s scale slack q)
+          self : (q : Rid) → r ≡ q
+              → label y (with_key h (tail s.net r) key) (tail s.net q) ≤ℤ (label y (with_key h (tail s.net r) key) (head s.net q) +ℤ step s scale slack q)
           self q e =
               let tails = ap (λ (x : Rid). tail s.net x) (sym e) in
-              let P : Rid → Type 0 = λ (x : Rid). label y (with_key h (tail s.net r) key) (tail s.net x) ≤ℤ (label y (with_key h (tail s.net r) key) (head s.net x) +ℤ step s scale slack x) in
+              let P : Rid → Type 0 = λ (x : Rid). label y (with_key h (tail s.net r) key)
+              (tail s.net x) ≤ℤ (label y (with_key h (tail s.net r) key) (head s.net x) +ℤ step s scale slack x) in
               subst P e (
               let there = settled_label (head s.net r) last.is_node.0 last.is_settled in
               elim (lower_read (tail s.net r) (tail_node r room).0) [
@@ -308,12 +330,15 @@ module _ (s : Pseudoflow) (scale slack : ℕ) (y : List ℤ) (flow : IsPseudoflo
     last_head : IsLastSettled (node_count s.net) h (head s.net (reverse out))
     last_head = subst (λ x. IsLastSettled (node_count s.net) h x) (sym (head_reversed s.net out.arc out.back)) last
 
-    pub relax_settled : (from : ℕ) (b : Bool) (rest : List Rid) → from ≡ tail s.net (reverse out) → ((b ≡ true) ↔ Waits h from) → b ≡ false → IsRaising s scale slack y h (out ∷ rest) → IsRaising s scale slack y h rest
+    pub relax_settled : (from : ℕ) (b : Bool) (rest : List Rid) → from ≡ tail s.net (reverse out) → ((b ≡ true) ↔ Waits h from) → b ≡ false
+        → IsRaising s scale slack y h (out ∷ rest) → IsRaising s scale slack y h rest
     relax_settled from b rest e test none =
         kept h out rest (settled_respects h (reverse out) last_head (subst (λ x. Settled h x) e (settled_from (in_table h.waiting from) b test none)))
 
     -- the tail has a key no greater than what is offered
-    pub relax_lower : (from : ℕ) (base price key : ℤ) (rest : List Rid) → from ≡ tail s.net (reverse out) → base ≡ label y h (tail s.net out) → price ≡ at_node y from → key ≡ base +ℤ step s scale slack (reverse out) -ℤ price → at_node h.keys from ≤ℤ key → IsRaising s scale slack y h (out ∷ rest) → IsRaising s scale slack y h rest
+    pub relax_lower : (from : ℕ) (base price key : ℤ) (rest : List Rid) → from ≡ tail s.net (reverse out) → base ≡ label y h (tail s.net out)
+        → price ≡ at_node y from → key ≡ base +ℤ step s scale slack (reverse out) -ℤ price → at_node h.keys from ≤ℤ key
+        → IsRaising s scale slack y h (out ∷ rest) → IsRaising s scale slack y h rest
     relax_lower from base price key rest e base_is price_is key_is low =
         kept h out rest (λ room.
         let a = ap (at_node y) e in
@@ -321,16 +346,22 @@ module _ (s : Pseudoflow) (scale slack : ℕ) (y : List ℤ) (flow : IsPseudoflo
         let c = ap (λ x. label y h x) (head_reversed s.net out.arc out.back) in
         omega (arith, ints, a, b, c, base_is, price_is, key_is, low))
 
-    pub relax_lowered : (h' : Keyed) (from : ℕ) (base price key : ℤ) → HasRoom s (reverse out) → length h.keys ≡ node_count s.net → from ≡ tail s.net (reverse out) → Waits h from → base ≡ label y h (tail s.net out) → price ≡ at_node y from → key ≡ base +ℤ step s scale slack (reverse out) -ℤ price → key <ℤ at_node h.keys from → h' ≡ waiting_with h from key → IsRelaxed s scale slack y h h' out
+    pub relax_lowered : (h' : Keyed) (from : ℕ) (base price key : ℤ) → HasRoom s (reverse out) → length h.keys ≡ node_count s.net
+        → from ≡ tail s.net (reverse out) → Waits h from → base ≡ label y h (tail s.net out) → price ≡ at_node y from
+        → key ≡ base +ℤ step s scale slack (reverse out) -ℤ price → key <ℤ at_node h.keys from → h' ≡ waiting_with h from key
+        → IsRelaxed s scale slack y h h' out
     relax_lowered h' from base price key room count e waits base_is price_is key_is less new =
         let there : Waits h (tail s.net (reverse out)) = subst (λ x. Waits h x) e waits in
         let a = ap (at_node y) e in
         let b = ap (at_node h.keys) e in
         let c = ap (λ x. label y h x) (head_reversed s.net out.arc out.back) in
-        let is : key ≡ label y h (head s.net (reverse out)) +ℤ step s scale slack (reverse out) -ℤ at_node y (tail s.net (reverse out)) = omega (arith, ints, a, c, base_is, price_is, key_is) in
+        let is : key ≡ label y h (head s.net (reverse out)) +ℤ step s scale slack (reverse out) -ℤ at_node y (tail s.net (reverse out)) = omega
+        (arith, ints, a, c, base_is, price_is, key_is) in
         let fewer : key <ℤ at_node h.keys (tail s.net (reverse out)) = omega (arith, ints, b, less) in
-        let same : h' ≡ with_key h (tail s.net (reverse out)) key = new ∙ ap (λ x. waiting_with h x key) e ∙ waiting_again h (tail s.net (reverse out)) key there in
+        let same : h' ≡ with_key h (tail s.net (reverse out)) key = new ∙ ap (λ x. waiting_with h x key) e ∙ waiting_again h (tail s.net (reverse out)) key
+        there in
         record {
-          search = λ rest search. subst (λ x. IsRaising s scale slack y x rest) (sym same) (lowered h (reverse out) key room count last_head there is fewer out refl rest search);
+          search = λ rest search. subst (λ x. IsRaising s scale slack y x rest) (sym same)
+              (lowered h (reverse out) key room count last_head there is fewer out refl rest search);
           keeps = subst (λ x. KeepsSettled (node_count s.net) h x) (sym same) (lowered_keeps h (reverse out) key room count last_head there is);
         }

@@ -31,10 +31,12 @@ pub record AreNearPrices (s : Pseudoflow) (scale slack : ℕ) (prices : List ℤ
 -- prices that show a flow nearly show it, with scale 1 and slack 0
 abbrev pub ShownPricesAreNear : Type 0
 ShownPricesAreNear =
-    (s : Pseudoflow) (prices : List ℤ) → IsPseudoflow s → length prices ≡ node_count s.net → All (IsUpTo near_limit) prices → Shows s.net.arcs prices s.amounts → AreNearPrices s 1 0 prices
+    (s : Pseudoflow) (prices : List ℤ) → IsPseudoflow s → length prices ≡ node_count s.net → All (IsUpTo near_limit) prices → Shows s.net.arcs prices s.amounts
+    → AreNearPrices s 1 0 prices
 
 -- a flow is 1-optimal by prices, at costs times one more than the count of nodes: they nearly show it, with that scale
 -- and slack 1
 abbrev pub OptimalPricesAreNear : Type 0
 OptimalPricesAreNear =
-    (s : Pseudoflow) (prices : List ℤ) → IsPseudoflow s → length prices ≡ node_count s.net → All (IsUpTo near_limit) prices → ((r : Rid) → HasRoom s r → neg_ℤ (pos 1) ≤ℤ scaled_reduced (node_count s.net + 1) s.net prices r) → AreNearPrices s (node_count s.net + 1) 1 prices
+    (s : Pseudoflow) (prices : List ℤ) → IsPseudoflow s → length prices ≡ node_count s.net → All (IsUpTo near_limit) prices
+    → ((r : Rid) → HasRoom s r → neg_ℤ (pos 1) ≤ℤ scaled_reduced (node_count s.net + 1) s.net prices r) → AreNearPrices s (node_count s.net + 1) 1 prices

@@ -53,7 +53,8 @@ pub record IsRaising (s : Pseudoflow) (scale slack : ℕ) (y : List ℤ) (h : Ke
   pub shorter : (v : ℕ) → IsNode (node_count s.net) v → Settled h v → IsLength scale slack (member_count h.waiting + 1) (node_count s.net) (label y h v)
   pub above : (others : List ℤ) → AreLowPrices s.net others s.amounts → (v : ℕ) → IsNode (node_count s.net) v → (at_node others v *ℤ pos scale) ≤ℤ label y h v
   pub level : (u v : ℕ) → IsNode (node_count s.net) u → IsNode (node_count s.net) v → Settled h u → Waits h v → at_node h.keys u ≤ℤ at_node h.keys v
-  pub respects : (r : Rid) → HasRoom s r → Settled h (head s.net r) → (label y h (tail s.net r) ≤ℤ (label y h (head s.net r) +ℤ step s scale slack r)) ⊎ Contains rest (record r { back = not r.back })
+  pub respects : (r : Rid) → HasRoom s r → Settled h (head s.net r)
+      → (label y h (tail s.net r) ≤ℤ (label y h (head s.net r) +ℤ step s scale slack r)) ⊎ Contains rest (record r { back = not r.back })
 
 -- a settled node, and no settled node has a greater key
 pub record IsLastSettled (nodes : ℕ) (h : Keyed) (w : ℕ) : Type 0 where

@@ -60,8 +60,10 @@ nodes-preserved c =
     let count = c.nodes.invariant.count in
     let t : to_z w128 (of_z w128 c.label_of-label.result) ≡ c.label_of-label.result = search (rules, to_z-of_z) in
     let r : to_z w128 (of_z w128 c.rounded_down.result) ≡ c.rounded_down.result = search (rules, to_z-of_z) in
-    let round : IsRoundedDown c.args.scale c.label_of-label.result c.rounded_down.result = subst (λ x. IsRoundedDown c.args.scale x c.rounded_down.result) t c.rounded_down.ensures in
-    rw r (round_next c.args.scale c.args.prices.now c.nodes.prices c.args.heap.now c.nodes.i c.new-v.result c.label_of-label.result c.rounded_down.result c.nodes.invariant (omega (arith, inside, count)) v c.label_of-label.ensures round)
+    let round : IsRoundedDown c.args.scale c.label_of-label.result c.rounded_down.result = subst (λ x. IsRoundedDown c.args.scale x c.rounded_down.result) t
+    c.rounded_down.ensures in
+    rw r (round_next c.args.scale c.args.prices.now c.nodes.prices c.args.heap.now c.nodes.i c.new-v.result c.label_of-label.result c.rounded_down.result
+    c.nodes.invariant (omega (arith, inside, count)) v c.label_of-label.ensures round)
 
 pub returns : goal.returns
 returns c =

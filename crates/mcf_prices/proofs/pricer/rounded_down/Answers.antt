@@ -12,4 +12,5 @@ returns c =
     let depth : c.unsigned_abs-depth.result ≡ unsigned_abs c.args.label = c.unsigned_abs-depth.ensures.value ∙ ap unsigned_abs d in
     let enough = rw c.from.ensures at c.quotient_above.ensures.enough in
     let least = rw c.from.ensures at c.quotient_above.ensures.least in
-    rw t (rounded_is c.args.scale c.unsigned_abs-depth.result c.quotient_above.result c.args.label c.opposite.result c.requires.high depth c.opposite.ensures enough least)
+    rw t (rounded_is c.args.scale c.unsigned_abs-depth.result c.quotient_above.result c.args.label c.opposite.result c.requires.high depth c.opposite.ensures
+    enough least)

@@ -23,7 +23,8 @@ label_of-base-requires-clause-small c =
 pub label_of-base-requires-clause-low : goal.label_of-base-requires-clause-low
 label_of-base-requires-clause-low c =
     let lists = subst (λ (g : Network). ListsLeaving g c.args.w c.leaving-leaving.result) c.net.ensures.value c.leaving-leaving.ensures in
-    (label_small c.args.state.now c.args.scale c.args.slack c.args.prices.now c.net.ensures.valid c.requires.near c.args.heap.now c.leaving-leaving.result (c.requires.search c.leaving-leaving.result lists) c.args.w c.requires.last.is_node).0
+    (label_small c.args.state.now c.args.scale c.args.slack c.args.prices.now c.net.ensures.valid c.requires.near c.args.heap.now c.leaving-leaving.result
+    (c.requires.search c.leaving-leaving.result lists) c.args.w c.requires.last.is_node).0
 
 pub label_of-base-requires-clause-high : goal.label_of-base-requires-clause-high
 label_of-base-requires-clause-high c =
@@ -32,7 +33,8 @@ label_of-base-requires-clause-high c =
 
 pub entering-init : goal.entering-init
 entering-init c =
-    let lists = subst (λ (g : Network). ListsLeaving g c.args.w c.into_iter-out-iterator.result) c.net.ensures.value (rw (← c.into_iter-out-iterator.ensures.into_iter_gives) at c.leaving-leaving.ensures) in
+    let lists = subst (λ (g : Network). ListsLeaving g c.args.w c.into_iter-out-iterator.result) c.net.ensures.value
+    (rw (← c.into_iter-out-iterator.ensures.into_iter_gives) at c.leaving-leaving.ensures) in
     record {
       can_next = tt;
       is_finite = tt;
@@ -64,8 +66,11 @@ relax-requires-clause-base c =
     omega (arith, ints, here, same, is, t)
 
 pub relax-requires-clause-search : goal.relax-requires-clause-search
-relax-requires-clause-search c =
-    (c.next.new.self, subst (λ (xs : List Rid). IsRaising c.args.state.now c.args.scale c.args.slack c.args.prices.now c.entering.heap xs) c.in-Some.ensures.steps c.entering.invariant.search)
+relax-requires-clause-search c = (
+  c.next.new.self,
+  subst (λ (xs : List Rid). IsRaising c.args.state.now c.args.scale c.args.slack c.args.prices.now c.entering.heap xs)
+      c.in-Some.ensures.steps c.entering.invariant.search,
+)
 
 pub entering-preserved : goal.entering-preserved
 entering-preserved c =
@@ -75,11 +80,13 @@ entering-preserved c =
       can_next = tt;
       is_finite = tt;
       leaves = All-tail (Leaves c.args.state.now.net c.args.w) c.in-Some.out c.next.new.self leaves;
-      search = c.relax.ensures.search c.next.new.self (subst (λ (xs : List Rid). IsRaising c.args.state.now c.args.scale c.args.slack c.args.prices.now c.entering.heap xs) c.in-Some.ensures.steps inv.search);
+      search = c.relax.ensures.search c.next.new.self (subst
+          (λ (xs : List Rid). IsRaising c.args.state.now c.args.scale c.args.slack c.args.prices.now c.entering.heap xs) c.in-Some.ensures.steps inv.search);
       last = last_kept (node_count c.args.state.now.net) c.entering.heap c.relax.new.heap c.args.w c.relax.ensures.kept inv.last;
       kept = keeps_join (node_count c.args.state.now.net) c.args.heap.now c.entering.heap c.relax.new.heap inv.kept c.relax.ensures.kept;
     }
 
 pub returns-clause-search : goal.returns-clause-search
 returns-clause-search c =
-    subst (λ (xs : List Rid). IsRaising c.args.state.now c.args.scale c.args.slack c.args.prices.now c.entering.heap xs) c.in-None.ensures.steps.0 c.entering.invariant.search
+    subst (λ (xs : List Rid). IsRaising c.args.state.now c.args.scale c.args.slack c.args.prices.now c.entering.heap xs) c.in-None.ensures.steps.0
+    c.entering.invariant.search

@@ -27,7 +27,9 @@ nodes-preserved c =
     let nodes = c.node_count-number-end.ensures.value in
     let t : to_z w128 (of_z w128 c.opposite_price.result) ≡ c.opposite_price.result = search (rules, to_z-of_z) in
     let new : c.lower.new.self ≡ waiting_with c.nodes.heap c.new-v.result c.opposite_price.result = cc (t, c.lower.ensures) in
-    subst (λ h. AreWaiting c.args.prices.now h (c.nodes.number + 1)) (sym new) (wait_next c.args.prices.now c.nodes.heap c.nodes.number c.new-v.result c.opposite_price.result c.nodes.invariant (omega (arith, inside, nodes, c.requires.prices)) c.new-v.ensures c.opposite_price.ensures)
+    subst (λ h. AreWaiting c.args.prices.now h (c.nodes.number + 1)) (sym new)
+    (wait_next c.args.prices.now c.nodes.heap c.nodes.number c.new-v.result c.opposite_price.result c.nodes.invariant
+    (omega (arith, inside, nodes, c.requires.prices)) c.new-v.ensures c.opposite_price.ensures)
 
 pub returns : goal.returns
 returns c =

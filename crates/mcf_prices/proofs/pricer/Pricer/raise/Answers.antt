@@ -35,7 +35,8 @@ round_all-requires-clause-few c =
 pub round_all-requires-clause-low : goal.round_all-requires-clause-low
 round_all-requires-clause-low c v n =
     let count = c.requires.near.one_per_node in
-    (label_small c.args.state.now c.args.scale c.args.slack c.args.prices.now c.net.ensures.valid c.requires.near c.settle_all.new.heap _ c.settle_all.ensures.search v (n.0, omega (arith, n, count))).0
+    (label_small c.args.state.now c.args.scale c.args.slack c.args.prices.now c.net.ensures.valid c.requires.near c.settle_all.new.heap _
+    c.settle_all.ensures.search v (n.0, omega (arith, n, count))).0
 
 pub round_all-requires-clause-high : goal.round_all-requires-clause-high
 round_all-requires-clause-high c v n =
@@ -47,7 +48,8 @@ invariant_of-self c = (c.settle_all.ensures.search.key_count ∙ sym c.settle_al
 
 pub returns-clause-prices : goal.returns-clause-prices
 returns-clause-prices c =
-    raised c.args.state.now c.args.scale c.args.slack c.args.prices.now c.net.ensures.valid c.requires.near c.settle_all.new.heap c.round_all.new.prices c.settle_all.ensures.search c.settle_all.ensures.over c.round_all.ensures
+    raised c.args.state.now c.args.scale c.args.slack c.args.prices.now c.net.ensures.valid c.requires.near c.settle_all.new.heap c.round_all.new.prices
+    c.settle_all.ensures.search c.settle_all.ensures.over c.round_all.ensures
 
 pub returns-clause-room : goal.returns-clause-room
 returns-clause-room c = c.settle_all.ensures.search.waiting_count ∙ sym c.requires.room
