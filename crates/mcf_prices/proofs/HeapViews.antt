@@ -1,5 +1,6 @@
 -- What a heap of nodes shows of a heap of items.
-use Rattle.std.proofs.Common.{◌≡◌, ℕ, ◌-◌, ◌<◌, Bool, true, false, List, [], ◌∷◌, ℤ, length, count_by, cond, Option, IfNone, sym, refl, ◌∙◌, ap, arith, Some, None}
+use Rattle.std.proofs.Common.{◌≡◌, ℕ, ◌-◌, ◌<◌, Bool, true, false, List, [], ◌∷◌, ℤ, length, count_by, cond, Option, IfNone, sym, refl, ◌∙◌, ap, arith, Some}
+use Rattle.std.proofs.Common.{None}
 use Rattle.std.proofs.lemmas.List.Sums.{sum_by-cons}
 use Rattle.mcf_network.specs.NodeSets.{no_nodes}
 use Rattle.mcf_prices.specs.declared.item_heap.ItemHeap.{ItemHeap}
@@ -20,7 +21,8 @@ precedes_all h v valid some is =
       waits = omega (arith, place, b);
       first = λ w l waits.
           let s = slot_of h.count slots places w valid.placed l waits in
-          precedes_at h.keys.items (entry slots 0) (entry slots (entry places w - 1)) _ _ (first_precedes h.keys.items h.count slots valid.ordered (entry places w - 1) s.0) is (sym s.1);
+          precedes_at h.keys.items (entry slots 0) (entry slots (entry places w - 1)) _ _
+          (first_precedes h.keys.items h.count slots valid.ordered (entry places w - 1) s.0) is (sym s.1);
     }
 
 -- a table that marks none
@@ -42,7 +44,8 @@ with_keys : List Bool → List ℤ → Keyed
 with_keys table keys = record { keys = keys; waiting = table }
 
 -- a heap out of which all items were taken
-pub cleared_view : (old new : ItemHeap) → IsHeap new → new.count ≡ 0 → length new.places.items ≡ length old.places.items → new.keys ≡ old.keys → view_of new ≡ record (view_of old) { waiting = no_nodes (length (view_of old).waiting) }
+pub cleared_view : (old new : ItemHeap) → IsHeap new → new.count ≡ 0 → length new.places.items ≡ length old.places.items → new.keys ≡ old.keys
+    → view_of new ≡ record (view_of old) { waiting = no_nodes (length (view_of old).waiting) }
 unfolding with_keys
 cleared_view old new valid none items keys =
     let same = table_length new.places.items ∙ items ∙ sym (table_length old.places.items) in

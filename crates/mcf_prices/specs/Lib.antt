@@ -12,9 +12,11 @@ pub mod Heaps
 pub mod ItemHeaps
 pub mod Labels
 pub mod Laws
+pub mod NearPrices
 pub mod NegativeCycles
 pub mod Outcomes
 pub mod Queues
+pub mod Raisings
 pub mod Recovering
 pub mod Rounds
 pub mod Trails

@@ -4,7 +4,8 @@ use Rattle.mcf_prices.proofs.item_heap.ItemHeap.append.Goals as goal
 
 pub index_mut-requires : goal.index_mut-requires
 index_mut-requires c =
-    let r = room_for c.args.self.now.count c.args.self.now.slots.items c.args.self.now.places.items c.args.v c.requires.placed c.requires.item c.requires.fresh in
+    let r = room_for c.args.self.now.count c.args.self.now.slots.items c.args.self.now.places.items c.args.v c.requires.placed c.requires.item c.requires.fresh
+    in
     omega (arith, r, c.args.self.now.slots.ok.0)
 
 pub returns-clause-placed : goal.returns-clause-placed

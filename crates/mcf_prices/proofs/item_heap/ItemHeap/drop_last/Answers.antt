@@ -19,7 +19,8 @@ returns-clause-placed c =
     let w = c.requires.placed.within in
     let e = read_is c.args.self.now.slots.items (n - 1) c.index-v.result.now c.index-v.ensures (omega (arith, w, some)) in
     let back : n ≡ n - 1 + 1 = omega (arith, some) in
-    dropped_places (n - 1) c.args.self.now.slots.items c.args.self.now.places.items c.index-v.result.now (subst (λ x. IsPlaced x c.args.self.now.slots.items c.args.self.now.places.items) back c.requires.placed) e
+    dropped_places (n - 1) c.args.self.now.slots.items c.args.self.now.places.items c.index-v.result.now
+    (subst (λ x. IsPlaced x c.args.self.now.slots.items c.args.self.now.places.items) back c.requires.placed) e
 
 pub returns-clause-table : goal.returns-clause-table
 returns-clause-table c =

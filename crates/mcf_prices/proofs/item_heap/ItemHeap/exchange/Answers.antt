@@ -19,8 +19,10 @@ index_mut-requires-4 c =
 
 pub returns-clause-placed : goal.returns-clause-placed
 returns-clause-placed c =
-    (exchange_ok c.args.self.now.count c.args.self.now.slots.items c.args.self.now.places.items c.args.i c.args.j _ _ c.requires.placed c.requires.placed.within c.requires.i c.requires.j c.requires.apart c.index-a.ensures c.index-b.ensures).placed
+    (exchange_ok c.args.self.now.count c.args.self.now.slots.items c.args.self.now.places.items c.args.i c.args.j _ _ c.requires.placed
+    c.requires.placed.within c.requires.i c.requires.j c.requires.apart c.index-a.ensures c.index-b.ensures).placed
 
 pub returns-clause-table : goal.returns-clause-table
 returns-clause-table c =
-    (exchange_ok c.args.self.now.count c.args.self.now.slots.items c.args.self.now.places.items c.args.i c.args.j _ _ c.requires.placed c.requires.placed.within c.requires.i c.requires.j c.requires.apart c.index-a.ensures c.index-b.ensures).table
+    (exchange_ok c.args.self.now.count c.args.self.now.slots.items c.args.self.now.places.items c.args.i c.args.j _ _ c.requires.placed
+    c.requires.placed.within c.requires.i c.requires.j c.requires.apart c.index-a.ensures c.index-b.ensures).table

@@ -8,4 +8,5 @@ returns-clause-precedes c =
     let h = c.requires.valid in
     let some = c.if-self-eq0.false in
     let within = h.placed.within in
-    precedes_all c.args.self.now _ h (omega (arith, some)) (read_is c.args.self.now.slots.items 0 c.index.result.now c.index.ensures (omega (arith, some, within)))
+    precedes_all c.args.self.now _ h (omega (arith, some))
+    (read_is c.args.self.now.slots.items 0 c.index.result.now c.index.ensures (omega (arith, some, within)))

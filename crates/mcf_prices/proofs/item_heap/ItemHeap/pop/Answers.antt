@@ -9,7 +9,8 @@ returns-clause-precedes c =
     let h = c.requires.valid in
     let some = c.if-self-eq0.false in
     let within = h.placed.within in
-    precedes_all c.args.self.now _ h (omega (arith, some)) (read_is c.args.self.now.slots.items 0 c.index-first.result.now c.index-first.ensures (omega (arith, some, within)))
+    precedes_all c.args.self.now _ h (omega (arith, some))
+    (read_is c.args.self.now.slots.items 0 c.index-first.result.now c.index-first.ensures (omega (arith, some, within)))
 
 pub returns-clause-taken : goal.returns-clause-taken
 returns-clause-taken c =

@@ -32,4 +32,5 @@ returns c =
     let x : to_z w128 (of_z w128 c.index.result.now) ≡ c.index.result.now = search (rules, to_z-of_z) in
     let y : to_z w128 (of_z w128 c.index-2.result.now) ≡ c.index-2.result.now = search (rules, to_z-of_z) in
     let h = rw (x, y) at c.comes_first.ensures in
-    compared c.args.self.now.keys.items c.index-a.result.now c.index-b.result.now _ _ c.index.result.now c.index-2.result.now c.comes_first.result (sym ea) (sym eb) c.index.ensures c.index-2.ensures (omega (arith, a, ea, k)) (omega (arith, b, eb, k)) h
+    compared c.args.self.now.keys.items c.index-a.result.now c.index-b.result.now _ _ c.index.result.now c.index-2.result.now c.comes_first.result (sym ea)
+    (sym eb) c.index.ensures c.index-2.ensures (omega (arith, a, ea, k)) (omega (arith, b, eb, k)) h

@@ -11,7 +11,8 @@ up-preserved c =
     let slot = inv.slot in
     let count = e.count in
     let child : IsChild ((c.up.at - 1) / 2) c.up.at = (omega (arith, above), omega (arith, above)) in
-    let step = rise_step c.up.self.keys.items c.up.self.count c.up.self.slots.items c.exchange.new.self.slots.items ((c.up.at - 1) / 2) c.up.at inv.order e.swapped inv.slot child c.if-precedes.ensures in
+    let step = rise_step c.up.self.keys.items c.up.self.count c.up.self.slots.items c.exchange.new.self.slots.items ((c.up.at - 1) / 2) c.up.at inv.order
+    e.swapped inv.slot child c.if-precedes.ensures in
     record {
       placed = e.placed;
       slot = omega (arith, above, slot, count);

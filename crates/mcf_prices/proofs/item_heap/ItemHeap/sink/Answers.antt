@@ -10,7 +10,8 @@ down-preserved c =
     let child = first.child.0 in
     let inside = first.child.1 in
     let count = e.count in
-    let step = sink_step c.down.self.keys.items c.down.self.count c.down.self.slots.items c.exchange.new.self.slots.items c.down.at c.in-Some.child inv.order e.swapped child inside first.least c.if-precedes.ensures in
+    let step = sink_step c.down.self.keys.items c.down.self.count c.down.self.slots.items c.exchange.new.self.slots.items c.down.at c.in-Some.child inv.order
+    e.swapped child inside first.least c.if-precedes.ensures in
     record {
       placed = e.placed;
       slot = omega (arith, inside, count);

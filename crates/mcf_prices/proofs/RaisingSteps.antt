@@ -1,0 +1,367 @@
+-- What the steps of a search for the greatest prices keep.
+use Rattle.std.proofs.Common.{◌≡◌, ◌≢◌, ℕ, ◌+◌, ◌-◌, ◌^◌, ◌≤◌, Bool, true, false, List, [], ◌∷◌, length, set, ℤ, pos, ◌+ℤ◌, ◌-ℤ◌, ◌*ℤ◌, ◌≤ℤ◌, ◌<ℤ◌, refl, sym}
+use Rattle.std.proofs.Common.{ap, subst, ◌∙◌, arith, ◌⊎◌, inl, inr, length-set}
+use Rattle.std.specs.Prelude.{◌↔◌}
+use Rattle.std.specs.List.{Contains}
+use Rattle.std.proofs.lemmas.Bool.{true≢false}
+use Rattle.std.proofs.lemmas.Int.{ints}
+use Rattle.std.proofs.lemmas.List.{set-get_or}
+use Rattle.mcf_instance.specs.Blocking.{in_table}
+use Rattle.mcf_instance.specs.Flow.{AreLowPrices}
+use Rattle.mcf_instance.specs.Network.{Network, IsNode, at_node, node_count}
+use Rattle.mcf_instance.specs.WellFormed.{IsUpTo}
+use Rattle.mcf_instance.proofs.IntLaws.{add-mul, mul-mono_left, zero-mul}
+use Rattle.mcf_network.specs.declared.rid.Rid.{Rid}
+use Rattle.mcf_network.specs.NodeSets.{member_count}
+use Rattle.mcf_network.specs.Residual.{tail, head, unit_cost}
+use Rattle.mcf_network.specs.Stars.{ListsLeaving}
+use Rattle.mcf_network.specs.States.{Pseudoflow, IsPseudoflow}
+use Rattle.mcf_network.specs.Walks.{HasRoom}
+use Rattle.mcf_network.proofs.ArcLaws.{head_is_node, tail_is_node}
+use Rattle.mcf_network.proofs.Lists.{Contains-cons}
+use Rattle.mcf_network.proofs.Marks.{count_small}
+use Rattle.mcf_prices.specs.Heaps.{ComesFirst, IsFirst, Keyed, Waits, waiting_with, with_key, without}
+use Rattle.mcf_prices.specs.NearPrices.{AreNearPrices, near_limit}
+use Rattle.mcf_prices.specs.Raisings.{IsLastSettled, IsLength, IsRaising, IsReady, KeepsSettled, RespectsLabel, Settled, label, step}
+use Rattle.mcf_prices.proofs.HeapPlaces.{count_less}
+use Rattle.mcf_prices.proofs.LabelLengths.{length_fewer, length_next, length_zero}
+use Rattle.mcf_prices.proofs.Marks.{read_node}
+use Rattle.mcf_prices.proofs.Relaxing.{reverse, reversed}
+use Rattle.mcf_prices.proofs.Showing.{cost_small, respects_from_shows}
+
+-- the reverse of a residual arc leaves the node that the arc enters, and the other way round
+pub tail_reversed : (g : Network) (k : ℕ) (b : Bool) → tail g (reverse (record { arc = k; back = b })) ≡ head g (record { arc = k; back = b })
+tail_reversed g k true = refl
+tail_reversed g k false = refl
+
+pub head_reversed : (g : Network) (k : ℕ) (b : Bool) → head g (reverse (record { arc = k; back = b })) ≡ tail g (record { arc = k; back = b })
+head_reversed g k true = refl
+head_reversed g k false = refl
+
+-- nothing is in an empty list
+pub none_contained : (r : Rid) → Contains [] r → ⊥
+none_contained r has = (let l = has.1 in omega (arith, l))
+
+waits_or_settled : (h : Keyed) (v : ℕ) → Waits h v → Settled h v → ⊥
+waits_or_settled h v waits settled = true≢false (sym waits ∙ settled)
+
+comes_first_low : (x y : ℤ) (a b : ℕ) → ComesFirst x a y b → x ≤ℤ y
+comes_first_low x y a b (inl h) = omega (arith, ints, h)
+comes_first_low x y a b (inr h) = (let e = h.0 in omega (arith, ints, e))
+
+-- a waiting node that waits with another key
+pub waiting_again : (h : Keyed) (v : ℕ) (key : ℤ) → Waits h v → waiting_with h v key ≡ with_key h v key
+waiting_again h v key waits =
+    let table : List Bool → Keyed = λ (t : List Bool). record { keys = set h.keys (v - 1) key; waiting = t } in
+    ap table (ap (λ b. set h.waiting (v - 1) b) (sym waits) ∙ set-get_or h.waiting (v - 1) false)
+
+-- the node that was settled last stays so
+pub last_kept : (nodes : ℕ) (h h' : Keyed) (w : ℕ) → KeepsSettled nodes h h' → IsLastSettled nodes h w → IsLastSettled nodes h' w
+last_kept nodes h h' w keeps last =
+    let before : (u : ℕ) → Settled h' u → Settled h u = λ (u : ℕ) (e : Settled h' u). subst (λ t. in_table t u ≡ false) keeps.waiting e in
+    record {
+      is_node = last.is_node;
+      is_settled = subst (λ t. in_table t w ≡ false) (sym keeps.waiting) last.is_settled;
+      last = λ u n e.
+          let low = last.last u n (before u e) in
+          let a = keeps.keys u n (before u e) in
+          let b = keeps.keys w last.is_node last.is_settled in
+          omega (arith, ints, low, a, b);
+    }
+
+-- one after the other
+pub keeps_join : (nodes : ℕ) (a b c : Keyed) → KeepsSettled nodes a b → KeepsSettled nodes b c → KeepsSettled nodes a c
+keeps_join nodes a b c first second =
+    record {
+      waiting = second.waiting ∙ first.waiting;
+      keys = λ v n e. second.keys v n (subst (λ t. in_table t v ≡ false) (sym first.waiting) e) ∙ first.keys v n e;
+    }
+
+settled_from : (t b : Bool) → ((b ≡ true) ↔ (t ≡ true)) → b ≡ false → t ≡ false
+settled_from false b e f = refl
+settled_from true b e f = absurd (true≢false (sym (e.1 refl) ∙ f))
+
+-- what relaxing a residual arc does to a search, whatever is still to come
+pub record IsRelaxed (s : Pseudoflow) (scale slack : ℕ) (y : List ℤ) (h h' : Keyed) (out : Rid) : Type 0 where
+  pub search : (rest : List Rid) → IsRaising s scale slack y h (out ∷ rest) → IsRaising s scale slack y h' rest
+  pub keeps : KeepsSettled (node_count s.net) h h'
+
+module _ (s : Pseudoflow) (scale slack : ℕ) (y : List ℤ) (flow : IsPseudoflow s) (near : AreNearPrices s scale slack y) where
+  head_node : (r : Rid) → HasRoom s r → IsNode (node_count s.net) (head s.net r)
+  head_node r room = head_is_node s.net r.arc r.back flow.of_net room.arc
+
+  tail_node : (r : Rid) → HasRoom s r → IsNode (node_count s.net) (tail s.net r)
+  tail_node r room = tail_is_node s.net r.arc r.back flow.of_net room.arc
+
+  pub price_small : (v : ℕ) → IsNode (node_count s.net) v → IsUpTo near_limit (at_node y v)
+  price_small v n = near.small (v - 1) (pos 0) (let count = near.one_per_node in omega (arith, n, count))
+
+  pub label_small : (h : Keyed) (rest : List Rid) → IsRaising s scale slack y h rest → (v : ℕ) → IsNode (node_count s.net) v → IsUpTo (10 ^ 30) (label y h v)
+  label_small h rest search v n =
+      let length = search.lengths v n in
+      let low = length.low in
+      let few = length.few in
+      let up = search.not_above v n in
+      let limit = flow.of_net.nodes in
+      (omega (arith, ints, low, few, limit), omega (arith, ints, up))
+
+  -- all nodes wait with the label 0
+  pub started : (h : Keyed) → IsReady y h → IsRaising s scale slack y h []
+  started h ready =
+      let count = near.one_per_node in
+      let node : (v : ℕ) → IsNode (node_count s.net) v → IsNode (length y) v = λ (v : ℕ) (n : IsNode (node_count s.net) v). (n.0, omega (arith, n, count)) in
+      let waits : (v : ℕ) → IsNode (node_count s.net) v → Settled h v
+      → ⊥ = λ (v : ℕ) (n : IsNode (node_count s.net) v) (e : Settled h v). waits_or_settled h v (ready.waits v (node v n)) e in
+      record {
+        key_count = ready.key_count ∙ count;
+        waiting_count = ready.waiting_count ∙ count;
+        not_above = λ v n. let z = ready.zero v (node v n) in omega (arith, ints, z);
+        lengths = λ v n. length_zero scale slack (member_count h.waiting) (node_count s.net) (label y h v)
+            (omega (arith, count_small h.waiting, ready.waiting_count, count)) (ready.zero v (node v n));
+        shorter = λ v n e. absurd (waits v n e);
+        above = λ others low v n.
+            let up = low.not_above_zero (v - 1) (pos 0) (omega (arith, n, low.one_per_node)) in
+            let z = ready.zero v (node v n) in
+            omega (arith, ints, z, mul-mono_left (at_node others v) (pos 0) (pos scale) (omega (arith, ints)) up, zero-mul (pos scale));
+        level = λ u v m n e w. absurd (waits u m e);
+        respects = λ r room e. absurd (waits (head s.net r) (head_node r room) e);
+      }
+
+  -- ---- the first node is taken out, and settled
+
+  module _ (h : Keyed) (w : ℕ) (search : IsRaising s scale slack y h []) (first : IsFirst h w) where
+    here : IsNode (node_count s.net) w
+    here = let n = first.is_node in (n.0, omega (arith, n, search.waiting_count))
+
+    read : (v : ℕ) → 1 ≤ v → ((v ≡ w) × (in_table (without h w).waiting v ≡ false)) ⊎ ((v ≢ w) × (in_table (without h w).waiting v ≡ in_table h.waiting v))
+    read v low = read_node h.waiting w v false false first.is_node low
+
+    settled_before : (v : ℕ) → 1 ≤ v → Settled (without h w) v → (v ≡ w) ⊎ Settled h v
+    settled_before v low e =
+        elim (read v low) [ inl (is, _) ↦ inl is | inr (_, same) ↦ inr (sym same ∙ e) ]
+
+    waited_before : (v : ℕ) → 1 ≤ v → Waits (without h w) v → Waits h v
+    waited_before v low e =
+        elim (read v low) [ inl (_, gone) ↦ absurd (waits_or_settled (without h w) v e gone) | inr (_, same) ↦ sym same ∙ e ]
+
+    pub fewer : member_count (without h w).waiting + 1 ≡ member_count h.waiting
+    fewer = let n = first.is_node in count_less h.waiting (w - 1) (omega (arith, n)) first.waits
+
+    pub popped_last : IsLastSettled (node_count s.net) (without h w) w
+    popped_last =
+        record {
+          is_node = here;
+          is_settled = elim (read w here.0) [ inl (_, gone) ↦ gone | inr (n, _) ↦ absurd (n refl) ];
+          last = λ u n e. elim (settled_before u n.0 e) [
+            | inl is ↦ (let same = ap (at_node h.keys) is in omega (arith, ints, same))
+            | inr was ↦ search.level u w n here was first.waits
+          ];
+        }
+
+    pub popped : (list : List Rid) → ListsLeaving s.net w list → IsRaising s scale slack y (without h w) list
+    popped list lists =
+        record {
+          key_count = search.key_count;
+          waiting_count = length-set h.waiting (w - 1) false ∙ search.waiting_count;
+          not_above = search.not_above;
+          lengths = λ v n. length_fewer scale slack (member_count h.waiting) (member_count (without h w).waiting) (node_count s.net) (label y h v)
+              (omega (arith, fewer)) (search.lengths v n);
+          shorter = λ v n e. elim (settled_before v n.0 e) [
+            | inl is ↦ subst (λ m. IsLength scale slack m (node_count s.net) (label y h v)) (sym fewer) (search.lengths v n)
+            | inr was ↦ length_fewer scale slack (member_count h.waiting + 1) (member_count (without h w).waiting + 1) (node_count s.net) (label y h v)
+                (omega (arith, fewer)) (search.shorter v n was)
+          ];
+          above = search.above;
+          level = λ u v m n e waits. elim (settled_before u m.0 e) [
+            | inl is ↦ (
+                let low = comes_first_low _ _ _ _ (first.precedes v (n.0, omega (arith, n, search.waiting_count)) (waited_before v n.0 waits)) in
+                let same = ap (at_node h.keys) is in
+                omega (arith, ints, low, same))
+            | inr was ↦ search.level u v m n was (waited_before v n.0 waits)
+          ];
+          respects = λ r room e. elim (settled_before (head s.net r) (head_node r room).0 e) [
+            | inl is ↦ inr (lists.every (reverse r) (record { arc = room.arc; from = tail_reversed s.net r.arc r.back ∙ is }))
+            | inr was ↦ elim (search.respects r room was) [ inl a ↦ inl a | inr has ↦ absurd (none_contained (reverse r) has) ]
+          ];
+        }
+
+  -- ---- a residual arc is respected
+
+  -- the tail is settled, with a key no greater than that of the head
+  pub settled_respects : (h : Keyed) (r : Rid) → IsLastSettled (node_count s.net) h (head s.net r) → Settled h (tail s.net r)
+      → RespectsLabel s scale slack y h r
+  settled_respects h r last settled room =
+      let low = last.last (tail s.net r) (tail_node r room) settled in
+      let cheap = near.near r room in
+      omega (arith, ints, low, cheap)
+
+  pub kept : (h : Keyed) (out : Rid) (rest : List Rid) → RespectsLabel s scale slack y h (reverse out) → IsRaising s scale slack y h (out ∷ rest)
+      → IsRaising s scale slack y h rest
+  kept h out rest respects search =
+      record {
+        key_count = search.key_count;
+        waiting_count = search.waiting_count;
+        not_above = search.not_above;
+        lengths = search.lengths;
+        shorter = search.shorter;
+        above = search.above;
+        level = search.level;
+        respects = λ r room e. elim (search.respects r room e) [
+          | inl a ↦ inl a
+          | inr has ↦ elim (Contains-cons out rest (reverse r) has) [
+            | inl is ↦ inl (let same : reverse out ≡ r = reversed out r is in subst (λ q. RespectsLabel s scale slack y h q) same respects room)
+            | inr later ↦ inr later
+          ]
+        ];
+      }
+
+  -- ---- the key of the tail is lowered
+
+  module _ (h : Keyed) (r : Rid) (key : ℤ) (room : HasRoom s r) (key_count : length h.keys ≡ node_count s.net)
+      (last : IsLastSettled (node_count s.net) h (head s.net r)) (waits : Waits h (tail s.net r))
+      (is : key ≡ label y h (head s.net r) +ℤ step s scale slack r -ℤ at_node y (tail s.net r)) where
+    lower_read : (v : ℕ) → 1 ≤ v
+        → ((v ≡ tail s.net r) × (at_node (with_key h (tail s.net r) key).keys v ≡ key)) ⊎
+        ((v ≢ tail s.net r) × (at_node (with_key h (tail s.net r) key).keys v ≡ at_node h.keys v))
+    lower_read v low =
+        let n = tail_node r room in
+        read_node h.keys (tail s.net r) v key (pos 0) (n.0, omega (arith, n, key_count)) low
+
+    -- settled nodes keep their keys
+    settled_key : (v : ℕ) → 1 ≤ v → Settled h v → at_node (with_key h (tail s.net r) key).keys v ≡ at_node h.keys v
+    settled_key v low e =
+        elim (lower_read v low) [
+          | inl (here', _) ↦ absurd (waits_or_settled h v (subst (λ x. Waits h x) (sym here') waits) e)
+          | inr (_, same) ↦ same
+        ]
+
+    settled_label : (v : ℕ) → 1 ≤ v → Settled h v → label y (with_key h (tail s.net r) key) v ≡ label y h v
+    settled_label v low e = ap (λ z. at_node y v +ℤ z) (settled_key v low e)
+
+    tail_label : (v : ℕ) → v ≡ tail s.net r → at_node (with_key h (tail s.net r) key).keys v ≡ key
+        → label y (with_key h (tail s.net r) key) v ≡ label y h (head s.net r) +ℤ step s scale slack r
+    tail_label v e k =
+        let same = ap (at_node y) e in
+        omega (arith, ints, is, k, same)
+
+    pub lowered_keeps : KeepsSettled (node_count s.net) h (with_key h (tail s.net r) key)
+    lowered_keeps = record { waiting = refl; keys = λ v n e. settled_key v n.0 e }
+
+    module _ (less : key <ℤ at_node h.keys (tail s.net r)) (out : Rid) (back : reverse out ≡ r) (rest : List Rid)
+        (search : IsRaising s scale slack y h (out ∷ rest)) where
+      no_rise : (v : ℕ) → 1 ≤ v → label y (with_key h (tail s.net r) key) v ≤ℤ label y h v
+      no_rise v low =
+          elim (lower_read v low) [
+            | inl (e, k) ↦ (let same = ap (at_node h.keys) e in omega (arith, ints, k, less, same))
+            | inr (_, same) ↦ omega (arith, ints, same)
+          ]
+
+      lowered_lengths : (v : ℕ) → IsNode (node_count s.net) v
+          → IsLength scale slack (member_count h.waiting) (node_count s.net) (label y (with_key h (tail s.net r) key) v)
+      lowered_lengths v n =
+          elim (lower_read v n.0) [
+            | inl (e, k) ↦ length_next scale slack (member_count h.waiting) (node_count s.net) (unit_cost s.net r) (label y h (head s.net r)) _
+                near.scale_small (cost_small s.net r.arc r.back flow.of_net room.arc) (tail_label v e k)
+                (search.shorter (head s.net r) last.is_node last.is_settled)
+            | inr (_, same) ↦ subst (λ z. IsLength scale slack (member_count h.waiting) (node_count s.net) (at_node y v +ℤ z)) (sym same) (search.lengths v n)
+          ]
+
+      lowered_above : (others : List ℤ) → AreLowPrices s.net others s.amounts → (v : ℕ) → IsNode (node_count s.net) v
+          → (at_node others v *ℤ pos scale) ≤ℤ label y (with_key h (tail s.net r) key) v
+      lowered_above others low v n =
+          elim (lower_read v n.0) [
+            | inl (e, k) ↦ (
+                let shown = respects_from_shows s others r.arc r.back flow low.show_flow room in
+                let scaled = mul-mono_left (at_node others (tail s.net r)) (unit_cost s.net r +ℤ at_node others (head s.net r)) (pos scale)
+                (omega (arith, ints)) shown in
+                let there = search.above others low (head s.net r) last.is_node in
+                let same = ap (λ x. at_node others x *ℤ pos scale) e in
+                omega (arith, ints, scaled, there, same, tail_label v e k, add-mul (unit_cost s.net r) (at_node others (head s.net r)) (pos scale)))
+            | inr (_, same) ↦ (let old = search.above others low v n in omega (arith, ints, same, old))
+          ]
+
+      lowered_level : (u v : ℕ) → IsNode (node_count s.net) u → IsNode (node_count s.net) v → Settled h u → Waits h v
+          → at_node (with_key h (tail s.net r) key).keys u ≤ℤ at_node (with_key h (tail s.net r) key).keys v
+      lowered_level u v m n settled waits' =
+          let left = settled_key u m.0 settled in
+          elim (lower_read v n.0) [
+            | inl (e, k) ↦ (let low = last.last u m settled in let cheap = near.near r room in omega (arith, ints, left, low, cheap, is, k))
+            | inr (_, same) ↦ (let old = search.level u v m n settled waits' in omega (arith, ints, left, same, old))
+          ]
+
+      pub lowered : IsRaising s scale slack y (with_key h (tail s.net r) key) rest
+      lowered =
+          record {
+            key_count = length-set h.keys (tail s.net r - 1) key ∙ key_count;
+            waiting_count = search.waiting_count;
+            not_above = λ v n. let old = search.not_above v n in let low = no_rise v n.0 in omega (arith, ints, old, low);
+            lengths = lowered_lengths;
+            shorter = λ v n e. subst (λ z. IsLength scale slack (member_count h.waiting + 1) (node_count s.net) z) (sym (settled_label v n.0 e))
+                (search.shorter v n e);
+            above = lowered_above;
+            level = lowered_level;
+            respects = λ q has_room e.
+                let same = settled_label (head s.net q) (head_node q has_room).0 e in
+                elim (search.respects q has_room e) [
+                  | inl a ↦ inl (let low = no_rise (tail s.net q) (tail_node q has_room).0 in omega (arith, ints, a, same, low))
+                  | inr has ↦ elim (Contains-cons out rest (reverse q) has) [
+                    | inl this ↦ inl (self q (sym back ∙ reversed out q this))
+                    | inr later ↦ inr later
+                  ]
+                ];
+          }
+        where
+          self : (q : Rid) → r ≡ q
+              → label y (with_key h (tail s.net r) key) (tail s.net q) ≤ℤ (label y (with_key h (tail s.net r) key) (head s.net q) +ℤ step s scale slack q)
+          self q e =
+              let tails = ap (λ (x : Rid). tail s.net x) (sym e) in
+              let P : Rid → Type 0 = λ (x : Rid). label y (with_key h (tail s.net r) key)
+              (tail s.net x) ≤ℤ (label y (with_key h (tail s.net r) key) (head s.net x) +ℤ step s scale slack x) in
+              subst P e (
+              let there = settled_label (head s.net r) last.is_node.0 last.is_settled in
+              elim (lower_read (tail s.net r) (tail_node r room).0) [
+                | inl (f, k) ↦ (let here' = tail_label (tail s.net r) refl k in omega (arith, ints, there, here'))
+                | inr (n, _) ↦ absurd (n refl)
+              ])
+
+  -- ---- a residual arc is relaxed, as the code does it
+
+  module _ (h : Keyed) (out : Rid) (last : IsLastSettled (node_count s.net) h (tail s.net out)) where
+    last_head : IsLastSettled (node_count s.net) h (head s.net (reverse out))
+    last_head = subst (λ x. IsLastSettled (node_count s.net) h x) (sym (head_reversed s.net out.arc out.back)) last
+
+    pub relax_settled : (from : ℕ) (b : Bool) (rest : List Rid) → from ≡ tail s.net (reverse out) → ((b ≡ true) ↔ Waits h from) → b ≡ false
+        → IsRaising s scale slack y h (out ∷ rest) → IsRaising s scale slack y h rest
+    relax_settled from b rest e test none =
+        kept h out rest (settled_respects h (reverse out) last_head (subst (λ x. Settled h x) e (settled_from (in_table h.waiting from) b test none)))
+
+    -- the tail has a key no greater than what is offered
+    pub relax_lower : (from : ℕ) (base price key : ℤ) (rest : List Rid) → from ≡ tail s.net (reverse out) → base ≡ label y h (tail s.net out)
+        → price ≡ at_node y from → key ≡ base +ℤ step s scale slack (reverse out) -ℤ price → at_node h.keys from ≤ℤ key
+        → IsRaising s scale slack y h (out ∷ rest) → IsRaising s scale slack y h rest
+    relax_lower from base price key rest e base_is price_is key_is low =
+        kept h out rest (λ room.
+        let a = ap (at_node y) e in
+        let b = ap (at_node h.keys) e in
+        let c = ap (λ x. label y h x) (head_reversed s.net out.arc out.back) in
+        omega (arith, ints, a, b, c, base_is, price_is, key_is, low))
+
+    pub relax_lowered : (h' : Keyed) (from : ℕ) (base price key : ℤ) → HasRoom s (reverse out) → length h.keys ≡ node_count s.net
+        → from ≡ tail s.net (reverse out) → Waits h from → base ≡ label y h (tail s.net out) → price ≡ at_node y from
+        → key ≡ base +ℤ step s scale slack (reverse out) -ℤ price → key <ℤ at_node h.keys from → h' ≡ waiting_with h from key
+        → IsRelaxed s scale slack y h h' out
+    relax_lowered h' from base price key room count e waits base_is price_is key_is less new =
+        let there : Waits h (tail s.net (reverse out)) = subst (λ x. Waits h x) e waits in
+        let a = ap (at_node y) e in
+        let b = ap (at_node h.keys) e in
+        let c = ap (λ x. label y h x) (head_reversed s.net out.arc out.back) in
+        let is : key ≡ label y h (head s.net (reverse out)) +ℤ step s scale slack (reverse out) -ℤ at_node y (tail s.net (reverse out)) = omega
+        (arith, ints, a, c, base_is, price_is, key_is) in
+        let fewer : key <ℤ at_node h.keys (tail s.net (reverse out)) = omega (arith, ints, b, less) in
+        let same : h' ≡ with_key h (tail s.net (reverse out)) key = new ∙ ap (λ x. waiting_with h x key) e ∙ waiting_again h (tail s.net (reverse out)) key
+        there in
+        record {
+          search = λ rest search. subst (λ x. IsRaising s scale slack y x rest) (sym same)
+              (lowered h (reverse out) key room count last_head there is fewer out refl rest search);
+          keeps = subst (λ x. KeepsSettled (node_count s.net) h x) (sym same) (lowered_keeps h (reverse out) key room count last_head there is);
+        }

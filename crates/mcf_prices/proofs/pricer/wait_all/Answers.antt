@@ -1,0 +1,38 @@
+use Rattle.std.proofs.Common.{◌≡◌, ◌∙◌, ◌+◌, ◌-◌, sym, subst, arith, pos, rules, to_z, of_z}
+use mir.Syntax.{w128}
+use Rattle.std.proofs.lemmas.Int.{to_z-of_z}
+use Rattle.std.proofs.lemmas.Bool.{true≢false}
+use Rattle.mcf_prices.specs.Heaps.{waiting_with}
+use Rattle.mcf_prices.proofs.RaisingLoops.{AreWaiting, wait_end, wait_next, wait_start}
+use Rattle.mcf_prices.proofs.pricer.wait_all.Goals as goal
+
+pub nodes-init : goal.nodes-init
+nodes-init c =
+    wait_start c.args.prices.now c.args.heap.now (c.requires.keys ∙ sym c.requires.prices) (c.requires.waiting ∙ sym c.requires.prices) c.requires.none
+
+pub opposite_price-requires-clause-small : goal.opposite_price-requires-clause-small
+opposite_price-requires-clause-small c =
+    let v = c.new-v.ensures in
+    let inside = c.nodes-test.true in
+    let nodes = c.node_count-number-end.ensures.value in
+    c.requires.small (c.new-v.result - 1) (pos 0) (omega (arith, v, inside, nodes, c.requires.prices))
+
+pub lower-requires-clause-low : goal.lower-requires-clause-low
+lower-requires-clause-low c waits =
+    absurd (true≢false (sym waits ∙ c.nodes.invariant.rest c.new-v.result (let v = c.new-v.ensures in omega (arith, v))))
+
+pub nodes-preserved : goal.nodes-preserved
+nodes-preserved c =
+    let inside = c.nodes-test.true in
+    let nodes = c.node_count-number-end.ensures.value in
+    let t : to_z w128 (of_z w128 c.opposite_price.result) ≡ c.opposite_price.result = search (rules, to_z-of_z) in
+    let new : c.lower.new.self ≡ waiting_with c.nodes.heap c.new-v.result c.opposite_price.result = cc (t, c.lower.ensures) in
+    subst (λ h. AreWaiting c.args.prices.now h (c.nodes.number + 1)) (sym new)
+    (wait_next c.args.prices.now c.nodes.heap c.nodes.number c.new-v.result c.opposite_price.result c.nodes.invariant
+    (omega (arith, inside, nodes, c.requires.prices)) c.new-v.ensures c.opposite_price.ensures)
+
+pub returns : goal.returns
+returns c =
+    let past = c.nodes-test.false in
+    let nodes = c.node_count-number-end.ensures.value in
+    wait_end c.args.prices.now c.nodes.heap c.nodes.number c.nodes.invariant (omega (arith, past, nodes, c.requires.prices))

@@ -1,0 +1,85 @@
+-- A search for the greatest prices that show a state, from prices that nearly show it: the label of a node is the
+-- least cost, at costs times the scale and with the slack for each arc, of a walk with room that begins there.
+use Rattle.std.specs.Prelude.{◌≡◌, ℕ, ◌+◌, ◌*◌, ◌^◌, ◌≤◌, false, not, List, length, ℤ, pos, neg_ℤ, ◌+ℤ◌, ◌*ℤ◌, ◌≤ℤ◌, ◌<ℤ◌, ◌⊎◌}
+use Rattle.std.specs.List.{Contains}
+use Rattle.mcf_instance.specs.Blocking.{in_table}
+use Rattle.mcf_instance.specs.Flow.{AreLowPrices}
+use Rattle.mcf_instance.specs.Network.{IsNode, at_node, node_count}
+use Rattle.mcf_network.specs.declared.rid.Rid.{Rid}
+use Rattle.mcf_network.specs.NodeSets.{member_count}
+use Rattle.mcf_network.specs.Residual.{tail, head, unit_cost}
+use Rattle.mcf_network.specs.States.{Pseudoflow}
+use Rattle.mcf_network.specs.Walks.{HasRoom}
+use Rattle.mcf_prices.specs.Heaps.{Keyed, Waits}
+use Rattle.mcf_prices.specs.Labels.{cost_limit}
+
+-- how far below 0 a label may lie for each arc of its walk
+abbrev pub label_limit : ℕ
+label_limit = 10 ^ 22
+
+-- the label of a node: its key, which is taken from its price on
+abbrev pub label : List ℤ → Keyed → ℕ → ℤ
+label y h v = at_node y v +ℤ at_node h.keys v
+
+abbrev pub Settled : Keyed → ℕ → Type 0
+Settled h v = in_table h.waiting v ≡ false
+
+-- what a residual arc adds to the label of its head
+abbrev pub step : Pseudoflow → ℕ → ℕ → Rid → ℤ
+step s scale slack r = unit_cost s.net r *ℤ pos scale +ℤ pos slack
+
+-- with room, a residual arc offers its tail no lower label
+abbrev pub RespectsLabel : Pseudoflow → ℕ → ℕ → List ℤ → Keyed → Rid → Type 0
+RespectsLabel s scale slack y h r =
+    HasRoom s r → label y h (tail s.net r) ≤ℤ (label y h (head s.net r) +ℤ step s scale slack r)
+
+-- a number is the cost of so many arcs, at costs times the scale and with the slack for each; they are no more
+-- than the nodes less those that wait
+pub record IsLength (scale slack waiting nodes : ℕ) (z : ℤ) : Type 0 where
+  pub price : ℤ
+  pub arcs : ℕ
+  pub few : arcs + waiting ≤ nodes
+  pub value : z ≡ price *ℤ pos scale +ℤ pos (slack * arcs)
+  pub price_low : neg_ℤ (pos (cost_limit * arcs)) ≤ℤ price
+  pub low : neg_ℤ (pos (label_limit * arcs)) ≤ℤ z
+
+-- the labels and the settled nodes of a search: residual arcs that enter settled nodes are respected, but those
+-- whose reverses are still to come in a list
+pub record IsRaising (s : Pseudoflow) (scale slack : ℕ) (y : List ℤ) (h : Keyed) (rest : List Rid) : Type 0 where
+  pub key_count : length h.keys ≡ node_count s.net
+  pub waiting_count : length h.waiting ≡ node_count s.net
+  pub not_above : (v : ℕ) → IsNode (node_count s.net) v → label y h v ≤ℤ pos 0
+  pub lengths : (v : ℕ) → IsNode (node_count s.net) v → IsLength scale slack (member_count h.waiting) (node_count s.net) (label y h v)
+  pub shorter : (v : ℕ) → IsNode (node_count s.net) v → Settled h v → IsLength scale slack (member_count h.waiting + 1) (node_count s.net) (label y h v)
+  pub above : (others : List ℤ) → AreLowPrices s.net others s.amounts → (v : ℕ) → IsNode (node_count s.net) v → (at_node others v *ℤ pos scale) ≤ℤ label y h v
+  pub level : (u v : ℕ) → IsNode (node_count s.net) u → IsNode (node_count s.net) v → Settled h u → Waits h v → at_node h.keys u ≤ℤ at_node h.keys v
+  pub respects : (r : Rid) → HasRoom s r → Settled h (head s.net r)
+      → (label y h (tail s.net r) ≤ℤ (label y h (head s.net r) +ℤ step s scale slack r)) ⊎ Contains rest (record r { back = not r.back })
+
+-- a settled node, and no settled node has a greater key
+pub record IsLastSettled (nodes : ℕ) (h : Keyed) (w : ℕ) : Type 0 where
+  pub is_node : IsNode nodes w
+  pub is_settled : Settled h w
+  pub last : (u : ℕ) → IsNode nodes u → Settled h u → at_node h.keys u ≤ℤ at_node h.keys w
+
+-- the same nodes wait, and the keys of the others are as they were
+pub record KeepsSettled (nodes : ℕ) (old new : Keyed) : Type 0 where
+  pub waiting : new.waiting ≡ old.waiting
+  pub keys : (v : ℕ) → IsNode nodes v → Settled old v → at_node new.keys v ≡ at_node old.keys v
+
+-- each node waits, and has the label 0
+pub record IsReady (y : List ℤ) (h : Keyed) : Type 0 where
+  pub key_count : length h.keys ≡ length y
+  pub waiting_count : length h.waiting ≡ length y
+  pub waits : (v : ℕ) → IsNode (length y) v → Waits h v
+  pub zero : (v : ℕ) → IsNode (length y) v → label y h v ≡ pos 0
+
+-- g is the quotient of z by the scale, rounded down
+pub record IsRoundedDown (scale : ℕ) (z g : ℤ) : Type 0 where
+  pub below : (g *ℤ pos scale) ≤ℤ z
+  pub next : z <ℤ ((g +ℤ pos 1) *ℤ pos scale)
+
+-- the labels of all nodes, divided by the scale and rounded down
+pub record AreRounded (scale : ℕ) (y : List ℤ) (h : Keyed) (z : List ℤ) : Type 0 where
+  pub count : length z ≡ length y
+  pub each : (v : ℕ) → IsNode (length y) v → IsRoundedDown scale (label y h v) (at_node z v)

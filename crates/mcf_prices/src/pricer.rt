@@ -1,0 +1,278 @@
+//! The greatest prices that show a state, from prices that nearly show it.
+ghost use Rattle.std.specs.Prelude.{◌≡◌, ◌≢◌, ◌+◌, ◌*◌, ◌^◌, ◌<◌, ◌≤◌, ◌+ℤ◌, ◌-ℤ◌, ◌*ℤ◌, ◌≤ℤ◌, ◌∷◌, ℕ, ℤ, List, [], IfOk, OnErr, length, neg_ℤ, pos};
+ghost use Rattle.std.specs.List.{All};
+ghost use Rattle.mcf_instance.specs.Limits.{node_limit};
+ghost use Rattle.mcf_instance.specs.Network.{IsArcNumber, IsNode, at_node, node_count};
+ghost use Rattle.mcf_instance.specs.WellFormed.{IsUpTo};
+ghost use Rattle.mcf_network.specs.declared.rid.Rid.{Rid};
+ghost use Rattle.mcf_network.specs.Residual.{tail};
+ghost use Rattle.mcf_network.specs.Stars.{ListsLeaving};
+ghost use Rattle.mcf_network.specs.States.{IsPseudoflow};
+ghost use Rattle.mcf_prices.specs.Heaps.{NoneWaits};
+ghost use Rattle.mcf_prices.specs.Labels.{cost_limit};
+ghost use Rattle.mcf_prices.specs.NearPrices.{AreNearPrices, OptimalPricesAreNear, ShownPricesAreNear, near_limit};
+ghost use Rattle.mcf_prices.specs.Outcomes.{AreStatePrices};
+ghost use Rattle.mcf_prices.specs.Raisings.{AreRounded, IsLastSettled, IsRaising, IsReady, IsRoundedDown, KeepsSettled, label, label_limit, step};
+
+use crate::heap::Heap;
+use mcf_network::{Net, Rid, State};
+use mcf_text::{NoMemory, NodeId};
+use std::alloc::Global;
+use std::marker::Model;
+
+/// Finds the greatest prices that show a state, from prices that nearly show it, by one search for shortest walks
+/// (Dijkstra's algorithm with a heap; Ahuja, Magnanti and Orlin, Network Flows, sections 4.5 and 4.7), which runs
+/// against the arcs and from all nodes at once.
+///
+/// It is made for the nodes of a net, and only then takes memory. A clause sees how many nodes it has room for.
+#[derive(Drop)]
+pub struct Pricer {
+    heap: Heap,
+}
+
+impl Model for Pricer {
+    ghost use Rattle.std.specs.Prelude.{◌≡◌, ℕ, length};
+
+    ghost Value = { ℕ };
+
+    ghost use Rattle.mcf_network.specs.States.{IsPseudoflow};
+    ghost use Rattle.mcf_prices.specs.Heaps.{NoneWaits};
+
+    ghost view = { λ p. length p.heap.waiting };
+
+    ghost invariant = { λ p. (length p.heap.keys ≡ length p.heap.waiting) × NoneWaits p.heap };
+}
+
+impl Pricer {
+    /// Room for the prices of the nodes of a net.
+    ///
+    /// # Errors
+    ///
+    /// Want of memory; a net without nodes wants none.
+    pub fn start(alloc: Global, net: &Net) -> Result<Pricer, NoMemory>
+        ensures room { IfOk result (λ p. p ≡ node_count net.now) }
+        ensures wants { OnErr result (1 ≤ node_count net.now) }
+    {
+        Ok(Pricer {
+            heap: Heap::new(alloc, net)?,
+        })
+    }
+
+    /// Replaces prices that nearly show the flow of a state by the greatest prices not above 0 that show it.
+    ///
+    /// With all costs taken times `scale`, no residual arc with room may have a reduced cost below minus `slack`.
+    /// So prices that show the flow come with scale 1 and slack 0, and those of a flow that is 1-optimal at costs
+    /// times one more than the count of nodes with that scale and slack 1. It takes time linear in the arcs, and
+    /// logarithmic in the nodes for each node and each key that is lowered; it takes no memory.
+    pub fn raise(&mut self, state: &State<'_>, scale: u32, slack: u32, prices: &mut [i128])
+        requires room { self.old ≡ node_count state.now.net }
+        requires near { AreNearPrices state.now scale slack prices.old }
+        ensures prices { AreStatePrices state.now.net state.now prices.new }
+        ensures room { self.new ≡ self.old }
+    {
+        wait_all(&mut self.heap, state.net(), prices);
+        settle_all(&mut self.heap, state, scale, slack, prices);
+        round_all(&self.heap, scale, prices);
+    }
+}
+
+/// Prices that show the flow of a state nearly show it, with scale 1 and slack 0.
+///
+/// It does nothing when it runs: its contract is the law.
+pub fn shown_prices_are_near()
+    ensures { ShownPricesAreNear }
+{}
+
+/// Prices by which the flow of a state is 1-optimal, at costs times one more than the count of nodes, nearly show it,
+/// with that scale and slack 1 (Bertsekas; Ahuja, Magnanti and Orlin, Network Flows, section 10.3).
+///
+/// It does nothing when it runs: its contract is the law.
+pub fn optimal_prices_are_near()
+    ensures { OptimalPricesAreNear }
+{}
+
+// Lets each node wait with the opposite of its price, so that its label is 0.
+fn wait_all(heap: &mut Heap, net: &Net, prices: &[i128])
+    requires prices { length prices.now ≡ node_count net.now }
+    requires keys { length heap.old.keys ≡ node_count net.now }
+    requires waiting { length heap.old.waiting ≡ node_count net.now }
+    requires none { NoneWaits heap.old }
+    requires small { All (IsUpTo near_limit) prices.now }
+    ensures { IsReady prices.now heap.new }
+{
+    'nodes: for number in 0..net.node_count() {
+        let v = NodeId::new(number + 1);
+        heap.lower(v, opposite_price(prices, v));
+    }
+}
+
+// The opposite of the price of a node.
+fn opposite_price(prices: &[i128], v: NodeId) -> i128
+    requires node { IsNode (length prices.now) v }
+    requires small { IsUpTo near_limit (at_node prices.now v) }
+    ensures { result ≡ neg_ℤ (at_node prices.now v) }
+{
+    -price_of(prices, v)
+}
+
+// Settles the nodes, one after another in the order of their keys.
+fn settle_all(heap: &mut Heap, state: &State<'_>, scale: u32, slack: u32, prices: &[i128])
+    requires flow { IsPseudoflow state.now }
+    requires near { AreNearPrices state.now scale slack prices.now }
+    requires ready { IsRaising state.now scale slack prices.now heap.old [] }
+    ensures search { IsRaising state.now scale slack prices.now heap.new [] }
+    ensures over { NoneWaits heap.new }
+{
+    'nodes: while let Some(w) = heap.pop() {
+        scan(heap, state, scale, slack, prices, w);
+    }
+}
+
+// Relaxes the residual arcs that enter the node that was settled last.
+fn scan(heap: &mut Heap, state: &State<'_>, scale: u32, slack: u32, prices: &[i128], w: NodeId)
+    requires near { AreNearPrices state.now scale slack prices.now }
+    requires last { IsLastSettled (node_count state.now.net) heap.old w }
+    requires search { (list : List Rid) → ListsLeaving state.now.net w list → IsRaising state.now scale slack prices.now heap.old list }
+    ensures search { IsRaising state.now scale slack prices.now heap.new [] }
+    ensures kept { KeepsSettled (node_count state.now.net) heap.old heap.new }
+{
+    let leaving = state.net().leaving(w);
+    let base = label_of(heap, prices, w);
+    'entering: for out in leaving {
+        let (arc, back) = (out.arc, out.back);
+        relax(heap, state, scale, slack, prices, base, Rid { arc, back });
+    }
+}
+
+// Lowers the key of the tail of the reverse of a residual arc, if that offers less. The head was settled last, and
+// `base` is its label.
+fn relax(
+    heap: &mut Heap,
+    state: &State<'_>,
+    scale: u32,
+    slack: u32,
+    prices: &[i128],
+    base: i128,
+    out: Rid,
+)
+    requires near { AreNearPrices state.now scale slack prices.now }
+    requires arc { IsArcNumber state.now.net out.arc }
+    requires last { IsLastSettled (node_count state.now.net) heap.old (tail state.now.net out) }
+    requires base { base ≡ label prices.now heap.old (tail state.now.net out) }
+    requires search { (rest : List Rid) × IsRaising state.now scale slack prices.now heap.old (out ∷ rest) }
+    ensures search { (rest : List Rid) → IsRaising state.now scale slack prices.now heap.old (out ∷ rest) → IsRaising state.now scale slack prices.now heap.new rest }
+    ensures kept { KeepsSettled (node_count state.now.net) heap.old heap.new }
+{
+    let (arc, back) = (out.arc, !out.back);
+    let (from, _) = state.net().route(Rid { arc, back });
+    if !heap.waits(from) {
+        return;
+    }
+    if state.room(Rid { arc, back }) <= 0 {
+        return;
+    }
+    let length = step(state, scale, slack, Rid { arc, back });
+    let key = offered(base, length, price_of(prices, from));
+    if heap.key(from) <= key {
+        return;
+    }
+    heap.lower(from, key);
+}
+
+// The price of a node.
+fn price_of(prices: &[i128], v: NodeId) -> i128
+    requires { IsNode (length prices.now) v }
+    ensures { result ≡ at_node prices.now v }
+{
+    prices[v.get() as usize - 1]
+}
+
+// The label of a node.
+fn label_of(heap: &Heap, prices: &[i128], v: NodeId) -> i128
+    requires price { IsNode (length prices.now) v }
+    requires key { IsNode (length heap.now.keys) v }
+    requires small { IsUpTo near_limit (at_node prices.now v) }
+    requires low { neg_ℤ (pos (10 ^ 30)) ≤ℤ label prices.now heap.now v }
+    requires high { label prices.now heap.now v ≤ℤ pos 0 }
+    ensures { result ≡ label prices.now heap.now v }
+{
+    price_of(prices, v) + heap.key(v)
+}
+
+// The key that a residual arc of a length offers to its tail, of a price, if its head has the label `base`.
+fn offered(base: i128, length: i128, price: i128) -> i128
+    requires base { IsUpTo (10 ^ 30) base }
+    requires length { IsUpTo (10 ^ 30) length }
+    requires price { IsUpTo near_limit price }
+    ensures { result ≡ base +ℤ length -ℤ price }
+{
+    base + length - price
+}
+
+// What a residual arc adds to the label of its head.
+fn step(state: &State<'_>, scale: u32, slack: u32, r: Rid) -> i128
+    requires arc { IsArcNumber state.now.net r.arc }
+    requires scale { scale ≤ node_limit + 1 }
+    ensures value { result ≡ step state.now scale slack r }
+    ensures small { IsUpTo (10 ^ 30) result }
+{
+    scaled(state.net().unit_cost(r), scale) + i128::from(slack)
+}
+
+// A cost times the scale.
+fn scaled(cost: i128, scale: u32) -> i128
+    requires cost { IsUpTo cost_limit cost }
+    requires scale { scale ≤ node_limit + 1 }
+    ensures value { result ≡ cost *ℤ pos scale }
+    ensures small { IsUpTo label_limit result }
+{
+    cost * i128::from(scale)
+}
+
+// Makes each price the label of its node, divided by the scale and rounded down.
+fn round_all(heap: &Heap, scale: u32, prices: &mut [i128])
+    requires scale { 1 ≤ scale }
+    requires keys { length heap.now.keys ≡ length prices.old }
+    requires few { length prices.old ≤ node_limit }
+    requires small { All (IsUpTo near_limit) prices.old }
+    requires low { (v : ℕ) → IsNode (length prices.old) v → neg_ℤ (pos (10 ^ 30)) ≤ℤ label prices.old heap.now v }
+    requires high { (v : ℕ) → IsNode (length prices.old) v → label prices.old heap.now v ≤ℤ pos 0 }
+    ensures { AreRounded scale prices.old heap.now prices.new }
+{
+    'nodes: for i in 0..prices.len() {
+        let v = NodeId::new(i as u32 + 1);
+        let label = label_of(heap, prices, v);
+        prices[i] = rounded_down(label, scale);
+    }
+}
+
+// The quotient of a label by the scale, rounded down.
+fn rounded_down(label: i128, scale: u32) -> i128
+    requires scale { 1 ≤ scale }
+    requires low { neg_ℤ (pos (10 ^ 30)) ≤ℤ label }
+    requires high { label ≤ℤ pos 0 }
+    ensures { IsRoundedDown scale label result }
+{
+    let depth = label.unsigned_abs();
+    opposite(quotient_above(depth, u128::from(scale)))
+}
+
+// The quotient of a depth by the scale, rounded up.
+fn quotient_above(depth: u128, scale: u128) -> u128
+    requires scale { 1 ≤ scale }
+    requires scale_small { scale < 2 ^ 32 }
+    requires depth { depth ≤ 10 ^ 30 }
+    ensures enough { depth ≤ result * scale }
+    ensures least { result * scale < depth + scale }
+    ensures small { result ≤ 10 ^ 31 }
+{
+    (depth + (scale - 1)) / scale
+}
+
+// The opposite of a depth.
+fn opposite(depth: u128) -> i128
+    requires { depth ≤ 10 ^ 31 }
+    ensures { result ≡ neg_ℤ (pos depth) }
+{
+    -(depth as i128)
+}
