@@ -26,3 +26,5 @@ mod sets;
 mod solving;
 #[cfg(test)]
 mod text;
+#[cfg(test)]
+mod trees;
