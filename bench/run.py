@@ -13,6 +13,7 @@ PART
   solve     solves an instance in which nothing is worth moving, without the seconds of its engine, beside a
             program that reads, copies and writes the same
   text      splits a text of lines into fields and reads each field as a number
+  tree      swaps arcs of a spanning tree at random, in trees of rising size
 
 Proves and builds `mcf_bench`, builds each peer by `rustc -O`, makes the input, and
 runs the two in turn on it, N times each and at least 5. Both print what they found,
@@ -41,6 +42,8 @@ RESTING = 125_000
 # the sizes of each family, as powers of 2; one run of `feasible` on netgen of 2^16 nodes takes half a minute
 RECOVERED = {"netgen": (10, 12, 14, 16), "gridgen": (10, 12, 14, 16), "transp": (8, 9, 10)}
 SEARCHED = {"netgen": (10, 12, 14), "gridgen": (10, 12, 14, 16), "transp": (8, 9, 10)}
+# the random swaps that are tried in the tree of so many nodes
+SWAPPED = {1_000: 300_000, 10_000: 300_000, 100_000: 300_000, 1_000_000: 1_000_000}
 # the most bytes an arc that a net may take
 NET_BYTES = 64
 
@@ -103,8 +106,13 @@ def family_answers(_words):
         yield f"{family} {nodes}", [instance, answer], times
 
 
-# of each part: what makes its cases, and the greatest ratio; a case has a name, the paths of its input, and how
-# often a step is done in one run
+def trees(_words):
+    for nodes, rounds in SWAPPED.items():
+        yield f"of {nodes} nodes", [nodes, rounds], 1
+
+
+# of each part: what makes its cases, and the greatest ratio; a case has a name, the paths or numbers of its input,
+# and how often a step is done in one run
 PARTS = {
     "answer": (shown_answer, 1.2),
     "check": (shown_pair, 1.25),
@@ -114,6 +122,7 @@ PARTS = {
     "recover": (family_answers, 1.25),
     "solve": (resting, 1.25),
     "text": (sparse, 1.1),
+    "tree": (trees, 1.25),
 }
 REPEATED = {"feasible", "net", "recover"}
 

@@ -3,6 +3,8 @@
 //! Runs one part of the suite on a file and prints what it found and how long it took.
 //! `bench/run.py` compares each part with a peer.
 
+ghost use Rattle.std.specs.Prelude.{◌<◌};
+
 mod answering;
 mod feasibility;
 mod judging;
@@ -11,6 +13,7 @@ mod reading;
 mod recovering;
 mod solving;
 mod text;
+mod trees;
 
 use mcf_text::{Whole, whole};
 use std::process::ExitCode;
@@ -18,7 +21,7 @@ use std::time::{Duration, Instant};
 use std::{env, fs, io};
 
 const USAGE: &str =
-    "usage: mcf_bench read|solve|text INSTANCE, answer ANSWER, check INSTANCE ANSWER, net|feasible INSTANCE [TIMES], or recover INSTANCE ANSWER [TIMES]";
+    "usage: mcf_bench read|solve|text INSTANCE, answer ANSWER, check INSTANCE ANSWER, net|feasible INSTANCE [TIMES], recover INSTANCE ANSWER [TIMES], or tree NODES ROUNDS";
 
 // A part that needs one file.
 #[derive(Clone, Copy)]
@@ -62,6 +65,7 @@ fn run(rt: &HostRuntime, words: &[String]) -> io::Result<ExitCode> {
     match part.as_str() {
         "check" => judging::run(rt, path.as_str(), answer.as_str())?,
         "recover" => recovering::run(rt, path.as_str(), answer.as_str(), times_of(words.get(4)))?,
+        "tree" => trees::run(rt, number_of(path.as_str()), number_of(answer.as_str()))?,
         _ => return refuse(rt),
     }
     Ok(ExitCode::SUCCESS)
@@ -108,6 +112,16 @@ fn times_of(word: Option<&String>) -> u32 {
     };
     match whole(word.as_bytes(), 1, 1_000) {
         Whole::Value(times) => times as u32,
+        _ => 1,
+    }
+}
+
+// The number from 1 to 10,000,000 that a word says, or 1.
+fn number_of(word: &str) -> u32
+    ensures { 0 < result }
+{
+    match whole(word.as_bytes(), 1, 10_000_000) {
+        Whole::Value(number) => number as u32,
         _ => 1,
     }
 }

@@ -32,3 +32,5 @@ mod sets;
 mod solving;
 #[cfg(test)]
 mod text;
+#[cfg(test)]
+mod trees;
