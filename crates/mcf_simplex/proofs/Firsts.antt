@@ -1,9 +1,9 @@
 -- Rules that look at all arcs.
-use Rattle.std.proofs.Common.{◌≡◌, ◌≢◌, ℕ, ◌+◌, ◌<◌, ◌≤◌, inl, inr, List, length, Option, Some, None, refl, sym, ap, ◌∙◌, arith, subst}
+use Rattle.std.proofs.Common.{◌≡◌, ℕ, ◌+◌, ◌<◌, ◌≤◌, inl, inr, length, Option, Some, None, sym, ◌∙◌, arith, subst}
 use Rattle.std.proofs.lemmas.Bool.{cases_eq}
 use Rattle.mcf_basis.specs.Pivots.{IsEligible}
 use Rattle.mcf_basis.specs.Structures.{TreeStructure}
-use Rattle.mcf_basis.specs.Violations.{HasNoEligible, HasNoneIn, IsMostViolated, IsMostViolatedPick}
+use Rattle.mcf_basis.specs.Violations.{HasNoEligible, HasNoneIn, IsMostViolatedPick}
 use Rattle.mcf_simplex.specs.Picking.{IsBestPick, IsFirst}
 
 -- none of the arcs of a number below n is eligible

@@ -110,7 +110,11 @@ fn block_end(arcs: u32, size: u32, place: u32) -> u32
     ensures low { place < result }
     ensures high { result ≤ arcs }
 {
-    if size < arcs - place { place + size } else { arcs }
+    if size < arcs - place {
+        place + size
+    } else {
+        arcs
+    }
 }
 
 // The arc at a place of the round.
@@ -123,7 +127,11 @@ fn arc_in_round(arcs: u32, start: u32, place: u32) -> u32
     ensures low { 1 ≤ result }
 {
     let number = start + place;
-    if number <= arcs { number } else { number - arcs }
+    if number <= arcs {
+        number
+    } else {
+        number - arcs
+    }
 }
 
 // The most violated of the arcs at some places of the round.

@@ -1,4 +1,4 @@
-use Rattle.std.proofs.Common.{◌≡◌, ℕ, ◌+◌, ◌-◌, ◌<◌, ◌≤◌, length, refl, ap, ◌∙◌, arith, subst}
+use Rattle.std.proofs.Common.{◌≡◌, ◌+◌, ◌-◌, length, refl, ap, ◌∙◌, arith, subst}
 use Rattle.mcf_basis.specs.Violations.{IsMostViolatedPick}
 use Rattle.mcf_simplex.proofs.Rounds.{pick_both, pick_high, pick_low}
 use Rattle.mcf_simplex.proofs.block.most_violated_in_round.Goals as goal

@@ -1,4 +1,4 @@
-use Rattle.std.proofs.Common.{◌≡◌, ℕ, ◌<◌, ◌≤◌, length, refl, ap, ◌∙◌, arith, subst}
+use Rattle.std.proofs.Common.{◌≡◌, length, refl, ap, ◌∙◌, arith}
 use Rattle.mcf_simplex.specs.Blocks.{BlockRule, arc_in_round, block_end, start_arc}
 use Rattle.mcf_simplex.proofs.Rounds.{none_left, passed_found, passed_more, passed_nothing}
 use Rattle.mcf_simplex.proofs.block.pick_block.Goals as goal
