@@ -1,21 +1,18 @@
 -- The amounts of a basis: those of the arcs of the net, and those of the artificial arcs.
-use Rattle.std.proofs.Common.{◌≡◌, ◌≢◌, ℕ, zero, suc, ◌+◌, ◌-◌, ◌<◌, ◌≤◌, ◌++◌, ◌⊎◌, inl, inr, Bool, true, false, eqb, List, [], ◌∷◌, length, map, take, drop, get_or, refl, sym, ap, ◌∙◌, arith, subst, ℤ, pos, ◌+ℤ◌, ◌-ℤ◌, ◌*ℤ◌, ◌≤ℤ◌}
+use Rattle.std.proofs.Common.{◌≡◌, ℕ, suc, ◌+◌, ◌-◌, ◌<◌, ◌≤◌, ◌++◌, eqb, List, [], ◌∷◌, length, map, take, drop, get_or, refl, sym, ap, ◌∙◌, arith, ℤ, pos, ◌+ℤ◌}
 use Rattle.std.specs.List.{range_with_len}
 use Rattle.std.proofs.lemmas.Int.{ints}
 use Rattle.std.proofs.lemmas.List.{get_or-take, get_or-drop, take-append-drop, length-take-le, length-drop}
 use Rattle.mcf_instance.specs.declared.arc.Arc.{Arc}
 use Rattle.mcf_instance.specs.Flow.{net, outflow, inflow}
-use Rattle.mcf_instance.specs.Network.{Network, IsArcNumber, IsNode, at_node, flow_sum, node_count, when}
+use Rattle.mcf_instance.specs.Network.{Network, IsArcNumber, flow_sum, node_count, when}
 use Rattle.mcf_instance.proofs.ArcSums.{flow_sum-append}
-use Rattle.mcf_network.specs.Nets.{IsNet, IsNetArc}
-use Rattle.mcf_network.specs.Residual.{no_arc, arc_at}
-use Rattle.mcf_network.proofs.ArcLaws.{net_arc_at}
 use Rattle.mcf_network.proofs.StateLaws.{when-zero}
 use Rattle.mcf_basis.specs.Artificial.{artificial_arc, with_artificial}
 use Rattle.mcf_basis.specs.Bases.{IsBasis}
 use Rattle.mcf_basis.specs.Laws.{HasNoArtificial}
-use Rattle.mcf_basis.specs.Structures.{TreeStructure, carried, state_of}
-use Rattle.mcf_basis.proofs.Labels.{label_count, own_arc}
+use Rattle.mcf_basis.specs.Structures.{TreeStructure, state_of}
+use Rattle.mcf_basis.proofs.Labels.{label_count}
 
 -- a sum over all arcs: that over the arcs of the net, and that over the artificial ones
 pub split_sum : (t : Arc → ℤ → ℤ) (g : Network) (amounts : List ℤ) → length g.arcs ≤ length amounts →

@@ -1,21 +1,20 @@
 -- The flow of a basis at which no arc is eligible.
-use Rattle.std.proofs.Common.{◌≡◌, ◌≢◌, ℕ, zero, suc, ◌+◌, ◌-◌, ◌<◌, ◌≤◌, ◌⊎◌, inl, inr, List, length, drop, get_or, refl, sym, ap, ◌∙◌, arith, subst, ℤ, pos, negsuc, ◌+ℤ◌, ◌-ℤ◌, ◌<ℤ◌, ◌≤ℤ◌}
+use Rattle.std.proofs.Common.{◌≡◌, ℕ, zero, suc, ◌+◌, ◌-◌, ◌<◌, ◌⊎◌, inl, inr, length, drop, get_or, refl, sym, ap, ◌∙◌, arith, subst, ℤ, pos, negsuc, ◌<ℤ◌, ◌≤ℤ◌}
 use Rattle.std.specs.List.{AllZip}
 use Rattle.std.proofs.lemmas.Int.{ints}
 use Rattle.std.proofs.lemmas.Grind.{get_or_after_one}
 use Rattle.std.proofs.lemmas.List.{get_or_default}
 use Rattle.mcf_instance.specs.declared.arc.Arc.{Arc}
-use Rattle.mcf_instance.specs.Flow.{CanCarry, IsComplementary, IsFeasible, Shows, net, reduced_cost}
+use Rattle.mcf_instance.specs.Flow.{CanCarry, IsComplementary, IsFeasible, Shows, reduced_cost}
 use Rattle.mcf_instance.specs.Network.{Network, IsArcNumber, IsNode, at_node, node_count}
 use Rattle.mcf_instance.specs.WellFormed.{HasEnds}
 use Rattle.mcf_instance.proofs.AllZips.{AllZip_from}
-use Rattle.mcf_network.specs.Nets.{IsNet, IsNetArc}
+use Rattle.mcf_network.specs.Nets.{IsNetArc}
 use Rattle.mcf_network.specs.Residual.{no_arc, arc_at}
 use Rattle.mcf_network.proofs.ArcLaws.{ends_at, net_arc_at}
 use Rattle.mcf_basis.specs.Artificial.{with_artificial}
-use Rattle.mcf_basis.specs.Bases.{CanHold, IsAtBound, IsBasis}
+use Rattle.mcf_basis.specs.Bases.{CanHold, IsBasis}
 use Rattle.mcf_basis.specs.Laws.{HasNoArtificial, LastBasesAreShown}
-use Rattle.mcf_basis.specs.Pivots.{IsEligible}
 use Rattle.mcf_basis.specs.Structures.{TreeStructure, IsInTree, carried, price_at, reduced_at, state_of}
 use Rattle.mcf_basis.specs.Violations.{HasNoEligible}
 use Rattle.mcf_basis.proofs.Flows.{net_without, own_carried, own_count}
@@ -90,25 +89,26 @@ module _ (b : TreeStructure) (ok : IsBasis b) where
         let r = own_reduced_cost k h in
         let a : IsNetArc (arc_at b.net k) = net_arc_at b.net k ok.of_net h in
         let no_low = a.no_low in
-        let width = a.width_low in
-        (λ high. (let rise : pos 0 <ℤ reduced_at b k = omega (arith, ints, r, high) in
-            let out : ¬ IsInTree b k = not_in_tree b k ok (λ z. omega (arith, ints, z, rise)) in
-            elim (ok.at_bounds k (own_label b.net k h) out) [
-              | inl z ↦ (omega (arith, ints, z, no_low))
-              | inr f ↦ elim (zero_or_more (arc_at b.net k).cap width) [
-                | inl c ↦ (let full = f.1 in omega (arith, ints, full, c, no_low))
-                | inr wide ↦ absurd (none k (record { arc = h; outside = out; wide = wide; gains = inr (f.1, rise) }))
-              ]
-            ]),
-         λ low. (let fall : reduced_at b k <ℤ pos 0 = omega (arith, ints, r, low) in
-            let out : ¬ IsInTree b k = not_in_tree b k ok (λ z. omega (arith, ints, z, fall)) in
-            elim (ok.at_bounds k (own_label b.net k h) out) [
-              | inl z ↦ elim (zero_or_more (arc_at b.net k).cap width) [
-                | inl c ↦ (omega (arith, ints, z, c))
-                | inr wide ↦ absurd (none k (record { arc = h; outside = out; wide = wide; gains = inl (z, fall) }))
-              ]
-              | inr f ↦ f.1
-            ]))
+        let width = a.width_low in (
+          λ high. (let rise : pos 0 <ℤ reduced_at b k = omega (arith, ints, r, high) in
+              let out : ¬ IsInTree b k = not_in_tree b k ok (λ z. omega (arith, ints, z, rise)) in
+              elim (ok.at_bounds k (own_label b.net k h) out) [
+                | inl z ↦ (omega (arith, ints, z, no_low))
+                | inr f ↦ elim (zero_or_more (arc_at b.net k).cap width) [
+                  | inl c ↦ (let full = f.1 in omega (arith, ints, full, c, no_low))
+                  | inr wide ↦ absurd (none k (record { arc = h; outside = out; wide = wide; gains = inr (f.1, rise) }))
+                ]
+              ]),
+          λ low. (let fall : reduced_at b k <ℤ pos 0 = omega (arith, ints, r, low) in
+              let out : ¬ IsInTree b k = not_in_tree b k ok (λ z. omega (arith, ints, z, fall)) in
+              elim (ok.at_bounds k (own_label b.net k h) out) [
+                | inl z ↦ elim (zero_or_more (arc_at b.net k).cap width) [
+                  | inl c ↦ (omega (arith, ints, z, c))
+                  | inr wide ↦ absurd (none k (record { arc = h; outside = out; wide = wide; gains = inl (z, fall) }))
+                ]
+                | inr f ↦ f.1
+              ]),
+        )
 
     pub shows : Shows b.net.arcs (drop 1 b.prices) (state_of b).amounts
     shows =

@@ -1,22 +1,22 @@
 -- No rank lies far below 0.
-use Rattle.std.proofs.Common.{◌≡◌, ℕ, zero, suc, ◌+◌, ◌-◌, ◌*◌, ◌<◌, ◌≤◌, List, [], ◌∷◌, length, map, take, drop, sum, get_or, refl, sym, ap, ◌∙◌, arith, subst, ℤ, pos, negsuc, neg_ℤ, ◌+ℤ◌, ◌-ℤ◌, ◌*ℤ◌, ◌<ℤ◌, ◌≤ℤ◌}
+use Rattle.std.proofs.Common.{◌≡◌, ℕ, suc, ◌+◌, ◌-◌, ◌*◌, ◌<◌, List, [], ◌∷◌, length, map, drop, sum, get_or, refl, sym, ap, ◌∙◌, arith, ℤ, pos, negsuc, neg_ℤ, ◌+ℤ◌, ◌*ℤ◌, ◌≤ℤ◌}
 use Rattle.std.specs.Prelude.{unsigned_abs}
 use Rattle.std.specs.List.{range_with_len}
 use Rattle.std.proofs.lemmas.Int.{ints}
-use Rattle.std.proofs.lemmas.List.{get_or-drop, length-drop}
+use Rattle.std.proofs.lemmas.List.{get_or-drop}
 use Rattle.std.proofs.lemmas.List.FromFn.{get_or-map-range_with_len, length-map-range_with_len}
 use Rattle.mcf_instance.specs.declared.arc.Arc.{Arc}
 use Rattle.mcf_instance.specs.Flow.{cost}
-use Rattle.mcf_instance.specs.Network.{Network, IsNode, flow_sum, node_count}
+use Rattle.mcf_instance.specs.Network.{IsNode, flow_sum, node_count}
 use Rattle.mcf_instance.specs.WellFormed.{IsUpTo, weight}
 use Rattle.mcf_instance.proofs.Bounds.{cost_up_to}
 use Rattle.mcf_instance.proofs.IntLaws.{mul-mono_left, mul_at_least_zero, neg-mul}
 use Rattle.mcf_network.specs.Residual.{no_arc}
-use Rattle.mcf_basis.specs.Artificial.{artificial_arc, artificial_cost, with_artificial}
+use Rattle.mcf_basis.specs.Artificial.{artificial_arc, artificial_cost}
 use Rattle.mcf_basis.specs.Bases.{IsBasis}
 use Rattle.mcf_basis.specs.Laws.{RanksCountDown}
-use Rattle.mcf_basis.specs.Pivots.{PairFalls, full_cost, price_sum}
-use Rattle.mcf_basis.specs.Ranks.{price_reach, price_span, rank_above, rank_depth, rank_of}
+use Rattle.mcf_basis.specs.Pivots.{full_cost, price_sum}
+use Rattle.mcf_basis.specs.Ranks.{price_reach, rank_above, rank_depth, rank_of}
 use Rattle.mcf_basis.specs.Structures.{TreeStructure, carried, state_of}
 use Rattle.mcf_basis.proofs.Flows.{amount_count, split_sum}
 use Rattle.mcf_basis.proofs.Labels.{added_label}

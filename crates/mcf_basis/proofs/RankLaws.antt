@@ -1,15 +1,14 @@
 -- The pair of the cost and the sum of the prices as one number.
-use Rattle.std.proofs.Common.{◌≡◌, ℕ, ◌+◌, ◌*◌, ◌<◌, ◌≤◌, ◌⊎◌, inl, inr, refl, sym, ap, ◌∙◌, arith, subst, ℤ, pos, neg_ℤ, ◌+ℤ◌, ◌-ℤ◌, ◌*ℤ◌, ◌<ℤ◌, ◌≤ℤ◌}
+use Rattle.std.proofs.Common.{◌≡◌, ℕ, ◌+◌, ◌*◌, inl, inr, sym, ap, ◌∙◌, arith, subst, ℤ, pos, ◌+ℤ◌, ◌-ℤ◌, ◌*ℤ◌, ◌<ℤ◌, ◌≤ℤ◌}
 use Rattle.std.proofs.lemmas.Int.{ints}
-use Rattle.mcf_instance.specs.Network.{Network, IsNode, node_count, node_sum}
+use Rattle.mcf_instance.specs.Network.{Network, node_count}
 use Rattle.mcf_instance.specs.WellFormed.{IsUpTo}
 use Rattle.mcf_instance.proofs.Bounds.{node_sum_up_to}
 use Rattle.mcf_instance.proofs.IntLaws.{add-mul, mul-add, mul-mono_left, mul-one, one-mul, sub-mul}
-use Rattle.mcf_network.specs.States.{Pseudoflow}
 use Rattle.mcf_basis.specs.Bases.{IsBasis, IsFullFlow}
 use Rattle.mcf_basis.specs.Laws.{RanksBoundPivots, RanksFall}
 use Rattle.mcf_basis.specs.Pivots.{PairFalls, full_cost, price_sum}
-use Rattle.mcf_basis.specs.Ranks.{IsFloor, pivot_bound, price_reach, price_span, rank_of}
+use Rattle.mcf_basis.specs.Ranks.{price_reach, price_span, rank_of}
 use Rattle.mcf_basis.specs.Structures.{TreeStructure, full_state, price_at}
 use Rattle.mcf_basis.proofs.TreePrices.{price_reached}
 

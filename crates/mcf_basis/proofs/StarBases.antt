@@ -1,30 +1,29 @@
 -- The star of the artificial arcs is a basis.
-use Rattle.std.proofs.Common.{◌≡◌, ◌≢◌, ℕ, zero, suc, ◌+◌, ◌-◌, ◌<◌, ◌≤◌, ◌++◌, ◌⊎◌, inl, inr, Bool, true, false, not, cond, eqb, List, [], ◌∷◌, length, map, take, drop, replicate, get_or, refl, sym, ap, ◌∙◌, arith, subst, ℤ, pos, negsuc, neg_ℤ, ◌+ℤ◌, ◌-ℤ◌, ◌<ℤ◌, ◌≤ℤ◌, length-append}
+use Rattle.std.proofs.Common.{◌≡◌, ◌≢◌, ℕ, zero, suc, ◌+◌, ◌-◌, ◌<◌, ◌≤◌, ◌++◌, inl, inr, true, false, not, eqb, List, [], length, map, take, drop, replicate, get_or, refl, sym, ap, ◌∙◌, arith, subst, ℤ, pos, negsuc, neg_ℤ, ◌+ℤ◌, ◌-ℤ◌, ◌<ℤ◌, ◌≤ℤ◌, length-append}
 use Rattle.std.specs.Prelude.{unsigned_abs, int_le}
 use Rattle.std.specs.List.{All, range_with_len}
 use Rattle.std.proofs.lemmas.Int.{ints}
-use Rattle.std.proofs.lemmas.Bool.{cases_Bool, cases_eq, eq-eqb, true≢false}
-use Rattle.std.proofs.lemmas.List.{get_or-take, get_or-drop, get_or-replicate, get_or_append_left, get_or-append-add, length-replicate}
+use Rattle.std.proofs.lemmas.Bool.{cases_Bool, eq-eqb, true≢false}
+use Rattle.std.proofs.lemmas.List.{get_or-replicate, get_or_append_left, get_or-append-add, length-replicate}
 use Rattle.std.proofs.lemmas.List.Elements.{All-nil, All-cons}
 use Rattle.std.proofs.lemmas.List.FromFn.{get_or-map-range_with_len, length-map-range_with_len}
 use Rattle.mcf_instance.specs.declared.arc.Arc.{Arc}
 use Rattle.mcf_instance.specs.Flow.{net, outflow, inflow}
 use Rattle.mcf_instance.specs.Network.{Network, IsArcNumber, IsNode, at_node, flow_sum, node_count, when}
 use Rattle.mcf_instance.proofs.Ranges.{at_most, at_most_passes}
-use Rattle.mcf_network.specs.declared.rid.Rid.{Rid}
 use Rattle.mcf_network.specs.Nets.{IsNet, IsNetArc}
 use Rattle.mcf_network.specs.Residual.{no_arc, arc_at}
-use Rattle.mcf_network.specs.States.{HasNoSurplus, surplus_at}
+use Rattle.mcf_network.specs.States.{HasNoSurplus}
 use Rattle.mcf_network.proofs.ArcLaws.{net_arc_at}
 use Rattle.mcf_network.proofs.StateLaws.{when-same, when-other, when-zero}
-use Rattle.mcf_tree.specs.SpanningTree.{SpanningTree, IsSpanning, IsStar, depth_of, label_of, parent_of, size_of}
+use Rattle.mcf_tree.specs.SpanningTree.{IsSpanning, IsStar, depth_of, label_of, parent_of, size_of}
 use Rattle.mcf_basis.specs.Artificial.{IsLabel, artificial_arc, artificial_cost, is_sender, with_artificial}
-use Rattle.mcf_basis.specs.Bases.{CanHold, HasTreeArc, HasTreePrices, IsAtBound, IsBasis, IsFullFlow}
+use Rattle.mcf_basis.specs.Bases.{CanHold, HasTreeArc, HasTreePrices, IsAtBound, IsBasis}
 use Rattle.mcf_basis.specs.Starts.{start_amounts, start_price, start_prices}
-use Rattle.mcf_basis.specs.Structures.{TreeStructure, CanTake, IsInTree, Joins, carried, full_state, leaving, price_at, reduced_at, up_path}
+use Rattle.mcf_basis.specs.Structures.{TreeStructure, CanTake, IsInTree, carried, full_state, leaving, price_at, reduced_at, up_path}
 use Rattle.mcf_basis.specs.Structures.Joins.{out_of, into}
 use Rattle.mcf_basis.proofs.Flows.{split_sum, sum_of_zeros}
-use Rattle.mcf_basis.proofs.Labels.{LabelCase, added_arc, added_label, label_case, label_count}
+use Rattle.mcf_basis.proofs.Labels.{added_arc, added_label, label_case, label_count}
 use Rattle.mcf_basis.proofs.Labels.LabelCase.{own, added}
 use Rattle.mcf_basis.proofs.LastBases.{node_count_added, supply_added}
 use Rattle.mcf_basis.proofs.TreeFlows.{single_term}
@@ -94,8 +93,8 @@ module _ (g : Network) (v : ℕ) (h : IsNode (node_count g) v) where
       let back : v - 1 + 1 ≡ v = omega arith in
       single_term (λ a f. when (eqb a.src v) f) (star_arcs g) (star_flow g) (v - 1) star_size (omega (arith, n, h))
       (λ i l ne. (let m : i < node_count g = omega (arith, n, l) in
-          subst (λ a. when (eqb a.src v) (get_or (star_flow g) i (pos 0)) ≡ pos 0) (sym (arc_at_place i m))
-          (when-other (artificial_arc g (i + 1)).src v _ (λ q. apart_src g (i + 1) v (omega arith) (λ e. ne (omega arith)) (sym q)))))
+      subst (λ a. when (eqb a.src v) (get_or (star_flow g) i (pos 0)) ≡ pos 0) (sym (arc_at_place i m))
+      (when-other (artificial_arc g (i + 1)).src v _ (λ q. apart_src g (i + 1) v (omega arith) (λ e. ne (omega arith)) (sym q)))))
       ∙ (ap (λ a. when (eqb a.src v) (get_or (star_flow g) (v - 1) (pos 0))) (arc_at_place (v - 1) (omega arith) ∙ ap (artificial_arc g) back)
       ∙ ap (when (eqb (artificial_arc g v).src v)) (flow_at_place (v - 1) (omega arith) ∙ ap (λ u. pos (unsigned_abs (at_node g.supplies u))) back))
 
@@ -105,8 +104,8 @@ module _ (g : Network) (v : ℕ) (h : IsNode (node_count g) v) where
       let back : v - 1 + 1 ≡ v = omega arith in
       single_term (λ a f. when (eqb a.dst v) f) (star_arcs g) (star_flow g) (v - 1) star_size (omega (arith, n, h))
       (λ i l ne. (let m : i < node_count g = omega (arith, n, l) in
-          subst (λ a. when (eqb a.dst v) (get_or (star_flow g) i (pos 0)) ≡ pos 0) (sym (arc_at_place i m))
-          (when-other (artificial_arc g (i + 1)).dst v _ (λ q. apart_dst g (i + 1) v (omega arith) (λ e. ne (omega arith)) (sym q)))))
+      subst (λ a. when (eqb a.dst v) (get_or (star_flow g) i (pos 0)) ≡ pos 0) (sym (arc_at_place i m))
+      (when-other (artificial_arc g (i + 1)).dst v _ (λ q. apart_dst g (i + 1) v (omega arith) (λ e. ne (omega arith)) (sym q)))))
       ∙ (ap (λ a. when (eqb a.dst v) (get_or (star_flow g) (v - 1) (pos 0))) (arc_at_place (v - 1) (omega arith) ∙ ap (artificial_arc g) back)
       ∙ ap (when (eqb (artificial_arc g v).dst v)) (flow_at_place (v - 1) (omega arith) ∙ ap (λ u. pos (unsigned_abs (at_node g.supplies u))) back))
 

@@ -1,11 +1,10 @@
 -- A pivot keeps the tree strongly feasible, over arcs and amounts by their labels.
-use Rattle.std.proofs.Common.{◌≡◌, ◌≢◌, ℕ, zero, suc, ◌+◌, ◌-◌, ◌<◌, ◌≤◌, List, length, refl, sym, ap, ◌∙◌, subst, arith, inl, inr, ◌⊎◌, ℤ, pos, ◌+ℤ◌, ◌≤ℤ◌}
+use Rattle.std.proofs.Common.{◌≡◌, ◌≢◌, ℕ, zero, suc, ◌+◌, ◌-◌, ◌<◌, ◌≤◌, List, length, sym, ap, ◌∙◌, subst, arith, inl, inr, ◌⊎◌, ℤ, pos, ◌+ℤ◌, ◌≤ℤ◌}
 use Rattle.std.specs.Prelude.{slice_index}
 use Rattle.std.proofs.lemmas.Bool.{cases_eq, cases_lt}
-use Rattle.std.proofs.lemmas.Int.{ints}
 use Rattle.mcf_links.specs.Rooted.{climb, IsRooted, IsTurned, IsRelabelled}
 use Rattle.mcf_links.proofs.Paths.{climb-within, climb-suc, depth-climb, above_root}
-use Rattle.mcf_basis.proofs.Pushes.{Arcs, IsWithin, JoinsEnds, CanLeave, Leaves, IsTreeOf, IsCycle, IsPushed, HasRoomUp, CanLeave-back, CanLeave-more, CanLeave-kept, CanLeave-same, CanLeave-le, JoinsEnds-sym}
+use Rattle.mcf_basis.proofs.Pushes.{Arcs, IsWithin, JoinsEnds, CanLeave, IsTreeOf, IsCycle, IsPushed, HasRoomUp, CanLeave-back, CanLeave-more, CanLeave-kept, CanLeave-same, CanLeave-le, JoinsEnds-sym}
 use Rattle.mcf_basis.proofs.Pushes.JoinsEnds.{out_of, into}
 
 -- v is one of the first n nodes of the path from a

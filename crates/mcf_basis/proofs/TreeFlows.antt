@@ -1,23 +1,20 @@
 -- The flow of a basis is a tree solution: from the leaves of the tree on, a circulation that is 0 at all arcs whose flow is at a bound is 0.
-use Rattle.std.proofs.Common.{◌≡◌, ◌≢◌, ℕ, zero, suc, ◌+◌, ◌-◌, ◌<◌, ◌≤◌, ◌⊎◌, inl, inr, Bool, true, false, eqb, List, [], ◌∷◌, length, take, get_or, refl, sym, ap, ◌∙◌, arith, subst, ℤ, pos, ◌+ℤ◌, ◌-ℤ◌, ◌≤ℤ◌}
+use Rattle.std.proofs.Common.{◌≡◌, ◌≢◌, ℕ, zero, suc, ◌+◌, ◌-◌, ◌<◌, ◌≤◌, ◌⊎◌, inl, inr, eqb, List, [], ◌∷◌, length, get_or, refl, sym, ap, ◌∙◌, arith, subst, ℤ, pos, ◌-ℤ◌}
 use Rattle.std.proofs.lemmas.Int.{ints}
-use Rattle.std.proofs.lemmas.Bool.{cases_eq, cases_lt}
-use Rattle.std.proofs.lemmas.List.{get_or-take}
+use Rattle.std.proofs.lemmas.Bool.{cases_eq}
 use Rattle.mcf_instance.specs.declared.arc.Arc.{Arc}
-use Rattle.mcf_instance.specs.Flow.{net}
-use Rattle.mcf_instance.specs.Network.{Network, IsArcNumber, IsNode, flow_sum, node_count, when}
-use Rattle.mcf_network.specs.Nets.{IsNet, IsNetArc}
+use Rattle.mcf_instance.specs.Network.{IsArcNumber, IsNode, flow_sum, node_count, when}
+use Rattle.mcf_network.specs.Nets.{IsNetArc}
 use Rattle.mcf_network.specs.Residual.{no_arc, arc_at}
 use Rattle.mcf_network.proofs.ArcLaws.{net_arc_at}
 use Rattle.mcf_network.proofs.StateLaws.{when-same, when-other, when-zero}
 use Rattle.mcf_links.proofs.Depths.{depth-lt}
-use Rattle.mcf_tree.specs.SpanningTree.{SpanningTree, IsSpanning, depth_of, label_of, parent_of, size_of}
-use Rattle.mcf_basis.specs.Artificial.{with_artificial}
-use Rattle.mcf_basis.specs.Bases.{HasTreeArc, IsAtBound as IsEdge, IsBasis}
+use Rattle.mcf_tree.specs.SpanningTree.{depth_of, label_of, parent_of, size_of}
+use Rattle.mcf_basis.specs.Bases.{IsBasis}
 use Rattle.mcf_basis.specs.Laws.{BasesAreTreeSolutions}
-use Rattle.mcf_basis.specs.Structures.{TreeStructure, IsInTree, Joins, carried, state_of}
+use Rattle.mcf_basis.specs.Structures.{TreeStructure, IsInTree, carried, state_of}
 use Rattle.mcf_basis.specs.Structures.Joins.{out_of, into}
-use Rattle.mcf_basis.specs.TreeSolutions.{IsAtBound, IsFreeCirculation, IsTreeSolution, at_arc}
+use Rattle.mcf_basis.specs.TreeSolutions.{IsFreeCirculation, at_arc}
 use Rattle.mcf_basis.proofs.Flows.{own_carried}
 use Rattle.mcf_basis.proofs.Labels.{own_arc, own_label}
 use Rattle.mcf_basis.proofs.TreePrices.{in_tree}

@@ -1,24 +1,22 @@
 -- How far from 0 the prices of a basis lie.
-use Rattle.std.proofs.Common.{◌≡◌, ◌≢◌, ℕ, zero, suc, ◌+◌, ◌-◌, ◌*◌, ◌^◌, ◌<◌, ◌≤◌, ◌⊎◌, inl, inr, max, List, [], ◌∷◌, length, map, sum, refl, ap, sym, ◌∙◌, arith, subst, get_or, ℤ, pos, neg_ℤ, ◌+ℤ◌, ◌-ℤ◌, ◌≤ℤ◌}
-use Rattle.std.specs.Prelude.{slice_index, unsigned_abs}
+use Rattle.std.proofs.Common.{◌≡◌, ℕ, zero, suc, ◌+◌, ◌-◌, ◌*◌, ◌^◌, ◌<◌, ◌≤◌, inl, inr, List, [], ◌∷◌, length, map, sum, ap, ◌∙◌, arith, subst, get_or, pos, ◌+ℤ◌, ◌-ℤ◌}
+use Rattle.std.specs.Prelude.{unsigned_abs}
 use Rattle.std.specs.List.{All}
 use Rattle.std.proofs.lemmas.Int.{ints}
 use Rattle.std.proofs.Math.Nat.{mul-le-mul, mul-le-mul_left}
 use Rattle.std.proofs.lemmas.Bool.{cases_eq}
 use Rattle.mcf_instance.specs.declared.arc.Arc.{Arc}
 use Rattle.mcf_instance.specs.Limits.{wide_limits, node_limit}
-use Rattle.mcf_instance.specs.Network.{Network, IsArcNumber, IsNode, node_count}
+use Rattle.mcf_instance.specs.Network.{Network, IsArcNumber, node_count}
 use Rattle.mcf_instance.specs.WellFormed.{IsUpTo, weight}
 use Rattle.mcf_instance.proofs.Bounds.{size_up_to, up_to_size}
 use Rattle.mcf_network.specs.Nets.{IsNet, IsNetArc, net_total_limit}
 use Rattle.mcf_network.specs.Residual.{no_arc, arc_at}
-use Rattle.mcf_network.proofs.ArcLaws.{net_arc_at}
-use Rattle.mcf_links.specs.Rooted.{IsRooted}
-use Rattle.mcf_tree.specs.SpanningTree.{SpanningTree, IsSpanning, depth_of, label_of, parent_of, size_of}
+use Rattle.mcf_tree.specs.SpanningTree.{depth_of, label_of, parent_of, size_of}
 use Rattle.mcf_links.proofs.Paths.{above_root, root_from_depth}
 use Rattle.mcf_links.proofs.Depths.{depth-lt}
-use Rattle.mcf_basis.specs.Artificial.{IsLabel, artificial_cost, with_artificial}
-use Rattle.mcf_basis.specs.Bases.{HasTreeArc, HasTreePrices, IsBasis}
+use Rattle.mcf_basis.specs.Artificial.{artificial_cost, with_artificial}
+use Rattle.mcf_basis.specs.Bases.{HasTreeArc, IsBasis}
 use Rattle.mcf_basis.specs.Ranks.{greatest_cost, price_reach}
 use Rattle.mcf_basis.specs.Structures.{TreeStructure, Joins, price_at, reduced_at}
 use Rattle.mcf_basis.specs.Structures.Joins.{out_of, into}

@@ -1,18 +1,14 @@
 -- What is read of a basis that is stored.
-use Rattle.std.proofs.Common.{◌≡◌, ◌≢◌, ℕ, ◌+◌, ◌-◌, ◌*◌, ◌^◌, ◌<◌, ◌≤◌, Bool, true, false, cond, eqb, leb, List, length, map, get_or, Option, Some, None, refl, ap, sym, ◌∙◌, arith, subst, ℤ, pos}
-use Rattle.std.specs.List.{find, range_with_len}
-use Rattle.std.proofs.lemmas.Int.{ints}
-use Rattle.std.proofs.lemmas.Bool.{cond-true, cond-false, ne_eqb, le-leb}
+use Rattle.std.proofs.Common.{◌≡◌, ℕ, ◌+◌, ◌-◌, ◌*◌, ◌^◌, ◌<◌, ◌≤◌, eqb, length, get_or, None, ap, ◌∙◌, arith, subst, pos}
+use Rattle.std.proofs.lemmas.Bool.{cond-true, ne_eqb, le-leb}
 use Rattle.std.proofs.lemmas.List.FromFn.{get_or-map-range_with_len}
-use Rattle.mcf_instance.specs.Network.{Network, IsArcNumber, IsNode, node_count}
+use Rattle.mcf_instance.specs.Network.{IsArcNumber, node_count}
 use Rattle.mcf_instance.specs.WellFormed.{IsUpTo}
-use Rattle.mcf_network.specs.Residual.{arc_at}
 use Rattle.mcf_tree.specs.SpanningTree.{label_of}
-use Rattle.mcf_basis.specs.Artificial.{IsLabel}
 use Rattle.mcf_basis.specs.Bases.{IsBasis}
 use Rattle.mcf_basis.specs.Layouts.{Layout, IsLaidOut, amount_by, amount_in, amount_outside, basis_in, node_below}
 use Rattle.mcf_basis.specs.Structures.{TreeStructure, IsInTree, carried, price_at}
-use Rattle.mcf_basis.proofs.LeastFound.{IsFoundAt, found_at, found_nowhere}
+use Rattle.mcf_basis.proofs.LeastFound.{found_nowhere}
 use Rattle.mcf_basis.proofs.TreePrices.{price_small}
 
 pub view_net : (l : Layout) (b : TreeStructure) → basis_in l ≡ b → l.net ≡ b.net

@@ -1,6 +1,6 @@
 -- Laws of bases.
-use Rattle.std.specs.Prelude.{◌≡◌, ℕ, ◌+◌, ◌<◌, ◌≤◌, ◌⊎◌, List, drop, length, ℤ, pos, ◌+ℤ◌, ◌-ℤ◌, ◌≤ℤ◌, ◌<ℤ◌}
-use Rattle.mcf_instance.specs.Flow.{IsFeasible, IsLeast, Shows}
+use Rattle.std.specs.Prelude.{◌≡◌, ℕ, ◌+◌, ◌<◌, List, drop, length, ℤ, pos, ◌+ℤ◌, ◌-ℤ◌, ◌≤ℤ◌, ◌<ℤ◌}
+use Rattle.mcf_instance.specs.Flow.{IsFeasible, Shows}
 use Rattle.mcf_instance.specs.Network.{IsNode, node_count}
 use Rattle.mcf_basis.specs.Bases.{IsBasis}
 use Rattle.mcf_basis.specs.Pivots.{PairFalls}

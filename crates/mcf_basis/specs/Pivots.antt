@@ -1,15 +1,14 @@
 -- One pivot of the network simplex, which keeps trees strongly feasible (Cunningham; Ahuja, Magnanti and Orlin, Network Flows,
 -- sections 11.5 and 11.6).
-use Rattle.std.specs.Prelude.{◌≡◌, ◌≢◌, ℕ, ◌+◌, ◌-◌, ◌≤◌, ◌⊎◌, Bool, true, List, ◌∷◌, ◌++◌, length, ℤ, pos, neg_ℤ, ◌+ℤ◌, ◌≤ℤ◌, ◌<ℤ◌, int_lt, if◌then◌else◌}
+use Rattle.std.specs.Prelude.{◌≡◌, ℕ, ◌≤◌, ◌⊎◌, List, ◌∷◌, ◌++◌, length, ℤ, pos, ◌+ℤ◌, ◌<ℤ◌, int_lt}
 use Rattle.std.specs.List.{All}
 use Rattle.mcf_instance.specs.Flow.{cost}
 use Rattle.mcf_instance.specs.Network.{IsArcNumber, IsNode, node_count, node_sum, when}
 use Rattle.mcf_network.specs.declared.rid.Rid.{Rid}
 use Rattle.mcf_network.specs.Residual.{arc_at, head, tail}
-use Rattle.mcf_network.specs.States.{Pseudoflow}
 use Rattle.mcf_network.specs.Walks.{pushed_along}
 use Rattle.mcf_tree.specs.Apex.{IsApex}
-use Rattle.mcf_tree.specs.SpanningTree.{SpanningTree, IsAbove, IsSwapped, depth_of, label_of}
+use Rattle.mcf_tree.specs.SpanningTree.{IsAbove, IsSwapped, depth_of, label_of}
 use Rattle.mcf_tree.specs.Subtree.{below_from, is_above}
 use Rattle.mcf_tree.specs.Written.{IsLocal}
 use Rattle.mcf_basis.specs.Artificial.{with_artificial}

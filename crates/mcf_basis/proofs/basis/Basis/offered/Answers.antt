@@ -1,11 +1,9 @@
-use Rattle.std.proofs.Common.{◌≡◌, ℕ, neg_ℤ, ◌-◌, ◌*◌, ◌^◌, ◌<◌, ◌≤◌, length, get_or, ap, sym, ◌∙◌, arith, ℤ, pos, subst, ◌<ℤ◌}
+use Rattle.std.proofs.Common.{◌≡◌, neg_ℤ, ◌-◌, ◌<◌, length, get_or, ap, arith, pos, ◌<ℤ◌}
 use Rattle.std.proofs.lemmas.Int.{ints}
-use Rattle.mcf_instance.specs.WellFormed.{IsUpTo}
 use Rattle.mcf_basis.specs.Layouts.{Layout}
-use Rattle.mcf_basis.specs.Structures.{price_at}
 use Rattle.mcf_basis.specs.Violations.{violation}
-use Rattle.mcf_basis.proofs.Offers.{IsReadOffer, offer_in_range, offer_read, offered}
-use Rattle.mcf_basis.proofs.Views.{IsReadPrice, read_price}
+use Rattle.mcf_basis.proofs.Offers.{offer_in_range, offer_read, offered}
+use Rattle.mcf_basis.proofs.Views.{read_price}
 use Rattle.mcf_basis.proofs.basis.Basis.offered.Goals as goal
 
 pub index-offer-requires : goal.index-offer-requires
@@ -95,6 +93,7 @@ returns-clause-eligible c =
     let second : c.get-3.result ≡ get_or c.self.inside.table.prices c.index-offer.result.now.to (pos 0) = c.get-3.ensures in
     let second_small = q.small in
     let first_value = p.value in
-    let second_value = q.value in
-    (λ neg. o.eligible (omega (arith, ints, neg, cost, first, first_small, second, second_small, first_value, second_value, c.from.ensures)),
-     λ el. (let neg : offered c.args.self.now c.index-offer.result.now <ℤ pos 0 = o.only el in omega (arith, ints, neg, cost, first, first_small, second, second_small, first_value, second_value, c.from.ensures)))
+    let second_value = q.value in (
+      λ neg. o.eligible (omega (arith, ints, neg, cost, first, first_small, second, second_small, first_value, second_value, c.from.ensures)),
+      λ el. (let neg : offered c.args.self.now c.index-offer.result.now <ℤ pos 0 = o.only el in omega (arith, ints, neg, cost, first, first_small, second, second_small, first_value, second_value, c.from.ensures)),
+    )

@@ -1,9 +1,7 @@
-use Rattle.std.proofs.Common.{◌≡◌, ℕ, ◌*◌, ◌^◌, get_or, ap, ◌∙◌, arith, ℤ, pos, subst}
+use Rattle.std.proofs.Common.{◌≡◌, get_or, ap, ◌∙◌, arith, pos}
 use Rattle.std.proofs.lemmas.Int.{ints}
-use Rattle.mcf_instance.specs.WellFormed.{IsUpTo}
 use Rattle.mcf_basis.specs.Layouts.{Layout}
-use Rattle.mcf_basis.specs.Structures.{price_at}
-use Rattle.mcf_basis.proofs.Views.{IsReadPrice, read_price}
+use Rattle.mcf_basis.proofs.Views.{read_price}
 use Rattle.mcf_basis.proofs.basis.Basis.price.Goals as goal
 
 pub get-requires-2 : goal.get-requires-2

@@ -1,11 +1,8 @@
-use Rattle.std.proofs.Common.{◌≡◌, ℕ, ◌*◌, ◌^◌, ◌≤◌, length, ap, sym, ◌∙◌, arith, ℤ, pos, subst}
+use Rattle.std.proofs.Common.{sym, arith, subst}
 use Rattle.std.proofs.lemmas.Int.{ints}
 use Rattle.mcf_instance.specs.Network.{Network, IsArcNumber, IsNode, node_count}
-use Rattle.mcf_instance.specs.WellFormed.{IsUpTo}
-use Rattle.mcf_network.specs.Residual.{arc_at}
 use Rattle.mcf_basis.specs.Layouts.{Layout}
-use Rattle.mcf_basis.specs.Structures.{price_at}
-use Rattle.mcf_basis.proofs.Offers.{IsReadReduced, reduced_read}
+use Rattle.mcf_basis.proofs.Offers.{reduced_read}
 use Rattle.mcf_basis.proofs.Views.{view_net, view_basis}
 use Rattle.mcf_basis.proofs.basis.Basis.reduced.Goals as goal
 

@@ -1,0 +1,11 @@
+pub use Rattle.mcf_basis.specs.Bases
+pub use Rattle.mcf_basis.specs.Pivots
+pub use Rattle.mcf_basis.specs.Ranks
+pub use Rattle.mcf_basis.specs.Starts
+pub use Rattle.mcf_basis.specs.Structures
+pub use Rattle.mcf_basis.specs.Violations
+pub use Rattle.mcf_network.specs.States
+pub use Rattle.mcf_prices.specs.Outcomes
+pub mod Picking
+pub mod Blocks
+pub mod Runs
