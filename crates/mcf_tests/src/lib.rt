@@ -19,6 +19,8 @@ mod networks;
 #[cfg(test)]
 mod prices;
 #[cfg(test)]
+mod raising;
+#[cfg(test)]
 mod running;
 #[cfg(test)]
 mod sets;
