@@ -23,6 +23,8 @@ mod plain;
 #[cfg(test)]
 mod prices;
 #[cfg(test)]
+mod raising;
+#[cfg(test)]
 mod running;
 #[cfg(test)]
 mod scaling;

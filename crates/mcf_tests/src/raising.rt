@@ -1,0 +1,70 @@
+//! Greatest prices from known ones, and the heap by which they are found.
+ghost use Rattle.std.specs.Prelude.{◌≡◌};
+ghost use Rattle.std.specs.List.{All};
+ghost use Rattle.mcf_instance.specs.Flow.{AreGreatestPrices};
+ghost use Rattle.mcf_instance.specs.Network.{node_count};
+ghost use Rattle.mcf_instance.specs.WellFormed.{IsUpTo};
+ghost use Rattle.mcf_prices.specs.Recovering.{price_limit};
+
+use mcf_instance::read;
+use mcf_network::{Net, State};
+use mcf_prices::{Heap, Pricer, Recovered, recover, shown_prices_are_near};
+use mcf_text::NodeId;
+use std::alloc::Global;
+use std::test::Fail;
+
+fn net_of(alloc: Global, text: &[u8]) -> Result<Net, Fail> {
+    let instance = read(alloc, text)?.ok().ok_or("a faulty text")?;
+    let net = Net::of(alloc, &instance)?;
+    Ok(net)
+}
+
+// Raises prices that show a state, which are its greatest already.
+fn raise_shown(pricer: &mut Pricer, state: &State<'_>, prices: &mut [i128])
+    requires room { pricer.old ≡ node_count state.now.net }
+    requires greatest { AreGreatestPrices state.now.net prices.old state.now.amounts }
+    requires small { All (IsUpTo price_limit) prices.old }
+{
+    let _net = state.net();
+    shown_prices_are_near();
+    pricer.raise(state, 1, 0, prices);
+}
+
+const CHAIN: &[u8] = b"p min 3 3\na 1 2 0 5 -2\na 2 3 0 5 -3\na 1 3 0 5 4\n";
+
+#[test]
+fn raises_to_the_greatest_prices(rt: HostRuntime) -> Result<(), Fail> {
+    let alloc = rt.alloc();
+    let net = net_of(alloc, CHAIN)?;
+    let state = State::zero(alloc, &net)?;
+    let mut pricer = Pricer::start(alloc, &net)?;
+    let mut prices = match recover(alloc, &state)? {
+        Recovered::Prices(prices) => prices,
+        Recovered::Cycle(_) => return Err("a cycle".into()),
+    };
+    raise_shown(&mut pricer, &state, &mut prices);
+    assert_eq!(rt; prices.as_slice(), [-5, -3, 0].as_slice());
+    Ok(())
+}
+
+#[test]
+fn takes_nodes_out_by_key_and_number(rt: HostRuntime) -> Result<(), Fail> {
+    let alloc = rt.alloc();
+    let net = net_of(alloc, CHAIN)?;
+    assert_eq!(rt; net.node_count(), 3);
+    let mut heap = Heap::new(alloc, &net)?;
+    heap.lower(NodeId::new(2), 5);
+    heap.lower(NodeId::new(1), 5);
+    heap.lower(NodeId::new(3), 9);
+    assert!(rt; heap.waits(NodeId::new(1)));
+    assert_eq!(rt; heap.first().map(|v| v.get()), Some(1));
+    heap.lower(NodeId::new(3), 4);
+    assert_eq!(rt; heap.pop().map(|v| v.get()), Some(3));
+    assert_eq!(rt; heap.key(NodeId::new(3)), 4);
+    heap.set_key(NodeId::new(3), 7);
+    assert_eq!(rt; heap.key(NodeId::new(3)), 7);
+    assert_eq!(rt; heap.pop().map(|v| v.get()), Some(1));
+    heap.clear();
+    assert_eq!(rt; heap.pop().map(|v| v.get()), None);
+    Ok(())
+}
