@@ -14,7 +14,7 @@ use Rattle.mcf_basis.specs.Bases.{IsBasis}
 use Rattle.mcf_basis.specs.Laws.{BasesAreTreeSolutions}
 use Rattle.mcf_basis.specs.Structures.{TreeStructure, IsInTree, carried, state_of}
 use Rattle.mcf_basis.specs.Structures.Joins.{out_of, into}
-use Rattle.mcf_basis.specs.TreeSolutions.{IsFreeCirculation, at_arc}
+use Rattle.mcf_network.specs.TreeSolutions.{IsFreeCirculation, at_arc}
 use Rattle.mcf_basis.proofs.Flows.{own_carried}
 use Rattle.mcf_basis.proofs.Labels.{own_arc, own_label}
 use Rattle.mcf_basis.proofs.TreePrices.{in_tree}

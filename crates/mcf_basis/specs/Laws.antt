@@ -7,7 +7,7 @@ use Rattle.mcf_basis.specs.Pivots.{PairFalls}
 use Rattle.mcf_basis.specs.Ranks.{IsFloor, pivot_bound, rank_above, rank_of}
 use Rattle.mcf_basis.specs.Pivots.{full_cost}
 use Rattle.mcf_basis.specs.Structures.{TreeStructure, carried, state_of}
-use Rattle.mcf_basis.specs.TreeSolutions.{IsTreeSolution}
+use Rattle.mcf_network.specs.TreeSolutions.{IsTreeSolution}
 use Rattle.mcf_basis.specs.Violations.{HasNoEligible}
 
 -- no artificial arc carries anything
@@ -38,8 +38,3 @@ BasesAreTreeSolutions = (b : TreeStructure) → IsBasis b → IsTreeSolution b.n
 abbrev pub LastBasesAreShown : Type 0
 LastBasesAreShown =
     (b : TreeStructure) → IsBasis b → HasNoEligible b → HasNoArtificial b → IsFeasible b.net (state_of b).amounts × Shows b.net.arcs (drop 1 b.prices) (state_of b).amounts
-
--- where no arc is eligible and some flow of the net is feasible, no artificial arc carries anything
-abbrev pub LastBasesAreFeasible : Type 0
-LastBasesAreFeasible =
-    (b : TreeStructure) (flow : List ℤ) → IsBasis b → HasNoEligible b → IsFeasible b.net flow → HasNoArtificial b

@@ -3,6 +3,7 @@ pub use Rattle.mcf_instance.specs.Network
 pub use Rattle.mcf_network.specs.Nets
 pub use Rattle.mcf_network.specs.Residual
 pub use Rattle.mcf_network.specs.States
+pub use Rattle.mcf_network.specs.TreeSolutions
 pub use Rattle.mcf_network.specs.Walks
 pub use Rattle.mcf_tree.specs.SpanningTree
 pub mod Artificial
@@ -13,5 +14,4 @@ pub mod Starts
 pub mod Violations
 pub mod Ranks
 pub mod Layouts
-pub mod TreeSolutions
 pub mod Laws

@@ -4,7 +4,7 @@ use Rattle.std.proofs.Common.{inr}
 use Rattle.std.proofs.lemmas.Int.{ints}
 use Rattle.std.proofs.lemmas.List.{get_or_default}
 use Rattle.std.specs.Prelude.{unsigned_abs}
-use Rattle.mcf_instance.specs.Flow.{AreNotAboveZero}
+use Rattle.mcf_instance.specs.Flow.{AreGreatestPrices, AreNotAboveZero}
 use Rattle.mcf_instance.specs.Network.{IsNode, at_node, node_count}
 use Rattle.mcf_instance.proofs.IntLaws.{neg-mul, add-mul, one-mul}
 use Rattle.mcf_network.specs.declared.rid.Rid.{Rid}
@@ -20,7 +20,7 @@ use Rattle.mcf_prices.specs.Outcomes.{AreStatePrices}
 use Rattle.mcf_prices.specs.Raisings.{AreRounded, IsLength, IsRaising, IsRoundedDown, Settled, label}
 use Rattle.mcf_prices.proofs.LabelLengths.{cancelled, rounded_above, rounded_price, rounded_respects}
 use Rattle.mcf_prices.proofs.RaisingSteps.{none_contained}
-use Rattle.mcf_prices.proofs.Rounding.{small_prices}
+use Rattle.mcf_prices.proofs.PriceFloors.{greatest_are_small}
 use Rattle.mcf_prices.proofs.Showing.{shows_from_respects}
 
 -- the opposite of a quotient that was rounded up
@@ -82,25 +82,16 @@ module _ (s : Pseudoflow) (scale slack : ℕ) (y : List ℤ) (flow : IsPseudoflo
         | inr has ↦ absurd (none_contained _ has)
       ]
 
-  floor : AreAtLeast (cost_limit * node_count s.net) z
-  floor v n =
-      let here : IsNode (node_count s.net) v = (n.0, omega (arith, n, count)) in
-      let w = walk v here in
-      let same = rounded_price scale slack (node_count s.net) (label y h v) (at_node z v) near.slack_small w (round v here) in
-      let cheap = w.price_low in
-      let few = w.few in
-      omega (arith, ints, same, cheap, few)
+  raised_greatest : AreGreatestPrices s.net z s.amounts
+  raised_greatest =
+      record {
+        low = record {
+          one_per_node = count;
+          not_above_zero = low_prices;
+          show_flow = shows_from_respects s z flow respected;
+        };
+        greatest = λ others low v n. rounded_above scale (label y h v) (at_node z v) (at_node others v) (search.above others low v n) (round v n);
+      }
 
   pub raised : AreStatePrices s.net s z
-  raised =
-      record {
-        greatest = record {
-          low = record {
-            one_per_node = count;
-            not_above_zero = low_prices;
-            show_flow = shows_from_respects s z flow respected;
-          };
-          greatest = λ others low v n. rounded_above scale (label y h v) (at_node z v) (at_node others v) (search.above others low v n) (round v n);
-        };
-        small = small_prices z (cost_limit * node_count s.net) (let few = flow.of_net.nodes in omega (arith, few)) floor low_prices;
-      }
+  raised = record { greatest = raised_greatest; small = greatest_are_small s z flow raised_greatest }
