@@ -105,6 +105,7 @@ if [ -x bin/mcf ]; then
     answers "$long.ans" /dev/null solve "$long.min"
     answers "$long.ans" "$long.min" solve
     answers $pair.ans /dev/null solve --engine cancel $pair.min
+    answers $pair.ans /dev/null solve --engine=scaling $pair.min
     tells 'mcf: cannot open the file' bin/mcf solve examples/none.min
     tells "error: unexpected argument '$pair.min' found
 

@@ -65,7 +65,9 @@ fn solve<'a>(alloc: Global) -> Result<Command<'a>, AllocError>
         .value_name("ENGINE")
         .value_parser(ENGINES.as_slice())
         .default_value("auto")
-        .help("What solves the instance: auto chooses, scaling is cost scaling, cancel is slow and short");
+        .help(
+            "What solves the instance: auto chooses, scaling is cost scaling, cancel is slow and short",
+        );
     let file = Arg::new(alloc, "file").value_name("FILE").help(
         "The file of the instance; without one it is read from standard input",
     );

@@ -91,7 +91,7 @@ fn has_part(text: &[u8], part: &str) -> bool {
     }
 }
 
-static ASKED: [(Words, EngineChoice, Option<&str>); 3] = [
+static ASKED: [(Words, EngineChoice, Option<&str>); 4] = [
     (&["mcf", "solve"], EngineChoice::Auto, None),
     (
         &["mcf", "solve", "--engine", "cancel", "a.min"],
@@ -102,6 +102,11 @@ static ASKED: [(Words, EngineChoice, Option<&str>); 3] = [
         &["mcf", "solve", "b.min", "--engine=auto"],
         EngineChoice::Auto,
         Some("b.min"),
+    ),
+    (
+        &["mcf", "solve", "--engine=scaling"],
+        EngineChoice::Scaling,
+        None,
     ),
 ];
 

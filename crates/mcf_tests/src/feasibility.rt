@@ -4,7 +4,7 @@ ghost use Rattle.mcf_instance.specs.Network.{node_count};
 
 use crate::instances::instance_of;
 use crate::networks::net_of;
-use mcf_feas::{Feas, answers_are_exact, blocked_has_no_state, feasible};
+use mcf_feas::{Feas, answers_are_exact, blocked_has_no_state, feasible, unbalanced};
 use mcf_instance::{Instance, Side};
 use mcf_network::{Net, NodeSet, State, restore};
 use mcf_text::{ArcId, NoMemory, NodeId};
@@ -96,6 +96,33 @@ fn is_blocked(alloc: Global, text: &[u8], side: Side, nodes: &[u32]) -> Result<b
 fn infeasible_nets_are_blocked(rt: HostRuntime) -> Result<(), Fail> {
     for (text, side, nodes) in BLOCKED.iter() {
         assert!(rt; is_blocked(rt.alloc(), text, *side, nodes)?);
+    }
+    Ok(())
+}
+
+// Whether all nodes of the net of a text block by this side; where no side is given, whether its supplies add up to 0.
+fn is_out_of_balance(alloc: Global, text: &[u8], side: Option<Side>) -> Result<bool, NoMemory> {
+    let Some(net) = net_of(alloc, text)? else {
+        return Ok(false);
+    };
+    match unbalanced(alloc, &net)? {
+        Some((set, by)) => Ok(set.len() == net.node_count() && side == Some(by)),
+        None => Ok(side.is_none()),
+    }
+}
+
+// A text, and the side by which all nodes of its net block, if the supplies don't add up to 0.
+static BALANCES: [(&[u8], Option<Side>); 4] = [
+    (b"p min 2 1\nn 1 2\na 1 2 0 5 1", Some(Side::Send)),
+    (b"p min 2 1\nn 2 -2\na 1 2 0 5 1", Some(Side::Take)),
+    (b"p min 2 1\nn 1 2\nn 2 -2\na 1 2 0 1 1", None),
+    (b"p min 0 0", None),
+];
+
+#[test]
+fn supplies_out_of_balance_are_told(rt: HostRuntime) -> Result<(), Fail> {
+    for (text, side) in &BALANCES {
+        assert!(rt; is_out_of_balance(rt.alloc(), text, *side)?);
     }
     Ok(())
 }

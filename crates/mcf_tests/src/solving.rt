@@ -9,7 +9,11 @@ use std::alloc::Global;
 use std::test::Fail;
 
 // All engines.
-static ENGINES: [EngineChoice; 2] = [EngineChoice::Auto, EngineChoice::Cancel];
+static ENGINES: [EngineChoice; 3] = [
+    EngineChoice::Auto,
+    EngineChoice::Cancel,
+    EngineChoice::Scaling,
+];
 
 // An instance, its answer, and what kind of answer that is.
 struct Worked {
