@@ -1,14 +1,13 @@
 //! Greatest prices from known ones, and the heap by which they are found.
 ghost use Rattle.std.specs.Prelude.{◌≡◌};
-ghost use Rattle.std.specs.List.{All};
 ghost use Rattle.mcf_instance.specs.Flow.{AreGreatestPrices};
 ghost use Rattle.mcf_instance.specs.Network.{node_count};
-ghost use Rattle.mcf_instance.specs.WellFormed.{IsUpTo};
-ghost use Rattle.mcf_prices.specs.Recovering.{price_limit};
 
 use mcf_instance::read;
 use mcf_network::{Net, State};
-use mcf_prices::{Heap, Pricer, Recovered, recover, shown_prices_are_near};
+use mcf_prices::{
+    Heap, Pricer, Recovered, greatest_prices_are_small, recover, shown_prices_are_near,
+};
 use mcf_text::NodeId;
 use std::alloc::Global;
 use std::test::Fail;
@@ -23,9 +22,9 @@ fn net_of(alloc: Global, text: &[u8]) -> Result<Net, Fail> {
 fn raise_shown(pricer: &mut Pricer, state: &State<'_>, prices: &mut [i128])
     requires room { pricer.old ≡ node_count state.now.net }
     requires greatest { AreGreatestPrices state.now.net prices.old state.now.amounts }
-    requires small { All (IsUpTo price_limit) prices.old }
 {
     let _net = state.net();
+    greatest_prices_are_small();
     shown_prices_are_near();
     pricer.raise(state, 1, 0, prices);
 }

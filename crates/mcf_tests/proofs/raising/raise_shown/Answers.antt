@@ -4,4 +4,8 @@ use Rattle.mcf_tests.proofs.raising.raise_shown.Goals as goal
 
 pub raise-requires-clause-near : goal.raise-requires-clause-near
 raise-requires-clause-near c =
-    c.shown_prices_are_near.ensures c.args.state.now c.args.prices.now c.net-net.ensures.valid c.requires.greatest.low.one_per_node (λ i d l. let h = c.requires.small i d l in (omega (arith, ints, h), omega (arith, ints, h))) c.requires.greatest.low.show_flow
+    let greatest = c.requires.greatest in
+    let valid = c.net-net.ensures.valid in
+    let small = (c.greatest_prices_are_small.ensures c.args.state.now c.args.prices.now valid greatest).1 in
+    c.shown_prices_are_near.ensures c.args.state.now c.args.prices.now valid greatest.low.one_per_node
+    (λ i d l. let h = small i d l in (omega (arith, ints, h), omega (arith, ints, h))) greatest.low.show_flow
