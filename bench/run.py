@@ -39,9 +39,9 @@ NODES = 300_000
 ARCS = 1_000_000
 # as many nodes as give an instance at rest a million arcs
 RESTING = 125_000
-# the sizes of each family, as powers of 2; one run of `feasible` on netgen of 2^16 nodes takes half a minute
+# the sizes of each family, as powers of 2
 RECOVERED = {"netgen": (10, 12, 14, 16), "gridgen": (10, 12, 14, 16), "transp": (8, 9, 10)}
-SEARCHED = {"netgen": (10, 12, 14), "gridgen": (10, 12, 14, 16), "transp": (8, 9, 10)}
+SEARCHED = {"netgen": (10, 12, 14, 16), "gridgen": (10, 12, 14, 16), "transp": (8, 9, 10)}
 # the random swaps that are tried in the tree of so many nodes
 SWAPPED = {1_000: 300_000, 10_000: 300_000, 100_000: 300_000, 1_000_000: 1_000_000}
 # the most bytes an arc that a net may take
