@@ -277,12 +277,14 @@ fn words_that_are_refused(rt: HostRuntime) -> Result<(), Fail> {
 }
 
 // Words that ask for help, and a part of it.
-static HELP: [(Words, &str); 6] = [
+static HELP: [(Words, &str); 8] = [
     (&["mcf", "--help"], "solve"),
     (&["mcf", "-h"], "solve"),
     (&["mcf", "help"], "solve"),
     (&["mcf", "solve", "--help"], "--engine <ENGINE>"),
     (&["mcf", "help", "solve"], "--engine <ENGINE>"),
+    (&["mcf", "solve", "--help"], "auto, cancel, scaling"),
+    (&["mcf", "solve", "--help"], "[default: auto]"),
     (&["mcf", "solve", "a", "--help"], "[FILE]"),
 ];
 
