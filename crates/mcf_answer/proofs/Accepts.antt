@@ -8,7 +8,7 @@ use Rattle.std.proofs.lemmas.Bool.{eq-eqb, lt-ltb}
 use Rattle.std.proofs.lemmas.List.{get_or_append_left, get_or-append_right, length-append}
 use Rattle.std.proofs.lemmas.List.Elements.{All-head, All-tail}
 use Rattle.std.proofs.lemmas.Option.{slice_get-get_or}
-use Rattle.mcf_answer.specs.Draft.{after, and_then, answer_of_draft, opened, priced, sent_or_priced, set_after, solution_after, with_member, with_price, with_said}
+use Rattle.mcf_answer.specs.Private.Draft.{after, and_then, answer_of_draft, opened, priced, sent_or_priced, set_after, solution_after, with_member, with_price, with_said}
 use Rattle.mcf_answer.specs.Fits.{is_above_last}
 use Rattle.mcf_answer.specs.Parsing.{parsing}
 use Rattle.mcf_answer.specs.Ranges.{IsAmount, IsNodeInRange}

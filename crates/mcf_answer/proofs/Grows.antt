@@ -7,9 +7,9 @@ use Rattle.std.proofs.lemmas.Bool.{cases_eq, ltb-true}
 use Rattle.std.proofs.lemmas.List.{get_or_append_left, get_or_push, length-append}
 use Rattle.std.proofs.lemmas.List.Elements.{All-push}
 use Rattle.std.proofs.lemmas.Option.{slice_get-get_or}
-use Rattle.mcf_answer.specs.Draft.{with_member, with_price, with_sent}
+use Rattle.mcf_answer.specs.Private.Draft.{with_member, with_price, with_sent}
 use Rattle.mcf_answer.specs.Fits.{is_above_last}
-use Rattle.mcf_answer.specs.PartialSet.{IsPartialSet, PartialSet}
+use Rattle.mcf_answer.specs.Private.PartialSet.{IsPartialSet, PartialSet}
 use Rattle.mcf_answer.specs.Ranges.{IsAmount, IsNodeInRange}
 use Rattle.mcf_answer.specs.Said.{member_said, sent_said}
 use Rattle.mcf_answer.specs.Solution.{IsSent, IsSolution, Solution}

@@ -1,6 +1,6 @@
 -- The state of the parser that some lines make, and the answer that it gives at the end.
 use Rattle.std.specs.Prelude.{ℕ, List, [], ◌∷◌, map, Option, Some, None, Result, Ok, Err}
-use Rattle.mcf_answer.specs.Draft.{answer_of_draft}
+use Rattle.mcf_answer.specs.Private.Draft.{answer_of_draft}
 use Rattle.mcf_answer.specs.Fits.{member_lines, price_lines, sent_lines}
 use Rattle.mcf_answer.specs.Parsing.{no_refusal}
 use Rattle.mcf_answer.specs.Said.{Opening, OpensFlow, OpensSet, OpensRefusal, opening_said}

@@ -6,7 +6,7 @@ use Rattle.std.specs.Option.{option_map_or, option_or}
 use Rattle.std.proofs.lemmas.List.{length-map, map-append, map-id}
 use Rattle.std.proofs.lemmas.List.Elements.{filter_map-append}
 use Rattle.std.proofs.lemmas.Simd.{map-map}
-use Rattle.mcf_answer.specs.Draft.{after, and_then, answer_of_draft, opened, run, sent_or_priced, set_after, solution_after, with_price, with_said, with_sent}
+use Rattle.mcf_answer.specs.Private.Draft.{after, and_then, answer_of_draft, opened, run, sent_or_priced, set_after, solution_after, with_price, with_said, with_sent}
 use Rattle.mcf_answer.specs.Fits.{as_misfit, fits, fits_after, has_all, is_above_last, is_complete, is_node_above, misfit, misfit_of_lines, misfits, member_lines, price_lines, sent_lines}
 use Rattle.mcf_answer.specs.Parsing.{answer_of_lines, answer_opened, parsing, parsing_of}
 use Rattle.mcf_answer.specs.Said.{Opening, OpensFlow, OpensSet, OpensRefusal, member_said, opening_said, price_said, sent_said}

@@ -10,10 +10,10 @@ use Rattle.std.proofs.lemmas.List.{map_push, nil_from_length}
 use Rattle.std.proofs.lemmas.List.Elements.{All-nil}
 use Rattle.std.proofs.lemmas.Option.{cond_some}
 use Rattle.mcf_answer.specs.BlockingSet.{IsBlockingSet}
-use Rattle.mcf_answer.specs.Draft.{after, and_then, answer_of_draft, opened, sent_or_priced, set_after, solution_after, with_member, with_price, with_said, with_sent}
+use Rattle.mcf_answer.specs.Private.Draft.{after, and_then, answer_of_draft, opened, sent_or_priced, set_after, solution_after, with_member, with_price, with_said, with_sent}
 use Rattle.mcf_answer.specs.Fits.{is_above_last}
 use Rattle.mcf_answer.specs.Parsing.{parsing}
-use Rattle.mcf_answer.specs.PartialSet.{IsPartialSet, PartialSet}
+use Rattle.mcf_answer.specs.Private.PartialSet.{IsPartialSet, PartialSet}
 use Rattle.mcf_answer.specs.Ranges.{IsAmount, IsNodeInRange}
 use Rattle.mcf_answer.specs.Said.{Opening, OpensFlow, OpensSet, OpensRefusal, cost_said, member_said, opening_said, opens_set, price_said, refusal_said, sent_said, set_said}
 use Rattle.mcf_answer.specs.Solution.{IsSent, IsSolution, Solution}

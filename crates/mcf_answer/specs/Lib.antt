@@ -1,12 +1,11 @@
 pub mod BlockingSet
-pub mod Draft
 pub mod Fits
 pub mod Laws
 pub mod Parsing
-pub mod PartialSet
 pub mod Ranges
 pub mod Said
 pub mod Solution
 pub mod Spelling
 pub mod Token
 pub mod Written
+pub mod Private

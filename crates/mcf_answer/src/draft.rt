@@ -16,7 +16,7 @@ pub(crate) struct SetDraft {
 }
 
 impl Model for SetDraft {
-    ghost use Rattle.mcf_answer.specs.PartialSet.{IsPartialSet, PartialSet};
+    ghost use Rattle.mcf_answer.specs.Private.PartialSet.{IsPartialSet, PartialSet};
 
     ghost Value = { PartialSet };
 
@@ -40,7 +40,7 @@ pub(crate) enum Draft {
 
 impl FlowAnswer {
     ghost use Rattle.std.specs.Prelude.{◌≡◌, IfOk, IsTrue, OnErr, Some, None, if◌then◌else◌};
-    ghost use Rattle.mcf_answer.specs.Draft.{priced, solution_after};
+    ghost use Rattle.mcf_answer.specs.Private.Draft.{priced, solution_after};
     ghost use Rattle.mcf_answer.specs.Parsing.{says_item};
     ghost use Rattle.mcf_answer.specs.Ranges.{IsAmount, IsNodeInRange};
     ghost use Rattle.mcf_answer.specs.Token.{tokens_of};
@@ -60,7 +60,7 @@ impl FlowAnswer {
     }
 
     // Takes a line in, if it fits.
-    #[tactic(auto, unfolding(crate::specs::Draft::solution_after))]
+    #[tactic(auto, unfolding(crate::specs::Private::Draft::solution_after))]
     fn take(&mut self, line: &[u8]) -> Result<bool, NoMemory>
         ensures value { IfOk result (λ fit. (if fit then Some self.new else None) ≡ solution_after self.old (tokens_of (fields_of line.now))) }
         ensures wants { OnErr result (IsTrue (says_item (tokens_of (fields_of line.now)))) }
@@ -81,13 +81,13 @@ impl FlowAnswer {
 
 impl SetDraft {
     ghost use Rattle.std.specs.Prelude.{◌≡◌, IfOk, IsTrue, OnErr, Some, None, if◌then◌else◌};
-    ghost use Rattle.mcf_answer.specs.Draft.{set_after};
+    ghost use Rattle.mcf_answer.specs.Private.Draft.{set_after};
     ghost use Rattle.mcf_answer.specs.Parsing.{says_item};
     ghost use Rattle.mcf_answer.specs.Token.{tokens_of};
     ghost use Rattle.mcf_text.specs.Fields.{fields_of};
 
     // Takes a line in, if it fits.
-    #[tactic(auto, unfolding(crate::specs::Draft::set_after))]
+    #[tactic(auto, unfolding(crate::specs::Private::Draft::set_after))]
     fn take(&mut self, line: &[u8]) -> Result<bool, NoMemory>
         ensures value { IfOk result (λ fit. (if fit then Some self.new else None) ≡ set_after self.old (tokens_of (fields_of line.now))) }
         ensures wants { OnErr result (IsTrue (says_item (tokens_of (fields_of line.now)))) }
@@ -106,7 +106,7 @@ impl SetDraft {
 
 impl Draft {
     ghost use Rattle.std.specs.Prelude.{◌≡◌, IfOk, IsTrue, OnErr, Some, None, if◌then◌else◌, option_map};
-    ghost use Rattle.mcf_answer.specs.Draft.{after, answer_of_draft, opened};
+    ghost use Rattle.mcf_answer.specs.Private.Draft.{after, answer_of_draft, opened};
     ghost use Rattle.mcf_answer.specs.Parsing.{says_item};
     ghost use Rattle.mcf_answer.specs.Said.{opening_said};
     ghost use Rattle.mcf_answer.specs.Token.{tokens_of};
@@ -136,7 +136,7 @@ impl Draft {
     }
 
     /// Takes a kept line in, if it fits.
-    #[tactic(auto, unfolding(crate::specs::Draft::after))]
+    #[tactic(auto, unfolding(crate::specs::Private::Draft::after))]
     pub(crate) fn take(&mut self, alloc: Global, line: &[u8]) -> Result<bool, NoMemory>
         ensures value { IfOk result (λ fit. (if fit then Some self.new else None) ≡ after self.old (tokens_of (fields_of line.now))) }
         ensures wants { OnErr result (IsTrue (says_item (tokens_of (fields_of line.now)))) }
@@ -156,7 +156,7 @@ impl Draft {
     }
 
     /// The answer, if no line is missing.
-    #[tactic(auto, unfolding(crate::specs::Draft::answer_of_draft))]
+    #[tactic(auto, unfolding(crate::specs::Private::Draft::answer_of_draft))]
     pub(crate) fn finish(self) -> Option<Answer>
         ensures { result ≡ answer_of_draft self }
     {

@@ -1,6 +1,6 @@
 //! Answers from text.
 ghost use Rattle.std.specs.Prelude.{◌≡◌, ◌↔◌, length, IfErr, IfOk, IsTrue, Ok, OnErr, Some};
-ghost use Rattle.mcf_answer.specs.Draft.{run};
+ghost use Rattle.mcf_answer.specs.Private.Draft.{run};
 ghost use Rattle.mcf_answer.specs.Fits.{misfit};
 ghost use Rattle.mcf_answer.specs.Parsing.{has_item_line, parsing};
 ghost use Rattle.mcf_answer.specs.Spelling.{Spells};

@@ -11,9 +11,9 @@ use Rattle.mcf_network.specs.States.{Pseudoflow}
 use Rattle.mcf_network.proofs.Marks.{count_small, counted_new}
 use Rattle.mcf_assign.specs.declared.search.Target.{Target}
 use Rattle.mcf_assign.specs.Forests.{IsForest, IsTightArc}
-use Rattle.mcf_assign.specs.Keeping.{IsEnded}
+use Rattle.mcf_assign.specs.Private.Keeping.{IsEnded}
 use Rattle.mcf_assign.specs.Matchings.{AreMatchingPrices, IsColumn, IsMatchedColumn, IsPartialMatching, column_of, row_of}
-use Rattle.mcf_assign.specs.Searches.{AreRaised, HasEntries, IsBestUpTo, Search, Settled, Waits, dist_at, link_at, reach_of}
+use Rattle.mcf_assign.specs.Private.Searches.{AreRaised, HasEntries, IsBestUpTo, Search, Settled, Waits, dist_at, link_at, reach_of}
 use Rattle.mcf_assign.proofs.Nearest.{not_true}
 use Rattle.mcf_assign.proofs.PairLaws.{column_is, row_is}
 use Rattle.mcf_assign.proofs.Raised.{link_tight, raised_ok, target_tight}

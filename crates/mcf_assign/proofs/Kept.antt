@@ -25,11 +25,11 @@ use Rattle.mcf_assign.specs.declared.search.Tables.{Tables}
 use Rattle.mcf_assign.specs.declared.search.Target.{Target}
 use Rattle.mcf_assign.specs.Extending.{Assigned, IsGrown, IsMatched, IsSettledList, IsShownMatching, IsStopped}
 use Rattle.mcf_assign.specs.Forests.{IsChangedWithin, IsOrder, IsReachable}
-use Rattle.mcf_assign.specs.Heaps.{IsHeap}
-use Rattle.mcf_assign.specs.Keeping.{AreFirstPrices, AreNearZero, FreeRowsAreFirst, IsEnded, IsIdle, IsKept, first_price}
+use Rattle.mcf_assign.specs.Private.Heaps.{IsHeap}
+use Rattle.mcf_assign.specs.Private.Keeping.{AreFirstPrices, AreNearZero, FreeRowsAreFirst, IsEnded, IsIdle, IsKept, first_price}
 use Rattle.mcf_assign.specs.Matchings.{AreMatchingPrices, AreMates, IsColumn, IsMatchedColumn, IsMatchedRow, IsPair, IsPartialMatching, IsRow, column_of, reduced, row_of}
-use Rattle.mcf_assign.specs.Searches.{AreRaised, HasEntries, Search, Settled, dist_at, reach_of, search_of}
-use Rattle.mcf_assign.specs.Turning.{IsExtended}
+use Rattle.mcf_assign.specs.Private.Searches.{AreRaised, HasEntries, Search, Settled, dist_at, reach_of, search_of}
+use Rattle.mcf_assign.specs.Private.Turning.{IsExtended}
 use Rattle.mcf_assign.proofs.Beginning.{over_stuck}
 use Rattle.mcf_assign.proofs.Found.{found_arc, found_column, found_free, found_new, found_prices}
 use Rattle.mcf_assign.proofs.LeastMatchings.{least_matching}

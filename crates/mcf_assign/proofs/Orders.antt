@@ -15,7 +15,7 @@ use Rattle.mcf_network.proofs.Marks.{count_none, counted_new, marked_new, marked
 use Rattle.mcf_network.proofs.StateLaws.{rid}
 use Rattle.mcf_assign.specs.Forests.{IsClosed, IsForest, IsOrder, IsReachable, place}
 use Rattle.mcf_assign.specs.Matchings.{IsColumn, IsMatchedColumn, IsMatchedRow, IsPair, IsPartialMatching, IsRow, column_of, row_of}
-use Rattle.mcf_assign.specs.Searches.{IsSearch, IsSettling, Search, Settled, Waits, link_at, settled_pair}
+use Rattle.mcf_assign.specs.Private.Searches.{IsSearch, IsSettling, Search, Settled, Waits, link_at, settled_pair}
 use Rattle.mcf_assign.proofs.Nearest.{not_true}
 use Rattle.mcf_assign.proofs.PairLaws.{column_is, pairing_at, row_column, row_is}
 

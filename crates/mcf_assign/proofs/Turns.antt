@@ -7,8 +7,8 @@ use Rattle.mcf_network.specs.States.{Pseudoflow, amount_at, pushed}
 use Rattle.mcf_network.proofs.StateLaws.{rid}
 use Rattle.mcf_assign.specs.Forests.{IsChangedWithin, IsForest, IsTightArc, IsTurning, place}
 use Rattle.mcf_assign.specs.Matchings.{AreMates, IsColumn, IsMatchedColumn, IsMatchedRow, IsPair, IsPartialMatching, IsRow, column_of, reduced, row_of}
-use Rattle.mcf_assign.specs.Searches.{Search, Settled, link_at}
-use Rattle.mcf_assign.specs.Turning.{IsTurned, IsExtended}
+use Rattle.mcf_assign.specs.Private.Searches.{Search, Settled, link_at}
+use Rattle.mcf_assign.specs.Private.Turning.{IsTurned, IsExtended}
 use Rattle.mcf_assign.proofs.PairLaws.{column_is, row_is}
 use Rattle.mcf_assign.proofs.Pairing.{amount_pushed, paired_ok, unpaired_ok}
 use Rattle.mcf_assign.proofs.Turned.{free_idle, turned_end, turned_next, turned_start}

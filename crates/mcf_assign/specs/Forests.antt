@@ -9,8 +9,8 @@ use Rattle.mcf_network.specs.Residual.{head, tail}
 use Rattle.mcf_network.specs.States.{Pseudoflow, amount_at}
 use Rattle.mcf_network.specs.Walks.{HasRoom}
 use Rattle.mcf_assign.specs.Matchings.{AreMates, IsColumn, IsMatchedColumn, IsMatchedRow, IsPair, IsPartialMatching, IsRow, column_of, reduced, row_of}
-use Rattle.mcf_assign.specs.Searches.{Search, Settled, link_at}
-use Rattle.mcf_assign.specs.Turning.{IsTurned}
+use Rattle.mcf_assign.specs.Private.Searches.{Search, Settled, link_at}
+use Rattle.mcf_assign.specs.Private.Turning.{IsTurned}
 
 -- where a node stands in a list, from 0; the length of the list if it doesn't
 abbrev pub place : List ℕ → ℕ → ℕ

@@ -5,11 +5,11 @@ ghost use Rattle.mcf_instance.specs.Blocking.{in_table};
 ghost use Rattle.mcf_instance.specs.Network.{IsNode, at_node, node_count};
 ghost use Rattle.mcf_instance.specs.WellFormed.{IsUpTo};
 ghost use Rattle.mcf_assign.specs.Forests.{IsChangedWithin};
-ghost use Rattle.mcf_assign.specs.Heaps.{IsHeap};
-ghost use Rattle.mcf_assign.specs.Keeping.{IsEnded, IsIdle};
+ghost use Rattle.mcf_assign.specs.Private.Heaps.{IsHeap};
+ghost use Rattle.mcf_assign.specs.Private.Keeping.{IsEnded, IsIdle};
 ghost use Rattle.mcf_assign.specs.Matchings.{AreMatchingPrices, AreMates, IsMatchedRow, IsPartialMatching, IsRow, column_of};
-ghost use Rattle.mcf_assign.specs.Searches.{AreRaised, HasEntries, Settled, search_of};
-ghost use Rattle.mcf_assign.specs.Turning.{IsExtended};
+ghost use Rattle.mcf_assign.specs.Private.Searches.{AreRaised, HasEntries, Settled, search_of};
+ghost use Rattle.mcf_assign.specs.Private.Turning.{IsExtended};
 
 use crate::heap::Heap;
 use crate::search::{Tables, Target};

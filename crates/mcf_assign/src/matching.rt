@@ -3,7 +3,7 @@ ghost use Rattle.std.specs.Prelude.{◌≡◌, ◌+◌, ◌-◌, ◌≤◌, ◌�
 ghost use Rattle.mcf_instance.specs.declared.problem.Problem.TheVariants.{Asn};
 ghost use Rattle.mcf_instance.specs.Network.{IsNode, at_node, node_count};
 ghost use Rattle.mcf_assign.specs.Extending.{IsExtension, IsMatched, IsShownMatching};
-ghost use Rattle.mcf_assign.specs.Keeping.{AreFirstPrices, first_price};
+ghost use Rattle.mcf_assign.specs.Private.Keeping.{AreFirstPrices, first_price};
 ghost use Rattle.mcf_assign.specs.Matchings.{IsMatchedRow, IsRow};
 
 use crate::augmenting::fill;
@@ -32,7 +32,7 @@ impl<'n> Model for Matching<'n> {
 
     ghost Value = { Assigned };
 
-    ghost use Rattle.mcf_assign.specs.Keeping.{IsKept};
+    ghost use Rattle.mcf_assign.specs.Private.Keeping.{IsKept};
 
     ghost view = { λ a. record { flow = a.state; prices = a.prices.items; settled = a.tables.order.items; reached = a.reached } };
 

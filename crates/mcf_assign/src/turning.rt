@@ -4,8 +4,8 @@ ghost use Rattle.mcf_instance.specs.Network.{IsArcNumber, node_count};
 ghost use Rattle.mcf_network.specs.States.{pushed};
 ghost use Rattle.mcf_assign.specs.Forests.{IsChangedWithin, IsForest, IsTightArc};
 ghost use Rattle.mcf_assign.specs.Matchings.{AreMates, IsMatchedColumn, IsMatchedRow, IsPair, IsPartialMatching, column_of, row_of};
-ghost use Rattle.mcf_assign.specs.Searches.{HasEntries, search_of};
-ghost use Rattle.mcf_assign.specs.Turning.{IsExtended};
+ghost use Rattle.mcf_assign.specs.Private.Searches.{HasEntries, search_of};
+ghost use Rattle.mcf_assign.specs.Private.Turning.{IsExtended};
 
 use crate::search::Tables;
 use mcf_network::{Rid, State};

@@ -12,3 +12,4 @@ pub mod RankDepths
 pub mod StarBases
 pub mod Pushes
 pub mod StrongPivot
+pub mod Around

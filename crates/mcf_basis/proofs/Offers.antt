@@ -12,8 +12,8 @@ use Rattle.mcf_network.specs.Residual.{arc_at}
 use Rattle.mcf_network.proofs.ArcLaws.{ends_at, net_arc_at}
 use Rattle.mcf_basis.specs.declared.offer.Offer.{Offer}
 use Rattle.mcf_basis.specs.Bases.{IsBasis}
-use Rattle.mcf_basis.specs.Layouts.{Layout, IsLaidOut, basis_in, forward_offer, no_offer, offer_at, turned_offer}
-use Rattle.mcf_basis.specs.Layouts.IsOffer.{closed, forward, turned}
+use Rattle.mcf_basis.specs.Private.Layouts.{Layout, IsLaidOut, basis_in, forward_offer, no_offer, offer_at, turned_offer}
+use Rattle.mcf_basis.specs.Private.Layouts.IsOffer.{closed, forward, turned}
 use Rattle.mcf_basis.specs.Pivots.{IsEligible}
 use Rattle.mcf_basis.specs.Structures.{TreeStructure, IsInTree, carried, price_at, reduced_at}
 use Rattle.mcf_basis.specs.Violations.{violation}

@@ -6,7 +6,7 @@ use Rattle.mcf_instance.specs.Network.{IsArcNumber, node_count}
 use Rattle.mcf_instance.specs.WellFormed.{IsUpTo}
 use Rattle.mcf_tree.specs.SpanningTree.{label_of}
 use Rattle.mcf_basis.specs.Bases.{IsBasis}
-use Rattle.mcf_basis.specs.Layouts.{Layout, IsLaidOut, amount_by, amount_in, amount_outside, basis_in, node_below}
+use Rattle.mcf_basis.specs.Private.Layouts.{Layout, IsLaidOut, amount_by, amount_in, amount_outside, basis_in, node_below}
 use Rattle.mcf_basis.specs.Structures.{TreeStructure, IsInTree, carried, price_at}
 use Rattle.mcf_basis.proofs.LeastFound.{found_nowhere}
 use Rattle.mcf_basis.proofs.TreePrices.{price_small}

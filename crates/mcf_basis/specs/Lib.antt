@@ -13,5 +13,5 @@ pub mod Pivots
 pub mod Starts
 pub mod Violations
 pub mod Ranks
-pub mod Layouts
 pub mod Laws
+pub mod Private

@@ -33,7 +33,7 @@ pub struct Basis<'n> {
 
 impl<'n> Model for Basis<'n> {
     ghost use Rattle.mcf_basis.specs.Structures.{TreeStructure};
-    ghost use Rattle.mcf_basis.specs.Layouts.{IsLaidOut, basis_in};
+    ghost use Rattle.mcf_basis.specs.Private.Layouts.{IsLaidOut, basis_in};
 
     ghost Value = { TreeStructure };
 

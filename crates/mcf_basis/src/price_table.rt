@@ -11,7 +11,7 @@ pub struct PriceTable {
 }
 
 impl Model for PriceTable {
-    ghost use Rattle.mcf_basis.specs.Layouts.{Prices};
+    ghost use Rattle.mcf_basis.specs.Private.Layouts.{Prices};
 
     ghost Value = { Prices };
 

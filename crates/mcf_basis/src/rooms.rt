@@ -2,7 +2,7 @@
 
 /// How much more the arc between a node and its parent can carry, toward the parent and from it. 16 bytes.
 ///
-/// Of an artificial arc nothing is kept here: it has no upper bound, and its amount may need more than 64 bits.
+/// Of an artificial arc it is at most 2^64 - 1: it has no upper bound, and its amount, which may need more than 64 bits, stands apart.
 #[derive(Clone, Copy, Debug)]
 pub(crate) struct Rooms {
     pub(crate) up: u64,

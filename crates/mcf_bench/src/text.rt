@@ -2,7 +2,7 @@
 ghost use Rattle.std.specs.Prelude.{◌≡◌, ◌+◌, length};
 ghost use Rattle.mcf_text.specs.Fields.{fields_of};
 ghost use Rattle.mcf_text.specs.Lines.{numbered_lines};
-ghost use Rattle.mcf_bench.specs.Tally.{capped, fields_in};
+ghost use Rattle.mcf_bench.specs.Private.Tally.{capped, fields_in};
 
 use crate::tell_time;
 use mcf_text::{Whole, fields, lines, whole};

@@ -6,7 +6,7 @@ use Rattle.std.specs.Io.KnownBytes.{Appends}
 use Rattle.mcf_checker.specs.declared.command.Failure.{Failure}
 use Rattle.mcf_checker.specs.declared.command.FileFault.{FileFault}
 use Rattle.mcf_checker.specs.declared.command.FileFault.TheVariants.{NoMemory, Unreadable}
-use Rattle.mcf_checker.specs.Failures.{failure_line, failure_of}
+use Rattle.mcf_checker.specs.Private.Failures.{failure_line, failure_of}
 use Rattle.mcf_checker.specs.Judging.{accepts, verdict}
 use Rattle.mcf_checker.specs.Lines.{file_line}
 use Rattle.mcf_checker.specs.Printed.{printed_line}

@@ -7,9 +7,9 @@ pub use Rattle.mcf_instance.specs.Memory
 pub use Rattle.mcf_instance.specs.Reading
 pub use Rattle.mcf_text.specs.Row
 pub mod Correct
-pub mod Failures
 pub mod Judging
 pub mod Laws
 pub mod Lines
 pub mod Printed
 pub mod Runs
+pub mod Private

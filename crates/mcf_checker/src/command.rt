@@ -2,7 +2,7 @@
 ghost use Rattle.std.specs.Prelude.{◌≡◌, ◌≢◌, ◌≤◌, ◌⊎◌, Err, IfErr, IfOk, OnOk, if◌then◌else◌, length, map};
 ghost use Rattle.std.specs.Io.KnownBytes.{Appends, WriteAppends};
 ghost use Rattle.std.specs.String.{string_bytes};
-ghost use Rattle.mcf_checker.specs.Failures.{failure_line};
+ghost use Rattle.mcf_checker.specs.Private.Failures.{failure_line};
 ghost use Rattle.mcf_checker.specs.Judging.{accepts, verdict};
 ghost use Rattle.mcf_checker.specs.Printed.{printed_line};
 ghost use Rattle.mcf_checker.specs.Runs.{AsksOnce, IsReason, IsUnprinted, JudgesAndPrints, ReadsFiles, TakesBeginning, Tells};
@@ -41,7 +41,7 @@ enum Failure {
 
 impl Failure {
     ghost use Rattle.std.specs.Prelude.{◌≡◌};
-    ghost use Rattle.mcf_checker.specs.Failures.{failure_line, failure_of};
+    ghost use Rattle.mcf_checker.specs.Private.Failures.{failure_line, failure_of};
 
     // The line that says so.
     fn text(self) -> &'static str

@@ -6,8 +6,8 @@ use Rattle.mcf_instance.specs.Network.{Network, IsNode, node_count, node_sum, wh
 use Rattle.mcf_instance.proofs.NodeSums.{node_sum-add, node_sum-in, node_sum-le, node_sum-same, node_sum-sub, node_sum_at_least_zero}
 use Rattle.mcf_network.specs.States.{Pseudoflow, IsPseudoflow, MovesSurplus, surplus_at}
 use Rattle.mcf_network.proofs.StateLaws.{when-same, when-other}
-use Rattle.mcf_feas.specs.Pushing.{IsPushedOn, above_zero, excess}
-use Rattle.mcf_feas.specs.Searching.{IsAugmented}
+use Rattle.mcf_feas.specs.Private.Pushing.{IsPushedOn, above_zero, excess}
+use Rattle.mcf_feas.specs.Private.Searching.{IsAugmented}
 
 above_zero-high : (x : ℤ) → pos 0 ≤ℤ x → pos (above_zero x) ≡ x
 above_zero-high (pos n) h = refl

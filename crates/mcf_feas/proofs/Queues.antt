@@ -2,7 +2,7 @@
 use Rattle.std.proofs.Common.{◌≡◌, ℕ, List, [], ◌∷◌, ◌++◌, sym}
 use Rattle.std.proofs.lemmas.List.Elements.{All-head, All-nil, All-push, All-same, All-tail}
 use Rattle.mcf_instance.specs.Network.{IsNode}
-use Rattle.mcf_feas.specs.Pushing.{AreNodes}
+use Rattle.mcf_feas.specs.Private.Pushing.{AreNodes}
 
 pub no_nodes : (nodes : ℕ) (list : List ℕ) → list ≡ [] → AreNodes nodes list
 no_nodes nodes list e = record { each = All-same (IsNode nodes) list [] e (All-nil (IsNode nodes)) }

@@ -20,7 +20,7 @@ use Rattle.mcf_network.proofs.Lists.{Contains-cons}
 use Rattle.mcf_network.proofs.Marks.{count_none, counted_new, marked_new, marked_only, marked_still, unmarked}
 use Rattle.mcf_feas.specs.declared.search.Link.{Link}
 use Rattle.mcf_feas.specs.declared.search.Visit.{Visit}
-use Rattle.mcf_feas.specs.Searching.{IsFound, IsReachedBy, IsScanned, IsSearch, node_at, visit_at}
+use Rattle.mcf_feas.specs.Private.Searching.{IsFound, IsReachedBy, IsScanned, IsSearch, node_at, visit_at}
 
 -- ---- one visit more
 

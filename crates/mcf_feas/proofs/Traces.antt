@@ -12,7 +12,7 @@ use Rattle.mcf_network.specs.States.{Pseudoflow, room_of, surplus_at}
 use Rattle.mcf_network.specs.Walks.{HasRoomFor, IsWalk}
 use Rattle.mcf_feas.specs.declared.search.Link.{Link}
 use Rattle.mcf_feas.specs.declared.search.Visit.{Visit}
-use Rattle.mcf_feas.specs.Searching.{IsFound, IsTreeLink, IsPath, IsReachedBy, IsForest, TakesAll, node_at}
+use Rattle.mcf_feas.specs.Private.Searching.{IsFound, IsTreeLink, IsPath, IsReachedBy, IsForest, TakesAll, node_at}
 
 -- what the lesser of two numbers above 0 is
 pub record IsLesser (x y least : ℤ) : Type 0 where

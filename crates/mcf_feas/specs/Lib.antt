@@ -14,5 +14,4 @@ pub use Rattle.mcf_network.specs.Walks
 pub mod Chosen
 pub mod Exactness
 pub mod Feasible
-pub mod Pushing
-pub mod Searching
+pub mod Private

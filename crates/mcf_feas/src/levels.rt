@@ -1,7 +1,7 @@
 //! Levels: how far each node is from the nodes that take, along residual arcs with room.
 ghost use Rattle.std.specs.Prelude.{◌≡◌, ◌≤◌, OnErr, OnOk, length};
 ghost use Rattle.mcf_instance.specs.Network.{IsNode, node_count};
-ghost use Rattle.mcf_feas.specs.Pushing.{AreNodes};
+ghost use Rattle.mcf_feas.specs.Private.Pushing.{AreNodes};
 
 use mcf_network::{Rid, State};
 use mcf_text::{NoMemory, NodeId};

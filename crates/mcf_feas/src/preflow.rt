@@ -3,7 +3,7 @@ ghost use Rattle.std.specs.Prelude.{◌≡◌, ◌≤◌, ◌≤ℤ◌, ◌<ℤ�
 ghost use Rattle.mcf_instance.specs.Network.{IsArcNumber, IsNode, node_count};
 ghost use Rattle.mcf_network.specs.Residual.{tail};
 ghost use Rattle.mcf_network.specs.States.{room_of, surplus_at};
-ghost use Rattle.mcf_feas.specs.Pushing.{AreNodes, IsPushedOn};
+ghost use Rattle.mcf_feas.specs.Private.Pushing.{AreNodes, IsPushedOn};
 
 use crate::levels::set_levels;
 use mcf_network::{Net, Rid, State};

@@ -6,7 +6,7 @@ ghost use Rattle.mcf_instance.specs.Network.{IsArcNumber, IsNode, node_count};
 ghost use Rattle.mcf_network.specs.States.{IsPseudoflow, room_of, surplus_at};
 ghost use Rattle.mcf_network.specs.NodeSets.{with_node};
 ghost use Rattle.mcf_network.specs.Stuck.{IsStuck};
-ghost use Rattle.mcf_feas.specs.Searching.{IsAugmented, IsFound, IsPath, IsScanned, LeadsTo, node_at};
+ghost use Rattle.mcf_feas.specs.Private.Searching.{IsAugmented, IsFound, IsPath, IsScanned, LeadsTo, node_at};
 
 use mcf_network::{Net, NodeSet, Rid, State, push_along};
 use mcf_text::{ArcId, NoMemory, NodeId};

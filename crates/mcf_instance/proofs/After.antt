@@ -9,10 +9,10 @@ use Rattle.mcf_text.specs.Row.{Row, node, number, field}
 use Rattle.mcf_instance.specs.Fault.{is_p, is_n, is_a, has_p, header, header_of, is_listed, is_node_number, node_places, fault_of_line, applies, table}
 use Rattle.mcf_instance.specs.Limits.{limits}
 use Rattle.mcf_instance.specs.Reading.{arc_of}
-use Rattle.mcf_instance.specs.Stands.{heading_of, Holds}
+use Rattle.mcf_instance.specs.Private.Stands.{heading_of, Holds}
 use Rattle.mcf_instance.specs.declared.reader.line.Item.{Item}
 use Rattle.mcf_instance.specs.declared.reader.line.Item.TheVariants.{Problem, Supply, Link}
-use Rattle.mcf_instance.specs.ReaderState.{StateData, item_of, with_item}
+use Rattle.mcf_instance.specs.Private.ReaderState.{StateData, item_of, with_item}
 use Rattle.mcf_instance.proofs.NodeLines.{ok_unless}
 use Rattle.mcf_instance.proofs.Ranges.{natural_low}
 use Rattle.std.proofs.lemmas.Bool.{and_parts, not-false}

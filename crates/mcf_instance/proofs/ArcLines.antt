@@ -13,8 +13,8 @@ use Rattle.mcf_instance.specs.Blocking.{in_table}
 use Rattle.mcf_instance.specs.Fault.{fault_of_line, has_p, header, is_up_to, arc_lines, is_listed}
 use Rattle.mcf_instance.specs.Limits.{limits, node_limit}
 use Rattle.mcf_instance.specs.Reading.{arc_of}
-use Rattle.mcf_instance.specs.LineReader.{clamped, arc_line, arc_tests, number_at}
-use Rattle.mcf_instance.specs.Stands.{heading_seen}
+use Rattle.mcf_instance.specs.Private.LineReader.{clamped, arc_line, arc_tests, number_at}
+use Rattle.mcf_instance.specs.Private.Stands.{heading_seen}
 use Rattle.mcf_instance.proofs.NodeLines.{ok_unless, ok_unless_test, header_small}
 use Rattle.mcf_instance.proofs.Ranges.{clamped_count, clamped_up_to, is_up_to-clamped, is_within_count-clamped, natural_low, natural_high}
 use Rattle.std.proofs.lemmas.Bool.{and_parts, not-false}

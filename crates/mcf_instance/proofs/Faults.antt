@@ -10,13 +10,13 @@ use Rattle.mcf_text.specs.Row.{Row, natural}
 use Rattle.mcf_text.specs.Whole.{is_whole, is_within, whole_value}
 use Rattle.mcf_instance.specs.Fault.{fault_of_line, has_p, header_of}
 use Rattle.mcf_instance.specs.Limits.{limits, node_limit, arc_limit}
-use Rattle.mcf_instance.specs.Stands.{heading_of}
+use Rattle.mcf_instance.specs.Private.Stands.{heading_of}
 use Rattle.mcf_instance.specs.declared.problem.Problem.{Problem as Format}
 use Rattle.mcf_instance.proofs.NodeLines.{ok_unless}
 use Rattle.mcf_instance.proofs.ArcLines.{four}
 use Rattle.mcf_instance.proofs.Ranges.{clamped_count, is_within_count-clamped}
 use Rattle.std.proofs.lemmas.Bool.{and_parts}
-use Rattle.mcf_instance.specs.LineReader.{clamped, problem_line, number_at, problem_at}
+use Rattle.mcf_instance.specs.Private.LineReader.{clamped, problem_line, number_at, problem_at}
 
 -- the fault that a reader answers
 abbrev pub fault_of : {X : Type 0} → Result X Code → Option Code

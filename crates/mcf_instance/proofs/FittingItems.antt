@@ -15,10 +15,10 @@ use Rattle.mcf_instance.specs.Assignment.{OnAssignment}
 use Rattle.mcf_instance.specs.Blocking.{in_table}
 use Rattle.mcf_instance.specs.Fault.{is_up_to}
 use Rattle.mcf_instance.specs.Limits.{limits, node_limit, arc_limit}
-use Rattle.mcf_instance.specs.LineReader.{◌>>=◌, arc_count_fits, arc_line, arc_numbers, arc_tests, is_wrong_side, checked_node, node_count_fits, node_line, node_numbers, node_tests, number_at, problem_at, problem_line, with_heading}
+use Rattle.mcf_instance.specs.Private.LineReader.{◌>>=◌, arc_count_fits, arc_line, arc_numbers, arc_tests, is_wrong_side, checked_node, node_count_fits, node_line, node_numbers, node_tests, number_at, problem_at, problem_line, with_heading}
 use Rattle.mcf_instance.specs.Packed.{unpacked}
-use Rattle.mcf_instance.specs.ReaderState.{StateData, item_of, problem_or_min}
-use Rattle.mcf_instance.specs.ReaderSound.{IsFlaggedPair, ItemFits, heading_arcs, heading_nodes}
+use Rattle.mcf_instance.specs.Private.ReaderState.{StateData, item_of, problem_or_min}
+use Rattle.mcf_instance.specs.Private.ReaderSound.{IsFlaggedPair, ItemFits, heading_arcs, heading_nodes}
 use Rattle.mcf_instance.specs.WellFormed.{HasEnds, IsArcWithinLimits, IsUpTo}
 use Rattle.mcf_text.specs.Row.{natural}
 use Rattle.mcf_text.specs.Whole.{is_within}

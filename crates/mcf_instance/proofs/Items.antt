@@ -13,11 +13,11 @@ use Rattle.mcf_instance.specs.Fault.{is_p, is_n, is_a, has_p, header, header_of,
 use Rattle.mcf_instance.specs.Limits.{limits}
 use Rattle.mcf_instance.specs.Packed.{unpacked}
 use Rattle.mcf_instance.specs.Reading.{arc_of}
-use Rattle.mcf_instance.specs.Stands.{heading_of, heading_seen, Holds}
+use Rattle.mcf_instance.specs.Private.Stands.{heading_of, heading_seen, Holds}
 use Rattle.mcf_instance.specs.declared.reader.line.Item.{Item}
 use Rattle.mcf_instance.specs.declared.reader.line.Item.TheVariants.{Problem, Supply, Link}
-use Rattle.mcf_instance.specs.LineReader.{◌>>=◌, node_line, arc_line}
-use Rattle.mcf_instance.specs.ReaderState.{StateData, item_of}
+use Rattle.mcf_instance.specs.Private.LineReader.{◌>>=◌, node_line, arc_line}
+use Rattle.mcf_instance.specs.Private.ReaderState.{StateData, item_of}
 use Rattle.mcf_instance.proofs.NodeLines.{ok_unless, node_line_reads, node_row_reads, node_line_early}
 use Rattle.mcf_instance.proofs.ArcLines.{packed, arc_line_reads, arc_pair_reads, arc_line_early}
 use Rattle.mcf_instance.proofs.Faults.{problem_line_reads}

@@ -10,7 +10,7 @@ use Rattle.mcf_instance.specs.Fault.{is_up_to}
 use Rattle.mcf_instance.specs.declared.reader.line.Heading.{Heading}
 use Rattle.mcf_instance.specs.declared.reader.line.ArcNumbers.{ArcNumbers}
 use Rattle.mcf_instance.specs.Limits.{limits}
-use Rattle.mcf_instance.specs.LineReader.{clamped, kept_size, number_at, amount_fault, unless_fault, node_line, node_tests, node_count_fits, node_numbers, arc_line, arc_tests, arc_count_fits, arc_numbers}
+use Rattle.mcf_instance.specs.Private.LineReader.{clamped, kept_size, number_at, amount_fault, unless_fault, node_line, node_tests, node_count_fits, node_numbers, arc_line, arc_tests, arc_count_fits, arc_numbers}
 
 -- what the reader makes of what a field says as a whole number among those that are kept
 abbrev pub number_read : Whole → Result ℤ Code

@@ -1,8 +1,8 @@
 -- The lines of a text that a state of the reader has seen.
 use Rattle.std.specs.Prelude.{◌≡◌, ℕ, ◌+◌, List, ◌++◌, map, length, filter}
 use Rattle.mcf_instance.specs.Limits.{Limits}
-use Rattle.mcf_instance.specs.ReaderState.{StateData}
-use Rattle.mcf_instance.specs.Stands.{Stands}
+use Rattle.mcf_instance.specs.Private.ReaderState.{StateData}
+use Rattle.mcf_instance.specs.Private.Stands.{Stands}
 use Rattle.mcf_text.specs.Fields.{is_kept}
 use Rattle.mcf_text.specs.Lines.{numbered_lines}
 use Rattle.mcf_text.specs.Row.{Row, row_of}

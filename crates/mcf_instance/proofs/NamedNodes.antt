@@ -13,9 +13,9 @@ use Rattle.mcf_instance.specs.declared.reader.line.Item.TheVariants.{Problem, Su
 use Rattle.mcf_instance.specs.Fault.{Fault, as_fault, fault_of_line, faults, first_fault, has_p, header, header_of, is_p, no_header}
 use Rattle.mcf_instance.specs.Limits.{limits}
 use Rattle.mcf_instance.specs.Memory.{NamesNodes}
-use Rattle.mcf_instance.specs.ReaderSound.{LinkFits, heading_nodes}
-use Rattle.mcf_instance.specs.ReaderState.{StateData, item_of, outcome_grows}
-use Rattle.mcf_instance.specs.Stands.{Holds, Stands, heading_of, heading_seen}
+use Rattle.mcf_instance.specs.Private.ReaderSound.{LinkFits, heading_nodes}
+use Rattle.mcf_instance.specs.Private.ReaderState.{StateData, item_of, outcome_grows}
+use Rattle.mcf_instance.specs.Private.Stands.{Holds, Stands, heading_of, heading_seen}
 use Rattle.mcf_text.specs.Fields.{is_kept}
 use Rattle.mcf_text.specs.Lines.{lines_of, numbered_lines}
 use Rattle.mcf_text.specs.Row.{Row, row_of, rows}

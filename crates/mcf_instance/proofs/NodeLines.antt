@@ -10,9 +10,9 @@ use Rattle.mcf_text.specs.Whole.{is_whole, is_within, whole_value}
 use Rattle.mcf_instance.specs.Blocking.{in_table}
 use Rattle.mcf_instance.specs.Fault.{fault_of_line, has_p, header, header_of, no_header, is_good_header, size_fits, is_p, is_up_to, arc_lines, is_listed}
 use Rattle.mcf_instance.specs.Limits.{limits, node_limit}
-use Rattle.mcf_instance.specs.LineReader.{clamped, node_line, node_tests, number_at}
+use Rattle.mcf_instance.specs.Private.LineReader.{clamped, node_line, node_tests, number_at}
 use Rattle.std.specs.Option.{option_map_or}
-use Rattle.mcf_instance.specs.Stands.{heading_seen}
+use Rattle.mcf_instance.specs.Private.Stands.{heading_seen}
 use Rattle.std.proofs.lemmas.Bool.{and_parts, not-false}
 use Rattle.mcf_instance.proofs.Ranges.{clamped_count, clamped_up_to, is_up_to-clamped, is_within_count-clamped, natural_low, natural_high, natural_most}
 

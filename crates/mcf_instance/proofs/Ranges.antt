@@ -6,7 +6,7 @@ use Rattle.std.proofs.lemmas.Int.{ints}
 use Rattle.mcf_text.specs.Row.{natural}
 use Rattle.mcf_text.specs.Whole.{is_within}
 use Rattle.mcf_instance.specs.Fault.{is_up_to}
-use Rattle.mcf_instance.specs.LineReader.{clamped, kept_size}
+use Rattle.mcf_instance.specs.Private.LineReader.{clamped, kept_size}
 use Rattle.mcf_instance.specs.WellFormed.{IsUpTo}
 
 -- ---- a number

@@ -5,9 +5,9 @@ use Rattle.std.proofs.lemmas.List.{length-map}
 use Rattle.mcf_instance.specs.declared.reader.line.Heading.{Heading}
 use Rattle.mcf_instance.specs.Fault.{is_min}
 use Rattle.mcf_instance.specs.Limits.{limits}
-use Rattle.mcf_instance.specs.LineReader.{problem_line, node_line, arc_line, node_count_fits, arc_count_fits}
+use Rattle.mcf_instance.specs.Private.LineReader.{problem_line, node_line, arc_line, node_count_fits, arc_count_fits}
 use Rattle.std.specs.Borrow.{Bor}
-use Rattle.mcf_instance.specs.ReaderState.{StateData, after_row, item_of}
+use Rattle.mcf_instance.specs.Private.ReaderState.{StateData, after_row, item_of}
 use Rattle.mcf_text.specs.Fields.{begins_kept, fields_of, is_kept}
 use Rattle.mcf_text.proofs.FieldsLemmas.{is_kept-fields_of}
 

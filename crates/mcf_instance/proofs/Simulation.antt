@@ -10,9 +10,9 @@ use Rattle.mcf_text.specs.Row.{Row, with_earlier}
 use Rattle.mcf_instance.specs.Fault.{Fault, as_fault, fault_at_end, fault_of_line, faults, first_fault_of_lines, has_p, header, arc_lines}
 use Rattle.mcf_instance.specs.Limits.{limits}
 use Rattle.mcf_instance.specs.Reading.{instance_of_lines, reading_of}
-use Rattle.mcf_instance.specs.Stands.{heading_of, heading_seen, Holds, Stands}
+use Rattle.mcf_instance.specs.Private.Stands.{heading_of, heading_seen, Holds, Stands}
 use Rattle.mcf_instance.specs.declared.reader.line.Item.{Item}
-use Rattle.mcf_instance.specs.ReaderState.{StateData, empty, item_of, with_item, with_outcome, after_row, refusal_after, end_fault, network_of, finished}
+use Rattle.mcf_instance.specs.Private.ReaderState.{StateData, empty, item_of, with_item, with_outcome, after_row, refusal_after, end_fault, network_of, finished}
 use Rattle.mcf_instance.proofs.Faults.{fault_of}
 use Rattle.mcf_instance.proofs.NodeLines.{ok_unless}
 use Rattle.mcf_instance.proofs.Items.{arcs_of, item_said, item_reads}

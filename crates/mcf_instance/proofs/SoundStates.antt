@@ -17,8 +17,8 @@ use Rattle.mcf_instance.specs.Blocking.{in_table}
 use Rattle.mcf_instance.specs.Limits.{limits, wide_limits, total_limit, node_limit, arc_limit}
 use Rattle.mcf_instance.specs.Network.{at_node}
 use Rattle.mcf_instance.specs.Packed.{unpacked}
-use Rattle.mcf_instance.specs.ReaderState.{default_supply, problem_or_min}
-use Rattle.mcf_instance.specs.ReaderSound.{HeadingFits, IsFlaggedPair, IsSound, IsSoundAssignment, LinkFits, SupplyFits, heading_arcs, heading_nodes, side_supply}
+use Rattle.mcf_instance.specs.Private.ReaderState.{default_supply, problem_or_min}
+use Rattle.mcf_instance.specs.Private.ReaderSound.{HeadingFits, IsFlaggedPair, IsSound, IsSoundAssignment, LinkFits, SupplyFits, heading_arcs, heading_nodes, side_supply}
 use Rattle.mcf_instance.specs.WellFormed.{HasEnds, IsArcWithinLimits, IsUpTo, IsWellFormed, weight}
 use Rattle.mcf_instance.proofs.Bounds.{size_up_to}
 

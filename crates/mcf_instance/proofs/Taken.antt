@@ -14,10 +14,10 @@ use Rattle.mcf_text.specs.Row.{Row, node, number}
 use Rattle.mcf_instance.specs.Fault.{is_p, is_n, is_a, has_p, header, header_of, no_header, is_listed}
 use Rattle.mcf_instance.specs.Packed.{unpacked}
 use Rattle.mcf_instance.specs.Reading.{arc_of, supply_of}
-use Rattle.mcf_instance.specs.Stands.{heading_of, heading_seen, Holds}
+use Rattle.mcf_instance.specs.Private.Stands.{heading_of, heading_seen, Holds}
 use Rattle.mcf_instance.proofs.ArcLines.{packed}
 use Rattle.mcf_instance.specs.declared.reader.line.Item.TheVariants.{Problem, Supply, Link}
-use Rattle.mcf_instance.specs.ReaderState.{StateData, with_item, default_supply}
+use Rattle.mcf_instance.specs.Private.ReaderState.{StateData, with_item, default_supply}
 
 option_or_none : {X : Type 0} (o : Option X) → option_or o None ≡ o
 option_or_none None = refl

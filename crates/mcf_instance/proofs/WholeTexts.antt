@@ -9,8 +9,8 @@ use Rattle.std.proofs.lemmas.List.Elements.{filter-append}
 use Rattle.mcf_instance.specs.Fault.{Fault, as_fault, faults, first_fault, first_fault_of_lines}
 use Rattle.mcf_instance.specs.Limits.{limits}
 use Rattle.mcf_instance.specs.Reading.{instance_of_lines, reading, reading_of}
-use Rattle.mcf_instance.specs.ReaderState.{StateData, empty, finished}
-use Rattle.mcf_instance.specs.Stands.{Stands}
+use Rattle.mcf_instance.specs.Private.ReaderState.{StateData, empty, finished}
+use Rattle.mcf_instance.specs.Private.Stands.{Stands}
 use Rattle.mcf_text.specs.Fields.{is_kept}
 use Rattle.mcf_text.specs.Lines.{lines_of, numbered_lines}
 use Rattle.mcf_text.specs.Row.{Row, line_after, row_of, rows}

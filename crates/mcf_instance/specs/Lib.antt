@@ -6,12 +6,9 @@ pub mod Fault
 pub mod Flow
 pub mod Laws
 pub mod Limits
-pub mod LineReader
 pub mod Memory
 pub mod Network
 pub mod Packed
-pub mod ReaderSound
-pub mod ReaderState
 pub mod Reading
-pub mod Stands
 pub mod WellFormed
+pub mod Private

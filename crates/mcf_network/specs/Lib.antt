@@ -4,7 +4,6 @@ pub use Rattle.mcf_instance.specs.Flow
 pub use Rattle.mcf_instance.specs.Limits
 pub use Rattle.mcf_instance.specs.Network
 pub use Rattle.mcf_instance.specs.WellFormed
-pub mod Counting
 pub mod Laws
 pub mod Nets
 pub mod NodeSets
@@ -17,3 +16,4 @@ pub mod Stored
 pub mod Stuck
 pub mod TreeSolutions
 pub mod Walks
+pub mod Private

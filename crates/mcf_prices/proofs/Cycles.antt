@@ -8,8 +8,8 @@ use Rattle.mcf_instance.specs.Network.{Network, IsNode, at_node, node_count}
 use Rattle.mcf_network.specs.declared.rid.Rid.{Rid}
 use Rattle.mcf_network.specs.NodeSets.{member_count, no_nodes}
 use Rattle.mcf_network.specs.Walks.{IsWalk}
-use Rattle.mcf_prices.specs.Labels.{Labels, IsLabelling, AreAtLeast, cost_limit, total}
-use Rattle.mcf_prices.specs.Trails.{HasTail, IsTrail, IsDone, IsSettled}
+use Rattle.mcf_prices.specs.Private.Labels.{Labels, IsLabelling, AreAtLeast, cost_limit, total}
+use Rattle.mcf_prices.specs.Private.Trails.{HasTail, IsTrail, IsDone, IsSettled}
 use Rattle.mcf_network.proofs.Marks.{unmarked, count_small}
 
 -- after v nodes: no path is under way, each node that was seen is settled, and so is each node up to v

@@ -5,7 +5,7 @@ use Rattle.std.proofs.lemmas.List.Sums.{sum_by-cons}
 use Rattle.mcf_network.specs.NodeSets.{no_nodes}
 use Rattle.mcf_prices.specs.declared.item_heap.ItemHeap.{ItemHeap}
 use Rattle.mcf_prices.specs.Heaps.{Keyed}
-use Rattle.mcf_prices.specs.ItemHeaps.{IsHeap, PrecedesAll, entry, table_of, view_of}
+use Rattle.mcf_prices.specs.Private.ItemHeaps.{IsHeap, PrecedesAll, entry, table_of, view_of}
 use Rattle.mcf_prices.proofs.HeapOrder.{first_precedes, precedes_at}
 use Rattle.mcf_prices.proofs.HeapPlaces.{slot_of, table_length}
 

@@ -6,8 +6,8 @@ use Rattle.mcf_instance.specs.Limits.{node_limit}
 use Rattle.mcf_instance.specs.WellFormed.{IsUpTo}
 use Rattle.mcf_instance.proofs.Bounds.{mul_up_to}
 use Rattle.mcf_instance.proofs.IntLaws.{add-mul, mul-mono_left, one-mul, zero-mul}
-use Rattle.mcf_prices.specs.Labels.{cost_limit}
-use Rattle.mcf_prices.specs.Raisings.{IsLength, IsRoundedDown, label_limit}
+use Rattle.mcf_prices.specs.Private.Labels.{cost_limit}
+use Rattle.mcf_prices.specs.Private.Raisings.{IsLength, IsRoundedDown, label_limit}
 
 -- no arcs
 pub length_zero : (scale slack waiting nodes : ℕ) (z : ℤ) → waiting ≤ nodes → z ≡ pos 0 → IsLength scale slack waiting nodes z

@@ -12,7 +12,7 @@ use Rattle.mcf_network.specs.Residual.{tail, head}
 use Rattle.mcf_network.specs.States.{Pseudoflow, IsPseudoflow}
 use Rattle.mcf_network.specs.Walks.{HasRoom}
 use Rattle.mcf_network.proofs.ArcLaws.{tail_is_node, head_is_node}
-use Rattle.mcf_prices.specs.Labels.{Labels, IsLabelling, IsLinked, IsLink, offer, lowered, AreAtLeast, Respects, cost_limit, total}
+use Rattle.mcf_prices.specs.Private.Labels.{Labels, IsLabelling, IsLinked, IsLink, offer, lowered, AreAtLeast, Respects, cost_limit, total}
 use Rattle.mcf_prices.proofs.Marks.{read_node}
 use Rattle.mcf_prices.proofs.Showing.{respects_from_shows, cost_small}
 

@@ -7,7 +7,7 @@ use Rattle.mcf_instance.specs.WellFormed.{IsUpTo}
 use Rattle.mcf_network.specs.declared.rid.Rid.{Rid}
 use Rattle.mcf_network.specs.Residual.{head, unit_cost}
 use Rattle.mcf_network.proofs.ArcLaws.{head_is_node}
-use Rattle.mcf_prices.specs.Labels.{Labels, IsLabelling, AreAtLeast, offer, link_at}
+use Rattle.mcf_prices.specs.Private.Labels.{Labels, IsLabelling, AreAtLeast, offer, link_at}
 use Rattle.mcf_prices.proofs.Showing.{cost_small}
 
 -- the price of a node, as a read gives it

@@ -13,8 +13,8 @@ use Rattle.mcf_network.specs.declared.rid.Rid.{Rid}
 use Rattle.mcf_network.specs.NodeSets.{member_count, with_node}
 use Rattle.mcf_network.specs.Residual.{tail, head}
 use Rattle.mcf_network.specs.Walks.{IsWalk}
-use Rattle.mcf_prices.specs.Labels.{Labels, IsLabelling, cost_limit, link_at}
-use Rattle.mcf_prices.specs.Trails.{IsStep, HasTail, IsTrail, IsDone}
+use Rattle.mcf_prices.specs.Private.Labels.{Labels, IsLabelling, cost_limit, link_at}
+use Rattle.mcf_prices.specs.Private.Trails.{IsStep, HasTail, IsTrail, IsDone}
 use Rattle.mcf_prices.proofs.LinkWalks.{IsWalk-pop, step_falls}
 use Rattle.mcf_network.proofs.Marks.{marked_new, marked_still, counted_new}
 use Rattle.mcf_prices.proofs.Marks.{read_node, counted_more}

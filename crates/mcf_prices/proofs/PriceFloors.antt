@@ -16,7 +16,7 @@ use Rattle.mcf_network.specs.States.{Pseudoflow, IsPseudoflow}
 use Rattle.mcf_network.specs.Walks.{HasRoom}
 use Rattle.mcf_network.proofs.ArcLaws.{head_is_node, tail_is_node}
 use Rattle.mcf_network.proofs.StateLaws.{rid}
-use Rattle.mcf_prices.specs.Labels.{AreAtLeast, Respects}
+use Rattle.mcf_prices.specs.Private.Labels.{AreAtLeast, Respects}
 use Rattle.mcf_prices.specs.Recovering.{AreCostsUpTo, AreSmallPrices, price_limit}
 use Rattle.mcf_prices.proofs.Showing.{respects_from_shows, shows_from_respects}
 

@@ -8,7 +8,7 @@ use Rattle.mcf_instance.specs.Blocking.{in_table}
 use Rattle.mcf_instance.specs.Limits.{node_limit}
 use Rattle.mcf_instance.specs.Network.{IsNode}
 use Rattle.mcf_network.specs.NodeSets.{with_node}
-use Rattle.mcf_prices.specs.Queues.{Waiting, IsQueue, no_queue, queued}
+use Rattle.mcf_prices.specs.Private.Queues.{Waiting, IsQueue, no_queue, queued}
 use Rattle.mcf_network.proofs.Marks.{counted_new, count_none, unmarked}
 use Rattle.mcf_prices.proofs.Marks.{read_node}
 

@@ -6,7 +6,7 @@ use Rattle.mcf_instance.specs.Blocking.{in_table}
 use Rattle.mcf_instance.specs.Network.{IsNode, at_node}
 use Rattle.mcf_network.proofs.Marks.{unmarked}
 use Rattle.mcf_prices.specs.Heaps.{Keyed, NoneWaits, Waits, waiting_with}
-use Rattle.mcf_prices.specs.Raisings.{AreRounded, IsReady, IsRoundedDown, Settled, label}
+use Rattle.mcf_prices.specs.Private.Raisings.{AreRounded, IsReady, IsRoundedDown, Settled, label}
 use Rattle.mcf_prices.proofs.Marks.{read_node}
 
 -- the first nodes wait with the label 0, and the others don't wait

@@ -22,7 +22,7 @@ use Rattle.mcf_network.proofs.Lists.{Contains-cons}
 use Rattle.mcf_network.proofs.Marks.{count_small}
 use Rattle.mcf_prices.specs.Heaps.{ComesFirst, IsFirst, Keyed, Waits, waiting_with, with_key, without}
 use Rattle.mcf_prices.specs.NearPrices.{AreNearPrices, near_limit}
-use Rattle.mcf_prices.specs.Raisings.{IsLastSettled, IsLength, IsRaising, IsReady, KeepsSettled, RespectsLabel, Settled, label, step}
+use Rattle.mcf_prices.specs.Private.Raisings.{IsLastSettled, IsLength, IsRaising, IsReady, KeepsSettled, RespectsLabel, Settled, label, step}
 use Rattle.mcf_prices.proofs.HeapPlaces.{count_less}
 use Rattle.mcf_prices.proofs.LabelLengths.{length_fewer, length_next, length_zero}
 use Rattle.mcf_prices.proofs.Marks.{read_node}

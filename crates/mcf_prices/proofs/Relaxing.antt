@@ -13,9 +13,9 @@ use Rattle.mcf_network.specs.States.{Pseudoflow}
 use Rattle.mcf_network.specs.Walks.{HasRoom}
 use Rattle.mcf_network.proofs.ArcLaws.{tail_is_node, head_is_node}
 use Rattle.mcf_network.proofs.Lists.{Contains-cons}
-use Rattle.mcf_prices.specs.Labels.{Labels, IsLabelling, IsLowering, IsKeeping, Respects, cost_limit, lowered}
-use Rattle.mcf_prices.specs.Queues.{Waiting, IsQueue, queued}
-use Rattle.mcf_prices.specs.Rounds.{IsHandled, IsProgress}
+use Rattle.mcf_prices.specs.Private.Labels.{Labels, IsLabelling, IsLowering, IsKeeping, Respects, cost_limit, lowered}
+use Rattle.mcf_prices.specs.Private.Queues.{Waiting, IsQueue, queued}
+use Rattle.mcf_prices.specs.Private.Rounds.{IsHandled, IsProgress}
 use Rattle.mcf_prices.proofs.Lowering.{lowered_ok, lowered_other, lowered_no_rise, lowered_total, offer_low, lowered_floor, lowered_respects}
 use Rattle.mcf_prices.proofs.QueueLaws.{IsQueued, queued_ok}
 use Rattle.mcf_prices.proofs.Showing.{no_loop}

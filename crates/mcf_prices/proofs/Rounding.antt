@@ -12,9 +12,9 @@ use Rattle.mcf_network.specs.Residual.{head}
 use Rattle.mcf_network.specs.States.{Pseudoflow}
 use Rattle.mcf_network.specs.Walks.{HasRoom}
 use Rattle.mcf_network.proofs.ArcLaws.{head_is_node}
-use Rattle.mcf_prices.specs.Labels.{Labels, IsLabelling, AreAtLeast, cost_limit, total}
-use Rattle.mcf_prices.specs.Queues.{Waiting, IsQueue, no_queue}
-use Rattle.mcf_prices.specs.Rounds.{IsHandled, IsProgress}
+use Rattle.mcf_prices.specs.Private.Labels.{Labels, IsLabelling, AreAtLeast, cost_limit, total}
+use Rattle.mcf_prices.specs.Private.Queues.{Waiting, IsQueue, no_queue}
+use Rattle.mcf_prices.specs.Private.Rounds.{IsHandled, IsProgress}
 use Rattle.mcf_network.proofs.Marks.{count_small}
 use Rattle.mcf_prices.proofs.Relaxing.{empty_lacks, progress_none}
 use Rattle.mcf_prices.proofs.Showing.{shows_from_respects}

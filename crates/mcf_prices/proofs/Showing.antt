@@ -13,7 +13,7 @@ use Rattle.mcf_network.specs.States.{Pseudoflow, IsPseudoflow, amount_at, room_o
 use Rattle.mcf_network.specs.Walks.{HasRoom}
 use Rattle.mcf_network.proofs.ArcLaws.{amount_count, amount_of, net_arc_at}
 use Rattle.mcf_network.proofs.StateLaws.{rid}
-use Rattle.mcf_prices.specs.Labels.{Respects, cost_limit}
+use Rattle.mcf_prices.specs.Private.Labels.{Respects, cost_limit}
 
 pub cost_small : (g : Network) (k : ℕ) (b : Bool) → IsNet g → IsArcNumber g k → IsUpTo cost_limit (unit_cost g (rid k b))
 cost_small g k true ok h =

@@ -9,14 +9,9 @@ pub use Rattle.mcf_network.specs.Residual
 pub use Rattle.mcf_network.specs.States
 pub use Rattle.mcf_network.specs.Walks
 pub mod Heaps
-pub mod ItemHeaps
-pub mod Labels
 pub mod Laws
 pub mod NearPrices
 pub mod NegativeCycles
 pub mod Outcomes
-pub mod Queues
-pub mod Raisings
 pub mod Recovering
-pub mod Rounds
-pub mod Trails
+pub mod Private

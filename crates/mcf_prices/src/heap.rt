@@ -27,7 +27,7 @@ impl Model for Heap {
 
     ghost Value = { Keyed };
 
-    ghost use Rattle.mcf_prices.specs.ItemHeaps.{IsHeap, view_of};
+    ghost use Rattle.mcf_prices.specs.Private.ItemHeaps.{IsHeap, view_of};
 
     ghost view = { λ h. view_of h.items };
 

@@ -2,7 +2,7 @@
 ghost use Rattle.std.specs.Prelude.{◌≡◌, ◌≢◌, ◌+◌, ◌*◌, ◌^◌, ◌<◌, ◌≤◌, ◌≤ℤ◌, ◌↔◌, ℕ, true, false, IfOk, IfSome, IfNone, IsTrue, OnErr, length, replicate, pos, slice_index_or, slice_set};
 ghost use Rattle.std.specs.Bool.{MatchBool};
 ghost use Rattle.mcf_prices.specs.Heaps.{ComesFirst};
-ghost use Rattle.mcf_prices.specs.ItemHeaps.{IsChild, IsHeap, IsOrdered, IsOrderedAbove, IsOrderedBelow, IsPlaced, IsSwapped, Precedes, PrecedesAll, entry, key_at, table_of};
+ghost use Rattle.mcf_prices.specs.Private.ItemHeaps.{IsChild, IsHeap, IsOrdered, IsOrderedAbove, IsOrderedBelow, IsPlaced, IsSwapped, Precedes, PrecedesAll, entry, key_at, table_of};
 
 use mcf_text::NoMemory;
 use std::alloc::Global;

@@ -9,10 +9,10 @@ ghost use Rattle.mcf_network.specs.Residual.{tail};
 ghost use Rattle.mcf_network.specs.Stars.{ListsLeaving};
 ghost use Rattle.mcf_network.specs.States.{IsPseudoflow};
 ghost use Rattle.mcf_prices.specs.Heaps.{NoneWaits};
-ghost use Rattle.mcf_prices.specs.Labels.{cost_limit};
+ghost use Rattle.mcf_prices.specs.Private.Labels.{cost_limit};
 ghost use Rattle.mcf_prices.specs.NearPrices.{AreNearPrices, OptimalPricesAreNear, ShownPricesAreNear, near_limit};
 ghost use Rattle.mcf_prices.specs.Outcomes.{AreStatePrices};
-ghost use Rattle.mcf_prices.specs.Raisings.{AreRounded, IsLastSettled, IsRaising, IsReady, IsRoundedDown, KeepsSettled, label, label_limit, step};
+ghost use Rattle.mcf_prices.specs.Private.Raisings.{AreRounded, IsLastSettled, IsRaising, IsReady, IsRoundedDown, KeepsSettled, label, label_limit, step};
 
 use crate::heap::Heap;
 use mcf_network::{Net, Rid, State};

@@ -2,7 +2,7 @@
 ghost use Rattle.std.specs.Prelude.{◌≡◌, ◌≤◌, ℕ, IfOk, IsTrue, OnOk, OnErr, [], length, ◌↔◌};
 ghost use Rattle.std.specs.List.{Contains};
 ghost use Rattle.mcf_instance.specs.Network.{IsNode, node_count};
-ghost use Rattle.mcf_prices.specs.Queues.{IsQueue, no_queue, queued};
+ghost use Rattle.mcf_prices.specs.Private.Queues.{IsQueue, no_queue, queued};
 
 use mcf_network::{Net, NodeSet};
 use mcf_text::{NoMemory, NodeId};
@@ -17,7 +17,7 @@ pub(crate) struct Queue {
 }
 
 impl Model for Queue {
-    ghost use Rattle.mcf_prices.specs.Queues.{IsQueue, Waiting};
+    ghost use Rattle.mcf_prices.specs.Private.Queues.{IsQueue, Waiting};
 
     ghost Value = { Waiting };
 

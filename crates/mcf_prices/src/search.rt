@@ -7,11 +7,11 @@ ghost use Rattle.mcf_instance.specs.Network.{IsArcNumber, IsNode, at_node, node_
 ghost use Rattle.mcf_network.specs.NodeSets.{member_count};
 ghost use Rattle.mcf_network.specs.Residual.{head, tail};
 ghost use Rattle.mcf_network.specs.Walks.{HasRoom, IsWalk};
-ghost use Rattle.mcf_prices.specs.Labels.{AreAtLeast, IsLabelling, IsRelaxing, cost_limit, link_at, lowered, offer};
+ghost use Rattle.mcf_prices.specs.Private.Labels.{AreAtLeast, IsLabelling, IsRelaxing, cost_limit, link_at, lowered, offer};
 ghost use Rattle.mcf_prices.specs.NegativeCycles.{IsNegativeCycle};
-ghost use Rattle.mcf_prices.specs.Queues.{IsQueue};
-ghost use Rattle.mcf_prices.specs.Rounds.{IsHandled, IsProgress};
-ghost use Rattle.mcf_prices.specs.Trails.{IsDone, IsSettled, IsStep, IsTrail, HasTail};
+ghost use Rattle.mcf_prices.specs.Private.Queues.{IsQueue};
+ghost use Rattle.mcf_prices.specs.Private.Rounds.{IsHandled, IsProgress};
+ghost use Rattle.mcf_prices.specs.Private.Trails.{IsDone, IsSettled, IsStep, IsTrail, HasTail};
 
 use crate::queue::Queue;
 use mcf_network::{NodeSet, Rid, State};
@@ -28,7 +28,7 @@ pub(crate) struct Search<'s, 'n> {
 }
 
 impl<'s, 'n> Model for Search<'s, 'n> {
-    ghost use Rattle.mcf_prices.specs.Labels.{IsLabelling, Labels};
+    ghost use Rattle.mcf_prices.specs.Private.Labels.{IsLabelling, Labels};
 
     ghost Value = { Labels };
 

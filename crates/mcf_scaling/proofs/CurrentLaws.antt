@@ -14,7 +14,7 @@ use Rattle.mcf_network.specs.States.{Pseudoflow, IsPseudoflow, pushed, room_of, 
 use Rattle.mcf_network.proofs.ArcLaws.{head_is_node, tail_is_node}
 use Rattle.mcf_network.proofs.Lists.{Contains-cons}
 use Rattle.mcf_network.proofs.StateLaws.{rid}
-use Rattle.mcf_scaling.specs.Currents.{AreAllLeaving, AreCurrent, rest_of}
+use Rattle.mcf_scaling.specs.Private.Currents.{AreAllLeaving, AreCurrent, rest_of}
 use Rattle.mcf_scaling.specs.Optimality.{IsAdmissible, IsFilled, scaled_reduced}
 use Rattle.std.specs.Int.{int_min}
 use Rattle.std.specs.Option.{IfNone}

@@ -24,7 +24,7 @@ use Rattle.mcf_scaling.specs.Optimality.{IsAdmissible}
 use Rattle.mcf_scaling.specs.Refinements.{Refinement, IsActive}
 use Rattle.mcf_scaling.proofs.RunLaws.{share}
 use Rattle.std.specs.Option.{IfNone, IfSome}
-use Rattle.mcf_scaling.specs.Queues.{HoldsActive, IsPopped, IsQueueOf, Waiting, IsQueue, queued, no_queue}
+use Rattle.mcf_scaling.specs.Private.Queues.{HoldsActive, IsPopped, IsQueueOf, Waiting, IsQueue, queued, no_queue}
 
 -- there is room for a node that doesn't wait
 pub queue_room : (q : Waiting) (v : ℕ) → IsQueue q → IsNode (length q.table) v → in_table q.table v ≡ false → length q.nodes < length q.table

@@ -15,5 +15,4 @@ pub mod Phases
 pub mod Refinements
 pub mod Scales
 pub mod Made
-pub mod Currents
-pub mod Queues
+pub mod Private

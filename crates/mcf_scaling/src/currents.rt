@@ -4,7 +4,7 @@ ghost use Rattle.std.specs.List.{All, Contains};
 ghost use Rattle.mcf_instance.specs.Network.{node_count};
 ghost use Rattle.mcf_network.specs.declared.rid.Rid.{Rid};
 ghost use Rattle.mcf_network.specs.Stars.{Leaves};
-ghost use Rattle.mcf_scaling.specs.Currents.{AreAllLeaving};
+ghost use Rattle.mcf_scaling.specs.Private.Currents.{AreAllLeaving};
 ghost use Rattle.mcf_scaling.specs.Optimality.{AreSmallPrices, IsAdmissible};
 
 use crate::pricing::is_admissible;

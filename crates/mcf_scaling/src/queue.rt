@@ -3,7 +3,7 @@ ghost use Rattle.std.specs.Prelude.{◌≡◌, ◌∷◌, ◌≤◌, ◌<ℤ◌,
 ghost use Rattle.mcf_instance.specs.Network.{IsNode, node_count};
 ghost use Rattle.std.specs.List.{Contains};
 ghost use Rattle.mcf_network.specs.States.{surplus_at};
-ghost use Rattle.mcf_scaling.specs.Queues.{HoldsActive, IsQueue, IsPopped, IsQueueOf, queued, no_queue};
+ghost use Rattle.mcf_scaling.specs.Private.Queues.{HoldsActive, IsQueue, IsPopped, IsQueueOf, queued, no_queue};
 
 use mcf_network::{Net, State};
 use mcf_text::{NoMemory, NodeId};
@@ -21,7 +21,7 @@ pub(crate) struct Queue {
 impl Model for Queue {
     ghost use Rattle.std.specs.Prelude.{◌≤◌, length};
     ghost use Rattle.std.specs.VecDeque.{deque_capacity};
-    ghost use Rattle.mcf_scaling.specs.Queues.{IsQueue, Waiting};
+    ghost use Rattle.mcf_scaling.specs.Private.Queues.{IsQueue, Waiting};
 
     ghost Value = { Waiting };
 

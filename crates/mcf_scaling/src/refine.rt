@@ -48,8 +48,8 @@ pub struct Refine<'n> {
 }
 
 impl<'n> Model for Refine<'n> {
-    ghost use Rattle.mcf_scaling.specs.Currents.{AreCurrent};
-    ghost use Rattle.mcf_scaling.specs.Queues.{IsQueueOf};
+    ghost use Rattle.mcf_scaling.specs.Private.Currents.{AreCurrent};
+    ghost use Rattle.mcf_scaling.specs.Private.Queues.{IsQueueOf};
     ghost use Rattle.mcf_scaling.specs.Refinements.{IsRefinement, Refinement};
 
     ghost Value = { Refinement };

@@ -13,7 +13,7 @@ use Rattle.mcf_solver.specs.Devices.{CountsOneFailure}
 use Rattle.mcf_solver.specs.Running.{IsTooLong, TakesBeginning}
 use Rattle.mcf_suite.specs.declared.serving.Failure.{Failure}
 use Rattle.mcf_suite.specs.declared.serving.Failure.TheVariants.{Usage, Open, Run}
-use Rattle.mcf_suite.specs.Failing.{IsFailure, IsHelpFailure, IsRunFailure, failure_text}
+use Rattle.mcf_suite.specs.Private.Failing.{IsFailure, IsHelpFailure, IsRunFailure, failure_text}
 use Rattle.mcf_suite.specs.Serving.{Answers, AnswersInPart, AsksToSolve, GivesBytes, IsAskedFor, IsReason, IsSource, IsUnopened, Serves, ServesInPart, Tells, fault_line}
 
 -- a kind that an error has, where it isn't want of memory

@@ -18,5 +18,5 @@ pub use Rattle.mcf_solver.specs.Spelling
 pub use Rattle.mcf_solver.specs.States
 pub use Rattle.mcf_solver.specs.Written
 pub mod Asking
-pub mod Failing
 pub mod Serving
+pub mod Private

@@ -4,7 +4,7 @@ ghost use Rattle.std.specs.Io.KnownBytes.{Appends};
 ghost use Rattle.clap.specs.Words.{kind_of};
 ghost use Rattle.mcf_solver.specs.Devices.{CountsOneFailure};
 ghost use Rattle.mcf_solver.specs.Running.{TakesBeginning};
-ghost use Rattle.mcf_suite.specs.Failing.{IsFailure, IsHelpFailure, IsRunFailure, failure_text};
+ghost use Rattle.mcf_suite.specs.Private.Failing.{IsFailure, IsHelpFailure, IsRunFailure, failure_text};
 ghost use Rattle.mcf_suite.specs.Serving.{Answers, AnswersInPart, AsksToSolve, GivesBytes, IsAskedFor, IsReason, OpensBy, Serves, ServesInPart, Tells, fault_line, status_of};
 
 use crate::asking::command;
@@ -30,7 +30,7 @@ enum Failure {
 
 impl Failure {
     ghost use Rattle.std.specs.Prelude.{◌≡◌};
-    ghost use Rattle.mcf_suite.specs.Failing.{failure_text};
+    ghost use Rattle.mcf_suite.specs.Private.Failing.{failure_text};
 
     // The text that says so.
     fn text(&self) -> &str

@@ -1,6 +1,6 @@
 //! The first fields of a line, without taking memory.
 ghost use Rattle.std.specs.Prelude.{◌≡◌, ◌≤◌, map, take};
-ghost use Rattle.mcf_instance.specs.ReaderState.{field_limit};
+ghost use Rattle.mcf_instance.specs.Private.ReaderState.{field_limit};
 ghost use Rattle.mcf_text.specs.Fields.{fields_of};
 
 use mcf_text::fields;

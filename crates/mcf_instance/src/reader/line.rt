@@ -3,7 +3,7 @@ ghost use Rattle.std.specs.Prelude.{◌≡◌, ◌≤ℤ◌, ◌<ℤ◌, map, le
 ghost use Rattle.mcf_instance.specs.Blocking.{in_table};
 ghost use Rattle.mcf_instance.specs.Fault.{is_up_to};
 ghost use Rattle.mcf_instance.specs.Limits.{arc_limit, limits, node_limit};
-ghost use Rattle.mcf_instance.specs.LineReader.{number_at, problem_at, problem_line as problem_reading, node_count_fits as node_count_fits_lem, node_numbers as node_number_reading, node_tests as node_testing, checked_node, node_line as node_reading, arc_count_fits as arc_count_fits_lem, arc_numbers as arc_number_reading, is_wrong_side, amount_fault as amount_fault_lem, arc_tests as arc_testing, arc_line as arc_reading};
+ghost use Rattle.mcf_instance.specs.Private.LineReader.{number_at, problem_at, problem_line as problem_reading, node_count_fits as node_count_fits_lem, node_numbers as node_number_reading, node_tests as node_testing, checked_node, node_line as node_reading, arc_count_fits as arc_count_fits_lem, arc_numbers as arc_number_reading, is_wrong_side, amount_fault as amount_fault_lem, arc_tests as arc_testing, arc_line as arc_reading};
 ghost use Rattle.mcf_text.specs.Row.{natural};
 ghost use Rattle.mcf_text.specs.Whole.{is_within};
 
@@ -68,7 +68,7 @@ fn is_within(low: i64, high: i64, value: i64) -> bool
 }
 
 // The number that a field says, or one past every range.
-#[tactic(auto, unfolding(crate::specs::LineReader::number_at))]
+#[tactic(auto, unfolding(crate::specs::Private::LineReader::number_at))]
 fn number_of(fields: &[&[u8]], k: usize) -> Result<i64, Code>
     requires { k < length fields.now }
     ensures { result ≡ number_at (map (λ f. f.now) fields.now) k }
@@ -80,7 +80,7 @@ fn number_of(fields: &[&[u8]], k: usize) -> Result<i64, Code>
     }
 }
 
-#[tactic(auto, unfolding(crate::specs::LineReader::problem_at))]
+#[tactic(auto, unfolding(crate::specs::Private::LineReader::problem_at))]
 fn problem_of(word: &[u8]) -> Result<Problem, Code>
     ensures { result ≡ problem_at word.now }
 {
@@ -100,7 +100,7 @@ fn sizes_fit(nodes: i64, arcs: i64) -> bool
     is_within(0, NODE_LIMIT, nodes) && is_within(0, ARC_LIMIT, arcs)
 }
 
-#[tactic(auto, unfolding(crate::specs::LineReader::problem_line))]
+#[tactic(auto, unfolding(crate::specs::Private::LineReader::problem_line))]
 pub(crate) fn problem_line(is_seen: bool, fields: &[&[u8]]) -> Result<Heading, Code>
     ensures { result ≡ problem_reading is_seen (map (λ f. f.now) fields.now) }
 {
@@ -189,7 +189,7 @@ fn node_numbers(fields: &[&[u8]]) -> Result<(i64, i64), Code>
     }
 }
 
-#[tactic(auto, unfolding(crate::specs::LineReader::node_tests))]
+#[tactic(auto, unfolding(crate::specs::Private::LineReader::node_tests))]
 fn node_tests(
     heading: Heading,
     arcs: usize,
@@ -214,7 +214,7 @@ fn node_tests(
 }
 
 /// What a node line says: its node and its supply.
-#[tactic(auto, unfolding(crate::specs::LineReader::node_line))]
+#[tactic(auto, unfolding(crate::specs::Private::LineReader::node_line))]
 pub(crate) fn node_line(
     heading: Option<Heading>,
     arcs: usize,
@@ -294,7 +294,7 @@ fn is_wrong_side(heading: Heading, listed: &[bool], src: u32, dst: u32) -> bool
 }
 
 // The first fault of the bounds and the cost of an arc.
-#[tactic(auto, unfolding(crate::specs::LineReader::amount_fault))]
+#[tactic(auto, unfolding(crate::specs::Private::LineReader::amount_fault))]
 fn amount_fault(low: i64, cap: i64, cost: i64) -> Option<Code>
     ensures { result ≡ amount_fault_lem limits low cap cost }
 {
@@ -310,7 +310,7 @@ fn amount_fault(low: i64, cap: i64, cost: i64) -> Option<Code>
     None
 }
 
-#[tactic(auto, unfolding(crate::specs::LineReader::arc_tests))]
+#[tactic(auto, unfolding(crate::specs::Private::LineReader::arc_tests))]
 fn arc_tests(
     heading: Heading,
     arcs: usize,
@@ -345,7 +345,7 @@ fn arc_tests(
 }
 
 /// What an arc line says.
-#[tactic(auto, using(crate::proofs::Signed::signed), unfolding(crate::specs::LineReader::arc_line))]
+#[tactic(auto, using(crate::proofs::Signed::signed), unfolding(crate::specs::Private::LineReader::arc_line))]
 pub(crate) fn arc_line(
     heading: Option<Heading>,
     arcs: usize,

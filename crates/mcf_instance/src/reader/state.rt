@@ -2,9 +2,9 @@
 ghost use Rattle.std.specs.Prelude.{◌≡◌, ◌++◌, ◌∷◌, [], List, map, length, slice_get, None, OnOk, OnErr, ◌≤◌, IsTrue};
 ghost use Rattle.mcf_instance.specs.Fault.{faults, header};
 ghost use Rattle.mcf_instance.specs.Limits.{limits, line_limit};
-ghost use Rattle.mcf_instance.specs.ReaderSound.{ItemFits};
-ghost use Rattle.mcf_instance.specs.ReaderState.{empty, item_of, with_item, item_grows, outcome_grows, after_row, refusal_after, finished};
-ghost use Rattle.mcf_instance.specs.Stands.{Stands};
+ghost use Rattle.mcf_instance.specs.Private.ReaderSound.{ItemFits};
+ghost use Rattle.mcf_instance.specs.Private.ReaderState.{empty, item_of, with_item, item_grows, outcome_grows, after_row, refusal_after, finished};
+ghost use Rattle.mcf_instance.specs.Private.Stands.{Stands};
 ghost use Rattle.mcf_text.specs.Fields.{is_kept};
 ghost use Rattle.mcf_text.specs.Row.{Row, row_of};
 
@@ -32,8 +32,8 @@ pub(crate) struct State {
 
 impl Model for State {
     ghost use Rattle.mcf_instance.specs.Limits.{limits};
-    ghost use Rattle.mcf_instance.specs.ReaderSound.{IsSound};
-    ghost use Rattle.mcf_instance.specs.ReaderState.{StateData};
+    ghost use Rattle.mcf_instance.specs.Private.ReaderSound.{IsSound};
+    ghost use Rattle.mcf_instance.specs.Private.ReaderState.{StateData};
 
     ghost Value = { StateData };
 
@@ -57,7 +57,7 @@ impl State {
     }
 
     /// What a line says, or its fault.
-    #[tactic(auto, unfolding(crate::specs::ReaderState::item_of))]
+    #[tactic(auto, unfolding(crate::specs::Private::ReaderState::item_of))]
     fn item_of(&self, fields: &[&[u8]]) -> Result<Item, Code>
         requires { 1 ≤ length fields.now }
         ensures { result ≡ item_of limits self.now (map (λ f. f.now) fields.now) }
@@ -118,7 +118,7 @@ impl State {
     }
 
     // Takes the next kept line in, by its fields.
-    #[tactic(auto, unfolding(crate::specs::ReaderState::after_row))]
+    #[tactic(auto, unfolding(crate::specs::Private::ReaderState::after_row))]
     fn advance(&mut self, alloc: Global, number: u128, fields: &[&[u8]]) -> Result<(), NoMemory>
         requires some_field { 1 ≤ length fields.now }
         requires numbered { (1 ≤ number) × (number ≤ line_limit) }

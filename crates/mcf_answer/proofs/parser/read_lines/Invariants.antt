@@ -1,7 +1,7 @@
 use Rattle.std.proofs.Common.{◌≡◌, map, true}
 use Rattle.std.specs.List.{list_any}
 use Rattle.std.specs.Prelude.{filter}
-use Rattle.mcf_answer.specs.Draft.{run}
+use Rattle.mcf_answer.specs.Private.Draft.{run}
 use Rattle.mcf_answer.specs.Parsing.{has_item_line, says_item}
 use Rattle.mcf_answer.specs.Token.{tokens}
 use Rattle.mcf_answer.specs.declared.draft.Draft.TheVariants.{Empty}

@@ -1,4 +1,4 @@
-use Rattle.mcf_assign.specs.Keeping.{AreFirstPrices}
+use Rattle.mcf_assign.specs.Private.Keeping.{AreFirstPrices}
 use Rattle.mcf_assign.proofs.matching.first_prices.Given as goal
 
 abbrev pub invariant-nodes : goal.invariant-nodes

@@ -1,6 +1,6 @@
 use Rattle.std.proofs.Common.{◌≡◌, ◌+◌, ◌<◌, ◌^◌, length}
 use Rattle.mcf_text.specs.Lines.{numbered_lines}
-use Rattle.mcf_bench.specs.Tally.{capped, fields_in}
+use Rattle.mcf_bench.specs.Private.Tally.{capped, fields_in}
 use Rattle.mcf_bench.proofs.text.count.Given as goal
 
 abbrev pub invariant-loop-line : goal.invariant-loop-line

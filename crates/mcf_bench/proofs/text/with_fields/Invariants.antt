@@ -1,6 +1,6 @@
 use Rattle.std.proofs.Common.{◌≡◌, ◌+◌, ◌<◌, ◌^◌, length}
 use Rattle.mcf_text.specs.Fields.{fields_of}
-use Rattle.mcf_bench.specs.Tally.{capped}
+use Rattle.mcf_bench.specs.Private.Tally.{capped}
 use Rattle.mcf_bench.proofs.text.with_fields.Given as goal
 
 abbrev pub invariant-loop-field : goal.invariant-loop-field

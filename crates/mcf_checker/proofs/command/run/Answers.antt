@@ -1,7 +1,7 @@
 use Rattle.std.proofs.Common.{rules, map, length, ◌<◌, ◌≡◌, Ok, Err, refl, inr, ◌∙◌}
 use Rattle.std.proofs.lemmas.List.{length-map}
 use Rattle.mcf_checker.specs.declared.command.Failure.TheVariants.{Answer, Instance}
-use Rattle.mcf_checker.specs.Failures.{failure_line}
+use Rattle.mcf_checker.specs.Private.Failures.{failure_line}
 use Rattle.mcf_checker.specs.Runs.{IsReason, IsUnprinted}
 use Rattle.mcf_checker.proofs.Runs.{asks-from_answer, asks-from_both, asks-from_input, called-at_word, if-failed, judges-from_parts, line_of_fault, once-from_both, once-from_input}
 use Rattle.mcf_checker.proofs.command.run.Goals as goal

@@ -1,7 +1,7 @@
 use Rattle.std.proofs.Common.{◌≡◌, length}
 use Rattle.mcf_instance.specs.Network.{node_count}
 use Rattle.mcf_network.specs.States.{IsPseudoflow}
-use Rattle.mcf_feas.specs.Pushing.{excess}
+use Rattle.mcf_feas.specs.Private.Pushing.{excess}
 use Rattle.mcf_feas.proofs.feas.feasible.Given as goal
 
 abbrev pub invariant-loop-search : goal.invariant-loop-search

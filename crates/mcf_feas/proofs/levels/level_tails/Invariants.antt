@@ -2,7 +2,7 @@ use Rattle.std.proofs.Common.{◌≡◌, length}
 use Rattle.std.specs.List.{All}
 use Rattle.mcf_instance.specs.Network.{node_count}
 use Rattle.mcf_network.specs.Stars.{Leaves}
-use Rattle.mcf_feas.specs.Pushing.{AreNodes}
+use Rattle.mcf_feas.specs.Private.Pushing.{AreNodes}
 use Rattle.mcf_feas.proofs.levels.level_tails.Given as goal
 
 abbrev pub invariant-tails : goal.invariant-tails

@@ -1,6 +1,6 @@
 use Rattle.std.proofs.Common.{◌≡◌, length}
 use Rattle.mcf_instance.specs.Network.{node_count}
-use Rattle.mcf_feas.specs.Pushing.{AreNodes}
+use Rattle.mcf_feas.specs.Private.Pushing.{AreNodes}
 use Rattle.mcf_feas.proofs.levels.set_levels.Given as goal
 
 abbrev pub invariant-nodes : goal.invariant-nodes

@@ -2,7 +2,7 @@ use Rattle.std.proofs.Common.{subst, ap, ◌∙◌}
 use Rattle.std.proofs.lemmas.List.Elements.{All-tail}
 use Rattle.mcf_instance.specs.Network.{Network, node_count}
 use Rattle.mcf_network.specs.Stars.{Leaves}
-use Rattle.mcf_feas.specs.Pushing.{AreNodes}
+use Rattle.mcf_feas.specs.Private.Pushing.{AreNodes}
 use Rattle.mcf_feas.proofs.Excess.{pushed_more}
 use Rattle.mcf_feas.proofs.preflow.push_down.Goals as goal
 

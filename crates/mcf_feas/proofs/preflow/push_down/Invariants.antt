@@ -2,7 +2,7 @@ use Rattle.std.proofs.Common.{◌≡◌, length}
 use Rattle.std.specs.List.{All}
 use Rattle.mcf_instance.specs.Network.{node_count}
 use Rattle.mcf_network.specs.Stars.{Leaves}
-use Rattle.mcf_feas.specs.Pushing.{AreNodes, IsPushedOn}
+use Rattle.mcf_feas.specs.Private.Pushing.{AreNodes, IsPushedOn}
 use Rattle.mcf_feas.proofs.preflow.push_down.Given as goal
 
 abbrev pub invariant-arcs : goal.invariant-arcs

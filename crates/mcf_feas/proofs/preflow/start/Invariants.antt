@@ -1,5 +1,5 @@
 use Rattle.mcf_instance.specs.Network.{node_count}
-use Rattle.mcf_feas.specs.Pushing.{AreNodes}
+use Rattle.mcf_feas.specs.Private.Pushing.{AreNodes}
 use Rattle.mcf_feas.proofs.preflow.start.Given as goal
 
 abbrev pub invariant-nodes : goal.invariant-nodes

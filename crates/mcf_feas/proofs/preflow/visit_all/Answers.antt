@@ -1,6 +1,6 @@
 use Rattle.std.proofs.Common.{subst, sym, ap, ◌∙◌}
 use Rattle.mcf_instance.specs.Network.{Network, IsNode, node_count}
-use Rattle.mcf_feas.specs.Pushing.{AreNodes}
+use Rattle.mcf_feas.specs.Private.Pushing.{AreNodes}
 use Rattle.mcf_feas.proofs.Excess.{pushed_more}
 use Rattle.mcf_feas.proofs.Queues.{the_first, the_rest}
 use Rattle.mcf_feas.proofs.preflow.visit_all.Goals as goal

@@ -1,6 +1,6 @@
 use Rattle.std.proofs.Common.{◌≡◌, length}
 use Rattle.mcf_instance.specs.Network.{node_count}
-use Rattle.mcf_feas.specs.Pushing.{AreNodes, IsPushedOn}
+use Rattle.mcf_feas.specs.Private.Pushing.{AreNodes, IsPushedOn}
 use Rattle.mcf_feas.proofs.preflow.visit_all.Given as goal
 
 abbrev pub invariant-visits : goal.invariant-visits

@@ -5,7 +5,7 @@ use Rattle.std.proofs.lemmas.Int.{to_z-of_z}
 use Rattle.std.proofs.lemmas.List.{get_or_default, reverse-append}
 use Rattle.mcf_network.specs.States.{room_of, surplus_at}
 use Rattle.mcf_feas.specs.declared.search.Visit.{Visit}
-use Rattle.mcf_feas.specs.Searching.{node_at}
+use Rattle.mcf_feas.specs.Private.Searching.{node_at}
 use Rattle.mcf_feas.proofs.Traces.{lesser_read, linked_none, linked_some, trace_end, trace_step}
 use Rattle.mcf_feas.proofs.search.trace.Goals as goal
 

@@ -1,6 +1,6 @@
 use Rattle.std.proofs.Common.{◌-◌, length}
 use Rattle.std.specs.Prelude.{reverse}
-use Rattle.mcf_feas.specs.Searching.{node_at}
+use Rattle.mcf_feas.specs.Private.Searching.{node_at}
 use Rattle.mcf_feas.proofs.Traces.{IsTrace}
 use Rattle.mcf_feas.proofs.search.trace.Given as goal
 

@@ -5,7 +5,7 @@ use Rattle.mcf_instance.specs.Network.{Network, IsNode, at_node, node_count}
 use Rattle.mcf_network.specs.Residual.{tail}
 use Rattle.mcf_network.specs.Walks.{HasRoom}
 use Rattle.mcf_prices.specs.Heaps.{waiting_with}
-use Rattle.mcf_prices.specs.Raisings.{step}
+use Rattle.mcf_prices.specs.Private.Raisings.{step}
 use Rattle.mcf_prices.proofs.Relaxing.{reverse}
 use Rattle.mcf_prices.proofs.RaisingSteps.{IsRelaxed, kept, label_small, price_small, relax_lower, relax_lowered, relax_settled}
 use Rattle.mcf_prices.proofs.pricer.relax.Goals as goal

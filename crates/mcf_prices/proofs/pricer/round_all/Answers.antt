@@ -3,7 +3,7 @@ use mir.Syntax.{w128}
 use Rattle.std.proofs.lemmas.Int.{ints, to_z-of_z}
 use Rattle.mcf_instance.specs.WellFormed.{IsUpTo}
 use Rattle.mcf_prices.specs.NearPrices.{near_limit}
-use Rattle.mcf_prices.specs.Raisings.{IsRoundedDown}
+use Rattle.mcf_prices.specs.Private.Raisings.{IsRoundedDown}
 use Rattle.mcf_prices.proofs.RaisingLoops.{label_next, round_end, round_next, round_start}
 use Rattle.mcf_prices.proofs.pricer.round_all.Goals as goal
 

@@ -5,7 +5,7 @@ use Rattle.std.proofs.lemmas.List.Elements.{All-head, All-tail}
 use Rattle.mcf_instance.specs.Network.{Network, node_count}
 use Rattle.mcf_network.specs.declared.rid.Rid.{Rid}
 use Rattle.mcf_network.specs.Stars.{Leaves, ListsLeaving}
-use Rattle.mcf_prices.specs.Raisings.{IsLastSettled, IsRaising, label}
+use Rattle.mcf_prices.specs.Private.Raisings.{IsLastSettled, IsRaising, label}
 use Rattle.mcf_prices.proofs.RaisingSteps.{keeps_join, label_small, last_kept, price_small}
 use Rattle.mcf_prices.proofs.pricer.scan.Goals as goal
 

@@ -1,7 +1,7 @@
 use Rattle.std.specs.List.{All}
 use Rattle.mcf_instance.specs.Network.{node_count}
 use Rattle.mcf_network.specs.Stars.{Leaves}
-use Rattle.mcf_prices.specs.Raisings.{IsLastSettled, IsRaising, KeepsSettled}
+use Rattle.mcf_prices.specs.Private.Raisings.{IsLastSettled, IsRaising, KeepsSettled}
 use Rattle.mcf_prices.proofs.pricer.scan.Given as goal
 
 abbrev pub invariant-entering : goal.invariant-entering

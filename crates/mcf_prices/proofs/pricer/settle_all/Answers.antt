@@ -2,7 +2,7 @@ use Rattle.std.proofs.Common.{◌≡◌, [], ap, subst, sym, ◌∙◌, arith}
 use Rattle.mcf_instance.specs.Network.{node_count}
 use Rattle.mcf_network.specs.NodeSets.{member_count}
 use Rattle.mcf_prices.specs.Heaps.{Keyed, NoneWaits}
-use Rattle.mcf_prices.specs.Raisings.{IsLastSettled, IsRaising}
+use Rattle.mcf_prices.specs.Private.Raisings.{IsLastSettled, IsRaising}
 use Rattle.mcf_prices.proofs.RaisingSteps.{fewer, popped, popped_last}
 use Rattle.mcf_prices.proofs.pricer.settle_all.Goals as goal
 

@@ -1,6 +1,6 @@
 use Rattle.std.proofs.Common.{[]}
 use Rattle.mcf_network.specs.NodeSets.{member_count}
-use Rattle.mcf_prices.specs.Raisings.{IsRaising}
+use Rattle.mcf_prices.specs.Private.Raisings.{IsRaising}
 use Rattle.mcf_prices.proofs.pricer.settle_all.Given as goal
 
 abbrev pub invariant-nodes : goal.invariant-nodes

@@ -3,7 +3,7 @@ use Rattle.std.specs.Prelude.{◌<ℤ◌}
 use Rattle.std.specs.List.{Contains}
 use Rattle.mcf_instance.specs.Network.{IsNode, node_count}
 use Rattle.mcf_network.specs.States.{surplus_at}
-use Rattle.mcf_scaling.specs.Queues.{IsQueue}
+use Rattle.mcf_scaling.specs.Private.Queues.{IsQueue}
 use Rattle.mcf_scaling.proofs.queue.enqueue_all.Given as goal
 
 abbrev pub invariant-nodes : goal.invariant-nodes

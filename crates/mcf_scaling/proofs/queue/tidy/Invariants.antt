@@ -1,5 +1,5 @@
 use Rattle.std.proofs.Common.{length}
-use Rattle.mcf_scaling.specs.Queues.{HoldsActive}
+use Rattle.mcf_scaling.specs.Private.Queues.{HoldsActive}
 use Rattle.mcf_scaling.proofs.queue.tidy.Given as goal
 
 abbrev pub invariant-fronts : goal.invariant-fronts

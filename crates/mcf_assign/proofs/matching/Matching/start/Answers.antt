@@ -2,7 +2,7 @@ use Rattle.std.proofs.Common.{false, Bool, List, ap, sym, subst, ◌∙◌, leng
 use Rattle.std.proofs.lemmas.List.{length-replicate}
 use Rattle.mcf_instance.specs.Network.{node_count}
 use Rattle.mcf_network.specs.States.{Pseudoflow, IsPseudoflow}
-use Rattle.mcf_assign.specs.Keeping.{IsKept}
+use Rattle.mcf_assign.specs.Private.Keeping.{IsKept}
 use Rattle.mcf_assign.proofs.Kept.{kept_first, shown_kept}
 use Rattle.mcf_assign.proofs.matching.Matching.start.Goals as goal
 

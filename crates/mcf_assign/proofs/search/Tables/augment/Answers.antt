@@ -6,8 +6,8 @@ use Rattle.mcf_network.specs.Residual.{arc_at}
 use Rattle.mcf_network.specs.States.{Pseudoflow}
 use Rattle.mcf_assign.specs.Forests.{IsChangedWithin, IsForest, IsListing, IsTightArc}
 use Rattle.mcf_assign.specs.Matchings.{IsMatchedColumn, column_of}
-use Rattle.mcf_assign.specs.Searches.{AreRaised, search_of}
-use Rattle.mcf_assign.specs.Turning.{IsExtended}
+use Rattle.mcf_assign.specs.Private.Searches.{AreRaised, search_of}
+use Rattle.mcf_assign.specs.Private.Turning.{IsExtended}
 use Rattle.mcf_assign.proofs.Found.{found_arc, found_dist, found_forest, found_free, found_near, found_room, found_tight}
 use Rattle.mcf_assign.proofs.Raising.{listing_of}
 use Rattle.mcf_assign.proofs.search.Tables.augment.Goals as goal

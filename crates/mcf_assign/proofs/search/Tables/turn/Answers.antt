@@ -4,8 +4,8 @@ use Rattle.mcf_instance.specs.Network.{Network, IsArcNumber, node_count}
 use Rattle.mcf_network.specs.States.{Pseudoflow}
 use Rattle.mcf_assign.specs.Forests.{IsChangedWithin, IsForest, IsTightArc}
 use Rattle.mcf_assign.specs.Matchings.{IsMatchedColumn, IsMatchedRow, IsPair, IsPartialMatching, column_of, row_of}
-use Rattle.mcf_assign.specs.Searches.{search_of}
-use Rattle.mcf_assign.specs.Turning.{IsExtended}
+use Rattle.mcf_assign.specs.Private.Searches.{search_of}
+use Rattle.mcf_assign.specs.Private.Turning.{IsExtended}
 use Rattle.mcf_assign.proofs.Pairing.{unpaired_ok}
 use Rattle.mcf_assign.proofs.Turns.{mate_none, mate_some, parted_column, parted_row, turning_changed, turning_end, turning_free, turning_round, turning_start}
 use Rattle.mcf_assign.proofs.search.Tables.turn.Goals as goal

@@ -1,6 +1,6 @@
 use Rattle.mcf_assign.specs.Forests.{IsTurning, place}
 use Rattle.mcf_assign.specs.Matchings.{row_of}
-use Rattle.mcf_assign.specs.Searches.{search_of}
+use Rattle.mcf_assign.specs.Private.Searches.{search_of}
 use Rattle.mcf_assign.proofs.search.Tables.turn.Given as goal
 
 abbrev pub invariant-path : goal.invariant-path

@@ -1,4 +1,4 @@
-use Rattle.mcf_basis.specs.Layouts.{Layout}
+use Rattle.mcf_basis.specs.Private.Layouts.{Layout}
 use Rattle.mcf_basis.proofs.Views.{view_net}
 use Rattle.mcf_basis.proofs.basis.Basis.net.Goals as goal
 

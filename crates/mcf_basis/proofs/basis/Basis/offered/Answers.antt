@@ -1,6 +1,6 @@
 use Rattle.std.proofs.Common.{◌≡◌, neg_ℤ, ◌-◌, ◌<◌, length, get_or, ap, arith, pos, ◌<ℤ◌}
 use Rattle.std.proofs.lemmas.Int.{ints}
-use Rattle.mcf_basis.specs.Layouts.{Layout}
+use Rattle.mcf_basis.specs.Private.Layouts.{Layout}
 use Rattle.mcf_basis.specs.Violations.{violation}
 use Rattle.mcf_basis.proofs.Offers.{offer_in_range, offer_read, offered}
 use Rattle.mcf_basis.proofs.Views.{read_price}

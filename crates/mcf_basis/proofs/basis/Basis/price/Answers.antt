@@ -1,6 +1,6 @@
 use Rattle.std.proofs.Common.{◌≡◌, get_or, ap, ◌∙◌, arith, pos}
 use Rattle.std.proofs.lemmas.Int.{ints}
-use Rattle.mcf_basis.specs.Layouts.{Layout}
+use Rattle.mcf_basis.specs.Private.Layouts.{Layout}
 use Rattle.mcf_basis.proofs.Views.{read_price}
 use Rattle.mcf_basis.proofs.basis.Basis.price.Goals as goal
 

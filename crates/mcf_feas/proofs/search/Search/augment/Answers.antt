@@ -3,7 +3,7 @@ use mir.Syntax.{w128}
 use Rattle.std.proofs.lemmas.Int.{to_z-of_z}
 use Rattle.mcf_network.specs.States.{Pseudoflow}
 use Rattle.mcf_network.specs.Walks.{IsWalk}
-use Rattle.mcf_feas.specs.Searching.{node_at}
+use Rattle.mcf_feas.specs.Private.Searching.{node_at}
 use Rattle.mcf_network.proofs.WalkLaws.{along_net}
 use Rattle.mcf_feas.proofs.search.Search.augment.Goals as goal
 

@@ -1,5 +1,5 @@
 use Rattle.std.proofs.Common.{◌-◌, ◌<◌, length}
-use Rattle.mcf_feas.specs.Searching.{IsScanned}
+use Rattle.mcf_feas.specs.Private.Searching.{IsScanned}
 use Rattle.mcf_feas.proofs.search.Search.run.Given as goal
 
 abbrev pub invariant-loop-scanned : goal.invariant-loop-scanned

@@ -3,7 +3,7 @@ use Rattle.std.proofs.lemmas.Int.{to_z-of_z}
 use Rattle.std.proofs.lemmas.List.{length-map}
 use mir.Val.{SFits}
 use mir.Syntax.{w64}
-use Rattle.mcf_instance.specs.LineReader.{arc_count_fits}
+use Rattle.mcf_instance.specs.Private.LineReader.{arc_count_fits}
 use Rattle.mcf_instance.proofs.LineSteps.{arc_line_at}
 use Rattle.mcf_instance.proofs.reader.line.arc_line.Goals as goal
 

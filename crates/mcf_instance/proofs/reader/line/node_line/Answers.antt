@@ -3,7 +3,7 @@ use Rattle.std.proofs.lemmas.Int.{to_z-of_z}
 use Rattle.std.proofs.lemmas.List.{length-map}
 use mir.Val.{SFits}
 use mir.Syntax.{w64}
-use Rattle.mcf_instance.specs.LineReader.{node_count_fits}
+use Rattle.mcf_instance.specs.Private.LineReader.{node_count_fits}
 use Rattle.mcf_instance.proofs.LineSteps.{node_line_at}
 use Rattle.mcf_instance.proofs.reader.line.node_line.Goals as goal
 

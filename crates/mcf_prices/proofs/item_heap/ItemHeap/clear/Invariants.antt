@@ -1,5 +1,5 @@
 use Rattle.std.proofs.Common.{◌≡◌, length}
-use Rattle.mcf_prices.specs.ItemHeaps.{IsPlaced}
+use Rattle.mcf_prices.specs.Private.ItemHeaps.{IsPlaced}
 use Rattle.mcf_prices.proofs.item_heap.ItemHeap.clear.Given as goal
 
 abbrev pub invariant-items : goal.invariant-items

@@ -1,5 +1,5 @@
 use Rattle.std.proofs.Common.{◌≡◌, ◌+◌, ◌-◌, ap, subst, ◌∙◌, arith, set, false}
-use Rattle.mcf_prices.specs.ItemHeaps.{table_of, IsPlaced}
+use Rattle.mcf_prices.specs.Private.ItemHeaps.{table_of, IsPlaced}
 use Rattle.mcf_prices.proofs.HeapPlaces.{read_is, dropped_places, unplaced}
 use Rattle.mcf_prices.proofs.item_heap.ItemHeap.drop_last.Goals as goal
 

@@ -2,7 +2,7 @@ use Rattle.std.proofs.Common.{◌≡◌, ◌<◌, inl, inr, ap, sym, subst, ◌�
 use mir.Syntax.{w128}
 use Rattle.std.proofs.lemmas.Bool.{cases_eq}
 use Rattle.std.proofs.lemmas.Int.{to_z-of_z}
-use Rattle.mcf_prices.specs.ItemHeaps.{entry, IsOrderedAbove}
+use Rattle.mcf_prices.specs.Private.ItemHeaps.{entry, IsOrderedAbove}
 use Rattle.mcf_prices.proofs.HeapOrder.{above_at}
 use Rattle.mcf_prices.proofs.HeapPlaces.{room_for}
 use Rattle.mcf_prices.proofs.HeapLowered.{lowered_above, appended_above}

@@ -1,5 +1,5 @@
 use Rattle.std.proofs.Common.{ap, sym, ◌∙◌, arith, set, false}
-use Rattle.mcf_prices.specs.ItemHeaps.{table_of}
+use Rattle.mcf_prices.specs.Private.ItemHeaps.{table_of}
 use Rattle.mcf_prices.proofs.HeapPlaces.{read_is}
 use Rattle.mcf_prices.proofs.HeapViews.{precedes_all}
 use Rattle.mcf_prices.proofs.item_heap.ItemHeap.pop.Goals as goal

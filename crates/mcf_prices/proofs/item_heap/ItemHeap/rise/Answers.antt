@@ -1,5 +1,5 @@
 use Rattle.std.proofs.Common.{◌-◌, ◌/◌, ap, ◌∙◌, arith}
-use Rattle.mcf_prices.specs.ItemHeaps.{IsChild}
+use Rattle.mcf_prices.specs.Private.ItemHeaps.{IsChild}
 use Rattle.mcf_prices.proofs.HeapOrder.{rise_step, above_at}
 use Rattle.mcf_prices.proofs.item_heap.ItemHeap.rise.Goals as goal
 

@@ -1,5 +1,5 @@
 use Rattle.std.proofs.Common.{◌≡◌, ◌<◌, length}
-use Rattle.mcf_prices.specs.ItemHeaps.{IsOrderedAbove, IsPlaced, table_of}
+use Rattle.mcf_prices.specs.Private.ItemHeaps.{IsOrderedAbove, IsPlaced, table_of}
 use Rattle.mcf_prices.proofs.item_heap.ItemHeap.rise.Given as goal
 
 abbrev pub invariant-up : goal.invariant-up

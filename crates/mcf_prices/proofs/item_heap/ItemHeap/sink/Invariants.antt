@@ -1,5 +1,5 @@
 use Rattle.std.proofs.Common.{◌≡◌, ◌<◌, ◌-◌, length}
-use Rattle.mcf_prices.specs.ItemHeaps.{IsOrderedBelow, IsPlaced, table_of}
+use Rattle.mcf_prices.specs.Private.ItemHeaps.{IsOrderedBelow, IsPlaced, table_of}
 use Rattle.mcf_prices.proofs.item_heap.ItemHeap.sink.Given as goal
 
 abbrev pub invariant-down : goal.invariant-down

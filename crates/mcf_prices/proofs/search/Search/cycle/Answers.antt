@@ -1,7 +1,7 @@
 use Rattle.std.proofs.Common.{arith, subst, ap, ◌∙◌}
 use Rattle.mcf_instance.specs.Network.{Network, node_count}
 use Rattle.std.proofs.lemmas.Bool.{OnFalse_at}
-use Rattle.mcf_prices.specs.Labels.{Labels, IsLabelling}
+use Rattle.mcf_prices.specs.Private.Labels.{Labels, IsLabelling}
 use Rattle.mcf_prices.proofs.LinkWalks.{cycle_from_path}
 use Rattle.mcf_prices.proofs.Cycles.{cycle_next, cycle_end}
 use Rattle.mcf_prices.proofs.search.Search.cycle.Goals as goal

@@ -1,7 +1,7 @@
 use Rattle.std.proofs.Common.{◌≡◌, ◌++◌, ◌∷◌, [], subst, ap, ◌∙◌}
 use Rattle.mcf_instance.specs.Network.{Network}
 use Rattle.mcf_network.specs.Residual.{tail}
-use Rattle.mcf_prices.specs.Labels.{Labels, IsLabelling}
+use Rattle.mcf_prices.specs.Private.Labels.{Labels, IsLabelling}
 use Rattle.mcf_prices.proofs.Paths.{finish_step}
 use Rattle.mcf_prices.proofs.search.Search.finish.Goals as goal
 

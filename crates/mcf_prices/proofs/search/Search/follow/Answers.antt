@@ -2,7 +2,7 @@ use Rattle.std.proofs.Common.{◌≡◌, ◌++◌, ◌∷◌, [], rules, subst, 
 use Rattle.mcf_instance.specs.Network.{Network, IsNode, node_count}
 use Rattle.mcf_instance.specs.Blocking.{in_table}
 use Rattle.mcf_network.specs.Residual.{head}
-use Rattle.mcf_prices.specs.Labels.{Labels}
+use Rattle.mcf_prices.specs.Private.Labels.{Labels}
 use Rattle.mcf_prices.proofs.LinkWalks.{IsWalk-push}
 use Rattle.mcf_prices.proofs.Paths.{trail_push}
 use Rattle.mcf_prices.proofs.search.Search.follow.Goals as goal

@@ -2,7 +2,7 @@ use Rattle.std.proofs.Common.{◌-◌, length}
 use Rattle.mcf_instance.specs.Network.{IsNode, node_count}
 use Rattle.mcf_network.specs.NodeSets.{member_count}
 use Rattle.mcf_network.specs.Walks.{IsWalk}
-use Rattle.mcf_prices.specs.Trails.{IsTrail}
+use Rattle.mcf_prices.specs.Private.Trails.{IsTrail}
 use Rattle.mcf_prices.proofs.search.Search.follow.Given as goal
 
 abbrev pub invariant-links : goal.invariant-links

@@ -1,5 +1,5 @@
 use Rattle.std.proofs.Common.{arith, subst}
-use Rattle.mcf_prices.specs.Labels.{Labels, IsLabelling}
+use Rattle.mcf_prices.specs.Private.Labels.{Labels, IsLabelling}
 use Rattle.mcf_prices.proofs.Offers.{read_link}
 use Rattle.mcf_prices.proofs.Paths.{link_step}
 use Rattle.mcf_prices.proofs.search.Search.link.Goals as goal

@@ -4,7 +4,7 @@ use Rattle.std.proofs.lemmas.Int.{to_z-of_z}
 use Rattle.mcf_instance.specs.Network.{Network, at_node}
 use Rattle.mcf_network.specs.Residual.{tail}
 use Rattle.mcf_network.specs.Walks.{HasRoom}
-use Rattle.mcf_prices.specs.Labels.{Labels, offer}
+use Rattle.mcf_prices.specs.Private.Labels.{Labels, offer}
 use Rattle.mcf_prices.proofs.Lowering.{lowered_ok}
 use Rattle.mcf_prices.proofs.search.Search.lower.Goals as goal
 

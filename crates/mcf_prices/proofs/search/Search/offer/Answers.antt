@@ -1,6 +1,6 @@
 use Rattle.std.proofs.Common.{arith}
 use Rattle.std.proofs.lemmas.Int.{ints}
-use Rattle.mcf_prices.specs.Labels.{Labels}
+use Rattle.mcf_prices.specs.Private.Labels.{Labels}
 use Rattle.mcf_prices.proofs.Offers.{offered}
 use Rattle.mcf_prices.proofs.search.Search.offer.Goals as goal
 

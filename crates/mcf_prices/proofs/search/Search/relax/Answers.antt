@@ -5,7 +5,7 @@ use Rattle.mcf_instance.specs.Network.{Network}
 use Rattle.mcf_network.specs.Residual.{tail}
 use Rattle.mcf_network.specs.States.{room_of}
 use Rattle.mcf_network.proofs.ArcLaws.{tail_is_node}
-use Rattle.mcf_prices.specs.Labels.{Labels, IsLabelling}
+use Rattle.mcf_prices.specs.Private.Labels.{Labels, IsLabelling}
 use Rattle.mcf_prices.proofs.Offers.{read_price}
 use Rattle.mcf_prices.proofs.search.Search.relax.Goals as goal
 

@@ -2,8 +2,8 @@ use Rattle.std.proofs.Common.{◌≡◌, arith, ap, ◌∙◌, rules, ◌^◌}
 use Rattle.std.proofs.lemmas.Int.{ints}
 use Rattle.std.proofs.lemmas.List.Elements.{All-head, All-tail}
 use Rattle.mcf_network.specs.Stars.{Leaves}
-use Rattle.mcf_prices.specs.Labels.{Labels}
-use Rattle.mcf_prices.specs.Queues.{queued}
+use Rattle.mcf_prices.specs.Private.Labels.{Labels}
+use Rattle.mcf_prices.specs.Private.Queues.{queued}
 use Rattle.mcf_prices.proofs.Relaxing.{entered_first, entered_leaves, entered_lowered, entered_kept}
 use Rattle.mcf_prices.proofs.search.Search.relax_entering.Goals as goal
 

@@ -1,5 +1,5 @@
 use Rattle.std.proofs.Common.{◌≡◌, length, refl, rules, arith, deque_len}
-use Rattle.mcf_scaling.specs.Queues.{Waiting}
+use Rattle.mcf_scaling.specs.Private.Queues.{Waiting}
 use Rattle.mcf_scaling.proofs.QueueLaws.{first_waits}
 use Rattle.mcf_scaling.proofs.queue.Queue.front.Goals as goal
 

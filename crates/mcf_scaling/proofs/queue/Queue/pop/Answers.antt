@@ -1,5 +1,5 @@
 use Rattle.std.proofs.Common.{◌-◌, ℕ, false, set, length-set, sym, subst, arith}
-use Rattle.mcf_scaling.specs.Queues.{Waiting, IsQueue}
+use Rattle.mcf_scaling.specs.Private.Queues.{Waiting, IsQueue}
 use Rattle.mcf_scaling.proofs.QueueLaws.{popped}
 use Rattle.mcf_scaling.proofs.queue.Queue.pop.Goals as goal
 

@@ -6,7 +6,7 @@ use Rattle.mcf_scaling.proofs.CurrentLaws.{relabel_current}
 use Rattle.mcf_scaling.proofs.Methods.{active_not_shut, relabel_raised, relabel_rises, relabel_stepped}
 use Rattle.mcf_scaling.proofs.Sizes.{small_prices}
 use Rattle.mcf_scaling.specs.Optimality.{AreSmallPrices}
-use Rattle.mcf_scaling.specs.Currents.{AreCurrent}
+use Rattle.mcf_scaling.specs.Private.Currents.{AreCurrent}
 use Rattle.mcf_scaling.specs.Refinements.{Refinement}
 use Rattle.mcf_scaling.proofs.refine.Refine.relabel.Goals as goal
 

@@ -1,7 +1,7 @@
 use Rattle.std.proofs.Common.{◌≡◌, ◌∙◌, ap, replicate, rules}
 use mir.Syntax.{w64}
 use mir.Val.{to_z}
-use Rattle.mcf_instance.specs.ReaderState.{default_supply}
+use Rattle.mcf_instance.specs.Private.ReaderState.{default_supply}
 use Rattle.mcf_instance.proofs.SoundStates.{sound_heading}
 use Rattle.mcf_instance.proofs.reader.state.State.start.Goals as goal
 use Rattle.mcf_instance.proofs.reader.state.State.start.Goals.{in-Min, in-Asn}

@@ -1,8 +1,8 @@
 use Rattle.std.proofs.Common.{◌∙◌, ◌++◌, ◌∷◌, [], ap, subst, sym}
 use Rattle.std.proofs.lemmas.Result.{on_err_weaker, on_ok_weaker}
 use Rattle.mcf_instance.specs.Limits.{limits}
-use Rattle.mcf_instance.specs.Stands.{Stands}
-use Rattle.mcf_instance.specs.ReaderState.{item_of, outcome_grows}
+use Rattle.mcf_instance.specs.Private.Stands.{Stands}
+use Rattle.mcf_instance.specs.Private.ReaderState.{item_of, outcome_grows}
 use Rattle.mcf_instance.proofs.NamedNodes.{step_names_nodes}
 use Rattle.mcf_text.specs.Fields.{fields_of}
 use Rattle.mcf_text.specs.Row.{row_of}

@@ -1,7 +1,7 @@
 -- The parser's state: what the lines so far say, and how a line changes it.
 use Rattle.std.specs.Prelude.{ℕ, ◌+◌, ◌==◌, nat_lt, ◌&&◌, if◌then◌else◌, List, [], ◌∷◌, ◌++◌, length, ℤ, Option, Some, None, option_map, Result, Ok, Err}
 use Rattle.mcf_answer.specs.Fits.{is_above_last}
-use Rattle.mcf_answer.specs.PartialSet.{PartialSet}
+use Rattle.mcf_answer.specs.Private.PartialSet.{PartialSet}
 use Rattle.mcf_answer.specs.Said.{Opening, OpensFlow, OpensSet, OpensRefusal, opening_said, sent_said, price_said, member_said}
 use Rattle.mcf_answer.specs.Solution.{Solution}
 use Rattle.mcf_answer.specs.Token.{Token, tokens_of}

@@ -9,7 +9,7 @@ use Rattle.mcf_instance.specs.Assignment.{OnAssignment, IsPairing}
 use Rattle.mcf_instance.specs.Blocking.{in_table}
 use Rattle.mcf_instance.specs.Limits.{Limits, node_limit, arc_limit}
 use Rattle.mcf_instance.specs.Packed.{unpacked}
-use Rattle.mcf_instance.specs.ReaderState.{StateData, problem_or_min}
+use Rattle.mcf_instance.specs.Private.ReaderState.{StateData, problem_or_min}
 use Rattle.mcf_instance.specs.WellFormed.{HasEnds, IsArcWithinLimits, IsUpTo}
 
 -- the nodes and the arcs of a heading, none without one

@@ -11,7 +11,7 @@ use Rattle.mcf_instance.specs.declared.reader.line.Item.{Item}
 use Rattle.mcf_instance.specs.declared.reader.line.Item.TheVariants.{Problem, Supply, Link}
 use Rattle.mcf_instance.specs.Fault.{Fault}
 use Rattle.mcf_instance.specs.Limits.{Limits}
-use Rattle.mcf_instance.specs.LineReader.{◌>>=◌, problem_line, node_line, arc_line}
+use Rattle.mcf_instance.specs.Private.LineReader.{◌>>=◌, problem_line, node_line, arc_line}
 use Rattle.mcf_instance.specs.Network.{Network}
 use Rattle.mcf_instance.specs.Packed.{unpacked}
 use Rattle.mcf_instance.specs.Reading.{reading_of}

@@ -6,7 +6,7 @@ use Rattle.mcf_instance.specs.Fault.{Header, arc_lines, faults, has_p, header, i
 use Rattle.mcf_instance.specs.Limits.{Limits}
 use Rattle.mcf_instance.specs.Packed.{unpacked}
 use Rattle.mcf_instance.specs.Reading.{arc_of, supply_of}
-use Rattle.mcf_instance.specs.ReaderState.{StateData}
+use Rattle.mcf_instance.specs.Private.ReaderState.{StateData}
 use Rattle.mcf_text.specs.Row.{Row}
 
 -- what a problem line says, as it is stored

@@ -11,7 +11,7 @@ use Rattle.mcf_network.specs.Residual.{tail, head, unit_cost}
 use Rattle.mcf_network.specs.States.{Pseudoflow}
 use Rattle.mcf_network.specs.Walks.{HasRoom}
 use Rattle.mcf_prices.specs.Heaps.{Keyed, Waits}
-use Rattle.mcf_prices.specs.Labels.{cost_limit}
+use Rattle.mcf_prices.specs.Private.Labels.{cost_limit}
 
 -- how far below 0 a label may lie for each arc of its walk
 abbrev pub label_limit : ℕ
