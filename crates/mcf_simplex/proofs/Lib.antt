@@ -1,2 +1,4 @@
+pub mod Ending
 pub mod Firsts
 pub mod Rounds
+pub mod Running

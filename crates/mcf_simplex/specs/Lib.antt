@@ -9,3 +9,4 @@ pub use Rattle.mcf_prices.specs.Outcomes
 pub mod Picking
 pub mod Blocks
 pub mod Runs
+pub mod Private
