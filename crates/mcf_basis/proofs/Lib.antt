@@ -13,4 +13,5 @@ pub mod StarBases
 pub mod Pushes
 pub mod StrongPivot
 pub mod Around
+pub mod CyclePlaces
 pub mod Cycles
