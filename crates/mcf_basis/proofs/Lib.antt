@@ -15,3 +15,4 @@ pub mod StrongPivot
 pub mod Around
 pub mod CyclePlaces
 pub mod Cycles
+pub mod StrongKept
