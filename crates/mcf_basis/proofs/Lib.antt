@@ -13,5 +13,8 @@ pub mod StarBases
 pub mod Pushes
 pub mod StrongPivot
 pub mod Around
+pub mod CyclePlaces
+pub mod Cycles
+pub mod StrongKept
 pub mod Pushed
 pub mod PushedSums
