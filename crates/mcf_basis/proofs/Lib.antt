@@ -18,3 +18,4 @@ pub mod Cycles
 pub mod StrongKept
 pub mod Pushed
 pub mod PushedSums
+pub mod PairLaws

@@ -3,7 +3,7 @@ use Rattle.std.specs.Prelude.{◌≡◌, ℕ, ◌+◌, ◌<◌, List, drop, leng
 use Rattle.mcf_instance.specs.Flow.{IsFeasible, Shows}
 use Rattle.mcf_instance.specs.Network.{IsNode, node_count}
 use Rattle.mcf_basis.specs.Bases.{IsBasis}
-use Rattle.mcf_basis.specs.Pivots.{PairFalls}
+use Rattle.mcf_basis.specs.Pivots.{IsPivot, PairFalls}
 use Rattle.mcf_basis.specs.Ranks.{IsFloor, pivot_bound, rank_above, rank_of}
 use Rattle.mcf_basis.specs.Pivots.{full_cost}
 use Rattle.mcf_basis.specs.Structures.{TreeStructure, carried, state_of}
@@ -14,6 +14,11 @@ use Rattle.mcf_basis.specs.Violations.{HasNoEligible}
 abbrev pub HasNoArtificial : TreeStructure → Type 0
 HasNoArtificial b =
     (v : ℕ) → IsNode (node_count b.net) v → carried b (length b.net.arcs + v) ≡ pos 0
+
+-- each pivot lowers the pair
+abbrev pub PivotsLowerThePair : Type 0
+PivotsLowerThePair =
+    (old new : TreeStructure) (k : ℕ) (moved : ℤ) → IsBasis old → IsBasis new → IsPivot old k moved new → pos 0 ≤ℤ moved → PairFalls old new
 
 -- where the pair falls, the rank does
 abbrev pub RanksFall : Type 0
