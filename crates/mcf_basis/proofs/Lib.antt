@@ -16,3 +16,5 @@ pub mod Around
 pub mod CyclePlaces
 pub mod Cycles
 pub mod StrongKept
+pub mod Pushed
+pub mod PushedSums
