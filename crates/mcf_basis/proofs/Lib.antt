@@ -13,3 +13,4 @@ pub mod StarBases
 pub mod Pushes
 pub mod StrongPivot
 pub mod Around
+pub mod PricesTurned
