@@ -14,3 +14,4 @@ pub mod Pushes
 pub mod StrongPivot
 pub mod Around
 pub mod PricesTurned
+pub mod PivotBounds
