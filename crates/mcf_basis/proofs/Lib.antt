@@ -15,3 +15,4 @@ pub mod StrongPivot
 pub mod Around
 pub mod PricesTurned
 pub mod PivotBounds
+pub mod PivotKeeps

@@ -85,6 +85,15 @@ ends_apart : (src dst : ℕ) (back : Bool) → (if back then dst else src) ≢ (
 ends_apart src dst true ne e = ne (sym e)
 ends_apart src dst false ne e = ne e
 
+-- the nodes of either side are nodes of the net
+pub side_node : (b : TreeStructure) → IsBasis b → (u n p : ℕ) → u < length b.tree.parents → n ≤ depth_of b.tree u → p < n → IsNode (node_count b.net) (climb b.tree.parents p u)
+side_node b ok u n p h short lt =
+    let e : depth_of b.tree (climb b.tree.parents p u) + p ≡ depth_of b.tree u = depth-climb b.tree.parents (depth_of b.tree) ok.spanning.rooted p u h (omega arith) in
+    let w : climb b.tree.parents p u < length b.tree.parents = climb-within b.tree.parents (depth_of b.tree) ok.spanning.rooted p u h in
+    let up : 0 < climb b.tree.parents p u = above_root b.tree.parents (depth_of b.tree) ok.spanning.rooted (climb b.tree.parents p u) (omega arith) in
+    let size : size_of b.tree ≡ node_count b.net + 1 = ok.size in
+    (omega arith, omega (arith, w, size))
+
 module _ (old new : TreeStructure) (k : ℕ) (moved : ℤ) (ok : IsBasis old) (pivot : IsPivot old k moved new) (around : IsAround old k pivot.apex)
     (went : WentRound old k pivot.apex moved) (can : CanGoRound old k pivot.apex moved) where
   abbrev now : ℕ → ℤ
@@ -132,22 +141,12 @@ module _ (old new : TreeStructure) (k : ℕ) (moved : ℤ) (ok : IsBasis old) (p
         ]
       ]
 
-  -- the nodes of either side are nodes of the net
-  side_node : (u n p : ℕ) → u < length old.tree.parents → n ≤ depth_of old.tree u → p < n → IsNode (node_count old.net) (climb old.tree.parents p u)
-  side_node u n p h short lt =
-      let e : depth_of old.tree (climb old.tree.parents p u) + p ≡ depth_of old.tree u =
-      depth-climb old.tree.parents (depth_of old.tree) ok.spanning.rooted p u h (omega arith) in
-      let w : climb old.tree.parents p u < length old.tree.parents = climb-within old.tree.parents (depth_of old.tree) ok.spanning.rooted p u h in
-      let up : 0 < climb old.tree.parents p u = above_root old.tree.parents (depth_of old.tree) ok.spanning.rooted (climb old.tree.parents p u) (omega arith) in
-      let size : size_of old.tree ≡ node_count old.net + 1 = ok.size in
-      (omega arith, omega (arith, w, size))
-
   -- an arc outside the old tree that doesn't enter keeps its amount
   round_kept : (label : ℕ) → label ≢ k → ¬ IsInTree old label → now label ≡ carried old label
   round_kept label ne out =
       went.others label ne
-      (λ p h e. out (record { node = left_node old k p; is_node = side_node (from_of old k) (left_steps old k pivot.apex) p around.cycle.left_in_range around.cycle.left_short h; labelled = sym e }))
-      (λ p h e. out (record { node = right_node old k p; is_node = side_node (to_of old k) (right_steps old k pivot.apex) p around.cycle.right_in_range around.cycle.right_short h; labelled = sym e }))
+      (λ p h e. out (record { node = left_node old k p; is_node = side_node old ok (from_of old k) (left_steps old k pivot.apex) p around.cycle.left_in_range around.cycle.left_short h; labelled = sym e }))
+      (λ p h e. out (record { node = right_node old k p; is_node = side_node old ok (to_of old k) (right_steps old k pivot.apex) p around.cycle.right_in_range around.cycle.right_short h; labelled = sym e }))
 
   abbrev IsBound : ℕ → Type 0
   IsBound label = (now label ≡ pos 0) ⊎ ((label ≤ length old.net.arcs) × (now label ≡ (arc_at old.net label).cap))
