@@ -13,6 +13,7 @@ pub mod StarBases
 pub mod Pushes
 pub mod StrongPivot
 pub mod Around
+pub mod Pushed
 pub mod PricesTurned
 pub mod PivotBounds
 pub mod PivotKeeps

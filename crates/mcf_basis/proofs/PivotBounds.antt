@@ -16,6 +16,7 @@ use Rattle.mcf_basis.proofs.Labels.{own_label}
 use Rattle.mcf_basis.proofs.Around.{CanGoRound, IsAround, IsLeaving, WentRound, arcs_of, from_of, left_node, left_steps, right_node, right_steps, round_amount, to_of}
 use Rattle.mcf_basis.proofs.Around.IsLeaving.{right, enter, left}
 use Rattle.mcf_basis.proofs.PricesTurned.{cases_found, new_tree}
+use Rattle.mcf_basis.proofs.Pushed.{round_at}
 use Rattle.mcf_basis.proofs.Pushes.{Leaves}
 
 zero_or_more : (z : ℤ) → pos 0 ≤ℤ z → (z ≡ pos 0) ⊎ (pos 0 <ℤ z)
@@ -99,8 +100,8 @@ module _ (old new : TreeStructure) (k : ℕ) (moved : ℤ) (ok : IsBasis old) (p
   abbrev now : ℕ → ℤ
   now label = round_amount old k pivot.apex moved label
 
-  pub amount_is : (label : ℕ) → carried new label ≡ now label
-  amount_is label = ap (λ xs. slice_index_or xs (label - 1) (pos 0)) pivot.amounts
+  pub amount_is : (label : ℕ) → 0 < label → carried new label ≡ now label
+  amount_is label h = ap (λ xs. slice_index_or xs (label - 1) (pos 0)) pivot.amounts ∙ sym (round_at old k pivot.apex moved label h)
 
   no_loop : (arc_at (with_artificial old.net) k).src ≢ (arc_at (with_artificial old.net) k).dst
   no_loop = ends_apart (arc_at (with_artificial old.net) k).src (arc_at (with_artificial old.net) k).dst (entering old k).back around.cycle.apart
@@ -178,17 +179,17 @@ module _ (old new : TreeStructure) (k : ℕ) (moved : ℤ) (ok : IsBasis old) (p
 
   pub new_within : (label : ℕ) → IsLabel new.net label → CanHold new.net label (carried new label)
   new_within label h =
-      subst (λ g. CanHold g label (carried new label)) (sym pivot.net) (subst (CanHold old.net label) (sym (amount_is label)) (round_hold label (here_label label h)))
+      subst (λ g. CanHold g label (carried new label)) (sym pivot.net) (subst (CanHold old.net label) (sym (amount_is label h.0)) (round_hold label (here_label label h)))
 
-  in_new : (label : ℕ) → IsBound label → IsAtBound new label
-  in_new label (inl z) = inl (amount_is label ∙ z)
-  in_new label (inr f) =
-      inr (subst (λ g. label ≤ length g.arcs) (sym pivot.net) f.0, amount_is label ∙ (f.1 ∙ ap (λ g. (arc_at g label).cap) (sym pivot.net)))
+  in_new : (label : ℕ) → 0 < label → IsBound label → IsAtBound new label
+  in_new label h (inl z) = inl (amount_is label h ∙ z)
+  in_new label h (inr f) =
+      inr (subst (λ g. label ≤ length g.arcs) (sym pivot.net) f.0, amount_is label h ∙ (f.1 ∙ ap (λ g. (arc_at g label).cap) (sym pivot.net)))
 
   pub new_at_bounds : IsLeaving old k pivot.apex moved pivot.leaves → (label : ℕ) → IsLabel new.net label → ¬ IsInTree new label → IsAtBound new label
   new_at_bounds leaves label h out =
       elim ((new_tree old new k moved ok pivot).outside label
       (λ v q e. out (record { node = v; is_node = subst (λ g. IsNode (node_count g) v) (sym pivot.net) q; labelled = e }))) [
-        | inl is ↦ in_new label (subst IsBound (sym is) (leaving_bound leaves))
-        | inr away ↦ in_new label (old_bound label (here_label label h) away.0 away.1)
+        | inl is ↦ in_new label h.0 (subst IsBound (sym is) (leaving_bound leaves))
+        | inr away ↦ in_new label h.0 (old_bound label (here_label label h) away.0 away.1)
       ]

@@ -1,11 +1,10 @@
 -- A pivot keeps a basis a basis, from its parts.
-use Rattle.std.proofs.Common.{◌≡◌, ℕ, ◌-◌, ◌⊎◌, inl, inr, List, [], ◌∷◌, length, refl, sym, ap, ◌∙◌, subst, arith, ℤ, pos, negsuc, ◌+ℤ◌, ◌-ℤ◌, ◌≤ℤ◌, ◌<ℤ◌, length-set}
-use Rattle.std.specs.Prelude.{if◌then◌else◌}
+use Rattle.std.proofs.Common.{◌≡◌, ℕ, ◌⊎◌, inl, inr, List, length, refl, sym, ap, ◌∙◌, subst, arith, ℤ, pos, negsuc, ◌+ℤ◌, ◌≤ℤ◌, ◌<ℤ◌}
 use Rattle.std.proofs.lemmas.Int.{ints}
 use Rattle.mcf_instance.specs.Network.{Network}
 use Rattle.mcf_network.specs.Nets.{IsNet}
 use Rattle.mcf_network.specs.declared.rid.Rid.{Rid}
-use Rattle.mcf_network.specs.States.{Pseudoflow, HasNoSurplus, amount_at, pushed}
+use Rattle.mcf_network.specs.States.{Pseudoflow, HasNoSurplus}
 use Rattle.mcf_network.specs.Walks.{pushed_along}
 use Rattle.mcf_network.proofs.WalkLaws.{along_net}
 use Rattle.mcf_tree.specs.SpanningTree.{IsSpanning}
@@ -16,13 +15,8 @@ use Rattle.mcf_basis.specs.Structures.{TreeStructure, CanTake, carried, cycle_of
 use Rattle.mcf_basis.proofs.Around.{CanGoRound, IsAround, IsLeaving, WentRound, from_of, left_node, left_steps, right_node, right_steps, to_of}
 use Rattle.mcf_basis.proofs.Around.IsLeaving.{right, enter, left}
 use Rattle.mcf_basis.proofs.PivotBounds.{new_at_bounds, new_within, side_node}
+use Rattle.mcf_basis.proofs.Pushed.{along_count}
 use Rattle.mcf_basis.proofs.PricesTurned.{new_prices, new_size, new_tree_arcs}
-
--- a push along a walk keeps how many amounts there are
-pub along_count : (s : Pseudoflow) (walk : List Rid) (x : ℤ) → length (pushed_along s walk x).amounts ≡ length s.amounts
-along_count s [] x = refl
-along_count s (r ∷ rest) x =
-    along_count (pushed s r x) rest x ∙ length-set s.amounts (r.arc - 1) (if r.back then amount_at s r.arc -ℤ x else amount_at s r.arc +ℤ x)
 
 same_state : (s : Pseudoflow) (g : Network) (amounts : List ℤ) → s.net ≡ g → s.amounts ≡ amounts → s ≡ record { net = g; amounts = amounts }
 same_state s g amounts e f = ap (λ n. record { net = n; amounts = s.amounts }) e ∙ ap (λ a. record { net = g; amounts = a }) f
