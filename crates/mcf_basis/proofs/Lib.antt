@@ -13,7 +13,11 @@ pub mod StarBases
 pub mod Pushes
 pub mod StrongPivot
 pub mod Around
+pub mod CyclePlaces
+pub mod Cycles
+pub mod StrongKept
 pub mod Pushed
 pub mod PricesTurned
 pub mod PivotBounds
 pub mod PivotKeeps
+pub mod PushedSums
