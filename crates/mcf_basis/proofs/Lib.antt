@@ -17,7 +17,7 @@ pub mod CyclePlaces
 pub mod Cycles
 pub mod StrongKept
 pub mod Pushed
+pub mod PushedSums
 pub mod PricesTurned
 pub mod PivotBounds
 pub mod PivotKeeps
-pub mod PushedSums
