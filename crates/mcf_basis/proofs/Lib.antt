@@ -19,3 +19,6 @@ pub mod StrongKept
 pub mod Pushed
 pub mod PushedSums
 pub mod PairLaws
+pub mod PricesTurned
+pub mod PivotBounds
+pub mod PivotKeeps
