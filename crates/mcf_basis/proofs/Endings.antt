@@ -1,6 +1,6 @@
 -- What is read of a basis at the end: its flow, its prices and its cut.
 use Rattle.std.proofs.Common.{◌≡◌, ◌≢◌, ℕ, zero, suc, ◌+◌, ◌-◌, ◌*◌, ◌^◌, ◌<◌, ◌≤◌, inl, inr, Bool, true, false, eqb, cond, List, length, map, take, drop, get_or, refl, sym, ap, ◌∙◌, arith, subst, ℤ, pos, ◌+ℤ◌, length-drop}
-use Rattle.std.specs.Prelude.{◌↔◌, IsTrue, Option, Some, None, if◌then◌else◌, slice_index}
+use Rattle.std.specs.Prelude.{◌↔◌, IsTrue, Option, Some, None, if◌then◌else◌}
 use Rattle.std.specs.List.{All, find, range_with_len}
 use Rattle.std.proofs.lemmas.Bool.{cases_eq, cond-true, cond-false, eq-eqb, eqb-true, le-leb, lt-leb, true≢false}
 use Rattle.std.proofs.lemmas.List.{ext_get_or, get_or_default, get_or-drop, get_or-set_other, get_or-set_same, length-replicate, length-set}
@@ -15,18 +15,16 @@ use Rattle.mcf_network.specs.States.{Pseudoflow, IsPseudoflow, amount_at, pushed
 use Rattle.mcf_network.proofs.ArcLaws.{amount_count}
 use Rattle.mcf_network.proofs.Marks.{marked_new, unmarked}
 use Rattle.mcf_network.proofs.StateLaws.{rid}
-use Rattle.mcf_tree.specs.SpanningTree.{SpanningTree, depth_of, label_of, parent_of, size_of}
+use Rattle.mcf_tree.specs.SpanningTree.{SpanningTree, depth_of, label_of, size_of}
 use Rattle.mcf_basis.specs.declared.offer.Offer.{Offer}
 use Rattle.mcf_basis.specs.declared.rooms.Rooms.{Rooms}
 use Rattle.mcf_basis.specs.Bases.{IsBasis}
 use Rattle.mcf_basis.specs.Laws.{HasNoArtificial}
 use Rattle.mcf_basis.specs.Private.Layouts.{Layout, IsLaidOut, amount_by, amount_in, basis_in, no_offer, no_rooms, node_below}
-use Rattle.mcf_basis.specs.Structures.{TreeStructure, Joins, carried, state_of}
-use Rattle.mcf_basis.specs.Structures.Joins.{out_of, into}
+use Rattle.mcf_basis.specs.Structures.{TreeStructure, carried, state_of}
 use Rattle.mcf_basis.proofs.Around.{arcs_of}
+use Rattle.mcf_basis.proofs.Cycles.{tree_of}
 use Rattle.mcf_basis.proofs.LeastFound.{found_at}
-use Rattle.mcf_basis.proofs.Pushes.{IsTreeOf, JoinsEnds}
-use Rattle.mcf_basis.proofs.Pushes.JoinsEnds.{out_of as leads_out, into as leads_in}
 use Rattle.mcf_basis.proofs.StrongPivot.{labels_apart}
 use Rattle.mcf_basis.proofs.TreePrices.{price_small}
 use Rattle.mcf_basis.proofs.Views.{carried_in}
@@ -42,7 +40,8 @@ inside_by g tree rooms v =
 -- ---- the flow
 
 -- an amount after a push forward
-pub amount_pushed : (s s' : Pseudoflow) (k : ℕ) (x y : ℤ) → k - 1 < length s.amounts → y ≡ amount_at s k +ℤ x → s' ≡ pushed s (rid k false) x → amount_at s' k ≡ y
+pub amount_pushed : (s s' : Pseudoflow) (k : ℕ) (x y : ℤ)
+    → k - 1 < length s.amounts → y ≡ amount_at s k +ℤ x → s' ≡ pushed s (rid k false) x → amount_at s' k ≡ y
 amount_pushed s s' k x y h e is =
     ap (λ t. amount_at t k) is ∙ (get_or-set_same s.amounts (k - 1) (amount_at s k +ℤ x) (pos 0) h ∙ sym e)
 
@@ -54,7 +53,9 @@ added_amount l v h =
     carried_in l (length l.net.arcs + v) (omega arith) (omega arith)
     ∙ (cond-false _ _ _ (lt-leb (length l.net.arcs + v) (length l.net.arcs) (omega arith)) ∙ ap (λ i. get_or l.artificial i (pos 0)) place)
 
-pub none_left : (l : Layout) (b : TreeStructure) (t : Bool) → basis_in l ≡ b → IsLaidOut l → IsTrue t ↔ ((v : ℕ) → 1 ≤ v → v < length l.artificial → get_or l.artificial v (pos 0) ≡ pos 0) → IsTrue t ↔ HasNoArtificial b
+pub none_left : (l : Layout) (b : TreeStructure) (t : Bool) → basis_in l ≡ b → IsLaidOut l
+    → IsTrue t ↔ ((v : ℕ) → 1 ≤ v → v < length l.artificial → get_or l.artificial v (pos 0) ≡ pos 0)
+    → IsTrue t ↔ HasNoArtificial b
 unfolding basis_in
 none_left l b t e ok test =
     let size : length l.artificial ≡ node_count l.net + 1 = ok.artificial_size in
@@ -71,7 +72,8 @@ small_prices b ok k d h =
     let short = length-drop 1 b.prices in
     let inside : 1 + k < length b.prices = omega (arith, short, h, count) in
     let place : 1 + k ≡ k + 1 = omega arith in
-    subst (IsUpTo (3 * 10 ^ 36)) (sym (get_or-drop 1 b.prices k d ∙ get_or_default b.prices (1 + k) d (pos 0) inside)) (price_small b ok (1 + k) (omega (arith, inside, count)))
+    subst (IsUpTo (3 * 10 ^ 36)) (sym (get_or-drop 1 b.prices k d ∙ get_or_default b.prices (1 + k) d (pos 0) inside))
+    (price_small b ok (1 + k) (omega (arith, inside, count)))
 
 pub record AreReadPrices (l : Layout) (b : TreeStructure) : Type 0 where
   pub some : 1 ≤ length l.table.prices
@@ -103,7 +105,8 @@ pub record IsMarkedTo (n i : ℕ) (test : ℕ → Bool) (table : List Bool) : Ty
 pub marked_start : (n : ℕ) (test : ℕ → Bool) → IsMarkedTo n 0 test (no_nodes n)
 marked_start n test = record { room = length-replicate n false; marks = λ v h le. absurd (omega arith); rest = λ v h lt. unmarked n v }
 
-marked_by : (n i : ℕ) (test : ℕ → Bool) (table : List Bool) (wanted : Bool) → IsMarkedTo n i test table → i < n → wanted ≡ test (i + 1) → IsMarkedTo n (i + 1) test (cond wanted (with_node table (i + 1)) table)
+marked_by : (n i : ℕ) (test : ℕ → Bool) (table : List Bool) (wanted : Bool)
+    → IsMarkedTo n i test table → i < n → wanted ≡ test (i + 1) → IsMarkedTo n (i + 1) test (cond wanted (with_node table (i + 1)) table)
 marked_by n i test table true s h e =
     let room = s.room in
     let here : IsNode (length table) (i + 1) = (omega arith, omega (arith, room, h)) in
@@ -125,28 +128,23 @@ marked_by n i test table false s h e =
       rest = λ v node lt. s.rest v node (omega (arith, lt));
     }
 
-pub marked_next : (n i v : ℕ) (test : ℕ → Bool) (table table' : List Bool) (wanted : Bool) → IsMarkedTo n i test table → i < n → v ≡ i + 1 → wanted ≡ test v → table' ≡ cond wanted (with_node table v) table → IsMarkedTo n (i + 1) test table'
+pub marked_next : (n i v : ℕ) (test : ℕ → Bool) (table table' : List Bool) (wanted : Bool)
+    → IsMarkedTo n i test table → i < n → v ≡ i + 1 → wanted ≡ test v → table' ≡ cond wanted (with_node table v) table
+    → IsMarkedTo n (i + 1) test table'
 marked_next n i v test table table' wanted s h q e is =
     subst (IsMarkedTo n (i + 1) test) (sym (is ∙ ap (λ u. cond wanted (with_node table u) table) q)) (marked_by n i test table wanted s h (e ∙ ap test q))
 
 -- ---- the flow of a basis, as it is written
 
-tree_of : (b : TreeStructure) → IsBasis b → IsTreeOf (arcs_of b.net) b.tree.parents b.tree.labels (depth_of b.tree)
-tree_of b ok = record { rooted = ok.spanning.rooted; joined = λ v up h. (let size = ok.size in turned v ((ok.tree_arcs v (up, omega (arith, size, h))).joins)) }
-  where
-    turned : (v : ℕ) → Joins b.net (label_of b.tree v) v (parent_of b.tree v) → JoinsEnds (arcs_of b.net) (slice_index b.tree.labels v) v (slice_index b.tree.parents v)
-    turned v j = elim j [
-      | out_of s d ↦ leads_out s d
-      | into s d ↦ leads_in s d
-    ]
-
 -- the arcs of two nodes are apart
-one_node : (b : TreeStructure) → IsBasis b → (u v : ℕ) → IsNode (node_count b.net) u → IsNode (node_count b.net) v → label_of b.tree u ≡ label_of b.tree v → u ≡ v
+one_node : (b : TreeStructure) → IsBasis b
+    → (u v : ℕ) → IsNode (node_count b.net) u → IsNode (node_count b.net) v → label_of b.tree u ≡ label_of b.tree v → u ≡ v
 one_node b ok u v hu hv same =
     let size : size_of b.tree ≡ node_count b.net + 1 = ok.size in
     elim (cases_eq u v) [
       | inl e ↦ e
-      | inr ne ↦ absurd (labels_apart (arcs_of b.net) b.tree.parents b.tree.labels (depth_of b.tree) (tree_of b ok) u v (omega arith) (omega (arith, size, hu)) (omega arith) (omega (arith, size, hv)) ne same)
+      | inr ne ↦ absurd (labels_apart (arcs_of b.net) b.tree.parents b.tree.labels (depth_of b.tree) (tree_of b ok) u v
+          (omega arith) (omega (arith, size, hu)) (omega arith) (omega (arith, size, hv)) ne same)
     ]
 
 -- what the writing of the tree asks for
@@ -155,7 +153,8 @@ pub record CanBeWritten (l : Layout) : Type 0 where
   pub rooms_size : length l.rooms ≡ node_count l.net + 1
   pub low : (v : ℕ) → IsNode (node_count l.net) v → 1 ≤ label_of l.tree v
   pub apart : (u v : ℕ) → IsNode (node_count l.net) u → IsNode (node_count l.net) v → label_of l.tree u ≡ label_of l.tree v → u ≡ v
-  pub widths : (v : ℕ) → IsNode (node_count l.net) v → label_of l.tree v ≤ length l.net.arcs → pos ((get_or l.rooms v no_rooms).up + (get_or l.rooms v no_rooms).down) ≡ (arc_at l.net (label_of l.tree v)).cap
+  pub widths : (v : ℕ) → IsNode (node_count l.net) v → label_of l.tree v ≤ length l.net.arcs
+      → pos ((get_or l.rooms v no_rooms).up + (get_or l.rooms v no_rooms).down) ≡ (arc_at l.net (label_of l.tree v)).cap
 
 pub can_be_written : (l : Layout) → IsLaidOut l → CanBeWritten l
 unfolding basis_in
@@ -172,13 +171,15 @@ can_be_written l ok =
 pub record IsTreeWritten (g : Network) (tree : SpanningTree) (rooms : List Rooms) (first now : Pseudoflow) (i : ℕ) : Type 0 where
   pub net : now.net ≡ g
   pub flow : IsPseudoflow now
-  pub inside : (v : ℕ) → IsNode (node_count g) v → v ≤ i → label_of tree v ≤ length g.arcs → amount_at now (label_of tree v) ≡ inside_by g tree rooms v
+  pub inside : (v : ℕ) → IsNode (node_count g) v → v ≤ i → label_of tree v ≤ length g.arcs
+      → amount_at now (label_of tree v) ≡ inside_by g tree rooms v
   pub outside : (k : ℕ) → IsArcNumber g k → ((v : ℕ) → IsNode (node_count g) v → label_of tree v ≢ k) → amount_at now k ≡ amount_at first k
 
 pub tree_next : (g : Network) (tree : SpanningTree) (rooms : List Rooms) (first now next : Pseudoflow) (i v k u : ℕ)
     → ((v : ℕ) → IsNode (node_count g) v → 1 ≤ label_of tree v)
     → ((u v : ℕ) → IsNode (node_count g) u → IsNode (node_count g) v → label_of tree u ≡ label_of tree v → u ≡ v)
-    → IsNode (node_count g) v → v ≡ i + 1 → k ≡ label_of tree v → u ≡ v → IsTreeWritten g tree rooms first now i → next.net ≡ g → IsPseudoflow next
+    → IsNode (node_count g) v → v ≡ i + 1 → k ≡ label_of tree v → u ≡ v → IsTreeWritten g tree rooms first now i
+    → next.net ≡ g → IsPseudoflow next
     → (k ≤ length g.arcs → amount_at next k ≡ (if eqb (arc_at g k).src v then pos (get_or rooms u no_rooms).down else pos (get_or rooms u no_rooms).up))
     → ((j : ℕ) → IsArcNumber g j → j ≢ k → amount_at next j ≡ amount_at now j) → IsTreeWritten g tree rooms first next (i + 1)
 tree_next g tree rooms first now next i v k u low apart node at label room before net flow value others =
@@ -187,7 +188,8 @@ tree_next g tree rooms first now next i v k u low apart node at label room befor
       flow = flow;
       inside = λ w h le own. elim (cases_eq w v) [
         | inl q ↦ subst (λ w. amount_at next (label_of tree w) ≡ inside_by g tree rooms w) (sym q) (here (omega (arith, label, ap (label_of tree) q, own)))
-        | inr ne ↦ others (label_of tree w) (low w h, own) (λ same. ne (apart w v h node (same ∙ label))) ∙ before.inside w h (omega (arith, ne, le, at)) own
+        | inr ne ↦ others (label_of tree w) (low w h, own) (λ same. ne (apart w v h node (same ∙ label)))
+            ∙ before.inside w h (omega (arith, ne, le, at)) own
       ];
       outside = λ j h none. others j h (λ q. none v node (sym label ∙ sym q)) ∙ before.outside j h none;
     }
@@ -195,15 +197,18 @@ tree_next g tree rooms first now next i v k u low apart node at label room befor
     here : k ≤ length g.arcs → amount_at next (label_of tree v) ≡ inside_by g tree rooms v
     here own =
         subst (λ j. amount_at next j ≡ (if eqb (arc_at g j).src v then pos (get_or rooms v no_rooms).down else pos (get_or rooms v no_rooms).up)) label
-        (subst (λ u. amount_at next k ≡ (if eqb (arc_at g k).src v then pos (get_or rooms u no_rooms).down else pos (get_or rooms u no_rooms).up)) room (value own))
+        (subst (λ u. amount_at next k ≡ (if eqb (arc_at g k).src v then pos (get_or rooms u no_rooms).down else pos (get_or rooms u no_rooms).up)) room
+        (value own))
 
 -- the amounts of the arcs, those of the tree written over those outside it
 pub record IsWritten (l : Layout) (first last : Pseudoflow) : Type 0 where
   pub flow : IsPseudoflow last
   pub net : last.net ≡ l.net
   pub outside : (k : ℕ) → IsArcNumber l.net k → amount_at first k ≡ outside_by l.net l.offers k
-  pub inside : (v : ℕ) → IsNode (node_count l.net) v → label_of l.tree v ≤ length l.net.arcs → amount_at last (label_of l.tree v) ≡ inside_by l.net l.tree l.rooms v
-  pub others : (k : ℕ) → IsArcNumber l.net k → ((v : ℕ) → IsNode (node_count l.net) v → label_of l.tree v ≢ k) → amount_at last k ≡ amount_at first k
+  pub inside : (v : ℕ) → IsNode (node_count l.net) v → label_of l.tree v ≤ length l.net.arcs
+      → amount_at last (label_of l.tree v) ≡ inside_by l.net l.tree l.rooms v
+  pub others : (k : ℕ) → IsArcNumber l.net k
+      → ((v : ℕ) → IsNode (node_count l.net) v → label_of l.tree v ≢ k) → amount_at last k ≡ amount_at first k
 
 -- where none is found, none passes
 none_cond : (b : Bool) (x : ℕ) (rest : Option ℕ) → cond b (Some x) rest ≡ None → (b ≡ false) × (rest ≡ None)
@@ -226,7 +231,8 @@ same_state s g xs p q =
 module _ (l : Layout) (first last : Pseudoflow) (ok : IsLaidOut l) (w : IsWritten l first last) where
   below_case : (k : ℕ) → IsArcNumber l.net k → (o : Option ℕ) → node_below l k ≡ o → amount_at last k ≡ amount_by l k o
   below_case k h None e =
-      w.others k h (λ v node q. true≢false (sym (eq-eqb (label_of l.tree v) k q) ∙ missed (λ v. eqb (label_of l.tree v) k) 1 (node_count l.net) v e node.0 (omega (arith, node)))) ∙ w.outside k h
+      w.others k h (λ v node q. true≢false (sym (eq-eqb (label_of l.tree v) k q)
+      ∙ missed (λ v. eqb (label_of l.tree v) k) 1 (node_count l.net) v e node.0 (omega (arith, node)))) ∙ w.outside k h
   below_case k h (Some v) e =
       let f = found_at (λ v. eqb (label_of l.tree v) k) 1 (node_count l.net) v e in
       let low = f.low in
@@ -249,11 +255,14 @@ module _ (l : Layout) (first last : Pseudoflow) (ok : IsLaidOut l) (w : IsWritte
       (λ i h. (let inside : i < length l.net.arcs = omega (arith, own, arcs, h) in
       let back : i + 1 - 1 ≡ i = omega arith in
       sym (ap (λ j. get_or last.amounts j (pos 0)) back)
-      ∙ (written_at (i + 1) (omega arith, omega (arith, inside)) ∙ sym (get_or-map-range_with_len (amount_in l) 1 (length l.net.arcs) i (i + 1) (pos 0) inside (omega arith)))))
+      ∙ (written_at (i + 1) (omega arith, omega (arith, inside))
+      ∙ sym (get_or-map-range_with_len (amount_in l) 1 (length l.net.arcs) i (i + 1) (pos 0) inside (omega arith)))))
 
-pub flow_written : (l : Layout) (b : TreeStructure) (first last : Pseudoflow) → basis_in l ≡ b → IsLaidOut l → IsWritten l first last → last ≡ state_of b
+pub flow_written : (l : Layout) (b : TreeStructure) (first last : Pseudoflow)
+    → basis_in l ≡ b → IsLaidOut l → IsWritten l first last → last ≡ state_of b
 unfolding basis_in
 flow_written l b first last e ok w =
     subst (λ b. last ≡ state_of b) e
     (same_state last l.net (take (length l.net.arcs) (map (amount_in l) (range_with_len 1 (length l.net.arcs + node_count l.net)))) w.net
-    (written_amounts l first last ok w ∙ sym (take-map-range_with_len (amount_in l) 1 (length l.net.arcs + node_count l.net) (length l.net.arcs) (omega arith))))
+    (written_amounts l first last ok w
+    ∙ sym (take-map-range_with_len (amount_in l) 1 (length l.net.arcs + node_count l.net) (length l.net.arcs) (omega arith))))

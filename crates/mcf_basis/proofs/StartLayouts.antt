@@ -28,18 +28,24 @@ use Rattle.mcf_basis.proofs.Views.{none_below}
 
 -- ---- lists that are made entry by entry
 
-pub made_more : {X : Type 0} (f : ℕ → X) (i : ℕ) (xs ys : List X) (x : X) → xs ≡ map f (range_with_len 1 i) → x ≡ f (i + 1) → ys ≡ xs ++ x ∷ [] → ys ≡ map f (range_with_len 1 (i + 1))
+pub made_more : {X : Type 0} (f : ℕ → X) (i : ℕ) (xs ys : List X) (x : X)
+    → xs ≡ map f (range_with_len 1 i) → x ≡ f (i + 1) → ys ≡ xs ++ x ∷ [] → ys ≡ map f (range_with_len 1 (i + 1))
 made_more f i xs ys x e h p =
     p ∙ (ap (λ zs. zs ++ x ∷ []) e ∙ (ap (λ z. map f (range_with_len 1 i) ++ z ∷ []) h ∙ sym (map-range_with_len_more f 1 i (i + 1) (omega arith))))
 
 -- behind an entry for the root
-pub made_behind : {X : Type 0} (y : X) (f : ℕ → X) (i : ℕ) (xs ys : List X) (x : X) → xs ≡ y ∷ map f (range_with_len 1 i) → x ≡ f (i + 1) → ys ≡ xs ++ x ∷ [] → ys ≡ y ∷ map f (range_with_len 1 (i + 1))
+pub made_behind : {X : Type 0} (y : X) (f : ℕ → X) (i : ℕ) (xs ys : List X) (x : X)
+    → xs ≡ y ∷ map f (range_with_len 1 i) → x ≡ f (i + 1) → ys ≡ xs ++ x ∷ [] → ys ≡ y ∷ map f (range_with_len 1 (i + 1))
 made_behind y f i xs ys x e h p =
-    p ∙ (ap (λ zs. zs ++ x ∷ []) e ∙ (ap (λ z. y ∷ map f (range_with_len 1 i) ++ z ∷ []) h ∙ ap (λ zs. y ∷ zs) (sym (map-range_with_len_more f 1 i (i + 1) (omega arith)))))
+    p
+    ∙ (ap (λ zs. zs ++ x ∷ []) e
+    ∙ (ap (λ z. y ∷ map f (range_with_len 1 i) ++ z ∷ []) h
+    ∙ ap (λ zs. y ∷ zs) (sym (map-range_with_len_more f 1 i (i + 1) (omega arith)))))
 
 -- ---- the cost of an artificial arc
 
-pub weight_next : (arcs : List Arc) (i : ℕ) (d : Arc) → i < length arcs → sum (map weight (take (i + 1) arcs)) ≡ sum (map weight (take i arcs)) + weight (get_or arcs i d)
+pub weight_next : (arcs : List Arc) (i : ℕ) (d : Arc) → i < length arcs
+    → sum (map weight (take (i + 1) arcs)) ≡ sum (map weight (take i arcs)) + weight (get_or arcs i d)
 weight_next [] i d h = absurd (omega arith)
 weight_next (a ∷ arcs) zero d h = omega (arith, sum-weights weight a [])
 weight_next (a ∷ arcs) (suc i) d h =
@@ -110,7 +116,8 @@ module _ (l : Layout) (s : IsStarStored l) where
 
   offer_is : (k : ℕ) → IsArcNumber l.net k → offer_at l k ≡ star_offer l.net k
   offer_is k h =
-      ap (λ xs. get_or xs (k - 1) no_offer) s.offers ∙ get_or-map-range_with_len (star_offer l.net) 1 (length l.net.arcs) (k - 1) k no_offer (omega arith) (omega arith)
+      ap (λ xs. get_or xs (k - 1) no_offer) s.offers
+      ∙ get_or-map-range_with_len (star_offer l.net) 1 (length l.net.arcs) (k - 1) k no_offer (omega arith) (omega arith)
 
   outside : (k : ℕ) → IsArcNumber l.net k → ¬ IsInTree (basis_in l) k
   unfolding basis_in
@@ -132,7 +139,8 @@ module _ (l : Layout) (s : IsStarStored l) where
       elim (cases_Bool (int_lt (pos 0) (arc_at l.net k).cap)) [
         | inl e ↦ cond-true _ _ _ (eq-eqb _ _ (ap (λ o. o.from) (offer_is k h ∙ cond-true _ _ _ e)))
         | inr e ↦ (let high = no_width (arc_at l.net k).cap e in
-            let none : (arc_at l.net k).cap ≡ pos 0 = omega (arith, ints, low, high) in either (eqb (offer_at l k).from (arc_at l.net k).src) (arc_at l.net k).cap none)
+            let none : (arc_at l.net k).cap ≡ pos 0 = omega (arith, ints, low, high) in
+            either (eqb (offer_at l k).from (arc_at l.net k).src) (arc_at l.net k).cap none)
       ]
     where
       either : (b : Bool) (x : ℤ) → x ≡ pos 0 → cond b (pos 0) x ≡ pos 0
@@ -155,7 +163,8 @@ module _ (l : Layout) (s : IsStarStored l) where
       let own = length-replicate (length l.net.arcs) (pos 0) in
       let added = length-map-range_with_len (star_amount l.net) 1 (node_count l.net) in
       let both = length-append (replicate (length l.net.arcs) (pos 0)) (map (star_amount l.net) (range_with_len 1 (node_count l.net))) in
-      ext_get_or (pos 0) (map (amount_in l) (range_with_len 1 (length l.net.arcs + node_count l.net))) (start_amounts l.net) (omega (arith, all, own, added, both))
+      ext_get_or (pos 0) (map (amount_in l) (range_with_len 1 (length l.net.arcs + node_count l.net))) (start_amounts l.net)
+      (omega (arith, all, own, added, both))
       (λ i h. elim (cases_lt i (length l.net.arcs)) [
         | inl lt ↦ (let k : IsArcNumber l.net (i + 1) = (omega arith, omega arith) in
             get_or-map-range_with_len (amount_in l) 1 (length l.net.arcs + node_count l.net) i (i + 1) (pos 0) (omega (arith, all, h)) (omega arith)
@@ -168,9 +177,11 @@ module _ (l : Layout) (s : IsStarStored l) where
       left_part : (i : ℕ) → i < length l.net.arcs → get_or (start_amounts l.net) i (pos 0) ≡ pos 0
       left_part i lt =
           let own = length-replicate (length l.net.arcs) (pos 0) in
-          get_or_append_left (replicate (length l.net.arcs) (pos 0)) (map (star_amount l.net) (range_with_len 1 (node_count l.net))) (pos 0) i (omega (arith, own, lt)) ∙ get_or-replicate (length l.net.arcs) i (pos 0) (pos 0) lt
+          get_or_append_left (replicate (length l.net.arcs) (pos 0)) (map (star_amount l.net) (range_with_len 1 (node_count l.net))) (pos 0) i
+          (omega (arith, own, lt)) ∙ get_or-replicate (length l.net.arcs) i (pos 0) (pos 0) lt
 
-      right_part : (i v : ℕ) → IsNode (node_count l.net) v → i + 1 ≡ length l.net.arcs + v → get_or (start_amounts l.net) i (pos 0) ≡ star_amount l.net v
+      right_part : (i v : ℕ) → IsNode (node_count l.net) v → i + 1 ≡ length l.net.arcs + v
+          → get_or (start_amounts l.net) i (pos 0) ≡ star_amount l.net v
       right_part i v h e =
           let own = length-replicate (length l.net.arcs) (pos 0) in
           let place : i ≡ length (replicate (length l.net.arcs) (pos 0)) + (v - 1) = omega (arith, own, e, h) in
@@ -194,7 +205,8 @@ module _ (l : Layout) (s : IsStarStored l) where
     offers = offer_ok;
     rooms = λ v h le. absurd (not_own v h le);
     artificial = λ v h e. ap (λ xs. get_or xs v no_rooms) s.rooms ∙ (behind no_rooms no_rooms (star_rooms l.net) (node_count l.net) v h
-        ∙ ap (λ x. artificial_rooms (is_sender l.net v) (unsigned_abs x)) (sym (ap (λ xs. get_or xs v (pos 0)) s.artificial ∙ behind (pos 0) (pos 0) (star_amount l.net) (node_count l.net) v h)));
+        ∙ ap (λ x. artificial_rooms (is_sender l.net v) (unsigned_abs x))
+        (sym (ap (λ xs. get_or xs v (pos 0)) s.artificial ∙ behind (pos 0) (pos 0) (star_amount l.net) (node_count l.net) v h)));
     wide = λ v h le. absurd (not_own v h le);
   }
 

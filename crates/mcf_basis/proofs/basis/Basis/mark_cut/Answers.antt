@@ -26,7 +26,8 @@ loop-i-preserved c =
     let b = c.args.self.now in
     let count : c.node_count-i-end.result ≡ node_count b.net = c.node_count-i-end.ensures.value ∙ ap node_count c.net.ensures.value in
     let read : to_z w128 (of_z w128 c.price.result) ≡ c.price.result = search (rules, to_z-of_z) in
-    marked_next (node_count b.net) c.loop-i.i c.new-v.result (λ v. int_lt (pos 0) (price_at b v)) c.loop-i.set c.mark.new.set (int_lt (pos 0) (to_z w128 (of_z w128 c.price.result))) c.loop-i.invariant
+    marked_next (node_count b.net) c.loop-i.i c.new-v.result (λ v. int_lt (pos 0) (price_at b v)) c.loop-i.set c.mark.new.set
+    (int_lt (pos 0) (to_z w128 (of_z w128 c.price.result))) c.loop-i.invariant
     (omega (arith, count, c.loop-i-test.true)) c.new-v.ensures (ap (int_lt (pos 0)) (read ∙ c.price.ensures.value)) c.mark.ensures
 
 pub returns-clause-room : goal.returns-clause-room

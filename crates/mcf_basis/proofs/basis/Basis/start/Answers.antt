@@ -9,7 +9,14 @@ use Rattle.mcf_basis.proofs.basis.Basis.start.Goals as goal
 pub invariant_of-result : goal.invariant_of-result
 invariant_of-result c =
     let g = c.args.net.now in
-    let l : Layout = record { net = c.args.net.now; tree = c.in_ok-tree.tree; offers = c.in_ok-offers.offers.items; rooms = c.in_ok-rooms.rooms.items; artificial = c.in_ok-artificial.artificial.items; table = c.of-table.result } in
+    let l : Layout = record {
+      net = c.args.net.now;
+      tree = c.in_ok-tree.tree;
+      offers = c.in_ok-offers.offers.items;
+      rooms = c.in_ok-rooms.rooms.items;
+      artificial = c.in_ok-artificial.artificial.items;
+      table = c.of-table.result;
+    } in
     let tree = rw (c.node_count.ensures.value, c.arc_count.ensures.value) at c.in_ok-tree.ensures in
     let offers : c.in_ok-offers.offers.items ≡ map (star_offer g) (range_with_len 1 (length g.arcs)) = c.in_ok-offers.ensures in
     let rooms : c.in_ok-rooms.rooms.items ≡ no_rooms ∷ map (star_rooms g) (range_with_len 1 (node_count g)) = c.in_ok-rooms.ensures in
@@ -30,7 +37,14 @@ invariant_of-result c =
 pub returns : goal.returns
 returns c =
     let g = c.args.net.now in
-    let l : Layout = record { net = c.args.net.now; tree = c.in_ok-tree.tree; offers = c.in_ok-offers.offers.items; rooms = c.in_ok-rooms.rooms.items; artificial = c.in_ok-artificial.artificial.items; table = c.of-table.result } in
+    let l : Layout = record {
+      net = c.args.net.now;
+      tree = c.in_ok-tree.tree;
+      offers = c.in_ok-offers.offers.items;
+      rooms = c.in_ok-rooms.rooms.items;
+      artificial = c.in_ok-artificial.artificial.items;
+      table = c.of-table.result;
+    } in
     let tree = rw (c.node_count.ensures.value, c.arc_count.ensures.value) at c.in_ok-tree.ensures in
     let offers : c.in_ok-offers.offers.items ≡ map (star_offer g) (range_with_len 1 (length g.arcs)) = c.in_ok-offers.ensures in
     let rooms : c.in_ok-rooms.rooms.items ≡ no_rooms ∷ map (star_rooms g) (range_with_len 1 (node_count g)) = c.in_ok-rooms.ensures in
