@@ -13,3 +13,14 @@ pub mod StarBases
 pub mod Pushes
 pub mod StrongPivot
 pub mod Around
+pub mod StartLayouts
+pub mod Endings
+pub mod CyclePlaces
+pub mod Cycles
+pub mod StrongKept
+pub mod Pushed
+pub mod PushedSums
+pub mod PairLaws
+pub mod PricesTurned
+pub mod PivotBounds
+pub mod PivotKeeps
