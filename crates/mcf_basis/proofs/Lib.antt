@@ -21,3 +21,5 @@ pub mod PushedSums
 pub mod PricesTurned
 pub mod PivotBounds
 pub mod PivotKeeps
+pub mod Cuts
+pub mod LastFlows
