@@ -18,6 +18,7 @@ pub mod Cycles
 pub mod StrongKept
 pub mod Pushed
 pub mod PushedSums
+pub mod PairLaws
 pub mod PricesTurned
 pub mod PivotBounds
 pub mod PivotKeeps

@@ -16,6 +16,11 @@ abbrev pub HasNoArtificial : TreeStructure → Type 0
 HasNoArtificial b =
     (v : ℕ) → IsNode (node_count b.net) v → carried b (length b.net.arcs + v) ≡ pos 0
 
+-- each pivot lowers the pair
+abbrev pub PivotsLowerThePair : Type 0
+PivotsLowerThePair =
+    (old new : TreeStructure) (k : ℕ) (moved : ℤ) → IsBasis old → IsBasis new → IsPivot old k moved new → pos 0 ≤ℤ moved → PairFalls old new
+
 -- where the pair falls, the rank does
 abbrev pub RanksFall : Type 0
 RanksFall =

@@ -1,5 +1,11 @@
 //! Laws of bases, each the contract of a function that does nothing.
-ghost use Rattle.mcf_basis.specs.Laws.{BasesAreTreeSolutions, LastBasesAreFeasible, LastBasesAreShown, PivotsKeepBases, RanksBoundPivots, RanksCountDown, RanksFall};
+ghost use Rattle.mcf_basis.specs.Laws.{BasesAreTreeSolutions, LastBasesAreFeasible, LastBasesAreShown, PivotsKeepBases, PivotsLowerThePair, RanksBoundPivots, RanksCountDown, RanksFall};
+
+/// Each pivot lowers the pair of the cost and the sum of the prices: the cost falls, or nothing moves and the sum of the prices falls
+/// (Cunningham; Ahuja, Magnanti and Orlin, Network Flows, section 11.6).
+pub fn pivots_lower_the_pair()
+    ensures { PivotsLowerThePair }
+{}
 
 /// Where the pair of the cost and the sum of the prices falls, the number that stands for it falls.
 pub fn ranks_fall()
