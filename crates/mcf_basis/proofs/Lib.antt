@@ -13,6 +13,8 @@ pub mod StarBases
 pub mod Pushes
 pub mod StrongPivot
 pub mod Around
+pub mod StartLayouts
+pub mod Endings
 pub mod CyclePlaces
 pub mod Cycles
 pub mod StrongKept

@@ -8,10 +8,12 @@
 //! which one a run begins, `Pivots` what one pivot does, `Ranks` how many there can be, and `Layouts` how a basis is stored.
 
 mod basis;
+mod ending;
 mod laws;
 mod offer;
 mod price_table;
 mod rooms;
+mod starting;
 
 pub use basis::Basis;
 pub use laws::{
