@@ -27,6 +27,8 @@ mod prices;
 #[cfg(test)]
 mod raising;
 #[cfg(test)]
+mod random_prices;
+#[cfg(test)]
 mod running;
 #[cfg(test)]
 mod scaling;
