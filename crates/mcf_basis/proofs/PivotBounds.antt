@@ -18,7 +18,7 @@ use Rattle.mcf_basis.proofs.PricesTurned.{cases_found, new_tree}
 use Rattle.mcf_basis.proofs.Pushes.{Leaves}
 use Rattle.mcf_basis.proofs.StrongKept.{entering_leaves, pivoted_amount}
 
-zero_or_more : (z : ℤ) → pos 0 ≤ℤ z → (z ≡ pos 0) ⊎ (pos 0 <ℤ z)
+pub zero_or_more : (z : ℤ) → pos 0 ≤ℤ z → (z ≡ pos 0) ⊎ (pos 0 <ℤ z)
 zero_or_more (pos zero) h = inl refl
 zero_or_more (pos (suc n)) h = inr (omega (arith, ints))
 zero_or_more (negsuc n) h = absurd (omega (arith, ints))
