@@ -1,14 +1,16 @@
 -- What is read of a basis at the end: its flow, its prices and its cut.
 use Rattle.std.proofs.Common.{◌≡◌, ◌≢◌, ℕ, zero, suc, ◌+◌, ◌-◌, ◌*◌, ◌^◌, ◌<◌, ◌≤◌, inl, inr, Bool, true, false, eqb, cond, List, length, map, take, drop, get_or, refl, sym, ap, ◌∙◌, arith, subst, ℤ, pos, ◌+ℤ◌, length-drop}
-use Rattle.std.specs.Prelude.{◌↔◌, IsTrue, Option, Some, None, if◌then◌else◌}
+use Rattle.std.specs.Prelude.{◌↔◌, IsTrue, Option, Some, None, if◌then◌else◌, int_lt}
 use Rattle.std.specs.List.{All, find, range_with_len}
 use Rattle.std.proofs.lemmas.Bool.{cases_eq, cond-true, cond-false, eq-eqb, eqb-true, le-leb, lt-leb, true≢false}
 use Rattle.std.proofs.lemmas.List.{ext_get_or, get_or_default, get_or-drop, get_or-set_other, get_or-set_same, length-replicate, length-set}
 use Rattle.std.proofs.lemmas.Option.{none-some}
 use Rattle.std.proofs.lemmas.List.FromFn.{get_or-map-range_with_len, length-map-range_with_len, take-map-range_with_len}
-use Rattle.mcf_instance.specs.Blocking.{in_table}
+use Rattle.mcf_instance.specs.declared.problem.Side.TheVariants.{Send}
+use Rattle.mcf_instance.specs.Blocking.{Blocks, in_table, supply_in}
 use Rattle.mcf_instance.specs.Network.{Network, IsArcNumber, IsNode, node_count}
 use Rattle.mcf_instance.specs.WellFormed.{IsUpTo}
+use Rattle.mcf_instance.proofs.SameSets.{Blocks-same}
 use Rattle.mcf_network.specs.Residual.{arc_at}
 use Rattle.mcf_network.specs.NodeSets.{no_nodes, with_node}
 use Rattle.mcf_network.specs.States.{Pseudoflow, IsPseudoflow, amount_at, pushed}
@@ -21,8 +23,10 @@ use Rattle.mcf_basis.specs.declared.rooms.Rooms.{Rooms}
 use Rattle.mcf_basis.specs.Bases.{IsBasis}
 use Rattle.mcf_basis.specs.Laws.{HasNoArtificial}
 use Rattle.mcf_basis.specs.Private.Layouts.{Layout, IsLaidOut, amount_by, amount_in, basis_in, no_offer, no_rooms, node_below}
-use Rattle.mcf_basis.specs.Structures.{TreeStructure, carried, state_of}
+use Rattle.mcf_basis.specs.Structures.{TreeStructure, carried, price_at, state_of}
 use Rattle.mcf_basis.proofs.Around.{arcs_of}
+use Rattle.mcf_basis.specs.Violations.{HasNoEligible}
+use Rattle.mcf_basis.proofs.Cuts.{HasWideTree, cuts_block}
 use Rattle.mcf_basis.proofs.Cycles.{tree_of}
 use Rattle.mcf_basis.proofs.LeastFound.{found_at}
 use Rattle.mcf_basis.proofs.StrongPivot.{labels_apart}
@@ -133,6 +137,17 @@ pub marked_next : (n i v : ℕ) (test : ℕ → Bool) (table table' : List Bool)
     → IsMarkedTo n (i + 1) test table'
 marked_next n i v test table table' wanted s h q e is =
     subst (IsMarkedTo n (i + 1) test) (sym (is ∙ ap (λ u. cond wanted (with_node table u) table) q)) (marked_by n i test table wanted s h (e ∙ ap test q))
+
+-- such a table, of all nodes, blocks where artificial arcs carry something at a last basis
+pub cut_blocks : (l : Layout) (b : TreeStructure) (table : List Bool) → basis_in l ≡ b → IsLaidOut l → HasNoEligible b
+    → supply_in b.net.supplies (λ v. true) ≡ pos 0 → ¬ HasNoArtificial b
+    → ((v : ℕ) → IsNode (node_count b.net) v → in_table table v ≡ int_lt (pos 0) (price_at b v)) → Blocks b.net (in_table table) Send
+unfolding basis_in
+cut_blocks l b table e ok none balanced uneven marks =
+    let basis : IsBasis b = subst IsBasis e ok.basis in
+    let wide : HasWideTree b = subst HasWideTree e ok.wide in
+    Blocks-same b.net (λ v. int_lt (pos 0) (price_at b v)) (in_table table) basis.of_net.ends (λ v h. sym (marks v h)) Send
+    (cuts_block b basis none wide balanced uneven)
 
 -- ---- the flow of a basis, as it is written
 

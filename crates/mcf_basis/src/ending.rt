@@ -1,7 +1,8 @@
 //! What a basis answers at the end: its flow, its prices, and the cut that blocks where there is no feasible flow.
 ghost use Rattle.std.specs.Prelude.{◌≡◌, ◌≢◌, ℕ, ◌+◌, ◌-◌, ◌*◌, ◌^◌, ◌<◌, ◌≤◌, ◌==◌, ◌↔◌, Bool, IsTrue, drop, if◌then◌else◌, int_lt, length, pos, slice_index_or, slice_set, true, ◌≤ℤ◌};
 ghost use Rattle.std.specs.List.{All};
-ghost use Rattle.mcf_instance.specs.Blocking.{in_table, supply_in};
+ghost use Rattle.mcf_instance.specs.Blocking.{Blocks, in_table, supply_in};
+ghost use Rattle.mcf_instance.specs.declared.problem.Side.TheVariants.{Send};
 ghost use Rattle.mcf_instance.specs.Network.{IsArcNumber, IsNode, node_count};
 ghost use Rattle.mcf_instance.specs.WellFormed.{IsUpTo};
 ghost use Rattle.mcf_network.specs.NodeSets.{with_node};
@@ -67,10 +68,11 @@ impl<'n> Basis<'n> {
         requires uneven { ¬ HasNoArtificial self.now }
         ensures room { length set.new ≡ node_count self.now.net }
         ensures marks { (v : ℕ) → IsNode (node_count self.now.net) v → in_table set.new v ≡ int_lt (pos 0) (price_at self.now v) }
+        ensures blocks { Blocks self.now.net (in_table set.new) Send }
         ensures basis { IsBasis self.now }
     {
         set.clear();
-        for i in 0..self.net().node_count() {
+        for i in 0..self.net.node_count() {
             let v = NodeId::new(i + 1);
             mark(set, v, 0 < self.price(v));
         }
