@@ -116,6 +116,7 @@ impl<'n> Matching<'n> {
     /// The set that the last search reached that found no path; empty before there is one.
     pub fn reached(&self) -> &NodeSet
         ensures value { result.now ≡ self.now.reached }
+        ensures one_per_node { length result.now ≡ node_count self.now.flow.net }
         ensures shown { IsShownMatching self.now }
     {
         &self.reached

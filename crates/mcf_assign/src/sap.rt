@@ -1,5 +1,6 @@
 //! The engine.
-ghost use Rattle.std.specs.Prelude.{◌≡◌, ◌-◌, ◌≤◌, IfOk, OnErr};
+ghost use Rattle.std.specs.Prelude.{◌≡◌, ◌-◌, ◌≤◌, IfOk, OnErr, pos};
+ghost use Rattle.mcf_feas.specs.Chosen.{supply_total};
 ghost use Rattle.mcf_instance.specs.declared.problem.Problem.TheVariants.{Asn};
 ghost use Rattle.mcf_instance.specs.Network.{IsNode, node_count};
 ghost use Rattle.mcf_prices.specs.Outcomes.{AreStatePrices, IsOutcome};
@@ -66,15 +67,26 @@ impl Engine for Sap {
         if let Some((set, side)) = unbalanced(alloc, net)? {
             return Ok(Outcome::Blocked(set, side));
         }
-        let pricer = Pricer::start(alloc, net)?;
-        let mut matching = Matching::start(alloc, net)?;
-        match match_rows(&mut matching, net) {
-            Extended::Matched => {
-                let (state, prices) = priced(pricer, matching);
-                Ok(Outcome::Least(state, prices))
-            }
-            Extended::Blocked => Ok(Outcome::Blocked(matching.into_reached(), Side::Send)),
+        assign(alloc, net)
+    }
+}
+
+// The answer to a net whose supplies add up to 0: a search from each row.
+fn assign<'n>(alloc: Global, net: &'n Net) -> Result<Outcome<'n>, NoMemory>
+    requires assignment { net.now.problem ≡ Asn }
+    requires balanced { supply_total net.now ≡ pos 0 }
+    ensures outcome { IfOk result (IsOutcome (IsMatchedByRows net.now) net.now) }
+    ensures blocked { IfOk result (IsReachedSet net.now) }
+    ensures wants { OnErr result (1 ≤ node_count net.now) }
+{
+    let pricer = Pricer::start(alloc, net)?;
+    let mut matching = Matching::start(alloc, net)?;
+    match match_rows(&mut matching, net) {
+        Extended::Matched => {
+            let (state, prices) = priced(pricer, matching);
+            Ok(Outcome::Least(state, prices))
         }
+        Extended::Blocked => Ok(Outcome::Blocked(matching.into_reached(), Side::Send)),
     }
 }
 
