@@ -7,6 +7,8 @@
 #[cfg(test)]
 mod answers;
 #[cfg(test)]
+mod assigning;
+#[cfg(test)]
 mod bases;
 #[cfg(test)]
 mod checking;
