@@ -11,12 +11,14 @@ PART
   raise     raises prices of a least flow to the greatest, in nets of three families and of rising size
   read      reads an instance, and keeps it in 32 bytes an arc
   recover   recovers prices from a least flow, in nets of three families and of rising size
+  simplex   solves nets of four families and of rising size by the network simplex, beside that of LEMON (left out
+            where its headers, of the package liblemon-dev, aren't there)
   solve     solves an instance in which nothing is worth moving, without the seconds of its engine, beside a
             program that reads, copies and writes the same
   text      splits a text of lines into fields and reads each field as a number
   tree      swaps arcs of a spanning tree at random, in trees of rising size
 
-Proves and builds `mcf_bench`, builds each peer by `rustc -O`, makes the input, and
+Proves and builds `mcf_bench`, builds each peer by `rustc -O` (that of `simplex` by `g++ -O3`), makes the input, and
 runs the two in turn on it, N times each and at least 5. Both print what they found,
 which has to be the same, and their own seconds, which don't count the reading of the
 files. Printed are the medians and their ratio; of a family also how many times as long
@@ -28,6 +30,7 @@ the parts that have one size. `--built` takes the program as it was built last. 
 import argparse
 import os
 import pathlib
+import shutil
 import statistics
 import subprocess
 import sys
@@ -43,6 +46,7 @@ RESTING = 125_000
 # the sizes of each family, as powers of 2
 RECOVERED = {"netgen": (10, 12, 14, 16), "gridgen": (10, 12, 14, 16), "transp": (8, 9, 10)}
 SEARCHED = {"netgen": (10, 12, 14, 16), "gridgen": (10, 12, 14, 16), "transp": (8, 9, 10)}
+SIMPLEX = {"netgen": (10, 12, 14, 16), "gridgen": (10, 12, 14), "road": (10, 12, 14, 16), "goto": (10, 12, 14)}
 # the random swaps that are tried in the tree of so many nodes
 SWAPPED = {1_000: 300_000, 10_000: 300_000, 100_000: 300_000, 1_000_000: 1_000_000}
 # the most bytes an arc that a net may take
@@ -107,6 +111,12 @@ def family_answers(_words):
         yield f"{family} {nodes}", [instance, answer], times
 
 
+def simplex_instances(_words):
+    for family, nodes, _ in of_families(SIMPLEX):
+        path = OUT / f"{family}-{nodes}.min"
+        yield f"{family} {nodes}", [make("gen.py", path, family, nodes, "--output", path)], 1
+
+
 def trees(_words):
     for nodes, rounds in SWAPPED.items():
         yield f"of {nodes} nodes", [nodes, rounds], 1
@@ -122,6 +132,7 @@ PARTS = {
     "raise": (family_answers, 1.25),
     "read": (sparse, 1.2),
     "recover": (family_answers, 1.25),
+    "simplex": (simplex_instances, 1.5),
     "solve": (resting, 1.25),
     "text": (sparse, 1.1),
     "tree": (trees, 1.25),
@@ -134,8 +145,18 @@ def build_program():
     subprocess.run(["rt", "run"], cwd=CRATE, check=True, stdout=subprocess.DEVNULL)
 
 
+def has_lemon():
+    """Whether there is a compiler that finds LEMON."""
+    asked = ["g++", "-fsyntax-only", "-include", "lemon/network_simplex.h", "-x", "c++", os.devnull]
+    return bool(shutil.which("g++")) and subprocess.run(asked, capture_output=True).returncode == 0
+
+
 def build_peer(part):
     peer = OUT / f"{part}-peer"
+    if part == "simplex":
+        source = BENCH / "peers" / "lemon_mcf.cc"
+        subprocess.run(["g++", "-O3", "-DNDEBUG", "-o", str(peer), str(source), "-llemon"], check=True)
+        return peer
     source = BENCH / part / "peer.rs"
     subprocess.run(["rustc", "--edition", "2024", "-O", "-o", str(peer), str(source)], check=True)
     return peer
@@ -144,8 +165,17 @@ def build_peer(part):
 def run(command):
     """What the program found, and its seconds by their names."""
     done = subprocess.run(command, check=True, capture_output=True, text=True)
+    if command[1] == "ns":
+        return lemon_found(done.stdout.split())
     found, *times = done.stdout.splitlines()
     return found, {name: float(seconds) for name, seconds in (line.split() for line in times)}
+
+
+def lemon_found(words):
+    """The same of a line by LEMON's driver, whose seconds are those of solving alone."""
+    values = dict(word.split("=") for word in words if "=" in word)
+    found = f"cost {values['cost']}" if "OPTIMAL" in words else "blocked"
+    return found, {"seconds": float(values["solve"])}
 
 
 def peak_of(command):
@@ -174,6 +204,9 @@ def compare(ours, peers, runs):
 def measure(part, words):
     """Runs each case of a part beside its peer, and says whether each figure is within the part's limit."""
     maker, limit = PARTS[part]
+    if part == "simplex" and not has_lemon():
+        print("simplex: left out, as LEMON isn't there (liblemon-dev)")
+        return True
     peer = build_peer(part)
     program = [str(CRATE / "out" / "mcf_bench"), part]
     runs = max(5, words.runs)
@@ -182,7 +215,8 @@ def measure(part, words):
     before = {}
     for name, paths, times in maker(words):
         inputs = [*map(str, paths), *([str(times)] if part in REPEATED else [])]
-        seconds = compare(program + inputs, [str(peer), *inputs], runs)
+        peers_words = ["ns", *inputs] if part == "simplex" else inputs
+        seconds = compare(program + inputs, [str(peer), *peers_words], runs)
         ours = statistics.median(our_times["seconds"] for our_times, _ in seconds) / times
         peers = statistics.median(peer_times["seconds"] for _, peer_times in seconds) / times
         family = name.split(" ")[0]

@@ -10,10 +10,13 @@ mod block;
 mod first;
 mod laws;
 mod pricing;
+mod run;
+mod simplex;
 
 pub use best::Best;
 pub use block::Block;
 pub use first::First;
 pub use laws::runs_are_tree_solutions;
-pub use mcf_basis::Basis;
+pub use mcf_basis::{Basis, Step};
 pub use pricing::Pricing;
+pub use simplex::Simplex;
