@@ -5,6 +5,8 @@
 
 PART
   answer    parses an answer of a million arcs and writes it anew
+  assign    solves assignments by the engine `sap`, beside dlib and LEMON, as whole processes; a library that isn't
+            there is skipped with a word
   check     judges such an answer for its instance
   feasible  finds a feasible flow, in nets of three families and of rising size
   net       builds the net of a million arcs, and goes over the residual arcs of each node
@@ -30,6 +32,8 @@ import pathlib
 import statistics
 import subprocess
 import sys
+
+import assignments
 
 BENCH = pathlib.Path(__file__).resolve().parent
 OUT = BENCH / "out"
@@ -171,6 +175,8 @@ def compare(ours, peers, runs):
 
 def measure(part, words):
     """Runs each case of a part beside its peer, and says whether each figure is within the part's limit."""
+    if part == "assign":
+        return assignments.measure(words)
     maker, limit = PARTS[part]
     peer = build_peer(part)
     program = [str(CRATE / "out" / "mcf_bench"), part]
@@ -207,7 +213,7 @@ def net_bytes(name, program, paths):
 
 def main():
     parser = argparse.ArgumentParser(description="compares parts of the suite with peers")
-    parser.add_argument("parts", nargs="*", choices=[[], *sorted(PARTS)], metavar="PART")
+    parser.add_argument("parts", nargs="*", choices=[[], *sorted([*PARTS, "assign"])], metavar="PART")
     parser.add_argument("--runs", type=int, default=9)
     parser.add_argument("--nodes", type=int)
     parser.add_argument("--built", action="store_true")
@@ -215,7 +221,7 @@ def main():
     OUT.mkdir(exist_ok=True)
     if not words.built:
         build_program()
-    above = [part for part in words.parts or sorted(PARTS) if not measure(part, words)]
+    above = [part for part in words.parts or sorted([*PARTS, "assign"]) if not measure(part, words)]
     if above:
         sys.exit(f"above its limit: {', '.join(above)}")
 
