@@ -5,6 +5,8 @@
 
 PART
   answer    parses an answer of a million arcs and writes it anew
+  assign    solves assignments by the engine `sap`, beside dlib and LEMON, as whole processes; a library that isn't
+            there is skipped with a word
   check     judges such an answer for its instance
   feasible  finds a feasible flow, in nets of three families and of rising size
   net       builds the net of a million arcs, and goes over the residual arcs of each node
@@ -34,6 +36,8 @@ import shutil
 import statistics
 import subprocess
 import sys
+
+import assignments
 
 BENCH = pathlib.Path(__file__).resolve().parent
 OUT = BENCH / "out"
@@ -207,6 +211,8 @@ def compare(ours, peers, runs):
 
 def measure(part, words):
     """Runs each case of a part beside its peer, and says whether each figure is within the part's limit."""
+    if part == "assign":
+        return assignments.measure(words)
     maker, limit = PARTS[part]
     if part in LEMON and not has_lemon():
         print(f"{part}: left out, as LEMON isn't there (liblemon-dev)")
@@ -248,7 +254,7 @@ def net_bytes(name, program, paths):
 
 def main():
     parser = argparse.ArgumentParser(description="compares parts of the suite with peers")
-    parser.add_argument("parts", nargs="*", choices=[[], *sorted(PARTS)], metavar="PART")
+    parser.add_argument("parts", nargs="*", choices=[[], *sorted([*PARTS, "assign"])], metavar="PART")
     parser.add_argument("--runs", type=int, default=9)
     parser.add_argument("--nodes", type=int)
     parser.add_argument("--built", action="store_true")
@@ -256,7 +262,7 @@ def main():
     OUT.mkdir(exist_ok=True)
     if not words.built:
         build_program()
-    above = [part for part in words.parts or sorted(PARTS) if not measure(part, words)]
+    above = [part for part in words.parts or sorted([*PARTS, "assign"]) if not measure(part, words)]
     if above:
         sys.exit(f"above its limit: {', '.join(above)}")
 
