@@ -5,6 +5,8 @@
                          [--max-cap C] [--max-cost C] [--degree D]
 
 FAMILY
+  assignment  as many rows as columns, all of NODES: each row may go to a few columns
+            at random, and to one such that all together take each column once
   goto      a long narrow grid on a torus, with arcs back, to the sides and some that
             leap ahead, through which one source sends to one sink
   gridgen   a wide grid with arcs to all eight neighbours, in which the nodes of
@@ -216,6 +218,17 @@ def road(nodes, rnd, words):
     return net
 
 
+def assignment(nodes, rnd, words):
+    net = Net(nodes)
+    rows = nodes // 2
+    for row, column in enumerate(shuffled(rnd, rows), 1):
+        net.supply[row], net.supply[rows + column] = 1, -1
+        others = {up_to(rnd, rows) for _ in range(words.degree - 1)}
+        for target in sorted(others | {column}):
+            net.arc(row, rows + target, 1, up_to(rnd, words.max_cost))
+    return net
+
+
 def transp(nodes, rnd, words):
     net = Net(nodes)
     half = nodes // 2
@@ -235,8 +248,8 @@ def transp(nodes, rnd, words):
 
 
 FAMILIES = {
-    "goto": goto, "gridgen": gridgen, "netgen": netgen, "resting": resting, "road": road, "sparse": sparse,
-    "transp": transp,
+    "assignment": assignment, "goto": goto, "gridgen": gridgen, "netgen": netgen, "resting": resting, "road": road,
+    "sparse": sparse, "transp": transp,
 }
 
 
