@@ -13,3 +13,6 @@ pub mod StarBases
 pub mod Pushes
 pub mod StrongPivot
 pub mod Around
+pub mod Climbing
+pub mod TreeRooms
+pub mod Climbed

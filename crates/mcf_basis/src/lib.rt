@@ -8,7 +8,9 @@
 //! which one a run begins, `Pivots` what one pivot does, `Ranks` how many there can be, and `Layouts` how a basis is stored.
 
 mod basis;
+mod climb;
 mod laws;
+mod leaving_arc;
 mod offer;
 mod price_table;
 mod rooms;
