@@ -16,3 +16,6 @@ pub mod Around
 pub mod Climbing
 pub mod TreeRooms
 pub mod Climbed
+pub mod CyclePlaces
+pub mod Cycles
+pub mod StrongKept
