@@ -19,3 +19,5 @@ pub mod Climbed
 pub mod CyclePlaces
 pub mod Cycles
 pub mod StrongKept
+pub mod Pushed
+pub mod PushedSums

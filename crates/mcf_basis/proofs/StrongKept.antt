@@ -16,6 +16,7 @@ use Rattle.mcf_basis.specs.Bases.{CanHold, HasTreeArc, IsBasis, IsStronglyFeasib
 use Rattle.mcf_basis.specs.Pivots.{IsEligible, IsExchanged, IsMended, IsPivot, entering}
 use Rattle.mcf_basis.specs.Pivots.IsMended.{kept, exchanged}
 use Rattle.mcf_basis.specs.Structures.{TreeStructure, CanTake, carried, leaving, reduced_at}
+use Rattle.mcf_basis.proofs.Pushed.{round_at}
 use Rattle.mcf_basis.proofs.Around.{CanGoRound, IsAround, IsLeaving, WentRound, arcs_of, down_arc, from_of, left_node, left_steps, right_node, right_steps, round_amount, to_of, up_arc}
 use Rattle.mcf_basis.proofs.Around.IsLeaving.{right, enter, left}
 use Rattle.mcf_basis.proofs.CyclePlaces.{leaving_of_last, up_all, up_at}
@@ -105,7 +106,7 @@ room_of_strong b ok = record {
 }
 
 pub strong_of_room : (b : TreeStructure) (g : Network) (amount : ℕ → ℤ) → IsSpanning b.tree → size_of b.tree ≡ node_count b.net + 1
-    → ((v : ℕ) → IsNode (node_count b.net) v → HasTreeArc b v) → b.net ≡ g → ((label : ℕ) → carried b label ≡ amount label)
+    → ((v : ℕ) → IsNode (node_count b.net) v → HasTreeArc b v) → b.net ≡ g → ((label : ℕ) → 0 < label → carried b label ≡ amount label)
     → HasRoomUp (arcs_of g) b.tree.parents b.tree.labels amount → IsStronglyFeasible b
 strong_of_room b g amount spanning size joined same reads up v h =
     up_all b (λ r. CanTake b r (pos 1)) (depth_of b.tree v) v (λ p l. each (climb b.tree.parents p v) (on_path p l) (in_tree p))
@@ -126,7 +127,7 @@ strong_of_room b g amount spanning size joined same reads up v h =
     each = λ u p l.
         let arc : HasTreeArc b u = joined u (omega arith, omega (arith, size, l)) in
         take_of_leave b (label_of b.tree u) u (pos 1) (arc.label).0
-        (CanLeave-same (arcs_of b.net) amount (carried b) (label_of b.tree u) u (pos 1) (reads (label_of b.tree u))
+        (CanLeave-same (arcs_of b.net) amount (carried b) (label_of b.tree u) u (pos 1) (reads (label_of b.tree u) (arc.label).0)
         (subst (λ n. CanLeave (arcs_of n) amount (label_of b.tree u) u (pos 1)) (sym same) (up.room u p l)))
 
 -- ---- the three cases
@@ -302,9 +303,10 @@ mended_size old r q new (kept same stay) = ap size_of stay.tree
 mended_size old r q new (exchanged out inner outer named x) = x.swapped.parents.size
 
 -- what an arc carries after a pivot
-pub pivoted_amount : (old new : TreeStructure) (k : ℕ) (moved : ℤ) (pivot : IsPivot old k moved new) (label : ℕ)
+pub pivoted_amount : (old new : TreeStructure) (k : ℕ) (moved : ℤ) (pivot : IsPivot old k moved new) (label : ℕ) → 0 < label
     → carried new label ≡ round_amount old k pivot.apex moved label
-pivoted_amount old new k moved pivot label = ap (λ xs. slice_index_or xs (label - 1) (pos 0)) pivot.amounts
+pivoted_amount old new k moved pivot label h =
+    ap (λ xs. slice_index_or xs (label - 1) (pos 0)) pivot.amounts ∙ sym (round_at old k pivot.apex moved label h)
 
 pub strong_kept : (old new : TreeStructure) (k : ℕ) (moved : ℤ) → IsBasis old → (pivot : IsPivot old k moved new) → IsSpanning new.tree
     → ((v : ℕ) → IsNode (node_count new.net) v → HasTreeArc new v) → WentRound old k pivot.apex moved → IsStronglyFeasible new
