@@ -21,3 +21,6 @@ pub mod Cycles
 pub mod StrongKept
 pub mod Pushed
 pub mod PushedSums
+pub mod PricesTurned
+pub mod PivotBounds
+pub mod PivotKeeps
