@@ -8,9 +8,12 @@
 //! which one a run begins, `Pivots` what one pivot does, `Ranks` how many there can be, and `Layouts` how a basis is stored.
 
 mod basis;
+mod exchange;
 mod laws;
 mod offer;
 mod price_table;
+mod push;
+mod reprice;
 mod rooms;
 
 pub use basis::Basis;
