@@ -9,10 +9,13 @@
 
 mod basis;
 mod climb;
+mod exchange;
 mod laws;
 mod leaving_arc;
 mod offer;
 mod price_table;
+mod push;
+mod reprice;
 mod rooms;
 
 pub use basis::Basis;
