@@ -13,6 +13,7 @@ mod exchange;
 mod laws;
 mod leaving_arc;
 mod offer;
+mod pivot;
 mod price_table;
 mod push;
 mod reprice;
@@ -23,3 +24,4 @@ pub use laws::{
     bases_are_tree_solutions, last_bases_are_shown, ranks_bound_pivots, ranks_count_down,
     ranks_fall,
 };
+pub use pivot::Step;
