@@ -13,3 +13,5 @@ pub mod StarBases
 pub mod Pushes
 pub mod StrongPivot
 pub mod Around
+pub mod PushedRooms
+pub mod TurnedRooms
