@@ -8,6 +8,7 @@ PART
   check     judges such an answer for its instance
   feasible  finds a feasible flow, in nets of three families and of rising size
   net       builds the net of a million arcs, and goes over the residual arcs of each node
+  raise     raises prices of a least flow to the greatest, in nets of three families and of rising size
   read      reads an instance, and keeps it in 32 bytes an arc
   recover   recovers prices from a least flow, in nets of three families and of rising size
   solve     solves an instance in which nothing is worth moving, without the seconds of its engine, beside a
@@ -118,13 +119,14 @@ PARTS = {
     "check": (shown_pair, 1.25),
     "feasible": (family_instances, 1.25),
     "net": (shown_instance, 1.2),
+    "raise": (family_answers, 1.25),
     "read": (sparse, 1.2),
     "recover": (family_answers, 1.25),
     "solve": (resting, 1.25),
     "text": (sparse, 1.1),
     "tree": (trees, 1.25),
 }
-REPEATED = {"feasible", "net", "recover"}
+REPEATED = {"feasible", "net", "raise", "recover"}
 
 
 def build_program():

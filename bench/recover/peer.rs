@@ -3,9 +3,9 @@
 //! for a cycle.
 #![allow(dead_code)]
 #[path = "../answer/peer.rs"]
-mod answering;
+pub mod answering;
 #[path = "../feasible/peer.rs"]
-mod feasibility;
+pub mod feasibility;
 
 use answering::{Answer, parse};
 use feasibility::State;
@@ -100,12 +100,12 @@ impl Search<'_, '_> {
     }
 }
 
-enum Recovered {
+pub enum Recovered {
     Prices(Vec<i128>),
     Cycle(Vec<Rid>),
 }
 
-fn recover(state: &State) -> Recovered {
+pub fn recover(state: &State) -> Recovered {
     let nodes = state.net.supplies.len();
     let mut search = Search { state, prices: vec![0; nodes], links: vec![None; nodes] };
     let mut waiting = Queue::new(nodes);
@@ -125,7 +125,7 @@ fn recover(state: &State) -> Recovered {
 }
 
 /// The state in which each arc has what the answer sends on it.
-fn state_of<'n>(net: &'n Net, answer: &Answer) -> State<'n> {
+pub fn state_of<'n>(net: &'n Net, answer: &Answer) -> State<'n> {
     let mut state = State::zero(net);
     if let Answer::Flow { sent, .. } = answer {
         for (k, sent) in sent.iter().enumerate() {

@@ -15,3 +15,12 @@ pub mod StrongPivot
 pub mod Around
 pub mod PushedRooms
 pub mod TurnedRooms
+pub mod CyclePlaces
+pub mod Cycles
+pub mod StrongKept
+pub mod Pushed
+pub mod PushedSums
+pub mod PairLaws
+pub mod PricesTurned
+pub mod PivotBounds
+pub mod PivotKeeps

@@ -9,19 +9,21 @@ mod answering;
 mod feasibility;
 mod judging;
 mod networks;
+mod raising;
 mod reading;
 mod recovering;
 mod solving;
 mod text;
 mod trees;
 
+use crate::recovering::Step;
 use mcf_text::{Whole, whole};
 use std::process::ExitCode;
 use std::time::{Duration, Instant};
 use std::{env, fs, io};
 
 const USAGE: &str =
-    "usage: mcf_bench read|solve|text INSTANCE, answer ANSWER, check INSTANCE ANSWER, net|feasible INSTANCE [TIMES], recover INSTANCE ANSWER [TIMES], or tree NODES ROUNDS";
+    "usage: mcf_bench read|solve|text INSTANCE, answer ANSWER, check INSTANCE ANSWER, net|feasible INSTANCE [TIMES], recover|raise INSTANCE ANSWER [TIMES], or tree NODES ROUNDS";
 
 // A part that needs one file.
 #[derive(Clone, Copy)]
@@ -64,11 +66,23 @@ fn run(rt: &HostRuntime, words: &[String]) -> io::Result<ExitCode> {
     };
     match part.as_str() {
         "check" => judging::run(rt, path.as_str(), answer.as_str())?,
-        "recover" => recovering::run(rt, path.as_str(), answer.as_str(), times_of(words.get(4)))?,
+        "recover" => run_on_files(rt, Step::Recover, path, answer, words.get(4))?,
+        "raise" => run_on_files(rt, Step::Raise, path, answer, words.get(4))?,
         "tree" => trees::run(rt, number_of(path.as_str()), number_of(answer.as_str()))?,
         _ => return refuse(rt),
     }
     Ok(ExitCode::SUCCESS)
+}
+
+// Does a step with the state of an answer to an instance.
+fn run_on_files(
+    rt: &HostRuntime,
+    step: Step,
+    instance: &String,
+    answer: &String,
+    times: Option<&String>,
+) -> io::Result<()> {
+    recovering::run(rt, step, instance.as_str(), answer.as_str(), times_of(times))
 }
 
 // Words that name no part.

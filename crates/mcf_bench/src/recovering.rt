@@ -1,7 +1,8 @@
-//! Recovers prices from the state of an answer.
+//! Recovers prices from the state of an answer, or raises such prices.
 ghost use Rattle.std.specs.Prelude.{◌≡◌};
 ghost use Rattle.mcf_instance.specs.Network.{IsArcNumber};
 
+use crate::raising;
 use crate::reading::net_of;
 use crate::tell_time;
 use mcf_answer::{Answer, FlowAnswer, Sent, parse};
@@ -12,17 +13,38 @@ use std::alloc::Global;
 use std::time::Instant;
 use std::{fs, io};
 
-/// Reads the instance of a file and the answer of another, asks so many times for the prices of the state in
-/// which each arc has what the answer sends on it, and prints what the last result holds and the seconds of
-/// all.
-pub fn run(rt: &HostRuntime, instance: &str, answer: &str, times: u32) -> io::Result<()> {
-    let instance = fs::read(rt, instance)?;
-    let answer = fs::read(rt, answer)?;
-    run_on(rt, &instance, &answer, times)
+/// What is done with a state.
+#[derive(Clone, Copy)]
+pub enum Step {
+    /// Its prices are recovered.
+    Recover,
+    /// Its prices, recovered once, are raised to the greatest.
+    Raise,
 }
 
-// Recovers prices from the answer of a text for the instance of another.
-fn run_on(rt: &HostRuntime, instance: &[u8], answer: &[u8], times: u32) -> io::Result<()> {
+/// Reads the instance of a file and the answer of another, does a step so many times with the state in
+/// which each arc has what the answer sends on it, and prints what the last result holds and the seconds of
+/// all.
+pub fn run(
+    rt: &HostRuntime,
+    step: Step,
+    instance: &str,
+    answer: &str,
+    times: u32,
+) -> io::Result<()> {
+    let instance = fs::read(rt, instance)?;
+    let answer = fs::read(rt, answer)?;
+    run_on(rt, step, &instance, &answer, times)
+}
+
+// Does a step with the answer of a text for the instance of another.
+fn run_on(
+    rt: &HostRuntime,
+    step: Step,
+    instance: &[u8],
+    answer: &[u8],
+    times: u32,
+) -> io::Result<()> {
     let Some(net) = net_of(rt.alloc(), instance) else {
         return println!(rt; "no net");
     };
@@ -30,7 +52,10 @@ fn run_on(rt: &HostRuntime, instance: &[u8], answer: &[u8], times: u32) -> io::R
         return println!(rt; "no flow");
     };
     match state_of(rt.alloc(), &net, flow.sent.as_slice()) {
-        Ok(state) => run_from(rt, &state, times),
+        Ok(state) => match step {
+            Step::Recover => run_from(rt, &state, times),
+            Step::Raise => raising::run_from(rt, &state, times),
+        },
         Err(_) => println!(rt; "out of memory"),
     }
 }
@@ -96,8 +121,8 @@ fn repeat(alloc: Global, state: &State<'_>, times: u32) -> Result<Recovered, NoM
     Ok(last)
 }
 
-// The sum of some numbers.
-fn total(numbers: &[i128]) -> i128 {
+/// The sum of some numbers.
+pub fn total(numbers: &[i128]) -> i128 {
     let mut sum = 0i128;
     for number in numbers {
         sum = sum.wrapping_add(*number);

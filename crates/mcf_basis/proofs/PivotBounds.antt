@@ -1,0 +1,178 @@
+-- The amounts after a pivot: within their bounds, and at a bound outside the new tree.
+use Rattle.std.proofs.Common.{◌≡◌, ◌≢◌, ℕ, ◌+◌, ◌<◌, ◌≤◌, ◌⊎◌, inl, inr, true, false, not, length, refl, sym, ap, ◌∙◌, subst, arith, ℤ, pos, negsuc, zero, suc, ◌+ℤ◌, ◌-ℤ◌, ◌≤ℤ◌, ◌<ℤ◌}
+use Rattle.std.proofs.lemmas.Int.{ints}
+use Rattle.std.proofs.lemmas.Bool.{both_ways, cases_eq, cases_lt, eq-eqb, ne_eqb}
+use Rattle.mcf_instance.specs.Network.{IsNode, node_count}
+use Rattle.mcf_links.specs.Rooted.{climb}
+use Rattle.mcf_links.proofs.Paths.{above_root, climb-within, depth-climb}
+use Rattle.mcf_network.specs.Residual.{arc_at}
+use Rattle.mcf_tree.specs.SpanningTree.{depth_of, label_of, parent_of, size_of}
+use Rattle.mcf_basis.specs.Artificial.{IsLabel, with_artificial}
+use Rattle.mcf_basis.specs.Bases.{CanHold, IsAtBound, IsBasis}
+use Rattle.mcf_basis.specs.Pivots.{IsPivot, entering}
+use Rattle.mcf_basis.specs.Structures.{TreeStructure, CanTake, IsInTree, carried, leaving}
+use Rattle.mcf_basis.proofs.Labels.{own_label}
+use Rattle.mcf_basis.proofs.Around.{CanGoRound, IsAround, IsLeaving, WentRound, arcs_of, from_of, left_node, left_steps, right_node, right_steps, round_amount, to_of}
+use Rattle.mcf_basis.proofs.Around.IsLeaving.{right, enter, left}
+use Rattle.mcf_basis.proofs.PricesTurned.{cases_found, new_tree}
+use Rattle.mcf_basis.proofs.Pushes.{Leaves}
+use Rattle.mcf_basis.proofs.StrongKept.{entering_leaves, pivoted_amount}
+
+zero_or_more : (z : ℤ) → pos 0 ≤ℤ z → (z ≡ pos 0) ⊎ (pos 0 <ℤ z)
+zero_or_more (pos zero) h = inl refl
+zero_or_more (pos (suc n)) h = inr (omega (arith, ints))
+zero_or_more (negsuc n) h = absurd (omega (arith, ints))
+
+-- one residual arc along which x went
+module _ (b : TreeStructure) (label v : ℕ) (x : ℤ) (new : ℕ → ℤ) (went : Leaves (arcs_of b.net) (carried b) new label v x) (can : CanTake b (leaving b.net label v) x)
+    (some : pos 0 ≤ℤ x) where
+  pub pushed_hold : CanHold b.net label (carried b label) → CanHold b.net label (new label)
+  pushed_hold old =
+      elim (cases_eq (arc_at (with_artificial b.net) label).src v) [
+        | inl e ↦ (let amount : new label ≡ carried b label +ℤ x = went.forward e in let low = old.low in record {
+          low = omega (arith, ints, amount, low, some);
+          high = λ own. (let fits : (carried b label +ℤ x) ≤ℤ (arc_at b.net label).cap = can.forward (ap not (eq-eqb (arc_at (with_artificial b.net) label).src v e)) own in
+              omega (arith, ints, amount, fits));
+        })
+        | inr ne ↦ (let amount : new label +ℤ x ≡ carried b label = went.backward ne in
+            let fits : x ≤ℤ carried b label = can.backward (ap not (ne_eqb (arc_at (with_artificial b.net) label).src v ne)) in record {
+              low = omega (arith, ints, amount, fits);
+              high = λ own. (let high : carried b label ≤ℤ (arc_at b.net label).cap = old.high own in omega (arith, ints, amount, high, some));
+            })
+      ]
+
+  forward_bound : ¬ CanTake b (leaving b.net label v) (x +ℤ pos 1) → (arc_at (with_artificial b.net) label).src ≡ v → (new label ≡ pos 0) ⊎ ((label ≤ length b.net.arcs) × (new label ≡ (arc_at b.net label).cap))
+  forward_bound full e =
+      let amount : new label ≡ carried b label +ℤ x = went.forward e in
+      let back : (leaving b.net label v).back ≡ false = ap not (eq-eqb (arc_at (with_artificial b.net) label).src v e) in
+      elim (cases_lt (length b.net.arcs) label) [
+        | inl past ↦ absurd (full (record { forward = λ t own. absurd (omega arith); backward = λ t. absurd (both_ways (leaving b.net label v).back back t) }))
+        | inr own ↦ (let fits : (carried b label +ℤ x) ≤ℤ (arc_at b.net label).cap = can.forward back own in
+            elim (zero_or_more ((arc_at b.net label).cap -ℤ (carried b label +ℤ x)) (omega (arith, ints, fits))) [
+              | inl z ↦ inr (own, omega (arith, ints, amount, z))
+              | inr more ↦ absurd (full (record { forward = λ t q. omega (arith, ints, more); backward = λ t. absurd (both_ways (leaving b.net label v).back back t) }))
+            ])
+      ]
+
+  backward_bound : ¬ CanTake b (leaving b.net label v) (x +ℤ pos 1) → (arc_at (with_artificial b.net) label).src ≢ v → new label ≡ pos 0
+  backward_bound full ne =
+      let amount : new label +ℤ x ≡ carried b label = went.backward ne in
+      let back : (leaving b.net label v).back ≡ true = ap not (ne_eqb (arc_at (with_artificial b.net) label).src v ne) in
+      let fits : x ≤ℤ carried b label = can.backward back in
+      elim (zero_or_more (carried b label -ℤ x) (omega (arith, ints, fits))) [
+        | inl z ↦ omega (arith, ints, amount, z)
+        | inr more ↦ absurd (full (record { forward = λ t own. absurd (both_ways (leaving b.net label v).back t back); backward = λ t. omega (arith, ints, more) }))
+      ]
+
+  -- where one more couldn't go, it is at a bound
+  pub pushed_bound : ¬ CanTake b (leaving b.net label v) (x +ℤ pos 1) → (new label ≡ pos 0) ⊎ ((label ≤ length b.net.arcs) × (new label ≡ (arc_at b.net label).cap))
+  pushed_bound full =
+      elim (cases_eq (arc_at (with_artificial b.net) label).src v) [
+        | inl e ↦ forward_bound full e
+        | inr ne ↦ inl (backward_bound full ne)
+      ]
+
+-- the nodes of either side are nodes of the net
+pub side_node : (b : TreeStructure) → IsBasis b → (u n p : ℕ) → u < length b.tree.parents → n ≤ depth_of b.tree u → p < n → IsNode (node_count b.net) (climb b.tree.parents p u)
+side_node b ok u n p h short lt =
+    let e : depth_of b.tree (climb b.tree.parents p u) + p ≡ depth_of b.tree u = depth-climb b.tree.parents (depth_of b.tree) ok.spanning.rooted p u h (omega arith) in
+    let w : climb b.tree.parents p u < length b.tree.parents = climb-within b.tree.parents (depth_of b.tree) ok.spanning.rooted p u h in
+    let up : 0 < climb b.tree.parents p u = above_root b.tree.parents (depth_of b.tree) ok.spanning.rooted (climb b.tree.parents p u) (omega arith) in
+    let size : size_of b.tree ≡ node_count b.net + 1 = ok.size in
+    (omega arith, omega (arith, w, size))
+
+module _ (old new : TreeStructure) (k : ℕ) (moved : ℤ) (ok : IsBasis old) (pivot : IsPivot old k moved new) (around : IsAround old k pivot.apex)
+    (went : WentRound old k pivot.apex moved) (can : CanGoRound old k pivot.apex moved) where
+  abbrev now : ℕ → ℤ
+  now label = round_amount old k pivot.apex moved label
+
+  amount_is : (label : ℕ) → 0 < label → carried new label ≡ now label
+  amount_is label h = pivoted_amount old new k moved pivot label h
+
+  enters_from : entering old k ≡ leaving old.net k (from_of old k)
+  enters_from = entering_leaves old k around.cycle.apart
+
+  can_enter : CanTake old (leaving old.net k (from_of old k)) moved
+  can_enter = subst (λ r. CanTake old r moved) enters_from can.entering
+
+  old_hold : (label : ℕ) → IsLabel old.net label → CanHold old.net label (carried old label)
+  old_hold label h = ok.flow.within_bounds label h
+
+  hold_left : (label p : ℕ) → IsLabel old.net label → p < left_steps old k pivot.apex → label_of old.tree (left_node old k p) ≡ label → CanHold old.net label (now label)
+  hold_left label p h short is =
+      subst (λ l. CanHold old.net l (now l)) is
+      (pushed_hold old (label_of old.tree (left_node old k p)) (parent_of old.tree (left_node old k p)) moved now (went.left p short) (can.left p short) went.some
+      (old_hold (label_of old.tree (left_node old k p)) (subst (IsLabel old.net) (sym is) h)))
+
+  hold_right : (label p : ℕ) → IsLabel old.net label → p < right_steps old k pivot.apex → label_of old.tree (right_node old k p) ≡ label → CanHold old.net label (now label)
+  hold_right label p h short is =
+      subst (λ l. CanHold old.net l (now l)) is
+      (pushed_hold old (label_of old.tree (right_node old k p)) (right_node old k p) moved now (went.right p short) (can.right p short) went.some
+      (old_hold (label_of old.tree (right_node old k p)) (subst (IsLabel old.net) (sym is) h)))
+
+  -- every amount is within its bounds
+  round_hold : (label : ℕ) → IsLabel old.net label → CanHold old.net label (now label)
+  round_hold label h =
+      elim (cases_eq label k) [
+        | inl e ↦ subst (λ l. CanHold old.net l (now l)) (sym e)
+            (pushed_hold old k (from_of old k) moved now went.entering can_enter went.some (old_hold k (own_label old.net k pivot.eligible.arc)))
+        | inr ne ↦ elim (cases_found (λ p. label_of old.tree (left_node old k p)) (left_steps old k pivot.apex) label) [
+          | inl t ↦ hold_left label t.at h t.short t.is
+          | inr off_left ↦ elim (cases_found (λ p. label_of old.tree (right_node old k p)) (right_steps old k pivot.apex) label) [
+            | inl t ↦ hold_right label t.at h t.short t.is
+            | inr off_right ↦ subst (CanHold old.net label) (sym (went.others label ne (λ i l e. off_left i l (sym e)) (λ i l e. off_right i l (sym e)))) (old_hold label h)
+          ]
+        ]
+      ]
+
+  -- an arc outside the old tree that doesn't enter keeps its amount
+  round_kept : (label : ℕ) → label ≢ k → ¬ IsInTree old label → now label ≡ carried old label
+  round_kept label ne out =
+      went.others label ne
+      (λ p h e. out (record { node = left_node old k p; is_node = side_node old ok (from_of old k) (left_steps old k pivot.apex) p around.cycle.left_in_range around.cycle.left_short h; labelled = sym e }))
+      (λ p h e. out (record { node = right_node old k p; is_node = side_node old ok (to_of old k) (right_steps old k pivot.apex) p around.cycle.right_in_range around.cycle.right_short h; labelled = sym e }))
+
+  abbrev IsBound : ℕ → Type 0
+  IsBound label = (now label ≡ pos 0) ⊎ ((label ≤ length old.net.arcs) × (now label ≡ (arc_at old.net label).cap))
+
+  -- the arc that leaves is at a bound
+  leaving_bound : IsLeaving old k pivot.apex moved pivot.leaves → IsBound pivot.leaves.arc
+  leaving_bound (right m h is full rest) =
+      subst (λ r. IsBound r.arc) (sym is)
+      (pushed_bound old (label_of old.tree (right_node old k m)) (right_node old k m) moved now (went.right m h) (can.right m h) went.some
+      (subst (λ r. ¬ CanTake old r (moved +ℤ pos 1)) is full))
+  leaving_bound (enter is full rest) =
+      subst (λ r. IsBound r.arc) (sym is)
+      (pushed_bound old k (from_of old k) moved now went.entering can_enter went.some
+      (subst (λ r. ¬ CanTake old r (moved +ℤ pos 1)) (is ∙ enters_from) full))
+  leaving_bound (left m h is full rest more side) =
+      subst (λ r. IsBound r.arc) (sym is)
+      (pushed_bound old (label_of old.tree (left_node old k m)) (parent_of old.tree (left_node old k m)) moved now (went.left m h) (can.left m h) went.some
+      (subst (λ r. ¬ CanTake old r (moved +ℤ pos 1)) is full))
+
+  old_bound : (label : ℕ) → IsLabel old.net label → label ≢ k → ¬ IsInTree old label → IsBound label
+  old_bound label h ne out =
+      elim (ok.at_bounds label h out) [
+        | inl z ↦ inl (round_kept label ne out ∙ z)
+        | inr f ↦ inr (f.0, round_kept label ne out ∙ f.1)
+      ]
+
+  here_label : (label : ℕ) → IsLabel new.net label → IsLabel old.net label
+  here_label label h = subst (λ g. IsLabel g label) pivot.net h
+
+  pub new_within : (label : ℕ) → IsLabel new.net label → CanHold new.net label (carried new label)
+  new_within label h =
+      subst (λ g. CanHold g label (carried new label)) (sym pivot.net) (subst (CanHold old.net label) (sym (amount_is label h.0)) (round_hold label (here_label label h)))
+
+  in_new : (label : ℕ) → 0 < label → IsBound label → IsAtBound new label
+  in_new label h (inl z) = inl (amount_is label h ∙ z)
+  in_new label h (inr f) =
+      inr (subst (λ g. label ≤ length g.arcs) (sym pivot.net) f.0, amount_is label h ∙ (f.1 ∙ ap (λ g. (arc_at g label).cap) (sym pivot.net)))
+
+  pub new_at_bounds : IsLeaving old k pivot.apex moved pivot.leaves → (label : ℕ) → IsLabel new.net label → ¬ IsInTree new label → IsAtBound new label
+  new_at_bounds leaves label h out =
+      elim ((new_tree old new k moved ok pivot).outside label
+      (λ v q e. out (record { node = v; is_node = subst (λ g. IsNode (node_count g) v) (sym pivot.net) q; labelled = e }))) [
+        | inl is ↦ in_new label h.0 (subst IsBound (sym is) (leaving_bound leaves))
+        | inr away ↦ in_new label h.0 (old_bound label (here_label label h) away.0 away.1)
+      ]

@@ -1,0 +1,259 @@
+-- What an amount that goes round the cycle of a pivot changes of the sums: no surplus, and the cost by the reduced cost of the arc that enters.
+use Rattle.std.proofs.Common.{◌≡◌, ℕ, zero, suc, ◌+◌, ◌-◌, ◌<◌, ◌≤◌, ◌++◌, Bool, true, false, not, eqb, cond, List, [], ◌∷◌, length, set, refl, sym, ap, ◌∙◌, subst, arith, inl, inr, ℤ, pos, negsuc, ◌+ℤ◌, ◌-ℤ◌, ◌<ℤ◌, neg_ℤ}
+use Rattle.std.specs.Prelude.{int_lt}
+use Rattle.std.specs.List.{All}
+use Rattle.std.proofs.Math.IntN.{◌*ℤ◌, *ℤ_comm}
+use Rattle.std.proofs.lemmas.Bool.{cases_eq, eq-eqb, ne_eqb, lt-ltb}
+use Rattle.std.proofs.lemmas.Int.{ints}
+use Rattle.std.proofs.lemmas.List.Elements.{All-head, All-tail}
+use Rattle.mcf_instance.specs.Flow.{cost, net}
+use Rattle.mcf_instance.specs.Network.{Network, IsArcNumber, IsNode, node_count, when}
+use Rattle.mcf_instance.proofs.ArcSums.{flow_sum-set}
+use Rattle.mcf_instance.proofs.IntLaws.{mul-add, mul-sub, neg-mul, add-mul, zero-mul}
+use Rattle.mcf_instance.proofs.NodeSums.{when-neg}
+use Rattle.mcf_links.specs.Rooted.{climb}
+use Rattle.mcf_links.proofs.Paths.{above_root}
+use Rattle.mcf_network.specs.declared.rid.Rid.{Rid}
+use Rattle.mcf_network.specs.Residual.{no_arc, arc_at, head, tail, unit_cost}
+use Rattle.mcf_network.specs.States.{Pseudoflow, HasNoSurplus, amount_at, pushed, surplus_at}
+use Rattle.mcf_network.specs.Walks.{IsWalk, pushed_along, walk_cost}
+use Rattle.mcf_network.proofs.StateLaws.{rid, when-add}
+use Rattle.mcf_network.proofs.WalkLaws.{along_net}
+use Rattle.mcf_tree.specs.SpanningTree.{depth_of, label_of, parent_of}
+use Rattle.mcf_basis.specs.Artificial.{with_artificial}
+use Rattle.mcf_basis.specs.Bases.{IsBasis}
+use Rattle.mcf_basis.specs.Pivots.{IsEligible, entering, full_cost}
+use Rattle.mcf_basis.specs.Structures.{TreeStructure, Joins, cycle_of, down_path, full_state, leaving, price_at, reduced_at, up_path}
+use Rattle.mcf_basis.specs.Structures.Joins.{out_of, into}
+use Rattle.mcf_basis.proofs.Around.{IsAround, down_arc, from_of, left_node, left_steps, right_node, right_steps, to_of, up_arc}
+use Rattle.mcf_basis.proofs.Pushed.{along_count, cycle_labels, node_of, pushed_count}
+
+-- ---- pushes along a walk, where there is one amount for each arc
+
+net_changed : (s : Pseudoflow) (k : ℕ) (x : ℤ) (v : ℕ) → length s.amounts ≡ length s.net.arcs → IsArcNumber s.net k →
+    net s.net.arcs (set s.amounts (k - 1) (amount_at s k +ℤ x)) v ≡ net s.net.arcs s.amounts v +ℤ when (eqb (arc_at s.net k).src v) x -ℤ when
+    (eqb (arc_at s.net k).dst v) x
+net_changed s k x v count h =
+    let here : k - 1 < length s.net.arcs = omega arith in
+    let there : k - 1 < length s.amounts = omega arith in
+    let out = flow_sum-set (λ a f. when (eqb a.src v) f) s.net.arcs s.amounts (k - 1) (amount_at s k +ℤ x) no_arc (pos 0) here there in
+    let inn = flow_sum-set (λ a f. when (eqb a.dst v) f) s.net.arcs s.amounts (k - 1) (amount_at s k +ℤ x) no_arc (pos 0) here there in
+    omega (arith, ints, out, inn, when-add (eqb (arc_at s.net k).src v) (amount_at s k) x, when-add (eqb (arc_at s.net k).dst v) (amount_at s k) x)
+
+one_surplus : (s : Pseudoflow) (k : ℕ) (b : Bool) (x : ℤ) → length s.amounts ≡ length s.net.arcs → IsArcNumber s.net k → (v : ℕ) →
+    surplus_at (pushed s (rid k b) x) v ≡ surplus_at s v -ℤ when (eqb (tail s.net (rid k b)) v) x +ℤ when (eqb (head s.net (rid k b)) v) x
+one_surplus s k true x count h v =
+    let e = net_changed s k (neg_ℤ x) v count h in
+    omega (arith, ints, e, when-neg (eqb (arc_at s.net k).src v) x, when-neg (eqb (arc_at s.net k).dst v) x)
+one_surplus s k false x count h v = let e = net_changed s k x v count h in omega (arith, ints, e)
+
+-- the surplus moves from the beginning of a walk to its end
+moved_along : (s : Pseudoflow) (walk : List Rid) (x : ℤ) (u w : ℕ) → length s.amounts ≡ length s.net.arcs → All (λ r. IsArcNumber s.net r.arc) walk →
+    IsWalk s.net u walk w → (v : ℕ) → surplus_at (pushed_along s walk x) v ≡ surplus_at s v -ℤ when (eqb u v) x +ℤ when (eqb w v) x
+moved_along s [] x u w count all walk v =
+    let same = ap (λ i. when (eqb i v) x) walk in
+    omega (arith, ints, same)
+moved_along s (r ∷ rest) x u w count all walk v =
+    let here : IsArcNumber s.net r.arc = All-head (λ (q : Rid). IsArcNumber s.net q.arc) r rest all in
+    let first = one_surplus s r.arc r.back x count here v in
+    let more =
+    moved_along (pushed s r x) rest x (head s.net r) w (pushed_count s r x ∙ count) (All-tail (λ (q : Rid). IsArcNumber s.net q.arc) r rest all) walk.1 v in
+    let same = ap (λ i. when (eqb i v) x) walk.0 in
+    omega (arith, ints, first, more, same)
+
+one_cost : (s : Pseudoflow) (k : ℕ) (b : Bool) (x : ℤ) → length s.amounts ≡ length s.net.arcs → IsArcNumber s.net k →
+    cost s.net.arcs (pushed s (rid k b) x).amounts ≡ cost s.net.arcs s.amounts +ℤ unit_cost s.net (rid k b) *ℤ x
+one_cost s k true x count h =
+    let c = (arc_at s.net k).cost in
+    let e = flow_sum-set (λ a f. a.cost *ℤ f) s.net.arcs s.amounts (k - 1) (amount_at s k -ℤ x) no_arc (pos 0) (omega arith) (omega arith) in
+    omega (arith, ints, e, mul-sub c (amount_at s k) x, neg-mul c x)
+one_cost s k false x count h =
+    let c = (arc_at s.net k).cost in
+    let e = flow_sum-set (λ a f. a.cost *ℤ f) s.net.arcs s.amounts (k - 1) (amount_at s k +ℤ x) no_arc (pos 0) (omega arith) (omega arith) in
+    omega (arith, ints, e, mul-add c (amount_at s k) x)
+
+-- the cost changes by that of a unit along the walk, for each unit
+paid_along : (s : Pseudoflow) (walk : List Rid) (x : ℤ) → length s.amounts ≡ length s.net.arcs → All (λ r. IsArcNumber s.net r.arc) walk →
+    cost s.net.arcs (pushed_along s walk x).amounts ≡ cost s.net.arcs s.amounts +ℤ walk_cost s.net walk *ℤ x
+paid_along s [] x count all = omega (arith, ints, zero-mul x)
+paid_along s (r ∷ rest) x count all =
+    let here : IsArcNumber s.net r.arc = All-head (λ (q : Rid). IsArcNumber s.net q.arc) r rest all in
+    let first = one_cost s r.arc r.back x count here in
+    let more = paid_along (pushed s r x) rest x (pushed_count s r x ∙ count) (All-tail (λ (q : Rid). IsArcNumber s.net q.arc) r rest all) in
+    omega (arith, ints, first, more, add-mul (unit_cost s.net r) (walk_cost s.net rest) x)
+
+-- ---- walks in the tree
+
+IsWalk-append : (g : Network) (xs ys : List Rid) (u m w : ℕ) → IsWalk g u xs m → IsWalk g m ys w → IsWalk g u (xs ++ ys) w
+IsWalk-append g [] ys u m w one two = subst (λ i. IsWalk g i ys w) (sym one) two
+IsWalk-append g (r ∷ xs) ys u m w one two = (one.0, IsWalk-append g xs ys (head g r) m w one.1 two)
+
+walk_cost-append : (g : Network) (xs ys : List Rid) → walk_cost g (xs ++ ys) ≡ walk_cost g xs +ℤ walk_cost g ys
+walk_cost-append g [] ys = omega (arith, ints)
+walk_cost-append g (r ∷ xs) ys = omega (arith, ints, walk_cost-append g xs ys)
+
+-- over plain nodes: the ends, from u on, of an arc from s to t that joins u and v
+ends_forth : (s t u v : ℕ) → s ≡ u → t ≡ v → (cond (not (eqb s u)) t s ≡ u) × (cond (not (eqb s u)) s t ≡ v)
+ends_forth s t u v e f = rw (eq-eqb s u e) (e, f)
+
+ends_back : (s t u v : ℕ) → s ≡ v → t ≡ u → (cond (not (eqb s u)) t s ≡ u) × (cond (not (eqb s u)) s t ≡ v)
+ends_back s t u v e f =
+    elim (cases_eq s u) [
+      | inl same ↦ ends_forth s t u v same (f ∙ (sym same ∙ e))
+      | inr n ↦ (rw (ne_eqb s u n) (f, e))
+    ]
+
+leaving_ends : (g : Network) (label u v : ℕ) → Joins g label u v →
+    (tail (with_artificial g) (leaving g label u) ≡ u) × (head (with_artificial g) (leaving g label u) ≡ v)
+leaving_ends g label u v (out_of s d) =
+    ends_forth (arc_at (with_artificial g) label).src (arc_at (with_artificial g) label).dst u v s d
+leaving_ends g label u v (into s d) =
+    ends_back (arc_at (with_artificial g) label).src (arc_at (with_artificial g) label).dst u v s d
+
+Joins-turned : (g : Network) (label u v : ℕ) → Joins g label u v → Joins g label v u
+Joins-turned g label u v (out_of s d) = into s d
+Joins-turned g label u v (into s d) = out_of s d
+
+-- the reduced cost of a residual arc
+pub turned_reduced : (b : TreeStructure) (k : ℕ) (back : Bool) →
+    unit_cost (with_artificial b.net) (rid k back) -ℤ price_at b (tail (with_artificial b.net) (rid k back)) +ℤ price_at b
+    (head (with_artificial b.net) (rid k back)) ≡ cond back (neg_ℤ (reduced_at b k)) (reduced_at b k)
+turned_reduced b k true = omega (arith, ints)
+turned_reduced b k false = refl
+
+pub none_turned : (b : Bool) (z : ℤ) → z ≡ pos 0 → cond b (neg_ℤ z) z ≡ pos 0
+none_turned true z e = omega (arith, ints, e)
+none_turned false z e = e
+
+-- a walk whose cost is the fall of the price
+record IsPricedWalk (b : TreeStructure) (u : ℕ) (arcs : List Rid) (w : ℕ) : Type 0 where
+  pub joined : IsWalk (with_artificial b.net) u arcs w
+  pub paid : walk_cost (with_artificial b.net) arcs ≡ price_at b u -ℤ price_at b w
+
+priced_one : (b : TreeStructure) (label u v : ℕ) → Joins b.net label u v → reduced_at b label ≡ pos 0 → IsPricedWalk b u (leaving b.net label u ∷ []) v
+priced_one b label u v joins zero_cost =
+    let ends = leaving_ends b.net label u v joins in
+    let reduced = turned_reduced b label (leaving b.net label u).back in
+    let none = none_turned (leaving b.net label u).back (reduced_at b label) zero_cost in
+    let from = ap (price_at b) ends.0 in
+    let to = ap (price_at b) ends.1 in
+    record { joined = ends; paid = omega (arith, ints, reduced, none, from, to) }
+
+priced_append : (b : TreeStructure) (xs ys : List Rid) (u m w : ℕ) → IsPricedWalk b u xs m → IsPricedWalk b m ys w → IsPricedWalk b u (xs ++ ys) w
+priced_append b xs ys u m w one two =
+    let split = walk_cost-append (with_artificial b.net) xs ys in
+    let first = one.paid in
+    let second = two.paid in
+    record {
+      joined = IsWalk-append (with_artificial b.net) xs ys u m w one.joined two.joined;
+      paid = omega (arith, ints, split, first, second);
+    }
+
+module _ (b : TreeStructure) (ok : IsBasis b) where
+  up_walk : (k v : ℕ) → v < length b.tree.parents → k ≤ depth_of b.tree v → IsPricedWalk b v (up_path b k v) (climb b.tree.parents k v)
+  up_walk zero v h le = record { joined = refl; paid = omega (arith, ints) }
+  up_walk (suc k) v h le =
+      let up : 0 < v = above_root b.tree.parents (depth_of b.tree) ok.spanning.rooted v (omega arith) in
+      let f : depth_of b.tree v ≡ depth_of b.tree (parent_of b.tree v) + 1 = ok.spanning.rooted.falls v up h in
+      let node : IsNode (node_count b.net) v = node_of b ok v up h in
+      priced_append b (up_arc b v ∷ []) (up_path b k (parent_of b.tree v)) v (parent_of b.tree v) (climb b.tree.parents k (parent_of b.tree v))
+      (priced_one b (label_of b.tree v) v (parent_of b.tree v) (ok.tree_arcs v node).joins (ok.prices.balanced v node))
+      (up_walk k (parent_of b.tree v) (ok.spanning.rooted.within v h) (omega arith))
+
+  down_walk : (k v : ℕ) → v < length b.tree.parents → k ≤ depth_of b.tree v → IsPricedWalk b (climb b.tree.parents k v) (down_path b k v) v
+  down_walk zero v h le = record { joined = refl; paid = omega (arith, ints) }
+  down_walk (suc k) v h le =
+      let up : 0 < v = above_root b.tree.parents (depth_of b.tree) ok.spanning.rooted v (omega arith) in
+      let f : depth_of b.tree v ≡ depth_of b.tree (parent_of b.tree v) + 1 = ok.spanning.rooted.falls v up h in
+      let node : IsNode (node_count b.net) v = node_of b ok v up h in
+      let joins : Joins b.net (label_of b.tree v) (parent_of b.tree v) v =
+      Joins-turned b.net (label_of b.tree v) v (parent_of b.tree v) (ok.tree_arcs v node).joins in
+      priced_append b (down_path b k (parent_of b.tree v)) (down_arc b v ∷ []) (climb b.tree.parents k (parent_of b.tree v)) (parent_of b.tree v) v
+      (down_walk k (parent_of b.tree v) (ok.spanning.rooted.within v h) (omega arith))
+      (priced_one b (label_of b.tree v) (parent_of b.tree v) v joins (ok.prices.balanced v node))
+
+-- ---- the cycle
+
+-- the reduced cost of the residual arc that enters
+abbrev pub entering_cost : TreeStructure → ℕ → ℤ
+entering_cost b k = cond (int_lt (pos 0) (reduced_at b k)) (neg_ℤ (reduced_at b k)) (reduced_at b k)
+
+pub not_turned : (z : ℤ) → z <ℤ pos 0 → int_lt (pos 0) z ≡ false
+not_turned (pos n) h = absurd (omega (arith, ints))
+not_turned (negsuc n) h = refl
+
+pub is_turned : (z : ℤ) → pos 0 <ℤ z → int_lt (pos 0) z ≡ true
+is_turned (pos zero) h = absurd (omega (arith, ints))
+is_turned (pos (suc n)) h = lt-ltb 0 (suc n) (omega arith)
+is_turned (negsuc n) h = absurd (omega (arith, ints))
+
+below_forward : (z : ℤ) → z <ℤ pos 0 → cond (int_lt (pos 0) z) (neg_ℤ z) z <ℤ pos 0
+below_forward z h = rw (not_turned z h) h
+
+below_backward : (z : ℤ) → pos 0 <ℤ z → cond (int_lt (pos 0) z) (neg_ℤ z) z <ℤ pos 0
+below_backward z h = rw (is_turned z h) (omega (arith, ints, h))
+
+pub entering_low : (b : TreeStructure) (k : ℕ) → IsEligible b k → entering_cost b k <ℤ pos 0
+entering_low b k el =
+    elim el.gains [
+      | inl g ↦ below_forward (reduced_at b k) g.1
+      | inr g ↦ below_backward (reduced_at b k) g.1
+    ]
+
+module _ (b : TreeStructure) (k apex : ℕ) (ok : IsBasis b) (el : IsEligible b k) (around : IsAround b k apex) where
+  down_side : IsPricedWalk b (left_node b k (left_steps b k apex)) (down_path b (left_steps b k apex) (from_of b k)) (from_of b k)
+  down_side = down_walk b ok (left_steps b k apex) (from_of b k) around.cycle.left_in_range around.cycle.left_short
+
+  up_side : IsPricedWalk b (to_of b k) (up_path b (right_steps b k apex) (to_of b k)) (right_node b k (right_steps b k apex))
+  up_side = up_walk b ok (right_steps b k apex) (to_of b k) around.cycle.right_in_range around.cycle.right_short
+
+  closed_walk : IsWalk (with_artificial b.net) (left_node b k (left_steps b k apex)) (cycle_of b (entering b k) apex) (right_node b k (right_steps b k apex))
+  closed_walk =
+      IsWalk-append (with_artificial b.net) (down_path b (left_steps b k apex) (from_of b k)) (entering b k ∷ up_path b (right_steps b k apex) (to_of b k))
+      (left_node b k (left_steps b k apex)) (from_of b k) (right_node b k (right_steps b k apex)) down_side.joined (refl, up_side.joined)
+
+  cycle_cost : walk_cost (with_artificial b.net) (cycle_of b (entering b k) apex) ≡ entering_cost b k
+  cycle_cost =
+      let split =
+      walk_cost-append (with_artificial b.net) (down_path b (left_steps b k apex) (from_of b k))
+      (entering b k ∷ up_path b (right_steps b k apex) (to_of b k)) in
+      let left = down_side.paid in
+      let right = up_side.paid in
+      let enter = turned_reduced b k (entering b k).back in
+      let same = ap (price_at b) around.cycle.closed in
+      omega (arith, ints, split, left, right, enter, same)
+
+  one_each : length b.amounts ≡ length (with_artificial b.net).arcs
+  one_each = ok.flow.one_per_label
+
+  pub surplus_kept : (x : ℤ) → HasNoSurplus (pushed_along (full_state b) (cycle_of b (entering b k) apex) x)
+  surplus_kept x v h =
+      let node : IsNode (node_count (with_artificial b.net)) v =
+      subst (λ g. IsNode (node_count g) v) (along_net (full_state b) (cycle_of b (entering b k) apex) x) h in
+      let moves =
+      moved_along (full_state b) (cycle_of b (entering b k) apex) x (left_node b k (left_steps b k apex)) (right_node b k (right_steps b k apex)) one_each
+      (cycle_labels b k apex ok el around) closed_walk v in
+      let none = ok.flow.no_surplus v node in
+      let same = ap (λ u. when (eqb u v) x) around.cycle.closed in
+      omega (arith, ints, moves, none, same)
+
+  pub cost_changed : (x : ℤ) →
+      cost (with_artificial b.net).arcs (pushed_along (full_state b) (cycle_of b (entering b k) apex) x).amounts ≡ full_cost b +ℤ x *ℤ entering_cost b k
+  cost_changed x =
+      paid_along (full_state b) (cycle_of b (entering b k) apex) x one_each (cycle_labels b k apex ok el around)
+      ∙ ap (λ z. full_cost b +ℤ z) (ap (λ z. z *ℤ x) cycle_cost ∙ *ℤ_comm (entering_cost b k) x)
+
+-- nodes have no surplus afterwards either
+pub round_surplus : (b : TreeStructure) (k apex : ℕ) (x : ℤ) → IsBasis b → IsEligible b k → IsAround b k apex →
+    HasNoSurplus (pushed_along (full_state b) (cycle_of b (entering b k) apex) x)
+round_surplus b k apex x ok el around = surplus_kept b k apex ok el around x
+
+-- and there is an amount for each label
+pub round_count : (b : TreeStructure) (k apex : ℕ) (x : ℤ) → IsBasis b →
+    length (pushed_along (full_state b) (cycle_of b (entering b k) apex) x).amounts ≡ length (with_artificial b.net).arcs
+round_count b k apex x ok = along_count (full_state b) (cycle_of b (entering b k) apex) x ∙ ok.flow.one_per_label
+
+-- the cost changes by the reduced cost of the residual arc that enters, for each unit
+pub round_cost : (b : TreeStructure) (k apex : ℕ) (x : ℤ) → IsBasis b → IsEligible b k → IsAround b k apex →
+    cost (with_artificial b.net).arcs (pushed_along (full_state b) (cycle_of b (entering b k) apex) x).amounts ≡ full_cost b +ℤ x *ℤ entering_cost b k
+round_cost b k apex x ok el around = cost_changed b k apex ok el around x

@@ -1,0 +1,356 @@
+-- A pivot keeps a basis strongly feasible.
+use Rattle.std.proofs.Common.{◌≡◌, ◌≢◌, ℕ, zero, suc, ◌+◌, ◌-◌, ◌<◌, ◌≤◌, ◌&&◌, ◌⊎◌, inl, inr, Bool, true, false, not, eqb, List, length, Some, None, refl, sym, ap, ◌∙◌, subst, arith, ℤ, pos, negsuc, ◌+ℤ◌, ◌≤ℤ◌}
+use Rattle.std.specs.Prelude.{nat_le, slice_index, slice_index_or, int_lt, if◌then◌else◌}
+use Rattle.std.proofs.lemmas.Bool.{and_from, and_parts, cases_Bool, cases_eq, cases_lt, eq-eqb, eqb-true, le-leb, leb-true, ne_eqb, true≢false}
+use Rattle.std.proofs.lemmas.Int.{ints}
+use Rattle.std.proofs.lemmas.List.{get_or_past}
+use Rattle.mcf_instance.specs.Network.{Network, IsNode, node_count}
+use Rattle.mcf_links.specs.Rooted.{climb, IsOnPath, IsRelabelled, IsTurned}
+use Rattle.mcf_links.proofs.Paths.{above_root, climb-within, depth-climb}
+use Rattle.mcf_network.specs.declared.rid.Rid.{Rid}
+use Rattle.mcf_network.specs.Residual.{arc_at, head, tail}
+use Rattle.mcf_tree.specs.Apex.{IsApex}
+use Rattle.mcf_tree.specs.SpanningTree.{IsSpanning, depth_of, label_of, parent_of, size_of}
+use Rattle.mcf_basis.specs.Artificial.{IsLabel, with_artificial}
+use Rattle.mcf_basis.specs.Bases.{CanHold, HasTreeArc, IsBasis, IsStronglyFeasible}
+use Rattle.mcf_basis.specs.Pivots.{IsEligible, IsExchanged, IsMended, IsPivot, entering}
+use Rattle.mcf_basis.specs.Pivots.IsMended.{kept, exchanged}
+use Rattle.mcf_basis.specs.Structures.{TreeStructure, CanTake, carried, leaving, reduced_at}
+use Rattle.mcf_basis.proofs.Pushed.{round_at}
+use Rattle.mcf_basis.proofs.Around.{CanGoRound, IsAround, IsLeaving, WentRound, arcs_of, down_arc, from_of, left_node, left_steps, right_node, right_steps, round_amount, to_of, up_arc}
+use Rattle.mcf_basis.proofs.Around.IsLeaving.{right, enter, left}
+use Rattle.mcf_basis.proofs.CyclePlaces.{leaving_of_last, up_all, up_at}
+use Rattle.mcf_basis.proofs.Cycles.{around, below_apex}
+use Rattle.mcf_basis.proofs.Labels.{own_label}
+use Rattle.mcf_basis.proofs.Pushes.{CanLeave, CanLeave-same, HasRoomUp, IsWithin}
+use Rattle.mcf_basis.proofs.StrongPivot.{labels_apart, strong_entering, strong_left, strong_right}
+
+-- ---- a residual arc can take, and its arc can leave
+
+-- at most the cap of an arc of the net
+within_limit : (test : Bool) (cap x : ℤ) → (test ≡ true → x ≤ℤ cap) → IsWithin (if test then Some cap else None) x
+within_limit true cap x h = h refl
+within_limit false cap x h = tt
+
+limit_within : (test : Bool) (cap x : ℤ) → test ≡ true → IsWithin (if test then Some cap else None) x → x ≤ℤ cap
+limit_within true cap x e h = h
+limit_within false cap x e h = absurd (true≢false (sym e))
+
+back_of : (g : Network) (label v : ℕ) → (leaving g label v).back ≡ false → (arc_at (with_artificial g) label).src ≡ v
+back_of g label v e = elim (cases_Bool (eqb (arc_at (with_artificial g) label).src v)) [
+  | inl t ↦ eqb-true (arc_at (with_artificial g) label).src v t
+  | inr f ↦ absurd (true≢false (sym (ap not f) ∙ e))
+]
+
+pub leave_of_take : (b : TreeStructure) (label v : ℕ) (x : ℤ) → CanTake b (leaving b.net label v) x → CanLeave (arcs_of b.net) (carried b) label v x
+leave_of_take b label v x can = record {
+  forward = λ t. within_limit (nat_le 1 label && nat_le label (length b.net.arcs)) (arc_at b.net label).cap (carried b label +ℤ x)
+      (λ e. can.forward (ap not (eq-eqb _ _ t)) (leb-true label (length b.net.arcs) (and_parts (nat_le 1 label) (nat_le label (length b.net.arcs)) e).1));
+  backward = λ ne. can.backward (ap not (ne_eqb _ _ ne));
+}
+
+pub take_of_leave : (b : TreeStructure) (label v : ℕ) (x : ℤ) → 1 ≤ label → CanLeave (arcs_of b.net) (carried b) label v x → CanTake b (leaving b.net label v) x
+take_of_leave b label v x low can = record {
+  forward = λ e h. limit_within (nat_le 1 label && nat_le label (length b.net.arcs)) (arc_at b.net label).cap (carried b label +ℤ x)
+      (and_from (nat_le 1 label) (nat_le label (length b.net.arcs)) (le-leb 1 label low) (le-leb label (length b.net.arcs) h))
+      (can.forward (back_of b.net label v e));
+  backward = λ e. can.backward (λ t. true≢false (sym e ∙ ap not (eq-eqb _ _ t)));
+}
+
+entering_by_ends : (g : Network) (k : ℕ) (back : Bool)
+    → tail (with_artificial g) (record { arc = k; back = back }) ≢ head (with_artificial g) (record { arc = k; back = back })
+    → (let r : Rid = record { arc = k; back = back } in r ≡ leaving g k (tail (with_artificial g) r))
+entering_by_ends g k true apart =
+    let e : true ≡ not (eqb (arc_at (with_artificial g) k).src (arc_at (with_artificial g) k).dst) = sym (ap not (ne_eqb _ _ (λ q. apart (sym q)))) in
+    ap (λ (t : Bool). record { arc = k; back = t }) e
+entering_by_ends g k false apart =
+    let e : false ≡ not (eqb (arc_at (with_artificial g) k).src (arc_at (with_artificial g) k).src) =
+    sym (ap not (eq-eqb (arc_at (with_artificial g) k).src _ refl)) in
+    ap (λ (t : Bool). record { arc = k; back = t }) e
+
+-- the entering residual arc leaves the end that it leaves
+pub entering_leaves : (b : TreeStructure) (k : ℕ) → from_of b k ≢ to_of b k → entering b k ≡ leaving b.net k (from_of b k)
+entering_leaves b k apart = entering_by_ends b.net k (int_lt (pos 0) (reduced_at b k)) apart
+
+-- ---- amounts of all labels
+
+-- no amount is above the limit of its label, or below 0
+pub fits : (b : TreeStructure) → IsBasis b → (label : ℕ) → IsWithin ((arcs_of b.net).limit label) (carried b label)
+fits b ok label = within_limit (nat_le 1 label && nat_le label (length b.net.arcs)) (arc_at b.net label).cap (carried b label) inside
+  where
+    inside : (nat_le 1 label && nat_le label (length b.net.arcs)) ≡ true → carried b label ≤ℤ (arc_at b.net label).cap
+    inside = λ e.
+        let both = and_parts (nat_le 1 label) (nat_le label (length b.net.arcs)) e in
+        let low : 1 ≤ label = leb-true 1 label both.0 in
+        let high : label ≤ length b.net.arcs = leb-true label (length b.net.arcs) both.1 in
+        (ok.flow.within_bounds label (own_label b.net label (low, high))).high high
+
+pub not_below : (b : TreeStructure) → IsBasis b → (label : ℕ) → pos 0 ≤ℤ carried b label
+not_below b ok label =
+    let count : length b.amounts ≡ length (with_artificial b.net).arcs = ok.flow.one_per_label in
+    elim (cases_lt (label - 1) (length b.amounts)) [
+      | inl within ↦ (let held : CanHold b.net (label - 1 + 1) (carried b (label - 1 + 1)) = ok.flow.within_bounds (label - 1 + 1) (omega arith, omega arith) in
+          let place : label - 1 + 1 - 1 ≡ label - 1 = omega arith in
+          subst (λ i. pos 0 ≤ℤ slice_index_or b.amounts i (pos 0)) place held.low)
+      | inr past ↦ (let none = get_or_past b.amounts (label - 1) (pos 0) past in omega (arith, ints, none))
+    ]
+
+-- ---- whole paths and single arcs
+
+pub room_of_strong : (b : TreeStructure) → IsBasis b → HasRoomUp (arcs_of b.net) b.tree.parents b.tree.labels (carried b)
+room_of_strong b ok = record {
+  room = λ v p h. (let size : size_of b.tree ≡ node_count b.net + 1 = ok.size in
+      let falls : depth_of b.tree v ≡ depth_of b.tree (parent_of b.tree v) + 1 = ok.spanning.rooted.falls v p h in
+      leave_of_take b (label_of b.tree v) v (pos 1)
+      (up_at b (λ r. CanTake b r (pos 1)) (depth_of b.tree v) v (ok.strong v (omega arith, omega arith)) zero (omega arith)));
+}
+
+pub strong_of_room : (b : TreeStructure) (g : Network) (amount : ℕ → ℤ) → IsSpanning b.tree → size_of b.tree ≡ node_count b.net + 1
+    → ((v : ℕ) → IsNode (node_count b.net) v → HasTreeArc b v) → b.net ≡ g → ((label : ℕ) → 0 < label → carried b label ≡ amount label)
+    → HasRoomUp (arcs_of g) b.tree.parents b.tree.labels amount → IsStronglyFeasible b
+strong_of_room b g amount spanning size joined same reads up v h =
+    up_all b (λ r. CanTake b r (pos 1)) (depth_of b.tree v) v (λ p l. each (climb b.tree.parents p v) (on_path p l) (in_tree p))
+  where
+    inside : v < length b.tree.parents
+    inside = omega (arith, h, size)
+
+    in_tree : (p : ℕ) → climb b.tree.parents p v < length b.tree.parents
+    in_tree = λ p. climb-within b.tree.parents (depth_of b.tree) spanning.rooted p v inside
+
+    on_path : (p : ℕ) → p < depth_of b.tree v → 0 < climb b.tree.parents p v
+    on_path = λ p l.
+        let e : depth_of b.tree (climb b.tree.parents p v) + p ≡ depth_of b.tree v =
+        depth-climb b.tree.parents (depth_of b.tree) spanning.rooted p v inside (omega arith) in
+        above_root b.tree.parents (depth_of b.tree) spanning.rooted (climb b.tree.parents p v) (omega arith)
+
+    each : (u : ℕ) → 0 < u → u < length b.tree.parents → CanTake b (up_arc b u) (pos 1)
+    each = λ u p l.
+        let arc : HasTreeArc b u = joined u (omega arith, omega (arith, size, l)) in
+        take_of_leave b (label_of b.tree u) u (pos 1) (arc.label).0
+        (CanLeave-same (arcs_of b.net) amount (carried b) (label_of b.tree u) u (pos 1) (reads (label_of b.tree u) (arc.label).0)
+        (subst (λ n. CanLeave (arcs_of n) amount (label_of b.tree u) u (pos 1)) (sym same) (up.room u p l)))
+
+-- ---- the three cases
+
+-- a node of the tree other than the root
+abbrev IsInside : TreeStructure → ℕ → Type 0
+IsInside b v = (v < length b.tree.parents) × (0 < v)
+
+on_side : (b : TreeStructure) → IsBasis b → (u n p : ℕ) → u < length b.tree.parents → n ≤ depth_of b.tree u → p < n → IsInside b (climb b.tree.parents p u)
+on_side b ok u n p inside short l =
+    let e : depth_of b.tree (climb b.tree.parents p u) + p ≡ depth_of b.tree u =
+    depth-climb b.tree.parents (depth_of b.tree) ok.spanning.rooted p u inside (omega arith) in (
+      climb-within b.tree.parents (depth_of b.tree) ok.spanning.rooted p u inside,
+      above_root b.tree.parents (depth_of b.tree) ok.spanning.rooted (climb b.tree.parents p u) (omega arith),
+    )
+
+tree_label : (b : TreeStructure) → IsBasis b → (v : ℕ) → IsInside b v → IsLabel b.net (label_of b.tree v)
+tree_label b ok v inside =
+    let size : size_of b.tree ≡ node_count b.net + 1 = ok.size in
+    let arc : HasTreeArc b v = ok.tree_arcs v (omega (arith, inside), omega (arith, inside, size)) in
+    arc.label
+
+zero_or_more : (x : ℤ) → pos 0 ≤ℤ x → (x ≡ pos 0) ⊎ (pos 1 ≤ℤ x)
+zero_or_more (pos zero) h = inl refl
+zero_or_more (pos (suc n)) h = inr (omega (arith, ints))
+zero_or_more (negsuc n) h = absurd (omega (arith, ints, h))
+
+module _ (old : TreeStructure) (k apex : ℕ) (moved : ℤ) (ok : IsBasis old) (eligible : IsEligible old k)
+    (is_apex : IsApex old.tree.parents (depth_of old.tree) (from_of old k) (to_of old k) apex)
+    (is_around : IsAround old k apex) (went : WentRound old k apex moved) where
+  abbrev Old : ℕ → ℕ → Type 0
+  Old label v = CanLeave (arcs_of old.net) (carried old) label v (moved +ℤ pos 1)
+
+  -- each arc of the tree has room up afterwards
+  abbrev HasRoom : List ℕ → List ℕ → Type 0
+  HasRoom ps ls = HasRoomUp (arcs_of old.net) ps ls (round_amount old k apex moved)
+
+  right_room : (p : ℕ) → CanTake old (up_arc old (right_node old k p)) (moved +ℤ pos 1)
+      → Old (slice_index old.tree.labels (right_node old k p)) (right_node old k p)
+  right_room p can =
+      leave_of_take old (label_of old.tree (right_node old k p)) (right_node old k p) (moved +ℤ pos 1) can
+
+  left_room : (p : ℕ) → CanTake old (down_arc old (left_node old k p)) (moved +ℤ pos 1)
+      → Old (slice_index old.tree.labels (left_node old k p)) (slice_index old.tree.parents (left_node old k p))
+  left_room p can =
+      leave_of_take old (label_of old.tree (left_node old k p)) (parent_of old.tree (left_node old k p)) (moved +ℤ pos 1) can
+
+  enter_room : CanTake old (entering old k) (moved +ℤ pos 1) → Old k (from_of old k)
+  enter_room can =
+      leave_of_take old k (from_of old k) (moved +ℤ pos 1)
+      (subst (λ r. CanTake old r (moved +ℤ pos 1)) (entering_leaves old k is_around.cycle.apart) can)
+
+  right_in : (p : ℕ) → p < right_steps old k apex → IsInside old (right_node old k p)
+  right_in p l =
+      on_side old ok (to_of old k) (right_steps old k apex) p is_around.cycle.right_in_range is_around.cycle.right_short l
+
+  left_in : (p : ℕ) → p < left_steps old k apex → IsInside old (left_node old k p)
+  left_in p l =
+      on_side old ok (from_of old k) (left_steps old k apex) p is_around.cycle.left_in_range is_around.cycle.left_short l
+
+  -- what blocks on the right had room for 1, so something moves
+  some_moves : (m : ℕ) → m < right_steps old k apex → ¬ CanTake old (up_arc old (right_node old k m)) (moved +ℤ pos 1) → pos 1 ≤ℤ moved
+  some_moves m h full = elim (zero_or_more moved went.some) [
+    | inl none ↦ absurd (full (subst (λ z. CanTake old (up_arc old (right_node old k m)) (z +ℤ pos 1)) (sym none) one_more))
+    | inr some ↦ some
+  ]
+    where
+      one_more : CanTake old (up_arc old (right_node old k m)) (pos 1)
+      one_more =
+          let inside : IsInside old (right_node old k m) = right_in m h in
+          take_of_leave old (label_of old.tree (right_node old k m)) (right_node old k m) (pos 1) (tree_label old ok (right_node old k m) inside).0
+          ((room_of_strong old ok).room (right_node old k m) inside.1 inside.0)
+
+  -- the tree stays
+  pub stays : ((p : ℕ) → p < right_steps old k apex → CanTake old (up_arc old (right_node old k p)) (moved +ℤ pos 1)) → HasRoom old.tree.parents old.tree.labels
+  stays free =
+      strong_entering (arcs_of old.net) old.tree.parents old.tree.labels (depth_of old.tree) (carried old) (round_amount old k apex moved)
+      k (from_of old k) (to_of old k)
+      (left_steps old k apex) (right_steps old k apex) moved is_around.tree is_around.cycle went (fits old ok) (not_below old ok) (room_of_strong old ok)
+      (λ p l. right_room p (free p l))
+
+  -- an arc on the right leaves
+  pub turns_right : (m : ℕ) (qs ms : List ℕ) → m < right_steps old k apex → ¬ CanTake old (up_arc old (right_node old k m)) (moved +ℤ pos 1)
+      → ((p : ℕ) → m < p → p < right_steps old k apex → CanTake old (up_arc old (right_node old k p)) (moved +ℤ pos 1))
+      → IsTurned old.tree.parents qs (depth_of old.tree) (right_node old k m) (to_of old k) (from_of old k)
+      → IsRelabelled old.tree.parents old.tree.labels ms (depth_of old.tree) (right_node old k m) k (to_of old k) → HasRoom qs ms
+  turns_right m qs ms h full free turned relabelled =
+      strong_right (arcs_of old.net) old.tree.parents old.tree.labels (depth_of old.tree) (carried old) (round_amount old k apex moved)
+      k (from_of old k) (to_of old k)
+      (left_steps old k apex) (right_steps old k apex) moved is_around.tree is_around.cycle went (fits old ok) (not_below old ok) (room_of_strong old ok)
+      m qs ms h turned relabelled (some_moves m h full) (λ p l u. right_room p (free p l u))
+
+  -- an arc on the left leaves
+  pub turns_left : (m : ℕ) (qs ms : List ℕ) → m < left_steps old k apex
+      → ((p : ℕ) → p < m → CanTake old (down_arc old (left_node old k p)) (moved +ℤ pos 1)) → CanTake old (entering old k) (moved +ℤ pos 1)
+      → ((p : ℕ) → p < right_steps old k apex → CanTake old (up_arc old (right_node old k p)) (moved +ℤ pos 1))
+      → IsTurned old.tree.parents qs (depth_of old.tree) (left_node old k m) (from_of old k) (to_of old k)
+      → IsRelabelled old.tree.parents old.tree.labels ms (depth_of old.tree) (left_node old k m) k (from_of old k) → HasRoom qs ms
+  turns_left m qs ms h free first above turned relabelled =
+      strong_left (arcs_of old.net) old.tree.parents old.tree.labels (depth_of old.tree) (carried old) (round_amount old k apex moved)
+      k (from_of old k) (to_of old k)
+      (left_steps old k apex) (right_steps old k apex) moved is_around.tree is_around.cycle went (fits old ok) (not_below old ok) (room_of_strong old ok)
+      m qs ms h turned relabelled (λ p l. left_room p (free p l)) (enter_room first) (λ p l. right_room p (above p l))
+
+  -- a node of the tree by its label
+  same_node : (out v : ℕ) → IsNode (node_count old.net) out → 0 < v → v < length old.tree.parents → label_of old.tree v ≡ label_of old.tree out → out ≡ v
+  same_node out v node p h e = elim (cases_eq out v) [
+    | inl same ↦ same
+    | inr ne ↦ absurd (let size : size_of old.tree ≡ node_count old.net + 1 = ok.size in
+        labels_apart (arcs_of old.net) old.tree.parents old.tree.labels (depth_of old.tree) is_around.tree out v
+        (omega (arith, node)) (omega (arith, node, size)) p h ne (sym e))
+  ]
+
+  module _ (out inner outer : ℕ) (new : TreeStructure) (x : IsExchanged old (entering old k) out inner outer new) where
+    exchanged_right : (m : ℕ) → m < right_steps old k apex → out ≡ right_node old k m → ¬ CanTake old (up_arc old (right_node old k m)) (moved +ℤ pos 1)
+        → ((p : ℕ) → m < p → p < right_steps old k apex → CanTake old (up_arc old (right_node old k p)) (moved +ℤ pos 1))
+        → HasRoom new.tree.parents new.tree.labels
+    exchanged_right m h is full free = elim x.ends [
+      | inl e ↦ absurd (below_apex old.tree.parents (depth_of old.tree) (to_of old k) (from_of old k) apex out m
+          ok.spanning.rooted is_around.cycle.right_in_range h is
+          (subst (λ v. IsOnPath old.tree.parents v out) e.0 x.inside) (λ y p q. is_apex.deepest y q p))
+      | inr e ↦ turns_right m new.tree.parents new.tree.labels h full free
+          (subst (λ v. IsTurned old.tree.parents new.tree.parents (depth_of old.tree) v (to_of old k) (from_of old k)) is
+          (subst (λ v. IsTurned old.tree.parents new.tree.parents (depth_of old.tree) out v (from_of old k)) e.0
+          (subst (λ v. IsTurned old.tree.parents new.tree.parents (depth_of old.tree) out inner v) e.1 x.swapped.parents)))
+          (subst (λ v. IsRelabelled old.tree.parents old.tree.labels new.tree.labels (depth_of old.tree) v k (to_of old k)) is
+          (subst (λ v. IsRelabelled old.tree.parents old.tree.labels new.tree.labels (depth_of old.tree) out k v) e.0 x.swapped.labels))
+    ]
+
+    exchanged_left : (m : ℕ) → m < left_steps old k apex → out ≡ left_node old k m
+        → ((p : ℕ) → p < m → CanTake old (down_arc old (left_node old k p)) (moved +ℤ pos 1)) → CanTake old (entering old k) (moved +ℤ pos 1)
+        → ((p : ℕ) → p < right_steps old k apex → CanTake old (up_arc old (right_node old k p)) (moved +ℤ pos 1)) → HasRoom new.tree.parents new.tree.labels
+    exchanged_left m h is free first above = elim x.ends [
+      | inl e ↦ turns_left m new.tree.parents new.tree.labels h free first above
+          (subst (λ v. IsTurned old.tree.parents new.tree.parents (depth_of old.tree) v (from_of old k) (to_of old k)) is
+          (subst (λ v. IsTurned old.tree.parents new.tree.parents (depth_of old.tree) out v (to_of old k)) e.0
+          (subst (λ v. IsTurned old.tree.parents new.tree.parents (depth_of old.tree) out inner v) e.1 x.swapped.parents)))
+          (subst (λ v. IsRelabelled old.tree.parents old.tree.labels new.tree.labels (depth_of old.tree) v k (from_of old k)) is
+          (subst (λ v. IsRelabelled old.tree.parents old.tree.labels new.tree.labels (depth_of old.tree) out k v) e.0 x.swapped.labels))
+      | inr e ↦ absurd (below_apex old.tree.parents (depth_of old.tree) (from_of old k) (to_of old k) apex out m
+          ok.spanning.rooted is_around.cycle.left_in_range h is
+          (subst (λ v. IsOnPath old.tree.parents v out) e.0 x.inside) is_apex.deepest)
+    ]
+
+    exchanged_room : (q : Rid) → q.arc ≡ label_of old.tree out → IsLeaving old k apex moved q → HasRoom new.tree.parents new.tree.labels
+    exchanged_room q named (right m h is full free) =
+        let inside : IsInside old (right_node old k m) = right_in m h in
+        exchanged_right m h (same_node out (right_node old k m) x.is_node inside.1 inside.0 (sym (ap (λ r. r.arc) is) ∙ named))
+        (subst (λ r. ¬ CanTake old r (moved +ℤ pos 1)) is full) free
+    exchanged_room q named (enter is full free) =
+        absurd (eligible.outside (record { node = out; is_node = x.is_node; labelled = sym named ∙ ap (λ r. r.arc) is }))
+    exchanged_room q named (left m h is full free first above) =
+        let inside : IsInside old (left_node old k m) = left_in m h in
+        exchanged_left m h (same_node out (left_node old k m) x.is_node inside.1 inside.0 (sym (ap (λ r. r.arc) is) ∙ named)) free first above
+
+  -- where the entering arc leaves at once, no arc on the right blocks
+  kept_room : (q : Rid) → q ≡ entering old k → IsLeaving old k apex moved q
+      → (p : ℕ) → p < right_steps old k apex → CanTake old (up_arc old (right_node old k p)) (moved +ℤ pos 1)
+  kept_room q same (right m h is full free) p l =
+      let inside : IsInside old (right_node old k m) = right_in m h in
+      absurd (is_around.cycle.outside (right_node old k m) inside.1 inside.0 (sym (ap (λ r. r.arc) is) ∙ ap (λ r. r.arc) same))
+  kept_room q same (enter is full free) p l = free p l
+  kept_room q same (left m h is full free first above) p l = above p l
+
+  mended_room : (new : TreeStructure) (q : Rid) → IsLeaving old k apex moved q → IsMended old (entering old k) q new → HasRoom new.tree.parents new.tree.labels
+  mended_room new q leaves (kept same stay) =
+      subst (λ t. HasRoom t.parents t.labels) (sym stay.tree) (stays (kept_room q same leaves))
+  mended_room new q leaves (exchanged out inner outer named x) = exchanged_room out inner outer new x q named leaves
+
+-- no node comes, none goes
+pub mended_size : (old : TreeStructure) (r q : Rid) (new : TreeStructure) → IsMended old r q new → size_of new.tree ≡ size_of old.tree
+mended_size old r q new (kept same stay) = ap size_of stay.tree
+mended_size old r q new (exchanged out inner outer named x) = x.swapped.parents.size
+
+-- what an arc carries after a pivot
+pub pivoted_amount : (old new : TreeStructure) (k : ℕ) (moved : ℤ) (pivot : IsPivot old k moved new) (label : ℕ) → 0 < label
+    → carried new label ≡ round_amount old k pivot.apex moved label
+pivoted_amount old new k moved pivot label h =
+    ap (λ xs. slice_index_or xs (label - 1) (pos 0)) pivot.amounts ∙ sym (round_at old k pivot.apex moved label h)
+
+pub strong_kept : (old new : TreeStructure) (k : ℕ) (moved : ℤ) → IsBasis old → (pivot : IsPivot old k moved new) → IsSpanning new.tree
+    → ((v : ℕ) → IsNode (node_count new.net) v → HasTreeArc new v) → WentRound old k pivot.apex moved → IsStronglyFeasible new
+strong_kept old new k moved ok pivot spanning joined went =
+    let is_around : IsAround old k pivot.apex = around old k pivot.apex ok pivot.eligible pivot.is_apex in
+    let leaves : IsLeaving old k pivot.apex moved pivot.leaves × CanGoRound old k pivot.apex moved =
+    leaving_of_last old k pivot.apex moved pivot.leaves ok is_around pivot.last_blocking in
+    let size : size_of new.tree ≡ node_count new.net + 1 =
+    mended_size old (entering old k) pivot.leaves new pivot.mended ∙ (ok.size ∙ sym (ap (λ g. node_count g + 1) pivot.net)) in
+    strong_of_room new old.net (round_amount old k pivot.apex moved) spanning size joined pivot.net
+    (pivoted_amount old new k moved pivot)
+    (mended_room old k pivot.apex moved ok pivot.eligible pivot.is_apex is_around went new pivot.leaves leaves.0 pivot.mended)
+
+-- ---- no less than nothing moves
+
+can_none : (b : TreeStructure) (r : Rid) (x : ℤ) → IsBasis b → IsLabel b.net r.arc → x ≤ℤ pos 0 → CanTake b r x
+can_none b r x ok label none = record {
+  forward = λ e h. (let high : carried b r.arc ≤ℤ (arc_at b.net r.arc).cap = (ok.flow.within_bounds r.arc label).high h in
+      omega (arith, ints, high, none));
+  backward = λ e. (let low : pos 0 ≤ℤ carried b r.arc = not_below b ok r.arc in omega (arith, ints, low, none));
+}
+
+leaving_label : (b : TreeStructure) (k apex : ℕ) (x : ℤ) (r : Rid) → IsBasis b → IsEligible b k → IsAround b k apex → IsLeaving b k apex x r
+    → IsLabel b.net r.arc
+leaving_label b k apex x r ok eligible is_around (right m h is full free) =
+    subst (λ q. IsLabel b.net q.arc) (sym is)
+    (tree_label b ok (right_node b k m) (on_side b ok (to_of b k) (right_steps b k apex) m is_around.cycle.right_in_range is_around.cycle.right_short h))
+leaving_label b k apex x r ok eligible is_around (enter is full free) =
+    subst (λ q. IsLabel b.net q.arc) (sym is) (own_label b.net k eligible.arc)
+leaving_label b k apex x r ok eligible is_around (left m h is full free first above) =
+    subst (λ q. IsLabel b.net q.arc) (sym is)
+    (tree_label b ok (left_node b k m) (on_side b ok (from_of b k) (left_steps b k apex) m is_around.cycle.left_in_range is_around.cycle.left_short h))
+
+low_or_below : (x : ℤ) → (pos 0 ≤ℤ x) ⊎ ((x +ℤ pos 1) ≤ℤ pos 0)
+low_or_below (pos n) = inl (omega (arith, ints))
+low_or_below (negsuc n) = inr (omega (arith, ints))
+
+-- what a pivot moves is at least 0, since an arc blocks
+pub moved_low : (old new : TreeStructure) (k : ℕ) (moved : ℤ) → IsBasis old → IsPivot old k moved new → pos 0 ≤ℤ moved
+moved_low old new k moved ok pivot = elim (low_or_below moved) [
+  | inl low ↦ low
+  | inr below ↦ absurd (let is_around : IsAround old k pivot.apex = around old k pivot.apex ok pivot.eligible pivot.is_apex in
+      let leaves : IsLeaving old k pivot.apex moved pivot.leaves × CanGoRound old k pivot.apex moved =
+      leaving_of_last old k pivot.apex moved pivot.leaves ok is_around pivot.last_blocking in
+      pivot.last_blocking.full (can_none old pivot.leaves (moved +ℤ pos 1) ok
+      (leaving_label old k pivot.apex moved pivot.leaves ok pivot.eligible is_around leaves.0) below))
+]
