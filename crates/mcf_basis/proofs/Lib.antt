@@ -16,11 +16,14 @@ pub mod Around
 pub mod Climbing
 pub mod TreeRooms
 pub mod Climbed
+pub mod PushedRooms
+pub mod TurnedRooms
 pub mod CyclePlaces
 pub mod Cycles
 pub mod StrongKept
 pub mod Pushed
 pub mod PushedSums
+pub mod PairLaws
 pub mod PricesTurned
 pub mod PivotBounds
 pub mod PivotKeeps

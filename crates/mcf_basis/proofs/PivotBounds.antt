@@ -1,6 +1,5 @@
 -- The amounts after a pivot: within their bounds, and at a bound outside the new tree.
-use Rattle.std.proofs.Common.{◌≡◌, ◌≢◌, ℕ, ◌+◌, ◌-◌, ◌<◌, ◌≤◌, ◌⊎◌, inl, inr, Bool, true, false, not, eqb, length, refl, sym, ap, ◌∙◌, subst, arith, ℤ, pos, negsuc, zero, suc, ◌+ℤ◌, ◌-ℤ◌, ◌≤ℤ◌, ◌<ℤ◌}
-use Rattle.std.specs.Prelude.{slice_index_or, if◌then◌else◌}
+use Rattle.std.proofs.Common.{◌≡◌, ◌≢◌, ℕ, ◌+◌, ◌<◌, ◌≤◌, ◌⊎◌, inl, inr, true, false, not, length, refl, sym, ap, ◌∙◌, subst, arith, ℤ, pos, negsuc, zero, suc, ◌+ℤ◌, ◌-ℤ◌, ◌≤ℤ◌, ◌<ℤ◌}
 use Rattle.std.proofs.lemmas.Int.{ints}
 use Rattle.std.proofs.lemmas.Bool.{both_ways, cases_eq, cases_lt, eq-eqb, ne_eqb}
 use Rattle.mcf_instance.specs.Network.{IsNode, node_count}
@@ -17,20 +16,12 @@ use Rattle.mcf_basis.proofs.Around.{CanGoRound, IsAround, IsLeaving, WentRound, 
 use Rattle.mcf_basis.proofs.Around.IsLeaving.{right, enter, left}
 use Rattle.mcf_basis.proofs.PricesTurned.{cases_found, new_tree}
 use Rattle.mcf_basis.proofs.Pushes.{Leaves}
+use Rattle.mcf_basis.proofs.StrongKept.{entering_leaves, pivoted_amount}
 
 zero_or_more : (z : ℤ) → pos 0 ≤ℤ z → (z ≡ pos 0) ⊎ (pos 0 <ℤ z)
 zero_or_more (pos zero) h = inl refl
 zero_or_more (pos (suc n)) h = inr (omega (arith, ints))
 zero_or_more (negsuc n) h = absurd (omega (arith, ints))
-
--- a residual arc that isn't that of a loop is one that leaves its tail
-turned_leaving : (src dst : ℕ) (back : Bool) → src ≢ dst → back ≡ not (eqb src (if back then dst else src))
-turned_leaving src dst true ne = sym (ap not (ne_eqb src dst ne))
-turned_leaving src dst false ne = sym (ap not (eq-eqb src src refl))
-
-pub entering_leaving : (b : TreeStructure) (k : ℕ) → (arc_at (with_artificial b.net) k).src ≢ (arc_at (with_artificial b.net) k).dst → entering b k ≡ leaving b.net k (from_of b k)
-entering_leaving b k ne =
-    ap (λ t. record { arc = k; back = t }) (turned_leaving (arc_at (with_artificial b.net) k).src (arc_at (with_artificial b.net) k).dst (entering b k).back ne)
 
 -- one residual arc along which x went
 module _ (b : TreeStructure) (label v : ℕ) (x : ℤ) (new : ℕ → ℤ) (went : Leaves (arcs_of b.net) (carried b) new label v x) (can : CanTake b (leaving b.net label v) x)
@@ -81,10 +72,6 @@ module _ (b : TreeStructure) (label v : ℕ) (x : ℤ) (new : ℕ → ℤ) (went
         | inr ne ↦ inl (backward_bound full ne)
       ]
 
-ends_apart : (src dst : ℕ) (back : Bool) → (if back then dst else src) ≢ (if back then src else dst) → src ≢ dst
-ends_apart src dst true ne e = ne (sym e)
-ends_apart src dst false ne e = ne e
-
 -- the nodes of either side are nodes of the net
 pub side_node : (b : TreeStructure) → IsBasis b → (u n p : ℕ) → u < length b.tree.parents → n ≤ depth_of b.tree u → p < n → IsNode (node_count b.net) (climb b.tree.parents p u)
 side_node b ok u n p h short lt =
@@ -99,14 +86,11 @@ module _ (old new : TreeStructure) (k : ℕ) (moved : ℤ) (ok : IsBasis old) (p
   abbrev now : ℕ → ℤ
   now label = round_amount old k pivot.apex moved label
 
-  pub amount_is : (label : ℕ) → carried new label ≡ now label
-  amount_is label = ap (λ xs. slice_index_or xs (label - 1) (pos 0)) pivot.amounts
-
-  no_loop : (arc_at (with_artificial old.net) k).src ≢ (arc_at (with_artificial old.net) k).dst
-  no_loop = ends_apart (arc_at (with_artificial old.net) k).src (arc_at (with_artificial old.net) k).dst (entering old k).back around.cycle.apart
+  amount_is : (label : ℕ) → 0 < label → carried new label ≡ now label
+  amount_is label h = pivoted_amount old new k moved pivot label h
 
   enters_from : entering old k ≡ leaving old.net k (from_of old k)
-  enters_from = entering_leaving old k no_loop
+  enters_from = entering_leaves old k around.cycle.apart
 
   can_enter : CanTake old (leaving old.net k (from_of old k)) moved
   can_enter = subst (λ r. CanTake old r moved) enters_from can.entering
@@ -178,17 +162,17 @@ module _ (old new : TreeStructure) (k : ℕ) (moved : ℤ) (ok : IsBasis old) (p
 
   pub new_within : (label : ℕ) → IsLabel new.net label → CanHold new.net label (carried new label)
   new_within label h =
-      subst (λ g. CanHold g label (carried new label)) (sym pivot.net) (subst (CanHold old.net label) (sym (amount_is label)) (round_hold label (here_label label h)))
+      subst (λ g. CanHold g label (carried new label)) (sym pivot.net) (subst (CanHold old.net label) (sym (amount_is label h.0)) (round_hold label (here_label label h)))
 
-  in_new : (label : ℕ) → IsBound label → IsAtBound new label
-  in_new label (inl z) = inl (amount_is label ∙ z)
-  in_new label (inr f) =
-      inr (subst (λ g. label ≤ length g.arcs) (sym pivot.net) f.0, amount_is label ∙ (f.1 ∙ ap (λ g. (arc_at g label).cap) (sym pivot.net)))
+  in_new : (label : ℕ) → 0 < label → IsBound label → IsAtBound new label
+  in_new label h (inl z) = inl (amount_is label h ∙ z)
+  in_new label h (inr f) =
+      inr (subst (λ g. label ≤ length g.arcs) (sym pivot.net) f.0, amount_is label h ∙ (f.1 ∙ ap (λ g. (arc_at g label).cap) (sym pivot.net)))
 
   pub new_at_bounds : IsLeaving old k pivot.apex moved pivot.leaves → (label : ℕ) → IsLabel new.net label → ¬ IsInTree new label → IsAtBound new label
   new_at_bounds leaves label h out =
       elim ((new_tree old new k moved ok pivot).outside label
       (λ v q e. out (record { node = v; is_node = subst (λ g. IsNode (node_count g) v) (sym pivot.net) q; labelled = e }))) [
-        | inl is ↦ in_new label (subst IsBound (sym is) (leaving_bound leaves))
-        | inr away ↦ in_new label (old_bound label (here_label label h) away.0 away.1)
+        | inl is ↦ in_new label h.0 (subst IsBound (sym is) (leaving_bound leaves))
+        | inr away ↦ in_new label h.0 (old_bound label (here_label label h) away.0 away.1)
       ]

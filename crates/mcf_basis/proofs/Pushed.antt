@@ -230,7 +230,7 @@ module _ (b : TreeStructure) (k apex : ℕ) (ok : IsBasis b) (el : IsEligible b 
       let count : length b.amounts ≡ length (with_artificial b.net).arcs = ok.flow.one_per_label in
       All-weaker (λ r. IsLabel b.net r.arc) (HasEntry b.amounts) (λ r h. (h.0, rw count h.1)) (cycle_of b (entering b k) apex) cycle_labels
 
-  left_step : (p : ℕ) → p < left_steps b k apex → IsStep b.tree.parents (depth_of b.tree) (from_of b k) p
+  pub left_step : (p : ℕ) → p < left_steps b k apex → IsStep b.tree.parents (depth_of b.tree) (from_of b k) p
   left_step p lt =
       step_at b.tree.parents (depth_of b.tree) ok.spanning.rooted (from_of b k) (left_steps b k apex) p around.cycle.left_in_range around.cycle.left_short lt
 
@@ -262,7 +262,7 @@ module _ (b : TreeStructure) (k apex : ℕ) (ok : IsBasis b) (el : IsEligible b 
       let two = right_step q hq in
       labels_differ (left_node b k p) (right_node b k q) one.above one.within two.above two.within (around.sides_apart p q hp hq)
 
-  left_outside : (p : ℕ) → p < left_steps b k apex → label_of b.tree (left_node b k p) ≢ k
+  pub left_outside : (p : ℕ) → p < left_steps b k apex → label_of b.tree (left_node b k p) ≢ k
   left_outside p lt = let one = left_step p lt in around.cycle.outside (left_node b k p) one.above one.within
 
   right_outside : (p : ℕ) → p < right_steps b k apex → label_of b.tree (right_node b k p) ≢ k

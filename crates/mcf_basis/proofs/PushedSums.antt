@@ -121,7 +121,7 @@ pub turned_reduced : (b : TreeStructure) (k : ℕ) (back : Bool) →
 turned_reduced b k true = omega (arith, ints)
 turned_reduced b k false = refl
 
-none_turned : (b : Bool) (z : ℤ) → z ≡ pos 0 → cond b (neg_ℤ z) z ≡ pos 0
+pub none_turned : (b : Bool) (z : ℤ) → z ≡ pos 0 → cond b (neg_ℤ z) z ≡ pos 0
 none_turned true z e = omega (arith, ints, e)
 none_turned false z e = e
 

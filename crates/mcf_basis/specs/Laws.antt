@@ -3,7 +3,8 @@ use Rattle.std.specs.Prelude.{◌≡◌, ℕ, ◌+◌, ◌<◌, List, drop, leng
 use Rattle.mcf_instance.specs.Flow.{IsFeasible, Shows}
 use Rattle.mcf_instance.specs.Network.{IsNode, node_count}
 use Rattle.mcf_basis.specs.Bases.{IsBasis}
-use Rattle.mcf_basis.specs.Pivots.{PairFalls}
+use Rattle.mcf_tree.specs.SpanningTree.{IsSpanning}
+use Rattle.mcf_basis.specs.Pivots.{IsPivot, PairFalls}
 use Rattle.mcf_basis.specs.Ranks.{IsFloor, pivot_bound, rank_above, rank_of}
 use Rattle.mcf_basis.specs.Pivots.{full_cost}
 use Rattle.mcf_basis.specs.Structures.{TreeStructure, carried, state_of}
@@ -14,6 +15,11 @@ use Rattle.mcf_basis.specs.Violations.{HasNoEligible}
 abbrev pub HasNoArtificial : TreeStructure → Type 0
 HasNoArtificial b =
     (v : ℕ) → IsNode (node_count b.net) v → carried b (length b.net.arcs + v) ≡ pos 0
+
+-- each pivot lowers the pair
+abbrev pub PivotsLowerThePair : Type 0
+PivotsLowerThePair =
+    (old new : TreeStructure) (k : ℕ) (moved : ℤ) → IsBasis old → IsBasis new → IsPivot old k moved new → pos 0 ≤ℤ moved → PairFalls old new
 
 -- where the pair falls, the rank does
 abbrev pub RanksFall : Type 0
@@ -38,3 +44,13 @@ BasesAreTreeSolutions = (b : TreeStructure) → IsBasis b → IsTreeSolution b.n
 abbrev pub LastBasesAreShown : Type 0
 LastBasesAreShown =
     (b : TreeStructure) → IsBasis b → HasNoEligible b → HasNoArtificial b → IsFeasible b.net (state_of b).amounts × Shows b.net.arcs (drop 1 b.prices) (state_of b).amounts
+
+-- a pivot keeps a basis a basis
+abbrev pub PivotsKeepBases : Type 0
+PivotsKeepBases =
+    (old new : TreeStructure) (k : ℕ) (moved : ℤ) → IsBasis old → IsPivot old k moved new → IsSpanning new.tree → length new.prices ≡ length old.prices → IsBasis new
+
+-- where no arc is eligible and some flow is feasible, no artificial arc carries anything
+abbrev pub LastBasesAreFeasible : Type 0
+LastBasesAreFeasible =
+    (b : TreeStructure) (flow : List ℤ) → IsBasis b → HasNoEligible b → IsFeasible b.net flow → HasNoArtificial b

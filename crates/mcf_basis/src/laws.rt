@@ -1,5 +1,11 @@
 //! Laws of bases, each the contract of a function that does nothing.
-ghost use Rattle.mcf_basis.specs.Laws.{BasesAreTreeSolutions, LastBasesAreShown, RanksBoundPivots, RanksCountDown, RanksFall};
+ghost use Rattle.mcf_basis.specs.Laws.{BasesAreTreeSolutions, LastBasesAreShown, PivotsKeepBases, PivotsLowerThePair, RanksBoundPivots, RanksCountDown, RanksFall};
+
+/// Each pivot lowers the pair of the cost and the sum of the prices: the cost falls, or nothing moves and the sum of the prices falls
+/// (Cunningham; Ahuja, Magnanti and Orlin, Network Flows, section 11.6).
+pub fn pivots_lower_the_pair()
+    ensures { PivotsLowerThePair }
+{}
 
 /// Where the pair of the cost and the sum of the prices falls, the number that stands for it falls.
 pub fn ranks_fall()
@@ -24,4 +30,9 @@ pub fn bases_are_tree_solutions()
 /// Where no arc is eligible and no artificial arc carries anything, the flow is feasible, and the prices show it, so that it is least.
 pub fn last_bases_are_shown()
     ensures { LastBasesAreShown }
+{}
+
+/// A pivot keeps a basis a basis.
+pub fn pivots_keep_bases()
+    ensures { PivotsKeepBases }
 {}

@@ -21,7 +21,7 @@ mod rooms;
 
 pub use basis::Basis;
 pub use laws::{
-    bases_are_tree_solutions, last_bases_are_shown, ranks_bound_pivots, ranks_count_down,
-    ranks_fall,
+    bases_are_tree_solutions, last_bases_are_shown, pivots_keep_bases, pivots_lower_the_pair,
+    ranks_bound_pivots, ranks_count_down, ranks_fall,
 };
 pub use pivot::Step;

@@ -22,7 +22,16 @@ pub(crate) fn reprice(table: &mut PriceTable, part: &[NodeId], change: i128)
 {
     'part: for v in part {
         let number = v.get();
-        let price = table.get(number) + change;
+        let price = raised(table.get(number), change);
         table.set(number, price);
     }
+}
+
+// A price after its change.
+fn raised(price: i128, change: i128) -> i128
+    requires price { IsUpTo (3 * 10 ^ 36) price }
+    requires change { IsUpTo (7 * 10 ^ 36) change }
+    ensures { result ≡ price +ℤ change }
+{
+    price + change
 }

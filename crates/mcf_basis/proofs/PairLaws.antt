@@ -1,0 +1,209 @@
+-- Each pivot lowers the pair of the cost and the sum of the prices.
+use Rattle.std.proofs.Common.{◌≡◌, ℕ, zero, suc, ◌+◌, ◌<◌, ◌≤◌, ◌⊎◌, Bool, true, false, length, refl, sym, ap, ◌∙◌, subst, arith, inl, inr, ℤ, pos, negsuc, ◌+ℤ◌, ◌-ℤ◌, ◌≤ℤ◌, ◌<ℤ◌}
+use Rattle.std.specs.Prelude.{int_lt}
+use Rattle.std.proofs.Math.IntN.{◌*ℤ◌, *ℤ_comm}
+use Rattle.std.proofs.lemmas.Bool.{cases_Bool, cases_eq, both_ways}
+use Rattle.std.proofs.lemmas.Int.{ints}
+use Rattle.mcf_instance.specs.Flow.{cost}
+use Rattle.mcf_instance.specs.Network.{Network, IsNode, node_count, node_sum, when}
+use Rattle.mcf_instance.proofs.IntLaws.{mul_below_zero, zero-mul}
+use Rattle.mcf_instance.proofs.NodeSums.{node_sum-sub, node_sum_above_zero}
+use Rattle.mcf_network.specs.declared.rid.Rid.{Rid}
+use Rattle.mcf_network.specs.Residual.{head, tail, unit_cost}
+use Rattle.mcf_links.specs.Rooted.{climb}
+use Rattle.mcf_tree.specs.SpanningTree.{depth_of, label_of}
+use Rattle.mcf_tree.specs.Subtree.{is_above}
+use Rattle.mcf_tree.proofs.Moved.{over-from_path, path-from_over}
+use Rattle.mcf_basis.specs.Artificial.{with_artificial}
+use Rattle.mcf_basis.specs.Bases.{IsBasis}
+use Rattle.mcf_basis.specs.Laws.{PivotsLowerThePair}
+use Rattle.mcf_basis.specs.Pivots.{IsEligible, IsExchanged, IsMended, IsPivot, PairFalls, entering, full_cost, price_sum}
+use Rattle.mcf_basis.specs.Pivots.IsMended.{exchanged, kept}
+use Rattle.mcf_basis.specs.Structures.{TreeStructure, CanTake, price_at, reduced_at}
+use Rattle.mcf_basis.proofs.Around.{IsAround, IsLeaving, arcs_of, from_of, left_node, left_steps, right_node, right_steps, to_of, up_arc}
+use Rattle.mcf_basis.proofs.Around.IsLeaving.{enter, left, right}
+use Rattle.mcf_basis.proofs.CyclePlaces.{leaving_of_last, up_at}
+use Rattle.mcf_basis.proofs.Cycles.{HasTwoEnds, around, two_ends}
+use Rattle.mcf_basis.proofs.Pushed.{left_outside, left_step, node_of, step_at}
+use Rattle.mcf_basis.proofs.PushedSums.{entering_cost, entering_low, is_turned, none_turned, not_turned, round_cost, turned_reduced}
+use Rattle.mcf_basis.proofs.StrongPivot.{labels_apart}
+
+zero_or_above : (z : ℤ) → pos 0 ≤ℤ z → (z ≡ pos 0) ⊎ (pos 0 <ℤ z)
+zero_or_above (pos zero) h = inl refl
+zero_or_above (pos (suc n)) h = inr (omega (arith, ints))
+zero_or_above (negsuc n) h = absurd (omega (arith, ints))
+
+not_above_zero : (b : Bool) (z : ℤ) → z <ℤ pos 0 → when b z ≤ℤ pos 0
+not_above_zero true z h = omega (arith, ints, h)
+not_above_zero false z h = omega (arith, ints)
+
+when_true : (b : Bool) (z : ℤ) → b ≡ true → when b z ≡ z
+when_true b z e = rw e refl
+
+when_false : (b : Bool) (z : ℤ) → b ≡ false → when b z ≡ pos 0
+when_false b z e = rw e refl
+
+-- one unit can go along the residual arc that enters
+entering_takes : (b : TreeStructure) (k : ℕ) → IsEligible b k → CanTake b (entering b k) (pos 1)
+entering_takes b k el =
+    let wide = el.wide in
+    elim el.gains [
+      | inl g ↦ (let way : int_lt (pos 0) (reduced_at b k) ≡ false = not_turned (reduced_at b k) g.1 in
+          let none = g.0 in
+          record { forward = λ t own. omega (arith, ints, none, wide); backward = λ t. absurd (both_ways (int_lt (pos 0) (reduced_at b k)) way t) })
+      | inr g ↦ (let way : int_lt (pos 0) (reduced_at b k) ≡ true = is_turned (reduced_at b k) g.1 in
+          let full = g.0 in
+          record { forward = λ t own. absurd (both_ways (int_lt (pos 0) (reduced_at b k)) t way); backward = λ t. omega (arith, ints, full, wide) })
+    ]
+
+module _ (old new : TreeStructure) (k : ℕ) (moved : ℤ) (ok : IsBasis old) (pivot : IsPivot old k moved new) where
+  is_around : IsAround old k pivot.apex
+  is_around = around old k pivot.apex ok pivot.eligible pivot.is_apex
+
+  cost_after : full_cost new ≡ full_cost old +ℤ moved *ℤ entering_cost old k
+  cost_after =
+      ap (λ g. cost (with_artificial g).arcs new.amounts) pivot.net
+      ∙ (ap (λ amounts. cost (with_artificial old.net).arcs amounts) pivot.amounts ∙ round_cost old k pivot.apex moved ok pivot.eligible is_around)
+
+  -- where something moves, the cost falls
+  cost_falls : pos 0 <ℤ moved → full_cost new <ℤ full_cost old
+  cost_falls some =
+      let after = cost_after in
+      let below : (entering_cost old k *ℤ moved) <ℤ pos 0 = mul_below_zero (entering_cost old k) moved (entering_low old k pivot.eligible) some in
+      omega (arith, ints, after, below, *ℤ_comm (entering_cost old k) moved)
+
+  -- where nothing moves, it stays
+  cost_stays : moved ≡ pos 0 → full_cost new ≡ full_cost old
+  cost_stays still =
+      let after = cost_after in
+      let none = ap (λ z. z *ℤ entering_cost old k) still in
+      omega (arith, ints, after, none, zero-mul (entering_cost old k))
+
+  ends_of : HasTwoEnds old.net k (from_of old k) (to_of old k)
+  ends_of = two_ends old.net k (int_lt (pos 0) (reduced_at old k)) ok.of_net pivot.eligible.arc pivot.eligible.wide
+
+  -- a node of the tree by its label
+  same_node : (u v : ℕ) → 0 < u → u < length old.tree.parents → 0 < v → v < length old.tree.parents → label_of old.tree u ≡ label_of old.tree v → u ≡ v
+  same_node u v pu hu pv hv e = elim (cases_eq u v) [
+    | inl same ↦ same
+    | inr n ↦ absurd (labels_apart (arcs_of old.net) old.tree.parents old.tree.labels (depth_of old.tree) is_around.tree u v pu hu pv hv n e)
+  ]
+
+  -- the part that hangs anew has the end that the entering residual arc leaves
+  module _ (out inner outer : ℕ) (x : IsExchanged old (entering old k) out inner outer new)
+      (at_from : inner ≡ from_of old k) (at_to : outer ≡ to_of old k) where
+    in_tree : (v : ℕ) → v ≤ node_count old.net → v < length old.tree.parents
+    in_tree v h = let size : length old.tree.parents ≡ node_count old.net + 1 = ok.size in omega arith
+
+    inner_node : IsNode (node_count old.net) inner
+    inner_node = subst (IsNode (node_count old.net)) (sym at_from) ends_of.first
+
+    outer_node : IsNode (node_count old.net) outer
+    outer_node = subst (IsNode (node_count old.net)) (sym at_to) ends_of.second
+
+    inner_moved : is_above old.tree out inner ≡ true
+    inner_moved = over-from_path old.tree.parents (depth_of old.tree) ok.spanning.rooted out inner (in_tree inner inner_node.1) x.inside
+
+    outer_stays : is_above old.tree out outer ≡ false
+    outer_stays = elim (cases_Bool (is_above old.tree out outer)) [
+      | inl e ↦ absurd (x.outside (path-from_over old.tree.parents (depth_of old.tree) out outer e))
+      | inr e ↦ e
+    ]
+
+    from_price : price_at new (from_of old k) ≡ price_at old (from_of old k) +ℤ x.change
+    from_price =
+        subst (λ v. price_at new v ≡ price_at old v +ℤ x.change) at_from
+        (x.prices inner inner_node.1 ∙ ap (λ z. price_at old inner +ℤ z) (when_true (is_above old.tree out inner) x.change inner_moved))
+
+    to_price : price_at new (to_of old k) ≡ price_at old (to_of old k)
+    to_price =
+        subst (λ v. price_at new v ≡ price_at old v) at_to
+        (let at = x.prices outer outer_node.1 in
+        let none = when_false (is_above old.tree out outer) x.change outer_stays in omega (arith, ints, at, none))
+
+    -- the reduced cost of the entering residual arc by the new prices, in a net
+    abbrev reduced_over : Network → ℤ
+    reduced_over g =
+        unit_cost (with_artificial g) (entering old k) -ℤ price_at new (tail (with_artificial g) (entering old k))
+        +ℤ price_at new (head (with_artificial g) (entering old k))
+
+    reduced_after : reduced_over old.net ≡ pos 0
+    reduced_after =
+        subst (λ g. reduced_over g ≡ pos 0) pivot.net
+        (turned_reduced new k (entering old k).back ∙ none_turned (entering old k).back (reduced_at new k) x.balanced)
+
+    change_is : x.change ≡ entering_cost old k
+    change_is =
+        let before = turned_reduced old k (entering old k).back in
+        let after = reduced_after in
+        let from = from_price in
+        let to = to_price in
+        omega (arith, ints, before, after, from, to)
+
+    change_low : x.change <ℤ pos 0
+    change_low = subst (λ z. z <ℤ pos 0) (sym change_is) (entering_low old k pivot.eligible)
+
+    -- no price rises, and that of this end falls
+    prices_fall : price_sum new <ℤ price_sum old
+    prices_fall =
+        let low = change_low in
+        let falls : (price_at new inner) <ℤ price_at old inner = (let at = x.prices inner inner_node.1 in
+        let moves = when_true (is_above old.tree out inner) x.change inner_moved in omega (arith, ints, at, moves, low)) in
+        let sum : pos 0 <ℤ node_sum (λ v. price_at old v -ℤ price_at new v) (node_count old.net) =
+        node_sum_above_zero (λ v. price_at old v -ℤ price_at new v) (node_count old.net) inner inner_node (omega (arith, ints, falls))
+        (λ v h. (let at = x.prices v h.1 in
+        let none = not_above_zero (is_above old.tree out v) x.change low in omega (arith, ints, at, none))) in
+        let split = node_sum-sub (price_at old) (price_at new) (node_count old.net) in
+        let same : price_sum new ≡ node_sum (price_at new) (node_count old.net) = ap (λ g. node_sum (price_at new) (node_count g)) pivot.net in
+        omega (arith, ints, sum, split, same)
+
+  -- an arc on the side of this end leaves
+  left_falls : (m out inner outer : ℕ) → m < left_steps old k pivot.apex → label_of old.tree (left_node old k m) ≡ label_of old.tree out →
+      IsExchanged old (entering old k) out inner outer new → price_sum new <ℤ price_sum old
+  left_falls m out inner outer h named x =
+      let size : length old.tree.parents ≡ node_count old.net + 1 = ok.size in
+      let node = x.is_node in
+      let step = left_step old k pivot.apex ok pivot.eligible is_around m h in
+      let is : left_node old k m ≡ out = same_node (left_node old k m) out step.above step.within (omega (arith, node)) (omega (arith, node, size)) named in
+      elim x.ends [
+        | inl e ↦ prices_fall out inner outer x e.0 e.1
+        | inr e ↦ absurd (x.outside (record { steps = m; leads = ap (climb old.tree.parents m) e.1 ∙ is }))
+      ]
+
+  -- nothing moves
+  module _ (still : moved ≡ pos 0) where
+    one_more : (r : Rid) → ¬ CanTake old r (moved +ℤ pos 1) → ¬ CanTake old r (pos 1)
+    one_more r full = subst (λ z. ¬ CanTake old r (z +ℤ pos 1)) still full
+
+    up_takes : (m : ℕ) → m < right_steps old k pivot.apex → CanTake old (up_arc old (right_node old k m)) (pos 1)
+    up_takes m h =
+        let step =
+        step_at old.tree.parents (depth_of old.tree) ok.spanning.rooted (to_of old k)
+        (right_steps old k pivot.apex) m is_around.cycle.right_in_range is_around.cycle.right_short h in
+        let short = is_around.cycle.right_short in
+        let deep = step.deep in
+        up_at old (λ r. CanTake old r (pos 1)) (depth_of old.tree (right_node old k m)) (right_node old k m)
+        (ok.strong (right_node old k m) (node_of old ok (right_node old k m) step.above step.within)) 0 (omega (arith, short, deep, h))
+
+    still_falls : (q : Rid) → IsLeaving old k pivot.apex moved q → IsMended old (entering old k) q new → price_sum new <ℤ price_sum old
+    still_falls q (right m h is full free) mended =
+        absurd (one_more q full (subst (λ r. CanTake old r (pos 1)) (sym is) (up_takes m h)))
+    still_falls q (enter is full free) mended =
+        absurd (one_more q full (subst (λ r. CanTake old r (pos 1)) (sym is) (entering_takes old k pivot.eligible)))
+    still_falls q (left m h is full free first above) (kept same stay) =
+        absurd (left_outside old k pivot.apex ok pivot.eligible is_around m h (sym (ap (λ (r : Rid). r.arc) is) ∙ ap (λ (r : Rid). r.arc) same))
+    still_falls q (left m h is full free first above) (exchanged out inner outer named x) =
+        left_falls m out inner outer h (sym (ap (λ (r : Rid). r.arc) is) ∙ named) x
+
+  leaves : IsLeaving old k pivot.apex moved pivot.leaves
+  leaves = (leaving_of_last old k pivot.apex moved pivot.leaves ok is_around pivot.last_blocking).0
+
+  pub pair_falls : pos 0 ≤ℤ moved → PairFalls old new
+  pair_falls low =
+      elim (zero_or_above moved low) [
+        | inl still ↦ inr (cost_stays still, still_falls still pivot.leaves leaves pivot.mended)
+        | inr some ↦ inl (cost_falls some)
+      ]
+
+pub pivots_lower_the_pair_lem : PivotsLowerThePair
+pivots_lower_the_pair_lem old new k moved ok ok' pivot low = pair_falls old new k moved ok pivot low
