@@ -27,3 +27,5 @@ pub mod PairLaws
 pub mod PricesTurned
 pub mod PivotBounds
 pub mod PivotKeeps
+pub mod TurnedLayout
+pub mod Pivoted
