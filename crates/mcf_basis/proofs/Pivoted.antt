@@ -52,7 +52,8 @@ same_spanning t h = record { labels_size = h.labels_size; depths_size = h.depths
 same_climb : (t : SpanningTree) (rooms : List Rooms) (from to : ℕ) (c : Climb) → IsClimb (fresh_tree t) rooms from to c → IsClimb t rooms from to c
 same_climb t rooms from to c h = record { apex = h.apex; in_range = h.in_range; down = h.down; up = h.up }
 
-same_push : (l : Layout) (from to apex x : ℕ) → CanPush l.net l.tree l.rooms l.artificial from to apex x → CanPush l.net (fresh_tree l.tree) l.rooms l.artificial from to apex x
+same_push : (l : Layout) (from to apex x : ℕ) → CanPush l.net l.tree l.rooms l.artificial from to apex x →
+    CanPush l.net (fresh_tree l.tree) l.rooms l.artificial from to apex x
 same_push l from to apex x h = record {
   spanning = same_spanning l.tree h.spanning;
   nodes = h.nodes;
@@ -69,7 +70,9 @@ same_push l from to apex x h = record {
   added = h.added;
 }
 
-same_pushed : (l : Layout) (rooms : List Rooms) (artificial : List ℤ) (from to apex x : ℕ) → IsPushedRound l.net (fresh_tree l.tree) l.rooms rooms l.artificial artificial from to apex x → IsPushedRound l.net l.tree l.rooms rooms l.artificial artificial from to apex x
+same_pushed : (l : Layout) (rooms : List Rooms) (artificial : List ℤ) (from to apex x : ℕ) →
+    IsPushedRound l.net (fresh_tree l.tree) l.rooms rooms l.artificial artificial from to apex x →
+    IsPushedRound l.net l.tree l.rooms rooms l.artificial artificial from to apex x
 same_pushed l rooms artificial from to apex x h = record {
   rooms_size = h.rooms_size;
   artificial_size = h.artificial_size;
@@ -125,7 +128,8 @@ module _ (l : Layout) (k : ℕ) (ok : IsLaidOut l) (el : IsEligible (basis_in l)
       sized : (x : ℤ) → pos 0 ≤ℤ x → pos (unsigned_abs x) ≡ x
       sized x low = grind (arith, ints)
 
-  found_climb : (t : SpanningTree) (o : Offer) (c : Climb) → t ≡ fresh_tree l.tree → o ≡ offer_at l k → IsClimb t l.rooms o.from o.to c → IsClimb l.tree l.rooms (from_of (basis_in l) k) (to_of (basis_in l) k) c
+  found_climb : (t : SpanningTree) (o : Offer) (c : Climb) → t ≡ fresh_tree l.tree → o ≡ offer_at l k → IsClimb t l.rooms o.from o.to c →
+      IsClimb l.tree l.rooms (from_of (basis_in l) k) (to_of (basis_in l) k) c
   found_climb t o c fresh is h =
       let ends = offer_ends l k ok el in
       let near : o.from ≡ from_of (basis_in l) k = ap (λ x. x.from) is ∙ ends.0 in
@@ -135,7 +139,8 @@ module _ (l : Layout) (k : ℕ) (ok : IsLaidOut l) (el : IsEligible (basis_in l)
       (subst (λ u. IsClimb (fresh_tree l.tree) l.rooms u o.to c) near
       (subst (λ s. IsClimb s l.rooms o.from o.to c) fresh h)))
 
-  pub round_found : (t : SpanningTree) (o : Offer) (f : Found) → t ≡ fresh_tree l.tree → o ≡ offer_at l k → IsFound t l.rooms o.from o.to (unsigned_abs (arc_at l.net k).cap) f → IsRoundOf l k f
+  pub round_found : (t : SpanningTree) (o : Offer) (f : Found) → t ≡ fresh_tree l.tree → o ≡ offer_at l k →
+      IsFound t l.rooms o.from o.to (unsigned_abs (arc_at l.net k).cap) f → IsRoundOf l k f
   unfolding basis_in
   round_found t o f fresh is h =
       let ends = offer_ends l k ok el in
@@ -143,14 +148,16 @@ module _ (l : Layout) (k : ℕ) (ok : IsLaidOut l) (el : IsEligible (basis_in l)
       let climbed = found_climb t o c fresh is h.climbed in
       let width = unsigned_abs (arc_at l.net k).cap in
       let turned : c.apex ≡ f.apex = sym h.same_apex in
-      let is_apex : IsApex l.tree.parents (depth_of l.tree) (from_of (basis_in l) k) (to_of (basis_in l) k) f.apex = subst (λ a. IsApex l.tree.parents (depth_of l.tree) (from_of (basis_in l) k) (to_of (basis_in l) k) a) turned climbed.apex in
+      let is_apex : IsApex l.tree.parents (depth_of l.tree) (from_of (basis_in l) k) (to_of (basis_in l) k) f.apex =
+      subst (λ a. IsApex l.tree.parents (depth_of l.tree) (from_of (basis_in l) k) (to_of (basis_in l) k) a) turned climbed.apex in
       record {
         same_from = h.same_from ∙ (ap (λ x. x.from) is ∙ ends.0);
         same_to = h.same_to ∙ (ap (λ x. x.to) is ∙ ends.1);
         is_apex = is_apex;
         is_around = around (basis_in l) k f.apex ok.basis el is_apex;
         can = subst (λ a. CanGoRound (basis_in l) k a (pos f.amount)) turned (chosen_round l k width c ok el wide climbed f.amount f.leaving f.out h.chosen);
-        leaves = subst (λ a. IsLeaving (basis_in l) k a (pos f.amount) (leaves_by (basis_in l) k f.leaving f.out)) turned (chosen_leaves l k width c ok el wide climbed f.amount f.leaving f.out h.chosen);
+        leaves = subst (λ a. IsLeaving (basis_in l) k a (pos f.amount) (leaves_by (basis_in l) k f.leaving f.out)) turned
+            (chosen_leaves l k width c ok el wide climbed f.amount f.leaving f.out h.chosen);
         left_out = λ e. subst (λ a. IsOut (basis_in l) k a (pos f.amount) (down_arc (basis_in l) f.out) f.out true) turned
             (let out = chosen_down l k width c ok el wide climbed f.amount f.leaving f.out h.chosen e in out_left out.place out.short out.at refl out.full);
         right_out = λ e. subst (λ a. IsOut (basis_in l) k a (pos f.amount) (up_arc (basis_in l) f.out) f.out false) turned
@@ -202,9 +209,12 @@ module _ (l : Layout) (k : ℕ) (ok : IsLaidOut l) (el : IsEligible (basis_in l)
     -- what push asks for
     pub push_ready : (t : SpanningTree) → t ≡ fresh_tree l.tree → CanPush l.net t l.rooms l.artificial f.from f.to f.apex f.amount
     push_ready t fresh =
-        rw (fresh, round.same_from, round.same_to) (same_push l (from_of (basis_in l) k) (to_of (basis_in l) k) f.apex f.amount (can_push l k f.apex f.amount ok el round.is_apex round.is_around round.can))
+        rw (fresh, round.same_from, round.same_to)
+        (same_push l (from_of (basis_in l) k) (to_of (basis_in l) k) f.apex f.amount
+        (can_push l k f.apex f.amount ok el round.is_apex round.is_around round.can))
 
-    pub push_asked : (t : SpanningTree) (r : Round) → t ≡ fresh_tree l.tree → r ≡ record { from = f.from; to = f.to; apex = f.apex; amount = f.amount } → CanPush l.net t l.rooms l.artificial r.from r.to r.apex r.amount
+    pub push_asked : (t : SpanningTree) (r : Round) → t ≡ fresh_tree l.tree →
+        r ≡ record { from = f.from; to = f.to; apex = f.apex; amount = f.amount } → CanPush l.net t l.rooms l.artificial r.from r.to r.apex r.amount
     push_asked t r fresh is = rw is (push_ready t fresh)
 
     exchange_ready : (rooms : List Rooms) (left : Bool) (r : Rid) → length rooms ≡ length l.rooms → IsOut (basis_in l) k f.apex (pos f.amount) r f.out left →
@@ -213,7 +223,8 @@ module _ (l : Layout) (k : ℕ) (ok : IsLaidOut l) (el : IsEligible (basis_in l)
         rw (round.same_from, round.same_to) (can_exchange l k f.apex f.amount f.out left r rooms ok el round.is_around round.can out size)
 
     -- what the exchange asks for
-    pub replace_ready : (t : SpanningTree) (table : Prices) (rooms : List Rooms) (reduced : ℤ) → t ≡ fresh_tree l.tree → table ≡ fresh_table l.table → length rooms ≡ length l.rooms → reduced ≡ offered (basis_in l) (offer_at l k) →
+    pub replace_ready : (t : SpanningTree) (table : Prices) (rooms : List Rooms) (reduced : ℤ) → t ≡ fresh_tree l.tree → table ≡ fresh_table l.table →
+        length rooms ≡ length l.rooms → reduced ≡ offered (basis_in l) (offer_at l k) →
         CanReplace l.net t l.offers rooms table k reduced f
     replace_ready t table rooms reduced fresh counted size is = rw (fresh, counted, is) (record {
       at_once = λ e. keep_premises l k ok number;
@@ -225,9 +236,12 @@ module _ (l : Layout) (k : ℕ) (ok : IsLaidOut l) (el : IsEligible (basis_in l)
     went = went_round (basis_in l) k f.apex (pos f.amount) is_basis el round.is_around (omega (arith, ints))
 
     -- what the parts leave
-    pub replaced : (t t' : SpanningTree) (offers : List Offer) (rooms rooms' : List Rooms) (artificial : List ℤ) (table table' : Prices) (reduced : ℤ) → t ≡ fresh_tree l.tree → table ≡ fresh_table l.table → reduced ≡ offered (basis_in l) (offer_at l k) →
-        IsPushedRound l.net t l.rooms rooms l.artificial artificial f.from f.to f.apex f.amount → IsReplaced l.net t t' l.offers offers rooms rooms' table table' k reduced f →
-        IsPivotedLayout l (record { net = l.net; tree = t'; offers = offers; rooms = rooms'; artificial = artificial; table = table' }) k f.apex (pos f.amount) (leaves_by (basis_in l) k f.leaving f.out)
+    pub replaced : (t t' : SpanningTree) (offers : List Offer) (rooms rooms' : List Rooms) (artificial : List ℤ) (table table' : Prices)
+        (reduced : ℤ) → t ≡ fresh_tree l.tree → table ≡ fresh_table l.table → reduced ≡ offered (basis_in l) (offer_at l k) →
+        IsPushedRound l.net t l.rooms rooms l.artificial artificial f.from f.to f.apex f.amount →
+        IsReplaced l.net t t' l.offers offers rooms rooms' table table' k reduced f →
+        IsPivotedLayout l (record { net = l.net; tree = t'; offers = offers; rooms = rooms'; artificial = artificial; table = table' }) k f.apex
+        (pos f.amount) (leaves_by (basis_in l) k f.leaving f.out)
     replaced t t' offers rooms rooms' artificial table table' reduced fresh counted is pushed done =
         by_case done
       where
@@ -236,24 +250,39 @@ module _ (l : Layout) (k : ℕ) (ok : IsLaidOut l) (el : IsEligible (basis_in l)
             (subst (λ v. IsPushedRound l.net (fresh_tree l.tree) l.rooms rooms l.artificial artificial (from_of (basis_in l) k) v f.apex f.amount) round.same_to
             (subst (λ u. IsPushedRound l.net (fresh_tree l.tree) l.rooms rooms l.artificial artificial u f.to f.apex f.amount) round.same_from
             (subst (λ s. IsPushedRound l.net s l.rooms rooms l.artificial artificial f.from f.to f.apex f.amount) fresh pushed)))
+
         exchanged_fresh : (left : Bool) → IsExchangedBy l.net t t' l.offers offers rooms rooms' table table' k f.out f.from f.to left f.amount reduced →
-            IsExchangedBy l.net (fresh_tree l.tree) t' l.offers offers rooms rooms' (fresh_table l.table) table' k f.out (from_of (basis_in l) k) (to_of (basis_in l) k) left f.amount (offered (basis_in l) (offer_at l k))
+            IsExchangedBy l.net (fresh_tree l.tree) t' l.offers offers rooms rooms' (fresh_table l.table) table' k f.out (from_of (basis_in l) k)
+            (to_of (basis_in l) k) left f.amount (offered (basis_in l) (offer_at l k))
         exchanged_fresh left h =
-            subst (λ v. IsExchangedBy l.net (fresh_tree l.tree) t' l.offers offers rooms rooms' (fresh_table l.table) table' k f.out (from_of (basis_in l) k) v left f.amount (offered (basis_in l) (offer_at l k))) round.same_to
-            (subst (λ u. IsExchangedBy l.net (fresh_tree l.tree) t' l.offers offers rooms rooms' (fresh_table l.table) table' k f.out u f.to left f.amount (offered (basis_in l) (offer_at l k))) round.same_from
-            (subst (λ z. IsExchangedBy l.net (fresh_tree l.tree) t' l.offers offers rooms rooms' (fresh_table l.table) table' k f.out f.from f.to left f.amount z) is
+            subst (λ v. IsExchangedBy l.net (fresh_tree l.tree) t' l.offers offers rooms rooms' (fresh_table l.table) table' k f.out
+            (from_of (basis_in l) k) v left f.amount (offered (basis_in l) (offer_at l k))) round.same_to
+            (subst (λ u. IsExchangedBy l.net (fresh_tree l.tree) t' l.offers offers rooms rooms' (fresh_table l.table) table' k f.out u f.to left
+            f.amount (offered (basis_in l) (offer_at l k))) round.same_from
+            (subst (λ z. IsExchangedBy l.net (fresh_tree l.tree) t' l.offers offers rooms rooms' (fresh_table l.table) table' k f.out f.from f.to left
+            f.amount z) is
             (subst (λ p. IsExchangedBy l.net (fresh_tree l.tree) t' l.offers offers rooms rooms' p table' k f.out f.from f.to left f.amount reduced) counted
             (subst (λ s. IsExchangedBy l.net s t' l.offers offers rooms rooms' table table' k f.out f.from f.to left f.amount reduced) fresh h))))
-        layout : Leaving → Type 0
-        layout leaving = IsPivotedLayout l (record { net = l.net; tree = t'; offers = offers; rooms = rooms'; artificial = artificial; table = table' }) k f.apex (pos f.amount) (leaves_by (basis_in l) k leaving f.out)
-        by_exchange : (left : Bool) (r : Rid) → IsOut (basis_in l) k f.apex (pos f.amount) r f.out left → IsExchangedBy l.net t t' l.offers offers rooms rooms' table table' k f.out f.from f.to left f.amount reduced →
-            IsPivotedLayout l (record { net = l.net; tree = t'; offers = offers; rooms = rooms'; artificial = artificial; table = table' }) k f.apex (pos f.amount) r
-        by_exchange left r out h = exchanged_layout l k f.apex f.amount f.out left r t' offers rooms rooms' artificial table' ok el round.is_apex round.is_around round.can out went pushed_fresh (exchanged_fresh left h)
+
+        by_exchange : (left : Bool) (r : Rid) → IsOut (basis_in l) k f.apex (pos f.amount) r f.out left →
+            IsExchangedBy l.net t t' l.offers offers rooms rooms' table table' k f.out f.from f.to left f.amount reduced →
+            IsPivotedLayout l (record { net = l.net; tree = t'; offers = offers; rooms = rooms'; artificial = artificial; table = table' }) k f.apex
+            (pos f.amount) r
+        by_exchange left r out h =
+            exchanged_layout l k f.apex f.amount f.out left r t' offers rooms rooms' artificial table' ok el round.is_apex round.is_around round.can
+            out went pushed_fresh (exchanged_fresh left h)
+
         blocks_at_once : f.leaving ≡ Entering → ¬ CanTake (basis_in l) (entering (basis_in l) k) (pos f.amount +ℤ pos 1)
-        blocks_at_once e = leaving_blocks (basis_in l) k f.apex (pos f.amount) (entering (basis_in l) k) (subst (λ w. IsLeaving (basis_in l) k f.apex (pos f.amount) (leaves_by (basis_in l) k w f.out)) e round.leaves)
-        by_case : IsReplaced l.net t t' l.offers offers rooms rooms' table table' k reduced f → IsPivotedLayout l (record { net = l.net; tree = t'; offers = offers; rooms = rooms'; artificial = artificial; table = table' }) k f.apex (pos f.amount) (leaves_by (basis_in l) k f.leaving f.out)
+        blocks_at_once e = leaving_blocks (basis_in l) k f.apex (pos f.amount) (entering (basis_in l) k)
+            (subst (λ w. IsLeaving (basis_in l) k f.apex (pos f.amount) (leaves_by (basis_in l) k w f.out)) e round.leaves)
+
+        by_case : IsReplaced l.net t t' l.offers offers rooms rooms' table table' k reduced f →
+            IsPivotedLayout l (record { net = l.net; tree = t'; offers = offers; rooms = rooms'; artificial = artificial; table = table' }) k f.apex
+            (pos f.amount) (leaves_by (basis_in l) k f.leaving f.out)
         by_case (at_once e tree turned same prices) =
-            rw (e, tree ∙ fresh, same, prices ∙ counted) (kept_layout l k f.apex f.amount offers rooms artificial ok el round.is_apex round.is_around round.can (blocks_at_once e) went pushed_fresh turned)
+            rw (e, tree ∙ fresh, same, prices ∙ counted)
+            (kept_layout l k f.apex f.amount offers rooms artificial ok el round.is_apex round.is_around round.can (blocks_at_once e) went
+            pushed_fresh turned)
         by_case (down e h) = rw e (by_exchange true (down_arc (basis_in l) f.out) (round.left_out e) h)
         by_case (up e h) = rw e (by_exchange false (up_arc (basis_in l) f.out) (round.right_out e) h)
 
@@ -264,7 +293,8 @@ module _ (l : Layout) (k : ℕ) (ok : IsLaidOut l) (el : IsEligible (basis_in l)
           apex = f.apex;
           is_apex = round.is_apex;
           leaves = leaves_by (basis_in l) k f.leaving f.out;
-          last_blocking = last_of_leaving (basis_in l) k f.apex (pos f.amount) (leaves_by (basis_in l) k f.leaving f.out) is_basis round.is_around round.can round.leaves;
+          last_blocking = last_of_leaving (basis_in l) k f.apex (pos f.amount) (leaves_by (basis_in l) k f.leaving f.out) is_basis round.is_around
+              round.can round.leaves;
           net = h.net;
           amounts = h.amounts;
           mended = h.mended;
@@ -276,8 +306,11 @@ module _ (l : Layout) (k : ℕ) (ok : IsLaidOut l) (el : IsEligible (basis_in l)
           falls = pivots_lower_the_pair_lem (basis_in l) (basis_in l') k (pos f.amount) is_basis basis pivot (omega (arith, ints));
         }
 
-    pub turned : (t t' : SpanningTree) (offers : List Offer) (rooms rooms' : List Rooms) (artificial : List ℤ) (table table' : Prices) (reduced : ℤ) (r : Round) → t ≡ fresh_tree l.tree → table ≡ fresh_table l.table → reduced ≡ offered (basis_in l) (offer_at l k) →
-        r ≡ record { from = f.from; to = f.to; apex = f.apex; amount = f.amount } → IsPushedRound l.net t l.rooms rooms l.artificial artificial r.from r.to r.apex r.amount → IsReplaced l.net t t' l.offers offers rooms rooms' table table' k reduced f →
+    pub turned : (t t' : SpanningTree) (offers : List Offer) (rooms rooms' : List Rooms) (artificial : List ℤ) (table table' : Prices) (reduced : ℤ)
+        (r : Round) → t ≡ fresh_tree l.tree → table ≡ fresh_table l.table → reduced ≡ offered (basis_in l) (offer_at l k) →
+        r ≡ record { from = f.from; to = f.to; apex = f.apex; amount = f.amount } →
+        IsPushedRound l.net t l.rooms rooms l.artificial artificial r.from r.to r.apex r.amount →
+        IsReplaced l.net t t' l.offers offers rooms rooms' table table' k reduced f →
         IsTurnedTo l (record { net = l.net; tree = t'; offers = offers; rooms = rooms'; artificial = artificial; table = table' }) k f.amount
     turned t t' offers rooms rooms' artificial table table' reduced r fresh counted is same pushed done =
         pivoted (record { net = l.net; tree = t'; offers = offers; rooms = rooms'; artificial = artificial; table = table' })
@@ -285,13 +318,16 @@ module _ (l : Layout) (k : ℕ) (ok : IsLaidOut l) (el : IsEligible (basis_in l)
         (subst (λ (q : Round). IsPushedRound l.net t l.rooms rooms l.artificial artificial q.from q.to q.apex q.amount) same pushed) done)
 
 -- the same of lists and numbers that are equal
-pub same_pivot : (b : TreeStructure) (l : Layout) (g : Network) (t : SpanningTree) (offers offers' : List Offer) (rooms rooms' : List Rooms) (artificial artificial' : List ℤ) (table : Prices) (k x : ℕ) (moved : ℤ) → basis_in l ≡ b → offers' ≡ offers → rooms' ≡ rooms → artificial' ≡ artificial → moved ≡ pos x →
+pub same_pivot : (b : TreeStructure) (l : Layout) (g : Network) (t : SpanningTree) (offers offers' : List Offer) (rooms rooms' : List Rooms)
+    (artificial artificial' : List ℤ) (table : Prices) (k x : ℕ) (moved : ℤ) → basis_in l ≡ b → offers' ≡ offers → rooms' ≡ rooms →
+    artificial' ≡ artificial → moved ≡ pos x →
     IsPivot (basis_in l) k (pos x) (basis_in (record { net = g; tree = t; offers = offers; rooms = rooms; artificial = artificial; table = table })) →
     IsPivot b k moved (basis_in (record { net = g; tree = t; offers = offers'; rooms = rooms'; artificial = artificial'; table = table }))
 same_pivot b l g t offers offers' rooms rooms' artificial artificial' table k x moved view same_offers same_rooms same_artificial same_amount h =
     rw (← view, same_offers, same_rooms, same_artificial, same_amount) h
 
-pub same_falls : (b : TreeStructure) (l : Layout) (g : Network) (t : SpanningTree) (offers offers' : List Offer) (rooms rooms' : List Rooms) (artificial artificial' : List ℤ) (table : Prices) → basis_in l ≡ b → offers' ≡ offers → rooms' ≡ rooms → artificial' ≡ artificial →
+pub same_falls : (b : TreeStructure) (l : Layout) (g : Network) (t : SpanningTree) (offers offers' : List Offer) (rooms rooms' : List Rooms)
+    (artificial artificial' : List ℤ) (table : Prices) → basis_in l ≡ b → offers' ≡ offers → rooms' ≡ rooms → artificial' ≡ artificial →
     PairFalls (basis_in l) (basis_in (record { net = g; tree = t; offers = offers; rooms = rooms; artificial = artificial; table = table })) →
     PairFalls b (basis_in (record { net = g; tree = t; offers = offers'; rooms = rooms'; artificial = artificial'; table = table }))
 same_falls b l g t offers offers' rooms rooms' artificial artificial' table view same_offers same_rooms same_artificial h =

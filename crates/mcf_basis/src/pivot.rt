@@ -8,7 +8,7 @@ ghost use Rattle.mcf_tree.specs.SpanningTree.{size_of};
 ghost use Rattle.mcf_basis.specs.declared.pivot.Step.TheVariants.{Moved, Still};
 ghost use Rattle.mcf_basis.specs.Bases.{IsBasis};
 ghost use Rattle.mcf_basis.specs.Pivots.{IsEligible, IsPivot, PairFalls};
-ghost use Rattle.mcf_basis.specs.Private.Climbs.{CanReplace, IsFound, IsReplaced};
+ghost use Rattle.mcf_basis.specs.Private.Climbs.{CanReplace, IsFound, IsReplaced, laid};
 ghost use Rattle.mcf_basis.specs.Private.Layouts.{IsLaidOut, basis_in};
 ghost use Rattle.mcf_basis.specs.Private.Turned.{price_of};
 ghost use Rattle.mcf_basis.specs.Steps.{moved_by};
@@ -82,11 +82,11 @@ fn turn(
     table: &mut PriceTable,
     k: ArcId,
 ) -> u64
-    requires laid_out { IsLaidOut (record { net = net.now; tree = tree.old; offers = offers.old; rooms = rooms.old; artificial = artificial.old; table = table.old }) }
-    requires eligible { IsEligible (basis_in (record { net = net.now; tree = tree.old; offers = offers.old; rooms = rooms.old; artificial = artificial.old; table = table.old })) k }
-    ensures pivot { IsPivot (basis_in (record { net = net.now; tree = tree.old; offers = offers.old; rooms = rooms.old; artificial = artificial.old; table = table.old })) k (pos result) (basis_in (record { net = net.now; tree = tree.new; offers = offers.new; rooms = rooms.new; artificial = artificial.new; table = table.new })) }
-    ensures laid_out { IsLaidOut (record { net = net.now; tree = tree.new; offers = offers.new; rooms = rooms.new; artificial = artificial.new; table = table.new }) }
-    ensures falls { PairFalls (basis_in (record { net = net.now; tree = tree.old; offers = offers.old; rooms = rooms.old; artificial = artificial.old; table = table.old })) (basis_in (record { net = net.now; tree = tree.new; offers = offers.new; rooms = rooms.new; artificial = artificial.new; table = table.new })) }
+    requires laid_out { IsLaidOut (laid net.now tree.old offers.old rooms.old artificial.old table.old) }
+    requires eligible { IsEligible (basis_in (laid net.now tree.old offers.old rooms.old artificial.old table.old)) k }
+    ensures pivot { IsPivot (basis_in (laid net.now tree.old offers.old rooms.old artificial.old table.old)) k (pos result) (basis_in (laid net.now tree.new offers.new rooms.new artificial.new table.new)) }
+    ensures laid_out { IsLaidOut (laid net.now tree.new offers.new rooms.new artificial.new table.new) }
+    ensures falls { PairFalls (basis_in (laid net.now tree.old offers.old rooms.old artificial.old table.old)) (basis_in (laid net.now tree.new offers.new rooms.new artificial.new table.new)) }
 {
     tree.forget_counts();
     table.forget_count();
@@ -170,8 +170,22 @@ fn replace(
 {
     match found.leaving {
         Leaving::Entering => keep(offers, k),
-        Leaving::Down => exchange(net, tree, offers, rooms, table, turn_of(k, found, true, reduced)),
-        Leaving::Up => exchange(net, tree, offers, rooms, table, turn_of(k, found, false, reduced)),
+        Leaving::Down => exchange(
+            net,
+            tree,
+            offers,
+            rooms,
+            table,
+            turn_of(k, found, true, reduced),
+        ),
+        Leaving::Up => exchange(
+            net,
+            tree,
+            offers,
+            rooms,
+            table,
+            turn_of(k, found, false, reduced),
+        ),
     }
 }
 
