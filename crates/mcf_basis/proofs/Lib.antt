@@ -27,5 +27,4 @@ pub mod PairLaws
 pub mod PricesTurned
 pub mod PivotBounds
 pub mod PivotKeeps
-pub mod TurnedLayout
 pub mod Pivoted
