@@ -24,3 +24,5 @@ pub mod PairLaws
 pub mod PricesTurned
 pub mod PivotBounds
 pub mod PivotKeeps
+pub mod TreeRooms
+pub mod TurnedAmounts
