@@ -26,3 +26,4 @@ pub mod PivotBounds
 pub mod PivotKeeps
 pub mod TreeRooms
 pub mod TurnedAmounts
+pub mod TurnedOffers
