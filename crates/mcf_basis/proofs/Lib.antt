@@ -27,3 +27,4 @@ pub mod PivotKeeps
 pub mod TreeRooms
 pub mod TurnedAmounts
 pub mod TurnedOffers
+pub mod TurnedStart
