@@ -36,7 +36,8 @@ use Rattle.mcf_basis.proofs.PivotKeeps.{pivots_keep_bases_lem}
 use Rattle.mcf_basis.proofs.Pushed.{went_round}
 use Rattle.mcf_basis.proofs.TreePrices.{price_small}
 use Rattle.mcf_basis.proofs.TurnedLayout.IsOut.{left as out_left, right as out_right}
-use Rattle.mcf_basis.proofs.TurnedLayout.{IsOut, IsPivotedLayout, can_exchange, can_push, exchanged_layout, keep_premises, kept_layout, offer_ends}
+use Rattle.mcf_basis.proofs.TurnedLayout.{IsOut, IsPivotedLayout, can_exchange, exchanged_layout, kept_layout}
+use Rattle.mcf_basis.proofs.TurnedStart.{can_push, offer_ends}
 
 -- the tree and the prices once the counts are forgotten
 abbrev pub fresh_tree : SpanningTree → SpanningTree
@@ -127,6 +128,9 @@ module _ (l : Layout) (k : ℕ) (ok : IsLaidOut l) (el : IsEligible (basis_in l)
     where
       sized : (x : ℤ) → pos 0 ≤ℤ x → pos (unsigned_abs x) ≡ x
       sized x low = grind (arith, ints)
+
+  keep_premises : (1 ≤ k) × (k ≤ length l.offers) × IsUpTo wide_limits.cost (offer_at l k).cost
+  keep_premises = (let n = number in let size = ok.offers_size in (n.0, omega (arith, n, size), read.cost))
 
   found_climb : (t : SpanningTree) (o : Offer) (c : Climb) → t ≡ fresh_tree l.tree → o ≡ offer_at l k → IsClimb t l.rooms o.from o.to c →
       IsClimb l.tree l.rooms (from_of (basis_in l) k) (to_of (basis_in l) k) c
@@ -227,7 +231,7 @@ module _ (l : Layout) (k : ℕ) (ok : IsLaidOut l) (el : IsEligible (basis_in l)
         length rooms ≡ length l.rooms → reduced ≡ offered (basis_in l) (offer_at l k) →
         CanReplace l.net t l.offers rooms table k reduced f
     replace_ready t table rooms reduced fresh counted size is = rw (fresh, counted, is) (record {
-      at_once = λ e. keep_premises l k ok number;
+      at_once = λ e. keep_premises;
       down = λ e. exchange_ready rooms true (down_arc (basis_in l) f.out) size (round.left_out e);
       up = λ e. exchange_ready rooms false (up_arc (basis_in l) f.out) size (round.right_out e);
     })
