@@ -31,4 +31,5 @@ pub mod Pivoted
 pub mod TurnedAmounts
 pub mod TurnedOffers
 pub mod TurnedStart
+pub mod ExchangeReady
 pub mod TurnedLayout
