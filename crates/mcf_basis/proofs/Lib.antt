@@ -28,3 +28,4 @@ pub mod TreeRooms
 pub mod TurnedAmounts
 pub mod TurnedOffers
 pub mod TurnedStart
+pub mod TurnedLayout
