@@ -31,5 +31,4 @@ pub mod Pivoted
 pub mod TurnedAmounts
 pub mod TurnedOffers
 pub mod TurnedStart
-pub mod ExchangeReady
 pub mod TurnedLayout

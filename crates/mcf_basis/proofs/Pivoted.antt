@@ -30,15 +30,21 @@ use Rattle.mcf_basis.proofs.Around.IsLeaving.{right as leaves_right, enter as le
 use Rattle.mcf_basis.proofs.Climbed.{chosen_down, chosen_leaves, chosen_round, chosen_up, leaves_by}
 use Rattle.mcf_basis.proofs.CyclePlaces.{last_of_leaving}
 use Rattle.mcf_basis.proofs.Cycles.{around}
-use Rattle.mcf_basis.proofs.ExchangeReady.{cut_left, cut_right, exchange_asks, fresh_table, fresh_tree}
 use Rattle.mcf_basis.proofs.Offers.{IsReadOffer, offered, read_offer}
 use Rattle.mcf_basis.proofs.PairLaws.{pivots_lower_the_pair_lem}
 use Rattle.mcf_basis.proofs.PivotKeeps.{pivots_keep_bases_lem}
 use Rattle.mcf_basis.proofs.Pushed.{went_round}
 use Rattle.mcf_basis.proofs.TreePrices.{price_small}
 use Rattle.mcf_basis.proofs.TurnedLayout.IsOut.{left as out_left, right as out_right}
-use Rattle.mcf_basis.proofs.TurnedLayout.{IsOut, IsPivotedLayout, exchanged_layout, kept_layout}
+use Rattle.mcf_basis.proofs.TurnedLayout.{IsOut, IsPivotedLayout, can_exchange, exchanged_layout, kept_layout}
 use Rattle.mcf_basis.proofs.TurnedStart.{can_push, offer_ends}
+
+-- the tree and the prices once the counts are forgotten
+abbrev pub fresh_tree : SpanningTree → SpanningTree
+fresh_tree t = record t { hung = 0; measured = 0 }
+
+abbrev pub fresh_table : Prices → Prices
+fresh_table p = record p { priced = 0 }
 
 -- nothing but the counts is forgotten
 same_spanning : (t : SpanningTree) → IsSpanning t → IsSpanning (fresh_tree t)
@@ -217,12 +223,8 @@ module _ (l : Layout) (k : ℕ) (ok : IsLaidOut l) (el : IsEligible (basis_in l)
 
     exchange_ready : (rooms : List Rooms) (left : Bool) (r : Rid) → length rooms ≡ length l.rooms → IsOut (basis_in l) k f.apex (pos f.amount) r f.out left →
         CanExchange l.net (fresh_tree l.tree) l.offers rooms (fresh_table l.table) k f.out f.from f.to left f.amount (offered (basis_in l) (offer_at l k))
-    exchange_ready rooms true r size (out_left m short at is full) =
-        rw (round.same_from, round.same_to)
-        (exchange_asks l k ok el true f.out f.amount rooms size round.can.entering (cut_left l k ok el f.apex m f.out round.is_apex short at))
-    exchange_ready rooms false r size (out_right m short at is full) =
-        rw (round.same_from, round.same_to)
-        (exchange_asks l k ok el false f.out f.amount rooms size round.can.entering (cut_right l k ok el f.apex m f.out round.is_apex short at))
+    exchange_ready rooms left r size out =
+        rw (round.same_from, round.same_to) (can_exchange l k f.apex f.amount f.out left r rooms ok el round.is_around round.can out size)
 
     -- what the exchange asks for
     pub replace_ready : (t : SpanningTree) (table : Prices) (rooms : List Rooms) (reduced : ℤ) → t ≡ fresh_tree l.tree → table ≡ fresh_table l.table →
