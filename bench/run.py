@@ -52,7 +52,7 @@ RESTING = 125_000
 RECOVERED = {"netgen": (10, 12, 14, 16), "gridgen": (10, 12, 14, 16), "transp": (8, 9, 10)}
 SEARCHED = {"netgen": (10, 12, 14, 16), "gridgen": (10, 12, 14, 16), "transp": (8, 9, 10)}
 SCALED = {family: (12, 14) for family in ("netgen", "gridgen", "goto", "road", "assignment")}
-PIVOTED = {"netgen": (10, 12, 14, 16), "gridgen": (10, 12, 14), "road": (10, 12, 14, 16), "goto": (10, 12, 14)}
+PIVOTED = {"netgen": (12, 14, 16), "gridgen": (12, 14), "road": (12, 14, 16), "goto": (12, 14)}
 # the greatest ratio to LEMON of families where updates of all prices, which the bounds on rises forbid, gain nothing
 WITHOUT_UPDATES = {"assignment": 2}
 # the random swaps that are tried in the tree of so many nodes
@@ -149,7 +149,7 @@ PARTS = {
     "read": (sparse, 1.2),
     "recover": (family_answers, 1.25),
     "scaling": (scaled_instances, 15),
-    "simplex": (pivoted_instances, 2),
+    "simplex": (pivoted_instances, 2.5),
     "solve": (resting, 1.25),
     "text": (sparse, 1.1),
     "tree": (trees, 1.25),
