@@ -1,5 +1,6 @@
 pub use Rattle.mcf_answer.specs.Spelling
 pub use Rattle.mcf_answer.specs.Written
+pub use Rattle.mcf_assign.specs.Runs as MatchingRuns
 pub use Rattle.mcf_checker.specs.Correct
 pub use Rattle.mcf_checker.specs.Judging
 pub use Rattle.mcf_feas.specs.Chosen as ChosenBlocks

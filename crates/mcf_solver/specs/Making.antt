@@ -4,9 +4,11 @@ use Rattle.mcf_answer.specs.Solution.{Solution}
 use Rattle.mcf_answer.specs.declared.answers.Answer.{Answer}
 use Rattle.mcf_answer.specs.declared.answers.Answer.TheVariants.{Flow, Blocked, Refused}
 use Rattle.mcf_checker.specs.Correct.{amounts}
+use Rattle.mcf_assign.specs.Runs.{IsMatchedByRows}
 use Rattle.mcf_instance.specs.Fault.{Fault}
 use Rattle.mcf_instance.specs.Network.{Network}
 use Rattle.mcf_instance.specs.declared.problem.Problem.{Problem}
+use Rattle.mcf_instance.specs.declared.problem.Problem.TheVariants.{Min, Asn}
 use Rattle.mcf_network.specs.Removal.{net_of}
 use Rattle.mcf_network.specs.Restoring.{restored}
 use Rattle.mcf_network.specs.States.{Pseudoflow}
@@ -14,20 +16,28 @@ use Rattle.mcf_prices.specs.Outcomes.{IsLeastState}
 use Rattle.mcf_solver.specs.declared.choice.Choice.{Choice}
 use Rattle.mcf_solver.specs.declared.choice.EngineChoice.{EngineChoice}
 use Rattle.mcf_scaling.specs.Made.{IsScaled}
-use Rattle.mcf_solver.specs.declared.choice.EngineChoice.TheVariants.{Auto, Cancel, Scaling}
+use Rattle.mcf_solver.specs.declared.choice.EngineChoice.TheVariants.{Auto, Cancel, Scaling, Sap}
 use Rattle.mcf_solver.specs.declared.choice.Meant.{Meant}
-use Rattle.mcf_solver.specs.declared.choice.Meant.TheVariants.{ByCancel, ByScaling}
+use Rattle.mcf_solver.specs.declared.choice.Meant.TheVariants.{ByCancel, ByScaling, BySap}
+
+-- the engine that suits a problem
+abbrev pub suited : Problem → Meant
+suited Min = ByScaling
+suited Asn = BySap
 
 -- the engine that a choice means for a problem
 abbrev pub meant : EngineChoice → Problem → Meant
-meant Auto problem = ByScaling
+meant Auto problem = suited problem
 meant Cancel problem = ByCancel
 meant Scaling problem = ByScaling
+meant Sap problem = suited problem
 
--- the net's state was made by a new engine of this name; the plain engine asks nothing of how, and cost scaling counts its steps
+-- the net's state was made by a new engine of this name; the plain engine asks nothing of how, cost scaling counts its steps, and the engine for
+-- assignments its searches
 abbrev pub IsMadeByEngine : Meant → Choice → Network → Pseudoflow → Type 0
 IsMadeByEngine ByCancel choice g s = ⊤
 IsMadeByEngine ByScaling choice g s = IsScaled g s
+IsMadeByEngine BySap choice g s = IsMatchedByRows g s
 
 -- by a new engine that the choice means for the problem of the net
 abbrev pub IsMadeBy : Choice → Network → Pseudoflow → Type 0

@@ -3,13 +3,15 @@
 /// Which engine solves.
 #[derive(Clone, Copy, Debug, Default, PartialEq, Eq)]
 pub enum EngineChoice {
-    /// The one that suits the problem.
+    /// The one that suits the problem: shortest augmenting paths for an assignment, cost scaling for a flow problem.
     #[default]
     Auto,
     /// Cycle cancelling: slow, and short.
     Cancel,
     /// Cost scaling.
     Scaling,
+    /// Shortest augmenting paths, for an assignment; for a flow problem it means `Auto`.
+    Sap,
 }
 
 /// How an instance is solved.
@@ -36,4 +38,6 @@ pub(crate) enum Meant {
     ByCancel,
     // Cost scaling.
     ByScaling,
+    // Shortest augmenting paths.
+    BySap,
 }

@@ -4,7 +4,7 @@ ghost use Rattle.mcf_checker.specs.Correct.{HasNoFlow};
 ghost use Rattle.mcf_network.specs.Removal.{net_of};
 ghost use Rattle.mcf_checker.specs.Judging.{accepts, verdict};
 ghost use Rattle.mcf_solver.specs.Answering.{AppendsAnswer, HasFault, IsOwed, LacksRoom, answer_kind};
-ghost use Rattle.mcf_solver.specs.Making.{HasMadeFlow, IsMadeBy, meant};
+ghost use Rattle.mcf_solver.specs.Making.{HasMadeFlow, IsMadeBy, meant, suited};
 ghost use Rattle.mcf_instance.specs.Fault.{header};
 ghost use Rattle.mcf_instance.specs.Limits.{limits};
 ghost use Rattle.mcf_instance.specs.Network.{node_count};
@@ -16,6 +16,7 @@ use crate::choice::{Choice, EngineChoice, Kind, Meant};
 use crate::flow::flow_answer;
 use crate::set::set_answer;
 use mcf_answer::{Answer, write};
+use mcf_assign::Sap;
 use mcf_checker::correct_answers_are_accepted;
 use mcf_instance::{Instance, Problem, read};
 use mcf_network::Net;
@@ -78,16 +79,28 @@ fn solve_instance(alloc: Global, instance: &Instance, choice: Choice) -> Result<
     match engine_meant(choice.engine, instance.problem()) {
         Meant::ByCancel => solve_by(alloc, instance, &mut Cancel::new()),
         Meant::ByScaling => solve_by(alloc, instance, &mut Scaling::new()),
+        Meant::BySap => solve_by(alloc, instance, &mut Sap::new()),
     }
 }
 
 // The engine that is meant for a problem.
-fn engine_meant(engine: EngineChoice, _problem: Problem) -> Meant
-    ensures { result ≡ meant engine _problem }
+fn engine_meant(engine: EngineChoice, problem: Problem) -> Meant
+    ensures { result ≡ meant engine problem }
 {
     match engine {
         EngineChoice::Cancel => Meant::ByCancel,
-        EngineChoice::Auto | EngineChoice::Scaling => Meant::ByScaling,
+        EngineChoice::Scaling => Meant::ByScaling,
+        EngineChoice::Auto | EngineChoice::Sap => suited(problem),
+    }
+}
+
+// The engine that suits a problem.
+fn suited(problem: Problem) -> Meant
+    ensures { result ≡ suited problem }
+{
+    match problem {
+        Problem::Min => Meant::ByScaling,
+        Problem::Asn => Meant::BySap,
     }
 }
 

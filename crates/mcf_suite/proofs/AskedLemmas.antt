@@ -7,16 +7,24 @@ use Rattle.clap.specs.declared.error.kind.ErrorKind.TheVariants.{OutOfMemory}
 use Rattle.mcf_suite.specs.declared.asking.Asked.{Asked}
 use Rattle.mcf_suite.specs.Asking.{IsMcf, IsReading, engine_names, mcf_app}
 
--- some command that a parse may have read
-unfoldable pub some_names : Bor (List (Bor Text))
-some_names = record {
+-- some names that a parse may have read
+abbrev lent : List Text → Bor (List (Bor Text))
+lent names = record {
   ref_ptr = (0, 0);
-  now = map (λ (t : Text). record { ref_ptr = (0, 0); now = t }) engine_names;
+  now = map (λ (t : Text). record { ref_ptr = (0, 0); now = t }) names;
 }
 
-pub some_mcf : IsMcf (mcf_app some_names)
-unfolding some_names
-some_mcf = record { names = some_names; spelled = refl; reads = refl }
+-- some command that a parse may have read
+unfoldable pub some_app : App
+some_app = mcf_app (lent engine_names)
+
+pub some_mcf : IsMcf some_app
+unfolding some_app
+some_mcf = record {
+  engines = lent engine_names;
+  engines_spelled = refl;
+  reads = refl;
+}
 
 pub mcf_is_simple : (app : App) → IsMcf app → is_simple app ≡ true
 mcf_is_simple app m = ap is_simple m.reads ∙ refl

@@ -3,27 +3,31 @@ use Rattle.std.specs.Prelude.{◌≡◌, Bool, true, false, List, [], ◌∷◌,
 use Rattle.std.specs.Borrow.{Bor}
 use Rattle.std.specs.Option.{option_map_or}
 use Rattle.std.specs.Str.{bytes_eq}
-use Rattle.clap.specs.Words.{App, FailsBy, Row, Rule, Shape, Text, fault_of, first_of, kind_of, new_app, new_rule, subcommand_of, takes, with_rule, with_subcommand}
+use Rattle.clap.specs.Words.{App, FailsBy, Row, Rule, Shape, Text, fault_of, first_of, kind_of, new_app, new_rule, subcommand_of, takes, with_subcommand}
 use Rattle.clap.specs.Walk.{texts}
 use Rattle.clap.specs.declared.builder.value_parser.ValueParser.TheVariants as parser
 use Rattle.clap.specs.declared.error.Error.{Error}
 use Rattle.clap.specs.declared.error.kind.ErrorKind.TheVariants.{OutOfMemory}
 use Rattle.mcf_suite.specs.declared.asking.Asked.{Asked}
 use Rattle.mcf_solver.specs.declared.choice.EngineChoice.{EngineChoice}
-use Rattle.mcf_solver.specs.declared.choice.EngineChoice.TheVariants.{Auto, Cancel, Scaling}
+use Rattle.mcf_solver.specs.declared.choice.EngineChoice.TheVariants.{Auto, Cancel, Scaling, Sap}
 
 -- the names of the engines
 abbrev pub engine_names : List Text
-engine_names = codes "auto" ∷ codes "cancel" ∷ codes "scaling" ∷ []
+engine_names = codes "auto" ∷ codes "cancel" ∷ codes "scaling" ∷ codes "sap" ∷ []
+
+-- the option of a name, whose value is one of these words, and this one where it is left out
+abbrev pub word_rule : Text → Bor (List (Bor Text)) → Text → Rule
+word_rule name words without = record (new_rule name) {
+  long = Some name;
+  value_names = 1;
+  parser = Some (parser.Names words);
+  defaults = without ∷ [];
+}
 
 -- `--engine ENGINE`, one of these names, and `auto` where it is left out
 abbrev pub engine_rule : Bor (List (Bor Text)) → Rule
-engine_rule names = record (new_rule (codes "engine")) {
-  long = Some (codes "engine");
-  value_names = 1;
-  parser = Some (parser.Names names);
-  defaults = codes "auto" ∷ [];
-}
+engine_rule names = word_rule (codes "engine") names (codes "auto")
 
 -- `FILE`, which may be left out
 abbrev pub file_rule : Rule
@@ -31,7 +35,7 @@ file_rule = record (new_rule (codes "file")) { value_names = 1 }
 
 -- `solve [--engine ENGINE] [FILE]`
 abbrev pub solve_shape : Bor (List (Bor Text)) → Shape
-solve_shape names = (with_rule (with_rule (new_app (codes "solve")) (engine_rule names)) file_rule).top
+solve_shape engines = record (new_app (codes "solve")).top { rules = engine_rule engines ∷ file_rule ∷ [] }
 
 -- `mcf`, which wants a subcommand
 abbrev pub mcf_top : App
@@ -39,19 +43,19 @@ mcf_top = record { top = record (new_app (codes "mcf")).top { subcommand_require
 
 -- `mcf` with its one subcommand
 abbrev pub mcf_app : Bor (List (Bor Text)) → App
-mcf_app names = with_subcommand mcf_top (solve_shape names)
+mcf_app engines = with_subcommand mcf_top (solve_shape engines)
 
 -- what a parse reads of the subcommand `solve`
 pub record IsSolve (shape : Shape) : Type 0 where
-  pub names : Bor (List (Bor Text))
-  pub spelled : texts names.now ≡ engine_names
-  pub reads : shape ≡ solve_shape names
+  pub engines : Bor (List (Bor Text))
+  pub engines_spelled : texts engines.now ≡ engine_names
+  pub reads : shape ≡ solve_shape engines
 
 -- what a parse reads of the command `mcf`
 pub record IsMcf (app : App) : Type 0 where
-  pub names : Bor (List (Bor Text))
-  pub spelled : texts names.now ≡ engine_names
-  pub reads : app ≡ mcf_app names
+  pub engines : Bor (List (Bor Text))
+  pub engines_spelled : texts engines.now ≡ engine_names
+  pub reads : app ≡ mcf_app engines
 
 -- a word was given, and it is this one
 abbrev pub is_given : Option Text → Text → Bool
@@ -62,7 +66,8 @@ abbrev pub engine_by : Option Text → EngineChoice
 engine_by name =
     if is_given name (codes "cancel") then Cancel
     else (if is_given name (codes "scaling") then Scaling
-    else Auto)
+    else (if is_given name (codes "sap") then Sap
+    else Auto))
 
 -- what is asked is what the matches of the subcommand hold that the words name
 pub record Asks (app : App) (words : List Text) (asked : Asked) : Type 0 where

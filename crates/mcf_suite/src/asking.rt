@@ -1,8 +1,8 @@
 //! What the words of a command line ask.
 ghost use Rattle.std.specs.Prelude.{◌≡◌, IfOk, false, map, option_map, true};
-ghost use Rattle.clap.specs.Words.{app_of, shape_of};
+ghost use Rattle.clap.specs.Words.{app_of, rule_of, shape_of};
 ghost use Rattle.clap.specs.declared.builder.command.Command.TheViews.{out-Command};
-ghost use Rattle.mcf_suite.specs.Asking.{IsMcf, IsReading, IsSolve, engine_by};
+ghost use Rattle.mcf_suite.specs.Asking.{IsMcf, IsReading, IsSolve, engine_by, file_rule, word_rule};
 
 use clap::{Arg, Command, Error};
 use mcf_solver::{Choice, EngineChoice};
@@ -19,9 +19,18 @@ pub struct Asked<'a> {
 }
 
 // The names of the engines.
-static ENGINES: [&str; 3] = ["auto", "cancel", "scaling"];
+static ENGINES: [&str; 4] = ["auto", "cancel", "scaling", "sap"];
 
-/// Reads what the words of a command line ask: `mcf solve [--engine auto|cancel|scaling] [FILE]`.
+// When to choose what.
+static WHEN: &str = "\
+Engines:
+  auto     sap for an assignment, scaling for a flow problem: the default
+  cancel   negative cycles, one after another: to compare with, on small instances
+  scaling  cost scaling: for flow problems
+  sap      shortest augmenting paths: for assignments; for a flow problem it means auto";
+
+/// Reads what the words of a command line ask: `mcf solve [--engine auto|cancel|scaling|sap] [FILE]`. The engine is
+/// `auto` where it is left out.
 ///
 /// The words begin with the name of the program, which isn't read.
 ///
@@ -60,21 +69,42 @@ fn solve<'a>(alloc: Global) -> Result<Command<'a>, AllocError>
     ensures shape { IfOk result (λ c. IsSolve (shape_of c)) }
     ensures local { IfOk result (λ c. (out-Command c).has_globals ≡ false) }
 {
-    let engine = Arg::new(alloc, "engine")
-        .long("engine")
-        .value_name("ENGINE")
-        .value_parser(ENGINES.as_slice())
-        .default_value("auto")
-        .help(
-            "What solves the instance: auto chooses, scaling is cost scaling, cancel is slow and short",
-        );
-    let file = Arg::new(alloc, "file").value_name("FILE").help(
-        "The file of the instance; without one it is read from standard input",
+    let engine = word_option(alloc, "engine", "ENGINE", ENGINES.as_slice(), "auto").help(
+        "What solves the instance",
     );
     Command::new(alloc, "solve")
         .about("Answers an instance in a DIMACS format")
+        .after_help(WHEN)
         .arg(engine)?
-        .arg(file)
+        .arg(file_argument(alloc))
+}
+
+// An option of a name, whose value is one of some words, and this one where it is left out.
+fn word_option<'a>(
+    alloc: Global,
+    name: &'a str,
+    value: &'a str,
+    words: &'a [&'a str],
+    without: &'a str,
+) -> Arg<'a>
+    ensures rule { rule_of result ≡ word_rule name.entry.now words.entry without.entry.now }
+    ensures local { result.global ≡ false }
+{
+    Arg::new(alloc, name)
+        .long(name)
+        .value_name(value)
+        .value_parser(words)
+        .default_value(without)
+}
+
+// The argument FILE.
+fn file_argument<'a>(alloc: Global) -> Arg<'a>
+    ensures rule { rule_of result ≡ file_rule }
+    ensures local { result.global ≡ false }
+{
+    Arg::new(alloc, "file").value_name("FILE").help(
+        "The file of the instance; without one it is read from standard input",
+    )
 }
 
 // The engine that a name asks for.
@@ -84,6 +114,7 @@ fn engine_of(name: Option<&str>) -> EngineChoice
     match name {
         Some("cancel") => EngineChoice::Cancel,
         Some("scaling") => EngineChoice::Scaling,
+        Some("sap") => EngineChoice::Sap,
         _ => EngineChoice::Auto,
     }
 }

@@ -91,7 +91,7 @@ fn has_part(text: &[u8], part: &str) -> bool {
     }
 }
 
-static ASKED: [(Words, EngineChoice, Option<&str>); 4] = [
+static ASKED: [(Words, EngineChoice, Option<&str>); 5] = [
     (&["mcf", "solve"], EngineChoice::Auto, None),
     (
         &["mcf", "solve", "--engine", "cancel", "a.min"],
@@ -106,6 +106,11 @@ static ASKED: [(Words, EngineChoice, Option<&str>); 4] = [
     (
         &["mcf", "solve", "--engine=scaling"],
         EngineChoice::Scaling,
+        None,
+    ),
+    (
+        &["mcf", "solve", "--engine", "sap"],
+        EngineChoice::Sap,
         None,
     ),
 ];
@@ -216,8 +221,10 @@ fn refusals(rt: HostRuntime) -> Result<(), Fail> {
 }
 
 // Words that ask for an answer, and whether they name a file.
-static SOLVING: [(Words, bool); 7] = [
+static SOLVING: [(Words, bool); 9] = [
     (&["mcf", "solve", "--engine", "auto"], false),
+    (&["mcf", "solve", "--engine", "scaling"], false),
+    (&["mcf", "solve", "--engine", "sap"], false),
     (&["mcf", "solve", "--engine", "cancel"], false),
     (&["mcf", "solve", "--engine=cancel"], false),
     (&["mcf", "solve", "-"], true),
@@ -246,7 +253,7 @@ fn words_that_ask_for_an_answer(rt: HostRuntime) -> Result<(), Fail> {
 }
 
 // Words that aren't a command, and what the text that says so names.
-static NO_COMMAND: [(Words, &str); 10] = [
+static NO_COMMAND: [(Words, &str); 12] = [
     (&[], ""),
     (&["mcf"], "subcommand"),
     (&["mcf", "dance"], "dance"),
@@ -255,6 +262,8 @@ static NO_COMMAND: [(Words, &str); 10] = [
     (&["mcf", "solve", "--engine"], "--engine"),
     (&["mcf", "solve", "--engine", "none"], "none"),
     (&["mcf", "solve", "--engine", "none", "a"], "none"),
+    (&["mcf", "solve", "--engine", "Sap"], "scaling"),
+    (&["mcf", "solve", "--engine", ""], "--engine"),
     (
         &["mcf", "solve", "--engine", "auto", "--engine", "auto"],
         "--engine",
@@ -277,14 +286,19 @@ fn words_that_are_refused(rt: HostRuntime) -> Result<(), Fail> {
 }
 
 // Words that ask for help, and a part of it.
-static HELP: [(Words, &str); 8] = [
+static HELP: [(Words, &str); 13] = [
     (&["mcf", "--help"], "solve"),
     (&["mcf", "-h"], "solve"),
     (&["mcf", "help"], "solve"),
     (&["mcf", "solve", "--help"], "--engine <ENGINE>"),
     (&["mcf", "help", "solve"], "--engine <ENGINE>"),
-    (&["mcf", "solve", "--help"], "auto, cancel, scaling"),
+    (&["mcf", "solve", "--help"], "auto, cancel, scaling, sap"),
     (&["mcf", "solve", "--help"], "[default: auto]"),
+    (&["mcf", "solve", "--help"], "\n  auto     "),
+    (&["mcf", "solve", "--help"], "\n  cancel   "),
+    (&["mcf", "solve", "--help"], "\n  scaling  "),
+    (&["mcf", "solve", "--help"], "\n  sap      "),
+    (&["mcf", "solve", "-h"], "[FILE]"),
     (&["mcf", "solve", "a", "--help"], "[FILE]"),
 ];
 

@@ -9,10 +9,11 @@ use std::alloc::Global;
 use std::test::Fail;
 
 // All engines.
-static ENGINES: [EngineChoice; 3] = [
+static ENGINES: [EngineChoice; 4] = [
     EngineChoice::Auto,
     EngineChoice::Cancel,
     EngineChoice::Scaling,
+    EngineChoice::Sap,
 ];
 
 // An instance, its answer, and what kind of answer that is.

@@ -1,13 +1,13 @@
 use Rattle.std.proofs.Common.{◌∙◌, ap, codes, inl, map, subst, sym}
 use Rattle.clap.proofs.WalkLemmas.{first_value-rows}
 use Rattle.clap.specs.Words.{HasKind, app_of, fault_of, found_of, kind_of}
-use Rattle.mcf_suite.specs.Asking.{engine_by, mcf_app}
-use Rattle.mcf_suite.proofs.AskedLemmas.{mcf_is_free, mcf_is_simple, named_rows, refused, some_mcf, some_names}
+use Rattle.mcf_suite.specs.Asking.{engine_by}
+use Rattle.mcf_suite.proofs.AskedLemmas.{mcf_is_free, mcf_is_simple, named_rows, refused, some_app, some_mcf}
 use Rattle.mcf_suite.proofs.asking.command.Goals as goal
 
 pub returns-in_err-mcf : goal.returns-in_err-mcf
 returns-in_err-mcf g c =
-    refused _ _ (mcf_app some_names) some_mcf _ (λ e h taken. h) (λ e h. inl h) c.from_residual.ensures.1
+    refused _ _ some_app some_mcf _ (λ e h taken. h) (λ e h. inl h) c.from_residual.ensures.1
 
 pub returns-in_err-matches : goal.returns-in_err-matches
 returns-in_err-matches g c =
