@@ -1,5 +1,5 @@
 -- Where the flow of an answer comes from.
-use Rattle.std.proofs.Common.{◌≡◌, refl, subst}
+use Rattle.std.proofs.Common.{◌≡◌, ℕ, refl, subst, sym}
 use Rattle.std.specs.Prelude.{Result, Ok, Err, IfOk}
 use Rattle.mcf_answer.specs.declared.answers.Answer.{Answer}
 use Rattle.mcf_answer.specs.declared.answers.Answer.TheVariants.{Flow, Blocked, Refused}
@@ -8,10 +8,14 @@ use Rattle.mcf_instance.specs.declared.problem.Problem.{Problem}
 use Rattle.mcf_instance.specs.declared.problem.Problem.TheVariants.{Min, Asn}
 use Rattle.mcf_network.specs.Removal.{net_of}
 use Rattle.mcf_network.specs.States.{Pseudoflow}
-use Rattle.mcf_solver.specs.Making.{HasMadeFlow, IsMadeBy, IsMadeByEngine, meant, suited}
+use Rattle.mcf_solver.specs.Making.{HasMadeFlow, IsMadeBy, IsMadeByEngine, IsMadeBySimplex, meant, new_block_rule, suited}
 use Rattle.mcf_solver.specs.declared.choice.Choice.{Choice}
 use Rattle.mcf_solver.specs.declared.choice.EngineChoice.{EngineChoice}
-use Rattle.mcf_solver.specs.declared.choice.EngineChoice.TheVariants.{Auto, Cancel, Scaling, Sap}
+use Rattle.mcf_solver.specs.declared.choice.EngineChoice.TheVariants.{Auto, Cancel, Simplex, Scaling, Sap}
+use Rattle.mcf_simplex.specs.Blocks.{BlockRule, IsBlockPick}
+use Rattle.mcf_simplex.specs.Runs.{IsMadeByRun}
+use Rattle.mcf_solver.specs.declared.choice.PricingChoice.{PricingChoice}
+use Rattle.mcf_solver.specs.declared.choice.PricingChoice.TheVariants.{Block}
 use Rattle.mcf_solver.specs.declared.choice.Meant.{Meant}
 use Rattle.mcf_solver.specs.declared.choice.Meant.TheVariants.{BySap}
 
@@ -47,6 +51,7 @@ suited_to_assignments Asn h = refl
 meant_for_assignments : (e : EngineChoice) (p : Problem) → BySap ≡ meant e p → p ≡ Asn
 meant_for_assignments Auto p h = suited_to_assignments p h
 meant_for_assignments Cancel p h = cc
+meant_for_assignments Simplex p h = cc
 meant_for_assignments Scaling p h = cc
 meant_for_assignments Sap p h = suited_to_assignments p h
 
@@ -54,3 +59,16 @@ meant_for_assignments Sap p h = suited_to_assignments p h
 pub net_for_assignments : (e : EngineChoice) (g : Network) → BySap ≡ meant e g.problem → (net_of g).problem ≡ Asn
 unfolding net_of
 net_for_assignments e g h = meant_for_assignments e g.problem h
+
+-- what a rule made that is chosen is made by the chosen rule
+pub made_by_rule : {E : Type 0} (pricing chosen : PricingChoice) (size : ℕ) (g : Network) (P : Network → Pseudoflow → Type 0) (r : Result Answer E)
+    → chosen ≡ pricing → ((s : Pseudoflow) → P (net_of g) s → IsMadeBySimplex pricing size (net_of g) s)
+    → IfOk r (HasMadeFlow P (Ok g)) → IfOk r (HasMadeFlow (IsMadeBySimplex chosen size) (Ok g))
+made_by_rule pricing chosen size g P r is step h =
+    made_otherwise_if_ok P (IsMadeBySimplex chosen size) g (λ (s : Pseudoflow) made.
+    subst (λ (rule : PricingChoice). IsMadeBySimplex rule size (net_of g) s) (sym is) (step s made)) r h
+
+-- a run of blocks from a rule that is the new one
+pub made_by_blocks : (size : ℕ) (old : BlockRule) (g : Network) (s : Pseudoflow) (new : BlockRule) → old ≡ new_block_rule size
+    → IsMadeByRun IsBlockPick old g s new → IsMadeBySimplex Block size g s
+made_by_blocks size old g s new is made = (new, subst (λ (rule : BlockRule). IsMadeByRun IsBlockPick rule g s new) is made)

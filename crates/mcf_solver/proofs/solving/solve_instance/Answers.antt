@@ -1,6 +1,6 @@
 use Rattle.std.proofs.Common.{◌≡◌, ◌∙◌, ap, sym}
 use Rattle.mcf_solver.specs.Making.{meant}
-use Rattle.mcf_solver.specs.declared.choice.Meant.TheVariants.{ByCancel, ByScaling, BySap}
+use Rattle.mcf_solver.specs.declared.choice.Meant.TheVariants.{ByCancel, BySimplex, ByScaling, BySap}
 use Rattle.mcf_solver.proofs.Making.{made_as_meant, net_for_assignments}
 use Rattle.mcf_solver.proofs.solving.solve_instance.Goals as goal
 
@@ -9,6 +9,12 @@ returns-in-ByCancel-clause-made c =
     let choice = c.args.choice in
     let is : ByCancel ≡ meant choice.engine c.args.instance.now.problem = sym c.in-ByCancel.is ∙ c.engine_meant.ensures ∙ ap (meant choice.engine) c.problem.ensures.value in
     made_as_meant ByCancel choice c.args.instance.now _ c.solve_by.result is (λ s made. tt) c.solve_by.ensures.made
+
+pub returns-in-BySimplex-clause-made : goal.returns-in-BySimplex-clause-made
+returns-in-BySimplex-clause-made c =
+    let choice = c.args.choice in
+    let is : BySimplex ≡ meant choice.engine c.args.instance.now.problem = sym c.in-BySimplex.is ∙ c.engine_meant.ensures ∙ ap (meant choice.engine) c.problem.ensures.value in
+    made_as_meant BySimplex choice c.args.instance.now _ c.solve_by_simplex.result is (λ s made. made) c.solve_by_simplex.ensures.made
 
 pub returns-in-ByScaling-clause-made : goal.returns-in-ByScaling-clause-made
 returns-in-ByScaling-clause-made c =
