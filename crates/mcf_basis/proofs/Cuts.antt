@@ -191,9 +191,11 @@ module _ (b : TreeStructure) (ok : IsBasis b) where
       let e = amount_count b ok in
       let s = ok.flow.no_surplus v (subst (λ n. IsNode n v) (node_count_added b.net) h) in
       let sup = supply_added b.net v in
-      let out : outflow (with_artificial b.net).arcs b.amounts v ≡ outflow b.net.arcs (state_of b).amounts v +ℤ outflow (added_arcs b.net) (drop (length b.net.arcs) b.amounts) v =
+      let out : outflow (with_artificial b.net).arcs b.amounts v
+      ≡ outflow b.net.arcs (state_of b).amounts v +ℤ outflow (added_arcs b.net) (drop (length b.net.arcs) b.amounts) v =
       split_sum (λ a f. when (eqb a.src v) f) b.net b.amounts (omega (arith, e)) in
-      let inn : inflow (with_artificial b.net).arcs b.amounts v ≡ inflow b.net.arcs (state_of b).amounts v +ℤ inflow (added_arcs b.net) (drop (length b.net.arcs) b.amounts) v =
+      let inn : inflow (with_artificial b.net).arcs b.amounts v
+      ≡ inflow b.net.arcs (state_of b).amounts v +ℤ inflow (added_arcs b.net) (drop (length b.net.arcs) b.amounts) v =
       split_sum (λ a f. when (eqb a.dst v) f) b.net b.amounts (omega (arith, e)) in
       let one : outflow (added_arcs b.net) (drop (length b.net.arcs) b.amounts) v ≡ when (eqb (artificial_arc b.net v).src v) (artificial_amount b v) =
       added_out b.net (drop (length b.net.arcs) b.amounts) rest_count v h ∙ ap (when (eqb (artificial_arc b.net v).src v)) (read_added v h) in
@@ -265,11 +267,13 @@ weight_wide : (a : Arc) → pos 0 <ℤ a.cap → unsigned_abs a.cost ≤ weight 
 weight_wide a h =
     let size = up_to_size a.cap in
     let right = le-max_right (unsigned_abs a.low) (unsigned_abs a.cap) in
-    let le : unsigned_abs a.cost * 1 ≤ unsigned_abs a.cost * max (unsigned_abs a.low) (unsigned_abs a.cap) = mul-le-mul_left (unsigned_abs a.cost) (omega (arith, ints, size, right, h)) in
+    let le : unsigned_abs a.cost * 1 ≤ unsigned_abs a.cost * max (unsigned_abs a.low) (unsigned_abs a.cap) =
+    mul-le-mul_left (unsigned_abs a.cost) (omega (arith, ints, size, right, h)) in
     omega (arith, le)
 
 -- the prices of the ends of an arc of reduced cost 0 differ by its cost
-step_price : (b : TreeStructure) (label u v m : ℕ) → Joins b.net label u v → reduced_at b label ≡ pos 0 → IsUpTo m (arc_at (with_artificial b.net) label).cost → IsUpTo m (price_at b u -ℤ price_at b v)
+step_price : (b : TreeStructure) (label u v m : ℕ) → Joins b.net label u v → reduced_at b label ≡ pos 0
+    → IsUpTo m (arc_at (with_artificial b.net) label).cost → IsUpTo m (price_at b u -ℤ price_at b v)
 step_price b label u v m (out_of s d) r c =
     let e : ((arc_at (with_artificial b.net) label).cost -ℤ price_at b u) +ℤ price_at b v ≡ pos 0 = rw (s, d) at r in
     (omega (arith, ints), omega (arith, ints))
@@ -277,7 +281,8 @@ step_price b label u v m (into s d) r c =
     let e : ((arc_at (with_artificial b.net) label).cost -ℤ price_at b v) +ℤ price_at b u ≡ pos 0 = rw (s, d) at r in
     (omega (arith, ints), omega (arith, ints))
 
-top_price : (b : TreeStructure) (label u m : ℕ) → Joins b.net label u 0 → reduced_at b label ≡ pos 0 → price_at b 0 ≡ pos 0 → (arc_at (with_artificial b.net) label).cost ≡ pos m → (price_at b u ≡ pos m) ⊎ (price_at b u ≡ neg_ℤ (pos m))
+top_price : (b : TreeStructure) (label u m : ℕ) → Joins b.net label u 0 → reduced_at b label ≡ pos 0 → price_at b 0 ≡ pos 0
+    → (arc_at (with_artificial b.net) label).cost ≡ pos m → (price_at b u ≡ pos m) ⊎ (price_at b u ≡ neg_ℤ (pos m))
 top_price b label u m (out_of s d) r root c =
     let e : ((arc_at (with_artificial b.net) label).cost -ℤ price_at b u) +ℤ price_at b 0 ≡ pos 0 = rw (s, d) at r in
     inl (omega (arith, ints))
@@ -327,11 +332,13 @@ module _ (b : TreeStructure) (ok : IsBasis b) where
   read_weight k h = get_or-map weight b.net.arcs (k - 1) no_arc 0 (omega arith)
 
   -- different nodes below them have their arcs at different places
-  places_apart : (u v i j : ℕ) → u ≤ node_count b.net → v ≤ node_count b.net → suc i < depth u → suc j < depth v → climb ps i u ≢ climb ps j v → place_of b u i ≢ place_of b v j
+  places_apart : (u v i j : ℕ) → u ≤ node_count b.net → v ≤ node_count b.net → suc i < depth u → suc j < depth v
+      → climb ps i u ≢ climb ps j v → place_of b u i ≢ place_of b v j
   places_apart u v i j hu hv li lj ne e =
       let own = own_at u i hu li in
       let other = own_at v j hv lj in
-      labels_apart (arcs_of b.net) ps b.tree.labels (depth_of b.tree) (tree_of b ok) (climb ps i u) (climb ps j v) (at_above u i hu (omega arith)) (at_within u i hu)
+      labels_apart (arcs_of b.net) ps b.tree.labels (depth_of b.tree) (tree_of b ok) (climb ps i u) (climb ps j v)
+      (at_above u i hu (omega arith)) (at_within u i hu)
       (at_above v j hv (omega arith)) (at_within v j hv) ne (omega (arith, own, other, e))
 
   own_apart : (v i j : ℕ) → v ≤ node_count b.net → i < j → suc j < depth v → place_of b v i ≢ place_of b v j
@@ -346,7 +353,8 @@ module _ (b : TreeStructure) (ok : IsBasis b) where
       let all : i + (depth v - 1 - i) ≡ depth v - 1 = omega arith in
       ap (λ n. climb ps n (climb ps i v)) steps ∙ (sym (climb-add ps i (depth v - 1 - i) v) ∙ ap (λ n. climb ps n v) all)
 
-  sides_apart : (u v i j : ℕ) → u ≤ node_count b.net → v ≤ node_count b.net → top b u ≢ top b v → suc i < depth u → suc j < depth v → place_of b u i ≢ place_of b v j
+  sides_apart : (u v i j : ℕ) → u ≤ node_count b.net → v ≤ node_count b.net → top b u ≢ top b v
+      → suc i < depth u → suc j < depth v → place_of b u i ≢ place_of b v j
   sides_apart u v i j hu hv ne li lj =
       places_apart u v i j hu hv li lj (λ e. ne (sym (top_same u i hu (omega arith)) ∙ (ap (top b) e ∙ top_same v j hv (omega arith))))
 
@@ -357,7 +365,8 @@ module _ (b : TreeStructure) (ok : IsBasis b) where
       let node = at_node_of v (depth v - 1) h.1 (omega (arith, deep)) in
       let inside = at_within v (depth v - 1) h.1 in
       let f : depth (top b v) ≡ depth (parent_of b.tree (top b v)) + 1 = ok.spanning.rooted.falls (top b v) node.0 inside in
-      let z : parent_of b.tree (top b v) ≡ 0 = root_from_depth ps (depth_of b.tree) ok.spanning.rooted (parent_of b.tree (top b v)) (ok.spanning.rooted.within (top b v) inside) (omega (arith, e, f, deep)) in
+      let z : parent_of b.tree (top b v) ≡ 0 = root_from_depth ps (depth_of b.tree) ok.spanning.rooted (parent_of b.tree (top b v))
+      (ok.spanning.rooted.within (top b v) inside) (omega (arith, e, f, deep)) in
       let arc : HasTreeArc b (top b v) = ok.tree_arcs (top b v) node in
       let joins : Joins b.net (label_of b.tree (top b v)) (top b v) 0 = subst (Joins b.net (label_of b.tree (top b v)) (top b v)) z arc.joins in
       elim (top_price b (label_of b.tree (top b v)) (top b v) (artificial_cost b.net) joins (ok.prices.balanced (top b v) node) ok.prices.root
@@ -394,10 +403,12 @@ module _ (b : TreeStructure) (ok : IsBasis b) where
         let arc : HasTreeArc b (climb ps i v) = ok.tree_arcs (climb ps i v) node in
         let own = own_at v i h lt in
         let room = wide (climb ps i v) node own.1 in
-        let le : unsigned_abs (arc_at b.net (label_of b.tree (climb ps i v))).cost ≤ weight (arc_at b.net (label_of b.tree (climb ps i v))) = weight_wide (arc_at b.net (label_of b.tree (climb ps i v))) room in
+        let le : unsigned_abs (arc_at b.net (label_of b.tree (climb ps i v))).cost
+        ≤ weight (arc_at b.net (label_of b.tree (climb ps i v))) = weight_wide (arc_at b.net (label_of b.tree (climb ps i v))) room in
         let read = read_weight (label_of b.tree (climb ps i v)) own in
         let size = up_to_size (arc_at b.net (label_of b.tree (climb ps i v))).cost in
-        let same : (arc_at (with_artificial b.net) (label_of b.tree (climb ps i v))).cost ≡ (arc_at b.net (label_of b.tree (climb ps i v))).cost = ap (λ a. a.cost) (own_arc b.net (label_of b.tree (climb ps i v)) own) in
+        let same : (arc_at (with_artificial b.net) (label_of b.tree (climb ps i v))).cost
+        ≡ (arc_at b.net (label_of b.tree (climb ps i v))).cost = ap (λ a. a.cost) (own_arc b.net (label_of b.tree (climb ps i v)) own) in
         step_price b (label_of b.tree (climb ps i v)) (climb ps i v) (climb ps (suc i) v) (weight_of b v i)
         (subst (Joins b.net (label_of b.tree (climb ps i v)) (climb ps i v)) (up_one v i) arc.joins) (ok.prices.balanced (climb ps i v) node)
         (omega (arith, ints, le, read, size, same), omega (arith, ints, le, read, size, same))
@@ -413,7 +424,8 @@ module _ (b : TreeStructure) (ok : IsBasis b) where
     near_top v h = let deep = node_deep v h in near_up v (depth v - 1) h.1 (omega (arith, deep))
 
     -- the prices of two nodes on different sides of 0 lie further apart than any cost
-    pub prices_apart : (u v : ℕ) → IsNode (node_count b.net) u → IsNode (node_count b.net) v → pos 0 <ℤ price_at b u → price_at b v ≤ℤ pos 0 → pos (artificial_cost b.net + 1) ≤ℤ (price_at b u -ℤ price_at b v)
+    pub prices_apart : (u v : ℕ) → IsNode (node_count b.net) u → IsNode (node_count b.net) v
+        → pos 0 <ℤ price_at b u → price_at b v ≤ℤ pos 0 → pos (artificial_cost b.net + 1) ≤ℤ (price_at b u -ℤ price_at b v)
     prices_apart u v hu hv up down =
         let near_u = near_top u hu in
         let near_v = near_top v hv in
@@ -536,11 +548,13 @@ module _ (b : TreeStructure) (ok : IsBasis b) (none : HasNoEligible b) where
         let all : weight (arc_at b.net k) ≤ sum (weights b) = weight-le-sum weight b.net.arcs (k - 1) no_arc (omega arith) in (
           λ e. (let p = and_parts (side (arc_at b.net k).src) (not (side (arc_at b.net k).dst)) e in
               let apart = prices_apart b ok wide (arc_at b.net k).src (arc_at b.net k).dst ends.src_is_node ends.dst_is_node
-              (above_zero (price_at b (arc_at b.net k).src) p.0) (not_above_zero (price_at b (arc_at b.net k).dst) (not_true (side (arc_at b.net k).dst) p.1)) in
+              (above_zero (price_at b (arc_at b.net k).src) p.0)
+              (not_above_zero (price_at b (arc_at b.net k).dst) (not_true (side (arc_at b.net k).dst) p.1)) in
               full_below k h (omega (arith, ints, r, size, le, all, apart))),
           λ e. (let p = and_parts (side (arc_at b.net k).dst) (not (side (arc_at b.net k).src)) e in
               let apart = prices_apart b ok wide (arc_at b.net k).dst (arc_at b.net k).src ends.dst_is_node ends.src_is_node
-              (above_zero (price_at b (arc_at b.net k).dst) p.0) (not_above_zero (price_at b (arc_at b.net k).src) (not_true (side (arc_at b.net k).src) p.1)) in
+              (above_zero (price_at b (arc_at b.net k).dst) p.0)
+              (not_above_zero (price_at b (arc_at b.net k).src) (not_true (side (arc_at b.net k).src) p.1)) in
               empty_above k h (omega (arith, ints, r, size, le, all, apart))),
         )
 
@@ -559,25 +573,31 @@ module _ (b : TreeStructure) (ok : IsBasis b) (none : HasNoEligible b) where
 
     sum_leaving : flow_sum (λ a f. when (leaves side a) f) b.net.arcs (state_of b).amounts ≡ cap_leaving b.net.arcs side
     sum_leaving =
-        flow_sum-same_at Crosses (λ a f. when (leaves side a) f) (λ a f. when (leaves side a) a.cap) (λ a f r. when_agree (leaves side a) f a.cap r.0) b.net.arcs (state_of b).amounts crossing
+        flow_sum-same_at Crosses (λ a f. when (leaves side a) f) (λ a f. when (leaves side a) a.cap)
+        (λ a f r. when_agree (leaves side a) f a.cap r.0) b.net.arcs (state_of b).amounts crossing
         ∙ flow_sum-arc_sum Crosses (λ a. when (leaves side a) a.cap) b.net.arcs (state_of b).amounts crossing
 
     sum_entering : flow_sum (λ a f. when (enters side a) f) b.net.arcs (state_of b).amounts ≡ pos 0
     sum_entering =
-        flow_sum-same_at Crosses (λ a f. when (enters side a) f) (λ a f. pos 0) (λ a f r. when_agree (enters side a) f (pos 0) r.1 ∙ when-zero (enters side a)) b.net.arcs (state_of b).amounts crossing
+        flow_sum-same_at Crosses (λ a f. when (enters side a) f) (λ a f. pos 0)
+        (λ a f r. when_agree (enters side a) f (pos 0) r.1 ∙ when-zero (enters side a)) b.net.arcs (state_of b).amounts crossing
         ∙ flow_sum-zero b.net.arcs (state_of b).amounts
 
     low_in : low_entering b.net.arcs side ≡ pos 0
     low_in =
-        arc_sum-same IsNetArc (λ a. when (enters side a) a.low) (λ a. pos 0) (λ a h. ap (when (enters side a)) h.no_low ∙ when-zero (enters side a)) b.net.arcs ok.of_net.each_arc
+        arc_sum-same IsNetArc (λ a. when (enters side a) a.low) (λ a. pos 0) (λ a h. ap (when (enters side a)) h.no_low ∙ when-zero (enters side a))
+        b.net.arcs ok.of_net.each_arc
         ∙ arc_sum-zero b.net.arcs
 
     -- what the set must send is what leaves it and what its nodes have unsent
     set_supply : supply_in b.net.supplies side ≡ cap_leaving b.net.arcs side +ℤ node_sum (λ v. when (side v) (unsent b v)) (node_count b.net)
     set_supply =
-        let split : node_sum (λ v. when (side v) (at_node b.net.supplies v)) (node_count b.net) ≡ node_sum (λ v. when (side v) (net b.net.arcs (state_of b).amounts v) +ℤ when (side v) (unsent b v)) (node_count b.net) =
-        node_sum-same (λ v. when (side v) (at_node b.net.supplies v)) (λ v. when (side v) (net b.net.arcs (state_of b).amounts v) +ℤ when (side v) (unsent b v)) (node_count b.net)
-        (λ v h. ap (when (side v)) (parts (at_node b.net.supplies v) (net b.net.arcs (state_of b).amounts v)) ∙ when-add (side v) (net b.net.arcs (state_of b).amounts v) (unsent b v)) in
+        let split : node_sum (λ v. when (side v) (at_node b.net.supplies v)) (node_count b.net)
+        ≡ node_sum (λ v. when (side v) (net b.net.arcs (state_of b).amounts v) +ℤ when (side v) (unsent b v)) (node_count b.net) =
+        node_sum-same (λ v. when (side v) (at_node b.net.supplies v))
+        (λ v. when (side v) (net b.net.arcs (state_of b).amounts v) +ℤ when (side v) (unsent b v)) (node_count b.net)
+        (λ v h. ap (when (side v)) (parts (at_node b.net.supplies v) (net b.net.arcs (state_of b).amounts v))
+        ∙ when-add (side v) (net b.net.arcs (state_of b).amounts v) (unsent b v)) in
         let add = node_sum-add (λ v. when (side v) (net b.net.arcs (state_of b).amounts v)) (λ v. when (side v) (unsent b v)) (node_count b.net) in
         let across = nets_across (node_count b.net) b.net.arcs (state_of b).amounts side ok.of_net.ends in
         let out = sum_leaving in
@@ -634,12 +654,14 @@ module _ (b : TreeStructure) (ok : IsBasis b) (none : HasNoEligible b) where
       left_over : HasCarrying b → pos 0 <ℤ node_sum (λ v. when (side v) (unsent b v)) (node_count b.net)
       left_over c = elim (cases_Bool (side c.node)) [
         | inl t ↦ node_sum_above_zero (λ v. when (side v) (unsent b v)) (node_count b.net) c.node c.is_node
-            (let up = some_in c.node c.is_node c.some t in let is : when (side c.node) (unsent b c.node) ≡ unsent b c.node = ap (λ s. when s (unsent b c.node)) t in omega (arith, ints, up, is))
+            (let up = some_in c.node c.is_node c.some t in
+            let is : when (side c.node) (unsent b c.node) ≡ unsent b c.node = ap (λ s. when s (unsent b c.node)) t in omega (arith, ints, up, is))
             (λ v h. when_low (side v) (unsent b v) (in_low v h))
         | inr f ↦ (let all = all_unsent in
             let apart = node_sum-sub (λ v. when (side v) (unsent b v)) (unsent b) (node_count b.net) in
             let more = node_sum_above_zero (λ v. when (side v) (unsent b v) -ℤ unsent b v) (node_count b.net) c.node c.is_node
-            (let down = some_out c.node c.is_node c.some f in let is : when (side c.node) (unsent b c.node) ≡ pos 0 = ap (λ s. when s (unsent b c.node)) f in omega (arith, ints, down, is))
+            (let down = some_out c.node c.is_node c.some f in
+            let is : when (side c.node) (unsent b c.node) ≡ pos 0 = ap (λ s. when s (unsent b c.node)) f in omega (arith, ints, down, is))
             (λ v h. when_gap (side v) (unsent b v) (out_high v h)) in
             omega (arith, ints, all, apart, more))
       ]
@@ -652,7 +674,8 @@ module _ (b : TreeStructure) (ok : IsBasis b) (none : HasNoEligible b) where
           omega (arith, ints, more, must, low)
 
 -- where no arc is eligible and an artificial arc carries something, the nodes of price above 0 must send more than they can
-pub cuts_block : (b : TreeStructure) → IsBasis b → HasNoEligible b → HasWideTree b → supply_in b.net.supplies (λ v. true) ≡ pos 0 → ¬ HasNoArtificial b → Blocks b.net (λ v. int_lt (pos 0) (price_at b v)) Send
+pub cuts_block : (b : TreeStructure) → IsBasis b → HasNoEligible b → HasWideTree b
+    → supply_in b.net.supplies (λ v. true) ≡ pos 0 → ¬ HasNoArtificial b → Blocks b.net (λ v. int_lt (pos 0) (price_at b v)) Send
 cuts_block b ok none wide balanced uneven = elim (find_carrying b ok (node_count b.net) (omega arith)) [
   | inl c ↦ blocked b ok none wide balanced c
   | inr empty ↦ absurd (uneven empty)

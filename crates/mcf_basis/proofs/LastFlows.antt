@@ -34,12 +34,14 @@ one_apart a f h arc cf ch =
     let low = arc.no_low in
     let size = up_to_size a.cap in
     let right = le-max_right (unsigned_abs a.low) (unsigned_abs a.cap) in
-    let gap : IsUpTo (max (unsigned_abs a.low) (unsigned_abs a.cap)) (h -ℤ f) = (omega (arith, ints, low, size, right, cf, ch), omega (arith, ints, low, size, right, cf, ch)) in
+    let gap : IsUpTo (max (unsigned_abs a.low) (unsigned_abs a.cap)) (h -ℤ f) =
+    (omega (arith, ints, low, size, right, cf, ch), omega (arith, ints, low, size, right, cf, ch)) in
     let product = mul_up_to a.cost (h -ℤ f) (unsigned_abs a.cost) (max (unsigned_abs a.low) (unsigned_abs a.cap)) (up_to_size a.cost) gap in
     let split = mul-sub a.cost h f in
     omega (arith, ints, product, split)
 
-costs_apart : (arcs : List Arc) (x y : List ℤ) → All IsNetArc arcs → IsWithinBounds arcs x → IsWithinBounds arcs y → (cost arcs y -ℤ cost arcs x) ≤ℤ pos (sum (map weight arcs))
+costs_apart : (arcs : List Arc) (x y : List ℤ) → All IsNetArc arcs → IsWithinBounds arcs x → IsWithinBounds arcs y
+    → (cost arcs y -ℤ cost arcs x) ≤ℤ pos (sum (map weight arcs))
 costs_apart [] x y each hx hy = omega (arith, ints)
 costs_apart (a ∷ arcs) [] y each hx hy = absurd hx
 costs_apart (a ∷ arcs) (f ∷ x) [] each hx hy = absurd hy
@@ -87,7 +89,8 @@ module _ (b : TreeStructure) (ok : IsBasis b) where
         ]
         | inr some ↦ elim (node_case b ok v h) [
           | sends e p ↦ ap (λ q. q *ℤ unsent b v) (p some) ∙ ap (λ q. pos (artificial_cost b.net) *ℤ q) e
-          | takes e p ↦ ap (λ q. q *ℤ unsent b v) (p some) ∙ (ap (λ q. neg_ℤ (pos (artificial_cost b.net)) *ℤ q) e ∙ both_turned (pos (artificial_cost b.net)) (artificial_amount b v))
+          | takes e p ↦ ap (λ q. q *ℤ unsent b v) (p some)
+              ∙ (ap (λ q. neg_ℤ (pos (artificial_cost b.net)) *ℤ q) e ∙ both_turned (pos (artificial_cost b.net)) (artificial_amount b v))
         ]
       ]
     where
@@ -105,25 +108,32 @@ module _ (b : TreeStructure) (ok : IsBasis b) where
   -- over the amounts of the basis
   own_total : flow_sum paid b.net.arcs own ≡ cost b.net.arcs own -ℤ node_sum (λ v. at_node prices v *ℤ net b.net.arcs own v) (node_count b.net)
   own_total =
-      flow_sum-same (HasEnds (node_count b.net)) paid (λ a f. a.cost *ℤ f -ℤ (at_node prices a.src -ℤ at_node prices a.dst) *ℤ f) split b.net.arcs own ok.of_net.ends
+      flow_sum-same (HasEnds (node_count b.net)) paid (λ a f. a.cost *ℤ f -ℤ (at_node prices a.src -ℤ at_node prices a.dst) *ℤ f)
+      split b.net.arcs own ok.of_net.ends
       ∙ flow_sum-sub (λ a f. a.cost *ℤ f) (λ a f. (at_node prices a.src -ℤ at_node prices a.dst) *ℤ f) b.net.arcs own
       ∙ ap (λ z. cost b.net.arcs own -ℤ z) (sym (node_sum-net (at_node prices) (node_count b.net) b.net.arcs own ok.of_net.ends))
 
-  supply_paid : node_sum (λ v. at_node prices v *ℤ net b.net.arcs own v) (node_count b.net) ≡ node_sum (λ v. at_node prices v *ℤ at_node b.net.supplies v) (node_count b.net) -ℤ pos (artificial_cost b.net) *ℤ node_sum (artificial_amount b) (node_count b.net)
+  supply_paid : node_sum (λ v. at_node prices v *ℤ net b.net.arcs own v) (node_count b.net)
+      ≡ node_sum (λ v. at_node prices v *ℤ at_node b.net.supplies v) (node_count b.net)
+      -ℤ pos (artificial_cost b.net) *ℤ node_sum (artificial_amount b) (node_count b.net)
   supply_paid =
-      node_sum-same (λ v. at_node prices v *ℤ net b.net.arcs own v) (λ v. at_node prices v *ℤ at_node b.net.supplies v -ℤ pos (artificial_cost b.net) *ℤ artificial_amount b v) (node_count b.net)
+      node_sum-same (λ v. at_node prices v *ℤ net b.net.arcs own v)
+      (λ v. at_node prices v *ℤ at_node b.net.supplies v -ℤ pos (artificial_cost b.net) *ℤ artificial_amount b v) (node_count b.net)
       (λ v h. (let u = unsent_paid v h in
       let d = mul-sub (at_node prices v) (at_node b.net.supplies v) (net b.net.arcs own v) in
       omega (arith, ints, u, d)))
       ∙ (node_sum-sub (λ v. at_node prices v *ℤ at_node b.net.supplies v) (λ v. pos (artificial_cost b.net) *ℤ artificial_amount b v) (node_count b.net)
-      ∙ ap (λ z. node_sum (λ v. at_node prices v *ℤ at_node b.net.supplies v) (node_count b.net) -ℤ z) (node_sum-mul (pos (artificial_cost b.net)) (artificial_amount b) (node_count b.net)))
+      ∙ ap (λ z. node_sum (λ v. at_node prices v *ℤ at_node b.net.supplies v) (node_count b.net) -ℤ z)
+      (node_sum-mul (pos (artificial_cost b.net)) (artificial_amount b) (node_count b.net)))
 
   module _ (none : HasNoEligible b) (flow : List ℤ) (feasible : IsFeasible b.net flow) where
     -- the artificial arcs cost less than one unit along one of them does
     artificial_small : (pos (artificial_cost b.net) *ℤ node_sum (artificial_amount b) (node_count b.net)) <ℤ pos (artificial_cost b.net)
     artificial_small =
         let least : flow_sum paid b.net.arcs own ≤ℤ flow_sum paid b.net.arcs flow =
-        flow_sum-le_two (IsComplementary prices) CanCarry paid paid (λ a f h t q. no_smaller (reduced_cost prices a) a.low a.cap f h t.0 t.1 q.0 q.1) b.net.arcs own flow (shows b ok none) feasible.within_bounds in
+        flow_sum-le_two (IsComplementary prices) CanCarry paid paid
+        (λ a f h t q. no_smaller (reduced_cost prices a) a.low a.cap f h t.0 t.1 q.0 q.1)
+        b.net.arcs own flow (shows b ok none) feasible.within_bounds in
         let other = reduced_total b.net prices flow ok.of_net.ends feasible in
         let here = own_total in
         let sent = supply_paid in
@@ -135,7 +145,8 @@ module _ (b : TreeStructure) (ok : IsBasis b) where
       | inl z ↦ z
       | inr some ↦ absurd (let more = node_sum_above_zero (artificial_amount b) (node_count b.net) v h some (artificial_low b ok) in
           let times : (pos (artificial_cost b.net) *ℤ pos 1) ≤ℤ (pos (artificial_cost b.net) *ℤ node_sum (artificial_amount b) (node_count b.net)) =
-          mul-mono (pos (artificial_cost b.net)) (pos 1) (node_sum (artificial_amount b) (node_count b.net)) (omega (arith, ints)) (omega (arith, ints, more)) in
+          mul-mono (pos (artificial_cost b.net)) (pos 1) (node_sum (artificial_amount b) (node_count b.net))
+          (omega (arith, ints)) (omega (arith, ints, more)) in
           let one = mul-one (pos (artificial_cost b.net)) in
           let small = artificial_small in
           omega (arith, ints, times, one, small))
