@@ -78,7 +78,7 @@ IsReason calls bytes read words untouched old new line =
     (λ fault. untouched × (line ≡ file_line answer_line fault))
     (λ input text. IsUnprinted (bytes input) (bytes text) untouched old new line))
 
--- a writer took a beginning of the line that tells the reason, all of it unless writing on it failed
+-- a writer took a beginning of the line that tells the reason; that it is the whole line, where writing works, is tested alone
 pub record Tells (IsReasonFor : List ℕ → Type 0) (old new : Option (List ℕ)) : Type 0 where
   pub line : List ℕ
   pub reason : IsReasonFor line
