@@ -15,6 +15,11 @@ pub mod StrongPivot
 pub mod Around
 pub mod StartLayouts
 pub mod Endings
+pub mod Climbing
+pub mod TreeRooms
+pub mod Climbed
+pub mod PushedRooms
+pub mod TurnedRooms
 pub mod CyclePlaces
 pub mod Cycles
 pub mod StrongKept
@@ -26,3 +31,8 @@ pub mod PivotBounds
 pub mod PivotKeeps
 pub mod Cuts
 pub mod LastFlows
+pub mod Pivoted
+pub mod TurnedAmounts
+pub mod TurnedOffers
+pub mod TurnedStart
+pub mod TurnedLayout

@@ -10,6 +10,7 @@ pub mod Artificial
 pub mod Structures
 pub mod Bases
 pub mod Pivots
+pub mod Steps
 pub mod Starts
 pub mod Violations
 pub mod Ranks

@@ -1,2 +1,4 @@
 -- What the proofs of this crate alone need: no public clause names it.
 pub mod Layouts
+pub mod Climbs
+pub mod Turned

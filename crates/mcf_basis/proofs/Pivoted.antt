@@ -1,0 +1,341 @@
+-- One pivot, from what its parts leave.
+use Rattle.std.proofs.Common.{◌≡◌, ℕ, ◌+◌, ◌-◌, ◌*◌, ◌^◌, ◌<◌, ◌≤◌, Bool, true, false, List, length, refl, sym, ap, ◌∙◌, arith, subst, ℤ, pos, ◌+ℤ◌, ◌-ℤ◌, ◌≤ℤ◌}
+use Rattle.std.specs.Prelude.{unsigned_abs}
+use Rattle.std.proofs.lemmas.Int.{ints}
+use Rattle.mcf_instance.specs.Limits.{wide_limits}
+use Rattle.mcf_instance.specs.WellFormed.{IsUpTo}
+use Rattle.mcf_instance.specs.Network.{Network, IsArcNumber, node_count}
+use Rattle.mcf_network.specs.declared.rid.Rid.{Rid}
+use Rattle.mcf_network.specs.Nets.{IsNetArc}
+use Rattle.mcf_network.specs.Residual.{arc_at}
+use Rattle.mcf_network.proofs.ArcLaws.{net_arc_at}
+use Rattle.mcf_tree.specs.Apex.{IsApex}
+use Rattle.mcf_tree.specs.SpanningTree.{SpanningTree, IsSpanning, depth_of, size_of}
+use Rattle.mcf_basis.specs.declared.climb.Climb.{Climb}
+use Rattle.mcf_basis.specs.declared.leaving_arc.Leaving.{Leaving}
+use Rattle.mcf_basis.specs.declared.leaving_arc.Leaving.TheVariants.{Entering, Down, Up}
+use Rattle.mcf_basis.specs.declared.offer.Offer.{Offer}
+use Rattle.mcf_basis.specs.declared.pivot.Found.{Found}
+use Rattle.mcf_basis.specs.declared.push.Round.{Round}
+use Rattle.mcf_basis.specs.declared.rooms.Rooms.{Rooms}
+use Rattle.mcf_basis.specs.Bases.{IsBasis}
+use Rattle.mcf_basis.specs.Pivots.{IsEligible, IsPivot, PairFalls, entering}
+use Rattle.mcf_basis.specs.Private.Climbs.{CanReplace, IsClimb, IsFound, IsReplaced}
+use Rattle.mcf_basis.specs.Private.Climbs.IsReplaced.{at_once, down, up}
+use Rattle.mcf_basis.specs.Private.Layouts.{Layout, IsLaidOut, Prices, basis_in, offer_at}
+use Rattle.mcf_basis.specs.Private.Turned.{CanExchange, CanPush, IsExchangedBy, IsPushedRound, offers_kept, price_of}
+use Rattle.mcf_basis.specs.Structures.{TreeStructure, CanTake}
+use Rattle.mcf_basis.proofs.Around.{CanGoRound, IsAround, IsLeaving, WentRound, down_arc, from_of, to_of, up_arc}
+use Rattle.mcf_basis.proofs.Around.IsLeaving.{right as leaves_right, enter as leaves_at_once, left as leaves_left}
+use Rattle.mcf_basis.proofs.Climbed.{chosen_down, chosen_leaves, chosen_round, chosen_up, leaves_by}
+use Rattle.mcf_basis.proofs.CyclePlaces.{last_of_leaving}
+use Rattle.mcf_basis.proofs.Cycles.{around}
+use Rattle.mcf_basis.proofs.Offers.{IsReadOffer, offered, read_offer}
+use Rattle.mcf_basis.proofs.PairLaws.{pivots_lower_the_pair_lem}
+use Rattle.mcf_basis.proofs.PivotKeeps.{pivots_keep_bases_lem}
+use Rattle.mcf_basis.proofs.Pushed.{went_round}
+use Rattle.mcf_basis.proofs.TreePrices.{price_small}
+use Rattle.mcf_basis.proofs.TurnedLayout.IsOut.{left as out_left, right as out_right}
+use Rattle.mcf_basis.proofs.TurnedLayout.{IsOut, IsPivotedLayout, can_exchange, exchanged_layout, kept_layout}
+use Rattle.mcf_basis.proofs.TurnedStart.{can_push, offer_ends}
+
+-- the tree and the prices once the counts are forgotten
+abbrev pub fresh_tree : SpanningTree → SpanningTree
+fresh_tree t = record t { hung = 0; measured = 0 }
+
+abbrev pub fresh_table : Prices → Prices
+fresh_table p = record p { priced = 0 }
+
+-- nothing but the counts is forgotten
+same_spanning : (t : SpanningTree) → IsSpanning t → IsSpanning (fresh_tree t)
+same_spanning t h = record { labels_size = h.labels_size; depths_size = h.depths_size; numbered = h.numbered; rooted = h.rooted }
+
+same_climb : (t : SpanningTree) (rooms : List Rooms) (from to : ℕ) (c : Climb) → IsClimb (fresh_tree t) rooms from to c → IsClimb t rooms from to c
+same_climb t rooms from to c h = record { apex = h.apex; in_range = h.in_range; down = h.down; up = h.up }
+
+same_push : (l : Layout) (from to apex x : ℕ) → CanPush l.net l.tree l.rooms l.artificial from to apex x →
+    CanPush l.net (fresh_tree l.tree) l.rooms l.artificial from to apex x
+same_push l from to apex x h = record {
+  spanning = same_spanning l.tree h.spanning;
+  nodes = h.nodes;
+  rooms_size = h.rooms_size;
+  artificial_size = h.artificial_size;
+  from_in_range = h.from_in_range;
+  to_in_range = h.to_in_range;
+  apex_in_range = h.apex_in_range;
+  apex_above_from = h.apex_above_from;
+  apex_above_to = h.apex_above_to;
+  apart = h.apart;
+  left = h.left;
+  right = h.right;
+  added = h.added;
+}
+
+same_pushed : (l : Layout) (rooms : List Rooms) (artificial : List ℤ) (from to apex x : ℕ) →
+    IsPushedRound l.net (fresh_tree l.tree) l.rooms rooms l.artificial artificial from to apex x →
+    IsPushedRound l.net l.tree l.rooms rooms l.artificial artificial from to apex x
+same_pushed l rooms artificial from to apex x h = record {
+  rooms_size = h.rooms_size;
+  artificial_size = h.artificial_size;
+  left = h.left;
+  right = h.right;
+  off_rooms = h.off_rooms;
+  off_amounts = h.off_amounts;
+}
+
+-- what was found goes round the cycle of arc k
+pub record IsRoundOf (l : Layout) (k : ℕ) (f : Found) : Type 0 where
+  pub same_from : f.from ≡ from_of (basis_in l) k
+  pub same_to : f.to ≡ to_of (basis_in l) k
+  pub is_apex : IsApex (basis_in l).tree.parents (depth_of (basis_in l).tree) (from_of (basis_in l) k) (to_of (basis_in l) k) f.apex
+  pub is_around : IsAround (basis_in l) k f.apex
+  pub can : CanGoRound (basis_in l) k f.apex (pos f.amount)
+  pub leaves : IsLeaving (basis_in l) k f.apex (pos f.amount) (leaves_by (basis_in l) k f.leaving f.out)
+  pub left_out : f.leaving ≡ Down → IsOut (basis_in l) k f.apex (pos f.amount) (down_arc (basis_in l) f.out) f.out true
+  pub right_out : f.leaving ≡ Up → IsOut (basis_in l) k f.apex (pos f.amount) (up_arc (basis_in l) f.out) f.out false
+
+leaving_blocks : (b : TreeStructure) (k apex : ℕ) (x : ℤ) (r : Rid) → IsLeaving b k apex x r → ¬ CanTake b r (x +ℤ pos 1)
+leaving_blocks b k apex x r (leaves_right m short is full rest) = full
+leaving_blocks b k apex x r (leaves_at_once is full rest) = full
+leaving_blocks b k apex x r (leaves_left m short is full rest more side) = full
+
+-- a pivot from one layout to another
+pub record IsTurnedTo (l l' : Layout) (k x : ℕ) : Type 0 where
+  pub pivot : IsPivot (basis_in l) k (pos x) (basis_in l')
+  pub laid_out : IsLaidOut l'
+  pub falls : PairFalls (basis_in l) (basis_in l')
+
+module _ (l : Layout) (k : ℕ) (ok : IsLaidOut l) (el : IsEligible (basis_in l) k) where
+  is_basis : IsBasis (basis_in l)
+  is_basis = ok.basis
+
+  pub number : IsArcNumber l.net k
+  unfolding basis_in
+  number = el.arc
+
+  pub nodes : size_of l.tree ≡ node_count l.net + 1
+  unfolding basis_in
+  nodes = ok.basis.size
+
+  pub read : IsReadOffer (basis_in l) k (offer_at l k)
+  read = read_offer l k ok number
+
+  pub wide : pos (unsigned_abs (arc_at l.net k).cap) ≡ (arc_at l.net k).cap
+  unfolding basis_in
+  wide =
+      let a : IsNetArc (arc_at l.net k) = net_arc_at l.net k ok.basis.of_net number in
+      sized (arc_at l.net k).cap a.width_low
+    where
+      sized : (x : ℤ) → pos 0 ≤ℤ x → pos (unsigned_abs x) ≡ x
+      sized x low = grind (arith, ints)
+
+  keep_premises : (1 ≤ k) × (k ≤ length l.offers) × IsUpTo wide_limits.cost (offer_at l k).cost
+  keep_premises = (let n = number in let size = ok.offers_size in (n.0, omega (arith, n, size), read.cost))
+
+  found_climb : (t : SpanningTree) (o : Offer) (c : Climb) → t ≡ fresh_tree l.tree → o ≡ offer_at l k → IsClimb t l.rooms o.from o.to c →
+      IsClimb l.tree l.rooms (from_of (basis_in l) k) (to_of (basis_in l) k) c
+  found_climb t o c fresh is h =
+      let ends = offer_ends l k ok el in
+      let near : o.from ≡ from_of (basis_in l) k = ap (λ x. x.from) is ∙ ends.0 in
+      let far : o.to ≡ to_of (basis_in l) k = ap (λ x. x.to) is ∙ ends.1 in
+      same_climb l.tree l.rooms (from_of (basis_in l) k) (to_of (basis_in l) k) c
+      (subst (λ v. IsClimb (fresh_tree l.tree) l.rooms (from_of (basis_in l) k) v c) far
+      (subst (λ u. IsClimb (fresh_tree l.tree) l.rooms u o.to c) near
+      (subst (λ s. IsClimb s l.rooms o.from o.to c) fresh h)))
+
+  pub round_found : (t : SpanningTree) (o : Offer) (f : Found) → t ≡ fresh_tree l.tree → o ≡ offer_at l k →
+      IsFound t l.rooms o.from o.to (unsigned_abs (arc_at l.net k).cap) f → IsRoundOf l k f
+  unfolding basis_in
+  round_found t o f fresh is h =
+      let ends = offer_ends l k ok el in
+      let c : Climb = h.climb in
+      let climbed = found_climb t o c fresh is h.climbed in
+      let width = unsigned_abs (arc_at l.net k).cap in
+      let turned : c.apex ≡ f.apex = sym h.same_apex in
+      let is_apex : IsApex l.tree.parents (depth_of l.tree) (from_of (basis_in l) k) (to_of (basis_in l) k) f.apex =
+      subst (λ a. IsApex l.tree.parents (depth_of l.tree) (from_of (basis_in l) k) (to_of (basis_in l) k) a) turned climbed.apex in
+      record {
+        same_from = h.same_from ∙ (ap (λ x. x.from) is ∙ ends.0);
+        same_to = h.same_to ∙ (ap (λ x. x.to) is ∙ ends.1);
+        is_apex = is_apex;
+        is_around = around (basis_in l) k f.apex ok.basis el is_apex;
+        can = subst (λ a. CanGoRound (basis_in l) k a (pos f.amount)) turned (chosen_round l k width c ok el wide climbed f.amount f.leaving f.out h.chosen);
+        leaves = subst (λ a. IsLeaving (basis_in l) k a (pos f.amount) (leaves_by (basis_in l) k f.leaving f.out)) turned
+            (chosen_leaves l k width c ok el wide climbed f.amount f.leaving f.out h.chosen);
+        left_out = λ e. subst (λ a. IsOut (basis_in l) k a (pos f.amount) (down_arc (basis_in l) f.out) f.out true) turned
+            (let out = chosen_down l k width c ok el wide climbed f.amount f.leaving f.out h.chosen e in out_left out.place out.short out.at refl out.full);
+        right_out = λ e. subst (λ a. IsOut (basis_in l) k a (pos f.amount) (up_arc (basis_in l) f.out) f.out false) turned
+            (let out = chosen_up l k width c ok el wide climbed f.amount f.leaving f.out h.chosen e in out_right out.place out.short out.at refl out.full);
+      }
+
+  -- the offer and the prices that are read
+  module _ (t : SpanningTree) (o : Offer) (p : Prices) (fresh : t ≡ fresh_tree l.tree) (counted : p ≡ fresh_table l.table) (is : o ≡ offer_at l k) where
+    pub rooms_sized : length l.rooms ≡ size_of t
+    unfolding basis_in
+    rooms_sized = (let n = nodes in ok.rooms_size ∙ (sym n ∙ ap size_of (sym fresh)))
+
+    pub from_in_tree : o.from < size_of t
+    unfolding basis_in
+    from_in_tree = (let n = nodes in let h : (offer_at l k).from ≤ node_count l.net = read.from in rw (is, fresh) (omega (arith, n, h)))
+
+    pub to_in_tree : o.to < size_of t
+    unfolding basis_in
+    to_in_tree = (let n = nodes in let h : (offer_at l k).to ≤ node_count l.net = read.to in rw (is, fresh) (omega (arith, n, h)))
+
+    pub from_in_table : o.from < length p.prices
+    unfolding basis_in
+    from_in_table =
+        let count : length l.table.prices ≡ node_count l.net + 1 = ok.basis.prices.one_per_node in
+        let h : (offer_at l k).from ≤ node_count l.net = read.from in rw (is, counted) (omega (arith, count, h))
+
+    pub to_in_table : o.to < length p.prices
+    unfolding basis_in
+    to_in_table =
+        let count : length l.table.prices ≡ node_count l.net + 1 = ok.basis.prices.one_per_node in
+        let h : (offer_at l k).to ≤ node_count l.net = read.to in rw (is, counted) (omega (arith, count, h))
+
+    pub cost_small : IsUpTo wide_limits.cost o.cost
+    cost_small = rw is read.cost
+
+    pub from_small : IsUpTo (3 * 10 ^ 36) (price_of p o.from)
+    unfolding basis_in
+    from_small = rw (is, counted) (price_small (basis_in l) ok.basis (offer_at l k).from read.from)
+
+    pub to_small : IsUpTo (3 * 10 ^ 36) (price_of p o.to)
+    unfolding basis_in
+    to_small = rw (is, counted) (price_small (basis_in l) ok.basis (offer_at l k).to read.to)
+
+    pub reduced_is : o.cost -ℤ price_of p o.from +ℤ price_of p o.to ≡ offered (basis_in l) (offer_at l k)
+    unfolding basis_in
+    reduced_is = rw (is, counted) refl
+
+  module _ (f : Found) (round : IsRoundOf l k f) where
+    -- what push asks for
+    pub push_ready : (t : SpanningTree) → t ≡ fresh_tree l.tree → CanPush l.net t l.rooms l.artificial f.from f.to f.apex f.amount
+    push_ready t fresh =
+        rw (fresh, round.same_from, round.same_to)
+        (same_push l (from_of (basis_in l) k) (to_of (basis_in l) k) f.apex f.amount
+        (can_push l k f.apex f.amount ok el round.is_apex round.is_around round.can))
+
+    pub push_asked : (t : SpanningTree) (r : Round) → t ≡ fresh_tree l.tree →
+        r ≡ record { from = f.from; to = f.to; apex = f.apex; amount = f.amount } → CanPush l.net t l.rooms l.artificial r.from r.to r.apex r.amount
+    push_asked t r fresh is = rw is (push_ready t fresh)
+
+    exchange_ready : (rooms : List Rooms) (left : Bool) (r : Rid) → length rooms ≡ length l.rooms → IsOut (basis_in l) k f.apex (pos f.amount) r f.out left →
+        CanExchange l.net (fresh_tree l.tree) l.offers rooms (fresh_table l.table) k f.out f.from f.to left f.amount (offered (basis_in l) (offer_at l k))
+    exchange_ready rooms left r size out =
+        rw (round.same_from, round.same_to) (can_exchange l k f.apex f.amount f.out left r rooms ok el round.is_around round.can out size)
+
+    -- what the exchange asks for
+    pub replace_ready : (t : SpanningTree) (table : Prices) (rooms : List Rooms) (reduced : ℤ) → t ≡ fresh_tree l.tree → table ≡ fresh_table l.table →
+        length rooms ≡ length l.rooms → reduced ≡ offered (basis_in l) (offer_at l k) →
+        CanReplace l.net t l.offers rooms table k reduced f
+    replace_ready t table rooms reduced fresh counted size is = rw (fresh, counted, is) (record {
+      at_once = λ e. keep_premises;
+      down = λ e. exchange_ready rooms true (down_arc (basis_in l) f.out) size (round.left_out e);
+      up = λ e. exchange_ready rooms false (up_arc (basis_in l) f.out) size (round.right_out e);
+    })
+
+    went : WentRound (basis_in l) k f.apex (pos f.amount)
+    went = went_round (basis_in l) k f.apex (pos f.amount) is_basis el round.is_around (omega (arith, ints))
+
+    -- what the parts leave
+    pub replaced : (t t' : SpanningTree) (offers : List Offer) (rooms rooms' : List Rooms) (artificial : List ℤ) (table table' : Prices)
+        (reduced : ℤ) → t ≡ fresh_tree l.tree → table ≡ fresh_table l.table → reduced ≡ offered (basis_in l) (offer_at l k) →
+        IsPushedRound l.net t l.rooms rooms l.artificial artificial f.from f.to f.apex f.amount →
+        IsReplaced l.net t t' l.offers offers rooms rooms' table table' k reduced f →
+        IsPivotedLayout l (record { net = l.net; tree = t'; offers = offers; rooms = rooms'; artificial = artificial; table = table' }) k f.apex
+        (pos f.amount) (leaves_by (basis_in l) k f.leaving f.out)
+    replaced t t' offers rooms rooms' artificial table table' reduced fresh counted is pushed done =
+        by_case done
+      where
+        pushed_fresh : IsPushedRound l.net l.tree l.rooms rooms l.artificial artificial (from_of (basis_in l) k) (to_of (basis_in l) k) f.apex f.amount
+        pushed_fresh = same_pushed l rooms artificial (from_of (basis_in l) k) (to_of (basis_in l) k) f.apex f.amount
+            (subst (λ v. IsPushedRound l.net (fresh_tree l.tree) l.rooms rooms l.artificial artificial (from_of (basis_in l) k) v f.apex f.amount) round.same_to
+            (subst (λ u. IsPushedRound l.net (fresh_tree l.tree) l.rooms rooms l.artificial artificial u f.to f.apex f.amount) round.same_from
+            (subst (λ s. IsPushedRound l.net s l.rooms rooms l.artificial artificial f.from f.to f.apex f.amount) fresh pushed)))
+
+        exchanged_fresh : (left : Bool) → IsExchangedBy l.net t t' l.offers offers rooms rooms' table table' k f.out f.from f.to left f.amount reduced →
+            IsExchangedBy l.net (fresh_tree l.tree) t' l.offers offers rooms rooms' (fresh_table l.table) table' k f.out (from_of (basis_in l) k)
+            (to_of (basis_in l) k) left f.amount (offered (basis_in l) (offer_at l k))
+        exchanged_fresh left h =
+            subst (λ v. IsExchangedBy l.net (fresh_tree l.tree) t' l.offers offers rooms rooms' (fresh_table l.table) table' k f.out
+            (from_of (basis_in l) k) v left f.amount (offered (basis_in l) (offer_at l k))) round.same_to
+            (subst (λ u. IsExchangedBy l.net (fresh_tree l.tree) t' l.offers offers rooms rooms' (fresh_table l.table) table' k f.out u f.to left
+            f.amount (offered (basis_in l) (offer_at l k))) round.same_from
+            (subst (λ z. IsExchangedBy l.net (fresh_tree l.tree) t' l.offers offers rooms rooms' (fresh_table l.table) table' k f.out f.from f.to left
+            f.amount z) is
+            (subst (λ p. IsExchangedBy l.net (fresh_tree l.tree) t' l.offers offers rooms rooms' p table' k f.out f.from f.to left f.amount reduced) counted
+            (subst (λ s. IsExchangedBy l.net s t' l.offers offers rooms rooms' table table' k f.out f.from f.to left f.amount reduced) fresh h))))
+
+        by_exchange : (left : Bool) (r : Rid) → IsOut (basis_in l) k f.apex (pos f.amount) r f.out left →
+            IsExchangedBy l.net t t' l.offers offers rooms rooms' table table' k f.out f.from f.to left f.amount reduced →
+            IsPivotedLayout l (record { net = l.net; tree = t'; offers = offers; rooms = rooms'; artificial = artificial; table = table' }) k f.apex
+            (pos f.amount) r
+        by_exchange left r out h =
+            exchanged_layout l k f.apex f.amount f.out left r t' offers rooms rooms' artificial table' ok el round.is_apex round.is_around round.can
+            out went pushed_fresh (exchanged_fresh left h)
+
+        blocks_at_once : f.leaving ≡ Entering → ¬ CanTake (basis_in l) (entering (basis_in l) k) (pos f.amount +ℤ pos 1)
+        blocks_at_once e = leaving_blocks (basis_in l) k f.apex (pos f.amount) (entering (basis_in l) k)
+            (subst (λ w. IsLeaving (basis_in l) k f.apex (pos f.amount) (leaves_by (basis_in l) k w f.out)) e round.leaves)
+
+        by_case : IsReplaced l.net t t' l.offers offers rooms rooms' table table' k reduced f →
+            IsPivotedLayout l (record { net = l.net; tree = t'; offers = offers; rooms = rooms'; artificial = artificial; table = table' }) k f.apex
+            (pos f.amount) (leaves_by (basis_in l) k f.leaving f.out)
+        by_case (at_once e tree turned same prices) =
+            rw (e, tree ∙ fresh, same, prices ∙ counted)
+            (kept_layout l k f.apex f.amount offers rooms artificial ok el round.is_apex round.is_around round.can (blocks_at_once e) went
+            pushed_fresh turned)
+        by_case (down e h) = rw e (by_exchange true (down_arc (basis_in l) f.out) (round.left_out e) h)
+        by_case (up e h) = rw e (by_exchange false (up_arc (basis_in l) f.out) (round.right_out e) h)
+
+    pub pivoted : (l' : Layout) → IsPivotedLayout l l' k f.apex (pos f.amount) (leaves_by (basis_in l) k f.leaving f.out) → IsTurnedTo l l' k f.amount
+    pivoted l' h =
+        let pivot : IsPivot (basis_in l) k (pos f.amount) (basis_in l') = record {
+          eligible = el;
+          apex = f.apex;
+          is_apex = round.is_apex;
+          leaves = leaves_by (basis_in l) k f.leaving f.out;
+          last_blocking = last_of_leaving (basis_in l) k f.apex (pos f.amount) (leaves_by (basis_in l) k f.leaving f.out) is_basis round.is_around
+              round.can round.leaves;
+          net = h.net;
+          amounts = h.amounts;
+          mended = h.mended;
+        } in
+        let basis : IsBasis (basis_in l') = pivots_keep_bases_lem (basis_in l) (basis_in l') k (pos f.amount) is_basis pivot h.spanning h.prices_size in
+        record {
+          pivot = pivot;
+          laid_out = h.laid_out basis;
+          falls = pivots_lower_the_pair_lem (basis_in l) (basis_in l') k (pos f.amount) is_basis basis pivot (omega (arith, ints));
+        }
+
+    pub turned : (t t' : SpanningTree) (offers : List Offer) (rooms rooms' : List Rooms) (artificial : List ℤ) (table table' : Prices) (reduced : ℤ)
+        (r : Round) → t ≡ fresh_tree l.tree → table ≡ fresh_table l.table → reduced ≡ offered (basis_in l) (offer_at l k) →
+        r ≡ record { from = f.from; to = f.to; apex = f.apex; amount = f.amount } →
+        IsPushedRound l.net t l.rooms rooms l.artificial artificial r.from r.to r.apex r.amount →
+        IsReplaced l.net t t' l.offers offers rooms rooms' table table' k reduced f →
+        IsTurnedTo l (record { net = l.net; tree = t'; offers = offers; rooms = rooms'; artificial = artificial; table = table' }) k f.amount
+    turned t t' offers rooms rooms' artificial table table' reduced r fresh counted is same pushed done =
+        pivoted (record { net = l.net; tree = t'; offers = offers; rooms = rooms'; artificial = artificial; table = table' })
+        (replaced t t' offers rooms rooms' artificial table table' reduced fresh counted is
+        (subst (λ (q : Round). IsPushedRound l.net t l.rooms rooms l.artificial artificial q.from q.to q.apex q.amount) same pushed) done)
+
+-- the same of lists and numbers that are equal
+pub same_pivot : (b : TreeStructure) (l : Layout) (g : Network) (t : SpanningTree) (offers offers' : List Offer) (rooms rooms' : List Rooms)
+    (artificial artificial' : List ℤ) (table : Prices) (k x : ℕ) (moved : ℤ) → basis_in l ≡ b → offers' ≡ offers → rooms' ≡ rooms →
+    artificial' ≡ artificial → moved ≡ pos x →
+    IsPivot (basis_in l) k (pos x) (basis_in (record { net = g; tree = t; offers = offers; rooms = rooms; artificial = artificial; table = table })) →
+    IsPivot b k moved (basis_in (record { net = g; tree = t; offers = offers'; rooms = rooms'; artificial = artificial'; table = table }))
+same_pivot b l g t offers offers' rooms rooms' artificial artificial' table k x moved view same_offers same_rooms same_artificial same_amount h =
+    rw (← view, same_offers, same_rooms, same_artificial, same_amount) h
+
+pub same_falls : (b : TreeStructure) (l : Layout) (g : Network) (t : SpanningTree) (offers offers' : List Offer) (rooms rooms' : List Rooms)
+    (artificial artificial' : List ℤ) (table : Prices) → basis_in l ≡ b → offers' ≡ offers → rooms' ≡ rooms → artificial' ≡ artificial →
+    PairFalls (basis_in l) (basis_in (record { net = g; tree = t; offers = offers; rooms = rooms; artificial = artificial; table = table })) →
+    PairFalls b (basis_in (record { net = g; tree = t; offers = offers'; rooms = rooms'; artificial = artificial'; table = table }))
+same_falls b l g t offers offers' rooms rooms' artificial artificial' table view same_offers same_rooms same_artificial h =
+    subst (λ o. PairFalls b (basis_in (record { net = g; tree = t; offers = o; rooms = rooms'; artificial = artificial'; table = table }))) (sym same_offers)
+    (subst (λ r. PairFalls b (basis_in (record { net = g; tree = t; offers = offers; rooms = r; artificial = artificial'; table = table }))) (sym same_rooms)
+    (subst (λ a. PairFalls b (basis_in (record { net = g; tree = t; offers = offers; rooms = rooms; artificial = a; table = table }))) (sym same_artificial)
+    (subst (λ old. PairFalls old (basis_in (record { net = g; tree = t; offers = offers; rooms = rooms; artificial = artificial; table = table }))) view h)))

@@ -1,0 +1,8 @@
+-- What a pivot says that it moved.
+use Rattle.std.specs.Prelude.{ℤ, pos}
+use Rattle.mcf_basis.specs.declared.pivot.Step.{Step}
+use Rattle.mcf_basis.specs.declared.pivot.Step.TheVariants.{Moved, Still}
+
+abbrev pub moved_by : Step → ℤ
+moved_by (Moved x) = x
+moved_by Still = pos 0
