@@ -1,4 +1,4 @@
-use Rattle.std.proofs.Common.{◌≡◌, ◌+◌, ◌<◌, length, arith, get_or, sym, ap, ◌∙◌, rules, to_z, of_z, ℤ, pos, ◌+ℤ◌}
+use Rattle.std.proofs.Common.{◌≡◌, ◌<◌, length, arith, get_or, ap, ◌∙◌, rules, to_z, of_z, ◌+ℤ◌}
 use mir.Syntax.{w128}
 use Rattle.std.proofs.lemmas.Int.{ints, to_z-of_z}
 use Rattle.mcf_basis.specs.Private.Turned.{price_of}
