@@ -15,6 +15,8 @@ pub mod StrongPivot
 pub mod Around
 pub mod PushedRooms
 pub mod TurnedRooms
+pub mod StartLayouts
+pub mod Endings
 pub mod CyclePlaces
 pub mod Cycles
 pub mod StrongKept
@@ -29,3 +31,5 @@ pub mod TurnedAmounts
 pub mod TurnedOffers
 pub mod TurnedStart
 pub mod TurnedLayout
+pub mod Cuts
+pub mod LastFlows

@@ -23,12 +23,12 @@ use std::marker::Model;
 /// (Cunningham; Ahuja, Magnanti and Orlin, Network Flows, sections 11.2 and 11.6).
 #[derive(Drop)]
 pub struct Basis<'n> {
-    net: &'n Net,
-    tree: Tree,
-    offers: Vec<Offer>,
-    rooms: Vec<Rooms>,
-    artificial: Vec<i128>,
-    table: PriceTable,
+    pub(crate) net: &'n Net,
+    pub(crate) tree: Tree,
+    pub(crate) offers: Vec<Offer>,
+    pub(crate) rooms: Vec<Rooms>,
+    pub(crate) artificial: Vec<i128>,
+    pub(crate) table: PriceTable,
 }
 
 impl<'n> Model for Basis<'n> {

@@ -8,6 +8,7 @@
 //! which one a run begins, `Pivots` what one pivot does, `Ranks` how many there can be, and `Layouts` how a basis is stored.
 
 mod basis;
+mod ending;
 mod exchange;
 mod laws;
 mod offer;
@@ -15,9 +16,10 @@ mod price_table;
 mod push;
 mod reprice;
 mod rooms;
+mod starting;
 
 pub use basis::Basis;
 pub use laws::{
-    bases_are_tree_solutions, last_bases_are_shown, pivots_keep_bases, pivots_lower_the_pair,
-    ranks_bound_pivots, ranks_count_down, ranks_fall,
+    bases_are_tree_solutions, last_bases_are_feasible, last_bases_are_shown, pivots_keep_bases,
+    pivots_lower_the_pair, ranks_bound_pivots, ranks_count_down, ranks_fall,
 };
