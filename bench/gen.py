@@ -5,12 +5,18 @@
                          [--max-cap C] [--max-cost C] [--degree D]
 
 FAMILY
+  assignment  as many rows as columns, all of NODES: each row may go to a few columns
+            at random, and to one such that all together take each column once
+  goto      a long narrow grid on a torus, with arcs back, to the sides and some that
+            leap ahead, through which one source sends to one sink
   gridgen   a wide grid with arcs to all eight neighbours, in which the nodes of
             the left column send to those of the right column
   netgen    a sparse transshipment net: chains from each source to one to three
             sinks make it feasible, and random arcs fill it up; one node in a
             hundred is a source and one a sink
   resting   the arcs of sparse and no supplies, so that nothing is worth moving
+  road      roads both ways between near places of a map, one node in 64 a source and
+            one a sink: a cost is a length by the class of its road
   sparse    as netgen, with one sink for each source
   transp    a transportation problem: an arc from each node of the first half to
             each of the second
@@ -126,6 +132,103 @@ def gridgen(nodes, rnd, words):
     return net
 
 
+def goto(nodes, rnd, words):
+    """In the manner of the grids on a torus by Goldberg."""
+    net = Net(nodes)
+    width = max(3, round((nodes - 2) ** (1 / 3)))
+    length = max(2, (nodes - 2) // width)
+    while width * length > nodes - 2:
+        length -= 1
+    inner = width * length
+    source, sink = nodes - 1, nodes
+
+    def at(column, row):
+        return column % length * width + row % width + 1
+
+    def wild(start, target, cap):
+        net.arc(start, target, up_to(rnd, cap), up_to(rnd, words.max_cost))
+
+    # three flows of each row make it feasible: straight on, drifting up and drifting down
+    half = max(1, words.max_cap // 2)
+    flows = [[half + int(rnd() * (words.max_cap - half + 1)) for _ in range(width)] for _ in range(3)]
+    for row in range(width):
+        into = sum(flow[row] for flow in flows)
+        net.supply[source] += into
+        net.supply[sink] -= into
+        net.arc(source, at(0, row), into, 1)
+        out = flows[0][row] + flows[1][(row - (length - 1)) % width] + flows[2][(row + length - 1) % width]
+        net.arc(at(length - 1, row), sink, out, 1)
+    for column in range(length):
+        for row in range(width):
+            node = at(column, row)
+            if column + 1 < length:
+                for flow, drift in zip(flows, (0, 1, -1)):
+                    through = flow[(row - drift * column) % width]
+                    cap = through + int(rnd() * (through // 10 + 1))
+                    net.arc(node, at(column + 1, row + drift), cap, up_to(rnd, words.max_cost))
+            leap = 2 + int(rnd() * 7)
+            wild(node, at(column + leap, row + int(rnd() * width)), words.max_cap // 8 + 1)
+            wild(node, at(column - 1, row), words.max_cap)
+            wild(node, at(column, row + 1), words.max_cap)
+            wild(node, at(column, row - 1), words.max_cap)
+            wild(node, at(int(rnd() * length), int(rnd() * width)), words.max_cap // 8 + 1)
+    for node in range(inner + 1, nodes - 1):
+        wild(up_to(rnd, inner), node, words.max_cap)
+        wild(node, up_to(rnd, inner), words.max_cap)
+    return net
+
+
+def road(nodes, rnd, words):
+    net = Net(nodes)
+    columns = max(2, int(nodes ** 0.5))
+    places = [((v - 1) % columns + 0.8 * rnd(), (v - 1) // columns + 0.8 * rnd()) for v in range(1, nodes + 1)]
+    # a tree of roads to the left or up, and half as many more
+    above, more = [0] * (nodes + 1), []
+    for node in range(2, nodes + 1):
+        near = ([node - 1] if (node - 1) % columns else []) + ([node - columns] if node > columns else [])
+        if len(near) == 2 and rnd() >= 0.5:
+            near.reverse()
+        above[node] = near[0]
+        if len(near) == 2 and rnd() < 0.5:
+            more.append((node, near[1]))
+    ends = max(1, nodes // 64)
+    order = shuffled(rnd, nodes)
+    for source, sink in zip(order[:ends], order[ends:2 * ends]):
+        supply = up_to(rnd, 100)
+        net.supply[source] += supply
+        net.supply[sink] -= supply
+    # what the tree carries where all goes along it: it makes the net feasible
+    below = list(net.supply)
+    for node in range(nodes, 1, -1):
+        below[above[node]] += below[node]
+
+    def build(start, end, carried):
+        (x, y), (x_end, y_end) = places[start - 1], places[end - 1]
+        length = ((x - x_end) ** 2 + (y - y_end) ** 2) ** 0.5
+        kind = int(rnd() * 4)
+        cost = 1 + int(1000 * length / (1 + kind))
+        cap = 1 + int(rnd() * words.max_cap * (1 + kind) / 4)
+        net.arc(start, end, max(cap, carried), cost)
+        net.arc(end, start, max(cap, -carried), cost)
+
+    for node in range(2, nodes + 1):
+        build(node, above[node], below[node])
+    for start, end in more:
+        build(start, end, 0)
+    return net
+
+
+def assignment(nodes, rnd, words):
+    net = Net(nodes)
+    rows = nodes // 2
+    for row, column in enumerate(shuffled(rnd, rows), 1):
+        net.supply[row], net.supply[rows + column] = 1, -1
+        others = {up_to(rnd, rows) for _ in range(words.degree - 1)}
+        for target in sorted(others | {column}):
+            net.arc(row, rows + target, 1, up_to(rnd, words.max_cost))
+    return net
+
+
 def transp(nodes, rnd, words):
     net = Net(nodes)
     half = nodes // 2
@@ -144,7 +247,10 @@ def transp(nodes, rnd, words):
     return net
 
 
-FAMILIES = {"gridgen": gridgen, "netgen": netgen, "resting": resting, "sparse": sparse, "transp": transp}
+FAMILIES = {
+    "assignment": assignment, "goto": goto, "gridgen": gridgen, "netgen": netgen, "resting": resting, "road": road,
+    "sparse": sparse, "transp": transp,
+}
 
 
 def show(net, rnd, words, out):

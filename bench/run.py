@@ -5,18 +5,22 @@
 
 PART
   answer    parses an answer of a million arcs and writes it anew
+  assign    solves assignments by the engine `sap`, beside dlib and LEMON, as whole processes; a library that isn't
+            there is skipped with a word
   check     judges such an answer for its instance
   feasible  finds a feasible flow, in nets of three families and of rising size
   net       builds the net of a million arcs, and goes over the residual arcs of each node
   raise     raises prices of a least flow to the greatest, in nets of three families and of rising size
   read      reads an instance, and keeps it in 32 bytes an arc
   recover   recovers prices from a least flow, in nets of three families and of rising size
+  scaling   solves nets of five families and of rising size by cost scaling, beside that of LEMON (left out where
+            LEMON isn't there, of the package liblemon-dev)
   solve     solves an instance in which nothing is worth moving, without the seconds of its engine, beside a
             program that reads, copies and writes the same
   text      splits a text of lines into fields and reads each field as a number
   tree      swaps arcs of a spanning tree at random, in trees of rising size
 
-Proves and builds `mcf_bench`, builds each peer by `rustc -O`, makes the input, and
+Proves and builds `mcf_bench`, builds each peer by `rustc -O` (LEMON's by `g++ -O3`), makes the input, and
 runs the two in turn on it, N times each and at least 5. Both print what they found,
 which has to be the same, and their own seconds, which don't count the reading of the
 files. Printed are the medians and their ratio; of a family also how many times as long
@@ -28,9 +32,12 @@ the parts that have one size. `--built` takes the program as it was built last. 
 import argparse
 import os
 import pathlib
+import shutil
 import statistics
 import subprocess
 import sys
+
+import assignments
 
 BENCH = pathlib.Path(__file__).resolve().parent
 OUT = BENCH / "out"
@@ -43,6 +50,9 @@ RESTING = 125_000
 # the sizes of each family, as powers of 2
 RECOVERED = {"netgen": (10, 12, 14, 16), "gridgen": (10, 12, 14, 16), "transp": (8, 9, 10)}
 SEARCHED = {"netgen": (10, 12, 14, 16), "gridgen": (10, 12, 14, 16), "transp": (8, 9, 10)}
+SCALED = {family: (12, 14) for family in ("netgen", "gridgen", "goto", "road", "assignment")}
+# the greatest ratio to LEMON of families where updates of all prices, which the bounds on rises forbid, gain nothing
+WITHOUT_UPDATES = {"assignment": 2}
 # the random swaps that are tried in the tree of so many nodes
 SWAPPED = {1_000: 300_000, 10_000: 300_000, 100_000: 300_000, 1_000_000: 1_000_000}
 # the most bytes an arc that a net may take
@@ -107,6 +117,12 @@ def family_answers(_words):
         yield f"{family} {nodes}", [instance, answer], times
 
 
+def scaled_instances(_words):
+    for family, nodes, times in of_families(SCALED):
+        path = OUT / f"{family}-{nodes}.min"
+        yield f"{family} {nodes}", [make("gen.py", path, family, nodes, "--output", path)], 1
+
+
 def trees(_words):
     for nodes, rounds in SWAPPED.items():
         yield f"of {nodes} nodes", [nodes, rounds], 1
@@ -122,11 +138,14 @@ PARTS = {
     "raise": (family_answers, 1.25),
     "read": (sparse, 1.2),
     "recover": (family_answers, 1.25),
+    "scaling": (scaled_instances, 15),
     "solve": (resting, 1.25),
     "text": (sparse, 1.1),
     "tree": (trees, 1.25),
 }
 REPEATED = {"feasible", "net", "raise", "recover"}
+# the parts whose peer is LEMON, with the word by which its driver knows the algorithm
+LEMON = {"scaling": "cs"}
 
 
 def build_program():
@@ -134,8 +153,18 @@ def build_program():
     subprocess.run(["rt", "run"], cwd=CRATE, check=True, stdout=subprocess.DEVNULL)
 
 
+def has_lemon():
+    """Whether there is a compiler that finds LEMON."""
+    asked = ["g++", "-fsyntax-only", "-include", "lemon/cost_scaling.h", "-x", "c++", os.devnull]
+    return bool(shutil.which("g++")) and subprocess.run(asked, capture_output=True).returncode == 0
+
+
 def build_peer(part):
     peer = OUT / f"{part}-peer"
+    if part in LEMON:
+        source = BENCH / "peers" / "lemon_mcf.cc"
+        subprocess.run(["g++", "-O3", "-DNDEBUG", "-o", str(peer), str(source), "-llemon"], check=True)
+        return peer
     source = BENCH / part / "peer.rs"
     subprocess.run(["rustc", "--edition", "2024", "-O", "-o", str(peer), str(source)], check=True)
     return peer
@@ -144,8 +173,17 @@ def build_peer(part):
 def run(command):
     """What the program found, and its seconds by their names."""
     done = subprocess.run(command, check=True, capture_output=True, text=True)
+    if command[1] in LEMON.values():
+        return lemon_found(done.stdout.split())
     found, *times = done.stdout.splitlines()
     return found, {name: float(seconds) for name, seconds in (line.split() for line in times)}
+
+
+def lemon_found(words):
+    """The same of a line by LEMON's driver, whose seconds are those of solving alone."""
+    values = dict(word.split("=") for word in words if "=" in word)
+    found = f"cost {values['cost']}" if "OPTIMAL" in words else "blocked"
+    return found, {"seconds": float(values["solve"])}
 
 
 def peak_of(command):
@@ -173,7 +211,12 @@ def compare(ours, peers, runs):
 
 def measure(part, words):
     """Runs each case of a part beside its peer, and says whether each figure is within the part's limit."""
+    if part == "assign":
+        return assignments.measure(words)
     maker, limit = PARTS[part]
+    if part in LEMON and not has_lemon():
+        print(f"{part}: left out, as LEMON isn't there (liblemon-dev)")
+        return True
     peer = build_peer(part)
     program = [str(CRATE / "out" / "mcf_bench"), part]
     runs = max(5, words.runs)
@@ -182,7 +225,8 @@ def measure(part, words):
     before = {}
     for name, paths, times in maker(words):
         inputs = [*map(str, paths), *([str(times)] if part in REPEATED else [])]
-        seconds = compare(program + inputs, [str(peer), *inputs], runs)
+        asked = [LEMON[part], *inputs] if part in LEMON else inputs
+        seconds = compare(program + inputs, [str(peer), *asked], runs)
         ours = statistics.median(our_times["seconds"] for our_times, _ in seconds) / times
         peers = statistics.median(peer_times["seconds"] for _, peer_times in seconds) / times
         family = name.split(" ")[0]
@@ -190,7 +234,8 @@ def measure(part, words):
         before[family] = ours
         label = f"{part} {name}".strip()
         print(f"{label}: ours {ours:.4f} s, the peer {peers:.4f} s, ratio {ours / peers:.2f}{grown}")
-        within = within and ours / peers <= limit
+        most = WITHOUT_UPDATES.get(family, limit) if part == "scaling" else limit
+        within = within and ours / peers <= most
         if part == "net":
             size = net_bytes("ours", program, paths)
             net_bytes("the peer", [str(peer)], paths)
@@ -209,7 +254,7 @@ def net_bytes(name, program, paths):
 
 def main():
     parser = argparse.ArgumentParser(description="compares parts of the suite with peers")
-    parser.add_argument("parts", nargs="*", choices=[[], *sorted(PARTS)], metavar="PART")
+    parser.add_argument("parts", nargs="*", choices=[[], *sorted([*PARTS, "assign"])], metavar="PART")
     parser.add_argument("--runs", type=int, default=9)
     parser.add_argument("--nodes", type=int)
     parser.add_argument("--built", action="store_true")
@@ -217,7 +262,7 @@ def main():
     OUT.mkdir(exist_ok=True)
     if not words.built:
         build_program()
-    above = [part for part in words.parts or sorted(PARTS) if not measure(part, words)]
+    above = [part for part in words.parts or sorted([*PARTS, "assign"]) if not measure(part, words)]
     if above:
         sys.exit(f"above its limit: {', '.join(above)}")
 

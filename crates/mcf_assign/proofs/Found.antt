@@ -1,21 +1,19 @@
 -- A search that is over and found a column that isn't matched.
-use Rattle.std.proofs.Common.{◌≡◌, ◌≢◌, ℕ, ◌+◌, ◌-◌, ◌*◌, ◌^◌, ◌<◌, ◌≤◌, Bool, true, false, List, [], ◌∷◌, ◌++◌, length, Some, ℤ, pos, neg_ℤ, ◌+ℤ◌, ◌-ℤ◌, ◌≤ℤ◌, refl, sym, ◌∙◌, ap, subst, arith, ◌⊎◌, inl, inr, length-set}
-use Rattle.std.specs.List.{Contains}
+use Rattle.std.proofs.Common.{◌≡◌, ℕ, ◌+◌, ◌-◌, ◌^◌, ◌≤◌, true, List, length, Some, ℤ, ◌≤ℤ◌, refl, subst, arith, length-set}
 use Rattle.std.proofs.lemmas.Int.{ints}
 use Rattle.mcf_instance.specs.Blocking.{in_table}
-use Rattle.mcf_instance.specs.Limits.{wide_limits}
 use Rattle.mcf_instance.specs.Network.{IsArcNumber, IsNode, at_node, node_count}
 use Rattle.mcf_instance.specs.WellFormed.{IsUpTo}
-use Rattle.mcf_network.specs.NodeSets.{member_count, with_node}
+use Rattle.mcf_network.specs.NodeSets.{with_node}
 use Rattle.mcf_network.specs.States.{Pseudoflow}
 use Rattle.mcf_network.proofs.Marks.{count_small, counted_new}
 use Rattle.mcf_assign.specs.declared.search.Target.{Target}
 use Rattle.mcf_assign.specs.Forests.{IsForest, IsTightArc}
 use Rattle.mcf_assign.specs.Private.Keeping.{IsEnded}
-use Rattle.mcf_assign.specs.Matchings.{AreMatchingPrices, IsColumn, IsMatchedColumn, IsPartialMatching, column_of, row_of}
-use Rattle.mcf_assign.specs.Private.Searches.{AreRaised, HasEntries, IsBestUpTo, Search, Settled, Waits, dist_at, link_at, reach_of}
+use Rattle.mcf_assign.specs.Matchings.{AreMatchingPrices, IsColumn, IsMatchedColumn, IsPartialMatching, column_of}
+use Rattle.mcf_assign.specs.Private.Searches.{AreRaised, HasEntries, IsBestUpTo, Search, Settled, Waits, dist_at}
 use Rattle.mcf_assign.proofs.Nearest.{not_true}
-use Rattle.mcf_assign.proofs.PairLaws.{column_is, row_is}
+use Rattle.mcf_assign.proofs.PairLaws.{column_is}
 use Rattle.mcf_assign.proofs.Raised.{link_tight, raised_ok, target_tight}
 use Rattle.mcf_assign.proofs.Stepping.{reach_small}
 

@@ -1,39 +1,35 @@
 -- What a matching keeps, and what a search did to it.
-use Rattle.std.proofs.Common.{◌≡◌, ◌≢◌, ℕ, ◌+◌, ◌-◌, ◌*◌, ◌^◌, ◌<◌, ◌≤◌, Bool, true, false, ltb, List, [], ◌∷◌, ◌++◌, length, get_or, take, drop, replicate, None, Some, ℤ, pos, neg_ℤ, ◌+ℤ◌, ◌-ℤ◌, ◌≤ℤ◌, ◌<ℤ◌, refl, sym, ◌∙◌, ap, subst, arith, ◌⊎◌, inl, inr, vec_capacity}
-use Rattle.std.specs.List.{All, AllPairs, Contains}
-use Rattle.std.proofs.lemmas.Int.{ints, by_lt_z}
+use Rattle.std.proofs.Common.{◌≡◌, ◌≢◌, ℕ, ◌-◌, ◌^◌, ◌<◌, ◌≤◌, Bool, true, ltb, List, [], ◌∷◌, ◌++◌, length, get_or, take, replicate, None, Some, ℤ, pos, refl, sym, ◌∙◌, ap, subst, arith, ◌⊎◌, inl, inr, vec_capacity}
+use Rattle.std.specs.List.{All, Contains}
+use Rattle.std.proofs.lemmas.Int.{ints}
 use Rattle.std.proofs.lemmas.Bool.{cases_eq, ltb-true, lt-ltb}
 use Rattle.std.proofs.Math.Seq.{take-append_seam}
 use Rattle.std.proofs.lemmas.List.{get_or_default, get_or-replicate, length-replicate}
 use Rattle.std.proofs.lemmas.List.Elements.{All-contains, Contains-append_left, Contains-get_or, Contains-push, Contains-push_cases}
 use Rattle.std.proofs.lemmas.List.Quantifiers.{all_pairs_push}
 use Rattle.mcf_instance.specs.declared.problem.Problem.TheVariants.{Asn}
-use Rattle.mcf_instance.specs.declared.problem.Side.TheVariants.{Send}
 use Rattle.mcf_instance.specs.Blocking.{in_table}
-use Rattle.mcf_instance.specs.Limits.{wide_limits}
-use Rattle.mcf_instance.specs.Network.{Network, IsArcNumber, IsNode, at_node, node_count}
+use Rattle.mcf_instance.specs.Network.{Network, IsNode, at_node, node_count}
 use Rattle.mcf_instance.specs.WellFormed.{IsUpTo}
-use Rattle.mcf_network.specs.declared.rid.Rid.{Rid}
 use Rattle.mcf_network.specs.Residual.{head, tail}
-use Rattle.mcf_network.specs.States.{Pseudoflow, IsPseudoflow, amount_at}
+use Rattle.mcf_network.specs.States.{Pseudoflow, IsPseudoflow}
 use Rattle.mcf_network.specs.Stuck.{IsStuck}
-use Rattle.mcf_network.specs.Walks.{HasRoom}
 use Rattle.mcf_network.proofs.ArcLaws.{head_is_node, net_arc_at, tail_is_node}
 use Rattle.mcf_network.proofs.Marks.{count_small}
 use Rattle.mcf_network.proofs.StuckLaws.{stuck_sets_block_lem}
 use Rattle.mcf_assign.specs.declared.search.Tables.{Tables}
 use Rattle.mcf_assign.specs.declared.search.Target.{Target}
 use Rattle.mcf_assign.specs.Extending.{Assigned, IsGrown, IsMatched, IsSettledList, IsShownMatching, IsStopped}
-use Rattle.mcf_assign.specs.Forests.{IsChangedWithin, IsOrder, IsReachable}
+use Rattle.mcf_assign.specs.Forests.{IsChangedWithin, IsOrder}
 use Rattle.mcf_assign.specs.Private.Heaps.{IsHeap}
 use Rattle.mcf_assign.specs.Private.Keeping.{AreFirstPrices, AreNearZero, FreeRowsAreFirst, IsEnded, IsIdle, IsKept, first_price}
-use Rattle.mcf_assign.specs.Matchings.{AreMatchingPrices, AreMates, IsColumn, IsMatchedColumn, IsMatchedRow, IsPair, IsPartialMatching, IsRow, column_of, reduced, row_of}
-use Rattle.mcf_assign.specs.Private.Searches.{AreRaised, HasEntries, Search, Settled, dist_at, reach_of, search_of}
+use Rattle.mcf_assign.specs.Matchings.{AreMatchingPrices, AreMates, IsColumn, IsMatchedRow, IsPair, IsPartialMatching, IsRow, column_of, row_of}
+use Rattle.mcf_assign.specs.Private.Searches.{AreRaised, HasEntries, Search, Settled, search_of}
 use Rattle.mcf_assign.specs.Private.Turning.{IsExtended}
 use Rattle.mcf_assign.proofs.Beginning.{over_stuck}
-use Rattle.mcf_assign.proofs.Found.{found_arc, found_column, found_free, found_new, found_prices}
+use Rattle.mcf_assign.proofs.Found.{found_column, found_free, found_new, found_prices}
 use Rattle.mcf_assign.proofs.LeastMatchings.{least_matching}
-use Rattle.mcf_assign.proofs.PairLaws.{column_is, pairing_at, row_column, row_is}
+use Rattle.mcf_assign.proofs.PairLaws.{column_is, row_is}
 use Rattle.mcf_assign.proofs.Raised.{settled_or_not}
 use Rattle.mcf_assign.proofs.Surpluses.{row_or_column}
 
@@ -234,7 +230,7 @@ stopped_from s y y' y0 q row order l0 list r0 set ok ended none count members ep
 abbrev first_state : Network → Pseudoflow
 first_state g = record { net = g; amounts = replicate (length g.arcs) (pos 0) }
 
-no_pair : (g : Network) (k : ℕ) → IsPair (first_state g) k → ⊥
+pub no_pair : (g : Network) (k : ℕ) → IsPair (first_state g) k → ⊥
 no_pair g k p =
     let one = p.one in
     let arc = p.arc in

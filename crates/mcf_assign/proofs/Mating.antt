@@ -1,5 +1,5 @@
 -- The mates after an arc came out of a partial matching, and after one came in.
-use Rattle.std.proofs.Common.{◌≡◌, ◌≢◌, ℕ, ◌-◌, ◌<◌, ◌≤◌, true, false, List, set, length, get_or, pos, ◌≤ℤ◌, refl, sym, ◌∙◌, ap, subst, arith, ◌⊎◌, inl, inr, length-set}
+use Rattle.std.proofs.Common.{◌≡◌, ◌≢◌, ℕ, ◌-◌, ◌<◌, ◌≤◌, true, false, List, set, length, get_or, pos, ◌≤ℤ◌, sym, ◌∙◌, ap, subst, arith, ◌⊎◌, inl, inr, length-set}
 use Rattle.std.proofs.lemmas.Int.{ints}
 use Rattle.mcf_instance.specs.Network.{Network, IsArcNumber, IsNode, node_count}
 use Rattle.mcf_network.specs.Residual.{arc_at}

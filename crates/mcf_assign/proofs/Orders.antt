@@ -1,6 +1,6 @@
 -- The list of the settled nodes as a search begins, and with one pair more.
-use Rattle.std.proofs.Common.{◌≡◌, ◌≢◌, ℕ, ◌+◌, ◌-◌, ◌<◌, ◌≤◌, zero, suc, cond, Bool, true, false, eqb, List, [], ◌∷◌, ◌++◌, length, get_or, set, replicate, ℤ, pos, ◌<ℤ◌, refl, sym, ◌∙◌, ap, subst, arith, ◌⊎◌, inl, inr, length-append, length-set}
-use Rattle.std.specs.List.{All, AllPairs, Contains}
+use Rattle.std.proofs.Common.{◌≡◌, ◌≢◌, ℕ, ◌+◌, ◌-◌, ◌<◌, zero, suc, cond, Bool, true, false, List, [], ◌∷◌, ◌++◌, length, get_or, set, replicate, ℤ, pos, refl, sym, ◌∙◌, ap, subst, arith, ◌⊎◌, inl, inr, length-set}
+use Rattle.std.specs.List.{AllPairs, Contains}
 use Rattle.std.proofs.lemmas.Bool.{cases_eq, eq-eqb, ne_eqb, true≢false}
 use Rattle.std.proofs.lemmas.Int.{ints}
 use Rattle.std.proofs.lemmas.List.{length_push}
@@ -13,8 +13,8 @@ use Rattle.mcf_network.specs.States.{Pseudoflow, amount_at}
 use Rattle.mcf_network.specs.Walks.{HasRoom}
 use Rattle.mcf_network.proofs.Marks.{count_none, counted_new, marked_new, marked_only}
 use Rattle.mcf_network.proofs.StateLaws.{rid}
-use Rattle.mcf_assign.specs.Forests.{IsClosed, IsForest, IsOrder, IsReachable, place}
-use Rattle.mcf_assign.specs.Matchings.{IsColumn, IsMatchedColumn, IsMatchedRow, IsPair, IsPartialMatching, IsRow, column_of, row_of}
+use Rattle.mcf_assign.specs.Forests.{IsOrder, IsReachable, place}
+use Rattle.mcf_assign.specs.Matchings.{IsColumn, IsMatchedRow, IsPair, IsPartialMatching, IsRow, column_of, row_of}
 use Rattle.mcf_assign.specs.Private.Searches.{IsSearch, IsSettling, Search, Settled, Waits, link_at, settled_pair}
 use Rattle.mcf_assign.proofs.Nearest.{not_true}
 use Rattle.mcf_assign.proofs.PairLaws.{column_is, pairing_at, row_column, row_is}

@@ -1,12 +1,11 @@
 -- The loop that turns a path.
-use Rattle.std.proofs.Common.{◌≡◌, ◌≢◌, ℕ, ◌+◌, ◌-◌, ◌<◌, ◌≤◌, true, false, Bool, List, get_or, ℤ, pos, refl, sym, ◌∙◌, ap, subst, arith, ◌⊎◌, inl, inr}
-use Rattle.std.proofs.lemmas.Int.{ints}
-use Rattle.mcf_instance.specs.Network.{Network, IsArcNumber, node_count}
+use Rattle.std.proofs.Common.{◌≡◌, ◌≢◌, ℕ, ◌+◌, ◌-◌, ◌<◌, true, false, Bool, List, get_or, ℤ, pos, refl, sym, ◌∙◌, ap, subst, arith, ◌⊎◌, inl, inr}
+use Rattle.mcf_instance.specs.Network.{Network, IsArcNumber}
 use Rattle.mcf_network.specs.Residual.{arc_at}
 use Rattle.mcf_network.specs.States.{Pseudoflow, amount_at, pushed}
 use Rattle.mcf_network.proofs.StateLaws.{rid}
 use Rattle.mcf_assign.specs.Forests.{IsChangedWithin, IsForest, IsTightArc, IsTurning, place}
-use Rattle.mcf_assign.specs.Matchings.{AreMates, IsColumn, IsMatchedColumn, IsMatchedRow, IsPair, IsPartialMatching, IsRow, column_of, reduced, row_of}
+use Rattle.mcf_assign.specs.Matchings.{AreMates, IsColumn, IsMatchedColumn, IsMatchedRow, IsPair, IsPartialMatching, column_of, row_of}
 use Rattle.mcf_assign.specs.Private.Searches.{Search, Settled, link_at}
 use Rattle.mcf_assign.specs.Private.Turning.{IsTurned, IsExtended}
 use Rattle.mcf_assign.proofs.PairLaws.{column_is, row_is}

@@ -8,7 +8,7 @@ use Rattle.mcf_network.specs.NodeSets.{member_count}
 use Rattle.mcf_network.specs.Residual.{head, tail}
 use Rattle.mcf_network.specs.States.{Pseudoflow, amount_at}
 use Rattle.mcf_network.specs.Walks.{HasRoom}
-use Rattle.mcf_assign.specs.Matchings.{AreMates, IsColumn, IsMatchedColumn, IsMatchedRow, IsPair, IsPartialMatching, IsRow, column_of, reduced, row_of}
+use Rattle.mcf_assign.specs.Matchings.{AreMates, IsColumn, IsMatchedRow, IsPair, IsPartialMatching, IsRow, column_of, reduced, row_of}
 use Rattle.mcf_assign.specs.Private.Searches.{Search, Settled, link_at}
 use Rattle.mcf_assign.specs.Private.Turning.{IsTurned}
 

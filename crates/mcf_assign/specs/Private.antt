@@ -3,3 +3,4 @@ pub mod Heaps
 pub mod Searches
 pub mod Turning
 pub mod Keeping
+pub mod Offering

@@ -1,7 +1,9 @@
 //! Partial matchings, made greater row by row.
-ghost use Rattle.std.specs.Prelude.{◌≡◌, ◌+◌, ◌-◌, ◌≤◌, ◌↔◌, ℕ, [], IfOk, IsTrue, OnErr, length, pos, neg_ℤ, replicate};
+ghost use Rattle.std.specs.Prelude.{◌≡◌, ◌+◌, ◌-◌, ◌^◌, ◌≤◌, ◌↔◌, ℕ, [], IfOk, IsTrue, OnErr, length, pos, neg_ℤ, replicate};
+ghost use Rattle.std.specs.List.{All};
 ghost use Rattle.mcf_instance.specs.declared.problem.Problem.TheVariants.{Asn};
 ghost use Rattle.mcf_instance.specs.Network.{IsNode, at_node, node_count};
+ghost use Rattle.mcf_instance.specs.WellFormed.{IsUpTo};
 ghost use Rattle.mcf_assign.specs.Extending.{IsExtension, IsMatched, IsShownMatching};
 ghost use Rattle.mcf_assign.specs.Private.Keeping.{AreFirstPrices, first_price};
 ghost use Rattle.mcf_assign.specs.Matchings.{IsMatchedRow, IsRow};
@@ -114,9 +116,41 @@ impl<'n> Matching<'n> {
     /// The set that the last search reached that found no path; empty before there is one.
     pub fn reached(&self) -> &NodeSet
         ensures value { result.now ≡ self.now.reached }
+        ensures one_per_node { length result.now ≡ node_count self.now.flow.net }
         ensures shown { IsShownMatching self.now }
     {
         &self.reached
+    }
+
+    /// The state and the prices, without what searches.
+    pub fn into_parts(self) -> (State<'n>, Vec<i128>)
+        ensures state { result.0 ≡ self.entry.flow }
+        ensures prices { result.1.items ≡ self.entry.prices }
+        ensures small { All (IsUpTo (10 ^ 22)) self.entry.prices }
+        ensures shown { IsShownMatching self.entry }
+    {
+        let Matching {
+            state,
+            prices,
+            mates: _,
+            tables: _,
+            reached: _,
+        } = self;
+        (state, prices)
+    }
+
+    /// The set that the last search reached that found no path.
+    pub(crate) fn into_reached(self) -> NodeSet
+        ensures { result ≡ self.entry.reached }
+    {
+        let Matching {
+            state: _,
+            prices: _,
+            mates: _,
+            tables: _,
+            reached,
+        } = self;
+        reached
     }
 }
 

@@ -18,6 +18,8 @@ pub mod TreeRooms
 pub mod Climbed
 pub mod PushedRooms
 pub mod TurnedRooms
+pub mod StartLayouts
+pub mod Endings
 pub mod CyclePlaces
 pub mod Cycles
 pub mod StrongKept
@@ -32,3 +34,5 @@ pub mod TurnedAmounts
 pub mod TurnedOffers
 pub mod TurnedStart
 pub mod TurnedLayout
+pub mod Cuts
+pub mod LastFlows

@@ -18,20 +18,22 @@ use Rattle.mcf_basis.proofs.PricesTurned.{cases_found, new_tree}
 use Rattle.mcf_basis.proofs.Pushes.{Leaves}
 use Rattle.mcf_basis.proofs.StrongKept.{entering_leaves, pivoted_amount}
 
-zero_or_more : (z : ℤ) → pos 0 ≤ℤ z → (z ≡ pos 0) ⊎ (pos 0 <ℤ z)
+pub zero_or_more : (z : ℤ) → pos 0 ≤ℤ z → (z ≡ pos 0) ⊎ (pos 0 <ℤ z)
 zero_or_more (pos zero) h = inl refl
 zero_or_more (pos (suc n)) h = inr (omega (arith, ints))
 zero_or_more (negsuc n) h = absurd (omega (arith, ints))
 
 -- one residual arc along which x went
-module _ (b : TreeStructure) (label v : ℕ) (x : ℤ) (new : ℕ → ℤ) (went : Leaves (arcs_of b.net) (carried b) new label v x) (can : CanTake b (leaving b.net label v) x)
+module _ (b : TreeStructure) (label v : ℕ) (x : ℤ) (new : ℕ → ℤ)
+    (went : Leaves (arcs_of b.net) (carried b) new label v x) (can : CanTake b (leaving b.net label v) x)
     (some : pos 0 ≤ℤ x) where
   pub pushed_hold : CanHold b.net label (carried b label) → CanHold b.net label (new label)
   pushed_hold old =
       elim (cases_eq (arc_at (with_artificial b.net) label).src v) [
         | inl e ↦ (let amount : new label ≡ carried b label +ℤ x = went.forward e in let low = old.low in record {
           low = omega (arith, ints, amount, low, some);
-          high = λ own. (let fits : (carried b label +ℤ x) ≤ℤ (arc_at b.net label).cap = can.forward (ap not (eq-eqb (arc_at (with_artificial b.net) label).src v e)) own in
+          high = λ own. (let fits : (carried b label +ℤ x) ≤ℤ (arc_at b.net label).cap =
+              can.forward (ap not (eq-eqb (arc_at (with_artificial b.net) label).src v e)) own in
               omega (arith, ints, amount, fits));
         })
         | inr ne ↦ (let amount : new label +ℤ x ≡ carried b label = went.backward ne in
@@ -41,7 +43,8 @@ module _ (b : TreeStructure) (label v : ℕ) (x : ℤ) (new : ℕ → ℤ) (went
             })
       ]
 
-  forward_bound : ¬ CanTake b (leaving b.net label v) (x +ℤ pos 1) → (arc_at (with_artificial b.net) label).src ≡ v → (new label ≡ pos 0) ⊎ ((label ≤ length b.net.arcs) × (new label ≡ (arc_at b.net label).cap))
+  forward_bound : ¬ CanTake b (leaving b.net label v) (x +ℤ pos 1) → (arc_at (with_artificial b.net) label).src ≡ v
+      → (new label ≡ pos 0) ⊎ ((label ≤ length b.net.arcs) × (new label ≡ (arc_at b.net label).cap))
   forward_bound full e =
       let amount : new label ≡ carried b label +ℤ x = went.forward e in
       let back : (leaving b.net label v).back ≡ false = ap not (eq-eqb (arc_at (with_artificial b.net) label).src v e) in
@@ -50,7 +53,10 @@ module _ (b : TreeStructure) (label v : ℕ) (x : ℤ) (new : ℕ → ℤ) (went
         | inr own ↦ (let fits : (carried b label +ℤ x) ≤ℤ (arc_at b.net label).cap = can.forward back own in
             elim (zero_or_more ((arc_at b.net label).cap -ℤ (carried b label +ℤ x)) (omega (arith, ints, fits))) [
               | inl z ↦ inr (own, omega (arith, ints, amount, z))
-              | inr more ↦ absurd (full (record { forward = λ t q. omega (arith, ints, more); backward = λ t. absurd (both_ways (leaving b.net label v).back back t) }))
+              | inr more ↦ absurd (full (record {
+                forward = λ t q. omega (arith, ints, more);
+                backward = λ t. absurd (both_ways (leaving b.net label v).back back t);
+              }))
             ])
       ]
 
@@ -61,11 +67,15 @@ module _ (b : TreeStructure) (label v : ℕ) (x : ℤ) (new : ℕ → ℤ) (went
       let fits : x ≤ℤ carried b label = can.backward back in
       elim (zero_or_more (carried b label -ℤ x) (omega (arith, ints, fits))) [
         | inl z ↦ omega (arith, ints, amount, z)
-        | inr more ↦ absurd (full (record { forward = λ t own. absurd (both_ways (leaving b.net label v).back t back); backward = λ t. omega (arith, ints, more) }))
+        | inr more ↦ absurd (full (record {
+          forward = λ t own. absurd (both_ways (leaving b.net label v).back t back);
+          backward = λ t. omega (arith, ints, more);
+        }))
       ]
 
   -- where one more couldn't go, it is at a bound
-  pub pushed_bound : ¬ CanTake b (leaving b.net label v) (x +ℤ pos 1) → (new label ≡ pos 0) ⊎ ((label ≤ length b.net.arcs) × (new label ≡ (arc_at b.net label).cap))
+  pub pushed_bound : ¬ CanTake b (leaving b.net label v) (x +ℤ pos 1)
+      → (new label ≡ pos 0) ⊎ ((label ≤ length b.net.arcs) × (new label ≡ (arc_at b.net label).cap))
   pushed_bound full =
       elim (cases_eq (arc_at (with_artificial b.net) label).src v) [
         | inl e ↦ forward_bound full e
@@ -73,9 +83,11 @@ module _ (b : TreeStructure) (label v : ℕ) (x : ℤ) (new : ℕ → ℤ) (went
       ]
 
 -- the nodes of either side are nodes of the net
-pub side_node : (b : TreeStructure) → IsBasis b → (u n p : ℕ) → u < length b.tree.parents → n ≤ depth_of b.tree u → p < n → IsNode (node_count b.net) (climb b.tree.parents p u)
+pub side_node : (b : TreeStructure) → IsBasis b → (u n p : ℕ) → u < length b.tree.parents → n ≤ depth_of b.tree u → p < n
+    → IsNode (node_count b.net) (climb b.tree.parents p u)
 side_node b ok u n p h short lt =
-    let e : depth_of b.tree (climb b.tree.parents p u) + p ≡ depth_of b.tree u = depth-climb b.tree.parents (depth_of b.tree) ok.spanning.rooted p u h (omega arith) in
+    let e : depth_of b.tree (climb b.tree.parents p u) + p ≡ depth_of b.tree u =
+    depth-climb b.tree.parents (depth_of b.tree) ok.spanning.rooted p u h (omega arith) in
     let w : climb b.tree.parents p u < length b.tree.parents = climb-within b.tree.parents (depth_of b.tree) ok.spanning.rooted p u h in
     let up : 0 < climb b.tree.parents p u = above_root b.tree.parents (depth_of b.tree) ok.spanning.rooted (climb b.tree.parents p u) (omega arith) in
     let size : size_of b.tree ≡ node_count b.net + 1 = ok.size in
@@ -98,13 +110,16 @@ module _ (old new : TreeStructure) (k : ℕ) (moved : ℤ) (ok : IsBasis old) (p
   old_hold : (label : ℕ) → IsLabel old.net label → CanHold old.net label (carried old label)
   old_hold label h = ok.flow.within_bounds label h
 
-  hold_left : (label p : ℕ) → IsLabel old.net label → p < left_steps old k pivot.apex → label_of old.tree (left_node old k p) ≡ label → CanHold old.net label (now label)
+  hold_left : (label p : ℕ) → IsLabel old.net label → p < left_steps old k pivot.apex → label_of old.tree (left_node old k p) ≡ label
+      → CanHold old.net label (now label)
   hold_left label p h short is =
       subst (λ l. CanHold old.net l (now l)) is
-      (pushed_hold old (label_of old.tree (left_node old k p)) (parent_of old.tree (left_node old k p)) moved now (went.left p short) (can.left p short) went.some
+      (pushed_hold old (label_of old.tree (left_node old k p)) (parent_of old.tree (left_node old k p)) moved now
+      (went.left p short) (can.left p short) went.some
       (old_hold (label_of old.tree (left_node old k p)) (subst (IsLabel old.net) (sym is) h)))
 
-  hold_right : (label p : ℕ) → IsLabel old.net label → p < right_steps old k pivot.apex → label_of old.tree (right_node old k p) ≡ label → CanHold old.net label (now label)
+  hold_right : (label p : ℕ) → IsLabel old.net label → p < right_steps old k pivot.apex → label_of old.tree (right_node old k p) ≡ label
+      → CanHold old.net label (now label)
   hold_right label p h short is =
       subst (λ l. CanHold old.net l (now l)) is
       (pushed_hold old (label_of old.tree (right_node old k p)) (right_node old k p) moved now (went.right p short) (can.right p short) went.some
@@ -120,7 +135,8 @@ module _ (old new : TreeStructure) (k : ℕ) (moved : ℤ) (ok : IsBasis old) (p
           | inl t ↦ hold_left label t.at h t.short t.is
           | inr off_left ↦ elim (cases_found (λ p. label_of old.tree (right_node old k p)) (right_steps old k pivot.apex) label) [
             | inl t ↦ hold_right label t.at h t.short t.is
-            | inr off_right ↦ subst (CanHold old.net label) (sym (went.others label ne (λ i l e. off_left i l (sym e)) (λ i l e. off_right i l (sym e)))) (old_hold label h)
+            | inr off_right ↦ subst (CanHold old.net label) (sym (went.others label ne (λ i l e. off_left i l (sym e)) (λ i l e. off_right i l (sym e))))
+                (old_hold label h)
           ]
         ]
       ]
@@ -129,8 +145,16 @@ module _ (old new : TreeStructure) (k : ℕ) (moved : ℤ) (ok : IsBasis old) (p
   round_kept : (label : ℕ) → label ≢ k → ¬ IsInTree old label → now label ≡ carried old label
   round_kept label ne out =
       went.others label ne
-      (λ p h e. out (record { node = left_node old k p; is_node = side_node old ok (from_of old k) (left_steps old k pivot.apex) p around.cycle.left_in_range around.cycle.left_short h; labelled = sym e }))
-      (λ p h e. out (record { node = right_node old k p; is_node = side_node old ok (to_of old k) (right_steps old k pivot.apex) p around.cycle.right_in_range around.cycle.right_short h; labelled = sym e }))
+      (λ p h e. out (record {
+        node = left_node old k p;
+        is_node = side_node old ok (from_of old k) (left_steps old k pivot.apex) p around.cycle.left_in_range around.cycle.left_short h;
+        labelled = sym e;
+      }))
+      (λ p h e. out (record {
+        node = right_node old k p;
+        is_node = side_node old ok (to_of old k) (right_steps old k pivot.apex) p around.cycle.right_in_range around.cycle.right_short h;
+        labelled = sym e;
+      }))
 
   abbrev IsBound : ℕ → Type 0
   IsBound label = (now label ≡ pos 0) ⊎ ((label ≤ length old.net.arcs) × (now label ≡ (arc_at old.net label).cap))
@@ -162,7 +186,8 @@ module _ (old new : TreeStructure) (k : ℕ) (moved : ℤ) (ok : IsBasis old) (p
 
   pub new_within : (label : ℕ) → IsLabel new.net label → CanHold new.net label (carried new label)
   new_within label h =
-      subst (λ g. CanHold g label (carried new label)) (sym pivot.net) (subst (CanHold old.net label) (sym (amount_is label h.0)) (round_hold label (here_label label h)))
+      subst (λ g. CanHold g label (carried new label)) (sym pivot.net)
+      (subst (CanHold old.net label) (sym (amount_is label h.0)) (round_hold label (here_label label h)))
 
   in_new : (label : ℕ) → 0 < label → IsBound label → IsAtBound new label
   in_new label h (inl z) = inl (amount_is label h ∙ z)

@@ -42,7 +42,8 @@ module _ (old new : TreeStructure) (k : ℕ) (moved : ℤ) (ok : IsBasis old) (p
   new_flow : IsFullFlow (full_state new) new.net
   new_flow = record {
     of_net = refl;
-    one_per_label = ap (λ (xs : List ℤ). length xs) pivot.amounts ∙ (round_count old k pivot.apex moved ok ∙ ap (λ g. length (with_artificial g).arcs) (sym pivot.net));
+    one_per_label = ap (λ (xs : List ℤ). length xs) pivot.amounts
+        ∙ (round_count old k pivot.apex moved ok ∙ ap (λ g. length (with_artificial g).arcs) (sym pivot.net));
     within_bounds = new_within old new k moved ok pivot is_around went leaves.1;
     no_surplus = subst HasNoSurplus round_state (round_surplus old k pivot.apex moved ok pivot.eligible is_around);
   }

@@ -1,5 +1,5 @@
 //! Laws of bases, each the contract of a function that does nothing.
-ghost use Rattle.mcf_basis.specs.Laws.{BasesAreTreeSolutions, LastBasesAreShown, PivotsKeepBases, PivotsLowerThePair, RanksBoundPivots, RanksCountDown, RanksFall};
+ghost use Rattle.mcf_basis.specs.Laws.{BasesAreTreeSolutions, LastBasesAreFeasible, LastBasesAreShown, PivotsKeepBases, PivotsLowerThePair, RanksBoundPivots, RanksCountDown, RanksFall};
 
 /// Each pivot lowers the pair of the cost and the sum of the prices: the cost falls, or nothing moves and the sum of the prices falls
 /// (Cunningham; Ahuja, Magnanti and Orlin, Network Flows, section 11.6).
@@ -35,4 +35,9 @@ pub fn last_bases_are_shown()
 /// A pivot keeps a basis a basis.
 pub fn pivots_keep_bases()
     ensures { PivotsKeepBases }
+{}
+
+/// Where no arc is eligible and some flow is feasible, no artificial arc carries anything.
+pub fn last_bases_are_feasible()
+    ensures { LastBasesAreFeasible }
 {}

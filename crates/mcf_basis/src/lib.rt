@@ -5,10 +5,12 @@
 //!
 //! It stands on `mcf_network` and `mcf_tree`. Definitions stand in `specs/`: `Artificial` adds the artificial arcs to a net,
 //! `Structures` has what a clause sees of a basis, its paths and its cycles, `Bases` says what every basis keeps, `Starts` with
-//! which one a run begins, `Pivots` what one pivot does, `Steps` what it answers, `Ranks` how many there can be, and `Layouts` how a basis is stored.
+//! which one a run begins, `Pivots` what one pivot does, `Steps` what it answers, `Ranks` how many there can be, and `Layouts` how a
+//! basis is stored.
 
 mod basis;
 mod climb;
+mod ending;
 mod exchange;
 mod laws;
 mod leaving_arc;
@@ -18,10 +20,11 @@ mod price_table;
 mod push;
 mod reprice;
 mod rooms;
+mod starting;
 
 pub use basis::Basis;
 pub use laws::{
-    bases_are_tree_solutions, last_bases_are_shown, pivots_keep_bases, pivots_lower_the_pair,
-    ranks_bound_pivots, ranks_count_down, ranks_fall,
+    bases_are_tree_solutions, last_bases_are_feasible, last_bases_are_shown, pivots_keep_bases,
+    pivots_lower_the_pair, ranks_bound_pivots, ranks_count_down, ranks_fall,
 };
 pub use pivot::Step;

@@ -1,6 +1,6 @@
 //! A price for each node. Only `set` writes one, and adds one to the count.
 
-ghost use Rattle.std.specs.Prelude.{◌≡◌, ℕ, ◌+◌, ◌-◌, ◌^◌, ◌<◌, List, length, set, get_or, pos};
+ghost use Rattle.std.specs.Prelude.{◌≡◌, ℕ, ◌+◌, ◌-◌, ◌^◌, ◌<◌, ◌≤◌, List, drop, length, set, get_or, pos};
 
 use std::marker::Model;
 
@@ -19,6 +19,21 @@ impl Model for PriceTable {
 }
 
 impl PriceTable {
+    /// A table of these prices, of which none counts as written.
+    pub fn of(prices: Vec<i128>) -> PriceTable
+        ensures { result ≡ record { prices = prices.items; priced = 0 } }
+    {
+        PriceTable { prices, priced: 0 }
+    }
+
+    /// The prices of the nodes but the root.
+    pub fn of_nodes(&self) -> &[i128]
+        requires { 1 ≤ length self.now.prices }
+        ensures { result.now ≡ drop 1 self.now.prices }
+    {
+        &self.prices[1..]
+    }
+
     pub fn get(&self, v: u32) -> i128
         requires { v < length self.now.prices }
         ensures { result ≡ get_or self.now.prices v (pos 0) }

@@ -12,6 +12,7 @@ mod networks;
 mod raising;
 mod reading;
 mod recovering;
+mod scaling;
 mod solving;
 mod text;
 mod trees;
@@ -23,7 +24,7 @@ use std::time::{Duration, Instant};
 use std::{env, fs, io};
 
 const USAGE: &str =
-    "usage: mcf_bench read|solve|text INSTANCE, answer ANSWER, check INSTANCE ANSWER, net|feasible INSTANCE [TIMES], recover|raise INSTANCE ANSWER [TIMES], or tree NODES ROUNDS";
+    "usage: mcf_bench read|solve|text INSTANCE, answer ANSWER, check INSTANCE ANSWER, net|feasible|scaling INSTANCE [TIMES], recover|raise INSTANCE ANSWER [TIMES], or tree NODES ROUNDS";
 
 // A part that needs one file.
 #[derive(Clone, Copy)]
@@ -32,6 +33,7 @@ enum Part {
     Feasible,
     Net,
     Read,
+    Scaling,
     Solve,
     Text,
 }
@@ -98,6 +100,7 @@ fn part_of(word: &str) -> Option<Part> {
         "feasible" => Some(Part::Feasible),
         "net" => Some(Part::Net),
         "read" => Some(Part::Read),
+        "scaling" => Some(Part::Scaling),
         "solve" => Some(Part::Solve),
         "text" => Some(Part::Text),
         _ => None,
@@ -114,6 +117,7 @@ fn run_on_file(rt: &HostRuntime, part: Part, path: &str, times: u32) -> io::Resu
         Part::Feasible => feasibility::run(rt, &text, times),
         Part::Net => networks::run(rt, &text, times),
         Part::Read => reading::run(rt, &text),
+        Part::Scaling => scaling::run(rt, &text, times),
         Part::Solve => solving::run(rt, &text),
         Part::Text => text::run(rt, &text, time),
     }

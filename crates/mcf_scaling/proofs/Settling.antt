@@ -1,17 +1,13 @@
 -- The steps of the engine, and what it ends with.
 use Rattle.std.proofs.Common.{◌≡◌, ℕ, zero, suc, ◌^◌, ◌<◌, ◌≤◌, List, refl, sym, ap, ◌∙◌, arith, subst, ℤ, pos, ◌⊎◌, inl, inr}
-use Rattle.std.specs.Prelude.{◌<ℤ◌, OnErr, Result, Ok, Err}
-use Rattle.std.specs.List.{All}
+use Rattle.std.specs.Prelude.{◌<ℤ◌}
 use Rattle.std.proofs.lemmas.Int.{ints}
 use Rattle.mcf_instance.specs.Network.{Network, IsNode, node_count}
-use Rattle.mcf_instance.specs.WellFormed.{IsUpTo}
-use Rattle.mcf_instance.specs.Flow.{AreGreatestPrices}
 use Rattle.mcf_network.specs.declared.rid.Rid.{Rid}
 use Rattle.mcf_network.specs.States.{Pseudoflow, surplus_at}
 use Rattle.mcf_feas.specs.Feasible.{IsFeasibleState}
-use Rattle.mcf_prices.specs.NegativeCycles.{IsNegativeCycle}
 use Rattle.mcf_prices.specs.Outcomes.{AreStatePrices, IsLeastState}
-use Rattle.mcf_prices.proofs.Cancelling.{least_from_prices, state_prices}
+use Rattle.mcf_prices.proofs.Cancelling.{least_from_prices}
 use Rattle.mcf_scaling.specs.Made.{IsScaled}
 use Rattle.mcf_scaling.specs.Optimality.{IsOptimalWithin}
 use Rattle.mcf_scaling.specs.Phases.{EachPhaseSettles, IsBegun, IsBounded, IsBoundedThroughout, IsDone, IsPush, IsRelabel, IsSettled, Run}
@@ -132,11 +128,9 @@ end_feasible s b at =
       no_surplus = no_surplus_of_rest b at.now at.rest;
     }
 
--- at the end there is no negative cycle
-pub end_no_cycle : (s : Pseudoflow) (b : Refinement) (t : Pseudoflow) (walk : List Rid) → IsUnderWay s b → IsDone b → t ≡ b.flow → IsNegativeCycle t walk → ⊥
-end_no_cycle s b t walk at done e cycle =
-    let tight = subst (λ (k : ℕ). IsOptimalWithin (2 ^ k) b.flow b.prices) done.scale at.now.optimal in
-    nearly_least_have_no_cycle_lem b.flow b.prices walk at.now.flow tight (subst (λ (x : Pseudoflow). IsNegativeCycle x walk) e cycle)
+-- at the end the state is 1-optimal
+pub end_optimal : (b : Refinement) → IsRefinement b → IsDone b → IsOptimalWithin 1 b.flow b.prices
+end_optimal b ok done = subst (λ (k : ℕ). IsOptimalWithin (2 ^ k) b.flow b.prices) done.scale ok.optimal
 
 pub end_scaled : (s : Pseudoflow) (b : Refinement) (t : Pseudoflow) → IsFeasibleState s.net s → IsUnderWay s b → IsDone b → t ≡ b.flow → IsScaled s.net t
 end_scaled s b t feasible at done e =
@@ -157,26 +151,17 @@ end_scaled s b t feasible at done e =
       settled = run_settles at.first b at.begins at.run at.valid;
       done = done;
       last_settled = settled_of b at.now at.rest;
-      no_cycle = λ walk. end_no_cycle s b b.flow walk at done refl;
+      no_cycle = λ walk. nearly_least_have_no_cycle_lem b.flow b.prices walk at.now.flow (end_optimal b at.now done);
       ends = sym e;
     }
 
-pub end_least : (s : Pseudoflow) (b : Refinement) (t : Pseudoflow) (ys : List ℤ) → IsUnderWay s b → t ≡ b.flow → AreGreatestPrices t.net ys t.amounts
+pub end_least : (s : Pseudoflow) (b : Refinement) (t : Pseudoflow) (ys : List ℤ) → IsUnderWay s b → t ≡ b.flow → AreStatePrices b.flow.net b.flow ys
     → IsLeastState s.net t
 end_least s b t ys at e prices =
-    least_from_prices s.net t ys (subst (λ (x : Pseudoflow). IsFeasibleState s.net x) (sym e) (end_feasible s b at)) prices
+    subst (λ (x : Pseudoflow). IsLeastState s.net x) (sym e) (least_from_prices s.net b.flow ys (end_feasible s b at) prices.greatest)
 
-pub end_prices : (s : Pseudoflow) (b : Refinement) (t : Pseudoflow) (ys : List ℤ) → IsUnderWay s b → t ≡ b.flow → AreGreatestPrices t.net ys t.amounts
+pub end_prices : (s : Pseudoflow) (b : Refinement) (t : Pseudoflow) (ys : List ℤ) → IsUnderWay s b → t ≡ b.flow → AreStatePrices b.flow.net b.flow ys
     → AreStatePrices s.net t ys
 end_prices s b t ys at e prices =
-    state_prices s.net t ys (subst (λ (x : Pseudoflow). IsFeasibleState s.net x) (sym e) (end_feasible s b at)) prices
-
--- want of memory, where the net has nodes
-on_err_any : {X E : Type 0} (P : Type 0) (x : Result X E) → P → OnErr x P
-on_err_any P (Ok y) h = tt
-on_err_any P (Err y) h = h
-
-pub end_needs : {X E : Type 0} (s : Pseudoflow) (b : Refinement) (t : Pseudoflow) (x : Result X E) → IsUnderWay s b → t ≡ b.flow
-    → 1 ≤ node_count t.net → OnErr x (1 ≤ node_count s.net)
-end_needs s b t x at e some =
-    on_err_any (1 ≤ node_count s.net) x (subst (λ (g : Network). 1 ≤ node_count g) (ap (λ (y : Pseudoflow). y.net) e ∙ (end_feasible s b at).of_net) some)
+    subst (λ (x : Pseudoflow). AreStatePrices s.net x ys) (sym e)
+    (subst (λ (g : Network). AreStatePrices g b.flow ys) (end_feasible s b at).of_net prices)

@@ -1,9 +1,11 @@
 -- How far from 0 numbers lie.
-use Rattle.std.proofs.Common.{◌≡◌, ℕ, ◌+◌, ◌*◌, ◌^◌, ◌≤◌, List, arith, ℤ, pos, negsuc, neg_ℤ, ◌+ℤ◌, ◌≤ℤ◌}
+use Rattle.std.proofs.Common.{◌≡◌, ℕ, ◌+◌, ◌-◌, ◌*◌, ◌^◌, ◌≤◌, List, get_or, subst, arith, ℤ, pos, negsuc, neg_ℤ, ◌+ℤ◌, ◌≤ℤ◌}
 use mir.Syntax.{w128}
 use mir.Val.{SFits}
 use Rattle.std.proofs.Math.IntN.{◌*ℤ◌}
+use Rattle.std.specs.List.{All}
 use Rattle.std.proofs.lemmas.Int.{ints}
+use Rattle.std.proofs.lemmas.List.Elements.{All-from_get_or}
 use Rattle.mcf_instance.specs.Network.{Network, IsArcNumber, node_count}
 use Rattle.mcf_instance.specs.WellFormed.{IsUpTo}
 use Rattle.mcf_instance.proofs.Bounds.{mul_up_to}
@@ -12,8 +14,9 @@ use Rattle.mcf_network.specs.Nets.{IsNet}
 use Rattle.mcf_network.specs.Residual.{head, tail, unit_cost}
 use Rattle.mcf_network.specs.States.{Pseudoflow, IsPseudoflow}
 use Rattle.mcf_network.proofs.ArcLaws.{head_is_node, tail_is_node}
+use Rattle.mcf_prices.specs.NearPrices.{near_limit}
 use Rattle.mcf_prices.proofs.Showing.{cost_small}
-use Rattle.mcf_scaling.specs.Optimality.{AreSmallPrices, IsLeastReduced, scaled_reduced}
+use Rattle.mcf_scaling.specs.Optimality.{AreSmallPrices, IsLeastReduced, ceiling, scaled_reduced}
 use Rattle.mcf_scaling.specs.Refinements.{Refinement, IsRefinement, within}
 use Rattle.mcf_scaling.proofs.ScaleLaws.{power_small}
 
@@ -95,3 +98,14 @@ least_up_to s prices v least ok small is =
 
 pub power_up_to : (k : ℕ) → k ≤ 70 → IsUpTo (10 ^ 31) (pos (2 ^ k))
 power_up_to k h = let small = power_small k h in (omega (arith, ints), omega (arith, ints, small))
+
+-- prices so small are within the bound of prices that nearly show a flow
+pub small_near : (nodes : ℕ) (prices : List ℤ) → AreSmallPrices nodes prices → All (IsUpTo near_limit) prices
+small_near nodes prices small =
+    All-from_get_or (IsUpTo near_limit) prices (pos 0) (λ i below.
+    let back : i + 1 - 1 ≡ i = omega arith in
+    let at : IsUpTo ceiling (get_or prices i (pos 0)) = subst (λ (j : ℕ). IsUpTo ceiling (get_or prices j (pos 0))) back
+    (small.each (i + 1) (omega arith, omega (arith, below, small.count))) in
+    let low = at.0 in
+    let high = at.1 in
+    (omega (arith, ints, low), omega (arith, ints, high)))

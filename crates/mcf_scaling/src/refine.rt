@@ -195,19 +195,29 @@ impl<'n> Refine<'n> {
         tidy(&self.state, &mut self.queue);
     }
 
-    /// The state, without what refines it.
-    pub fn into_state(self) -> State<'n>
-        ensures value { result ≡ self.entry.flow }
-        ensures valid { IsPseudoflow result }
+    /// The state and the prices of its nodes, without what refines them.
+    pub fn into_parts(self) -> (State<'n>, Vec<i128>)
+        ensures state { result.0 ≡ self.entry.flow }
+        ensures prices { result.1.items ≡ self.entry.prices }
+        ensures valid { IsRefinement self.entry }
     {
         let Refine {
             state,
-            prices: _,
+            prices,
             before: _,
             scale: _,
             rests: _,
             queue: _,
         } = self;
+        (state, prices)
+    }
+
+    /// The state, without what refines it.
+    pub fn into_state(self) -> State<'n>
+        ensures value { result ≡ self.entry.flow }
+        ensures valid { IsPseudoflow result }
+    {
+        let (state, _) = self.into_parts();
         state
     }
 }

@@ -5,13 +5,16 @@ ghost use Rattle.mcf_instance.specs.Network.{node_count};
 ghost use Rattle.mcf_network.specs.declared.rid.Rid.{Rid};
 ghost use Rattle.mcf_prices.specs.Outcomes.{AreStatePrices, IsLeastState, IsOutcome};
 ghost use Rattle.mcf_scaling.specs.Made.{IsScaled};
-ghost use Rattle.mcf_scaling.specs.Phases.{IsPush, IsRelabel, Run};
+ghost use Rattle.mcf_network.specs.States.{IsPseudoflow};
+ghost use Rattle.mcf_scaling.specs.Optimality.{AreSmallPrices, IsOptimalWithin};
+ghost use Rattle.mcf_scaling.specs.Phases.{IsDone, IsPush, IsRelabel, Run};
 ghost use Rattle.mcf_scaling.specs.Refinements.{Refinement, IsActive, IsNodeOf, IsRefinement};
+ghost use Rattle.mcf_scaling.specs.Scales.{IsStart};
 
 use crate::refine::Refine;
 use mcf_feas::{Feas, feasible};
 use mcf_network::{Net, Rid, State};
-use mcf_prices::{Engine, Outcome, Recovered, recover};
+use mcf_prices::{Engine, Outcome, Pricer, optimal_prices_are_near};
 use mcf_text::{NoMemory, NodeId};
 use std::alloc::Global;
 
@@ -62,7 +65,7 @@ impl Engine for Scaling {
     }
 }
 
-// Refines a state without surplus, phase by phase: it is then least, and has prices.
+// Refines a state without surplus: it is then least, and has prices. All memory is taken before the first phase.
 fn refine<'n>(alloc: Global, state: State<'n>) -> Result<(State<'n>, Vec<i128>), NoMemory>
     requires { IsFeasibleState state.net state }
     ensures least { IfOk result (λ found. IsLeastState state.entry.net found.0) }
@@ -70,16 +73,51 @@ fn refine<'n>(alloc: Global, state: State<'n>) -> Result<(State<'n>, Vec<i128>),
     ensures made { IfOk result (λ found. IsScaled state.entry.net found.0) }
     ensures wants { OnErr result (1 ≤ node_count state.entry.net) }
 {
-    let mut refine = Refine::start(alloc, state)?;
+    let pricer = Pricer::start(alloc, state.net())?;
+    let refine = Refine::start(alloc, state)?;
+    Ok(run_phases(refine, pricer))
+}
+
+// Takes phase by phase until e is 1, and then raises the prices to the greatest. It takes no memory.
+fn run_phases<'n>(mut refine: Refine<'n>, pricer: Pricer) -> (State<'n>, Vec<i128>)
+    requires feasible { IsFeasibleState refine.flow.net refine.flow }
+    requires start { IsStart refine.flow refine }
+    requires valid { IsRefinement refine }
+    requires room { pricer ≡ node_count refine.flow.net }
+    ensures least { IsLeastState refine.entry.flow.net result.0 }
+    ensures shown { AreStatePrices refine.entry.flow.net result.0 result.1.items }
+    ensures made { IsScaled refine.entry.flow.net result.0 }
+{
     'phases: while !refine.done() {
         refine.begin();
         settle(&mut refine);
     }
-    let least = refine.into_state();
-    match recover(alloc, &least)? {
-        Recovered::Prices(prices) => Ok((least, prices)),
-        Recovered::Cycle(_) => unreachable!(),
-    }
+    priced(refine, pricer)
+}
+
+// The state of a refinement that is done, with its greatest prices.
+fn priced<'n>(refine: Refine<'n>, mut pricer: Pricer) -> (State<'n>, Vec<i128>)
+    requires done { IsDone refine }
+    requires room { pricer ≡ node_count refine.flow.net }
+    ensures state { result.0 ≡ refine.entry.flow }
+    ensures prices { AreStatePrices refine.entry.flow.net refine.entry.flow result.1.items }
+{
+    let (state, mut prices) = refine.into_parts();
+    raise_all(&mut pricer, &state, &mut prices);
+    (state, prices)
+}
+
+// Raises prices by which a state is 1-optimal to the greatest that show it.
+fn raise_all(pricer: &mut Pricer, state: &State<'_>, prices: &mut Vec<i128>)
+    requires room { pricer.old ≡ node_count state.now.net }
+    requires flow { IsPseudoflow state.now }
+    requires small { AreSmallPrices (node_count state.now.net) prices.old.items }
+    requires optimal { IsOptimalWithin 1 state.now prices.old.items }
+    ensures { AreStatePrices state.now.net state.now prices.new.items }
+{
+    let scale = state.net().node_count() + 1;
+    optimal_prices_are_near();
+    pricer.raise(state, scale, 1, prices);
 }
 
 // Takes steps until no node is active: depth first, from the node to which the last push led where that is active,

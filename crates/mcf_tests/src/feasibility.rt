@@ -11,8 +11,8 @@ use mcf_text::{ArcId, NoMemory, NodeId};
 use std::alloc::Global;
 use std::test::Fail;
 
-// Whether a set of nodes is that of the listed nodes.
-fn is_set_of(net: &Net, set: &NodeSet, nodes: &[u32]) -> bool
+/// Whether a set of nodes is that of the listed nodes.
+pub fn is_set_of(net: &Net, set: &NodeSet, nodes: &[u32]) -> bool
     requires { length set.now ≡ node_count net.now }
 {
     for k in 0..net.node_count() {

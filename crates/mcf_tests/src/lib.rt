@@ -7,6 +7,10 @@
 #[cfg(test)]
 mod answers;
 #[cfg(test)]
+mod assigning;
+#[cfg(test)]
+mod bases;
+#[cfg(test)]
 mod checking;
 #[cfg(test)]
 mod edited_texts;
@@ -24,6 +28,8 @@ mod plain;
 mod prices;
 #[cfg(test)]
 mod raising;
+#[cfg(test)]
+mod random_prices;
 #[cfg(test)]
 mod running;
 #[cfg(test)]

@@ -63,7 +63,8 @@ static ROWS: [Row; 6] = [
     },
 ];
 
-fn cost_of(state: &State<'_>) -> i128 {
+/// What the amounts of a state cost.
+pub fn cost_of(state: &State<'_>) -> i128 {
     let net = state.net();
     let mut total = 0i128;
     for i in 0..net.arc_count() {
@@ -235,8 +236,8 @@ fn put_word(text: &mut Vec<u8>, n: i128) -> Result<(), NoMemory> {
     put_number(text, n)
 }
 
-// An assignment of so many rows and as many columns, in which row i may go to column j for (i * j) mod 101.
-fn multiples(alloc: Global, size: u32) -> Result<Vec<u8>, NoMemory> {
+/// An assignment of so many rows and as many columns, in which row i may go to column j for (i * j) mod 101.
+pub fn multiples(alloc: Global, size: u32) -> Result<Vec<u8>, NoMemory> {
     let size = i128::from(size);
     let mut text = Vec::new(alloc);
     text.extend_from_slice(b"p asn")?;

@@ -1,5 +1,5 @@
 -- What a matching keeps between searches, and what a search that is over has shown.
-use Rattle.std.specs.Prelude.{◌≡◌, ℕ, ◌<◌, ◌≤◌, ◌^◌, Bool, true, List, [], length, ℤ, pos, neg_ℤ, ◌<ℤ◌, ◌≤ℤ◌, vec_capacity}
+use Rattle.std.specs.Prelude.{◌≡◌, ℕ, ◌<◌, ◌≤◌, ◌^◌, Bool, List, [], length, ℤ, pos, neg_ℤ, ◌<ℤ◌, ◌≤ℤ◌, vec_capacity}
 use Rattle.std.specs.List.{All, Contains}
 use Rattle.mcf_instance.specs.Limits.{wide_limits}
 use Rattle.mcf_instance.specs.Network.{Network, IsNode, at_node, node_count}

@@ -1,4 +1,3 @@
-use Rattle.std.proofs.Common.{true}
 use Rattle.mcf_assign.proofs.Mating.{joined_room, joined_written}
 use Rattle.mcf_assign.proofs.turning.join.Goals as goal
 

@@ -1,10 +1,9 @@
-use Rattle.std.proofs.Common.{◌≡◌, ◌∷◌, ◌++◌, [], ℕ, ℤ, List, length, drop, take, Some, ap, sym, subst, ◌∙◌, arith, refl}
-use Rattle.mcf_instance.specs.Network.{IsNode, node_count}
-use Rattle.mcf_assign.specs.Extending.{Assigned, IsGrown, IsShownMatching, IsStopped}
+use Rattle.std.proofs.Common.{◌++◌, ℕ, ℤ, List, length, drop, take, ap, sym, subst, ◌∙◌, arith, refl}
+use Rattle.mcf_instance.specs.Network.{IsNode}
+use Rattle.mcf_assign.specs.Extending.{Assigned, IsGrown, IsStopped}
 use Rattle.mcf_assign.specs.Private.Keeping.{IsEnded, IsKept}
-use Rattle.mcf_assign.specs.Matchings.{AreMates, IsRow, column_of}
+use Rattle.mcf_assign.specs.Matchings.{IsRow}
 use Rattle.mcf_assign.specs.Private.Searches.{AreRaised, search_of}
-use Rattle.mcf_assign.specs.Private.Turning.{IsExtended}
 use Rattle.mcf_assign.proofs.Kept.{grown_from, kept_grown, near_small, shown_kept, stopped_from, written}
 use Rattle.mcf_assign.proofs.matching.Matching.extend.Goals as goal
 

@@ -1,4 +1,5 @@
-use Rattle.std.proofs.Common.{ap, sym}
+use Rattle.std.proofs.Common.{◌∙◌, ap, sym}
+use Rattle.mcf_instance.specs.Network.{node_count}
 use Rattle.mcf_assign.specs.Extending.{Assigned}
 use Rattle.mcf_assign.proofs.Kept.{shown_kept}
 use Rattle.mcf_assign.proofs.matching.Matching.reached.Goals as goal
@@ -7,3 +8,8 @@ pub returns-clause-shown : goal.returns-clause-shown
 returns-clause-shown c =
     let i = c.self.inside in
     shown_kept i.state i.prices.items i.mates.items i.tables i.reached c.self.invariant c.args.self.now (sym (ap (λ (m : Assigned). m.flow) c.self.view_is)) (sym (ap (λ (m : Assigned). m.prices) c.self.view_is))
+
+pub returns-clause-one_per_node : goal.returns-clause-one_per_node
+returns-clause-one_per_node c =
+    c.self.invariant.count
+    ∙ ap (λ (m : Assigned). node_count m.flow.net) c.self.view_is

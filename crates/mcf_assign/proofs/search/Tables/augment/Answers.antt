@@ -1,10 +1,9 @@
-use Rattle.std.proofs.Common.{◌≡◌, ◌∷◌, ◌++◌, [], ap, sym, ◌∙◌, subst, arith, rules, length, refl, to_z, of_z}
+use Rattle.std.proofs.Common.{◌≡◌, ◌∷◌, ◌++◌, [], ap, sym, ◌∙◌, subst, arith, rules, length, to_z, of_z}
 use mir.Syntax.{w128}
 use Rattle.std.proofs.lemmas.Int.{ints, to_z-of_z}
-use Rattle.mcf_instance.specs.Network.{Network, IsArcNumber, IsNode, node_count}
+use Rattle.mcf_instance.specs.Network.{Network, IsArcNumber}
 use Rattle.mcf_network.specs.Residual.{arc_at}
-use Rattle.mcf_network.specs.States.{Pseudoflow}
-use Rattle.mcf_assign.specs.Forests.{IsChangedWithin, IsForest, IsListing, IsTightArc}
+use Rattle.mcf_assign.specs.Forests.{IsChangedWithin, IsTightArc}
 use Rattle.mcf_assign.specs.Matchings.{IsMatchedColumn, column_of}
 use Rattle.mcf_assign.specs.Private.Searches.{AreRaised, search_of}
 use Rattle.mcf_assign.specs.Private.Turning.{IsExtended}

@@ -1,0 +1,118 @@
+"""The part `assign` of run.py: `mcf solve --engine sap` beside dlib and LEMON, as whole processes.
+
+Dense instances, of uniform costs and of costs (i * j) mod 101, are solved beside dlib's assignment, sparse ones of
+8 arcs a row beside LEMON's network simplex. A peer whose library isn't there is skipped with a word, and so is the
+whole part where the program has no engine `sap`.
+"""
+import pathlib
+import random
+import statistics
+import subprocess
+import sys
+import time
+
+BENCH = pathlib.Path(__file__).resolve().parent
+OUT = BENCH / "out"
+CRATE = BENCH.parent / "crates" / "mcf"
+PROGRAM = CRATE / "out" / "mcf"
+
+DENSE = (256, 512, 1024, 2048)
+SPARSE = (2 ** 12, 2 ** 14, 2 ** 16)
+DEGREE = 8
+MAX_COST = 1_000_000
+
+
+def write(path, rows, arcs):
+    """Writes an instance of so many rows and as many columns with these arcs, once."""
+    if path.exists():
+        return path
+    arcs = list(arcs)
+    with open(path, "w") as out:
+        out.write(f"p asn {2 * rows} {len(arcs)}\n")
+        out.writelines(f"n {row}\n" for row in range(1, rows + 1))
+        out.writelines(f"a {row} {rows + column} {cost}\n" for row, column, cost in arcs)
+    return path
+
+
+def uniform(rows):
+    rnd = random.Random(rows)
+    every = range(1, rows + 1)
+    return ((i, j, rnd.randrange(1, MAX_COST + 1)) for i in every for j in every)
+
+
+def multiples(rows):
+    every = range(1, rows + 1)
+    return ((i, j, i * j % 101) for i in every for j in every)
+
+
+def sparse(rows):
+    """Each row has an arc to the column of a hidden matching, so that a matching of all rows is there."""
+    rnd = random.Random(rows)
+    hidden = rnd.sample(range(1, rows + 1), rows)
+    for i in range(1, rows + 1):
+        for j in {hidden[i - 1], *(rnd.randrange(1, rows + 1) for _ in range(DEGREE - 1))}:
+            yield i, j, rnd.randrange(1, MAX_COST + 1)
+
+
+# of each kind: the peer's source, the library that it is linked with, the greatest ratio, and the instances
+KINDS = {
+    "dlib": ("dense.cc", [], 1.0, [("uniform", uniform, DENSE), ("mod", multiples, DENSE)]),
+    "LEMON": ("sparse.cc", ["-llemon"], 0.5, [("sparse", sparse, SPARSE)]),
+}
+
+
+def build(source, libraries):
+    """The peer, or nothing where it can't be built."""
+    peer = OUT / f"assign-{pathlib.Path(source).stem}-peer"
+    command = ["g++", "-O3", "-DNDEBUG", str(BENCH / "assign" / source), "-o", str(peer), *libraries]
+    try:
+        done = subprocess.run(command, capture_output=True)
+    except FileNotFoundError:
+        return None
+    return None if done.returncode else peer
+
+
+def timed(command):
+    """The first line that a program writes, and its seconds from start to end."""
+    start = time.monotonic()
+    done = subprocess.run(command, check=True, capture_output=True, text=True)
+    return done.stdout.split("\n", 1)[0], time.monotonic() - start
+
+
+def compare(ours, peer, runs):
+    """The medians of the seconds of both, in turn; the first run of each only warms up."""
+    times = []
+    for turn in range(runs + 1):
+        (found, our_time), (peer_found, peer_time) = timed(ours), timed(peer)
+        if found != peer_found:
+            sys.exit(f"the answers differ: {found!r} and {peer_found!r}")
+        if turn:
+            times.append((our_time, peer_time))
+    return [statistics.median(column) for column in zip(*times)]
+
+
+def measure(words, engine="sap"):
+    """Whether each ratio is within its limit."""
+    if not words.built:
+        subprocess.run(["rt", "run"], cwd=CRATE, check=True, stdout=subprocess.DEVNULL)
+    shown = subprocess.run([str(PROGRAM), "solve", "--help"], capture_output=True, text=True)
+    if engine not in shown.stdout:
+        print(f"assign: skipped, the program has no engine {engine}")
+        return True
+    runs = max(5, words.runs)
+    within = True
+    for library, (source, libraries, limit, families) in KINDS.items():
+        peer = build(source, libraries)
+        if peer is None:
+            print(f"assign: skipped beside {library}, which is not there")
+            continue
+        print(f"assign: {runs} runs of each, whole processes, beside {library}")
+        for name, arcs, sizes in families:
+            for rows in sizes:
+                path = write(OUT / f"assign-{name}-{rows}.asn", rows, arcs(rows))
+                ours, peers = compare(
+                    [str(PROGRAM), "solve", "--engine", engine, str(path)], [str(peer), str(path)], runs
+                )
+                print(f"assign {name} {rows}: ours {ours:.4f} s, {library} {peers:.4f} s, ratio {ours / peers:.2f}")
+                within = within and ours / peers <= limit
+    return within

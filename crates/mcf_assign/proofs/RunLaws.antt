@@ -1,0 +1,254 @@
+-- Runs of searches: which rows they match, and what is left to send or to take when all rows are matched.
+use Rattle.std.proofs.Common.{◌≡◌, ℕ, zero, suc, ◌+◌, ◌-◌, ◌^◌, ◌≤◌, Bool, true, false, cond, List, [], ◌∷◌, ◌++◌, length, get_or, ℤ, pos, ◌≤ℤ◌, refl, sym, ◌∙◌, ap, subst, arith, ◌⊎◌, inl, inr}
+use Rattle.std.specs.List.{All, Contains, filter, range_with_len}
+use Rattle.std.proofs.lemmas.Bool.{cases_eq}
+use Rattle.std.proofs.lemmas.Bool.Decides.{Decides-int_eq}
+use Rattle.std.proofs.lemmas.Int.{ints}
+use Rattle.std.proofs.lemmas.List.{append-nil}
+use Rattle.std.proofs.lemmas.List.Elements.{All-from_get_or, All-weaker, Contains-append_cases, Contains-append_left, Contains-push, Contains-push_cases, filter-append}
+use Rattle.mcf_instance.specs.declared.problem.Side.TheVariants.{Send}
+use Rattle.mcf_instance.specs.Network.{Network, IsNode, at_node, node_count}
+use Rattle.mcf_instance.specs.Blocking.{Blocks, in_table}
+use Rattle.mcf_instance.specs.WellFormed.{IsUpTo}
+use Rattle.mcf_network.specs.States.{Pseudoflow, HasNoSurplus, surplus_at}
+use Rattle.mcf_feas.specs.Chosen.{IsChosenBlock, supply_total}
+use Rattle.mcf_feas.specs.Feasible.{IsFeasibleState}
+use Rattle.mcf_feas.proofs.Wholes.{settled}
+use Rattle.mcf_prices.specs.NearPrices.{AreNearPrices, near_limit}
+use Rattle.mcf_prices.specs.Outcomes.{AreStatePrices, IsLeastState}
+use Rattle.mcf_prices.proofs.Cancelling.{least_from_prices}
+use Rattle.mcf_prices.proofs.NearLaws.{shown_near}
+use Rattle.mcf_assign.specs.declared.extended.Extended.{Extended}
+use Rattle.mcf_assign.specs.declared.extended.Extended.TheVariants.{Matched, Blocked}
+use Rattle.mcf_assign.specs.Extending.{Assigned, IsExtension, IsShownMatching}
+use Rattle.mcf_assign.specs.Matchings.{IsMatchedRow, IsPartialMatching, IsRow}
+use Rattle.mcf_assign.specs.Private.Keeping.{AreNearZero}
+use Rattle.mcf_assign.specs.Private.Offering.{AreOffered}
+use Rattle.mcf_assign.specs.Runs.{IsBlockedAtRow, IsMatchedByRows, Run, more, start, is_source, sources, sources_to}
+use Rattle.mcf_assign.proofs.Kept.{no_pair}
+use Rattle.mcf_assign.proofs.Surpluses.{column_matched_or_not, free_column, matched_column, matched_row, matching_shown, row_or_column}
+
+-- ---- source nodes, ascending
+
+range_split : (a n m j : ℕ) → j ≡ n + m → range_with_len a j ≡ range_with_len a n ++ range_with_len (a + n) m
+range_split a zero m j e =
+    let whole : j ≡ m = omega (arith, e) in
+    let from : a ≡ a + 0 = omega arith in
+    ap (range_with_len a) whole ∙ ap (λ b. range_with_len b m) from
+range_split a (suc n) m j e =
+    let longer : j ≡ suc (n + m) = omega (arith, e) in
+    let from : a + 1 + n ≡ a + suc n = omega arith in
+    ap (range_with_len a) longer
+    ∙ ap (λ l. a ∷ l) (range_split (a + 1) n m (n + m) refl ∙ ap (λ b. range_with_len (a + 1) n ++ range_with_len b m) from)
+
+-- those up to v, and those after it
+sources_split : (g : Network) (n m k j v : ℕ) → j ≡ n + m → m ≡ suc k → v ≡ n + 1
+    → sources_to g j ≡ sources_to g n ++ cond (is_source g v) (v ∷ filter (is_source g) (range_with_len (v + 1) k)) (filter (is_source g) (range_with_len (v + 1) k))
+sources_split g n m k j v e longer at =
+    let here : 1 + n ≡ v = omega (arith, at) in
+    ap (filter (is_source g)) (range_split 1 n m j e)
+    ∙ filter-append (is_source g) (range_with_len 1 n) (range_with_len (1 + n) m)
+    ∙ ap (λ b. sources_to g n ++ filter (is_source g) (range_with_len b m)) here
+    ∙ ap (λ c. sources_to g n ++ filter (is_source g) (range_with_len v c)) longer
+
+pub sources_more : (g : Network) (n v : ℕ) → v ≡ n + 1 → sources_to g v ≡ sources_to g n ++ cond (is_source g v) (v ∷ []) []
+sources_more g n v e = sources_split g n 1 0 v v e refl e
+
+sources_with : (g : Network) (n v : ℕ) → v ≡ n + 1 → is_source g v ≡ true → sources_to g v ≡ sources_to g n ++ v ∷ []
+sources_with g n v e source = sources_more g n v e ∙ ap (λ b. sources_to g n ++ cond b (v ∷ []) []) source
+
+sources_without : (g : Network) (n v : ℕ) → v ≡ n + 1 → is_source g v ≡ false → sources_to g v ≡ sources_to g n
+sources_without g n v e other =
+    sources_more g n v e ∙ ap (λ b. sources_to g n ++ cond b (v ∷ []) []) other ∙ append-nil (sources_to g n)
+
+source_is : (g : Network) (v : ℕ) → is_source g v ≡ true → at_node g.supplies v ≡ pos 1
+source_is g v source = (Decides-int_eq (at_node g.supplies v) (pos 1)).0 source
+
+is_source_at : (g : Network) (v : ℕ) → at_node g.supplies v ≡ pos 1 → is_source g v ≡ true
+is_source_at g v one = (Decides-int_eq (at_node g.supplies v) (pos 1)).1 one
+
+or_none : (b : Bool) (x v : ℕ) → Contains (cond b (x ∷ []) []) v → v ≡ x
+or_none true x v h =
+    elim (Contains-push_cases [] x v h) [
+      | inl none ↦ absurd (let l = none.1 in omega (arith, l))
+      | inr e ↦ sym e
+    ]
+or_none false x v h = absurd (let l = h.1 in omega (arith, l))
+
+sources_below : (g : Network) (n v : ℕ) → Contains (sources_to g n) v → v ≤ n
+sources_below g zero v h = absurd (let l = h.1 in omega (arith, l))
+sources_below g (suc n) v h =
+    let last = sources_more g n (suc n) (omega arith) in
+    elim (Contains-append_cases (sources_to g n) (cond (is_source g (suc n)) (suc n ∷ []) []) v (subst (λ l. Contains l v) last h)) [
+      | inl was ↦ (let below = sources_below g n v was in omega (arith, below))
+      | inr now ↦ (let e = or_none (is_source g (suc n)) (suc n) v now in omega (arith, e))
+    ]
+
+sources_have : (g : Network) (n v : ℕ) → IsNode n v → is_source g v ≡ true → Contains (sources_to g n) v
+sources_have g zero v node source = absurd (omega (arith, node))
+sources_have g (suc n) v node source =
+    elim (last_or_before v n node) [
+      | inl e ↦ subst (λ l. Contains l v) (sym (sources_with g n v e source) ∙ ap (sources_to g) (here e)) (Contains-push (sources_to g n) v)
+      | inr before ↦ subst (λ l. Contains l v) (sym (sources_more g n (suc n) (omega arith)))
+          (Contains-append_left (sources_to g n) (cond (is_source g (suc n)) (suc n ∷ []) []) v (sources_have g n v before source))
+    ]
+  where
+    here : v ≡ n + 1 → v ≡ suc n
+    here e = omega (arith, e)
+
+    last_or_before : (v n : ℕ) → IsNode (suc n) v → (v ≡ n + 1) ⊎ IsNode n v
+    last_or_before v n node =
+        elim (cases_eq v (n + 1)) [
+          | inl e ↦ inl e
+          | inr m ↦ inr (omega (arith, node), omega (arith, node, m))
+        ]
+
+-- ---- what a run matches
+
+pub run_net : (g : Network) (rows : List ℕ) (m : Assigned) → Run g rows m → m.flow.net ≡ g
+run_net g rows m (start first) = ap (λ (s : Pseudoflow). s.net) first.flow
+run_net g rows n (more {rows = before} {m = m} run is_row free grown) = grown.net ∙ run_net g before m run
+
+run_listed : (g : Network) (rows : List ℕ) (m : Assigned) (v : ℕ) → Run g rows m → IsMatchedRow m.flow v → Contains rows v
+run_listed g rows m v (start first) matched =
+    let none = subst (λ (s : Pseudoflow). IsMatchedRow s v) first.flow matched in
+    absurd (no_pair g none.0 none.1)
+run_listed g rows n v (more {rows = before} {row = row} {m = m} run is_row free grown) matched =
+    elim ((grown.rows v).0 matched) [
+      | inl was ↦ Contains-append_left before (row ∷ []) v (run_listed g before m v run was)
+      | inr e ↦ subst (λ u. Contains (before ++ row ∷ []) u) (sym e) (Contains-push before row)
+    ]
+
+run_matched : (g : Network) (rows : List ℕ) (m : Assigned) (v : ℕ) → Run g rows m → Contains rows v → IsMatchedRow m.flow v
+run_matched g rows m v (start first) listed = absurd (let l = listed.1 in omega (arith, l))
+run_matched g rows n v (more {rows = before} {row = row} {m = m} run is_row free grown) listed =
+    elim (Contains-push_cases before row v listed) [
+      | inl was ↦ (grown.rows v).1 (inl (run_matched g before m v run was))
+      | inr e ↦ (grown.rows v).1 (inr (sym e))
+    ]
+
+-- ---- one node more
+
+module _ (g : Network) (v : ℕ) (m : Assigned) (node : IsNode (node_count g) v) (run : Run g (sources_to g (v - 1)) m) where
+  at : v ≡ v - 1 + 1
+  at = omega (arith, node)
+
+  pub offered_none : is_source g v ≡ false → Run g (sources_to g v) m
+  offered_none other = subst (λ l. Run g l m) (sym (sources_without g (v - 1) v at other)) run
+
+  pub offered_row : is_source g v ≡ true → IsRow m.flow v
+  offered_row source =
+      let P : Network → Type 0 = λ (n : Network). IsNode (node_count n) v × (at_node n.supplies v ≡ pos 1) in
+      subst P (sym (run_net g (sources_to g (v - 1)) m run)) (node, source_is g v source)
+
+  pub offered_free : ¬ IsMatchedRow m.flow v
+  offered_free matched =
+      let below = sources_below g (v - 1) v (run_listed g (sources_to g (v - 1)) m v run matched) in
+      omega (arith, node, below)
+
+  pub offered_next : (found : Extended) (n : Assigned) → is_source g v ≡ true → IsExtension m v found n → AreOffered g v found n
+  offered_next Matched n source grown =
+      subst (λ l. Run g l n) (sym (sources_with g (v - 1) v at source)) (more run (offered_row source) offered_free grown)
+  offered_next Blocked n source stopped =
+      let rest = filter (is_source g) (range_with_len (v + 1) (node_count g - v)) in
+      record {
+        before = sources_to g (v - 1);
+        row = v;
+        rest = rest;
+        in_order = sources_split g (v - 1) (suc (node_count g - v)) (node_count g - v) (node_count g) v (omega (arith, node)) refl at
+            ∙ ap (λ b. sources_to g (v - 1) ++ cond b (v ∷ rest) rest) source;
+        last = m;
+        run = run;
+        is_row = offered_row source;
+        not_matched = offered_free;
+        blocked = n;
+        stopped = stopped;
+        reached = refl;
+      }
+
+-- ---- the end
+
+pub all_matched : (g : Network) (m : Assigned) → Run g (sources g) m → IsPartialMatching m.flow → supply_total g ≡ pos 0 → HasNoSurplus m.flow
+all_matched g m run ok balanced =
+    settled m.flow ok.flow (ap supply_total same ∙ balanced) (λ v n. at_most v n)
+  where
+    same : m.flow.net ≡ g
+    same = run_net g (sources g) m run
+
+    at_most : (v : ℕ) → IsNode (node_count m.flow.net) v → surplus_at m.flow v ≤ℤ pos 0
+    at_most v n =
+        elim (row_or_column m.flow v ok n) [
+          | inl row ↦ (
+              let P : Network → Type 0 = λ (x : Network). IsNode (node_count x) v × (at_node x.supplies v ≡ pos 1) in
+              let here = subst P same row in
+              let matched = run_matched g (sources g) m v run (sources_have g (node_count g) v here.0 (is_source_at g v here.1)) in
+              let none = matched_row m.flow v ok row matched in
+              omega (arith, ints, none))
+          | inr column ↦ elim (column_matched_or_not m.flow v ok) [
+            | inl matched ↦ (let none = matched_column m.flow v ok column matched in omega (arith, ints, none))
+            | inr free ↦ (let less = free_column m.flow v ok column free in omega (arith, ints, less))
+          ]
+        ]
+
+module _ (g : Network) (m : Assigned) (s : Pseudoflow) (prices : List ℤ) (run : Run g (sources g) m) (ok : IsPartialMatching m.flow)
+    (balanced : supply_total g ≡ pos 0) (same : s ≡ m.flow) (shown : AreStatePrices m.flow.net s prices) where
+  pub end_prices : AreStatePrices g s prices
+  end_prices = subst (λ n. AreStatePrices n s prices) (run_net g (sources g) m run) shown
+
+  feasible_end : IsFeasibleState g m.flow
+  feasible_end =
+      record {
+        of_net = run_net g (sources g) m run;
+        flow = ok.flow;
+        no_surplus = all_matched g m run ok balanced;
+      }
+
+  pub end_least : IsLeastState g s
+  end_least =
+      let greatest = shown.greatest in
+      let P : Pseudoflow → Type 0 = λ (t : Pseudoflow). AreStatePrices m.flow.net t prices → IsLeastState g t in
+      subst P (sym same) (λ p. least_from_prices g m.flow prices feasible_end p.greatest) shown
+
+  pub end_made : IsMatchedByRows g s
+  end_made = record { last = m; run = run; ends = sym same }
+
+pub end_blocked : (g : Network) (table : List Bool) → IsBlockedAtRow g table → supply_total g ≡ pos 0 → IsChosenBlock g table Send
+end_blocked g table at balanced =
+    let net = run_net g at.before at.last at.run in
+    let stopped = at.stopped in
+    let one_per_node = stopped.one_per_node in
+    let blocks = stopped.blocks in
+    record {
+      one_per_node = ap length (sym at.reached) ∙ one_per_node ∙ ap node_count net;
+      blocks = subst (λ t. Blocks g (in_table t) Send) at.reached (subst (λ n. Blocks n (in_table at.blocked.reached) Send) net blocks);
+      chosen = record {
+        take = (λ e. cc, λ low. absurd (omega (arith, ints, low, balanced)));
+        whole = λ uneven v n. absurd (uneven balanced);
+      };
+    }
+
+-- ---- prices
+
+pub near_all : (s : Pseudoflow) (y : List ℤ) → length y ≡ node_count s.net → AreNearZero s y → All (IsUpTo (10 ^ 22)) y
+near_all s y count near =
+    All-from_get_or (IsUpTo (10 ^ 22)) y (pos 0) (λ i l.
+    let here : i + 1 - 1 ≡ i = omega arith in
+    subst (λ j. IsUpTo (10 ^ 22) (get_or y j (pos 0))) here (near (i + 1) (omega arith, omega (arith, l, count))))
+
+-- the prices of a matching show it
+pub priced_near : (m : Assigned) (s : Pseudoflow) (y : List ℤ) → IsShownMatching m → s ≡ m.flow → y ≡ m.prices
+    → All (IsUpTo (10 ^ 22)) m.prices → AreNearPrices s 1 0 y
+priced_near m s y ok flow prices small =
+    let matching = ok.matching in
+    let shown = ok.shown in
+    let near = shown_near m.flow m.prices matching.flow shown.count (All-weaker (IsUpTo (10 ^ 22)) (IsUpTo near_limit) wider m.prices small)
+    (matching_shown m.flow m.prices matching shown)
+    in
+    subst (λ z. AreNearPrices s 1 0 z) (sym prices) (subst (λ t. AreNearPrices t 1 0 m.prices) (sym flow) near)
+  where
+    wider : (z : ℤ) → IsUpTo (10 ^ 22) z → IsUpTo near_limit z
+    wider z (low, high) = (omega (arith, ints, low), omega (arith, ints, high))
+
+pub priced_shown : (m : Assigned) (s : Pseudoflow) (y z : List ℤ) → s ≡ m.flow → z ≡ y → AreStatePrices s.net s y → AreStatePrices m.flow.net s z
+priced_shown m s y z flow prices shown =
+    subst (λ x. AreStatePrices m.flow.net s x) (sym prices) (subst (λ (t : Pseudoflow). AreStatePrices t.net s y) flow shown)

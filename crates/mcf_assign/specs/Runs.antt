@@ -1,0 +1,62 @@
+-- How a matching comes about: one search for each row, ascending.
+use Rattle.std.specs.Prelude.{◌≡◌, ◌≢◌, ℕ, Bool, List, [], ◌∷◌, ◌++◌, length, replicate, pos, ◌⊎◌}
+use Rattle.std.specs.List.{filter, range_with_len}
+use Rattle.std.specs.Ordering.{int_eq}
+use Rattle.mcf_instance.specs.Network.{Network, at_node, node_count}
+use Rattle.mcf_network.specs.States.{Pseudoflow}
+use Rattle.mcf_feas.specs.Chosen.{supply_total}
+use Rattle.mcf_prices.specs.declared.engine.Outcome.{Outcome}
+use Rattle.mcf_prices.specs.declared.engine.Outcome.TheVariants.{Least, Blocked as NoFlow}
+use Rattle.mcf_assign.specs.declared.extended.Extended.TheVariants.{Matched, Blocked}
+use Rattle.mcf_assign.specs.Extending.{Assigned, IsExtension}
+use Rattle.mcf_assign.specs.Matchings.{IsMatchedRow, IsRow}
+
+-- a node of supply 1
+abbrev pub is_source : Network → ℕ → Bool
+is_source g v = int_eq (at_node g.supplies v) (pos 1)
+
+-- the nodes of supply 1 up to a number, ascending
+abbrev pub sources_to : Network → ℕ → List ℕ
+sources_to g n = filter (is_source g) (range_with_len 1 n)
+
+-- the source nodes of a net, ascending
+abbrev pub sources : Network → List ℕ
+sources g = sources_to g (node_count g)
+
+-- the matching without pairs, before the first search
+pub record IsStart (g : Network) (m : Assigned) : Type 0 where
+  pub flow : m.flow ≡ record { net = g; amounts = replicate (length g.arcs) (pos 0) }
+  pub settled : m.settled ≡ []
+
+-- reached from the matching without pairs by one search from each row of a list, in that order, each of which matched
+-- its row
+pub data Run (g : Network) : List ℕ → Assigned → Type 0 where
+  start : {m : Assigned} → IsStart g m → Run g [] m
+  more : {rows : List ℕ} {row : ℕ} {m n : Assigned} → Run g rows m → IsRow m.flow row → ¬ IsMatchedRow m.flow row
+      → IsExtension m row Matched n → Run g (rows ++ row ∷ []) n
+
+-- one search from each source node, ascending, matched its row, and the last left this state
+pub record IsMatchedByRows (g : Network) (s : Pseudoflow) : Type 0 where
+  pub last : Assigned
+  pub run : Run g (sources g) last
+  pub ends : last.flow ≡ s
+
+-- one search from each source node before a row, ascending, matched its row; that from the row found no path, and
+-- reached this set
+pub record IsBlockedAtRow (g : Network) (table : List Bool) : Type 0 where
+  pub before : List ℕ
+  pub row : ℕ
+  pub rest : List ℕ
+  pub in_order : sources g ≡ before ++ row ∷ rest
+  pub last : Assigned
+  pub run : Run g before last
+  pub is_row : IsRow last.flow row
+  pub not_matched : ¬ IsMatchedRow last.flow row
+  pub blocked : Assigned
+  pub stopped : IsExtension last row Blocked blocked
+  pub reached : blocked.reached ≡ table
+
+-- a blocked answer comes from supplies that don't add up to 0, or is what the last search reached
+abbrev pub IsReachedSet : Network → Outcome → Type 0
+IsReachedSet g (Least s prices) = Unit {0}
+IsReachedSet g (NoFlow table side) = (supply_total g ≢ pos 0) ⊎ IsBlockedAtRow g table

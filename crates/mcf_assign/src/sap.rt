@@ -1,0 +1,137 @@
+//! The engine.
+ghost use Rattle.std.specs.Prelude.{◌≡◌, ◌-◌, ◌≤◌, IfOk, OnErr, pos};
+ghost use Rattle.mcf_feas.specs.Chosen.{supply_total};
+ghost use Rattle.mcf_instance.specs.declared.problem.Problem.TheVariants.{Asn};
+ghost use Rattle.mcf_instance.specs.Network.{IsNode, node_count};
+ghost use Rattle.mcf_prices.specs.Outcomes.{AreStatePrices, IsOutcome};
+ghost use Rattle.mcf_assign.specs.Extending.{IsShownMatching};
+ghost use Rattle.mcf_assign.specs.Private.Offering.{AreOffered};
+ghost use Rattle.mcf_assign.specs.Runs.{IsMatchedByRows, IsReachedSet, IsStart, Run, is_source, sources_to};
+
+use crate::extended::Extended;
+use crate::matching::Matching;
+use mcf_feas::unbalanced;
+use mcf_instance::{Problem, Side};
+use mcf_network::{Net, State};
+use mcf_prices::{Engine, Outcome, Pricer};
+use mcf_text::{NoMemory, NodeId};
+use std::alloc::Global;
+
+/// Successive shortest paths for assignments: one search from each row, ascending (Ahuja, Magnanti and Orlin, Network
+/// Flows, sections 9.7 and 12.4).
+///
+/// It takes the nets of assignments alone. How it made a state is a relation of its contract, `IsMatchedByRows`: one
+/// search from each source node, each of which matched it. That is as many searches as there are source nodes.
+#[derive(Clone, Copy, Debug, Default)]
+pub struct Sap;
+
+impl Sap {
+    /// The engine, which keeps nothing.
+    pub fn new() -> Sap {
+        Sap
+    }
+}
+
+impl Engine for Sap {
+    ghost use Rattle.std.specs.Prelude.{◌≡◌};
+    ghost use Rattle.mcf_instance.specs.declared.problem.Problem.TheVariants.{Asn};
+    ghost use Rattle.mcf_assign.specs.Runs.{IsMatchedByRows};
+
+    ghost Takes = { λ g. g.problem ≡ Asn };
+
+    ghost Made = { λ _ g s _. IsMatchedByRows g s };
+
+    fn takes(&self, net: &Net) -> bool {
+        match net.problem() {
+            Problem::Min => false,
+            Problem::Asn => true,
+        }
+    }
+
+    /// A least state of the net, with its prices, or a node set that shows that there is none.
+    ///
+    /// Where the supplies add up to 0, the set is what the last search reached. Where they don't, it is all nodes, and
+    /// nothing is searched.
+    ///
+    /// # Errors
+    ///
+    /// Want of memory, where a growth was refused; a net without nodes wants none. All growth comes before the first
+    /// search. The engine is as it was.
+    fn solve<'n>(&mut self, alloc: Global, net: &'n Net) -> Result<Outcome<'n>, NoMemory>
+        requires { net.now.problem ≡ Asn }
+        ensures outcome { IfOk result (IsOutcome (IsMatchedByRows net.now) net.now) }
+        ensures blocked { IfOk result (IsReachedSet net.now) }
+        ensures wants { OnErr result (1 ≤ node_count net.now) }
+        ensures err { OnErr result (self.new ≡ self.old) }
+    {
+        if let Some((set, side)) = unbalanced(alloc, net)? {
+            return Ok(Outcome::Blocked(set, side));
+        }
+        assign(alloc, net)
+    }
+}
+
+// The answer to a net whose supplies add up to 0: a search from each row.
+fn assign<'n>(alloc: Global, net: &'n Net) -> Result<Outcome<'n>, NoMemory>
+    requires assignment { net.now.problem ≡ Asn }
+    requires balanced { supply_total net.now ≡ pos 0 }
+    ensures outcome { IfOk result (IsOutcome (IsMatchedByRows net.now) net.now) }
+    ensures blocked { IfOk result (IsReachedSet net.now) }
+    ensures wants { OnErr result (1 ≤ node_count net.now) }
+{
+    let pricer = Pricer::start(alloc, net)?;
+    let mut matching = Matching::start(alloc, net)?;
+    match match_rows(&mut matching, net) {
+        Extended::Matched => {
+            let (state, prices) = priced(pricer, matching);
+            Ok(Outcome::Least(state, prices))
+        }
+        Extended::Blocked => Ok(Outcome::Blocked(matching.into_reached(), Side::Send)),
+    }
+}
+
+// Matches the rows of a matching without pairs, ascending, until a search finds no path.
+fn match_rows(matching: &mut Matching<'_>, net: &Net) -> Extended
+    requires { IsStart net.now matching.old }
+    ensures { AreOffered net.now (node_count net.now) result matching.new }
+{
+    'rows: for number in 0..net.node_count() {
+        match match_node(matching, net, NodeId::new(number + 1)) {
+            Extended::Matched => {}
+            Extended::Blocked => return Extended::Blocked,
+        }
+    }
+    Extended::Matched
+}
+
+// Matches a node if it is a row. The rows before it are matched.
+fn match_node(matching: &mut Matching<'_>, net: &Net, v: NodeId) -> Extended
+    requires node { IsNode (node_count net.now) v }
+    requires run { Run net.now (sources_to net.now (v - 1)) matching.old }
+    ensures { AreOffered net.now v result matching.new }
+{
+    if !is_source(net, v) {
+        return Extended::Matched;
+    }
+    matching.extend(v)
+}
+
+// Whether a node has supply 1.
+fn is_source(net: &Net, v: NodeId) -> bool
+    requires { IsNode (node_count net.now) v }
+    ensures { result ≡ is_source net.now v }
+{
+    net.supply(v) == 1
+}
+
+// The state of a matching, and the greatest prices that show it.
+fn priced<'n>(mut pricer: Pricer, matching: Matching<'n>) -> (State<'n>, Vec<i128>)
+    requires { pricer ≡ node_count matching.flow.net }
+    ensures state { result.0 ≡ matching.entry.flow }
+    ensures prices { AreStatePrices matching.entry.flow.net result.0 result.1.items }
+    ensures shown { IsShownMatching matching.entry }
+{
+    let (state, mut prices) = matching.into_parts();
+    pricer.raise(&state, 1, 0, prices.as_mut_slice());
+    (state, prices)
+}

@@ -1,0 +1,682 @@
+-- At a last basis where an artificial arc carries something, the nodes of price above 0 can't send what they must.
+use Rattle.std.proofs.Common.{◌≡◌, ◌≢◌, ℕ, zero, suc, ◌+◌, ◌-◌, ◌*◌, ◌<◌, ◌≤◌, ◌⊎◌, inl, inr, Bool, true, false, not, eqb, List, length, map, drop, sum, set, get_or, refl, sym, ap, ◌∙◌, subst, arith, ℤ, pos, neg_ℤ, ◌+ℤ◌, ◌-ℤ◌, ◌≤ℤ◌, ◌<ℤ◌, length-set}
+use Rattle.std.specs.Prelude.{int_lt, max, unsigned_abs}
+use Rattle.std.specs.List.{AllZip, range_with_len}
+use Rattle.std.proofs.Math.Nat.{le-max_right, mul-le-mul_left}
+use Rattle.std.proofs.lemmas.Bool.{and_parts, cases_Bool, cases_eq}
+use Rattle.std.proofs.lemmas.Int.{ints}
+use Rattle.std.proofs.lemmas.List.{get_or_default, get_or-drop, get_or-map, get_or-set_other, length-drop, length-map}
+use Rattle.std.proofs.lemmas.List.FromFn.{get_or-map-range_with_len, length-map-range_with_len}
+use Rattle.std.proofs.lemmas.List.Sums.{sum_by-set}
+use Rattle.mcf_instance.specs.declared.arc.Arc.{Arc}
+use Rattle.mcf_instance.specs.declared.problem.Side.TheVariants.{Send}
+use Rattle.mcf_instance.specs.Blocking.{Blocks, cap_leaving, enters, leaves, low_entering, supply_in}
+use Rattle.mcf_instance.specs.Flow.{inflow, net, outflow}
+use Rattle.mcf_instance.specs.Network.{Network, IsArcNumber, IsNode, at_node, flow_sum, node_count, node_sum, when}
+use Rattle.mcf_instance.specs.WellFormed.{HasEnds, IsUpTo, weight}
+use Rattle.mcf_instance.proofs.AllZips.{AllZip_from}
+use Rattle.mcf_instance.proofs.ArcSums.{arc_sum-same, arc_sum-zero, flow_sum-arc_sum, flow_sum-same_at, flow_sum-zero}
+use Rattle.mcf_instance.proofs.Bounds.{up_to_size, weight-le-sum}
+use Rattle.mcf_instance.proofs.Hoffman.{nets_across}
+use Rattle.mcf_instance.proofs.NodeSums.{nets_cancel, node_sum-add, node_sum-same, node_sum-sub, node_sum_above_zero}
+use Rattle.mcf_links.specs.Rooted.{climb}
+use Rattle.mcf_links.proofs.Depths.{climb_apart}
+use Rattle.mcf_links.proofs.Paths.{above_root, climb-add, climb-suc, climb-within, depth-climb, root_from_depth}
+use Rattle.mcf_network.specs.Nets.{IsNetArc}
+use Rattle.mcf_network.specs.Residual.{no_arc, arc_at}
+use Rattle.mcf_network.proofs.ArcLaws.{ends_at, net_arc_at}
+use Rattle.mcf_network.proofs.StateLaws.{when-add, when-other, when-same, when-zero}
+use Rattle.mcf_tree.specs.SpanningTree.{depth_of, label_of, parent_of, size_of}
+use Rattle.mcf_basis.specs.Artificial.{artificial_arc, artificial_cost, is_sender, with_artificial}
+use Rattle.mcf_basis.specs.Bases.{CanHold, HasTreeArc, IsBasis}
+use Rattle.mcf_basis.specs.Laws.{HasNoArtificial}
+use Rattle.mcf_basis.specs.Structures.{TreeStructure, IsInTree, Joins, carried, price_at, reduced_at, state_of}
+use Rattle.mcf_basis.specs.Structures.Joins.{out_of, into}
+use Rattle.mcf_basis.specs.Violations.{HasNoEligible}
+use Rattle.mcf_basis.proofs.Cycles.{tree_of}
+use Rattle.mcf_basis.proofs.Around.{arcs_of}
+use Rattle.mcf_basis.proofs.Flows.{amount_count, own_carried, own_count, split_sum}
+use Rattle.mcf_basis.proofs.Labels.{added_arc, added_label, inner_arc, own_arc, own_label, root_arc}
+use Rattle.mcf_basis.proofs.LastBases.{node_count_added, supply_added}
+use Rattle.mcf_basis.proofs.Offers.{not_in_tree, own_reduced}
+use Rattle.mcf_basis.proofs.PivotBounds.{zero_or_more}
+use Rattle.mcf_basis.proofs.PricesTurned.{cases_in_tree}
+use Rattle.mcf_basis.proofs.StrongPivot.{labels_apart}
+use Rattle.mcf_basis.proofs.TreeFlows.{single_term}
+use Rattle.mcf_basis.proofs.TreePrices.{in_tree}
+
+-- the arcs of the net that are in the tree can carry something
+abbrev pub HasWideTree : TreeStructure → Type 0
+HasWideTree b =
+    (v : ℕ) → IsNode (node_count b.net) v → label_of b.tree v ≤ length b.net.arcs → pos 0 <ℤ (arc_at b.net (label_of b.tree v)).cap
+
+-- ---- the entries at different places of a list
+
+-- f 0 + .. + f (n - 1)
+abbrev pub total : (ℕ → ℕ) → ℕ → ℕ
+total f zero = 0
+total f (suc n) = total f n + f n
+
+total-same : (f h : ℕ → ℕ) (n : ℕ) → ((i : ℕ) → i < n → f i ≡ h i) → total f n ≡ total h n
+total-same f h zero e = refl
+total-same f h (suc n) e =
+    let ih : total f n ≡ total h n = total-same f h n (λ i l. e i (omega arith)) in
+    let here : f n ≡ h n = e n (omega arith) in
+    omega (arith, ih, here)
+
+-- what is left of a list without them
+record HasRest (ws : List ℕ) (at : ℕ → ℕ) (n : ℕ) : Type 0 where
+  pub rest : List ℕ
+  pub size : length rest ≡ length ws
+  pub sums : total (λ i. get_or ws (at i) 0) n + sum rest ≡ sum ws
+  pub kept : (j : ℕ) → ((i : ℕ) → i < n → j ≢ at i) → get_or rest j 0 ≡ get_or ws j 0
+
+rest_of : (ws : List ℕ) (at : ℕ → ℕ) (n : ℕ) → ((i : ℕ) → i < n → at i < length ws) → ((i j : ℕ) → i < j → j < n → at i ≢ at j) → HasRest ws at n
+rest_of ws at zero inside apart = record { rest = ws; size = refl; sums = omega arith; kept = λ j off. refl }
+rest_of ws at (suc n) inside apart =
+    let r : HasRest ws at n = rest_of ws at n (λ i h. inside i (omega arith)) (λ i j h l. apart i j h (omega arith)) in
+    let size : length r.rest ≡ length ws = r.size in
+    let here : at n < length ws = inside n (omega arith) in
+    let same : get_or r.rest (at n) 0 ≡ get_or ws (at n) 0 = r.kept (at n) (λ i h e. apart i n h (omega arith) (sym e)) in
+    let sums : total (λ i. get_or ws (at i) 0) n + sum r.rest ≡ sum ws = r.sums in
+    let one : sum (set r.rest (at n) 0) + get_or r.rest (at n) 0 ≡ sum r.rest + 0 = sum_by-set (λ x. x) r.rest (at n) 0 0 (omega (arith, size, here)) in
+    record {
+      rest = set r.rest (at n) 0;
+      size = length-set r.rest (at n) 0 ∙ size;
+      sums = omega (arith, same, sums, one);
+      kept = λ j off. get_or-set_other r.rest (at n) j 0 0 (off n (omega arith)) ∙ r.kept j (λ i h. off i (omega arith));
+    }
+
+-- ---- what the artificial arcs carry
+
+abbrev pub artificial_amount : TreeStructure → ℕ → ℤ
+artificial_amount b v = carried b (length b.net.arcs + v)
+
+-- what the arcs of the net leave of the supply of a node
+abbrev pub unsent : TreeStructure → ℕ → ℤ
+unsent b v = at_node b.net.supplies v -ℤ net b.net.arcs (state_of b).amounts v
+
+-- it goes along the artificial arc, and where it isn't 0, this arc says what the price is
+pub data NodeCase (b : TreeStructure) (v : ℕ) : Type 0 where
+  sends : unsent b v ≡ artificial_amount b v → (pos 0 <ℤ artificial_amount b v → price_at b v ≡ pos (artificial_cost b.net)) → NodeCase b v
+  takes : unsent b v ≡ neg_ℤ (artificial_amount b v) → (pos 0 <ℤ artificial_amount b v → price_at b v ≡ neg_ℤ (pos (artificial_cost b.net))) → NodeCase b v
+
+sender_src : (g : Network) (v : ℕ) → is_sender g v ≡ true → (artificial_arc g v).src ≡ v
+sender_src g v e = rw e refl
+
+sender_dst : (g : Network) (v : ℕ) → is_sender g v ≡ true → (artificial_arc g v).dst ≡ 0
+sender_dst g v e = rw e refl
+
+taker_src : (g : Network) (v : ℕ) → is_sender g v ≡ false → (artificial_arc g v).src ≡ 0
+taker_src g v e = rw e refl
+
+taker_dst : (g : Network) (v : ℕ) → is_sender g v ≡ false → (artificial_arc g v).dst ≡ v
+taker_dst g v e = rw e refl
+
+-- an artificial arc has no end at another node
+apart_src : (g : Network) (u v : ℕ) → 0 < v → u ≢ v → (artificial_arc g u).src ≢ v
+apart_src g u v up ne q = elim (cases_Bool (is_sender g u)) [
+  | inl e ↦ ne (sym (sender_src g u e) ∙ q)
+  | inr e ↦ (let z : 0 ≡ v = sym (taker_src g u e) ∙ q in omega (arith, z, up))
+]
+
+apart_dst : (g : Network) (u v : ℕ) → 0 < v → u ≢ v → (artificial_arc g u).dst ≢ v
+apart_dst g u v up ne q = elim (cases_Bool (is_sender g u)) [
+  | inl e ↦ (let z : 0 ≡ v = sym (sender_dst g u e) ∙ q in omega (arith, z, up))
+  | inr e ↦ ne (sym (taker_dst g u e) ∙ q)
+]
+
+abbrev added_arcs : Network → List Arc
+added_arcs g = map (artificial_arc g) (range_with_len 1 (node_count g))
+
+-- of the artificial arcs one alone is at v
+module _ (g : Network) (flow : List ℤ) (count : length flow ≡ node_count g) (v : ℕ) (h : IsNode (node_count g) v) where
+  added_size : length flow ≡ length (added_arcs g)
+  added_size = count ∙ sym (length-map-range_with_len (artificial_arc g) 1 (node_count g))
+
+  arc_at_place : (i : ℕ) → i < node_count g → get_or (added_arcs g) i no_arc ≡ artificial_arc g (i + 1)
+  arc_at_place i l = get_or-map-range_with_len (artificial_arc g) 1 (node_count g) i (i + 1) no_arc l (omega arith)
+
+  added_out : outflow (added_arcs g) flow v ≡ when (eqb (artificial_arc g v).src v) (get_or flow (v - 1) (pos 0))
+  added_out =
+      let n = length-map-range_with_len (artificial_arc g) 1 (node_count g) in
+      let back : v - 1 + 1 ≡ v = omega arith in
+      single_term (λ a f. when (eqb a.src v) f) (added_arcs g) flow (v - 1) added_size (omega (arith, n, h))
+      (λ i l ne. (let m : i < node_count g = omega (arith, n, l) in
+      subst (λ a. when (eqb a.src v) (get_or flow i (pos 0)) ≡ pos 0) (sym (arc_at_place i m))
+      (when-other (artificial_arc g (i + 1)).src v _ (λ q. apart_src g (i + 1) v (omega arith) (λ e. ne (omega arith)) (sym q)))))
+      ∙ ap (λ a. when (eqb a.src v) (get_or flow (v - 1) (pos 0))) (arc_at_place (v - 1) (omega arith) ∙ ap (artificial_arc g) back)
+
+  added_in : inflow (added_arcs g) flow v ≡ when (eqb (artificial_arc g v).dst v) (get_or flow (v - 1) (pos 0))
+  added_in =
+      let n = length-map-range_with_len (artificial_arc g) 1 (node_count g) in
+      let back : v - 1 + 1 ≡ v = omega arith in
+      single_term (λ a f. when (eqb a.dst v) f) (added_arcs g) flow (v - 1) added_size (omega (arith, n, h))
+      (λ i l ne. (let m : i < node_count g = omega (arith, n, l) in
+      subst (λ a. when (eqb a.dst v) (get_or flow i (pos 0)) ≡ pos 0) (sym (arc_at_place i m))
+      (when-other (artificial_arc g (i + 1)).dst v _ (λ q. apart_dst g (i + 1) v (omega arith) (λ e. ne (omega arith)) (sym q)))))
+      ∙ ap (λ a. when (eqb a.dst v) (get_or flow (v - 1) (pos 0))) (arc_at_place (v - 1) (omega arith) ∙ ap (artificial_arc g) back)
+
+module _ (b : TreeStructure) (ok : IsBasis b) where
+  pub artificial_low : (v : ℕ) → IsNode (node_count b.net) v → pos 0 ≤ℤ artificial_amount b v
+  artificial_low v h = (ok.flow.within_bounds (length b.net.arcs + v) (added_label b.net v h)).low
+
+  -- what carries something is in the tree
+  carrying : (v : ℕ) → IsNode (node_count b.net) v → pos 0 <ℤ artificial_amount b v → reduced_at b (length b.net.arcs + v) ≡ pos 0
+  carrying v h some =
+      elim (cases_in_tree b (length b.net.arcs + v)) [
+        | inl t ↦ ap (reduced_at b) (sym t.labelled) ∙ ok.prices.balanced t.node t.is_node
+        | inr out ↦ absurd (elim (ok.at_bounds (length b.net.arcs + v) (added_label b.net v h) out) [
+          | inl z ↦ omega (arith, ints, z, some)
+          | inr f ↦ (let le = f.0 in omega (arith, le, h))
+        ])
+      ]
+
+  added_reduced : (v : ℕ) → IsNode (node_count b.net) v →
+      reduced_at b (length b.net.arcs + v) ≡ pos (artificial_cost b.net) -ℤ price_at b (artificial_arc b.net v).src +ℤ price_at b (artificial_arc b.net v).dst
+  added_reduced v h = ap (λ a. a.cost -ℤ price_at b a.src +ℤ price_at b a.dst) (added_arc b.net v (length b.net.arcs + v) h refl)
+
+  read_added : (v : ℕ) → IsNode (node_count b.net) v → get_or (drop (length b.net.arcs) b.amounts) (v - 1) (pos 0) ≡ artificial_amount b v
+  read_added v h =
+      let place : length b.net.arcs + v - 1 ≡ length b.net.arcs + (v - 1) = omega arith in
+      get_or-drop (length b.net.arcs) b.amounts (v - 1) (pos 0) ∙ sym (ap (λ j. get_or b.amounts j (pos 0)) place)
+
+  rest_count : length (drop (length b.net.arcs) b.amounts) ≡ node_count b.net
+  rest_count = let e = amount_count b ok in let l = length-drop (length b.net.arcs) b.amounts in omega (arith, e, l)
+
+  -- what a node sends along its artificial arc
+  unsent_by : (v : ℕ) → IsNode (node_count b.net) v →
+      unsent b v ≡ when (eqb (artificial_arc b.net v).src v) (artificial_amount b v) -ℤ when (eqb (artificial_arc b.net v).dst v) (artificial_amount b v)
+  unsent_by v h =
+      let e = amount_count b ok in
+      let s = ok.flow.no_surplus v (subst (λ n. IsNode n v) (node_count_added b.net) h) in
+      let sup = supply_added b.net v in
+      let out : outflow (with_artificial b.net).arcs b.amounts v
+      ≡ outflow b.net.arcs (state_of b).amounts v +ℤ outflow (added_arcs b.net) (drop (length b.net.arcs) b.amounts) v =
+      split_sum (λ a f. when (eqb a.src v) f) b.net b.amounts (omega (arith, e)) in
+      let inn : inflow (with_artificial b.net).arcs b.amounts v
+      ≡ inflow b.net.arcs (state_of b).amounts v +ℤ inflow (added_arcs b.net) (drop (length b.net.arcs) b.amounts) v =
+      split_sum (λ a f. when (eqb a.dst v) f) b.net b.amounts (omega (arith, e)) in
+      let one : outflow (added_arcs b.net) (drop (length b.net.arcs) b.amounts) v ≡ when (eqb (artificial_arc b.net v).src v) (artificial_amount b v) =
+      added_out b.net (drop (length b.net.arcs) b.amounts) rest_count v h ∙ ap (when (eqb (artificial_arc b.net v).src v)) (read_added v h) in
+      let two : inflow (added_arcs b.net) (drop (length b.net.arcs) b.amounts) v ≡ when (eqb (artificial_arc b.net v).dst v) (artificial_amount b v) =
+      added_in b.net (drop (length b.net.arcs) b.amounts) rest_count v h ∙ ap (when (eqb (artificial_arc b.net v).dst v)) (read_added v h) in
+      omega (arith, ints, s, sup, out, inn, one, two)
+
+  sender_case : (v : ℕ) → IsNode (node_count b.net) v → is_sender b.net v ≡ true → NodeCase b v
+  sender_case v h e =
+      let src = sender_src b.net v e in
+      let dst = sender_dst b.net v e in
+      let by = unsent_by v h in
+      let s = when-same (artificial_arc b.net v).src v (artificial_amount b v) (sym src) in
+      let d = when-other (artificial_arc b.net v).dst v (artificial_amount b v) (λ q. (let z : v ≡ 0 = q ∙ dst in omega (arith, z, h))) in
+      sends (omega (arith, ints, by, s, d)) (λ some. (let zero_cost = carrying v h some in
+      let r = added_reduced v h in
+      let at_src = ap (price_at b) src in
+      let at_dst = ap (price_at b) dst in
+      let root = ok.prices.root in
+      omega (arith, ints, zero_cost, r, at_src, at_dst, root)))
+
+  taker_case : (v : ℕ) → IsNode (node_count b.net) v → is_sender b.net v ≡ false → NodeCase b v
+  taker_case v h e =
+      let src = taker_src b.net v e in
+      let dst = taker_dst b.net v e in
+      let by = unsent_by v h in
+      let s = when-other (artificial_arc b.net v).src v (artificial_amount b v) (λ q. (let z : v ≡ 0 = q ∙ src in omega (arith, z, h))) in
+      let d = when-same (artificial_arc b.net v).dst v (artificial_amount b v) (sym dst) in
+      takes (omega (arith, ints, by, s, d)) (λ some. (let zero_cost = carrying v h some in
+      let r = added_reduced v h in
+      let at_src = ap (price_at b) src in
+      let at_dst = ap (price_at b) dst in
+      let root = ok.prices.root in
+      omega (arith, ints, zero_cost, r, at_src, at_dst, root)))
+
+  pub node_case : (v : ℕ) → IsNode (node_count b.net) v → NodeCase b v
+  node_case v h = elim (cases_Bool (is_sender b.net v)) [
+    | inl e ↦ sender_case v h e
+    | inr e ↦ taker_case v h e
+  ]
+
+-- ---- how far a price lies from that of the child of the root above it
+
+-- the child of the root on the path from a node
+abbrev pub top : TreeStructure → ℕ → ℕ
+top b v = climb b.tree.parents (depth_of b.tree v - 1) v
+
+abbrev weights : TreeStructure → List ℕ
+weights b = map weight b.net.arcs
+
+-- the place of the arc above the node i steps up from v, and its weight
+abbrev place_of : TreeStructure → ℕ → ℕ → ℕ
+place_of b v i = label_of b.tree (climb b.tree.parents i v) - 1
+
+abbrev weight_of : TreeStructure → ℕ → ℕ → ℕ
+weight_of b v i = get_or (weights b) (place_of b v i) 0
+
+-- the weights of all arcs from v up to that child
+abbrev path_weight : TreeStructure → ℕ → ℕ
+path_weight b v = total (weight_of b v) (depth_of b.tree v - 1)
+
+-- the price of that child, from which path_weight is how far v's can lie
+pub data TopCase (b : TreeStructure) (v : ℕ) : Type 0 where
+  high : price_at b (top b v) ≡ pos (artificial_cost b.net) → TopCase b v
+  low : price_at b (top b v) ≡ neg_ℤ (pos (artificial_cost b.net)) → TopCase b v
+
+-- an arc that can carry something weighs no less than the size of its cost
+weight_wide : (a : Arc) → pos 0 <ℤ a.cap → unsigned_abs a.cost ≤ weight a
+weight_wide a h =
+    let size = up_to_size a.cap in
+    let right = le-max_right (unsigned_abs a.low) (unsigned_abs a.cap) in
+    let le : unsigned_abs a.cost * 1 ≤ unsigned_abs a.cost * max (unsigned_abs a.low) (unsigned_abs a.cap) =
+    mul-le-mul_left (unsigned_abs a.cost) (omega (arith, ints, size, right, h)) in
+    omega (arith, le)
+
+-- the prices of the ends of an arc of reduced cost 0 differ by its cost
+step_price : (b : TreeStructure) (label u v m : ℕ) → Joins b.net label u v → reduced_at b label ≡ pos 0
+    → IsUpTo m (arc_at (with_artificial b.net) label).cost → IsUpTo m (price_at b u -ℤ price_at b v)
+step_price b label u v m (out_of s d) r c =
+    let e : ((arc_at (with_artificial b.net) label).cost -ℤ price_at b u) +ℤ price_at b v ≡ pos 0 = rw (s, d) at r in
+    (omega (arith, ints), omega (arith, ints))
+step_price b label u v m (into s d) r c =
+    let e : ((arc_at (with_artificial b.net) label).cost -ℤ price_at b v) +ℤ price_at b u ≡ pos 0 = rw (s, d) at r in
+    (omega (arith, ints), omega (arith, ints))
+
+top_price : (b : TreeStructure) (label u m : ℕ) → Joins b.net label u 0 → reduced_at b label ≡ pos 0 → price_at b 0 ≡ pos 0
+    → (arc_at (with_artificial b.net) label).cost ≡ pos m → (price_at b u ≡ pos m) ⊎ (price_at b u ≡ neg_ℤ (pos m))
+top_price b label u m (out_of s d) r root c =
+    let e : ((arc_at (with_artificial b.net) label).cost -ℤ price_at b u) +ℤ price_at b 0 ≡ pos 0 = rw (s, d) at r in
+    inl (omega (arith, ints))
+top_price b label u m (into s d) r root c =
+    let e : ((arc_at (with_artificial b.net) label).cost -ℤ price_at b 0) +ℤ price_at b u ≡ pos 0 = rw (s, d) at r in
+    inr (omega (arith, ints))
+
+module _ (b : TreeStructure) (ok : IsBasis b) where
+  abbrev ps : List ℕ
+  ps = b.tree.parents
+
+  abbrev depth : ℕ → ℕ
+  depth = depth_of b.tree
+
+  deep_at : (v i : ℕ) → v ≤ node_count b.net → i ≤ depth v → depth (climb ps i v) + i ≡ depth v
+  deep_at v i h le = depth-climb ps (depth_of b.tree) ok.spanning.rooted i v (in_tree b ok v h) le
+
+  at_within : (v i : ℕ) → v ≤ node_count b.net → climb ps i v < length ps
+  at_within v i h = climb-within ps (depth_of b.tree) ok.spanning.rooted i v (in_tree b ok v h)
+
+  at_above : (v i : ℕ) → v ≤ node_count b.net → i < depth v → 0 < climb ps i v
+  at_above v i h lt = let e = deep_at v i h (omega arith) in above_root ps (depth_of b.tree) ok.spanning.rooted (climb ps i v) (omega (arith, e, lt))
+
+  at_node_of : (v i : ℕ) → v ≤ node_count b.net → i < depth v → IsNode (node_count b.net) (climb ps i v)
+  at_node_of v i h lt =
+      let size : size_of b.tree ≡ node_count b.net + 1 = ok.size in
+      let w = at_within v i h in
+      let up = at_above v i h lt in (omega (arith, up), omega (arith, w, size))
+
+  node_deep : (v : ℕ) → IsNode (node_count b.net) v → 0 < depth v
+  node_deep v h = let e = ok.spanning.rooted.falls v h.0 (in_tree b ok v h.1) in omega (arith, e)
+
+  up_one : (v i : ℕ) → parent_of b.tree (climb ps i v) ≡ climb ps (suc i) v
+  up_one v i = sym (climb-suc ps i v)
+
+  -- below the children of the root the arcs of the tree are arcs of the net
+  own_at : (v i : ℕ) → v ≤ node_count b.net → suc i < depth v → IsArcNumber b.net (label_of b.tree (climb ps i v))
+  own_at v i h lt =
+      let arc : HasTreeArc b (climb ps i v) = ok.tree_arcs (climb ps i v) (at_node_of v i h (omega arith)) in
+      inner_arc b.net (label_of b.tree (climb ps i v)) (climb ps i v) (parent_of b.tree (climb ps i v)) arc.label (at_above v i h (omega arith))
+      (subst (λ u. 0 < u) (sym (up_one v i)) (at_above v (suc i) h lt)) arc.joins
+
+  place_within : (v i : ℕ) → v ≤ node_count b.net → suc i < depth v → place_of b v i < length (weights b)
+  place_within v i h lt = let own = own_at v i h lt in let n = length-map b.net.arcs weight in omega (arith, own, n)
+
+  read_weight : (k : ℕ) → IsArcNumber b.net k → get_or (weights b) (k - 1) 0 ≡ weight (arc_at b.net k)
+  read_weight k h = get_or-map weight b.net.arcs (k - 1) no_arc 0 (omega arith)
+
+  -- different nodes below them have their arcs at different places
+  places_apart : (u v i j : ℕ) → u ≤ node_count b.net → v ≤ node_count b.net → suc i < depth u → suc j < depth v
+      → climb ps i u ≢ climb ps j v → place_of b u i ≢ place_of b v j
+  places_apart u v i j hu hv li lj ne e =
+      let own = own_at u i hu li in
+      let other = own_at v j hv lj in
+      labels_apart (arcs_of b.net) ps b.tree.labels (depth_of b.tree) (tree_of b ok) (climb ps i u) (climb ps j v)
+      (at_above u i hu (omega arith)) (at_within u i hu)
+      (at_above v j hv (omega arith)) (at_within v j hv) ne (omega (arith, own, other, e))
+
+  own_apart : (v i j : ℕ) → v ≤ node_count b.net → i < j → suc j < depth v → place_of b v i ≢ place_of b v j
+  own_apart v i j h lt le =
+      places_apart v v i j h h (omega arith) le (climb_apart ps (depth_of b.tree) ok.spanning.rooted v i j (in_tree b ok v h) lt (omega arith))
+
+  -- a node of the path has the same child of the root above it
+  top_same : (v i : ℕ) → v ≤ node_count b.net → i < depth v → top b (climb ps i v) ≡ top b v
+  top_same v i h lt =
+      let e = deep_at v i h (omega arith) in
+      let steps : depth (climb ps i v) - 1 ≡ depth v - 1 - i = omega (arith, e) in
+      let all : i + (depth v - 1 - i) ≡ depth v - 1 = omega arith in
+      ap (λ n. climb ps n (climb ps i v)) steps ∙ (sym (climb-add ps i (depth v - 1 - i) v) ∙ ap (λ n. climb ps n v) all)
+
+  sides_apart : (u v i j : ℕ) → u ≤ node_count b.net → v ≤ node_count b.net → top b u ≢ top b v
+      → suc i < depth u → suc j < depth v → place_of b u i ≢ place_of b v j
+  sides_apart u v i j hu hv ne li lj =
+      places_apart u v i j hu hv li lj (λ e. ne (sym (top_same u i hu (omega arith)) ∙ (ap (top b) e ∙ top_same v j hv (omega arith))))
+
+  pub top_case : (v : ℕ) → IsNode (node_count b.net) v → TopCase b v
+  top_case v h =
+      let deep = node_deep v h in
+      let e = deep_at v (depth v - 1) h.1 (omega arith) in
+      let node = at_node_of v (depth v - 1) h.1 (omega (arith, deep)) in
+      let inside = at_within v (depth v - 1) h.1 in
+      let f : depth (top b v) ≡ depth (parent_of b.tree (top b v)) + 1 = ok.spanning.rooted.falls (top b v) node.0 inside in
+      let z : parent_of b.tree (top b v) ≡ 0 = root_from_depth ps (depth_of b.tree) ok.spanning.rooted (parent_of b.tree (top b v))
+      (ok.spanning.rooted.within (top b v) inside) (omega (arith, e, f, deep)) in
+      let arc : HasTreeArc b (top b v) = ok.tree_arcs (top b v) node in
+      let joins : Joins b.net (label_of b.tree (top b v)) (top b v) 0 = subst (Joins b.net (label_of b.tree (top b v)) (top b v)) z arc.joins in
+      elim (top_price b (label_of b.tree (top b v)) (top b v) (artificial_cost b.net) joins (ok.prices.balanced (top b v) node) ok.prices.root
+      (root_arc b.net (label_of b.tree (top b v)) (top b v) ok.of_net arc.label node.0 joins)) [
+        | inl p ↦ high p
+        | inr p ↦ low p
+      ]
+
+  -- the weights of a path are among those of all arcs
+  rest_of_path : (v : ℕ) → v ≤ node_count b.net → HasRest (weights b) (place_of b v) (depth v - 1)
+  rest_of_path v h = rest_of (weights b) (place_of b v) (depth v - 1) (λ i l. place_within v i h (omega arith)) (λ i j l m. own_apart v i j h l (omega arith))
+
+  path_within : (v : ℕ) → v ≤ node_count b.net → path_weight b v ≤ sum (weights b)
+  path_within v h = let r = rest_of_path v h in let s = r.sums in omega (arith, s)
+
+  -- and so are those of two paths to different children of the root, together
+  pub paths_within : (u v : ℕ) → u ≤ node_count b.net → v ≤ node_count b.net → top b u ≢ top b v → path_weight b u + path_weight b v ≤ sum (weights b)
+  paths_within u v hu hv ne =
+      let r : HasRest (weights b) (place_of b u) (depth u - 1) = rest_of_path u hu in
+      let size : length r.rest ≡ length (weights b) = r.size in
+      let t : HasRest r.rest (place_of b v) (depth v - 1) = rest_of r.rest (place_of b v) (depth v - 1)
+      (λ i l. (let w = place_within v i hv (omega arith) in omega (arith, size, w))) (λ i j l m. own_apart v i j hv l (omega arith)) in
+      let same : total (λ i. get_or r.rest (place_of b v i) 0) (depth v - 1) ≡ path_weight b v =
+      total-same (λ i. get_or r.rest (place_of b v i) 0) (weight_of b v) (depth v - 1)
+      (λ j l. r.kept (place_of b v j) (λ i m e. sides_apart u v i j hu hv ne (omega arith) (omega arith) (sym e))) in
+      let first = r.sums in
+      let second = t.sums in
+      omega (arith, same, first, second)
+
+  module _ (wide : HasWideTree b) where
+    near_step : (v i : ℕ) → v ≤ node_count b.net → suc i < depth v → IsUpTo (weight_of b v i) (price_at b (climb ps i v) -ℤ price_at b (climb ps (suc i) v))
+    near_step v i h lt =
+        let node = at_node_of v i h (omega arith) in
+        let arc : HasTreeArc b (climb ps i v) = ok.tree_arcs (climb ps i v) node in
+        let own = own_at v i h lt in
+        let room = wide (climb ps i v) node own.1 in
+        let le : unsigned_abs (arc_at b.net (label_of b.tree (climb ps i v))).cost
+        ≤ weight (arc_at b.net (label_of b.tree (climb ps i v))) = weight_wide (arc_at b.net (label_of b.tree (climb ps i v))) room in
+        let read = read_weight (label_of b.tree (climb ps i v)) own in
+        let size = up_to_size (arc_at b.net (label_of b.tree (climb ps i v))).cost in
+        let same : (arc_at (with_artificial b.net) (label_of b.tree (climb ps i v))).cost
+        ≡ (arc_at b.net (label_of b.tree (climb ps i v))).cost = ap (λ a. a.cost) (own_arc b.net (label_of b.tree (climb ps i v)) own) in
+        step_price b (label_of b.tree (climb ps i v)) (climb ps i v) (climb ps (suc i) v) (weight_of b v i)
+        (subst (Joins b.net (label_of b.tree (climb ps i v)) (climb ps i v)) (up_one v i) arc.joins) (ok.prices.balanced (climb ps i v) node)
+        (omega (arith, ints, le, read, size, same), omega (arith, ints, le, read, size, same))
+
+    near_up : (v n : ℕ) → v ≤ node_count b.net → n < depth v → IsUpTo (total (weight_of b v) n) (price_at b v -ℤ price_at b (climb ps n v))
+    near_up v zero h lt = (omega (arith, ints), omega (arith, ints))
+    near_up v (suc n) h lt =
+        let ih = near_up v n h (omega arith) in
+        let here = near_step v n h lt in
+        (omega (arith, ints, ih, here), omega (arith, ints, ih, here))
+
+    pub near_top : (v : ℕ) → IsNode (node_count b.net) v → IsUpTo (path_weight b v) (price_at b v -ℤ price_at b (top b v))
+    near_top v h = let deep = node_deep v h in near_up v (depth v - 1) h.1 (omega (arith, deep))
+
+    -- the prices of two nodes on different sides of 0 lie further apart than any cost
+    pub prices_apart : (u v : ℕ) → IsNode (node_count b.net) u → IsNode (node_count b.net) v
+        → pos 0 <ℤ price_at b u → price_at b v ≤ℤ pos 0 → pos (artificial_cost b.net + 1) ≤ℤ (price_at b u -ℤ price_at b v)
+    prices_apart u v hu hv up down =
+        let near_u = near_top u hu in
+        let near_v = near_top v hv in
+        let within_u = path_within u hu.1 in
+        let within_v = path_within v hv.1 in
+        elim (top_case u hu) [
+          | low pu ↦ absurd (omega (arith, ints, near_u, within_u, pu, up))
+          | high pu ↦ elim (top_case v hv) [
+            | high pv ↦ absurd (omega (arith, ints, near_v, within_v, pv, down))
+            | low pv ↦ (let ne : top b u ≢ top b v = (λ e. (let same = ap (price_at b) e in omega (arith, ints, same, pu, pv))) in
+                let both = paths_within u v hu.1 hv.1 ne in
+                omega (arith, ints, near_u, near_v, pu, pv, both))
+          ]
+        ]
+
+-- ---- the cut
+
+above_zero : (z : ℤ) → int_lt (pos 0) z ≡ true → pos 0 <ℤ z
+above_zero z e = grind (arith, ints)
+
+not_above_zero : (z : ℤ) → int_lt (pos 0) z ≡ false → z ≤ℤ pos 0
+not_above_zero z e = grind (arith, ints)
+
+not_true : (t : Bool) → not t ≡ true → t ≡ false
+not_true true e = sym e
+not_true false e = refl
+
+when_agree : (t : Bool) (f c : ℤ) → (t ≡ true → f ≡ c) → when t f ≡ when t c
+when_agree true f c h = h refl
+when_agree false f c h = refl
+
+when_low : (t : Bool) (z : ℤ) → (t ≡ true → pos 0 ≤ℤ z) → pos 0 ≤ℤ when t z
+when_low true z h = h refl
+when_low false z h = omega (arith, ints)
+
+when_gap : (t : Bool) (z : ℤ) → (t ≡ false → z ≤ℤ pos 0) → pos 0 ≤ℤ (when t z -ℤ z)
+when_gap true z h = omega (arith, ints)
+when_gap false z h = let low = h refl in omega (arith, ints, low)
+
+-- a node whose artificial arc carries something
+record HasCarrying (b : TreeStructure) : Type 0 where
+  pub node : ℕ
+  pub is_node : IsNode (node_count b.net) node
+  pub some : pos 0 <ℤ artificial_amount b node
+
+find_carrying : (b : TreeStructure) → IsBasis b → (n : ℕ) → n ≤ node_count b.net → HasCarrying b ⊎ ((v : ℕ) → IsNode n v → artificial_amount b v ≡ pos 0)
+find_carrying b ok zero h = inr (λ v q. absurd (omega arith))
+find_carrying b ok (suc n) h =
+    elim (zero_or_more (artificial_amount b (suc n)) (artificial_low b ok (suc n) (omega arith, h))) [
+      | inr some ↦ inl (record { node = suc n; is_node = (omega arith, h); some = some })
+      | inl z ↦ elim (find_carrying b ok n (omega arith)) [
+        | inl t ↦ inl t
+        | inr none ↦ inr (λ v q. elim (cases_eq v (suc n)) [
+          | inl e ↦ ap (artificial_amount b) e ∙ z
+          | inr other ↦ none v (omega arith, omega arith)
+        ])
+      ]
+    ]
+
+module _ (b : TreeStructure) (ok : IsBasis b) (none : HasNoEligible b) where
+  -- an arc of reduced cost below 0 is full, and one of reduced cost above 0 is empty
+  full_below : (k : ℕ) → IsArcNumber b.net k → reduced_at b k <ℤ pos 0 → carried b k ≡ (arc_at b.net k).cap
+  full_below k h fall =
+      let a : IsNetArc (arc_at b.net k) = net_arc_at b.net k ok.of_net h in
+      let out : ¬ IsInTree b k = not_in_tree b k ok (λ z. omega (arith, ints, z, fall)) in
+      elim (ok.at_bounds k (own_label b.net k h) out) [
+        | inl z ↦ elim (zero_or_more (arc_at b.net k).cap a.width_low) [
+          | inl c ↦ z ∙ sym c
+          | inr wide ↦ absurd (none k (record { arc = h; outside = out; wide = wide; gains = inl (z, fall) }))
+        ]
+        | inr f ↦ f.1
+      ]
+
+  empty_above : (k : ℕ) → IsArcNumber b.net k → pos 0 <ℤ reduced_at b k → carried b k ≡ pos 0
+  empty_above k h rise =
+      let a : IsNetArc (arc_at b.net k) = net_arc_at b.net k ok.of_net h in
+      let out : ¬ IsInTree b k = not_in_tree b k ok (λ z. omega (arith, ints, z, rise)) in
+      elim (ok.at_bounds k (own_label b.net k h) out) [
+        | inl z ↦ z
+        | inr f ↦ elim (zero_or_more (arc_at b.net k).cap a.width_low) [
+          | inl c ↦ f.1 ∙ c
+          | inr wide ↦ absurd (none k (record { arc = h; outside = out; wide = wide; gains = inr (f.1, rise) }))
+        ]
+      ]
+
+  abbrev side : ℕ → Bool
+  side v = int_lt (pos 0) (price_at b v)
+
+  -- what leaves the nodes of price above 0 is all that can, and nothing enters them
+  abbrev Crosses : Arc → ℤ → Type 0
+  Crosses a f = (leaves side a ≡ true → f ≡ a.cap) × (enters side a ≡ true → f ≡ pos 0)
+
+  read_arc : (i : ℕ) (x : Arc) → i < length b.net.arcs → get_or b.net.arcs i x ≡ arc_at b.net (i + 1)
+  read_arc i x h =
+      let place : i + 1 - 1 ≡ i = omega arith in
+      get_or_default b.net.arcs i x no_arc h ∙ ap (λ j. get_or b.net.arcs j no_arc) (sym place)
+
+  read_own : (i : ℕ) (y : ℤ) → i < length b.net.arcs → get_or (state_of b).amounts i y ≡ carried b (i + 1)
+  read_own i y h =
+      let place : i + 1 - 1 ≡ i = omega arith in
+      let count = own_count b ok in
+      get_or_default (state_of b).amounts i y (pos 0) (omega (arith, count, h))
+      ∙ (ap (λ j. get_or (state_of b).amounts j (pos 0)) (sym place) ∙ own_carried b ok (i + 1) (pos 0) (omega arith, omega arith))
+
+  -- an arc without width carries nothing, which is all that it can
+  narrow : (k : ℕ) → IsArcNumber b.net k → (arc_at b.net k).cap ≡ pos 0 → carried b k ≡ pos 0
+  narrow k h c =
+      let held : CanHold b.net k (carried b k) = ok.flow.within_bounds k (own_label b.net k h) in
+      let low = held.low in
+      let high = held.high h.1 in
+      omega (arith, ints, low, high, c)
+
+  module _ (wide : HasWideTree b) where
+    crossing_wide : (k : ℕ) → IsArcNumber b.net k → pos 0 <ℤ (arc_at b.net k).cap → Crosses (arc_at b.net k) (carried b k)
+    crossing_wide k h some =
+        let ends : HasEnds (node_count b.net) (arc_at b.net k) = ends_at b.net k ok.of_net h in
+        let r = own_reduced b k h in
+        let size = up_to_size (arc_at b.net k).cost in
+        let le = weight_wide (arc_at b.net k) some in
+        let all : weight (arc_at b.net k) ≤ sum (weights b) = weight-le-sum weight b.net.arcs (k - 1) no_arc (omega arith) in (
+          λ e. (let p = and_parts (side (arc_at b.net k).src) (not (side (arc_at b.net k).dst)) e in
+              let apart = prices_apart b ok wide (arc_at b.net k).src (arc_at b.net k).dst ends.src_is_node ends.dst_is_node
+              (above_zero (price_at b (arc_at b.net k).src) p.0)
+              (not_above_zero (price_at b (arc_at b.net k).dst) (not_true (side (arc_at b.net k).dst) p.1)) in
+              full_below k h (omega (arith, ints, r, size, le, all, apart))),
+          λ e. (let p = and_parts (side (arc_at b.net k).dst) (not (side (arc_at b.net k).src)) e in
+              let apart = prices_apart b ok wide (arc_at b.net k).dst (arc_at b.net k).src ends.dst_is_node ends.src_is_node
+              (above_zero (price_at b (arc_at b.net k).dst) p.0)
+              (not_above_zero (price_at b (arc_at b.net k).src) (not_true (side (arc_at b.net k).src) p.1)) in
+              empty_above k h (omega (arith, ints, r, size, le, all, apart))),
+        )
+
+    crossing_arc : (k : ℕ) → IsArcNumber b.net k → Crosses (arc_at b.net k) (carried b k)
+    crossing_arc k h =
+        let a : IsNetArc (arc_at b.net k) = net_arc_at b.net k ok.of_net h in
+        elim (zero_or_more (arc_at b.net k).cap a.width_low) [
+          | inl c ↦ (λ e. narrow k h c ∙ sym c, λ e. narrow k h c)
+          | inr some ↦ crossing_wide k h some
+        ]
+
+    crossing : AllZip Crosses b.net.arcs (state_of b).amounts
+    crossing =
+        AllZip_from Crosses b.net.arcs (state_of b).amounts (sym (own_count b ok))
+        (λ i h x y. rw (read_arc i x h, read_own i y h) (crossing_arc (i + 1) (omega arith, omega arith)))
+
+    sum_leaving : flow_sum (λ a f. when (leaves side a) f) b.net.arcs (state_of b).amounts ≡ cap_leaving b.net.arcs side
+    sum_leaving =
+        flow_sum-same_at Crosses (λ a f. when (leaves side a) f) (λ a f. when (leaves side a) a.cap)
+        (λ a f r. when_agree (leaves side a) f a.cap r.0) b.net.arcs (state_of b).amounts crossing
+        ∙ flow_sum-arc_sum Crosses (λ a. when (leaves side a) a.cap) b.net.arcs (state_of b).amounts crossing
+
+    sum_entering : flow_sum (λ a f. when (enters side a) f) b.net.arcs (state_of b).amounts ≡ pos 0
+    sum_entering =
+        flow_sum-same_at Crosses (λ a f. when (enters side a) f) (λ a f. pos 0)
+        (λ a f r. when_agree (enters side a) f (pos 0) r.1 ∙ when-zero (enters side a)) b.net.arcs (state_of b).amounts crossing
+        ∙ flow_sum-zero b.net.arcs (state_of b).amounts
+
+    low_in : low_entering b.net.arcs side ≡ pos 0
+    low_in =
+        arc_sum-same IsNetArc (λ a. when (enters side a) a.low) (λ a. pos 0) (λ a h. ap (when (enters side a)) h.no_low ∙ when-zero (enters side a))
+        b.net.arcs ok.of_net.each_arc
+        ∙ arc_sum-zero b.net.arcs
+
+    -- what the set must send is what leaves it and what its nodes have unsent
+    set_supply : supply_in b.net.supplies side ≡ cap_leaving b.net.arcs side +ℤ node_sum (λ v. when (side v) (unsent b v)) (node_count b.net)
+    set_supply =
+        let split : node_sum (λ v. when (side v) (at_node b.net.supplies v)) (node_count b.net)
+        ≡ node_sum (λ v. when (side v) (net b.net.arcs (state_of b).amounts v) +ℤ when (side v) (unsent b v)) (node_count b.net) =
+        node_sum-same (λ v. when (side v) (at_node b.net.supplies v))
+        (λ v. when (side v) (net b.net.arcs (state_of b).amounts v) +ℤ when (side v) (unsent b v)) (node_count b.net)
+        (λ v h. ap (when (side v)) (parts (at_node b.net.supplies v) (net b.net.arcs (state_of b).amounts v))
+        ∙ when-add (side v) (net b.net.arcs (state_of b).amounts v) (unsent b v)) in
+        let add = node_sum-add (λ v. when (side v) (net b.net.arcs (state_of b).amounts v)) (λ v. when (side v) (unsent b v)) (node_count b.net) in
+        let across = nets_across (node_count b.net) b.net.arcs (state_of b).amounts side ok.of_net.ends in
+        let out = sum_leaving in
+        let inn = sum_entering in
+        omega (arith, ints, split, add, across, out, inn)
+      where
+        parts : (s t : ℤ) → s ≡ t +ℤ (s -ℤ t)
+        parts = λ s t. omega (arith, ints)
+
+    -- in the set a node has something to send, elsewhere something to take
+    in_low : (v : ℕ) → IsNode (node_count b.net) v → side v ≡ true → pos 0 ≤ℤ unsent b v
+    in_low v h t =
+        let low = artificial_low b ok v h in
+        elim (node_case b ok v h) [
+          | sends e p ↦ omega (arith, ints, e, low)
+          | takes e p ↦ elim (zero_or_more (artificial_amount b v) low) [
+            | inl z ↦ omega (arith, ints, e, z)
+            | inr some ↦ absurd (let price = p some in let up = above_zero (price_at b v) t in omega (arith, ints, price, up))
+          ]
+        ]
+
+    out_high : (v : ℕ) → IsNode (node_count b.net) v → side v ≡ false → unsent b v ≤ℤ pos 0
+    out_high v h t =
+        let low = artificial_low b ok v h in
+        elim (node_case b ok v h) [
+          | takes e p ↦ omega (arith, ints, e, low)
+          | sends e p ↦ elim (zero_or_more (artificial_amount b v) low) [
+            | inl z ↦ omega (arith, ints, e, z)
+            | inr some ↦ absurd (let price = p some in let down = not_above_zero (price_at b v) t in omega (arith, ints, price, down))
+          ]
+        ]
+
+    some_in : (u : ℕ) → IsNode (node_count b.net) u → pos 0 <ℤ artificial_amount b u → side u ≡ true → pos 0 <ℤ unsent b u
+    some_in u h some t = elim (node_case b ok u h) [
+      | sends e p ↦ omega (arith, ints, e, some)
+      | takes e p ↦ absurd (let price = p some in let up = above_zero (price_at b u) t in omega (arith, ints, price, up))
+    ]
+
+    some_out : (u : ℕ) → IsNode (node_count b.net) u → pos 0 <ℤ artificial_amount b u → side u ≡ false → unsent b u <ℤ pos 0
+    some_out u h some t = elim (node_case b ok u h) [
+      | takes e p ↦ omega (arith, ints, e, some)
+      | sends e p ↦ absurd (let price = p some in let down = not_above_zero (price_at b u) t in omega (arith, ints, price, down))
+    ]
+
+    module _ (balanced : supply_in b.net.supplies (λ v. true) ≡ pos 0) where
+      all_unsent : node_sum (unsent b) (node_count b.net) ≡ pos 0
+      all_unsent =
+          let apart = node_sum-sub (at_node b.net.supplies) (net b.net.arcs (state_of b).amounts) (node_count b.net) in
+          let cancel = nets_cancel (node_count b.net) b.net.arcs (state_of b).amounts ok.of_net.ends in
+          let sum_zero : node_sum (at_node b.net.supplies) (node_count b.net) ≡ pos 0 = balanced in
+          omega (arith, ints, apart, cancel, sum_zero)
+
+      -- so the set has something left to send
+      left_over : HasCarrying b → pos 0 <ℤ node_sum (λ v. when (side v) (unsent b v)) (node_count b.net)
+      left_over c = elim (cases_Bool (side c.node)) [
+        | inl t ↦ node_sum_above_zero (λ v. when (side v) (unsent b v)) (node_count b.net) c.node c.is_node
+            (let up = some_in c.node c.is_node c.some t in
+            let is : when (side c.node) (unsent b c.node) ≡ unsent b c.node = ap (λ s. when s (unsent b c.node)) t in omega (arith, ints, up, is))
+            (λ v h. when_low (side v) (unsent b v) (in_low v h))
+        | inr f ↦ (let all = all_unsent in
+            let apart = node_sum-sub (λ v. when (side v) (unsent b v)) (unsent b) (node_count b.net) in
+            let more = node_sum_above_zero (λ v. when (side v) (unsent b v) -ℤ unsent b v) (node_count b.net) c.node c.is_node
+            (let down = some_out c.node c.is_node c.some f in
+            let is : when (side c.node) (unsent b c.node) ≡ pos 0 = ap (λ s. when s (unsent b c.node)) f in omega (arith, ints, down, is))
+            (λ v h. when_gap (side v) (unsent b v) (out_high v h)) in
+            omega (arith, ints, all, apart, more))
+      ]
+
+      blocked : HasCarrying b → Blocks b.net side Send
+      blocked c =
+          let more = left_over c in
+          let must = set_supply in
+          let low = low_in in
+          omega (arith, ints, more, must, low)
+
+-- where no arc is eligible and an artificial arc carries something, the nodes of price above 0 must send more than they can
+pub cuts_block : (b : TreeStructure) → IsBasis b → HasNoEligible b → HasWideTree b
+    → supply_in b.net.supplies (λ v. true) ≡ pos 0 → ¬ HasNoArtificial b → Blocks b.net (λ v. int_lt (pos 0) (price_at b v)) Send
+cuts_block b ok none wide balanced uneven = elim (find_carrying b ok (node_count b.net) (omega arith)) [
+  | inl c ↦ blocked b ok none wide balanced c
+  | inr empty ↦ absurd (uneven empty)
+]

@@ -1,0 +1,283 @@
+-- What is read of a basis at the end: its flow, its prices and its cut.
+use Rattle.std.proofs.Common.{◌≡◌, ◌≢◌, ℕ, zero, suc, ◌+◌, ◌-◌, ◌*◌, ◌^◌, ◌<◌, ◌≤◌, inl, inr, Bool, true, false, eqb, cond, List, length, map, take, drop, get_or, refl, sym, ap, ◌∙◌, arith, subst, ℤ, pos, ◌+ℤ◌, length-drop}
+use Rattle.std.specs.Prelude.{◌↔◌, IsTrue, Option, Some, None, if◌then◌else◌, int_lt}
+use Rattle.std.specs.List.{All, find, range_with_len}
+use Rattle.std.proofs.lemmas.Bool.{cases_eq, cond-true, cond-false, eq-eqb, eqb-true, le-leb, lt-leb, true≢false}
+use Rattle.std.proofs.lemmas.List.{ext_get_or, get_or_default, get_or-drop, get_or-set_other, get_or-set_same, length-replicate, length-set}
+use Rattle.std.proofs.lemmas.Option.{none-some}
+use Rattle.std.proofs.lemmas.List.FromFn.{get_or-map-range_with_len, length-map-range_with_len, take-map-range_with_len}
+use Rattle.mcf_instance.specs.declared.problem.Side.TheVariants.{Send}
+use Rattle.mcf_instance.specs.Blocking.{Blocks, in_table, supply_in}
+use Rattle.mcf_instance.specs.Network.{Network, IsArcNumber, IsNode, node_count}
+use Rattle.mcf_instance.specs.WellFormed.{IsUpTo}
+use Rattle.mcf_instance.proofs.SameSets.{Blocks-same}
+use Rattle.mcf_network.specs.Residual.{arc_at}
+use Rattle.mcf_network.specs.NodeSets.{no_nodes, with_node}
+use Rattle.mcf_network.specs.States.{Pseudoflow, IsPseudoflow, amount_at, pushed}
+use Rattle.mcf_network.proofs.ArcLaws.{amount_count}
+use Rattle.mcf_network.proofs.Marks.{marked_new, unmarked}
+use Rattle.mcf_network.proofs.StateLaws.{rid}
+use Rattle.mcf_tree.specs.SpanningTree.{SpanningTree, depth_of, label_of, size_of}
+use Rattle.mcf_basis.specs.declared.offer.Offer.{Offer}
+use Rattle.mcf_basis.specs.declared.rooms.Rooms.{Rooms}
+use Rattle.mcf_basis.specs.Bases.{IsBasis}
+use Rattle.mcf_basis.specs.Laws.{HasNoArtificial}
+use Rattle.mcf_basis.specs.Private.Layouts.{Layout, IsLaidOut, amount_by, amount_in, basis_in, no_offer, no_rooms, node_below}
+use Rattle.mcf_basis.specs.Structures.{TreeStructure, carried, price_at, state_of}
+use Rattle.mcf_basis.proofs.Around.{arcs_of}
+use Rattle.mcf_basis.specs.Violations.{HasNoEligible}
+use Rattle.mcf_basis.proofs.Cuts.{HasWideTree, cuts_block}
+use Rattle.mcf_basis.proofs.Cycles.{tree_of}
+use Rattle.mcf_basis.proofs.LeastFound.{found_at}
+use Rattle.mcf_basis.proofs.StrongPivot.{labels_apart}
+use Rattle.mcf_basis.proofs.TreePrices.{price_small}
+use Rattle.mcf_basis.proofs.Views.{carried_in}
+
+-- what an arc outside the tree carries, and what the arc of the net above node v does, by their places
+abbrev pub outside_by : Network → List Offer → ℕ → ℤ
+outside_by g offers k = if eqb (get_or offers (k - 1) no_offer).from (arc_at g k).src then pos 0 else (arc_at g k).cap
+
+abbrev pub inside_by : Network → SpanningTree → List Rooms → ℕ → ℤ
+inside_by g tree rooms v =
+    if eqb (arc_at g (label_of tree v)).src v then pos (get_or rooms v no_rooms).down else pos (get_or rooms v no_rooms).up
+
+-- ---- the flow
+
+-- an amount after a push forward
+pub amount_pushed : (s s' : Pseudoflow) (k : ℕ) (x y : ℤ)
+    → k - 1 < length s.amounts → y ≡ amount_at s k +ℤ x → s' ≡ pushed s (rid k false) x → amount_at s' k ≡ y
+amount_pushed s s' k x y h e is =
+    ap (λ t. amount_at t k) is ∙ (get_or-set_same s.amounts (k - 1) (amount_at s k +ℤ x) (pos 0) h ∙ sym e)
+
+-- ---- the artificial arcs
+
+added_amount : (l : Layout) (v : ℕ) → IsNode (node_count l.net) v → carried (basis_in l) (length l.net.arcs + v) ≡ get_or l.artificial v (pos 0)
+added_amount l v h =
+    let place : length l.net.arcs + v - length l.net.arcs ≡ v = omega arith in
+    carried_in l (length l.net.arcs + v) (omega arith) (omega arith)
+    ∙ (cond-false _ _ _ (lt-leb (length l.net.arcs + v) (length l.net.arcs) (omega arith)) ∙ ap (λ i. get_or l.artificial i (pos 0)) place)
+
+pub none_left : (l : Layout) (b : TreeStructure) (t : Bool) → basis_in l ≡ b → IsLaidOut l
+    → IsTrue t ↔ ((v : ℕ) → 1 ≤ v → v < length l.artificial → get_or l.artificial v (pos 0) ≡ pos 0)
+    → IsTrue t ↔ HasNoArtificial b
+unfolding basis_in
+none_left l b t e ok test =
+    let size : length l.artificial ≡ node_count l.net + 1 = ok.artificial_size in
+    subst (λ b. IsTrue t ↔ HasNoArtificial b) e (
+      (λ h v node. added_amount l v node ∙ test.0 h v node.0 (omega arith)),
+      (λ none. test.1 (λ v low high. (let node : IsNode (node_count l.net) v = (low, omega arith) in sym (added_amount l v node) ∙ none v node))),
+    )
+
+-- ---- the prices
+
+small_prices : (b : TreeStructure) → IsBasis b → All (IsUpTo (3 * 10 ^ 36)) (drop 1 b.prices)
+small_prices b ok k d h =
+    let count : length b.prices ≡ node_count b.net + 1 = ok.prices.one_per_node in
+    let short = length-drop 1 b.prices in
+    let inside : 1 + k < length b.prices = omega (arith, short, h, count) in
+    let place : 1 + k ≡ k + 1 = omega arith in
+    subst (IsUpTo (3 * 10 ^ 36)) (sym (get_or-drop 1 b.prices k d ∙ get_or_default b.prices (1 + k) d (pos 0) inside))
+    (price_small b ok (1 + k) (omega (arith, inside, count)))
+
+pub record AreReadPrices (l : Layout) (b : TreeStructure) : Type 0 where
+  pub some : 1 ≤ length l.table.prices
+  pub count : length (drop 1 l.table.prices) ≡ node_count b.net
+  pub value : drop 1 l.table.prices ≡ drop 1 b.prices
+  pub small : All (IsUpTo (3 * 10 ^ 36)) (drop 1 b.prices)
+
+pub read_prices : (l : Layout) (b : TreeStructure) → basis_in l ≡ b → IsLaidOut l → AreReadPrices l b
+unfolding basis_in
+read_prices l b e ok =
+    let count : length l.table.prices ≡ node_count l.net + 1 = ok.basis.prices.one_per_node in
+    let nodes : node_count l.net ≡ node_count b.net = ap (λ x. node_count x.net) e in
+    let short = length-drop 1 l.table.prices in
+    record {
+      some = omega arith;
+      count = omega (arith, short, count, nodes);
+      value = ap (λ x. drop 1 x.prices) e;
+      small = small_prices b (subst IsBasis e ok.basis);
+    }
+
+-- ---- the cut
+
+-- the table marks those of the first i nodes that pass the test, and no other node
+pub record IsMarkedTo (n i : ℕ) (test : ℕ → Bool) (table : List Bool) : Type 0 where
+  pub room : length table ≡ n
+  pub marks : (v : ℕ) → IsNode n v → v ≤ i → in_table table v ≡ test v
+  pub rest : (v : ℕ) → IsNode n v → i < v → in_table table v ≡ false
+
+pub marked_start : (n : ℕ) (test : ℕ → Bool) → IsMarkedTo n 0 test (no_nodes n)
+marked_start n test = record { room = length-replicate n false; marks = λ v h le. absurd (omega arith); rest = λ v h lt. unmarked n v }
+
+marked_by : (n i : ℕ) (test : ℕ → Bool) (table : List Bool) (wanted : Bool)
+    → IsMarkedTo n i test table → i < n → wanted ≡ test (i + 1) → IsMarkedTo n (i + 1) test (cond wanted (with_node table (i + 1)) table)
+marked_by n i test table true s h e =
+    let room = s.room in
+    let here : IsNode (length table) (i + 1) = (omega arith, omega (arith, room, h)) in
+    record {
+      room = simp length-set room;
+      marks = λ v node le. elim (cases_eq v (i + 1)) [
+        | inl q ↦ ap (in_table (with_node table (i + 1))) q ∙ (marked_new table (i + 1) here ∙ (e ∙ ap test (sym q)))
+        | inr ne ↦ get_or-set_other table (i + 1 - 1) (v - 1) true false (λ q. ne (omega (arith, q, node))) ∙ s.marks v node (omega (arith, le, ne))
+      ];
+      rest = λ v node lt. get_or-set_other table (i + 1 - 1) (v - 1) true false (λ q. omega (arith, q, node, lt)) ∙ s.rest v node (omega (arith, lt));
+    }
+marked_by n i test table false s h e =
+    record {
+      room = s.room;
+      marks = λ v node le. elim (cases_eq v (i + 1)) [
+        | inl q ↦ s.rest v node (omega (arith, q)) ∙ (e ∙ ap test (sym q))
+        | inr ne ↦ s.marks v node (omega (arith, le, ne))
+      ];
+      rest = λ v node lt. s.rest v node (omega (arith, lt));
+    }
+
+pub marked_next : (n i v : ℕ) (test : ℕ → Bool) (table table' : List Bool) (wanted : Bool)
+    → IsMarkedTo n i test table → i < n → v ≡ i + 1 → wanted ≡ test v → table' ≡ cond wanted (with_node table v) table
+    → IsMarkedTo n (i + 1) test table'
+marked_next n i v test table table' wanted s h q e is =
+    subst (IsMarkedTo n (i + 1) test) (sym (is ∙ ap (λ u. cond wanted (with_node table u) table) q)) (marked_by n i test table wanted s h (e ∙ ap test q))
+
+-- such a table, of all nodes, blocks where artificial arcs carry something at a last basis
+pub cut_blocks : (l : Layout) (b : TreeStructure) (table : List Bool) → basis_in l ≡ b → IsLaidOut l → HasNoEligible b
+    → supply_in b.net.supplies (λ v. true) ≡ pos 0 → ¬ HasNoArtificial b
+    → ((v : ℕ) → IsNode (node_count b.net) v → in_table table v ≡ int_lt (pos 0) (price_at b v)) → Blocks b.net (in_table table) Send
+unfolding basis_in
+cut_blocks l b table e ok none balanced uneven marks =
+    let basis : IsBasis b = subst IsBasis e ok.basis in
+    let wide : HasWideTree b = subst HasWideTree e ok.wide in
+    Blocks-same b.net (λ v. int_lt (pos 0) (price_at b v)) (in_table table) basis.of_net.ends (λ v h. sym (marks v h)) Send
+    (cuts_block b basis none wide balanced uneven)
+
+-- ---- the flow of a basis, as it is written
+
+-- the arcs of two nodes are apart
+one_node : (b : TreeStructure) → IsBasis b
+    → (u v : ℕ) → IsNode (node_count b.net) u → IsNode (node_count b.net) v → label_of b.tree u ≡ label_of b.tree v → u ≡ v
+one_node b ok u v hu hv same =
+    let size : size_of b.tree ≡ node_count b.net + 1 = ok.size in
+    elim (cases_eq u v) [
+      | inl e ↦ e
+      | inr ne ↦ absurd (labels_apart (arcs_of b.net) b.tree.parents b.tree.labels (depth_of b.tree) (tree_of b ok) u v
+          (omega arith) (omega (arith, size, hu)) (omega arith) (omega (arith, size, hv)) ne same)
+    ]
+
+-- what the writing of the tree asks for
+pub record CanBeWritten (l : Layout) : Type 0 where
+  pub size : size_of l.tree ≡ node_count l.net + 1
+  pub rooms_size : length l.rooms ≡ node_count l.net + 1
+  pub low : (v : ℕ) → IsNode (node_count l.net) v → 1 ≤ label_of l.tree v
+  pub apart : (u v : ℕ) → IsNode (node_count l.net) u → IsNode (node_count l.net) v → label_of l.tree u ≡ label_of l.tree v → u ≡ v
+  pub widths : (v : ℕ) → IsNode (node_count l.net) v → label_of l.tree v ≤ length l.net.arcs
+      → pos ((get_or l.rooms v no_rooms).up + (get_or l.rooms v no_rooms).down) ≡ (arc_at l.net (label_of l.tree v)).cap
+
+pub can_be_written : (l : Layout) → IsLaidOut l → CanBeWritten l
+unfolding basis_in
+can_be_written l ok =
+    record {
+      size = ok.basis.size;
+      rooms_size = ok.rooms_size;
+      low = λ v h. (ok.basis.tree_arcs v h).label.0;
+      apart = one_node (basis_in l) ok.basis;
+      widths = ok.rooms;
+    }
+
+-- the amounts of the arcs above the first i nodes are written, and those of no arc outside the tree
+pub record IsTreeWritten (g : Network) (tree : SpanningTree) (rooms : List Rooms) (first now : Pseudoflow) (i : ℕ) : Type 0 where
+  pub net : now.net ≡ g
+  pub flow : IsPseudoflow now
+  pub inside : (v : ℕ) → IsNode (node_count g) v → v ≤ i → label_of tree v ≤ length g.arcs
+      → amount_at now (label_of tree v) ≡ inside_by g tree rooms v
+  pub outside : (k : ℕ) → IsArcNumber g k → ((v : ℕ) → IsNode (node_count g) v → label_of tree v ≢ k) → amount_at now k ≡ amount_at first k
+
+pub tree_next : (g : Network) (tree : SpanningTree) (rooms : List Rooms) (first now next : Pseudoflow) (i v k u : ℕ)
+    → ((v : ℕ) → IsNode (node_count g) v → 1 ≤ label_of tree v)
+    → ((u v : ℕ) → IsNode (node_count g) u → IsNode (node_count g) v → label_of tree u ≡ label_of tree v → u ≡ v)
+    → IsNode (node_count g) v → v ≡ i + 1 → k ≡ label_of tree v → u ≡ v → IsTreeWritten g tree rooms first now i
+    → next.net ≡ g → IsPseudoflow next
+    → (k ≤ length g.arcs → amount_at next k ≡ (if eqb (arc_at g k).src v then pos (get_or rooms u no_rooms).down else pos (get_or rooms u no_rooms).up))
+    → ((j : ℕ) → IsArcNumber g j → j ≢ k → amount_at next j ≡ amount_at now j) → IsTreeWritten g tree rooms first next (i + 1)
+tree_next g tree rooms first now next i v k u low apart node at label room before net flow value others =
+    record {
+      net = net;
+      flow = flow;
+      inside = λ w h le own. elim (cases_eq w v) [
+        | inl q ↦ subst (λ w. amount_at next (label_of tree w) ≡ inside_by g tree rooms w) (sym q) (here (omega (arith, label, ap (label_of tree) q, own)))
+        | inr ne ↦ others (label_of tree w) (low w h, own) (λ same. ne (apart w v h node (same ∙ label)))
+            ∙ before.inside w h (omega (arith, ne, le, at)) own
+      ];
+      outside = λ j h none. others j h (λ q. none v node (sym label ∙ sym q)) ∙ before.outside j h none;
+    }
+  where
+    here : k ≤ length g.arcs → amount_at next (label_of tree v) ≡ inside_by g tree rooms v
+    here own =
+        subst (λ j. amount_at next j ≡ (if eqb (arc_at g j).src v then pos (get_or rooms v no_rooms).down else pos (get_or rooms v no_rooms).up)) label
+        (subst (λ u. amount_at next k ≡ (if eqb (arc_at g k).src v then pos (get_or rooms u no_rooms).down else pos (get_or rooms u no_rooms).up)) room
+        (value own))
+
+-- the amounts of the arcs, those of the tree written over those outside it
+pub record IsWritten (l : Layout) (first last : Pseudoflow) : Type 0 where
+  pub flow : IsPseudoflow last
+  pub net : last.net ≡ l.net
+  pub outside : (k : ℕ) → IsArcNumber l.net k → amount_at first k ≡ outside_by l.net l.offers k
+  pub inside : (v : ℕ) → IsNode (node_count l.net) v → label_of l.tree v ≤ length l.net.arcs
+      → amount_at last (label_of l.tree v) ≡ inside_by l.net l.tree l.rooms v
+  pub others : (k : ℕ) → IsArcNumber l.net k
+      → ((v : ℕ) → IsNode (node_count l.net) v → label_of l.tree v ≢ k) → amount_at last k ≡ amount_at first k
+
+-- where none is found, none passes
+none_cond : (b : Bool) (x : ℕ) (rest : Option ℕ) → cond b (Some x) rest ≡ None → (b ≡ false) × (rest ≡ None)
+none_cond true x rest e = absurd (none-some x (sym e))
+none_cond false x rest e = (refl, e)
+
+missed : (p : ℕ → Bool) (from n v : ℕ) → find p (range_with_len from n) ≡ None → from ≤ v → v < from + n → p v ≡ false
+missed p from zero v e low high = absurd (omega arith)
+missed p from (suc n) v e low high =
+    let parts = none_cond (p from) from (find p (range_with_len (from + 1) n)) e in
+    elim (cases_eq v from) [
+      | inl q ↦ ap p q ∙ parts.0
+      | inr ne ↦ missed p (from + 1) n v parts.1 (omega (arith, low, ne)) (omega (arith, high))
+    ]
+
+same_state : (s : Pseudoflow) (g : Network) (xs : List ℤ) → s.net ≡ g → s.amounts ≡ xs → s ≡ record { net = g; amounts = xs }
+same_state s g xs p q =
+    ap (λ (n : Network). record { net = n; amounts = s.amounts }) p ∙ ap (λ (ys : List ℤ). record { net = g; amounts = ys }) q
+
+module _ (l : Layout) (first last : Pseudoflow) (ok : IsLaidOut l) (w : IsWritten l first last) where
+  below_case : (k : ℕ) → IsArcNumber l.net k → (o : Option ℕ) → node_below l k ≡ o → amount_at last k ≡ amount_by l k o
+  below_case k h None e =
+      w.others k h (λ v node q. true≢false (sym (eq-eqb (label_of l.tree v) k q)
+      ∙ missed (λ v. eqb (label_of l.tree v) k) 1 (node_count l.net) v e node.0 (omega (arith, node)))) ∙ w.outside k h
+  below_case k h (Some v) e =
+      let f = found_at (λ v. eqb (label_of l.tree v) k) 1 (node_count l.net) v e in
+      let low = f.low in
+      let high = f.high in
+      let node : IsNode (node_count l.net) v = (low, omega (arith, high)) in
+      let same : label_of l.tree v ≡ k = eqb-true (label_of l.tree v) k f.passes in
+      subst (λ j. amount_at last j ≡ (if eqb (arc_at l.net j).src v then pos (get_or l.rooms v no_rooms).down else pos (get_or l.rooms v no_rooms).up)) same
+      (w.inside v node (omega (arith, same, h)))
+
+  written_at : (k : ℕ) → IsArcNumber l.net k → amount_at last k ≡ amount_in l k
+  written_at k h =
+      below_case k h (node_below l k) refl ∙ sym (cond-true _ _ _ (le-leb k (length l.net.arcs) h.1))
+
+  written_amounts : last.amounts ≡ map (amount_in l) (range_with_len 1 (length l.net.arcs))
+  written_amounts =
+      let count = length-map-range_with_len (amount_in l) 1 (length l.net.arcs) in
+      let own = amount_count last w.flow in
+      let arcs : length last.net.arcs ≡ length l.net.arcs = ap (λ (g : Network). length g.arcs) w.net in
+      ext_get_or (pos 0) last.amounts (map (amount_in l) (range_with_len 1 (length l.net.arcs))) (omega (arith, count, own, arcs))
+      (λ i h. (let inside : i < length l.net.arcs = omega (arith, own, arcs, h) in
+      let back : i + 1 - 1 ≡ i = omega arith in
+      sym (ap (λ j. get_or last.amounts j (pos 0)) back)
+      ∙ (written_at (i + 1) (omega arith, omega (arith, inside))
+      ∙ sym (get_or-map-range_with_len (amount_in l) 1 (length l.net.arcs) i (i + 1) (pos 0) inside (omega arith)))))
+
+pub flow_written : (l : Layout) (b : TreeStructure) (first last : Pseudoflow)
+    → basis_in l ≡ b → IsLaidOut l → IsWritten l first last → last ≡ state_of b
+unfolding basis_in
+flow_written l b first last e ok w =
+    subst (λ b. last ≡ state_of b) e
+    (same_state last l.net (take (length l.net.arcs) (map (amount_in l) (range_with_len 1 (length l.net.arcs + node_count l.net)))) w.net
+    (written_amounts l first last ok w
+    ∙ sym (take-map-range_with_len (amount_in l) 1 (length l.net.arcs + node_count l.net) (length l.net.arcs) (omega arith))))

@@ -1,0 +1,156 @@
+-- At a last basis no artificial arc carries anything where some flow is feasible.
+use Rattle.std.proofs.Common.{◌≡◌, ℕ, zero, suc, ◌+◌, ◌-◌, inl, inr, List, [], ◌∷◌, drop, map, sum, ap, sym, ◌∙◌, arith, ℤ, pos, negsuc, neg_ℤ, ◌+ℤ◌, ◌-ℤ◌, ◌*ℤ◌, ◌≤ℤ◌, ◌<ℤ◌}
+use Rattle.std.specs.Prelude.{max, unsigned_abs}
+use Rattle.std.specs.List.{All}
+use Rattle.std.proofs.Math.Nat.{le-max_right}
+use Rattle.std.proofs.lemmas.Grind.{get_or_after_one}
+use Rattle.std.proofs.lemmas.Int.{ints}
+use Rattle.std.proofs.lemmas.List.Elements.{All-head, All-tail}
+use Rattle.mcf_instance.specs.declared.arc.Arc.{Arc}
+use Rattle.mcf_instance.specs.Flow.{CanCarry, IsComplementary, IsFeasible, IsWithinBounds, cost, net, reduced_cost}
+use Rattle.mcf_instance.specs.Network.{IsNode, at_node, flow_sum, node_count, node_sum}
+use Rattle.mcf_instance.specs.WellFormed.{HasEnds, IsUpTo, weight}
+use Rattle.mcf_instance.proofs.ArcSums.{flow_sum-le_two, flow_sum-same, flow_sum-sub}
+use Rattle.mcf_instance.proofs.Bounds.{mul_up_to, sum-weights, up_to_size}
+use Rattle.mcf_instance.proofs.Duality.{reduced_total}
+use Rattle.mcf_instance.proofs.IntLaws.{mul-anti, mul-mono, mul-neg, mul-one, mul-sub, neg-mul, sub-mul}
+use Rattle.mcf_instance.proofs.NodeSums.{node_sum-mul, node_sum-net, node_sum-same, node_sum-sub, node_sum_above_zero}
+use Rattle.mcf_network.specs.Nets.{IsNetArc}
+use Rattle.mcf_basis.specs.Artificial.{artificial_cost}
+use Rattle.mcf_basis.specs.Bases.{IsBasis}
+use Rattle.mcf_basis.specs.Laws.{LastBasesAreFeasible}
+use Rattle.mcf_basis.specs.Structures.{TreeStructure, price_at, state_of}
+use Rattle.mcf_basis.specs.Violations.{HasNoEligible}
+use Rattle.mcf_basis.proofs.Cuts.{artificial_amount, artificial_low, node_case, unsent}
+use Rattle.mcf_basis.proofs.Cuts.NodeCase.{sends, takes}
+use Rattle.mcf_basis.proofs.LastBases.{shows, within}
+use Rattle.mcf_basis.proofs.PivotBounds.{zero_or_more}
+
+-- ---- costs of two flows
+
+-- within its bounds, what an arc costs changes by no more than its weight
+one_apart : (a : Arc) (f h : ℤ) → IsNetArc a → CanCarry a f → CanCarry a h → (a.cost *ℤ h -ℤ a.cost *ℤ f) ≤ℤ pos (weight a)
+one_apart a f h arc cf ch =
+    let low = arc.no_low in
+    let size = up_to_size a.cap in
+    let right = le-max_right (unsigned_abs a.low) (unsigned_abs a.cap) in
+    let gap : IsUpTo (max (unsigned_abs a.low) (unsigned_abs a.cap)) (h -ℤ f) =
+    (omega (arith, ints, low, size, right, cf, ch), omega (arith, ints, low, size, right, cf, ch)) in
+    let product = mul_up_to a.cost (h -ℤ f) (unsigned_abs a.cost) (max (unsigned_abs a.low) (unsigned_abs a.cap)) (up_to_size a.cost) gap in
+    let split = mul-sub a.cost h f in
+    omega (arith, ints, product, split)
+
+costs_apart : (arcs : List Arc) (x y : List ℤ) → All IsNetArc arcs → IsWithinBounds arcs x → IsWithinBounds arcs y
+    → (cost arcs y -ℤ cost arcs x) ≤ℤ pos (sum (map weight arcs))
+costs_apart [] x y each hx hy = omega (arith, ints)
+costs_apart (a ∷ arcs) [] y each hx hy = absurd hx
+costs_apart (a ∷ arcs) (f ∷ x) [] each hx hy = absurd hy
+costs_apart (a ∷ arcs) (f ∷ x) (h ∷ y) each hx hy =
+    let first = one_apart a f h (All-head IsNetArc a arcs each) hx.0 hy.0 in
+    let rest = costs_apart arcs x y (All-tail IsNetArc a arcs each) hx.1 hy.1 in
+    let weights = sum-weights weight a arcs in
+    omega (arith, ints, first, rest, weights)
+
+-- where an arc is complementary, no other flow within its bounds has a smaller product with the reduced cost r
+no_smaller : (r low cap f other : ℤ) → (pos 0 <ℤ r → f ≡ low) → (r <ℤ pos 0 → f ≡ cap) → low ≤ℤ other → other ≤ℤ cap → (r *ℤ f) ≤ℤ (r *ℤ other)
+no_smaller (pos zero) low cap f other above below l u = omega (arith, ints)
+no_smaller (pos (suc n)) low cap f other above below l u =
+    let e : f ≡ low = above (omega (arith, ints)) in mul-mono (pos (suc n)) f other (omega (arith, ints)) (omega (arith, ints))
+no_smaller (negsuc n) low cap f other above below l u =
+    let e : f ≡ cap = below (omega (arith, ints)) in mul-anti (negsuc n) other f (omega (arith, ints)) (omega (arith, ints))
+
+-- ---- the sum of reduced costs by amounts
+
+regroup : (c s t : ℤ) → c -ℤ s +ℤ t ≡ c -ℤ (s -ℤ t)
+regroup c s t = omega (arith, ints)
+
+module _ (b : TreeStructure) (ok : IsBasis b) where
+  abbrev prices : List ℤ
+  prices = drop 1 b.prices
+
+  abbrev own : List ℤ
+  own = (state_of b).amounts
+
+  abbrev paid : Arc → ℤ → ℤ
+  paid a f = reduced_cost prices a *ℤ f
+
+  node_price : (v : ℕ) → IsNode (node_count b.net) v → at_node prices v ≡ price_at b v
+  node_price v h =
+      let place : 1 + (v - 1) ≡ v = omega arith in
+      get_or_after_one b.prices (v - 1) (pos 0) ∙ ap (price_at b) place
+
+  -- what a node has unsent costs, at its price, what its artificial arc costs
+  unsent_paid : (v : ℕ) → IsNode (node_count b.net) v → at_node prices v *ℤ unsent b v ≡ pos (artificial_cost b.net) *ℤ artificial_amount b v
+  unsent_paid v h =
+      ap (λ p. p *ℤ unsent b v) (node_price v h) ∙ elim (zero_or_more (artificial_amount b v) (artificial_low b ok v h)) [
+        | inl z ↦ elim (node_case b ok v h) [
+          | sends e p ↦ both_none (price_at b v) (unsent b v) (artificial_amount b v) (omega (arith, ints, e, z)) z
+          | takes e p ↦ both_none (price_at b v) (unsent b v) (artificial_amount b v) (omega (arith, ints, e, z)) z
+        ]
+        | inr some ↦ elim (node_case b ok v h) [
+          | sends e p ↦ ap (λ q. q *ℤ unsent b v) (p some) ∙ ap (λ q. pos (artificial_cost b.net) *ℤ q) e
+          | takes e p ↦ ap (λ q. q *ℤ unsent b v) (p some)
+              ∙ (ap (λ q. neg_ℤ (pos (artificial_cost b.net)) *ℤ q) e ∙ both_turned (pos (artificial_cost b.net)) (artificial_amount b v))
+        ]
+      ]
+    where
+      both_none : (p u x : ℤ) → u ≡ pos 0 → x ≡ pos 0 → p *ℤ u ≡ pos (artificial_cost b.net) *ℤ x
+      both_none = λ p u x e z. rw (e, z) (omega (arith, ints))
+
+      both_turned : (m x : ℤ) → neg_ℤ m *ℤ neg_ℤ x ≡ m *ℤ x
+      both_turned = λ m x. (let first = neg-mul m (neg_ℤ x) in let second = mul-neg m x in omega (arith, ints, first, second))
+
+  split : (a : Arc) (f : ℤ) → HasEnds (node_count b.net) a → paid a f ≡ a.cost *ℤ f -ℤ (at_node prices a.src -ℤ at_node prices a.dst) *ℤ f
+  split a f h =
+      ap (λ z. z *ℤ f) (regroup a.cost (at_node prices a.src) (at_node prices a.dst))
+      ∙ sub-mul a.cost (at_node prices a.src -ℤ at_node prices a.dst) f
+
+  -- over the amounts of the basis
+  own_total : flow_sum paid b.net.arcs own ≡ cost b.net.arcs own -ℤ node_sum (λ v. at_node prices v *ℤ net b.net.arcs own v) (node_count b.net)
+  own_total =
+      flow_sum-same (HasEnds (node_count b.net)) paid (λ a f. a.cost *ℤ f -ℤ (at_node prices a.src -ℤ at_node prices a.dst) *ℤ f)
+      split b.net.arcs own ok.of_net.ends
+      ∙ flow_sum-sub (λ a f. a.cost *ℤ f) (λ a f. (at_node prices a.src -ℤ at_node prices a.dst) *ℤ f) b.net.arcs own
+      ∙ ap (λ z. cost b.net.arcs own -ℤ z) (sym (node_sum-net (at_node prices) (node_count b.net) b.net.arcs own ok.of_net.ends))
+
+  supply_paid : node_sum (λ v. at_node prices v *ℤ net b.net.arcs own v) (node_count b.net)
+      ≡ node_sum (λ v. at_node prices v *ℤ at_node b.net.supplies v) (node_count b.net)
+      -ℤ pos (artificial_cost b.net) *ℤ node_sum (artificial_amount b) (node_count b.net)
+  supply_paid =
+      node_sum-same (λ v. at_node prices v *ℤ net b.net.arcs own v)
+      (λ v. at_node prices v *ℤ at_node b.net.supplies v -ℤ pos (artificial_cost b.net) *ℤ artificial_amount b v) (node_count b.net)
+      (λ v h. (let u = unsent_paid v h in
+      let d = mul-sub (at_node prices v) (at_node b.net.supplies v) (net b.net.arcs own v) in
+      omega (arith, ints, u, d)))
+      ∙ (node_sum-sub (λ v. at_node prices v *ℤ at_node b.net.supplies v) (λ v. pos (artificial_cost b.net) *ℤ artificial_amount b v) (node_count b.net)
+      ∙ ap (λ z. node_sum (λ v. at_node prices v *ℤ at_node b.net.supplies v) (node_count b.net) -ℤ z)
+      (node_sum-mul (pos (artificial_cost b.net)) (artificial_amount b) (node_count b.net)))
+
+  module _ (none : HasNoEligible b) (flow : List ℤ) (feasible : IsFeasible b.net flow) where
+    -- the artificial arcs cost less than one unit along one of them does
+    artificial_small : (pos (artificial_cost b.net) *ℤ node_sum (artificial_amount b) (node_count b.net)) <ℤ pos (artificial_cost b.net)
+    artificial_small =
+        let least : flow_sum paid b.net.arcs own ≤ℤ flow_sum paid b.net.arcs flow =
+        flow_sum-le_two (IsComplementary prices) CanCarry paid paid
+        (λ a f h t q. no_smaller (reduced_cost prices a) a.low a.cap f h t.0 t.1 q.0 q.1)
+        b.net.arcs own flow (shows b ok none) feasible.within_bounds in
+        let other = reduced_total b.net prices flow ok.of_net.ends feasible in
+        let here = own_total in
+        let sent = supply_paid in
+        let apart = costs_apart b.net.arcs own flow ok.of_net.each_arc (within b ok) feasible.within_bounds in
+        omega (arith, ints, least, other, here, sent, apart)
+
+    nothing_left : (v : ℕ) → IsNode (node_count b.net) v → artificial_amount b v ≡ pos 0
+    nothing_left v h = elim (zero_or_more (artificial_amount b v) (artificial_low b ok v h)) [
+      | inl z ↦ z
+      | inr some ↦ absurd (let more = node_sum_above_zero (artificial_amount b) (node_count b.net) v h some (artificial_low b ok) in
+          let times : (pos (artificial_cost b.net) *ℤ pos 1) ≤ℤ (pos (artificial_cost b.net) *ℤ node_sum (artificial_amount b) (node_count b.net)) =
+          mul-mono (pos (artificial_cost b.net)) (pos 1) (node_sum (artificial_amount b) (node_count b.net))
+          (omega (arith, ints)) (omega (arith, ints, more)) in
+          let one = mul-one (pos (artificial_cost b.net)) in
+          let small = artificial_small in
+          omega (arith, ints, times, one, small))
+    ]
+
+pub last_bases_are_feasible_lem : LastBasesAreFeasible
+last_bases_are_feasible_lem b flow ok none feasible = nothing_left b ok none flow feasible

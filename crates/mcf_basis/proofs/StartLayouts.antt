@@ -1,0 +1,215 @@
+-- The star of the artificial arcs, as it is stored.
+use Rattle.std.proofs.Common.{◌≡◌, ℕ, zero, suc, ◌+◌, ◌-◌, ◌*◌, ◌^◌, ◌<◌, ◌≤◌, ◌++◌, inl, inr, Bool, true, false, eqb, cond, List, [], ◌∷◌, length, map, take, replicate, get_or, refl, sym, ap, ◌∙◌, arith, ℤ, pos, ◌<ℤ◌, ◌≤ℤ◌, length-append}
+use Rattle.std.specs.Prelude.{if◌then◌else◌, int_lt, max, sum, unsigned_abs}
+use Rattle.std.specs.List.{range_with_len}
+use Rattle.std.proofs.lemmas.Int.{ints}
+use Rattle.std.proofs.lemmas.Bool.{cases_Bool, cases_lt, cond-true, cond-false, eq-eqb, le-leb, lt-leb}
+use Rattle.std.proofs.lemmas.List.{ext_get_or, get_or_append_left, get_or-append-add, get_or-replicate, length-replicate}
+use Rattle.std.proofs.lemmas.List.FromFn.{get_or-map-range_with_len, length-map-range_with_len, map-range_with_len_more}
+use Rattle.std.proofs.lemmas.Nat.{mul-le}
+use Rattle.mcf_instance.specs.declared.arc.Arc.{Arc}
+use Rattle.mcf_instance.specs.Network.{Network, IsArcNumber, IsNode, at_node, node_count}
+use Rattle.mcf_instance.specs.WellFormed.{weight}
+use Rattle.mcf_instance.proofs.Bounds.{size_up_to, sum-weights}
+use Rattle.mcf_network.specs.Nets.{IsNet, IsNetArc}
+use Rattle.mcf_network.specs.Residual.{arc_at}
+use Rattle.mcf_network.proofs.ArcLaws.{net_arc_at}
+use Rattle.mcf_tree.specs.SpanningTree.{IsSpanning, IsStar, label_of}
+use Rattle.mcf_basis.specs.declared.offer.Offer.{Offer}
+use Rattle.mcf_basis.specs.declared.rooms.Rooms.{Rooms}
+use Rattle.mcf_basis.specs.Artificial.{is_sender}
+use Rattle.mcf_basis.specs.Bases.{IsBasis}
+use Rattle.mcf_basis.specs.Private.Layouts.{Layout, IsLaidOut, IsOffer, amount_by, amount_in, amount_outside, artificial_rooms, basis_in, forward_offer, no_offer, no_rooms, offer_at}
+use Rattle.mcf_basis.specs.Private.Layouts.IsOffer.{closed, forward}
+use Rattle.mcf_basis.specs.Starts.{IsStart, start_amounts, start_prices}
+use Rattle.mcf_basis.specs.Structures.{IsInTree}
+use Rattle.mcf_basis.proofs.StarBases.{star_is_basis}
+use Rattle.mcf_basis.proofs.Views.{none_below}
+
+-- ---- lists that are made entry by entry
+
+pub made_more : {X : Type 0} (f : ℕ → X) (i : ℕ) (xs ys : List X) (x : X)
+    → xs ≡ map f (range_with_len 1 i) → x ≡ f (i + 1) → ys ≡ xs ++ x ∷ [] → ys ≡ map f (range_with_len 1 (i + 1))
+made_more f i xs ys x e h p =
+    p ∙ (ap (λ zs. zs ++ x ∷ []) e ∙ (ap (λ z. map f (range_with_len 1 i) ++ z ∷ []) h ∙ sym (map-range_with_len_more f 1 i (i + 1) (omega arith))))
+
+-- behind an entry for the root
+pub made_behind : {X : Type 0} (y : X) (f : ℕ → X) (i : ℕ) (xs ys : List X) (x : X)
+    → xs ≡ y ∷ map f (range_with_len 1 i) → x ≡ f (i + 1) → ys ≡ xs ++ x ∷ [] → ys ≡ y ∷ map f (range_with_len 1 (i + 1))
+made_behind y f i xs ys x e h p =
+    p
+    ∙ (ap (λ zs. zs ++ x ∷ []) e
+    ∙ (ap (λ z. y ∷ map f (range_with_len 1 i) ++ z ∷ []) h
+    ∙ ap (λ zs. y ∷ zs) (sym (map-range_with_len_more f 1 i (i + 1) (omega arith)))))
+
+-- ---- the cost of an artificial arc
+
+pub weight_next : (arcs : List Arc) (i : ℕ) (d : Arc) → i < length arcs
+    → sum (map weight (take (i + 1) arcs)) ≡ sum (map weight (take i arcs)) + weight (get_or arcs i d)
+weight_next [] i d h = absurd (omega arith)
+weight_next (a ∷ arcs) zero d h = omega (arith, sum-weights weight a [])
+weight_next (a ∷ arcs) (suc i) d h =
+    let place : suc i + 1 ≡ suc (i + 1) = omega arith in
+    let next : sum (map weight (a ∷ take (i + 1) arcs)) ≡ sum (map weight (a ∷ take i arcs)) + weight (get_or arcs i d) =
+    omega (arith, sum-weights weight a (take (i + 1) arcs), sum-weights weight a (take i arcs), weight_next arcs i d (omega arith)) in
+    ap (λ j. sum (map weight (take j (a ∷ arcs)))) place ∙ next
+
+pub weight_part : (arcs : List Arc) (i : ℕ) → sum (map weight (take i arcs)) ≤ sum (map weight arcs)
+weight_part [] zero = omega arith
+weight_part [] (suc i) = omega arith
+weight_part (a ∷ arcs) zero = omega arith
+weight_part (a ∷ arcs) (suc i) =
+    omega (arith, sum-weights weight a (take i arcs), sum-weights weight a arcs, weight_part arcs i)
+
+max_zero : (n : ℕ) → max 0 n ≡ n
+max_zero n = omega arith
+
+-- the weight of an arc of a net, and how great it can be
+pub net_weight : (a : Arc) → IsNetArc a → weight a ≡ unsigned_abs a.cost * unsigned_abs a.cap
+net_weight a ok =
+    ap (λ z. unsigned_abs a.cost * max (unsigned_abs z) (unsigned_abs a.cap)) ok.no_low ∙ ap (λ n. unsigned_abs a.cost * n) (max_zero (unsigned_abs a.cap))
+
+pub weight_small : (a : Arc) → IsNetArc a → unsigned_abs a.cost * unsigned_abs a.cap ≤ 10 ^ 34
+weight_small a ok =
+    let cost : unsigned_abs a.cost ≤ 10 ^ 15 = size_up_to (10 ^ 15) a.cost ok.cost_small in
+    let low = ok.width_low in
+    let high = ok.width_high in
+    let cap : unsigned_abs a.cap ≤ 2 * 10 ^ 18 = size_up_to (2 * 10 ^ 18) a.cap (omega (arith, ints, low), omega (arith, ints, high)) in
+    let le = mul-le (unsigned_abs a.cost) (unsigned_abs a.cap) (10 ^ 15) (2 * 10 ^ 18) cost cap in
+    omega (arith, le)
+
+-- ---- the star, as it is stored
+
+abbrev pub star_offer : Network → ℕ → Offer
+star_offer g k = if int_lt (pos 0) (arc_at g k).cap then forward_offer g k else no_offer
+
+abbrev pub star_rooms : Network → ℕ → Rooms
+star_rooms g v = artificial_rooms (is_sender g v) (unsigned_abs (at_node g.supplies v))
+
+abbrev pub star_amount : Network → ℕ → ℤ
+star_amount g v = pos (unsigned_abs (at_node g.supplies v))
+
+pub record IsStarStored (l : Layout) : Type 0 where
+  pub of_net : IsNet l.net
+  pub star : IsStar l.tree (node_count l.net) (length l.net.arcs)
+  pub spanning : IsSpanning l.tree
+  pub offers : l.offers ≡ map (star_offer l.net) (range_with_len 1 (length l.net.arcs))
+  pub rooms : l.rooms ≡ no_rooms ∷ map (star_rooms l.net) (range_with_len 1 (node_count l.net))
+  pub artificial : l.artificial ≡ pos 0 ∷ map (star_amount l.net) (range_with_len 1 (node_count l.net))
+  pub prices : l.table.prices ≡ start_prices l.net
+  pub priced : l.table.priced ≡ 0
+
+-- a read behind the entry of the root
+behind : {X : Type 0} (y d : X) (f : ℕ → X) (n v : ℕ) → IsNode n v → get_or (y ∷ map f (range_with_len 1 n)) v d ≡ f v
+behind y d f n zero h = absurd (omega arith)
+behind y d f n (suc i) h = get_or-map-range_with_len f 1 n i (suc i) d (omega arith) (omega arith)
+
+open_width : (x : ℤ) → int_lt (pos 0) x ≡ true → pos 0 <ℤ x
+open_width x e = grind (arith, ints)
+
+no_width : (x : ℤ) → int_lt (pos 0) x ≡ false → x ≤ℤ pos 0
+no_width x e = grind (arith, ints)
+
+module _ (l : Layout) (s : IsStarStored l) where
+  label_is : (v : ℕ) → IsNode (node_count l.net) v → label_of l.tree v ≡ length l.net.arcs + v
+  label_is v h = s.star.label v (omega arith) h.1
+
+  offer_is : (k : ℕ) → IsArcNumber l.net k → offer_at l k ≡ star_offer l.net k
+  offer_is k h =
+      ap (λ xs. get_or xs (k - 1) no_offer) s.offers
+      ∙ get_or-map-range_with_len (star_offer l.net) 1 (length l.net.arcs) (k - 1) k no_offer (omega arith) (omega arith)
+
+  outside : (k : ℕ) → IsArcNumber l.net k → ¬ IsInTree (basis_in l) k
+  unfolding basis_in
+  outside k h t = let e = label_is t.node t.is_node in let same = t.labelled in let node = t.is_node in omega (arith, e, same, node, h)
+
+  offer_ok : (k : ℕ) → IsArcNumber l.net k → IsOffer l.net k (offer_at l k)
+  offer_ok k h =
+      let arc : IsNetArc (arc_at l.net k) = net_arc_at l.net k s.of_net h in
+      let low = arc.width_low in
+      elim (cases_Bool (int_lt (pos 0) (arc_at l.net k).cap)) [
+        | inl e ↦ forward (open_width (arc_at l.net k).cap e) (offer_is k h ∙ cond-true _ _ _ e)
+        | inr e ↦ closed (let high = no_width (arc_at l.net k).cap e in omega (arith, ints, low, high)) (offer_is k h ∙ cond-false _ _ _ e)
+      ]
+
+  own_amount : (k : ℕ) → IsArcNumber l.net k → amount_outside l k ≡ pos 0
+  own_amount k h =
+      let arc : IsNetArc (arc_at l.net k) = net_arc_at l.net k s.of_net h in
+      let low = arc.width_low in
+      elim (cases_Bool (int_lt (pos 0) (arc_at l.net k).cap)) [
+        | inl e ↦ cond-true _ _ _ (eq-eqb _ _ (ap (λ o. o.from) (offer_is k h ∙ cond-true _ _ _ e)))
+        | inr e ↦ (let high = no_width (arc_at l.net k).cap e in
+            let none : (arc_at l.net k).cap ≡ pos 0 = omega (arith, ints, low, high) in
+            either (eqb (offer_at l k).from (arc_at l.net k).src) (arc_at l.net k).cap none)
+      ]
+    where
+      either : (b : Bool) (x : ℤ) → x ≡ pos 0 → cond b (pos 0) x ≡ pos 0
+      either true x e = refl
+      either false x e = e
+
+  own_part : (k : ℕ) → IsArcNumber l.net k → amount_in l k ≡ pos 0
+  own_part k h =
+      cond-true _ _ _ (le-leb k (length l.net.arcs) (omega arith)) ∙ (ap (amount_by l k) (none_below l k (outside k h)) ∙ own_amount k h)
+
+  added_part : (v label : ℕ) → IsNode (node_count l.net) v → label ≡ length l.net.arcs + v → amount_in l label ≡ star_amount l.net v
+  added_part v label h e =
+      let place : label - length l.net.arcs ≡ v = omega arith in
+      cond-false _ _ _ (lt-leb label (length l.net.arcs) (omega arith)) ∙ (ap (λ i. get_or l.artificial i (pos 0)) place
+      ∙ (ap (λ xs. get_or xs v (pos 0)) s.artificial ∙ behind (pos 0) (pos 0) (star_amount l.net) (node_count l.net) v h))
+
+  amounts_are : map (amount_in l) (range_with_len 1 (length l.net.arcs + node_count l.net)) ≡ start_amounts l.net
+  amounts_are =
+      let all = length-map-range_with_len (amount_in l) 1 (length l.net.arcs + node_count l.net) in
+      let own = length-replicate (length l.net.arcs) (pos 0) in
+      let added = length-map-range_with_len (star_amount l.net) 1 (node_count l.net) in
+      let both = length-append (replicate (length l.net.arcs) (pos 0)) (map (star_amount l.net) (range_with_len 1 (node_count l.net))) in
+      ext_get_or (pos 0) (map (amount_in l) (range_with_len 1 (length l.net.arcs + node_count l.net))) (start_amounts l.net)
+      (omega (arith, all, own, added, both))
+      (λ i h. elim (cases_lt i (length l.net.arcs)) [
+        | inl lt ↦ (let k : IsArcNumber l.net (i + 1) = (omega arith, omega arith) in
+            get_or-map-range_with_len (amount_in l) 1 (length l.net.arcs + node_count l.net) i (i + 1) (pos 0) (omega (arith, all, h)) (omega arith)
+            ∙ (own_part (i + 1) k ∙ sym (left_part i lt)))
+        | inr ge ↦ (let v : IsNode (node_count l.net) (i + 1 - length l.net.arcs) = (omega arith, omega (arith, all, h)) in
+            get_or-map-range_with_len (amount_in l) 1 (length l.net.arcs + node_count l.net) i (i + 1) (pos 0) (omega (arith, all, h)) (omega arith)
+            ∙ (added_part (i + 1 - length l.net.arcs) (i + 1) v (omega (arith, ge)) ∙ sym (right_part i (i + 1 - length l.net.arcs) v (omega (arith, ge)))))
+      ])
+    where
+      left_part : (i : ℕ) → i < length l.net.arcs → get_or (start_amounts l.net) i (pos 0) ≡ pos 0
+      left_part i lt =
+          let own = length-replicate (length l.net.arcs) (pos 0) in
+          get_or_append_left (replicate (length l.net.arcs) (pos 0)) (map (star_amount l.net) (range_with_len 1 (node_count l.net))) (pos 0) i
+          (omega (arith, own, lt)) ∙ get_or-replicate (length l.net.arcs) i (pos 0) (pos 0) lt
+
+      right_part : (i v : ℕ) → IsNode (node_count l.net) v → i + 1 ≡ length l.net.arcs + v
+          → get_or (start_amounts l.net) i (pos 0) ≡ star_amount l.net v
+      right_part i v h e =
+          let own = length-replicate (length l.net.arcs) (pos 0) in
+          let place : i ≡ length (replicate (length l.net.arcs) (pos 0)) + (v - 1) = omega (arith, own, e, h) in
+          ap (λ j. get_or (start_amounts l.net) j (pos 0)) place
+          ∙ (get_or-append-add (replicate (length l.net.arcs) (pos 0)) (map (star_amount l.net) (range_with_len 1 (node_count l.net))) (v - 1) (pos 0)
+          ∙ get_or-map-range_with_len (star_amount l.net) 1 (node_count l.net) (v - 1) v (pos 0) (omega arith) (omega arith))
+
+  star_basis : IsBasis (basis_in l)
+  unfolding basis_in
+  star_basis = star_is_basis (basis_in l) s.of_net s.spanning s.star amounts_are s.prices
+
+  not_own : (v : ℕ) → IsNode (node_count l.net) v → label_of l.tree v ≤ length l.net.arcs → ⊥
+  not_own v h le = let e = label_is v h in omega (arith, e, le, h)
+
+  pub star_laid_out : IsLaidOut l
+  star_laid_out = record {
+    basis = star_basis;
+    offers_size = ap length s.offers ∙ length-map-range_with_len (star_offer l.net) 1 (length l.net.arcs);
+    rooms_size = (let n = length-map-range_with_len (star_rooms l.net) 1 (node_count l.net) in let e = ap length s.rooms in omega (arith, n, e));
+    artificial_size = (let n = length-map-range_with_len (star_amount l.net) 1 (node_count l.net) in let e = ap length s.artificial in omega (arith, n, e));
+    offers = offer_ok;
+    rooms = λ v h le. absurd (not_own v h le);
+    artificial = λ v h e. ap (λ xs. get_or xs v no_rooms) s.rooms ∙ (behind no_rooms no_rooms (star_rooms l.net) (node_count l.net) v h
+        ∙ ap (λ x. artificial_rooms (is_sender l.net v) (unsigned_abs x))
+        (sym (ap (λ xs. get_or xs v (pos 0)) s.artificial ∙ behind (pos 0) (pos 0) (star_amount l.net) (node_count l.net) v h)));
+    wide = λ v h le. absurd (not_own v h le);
+  }
+
+  pub star_starts : IsStart l.net (basis_in l)
+  unfolding basis_in
+  star_starts = record { of_net = refl; star = s.star; amounts = amounts_are; prices = s.prices; priced = s.priced; basis = star_basis }

@@ -1,0 +1,29 @@
+use Rattle.std.proofs.Common.{◌≡◌, ◌+◌, ◌-◌, ◌<◌, length, get_or, ap, arith, ◌∙◌}
+use Rattle.mcf_instance.specs.WellFormed.{weight}
+use Rattle.mcf_network.specs.Residual.{no_arc}
+use Rattle.mcf_basis.proofs.StartLayouts.{weight_next, weight_part}
+use Rattle.mcf_basis.proofs.starting.artificial_cost.Goals as goal
+
+pub overflow_add-total : goal.overflow_add-total
+overflow_add-total c =
+    let g = c.args.net.now in
+    let inside : c.loop-i.i < length g.arcs = omega (arith, c.loop-i-test.true, c.arc_count-i-end.ensures.value) in
+    let place : c.new.result - 1 ≡ c.loop-i.i = omega (arith, c.new.ensures) in
+    let here : c.weight-total.result ≡ weight (get_or g.arcs c.loop-i.i no_arc) =
+    c.weight-total.ensures.value ∙ ap (λ i. weight (get_or g.arcs i no_arc)) place in
+    let next = weight_next g.arcs c.loop-i.i no_arc inside in
+    let part = weight_part g.arcs (c.loop-i.i + 1) in
+    let total = c.weight-total.ensures.net.total in
+    omega (arith, here, next, part, total, c.loop-i.invariant)
+
+pub loop-i-preserved : goal.loop-i-preserved
+loop-i-preserved c =
+    let g = c.args.net.now in
+    let inside : c.loop-i.i < length g.arcs = omega (arith, c.loop-i-test.true, c.arc_count-i-end.ensures.value) in
+    let place : c.new.result - 1 ≡ c.loop-i.i = omega (arith, c.new.ensures) in
+    let here : c.weight-total.result ≡ weight (get_or g.arcs c.loop-i.i no_arc) =
+    c.weight-total.ensures.value ∙ ap (λ i. weight (get_or g.arcs i no_arc)) place in
+    let next = weight_next g.arcs c.loop-i.i no_arc inside in
+    let part = weight_part g.arcs (c.loop-i.i + 1) in
+    let total = c.weight-total.ensures.net.total in
+    omega (arith, here, next, part, total, c.loop-i.invariant)

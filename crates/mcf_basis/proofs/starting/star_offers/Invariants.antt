@@ -1,0 +1,7 @@
+use Rattle.std.proofs.Common.{◌≡◌, map}
+use Rattle.std.specs.List.{range_with_len}
+use Rattle.mcf_basis.proofs.StartLayouts.{star_offer}
+use Rattle.mcf_basis.proofs.starting.star_offers.Given as goal
+
+abbrev pub invariant-loop-i : goal.invariant-loop-i
+invariant-loop-i l = l.made.items ≡ map (star_offer l.net) (range_with_len 1 l.i)

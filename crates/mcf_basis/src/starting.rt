@@ -1,0 +1,186 @@
+//! The basis with which the simplex begins.
+ghost use Rattle.std.specs.Prelude.{◌≡◌, ◌∷◌, ◌≤ℤ◌, IfOk, if◌then◌else◌, int_le, int_lt, length, map, min, neg_ℤ, pos, unsigned_abs};
+ghost use Rattle.std.specs.List.{range_with_len};
+ghost use Rattle.mcf_instance.specs.Network.{IsArcNumber, IsNode, at_node, node_count};
+ghost use Rattle.mcf_instance.specs.WellFormed.{weight};
+ghost use Rattle.mcf_network.specs.Nets.{IsNet};
+ghost use Rattle.mcf_network.specs.Residual.{arc_at};
+ghost use Rattle.mcf_basis.specs.Artificial.{artificial_cost, is_sender};
+ghost use Rattle.mcf_basis.specs.Private.Layouts.{artificial_rooms, forward_offer, no_offer, no_rooms, room_limit};
+ghost use Rattle.mcf_basis.specs.Starts.{IsStart, start_prices};
+
+use crate::basis::Basis;
+use crate::offer::Offer;
+use crate::price_table::PriceTable;
+use crate::rooms::Rooms;
+use mcf_network::Net;
+use mcf_text::{ArcId, NoMemory, NodeId};
+use mcf_tree::Tree;
+use std::alloc::Global;
+
+impl<'n> Basis<'n> {
+    /// The basis with which the simplex begins: each node hangs on the root by its artificial arc, which carries what the node sends or
+    /// takes, and no arc of the net carries anything (Ahuja, Magnanti and Orlin, Network Flows, section 11.5).
+    ///
+    /// Of all calls of a basis it alone takes memory.
+    ///
+    /// # Errors
+    ///
+    /// Want of memory.
+    pub fn start(alloc: Global, net: &'n Net) -> Result<Basis<'n>, NoMemory>
+        ensures { IfOk result (IsStart net.now) }
+    {
+        let tree = Tree::star(alloc, net.node_count(), net.arc_count())?;
+        let offers = star_offers(alloc, net)?;
+        let rooms = star_rooms(alloc, net)?;
+        let artificial = star_amounts(alloc, net)?;
+        let prices = star_prices(alloc, net, artificial_cost(net))?;
+        let table = PriceTable::of(prices);
+        Ok(Basis {
+            net,
+            tree,
+            offers,
+            rooms,
+            artificial,
+            table,
+        })
+    }
+}
+
+// The offers where no arc carries anything: all that have a width go forward.
+fn star_offers(alloc: Global, net: &Net) -> Result<Vec<Offer>, NoMemory>
+    ensures { IfOk result (λ made. made.items ≡ map (λ k. if int_lt (pos 0) (arc_at net.now k).cap then forward_offer net.now k else no_offer) (range_with_len 1 (length net.now.arcs))) }
+{
+    let count = net.arc_count();
+    let mut made = Vec::with_capacity(alloc, count as usize)?;
+    for i in 0..count {
+        made.push(star_offer(net, ArcId::new(i + 1)))?;
+    }
+    Ok(made)
+}
+
+// The offer of an arc that carries nothing.
+fn star_offer(net: &Net, k: ArcId) -> Offer
+    requires { IsArcNumber net.now k }
+    ensures { result ≡ (if int_lt (pos 0) (arc_at net.now k).cap then forward_offer net.now k else no_offer) }
+{
+    if 0 < net.width(k) {
+        let (src, dst) = net.ends(k);
+        Offer {
+            from: src.get(),
+            to: dst.get(),
+            cost: net.cost(k) as i64,
+        }
+    } else {
+        Offer {
+            from: 0,
+            to: 0,
+            cost: 0,
+        }
+    }
+}
+
+// The rooms of the artificial arcs, each of which carries what its node sends or takes, behind those of the root.
+fn star_rooms(alloc: Global, net: &Net) -> Result<Vec<Rooms>, NoMemory>
+    ensures { IfOk result (λ made. made.items ≡ no_rooms ∷ map (λ v. artificial_rooms (is_sender net.now v) (unsigned_abs (at_node net.now.supplies v))) (range_with_len 1 (node_count net.now))) }
+{
+    let count = net.node_count();
+    let mut made = Vec::with_capacity(alloc, count as usize + 1)?;
+    made.push(Rooms { up: 0, down: 0 })?;
+    for i in 0..count {
+        made.push(star_room(net.supply(NodeId::new(i + 1))))?;
+    }
+    Ok(made)
+}
+
+// The rooms of the artificial arc of a node with this supply, all of which it carries.
+fn star_room(supply: i128) -> Rooms
+    ensures { result ≡ artificial_rooms (int_le (pos 0) supply) (unsigned_abs supply) }
+{
+    let back = capped(supply.unsigned_abs());
+    if 0 <= supply {
+        Rooms {
+            up: u64::MAX,
+            down: back,
+        }
+    } else {
+        Rooms {
+            up: back,
+            down: u64::MAX,
+        }
+    }
+}
+
+// An amount, or the greatest room that is told.
+fn capped(amount: u128) -> u64
+    ensures { result ≡ min amount room_limit }
+{
+    if amount < u128::from(u64::MAX) {
+        amount as u64
+    } else {
+        u64::MAX
+    }
+}
+
+// What the artificial arcs carry, behind an entry for the root.
+fn star_amounts(alloc: Global, net: &Net) -> Result<Vec<i128>, NoMemory>
+    ensures { IfOk result (λ made. made.items ≡ pos 0 ∷ map (λ v. pos (unsigned_abs (at_node net.now.supplies v))) (range_with_len 1 (node_count net.now))) }
+{
+    let count = net.node_count();
+    let mut made = Vec::with_capacity(alloc, count as usize + 1)?;
+    made.push(0)?;
+    for i in 0..count {
+        made.push(star_amount(net, NodeId::new(i + 1)))?;
+    }
+    Ok(made)
+}
+
+// What a node sends or takes.
+fn star_amount(net: &Net, v: NodeId) -> i128
+    requires { IsNode (node_count net.now) v }
+    ensures { result ≡ pos (unsigned_abs (at_node net.now.supplies v)) }
+{
+    net.supply(v).unsigned_abs() as i128
+}
+
+// The prices of the tree of the artificial arcs, which have this cost.
+fn star_prices(alloc: Global, net: &Net, cost: i128) -> Result<Vec<i128>, NoMemory>
+    requires { cost ≡ pos (artificial_cost net.now) }
+    ensures { IfOk result (λ made. made.items ≡ start_prices net.now) }
+{
+    let count = net.node_count();
+    let mut made = Vec::with_capacity(alloc, count as usize + 1)?;
+    made.push(0)?;
+    for i in 0..count {
+        made.push(star_price(net.supply(NodeId::new(i + 1)), cost))?;
+    }
+    Ok(made)
+}
+
+// The price of a node with this supply.
+fn star_price(supply: i128, cost: i128) -> i128
+    requires { pos 0 ≤ℤ cost }
+    ensures { result ≡ (if int_le (pos 0) supply then cost else neg_ℤ cost) }
+{
+    if 0 <= supply { cost } else { -cost }
+}
+
+// The cost of an artificial arc: one more than all arcs of the net together can cost or earn.
+fn artificial_cost(net: &Net) -> i128
+    ensures value { result ≡ pos (artificial_cost net.now) }
+{
+    let mut total = 1;
+    for i in 0..net.arc_count() {
+        total += weight(net, ArcId::new(i + 1));
+    }
+    total as i128
+}
+
+// The most that an arc can cost or earn.
+fn weight(net: &Net, k: ArcId) -> u128
+    requires { IsArcNumber net.now k }
+    ensures value { result ≡ weight (arc_at net.now k) }
+    ensures net { IsNet net.now }
+{
+    net.cost(k).unsigned_abs() * net.width(k).unsigned_abs()
+}

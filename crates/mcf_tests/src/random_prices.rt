@@ -1,0 +1,102 @@
+//! The prices with which engines end, on nets without a pattern: they are those that are recovered from the state alone.
+
+use crate::networks::net_of;
+use crate::trees::{below, next};
+use mcf_network::Net;
+use mcf_prices::{Cancel, Engine, Outcome, Recovered, recover};
+use mcf_scaling::Scaling;
+use mcf_text::{NoMemory, put_number};
+use std::alloc::Global;
+use std::test::Fail;
+
+// How many arcs a net has.
+const ARCS: u32 = 14;
+
+// Puts a line of words and numbers: a letter, the numbers and an end of the line.
+fn put_line(out: &mut Vec<u8>, letter: &[u8], numbers: &[i128]) -> Result<(), NoMemory> {
+    out.extend_from_slice(letter)?;
+    for number in numbers {
+        out.push(b' ')?;
+        put_number(out, *number)?;
+    }
+    out.push(b'\n')?;
+    Ok(())
+}
+
+// An arc between two of so many nodes, of lower bounds from -3 to 0, widths up to 9, and costs from -5 to 20.
+fn put_arc(out: &mut Vec<u8>, seed: u64, nodes: u32) -> Result<(), NoMemory> {
+    let second = next(seed);
+    let third = next(second);
+    let fourth = next(third);
+    let fifth = next(fourth);
+    let src = i128::from(below(seed, nodes.max(1))) + 1;
+    let dst = i128::from(below(second, nodes.max(1))) + 1;
+    let low = i128::from(below(third, 4)) - 3;
+    let cap = low + i128::from(below(fourth, 10));
+    let cost = i128::from(below(fifth, 26)) - 5;
+    put_line(out, b"a", &[src, dst, low, cap, cost])
+}
+
+// A problem of two to eight nodes, of which the first sends what the last takes.
+fn random_text(alloc: Global, seed: u64) -> Result<Vec<u8>, NoMemory> {
+    let nodes = 2 + below(seed, 7);
+    let supply = i128::from(below(next(seed), 9));
+    let mut out = Vec::new(alloc);
+    put_line(&mut out, b"p min", &[i128::from(nodes), i128::from(ARCS)])?;
+    put_line(&mut out, b"n", &[1, supply])?;
+    put_line(&mut out, b"n", &[i128::from(nodes), -supply])?;
+    let mut at = next(next(seed));
+    for _ in 0..ARCS {
+        put_arc(&mut out, at, nodes)?;
+        at = next(next(next(next(next(at)))));
+    }
+    Ok(out)
+}
+
+// Whether an engine ends with the prices that are recovered from its state; nothing where it ends with none.
+fn agrees<E: Engine>(
+    alloc: Global,
+    engine: &mut E,
+    net: &Net,
+) -> Result<Option<bool>, NoMemory>
+    requires { E.Takes net.now }
+{
+    match engine.solve(alloc, net)? {
+        Outcome::Blocked(..) => Ok(None),
+        Outcome::Least(state, prices) => match recover(alloc, &state)? {
+            Recovered::Prices(found) => Ok(Some(prices.as_slice() == found.as_slice())),
+            Recovered::Cycle(_) => Ok(Some(false)),
+        },
+    }
+}
+
+// Whether each engine agrees on a random net.
+fn all_agree(alloc: Global, seed: u64) -> Result<Option<bool>, NoMemory> {
+    let text = random_text(alloc, seed)?;
+    let Some(net) = net_of(alloc, &text)? else {
+        return Ok(Some(false));
+    };
+    let plain = agrees(alloc, &mut Cancel::new(), &net)?;
+    let scaled = agrees(alloc, &mut Scaling::new(), &net)?;
+    if plain == scaled {
+        Ok(plain)
+    } else {
+        Ok(Some(false))
+    }
+}
+
+/// Of 300 nets a third at least has a flow, and each engine ends with its greatest prices, or finds none.
+#[test]
+fn prices_of_random_nets(rt: HostRuntime) -> Result<(), Fail> {
+    let mut seed: u64 = 7;
+    let mut flows: u32 = 0;
+    for _ in 0..300 {
+        seed = next(seed);
+        if let Some(right) = all_agree(rt.alloc(), seed)? {
+            assert!(rt; right);
+            flows = flows.saturating_add(1);
+        }
+    }
+    assert!(rt; flows >= 100);
+    Ok(())
+}
