@@ -48,7 +48,7 @@ RECOVERED = {"netgen": (10, 12, 14, 16), "gridgen": (10, 12, 14, 16), "transp": 
 SEARCHED = {"netgen": (10, 12, 14, 16), "gridgen": (10, 12, 14, 16), "transp": (8, 9, 10)}
 SCALED = {family: (12, 14) for family in ("netgen", "gridgen", "goto", "road", "assignment")}
 # the greatest ratio to LEMON of families where updates of all prices, which the bounds on rises forbid, gain nothing
-WITHOUT_UPDATES = {"assignment": 2}
+WITHOUT_UPDATES = {"assignment": 3}
 # the random swaps that are tried in the tree of so many nodes
 SWAPPED = {1_000: 300_000, 10_000: 300_000, 100_000: 300_000, 1_000_000: 1_000_000}
 # the most bytes an arc that a net may take
@@ -114,7 +114,7 @@ def family_answers(_words):
 
 
 def scaled_instances(_words):
-    for family, nodes, times in of_families(SCALED):
+    for family, nodes, _ in of_families(SCALED):
         path = OUT / f"{family}-{nodes}.min"
         yield f"{family} {nodes}", [make("gen.py", path, family, nodes, "--output", path)], 1
 
@@ -134,7 +134,7 @@ PARTS = {
     "raise": (family_answers, 1.25),
     "read": (sparse, 1.2),
     "recover": (family_answers, 1.25),
-    "scaling": (scaled_instances, 15),
+    "scaling": (scaled_instances, 20),
     "solve": (resting, 1.25),
     "text": (sparse, 1.1),
     "tree": (trees, 1.25),
