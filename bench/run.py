@@ -165,7 +165,7 @@ def build_peer(part):
         source = BENCH / "peers" / "lemon_mcf.cc"
         subprocess.run(["g++", "-O3", "-DNDEBUG", "-o", str(peer), str(source), "-llemon"], check=True)
         return peer
-    source = BENCH / part / "peer.rs"
+    source = BENCH / "peers" / f"{part}.rs"
     subprocess.run(["rustc", "--edition", "2024", "-O", "-o", str(peer), str(source)], check=True)
     return peer
 
