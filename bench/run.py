@@ -15,6 +15,7 @@ PART
   recover   recovers prices from a least flow, in nets of three families and of rising size
   scaling   solves nets of five families and of rising size by cost scaling, beside that of LEMON (left out where
             LEMON isn't there, of the package liblemon-dev)
+  simplex   solves nets of four families and of rising size by the network simplex, beside that of LEMON, as scaling
   solve     solves an instance in which nothing is worth moving, without the seconds of its engine, beside a
             program that reads, copies and writes the same
   text      splits a text of lines into fields and reads each field as a number
@@ -51,6 +52,7 @@ RESTING = 125_000
 RECOVERED = {"netgen": (10, 12, 14, 16), "gridgen": (10, 12, 14, 16), "transp": (8, 9, 10)}
 SEARCHED = {"netgen": (10, 12, 14, 16), "gridgen": (10, 12, 14, 16), "transp": (8, 9, 10)}
 SCALED = {family: (12, 14) for family in ("netgen", "gridgen", "goto", "road", "assignment")}
+PIVOTED = {"netgen": (10, 12, 14, 16), "gridgen": (10, 12, 14), "road": (10, 12, 14, 16), "goto": (10, 12, 14)}
 # the greatest ratio to LEMON of families where updates of all prices, which the bounds on rises forbid, gain nothing
 WITHOUT_UPDATES = {"assignment": 2}
 # the random swaps that are tried in the tree of so many nodes
@@ -117,10 +119,18 @@ def family_answers(_words):
         yield f"{family} {nodes}", [instance, answer], times
 
 
-def scaled_instances(_words):
-    for family, nodes, times in of_families(SCALED):
+def solved_instances(sizes):
+    for family, nodes, _ in of_families(sizes):
         path = OUT / f"{family}-{nodes}.min"
         yield f"{family} {nodes}", [make("gen.py", path, family, nodes, "--output", path)], 1
+
+
+def scaled_instances(_words):
+    return solved_instances(SCALED)
+
+
+def pivoted_instances(_words):
+    return solved_instances(PIVOTED)
 
 
 def trees(_words):
@@ -139,13 +149,14 @@ PARTS = {
     "read": (sparse, 1.2),
     "recover": (family_answers, 1.25),
     "scaling": (scaled_instances, 15),
+    "simplex": (pivoted_instances, 2),
     "solve": (resting, 1.25),
     "text": (sparse, 1.1),
     "tree": (trees, 1.25),
 }
 REPEATED = {"feasible", "net", "raise", "recover"}
 # the parts whose peer is LEMON, with the word by which its driver knows the algorithm
-LEMON = {"scaling": "cs"}
+LEMON = {"scaling": "cs", "simplex": "ns"}
 
 
 def build_program():

@@ -13,6 +13,7 @@ mod raising;
 mod reading;
 mod recovering;
 mod scaling;
+mod simplex;
 mod solving;
 mod text;
 mod trees;
@@ -24,7 +25,7 @@ use std::time::{Duration, Instant};
 use std::{env, fs, io};
 
 const USAGE: &str =
-    "usage: mcf_bench read|solve|text INSTANCE, answer ANSWER, check INSTANCE ANSWER, net|feasible|scaling INSTANCE [TIMES], recover|raise INSTANCE ANSWER [TIMES], or tree NODES ROUNDS";
+    "usage: mcf_bench read|simplex|solve|text INSTANCE, answer ANSWER, check INSTANCE ANSWER, net|feasible|scaling INSTANCE [TIMES], recover|raise INSTANCE ANSWER [TIMES], or tree NODES ROUNDS";
 
 // A part that needs one file.
 #[derive(Clone, Copy)]
@@ -34,6 +35,7 @@ enum Part {
     Net,
     Read,
     Scaling,
+    Simplex,
     Solve,
     Text,
 }
@@ -101,6 +103,7 @@ fn part_of(word: &str) -> Option<Part> {
         "net" => Some(Part::Net),
         "read" => Some(Part::Read),
         "scaling" => Some(Part::Scaling),
+        "simplex" => Some(Part::Simplex),
         "solve" => Some(Part::Solve),
         "text" => Some(Part::Text),
         _ => None,
@@ -118,6 +121,7 @@ fn run_on_file(rt: &HostRuntime, part: Part, path: &str, times: u32) -> io::Resu
         Part::Net => networks::run(rt, &text, times),
         Part::Read => reading::run(rt, &text),
         Part::Scaling => scaling::run(rt, &text, times),
+        Part::Simplex => simplex::run(rt, &text),
         Part::Solve => solving::run(rt, &text),
         Part::Text => text::run(rt, &text, time),
     }

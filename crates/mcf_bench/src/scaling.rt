@@ -39,8 +39,8 @@ fn tell_start(rt: &HostRuntime, net: &Net, times: u32) -> io::Result<()> {
     tell_time(rt, "feasible_seconds", time)
 }
 
-// Prints what an answer costs.
-fn tell(rt: &HostRuntime, outcome: Result<Outcome<'_>, NoMemory>) -> io::Result<()> {
+/// Prints what an answer costs.
+pub fn tell(rt: &HostRuntime, outcome: Result<Outcome<'_>, NoMemory>) -> io::Result<()> {
     match outcome {
         Ok(Outcome::Least(state, _)) => println!(rt; "cost {}", cost_of(&state)),
         Ok(Outcome::Blocked(..)) => println!(rt; "blocked"),

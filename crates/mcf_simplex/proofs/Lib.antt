@@ -1,2 +1,5 @@
+pub mod Ending
 pub mod Firsts
 pub mod Rounds
+pub mod RunLaws
+pub mod Running

@@ -4,8 +4,12 @@ pub use Rattle.mcf_basis.specs.Ranks
 pub use Rattle.mcf_basis.specs.Starts
 pub use Rattle.mcf_basis.specs.Structures
 pub use Rattle.mcf_basis.specs.Violations
+pub use Rattle.mcf_network.specs.Nets
 pub use Rattle.mcf_network.specs.States
+pub use Rattle.mcf_network.specs.TreeSolutions
 pub use Rattle.mcf_prices.specs.Outcomes
 pub mod Picking
 pub mod Blocks
 pub mod Runs
+pub mod Laws
+pub mod Private

@@ -1,7 +1,8 @@
 -- Runs of the network simplex: the rule is asked at each basis in turn, and the arc that it picks enters.
-use Rattle.std.specs.Prelude.{◌≡◌, ℕ, ◌+◌, ℤ, Option, Some, None}
-use Rattle.mcf_instance.specs.Network.{Network}
+use Rattle.std.specs.Prelude.{◌≡◌, ℕ, ◌+◌, ◌⊎◌, [], ℤ, Option, Some, None}
+use Rattle.mcf_instance.specs.Network.{Network, node_count}
 use Rattle.mcf_network.specs.States.{Pseudoflow}
+use Rattle.mcf_basis.specs.Bases.{IsBasis}
 use Rattle.mcf_basis.specs.Pivots.{IsPivot, PairFalls}
 use Rattle.mcf_basis.specs.Ranks.{IsBounded}
 use Rattle.mcf_basis.specs.Starts.{IsStart}
@@ -23,4 +24,15 @@ pub record IsRun {R : Type 0} (Picks : R → TreeStructure → Option ℕ → R 
   pub reached : Reached Picks r first rule last pivots
   pub bounded : IsBounded first pivots
   pub found_none : Picks rule last None t
+  pub basis : IsBasis last
   pub state : s ≡ state_of last
+
+-- The net has no nodes and the state no amounts: the rule r is not asked, and stays.
+pub record IsEmptyRun {R : Type 0} (r : R) (g : Network) (s : Pseudoflow) (t : R) : Type 0 where
+  pub no_nodes : node_count g ≡ 0
+  pub state : s ≡ record { net = g; amounts = [] }
+  pub unasked : t ≡ r
+
+-- A state was made by a run, or, as the net has no nodes, without one.
+abbrev pub IsMadeByRun : {R : Type 0} (Picks : R → TreeStructure → Option ℕ → R → Type 0) → R → Network → Pseudoflow → R → Type 0
+IsMadeByRun Picks r g s t = IsRun Picks r g s t ⊎ IsEmptyRun r g s t

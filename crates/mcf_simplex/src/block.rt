@@ -15,6 +15,7 @@ use std::marker::Model;
 ///
 /// A pick looks at no arc twice, so its last block may be shorter. It begins at arc 1 on a net that has no arc of the number at
 /// which the last pick ended. A size near twice the square root of the number of arcs suits large nets.
+#[derive(Clone, Copy, Debug)]
 pub struct Block {
     size: u32,
     next: u32,

@@ -2,16 +2,21 @@
 
 //! The network simplex, over any lawful pricing rule.
 //!
-//! It stands on `mcf_basis`. Definitions stand in `specs/`: `Picking` and `Blocks` say which arc a rule picks, and `Runs` how a state
-//! was made.
+//! It stands on `mcf_basis`. Definitions stand in `specs/`: `Picking` and `Blocks` say which arc a rule picks, `Runs` how a state
+//! was made, and `Laws` what holds of such states.
 
 mod best;
 mod block;
 mod first;
+mod laws;
 mod pricing;
+mod run;
+mod simplex;
 
 pub use best::Best;
 pub use block::Block;
 pub use first::First;
-pub use mcf_basis::Basis;
+pub use laws::runs_are_tree_solutions;
+pub use mcf_basis::{Basis, Step};
 pub use pricing::Pricing;
+pub use simplex::Simplex;

@@ -37,6 +37,8 @@ mod scaling;
 #[cfg(test)]
 mod sets;
 #[cfg(test)]
+mod simplex;
+#[cfg(test)]
 mod solving;
 #[cfg(test)]
 mod text;

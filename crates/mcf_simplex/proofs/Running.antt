@@ -1,0 +1,43 @@
+-- What the loop keeps: so many pivots lead here, and each lowered the rank by one at least.
+use Rattle.std.proofs.Common.{◌≡◌, ℕ, ◌+◌, ◌<◌, refl, ◌∙◌, arith, Option, Some, None, ℤ, pos, ◌+ℤ◌, ◌≤ℤ◌}
+use Rattle.std.proofs.lemmas.Int.{ints}
+use Rattle.mcf_basis.specs.Bases.{IsBasis}
+use Rattle.mcf_basis.specs.Pivots.{IsPivot, PairFalls}
+use Rattle.mcf_basis.specs.Ranks.{rank_above, rank_of}
+use Rattle.mcf_basis.specs.Structures.{TreeStructure}
+use Rattle.mcf_basis.proofs.RankDepths.{ranks_count_down_lem}
+use Rattle.mcf_basis.proofs.RankLaws.{ranks_bound_pivots_lem, ranks_fall_lem}
+use Rattle.mcf_simplex.specs.Private.Loops.{IsLoop}
+use Rattle.mcf_simplex.specs.Runs.{Reached}
+use Rattle.mcf_simplex.specs.Runs.Reached.{start, next}
+
+pub record IsUnderWay {R : Type 0} (Picks : R → TreeStructure → Option ℕ → R → Type 0) (r : R) (b : TreeStructure) (s : R) (c : TreeStructure) : Type 0 where
+  pub pivots : ℕ
+  pub reached : Reached Picks r b s c pivots
+  pub basis : IsBasis c
+  pub net : c.net ≡ b.net
+  pub within : (pos pivots +ℤ rank_of c) ≤ℤ rank_of b
+
+module _ {R : Type 0} (Picks : R → TreeStructure → Option ℕ → R → Type 0) (r : R) (b : TreeStructure) where
+  pub under_way_start : IsBasis b → IsUnderWay Picks r b r b
+  under_way_start ok = record { pivots = 0; reached = start; basis = ok; net = refl; within = omega (arith, ints) }
+
+  pub under_way_next : (s t : R) (c d : TreeStructure) (k : ℕ) (moved : ℤ) → IsUnderWay Picks r b s c → Picks s c (Some k) t → IsPivot c k moved d → PairFalls c d → IsBasis d → IsUnderWay Picks r b t d
+  under_way_next s t c d k moved w picks pivot falls ok =
+      let less = ranks_fall_lem c d w.basis ok pivot.net falls in
+      let within = w.within in
+      record { pivots = w.pivots + 1; reached = next w.reached picks pivot falls; basis = ok; net = pivot.net ∙ w.net; within = omega (arith, ints, less, within) }
+
+  pub under_way_end : (s t : R) (c : TreeStructure) → IsBasis b → IsUnderWay Picks r b s c → Picks s c None t → IsLoop Picks r b t c
+  under_way_end s t c ok w picks =
+      record {
+        rule = s;
+        pivots = w.pivots;
+        reached = w.reached;
+        bounded = λ floor least. ranks_bound_pivots_lem b c w.pivots floor ok w.basis w.net w.within least;
+        found_none = picks;
+      }
+
+-- the measure of the loop
+pub measure_falls : (c d : TreeStructure) (k : ℕ) (moved : ℤ) → IsBasis c → IsBasis d → IsPivot c k moved d → PairFalls c d → rank_above d < rank_above c
+measure_falls c d k moved old new pivot falls = ranks_count_down_lem c d old new pivot.net falls

@@ -1,0 +1,13 @@
+use Rattle.std.proofs.Common.{List, ℤ, drop, length, ap, sym, subst, arith}
+use Rattle.mcf_prices.specs.Outcomes.{AreStatePrices}
+use Rattle.mcf_simplex.proofs.Ending.{written}
+use Rattle.mcf_simplex.proofs.simplex.finish.Goals as goal
+
+pub returns : goal.returns
+returns c =
+    let b = c.args.room.basis in
+    let room = c.args.room.prices in
+    let count = c.show.ensures.count in
+    let lent = ap (λ (l : List ℤ). length l) c.as_mut_slice.ensures.value in
+    let whole = written room.len c.show.new.prices (drop (length c.show.new.prices) room.items) (omega (arith, room.ok.0, count, lent)) in
+    (c.show.ensures.least, subst (λ (l : List ℤ). AreStatePrices b.net c.write_flow.new.state l) (sym whole) c.show.ensures.prices, c.write_flow.ensures.value)

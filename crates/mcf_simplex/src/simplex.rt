@@ -1,0 +1,175 @@
+//! The engine.
+ghost use Rattle.std.specs.Prelude.{◌≡◌, ◌≤◌, [], IfOk, OnErr, length, pos};
+ghost use Rattle.mcf_basis.specs.Laws.{HasNoArtificial};
+ghost use Rattle.mcf_basis.specs.Starts.{IsStart};
+ghost use Rattle.mcf_basis.specs.Structures.{state_of};
+ghost use Rattle.mcf_basis.specs.Violations.{HasNoEligible};
+ghost use Rattle.mcf_feas.specs.Chosen.{supply_total};
+ghost use Rattle.mcf_instance.specs.Network.{node_count};
+ghost use Rattle.mcf_prices.specs.Outcomes.{AreStatePrices, IsLeastState, IsOutcome};
+ghost use Rattle.mcf_simplex.specs.Runs.{IsMadeByRun};
+
+use crate::pricing::Pricing;
+use crate::run::run;
+use mcf_basis::Basis;
+use mcf_feas::unbalanced;
+use mcf_instance::Side;
+use mcf_network::{Net, NodeSet, State};
+use mcf_prices::{Engine, Outcome, Pricer};
+use mcf_text::NoMemory;
+use std::alloc::Global;
+use std::marker::Model;
+
+/// The network simplex, with strongly feasible trees, over any lawful pricing rule (Dantzig; Cunningham; Ahuja, Magnanti and Orlin,
+/// Network Flows, sections 11.5 and 11.6).
+///
+/// It takes every net. How it made a state is a relation of its contract, `IsMadeByRun`: from the start basis counted pivots, no
+/// more than a bound, with the rule asked at each basis in turn. All memory is taken before the rule is asked for the first time.
+/// A clause sees the rule, which is what it became when it was asked last.
+#[derive(Drop)]
+pub struct Simplex<P> {
+    rule: P,
+}
+
+impl<P> Model for Simplex<P> {
+    ghost Value = { P };
+
+    ghost view = { λ s. s.rule };
+}
+
+impl<P: Pricing> Simplex<P> {
+    /// The engine with a rule.
+    pub fn new(rule: P) -> Simplex<P>
+        ensures { result ≡ rule }
+    {
+        Simplex { rule }
+    }
+
+    /// The rule.
+    pub fn rule(&self) -> &P
+        ensures { result.now ≡ self.now }
+    {
+        &self.rule
+    }
+}
+
+impl<P: Pricing> Engine for Simplex<P> {
+    ghost use Rattle.std.specs.Prelude.{⊤};
+    ghost use Rattle.mcf_simplex.specs.Runs.{IsMadeByRun};
+
+    ghost Takes = { λ _. ⊤ };
+
+    ghost Made = { λ r g s t. IsMadeByRun P.Picks r g s t };
+
+    fn takes(&self, _net: &Net) -> bool {
+        true
+    }
+
+    /// A least state of the net, with its prices, or a node set that shows that there is none.
+    ///
+    /// # Errors
+    ///
+    /// Want of memory, where a growth was refused; a net without nodes wants none. The rule is then as it was, and was not asked.
+    fn solve<'n>(&mut self, alloc: Global, net: &'n Net) -> Result<Outcome<'n>, NoMemory>
+        ensures outcome { IfOk result (IsOutcome (λ s. IsMadeByRun P.Picks self.old net.now s self.new) net.now) }
+        ensures wants { OnErr result (1 ≤ node_count net.now) }
+        ensures err { OnErr result (self.new ≡ self.old) }
+    {
+        if net.node_count() == 0 {
+            return without_nodes(alloc, net);
+        }
+        if let Some((set, side)) = unbalanced(alloc, net)? {
+            return Ok(Outcome::Blocked(set, side));
+        }
+        let mut room = Workspace::start(alloc, net)?;
+        run(&mut self.rule, &mut room.basis);
+        Ok(finish(room))
+    }
+}
+
+// What a net without nodes is answered with: nothing flows, and there are no prices.
+fn without_nodes<'n>(alloc: Global, net: &'n Net) -> Result<Outcome<'n>, NoMemory>
+    requires { node_count net.now ≡ 0 }
+    ensures outcome { IfOk result (IsOutcome (λ s. s ≡ record { net = net.now; amounts = [] }) net.now) }
+    ensures wants { OnErr result (1 ≤ node_count net.now) }
+{
+    let state = State::zero(alloc, net)?;
+    Ok(Outcome::Least(state, Vec::new(alloc)))
+}
+
+// What a run works on, and the room for what it ends with.
+#[derive(Drop)]
+struct Workspace<'n> {
+    basis: Basis<'n>,
+    state: State<'n>,
+    cut: NodeSet,
+    pricer: Pricer,
+    prices: Vec<i128>,
+}
+
+impl<'n> Workspace<'n> {
+    // The start basis of a net.
+    fn start(alloc: Global, net: &'n Net) -> Result<Workspace<'n>, NoMemory>
+        ensures basis { IfOk result (λ w. IsStart net.now w.basis) }
+        ensures state { IfOk result (λ w. w.state.net ≡ net.now) }
+        ensures cut { IfOk result (λ w. length w.cut ≡ node_count net.now) }
+        ensures pricer { IfOk result (λ w. w.pricer ≡ node_count net.now) }
+        ensures prices { IfOk result (λ w. length w.prices.items ≡ node_count net.now) }
+    {
+        let nodes = net.node_count() as usize;
+        let basis = Basis::start(alloc, net)?;
+        let state = State::zero(alloc, net)?;
+        let cut = NodeSet::new(alloc, net)?;
+        let pricer = Pricer::start(alloc, net)?;
+        let mut prices = Vec::new(alloc);
+        prices.resize(nodes, 0)?;
+        Ok(Workspace {
+            basis,
+            state,
+            cut,
+            pricer,
+            prices,
+        })
+    }
+}
+
+// What the last basis shows: its flow is least, with its prices, or, where an artificial arc still carries something, a node set blocks.
+fn finish<'n>(room: Workspace<'n>) -> Outcome<'n>
+    requires over { HasNoEligible room.basis }
+    requires balanced { supply_total room.basis.net ≡ pos 0 }
+    requires state { room.state.net ≡ room.basis.net }
+    requires cut { length room.cut ≡ node_count room.basis.net }
+    requires pricer { room.pricer ≡ node_count room.basis.net }
+    requires prices { length room.prices.items ≡ node_count room.basis.net }
+    ensures { IsOutcome (λ s. s ≡ state_of room.entry.basis) room.entry.basis.net result }
+{
+    let Workspace {
+        basis,
+        mut state,
+        mut cut,
+        mut pricer,
+        mut prices,
+    } = room;
+    if !basis.has_no_artificial() {
+        basis.mark_cut(&mut cut);
+        return Outcome::Blocked(cut, Side::Send);
+    }
+    basis.write_flow(&mut state);
+    show(&basis, &state, &mut pricer, prices.as_mut_slice());
+    Outcome::Least(state, prices)
+}
+
+// The greatest prices that show the flow of the last basis.
+fn show(basis: &Basis<'_>, state: &State<'_>, pricer: &mut Pricer, prices: &mut [i128])
+    requires over { HasNoEligible basis.now }
+    requires flow { HasNoArtificial basis.now }
+    requires state { state.now ≡ state_of basis.now }
+    requires room { pricer.old ≡ node_count basis.now.net }
+    requires prices { length prices.old ≡ node_count basis.now.net }
+    ensures least { IsLeastState basis.now.net state.now }
+    ensures prices { AreStatePrices basis.now.net state.now prices.new }
+    ensures count { length prices.new ≡ length prices.old }
+{
+    basis.write_prices(prices);
+    pricer.raise(state, 1, 0, prices);
+}
