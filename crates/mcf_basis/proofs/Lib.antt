@@ -30,7 +30,6 @@ pub mod PricesTurned
 pub mod PivotBounds
 pub mod PivotKeeps
 pub mod Pivoted
-pub mod TreeRooms
 pub mod TurnedAmounts
 pub mod TurnedOffers
 pub mod TurnedStart
