@@ -54,11 +54,7 @@ fn random_text(alloc: Global, seed: u64) -> Result<Vec<u8>, NoMemory> {
 }
 
 // Whether an engine ends with the prices that are recovered from its state; nothing where it ends with none.
-fn agrees<E: Engine>(
-    alloc: Global,
-    engine: &mut E,
-    net: &Net,
-) -> Result<Option<bool>, NoMemory>
+fn agrees<E: Engine>(alloc: Global, engine: &mut E, net: &Net) -> Result<Option<bool>, NoMemory>
     requires { E.Takes net.now }
 {
     match engine.solve(alloc, net)? {

@@ -1,5 +1,5 @@
 //! Parses an answer text and writes it anew, as `mcf_answer` does, in plain Rust.
-#[path = "../lines.rs"]
+#[path = "lines.rs"]
 mod lines;
 
 use lines::each_line;

@@ -1,7 +1,7 @@
 //! Reads an instance text, copies what it holds, and writes an answer of the same shape, in plain Rust: what
 //! solving does beside the engine. Of an instance without supplies whose lows are 0 and whose costs aren't below
 //! 0 it is the very answer.
-#[path = "../read/peer.rs"]
+#[path = "read.rs"]
 #[allow(dead_code)]
 mod reading;
 

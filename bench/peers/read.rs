@@ -1,6 +1,6 @@
 //! Reads an instance text, as `mcf_instance::read` does, in plain Rust: one pass, the first faulty line
 //! with its fault, or the instance in 32 bytes an arc.
-#[path = "../lines.rs"]
+#[path = "lines.rs"]
 mod lines;
 
 use lines::each_line;

@@ -2,7 +2,7 @@
 //! down the levels of the nodes, and after each a breadth-first search from all nodes with a surplus, until a
 //! node that takes, and one augmenting path.
 #![allow(dead_code)]
-#[path = "../net/peer.rs"]
+#[path = "net.rs"]
 pub mod net;
 
 use net::{Net, Rid, instance_of};

@@ -2,9 +2,9 @@
 //! lowered from 0 in rounds of a queue, and after each round the residual arcs that gave them are searched
 //! for a cycle.
 #![allow(dead_code)]
-#[path = "../answer/peer.rs"]
+#[path = "answer.rs"]
 pub mod answering;
-#[path = "../feasible/peer.rs"]
+#[path = "feasible.rs"]
 pub mod feasibility;
 
 use answering::{Answer, parse};

@@ -1,9 +1,9 @@
 //! Judges an answer for an instance, as `mcf_checker::check` does, in plain Rust, over the reader and the
 //! parser of the other peers.
 #![allow(dead_code)]
-#[path = "../answer/peer.rs"]
+#[path = "answer.rs"]
 mod answering;
-#[path = "../read/peer.rs"]
+#[path = "read.rs"]
 mod reading;
 
 use answering::{Answer, Sent, parse};
