@@ -5,6 +5,7 @@ use crate::trees::{below, next};
 use mcf_network::Net;
 use mcf_prices::{Cancel, Engine, Outcome, Recovered, recover};
 use mcf_scaling::Scaling;
+use mcf_simplex::{First, Simplex};
 use mcf_text::{NoMemory, put_number};
 use std::alloc::Global;
 use std::test::Fail;
@@ -74,7 +75,8 @@ fn all_agree(alloc: Global, seed: u64) -> Result<Option<bool>, NoMemory> {
     };
     let plain = agrees(alloc, &mut Cancel::new(), &net)?;
     let scaled = agrees(alloc, &mut Scaling::new(), &net)?;
-    if plain == scaled {
+    let pivoted = agrees(alloc, &mut Simplex::new(First), &net)?;
+    if plain == scaled && plain == pivoted {
         Ok(plain)
     } else {
         Ok(Some(false))
