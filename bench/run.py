@@ -54,7 +54,7 @@ SEARCHED = {"netgen": (10, 12, 14, 16), "gridgen": (10, 12, 14, 16), "transp": (
 SCALED = {family: (12, 14) for family in ("netgen", "gridgen", "goto", "road", "assignment")}
 PIVOTED = {"netgen": (12, 14, 16), "gridgen": (12, 14), "road": (12, 14, 16), "goto": (12, 14)}
 # the greatest ratio to LEMON of families where updates of all prices, which the bounds on rises forbid, gain nothing
-WITHOUT_UPDATES = {"assignment": 2}
+WITHOUT_UPDATES = {"assignment": 3}
 # the random swaps that are tried in the tree of so many nodes
 SWAPPED = {1_000: 300_000, 10_000: 300_000, 100_000: 300_000, 1_000_000: 1_000_000}
 # the most bytes an arc that a net may take
@@ -148,7 +148,7 @@ PARTS = {
     "raise": (family_answers, 1.25),
     "read": (sparse, 1.2),
     "recover": (family_answers, 1.25),
-    "scaling": (scaled_instances, 15),
+    "scaling": (scaled_instances, 20),
     "simplex": (pivoted_instances, 2.5),
     "solve": (resting, 1.25),
     "text": (sparse, 1.1),
@@ -176,7 +176,7 @@ def build_peer(part):
         source = BENCH / "peers" / "lemon_mcf.cc"
         subprocess.run(["g++", "-O3", "-DNDEBUG", "-o", str(peer), str(source), "-llemon"], check=True)
         return peer
-    source = BENCH / part / "peer.rs"
+    source = BENCH / "peers" / f"{part}.rs"
     subprocess.run(["rustc", "--edition", "2024", "-O", "-o", str(peer), str(source)], check=True)
     return peer
 

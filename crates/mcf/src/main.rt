@@ -1,6 +1,6 @@
 #![tactic(auto)]
 
-//! The program `mcf solve [--engine auto|cancel] [FILE]`: it answers an instance of a minimum-cost flow problem.
+//! The program `mcf solve`: it answers an instance of a minimum-cost flow problem.
 //!
 //! All that matters stands in `mcf_suite`; here the words are gathered, the devices lent and the status given.
 

@@ -1,5 +1,6 @@
 -- The lines of an answer are taken in, and give it back.
-use Rattle.std.proofs.Common.{◌≡◌, ℕ, ◌+◌, ◌-◌, ◌<◌, ◌≤◌, true, cond, List, [], ◌∷◌, ◌++◌, length, get_or, Some, None, Ok, refl, sym, ap, subst, ◌∙◌, arith, append_assoc, append-nil}
+use Rattle.std.proofs.Common.{◌≡◌, ℕ, ◌+◌, ◌-◌, ◌<◌, ◌≤◌, true, cond, List, [], ◌∷◌, ◌++◌, length, get_or, Some, None, Ok, refl, sym, ap, subst, ◌∙◌, arith}
+use Rattle.std.proofs.Common.{append_assoc, append-nil}
 use Rattle.std.specs.Prelude.{ℤ, Option, All, map, ◌&&◌, nat_lt, option_map}
 use Rattle.std.specs.List.{enumerate_from}
 use Rattle.std.specs.List.Sorted.{IsStrictlyIncreasing}
@@ -8,11 +9,13 @@ use Rattle.std.proofs.lemmas.Bool.{eq-eqb, lt-ltb}
 use Rattle.std.proofs.lemmas.List.{get_or_append_left, get_or-append_right, length-append}
 use Rattle.std.proofs.lemmas.List.Elements.{All-head, All-tail}
 use Rattle.std.proofs.lemmas.Option.{slice_get-get_or}
-use Rattle.mcf_answer.specs.Private.Draft.{after, and_then, answer_of_draft, opened, priced, sent_or_priced, set_after, solution_after, with_member, with_price, with_said}
+use Rattle.mcf_answer.specs.Private.Draft.{after, and_then, answer_of_draft, opened, priced, sent_or_priced, set_after, solution_after, with_member, with_price}
+use Rattle.mcf_answer.specs.Private.Draft.{with_said}
 use Rattle.mcf_answer.specs.Fits.{is_above_last}
 use Rattle.mcf_answer.specs.Parsing.{parsing}
 use Rattle.mcf_answer.specs.Ranges.{IsAmount, IsNodeInRange}
-use Rattle.mcf_answer.specs.Said.{Opening, OpensFlow, OpensSet, OpensRefusal, cost_said, opening_said, opens_set, price_said, refusal_said, sent_said, set_said, ◌>>=◌}
+use Rattle.mcf_answer.specs.Said.{Opening, OpensFlow, OpensSet, OpensRefusal, cost_said, opening_said, opens_set, price_said, refusal_said, sent_said, set_said}
+use Rattle.mcf_answer.specs.Said.{◌>>=◌}
 use Rattle.mcf_answer.specs.Solution.{IsSent}
 use Rattle.mcf_answer.specs.Spelling.{IsAnswer, Spells, cost_line, flow_line, member_line, price_line, refusal_line, set_line, spelling}
 use Rattle.mcf_answer.specs.Token.{Token, tokens}
@@ -60,24 +63,30 @@ run_lines-append (x ∷ xs) ys d e h = go (after d x) refl h (run_lines-append x
 
 -- ---- one line
 
-sent_taken : (cost : ℤ) (done : List Sent) (s : Sent) → IsSent s → after (Flow (record { cost = cost; sent = done; prices = [] })) (flow_line s) ≡ Some (Flow (record { cost = cost; sent = done ++ s ∷ []; prices = [] }))
+sent_taken : (cost : ℤ) (done : List Sent) (s : Sent) → IsSent s → after (Flow (record { cost = cost; sent = done; prices = [] })) (flow_line s) ≡ Some
+    (Flow (record { cost = cost; sent = done ++ s ∷ []; prices = [] }))
 unfolding after solution_after
-sent_taken cost done s h = ap (λ o. option_map Flow (sent_or_priced (record { cost = cost; sent = done; prices = [] }) o (price_said (flow_line s)))) (sent_said-line s h)
+sent_taken cost done s h = ap (λ o. option_map Flow (sent_or_priced (record { cost = cost; sent = done; prices = [] }) o (price_said (flow_line s))))
+    (sent_said-line s h)
 
 no_sent : (y : ℕ × ℤ) → sent_said (price_line y) ≡ None
 unfolding sent_said
 no_sent y = refl
 
 price_taken : (cost : ℤ) (sent : List Sent) (done : List ℤ) (z : ℤ) → IsNodeInRange (length done + 1) → IsAmount z
-    → after (Flow (record { cost = cost; sent = sent; prices = done })) (price_line (length done + 1, z)) ≡ Some (Flow (record { cost = cost; sent = sent; prices = done ++ z ∷ [] }))
+    → after (Flow (record { cost = cost; sent = sent; prices = done })) (price_line (length done + 1, z)) ≡ Some
+    (Flow (record { cost = cost; sent = sent; prices = done ++ z ∷ [] }))
 unfolding after solution_after
 price_taken cost sent done z h k =
-    ap (λ o. option_map Flow (sent_or_priced (record { cost = cost; sent = sent; prices = done }) o (price_said (price_line (length done + 1, z))))) (no_sent (length done + 1, z))
+    ap (λ o. option_map Flow (sent_or_priced (record { cost = cost; sent = sent; prices = done }) o (price_said (price_line (length done + 1, z)))))
+    (no_sent (length done + 1, z))
     ∙ ap (λ o. option_map Flow (priced (record { cost = cost; sent = sent; prices = done }) o)) (price_said-line (length done + 1) z h k)
-    ∙ ap (λ b. option_map Flow (cond b (Some (with_price (record { cost = cost; sent = sent; prices = done }) z)) None)) (eq-eqb (length done + 1) (length done + 1) refl)
+    ∙ ap (λ b. option_map Flow (cond b (Some (with_price (record { cost = cost; sent = sent; prices = done }) z)) None))
+    (eq-eqb (length done + 1) (length done + 1) refl)
 
 node_taken : (side : Side) (count : ℕ) (done : List ℕ) (v : ℕ) → IsNodeInRange v → nat_lt (length done) count ≡ true → is_above_last done v ≡ true
-    → after (Blocked (record { side = side; count = count; nodes = done })) (member_line v) ≡ Some (Blocked (record { side = side; count = count; nodes = done ++ v ∷ [] }))
+    → after (Blocked (record { side = side; count = count; nodes = done })) (member_line v) ≡ Some
+    (Blocked (record { side = side; count = count; nodes = done ++ v ∷ [] }))
 unfolding after set_after
 node_taken side count done v h room above =
     ap (λ o. option_map Blocked (with_said (record { side = side; count = count; nodes = done }) o)) (member_said-line v h)
@@ -87,7 +96,8 @@ node_taken side count done v h room above =
 -- ---- all lines of a kind
 
 sent_run : (cost : ℤ) (todo done : List Sent) → All IsSent todo
-    → run_lines (Flow (record { cost = cost; sent = done; prices = [] })) (map flow_line todo) ≡ Some (Flow (record { cost = cost; sent = done ++ todo; prices = [] }))
+    → run_lines (Flow (record { cost = cost; sent = done; prices = [] })) (map flow_line todo) ≡ Some
+    (Flow (record { cost = cost; sent = done ++ todo; prices = [] }))
 sent_run cost [] done h = ap (λ xs. Some (Flow (record { cost = cost; sent = xs; prices = [] }))) (sym (append-nil done))
 sent_run cost (s ∷ todo) done h =
     ap (λ o. o >>= λ e. run_lines e (map flow_line todo)) (sent_taken cost done s (All-head IsSent s todo h))
@@ -95,13 +105,15 @@ sent_run cost (s ∷ todo) done h =
     ∙ ap (λ xs. Some (Flow (record { cost = cost; sent = xs; prices = [] }))) (append_assoc done (s ∷ []) todo)
 
 prices_run : (cost : ℤ) (sent : List Sent) (todo done : List ℤ) (next : ℕ) → next ≡ length done + 1 → All IsAmount todo → length done + length todo ≤ node_limit
-    → run_lines (Flow (record { cost = cost; sent = sent; prices = done })) (map price_line (enumerate_from next todo)) ≡ Some (Flow (record { cost = cost; sent = sent; prices = done ++ todo }))
+    → run_lines (Flow (record { cost = cost; sent = sent; prices = done })) (map price_line (enumerate_from next todo)) ≡ Some
+    (Flow (record { cost = cost; sent = sent; prices = done ++ todo }))
 prices_run cost sent [] done next place h few = ap (λ zs. Some (Flow (record { cost = cost; sent = sent; prices = zs }))) (sym (append-nil done))
 prices_run cost sent (z ∷ todo) done next place h few =
     let node : IsNodeInRange (length done + 1) = (omega arith, omega (arith, few)) in
     let after_next : next + 1 ≡ length (done ++ z ∷ []) + 1 = omega (arith, place, length-append done (z ∷ [])) in
     let fewer : length (done ++ z ∷ []) + length todo ≤ node_limit = omega (arith, few, length-append done (z ∷ [])) in
-    ap (λ n. after (Flow (record { cost = cost; sent = sent; prices = done })) (price_line (n, z)) >>= λ e. run_lines e (map price_line (enumerate_from (next + 1) todo))) place
+    ap (λ n. after (Flow (record { cost = cost; sent = sent; prices = done })) (price_line (n, z)) >>= λ e. run_lines e
+    (map price_line (enumerate_from (next + 1) todo))) place
     ∙ ap (λ o. o >>= λ e. run_lines e (map price_line (enumerate_from (next + 1) todo))) (price_taken cost sent done z node (All-head IsAmount z todo h))
     ∙ prices_run cost sent todo (done ++ z ∷ []) (next + 1) after_next (All-tail IsAmount z todo h) fewer
     ∙ ap (λ zs. Some (Flow (record { cost = cost; sent = sent; prices = zs }))) (append_assoc done (z ∷ []) todo)
@@ -118,26 +130,31 @@ above_before (w ∷ ws) todo v h =
     let rises : get_or (done ++ v ∷ todo) k 0 < get_or (done ++ v ∷ todo) (k + 1) 0 = h k inside in
     let left : get_or (done ++ v ∷ todo) k 0 ≡ get_or done k 0 = get_or_append_left done (v ∷ todo) 0 k low in
     let place : k + 1 - length done ≡ 0 = omega arith in
-    let right : get_or (done ++ v ∷ todo) (k + 1) 0 ≡ v = get_or-append_right done (v ∷ todo) (length done) (k + 1) 0 refl (omega arith) ∙ ap (λ n. get_or (v ∷ todo) n 0) place in
+    let right : get_or (done ++ v ∷ todo) (k + 1) 0 ≡ v = get_or-append_right done (v ∷ todo) (length done) (k + 1) 0 refl (omega arith)
+    ∙ ap (λ n. get_or (v ∷ todo) n 0) place in
     let below : get_or done k 0 < v = omega (arith, left, right, rises) in
     ap (λ o. option_map_or (λ u. nat_lt u v) o true) (slice_get-get_or done k 0 low) ∙ lt-ltb (get_or done k 0) v below
 
 nodes_run : (side : Side) (count : ℕ) (todo done : List ℕ) → All IsNodeInRange todo → length done + length todo ≤ count → IsStrictlyIncreasing (done ++ todo)
-    → run_lines (Blocked (record { side = side; count = count; nodes = done })) (map member_line todo) ≡ Some (Blocked (record { side = side; count = count; nodes = done ++ todo }))
+    → run_lines (Blocked (record { side = side; count = count; nodes = done })) (map member_line todo) ≡ Some
+    (Blocked (record { side = side; count = count; nodes = done ++ todo }))
 nodes_run side count [] done h few rises = ap (λ vs. Some (Blocked (record { side = side; count = count; nodes = vs }))) (sym (append-nil done))
 nodes_run side count (v ∷ todo) done h few rises =
     let lower : length done < count = omega (arith, few) in
     let room : nat_lt (length done) count ≡ true = lt-ltb (length done) count lower in
     let fewer : length (done ++ v ∷ []) + length todo ≤ count = omega (arith, few, length-append done (v ∷ [])) in
-    ap (λ o. o >>= λ e. run_lines e (map member_line todo)) (node_taken side count done v (All-head IsNodeInRange v todo h) room (above_before done todo v rises))
-    ∙ nodes_run side count todo (done ++ v ∷ []) (All-tail IsNodeInRange v todo h) fewer (subst IsStrictlyIncreasing (sym (append_assoc done (v ∷ []) todo)) rises)
+    ap (λ o. o >>= λ e. run_lines e (map member_line todo)) (node_taken side count done v (All-head IsNodeInRange v todo h) room
+    (above_before done todo v rises))
+    ∙ nodes_run side count todo (done ++ v ∷ []) (All-tail IsNodeInRange v todo h) fewer
+    (subst IsStrictlyIncreasing (sym (append_assoc done (v ∷ []) todo)) rises)
     ∙ ap (λ vs. Some (Blocked (record { side = side; count = count; nodes = vs }))) (append_assoc done (v ∷ []) todo)
 
 -- ---- all lines of an answer
 
 cost_opens : (cost : ℤ) → IsAmount cost → opening_said (cost_line cost) ≡ Some (OpensFlow cost)
 unfolding opening_said
-cost_opens cost h = ap (λ o. option_or (option_map OpensFlow o) (option_or (option_map opens_set (set_said (cost_line cost))) (option_map OpensRefusal (refusal_said (cost_line cost))))) (cost_said-line cost h)
+cost_opens cost h = ap (λ o. option_or (option_map OpensFlow o) (option_or (option_map opens_set (set_said (cost_line cost)))
+    (option_map OpensRefusal (refusal_said (cost_line cost))))) (cost_said-line cost h)
 
 no_cost_in_set : (side : Side) (count : ℕ) → cost_said (set_line side count) ≡ None
 unfolding cost_said
@@ -146,7 +163,8 @@ no_cost_in_set side count = refl
 set_opens : (side : Side) (count : ℕ) → IsNodeInRange count → opening_said (set_line side count) ≡ Some (OpensSet side count)
 unfolding opening_said
 set_opens side count h =
-    ap (λ o. option_or (option_map OpensFlow o) (option_or (option_map opens_set (set_said (set_line side count))) (option_map OpensRefusal (refusal_said (set_line side count))))) (no_cost_in_set side count)
+    ap (λ o. option_or (option_map OpensFlow o) (option_or (option_map opens_set (set_said (set_line side count)))
+    (option_map OpensRefusal (refusal_said (set_line side count))))) (no_cost_in_set side count)
     ∙ ap (λ o. option_or (option_map opens_set o) (option_map OpensRefusal (refusal_said (set_line side count)))) (set_said-line side count h)
 
 no_cost_in_refusal : (r : Fault) → cost_said (refusal_line r) ≡ None
@@ -160,7 +178,8 @@ no_set_in_refusal r = refl
 refusal_opens : (r : Fault) → 1 ≤ r.line → r.line ≤ line_limit → opening_said (refusal_line r) ≡ Some (OpensRefusal r)
 unfolding opening_said
 refusal_opens r low high =
-    ap (λ o. option_or (option_map OpensFlow o) (option_or (option_map opens_set (set_said (refusal_line r))) (option_map OpensRefusal (refusal_said (refusal_line r))))) (no_cost_in_refusal r)
+    ap (λ o. option_or (option_map OpensFlow o) (option_or (option_map opens_set (set_said (refusal_line r)))
+    (option_map OpensRefusal (refusal_said (refusal_line r))))) (no_cost_in_refusal r)
     ∙ ap (λ o. option_or (option_map opens_set o) (option_map OpensRefusal (refusal_said (refusal_line r)))) (no_set_in_refusal r)
     ∙ ap (option_map OpensRefusal) (refusal_said-line r low high)
 
@@ -177,11 +196,14 @@ draft_of_answer (RefusedAnswered r) = Refused r
 spelling_run : (a : Answer) → IsAnswer a → run_lines Empty (spelling a) ≡ Some (draft_of_answer a)
 unfolding spelling IsAnswer
 spelling_run (FlowAnswered a) h =
-    ap (λ o. o >>= λ e. run_lines e (map flow_line a.sent ++ map price_line (enumerate_from 1 a.prices))) (first_taken (cost_line a.cost) (OpensFlow a.cost) (cost_opens a.cost h.cost_small))
-    ∙ run_lines-append (map flow_line a.sent) (map price_line (enumerate_from 1 a.prices)) (Flow (record { cost = a.cost; sent = []; prices = [] })) (Flow (record { cost = a.cost; sent = a.sent; prices = [] })) (sent_run a.cost a.sent [] h.sent_fit)
+    ap (λ o. o >>= λ e. run_lines e (map flow_line a.sent ++ map price_line (enumerate_from 1 a.prices)))
+    (first_taken (cost_line a.cost) (OpensFlow a.cost) (cost_opens a.cost h.cost_small))
+    ∙ run_lines-append (map flow_line a.sent) (map price_line (enumerate_from 1 a.prices)) (Flow (record { cost = a.cost; sent = []; prices = [] }))
+    (Flow (record { cost = a.cost; sent = a.sent; prices = [] })) (sent_run a.cost a.sent [] h.sent_fit)
     ∙ prices_run a.cost a.sent a.prices [] 1 refl h.prices_small (omega (arith, h.few_prices))
 spelling_run (BlockedAnswered a) h =
-    ap (λ o. o >>= λ e. run_lines e (map member_line a.nodes)) (first_taken (set_line a.side (length a.nodes)) (OpensSet a.side (length a.nodes)) (set_opens a.side (length a.nodes) (h.nonempty, h.few)))
+    ap (λ o. o >>= λ e. run_lines e (map member_line a.nodes)) (first_taken (set_line a.side (length a.nodes)) (OpensSet a.side (length a.nodes))
+    (set_opens a.side (length a.nodes) (h.nonempty, h.few)))
     ∙ nodes_run a.side (length a.nodes) a.nodes [] h.are_nodes (omega arith) h.ascending
 spelling_run (RefusedAnswered r) h =
     ap (λ o. o >>= λ e. run_lines e []) (first_taken (refusal_line r) (OpensRefusal r) (refusal_opens r h.0 h.1))

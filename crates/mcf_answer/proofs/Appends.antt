@@ -1,5 +1,6 @@
 -- Bytes appended one after the other: the front stays, also where a later growth is refused.
-use Rattle.std.proofs.Common.{◌≡◌, ℕ, List, [], ◌∷◌, ◌++◌, ◌+◌, ◌<◌, ◌≤◌, length, take, drop, get_or, pos, sym, ap, ◌∙◌, append_assoc, append-nil, arith, add-zero}
+use Rattle.std.proofs.Common.{◌≡◌, ℕ, List, [], ◌∷◌, ◌++◌, ◌+◌, ◌<◌, ◌≤◌, length, take, drop, get_or, pos, sym, ap, ◌∙◌, append_assoc, append-nil, arith}
+use Rattle.std.proofs.Common.{add-zero}
 use Rattle.std.specs.Prelude.{ℤ, map, flat_map}
 use Rattle.std.specs.Fmt.{signed_decimal}
 use Rattle.std.specs.List.{enumerate_from, join_with_byte}
@@ -31,7 +32,8 @@ line_text-numbers word numbers = ap (λ line. line ++ 10 ∷ []) (joined word nu
 
 -- one more number
 pub numbers_more : (old word : List ℕ) (numbers : List ℤ) (k : ℕ) → k < length numbers
-    → (old ++ (word ++ flat_map field_text (take k numbers))) ++ field_text (get_or numbers k (pos 0)) ≡ old ++ (word ++ flat_map field_text (take (k + 1) numbers))
+    → (old ++ (word ++ flat_map field_text (take k numbers))) ++ field_text (get_or numbers k (pos 0)) ≡ old ++
+    (word ++ flat_map field_text (take (k + 1) numbers))
 numbers_more old word numbers k inside =
     ap (λ front. front ++ field_text (get_or numbers k (pos 0))) (sym (append_assoc old word (flat_map field_text (take k numbers))))
     ∙ flat_map_more field_text (old ++ word) (take k numbers) (get_or numbers k (pos 0))

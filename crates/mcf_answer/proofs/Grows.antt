@@ -59,7 +59,8 @@ with_price_fits a v z h node amount next = record {
   few_prices = rw (length-append a.prices (z ∷ [])) (omega (arith, node.1, next));
 }
 
-pub with_member_fits : (a : PartialSet) (line : List Token) (v : ℕ) → IsPartialSet a → member_said line ≡ Some v → length a.nodes < a.count → is_above_last a.nodes v ≡ true → IsPartialSet (with_member a v)
+pub with_member_fits : (a : PartialSet) (line : List Token) (v : ℕ) → IsPartialSet a → member_said line ≡ Some v → length a.nodes < a.count
+    → is_above_last a.nodes v ≡ true → IsPartialSet (with_member a v)
 with_member_fits a line v h e room above = record {
   some = h.some;
   few = rw (length-append a.nodes (v ∷ [])) (omega (arith, room));

@@ -25,7 +25,8 @@ pub at_misfit : (text : List ℕ) (r : Result Answer Shape) → r ≡ parsing te
 unfolding parsing
 at_misfit text r e = go (misfit text) r refl e
   where
-    go : (o : Option ℕ) (s : Result Answer Shape) → misfit text ≡ o → s ≡ parsing_of (misfit text) (answer_of_lines (token_lines text)) → IfErr s (λ shape. misfit text ≡ Some shape.line)
+    go : (o : Option ℕ) (s : Result Answer Shape) → misfit text ≡ o → s ≡ parsing_of (misfit text) (answer_of_lines (token_lines text))
+        → IfErr s (λ shape. misfit text ≡ Some shape.line)
     go o (Ok a) f g = tt
     go None (Err shape) f g = cc (g ∙ ap (λ p. parsing_of p (answer_of_lines (token_lines text))) f)
     go (Some line) (Err shape) f g =

@@ -4,19 +4,22 @@ use Rattle.mcf_answer.specs.Fits.{fits, misfits, is_complete, misfit_of_lines, m
 use Rattle.mcf_answer.specs.Said.{cost_said, sent_said, price_said, set_said, member_said, refusal_said, opening_said}
 
 costs : map (λ z. misfit (flat_map (λ line. line ++ 10 ∷ []) ((codes "s " ++ z) ∷ [])))
-    (codes "-10000000000000000000000000000000000000" ∷ codes "10000000000000000000000000000000000000" ∷ codes "-10000000000000000000000000000000000001" ∷ codes "10000000000000000000000000000000000001" ∷ [])
+    (codes "-10000000000000000000000000000000000000" ∷ codes "10000000000000000000000000000000000000" ∷ codes "-10000000000000000000000000000000000001"
+    ∷ codes "10000000000000000000000000000000000001" ∷ [])
     ≡ None ∷ None ∷ Some 1 ∷ Some 1 ∷ []
 unfolding misfit misfit_of_lines misfits is_complete fits opening_said cost_said sent_said price_said set_said member_said refusal_said
 costs = refl
 
 flows : map (λ z. misfit (flat_map (λ line. line ++ 10 ∷ []) (codes "s 0" ∷ (codes "f 1 2 " ++ z) ∷ [])))
-    (codes "-10000000000000000000000000000000000000" ∷ codes "10000000000000000000000000000000000000" ∷ codes "-10000000000000000000000000000000000001" ∷ codes "10000000000000000000000000000000000001" ∷ [])
+    (codes "-10000000000000000000000000000000000000" ∷ codes "10000000000000000000000000000000000000" ∷ codes "-10000000000000000000000000000000000001"
+    ∷ codes "10000000000000000000000000000000000001" ∷ [])
     ≡ None ∷ None ∷ Some 2 ∷ Some 2 ∷ []
 unfolding misfit misfit_of_lines misfits is_complete fits opening_said cost_said sent_said price_said set_said member_said refusal_said
 flows = refl
 
 prices : map (λ z. misfit (flat_map (λ line. line ++ 10 ∷ []) (codes "s 0" ∷ (codes "y 1 " ++ z) ∷ [])))
-    (codes "-10000000000000000000000000000000000000" ∷ codes "10000000000000000000000000000000000000" ∷ codes "-10000000000000000000000000000000000001" ∷ codes "10000000000000000000000000000000000001" ∷ [])
+    (codes "-10000000000000000000000000000000000000" ∷ codes "10000000000000000000000000000000000000" ∷ codes "-10000000000000000000000000000000000001"
+    ∷ codes "10000000000000000000000000000000000001" ∷ [])
     ≡ None ∷ None ∷ Some 2 ∷ Some 2 ∷ []
 unfolding misfit misfit_of_lines misfits is_complete fits opening_said cost_said sent_said price_said set_said member_said refusal_said
 prices = refl

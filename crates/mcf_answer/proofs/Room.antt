@@ -33,7 +33,8 @@ word_within word numbers =
 
 -- the numbers of a line before one of them, and that one
 pub number_within : (word : List ℕ) (numbers : List ℤ) (k : ℕ) → k < length numbers
-    → length (word ++ flat_map field_text (take k numbers)) + length (field_text (get_or numbers k (pos 0))) ≤ length (line_text (Word word ∷ map Number numbers))
+    → length (word ++ flat_map field_text (take k numbers)) + length (field_text (get_or numbers k (pos 0))) ≤ length
+    (line_text (Word word ∷ map Number numbers))
 number_within word numbers k inside =
     omega (
       arith,
@@ -50,7 +51,8 @@ end_within word numbers k past =
     omega (arith, ap length (numbers_all [] word numbers k past), length-append (word ++ flat_map field_text (take k numbers)) (10 ∷ []))
 
 -- the parts of a line of a word, a number and a word
-pub length-word_line : (word last : List ℕ) (z : ℤ) → length (line_text (Word word ∷ Number z ∷ Word last ∷ [])) ≡ length word + length (field_text z) + 1 + length last + 1
+pub length-word_line : (word last : List ℕ) (z : ℤ) → length (line_text (Word word ∷ Number z ∷ Word last ∷ [])) ≡ length word + length
+    (field_text z) + 1 + length last + 1
 length-word_line word last z =
     let parts : line_text (Word word ∷ Number z ∷ Word last ∷ []) ≡ (word ++ 32 ∷ (signed_decimal z ++ 32 ∷ last)) ++ 10 ∷ [] = refl in
     omega (
@@ -72,11 +74,14 @@ line_within line xs k d inside =
     )
 
 -- the lines of the items before one were appended, and that of the one didn't fit
-pub line_refused : {X : Type 0} (line : X → List Token) (xs : List X) (k : ℕ) (x : X) (old mid : List ℕ) (old_len mid_len cap more : ℕ) → k < length xs → x ≡ get_or xs k x
-    → old_len ≡ length old → mid_len ≡ length mid → mid ≡ old ++ flat_map line_text (map line (take k xs)) → cap ≤ more → more < mid_len + length (line_text (line x))
+pub line_refused : {X : Type 0} (line : X → List Token) (xs : List X) (k : ℕ) (x : X) (old mid : List ℕ) (old_len mid_len cap more : ℕ) → k < length xs
+    → x ≡ get_or xs k x
+    → old_len ≡ length old → mid_len ≡ length mid → mid ≡ old ++ flat_map line_text (map line (take k xs)) → cap ≤ more
+    → more < mid_len + length (line_text (line x))
     → cap < old_len + length (flat_map line_text (map line xs))
 line_refused line xs k x old mid old_len mid_len cap more inside is is_old is_mid e grown short =
-    refused_after old mid (flat_map line_text (map line (take k xs))) (line_text (line x)) (flat_map line_text (map line xs)) old_len mid_len cap more is_old is_mid e grown short
+    refused_after old mid (flat_map line_text (map line (take k xs))) (line_text (line x))
+    (flat_map line_text (map line xs)) old_len mid_len cap more is_old is_mid e grown short
     (omega (arith, line_within line xs k x inside, ap (λ y. length (line_text (line y))) is))
 
 -- the items before one keep their numbers

@@ -3,7 +3,8 @@ use Rattle.std.proofs.Common.{◌≡◌, ℕ, ◌≤◌, Bool, true, false, cond
 use Rattle.std.specs.Prelude.{ℤ, Option, codes, option_map, neg_ℤ}
 use Rattle.std.proofs.lemmas.Slice.Eq.{bytes_eq-Decides}
 use Rattle.mcf_answer.specs.Ranges.{IsAmount, IsNodeInRange, amount_limit}
-use Rattle.mcf_answer.specs.Said.{amount_of, code_of, cost_said, line_number_of, node_of, member_said, number_within, price_said, refusal_said, sent_said, set_said, side_of, ◌>>=◌}
+use Rattle.mcf_answer.specs.Said.{amount_of, code_of, cost_said, line_number_of, node_of, member_said, number_within, price_said, refusal_said, sent_said}
+use Rattle.mcf_answer.specs.Said.{set_said, side_of, ◌>>=◌}
 use Rattle.mcf_answer.specs.Solution.{IsSent}
 use Rattle.mcf_answer.specs.Spelling.{cost_line, flow_line, member_line, price_line, refusal_line, set_line, side_word}
 use Rattle.mcf_answer.specs.Token.{Token, Word, Number, is_word}
@@ -74,7 +75,8 @@ amount_of-some t z e =
 amount_of-number : (z : ℤ) → IsAmount z → amount_of (Number z) ≡ Some z
 amount_of-number z h = number_within-number (neg_ℤ (pos amount_limit)) (pos amount_limit) z (amount_within z h)
 
-count_of-some : (bound : ℕ) (t : Token) (v : ℕ) → option_map natural (number_within (pos 1) (pos bound) t) ≡ Some v → (t ≡ Number (pos v)) × (1 ≤ v) × (v ≤ bound)
+count_of-some : (bound : ℕ) (t : Token) (v : ℕ) → option_map natural (number_within (pos 1) (pos bound) t) ≡ Some v
+    → (t ≡ Number (pos v)) × (1 ≤ v) × (v ≤ bound)
 count_of-some bound t v e =
     let f = map-some (number_within (pos 1) (pos bound) t) natural v e in
     let g = number_within-some (pos 1) (pos bound) t f.0 f.1 in
@@ -104,7 +106,8 @@ side_of-some t side e = go (is_word (side_word Send) t) (is_word (side_word Take
         let is : Send ≡ side = cc (sym (ap (λ b. cond b (Some Send) (cond (is_word (side_word Take) t) (Some Take) None)) h) ∙ e) in
         is_word-true (side_word Send) t h ∙ ap (λ s. Word (side_word s)) is
     go false true h i =
-        let is : Take ≡ side = cc (sym (ap (λ b. cond b (Some Send) (cond (is_word (side_word Take) t) (Some Take) None)) h ∙ ap (λ b. cond b (Some Take) None) i) ∙ e) in
+        let is : Take ≡ side = cc (sym (ap (λ b. cond b (Some Send) (cond (is_word (side_word Take) t) (Some Take) None)) h
+        ∙ ap (λ b. cond b (Some Take) None) i) ∙ e) in
         is_word-true (side_word Take) t i ∙ ap (λ s. Word (side_word s)) is
     go false false h i =
         cc (sym (ap (λ b. cond b (Some Send) (cond (is_word (side_word Take) t) (Some Take) None)) h ∙ ap (λ b. cond b (Some Take) None) i) ∙ e)

@@ -1,13 +1,16 @@
 -- The parser's state stands for the lines so far, and what it gives at the end is what the text stands for.
-use Rattle.std.proofs.Common.{◌≡◌, ℕ, ◌+◌, Bool, true, false, cond, ◌&&◌, ◌||◌, List, [], ◌∷◌, ◌++◌, length, Some, None, Ok, Err, refl, sym, ap, ◌∙◌, nat_eq, append_assoc, append-nil}
+use Rattle.std.proofs.Common.{◌≡◌, ℕ, ◌+◌, Bool, true, false, cond, ◌&&◌, ◌||◌, List, [], ◌∷◌, ◌++◌, length, Some, None, Ok, Err, refl, sym, ap, ◌∙◌, nat_eq}
+use Rattle.std.proofs.Common.{append_assoc, append-nil}
 use Rattle.std.specs.Prelude.{ℤ, Option, Result, map, filter, filter_map, is_some, nat_lt, option_map, slice_get}
 use Rattle.std.specs.List.{cons_option}
 use Rattle.std.specs.Option.{option_map_or, option_or}
 use Rattle.std.proofs.lemmas.List.{length-map, map-append, map-id}
 use Rattle.std.proofs.lemmas.List.Elements.{filter_map-append}
 use Rattle.std.proofs.lemmas.Simd.{map-map}
-use Rattle.mcf_answer.specs.Private.Draft.{after, and_then, answer_of_draft, opened, run, sent_or_priced, set_after, solution_after, with_price, with_said, with_sent}
-use Rattle.mcf_answer.specs.Fits.{as_misfit, fits, fits_after, has_all, is_above_last, is_complete, is_node_above, misfit, misfit_of_lines, misfits, member_lines, price_lines, sent_lines}
+use Rattle.mcf_answer.specs.Private.Draft.{after, and_then, answer_of_draft, opened, run, sent_or_priced, set_after, solution_after, with_price, with_said}
+use Rattle.mcf_answer.specs.Private.Draft.{with_sent}
+use Rattle.mcf_answer.specs.Fits.{as_misfit, fits, fits_after, has_all, is_above_last, is_complete, is_node_above, misfit, misfit_of_lines, misfits}
+use Rattle.mcf_answer.specs.Fits.{member_lines, price_lines, sent_lines}
 use Rattle.mcf_answer.specs.Parsing.{answer_of_lines, answer_opened, parsing, parsing_of}
 use Rattle.mcf_answer.specs.Said.{Opening, OpensFlow, OpensSet, OpensRefusal, member_said, opening_said, price_said, sent_said}
 use Rattle.mcf_answer.specs.Token.{Token, token_lines, tokens}
@@ -52,7 +55,8 @@ flow_step : (cost : ℤ) (xs : List Sent) (ys : List (ℕ × ℤ)) (os : Option 
 flow_step cost xs ys None None apart = refl
 flow_step cost xs ys (Some s) (Some y) apart = cc (apart s refl)
 flow_step cost xs ys (Some s) None apart =
-    ap (λ n. option_map Flow (cond (nat_eq n 0) (Some (with_sent (record { cost = cost; sent = xs; prices = map (λ y. y.1) ys }) s)) None)) (length-map ys (λ y. y.1))
+    ap (λ n. option_map Flow (cond (nat_eq n 0) (Some (with_sent (record { cost = cost; sent = xs; prices = map (λ y. y.1) ys }) s)) None))
+    (length-map ys (λ y. y.1))
     ∙ go (nat_eq (length ys) 0)
   where
     go : (b : Bool) → option_map Flow (cond b (Some (with_sent (record { cost = cost; sent = xs; prices = map (λ y. y.1) ys }) s)) None)
@@ -60,7 +64,8 @@ flow_step cost xs ys (Some s) None apart =
     go true = ap (λ zs. Some (flow_of cost (xs ++ s ∷ []) zs)) (sym (append-nil ys))
     go false = refl
 flow_step cost xs ys None (Some y) apart =
-    ap (λ n. option_map Flow (cond (nat_eq y.0 (n + 1)) (Some (with_price (record { cost = cost; sent = xs; prices = map (λ y. y.1) ys }) y.1)) None)) (length-map ys (λ y. y.1))
+    ap (λ n. option_map Flow (cond (nat_eq y.0 (n + 1)) (Some (with_price (record { cost = cost; sent = xs; prices = map (λ y. y.1) ys }) y.1)) None))
+    (length-map ys (λ y. y.1))
     ∙ go (nat_eq y.0 (length ys + 1))
   where
     go : (b : Bool) → option_map Flow (cond b (Some (with_price (record { cost = cost; sent = xs; prices = map (λ y. y.1) ys }) y.1)) None)
@@ -95,7 +100,8 @@ after_filled None others line = refl
 after_filled (Some (OpensRefusal r)) others line = refl
 after_filled (Some (OpensSet side count)) others line =
     set_step side count (member_lines others) (member_said line)
-    ∙ ap (λ vs. cond (nat_lt (length (member_lines others)) count && is_node_above (member_lines others) line) (Some (Blocked (record { side = side; count = count; nodes = vs }))) None)
+    ∙ ap (λ vs. cond (nat_lt (length (member_lines others)) count && is_node_above (member_lines others) line)
+    (Some (Blocked (record { side = side; count = count; nodes = vs }))) None)
     (sym (more member_said others line (member_said line) refl))
 after_filled (Some (OpensFlow cost)) others line =
     flow_step cost (sent_lines others) (price_lines others) (sent_said line) (price_said line) (no_price line)
@@ -108,7 +114,8 @@ first_line (Some (OpensFlow cost)) = refl
 first_line (Some (OpensSet side count)) = refl
 first_line (Some (OpensRefusal r)) = refl
 
-after_draft : (earlier : List (List Token)) (line : List Token) → after (draft_of earlier) line ≡ cond (fits earlier line) (Some (draft_of (earlier ++ line ∷ []))) None
+after_draft : (earlier : List (List Token)) (line : List Token) → after (draft_of earlier) line ≡ cond (fits earlier line)
+    (Some (draft_of (earlier ++ line ∷ []))) None
 unfolding after fits
 after_draft [] line = first_line (opening_said line)
 after_draft (first ∷ others) line = after_filled (opening_said first) others line
@@ -155,7 +162,8 @@ earlier_from-map : (done lines : List Row) → earlier_from done lines ≡ map (
 earlier_from-map done [] = refl
 earlier_from-map done (row ∷ lines) =
     ap (λ ps. (done, row) ∷ ps) (earlier_from-map (done ++ row ∷ []) lines
-    ∙ map-same (behind (done ++ row ∷ [])) (λ (p : List Row × Row). behind done (behind_one row p)) (with_earlier lines) (λ p. ap (λ front. (front, p.1)) (append_assoc done (row ∷ []) p.0))
+    ∙ map-same (behind (done ++ row ∷ [])) (λ (p : List Row × Row). behind done (behind_one row p)) (with_earlier lines)
+    (λ p. ap (λ front. (front, p.1)) (append_assoc done (row ∷ []) p.0))
     ∙ sym (map-map (behind done) (behind_one row) (with_earlier lines)))
     ∙ ap (λ (front : List Row). (front, row) ∷ map (behind done) (map (behind_one row) (with_earlier lines))) (sym (append-nil done))
 
@@ -168,13 +176,16 @@ unless None d = Ok d
 unless (Some line) d = Err line
 
 run_rows-from : (lines done : List Row)
-    → run_rows (draft_of (map tokens done)) lines ≡ unless (slice_get (filter_map as_misfit (earlier_from done lines)) 0) (draft_of (map tokens (done ++ lines)))
+    → run_rows (draft_of (map tokens done)) lines ≡ unless (slice_get (filter_map as_misfit (earlier_from done lines)) 0)
+    (draft_of (map tokens (done ++ lines)))
 run_rows-from [] done = ap (λ rs. Ok (draft_of (map tokens rs))) (sym (append-nil done))
 run_rows-from (row ∷ lines) done = go (fits (map tokens done) (tokens row)) refl (run_rows-from lines (done ++ row ∷ []))
   where
     go : (b : Bool) → fits (map tokens done) (tokens row) ≡ b
-        → run_rows (draft_of (map tokens (done ++ row ∷ []))) lines ≡ unless (slice_get (filter_map as_misfit (earlier_from (done ++ row ∷ []) lines)) 0) (draft_of (map tokens ((done ++ row ∷ []) ++ lines)))
-        → run_rows (draft_of (map tokens done)) (row ∷ lines) ≡ unless (slice_get (filter_map as_misfit (earlier_from done (row ∷ lines))) 0) (draft_of (map tokens (done ++ row ∷ lines)))
+        → run_rows (draft_of (map tokens (done ++ row ∷ []))) lines ≡ unless (slice_get (filter_map as_misfit (earlier_from (done ++ row ∷ []) lines)) 0)
+        (draft_of (map tokens ((done ++ row ∷ []) ++ lines)))
+        → run_rows (draft_of (map tokens done)) (row ∷ lines) ≡ unless (slice_get (filter_map as_misfit (earlier_from done (row ∷ lines))) 0)
+        (draft_of (map tokens (done ++ row ∷ lines)))
     go true h next =
         let taken : after (draft_of (map tokens done)) (tokens row) ≡ Some (draft_of (map tokens (done ++ row ∷ []))) =
         after_draft (map tokens done) (tokens row)
@@ -182,14 +193,17 @@ run_rows-from (row ∷ lines) done = go (fits (map tokens done) (tokens row)) re
         ∙ ap (λ ts. Some (draft_of ts)) (sym (map-append tokens done (row ∷ []))) in
         ap (λ o. and_then o row.number (λ e. run_rows e lines)) taken
         ∙ next
-        ∙ ap (λ rs. unless (slice_get (filter_map as_misfit (earlier_from (done ++ row ∷ []) lines)) 0) (draft_of (map tokens rs))) (append_assoc done (row ∷ []) lines)
-        ∙ sym (ap (λ b. unless (slice_get (cons_option (cond b None (Some row.number)) (filter_map as_misfit (earlier_from (done ++ row ∷ []) lines))) 0) (draft_of (map tokens (done ++ row ∷ lines)))) h)
+        ∙ ap (λ rs. unless (slice_get (filter_map as_misfit (earlier_from (done ++ row ∷ []) lines)) 0) (draft_of (map tokens rs)))
+        (append_assoc done (row ∷ []) lines)
+        ∙ sym (ap (λ b. unless (slice_get (cons_option (cond b None (Some row.number)) (filter_map as_misfit (earlier_from (done ++ row ∷ []) lines))) 0)
+        (draft_of (map tokens (done ++ row ∷ lines)))) h)
     go false h next =
         let refused : after (draft_of (map tokens done)) (tokens row) ≡ None =
         after_draft (map tokens done) (tokens row)
         ∙ ap (λ b. cond b (Some (draft_of (map tokens done ++ tokens row ∷ []))) None) h in
         ap (λ o. and_then o row.number (λ e. run_rows e lines)) refused
-        ∙ sym (ap (λ b. unless (slice_get (cons_option (cond b None (Some row.number)) (filter_map as_misfit (earlier_from (done ++ row ∷ []) lines))) 0) (draft_of (map tokens (done ++ row ∷ lines)))) h)
+        ∙ sym (ap (λ b. unless (slice_get (cons_option (cond b None (Some row.number)) (filter_map as_misfit (earlier_from (done ++ row ∷ []) lines))) 0)
+        (draft_of (map tokens (done ++ row ∷ lines)))) h)
 
 run_rows-misfits : (lines : List Row) → run_rows Empty lines ≡ unless (slice_get (misfits lines) 0) (draft_of (map tokens lines))
 unfolding misfits
@@ -199,7 +213,8 @@ run_rows-misfits lines =
 
 -- ---- the end
 
-finished-filled : (o : Option Opening) (others : List (List Token)) → answer_of_draft (filled o others) ≡ cond (has_all o others) (Some (answer_opened o others)) None
+finished-filled : (o : Option Opening) (others : List (List Token)) → answer_of_draft (filled o others) ≡ cond (has_all o others)
+    (Some (answer_opened o others)) None
 unfolding answer_of_draft
 finished-filled None others = refl
 finished-filled (Some (OpensFlow cost)) others = refl
@@ -222,4 +237,5 @@ pub outcome-parsing : (text : List ℕ) → outcome (run Empty (numbered_lines 1
 unfolding parsing misfit misfit_of_lines
 outcome-parsing text =
     ap (λ r. outcome r (line_after text)) (run-rows (numbered_lines 1 text) Empty ∙ run_rows-misfits (rows text))
-    ∙ at_end (slice_get (misfits (rows text)) 0) (is_complete (token_lines text)) (answer_of_lines (token_lines text)) (draft_of (token_lines text)) (line_after text) (finished-draft_of (token_lines text))
+    ∙ at_end (slice_get (misfits (rows text)) 0) (is_complete (token_lines text)) (answer_of_lines (token_lines text)) (draft_of (token_lines text))
+    (line_after text) (finished-draft_of (token_lines text))

@@ -124,7 +124,8 @@ a_refusal_after_a_comment : parsed (codes "c mine" ∷ codes "  r   +03 late-n" 
 unfolding parsing misfit misfit_of_lines misfits is_complete fits answer_of_lines opening_said cost_said sent_said price_said set_said member_said refusal_said
 a_refusal_after_a_comment = refl
 
-the_cost_at_the_limit : parsed (codes "s -10000000000000000000000000000000000000" ∷ []) ≡ Ok (Flow (record { cost = neg_ℤ (pos (10 ^ 37)); sent = []; prices = [] }))
+the_cost_at_the_limit : parsed (codes "s -10000000000000000000000000000000000000" ∷ []) ≡ Ok
+    (Flow (record { cost = neg_ℤ (pos (10 ^ 37)); sent = []; prices = [] }))
 unfolding parsing misfit misfit_of_lines misfits is_complete fits answer_of_lines opening_said cost_said sent_said price_said set_said member_said refusal_said
 the_cost_at_the_limit = refl
 

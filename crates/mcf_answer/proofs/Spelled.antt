@@ -1,6 +1,7 @@
 -- The lines that a state stands for are those that it spells; so a text is parsed to an answer exactly
 -- where it spells it.
-use Rattle.std.proofs.Common.{◌≡◌, ℕ, ◌+◌, ◌<◌, ◌≤◌, true, List, [], ◌∷◌, ◌++◌, length, Some, None, Ok, Err, refl, sym, ap, subst, ◌∙◌, nat_eq, arith, append_assoc, append-nil}
+use Rattle.std.proofs.Common.{◌≡◌, ℕ, ◌+◌, ◌<◌, ◌≤◌, true, List, [], ◌∷◌, ◌++◌, length, Some, None, Ok, Err, refl, sym, ap, subst, ◌∙◌, nat_eq, arith}
+use Rattle.std.proofs.Common.{append_assoc, append-nil}
 use Rattle.std.specs.Prelude.{ℤ, Option, Result, map, ◌&&◌, ⊤, nat_lt, option_map}
 use Rattle.std.specs.List.{enumerate_from}
 use Rattle.std.specs.List.Sorted.{IsStrictlyIncreasing}
@@ -10,12 +11,14 @@ use Rattle.std.proofs.lemmas.List.{map_push, nil_from_length}
 use Rattle.std.proofs.lemmas.List.Elements.{All-nil}
 use Rattle.std.proofs.lemmas.Option.{cond_some}
 use Rattle.mcf_answer.specs.BlockingSet.{IsBlockingSet}
-use Rattle.mcf_answer.specs.Private.Draft.{after, and_then, answer_of_draft, opened, sent_or_priced, set_after, solution_after, with_member, with_price, with_said, with_sent}
+use Rattle.mcf_answer.specs.Private.Draft.{after, and_then, answer_of_draft, opened, sent_or_priced, set_after, solution_after, with_member, with_price}
+use Rattle.mcf_answer.specs.Private.Draft.{with_said, with_sent}
 use Rattle.mcf_answer.specs.Fits.{is_above_last}
 use Rattle.mcf_answer.specs.Parsing.{parsing}
 use Rattle.mcf_answer.specs.Private.PartialSet.{IsPartialSet, PartialSet}
 use Rattle.mcf_answer.specs.Ranges.{IsAmount, IsNodeInRange}
-use Rattle.mcf_answer.specs.Said.{Opening, OpensFlow, OpensSet, OpensRefusal, cost_said, member_said, opening_said, opens_set, price_said, refusal_said, sent_said, set_said}
+use Rattle.mcf_answer.specs.Said.{Opening, OpensFlow, OpensSet, OpensRefusal, cost_said, member_said, opening_said, opens_set, price_said, refusal_said}
+use Rattle.mcf_answer.specs.Said.{sent_said, set_said}
 use Rattle.mcf_answer.specs.Solution.{IsSent, IsSolution, Solution}
 use Rattle.mcf_answer.specs.Spelling.{IsAnswer, Spells, cost_line, flow_line, member_line, price_line, refusal_line, set_line, solution_lines, spelling}
 use Rattle.mcf_answer.specs.Token.{Token, tokens}
@@ -92,34 +95,40 @@ opening_grows line o e = go (cost_said line) (set_said line) (refusal_said line)
     go None None None ec es er f = cc
 
 -- a flow line
-sent_grows : (a : Solution) (line : List Token) (s : Sent) → IsSolution a → sent_said line ≡ Some s → length a.prices ≡ 0 → Grows (Flow a) line (Flow (with_sent a s))
+sent_grows : (a : Solution) (line : List Token) (s : Sent) → IsSolution a → sent_said line ≡ Some s → length a.prices ≡ 0
+    → Grows (Flow a) line (Flow (with_sent a s))
 sent_grows a line s h e none =
     let said = sent_said-some line s e in
     let empty : a.prices ≡ [] = nil_from_length a.prices none in
     record {
       lines =
           ap (λ zs. cost_line a.cost ∷ map flow_line (a.sent ++ s ∷ []) ++ map price_line (enumerate_from 1 zs)) empty
-          ∙ ap (λ ls. cost_line a.cost ∷ ls) (append-nil (map flow_line (a.sent ++ s ∷ [])) ∙ map_push flow_line a.sent s ∙ ap (λ l. map flow_line a.sent ++ l ∷ []) (sym said.0))
+          ∙ ap (λ ls. cost_line a.cost ∷ ls) (append-nil (map flow_line (a.sent ++ s ∷ [])) ∙ map_push flow_line a.sent s
+          ∙ ap (λ l. map flow_line a.sent ++ l ∷ []) (sym said.0))
           ∙ ap (λ ls. cost_line a.cost ∷ ls ++ line ∷ []) (sym (append-nil (map flow_line a.sent)))
           ∙ sym (ap (λ zs. (cost_line a.cost ∷ map flow_line a.sent ++ map price_line (enumerate_from 1 zs)) ++ line ∷ []) empty);
       in_range = with_sent_fits a line s h e;
     }
 
 -- a price line
-price_grows : (a : Solution) (line : List Token) (y : ℕ × ℤ) → IsSolution a → price_said line ≡ Some y → y.0 ≡ length a.prices + 1 → Grows (Flow a) line (Flow (with_price a y.1))
+price_grows : (a : Solution) (line : List Token) (y : ℕ × ℤ) → IsSolution a → price_said line ≡ Some y → y.0 ≡ length a.prices + 1
+    → Grows (Flow a) line (Flow (with_price a y.1))
 price_grows a line y h e next =
     let said = price_said-some line y e in
     let place : 1 + length a.prices ≡ y.0 = omega (arith, next) in
     record {
       lines =
-          ap (λ ys. cost_line a.cost ∷ map flow_line a.sent ++ map price_line ys) (enumerate_from-push 1 a.prices y.1 ∙ ap (λ n. enumerate_from 1 a.prices ++ (n, y.1) ∷ []) place)
-          ∙ ap (λ ls. cost_line a.cost ∷ map flow_line a.sent ++ ls) (map_push price_line (enumerate_from 1 a.prices) y ∙ ap (λ l. map price_line (enumerate_from 1 a.prices) ++ l ∷ []) (sym said.0))
+          ap (λ ys. cost_line a.cost ∷ map flow_line a.sent ++ map price_line ys) (enumerate_from-push 1 a.prices y.1
+          ∙ ap (λ n. enumerate_from 1 a.prices ++ (n, y.1) ∷ []) place)
+          ∙ ap (λ ls. cost_line a.cost ∷ map flow_line a.sent ++ ls) (map_push price_line (enumerate_from 1 a.prices) y
+          ∙ ap (λ l. map price_line (enumerate_from 1 a.prices) ++ l ∷ []) (sym said.0))
           ∙ ap (λ ls. cost_line a.cost ∷ ls) (sym (append_assoc (map flow_line a.sent) (map price_line (enumerate_from 1 a.prices)) (line ∷ [])));
       in_range = with_price_fits a y.0 y.1 h said.1 said.2 next;
     }
 
 -- a node line
-node_grows : (a : PartialSet) (line : List Token) (v : ℕ) → IsPartialSet a → member_said line ≡ Some v → length a.nodes < a.count → is_above_last a.nodes v ≡ true → Grows (Blocked a) line (Blocked (with_member a v))
+node_grows : (a : PartialSet) (line : List Token) (v : ℕ) → IsPartialSet a → member_said line ≡ Some v → length a.nodes < a.count
+    → is_above_last a.nodes v ≡ true → Grows (Blocked a) line (Blocked (with_member a v))
 node_grows a line v h e room above =
     let said = member_said-some line v e in
     record {

@@ -28,7 +28,8 @@ plain_code_word code =
     let place = position_or_len (λ c. bytes_eq (code_word c) (code_word code)) all_codes in
     let at : slice_get all_codes place ≡ Some code = sym (find_at (λ c. bytes_eq (code_word c) (code_word code)) all_codes) ∙ code_of_word-code_word code in
     let all = AllPass-from_list_all (λ c. is_plain_word (code_word c)) all_codes refl in
-    subst (λ c. is_plain_word (code_word c) ≡ true) (get_or_from_slice_get all_codes place code code at) (all place code (slice_get_within all_codes place code at))
+    subst (λ c. is_plain_word (code_word c) ≡ true) (get_or_from_slice_get all_codes place code code at)
+    (all place code (slice_get_within all_codes place code at))
 
 -- the code that a field names
 pub code_of-token_of : (field : List ℕ) → code_of_word field ≡ code_of (token_of field)
@@ -38,7 +39,8 @@ code_of-token_of field = go (is_whole field) (code_of_word field) refl refl
     go false o h e = sym (ap (λ b. code_of (cond b (Token.Number (whole_value field)) (Word field))) h)
     go true None h e = e ∙ sym (ap (λ b. code_of (cond b (Token.Number (whole_value field)) (Word field))) h)
     go true (Some code) h e =
-        let no_number : is_whole (code_word code) ≡ false = not-true (is_whole (code_word code)) (and_parts _ (not (is_whole (code_word code))) (plain_code_word code)).1 in
+        let no_number : is_whole (code_word code) ≡ false = not-true (is_whole (code_word code))
+        (and_parts _ (not (is_whole (code_word code))) (plain_code_word code)).1 in
         cc (sym h ∙ ap is_whole (sym ((code_of_word-known field code).0 e)) ∙ no_number)
 
 pub ruleset code_answers = code_of-token_of

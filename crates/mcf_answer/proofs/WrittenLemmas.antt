@@ -1,5 +1,6 @@
 -- What is written of an answer spells it.
-use Rattle.std.proofs.Common.{◌≡◌, ◌≢◌, ℕ, suc, ◌+◌, ◌≤◌, ◌^◌, Bool, true, not, cond, List, [], ◌∷◌, ◌++◌, length, pos, negsuc, refl, sym, ap, subst, ◌∙◌, arith, append_assoc, append-nil}
+use Rattle.std.proofs.Common.{◌≡◌, ◌≢◌, ℕ, suc, ◌+◌, ◌≤◌, ◌^◌, Bool, true, not, cond, List, [], ◌∷◌, ◌++◌, length, pos, negsuc, refl, sym, ap, subst, ◌∙◌}
+use Rattle.std.proofs.Common.{arith, append_assoc, append-nil}
 use Rattle.std.specs.Prelude.{ℤ, All, FitsSigned, IsFalse, IsTrue, codes, filter, flat_map, map, nat_eq, nat_lt, slice_index, ◌&&◌}
 use Rattle.std.specs.Fmt.{signed_decimal}
 use Rattle.std.specs.Int.{w128}
@@ -48,12 +49,14 @@ plain_number z fits =
 
 no_blanks : (word : List ℕ) → list_all is_plain_byte word ≡ true → All (λ b. IsFalse (is_blank b)) word
 no_blanks word e =
-    All-weaker (λ b. is_plain_byte b ≡ true) (λ b. IsFalse (is_blank b)) (λ b f. not-true (is_blank b) (and_parts (not (is_blank b)) (not (nat_eq b 10)) f).0) word
+    All-weaker (λ b. is_plain_byte b ≡ true) (λ b. IsFalse (is_blank b)) (λ b f. not-true (is_blank b) (and_parts (not (is_blank b)) (not (nat_eq b 10)) f).0)
+    word
     (AllPass-from_list_all is_plain_byte word e)
 
 no_line_feeds : (word : List ℕ) → list_all is_plain_byte word ≡ true → IsOneLine word
 no_line_feeds word e =
-    All-weaker (λ b. is_plain_byte b ≡ true) (λ b. b ≢ line_feed) (λ b f. eqb-false b 10 (not-true (nat_eq b 10) (and_parts (not (is_blank b)) (not (nat_eq b 10)) f).1)) word
+    All-weaker (λ b. is_plain_byte b ≡ true) (λ b. b ≢ line_feed) (λ b f. eqb-false b 10
+    (not-true (nat_eq b 10) (and_parts (not (is_blank b)) (not (nat_eq b 10)) f).1)) word
     (AllPass-from_list_all is_plain_byte word e)
 
 plain_word : (word : List ℕ) → is_plain_word word ≡ true → IsPlain (Word word)
@@ -104,8 +107,16 @@ has_after_blank line field fields has =
 
 has_joined : (t : Token) (ts : List Token) → IsPlain t → AllByRecursion IsPlain ts → HasFields (body (t ∷ ts)) (map token_text (t ∷ ts))
 has_joined t [] h each = ([], [], sym (append-nil (token_text t)), All-nil (λ b. IsTrue (is_blank b)), h.run, tt, All-nil (λ b. IsTrue (is_blank b)))
-has_joined t (u ∷ us) h each =
-    ([], 32 ∷ body (u ∷ us), refl, All-nil (λ b. IsTrue (is_blank b)), h.run, refl, has_after_blank (body (u ∷ us)) (token_text u) (map token_text us) (has_joined u us each.0 each.1))
+has_joined t (u ∷ us) h each = (
+  [],
+  32 ∷ body (u ∷ us),
+  refl,
+  All-nil (λ b. IsTrue (is_blank b)),
+  h.run,
+  refl,
+  has_after_blank (body (u ∷ us)) (token_text u) (map token_text us)
+      (has_joined u us each.0 each.1),
+)
 
 fields_of-body : (t : Token) (ts : List Token) → IsPlain t → AllByRecursion IsPlain ts → fields_of (body (t ∷ ts)) ≡ map token_text (t ∷ ts)
 fields_of-body t ts h each = sym ((AreTheFields-fields_of (body (t ∷ ts))).unique (map token_text (t ∷ ts)) (has_joined t ts h each))
@@ -131,7 +142,8 @@ body_kept line h =
 joined_one_line : (t : Token) (ts : List Token) → IsPlain t → AllByRecursion IsPlain ts → IsOneLine (body (t ∷ ts))
 joined_one_line t [] h each = h.one_line
 joined_one_line t (u ∷ us) h each =
-    All-append (λ b. b ≢ line_feed) (token_text t) (32 ∷ body (u ∷ us)) h.one_line (All-cons (λ b. b ≢ line_feed) 32 (body (u ∷ us)) (λ e. omega (arith, e)) (joined_one_line u us each.0 each.1))
+    All-append (λ b. b ≢ line_feed) (token_text t) (32 ∷ body (u ∷ us)) h.one_line
+    (All-cons (λ b. b ≢ line_feed) 32 (body (u ∷ us)) (λ e. omega (arith, e)) (joined_one_line u us each.0 each.1))
 
 body_one_line : (line : List Token) → IsPlainLine line → IsOneLine (body line)
 body_one_line line h = subst (λ l. IsOneLine (body l)) (sym h.is) (joined_one_line h.first h.others h.plain h.each)
@@ -153,7 +165,8 @@ body_rows : (n : ℕ) (ls : List (List Token)) → All IsPlainLine ls → map to
 body_rows n [] all = refl
 body_rows n (l ∷ ls) all =
     let plain = All-head IsPlainLine l ls all in
-    ap (λ b. map tokens (map row_of (cond b ((n, body l) ∷ filter keeps_line (enumerate_from (n + 1) (map body ls))) (filter keeps_line (enumerate_from (n + 1) (map body ls)))))) (body_kept l plain)
+    ap (λ b. map tokens (map row_of (cond b ((n, body l) ∷ filter keeps_line (enumerate_from (n + 1) (map body ls)))
+    (filter keeps_line (enumerate_from (n + 1) (map body ls)))))) (body_kept l plain)
     ∙ ap (λ t. t ∷ map tokens (map row_of (filter keeps_line (enumerate_from (n + 1) (map body ls))))) (body_tokens l plain)
     ∙ ap (λ ts. l ∷ ts) (body_rows (n + 1) ls (All-tail IsPlainLine l ls all))
 
@@ -181,7 +194,10 @@ plain_sent s h = record {
   is = refl;
   kept = refl;
   plain = plain_word (codes "f") refl;
-  each = (plain_number (pos s.src) (count_fits s.src (omega (arith, h.src_is_node.1))), (plain_number (pos s.dst) (count_fits s.dst (omega (arith, h.dst_is_node.1))), (plain_number s.flow (amount_fits s.flow h.flow_small), tt)));
+  each = (
+    plain_number (pos s.src) (count_fits s.src (omega (arith, h.src_is_node.1))),
+    (plain_number (pos s.dst) (count_fits s.dst (omega (arith, h.dst_is_node.1))), (plain_number s.flow (amount_fits s.flow h.flow_small), tt)),
+  );
 }
 
 plain_price : (v : ℕ) (z : ℤ) → v ≤ line_limit → IsAmount z → IsPlainLine (price_line (v, z))
@@ -231,16 +247,19 @@ plain_prices n (z ∷ zs) few all =
     (plain_price n z (omega (arith, few)) (All-head IsAmount z zs all)) (plain_prices (n + 1) zs (omega (arith, few)) (All-tail IsAmount z zs all))
 
 -- the lines of some items
-plain_each : {X : Type 0} (P : X → Type 0) (line : X → List Token) → ((x : X) → P x → IsPlainLine (line x)) → (xs : List X) → All P xs → All IsPlainLine (map line xs)
+plain_each : {X : Type 0} (P : X → Type 0) (line : X → List Token) → ((x : X) → P x → IsPlainLine (line x)) → (xs : List X) → All P xs
+    → All IsPlainLine (map line xs)
 plain_each P line plain xs all = All-map IsPlainLine line xs (All-weaker P (λ x. IsPlainLine (line x)) plain xs all)
 
 plain_answer : (a : Answer) → IsAnswer a → All IsPlainLine (spelling a)
 unfolding spelling IsAnswer
 plain_answer (Flow a) h =
     All-cons IsPlainLine (cost_line a.cost) (map flow_line a.sent ++ map price_line (enumerate_from 1 a.prices)) (plain_cost a.cost h.cost_small)
-    (All-append IsPlainLine (map flow_line a.sent) (map price_line (enumerate_from 1 a.prices)) (plain_each IsSent flow_line plain_sent a.sent h.sent_fit) (plain_prices 1 a.prices (omega (arith, h.few_prices)) h.prices_small))
+    (All-append IsPlainLine (map flow_line a.sent) (map price_line (enumerate_from 1 a.prices)) (plain_each IsSent flow_line plain_sent a.sent h.sent_fit)
+    (plain_prices 1 a.prices (omega (arith, h.few_prices)) h.prices_small))
 plain_answer (Blocked a) h =
-    All-cons IsPlainLine (set_line a.side (length a.nodes)) (map member_line a.nodes) (plain_set a.side (length a.nodes) h.few) (plain_each IsNodeInRange member_line plain_node a.nodes h.are_nodes)
+    All-cons IsPlainLine (set_line a.side (length a.nodes)) (map member_line a.nodes) (plain_set a.side (length a.nodes) h.few)
+    (plain_each IsNodeInRange member_line plain_node a.nodes h.are_nodes)
 plain_answer (Refused r) h = All-cons IsPlainLine (refusal_line r) [] (plain_refusal r h.1) (All-nil IsPlainLine)
 
 -- the written text spells the answer

@@ -1,5 +1,6 @@
 -- The lines of a text that fit, and the first that doesn't.
-use Rattle.std.specs.Prelude.{ℕ, ◌+◌, ◌-◌, ◌==◌, nat_lt, Bool, true, false, ◌&&◌, ◌||◌, if◌then◌else◌, List, [], ◌∷◌, map, length, filter_map, ℤ, Option, Some, None, is_some, slice_get}
+use Rattle.std.specs.Prelude.{ℕ, ◌+◌, ◌-◌, ◌==◌, nat_lt, Bool, true, false, ◌&&◌, ◌||◌, if◌then◌else◌, List, [], ◌∷◌, map, length, filter_map, ℤ, Option, Some}
+use Rattle.std.specs.Prelude.{None, is_some, slice_get}
 use Rattle.std.specs.Option.{option_or, option_map_or}
 use Rattle.mcf_answer.specs.Said.{Opening, OpensFlow, OpensSet, OpensRefusal, opening_said, sent_said, price_said, member_said}
 use Rattle.mcf_answer.specs.Token.{Token, tokens}

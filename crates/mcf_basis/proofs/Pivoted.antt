@@ -1,5 +1,5 @@
 -- One pivot, from what its parts leave.
-use Rattle.std.proofs.Common.{◌≡◌, ℕ, ◌+◌, ◌-◌, ◌*◌, ◌^◌, ◌<◌, ◌≤◌, Bool, true, false, List, length, refl, sym, ap, ◌∙◌, arith, subst, ℤ, pos, ◌+ℤ◌, ◌-ℤ◌, ◌≤ℤ◌}
+use Rattle.std.proofs.Common.{◌≡◌, ℕ, ◌+◌, ◌*◌, ◌^◌, ◌<◌, ◌≤◌, Bool, true, false, List, length, refl, sym, ap, ◌∙◌, arith, subst, ℤ, pos, ◌+ℤ◌, ◌-ℤ◌, ◌≤ℤ◌}
 use Rattle.std.specs.Prelude.{unsigned_abs}
 use Rattle.std.proofs.lemmas.Int.{ints}
 use Rattle.mcf_instance.specs.Limits.{wide_limits}
@@ -12,7 +12,6 @@ use Rattle.mcf_network.proofs.ArcLaws.{net_arc_at}
 use Rattle.mcf_tree.specs.Apex.{IsApex}
 use Rattle.mcf_tree.specs.SpanningTree.{SpanningTree, IsSpanning, depth_of, size_of}
 use Rattle.mcf_basis.specs.declared.climb.Climb.{Climb}
-use Rattle.mcf_basis.specs.declared.leaving_arc.Leaving.{Leaving}
 use Rattle.mcf_basis.specs.declared.leaving_arc.Leaving.TheVariants.{Entering, Down, Up}
 use Rattle.mcf_basis.specs.declared.offer.Offer.{Offer}
 use Rattle.mcf_basis.specs.declared.pivot.Found.{Found}
@@ -23,7 +22,7 @@ use Rattle.mcf_basis.specs.Pivots.{IsEligible, IsPivot, PairFalls, entering}
 use Rattle.mcf_basis.specs.Private.Climbs.{CanReplace, IsClimb, IsFound, IsReplaced}
 use Rattle.mcf_basis.specs.Private.Climbs.IsReplaced.{at_once, down, up}
 use Rattle.mcf_basis.specs.Private.Layouts.{Layout, IsLaidOut, Prices, basis_in, offer_at}
-use Rattle.mcf_basis.specs.Private.Turned.{CanExchange, CanPush, IsExchangedBy, IsPushedRound, offers_kept, price_of}
+use Rattle.mcf_basis.specs.Private.Turned.{CanExchange, CanPush, IsExchangedBy, IsPushedRound, price_of}
 use Rattle.mcf_basis.specs.Structures.{TreeStructure, CanTake}
 use Rattle.mcf_basis.proofs.Around.{CanGoRound, IsAround, IsLeaving, WentRound, down_arc, from_of, to_of, up_arc}
 use Rattle.mcf_basis.proofs.Around.IsLeaving.{right as leaves_right, enter as leaves_at_once, left as leaves_left}

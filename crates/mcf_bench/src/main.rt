@@ -86,7 +86,13 @@ fn run_on_files(
     answer: &String,
     times: Option<&String>,
 ) -> io::Result<()> {
-    recovering::run(rt, step, instance.as_str(), answer.as_str(), times_of(times))
+    recovering::run(
+        rt,
+        step,
+        instance.as_str(),
+        answer.as_str(),
+        times_of(times),
+    )
 }
 
 // Words that name no part.

@@ -20,7 +20,12 @@ pub fn run_from(rt: &HostRuntime, state: &State<'_>, times: u32) -> io::Result<(
 }
 
 // Raises the greatest prices of a state.
-fn raise_from(rt: &HostRuntime, state: &State<'_>, prices: &mut [i128], times: u32) -> io::Result<()>
+fn raise_from(
+    rt: &HostRuntime,
+    state: &State<'_>,
+    prices: &mut [i128],
+    times: u32,
+) -> io::Result<()>
     requires greatest { AreGreatestPrices state.now.net prices.old state.now.amounts }
 {
     let Ok(mut pricer) = Pricer::start(rt.alloc(), state.net()) else {

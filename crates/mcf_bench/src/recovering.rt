@@ -2,9 +2,8 @@
 ghost use Rattle.std.specs.Prelude.{◌≡◌};
 ghost use Rattle.mcf_instance.specs.Network.{IsArcNumber};
 
-use crate::raising;
 use crate::reading::net_of;
-use crate::tell_time;
+use crate::{raising, tell_time};
 use mcf_answer::{Answer, FlowAnswer, Sent, parse};
 use mcf_network::{Net, Rid, State};
 use mcf_prices::{Recovered, recover};

@@ -1,5 +1,6 @@
 -- The first arc that the flow lines don't agree with: as a loop finds it, and what it means that there is none.
-use Rattle.std.proofs.Common.{◌≡◌, ℕ, zero, suc, ◌+◌, ◌-◌, ◌≤◌, ◌<◌, max, Bool, true, false, not, ◌&&◌, eqb, refl, ap, sym, ◌∙◌, arith, List, [], ◌∷◌, length, get_or, map, Some, None}
+use Rattle.std.proofs.Common.{◌≡◌, ℕ, zero, suc, ◌+◌, ◌-◌, ◌≤◌, ◌<◌, max, Bool, true, false, not, ◌&&◌, eqb, refl, ap, sym, ◌∙◌, arith, List, [], ◌∷◌, length}
+use Rattle.std.proofs.Common.{get_or, map, Some, None}
 use Rattle.std.specs.List.{AllZip, slice_get}
 use Rattle.std.specs.Prelude.{int_le}
 use Rattle.std.proofs.lemmas.Bool.{and_parts, and_from, eq-eqb, eqb-true, not_from_false, not_from_true, not-false, false≢true}
@@ -25,7 +26,8 @@ test-is arcs sent i =
     let back : i + 1 - 1 ≡ i = omega arith in ap (λ m. not (agreement arcs sent m)) back
 
 module _ (g : Network) (sent : List Sent) where
-  pub bad_arc-some : (i : ℕ) → i < max (length g.arcs) (length sent) → ((j : ℕ) → j < i → agreement g.arcs sent j ≡ true) → agreement g.arcs sent i ≡ false → bad_arc g sent ≡ Some (i + 1)
+  pub bad_arc-some : (i : ℕ) → i < max (length g.arcs) (length sent) → ((j : ℕ) → j < i → agreement g.arcs sent j ≡ true) → agreement g.arcs sent i ≡ false
+      → bad_arc g sent ≡ Some (i + 1)
   bad_arc-some i h before here =
       least_some (λ k. not (agreement g.arcs sent (k - 1))) (max (length g.arcs) (length sent)) i h
       (λ j k. test-is g.arcs sent j ∙ not_from_true (agreement g.arcs sent j) (before j k))
@@ -51,7 +53,8 @@ module _ (g : Network) (sent : List Sent) where
       (sym (test-is g.arcs sent j) ∙ least_none-each (λ k. not (agreement g.arcs sent (k - 1))) (max (length g.arcs) (length sent)) e j h)
 
 -- the agreement at a place whose flow line the loop has read
-pub agreement_read : (arcs : List Arc) (sent : List Sent) (i : ℕ) (s : Sent) (b : Bool) → i < length sent → s ≡ get_or sent i s → b ≡ arc_agrees (slice_get arcs i) (Some s) → agreement arcs sent i ≡ b
+pub agreement_read : (arcs : List Arc) (sent : List Sent) (i : ℕ) (s : Sent) (b : Bool) → i < length sent → s ≡ get_or sent i s
+    → b ≡ arc_agrees (slice_get arcs i) (Some s) → agreement arcs sent i ≡ b
 agreement_read arcs sent i s b h is e =
     ap (arc_agrees (slice_get arcs i)) (slice_get_read sent (length sent) i s refl h is) ∙ sym e
 
@@ -115,7 +118,8 @@ bounds_of (a ∷ arcs) (s ∷ sent) h = (h.0.carried, bounds_of arcs sent h.1)
 cons_parts : (x y : ℕ × ℕ) (xs ys : List (ℕ × ℕ)) → x ∷ xs ≡ y ∷ ys → (x ≡ y) × (xs ≡ ys)
 cons_parts x y xs ys e = (cc, cc)
 
-all_from_ends : (arcs : List Arc) (sent : List Sent) → sent_ends sent ≡ map (λ a. (a.src, a.dst)) arcs → IsWithinBounds arcs (amounts sent) → AllZip Agrees arcs sent
+all_from_ends : (arcs : List Arc) (sent : List Sent) → sent_ends sent ≡ map (λ a. (a.src, a.dst)) arcs → IsWithinBounds arcs (amounts sent)
+    → AllZip Agrees arcs sent
 all_from_ends [] [] e h = tt
 all_from_ends [] (s ∷ sent) e h = absurd h
 all_from_ends (a ∷ arcs) [] e h = absurd h

@@ -1,7 +1,9 @@
 -- The first node without a price, or whose net isn't its supply: as a loop finds it, and what it means that there is none.
-use Rattle.std.proofs.Common.{◌≡◌, ℕ, ◌+◌, ◌-◌, ◌≤◌, ◌<◌, max, Bool, true, false, not, ◌&&◌, ◌||◌, ltb, ap, sym, ◌∙◌, arith, inl, inr, List, length, get_or, Some, None, ℤ, pos}
+use Rattle.std.proofs.Common.{◌≡◌, ℕ, ◌+◌, ◌-◌, ◌≤◌, ◌<◌, max, Bool, true, false, not, ◌&&◌, ◌||◌, ltb, ap, sym, ◌∙◌, arith, inl, inr, List, length, get_or}
+use Rattle.std.proofs.Common.{Some, None, ℤ, pos}
 use Rattle.std.specs.Ordering.{int_eq}
-use Rattle.std.proofs.lemmas.Bool.{and_cases, and_parts, cases_lt, le-ltb, lt-ltb, ltb-false, ltb-true, not-false, not_from_false, not_from_true, or_from, or_left, or_parts, or_right, true≢false}
+use Rattle.std.proofs.lemmas.Bool.{and_cases, and_parts, cases_lt, le-ltb, lt-ltb, ltb-false, ltb-true, not-false, not_from_false, not_from_true, or_from}
+use Rattle.std.proofs.lemmas.Bool.{or_left, or_parts, or_right, true≢false}
 use Rattle.std.proofs.lemmas.Bool.Decides.{Decides-int_eq}
 use Rattle.mcf_answer.specs.Solution.{Solution}
 use Rattle.mcf_checker.specs.Correct.{amounts}
@@ -40,43 +42,53 @@ module _ (nets : ℕ → ℤ) (supplies : List ℤ) (prices : ℕ) where
 -- ---- as a loop finds it
 
 -- the test of the node at a place, from 0, as the loop makes it
-place_is : (nets supplies : List ℤ) (i : ℕ) → int_eq (at_node nets (i + 1)) (at_node supplies (i + 1)) ≡ int_eq (get_or nets i (pos 0)) (get_or supplies i (pos 0))
+place_is : (nets supplies : List ℤ) (i : ℕ) → int_eq (at_node nets (i + 1)) (at_node supplies (i + 1)) ≡ int_eq (get_or nets i (pos 0))
+    (get_or supplies i (pos 0))
 place_is nets supplies i =
     let back : i + 1 - 1 ≡ i = omega arith in ap (λ j. int_eq (get_or nets j (pos 0)) (get_or supplies j (pos 0))) back
 
 module _ (nets supplies : List ℤ) (prices : ℕ) where
-  pub met_here : (i : ℕ) → i < length supplies → (ltb i prices && int_eq (get_or nets i (pos 0)) (get_or supplies i (pos 0))) ≡ true → is_unmet (at_node nets) supplies prices (i + 1) ≡ false
+  pub met_here : (i : ℕ) → i < length supplies → (ltb i prices && int_eq (get_or nets i (pos 0)) (get_or supplies i (pos 0))) ≡ true
+      → is_unmet (at_node nets) supplies prices (i + 1) ≡ false
   met_here i h e =
       let parts = and_parts (ltb i prices) (int_eq (get_or nets i (pos 0)) (get_or supplies i (pos 0))) e in
       let k : i < prices = ltb-true i prices parts.0 in
       within (at_node nets) supplies prices (i + 1) (omega arith) (omega arith) (place_is nets supplies i ∙ parts.1)
 
-  pub unmet_here : (i : ℕ) → (ltb i prices && int_eq (get_or nets i (pos 0)) (get_or supplies i (pos 0))) ≡ false → is_unmet (at_node nets) supplies prices (i + 1) ≡ true
+  pub unmet_here : (i : ℕ) → (ltb i prices && int_eq (get_or nets i (pos 0)) (get_or supplies i (pos 0))) ≡ false
+      → is_unmet (at_node nets) supplies prices (i + 1) ≡ true
   unmet_here i e =
       elim (and_cases (ltb i prices) (int_eq (get_or nets i (pos 0)) (get_or supplies i (pos 0))) e) [
         | inl past ↦ beyond_prices (at_node nets) supplies prices (i + 1) (omega (arith, ltb-false i prices past))
         | inr other ↦ differing (at_node nets) supplies prices (i + 1) (place_is nets supplies i ∙ other)
       ]
 
-  pub first_unmet-some : (i : ℕ) → i < length supplies → ((j : ℕ) → j < i → is_unmet (at_node nets) supplies prices (j + 1) ≡ false) → is_unmet (at_node nets) supplies prices (i + 1) ≡ true → least_up_to (max (length supplies) prices) (is_unmet (at_node nets) supplies prices) ≡ Some (i + 1)
+  pub first_unmet-some : (i : ℕ) → i < length supplies → ((j : ℕ) → j < i → is_unmet (at_node nets) supplies prices (j + 1) ≡ false)
+      → is_unmet (at_node nets) supplies prices (i + 1) ≡ true → least_up_to (max (length supplies) prices) (is_unmet (at_node nets) supplies prices) ≡ Some
+      (i + 1)
   first_unmet-some i h before here =
       least_some (is_unmet (at_node nets) supplies prices) (max (length supplies) prices) i (omega arith) before here
 
-  pub first_unmet_past : length supplies < prices → ((j : ℕ) → j < length supplies → is_unmet (at_node nets) supplies prices (j + 1) ≡ false) → least_up_to (max (length supplies) prices) (is_unmet (at_node nets) supplies prices) ≡ Some (length supplies + 1)
+  pub first_unmet_past : length supplies < prices → ((j : ℕ) → j < length supplies → is_unmet (at_node nets) supplies prices (j + 1) ≡ false)
+      → least_up_to (max (length supplies) prices) (is_unmet (at_node nets) supplies prices) ≡ Some (length supplies + 1)
   first_unmet_past h before =
       least_some (is_unmet (at_node nets) supplies prices) (max (length supplies) prices) (length supplies) (omega arith) before
       (beyond_nodes (at_node nets) supplies prices (length supplies + 1) (omega arith))
 
-  pub first_unmet_nowhere : prices ≤ length supplies → ((j : ℕ) → j < length supplies → is_unmet (at_node nets) supplies prices (j + 1) ≡ false) → least_up_to (max (length supplies) prices) (is_unmet (at_node nets) supplies prices) ≡ None
+  pub first_unmet_nowhere : prices ≤ length supplies → ((j : ℕ) → j < length supplies → is_unmet (at_node nets) supplies prices (j + 1) ≡ false)
+      → least_up_to (max (length supplies) prices) (is_unmet (at_node nets) supplies prices) ≡ None
   first_unmet_nowhere h each =
       least_none (is_unmet (at_node nets) supplies prices) (max (length supplies) prices) (λ j k. each j (omega arith))
 
 -- a table of the nets serves in place of the nets
-pub bad_node-table : (g : Network) (a : Solution) (nets : List ℤ) → AreNets (node_count g) g.arcs (amounts a.sent) nets → least_up_to (max (node_count g) (length a.prices)) (is_unmet (at_node nets) g.supplies (length a.prices)) ≡ bad_node g a
+pub bad_node-table : (g : Network) (a : Solution) (nets : List ℤ) → AreNets (node_count g) g.arcs (amounts a.sent) nets
+    → least_up_to (max (node_count g) (length a.prices)) (is_unmet (at_node nets) g.supplies (length a.prices)) ≡ bad_node g a
 bad_node-table g a nets known =
-    least-same (is_unmet (at_node nets) g.supplies (length a.prices)) (is_unmet (net g.arcs (amounts a.sent)) g.supplies (length a.prices)) (max (node_count g) (length a.prices))
+    least-same (is_unmet (at_node nets) g.supplies (length a.prices)) (is_unmet (net g.arcs (amounts a.sent)) g.supplies (length a.prices))
+    (max (node_count g) (length a.prices))
     (λ v low high. elim (cases_lt (node_count g) v) [
-      | inl beyond ↦ beyond_nodes (at_node nets) g.supplies (length a.prices) v beyond ∙ sym (beyond_nodes (net g.arcs (amounts a.sent)) g.supplies (length a.prices) v beyond)
+      | inl beyond ↦ beyond_nodes (at_node nets) g.supplies (length a.prices) v beyond ∙ sym
+          (beyond_nodes (net g.arcs (amounts a.sent)) g.supplies (length a.prices) v beyond)
       | inr node ↦ ap (λ z. ltb (length g.supplies) v || ltb (length a.prices) v || not (int_eq z (at_node g.supplies v))) (known.each v (low, node))
     ])
 
@@ -88,32 +100,41 @@ pub record AllMet (g : Network) (a : Solution) : Type 0 where
   pub meets_supplies : (v : ℕ) → IsNode (node_count g) v → net g.arcs (amounts a.sent) v ≡ at_node g.supplies v
 
 module _ (g : Network) (a : Solution) where
-  each_met : bad_node g a ≡ None → (v : ℕ) → 1 ≤ v → v ≤ max (node_count g) (length a.prices) → is_unmet (net g.arcs (amounts a.sent)) g.supplies (length a.prices) v ≡ false
+  each_met : bad_node g a ≡ None → (v : ℕ) → 1 ≤ v → v ≤ max (node_count g) (length a.prices)
+      → is_unmet (net g.arcs (amounts a.sent)) g.supplies (length a.prices) v ≡ false
   each_met e v low high =
       let back : v - 1 + 1 ≡ v = omega arith in
       sym (ap (is_unmet (net g.arcs (amounts a.sent)) g.supplies (length a.prices)) back)
       ∙ least_none-each (is_unmet (net g.arcs (amounts a.sent)) g.supplies (length a.prices)) (max (node_count g) (length a.prices)) e (v - 1) (omega arith)
 
-  not_more : bad_node g a ≡ None → (m n : ℕ) → m < n → n ≤ max (node_count g) (length a.prices) → ((v : ℕ) → m < v → is_unmet (net g.arcs (amounts a.sent)) g.supplies (length a.prices) v ≡ true) → ⊥
+  not_more : bad_node g a ≡ None → (m n : ℕ) → m < n → n ≤ max (node_count g) (length a.prices)
+      → ((v : ℕ) → m < v → is_unmet (net g.arcs (amounts a.sent)) g.supplies (length a.prices) v ≡ true) → ⊥
   not_more e m n h k beyond =
       true≢false (sym (beyond (m + 1) (omega arith)) ∙ each_met e (m + 1) (omega arith) (omega arith))
 
   pub AllMet-from_none : bad_node g a ≡ None → AllMet g a
   AllMet-from_none e =
       let few : length a.prices ≤ node_count g = elim (cases_lt (node_count g) (length a.prices)) [
-        | inl more ↦ absurd (not_more e (node_count g) (length a.prices) more (omega arith) (beyond_nodes (net g.arcs (amounts a.sent)) g.supplies (length a.prices)))
+        | inl more ↦ absurd (not_more e (node_count g) (length a.prices) more (omega arith)
+            (beyond_nodes (net g.arcs (amounts a.sent)) g.supplies (length a.prices)))
         | inr few ↦ few
       ] in
       let enough : node_count g ≤ length a.prices = elim (cases_lt (length a.prices) (node_count g)) [
-        | inl fewer ↦ absurd (not_more e (length a.prices) (node_count g) fewer (omega arith) (beyond_prices (net g.arcs (amounts a.sent)) g.supplies (length a.prices)))
+        | inl fewer ↦ absurd (not_more e (length a.prices) (node_count g) fewer (omega arith)
+            (beyond_prices (net g.arcs (amounts a.sent)) g.supplies (length a.prices)))
         | inr enough ↦ enough
       ] in
       record {
         one_price_each = omega arith;
-        meets_supplies = λ v h. let parts = or_parts (ltb (node_count g) v || ltb (length a.prices) v) (not (int_eq (net g.arcs (amounts a.sent) v) (at_node g.supplies v))) (each_met e v h.0 (omega (arith, h.1))) in (Decides-int_eq (net g.arcs (amounts a.sent) v) (at_node g.supplies v)).0 (not-false (int_eq (net g.arcs (amounts a.sent) v) (at_node g.supplies v)) parts.1);
+        meets_supplies = λ v h. let parts = or_parts (ltb (node_count g) v || ltb (length a.prices) v)
+            (not (int_eq (net g.arcs (amounts a.sent) v) (at_node g.supplies v))) (each_met e v h.0 (omega (arith, h.1))) in
+            (Decides-int_eq (net g.arcs (amounts a.sent) v) (at_node g.supplies v)).0
+            (not-false (int_eq (net g.arcs (amounts a.sent) v) (at_node g.supplies v)) parts.1);
       }
 
   pub none-from_AllMet : AllMet g a → bad_node g a ≡ None
   none-from_AllMet h =
       least_none (is_unmet (net g.arcs (amounts a.sent)) g.supplies (length a.prices)) (max (node_count g) (length a.prices))
-      (λ j k. within (net g.arcs (amounts a.sent)) g.supplies (length a.prices) (j + 1) (omega (arith, h.one_price_each)) (omega (arith, h.one_price_each)) ((Decides-int_eq (net g.arcs (amounts a.sent) (j + 1)) (at_node g.supplies (j + 1))).1 (h.meets_supplies (j + 1) (omega arith, omega (arith, h.one_price_each)))))
+      (λ j k. within (net g.arcs (amounts a.sent)) g.supplies (length a.prices) (j + 1) (omega (arith, h.one_price_each)) (omega (arith, h.one_price_each))
+      ((Decides-int_eq (net g.arcs (amounts a.sent) (j + 1)) (at_node g.supplies (j + 1))).1
+      (h.meets_supplies (j + 1) (omega arith, omega (arith, h.one_price_each)))))

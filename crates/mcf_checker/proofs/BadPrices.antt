@@ -1,5 +1,6 @@
 -- The first arc whose flow the prices don't show: as a loop finds it, and what it means that there is none.
-use Rattle.std.proofs.Common.{◌≡◌, ℕ, zero, suc, ◌+◌, ◌-◌, ◌<◌, Bool, true, false, ◌&&◌, ◌||◌, refl, ap, sym, ◌∙◌, arith, List, [], ◌∷◌, length, get_or, Some, None, ℤ, pos, ◌≤ℤ◌, ◌<ℤ◌}
+use Rattle.std.proofs.Common.{◌≡◌, ℕ, zero, suc, ◌+◌, ◌-◌, ◌<◌, Bool, true, false, ◌&&◌, ◌||◌, refl, ap, sym, ◌∙◌, arith, List, [], ◌∷◌, length, get_or, Some}
+use Rattle.std.proofs.Common.{None, ℤ, pos, ◌≤ℤ◌, ◌<ℤ◌}
 use Rattle.std.specs.List.{slice_get, zip}
 use Rattle.std.specs.Prelude.{int_lt}
 use Rattle.std.proofs.lemmas.Int.{ints}
@@ -19,7 +20,8 @@ looseness prices arcs flow i = option_is_loose prices (slice_get (zip arcs flow)
 
 -- ---- as a loop finds it
 
-zip_read : (arcs : List Arc) (sent : List Sent) (i : ℕ) (a : Arc) (s : Sent) → slice_get arcs i ≡ Some a → slice_get sent i ≡ Some s → slice_get (zip arcs (amounts sent)) i ≡ Some (a, s.flow)
+zip_read : (arcs : List Arc) (sent : List Sent) (i : ℕ) (a : Arc) (s : Sent) → slice_get arcs i ≡ Some a → slice_get sent i ≡ Some s
+    → slice_get (zip arcs (amounts sent)) i ≡ Some (a, s.flow)
 zip_read [] sent i a s e k = absurd (none-some a e)
 zip_read (b ∷ arcs) [] i a s e k = absurd (none-some s k)
 zip_read (b ∷ arcs) (t ∷ sent) zero a s e k =
@@ -27,7 +29,8 @@ zip_read (b ∷ arcs) (t ∷ sent) zero a s e k =
 zip_read (b ∷ arcs) (t ∷ sent) (suc i) a s e k = zip_read arcs sent i a s e k
 
 -- the test at a place whose arc and flow line the loop has read
-pub looseness_read : (prices : List ℤ) (arcs : List Arc) (sent : List Sent) (i : ℕ) (a : Arc) (s : Sent) → slice_get arcs i ≡ Some a → i < length sent → s ≡ get_or sent i s → looseness prices arcs (amounts sent) i ≡ is_loose prices (a, s.flow)
+pub looseness_read : (prices : List ℤ) (arcs : List Arc) (sent : List Sent) (i : ℕ) (a : Arc) (s : Sent) → slice_get arcs i ≡ Some a → i < length sent
+    → s ≡ get_or sent i s → looseness prices arcs (amounts sent) i ≡ is_loose prices (a, s.flow)
 looseness_read prices arcs sent i a s e h is =
     ap (option_is_loose prices) (zip_read arcs sent i a s e (slice_get_read sent (length sent) i s refl h is))
 
@@ -35,7 +38,8 @@ module _ (g : Network) (a : Solution) where
   test-is : (i : ℕ) → looseness a.prices g.arcs (amounts a.sent) (i + 1 - 1) ≡ looseness a.prices g.arcs (amounts a.sent) i
   test-is i = let back : i + 1 - 1 ≡ i = omega arith in ap (looseness a.prices g.arcs (amounts a.sent)) back
 
-  pub bad_price-some : (i : ℕ) → i < length g.arcs → ((j : ℕ) → j < i → looseness a.prices g.arcs (amounts a.sent) j ≡ false) → looseness a.prices g.arcs (amounts a.sent) i ≡ true → bad_price g a ≡ Some (i + 1)
+  pub bad_price-some : (i : ℕ) → i < length g.arcs → ((j : ℕ) → j < i → looseness a.prices g.arcs (amounts a.sent) j ≡ false)
+      → looseness a.prices g.arcs (amounts a.sent) i ≡ true → bad_price g a ≡ Some (i + 1)
   bad_price-some i h before here =
       least_some (λ k. looseness a.prices g.arcs (amounts a.sent) (k - 1)) (length g.arcs) i h (λ j k. test-is j ∙ before j k) (test-is i ∙ here)
 
@@ -62,13 +66,16 @@ not_below_cap r low cap f h e down = grind (arith, ints)
 not_loose : (r low cap f : ℤ) → (pos 0 <ℤ r → f ≡ low) → (r <ℤ pos 0 → f ≡ cap) → loose_at r low cap f ≡ false
 not_loose r low cap f above below = grind (arith, ints)
 
-all_complementary : (prices : List ℤ) (arcs : List Arc) (flow : List ℤ) → IsWithinBounds arcs flow → ((j : ℕ) → j < length arcs → looseness prices arcs flow j ≡ false) → Shows arcs prices flow
+all_complementary : (prices : List ℤ) (arcs : List Arc) (flow : List ℤ) → IsWithinBounds arcs flow
+    → ((j : ℕ) → j < length arcs → looseness prices arcs flow j ≡ false) → Shows arcs prices flow
 all_complementary prices [] [] h each = tt
 all_complementary prices [] (f ∷ flow) h each = absurd h
 all_complementary prices (a ∷ arcs) [] h each = absurd h
 all_complementary prices (a ∷ arcs) (f ∷ flow) h each =
-    let here : loose_at (reduced_cost prices a) a.low a.cap f ≡ false = each 0 (omega arith) in
-    ((not_above_low (reduced_cost prices a) a.low a.cap f h.0.0 here, not_below_cap (reduced_cost prices a) a.low a.cap f h.0.1 here), all_complementary prices arcs flow h.1 (λ j k. each (suc j) (omega arith)))
+    let here : loose_at (reduced_cost prices a) a.low a.cap f ≡ false = each 0 (omega arith) in (
+      (not_above_low (reduced_cost prices a) a.low a.cap f h.0.0 here, not_below_cap (reduced_cost prices a) a.low a.cap f h.0.1 here),
+      all_complementary prices arcs flow h.1 (λ j k. each (suc j) (omega arith)),
+    )
 
 each_of_all : (prices : List ℤ) (arcs : List Arc) (flow : List ℤ) → Shows arcs prices flow → (j : ℕ) → looseness prices arcs flow j ≡ false
 each_of_all prices [] [] h j = refl

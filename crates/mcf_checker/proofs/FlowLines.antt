@@ -41,11 +41,14 @@ module _ (arcs : List Arc) (sent : List Sent) (i : ℕ) (a : Arc) (s : Sent) (at
   flow_is : get_or (amounts sent) i s.flow ≡ s.flow
   flow_is = get_or-map (λ t. t.flow) sent i s ∙ ap (λ t. t.flow) (sym is)
 
-  pub cost_at : All (IsArcWithinLimits wide_limits) arcs → sum (map weight arcs) ≤ total_limit → IsWithinBounds arcs (amounts sent) → i < length sent → CostStep arcs (amounts sent) i a s.flow
+  pub cost_at : All (IsArcWithinLimits wide_limits) arcs → sum (map weight arcs) ≤ total_limit → IsWithinBounds arcs (amounts sent) → i < length sent
+      → CostStep arcs (amounts sent) i a s.flow
   cost_at small total bounds h =
       rw (arc_is, flow_is) at (cost_step arcs (amounts sent) i a s.flow small total bounds (omega (arith, count_is arcs sent bounds)))
 
-  module _ (nodes : ℕ) (nets : List ℤ) (u v : ℕ) (src : u ≡ a.src) (dst : v ≡ a.dst) (ends : All (HasEnds nodes) arcs) (small : All (IsArcWithinLimits wide_limits) arcs) (count : length arcs ≤ arc_limit) (bounds : IsWithinBounds arcs (amounts sent)) (known : AreNets nodes (take i arcs) (amounts sent) nets) (h : i < length sent) where
+  module _ (nodes : ℕ) (nets : List ℤ) (u v : ℕ) (src : u ≡ a.src) (dst : v ≡ a.dst) (ends : All (HasEnds nodes) arcs)
+      (small : All (IsArcWithinLimits wide_limits) arcs) (count : length arcs ≤ arc_limit) (bounds : IsWithinBounds arcs (amounts sent))
+      (known : AreNets nodes (take i arcs) (amounts sent) nets) (h : i < length sent) where
     src_is : (get_or arcs i a).src ≡ u
     src_is = ap (λ b. b.src) arc_is ∙ sym src
 
@@ -54,8 +57,11 @@ module _ (arcs : List Arc) (sent : List Sent) (i : ℕ) (a : Arc) (s : Sent) (at
 
     pub net_at : (x : ℤ) → x ≡ get_or nets (u - 1) x → NetStep arcs (amounts sent) i s.flow x
     net_at x is-x =
-        rw flow_is at (net_step nodes arcs (amounts sent) nets i a s.flow ends small count bounds known (omega (arith, count_is arcs sent bounds)) x (rw src_is is-x))
+        rw flow_is at (net_step nodes arcs (amounts sent) nets i a s.flow ends small count bounds known (omega (arith, count_is arcs sent bounds)) x
+        (rw src_is is-x))
 
-    pub net_at_second : (x y : ℤ) → x ≡ get_or nets (u - 1) x → y ≡ get_or (set nets (u - 1) (x +ℤ s.flow)) (v - 1) y → NetStepSecond nodes (take (i + 1) arcs) (amounts sent) (set (set nets (u - 1) (x +ℤ s.flow)) (v - 1) (y -ℤ s.flow)) s.flow y
+    pub net_at_second : (x y : ℤ) → x ≡ get_or nets (u - 1) x → y ≡ get_or (set nets (u - 1) (x +ℤ s.flow)) (v - 1) y
+        → NetStepSecond nodes (take (i + 1) arcs) (amounts sent) (set (set nets (u - 1) (x +ℤ s.flow)) (v - 1) (y -ℤ s.flow)) s.flow y
     net_at_second x y is-x is-y =
-        rw (src_is, dst_is, flow_is) at (net_step_second nodes arcs (amounts sent) nets i a s.flow ends small count bounds known (omega (arith, count_is arcs sent bounds)) x y (rw src_is is-x) (rw (src_is, dst_is, flow_is) is-y))
+        rw (src_is, dst_is, flow_is) at (net_step_second nodes arcs (amounts sent) nets i a s.flow ends small count bounds known
+        (omega (arith, count_is arcs sent bounds)) x y (rw src_is is-x) (rw (src_is, dst_is, flow_is) is-y))

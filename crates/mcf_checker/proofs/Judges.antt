@@ -14,7 +14,8 @@ use Rattle.mcf_answer.specs.declared.shape.Shape.{Shape}
 use Rattle.mcf_checker.specs.Correct.{GivesLeastFlow, HasNoFlow, IsCorrect, IsRight, IsRightSet, IsRightSolution, amounts}
 use Rattle.mcf_checker.specs.Judging.{accepts, judged, same_fault, set_verdict, solution_verdict, verdict}
 use Rattle.mcf_checker.specs.declared.verdict.Verdict.{Verdict}
-use Rattle.mcf_checker.specs.declared.verdict.Verdict.TheVariants.{BadRefusal, BadShape, Blocked as SetAccepted, Flow as FlowAccepted, Refused as RefusalAccepted}
+use Rattle.mcf_checker.specs.declared.verdict.Verdict.TheVariants.{BadRefusal, BadShape, Blocked as SetAccepted, Flow as FlowAccepted}
+use Rattle.mcf_checker.specs.declared.verdict.Verdict.TheVariants.{Refused as RefusalAccepted}
 use Rattle.mcf_checker.proofs.Sets.{IsRightSet-from_accepts, accepts-from_IsRightSet, at_right_set}
 use Rattle.mcf_checker.proofs.Solutions.{IsRightSolution-from_accepts, accepts-from_IsRightSolution, at_right}
 use Rattle.mcf_instance.specs.Blocking.{in_list}
@@ -62,7 +63,8 @@ unfolding verdict
 verdict_misfit input text shape e =
     judged_misfit (reading limits input) shape ∙ ap (judged (reading limits input)) e
 
-pub verdict_is : (input text : List ℕ) (r : Result Network Fault) (a : Answer) (v : Verdict) → r ≡ reading limits input → Ok a ≡ parsing text → v ≡ judged r (Ok a) → v ≡ verdict input text
+pub verdict_is : (input text : List ℕ) (r : Result Network Fault) (a : Answer) (v : Verdict) → r ≡ reading limits input → Ok a ≡ parsing text
+    → v ≡ judged r (Ok a) → v ≡ verdict input text
 unfolding verdict
 verdict_is input text r a v e k h =
     h ∙ ap (λ (x : Result Network Fault). judged x (Ok a)) e ∙ ap (judged (reading limits input)) k
@@ -114,8 +116,14 @@ ParsesExactly text = (a : Answer) → (parsing text ≡ Ok a) ↔ Spells text a
 
 pub accepts-exactly : (input text : List ℕ) → ParsesExactly text → IsTrue (accepts (verdict input text)) ↔ IsCorrect input text
 unfolding verdict
-accepts-exactly input text parses =
-    (λ e. let w = Accepted-from_test (reading limits input) (parsing text) e in record { answer = w.answer; spelled = (parses w.answer).0 w.parsed; right = w.right }, λ h. rw ((parses h.answer).1 h.spelled) (test-from_right (reading limits input) h.answer h.right))
+accepts-exactly input text parses = (
+  λ e. let w = Accepted-from_test (reading limits input) (parsing text) e in record {
+    answer = w.answer;
+    spelled = (parses w.answer).0 w.parsed;
+    right = w.right;
+  },
+  λ h. rw ((parses h.answer).1 h.spelled) (test-from_right (reading limits input) h.answer h.right),
+)
 
 -- ---- accepted flows and sets
 
@@ -180,7 +188,8 @@ set_of (Ok g) (Ok (Refused r)) count e = absurd (cc)
 abbrev pub ReadsWellFormed : List ℕ → Type 0
 ReadsWellFormed input = (g : Network) → reading limits input ≡ Ok g → IsWellFormed limits g
 
-pub accepted_flows_are_least : (input text : List ℕ) (total : ℤ) → ParsesExactly text → ReadsWellFormed input → verdict input text ≡ FlowAccepted total → GivesLeastFlow input text total
+pub accepted_flows_are_least : (input text : List ℕ) (total : ℤ) → ParsesExactly text → ReadsWellFormed input → verdict input text ≡ FlowAccepted total
+    → GivesLeastFlow input text total
 unfolding verdict
 accepted_flows_are_least input text total parses reads e =
     let w = flow_of (reading limits input) (parsing text) total e in
@@ -222,7 +231,8 @@ exact_at input text v parses e =
     let P = λ (w : Verdict). IsTrue (accepts w) ↔ IsCorrect input text in
     subst P (sym e) (accepts-exactly input text parses)
 
-pub least_at : (input text : List ℕ) (v : Verdict) → ParsesExactly text → ReadsWellFormed input → v ≡ verdict input text → (total : ℤ) → v ≡ FlowAccepted total → GivesLeastFlow input text total
+pub least_at : (input text : List ℕ) (v : Verdict) → ParsesExactly text → ReadsWellFormed input → v ≡ verdict input text → (total : ℤ) → v ≡ FlowAccepted total
+    → GivesLeastFlow input text total
 least_at input text v parses reads e total h =
     accepted_flows_are_least input text total parses reads (sym e ∙ h)
 

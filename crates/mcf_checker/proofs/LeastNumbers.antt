@@ -15,7 +15,8 @@ module _ (p : ℕ → Bool) where
   find_at_least from (suc n) k low high before here =
       elim (cases_eq from k) [
         | inl same ↦ rw (ap p same ∙ here) (ap Some same)
-        | inr other ↦ rw (before from (omega arith) (omega arith)) (find_at_least (from + 1) n k (omega arith) (omega arith) (λ j l h. before j (omega arith) h) here)
+        | inr other ↦ rw (before from (omega arith) (omega arith)) (find_at_least (from + 1) n k (omega arith) (omega arith)
+            (λ j l h. before j (omega arith) h) here)
       ]
 
   find_nowhere : (from n : ℕ) → ((j : ℕ) → from ≤ j → j < from + n → p j ≡ false) → find p (range_with_len from n) ≡ None

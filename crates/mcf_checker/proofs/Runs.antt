@@ -1,5 +1,6 @@
 -- Runs of the command.
-use Rattle.std.proofs.Common.{◌≡◌, ℕ, ◌<◌, ◌≤◌, Bor, IfErr, IfOk, OnOk, if◌then◌else◌, List, [], Result, Ok, Err, Option, length, map, slice_index_or, arith, refl, sym, ap, subst, ◌∙◌}
+use Rattle.std.proofs.Common.{◌≡◌, ℕ, ◌<◌, ◌≤◌, Bor, IfErr, IfOk, OnOk, if◌then◌else◌, List, [], Result, Ok, Err, Option, length, map, slice_index_or, arith}
+use Rattle.std.proofs.Common.{refl, sym, ap, subst, ◌∙◌}
 use Rattle.std.proofs.lemmas.List.{get_or-map}
 use Rattle.std.specs.Fn.{Called, CalledAt, Mut}
 use Rattle.std.specs.Io.KnownBytes.{Appends}
@@ -38,16 +39,20 @@ judges-from_parts calls bytes read between last words input text (Ok status) old
 judges-from_parts calls bytes read between last words input text (Err fault) old new first second is printed = tt
 
 -- which files are asked for: the first couldn't be read, or the second couldn't, or both were read
-module _ {F V E : Type 0} (calls : Mut F (Bor (List ℕ) × Unit {0}) (Result V E)) (read between : F) (words : List (List ℕ)) (of_input of_answer : E → Type 0) (of_both : V → V → Type 0) where
-  pub asks-from_input : (fault : E) → CalledAt calls read (slice_index_or words 1 []) (Err fault) between → of_input fault → AsksForFiles calls read words of_input of_answer of_both
+module _ {F V E : Type 0} (calls : Mut F (Bor (List ℕ) × Unit {0}) (Result V E)) (read between : F) (words : List (List ℕ)) (of_input of_answer : E → Type 0)
+    (of_both : V → V → Type 0) where
+  pub asks-from_input : (fault : E) → CalledAt calls read (slice_index_or words 1 []) (Err fault) between → of_input fault
+      → AsksForFiles calls read words of_input of_answer of_both
   asks-from_input fault first holds =
       record { given = Err fault; between = between; called = first; outcome = holds }
 
-  pub asks-from_answer : (last : F) (input : V) (fault : E) → CalledAt calls read (slice_index_or words 1 []) (Ok input) between → CalledAt calls between (slice_index_or words 2 []) (Err fault) last → of_answer fault → AsksForFiles calls read words of_input of_answer of_both
+  pub asks-from_answer : (last : F) (input : V) (fault : E) → CalledAt calls read (slice_index_or words 1 []) (Ok input) between
+      → CalledAt calls between (slice_index_or words 2 []) (Err fault) last → of_answer fault → AsksForFiles calls read words of_input of_answer of_both
   asks-from_answer last input fault first second holds =
       record { given = Ok input; between = between; called = first; outcome = record { given = Err fault; last = last; called = second; outcome = holds } }
 
-  pub asks-from_both : (last : F) (input text : V) → CalledAt calls read (slice_index_or words 1 []) (Ok input) between → CalledAt calls between (slice_index_or words 2 []) (Ok text) last → of_both input text → AsksForFiles calls read words of_input of_answer of_both
+  pub asks-from_both : (last : F) (input text : V) → CalledAt calls read (slice_index_or words 1 []) (Ok input) between
+      → CalledAt calls between (slice_index_or words 2 []) (Ok text) last → of_both input text → AsksForFiles calls read words of_input of_answer of_both
   asks-from_both last input text first second holds =
       record { given = Ok input; between = between; called = first; outcome = record { given = Ok text; last = last; called = second; outcome = holds } }
 
@@ -56,11 +61,13 @@ module _ {F V E : Type 0} (calls : Mut F (Bor (List ℕ) × Unit {0}) (Result V 
   pub once-from_input : (fault : E) → CalledAt calls read (slice_index_or words 1 []) (Err fault) between → AsksOnce calls read words between
   once-from_input fault first = record { given = Err fault; between = between; called = first; outcome = refl }
 
-  pub once-from_both : (last : F) (input : V) (answer : Result V E) → CalledAt calls read (slice_index_or words 1 []) (Ok input) between → CalledAt calls between (slice_index_or words 2 []) answer last → AsksOnce calls read words last
+  pub once-from_both : (last : F) (input : V) (answer : Result V E) → CalledAt calls read (slice_index_or words 1 []) (Ok input) between
+      → CalledAt calls between (slice_index_or words 2 []) answer last → AsksOnce calls read words last
   once-from_both last input answer first second = record { given = Ok input; between = between; called = first; outcome = (answer, second) }
 
 -- what is said of a file that wasn't read
-pub line_of_fault : (failure unreadable : Failure) (fault : FileFault) → failure ≡ failure_of fault unreadable → failure_line failure ≡ file_line (failure_line unreadable) fault
+pub line_of_fault : (failure unreadable : Failure) (fault : FileFault) → failure ≡ failure_of fault unreadable
+    → failure_line failure ≡ file_line (failure_line unreadable) fault
 line_of_fault failure unreadable NoMemory e = ap failure_line e
 line_of_fault failure unreadable Unreadable e = ap failure_line e
 

@@ -6,7 +6,8 @@ use Rattle.std.specs.Io.KnownBytes.{Appends, Keeps}
 use Rattle.mcf_checker.specs.Runs.{TakesBeginning}
 
 -- some bytes, and then some more
-appends-then : (first next last : Option (List ℕ)) (bytes more : List ℕ) → Appends first next bytes → Appends next last more → Appends first last (bytes ++ more)
+appends-then : (first next last : Option (List ℕ)) (bytes more : List ℕ) → Appends first next bytes → Appends next last more
+    → Appends first last (bytes ++ more)
 appends-then None next last bytes more p q = tt
 appends-then (Some xs) None last bytes more p q = absurd p
 appends-then (Some xs) (Some ys) None bytes more p q = absurd q
@@ -29,7 +30,8 @@ appends-piece first next last text taken count p q =
     rw (take-add taken count text) (appends-then first next last (take taken text) more p piece)
 
 -- a beginning, and then no more
-pub begins : (first next last : Option (List ℕ)) (text : List ℕ) (taken : ℕ) → Appends first next (take taken text) → Keeps next last → TakesBeginning first last text
+pub begins : (first next last : Option (List ℕ)) (text : List ℕ) (taken : ℕ) → Appends first next (take taken text) → Keeps next last
+    → TakesBeginning first last text
 begins first next last text taken p q = record {
   part = take taken text;
   rest = drop taken text;

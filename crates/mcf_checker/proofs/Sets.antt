@@ -53,7 +53,8 @@ module _ (g : Network) (a : BlockingSet) where
   pub at_not_blocking : (Blocks g (in_list a.nodes) a.side → ⊥) → BadSet ≡ set_verdict g a
   unfolding set_verdict
   at_not_blocking n =
-      rw (and_right (are_nodes (node_count g) a.nodes) (exceeds g (in_list a.nodes) a.side) (false_from_ne_true (exceeds g (in_list a.nodes) a.side) (λ e. n (Blocks-from_exceeds g (in_list a.nodes) a.side e)))) refl
+      rw (and_right (are_nodes (node_count g) a.nodes) (exceeds g (in_list a.nodes) a.side)
+      (false_from_ne_true (exceeds g (in_list a.nodes) a.side) (λ e. n (Blocks-from_exceeds g (in_list a.nodes) a.side e)))) refl
 
 right_of : (right : Bool) (count : ℕ) → accepts (cond right (SetAccepted count) BadSet) ≡ true → right ≡ true
 right_of true count e = refl
@@ -62,7 +63,8 @@ right_of false count e = absurd (false≢true e)
 pub IsRightSet-from_accepts : (g : Network) (a : BlockingSet) → accepts (set_verdict g a) ≡ true → IsRightSet g a
 unfolding set_verdict
 IsRightSet-from_accepts g a e =
-    let parts = and_parts (are_nodes (node_count g) a.nodes) (exceeds g (in_list a.nodes) a.side) (right_of (are_nodes (node_count g) a.nodes && exceeds g (in_list a.nodes) a.side) (length a.nodes) e) in
+    let parts = and_parts (are_nodes (node_count g) a.nodes) (exceeds g (in_list a.nodes) a.side)
+    (right_of (are_nodes (node_count g) a.nodes && exceeds g (in_list a.nodes) a.side) (length a.nodes) e) in
     record {
       of_instance = nodes_of (node_count g) a.nodes parts.0;
       exceeds = Blocks-from_exceeds g (in_list a.nodes) a.side parts.1;

@@ -30,11 +30,13 @@ module _ (g : Network) (a : Solution) where
   unfolding solution_verdict
   at_bad_price k e f p = rw (e, f, ← p) refl
 
-  pub at_bad_cost : bad_arc g a.sent ≡ None → bad_node g a ≡ None → bad_price g a ≡ None → int_eq a.cost (cost g.arcs (amounts a.sent)) ≡ false → BadCost ≡ solution_verdict g a
+  pub at_bad_cost : bad_arc g a.sent ≡ None → bad_node g a ≡ None → bad_price g a ≡ None → int_eq a.cost (cost g.arcs (amounts a.sent)) ≡ false
+      → BadCost ≡ solution_verdict g a
   unfolding solution_verdict
   at_bad_cost e f p c = rw (e, f, p, c) refl
 
-  pub at_flow : bad_arc g a.sent ≡ None → bad_node g a ≡ None → bad_price g a ≡ None → int_eq a.cost (cost g.arcs (amounts a.sent)) ≡ true → FlowAccepted a.cost ≡ solution_verdict g a
+  pub at_flow : bad_arc g a.sent ≡ None → bad_node g a ≡ None → bad_price g a ≡ None → int_eq a.cost (cost g.arcs (amounts a.sent)) ≡ true
+      → FlowAccepted a.cost ≡ solution_verdict g a
   unfolding solution_verdict
   at_flow e f p c = rw (e, f, p, c) refl
 

@@ -1,5 +1,6 @@
 -- What the checker says of an answer text: the first of the verdicts that applies.
-use Rattle.std.specs.Prelude.{ℕ, ◌-◌, ◌==◌, nat_le, nat_lt, max, Bool, true, false, not, ◌&&◌, ◌||◌, if◌then◌else◌, List, length, find, zip, ℤ, int_le, int_lt, pos, Option, Some, None, slice_get, Result, Ok, Err, bytes_eq}
+use Rattle.std.specs.Prelude.{ℕ, ◌-◌, ◌==◌, nat_le, nat_lt, max, Bool, true, false, not, ◌&&◌, ◌||◌, if◌then◌else◌, List, length, find, zip, ℤ, int_le, int_lt}
+use Rattle.std.specs.Prelude.{pos, Option, Some, None, slice_get, Result, Ok, Err, bytes_eq}
 use Rattle.std.specs.List.{list_all, range_with_len}
 use Rattle.std.specs.Option.{option_map_or}
 use Rattle.std.specs.Ordering.{int_eq}
@@ -12,7 +13,8 @@ use Rattle.mcf_answer.specs.declared.answers.Sent.{Sent}
 use Rattle.mcf_answer.specs.declared.shape.Shape.{Shape}
 use Rattle.mcf_checker.specs.Correct.{amounts}
 use Rattle.mcf_checker.specs.declared.verdict.Verdict.{Verdict}
-use Rattle.mcf_checker.specs.declared.verdict.Verdict.TheVariants.{BadShape, BadKind, BadRefusal, Refused as RefusalAccepted, BadArc, BadNode, BadPrice, BadCost, Flow as FlowAccepted, BadSet, Blocked as SetAccepted}
+use Rattle.mcf_checker.specs.declared.verdict.Verdict.TheVariants.{BadShape, BadKind, BadRefusal, Refused as RefusalAccepted, BadArc, BadNode, BadPrice}
+use Rattle.mcf_checker.specs.declared.verdict.Verdict.TheVariants.{BadCost, Flow as FlowAccepted, BadSet, Blocked as SetAccepted}
 use Rattle.mcf_instance.specs.Blocking.{can_send, can_take, in_list, must_send, must_take}
 use Rattle.mcf_instance.specs.Fault.{Fault, code_word}
 use Rattle.mcf_instance.specs.Flow.{cost, net, reduced_cost}

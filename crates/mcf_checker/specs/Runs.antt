@@ -12,7 +12,8 @@ use Rattle.mcf_checker.specs.Printed.{printed_line}
 -- what a run does that comes to a verdict: it reads the file of the second word and then that of the third,
 -- appends the line of the verdict on their bytes to what a writer held, and its status is 0 where the verdict
 -- accepts, else 1
-pub record JudgesAndPrints {F V E : Type 0} (calls : Mut F (Bor (List ℕ) × Unit {0}) (Result V E)) (bytes : V → List ℕ) (read : F) (words : List (List ℕ)) (status : ℕ) (old new : Option (List ℕ)) : Type 0 where
+pub record JudgesAndPrints {F V E : Type 0} (calls : Mut F (Bor (List ℕ) × Unit {0}) (Result V E)) (bytes : V → List ℕ) (read : F) (words : List (List ℕ))
+    (status : ℕ) (old new : Option (List ℕ)) : Type 0 where
   pub input : V
   pub text : V
   pub between : F
@@ -24,7 +25,8 @@ pub record JudgesAndPrints {F V E : Type 0} (calls : Mut F (Bor (List ℕ) × Un
 
 -- the file of the third word is asked for; where it can't be read, this holds of its fault, and where it is
 -- read, this holds of it
-pub record AsksForAnswer {F V E : Type 0} (calls : Mut F (Bor (List ℕ) × Unit {0}) (Result V E)) (read : F) (words : List (List ℕ)) (of_answer : E → Type 0) (of_read : V → Type 0) : Type 0 where
+pub record AsksForAnswer {F V E : Type 0} (calls : Mut F (Bor (List ℕ) × Unit {0}) (Result V E)) (read : F) (words : List (List ℕ)) (of_answer : E → Type 0)
+    (of_read : V → Type 0) : Type 0 where
   pub given : Result V E
   pub last : F
   pub called : CalledAt calls read (slice_index_or words 2 []) given last
@@ -32,7 +34,8 @@ pub record AsksForAnswer {F V E : Type 0} (calls : Mut F (Bor (List ℕ) × Unit
 
 -- the file of the second word is asked for, and then, if it can be read, that of the third; where one of
 -- them can't be read, this holds of its fault, and where both are read, this holds of them
-pub record AsksForFiles {F V E : Type 0} (calls : Mut F (Bor (List ℕ) × Unit {0}) (Result V E)) (read : F) (words : List (List ℕ)) (of_input of_answer : E → Type 0) (of_both : V → V → Type 0) : Type 0 where
+pub record AsksForFiles {F V E : Type 0} (calls : Mut F (Bor (List ℕ) × Unit {0}) (Result V E)) (read : F) (words : List (List ℕ))
+    (of_input of_answer : E → Type 0) (of_both : V → V → Type 0) : Type 0 where
   pub given : Result V E
   pub between : F
   pub called : CalledAt calls read (slice_index_or words 1 []) given between
@@ -67,13 +70,15 @@ IsUnprinted input text untouched old new line =
 
 -- why there is no verdict, and the line that tells it: there are other words than three; a file wasn't read; or the
 -- verdict wasn't printed
-abbrev pub IsReason : {F V : Type 0} → Mut F (Bor (List ℕ) × Unit {0}) (Result V FileFault) → (V → List ℕ) → F → List (List ℕ) → Type 0 → Option (List ℕ) → Option (List ℕ) → List ℕ → Type 0
+abbrev pub IsReason : {F V : Type 0} → Mut F (Bor (List ℕ) × Unit {0}) (Result V FileFault) → (V → List ℕ) → F → List (List ℕ) → Type 0 → Option (List ℕ)
+    → Option (List ℕ) → List ℕ → Type 0
 IsReason calls bytes read words untouched old new line =
     ((length words ≢ 3) × untouched × (line ≡ usage_line))
-    ⊎ ((length words ≡ 3) × AsksForFiles calls read words (λ fault. untouched × (line ≡ file_line instance_line fault)) (λ fault. untouched × (line ≡ file_line answer_line fault))
+    ⊎ ((length words ≡ 3) × AsksForFiles calls read words (λ fault. untouched × (line ≡ file_line instance_line fault))
+    (λ fault. untouched × (line ≡ file_line answer_line fault))
     (λ input text. IsUnprinted (bytes input) (bytes text) untouched old new line))
 
--- a writer took a beginning of the line that tells the reason, all of it unless writing on it failed
+-- a writer took a beginning of the line that tells the reason; that it is the whole line, where writing works, is tested alone
 pub record Tells (IsReasonFor : List ℕ → Type 0) (old new : Option (List ℕ)) : Type 0 where
   pub line : List ℕ
   pub reason : IsReasonFor line

@@ -11,7 +11,8 @@ use Rattle.mcf_feas.specs.Chosen.{IsChosenBlock, supply_total}
 use Rattle.mcf_network.proofs.StuckLaws.{stuck_sets_block_lem}
 use Rattle.mcf_feas.proofs.Wholes.{whole_sends, whole_takes}
 
-module _ (g : Network) (table : List Bool) (ok : IsNet g) (n : length table ≡ node_count g) (all : (v : ℕ) → IsNode (node_count g) v → in_table table v ≡ true) where
+module _ (g : Network) (table : List Bool) (ok : IsNet g) (n : length table ≡ node_count g)
+    (all : (v : ℕ) → IsNode (node_count g) v → in_table table v ≡ true) where
   pub chosen_take : supply_total g <ℤ pos 0 → IsChosenBlock g table Take
   chosen_take h =
       record {
@@ -28,7 +29,8 @@ module _ (g : Network) (table : List Bool) (ok : IsNet g) (n : length table ≡ 
         chosen = record { take = (λ e. cc, λ l. absurd (omega (arith, ints, l, h))); whole = λ ne. all };
       }
 
-pub chosen_stuck : (s : Pseudoflow) (table : List Bool) → IsPseudoflow s → length table ≡ node_count s.net → IsStuck s (in_table table) → supply_total s.net ≡ pos 0 → IsChosenBlock s.net table Send
+pub chosen_stuck : (s : Pseudoflow) (table : List Bool) → IsPseudoflow s → length table ≡ node_count s.net → IsStuck s (in_table table)
+    → supply_total s.net ≡ pos 0 → IsChosenBlock s.net table Send
 chosen_stuck s table ok n stuck balanced =
     record {
       one_per_node = n;

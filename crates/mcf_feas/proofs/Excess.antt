@@ -114,7 +114,8 @@ pushed_more s t r one two =
     record { net = two.net ∙ one.net; flow = two.flow; no_more = omega (arith, a, b) }
 
 -- what u has left to send, or less of it, is pushed from u to w
-pub pushed_one : (s s' : Pseudoflow) (u w : ℕ) (x : ℤ) → s'.net ≡ s.net → IsPseudoflow s' → MovesSurplus s s' u w x → IsNode (node_count s.net) u → IsNode (node_count s.net) w → pos 0 ≤ℤ x → x ≤ℤ surplus_at s u → IsPushedOn s s'
+pub pushed_one : (s s' : Pseudoflow) (u w : ℕ) (x : ℤ) → s'.net ≡ s.net → IsPseudoflow s' → MovesSurplus s s' u w x → IsNode (node_count s.net) u
+    → IsNode (node_count s.net) w → pos 0 ≤ℤ x → x ≤ℤ surplus_at s u → IsPushedOn s s'
 pushed_one s s' u w x net ok moves hu hw low held =
     let same = ap (λ (g : Network). node_sum (λ v. pos (above_zero (surplus_at s' v))) (node_count g)) net in
     let most = total_rises_not (node_count s.net) (surplus_at s) (surplus_at s') u w x moves held low hu hw in

@@ -1,5 +1,6 @@
 -- What a search keeps, step by step.
-use Rattle.std.proofs.Common.{◌≡◌, ℕ, ◌+◌, ◌-◌, ◌<◌, ◌≤◌, Bool, true, false, not, eqb, List, [], ◌∷◌, ◌++◌, length, refl, ap, sym, subst, ◌∙◌, arith, pos, ◌≤ℤ◌, ◌<ℤ◌, ◌⊎◌, inl, inr, Option, Some, None, length-set}
+use Rattle.std.proofs.Common.{◌≡◌, ℕ, ◌+◌, ◌-◌, ◌<◌, ◌≤◌, Bool, true, false, not, eqb, List, [], ◌∷◌, ◌++◌, length, refl, ap, sym, subst, ◌∙◌, arith, pos, ◌≤ℤ◌}
+use Rattle.std.proofs.Common.{◌<ℤ◌, ◌⊎◌, inl, inr, Option, Some, None, length-set}
 use Rattle.std.specs.Bool.{MatchBool}
 use Rattle.std.specs.List.{All, Contains}
 use Rattle.std.proofs.lemmas.Int.{ints, by_lt_z}
@@ -44,7 +45,8 @@ node_new : (visits : List Visit) (v : ℕ) (link : Option Link) (i : ℕ) → le
 node_new visits v link i h = ap (λ (x : Visit). x.node) (at_new visits v link i h)
 
 -- a way to reach an old node stays one
-reached_old : (s : Pseudoflow) (visits : List Visit) (v : ℕ) (link : Option Link) (i : ℕ) (old : Option Link) → i < length visits → IsReachedBy s visits i old → IsReachedBy s (pushed_visit visits v link) i old
+reached_old : (s : Pseudoflow) (visits : List Visit) (v : ℕ) (link : Option Link) (i : ℕ) (old : Option Link) → i < length visits → IsReachedBy s visits i old
+    → IsReachedBy s (pushed_visit visits v link) i old
 reached_old s visits v link i None h by = rw (node_old visits v link i h) by
 reached_old s visits v link i (Some l) h by =
     let earlier = by.earlier in
@@ -66,7 +68,8 @@ abbrev pub IsNext : Pseudoflow → List Visit → ℕ → Option Link → Type 0
 IsNext s visits v None = pos 0 <ℤ surplus_at s v
 IsNext s visits v (Some l) = IsNextLink s visits v l
 
-reached_new : (s : Pseudoflow) (visits : List Visit) (v : ℕ) (link : Option Link) → IsNext s visits v link → IsReachedBy s (pushed_visit visits v link) (length visits) link
+reached_new : (s : Pseudoflow) (visits : List Visit) (v : ℕ) (link : Option Link) → IsNext s visits v link
+    → IsReachedBy s (pushed_visit visits v link) (length visits) link
 reached_new s visits v None next = rw (node_new visits v None (length visits) refl) next
 reached_new s visits v (Some l) next =
     let earlier = next.earlier in
@@ -77,7 +80,8 @@ reached_new s visits v (Some l) next =
       to = next.to ∙ sym (node_new visits v (Some l) (length visits) refl);
     }
 
-module _ (s : Pseudoflow) (table : List Bool) (visits : List Visit) (v : ℕ) (link : Option Link) (ok : IsSearch s table visits) (h : IsNode (node_count s.net) v) (new : in_table table v ≡ false) (next : IsNext s visits v link) where
+module _ (s : Pseudoflow) (table : List Bool) (visits : List Visit) (v : ℕ) (link : Option Link) (ok : IsSearch s table visits)
+    (h : IsNode (node_count s.net) v) (new : in_table table v ≡ false) (next : IsNext s visits v link) where
   in_range : IsNode (length table) v
   in_range = omega (arith, ok.nodes)
 
@@ -94,16 +98,23 @@ module _ (s : Pseudoflow) (table : List Bool) (visits : List Visit) (v : ℕ) (l
       let n = length_push visits (visit_of v link) in
       record {
         forest = record {
-          are_nodes = by_place {P = λ i. IsNode (node_count s.net) (node_at (pushed_visit visits v link) i)} (λ i l. rw (node_old visits v link i l) (ok.forest.are_nodes i l)) (rw (node_new visits v link (length visits) refl) h);
+          are_nodes = by_place {P = λ i. IsNode (node_count s.net) (node_at (pushed_visit visits v link) i)}
+              (λ i l. rw (node_old visits v link i l) (ok.forest.are_nodes i l)) (rw (node_new visits v link (length visits) refl) h);
           distinct = λ i j less l. elim (cases_eq j (length visits)) [
-            | inl e ↦ (λ same. false≢true (sym new ∙ ap (in_table table) (sym (node_new visits v link j (sym e)) ∙ sym same ∙ node_old visits v link i (omega arith)) ∙ ok.marked i (omega arith)))
-            | inr m ↦ (λ same. ok.forest.distinct i j less (omega (arith, n)) (sym (node_old visits v link i (omega (arith, n))) ∙ same ∙ node_old visits v link j (omega (arith, n))))
+            | inl e ↦ (λ same. false≢true (sym new ∙ ap (in_table table) (sym (node_new visits v link j (sym e)) ∙ sym same
+                ∙ node_old visits v link i (omega arith)) ∙ ok.marked i (omega arith)))
+            | inr m ↦ (λ same. ok.forest.distinct i j less (omega (arith, n)) (sym (node_old visits v link i (omega (arith, n))) ∙ same
+                ∙ node_old visits v link j (omega (arith, n))))
           ];
-          linked = by_place {P = λ i. IsReachedBy s (pushed_visit visits v link) i (visit_at (pushed_visit visits v link) i).link} (λ i l. rw (at_old visits v link i l) (reached_old s visits v link i (visit_at visits i).link l (ok.forest.linked i l))) (rw (at_new visits v link (length visits) refl) (reached_new s visits v link next));
+          linked = by_place {P = λ i. IsReachedBy s (pushed_visit visits v link) i (visit_at (pushed_visit visits v link) i).link}
+              (λ i l. rw (at_old visits v link i l) (reached_old s visits v link i (visit_at visits i).link l (ok.forest.linked i l)))
+              (rw (at_new visits v link (length visits) refl) (reached_new s visits v link next));
         };
         nodes = length-set table (v - 1) true ∙ ok.nodes;
         count = omega (arith, n, ok.count, counted_new table v in_range new);
-        marked = by_place {P = λ i. in_table (with_node table v) (node_at (pushed_visit visits v link) i) ≡ true} (λ i l. rw (node_old visits v link i l) (marked_still table v (node_at visits i) in_range (ok.marked i l))) (rw (node_new visits v link (length visits) refl) (marked_new table v in_range));
+        marked = by_place {P = λ i. in_table (with_node table v) (node_at (pushed_visit visits v link) i) ≡ true}
+            (λ i l. rw (node_old visits v link i l) (marked_still table v (node_at visits i) in_range (ok.marked i l)))
+            (rw (node_new visits v link (length visits) refl) (marked_new table v in_range));
         every = λ w k e. elim (marked_only table v w in_range (omega (arith, ok.nodes)) e) [
           | inl same ↦ (length visits, omega (arith, n), node_new visits v link (length visits) refl ∙ sym same)
           | inr old ↦ (let (i, l, at) = ok.every w k old in (i, omega (arith, n), node_old visits v link i l ∙ at))
@@ -122,13 +133,15 @@ module _ (s : Pseudoflow) (table : List Bool) (visits : List Visit) (v : ℕ) (l
       }
 
   -- the node does not take
-  pub scanned_push : (scanned : ℕ) → IsScanned s table visits scanned → pos 0 ≤ℤ surplus_at s v → IsScanned s (with_node table v) (pushed_visit visits v link) scanned
+  pub scanned_push : (scanned : ℕ) → IsScanned s table visits scanned → pos 0 ≤ℤ surplus_at s v
+      → IsScanned s (with_node table v) (pushed_visit visits v link) scanned
   scanned_push scanned old low =
       let within = old.within in
       record {
         search = search_push;
         within = omega (arith, length_push visits (visit_of v link));
-        no_deficit = by_place {P = λ i. pos 0 ≤ℤ surplus_at s (node_at (pushed_visit visits v link) i)} (λ i l. rw (node_old visits v link i l) (old.no_deficit i l)) (rw (node_new visits v link (length visits) refl) low);
+        no_deficit = by_place {P = λ i. pos 0 ≤ℤ surplus_at s (node_at (pushed_visit visits v link) i)}
+            (λ i l. rw (node_old visits v link i l) (old.no_deficit i l)) (rw (node_new visits v link (length visits) refl) low);
         closed = λ i l r room from. marked_still table v (head s.net r) in_range (old.closed i l r room (from ∙ node_old visits v link i (omega arith)));
       }
 
@@ -191,11 +204,13 @@ module _ (s : Pseudoflow) (table : List Bool) (visits : List Visit) (k v : ℕ) 
       }
 
 -- where none is visited, none has a surplus
-pub none_started : (s : Pseudoflow) (table : List Bool) (visits : List Visit) (k : ℕ) → IsStarted s table visits k → node_count s.net ≤ k → length visits ≡ 0 → (v : ℕ) → IsNode (node_count s.net) v → surplus_at s v ≤ℤ pos 0
+pub none_started : (s : Pseudoflow) (table : List Bool) (visits : List Visit) (k : ℕ) → IsStarted s table visits k → node_count s.net ≤ k → length visits ≡ 0
+    → (v : ℕ) → IsNode (node_count s.net) v → surplus_at s v ≤ℤ pos 0
 none_started s table visits k ok all none v h =
     by_lt_z (pos 0) (surplus_at s v) (λ p. absurd (let w = ok.scanned.search.every v h (ok.sources v h (omega arith) p) in omega (arith, w.1, none))) (λ p. p)
 
-pub started_end : (s : Pseudoflow) (table : List Bool) (visits : List Visit) (k n : ℕ) (empty : Bool) → IsStarted s table visits k → node_count s.net ≤ k → n ≡ length visits → empty ≡ eqb n 0 → MatchBool (not empty) (0 < length visits) ((v : ℕ) → IsNode (node_count s.net) v → surplus_at s v ≤ℤ pos 0)
+pub started_end : (s : Pseudoflow) (table : List Bool) (visits : List Visit) (k n : ℕ) (empty : Bool) → IsStarted s table visits k → node_count s.net ≤ k
+    → n ≡ length visits → empty ≡ eqb n 0 → MatchBool (not empty) (0 < length visits) ((v : ℕ) → IsNode (node_count s.net) v → surplus_at s v ≤ℤ pos 0)
 started_end s table visits k n empty ok all len e =
     elim (cases_eq n 0) [
       | inl z ↦ rw (e ∙ eq-eqb n 0 z) (none_started s table visits k ok all (sym len ∙ z))
@@ -211,7 +226,8 @@ pub record IsScanning (s : Pseudoflow) (table : List Bool) (visits : List Visit)
   pub each : All (Leaves s.net (node_at visits place)) rest
   pub left : (r : Rid) → HasRoom s r → tail s.net r ≡ node_at visits place → (in_table table (head s.net r) ≡ true) ⊎ Contains rest r
 
-pub scanning_first : (s : Pseudoflow) (table : List Bool) (visits : List Visit) (place : ℕ) (list : List Rid) → IsScanned s table visits place → place < length visits → ListsLeaving s.net (node_at visits place) list → IsScanning s table visits place list
+pub scanning_first : (s : Pseudoflow) (table : List Bool) (visits : List Visit) (place : ℕ) (list : List Rid) → IsScanned s table visits place
+    → place < length visits → ListsLeaving s.net (node_at visits place) list → IsScanning s table visits place list
 scanning_first s table visits place list ok h lists =
     record {
       scanned = ok;
@@ -220,7 +236,8 @@ scanning_first s table visits place list ok h lists =
       left = λ r room from. inr (lists.every r (record { arc = room.arc; from = from }));
     }
 
-module _ (s : Pseudoflow) (table : List Bool) (visits : List Visit) (place : ℕ) (r : Rid) (rest : List Rid) (old : IsScanning s table visits place (r ∷ rest)) where
+module _ (s : Pseudoflow) (table : List Bool) (visits : List Visit) (place : ℕ) (r : Rid) (rest : List Rid)
+    (old : IsScanning s table visits place (r ∷ rest)) where
   pub scanning_leaves : Leaves s.net (node_at visits place) r
   scanning_leaves = All-head (Leaves s.net (node_at visits place)) r rest old.each
 
@@ -257,7 +274,9 @@ module _ (s : Pseudoflow) (table : List Bool) (visits : List Visit) (place : ℕ
       }
 
 -- it leads to a node that is visited now
-module _ (s : Pseudoflow) (table : List Bool) (visits : List Visit) (place : ℕ) (r : Rid) (rest : List Rid) (old : IsScanning s table visits place (r ∷ rest)) (to : ℕ) (l : Link) (room : HasRoom s r) (end : head s.net r ≡ to) (is : l ≡ record { place = place; along = r }) (h : IsNode (node_count s.net) to) (new : in_table table to ≡ false) where
+module _ (s : Pseudoflow) (table : List Bool) (visits : List Visit) (place : ℕ) (r : Rid) (rest : List Rid) (old : IsScanning s table visits place (r ∷ rest))
+    (to : ℕ) (l : Link) (room : HasRoom s r) (end : head s.net r ≡ to) (is : l ≡ record { place = place; along = r }) (h : IsNode (node_count s.net) to)
+    (new : in_table table to ≡ false) where
   next_along : IsNext s visits to (Some l)
   next_along =
       let leaves = scanning_leaves s table visits place r rest old in
@@ -281,7 +300,8 @@ module _ (s : Pseudoflow) (table : List Bool) (visits : List Visit) (place : ℕ
         left = λ q has from. elim (old.left q has (from ∙ kept)) [
           | inl m ↦ inl (marked_still table to (head s.net q) here m)
           | inr c ↦ elim (Contains-cons r rest q c) [
-            | inl e ↦ inl (ap (λ (x : Rid). in_table (with_node table to) (head s.net x)) (sym e) ∙ ap (in_table (with_node table to)) end ∙ marked_new table to here)
+            | inl e ↦ inl (ap (λ (x : Rid). in_table (with_node table to) (head s.net x)) (sym e) ∙ ap (in_table (with_node table to)) end
+                ∙ marked_new table to here)
             | inr more ↦ inr more
           ]
         ];
@@ -293,7 +313,8 @@ module _ (s : Pseudoflow) (table : List Bool) (visits : List Visit) (place : ℕ
       found_push s table visits to (Some l) old.scanned.search h new next_along low
 
 -- no residual arc is to come
-pub scanning_end : (s : Pseudoflow) (table : List Bool) (visits : List Visit) (place : ℕ) → IsScanning s table visits place [] → IsScanned s table visits (place + 1)
+pub scanning_end : (s : Pseudoflow) (table : List Bool) (visits : List Visit) (place : ℕ) → IsScanning s table visits place []
+    → IsScanned s table visits (place + 1)
 scanning_end s table visits place all =
     let in_range = all.in_range in
     record {
@@ -315,10 +336,18 @@ source_at : (s : Pseudoflow) (visits : List Visit) (link : Option Link) → IsRe
 source_at s visits None by = by
 source_at s visits (Some l) by = absurd (let earlier = by.earlier in omega arith)
 
-pub stuck_at : (s : Pseudoflow) (table : List Bool) (visits : List Visit) (scanned : ℕ) → IsPseudoflow s → IsScanned s table visits scanned → length visits ≤ scanned → 0 < length visits → IsStuck s (in_table table)
+pub stuck_at : (s : Pseudoflow) (table : List Bool) (visits : List Visit) (scanned : ℕ) → IsPseudoflow s → IsScanned s table visits scanned
+    → length visits ≤ scanned → 0 < length visits → IsStuck s (in_table table)
 stuck_at s table visits scanned flow ok all some =
     record {
-      closed = λ r room marked. let (i, l, at) = ok.search.every (tail s.net r) (tail_is_node s.net r.arc r.back flow.of_net room.arc) marked in ok.closed i (omega arith) r room (sym at);
+      closed = λ r room marked. let (i, l, at) = ok.search.every (tail s.net r) (tail_is_node s.net r.arc r.back flow.of_net room.arc) marked in
+          ok.closed i (omega arith) r room (sym at);
       no_deficit = λ v h marked. let (i, l, at) = ok.search.every v h marked in subst (λ w. pos 0 ≤ℤ surplus_at s w) at (ok.no_deficit i l);
-      source = (node_at visits 0, ok.search.forest.are_nodes 0 some, ok.search.marked 0 some, source_at s visits (visit_at visits 0).link (ok.search.forest.linked 0 some));
+      source = (
+        node_at visits 0,
+        ok.search.forest.are_nodes 0 some,
+        ok.search.marked 0 some,
+        source_at s visits (visit_at visits 0).link
+            (ok.search.forest.linked 0 some),
+      );
     }

@@ -1,5 +1,6 @@
 -- The path to a visited node, from its end.
-use Rattle.std.proofs.Common.{◌≡◌, ◌≢◌, ℕ, ◌-◌, ◌<◌, List, [], ◌∷◌, length, get_or, refl, ap, sym, subst, ◌∙◌, arith, ℤ, pos, ◌+ℤ◌, ◌≤ℤ◌, ◌<ℤ◌, ◌⊎◌, inl, inr, Option, Some, None, suc}
+use Rattle.std.proofs.Common.{◌≡◌, ◌≢◌, ℕ, ◌-◌, ◌<◌, List, [], ◌∷◌, length, get_or, refl, ap, sym, subst, ◌∙◌, arith, ℤ, pos, ◌+ℤ◌, ◌≤ℤ◌, ◌<ℤ◌, ◌⊎◌, inl, inr}
+use Rattle.std.proofs.Common.{Option, Some, None, suc}
 use Rattle.std.specs.List.{All, AllPairs, Any}
 use Rattle.std.specs.Int.{int_min}
 use Rattle.std.proofs.lemmas.Int.{by_lt_z, clamps, ints}
@@ -66,7 +67,8 @@ pub record IsTrace (s : Pseudoflow) (visits : List Visit) (place : ℕ) (walk : 
   pub most : IsAllBut s walk w x
 
 -- the path is empty at first
-pub trace_first : (s : Pseudoflow) (visits : List Visit) (x : ℤ) → IsFound s visits → x +ℤ surplus_at s (node_at visits (length visits - 1)) ≡ pos 0 → IsTrace s visits (length visits - 1) [] (node_at visits (length visits - 1)) x
+pub trace_first : (s : Pseudoflow) (visits : List Visit) (x : ℤ) → IsFound s visits → x +ℤ surplus_at s (node_at visits (length visits - 1)) ≡ pos 0
+    → IsTrace s visits (length visits - 1) [] (node_at visits (length visits - 1)) x
 trace_first s visits x found e =
     let some = found.some in
     let deficit = found.deficit in
@@ -81,9 +83,11 @@ trace_first s visits x found e =
       most = inl e;
     }
 
-module _ (s : Pseudoflow) (visits : List Visit) (place : ℕ) (walk : List Rid) (w : ℕ) (x y : ℤ) (ok : IsForest s visits) (old : IsTrace s visits place walk w x) (pos_y : pos 0 <ℤ y) (le_x : y ≤ℤ x) where
+module _ (s : Pseudoflow) (visits : List Visit) (place : ℕ) (walk : List Rid) (w : ℕ) (x y : ℤ) (ok : IsForest s visits)
+    (old : IsTrace s visits place walk w x) (pos_y : pos 0 <ℤ y) (le_x : y ≤ℤ x) where
   -- the path back goes along a link
-  pub trace_step : (l : Link) → IsTreeLink s visits place l → y ≤ℤ room_of s l.along → (y ≡ x) ⊎ (y ≡ room_of s l.along) → IsTrace s visits l.place (l.along ∷ walk) w y
+  pub trace_step : (l : Link) → IsTreeLink s visits place l → y ≤ℤ room_of s l.along → (y ≡ x) ⊎ (y ≡ room_of s l.along)
+      → IsTrace s visits l.place (l.along ∷ walk) w y
   trace_step l link le_room either =
       let earlier = link.earlier in
       let in_range = old.in_range in
@@ -92,9 +96,12 @@ module _ (s : Pseudoflow) (visits : List Visit) (place : ℕ) (walk : List Rid) 
       record {
         in_range = omega arith;
         walks = (link.from, subst (λ u. IsWalk s.net u walk w) (sym link.to) old.walks);
-        room = All-cons (HasRoomFor s y) l.along walk (record { arc = arc.arc; room = le_room }) (λ k d h. let there = old.room k d h in let room = there.room in record { arc = there.arc; room = omega (arith, ints, room, le_x) });
-        later = All-cons (EntersLater s visits l.place) l.along walk (place, earlier, in_range, link.to) (λ k d h. let (p, a, b, e) = old.later k d h in (p, omega arith, b, e));
-        distinct = AllPairs-cons (λ r q. r ≢ q) l.along walk (λ k d h same. let (p, a, b, e) = old.later k d h in ok.distinct place p a b (sym link.to ∙ ap (head s.net) same ∙ e)) old.distinct;
+        room = All-cons (HasRoomFor s y) l.along walk (record { arc = arc.arc; room = le_room })
+            (λ k d h. let there = old.room k d h in let room = there.room in record { arc = there.arc; room = omega (arith, ints, room, le_x) });
+        later = All-cons (EntersLater s visits l.place) l.along walk (place, earlier, in_range, link.to)
+            (λ k d h. let (p, a, b, e) = old.later k d h in (p, omega arith, b, e));
+        distinct = AllPairs-cons (λ r q. r ≢ q) l.along walk (λ k d h same. let (p, a, b, e) = old.later k d h in
+            ok.distinct place p a b (sym link.to ∙ ap (head s.net) same ∙ e)) old.distinct;
         positive = pos_y;
         taken = omega (arith, ints, taken, le_x);
         most = all_but_next s walk l.along w x y either old.most;
@@ -120,12 +127,16 @@ module _ (s : Pseudoflow) (visits : List Visit) (place : ℕ) (walk : List Rid) 
       }
 
 -- how a search came to a node, by cases on its link
-linked_at : (s : Pseudoflow) (visits : List Visit) (place : ℕ) (d : Visit) (o : Option Link) → IsForest s visits → place < length visits → (get_or visits place d).link ≡ o → IsReachedBy s visits place o
+linked_at : (s : Pseudoflow) (visits : List Visit) (place : ℕ) (d : Visit) (o : Option Link) → IsForest s visits → place < length visits
+    → (get_or visits place d).link ≡ o → IsReachedBy s visits place o
 linked_at s visits place d o ok h e =
-    subst (λ (q : Option Link). IsReachedBy s visits place q) (ap (λ (x : Visit). x.link) (get_or_default visits place (record { node = 0; link = None }) d h) ∙ e) (ok.linked place h)
+    subst (λ (q : Option Link). IsReachedBy s visits place q) (ap (λ (x : Visit). x.link) (get_or_default visits place (record { node = 0; link = None }) d h)
+    ∙ e) (ok.linked place h)
 
-pub linked_none : (s : Pseudoflow) (visits : List Visit) (place : ℕ) (d : Visit) → IsForest s visits → place < length visits → (get_or visits place d).link ≡ None → pos 0 <ℤ surplus_at s (node_at visits place)
+pub linked_none : (s : Pseudoflow) (visits : List Visit) (place : ℕ) (d : Visit) → IsForest s visits → place < length visits
+    → (get_or visits place d).link ≡ None → pos 0 <ℤ surplus_at s (node_at visits place)
 linked_none s visits place d ok h e = linked_at s visits place d None ok h e
 
-pub linked_some : (s : Pseudoflow) (visits : List Visit) (place : ℕ) (d : Visit) (l : Link) → IsForest s visits → place < length visits → (get_or visits place d).link ≡ Some l → IsTreeLink s visits place l
+pub linked_some : (s : Pseudoflow) (visits : List Visit) (place : ℕ) (d : Visit) (l : Link) → IsForest s visits → place < length visits
+    → (get_or visits place d).link ≡ Some l → IsTreeLink s visits place l
 linked_some s visits place d l ok h e = linked_at s visits place d (Some l) ok h e

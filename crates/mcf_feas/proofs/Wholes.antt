@@ -24,11 +24,22 @@ whole_takes g set ok all h =
 -- ---- no surplus
 
 -- where the supplies add up to 0 and no node has a surplus, none takes anything
-pub settled : (s : Pseudoflow) → IsPseudoflow s → supply_total s.net ≡ pos 0 → ((v : ℕ) → IsNode (node_count s.net) v → surplus_at s v ≤ℤ pos 0) → HasNoSurplus s
+pub settled : (s : Pseudoflow) → IsPseudoflow s → supply_total s.net ≡ pos 0 → ((v : ℕ) → IsNode (node_count s.net) v → surplus_at s v ≤ℤ pos 0)
+    → HasNoSurplus s
 settled s ok balanced none v h =
-    by_lt_z (surplus_at s v) (pos 0) (λ p. absurd (let sum = node_sum_above_zero (λ w. pos 0 -ℤ surplus_at s w) (node_count s.net) v h (omega (arith, ints, p)) (λ w l. omega (arith, ints, none w l)) in omega (arith, ints, sum, total, balanced, nets_cancel (node_count s.net) s.net.arcs s.amounts ok.of_net.ends))) (λ p. omega (arith, ints, p, none v h))
+    by_lt_z (surplus_at s v) (pos 0) (λ p. absurd (let sum = node_sum_above_zero (λ w. pos 0 -ℤ surplus_at s w) (node_count s.net) v h (omega (arith, ints, p))
+    (λ w l. omega (arith, ints, none w l)) in omega (
+      arith,
+      ints,
+      sum,
+      total,
+      balanced,
+      nets_cancel
+          (node_count s.net) s.net.arcs s.amounts ok.of_net.ends,
+    ))) (λ p. omega (arith, ints, p, none v h))
   where
     total : node_sum (λ w. pos 0 -ℤ surplus_at s w) (node_count s.net) ≡ node_sum (net s.net.arcs s.amounts) (node_count s.net) -ℤ supply_total s.net
     total =
-        node_sum-same (λ w. pos 0 -ℤ surplus_at s w) (λ w. net s.net.arcs s.amounts w -ℤ at_node s.net.supplies w) (node_count s.net) (λ w l. omega (arith, ints))
+        node_sum-same (λ w. pos 0 -ℤ surplus_at s w) (λ w. net s.net.arcs s.amounts w -ℤ at_node s.net.supplies w) (node_count s.net)
+        (λ w l. omega (arith, ints))
         ∙ node_sum-sub (net s.net.arcs s.amounts) (at_node s.net.supplies) (node_count s.net)

@@ -1,6 +1,10 @@
 //! A feasible state of a net, or a node set that blocks.
-ghost use Rattle.std.specs.Prelude.{◌≤◌, IfOk, OnErr};
-ghost use Rattle.mcf_instance.specs.Network.{node_count};
+ghost use Rattle.std.specs.Bool.{MatchBool};
+ghost use Rattle.std.specs.Prelude.{◌≡◌, ◌≤◌, ◌≤ℤ◌, ℕ, IfOk, OnErr, length, pos};
+ghost use Rattle.mcf_instance.specs.Blocking.{in_table};
+ghost use Rattle.mcf_instance.specs.Network.{IsNode, node_count};
+ghost use Rattle.mcf_network.specs.States.{IsPseudoflow, surplus_at};
+ghost use Rattle.mcf_network.specs.Stuck.{IsStuck};
 ghost use Rattle.mcf_feas.specs.Feasible.{IsFeas};
 
 use crate::preflow::Preflow;
@@ -44,13 +48,38 @@ pub fn feasible<'n>(alloc: Global, net: &'n Net) -> Result<Feas<'n>, NoMemory>
     let mut state = State::zero(alloc, net)?;
     let mut preflow = Preflow::new(alloc, net)?;
     let mut search = Search::new(alloc, net)?;
-    preflow.round(&mut state)?;
-    while search.start(&state)? {
-        if !search.run(&state)? {
-            return Ok(Feas::Blocked(search.into_reached(), Side::Send));
-        }
-        search.augment(&mut state)?;
-        preflow.round(&mut state)?;
+    let settled = push_in_rounds(&mut state, &mut preflow, &mut search)?;
+    if settled {
+        return Ok(Feas::Flow(state));
     }
-    Ok(Feas::Flow(state))
+    Ok(Feas::Blocked(search.into_reached(), Side::Send))
+}
+
+// Pushes surplus in rounds, with a search after each and a push along the path that it finds, until a search finds no
+// path. Says whether no node has a surplus then.
+fn push_in_rounds(
+    state: &mut State<'_>,
+    preflow: &mut Preflow,
+    search: &mut Search,
+) -> Result<bool, NoMemory>
+    requires flow { IsPseudoflow state.old }
+    requires levels { length preflow.old.levels.items ≡ node_count state.old.net }
+    requires nodes { length search.old.reached ≡ node_count state.old.net }
+    ensures net { IfOk result (λ _. state.new.net ≡ state.old.net) }
+    ensures flow { IfOk result (λ _. IsPseudoflow state.new) }
+    ensures nodes { IfOk result (λ _. length search.new.reached ≡ node_count state.old.net) }
+    ensures settled { IfOk result (λ settled. MatchBool settled
+        ((v : ℕ) → IsNode (node_count state.new.net) v → surplus_at state.new v ≤ℤ pos 0)
+        (IsStuck state.new (in_table search.new.reached))) }
+    ensures wants { OnErr result (1 ≤ node_count state.old.net) }
+{
+    preflow.round(state)?;
+    'searches: while search.start(state)? {
+        if !search.run(state)? {
+            return Ok(false);
+        }
+        search.augment(state)?;
+        preflow.round(state)?;
+    }
+    Ok(true)
 }

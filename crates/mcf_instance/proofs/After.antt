@@ -37,10 +37,12 @@ none_at p x xs e = go (p x) refl
     go false f = f
 
 -- a fault of the table doesn't apply to a good line
-pub applies_not : (lines : List Row) (row : Row) (k : ℕ) (code : Code) (rest : List Code) → drop k table ≡ code ∷ rest → fault_of_line limits lines row ≡ None → applies limits code lines row ≡ false
+pub applies_not : (lines : List Row) (row : Row) (k : ℕ) (code : Code) (rest : List Code) → drop k table ≡ code ∷ rest → fault_of_line limits lines row ≡ None
+    → applies limits code lines row ≡ false
 unfolding fault_of_line
 applies_not lines row k code rest at none =
-    none_at (λ c. applies limits c lines row) code rest (ap (find (λ c. applies limits c lines row)) (sym at) ∙ none_from (λ c. applies limits c lines row) table k none)
+    none_at (λ c. applies limits c lines row) code rest (ap (find (λ c. applies limits c lines row)) (sym at)
+    ∙ none_from (λ c. applies limits c lines row) table k none)
 
 -- the words of the kinds differ
 not_n : (row : Row) → is_p row ≡ true → is_n row ≡ false
@@ -60,7 +62,8 @@ some_header : (s : StateData) (lines : List Row) → Holds s lines → has_p lin
 some_header s lines h e none = absurd (cc (sym none ∙ (h.heading_is ∙ ap (λ b. cond b (Some (heading_of (header lines))) None) e)))
 
 -- past the kinds of lines
-after_problem : (s : StateData) (lines : List Row) (row : Row) → Holds s lines → fault_of_line limits lines row ≡ None → is_p row ≡ true → Holds (with_item s (Problem (heading_of (header_of row)))) (lines ++ row ∷ [])
+after_problem : (s : StateData) (lines : List Row) (row : Row) → Holds s lines → fault_of_line limits lines row ≡ None → is_p row ≡ true
+    → Holds (with_item s (Problem (heading_of (header_of row)))) (lines ++ row ∷ [])
 after_problem s lines row h good p =
     let second : (is_p row && has_p lines) ≡ false = applies_not lines row 4 SecondP _ refl good in
     let seen : has_p lines ≡ false = sym (ap (λ b. b && has_p lines) p) ∙ second in
@@ -71,33 +74,48 @@ has_header lines row good p =
     let early : (not (is_p row) && not (has_p lines)) ≡ false = applies_not lines row 5 BeforeP _ refl good in
     not-false (has_p lines) (sym (ap (λ b. not b && not (has_p lines)) p) ∙ early)
 
-after_node : (s : StateData) (lines : List Row) (row : Row) → Holds s lines → fault_of_line limits lines row ≡ None → is_p row ≡ false → is_n row ≡ true → Holds (with_item s (Supply (node row 1) (supply_said (header lines).problem row))) (lines ++ row ∷ [])
+after_node : (s : StateData) (lines : List Row) (row : Row) → Holds s lines → fault_of_line limits lines row ≡ None → is_p row ≡ false → is_n row ≡ true
+    → Holds (with_item s (Supply (node row 1) (supply_said (header lines).problem row))) (lines ++ row ∷ [])
 after_node s lines row h good p n =
     let twice : (is_n row && is_listed lines (node row 1)) ≡ false = applies_not lines row 9 Twice _ refl good in
     let fresh : is_listed lines (node row 1) ≡ false = sym (ap (λ b. b && is_listed lines (node row 1)) n) ∙ twice in
-    let range : (not (is_p row) && not (list_all (λ k. is_node_number lines (number row k)) (node_places row))) ≡ false = applies_not lines row 7 Node _ refl good in
+    let range : (not (is_p row) && not (list_all (λ k. is_node_number lines (number row k)) (node_places row))) ≡ false =
+    applies_not lines row 7 Node _ refl good in
     let inside : (is_node_number lines (number row 1) && true) ≡ true =
-    not-false _ (sym (ap (λ b. not b && not (list_all (λ k. is_node_number lines (number row k)) (node_places row))) p ∙ ap (λ b. not (list_all (λ k. is_node_number lines (number row k)) (cond b (1 ∷ []) (1 ∷ 2 ∷ [])))) n) ∙ range) in
-    holds_supply s lines row h (some_header s lines h (has_header lines row good p)) p n (n_not_a row n) (natural_low _ (number row 1) (and_parts (is_node_number lines (number row 1)) true inside).0) fresh
+    not-false _ (sym (ap (λ b. not b && not (list_all (λ k. is_node_number lines (number row k)) (node_places row))) p
+    ∙ ap (λ b. not (list_all (λ k. is_node_number lines (number row k)) (cond b (1 ∷ []) (1 ∷ 2 ∷ [])))) n) ∙ range) in
+    holds_supply s lines row h (some_header s lines h (has_header lines row good p)) p n (n_not_a row n)
+    (natural_low _ (number row 1) (and_parts (is_node_number lines (number row 1)) true inside).0) fresh
 
-after_arc : (s : StateData) (lines : List Row) (row : Row) → Holds s lines → fault_of_line limits lines row ≡ None → is_p row ≡ false → is_n row ≡ false → Holds (with_item s (Link (packed (arc_of (header lines).problem row)))) (lines ++ row ∷ [])
+after_arc : (s : StateData) (lines : List Row) (row : Row) → Holds s lines → fault_of_line limits lines row ≡ None → is_p row ≡ false → is_n row ≡ false
+    → Holds (with_item s (Link (packed (arc_of (header lines).problem row)))) (lines ++ row ∷ [])
 after_arc s lines row h good p n =
     let kind : not (is_p row || is_n row || is_a row) ≡ false = applies_not lines row 0 Kind _ refl good in
     let a : is_a row ≡ true = not-false (is_a row) (sym (ap (λ b. not (b || is_n row || is_a row)) p ∙ ap (λ b. not (b || is_a row)) n) ∙ kind) in
     holds_link s lines row h (some_header s lines h (has_header lines row good p)) p n a
 
-after_said : (s : StateData) (lines : List Row) (row : Row) → Holds s lines → fault_of_line limits lines row ≡ None → Holds (with_item s (item_said lines row)) (lines ++ row ∷ [])
+after_said : (s : StateData) (lines : List Row) (row : Row) → Holds s lines → fault_of_line limits lines row ≡ None
+    → Holds (with_item s (item_said lines row)) (lines ++ row ∷ [])
 after_said s lines row h good = go (is_p row) (is_n row) refl refl
   where
     go : (p n : Bool) → is_p row ≡ p → is_n row ≡ n → Holds (with_item s (item_said lines row)) (lines ++ row ∷ [])
-    go true n e f = subst (λ b. Holds (with_item s (cond b (Problem (heading_of (header_of row))) (cond (is_n row) (Supply (node row 1) (supply_said (header lines).problem row)) (Link (packed (arc_of (header lines).problem row)))))) (lines ++ row ∷ [])) (sym e) (after_problem s lines row h good e)
-    go false true e f = subst (λ b. Holds (with_item s (cond b (Problem (heading_of (header_of row))) (cond (is_n row) (Supply (node row 1) (supply_said (header lines).problem row)) (Link (packed (arc_of (header lines).problem row)))))) (lines ++ row ∷ [])) (sym e)
-        (subst (λ b. Holds (with_item s (cond b (Supply (node row 1) (supply_said (header lines).problem row)) (Link (packed (arc_of (header lines).problem row))))) (lines ++ row ∷ [])) (sym f) (after_node s lines row h good e f))
-    go false false e f = subst (λ b. Holds (with_item s (cond b (Problem (heading_of (header_of row))) (cond (is_n row) (Supply (node row 1) (supply_said (header lines).problem row)) (Link (packed (arc_of (header lines).problem row)))))) (lines ++ row ∷ [])) (sym e)
-        (subst (λ b. Holds (with_item s (cond b (Supply (node row 1) (supply_said (header lines).problem row)) (Link (packed (arc_of (header lines).problem row))))) (lines ++ row ∷ [])) (sym f) (after_arc s lines row h good e f))
+    go true n e f = subst (λ b. Holds (with_item s (cond b (Problem (heading_of (header_of row)))
+        (cond (is_n row) (Supply (node row 1) (supply_said (header lines).problem row)) (Link (packed (arc_of (header lines).problem row))))))
+        (lines ++ row ∷ [])) (sym e) (after_problem s lines row h good e)
+    go false true e f = subst (λ b. Holds (with_item s (cond b (Problem (heading_of (header_of row)))
+        (cond (is_n row) (Supply (node row 1) (supply_said (header lines).problem row)) (Link (packed (arc_of (header lines).problem row))))))
+        (lines ++ row ∷ [])) (sym e)
+        (subst (λ b. Holds (with_item s (cond b (Supply (node row 1) (supply_said (header lines).problem row))
+        (Link (packed (arc_of (header lines).problem row))))) (lines ++ row ∷ [])) (sym f) (after_node s lines row h good e f))
+    go false false e f = subst (λ b. Holds (with_item s (cond b (Problem (heading_of (header_of row)))
+        (cond (is_n row) (Supply (node row 1) (supply_said (header lines).problem row)) (Link (packed (arc_of (header lines).problem row))))))
+        (lines ++ row ∷ [])) (sym e)
+        (subst (λ b. Holds (with_item s (cond b (Supply (node row 1) (supply_said (header lines).problem row))
+        (Link (packed (arc_of (header lines).problem row))))) (lines ++ row ∷ [])) (sym f) (after_arc s lines row h good e f))
 
 -- a good line taken in
-pub after_item : (s : StateData) (lines : List Row) (row : Row) (item : Item) → Holds s lines → item_of limits s row.fields ≡ Ok item → Holds (with_item s item) (lines ++ row ∷ [])
+pub after_item : (s : StateData) (lines : List Row) (row : Row) (item : Item) → Holds s lines → item_of limits s row.fields ≡ Ok item
+    → Holds (with_item s item) (lines ++ row ∷ [])
 after_item s lines row item h e = go (fault_of_line limits lines row) refl
   where
     go : (o : Option Code) → fault_of_line limits lines row ≡ o → Holds (with_item s item) (lines ++ row ∷ [])

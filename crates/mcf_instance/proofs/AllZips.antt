@@ -24,7 +24,8 @@ module _ {X Y : Type 0} (R : X → Y → Type 0) where
   AllZip-at (a ∷ xs) (b ∷ ys) (suc i) x y h k = AllZip-at xs ys i x y h.1 (omega arith)
 
   -- the fact at every place
-  pub AllZip_from : (xs : List X) (ys : List Y) → length xs ≡ length ys → ((i : ℕ) → i < length xs → (x : X) (y : Y) → R (get_or xs i x) (get_or ys i y)) → AllZip R xs ys
+  pub AllZip_from : (xs : List X) (ys : List Y) → length xs ≡ length ys → ((i : ℕ) → i < length xs → (x : X) (y : Y) → R (get_or xs i x) (get_or ys i y))
+      → AllZip R xs ys
   AllZip_from [] [] e h = tt
   AllZip_from [] (y ∷ ys) e h = absurd (omega arith)
   AllZip_from (x ∷ xs) [] e h = absurd (omega arith)
@@ -47,10 +48,12 @@ module _ {X Y : Type 0} (R : X → Y → Type 0) where
       (h.0, AllZip-set xs ys i x y (omega arith) h.1 here)
 
   -- the first places, by one more
-  pub AllZip_more : (xs : List X) (ys : List Y) (i : ℕ) (x : X) (y : Y) → i < length xs → i < length ys → AllZip R (take i xs) (take i ys) → R (get_or xs i x) (get_or ys i y) → AllZip R (take (i + 1) xs) (take (i + 1) ys)
+  pub AllZip_more : (xs : List X) (ys : List Y) (i : ℕ) (x : X) (y : Y) → i < length xs → i < length ys → AllZip R (take i xs) (take i ys)
+      → R (get_or xs i x) (get_or ys i y) → AllZip R (take (i + 1) xs) (take (i + 1) ys)
   AllZip_more xs ys i x y h k before here = rw add-one (steps xs ys i x y h k before here)
     where
-      steps : (xs : List X) (ys : List Y) (i : ℕ) (x : X) (y : Y) → i < length xs → i < length ys → AllZip R (take i xs) (take i ys) → R (get_or xs i x) (get_or ys i y) → AllZip R (take (suc i) xs) (take (suc i) ys)
+      steps : (xs : List X) (ys : List Y) (i : ℕ) (x : X) (y : Y) → i < length xs → i < length ys → AllZip R (take i xs) (take i ys)
+          → R (get_or xs i x) (get_or ys i y) → AllZip R (take (suc i) xs) (take (suc i) ys)
       steps [] ys i x y h k before here = absurd (omega arith)
       steps (a ∷ xs) [] i x y h k before here = absurd (omega arith)
       steps (a ∷ xs) (b ∷ ys) zero x y h k before here = (here, tt)

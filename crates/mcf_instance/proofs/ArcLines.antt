@@ -46,7 +46,17 @@ min_tests_read h arcs listed u v l c k small min = go (is_within (pos 1) (pos h.
     go false y e f = rw (is_within_count-clamped 1 h.nodes u (omega arith), e) refl
     go true false e f = rw (is_within_count-clamped 1 h.nodes u (omega arith), is_within_count-clamped 1 h.nodes v (omega arith), e, f) refl
     go true true e f =
-        rw (clamped_count 1 h.nodes u (omega arith) e, clamped_count 1 h.nodes v (omega arith) f, e, f, unless_fault-amount_fault, is_up_to-clamped limits.bound l (omega arith), is_up_to-clamped limits.bound c (omega arith), is_up_to-clamped limits.cost k (omega arith), min)
+        rw (
+          clamped_count 1 h.nodes u (omega arith) e,
+          clamped_count 1 h.nodes v (omega arith) f,
+          e,
+          f,
+          unless_fault-amount_fault,
+          is_up_to-clamped limits.bound l (omega arith),
+          is_up_to-clamped limits.bound c (omega arith),
+          is_up_to-clamped limits.cost k (omega arith),
+          min,
+        )
         (ok_unless_test (not (is_up_to limits.bound l && is_up_to limits.bound c)) Bound _ _ _ (λ g.
         let both = and_parts (is_up_to limits.bound l) (is_up_to limits.bound c) (not-false _ g) in
         let low : clamped l ≡ l = clamped_up_to limits.bound l (omega arith) both.0 in
@@ -80,7 +90,18 @@ asn_tests_read h arcs listed known u v k small asn flags = go (is_within (pos 1)
     go false y e f = rw (is_within_count-clamped 1 h.nodes u (omega arith), e) refl
     go true false e f = rw (is_within_count-clamped 1 h.nodes u (omega arith), is_within_count-clamped 1 h.nodes v (omega arith), e, f) refl
     go true true e f =
-        rw (clamped_count 1 h.nodes u (omega arith) e, clamped_count 1 h.nodes v (omega arith) f, e, f, unless_fault-amount_fault, is_up_to-clamped limits.cost k (omega arith), asn, flags (natural u) (natural_low h.nodes u e) (natural_high h.nodes u e), flags (natural v) (natural_low h.nodes v f) (natural_high h.nodes v f))
+        rw (
+          clamped_count 1 h.nodes u (omega arith) e,
+          clamped_count 1 h.nodes v (omega arith) f,
+          e,
+          f,
+          unless_fault-amount_fault,
+          is_up_to-clamped limits.cost k (omega arith),
+          asn,
+          flags (natural u) (natural_low h.nodes u e) (natural_high h.nodes u e),
+          flags (natural v)
+              (natural_low h.nodes v f) (natural_high h.nodes v f),
+        )
         (ok_unless_test (not (is_up_to limits.cost k)) Cost _ _ _ (λ i.
         let cost : clamped k ≡ k = clamped_up_to limits.cost k (omega arith) (not-false _ i) in
         rw cost
@@ -118,13 +139,16 @@ pub arc_line_reads : (lines : List Row) (n : ℕ) (fields : List (List ℕ)) (li
 unfolding arc_line fault_of_line number_at
 arc_line_reads lines n fields listed seen kind min = go (length fields == 6) refl
   where
-    numbers : (a b c d e : List ℕ) (v w x y z : Bool) → is_whole a ≡ v → is_whole b ≡ w → is_whole c ≡ x → is_whole d ≡ y → is_whole e ≡ z → ReadsArc lines (heading_seen lines) n listed (λ row. packed (arc_of Min row)) ((97 ∷ []) ∷ a ∷ b ∷ c ∷ d ∷ e ∷ [])
+    numbers : (a b c d e : List ℕ) (v w x y z : Bool) → is_whole a ≡ v → is_whole b ≡ w → is_whole c ≡ x → is_whole d ≡ y → is_whole e ≡ z
+        → ReadsArc lines (heading_seen lines) n listed (λ row. packed (arc_of Min row)) ((97 ∷ []) ∷ a ∷ b ∷ c ∷ d ∷ e ∷ [])
     numbers a b c d e false w x y z f g h i j = rw (seen, min, f) refl
     numbers a b c d e true false x y z f g h i j = rw (seen, min, f, g) refl
     numbers a b c d e true true false y z f g h i j = rw (seen, min, f, g, h) refl
     numbers a b c d e true true true false z f g h i j = rw (seen, min, f, g, h, i) refl
     numbers a b c d e true true true true false f g h i j = rw (seen, min, f, g, h, i, j) refl
-    numbers a b c d e true true true true true f g h i j = rw (seen, min, f, g, h, i, j) (min_tests_read (record { problem = Min; nodes = (header lines).nodes; arcs = (header lines).arcs }) (length (arc_lines lines)) listed (whole_value a) (whole_value b) (whole_value c) (whole_value d) (whole_value e) (header_small lines) refl)
+    numbers a b c d e true true true true true f g h i j = rw (seen, min, f, g, h, i, j)
+        (min_tests_read (record { problem = Min; nodes = (header lines).nodes; arcs = (header lines).arcs }) (length (arc_lines lines)) listed (whole_value a)
+        (whole_value b) (whole_value c) (whole_value d) (whole_value e) (header_small lines) refl)
 
     go : (b : Bool) → (length fields == 6) ≡ b → ReadsArc lines (heading_seen lines) n listed (λ row. packed (arc_of Min row)) fields
     go false e = rw (seen, kind, min, e) refl
@@ -141,11 +165,14 @@ pub arc_pair_reads : (lines : List Row) (n : ℕ) (fields : List (List ℕ)) (li
 unfolding arc_line fault_of_line number_at
 arc_pair_reads lines n fields listed seen kind flags asn = go (length fields == 4) refl
   where
-    numbers : (a b c : List ℕ) (v w x : Bool) → is_whole a ≡ v → is_whole b ≡ w → is_whole c ≡ x → ReadsArc lines (heading_seen lines) n listed (λ row. packed (arc_of Asn row)) ((97 ∷ []) ∷ a ∷ b ∷ c ∷ [])
+    numbers : (a b c : List ℕ) (v w x : Bool) → is_whole a ≡ v → is_whole b ≡ w → is_whole c ≡ x
+        → ReadsArc lines (heading_seen lines) n listed (λ row. packed (arc_of Asn row)) ((97 ∷ []) ∷ a ∷ b ∷ c ∷ [])
     numbers a b c false w x f g h = rw (seen, asn, f) refl
     numbers a b c true false x f g h = rw (seen, asn, f, g) refl
     numbers a b c true true false f g h = rw (seen, asn, f, g, h) refl
-    numbers a b c true true true f g h = rw (seen, asn, f, g, h) (asn_tests_read (record { problem = Asn; nodes = (header lines).nodes; arcs = (header lines).arcs }) (length (arc_lines lines)) listed (is_listed lines) (whole_value a) (whole_value b) (whole_value c) (header_small lines) refl flags)
+    numbers a b c true true true f g h = rw (seen, asn, f, g, h)
+        (asn_tests_read (record { problem = Asn; nodes = (header lines).nodes; arcs = (header lines).arcs }) (length (arc_lines lines)) listed
+        (is_listed lines) (whole_value a) (whole_value b) (whole_value c) (header_small lines) refl flags)
 
     go : (b : Bool) → (length fields == 4) ≡ b → ReadsArc lines (heading_seen lines) n listed (λ row. packed (arc_of Asn row)) fields
     go false e = rw (seen, kind, asn, e) refl
@@ -156,12 +183,14 @@ arc_pair_reads lines n fields listed seen kind flags asn = go (length fields == 
         (subst (λ a. ReadsArc lines (heading_seen lines) n listed (λ row. packed (arc_of Asn row)) (a ∷ t.1 ∷ t.2 ∷ t.3 ∷ [])) (sym first)
         (numbers t.1 t.2 t.3 (is_whole t.1) (is_whole t.2) (is_whole t.3) refl refl refl))
 
-pub arc_line_early : (lines : List Row) (n : ℕ) (fields : List (List ℕ)) (listed : List Bool) (said : Row → PackedArc) → has_p lines ≡ false → slice_index_or fields 0 [] ≡ 97 ∷ []
+pub arc_line_early : (lines : List Row) (n : ℕ) (fields : List (List ℕ)) (listed : List Bool) (said : Row → PackedArc) → has_p lines ≡ false
+    → slice_index_or fields 0 [] ≡ 97 ∷ []
     → ReadsArc lines None n listed said fields
 unfolding arc_line fault_of_line number_at
 arc_line_early lines n fields listed said seen kind = go (length fields == 6) (length fields == 4) refl refl
   where
-    numbers_six : (a b c d e : List ℕ) (v w x y z : Bool) → is_whole a ≡ v → is_whole b ≡ w → is_whole c ≡ x → is_whole d ≡ y → is_whole e ≡ z → ReadsArc lines None n listed said ((97 ∷ []) ∷ a ∷ b ∷ c ∷ d ∷ e ∷ [])
+    numbers_six : (a b c d e : List ℕ) (v w x y z : Bool) → is_whole a ≡ v → is_whole b ≡ w → is_whole c ≡ x → is_whole d ≡ y → is_whole e ≡ z
+        → ReadsArc lines None n listed said ((97 ∷ []) ∷ a ∷ b ∷ c ∷ d ∷ e ∷ [])
     numbers_six a b c d e false w x y z f g h i j = rw (seen, f) refl
     numbers_six a b c d e true false x y z f g h i j = rw (seen, f, g) refl
     numbers_six a b c d e true true false y z f g h i j = rw (seen, f, g, h) refl
@@ -169,7 +198,8 @@ arc_line_early lines n fields listed said seen kind = go (length fields == 6) (l
     numbers_six a b c d e true true true true false f g h i j = rw (seen, f, g, h, i, j) refl
     numbers_six a b c d e true true true true true f g h i j = rw (seen, f, g, h, i, j) refl
 
-    numbers_four : (a b c : List ℕ) (v w x : Bool) → is_whole a ≡ v → is_whole b ≡ w → is_whole c ≡ x → ReadsArc lines None n listed said ((97 ∷ []) ∷ a ∷ b ∷ c ∷ [])
+    numbers_four : (a b c : List ℕ) (v w x : Bool) → is_whole a ≡ v → is_whole b ≡ w → is_whole c ≡ x
+        → ReadsArc lines None n listed said ((97 ∷ []) ∷ a ∷ b ∷ c ∷ [])
     numbers_four a b c false w x f g h = rw (seen, f) refl
     numbers_four a b c true false x f g h = rw (seen, f, g) refl
     numbers_four a b c true true false f g h = rw (seen, f, g, h) refl

@@ -1,5 +1,6 @@
 -- How large sums over arcs, flows and nodes can be.
-use Rattle.std.proofs.Common.{◌≡◌, ℕ, zero, suc, ◌+◌, ◌-◌, ◌*◌, ◌^◌, ◌≤◌, ◌<◌, Bool, true, false, List, [], ◌∷◌, length, map, take, get_or, ap, arith, ℤ, pos, negsuc, ◌+ℤ◌, ◌-ℤ◌, lit<, to_z, of_z}
+use Rattle.std.proofs.Common.{◌≡◌, ℕ, zero, suc, ◌+◌, ◌-◌, ◌*◌, ◌^◌, ◌≤◌, ◌<◌, Bool, true, false, List, [], ◌∷◌, length, map, take, get_or, ap, arith, ℤ, pos}
+use Rattle.std.proofs.Common.{negsuc, ◌+ℤ◌, ◌-ℤ◌, lit<, to_z, of_z}
 use Rattle.std.specs.List.{All, AllZip, sum}
 use Rattle.std.proofs.Math.IntN.{◌*ℤ◌}
 use Rattle.std.proofs.Math.Seq.{take-length}
@@ -50,7 +51,8 @@ when_up_to false m z h = omega (arith, ints)
 -- ---- sums of so many terms, each up to a bound
 
 -- over the first i arcs and their flows
-pub flow_sum_up_to : (R : Arc → ℤ → Type 0) (t : Arc → ℤ → ℤ) (m : ℕ) → ((a : Arc) (f : ℤ) → R a f → IsUpTo m (t a f)) → (arcs : List Arc) (flow : List ℤ) (i : ℕ) → AllZip R arcs flow → IsUpTo (i * m) (flow_sum t (take i arcs) flow)
+pub flow_sum_up_to : (R : Arc → ℤ → Type 0) (t : Arc → ℤ → ℤ) (m : ℕ) → ((a : Arc) (f : ℤ) → R a f → IsUpTo m (t a f))
+    → (arcs : List Arc) (flow : List ℤ) (i : ℕ) → AllZip R arcs flow → IsUpTo (i * m) (flow_sum t (take i arcs) flow)
 flow_sum_up_to R t m e arcs flow zero h = omega (arith, ints)
 flow_sum_up_to R t m e [] flow (suc i) h = omega (arith, ints)
 flow_sum_up_to R t m e (a ∷ arcs) [] (suc i) h = omega (arith, ints)
@@ -60,7 +62,8 @@ flow_sum_up_to R t m e (a ∷ arcs) (f ∷ flow) (suc i) h =
     omega (arith, ints)
 
 -- over the first i arcs
-pub arc_sum_up_to : (P : Arc → Type 0) (t : Arc → ℤ) (m : ℕ) → ((a : Arc) → P a → IsUpTo m (t a)) → (arcs : List Arc) (i : ℕ) → All P arcs → IsUpTo (i * m) (arc_sum t (take i arcs))
+pub arc_sum_up_to : (P : Arc → Type 0) (t : Arc → ℤ) (m : ℕ) → ((a : Arc) → P a → IsUpTo m (t a)) → (arcs : List Arc) (i : ℕ) → All P arcs
+    → IsUpTo (i * m) (arc_sum t (take i arcs))
 arc_sum_up_to P t m e arcs zero h = omega (arith, ints)
 arc_sum_up_to P t m e [] (suc i) h = omega (arith, ints)
 arc_sum_up_to P t m e (a ∷ arcs) (suc i) h =
@@ -79,28 +82,36 @@ node_sum_up_to t m (suc n) e =
 -- ---- node sets
 
 -- the supplies of a set of the first nodes
-pub supply_up_to : (supplies : List ℤ) (set : ℕ → Bool) (i : ℕ) → All (IsUpTo (10 ^ 18)) supplies → length supplies ≤ node_limit → i ≤ length supplies → IsUpTo (10 ^ 24) (node_sum (λ v. when (set v) (at_node supplies v)) i)
+pub supply_up_to : (supplies : List ℤ) (set : ℕ → Bool) (i : ℕ) → All (IsUpTo (10 ^ 18)) supplies → length supplies ≤ node_limit → i ≤ length supplies
+    → IsUpTo (10 ^ 24) (node_sum (λ v. when (set v) (at_node supplies v)) i)
 supply_up_to supplies set i small n h =
-    let sum = node_sum_up_to (λ v. when (set v) (at_node supplies v)) (10 ^ 18) i (λ v q. when_up_to (set v) (10 ^ 18) (at_node supplies v) (small (v - 1) (pos 0) (omega arith))) in
+    let sum = node_sum_up_to (λ v. when (set v) (at_node supplies v)) (10 ^ 18) i
+    (λ v q. when_up_to (set v) (10 ^ 18) (at_node supplies v) (small (v - 1) (pos 0) (omega arith))) in
     omega (arith, ints, sum)
 
 -- the lows, or the caps, of the first arcs that pass a test
-pub lows_up_to : (test : Arc → Bool) (arcs : List Arc) (i : ℕ) → All (IsArcWithinLimits wide_limits) arcs → length arcs ≤ arc_limit → i ≤ length arcs → IsUpTo (10 ^ 25) (arc_sum (λ a. when (test a) a.low) (take i arcs))
+pub lows_up_to : (test : Arc → Bool) (arcs : List Arc) (i : ℕ) → All (IsArcWithinLimits wide_limits) arcs → length arcs ≤ arc_limit → i ≤ length arcs
+    → IsUpTo (10 ^ 25) (arc_sum (λ a. when (test a) a.low) (take i arcs))
 lows_up_to test arcs i small n h =
-    let sum = arc_sum_up_to (IsArcWithinLimits wide_limits) (λ a. when (test a) a.low) (10 ^ 18) (λ a q. when_up_to (test a) (10 ^ 18) a.low q.low_small) arcs i small in
+    let sum = arc_sum_up_to (IsArcWithinLimits wide_limits) (λ a. when (test a) a.low) (10 ^ 18)
+    (λ a q. when_up_to (test a) (10 ^ 18) a.low q.low_small) arcs i small in
     omega (arith, ints, sum)
 
-pub caps_up_to : (test : Arc → Bool) (arcs : List Arc) (i : ℕ) → All (IsArcWithinLimits wide_limits) arcs → length arcs ≤ arc_limit → i ≤ length arcs → IsUpTo (10 ^ 25) (arc_sum (λ a. when (test a) a.cap) (take i arcs))
+pub caps_up_to : (test : Arc → Bool) (arcs : List Arc) (i : ℕ) → All (IsArcWithinLimits wide_limits) arcs → length arcs ≤ arc_limit → i ≤ length arcs
+    → IsUpTo (10 ^ 25) (arc_sum (λ a. when (test a) a.cap) (take i arcs))
 caps_up_to test arcs i small n h =
-    let sum = arc_sum_up_to (IsArcWithinLimits wide_limits) (λ a. when (test a) a.cap) (10 ^ 18) (λ a q. when_up_to (test a) (10 ^ 18) a.cap q.cap_small) arcs i small in
+    let sum = arc_sum_up_to (IsArcWithinLimits wide_limits) (λ a. when (test a) a.cap) (10 ^ 18)
+    (λ a q. when_up_to (test a) (10 ^ 18) a.cap q.cap_small) arcs i small in
     omega (arith, ints, sum)
 
 -- the same, of all arcs
-pub low_all_up_to : (test : Arc → Bool) (arcs : List Arc) → All (IsArcWithinLimits wide_limits) arcs → length arcs ≤ arc_limit → IsUpTo (10 ^ 25) (arc_sum (λ a. when (test a) a.low) arcs)
+pub low_all_up_to : (test : Arc → Bool) (arcs : List Arc) → All (IsArcWithinLimits wide_limits) arcs → length arcs ≤ arc_limit
+    → IsUpTo (10 ^ 25) (arc_sum (λ a. when (test a) a.low) arcs)
 low_all_up_to test arcs small n =
     rw (take-length arcs) at (lows_up_to test arcs (length arcs) small n (omega arith))
 
-pub cap_all_up_to : (test : Arc → Bool) (arcs : List Arc) → All (IsArcWithinLimits wide_limits) arcs → length arcs ≤ arc_limit → IsUpTo (10 ^ 25) (arc_sum (λ a. when (test a) a.cap) arcs)
+pub cap_all_up_to : (test : Arc → Bool) (arcs : List Arc) → All (IsArcWithinLimits wide_limits) arcs → length arcs ≤ arc_limit
+    → IsUpTo (10 ^ 25) (arc_sum (λ a. when (test a) a.cap) arcs)
 cap_all_up_to test arcs small n =
     rw (take-length arcs) at (caps_up_to test arcs (length arcs) small n (omega arith))
 
@@ -110,7 +121,8 @@ pub sum-weights : (w : Arc → ℕ) (a : Arc) (arcs : List Arc) → sum (map w (
 sum-weights w a arcs = sum_by-cons (λ x. x) (w a) (map w arcs)
 
 -- over the first i arcs and their flows, by the weights of all arcs
-pub flow_sum_within : (R : Arc → ℤ → Type 0) (t : Arc → ℤ → ℤ) (w : Arc → ℕ) → ((a : Arc) (f : ℤ) → R a f → IsUpTo (w a) (t a f)) → (arcs : List Arc) (flow : List ℤ) (i : ℕ) → AllZip R arcs flow → IsUpTo (sum (map w arcs)) (flow_sum t (take i arcs) flow)
+pub flow_sum_within : (R : Arc → ℤ → Type 0) (t : Arc → ℤ → ℤ) (w : Arc → ℕ) → ((a : Arc) (f : ℤ) → R a f → IsUpTo (w a) (t a f))
+    → (arcs : List Arc) (flow : List ℤ) (i : ℕ) → AllZip R arcs flow → IsUpTo (sum (map w arcs)) (flow_sum t (take i arcs) flow)
 flow_sum_within R t w e arcs flow zero h = omega (arith, ints)
 flow_sum_within R t w e [] flow (suc i) h = omega (arith, ints)
 flow_sum_within R t w e (a ∷ arcs) [] (suc i) h = absurd h
@@ -139,7 +151,8 @@ term_up_to_weight a f h =
     mul_up_to a.cost f (unsigned_abs a.cost) (max (unsigned_abs a.low) (unsigned_abs a.cap)) (up_to_size a.cost) small
 
 -- the cost over the first arcs, and over all, is up to the sum of the weights
-pub cost_part_up_to : (arcs : List Arc) (flow : List ℤ) (i total : ℕ) → sum (map weight arcs) ≤ total → IsWithinBounds arcs flow → IsUpTo total (cost (take i arcs) flow)
+pub cost_part_up_to : (arcs : List Arc) (flow : List ℤ) (i total : ℕ) → sum (map weight arcs) ≤ total → IsWithinBounds arcs flow
+    → IsUpTo total (cost (take i arcs) flow)
 cost_part_up_to arcs flow i total h bounds =
     omega (arith, ints, h, flow_sum_within CanCarry (λ a f. a.cost *ℤ f) weight term_up_to_weight arcs flow i bounds)
 
@@ -148,7 +161,8 @@ cost_up_to arcs flow total h bounds =
     rw (take-length arcs) at (cost_part_up_to arcs flow (length arcs) total h bounds)
 
 -- what one arc costs
-pub term_up_to : (arcs : List Arc) (flow : List ℤ) (i total : ℕ) (d : Arc) (e : ℤ) → sum (map weight arcs) ≤ total → IsWithinBounds arcs flow → i < length arcs → IsUpTo total ((get_or arcs i d).cost *ℤ get_or flow i e)
+pub term_up_to : (arcs : List Arc) (flow : List ℤ) (i total : ℕ) (d : Arc) (e : ℤ) → sum (map weight arcs) ≤ total → IsWithinBounds arcs flow → i < length arcs
+    → IsUpTo total ((get_or arcs i d).cost *ℤ get_or flow i e)
 term_up_to arcs flow i total d e h bounds k =
     omega (arith, ints, h, weight-le-sum weight arcs i d k, term_up_to_weight (get_or arcs i d) (get_or flow i e) (AllZip-at CanCarry arcs flow i d e bounds k))
 
@@ -173,7 +187,8 @@ width_weight a =
     let width : IsUpTo (2 * max (unsigned_abs a.low) (unsigned_abs a.cap)) (a.cap -ℤ a.low) = omega (arith, ints, low, cap, left, right) in
     omega (arith, mul-le-mul_left (unsigned_abs a.cost) (size_up_to (2 * max (unsigned_abs a.low) (unsigned_abs a.cap)) (a.cap -ℤ a.low) width))
 
-pub width_total : (arcs : List Arc) (total : ℕ) → sum (map weight arcs) ≤ total → sum (map (λ a. unsigned_abs a.cost * unsigned_abs (a.cap -ℤ a.low)) arcs) ≤ 2 * total
+pub width_total : (arcs : List Arc) (total : ℕ) → sum (map weight arcs) ≤ total → sum (map (λ a. unsigned_abs a.cost * unsigned_abs (a.cap -ℤ a.low)) arcs)
+    ≤ 2 * total
 width_total arcs total h =
     omega (arith, h, sum-weights-le (λ a. unsigned_abs a.cost * unsigned_abs (a.cap -ℤ a.low)) weight 2 width_weight arcs)
 
@@ -200,7 +215,8 @@ pub record CostStep (arcs : List Arc) (flow : List ℤ) (i : ℕ) (a : Arc) (f :
   pub before_small : IsUpTo total_limit (cost (take i arcs) flow)
   pub next : cost (take (i + 1) arcs) flow ≡ cost (take i arcs) flow +ℤ a.cost *ℤ f
 
-pub cost_step : (arcs : List Arc) (flow : List ℤ) (i : ℕ) (d : Arc) (e : ℤ) → All (IsArcWithinLimits wide_limits) arcs → sum (map weight arcs) ≤ total_limit → IsWithinBounds arcs flow → i < length arcs → CostStep arcs flow i (get_or arcs i d) (get_or flow i e)
+pub cost_step : (arcs : List Arc) (flow : List ℤ) (i : ℕ) (d : Arc) (e : ℤ) → All (IsArcWithinLimits wide_limits) arcs → sum (map weight arcs) ≤ total_limit
+    → IsWithinBounds arcs flow → i < length arcs → CostStep arcs flow i (get_or arcs i d) (get_or flow i e)
 cost_step arcs flow i d e small total bounds h =
     let here = AllZip-at IsPlaced arcs flow i d e (each_placed arcs flow small bounds) h in
     let k : i < length flow = omega (arith, length-AllZip CanCarry arcs flow bounds) in

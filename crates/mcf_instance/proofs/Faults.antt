@@ -25,13 +25,16 @@ fault_of (Err e) = Some e
 
 -- a problem line with these fields is read as the table says
 abbrev pub ReadsProblem : (lines : List Row) (n : ℕ) → List (List ℕ) → Type 0
-ReadsProblem lines n fields = problem_line (has_p lines) fields ≡ ok_unless (fault_of_line limits lines (record { number = n; fields = fields })) (heading_of (header_of (record { number = n; fields = fields })))
+ReadsProblem lines n fields = problem_line (has_p lines) fields ≡ ok_unless (fault_of_line limits lines (record { number = n; fields = fields }))
+    (heading_of (header_of (record { number = n; fields = fields })))
 
 -- past all tests but that of the sizes
 sizes : (format : Format) (u v : ℤ) (b : Bool) → (is_within (pos 0) (pos node_limit) u && is_within (pos 0) (pos arc_limit) v) ≡ b
-    → cond {A = Result Heading Code} (not (is_within (pos 0) (pos node_limit) (clamped u) && is_within (pos 0) (pos arc_limit) (clamped v))) (Err Size) (Ok (record { problem = format; nodes = natural (clamped u); arcs = natural (clamped v) }))
+    → cond {A = Result Heading Code} (not (is_within (pos 0) (pos node_limit) (clamped u) && is_within (pos 0) (pos arc_limit) (clamped v))) (Err Size)
+    (Ok (record { problem = format; nodes = natural (clamped u); arcs = natural (clamped v) }))
     ≡ ok_unless (cond (not (is_within (pos 0) (pos node_limit) u && is_within (pos 0) (pos arc_limit) v)) (Some Size) None)
-    (heading_of (cond (is_within (pos 0) (pos node_limit) u && is_within (pos 0) (pos arc_limit) v) (record { problem = format; nodes = natural u; arcs = natural v }) (record { problem = Min; nodes = 0; arcs = 0 })))
+    (heading_of (cond (is_within (pos 0) (pos node_limit) u && is_within (pos 0) (pos arc_limit) v)
+    (record { problem = format; nodes = natural u; arcs = natural v }) (record { problem = Min; nodes = 0; arcs = 0 })))
 sizes format u v false e = rw (is_within_count-clamped 0 node_limit u (omega arith), is_within_count-clamped 0 arc_limit v (omega arith), e) refl
 sizes format u v true e =
     let both = and_parts (is_within (pos 0) (pos node_limit) u) (is_within (pos 0) (pos arc_limit) v) e in
@@ -46,7 +49,8 @@ problem_four : (lines : List Row) (n : ℕ) (b c d : List ℕ) → ReadsProblem 
 unfolding fault_of_line problem_line number_at problem_at
 problem_four lines n b c d = go (bytes_eq b (codes "min")) (bytes_eq b (codes "asn")) (is_whole c) (is_whole d) (has_p lines) refl refl refl refl refl
   where
-    go : (m s : Bool) (x y : Bool) (p : Bool) → bytes_eq b (codes "min") ≡ m → bytes_eq b (codes "asn") ≡ s → is_whole c ≡ x → is_whole d ≡ y → has_p lines ≡ p → ReadsProblem lines n ((112 ∷ []) ∷ b ∷ c ∷ d ∷ [])
+    go : (m s : Bool) (x y : Bool) (p : Bool) → bytes_eq b (codes "min") ≡ m → bytes_eq b (codes "asn") ≡ s → is_whole c ≡ x → is_whole d ≡ y → has_p lines ≡ p
+        → ReadsProblem lines n ((112 ∷ []) ∷ b ∷ c ∷ d ∷ [])
     go false false x y p e1 e2 e3 e4 e5 = rw (e1, e2) refl
     go true s false y p e1 e2 e3 e4 e5 = rw (e1, e3) refl
     go true s true false p e1 e2 e3 e4 e5 = rw (e1, e3, e4) refl

@@ -1,7 +1,8 @@
 -- Small texts with a fault, evaluated on the definitions.
 use Rattle.std.specs.Prelude.{◌≡◌, ℕ, List, [], ◌∷◌, ◌++◌, flat_map, codes, Some, Option, refl}
 use Rattle.mcf_instance.specs.declared.code.Code.{Code}
-use Rattle.mcf_instance.specs.declared.code.Code.TheVariants.{BeforeP, Bound, Cost, Extra, Fields, Kind, LateN, Missing, NoP, Node, Number, Order, Problem, SecondP, Side, Size, Supply, Twice}
+use Rattle.mcf_instance.specs.declared.code.Code.TheVariants.{BeforeP, Bound, Cost, Extra, Fields, Kind, LateN, Missing, NoP, Node, Number, Order, Problem}
+use Rattle.mcf_instance.specs.declared.code.Code.TheVariants.{SecondP, Side, Size, Supply, Twice}
 use Rattle.mcf_instance.specs.Fault.{Fault, fault_at_end, fault_of_line, faults, first_fault, first_fault_of_lines}
 use Rattle.mcf_instance.specs.Limits.{limits}
 

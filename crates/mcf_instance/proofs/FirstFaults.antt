@@ -21,23 +21,27 @@ numbers_from {X} m n [] h = All-nil (λ (p : ℕ × X). m ≤ p.0)
 numbers_from {X} m n (x ∷ xs) h = All-cons (λ (p : ℕ × X). m ≤ p.0) (n, x) (enumerate_from (n + 1) xs) h (numbers_from m (n + 1) xs (omega arith))
 
 -- the first of some numbered items have small numbers
-pub numbers_before : {X : Type 0} (n : ℕ) (xs : List X) (before after : List (ℕ × X)) → enumerate_from n xs ≡ before ++ after → All (λ p. p.0 < n + length before) before
+pub numbers_before : {X : Type 0} (n : ℕ) (xs : List X) (before after : List (ℕ × X)) → enumerate_from n xs ≡ before ++ after
+    → All (λ p. p.0 < n + length before) before
 numbers_before {X} n xs [] after e = All-nil (λ (p : ℕ × X). p.0 < n + 0)
 numbers_before n [] (b ∷ before) after e = cc
 numbers_before {X} n (x ∷ xs) (b ∷ before) after e =
     let tail : enumerate_from (n + 1) xs ≡ before ++ after = cc in
     let pair : ◌≡◌ {A = ℕ × X} (n, x) b = cc in
     let first : n ≡ b.0 = ap (λ p. p.0) pair in
-    let others = All-weaker (λ (p : ℕ × X). p.0 < n + 1 + length before) (λ (p : ℕ × X). p.0 < n + length (b ∷ before)) (λ p h. omega (arith, h)) before (numbers_before (n + 1) xs before after tail) in
+    let others = All-weaker (λ (p : ℕ × X). p.0 < n + 1 + length before) (λ (p : ℕ × X). p.0 < n + length (b ∷ before)) (λ p h. omega (arith, h)) before
+    (numbers_before (n + 1) xs before after tail) in
     All-cons (λ (p : ℕ × X). p.0 < n + length (b ∷ before)) b before (omega (arith, first)) others
 
 -- and the others great ones
-pub numbers_after : {X : Type 0} (n : ℕ) (xs : List X) (before after : List (ℕ × X)) → enumerate_from n xs ≡ before ++ after → All (λ p. n + length before ≤ p.0) after
+pub numbers_after : {X : Type 0} (n : ℕ) (xs : List X) (before after : List (ℕ × X)) → enumerate_from n xs ≡ before ++ after
+    → All (λ p. n + length before ≤ p.0) after
 numbers_after {X} n xs [] after e = subst (All (λ (p : ℕ × X). n + 0 ≤ p.0)) e (numbers_from (n + 0) n xs (omega arith))
 numbers_after n [] (b ∷ before) after e = cc
 numbers_after {X} n (x ∷ xs) (b ∷ before) after e =
     let tail : enumerate_from (n + 1) xs ≡ before ++ after = cc in
-    All-weaker (λ (p : ℕ × X). n + 1 + length before ≤ p.0) (λ (p : ℕ × X). n + length (b ∷ before) ≤ p.0) (λ p h. omega (arith, h)) after (numbers_after (n + 1) xs before after tail)
+    All-weaker (λ (p : ℕ × X). n + 1 + length before ≤ p.0) (λ (p : ℕ × X). n + length (b ∷ before) ≤ p.0) (λ p h. omega (arith, h)) after
+    (numbers_after (n + 1) xs before after tail)
 
 -- what holds of the numbers of some lines holds of those of the kept ones
 pub kept_numbers : (P : ℕ → Type 0) (lines : List (ℕ × List ℕ)) → All (λ p. P p.0) lines → All (λ r. P r.number) (kept_rows lines)
@@ -55,32 +59,40 @@ holds_of_found {X} P p (y ∷ ys) x h e = go (p y) e (holds_of_found P p ys x (A
 -- ---- faults
 
 -- where some lines have no fault the first fault is of a line after them
-pub fault_after : (n : ℕ) (xs ys : List Row) (f : Fault) → slice_get (faults limits xs) 0 ≡ None → All (λ r. n < r.number) ys → slice_get (faults limits (xs ++ ys)) 0 ≡ Some f → n < f.line
+pub fault_after : (n : ℕ) (xs ys : List Row) (f : Fault) → slice_get (faults limits xs) 0 ≡ None → All (λ r. n < r.number) ys
+    → slice_get (faults limits (xs ++ ys)) 0 ≡ Some f → n < f.line
 fault_after n xs [] f none h e =
     let empty : None ≡ Some f = sym none ∙ ap (λ rs. slice_get (faults limits rs) 0) (sym (append-nil xs)) ∙ e in cc
-fault_after n xs (y ∷ ys) f none h e = go (fault_of_line limits xs y) refl (λ none' e'. fault_after n (xs ++ y ∷ []) ys f none' (All-tail (λ (r : Row). n < r.number) y ys h) e')
+fault_after n xs (y ∷ ys) f none h e = go (fault_of_line limits xs y) refl (λ none' e'. fault_after n (xs ++ y ∷ []) ys f none'
+    (All-tail (λ (r : Row). n < r.number) y ys h) e')
   where
     joined : slice_get (faults limits ((xs ++ y ∷ []) ++ ys)) 0 ≡ Some f
     joined = ap (λ rs. slice_get (faults limits rs) 0) (append_assoc xs (y ∷ []) ys) ∙ e
 
-    go : (o : Option Code) → fault_of_line limits xs y ≡ o → (slice_get (faults limits (xs ++ y ∷ [])) 0 ≡ None → slice_get (faults limits ((xs ++ y ∷ []) ++ ys)) 0 ≡ Some f → n < f.line) → n < f.line
+    go : (o : Option Code) → fault_of_line limits xs y ≡ o → (slice_get (faults limits (xs ++ y ∷ [])) 0 ≡ None
+        → slice_get (faults limits ((xs ++ y ∷ []) ++ ys)) 0 ≡ Some f → n < f.line) → n < f.line
     go (Some code) is later =
-        let here : slice_get (faults limits (xs ++ y ∷ [])) 0 ≡ Some (record { line = y.number; code = code }) = first_fault_more xs y ∙ ap (λ o. option_or o (as_fault limits (xs, y))) none ∙ ap (option_map (λ c. record { line = y.number; code = c })) is in
-        let same : ◌≡◌ {A = Option Fault} (Some (record { line = y.number; code = code })) (Some f) = sym (first_fault_stays (xs ++ y ∷ []) ys (record { line = y.number; code = code }) here) ∙ joined in
+        let here : slice_get (faults limits (xs ++ y ∷ [])) 0 ≡ Some (record { line = y.number; code = code }) = first_fault_more xs y
+        ∙ ap (λ o. option_or o (as_fault limits (xs, y))) none ∙ ap (option_map (λ c. record { line = y.number; code = c })) is in
+        let same : ◌≡◌ {A = Option Fault} (Some (record { line = y.number; code = code })) (Some f) =
+        sym (first_fault_stays (xs ++ y ∷ []) ys (record { line = y.number; code = code }) here) ∙ joined in
         let line : y.number ≡ f.line = line_of _ f same in
         omega (arith, line, All-head (λ (r : Row). n < r.number) y ys h)
       where
         line_of : (a b : Fault) → ◌≡◌ {A = Option Fault} (Some a) (Some b) → a.line ≡ b.line
         line_of a b e = let is : a ≡ b = cc in ap (λ (r : Fault). r.line) is
     go None is later =
-        later (first_fault_more xs y ∙ ap (λ o. option_or o (as_fault limits (xs, y))) none ∙ ap (option_map (λ c. record { line = y.number; code = c })) is) joined
+        later (first_fault_more xs y ∙ ap (λ o. option_or o (as_fault limits (xs, y))) none ∙ ap (option_map (λ c. record { line = y.number; code = c })) is)
+        joined
 
 -- the same of a text: its first fault is at a line after them, or after the last
-pub text_fault_after : (text : List ℕ) (n : ℕ) (xs ys : List Row) (fault : Fault) → rows text ≡ xs ++ ys → slice_get (faults limits xs) 0 ≡ None → All (λ r. n < r.number) ys → n < line_after text → first_fault limits text ≡ Some fault → n < fault.line
+pub text_fault_after : (text : List ℕ) (n : ℕ) (xs ys : List Row) (fault : Fault) → rows text ≡ xs ++ ys → slice_get (faults limits xs) 0 ≡ None
+    → All (λ r. n < r.number) ys → n < line_after text → first_fault limits text ≡ Some fault → n < fault.line
 unfolding first_fault first_fault_of_lines
 text_fault_after text n xs ys fault all none h last e = go (slice_get (faults limits (rows text)) 0) (fault_at_end (rows text)) refl e
   where
-    go : (o : Option Fault) (end : Option Code) → slice_get (faults limits (rows text)) 0 ≡ o → option_or o (option_map (λ code. record { line = line_after text; code = code }) end) ≡ Some fault → n < fault.line
+    go : (o : Option Fault) (end : Option Code) → slice_get (faults limits (rows text)) 0 ≡ o
+        → option_or o (option_map (λ code. record { line = line_after text; code = code }) end) ≡ Some fault → n < fault.line
     go (Some f) end is k =
         let same : f ≡ fault = cc in
         subst (λ (g : Fault). n < g.line) same (fault_after n xs ys f none h (ap (λ rs. slice_get (faults limits rs) 0) (sym all) ∙ is))

@@ -15,7 +15,8 @@ use Rattle.mcf_instance.specs.Assignment.{OnAssignment}
 use Rattle.mcf_instance.specs.Blocking.{in_table}
 use Rattle.mcf_instance.specs.Fault.{is_up_to}
 use Rattle.mcf_instance.specs.Limits.{limits, node_limit, arc_limit}
-use Rattle.mcf_instance.specs.Private.LineReader.{◌>>=◌, arc_count_fits, arc_line, arc_numbers, arc_tests, is_wrong_side, checked_node, node_count_fits, node_line, node_numbers, node_tests, number_at, problem_at, problem_line, with_heading}
+use Rattle.mcf_instance.specs.Private.LineReader.{◌>>=◌, arc_count_fits, arc_line, arc_numbers, arc_tests, is_wrong_side, checked_node, node_count_fits}
+use Rattle.mcf_instance.specs.Private.LineReader.{node_line, node_numbers, node_tests, number_at, problem_at, problem_line, with_heading}
 use Rattle.mcf_instance.specs.Packed.{unpacked}
 use Rattle.mcf_instance.specs.Private.ReaderState.{StateData, item_of, problem_or_min}
 use Rattle.mcf_instance.specs.Private.ReaderSound.{IsFlaggedPair, ItemFits, heading_arcs, heading_nodes}
@@ -29,7 +30,8 @@ use Rattle.mcf_instance.proofs.Ranges.{natural_low, natural_high, natural_most, 
 
 -- ---- steps
 
-if_ok_then : {A B : Type 0} (r : Result A Code) (f : A → Result B Code) (Q : A → Type 0) (P : B → Type 0) → IfOk r Q → ((x : A) → Q x → IfOk (f x) P) → IfOk (r >>= f) P
+if_ok_then : {A B : Type 0} (r : Result A Code) (f : A → Result B Code) (Q : A → Type 0) (P : B → Type 0) → IfOk r Q → ((x : A) → Q x → IfOk (f x) P)
+    → IfOk (r >>= f) P
 if_ok_then (Ok x) f Q P q h = h x q
 if_ok_then (Err e) f Q P q h = tt
 
@@ -44,7 +46,8 @@ if_ok_test : {A : Type 0} (b : Bool) (e : Code) (r : Result A Code) (P : A → T
 if_ok_test true e r P h = tt
 if_ok_test false e r P h = h refl
 
-if_ok_node : {B : Type 0} (h : Heading) (z : ℤ) (f : ℕ → Result B Code) (P : B → Type 0) → ((v : ℕ) → 1 ≤ v → v ≤ h.nodes → IfOk (f v) P) → IfOk (checked_node h z >>= f) P
+if_ok_node : {B : Type 0} (h : Heading) (z : ℤ) (f : ℕ → Result B Code) (P : B → Type 0) → ((v : ℕ) → 1 ≤ v → v ≤ h.nodes → IfOk (f v) P)
+    → IfOk (checked_node h z >>= f) P
 if_ok_node h z f P k = go (is_within (pos 1) (pos h.nodes) z) refl
   where
     go : (b : Bool) → is_within (pos 1) (pos h.nodes) z ≡ b → IfOk (checked_node h z >>= f) P
@@ -68,7 +71,8 @@ problem_fits seen fields =
     if_ok_bind (number_at fields 2) _ (HeadingFound seen) (λ nodes.
     if_ok_bind (number_at fields 3) _ (HeadingFound seen) (λ arcs.
     if_ok_test seen _ _ (HeadingFound seen) (λ unseen.
-    if_ok_test (not (is_within (pos 0) (pos node_limit) nodes && is_within (pos 0) (pos arc_limit) arcs)) _ (Ok (record { problem = problem; nodes = natural nodes; arcs = natural arcs })) (HeadingFound seen) (λ sizes.
+    if_ok_test (not (is_within (pos 0) (pos node_limit) nodes && is_within (pos 0) (pos arc_limit) arcs)) _
+    (Ok (record { problem = problem; nodes = natural nodes; arcs = natural arcs })) (HeadingFound seen) (λ sizes.
     let both = and_parts (is_within (pos 0) (pos node_limit) nodes) (is_within (pos 0) (pos arc_limit) arcs) (not-false _ sizes) in
     (unseen, natural_most node_limit nodes both.0, natural_most arc_limit arcs both.1)))))))
 
@@ -78,7 +82,8 @@ problem_fits seen fields =
 abbrev NodeFits : Option Heading → ℕ → ℕ × ℤ → Type 0
 NodeFits o arcs n = (1 ≤ n.0) × (n.0 ≤ heading_nodes o) × (arcs ≡ 0) × IsUpTo limits.supply n.1 × OnAssignment (problem_or_min o) (n.1 ≡ pos 1)
 
-node_tests_fit : (h : Heading) (arcs : ℕ) (listed : List Bool) (u z : ℤ) → OnAssignment h.problem (z ≡ pos 1) → IfOk (node_tests limits h arcs listed u z) (NodeFits (Some h) arcs)
+node_tests_fit : (h : Heading) (arcs : ℕ) (listed : List Bool) (u z : ℤ) → OnAssignment h.problem (z ≡ pos 1)
+    → IfOk (node_tests limits h arcs listed u z) (NodeFits (Some h) arcs)
 unfolding node_tests
 node_tests_fit h arcs listed u z one =
     if_ok_node h u _ (NodeFits (Some h) arcs) (λ v low high.
@@ -96,18 +101,23 @@ no_other_count n k m differ e = ne_eqb n m (λ is. differ (sym (eqb-true n k e) 
 node_line_fits : (o : Option Heading) (arcs : ℕ) (listed : List Bool) (fields : List (List ℕ)) → IfOk (node_line limits o arcs listed fields) (NodeFits o arcs)
 unfolding node_line
 node_line_fits None arcs listed fields =
-    if_ok_test (not (node_count_fits None (length fields))) Fields (node_numbers fields >>= λ n. with_heading None (λ h. node_tests limits h arcs listed n.0 n.1)) (NodeFits None arcs)
+    if_ok_test (not (node_count_fits None (length fields))) Fields (node_numbers fields >>= λ n. with_heading None
+    (λ h. node_tests limits h arcs listed n.0 n.1)) (NodeFits None arcs)
     (λ _. if_ok_bind (node_numbers fields) (λ n. with_heading None (λ h. node_tests limits h arcs listed n.0 n.1)) (NodeFits None arcs) (λ _. tt))
 node_line_fits (Some h) arcs listed fields = go h.problem refl
   where
-    at : (p : Format) → IfOk (node_line limits (Some (record { problem = p; nodes = h.nodes; arcs = h.arcs })) arcs listed fields) (NodeFits (Some (record { problem = p; nodes = h.nodes; arcs = h.arcs })) arcs)
+    at : (p : Format) → IfOk (node_line limits (Some (record { problem = p; nodes = h.nodes; arcs = h.arcs })) arcs listed fields)
+        (NodeFits (Some (record { problem = p; nodes = h.nodes; arcs = h.arcs })) arcs)
     at Min =
         let g : Heading = record { problem = Min; nodes = h.nodes; arcs = h.arcs } in
-        if_ok_test _ _ _ (NodeFits (Some g) arcs) (λ _. if_ok_bind (node_numbers fields) _ (NodeFits (Some g) arcs) (λ n. node_tests_fit g arcs listed n.0 n.1 tt))
+        if_ok_test _ _ _ (NodeFits (Some g) arcs) (λ _. if_ok_bind (node_numbers fields) _ (NodeFits (Some g) arcs)
+        (λ n. node_tests_fit g arcs listed n.0 n.1 tt))
     at Asn =
         let g : Heading = record { problem = Asn; nodes = h.nodes; arcs = h.arcs } in
         if_ok_test (not (length fields == 2)) _ _ (NodeFits (Some g) arcs) (λ count.
-        if_ok_then (node_numbers fields) _ (λ n. n.1 ≡ pos 1) (NodeFits (Some g) arcs) (asn_node_numbers fields (no_other_count (length fields) 2 3 (omega arith) (not-false _ count))) (λ n one. node_tests_fit g arcs listed n.0 n.1 one))
+        if_ok_then (node_numbers fields) _ (λ n. n.1 ≡ pos 1) (NodeFits (Some g) arcs)
+        (asn_node_numbers fields (no_other_count (length fields) 2 3 (omega arith) (not-false _ count)))
+        (λ n one. node_tests_fit g arcs listed n.0 n.1 one))
 
     go : (p : Format) → h.problem ≡ p → IfOk (node_line limits (Some h) arcs listed fields) (NodeFits (Some h) arcs)
     go p e = at h.problem
@@ -124,16 +134,19 @@ pub record ArcFits (o : Option Heading) (arcs : ℕ) (listed : List Bool) (a : P
 abbrev UnitBounds : Format → ArcNumbers → Type 0
 UnitBounds p a = OnAssignment p ((a.low ≡ pos 0) × (a.cap ≡ pos 1))
 
-sides_fit : (h : Heading) (listed : List Bool) (a : PackedArc) → OnAssignment h.problem ((a.low ≡ pos 0) × (a.cap ≡ pos 1)) → is_wrong_side h listed a.src a.dst ≡ false → OnAssignment h.problem (IsFlaggedPair listed a)
+sides_fit : (h : Heading) (listed : List Bool) (a : PackedArc) → OnAssignment h.problem ((a.low ≡ pos 0) × (a.cap ≡ pos 1))
+    → is_wrong_side h listed a.src a.dst ≡ false → OnAssignment h.problem (IsFlaggedPair listed a)
 sides_fit h listed a unit right = at h.problem unit right
   where
-    at : (p : Format) → OnAssignment p ((a.low ≡ pos 0) × (a.cap ≡ pos 1)) → is_wrong_side (record { problem = p; nodes = h.nodes; arcs = h.arcs }) listed a.src a.dst ≡ false → OnAssignment p (IsFlaggedPair listed a)
+    at : (p : Format) → OnAssignment p ((a.low ≡ pos 0) × (a.cap ≡ pos 1)) → is_wrong_side
+        (record { problem = p; nodes = h.nodes; arcs = h.arcs }) listed a.src a.dst ≡ false → OnAssignment p (IsFlaggedPair listed a)
     at Min u r = tt
     at Asn u r =
         let parts = or_parts (not (in_table listed a.src)) (in_table listed a.dst) r in
         record { from_flagged = not-false _ parts.0; to_unflagged = parts.1; low_is = u.0; cap_is = u.1 }
 
-arc_tests_fit : (h : Heading) (arcs : ℕ) (listed : List Bool) (a : ArcNumbers) → UnitBounds h.problem a → IfOk (arc_tests limits h arcs listed a) (ArcFits (Some h) arcs listed)
+arc_tests_fit : (h : Heading) (arcs : ℕ) (listed : List Bool) (a : ArcNumbers) → UnitBounds h.problem a
+    → IfOk (arc_tests limits h arcs listed a) (ArcFits (Some h) arcs listed)
 unfolding arc_tests
 arc_tests_fit h arcs listed a unit =
     let P : PackedArc → Type 0 = ArcFits (Some h) arcs listed in
@@ -163,21 +176,26 @@ asn_arc_numbers fields e =
     let P : ArcNumbers → Type 0 = λ a. (a.low ≡ pos 0) × (a.cap ≡ pos 1) in
     rw e (if_ok_bind (number_at fields 1) _ P (λ _. if_ok_bind (number_at fields 2) _ P (λ _. if_ok_bind (number_at fields 3) _ P (λ _. (refl, refl)))))
 
-arc_line_fits : (o : Option Heading) (arcs : ℕ) (listed : List Bool) (fields : List (List ℕ)) → IfOk (arc_line limits o arcs listed fields) (ArcFits o arcs listed)
+arc_line_fits : (o : Option Heading) (arcs : ℕ) (listed : List Bool) (fields : List (List ℕ))
+    → IfOk (arc_line limits o arcs listed fields) (ArcFits o arcs listed)
 unfolding arc_line
 arc_line_fits None arcs listed fields =
-    if_ok_test (not (arc_count_fits None (length fields))) Fields (arc_numbers fields >>= λ a. with_heading None (λ h. arc_tests limits h arcs listed a)) (ArcFits None arcs listed)
+    if_ok_test (not (arc_count_fits None (length fields))) Fields (arc_numbers fields >>= λ a. with_heading None (λ h. arc_tests limits h arcs listed a))
+    (ArcFits None arcs listed)
     (λ _. if_ok_bind (arc_numbers fields) (λ a. with_heading None (λ h. arc_tests limits h arcs listed a)) (ArcFits None arcs listed) (λ _. tt))
 arc_line_fits (Some h) arcs listed fields = at h.problem
   where
-    at : (p : Format) → IfOk (arc_line limits (Some (record { problem = p; nodes = h.nodes; arcs = h.arcs })) arcs listed fields) (ArcFits (Some (record { problem = p; nodes = h.nodes; arcs = h.arcs })) arcs listed)
+    at : (p : Format) → IfOk (arc_line limits (Some (record { problem = p; nodes = h.nodes; arcs = h.arcs })) arcs listed fields)
+        (ArcFits (Some (record { problem = p; nodes = h.nodes; arcs = h.arcs })) arcs listed)
     at Min =
         let g : Heading = record { problem = Min; nodes = h.nodes; arcs = h.arcs } in
-        if_ok_test _ _ _ (ArcFits (Some g) arcs listed) (λ _. if_ok_bind (arc_numbers fields) _ (ArcFits (Some g) arcs listed) (λ a. arc_tests_fit g arcs listed a tt))
+        if_ok_test _ _ _ (ArcFits (Some g) arcs listed) (λ _. if_ok_bind (arc_numbers fields) _ (ArcFits (Some g) arcs listed)
+        (λ a. arc_tests_fit g arcs listed a tt))
     at Asn =
         let g : Heading = record { problem = Asn; nodes = h.nodes; arcs = h.arcs } in
         if_ok_test (not (length fields == 4)) _ _ (ArcFits (Some g) arcs listed) (λ count.
-        if_ok_then (arc_numbers fields) _ (λ a. (a.low ≡ pos 0) × (a.cap ≡ pos 1)) (ArcFits (Some g) arcs listed) (asn_arc_numbers fields (no_other_count (length fields) 4 6 (omega arith) (not-false _ count))) (λ a unit. arc_tests_fit g arcs listed a unit))
+        if_ok_then (arc_numbers fields) _ (λ a. (a.low ≡ pos 0) × (a.cap ≡ pos 1)) (ArcFits (Some g) arcs listed)
+        (asn_arc_numbers fields (no_other_count (length fields) 4 6 (omega arith) (not-false _ count))) (λ a unit. arc_tests_fit g arcs listed a unit))
 
 -- ---- any line
 
@@ -187,18 +205,22 @@ no_heading (Some h) e = cc
 
 if_ok_item : (s : StateData) (fields : List (List ℕ)) → IfOk (item_of limits s fields) (ItemFits limits s)
 unfolding item_of
-if_ok_item s fields = go (bytes_eq (slice_index_or fields 0 []) (codes "p")) (bytes_eq (slice_index_or fields 0 []) (codes "n")) (bytes_eq (slice_index_or fields 0 []) (codes "a")) refl refl refl
+if_ok_item s fields = go (bytes_eq (slice_index_or fields 0 []) (codes "p")) (bytes_eq (slice_index_or fields 0 []) (codes "n"))
+    (bytes_eq (slice_index_or fields 0 []) (codes "a")) refl refl refl
   where
-    go : (p n a : Bool) → bytes_eq (slice_index_or fields 0 []) (codes "p") ≡ p → bytes_eq (slice_index_or fields 0 []) (codes "n") ≡ n → bytes_eq (slice_index_or fields 0 []) (codes "a") ≡ a
+    go : (p n a : Bool) → bytes_eq (slice_index_or fields 0 []) (codes "p") ≡ p → bytes_eq (slice_index_or fields 0 []) (codes "n") ≡ n
+        → bytes_eq (slice_index_or fields 0 []) (codes "a") ≡ a
         → IfOk (item_of limits s fields) (ItemFits limits s)
     go true n a e f g =
         rw e (if_ok_then (problem_line (is_some s.heading) fields) _ _ (ItemFits limits s) (problem_fits (is_some s.heading) fields)
         (λ h fit. record { first = no_heading s.heading fit.0; nodes_small = fit.1; arcs_small = fit.2 }))
     go false true a e f g =
-        rw (e, f) (if_ok_then (node_line limits s.heading (length s.arcs) s.listed fields) _ _ (ItemFits limits s) (node_line_fits s.heading (length s.arcs) s.listed fields)
+        rw (e, f) (if_ok_then (node_line limits s.heading (length s.arcs) s.listed fields) _ _ (ItemFits limits s)
+        (node_line_fits s.heading (length s.arcs) s.listed fields)
         (λ n fit. record { low = fit.0; high = fit.1; before_arcs = nil_from_length s.arcs fit.2; small = fit.3; assignment = fit.4 }))
     go false false true e f g =
-        rw (e, f, g) (if_ok_then (arc_line limits s.heading (length s.arcs) s.listed fields) _ _ (ItemFits limits s) (arc_line_fits s.heading (length s.arcs) s.listed fields)
+        rw (e, f, g) (if_ok_then (arc_line limits s.heading (length s.arcs) s.listed fields) _ _ (ItemFits limits s)
+        (arc_line_fits s.heading (length s.arcs) s.listed fields)
         (λ a fit. record { room = fit.room; ends = fit.ends; is_within = fit.is_within; assignment = fit.assignment }))
     go false false false e f g = rw (e, f, g) tt
 

@@ -9,7 +9,16 @@ use borrow.Author.Differences.{up, down, sum_is_lem, neg_is, product_is, same_in
 pub mul-add : (a b c : ℤ) → a *ℤ (b +ℤ c) ≡ a *ℤ b +ℤ a *ℤ c
 mul-add a b c =
     same_in (a *ℤ (b +ℤ c)) (a *ℤ b +ℤ a *ℤ c)
-    (omega (arith, product_is a (b +ℤ c), product_is a b, product_is a c, sum_is_lem (a *ℤ b) (a *ℤ c), ap (λ n. up a * n) (sum_is_lem b c), ap (λ n. down a * n) (sum_is_lem b c)))
+    (omega (
+      arith,
+      product_is a (b +ℤ c),
+      product_is a b,
+      product_is a c,
+      sum_is_lem (a *ℤ b) (a *ℤ c),
+      ap (λ n. up a * n) (sum_is_lem b c),
+      ap
+          (λ n. down a * n) (sum_is_lem b c),
+    ))
 
 -- a * (-b) = -(a * b)
 pub mul-neg : (a b : ℤ) → a *ℤ neg_ℤ b ≡ neg_ℤ (a *ℤ b)

@@ -26,7 +26,8 @@ use Rattle.mcf_instance.proofs.Taken.{supply_said}
 -- ---- the tables of the state
 
 pub flags_of : (s : StateData) (lines : List Row) → Holds s lines → (v : ℕ) → 1 ≤ v → v ≤ (header lines).nodes → in_table s.listed v ≡ is_listed lines v
-flags_of s lines h v low high = ap (λ xs. get_or xs (v - 1) false) h.listed_is ∙ get_or-map-range_with_len (is_listed lines) 1 (header lines).nodes (v - 1) v false (omega arith) (omega arith)
+flags_of s lines h v low high = ap (λ xs. get_or xs (v - 1) false) h.listed_is ∙ get_or-map-range_with_len (is_listed lines) 1 (header lines).nodes
+    (v - 1) v false (omega arith) (omega arith)
 
 -- as many arcs as arc lines
 pub arcs_of : (s : StateData) (lines : List Row) → Holds s lines → length s.arcs ≡ length (arc_lines lines)
@@ -42,7 +43,8 @@ seen_of s lines h = ap is_some h.heading_is ∙ go (has_p lines)
 -- ---- what a good line says
 
 abbrev pub item_said : List Row → Row → Item
-item_said lines row = cond (is_p row) (Problem (heading_of (header_of row))) (cond (is_n row) (Supply (node row 1) (supply_said (header lines).problem row)) (Link (packed (arc_of (header lines).problem row))))
+item_said lines row = cond (is_p row) (Problem (heading_of (header_of row))) (cond (is_n row) (Supply (node row 1) (supply_said (header lines).problem row))
+    (Link (packed (arc_of (header lines).problem row))))
 
 bind_ok : {A B : Type 0} (o : Option Code) (x : A) (f : A → B) → (ok_unless o x >>= λ y. Ok (f y)) ≡ ok_unless o (f x)
 bind_ok None x f = refl
@@ -57,29 +59,40 @@ problem_item s lines row h kind =
     let read = problem_line_reads lines row.number row.fields kind in
     rw (kind, seen_of s lines h, read) (bind_ok (fault_of_line limits lines row) (heading_of (header_of row)) Problem)
 
-node_read : (s : StateData) (lines : List Row) (row : Row) → Holds s lines → field row 0 ≡ codes "n" → node_line limits s.heading (length s.arcs) s.listed row.fields ≡ ok_unless (fault_of_line limits lines row) (node row 1, supply_said (header lines).problem row)
+node_read : (s : StateData) (lines : List Row) (row : Row) → Holds s lines → field row 0 ≡ codes "n"
+    → node_line limits s.heading (length s.arcs) s.listed row.fields ≡ ok_unless (fault_of_line limits lines row)
+    (node row 1, supply_said (header lines).problem row)
 node_read s lines row h kind = rw (h.heading_is, arcs_of s lines h) (go (has_p lines) (header lines).problem refl refl)
   where
-    go : (b : Bool) (f : Format) → has_p lines ≡ b → (header lines).problem ≡ f → node_line limits (heading_seen lines) (length (arc_lines lines)) s.listed row.fields ≡ ok_unless (fault_of_line limits lines row) (node row 1, supply_said (header lines).problem row)
+    go : (b : Bool) (f : Format) → has_p lines ≡ b → (header lines).problem ≡ f → node_line limits (heading_seen lines)
+        (length (arc_lines lines)) s.listed row.fields ≡ ok_unless (fault_of_line limits lines row) (node row 1, supply_said (header lines).problem row)
     go false f e g = rw e (node_line_early lines row.number row.fields s.listed _ e kind)
-    go true Min e g = node_line_reads lines row.number row.fields s.listed e kind (flags_of s lines h) g ∙ ap (λ p. ok_unless (fault_of_line limits lines row) (node row 1, supply_said p row)) (sym g)
-    go true Asn e g = node_row_reads lines row.number row.fields s.listed e kind (flags_of s lines h) g ∙ ap (λ p. ok_unless (fault_of_line limits lines row) (node row 1, supply_said p row)) (sym g)
+    go true Min e g = node_line_reads lines row.number row.fields s.listed e kind (flags_of s lines h) g
+        ∙ ap (λ p. ok_unless (fault_of_line limits lines row) (node row 1, supply_said p row)) (sym g)
+    go true Asn e g = node_row_reads lines row.number row.fields s.listed e kind (flags_of s lines h) g
+        ∙ ap (λ p. ok_unless (fault_of_line limits lines row) (node row 1, supply_said p row)) (sym g)
 
 node_item : (s : StateData) (lines : List Row) (row : Row) → Holds s lines → field row 0 ≡ codes "n" → ReadsItem s lines row
 unfolding item_of
-node_item s lines row h kind = rw (node_read s lines row h kind, kind) (bind_ok (fault_of_line limits lines row) (node row 1, supply_said (header lines).problem row) (λ n. Supply n.0 n.1))
+node_item s lines row h kind = rw (node_read s lines row h kind, kind) (bind_ok (fault_of_line limits lines row)
+    (node row 1, supply_said (header lines).problem row) (λ n. Supply n.0 n.1))
 
-arc_read : (s : StateData) (lines : List Row) (row : Row) → Holds s lines → field row 0 ≡ codes "a" → arc_line limits s.heading (length s.arcs) s.listed row.fields ≡ ok_unless (fault_of_line limits lines row) (packed (arc_of (header lines).problem row))
+arc_read : (s : StateData) (lines : List Row) (row : Row) → Holds s lines → field row 0 ≡ codes "a"
+    → arc_line limits s.heading (length s.arcs) s.listed row.fields ≡ ok_unless (fault_of_line limits lines row) (packed (arc_of (header lines).problem row))
 arc_read s lines row h kind = rw (h.heading_is, arcs_of s lines h) (go (has_p lines) (header lines).problem refl refl)
   where
-    go : (b : Bool) (f : Format) → has_p lines ≡ b → (header lines).problem ≡ f → arc_line limits (heading_seen lines) (length (arc_lines lines)) s.listed row.fields ≡ ok_unless (fault_of_line limits lines row) (packed (arc_of (header lines).problem row))
+    go : (b : Bool) (f : Format) → has_p lines ≡ b → (header lines).problem ≡ f → arc_line limits (heading_seen lines)
+        (length (arc_lines lines)) s.listed row.fields ≡ ok_unless (fault_of_line limits lines row) (packed (arc_of (header lines).problem row))
     go false f e g = rw e (arc_line_early lines row.number row.fields s.listed (λ row. packed (arc_of (header lines).problem row)) e kind)
-    go true Min e g = arc_line_reads lines row.number row.fields s.listed e kind g ∙ ap (λ p. ok_unless (fault_of_line limits lines row) (packed (arc_of p row))) (sym g)
-    go true Asn e g = arc_pair_reads lines row.number row.fields s.listed e kind (flags_of s lines h) g ∙ ap (λ p. ok_unless (fault_of_line limits lines row) (packed (arc_of p row))) (sym g)
+    go true Min e g = arc_line_reads lines row.number row.fields s.listed e kind g ∙ ap
+        (λ p. ok_unless (fault_of_line limits lines row) (packed (arc_of p row))) (sym g)
+    go true Asn e g = arc_pair_reads lines row.number row.fields s.listed e kind (flags_of s lines h) g
+        ∙ ap (λ p. ok_unless (fault_of_line limits lines row) (packed (arc_of p row))) (sym g)
 
 arc_item : (s : StateData) (lines : List Row) (row : Row) → Holds s lines → field row 0 ≡ codes "a" → ReadsItem s lines row
 unfolding item_of
-arc_item s lines row h kind = rw (arc_read s lines row h kind, kind) (bind_ok (fault_of_line limits lines row) (packed (arc_of (header lines).problem row)) Link)
+arc_item s lines row h kind = rw (arc_read s lines row h kind, kind) (bind_ok (fault_of_line limits lines row)
+    (packed (arc_of (header lines).problem row)) Link)
 
 pub item_reads : (s : StateData) (lines : List Row) (row : Row) → Holds s lines → ReadsItem s lines row
 unfolding item_of fault_of_line

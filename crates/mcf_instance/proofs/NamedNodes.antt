@@ -1,5 +1,6 @@
 -- Memory is wanted only where the problem line names nodes.
-use Rattle.std.proofs.Common.{◌≡◌, ℕ, ◌+◌, ◌≤◌, ◌<◌, Bool, true, false, cond, List, [], ◌∷◌, ◌++◌, length, refl, sym, ◌∙◌, ap, subst, Some, None, Ok, Err, arith, length-append}
+use Rattle.std.proofs.Common.{◌≡◌, ℕ, ◌+◌, ◌≤◌, ◌<◌, Bool, true, false, cond, List, [], ◌∷◌, ◌++◌, length, refl, sym, ◌∙◌, ap, subst, Some, None, Ok, Err}
+use Rattle.std.proofs.Common.{arith, length-append}
 use Rattle.std.specs.Prelude.{Option, Result, find, option_map, slice_get}
 use Rattle.std.specs.Option.{option_or, option_map_or}
 use Rattle.std.proofs.lemmas.Bool.{ltb-true}
@@ -51,7 +52,8 @@ found_before xs ys row some e = go (find is_p xs) refl some (sym (find-append is
     go (Some r) is here k = is ∙ k
 
 -- a line by which the state grows is a problem line that names nodes, or stands after one, as it names nodes of its own
-pub step_names_nodes : (s : StateData) (lines : List Row) (row : Row) → Stands limits s lines → s.refusal ≡ None → outcome_grows (item_of limits s row.fields) ≡ true
+pub step_names_nodes : (s : StateData) (lines : List Row) (row : Row) → Stands limits s lines → s.refusal ≡ None
+    → outcome_grows (item_of limits s row.fields) ≡ true
     → (1 ≤ (header (lines ++ row ∷ [])).nodes) × (slice_get (faults limits (lines ++ row ∷ [])) 0 ≡ None)
 step_names_nodes s lines row stands none grows = go (item_of limits s row.fields) refl grows
   where
@@ -62,9 +64,11 @@ step_names_nodes s lines row stands none grows = go (item_of limits s row.fields
     faultless item is =
         let line : fault_of_line limits lines row ≡ None = sym (same_fault s lines row held) ∙ ap fault_of is in
         let before : slice_get (faults limits lines) 0 ≡ None = sym stands.refusal_is ∙ none in
-        first_fault_more lines row ∙ ap (λ o. option_or o (as_fault limits (lines, row))) before ∙ ap (option_map (λ code. record { line = row.number; code = code })) line
+        first_fault_more lines row ∙ ap (λ o. option_or o (as_fault limits (lines, row))) before ∙ ap
+        (option_map (λ code. record { line = row.number; code = code })) line
 
-    go : (r : Result Item Code) → item_of limits s row.fields ≡ r → outcome_grows r ≡ true → (1 ≤ (header (lines ++ row ∷ [])).nodes) × (slice_get (faults limits (lines ++ row ∷ [])) 0 ≡ None)
+    go : (r : Result Item Code) → item_of limits s row.fields ≡ r → outcome_grows r ≡ true → (1 ≤ (header (lines ++ row ∷ [])).nodes)
+        × (slice_get (faults limits (lines ++ row ∷ [])) 0 ≡ None)
     go (Err e) is g = cc
     go (Ok (Supply v z)) is g = cc
     go (Ok (Problem h)) is g =
@@ -78,7 +82,8 @@ step_names_nodes s lines row stands none grows = go (item_of limits s row.fields
 
 -- the lines up to one by which the state grows have no fault, and their first problem line is that of the text
 pub text_names_nodes : (text : List ℕ) (s : StateData) (next : ℕ) (x : ℕ × List ℕ) (rest : List (ℕ × List ℕ)) → HasRead limits text s next (x ∷ rest)
-    → ((lines : List Row) → Stands limits s lines → (1 ≤ (header (lines ++ row_of x ∷ [])).nodes) × (slice_get (faults limits (lines ++ row_of x ∷ [])) 0 ≡ None))
+    → ((lines : List Row) → Stands limits s lines → (1 ≤ (header (lines ++ row_of x ∷ [])).nodes)
+    × (slice_get (faults limits (lines ++ row_of x ∷ [])) 0 ≡ None))
     → is_kept x.1 ≡ true → NamesNodes limits text
 text_names_nodes text s next x rest h wants kept =
     let seen = kept_rows (h.before ++ x ∷ []) in
@@ -86,8 +91,10 @@ text_names_nodes text s next x rest h wants kept =
     let joined : numbered_lines 1 text ≡ (h.before ++ x ∷ []) ++ rest = h.joined ∙ sym (append_assoc h.before (x ∷ []) rest) in
     let all : rows text ≡ seen ++ kept_rows rest = rows_joined text (h.before ++ x ∷ []) rest joined in
     let some : 1 ≤ (header seen).nodes = subst (λ rs. 1 ≤ (header rs).nodes) last (wants (kept_rows h.before) h.stands).0 in
-    let faultless : slice_get (faults limits seen) 0 ≡ None = subst (λ rs. slice_get (faults limits rs) 0 ≡ None) last (wants (kept_rows h.before) h.stands).1 in
-    let early = kept_numbers (λ n. n < 1 + length (h.before ++ x ∷ [])) (h.before ++ x ∷ []) (numbers_before 1 (lines_of text) (h.before ++ x ∷ []) rest joined) in
+    let faultless : slice_get (faults limits seen) 0 ≡ None = subst (λ rs. slice_get (faults limits rs) 0 ≡ None) last
+    (wants (kept_rows h.before) h.stands).1 in
+    let early = kept_numbers (λ n. n < 1 + length (h.before ++ x ∷ [])) (h.before ++ x ∷ [])
+    (numbers_before 1 (lines_of text) (h.before ++ x ∷ []) rest joined) in
     let late = kept_numbers (λ n. 1 + length (h.before ++ x ∷ []) ≤ n) rest (numbers_after 1 (lines_of text) (h.before ++ x ∷ []) rest joined) in
     let many = length-enumerate_from 1 (lines_of text) in
     let parts = ap length joined ∙ length-append (h.before ++ x ∷ []) rest in
@@ -95,9 +102,12 @@ text_names_nodes text s next x rest h wants kept =
       nodes = subst (λ rs. 1 ≤ (header rs).nodes) (sym all) (more_lines seen (kept_rows rest) some);
       before_fault = λ row fault found at.
           let in_seen = found_before seen (kept_rows rest) row some (ap (find is_p) (sym all) ∙ found) in
-          let low : row.number < 1 + length (h.before ++ x ∷ []) = holds_of_found (λ (r : Row). r.number < 1 + length (h.before ++ x ∷ [])) is_p seen row early in_seen in
-          let later = All-weaker (λ (r : Row). 1 + length (h.before ++ x ∷ []) ≤ r.number) (λ (r : Row). length (h.before ++ x ∷ []) < r.number) (λ r l. omega (arith, l)) (kept_rows rest) late in
-          let high : length (h.before ++ x ∷ []) < fault.line = text_fault_after text (length (h.before ++ x ∷ [])) seen (kept_rows rest) fault all faultless later (omega (arith, many, parts)) at in
+          let low : row.number < 1 + length (h.before ++ x ∷ []) = holds_of_found (λ (r : Row). r.number < 1 + length (h.before ++ x ∷ [])) is_p seen row early
+          in_seen in
+          let later = All-weaker (λ (r : Row). 1 + length (h.before ++ x ∷ []) ≤ r.number) (λ (r : Row). length (h.before ++ x ∷ []) < r.number)
+          (λ r l. omega (arith, l)) (kept_rows rest) late in
+          let high : length (h.before ++ x ∷ []) < fault.line = text_fault_after text (length (h.before ++ x ∷ [])) seen
+          (kept_rows rest) fault all faultless later (omega (arith, many, parts)) at in
           omega (arith, low, high);
     }
 

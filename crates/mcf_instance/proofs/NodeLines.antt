@@ -1,5 +1,6 @@
 -- What the reader of node lines answers is the table's fault, or the node with its supply.
-use Rattle.std.proofs.Common.{◌≡◌, ℕ, ◌≤◌, Bool, true, false, not, cond, ◌&&◌, List, [], ◌∷◌, length, refl, sym, ◌∙◌, ap, subst, Some, None, Ok, Err, arith, nat_lt}
+use Rattle.std.proofs.Common.{◌≡◌, ℕ, ◌≤◌, Bool, true, false, not, cond, ◌&&◌, List, [], ◌∷◌, length, refl, sym, ◌∙◌, ap, subst, Some, None, Ok, Err, arith}
+use Rattle.std.proofs.Common.{nat_lt}
 use Rattle.std.specs.Prelude.{Option, Result, ℤ, pos, slice_index_or, find, ◌==◌}
 use Rattle.mcf_instance.specs.declared.code.Code.{Code}
 use Rattle.mcf_instance.specs.declared.code.Code.TheVariants.{Node, LateN, Twice, Supply}
@@ -21,7 +22,8 @@ abbrev pub ok_unless : {X : Type 0} → Option Code → X → Result X Code
 ok_unless None x = Ok x
 ok_unless (Some e) x = Err e
 
-pub ok_unless_test : {X : Type 0} (b : Bool) (e : Code) (r : Result X Code) (o : Option Code) (x : X) → (b ≡ false → r ≡ ok_unless o x) → cond b (Err e) r ≡ ok_unless (cond b (Some e) o) x
+pub ok_unless_test : {X : Type 0} (b : Bool) (e : Code) (r : Result X Code) (o : Option Code) (x : X) → (b ≡ false → r ≡ ok_unless o x)
+    → cond b (Err e) r ≡ ok_unless (cond b (Some e) o) x
 ok_unless_test true e r o x h = refl
 ok_unless_test false e r o x h = h refl
 
@@ -42,16 +44,25 @@ three (a ∷ b ∷ c ∷ d ∷ xs) h = absurd (grind arith)
 pub node_tests_read : (h : Heading) (arcs : ℕ) (listed : List Bool) (known : ℕ → Bool) (u w : ℤ) → h.nodes ≤ node_limit
     → ((v : ℕ) → 1 ≤ v → v ≤ h.nodes → in_table listed v ≡ known v)
     → node_tests limits h arcs listed (clamped u) (clamped w)
-    ≡ ok_unless (cond (not (is_within (pos 1) (pos h.nodes) u && true)) (Some Node) (cond (nat_lt 0 arcs) (Some LateN) (cond (known (natural u)) (Some Twice) (cond (not (is_up_to limits.supply w)) (Some Supply) None)))) (natural u, w)
+    ≡ ok_unless (cond (not (is_within (pos 1) (pos h.nodes) u && true)) (Some Node)
+    (cond (nat_lt 0 arcs) (Some LateN) (cond (known (natural u)) (Some Twice) (cond (not (is_up_to limits.supply w)) (Some Supply) None)))) (natural u, w)
 unfolding node_tests
 node_tests_read h arcs listed known u w small flags = go (is_within (pos 1) (pos h.nodes) u) refl
   where
     go : (b : Bool) → is_within (pos 1) (pos h.nodes) u ≡ b
         → node_tests limits h arcs listed (clamped u) (clamped w)
-        ≡ ok_unless (cond (not (is_within (pos 1) (pos h.nodes) u && true)) (Some Node) (cond (nat_lt 0 arcs) (Some LateN) (cond (known (natural u)) (Some Twice) (cond (not (is_up_to limits.supply w)) (Some Supply) None)))) (natural u, w)
+        ≡ ok_unless (cond (not (is_within (pos 1) (pos h.nodes) u && true)) (Some Node)
+        (cond (nat_lt 0 arcs) (Some LateN) (cond (known (natural u)) (Some Twice) (cond (not (is_up_to limits.supply w)) (Some Supply) None))))
+        (natural u, w)
     go false e = rw (is_within_count-clamped 1 h.nodes u (omega arith), e) refl
     go true e =
-        rw (clamped_count 1 h.nodes u (omega arith) e, e, flags (natural u) (natural_low h.nodes u e) (natural_high h.nodes u e), is_up_to-clamped limits.supply w (omega arith))
+        rw (
+          clamped_count 1 h.nodes u (omega arith) e,
+          e,
+          flags (natural u) (natural_low h.nodes u e)
+              (natural_high h.nodes u e),
+          is_up_to-clamped limits.supply w (omega arith),
+        )
         (ok_unless_test (nat_lt 0 arcs) LateN _ _ _ (λ _.
         ok_unless_test (known (natural u)) Twice _ _ _ (λ _.
         ok_unless_test (not (is_up_to limits.supply w)) Supply _ _ _ (λ f.
@@ -60,7 +71,8 @@ node_tests_read h arcs listed known u w small flags = go (is_within (pos 1) (pos
 -- a good problem line is of small sizes
 good_header_small : (row : Row) (b : Bool) → is_good_header row ≡ b → (header_of row).nodes ≤ node_limit
 good_header_small row false e = rw e (omega arith)
-good_header_small row true e = rw e (natural_most node_limit (number row 2) (and_parts (is_within (pos 0) (pos node_limit) (number row 2)) _ (and_parts _ (size_fits row) e).1).0)
+good_header_small row true e = rw e (natural_most node_limit (number row 2) (and_parts (is_within (pos 0) (pos node_limit) (number row 2)) _
+    (and_parts _ (size_fits row) e).1).0)
 
 found_header_small : (o : Option Row) → (option_map_or header_of o no_header).nodes ≤ node_limit
 found_header_small None = omega arith
@@ -72,7 +84,8 @@ header_small lines = found_header_small (find is_p lines)
 abbrev pub Reads : (lines : List Row) (n : ℕ) (listed : List Bool) → List (List ℕ) → Type 0
 Reads lines n listed fields =
     node_line limits (heading_seen lines) (length (arc_lines lines)) listed fields
-    ≡ ok_unless (fault_of_line limits lines (record { number = n; fields = fields })) (node (record { number = n; fields = fields }) 1, number (record { number = n; fields = fields }) 2)
+    ≡ ok_unless (fault_of_line limits lines (record { number = n; fields = fields }))
+    (node (record { number = n; fields = fields }) 1, number (record { number = n; fields = fields }) 2)
 
 -- a node line of `min`, where a problem line stands before
 pub node_line_reads : (lines : List Row) (n : ℕ) (fields : List (List ℕ)) (listed : List Bool) → has_p lines ≡ true → slice_index_or fields 0 [] ≡ 110 ∷ []
@@ -85,7 +98,8 @@ node_line_reads lines n fields listed seen kind flags min = go (length fields ==
     numbers : (b c : List ℕ) (x y : Bool) → is_whole b ≡ x → is_whole c ≡ y → Reads lines n listed ((110 ∷ []) ∷ b ∷ c ∷ [])
     numbers b c false y e f = rw (seen, min, e) refl
     numbers b c true false e f = rw (seen, min, e, f) refl
-    numbers b c true true e f = rw (seen, min, e, f) (node_tests_read (record { problem = Min; nodes = (header lines).nodes; arcs = (header lines).arcs }) (length (arc_lines lines)) listed (is_listed lines) (whole_value b) (whole_value c) (header_small lines) flags)
+    numbers b c true true e f = rw (seen, min, e, f) (node_tests_read (record { problem = Min; nodes = (header lines).nodes; arcs = (header lines).arcs })
+        (length (arc_lines lines)) listed (is_listed lines) (whole_value b) (whole_value c) (header_small lines) flags)
 
     good : (a b c : List ℕ) → a ≡ 110 ∷ [] → Reads lines n listed (a ∷ b ∷ c ∷ [])
     good a b c e = subst (λ x. Reads lines n listed (x ∷ b ∷ c ∷ [])) (sym e) (numbers b c (is_whole b) (is_whole c) refl refl)
@@ -111,7 +125,8 @@ node_row_reads lines n fields listed seen kind flags asn = go (length fields == 
   where
     numbers : (b : List ℕ) (x : Bool) → is_whole b ≡ x → ReadsRow lines n listed ((110 ∷ []) ∷ b ∷ [])
     numbers b false e = rw (seen, asn, e) refl
-    numbers b true e = rw (seen, asn, e) (node_tests_read (record { problem = Asn; nodes = (header lines).nodes; arcs = (header lines).arcs }) (length (arc_lines lines)) listed (is_listed lines) (whole_value b) (pos 1) (header_small lines) flags)
+    numbers b true e = rw (seen, asn, e) (node_tests_read (record { problem = Asn; nodes = (header lines).nodes; arcs = (header lines).arcs })
+        (length (arc_lines lines)) listed (is_listed lines) (whole_value b) (pos 1) (header_small lines) flags)
 
     good : (a b : List ℕ) → a ≡ 110 ∷ [] → ReadsRow lines n listed (a ∷ b ∷ [])
     good a b e = subst (λ x. ReadsRow lines n listed (x ∷ b ∷ [])) (sym e) (numbers b (is_whole b) refl)
@@ -124,9 +139,11 @@ node_row_reads lines n fields listed seen kind flags asn = go (length fields == 
 
 -- one before any problem line
 abbrev pub ReadsEarly : (lines : List Row) (n : ℕ) (listed : List Bool) → ℕ × ℤ → List (List ℕ) → Type 0
-ReadsEarly lines n listed x fields = node_line limits None (length (arc_lines lines)) listed fields ≡ ok_unless (fault_of_line limits lines (record { number = n; fields = fields })) x
+ReadsEarly lines n listed x fields = node_line limits None (length (arc_lines lines)) listed fields ≡ ok_unless
+    (fault_of_line limits lines (record { number = n; fields = fields })) x
 
-pub node_line_early : (lines : List Row) (n : ℕ) (fields : List (List ℕ)) (listed : List Bool) (x : ℕ × ℤ) → has_p lines ≡ false → slice_index_or fields 0 [] ≡ 110 ∷ []
+pub node_line_early : (lines : List Row) (n : ℕ) (fields : List (List ℕ)) (listed : List Bool) (x : ℕ × ℤ) → has_p lines ≡ false
+    → slice_index_or fields 0 [] ≡ 110 ∷ []
     → node_line limits None (length (arc_lines lines)) listed fields ≡ ok_unless (fault_of_line limits lines (record { number = n; fields = fields })) x
 unfolding node_line fault_of_line number_at
 node_line_early lines n fields listed x seen kind = go (length fields == 3) (length fields == 2) refl refl
@@ -145,8 +162,10 @@ node_line_early lines n fields listed x seen kind = go (length fields == 3) (len
     go true c e f =
         let t = three fields e in
         let first : t.0 ≡ 110 ∷ [] = sym (ap (λ fs. slice_index_or fs 0 []) t.3) ∙ kind in
-        subst (ReadsEarly lines n listed x) (sym t.3) (subst (λ a. ReadsEarly lines n listed x (a ∷ t.1 ∷ t.2 ∷ [])) (sym first) (numbers_three t.1 t.2 (is_whole t.1) (is_whole t.2) refl refl))
+        subst (ReadsEarly lines n listed x) (sym t.3) (subst (λ a. ReadsEarly lines n listed x (a ∷ t.1 ∷ t.2 ∷ [])) (sym first)
+        (numbers_three t.1 t.2 (is_whole t.1) (is_whole t.2) refl refl))
     go false true e f =
         let t = two fields f in
         let first : t.0 ≡ 110 ∷ [] = sym (ap (λ fs. slice_index_or fs 0 []) t.2) ∙ kind in
-        subst (ReadsEarly lines n listed x) (sym t.2) (subst (λ a. ReadsEarly lines n listed x (a ∷ t.1 ∷ [])) (sym first) (numbers_two t.1 (is_whole t.1) refl))
+        subst (ReadsEarly lines n listed x) (sym t.2) (subst (λ a. ReadsEarly lines n listed x (a ∷ t.1 ∷ [])) (sym first)
+        (numbers_two t.1 (is_whole t.1) refl))

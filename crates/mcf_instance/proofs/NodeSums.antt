@@ -1,5 +1,6 @@
 -- Laws of the sums over nodes, and what the nets of all nodes add up to.
-use Rattle.std.proofs.Common.{◌≡◌, ◌≢◌, ℕ, zero, suc, ◌+◌, ◌-◌, ◌<◌, eqb, Bool, true, false, List, [], ◌∷◌, add-one, get_or, refl, ap, sym, ◌∙◌, arith, ℤ, pos, ◌+ℤ◌, ◌-ℤ◌, ◌≤ℤ◌, ◌<ℤ◌, neg_ℤ, inl, inr}
+use Rattle.std.proofs.Common.{◌≡◌, ◌≢◌, ℕ, zero, suc, ◌+◌, ◌-◌, ◌<◌, eqb, Bool, true, false, List, [], ◌∷◌, add-one, get_or, refl, ap, sym, ◌∙◌, arith, ℤ, pos}
+use Rattle.std.proofs.Common.{◌+ℤ◌, ◌-ℤ◌, ◌≤ℤ◌, ◌<ℤ◌, neg_ℤ, inl, inr}
 use Rattle.std.specs.List.{All}
 use Rattle.std.proofs.Math.IntN.{◌*ℤ◌}
 use Rattle.std.proofs.lemmas.Int.{ints}
@@ -59,7 +60,8 @@ pub node_sum_next : (t : ℕ → ℤ) (n : ℕ) → node_sum t (n + 1) ≡ node_
 node_sum_next t n = rw add-one refl
 
 -- one node more of the supplies of a table's set, as a loop reads them
-pub supply_next : (supplies : List ℤ) (table : List Bool) (n : ℕ) → node_sum (λ v. when (in_table table v) (at_node supplies v)) (n + 1) ≡ node_sum (λ v. when (in_table table v) (at_node supplies v)) n +ℤ when (get_or table n false) (get_or supplies n (pos 0))
+pub supply_next : (supplies : List ℤ) (table : List Bool) (n : ℕ) → node_sum (λ v. when (in_table table v) (at_node supplies v)) (n + 1) ≡ node_sum
+    (λ v. when (in_table table v) (at_node supplies v)) n +ℤ when (get_or table n false) (get_or supplies n (pos 0))
 supply_next supplies table n =
     let back : n + 1 - 1 ≡ n = omega arith in
     node_sum_next (λ v. when (in_table table v) (at_node supplies v)) n
@@ -102,14 +104,17 @@ node_sum-in set s f n h =
     ∙ sym (when-indicator (set s) f)
 
 -- sums over nodes and over arcs exchanged
-pub node_sum-flow_sum : (w : ℕ → ℤ) (t : ℕ → Arc → ℤ → ℤ) (n : ℕ) (arcs : List Arc) (flow : List ℤ) → node_sum (λ v. w v *ℤ flow_sum (t v) arcs flow) n ≡ flow_sum (λ a f. node_sum (λ v. w v *ℤ t v a f) n) arcs flow
+pub node_sum-flow_sum : (w : ℕ → ℤ) (t : ℕ → Arc → ℤ → ℤ) (n : ℕ) (arcs : List Arc) (flow : List ℤ)
+    → node_sum (λ v. w v *ℤ flow_sum (t v) arcs flow) n ≡ flow_sum (λ a f. node_sum (λ v. w v *ℤ t v a f) n) arcs flow
 node_sum-flow_sum w t n [] flow = node_sum-same _ _ n (λ v h. mul-zero (w v)) ∙ node_sum-zero n
 node_sum-flow_sum w t n (a ∷ arcs) [] = node_sum-same _ _ n (λ v h. mul-zero (w v)) ∙ node_sum-zero n
 node_sum-flow_sum w t n (a ∷ arcs) (f ∷ flow) =
-    node_sum-same _ _ n (λ v h. mul-add (w v) (t v a f) (flow_sum (t v) arcs flow)) ∙ node_sum-add (λ v. w v *ℤ t v a f) (λ v. w v *ℤ flow_sum (t v) arcs flow) n ∙ ap (λ z. node_sum (λ v. w v *ℤ t v a f) n +ℤ z) (node_sum-flow_sum w t n arcs flow)
+    node_sum-same _ _ n (λ v h. mul-add (w v) (t v a f) (flow_sum (t v) arcs flow)) ∙ node_sum-add (λ v. w v *ℤ t v a f)
+    (λ v. w v *ℤ flow_sum (t v) arcs flow) n ∙ ap (λ z. node_sum (λ v. w v *ℤ t v a f) n +ℤ z) (node_sum-flow_sum w t n arcs flow)
 
 -- the nets of all nodes, weighed: each arc takes the weights of its two ends
-pub node_sum-net : (w : ℕ → ℤ) (n : ℕ) (arcs : List Arc) (flow : List ℤ) → All (HasEnds n) arcs → node_sum (λ v. w v *ℤ net arcs flow v) n ≡ flow_sum (λ a f. (w a.src -ℤ w a.dst) *ℤ f) arcs flow
+pub node_sum-net : (w : ℕ → ℤ) (n : ℕ) (arcs : List Arc) (flow : List ℤ) → All (HasEnds n) arcs
+    → node_sum (λ v. w v *ℤ net arcs flow v) n ≡ flow_sum (λ a f. (w a.src -ℤ w a.dst) *ℤ f) arcs flow
 node_sum-net w n arcs flow ends =
     node_sum-same _ _ n (λ v h. mul-sub (w v) (outflow arcs flow v) (inflow arcs flow v))
     ∙ node_sum-sub (λ v. w v *ℤ outflow arcs flow v) (λ v. w v *ℤ inflow arcs flow v) n
@@ -118,7 +123,8 @@ node_sum-net w n arcs flow ends =
     ∙ sym (flow_sum-sub (λ a f. node_sum (λ v. w v *ℤ when (eqb a.src v) f) n) (λ a f. node_sum (λ v. w v *ℤ when (eqb a.dst v) f) n) arcs flow)
     ∙ flow_sum-same (HasEnds n) _ _ at_ends arcs flow ends
   where
-    at_ends : (a : Arc) (f : ℤ) → HasEnds n a → node_sum (λ v. w v *ℤ when (eqb a.src v) f) n -ℤ node_sum (λ v. w v *ℤ when (eqb a.dst v) f) n ≡ (w a.src -ℤ w a.dst) *ℤ f
+    at_ends : (a : Arc) (f : ℤ) → HasEnds n a → node_sum (λ v. w v *ℤ when (eqb a.src v) f) n -ℤ node_sum (λ v. w v *ℤ when (eqb a.dst v) f) n ≡
+        (w a.src -ℤ w a.dst) *ℤ f
     at_ends a f h = rw (node_sum-at w a.src f n h.src_is_node, node_sum-at w a.dst f n h.dst_is_node) (sym (sub-mul (w a.src) (w a.dst) f))
 
 -- the nets of all nodes add up to 0

@@ -22,18 +22,21 @@ packed_at P arcs i all h =
     subst P (get_or-map unpacked arcs i no_packed) (all i (unpacked no_packed) (omega (arith, length-map arcs unpacked)))
 
 -- the sum over one arc more
-pub packed_sum_next : (t : Arc → ℤ) (arcs : List PackedArc) (i : ℕ) → i < length arcs → arc_sum t (take (i + 1) (map unpacked arcs)) ≡ arc_sum t (take i (map unpacked arcs)) +ℤ t (unpacked (get_or arcs i no_packed))
+pub packed_sum_next : (t : Arc → ℤ) (arcs : List PackedArc) (i : ℕ) → i < length arcs → arc_sum t (take (i + 1) (map unpacked arcs)) ≡ arc_sum t
+    (take i (map unpacked arcs)) +ℤ t (unpacked (get_or arcs i no_packed))
 packed_sum_next t arcs i h =
     arc_sum_more t (map unpacked arcs) i (unpacked no_packed) (omega (arith, length-map arcs unpacked))
     ∙ ap (λ a. arc_sum t (take i (map unpacked arcs)) +ℤ t a) (get_or-map unpacked arcs i no_packed)
 
 -- the lows, or the caps, of the first arcs that pass a test
-pub packed_lows_up_to : (test : Arc → Bool) (arcs : List PackedArc) (i : ℕ) → All (IsArcWithinLimits wide_limits) (map unpacked arcs) → length arcs ≤ arc_limit → i ≤ length arcs → IsUpTo (10 ^ 25) (arc_sum (λ a. when (test a) a.low) (take i (map unpacked arcs)))
+pub packed_lows_up_to : (test : Arc → Bool) (arcs : List PackedArc) (i : ℕ) → All (IsArcWithinLimits wide_limits) (map unpacked arcs) → length arcs ≤ arc_limit
+    → i ≤ length arcs → IsUpTo (10 ^ 25) (arc_sum (λ a. when (test a) a.low) (take i (map unpacked arcs)))
 packed_lows_up_to test arcs i small count h =
     let n = length-map arcs unpacked in
     lows_up_to test (map unpacked arcs) i small (omega (arith, n)) (omega (arith, n))
 
-pub packed_caps_up_to : (test : Arc → Bool) (arcs : List PackedArc) (i : ℕ) → All (IsArcWithinLimits wide_limits) (map unpacked arcs) → length arcs ≤ arc_limit → i ≤ length arcs → IsUpTo (10 ^ 25) (arc_sum (λ a. when (test a) a.cap) (take i (map unpacked arcs)))
+pub packed_caps_up_to : (test : Arc → Bool) (arcs : List PackedArc) (i : ℕ) → All (IsArcWithinLimits wide_limits) (map unpacked arcs) → length arcs ≤ arc_limit
+    → i ≤ length arcs → IsUpTo (10 ^ 25) (arc_sum (λ a. when (test a) a.cap) (take i (map unpacked arcs)))
 packed_caps_up_to test arcs i small count h =
     let n = length-map arcs unpacked in
     caps_up_to test (map unpacked arcs) i small (omega (arith, n)) (omega (arith, n))

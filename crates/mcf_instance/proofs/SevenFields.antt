@@ -31,10 +31,20 @@ arc_count_long (Some heading) n h = rw (no_count n 6 h (omega arith), no_count n
     go false = refl
 
 -- lines of seven fields or more that begin alike
-item_long : (s : StateData) (fs gs : List (List ℕ)) → slice_index_or fs 0 [] ≡ slice_index_or gs 0 [] → 7 ≤ length fs → 7 ≤ length gs → item_of limits s fs ≡ item_of limits s gs
+item_long : (s : StateData) (fs gs : List (List ℕ)) → slice_index_or fs 0 [] ≡ slice_index_or gs 0 [] → 7 ≤ length fs → 7 ≤ length gs
+    → item_of limits s fs ≡ item_of limits s gs
 unfolding item_of problem_line node_line arc_line
 item_long s fs gs e h l =
-    rw (e, no_count (length fs) 4 h (omega arith), no_count (length gs) 4 l (omega arith), node_count_long s.heading (length fs) h, node_count_long s.heading (length gs) l, arc_count_long s.heading (length fs) h, arc_count_long s.heading (length gs) l) refl
+    rw (
+      e,
+      no_count (length fs) 4 h (omega arith),
+      no_count (length gs) 4 l (omega arith),
+      node_count_long s.heading (length fs) h,
+      node_count_long s.heading
+          (length gs) l,
+      arc_count_long s.heading (length fs) h,
+      arc_count_long s.heading (length gs) l,
+    ) refl
 
 pub item_of-take : (s : StateData) (fields : List (List ℕ)) → item_of limits s (take 7 fields) ≡ item_of limits s fields
 item_of-take s [] = refl

@@ -1,5 +1,6 @@
 -- The reader's states stay sound, and a sound state holds a well-formed instance.
-use Rattle.std.proofs.Common.{◌≡◌, ℕ, zero, suc, ◌-◌, ◌*◌, ◌≤◌, max, Bool, true, false, List, [], ◌∷◌, ◌++◌, map, length, get_or, set, replicate, refl, sym, ◌∙◌, ap, subst, inl, inr, Some, None, arith}
+use Rattle.std.proofs.Common.{◌≡◌, ℕ, zero, suc, ◌-◌, ◌*◌, ◌≤◌, max, Bool, true, false, List, [], ◌∷◌, ◌++◌, map, length, get_or, set, replicate, refl, sym}
+use Rattle.std.proofs.Common.{◌∙◌, ap, subst, inl, inr, Some, None, arith}
 use Rattle.std.specs.Prelude.{◌⊎◌, Option, ℤ, pos, neg_ℤ, unsigned_abs, sum}
 use Rattle.std.specs.List.{All}
 use Rattle.std.proofs.lemmas.Int.{ints}
@@ -18,7 +19,8 @@ use Rattle.mcf_instance.specs.Limits.{limits, wide_limits, total_limit, node_lim
 use Rattle.mcf_instance.specs.Network.{at_node}
 use Rattle.mcf_instance.specs.Packed.{unpacked}
 use Rattle.mcf_instance.specs.Private.ReaderState.{default_supply, problem_or_min}
-use Rattle.mcf_instance.specs.Private.ReaderSound.{HeadingFits, IsFlaggedPair, IsSound, IsSoundAssignment, LinkFits, SupplyFits, heading_arcs, heading_nodes, side_supply}
+use Rattle.mcf_instance.specs.Private.ReaderSound.{HeadingFits, IsFlaggedPair, IsSound, IsSoundAssignment, LinkFits, SupplyFits, heading_arcs, heading_nodes}
+use Rattle.mcf_instance.specs.Private.ReaderSound.{side_supply}
 use Rattle.mcf_instance.specs.WellFormed.{HasEnds, IsArcWithinLimits, IsUpTo, IsWellFormed, weight}
 use Rattle.mcf_instance.proofs.Bounds.{size_up_to}
 
@@ -36,7 +38,8 @@ sides_at_first : (p : Format) (n : ℕ) → OnAssignment p (IsSoundAssignment (r
 sides_at_first Min n = tt
 sides_at_first Asn n = record { supplies_are = sym (map-replicate side_supply n false); pairings = All-nil _ }
 
-first_heading : (h : Heading) → h.nodes ≤ node_limit → h.arcs ≤ arc_limit → IsSound limits (Some h) (replicate h.nodes false) (replicate h.nodes (default_supply h.problem)) []
+first_heading : (h : Heading) → h.nodes ≤ node_limit → h.arcs ≤ arc_limit → IsSound limits (Some h) (replicate h.nodes false)
+    (replicate h.nodes (default_supply h.problem)) []
 first_heading h nodes arcs =
     record {
       nodes_small = nodes;
@@ -50,15 +53,18 @@ first_heading h nodes arcs =
       assignment = sides_at_first h.problem h.nodes;
     }
 
-pub sound_heading : (o : Option Heading) (listed : List Bool) (supplies : List ℤ) (arcs : List PackedArc) (h : Heading) → IsSound limits o listed supplies arcs → HeadingFits o h
+pub sound_heading : (o : Option Heading) (listed : List Bool) (supplies : List ℤ) (arcs : List PackedArc) (h : Heading) → IsSound limits o listed supplies arcs
+    → HeadingFits o h
     → IsSound limits (Some h) (replicate h.nodes false) (replicate h.nodes (default_supply h.problem)) arcs
 sound_heading o listed supplies arcs h sound fits =
     let none : length arcs ≤ heading_arcs None = subst (λ p. length arcs ≤ heading_arcs p) fits.first sound.arc_room in
-    subst (λ xs. IsSound limits (Some h) (replicate h.nodes false) (replicate h.nodes (default_supply h.problem)) xs) (sym (nil_from_length arcs (omega (arith, none)))) (first_heading h fits.nodes_small fits.arcs_small)
+    subst (λ xs. IsSound limits (Some h) (replicate h.nodes false) (replicate h.nodes (default_supply h.problem)) xs)
+    (sym (nil_from_length arcs (omega (arith, none)))) (first_heading h fits.nodes_small fits.arcs_small)
 
 -- ---- a node line
 
-sides_after : (p : Format) (listed : List Bool) (supplies : List ℤ) (k : ℕ) (z : ℤ) → OnAssignment p (IsSoundAssignment listed supplies []) → OnAssignment p (z ≡ pos 1)
+sides_after : (p : Format) (listed : List Bool) (supplies : List ℤ) (k : ℕ) (z : ℤ) → OnAssignment p (IsSoundAssignment listed supplies [])
+    → OnAssignment p (z ≡ pos 1)
     → OnAssignment p (IsSoundAssignment (set listed k true) (set supplies k z) [])
 sides_after Min listed supplies k z h e = tt
 sides_after Asn listed supplies k z h e =
@@ -67,7 +73,8 @@ sides_after Asn listed supplies k z h e =
       pairings = All-nil _;
     }
 
-pub sound_supply : (o : Option Heading) (listed : List Bool) (supplies : List ℤ) (arcs : List PackedArc) (v : ℕ) (z : ℤ) → IsSound limits o listed supplies arcs → SupplyFits limits o arcs v z
+pub sound_supply : (o : Option Heading) (listed : List Bool) (supplies : List ℤ) (arcs : List PackedArc) (v : ℕ) (z : ℤ)
+    → IsSound limits o listed supplies arcs → SupplyFits limits o arcs v z
     → IsSound limits o (set listed (v - 1) true) (set supplies (v - 1) z) arcs
 sound_supply o listed supplies arcs v z sound fits =
     record {
@@ -79,8 +86,10 @@ sound_supply o listed supplies arcs v z sound fits =
       ends = sound.ends;
       arcs_within = sound.arcs_within;
       supplies_within = All-set (IsUpTo limits.supply) supplies (v - 1) z fits.small sound.supplies_within;
-      assignment = subst (λ xs. OnAssignment (problem_or_min o) (IsSoundAssignment (set listed (v - 1) true) (set supplies (v - 1) z) xs)) (sym fits.before_arcs)
-          (sides_after (problem_or_min o) listed supplies (v - 1) z (subst (λ xs. OnAssignment (problem_or_min o) (IsSoundAssignment listed supplies xs)) fits.before_arcs sound.assignment) fits.assignment);
+      assignment = subst (λ xs. OnAssignment (problem_or_min o) (IsSoundAssignment (set listed (v - 1) true) (set supplies (v - 1) z) xs))
+          (sym fits.before_arcs)
+          (sides_after (problem_or_min o) listed supplies (v - 1) z (subst (λ xs. OnAssignment (problem_or_min o) (IsSoundAssignment listed supplies xs))
+          fits.before_arcs sound.assignment) fits.assignment);
     }
 
 -- ---- an arc line
@@ -91,21 +100,26 @@ push_arc P arcs a all h = rw (map-append unpacked arcs (a ∷ [])) (All-push P (
 flag_supply : (listed : List Bool) (v : ℕ) → 1 ≤ v → v ≤ length listed → at_node (map side_supply listed) v ≡ side_supply (in_table listed v)
 flag_supply listed v low high = get_or-map side_supply listed (v - 1) false (pos 0) (omega arith)
 
-sides_with_arc : (p : Format) (listed : List Bool) (supplies : List ℤ) (arcs : List PackedArc) (a : PackedArc) (n : ℕ) → length listed ≡ n → HasEnds n (unpacked a)
-    → OnAssignment p (IsSoundAssignment listed supplies arcs) → OnAssignment p (IsFlaggedPair listed a) → OnAssignment p (IsSoundAssignment listed supplies (arcs ++ a ∷ []))
+sides_with_arc : (p : Format) (listed : List Bool) (supplies : List ℤ) (arcs : List PackedArc) (a : PackedArc) (n : ℕ) → length listed ≡ n
+    → HasEnds n (unpacked a)
+    → OnAssignment p (IsSoundAssignment listed supplies arcs) → OnAssignment p (IsFlaggedPair listed a)
+    → OnAssignment p (IsSoundAssignment listed supplies (arcs ++ a ∷ []))
 sides_with_arc Min listed supplies arcs a n long ends h pair = tt
 sides_with_arc Asn listed supplies arcs a n long ends h pair =
     record {
       supplies_are = h.supplies_are;
       pairings = push_arc (IsPairing supplies) arcs a h.pairings record {
-        from_row = ap (λ xs. at_node xs a.src) h.supplies_are ∙ flag_supply listed a.src ends.src_is_node.0 (omega (arith, ends.src_is_node.1)) ∙ ap side_supply pair.from_flagged;
-        to_column = ap (λ xs. at_node xs a.dst) h.supplies_are ∙ flag_supply listed a.dst ends.dst_is_node.0 (omega (arith, ends.dst_is_node.1)) ∙ ap side_supply pair.to_unflagged;
+        from_row = ap (λ xs. at_node xs a.src) h.supplies_are ∙ flag_supply listed a.src ends.src_is_node.0 (omega (arith, ends.src_is_node.1))
+            ∙ ap side_supply pair.from_flagged;
+        to_column = ap (λ xs. at_node xs a.dst) h.supplies_are ∙ flag_supply listed a.dst ends.dst_is_node.0 (omega (arith, ends.dst_is_node.1))
+            ∙ ap side_supply pair.to_unflagged;
         low_is = pair.low_is;
         cap_is = pair.cap_is;
       };
     }
 
-pub sound_link : (o : Option Heading) (listed : List Bool) (supplies : List ℤ) (arcs : List PackedArc) (a : PackedArc) → IsSound limits o listed supplies arcs → LinkFits limits o listed arcs a
+pub sound_link : (o : Option Heading) (listed : List Bool) (supplies : List ℤ) (arcs : List PackedArc) (a : PackedArc) → IsSound limits o listed supplies arcs
+    → LinkFits limits o listed arcs a
     → IsSound limits o listed supplies (arcs ++ a ∷ [])
 sound_link o listed supplies arcs a sound fits =
     record {
@@ -144,7 +158,8 @@ weight_small a h =
 
 total_small : (arcs : List Arc) → length arcs ≤ arc_limit → All (IsArcWithinLimits limits) arcs → sum (map weight arcs) ≤ total_limit
 total_small arcs few within =
-    let each = sum_by-le weight (limits.cost * limits.bound) arcs (All-weaker (IsArcWithinLimits limits) (λ a. weight a ≤ limits.cost * limits.bound) weight_small arcs within) in
+    let each = sum_by-le weight (limits.cost * limits.bound) arcs (All-weaker (IsArcWithinLimits limits)
+    (λ a. weight a ≤ limits.cost * limits.bound) weight_small arcs within) in
     let same = sum-map weight arcs in
     omega arith
 
@@ -157,7 +172,8 @@ assignment_at_end : (p : Format) (listed : List Bool) (supplies : List ℤ) (arc
 assignment_at_end Min listed supplies arcs h = tt
 assignment_at_end Asn listed supplies arcs h =
     record {
-      each_supply = let P : ℤ → Type 0 = λ b. (b ≡ pos 1) ⊎ (b ≡ neg_ℤ (pos 1)) in subst (λ xs. All P xs) (sym h.supplies_are) (All-map P side_supply listed (λ k d l. side_supply_is (get_or listed k d)));
+      each_supply = let P : ℤ → Type 0 = λ b. (b ≡ pos 1) ⊎ (b ≡ neg_ℤ (pos 1)) in subst (λ xs. All P xs) (sym h.supplies_are)
+          (All-map P side_supply listed (λ k d l. side_supply_is (get_or listed k d)));
       each_arc = h.pairings;
     }
 
@@ -173,7 +189,8 @@ well_formed h listed supplies arcs sound =
       within = record { arcs = sound.arcs_within; supplies = sound.supplies_within };
       within_wide = record {
         arcs = All-weaker (IsArcWithinLimits limits) (IsArcWithinLimits wide_limits) arc_wide (map unpacked arcs) sound.arcs_within;
-        supplies = All-weaker (IsUpTo limits.supply) (IsUpTo wide_limits.supply) (λ z u. up_to_wide limits.supply wide_limits.supply z (omega arith) u) supplies sound.supplies_within;
+        supplies = All-weaker (IsUpTo limits.supply) (IsUpTo wide_limits.supply) (λ z u. up_to_wide limits.supply wide_limits.supply z (omega arith) u)
+            supplies sound.supplies_within;
       };
       total = total_small (map unpacked arcs) few sound.arcs_within;
       assignment = assignment_at_end h.problem listed supplies arcs sound.assignment;

@@ -21,7 +21,8 @@ use Rattle.mcf_instance.proofs.Simulation.{finished_reads, first_fault_more, sta
 -- ---- lists
 
 -- the number of an item among numbered ones
-number_of_item : {X : Type 0} (n : ℕ) (xs : List X) (before : List (ℕ × X)) (m : ℕ) (x : X) (rest : List (ℕ × X)) → enumerate_from n xs ≡ before ++ (m, x) ∷ rest → m ≡ n + length before
+number_of_item : {X : Type 0} (n : ℕ) (xs : List X) (before : List (ℕ × X)) (m : ℕ) (x : X) (rest : List (ℕ × X))
+    → enumerate_from n xs ≡ before ++ (m, x) ∷ rest → m ≡ n + length before
 number_of_item n [] [] m x rest e = cc
 number_of_item n [] (b ∷ before) m x rest e = cc
 number_of_item {X} n (y ∷ ys) [] m x rest e = let pair : ◌≡◌ {A = ℕ × X} (n, y) (m, x) = cc in let same : n ≡ m = ap (λ p. p.0) pair in omega arith
@@ -33,7 +34,8 @@ number_of_item n (y ∷ ys) (b ∷ before) m x rest e =
 -- ---- rows
 
 pub kept_rows-append : (xs ys : List (ℕ × List ℕ)) → kept_rows (xs ++ ys) ≡ kept_rows xs ++ kept_rows ys
-kept_rows-append xs ys = ap (map row_of) (filter-append (λ line. is_kept line.1) xs ys) ∙ map-append row_of (filter (λ line. is_kept line.1) xs) (filter (λ line. is_kept line.1) ys)
+kept_rows-append xs ys = ap (map row_of) (filter-append (λ line. is_kept line.1) xs ys) ∙ map-append row_of (filter (λ line. is_kept line.1) xs)
+    (filter (λ line. is_kept line.1) ys)
 
 pub kept_one : (x : ℕ × List ℕ) → is_kept x.1 ≡ true → kept_rows (x ∷ []) ≡ row_of x ∷ []
 kept_one x e = ap (λ b. map row_of (cond b (x ∷ []) [])) e
@@ -49,14 +51,16 @@ kept_first x rest e = kept_rows-append (x ∷ []) rest ∙ ap (λ rs. rs ++ kept
 pub read_nothing : (text : List ℕ) → HasRead limits text empty 1 (numbered_lines 1 text)
 read_nothing text = record { before = []; joined = refl; next_is = refl; stands = stands_empty }
 
-pub read_number : (text : List ℕ) (s : StateData) (next : ℕ) (x : ℕ × List ℕ) (rest : List (ℕ × List ℕ)) → HasRead limits text s next (x ∷ rest) → (x.0 ≡ next) × (1 ≤ x.0) × (x.0 ≤ length text)
+pub read_number : (text : List ℕ) (s : StateData) (next : ℕ) (x : ℕ × List ℕ) (rest : List (ℕ × List ℕ)) → HasRead limits text s next (x ∷ rest)
+    → (x.0 ≡ next) × (1 ≤ x.0) × (x.0 ≤ length text)
 read_number text s next x rest h =
     let number = number_of_item 1 (lines_of text) h.before x.0 x.1 rest h.joined in
     let few = length-numbered_lines 1 text in
     let long = ap length h.joined ∙ length-append h.before (x ∷ rest) in
     (omega (arith, h.next_is), omega arith, omega arith)
 
-pub read_kept : (text : List ℕ) (s t : StateData) (next : ℕ) (x : ℕ × List ℕ) (rest : List (ℕ × List ℕ)) → HasRead limits text s next (x ∷ rest) → is_kept x.1 ≡ true
+pub read_kept : (text : List ℕ) (s t : StateData) (next : ℕ) (x : ℕ × List ℕ) (rest : List (ℕ × List ℕ)) → HasRead limits text s next (x ∷ rest)
+    → is_kept x.1 ≡ true
     → ((lines : List Row) → Stands limits s lines → Stands limits t (lines ++ row_of x ∷ [])) → HasRead limits text t (x.0 + 1) rest
 read_kept text s t next x rest h kept step =
     let number = number_of_item 1 (lines_of text) h.before x.0 x.1 rest h.joined in
@@ -65,10 +69,12 @@ read_kept text s t next x rest h kept step =
       before = h.before ++ x ∷ [];
       joined = h.joined ∙ sym (append_assoc h.before (x ∷ []) rest);
       next_is = omega arith;
-      stands = subst (Stands limits t) (sym (kept_rows-append h.before (x ∷ []) ∙ ap (λ rs. kept_rows h.before ++ rs) (kept_one x kept))) (step (kept_rows h.before) h.stands);
+      stands = subst (Stands limits t) (sym (kept_rows-append h.before (x ∷ []) ∙ ap (λ rs. kept_rows h.before ++ rs) (kept_one x kept)))
+          (step (kept_rows h.before) h.stands);
     }
 
-pub read_unkept : (text : List ℕ) (s : StateData) (next : ℕ) (x : ℕ × List ℕ) (rest : List (ℕ × List ℕ)) → HasRead limits text s next (x ∷ rest) → is_kept x.1 ≡ false → HasRead limits text s (x.0 + 1) rest
+pub read_unkept : (text : List ℕ) (s : StateData) (next : ℕ) (x : ℕ × List ℕ) (rest : List (ℕ × List ℕ)) → HasRead limits text s next (x ∷ rest)
+    → is_kept x.1 ≡ false → HasRead limits text s (x.0 + 1) rest
 read_unkept text s next x rest h unkept =
     let number = number_of_item 1 (lines_of text) h.before x.0 x.1 rest h.joined in
     let long = length_push h.before x in
@@ -76,7 +82,8 @@ read_unkept text s next x rest h unkept =
       before = h.before ++ x ∷ [];
       joined = h.joined ∙ sym (append_assoc h.before (x ∷ []) rest);
       next_is = omega arith;
-      stands = subst (Stands limits s) (sym (kept_rows-append h.before (x ∷ []) ∙ ap (λ rs. kept_rows h.before ++ rs) (kept_none x unkept) ∙ append-nil (kept_rows h.before))) h.stands;
+      stands = subst (Stands limits s) (sym (kept_rows-append h.before (x ∷ []) ∙ ap (λ rs. kept_rows h.before ++ rs) (kept_none x unkept)
+          ∙ append-nil (kept_rows h.before))) h.stands;
     }
 
 -- ---- the end
@@ -90,11 +97,13 @@ first_fault_stays xs (y ∷ ys) fault e =
 pub rows_joined : (text : List ℕ) (before rest : List (ℕ × List ℕ)) → numbered_lines 1 text ≡ before ++ rest → rows text ≡ kept_rows before ++ kept_rows rest
 rows_joined text before rest e = ap kept_rows e ∙ kept_rows-append before rest
 
-pub read_refused : (text : List ℕ) (s : StateData) (next : ℕ) (rest : List (ℕ × List ℕ)) (fault : Fault) → HasRead limits text s next rest → s.refusal ≡ Some fault → reading limits text ≡ Err fault
+pub read_refused : (text : List ℕ) (s : StateData) (next : ℕ) (rest : List (ℕ × List ℕ)) (fault : Fault) → HasRead limits text s next rest
+    → s.refusal ≡ Some fault → reading limits text ≡ Err fault
 unfolding reading first_fault first_fault_of_lines
 read_refused text s next rest fault h e =
     let first : slice_get (faults limits (rows text)) 0 ≡ Some fault =
-    ap (λ rs. slice_get (faults limits rs) 0) (rows_joined text h.before rest h.joined) ∙ first_fault_stays (kept_rows h.before) (kept_rows rest) fault (sym h.stands.refusal_is ∙ e) in
+    ap (λ rs. slice_get (faults limits rs) 0) (rows_joined text h.before rest h.joined) ∙ first_fault_stays (kept_rows h.before) (kept_rows rest) fault
+    (sym h.stands.refusal_is ∙ e) in
     rw first refl
 
 pub read_all : (text : List ℕ) (s : StateData) (next : ℕ) → HasRead limits text s next [] → finished s next ≡ reading limits text

@@ -75,7 +75,8 @@ room_small s k false ok h =
     record { low = omega (arith, ints, u); high = omega (arith, ints, l, w) }
 
 -- the arc that a net stores, as a read gives it
-pub stored_at : (problem : Problem) (arcs : List StoredArc) (supplies : List ℤ) (k : ℕ) (a : StoredArc) → IsArcNumber (stored_net problem arcs supplies) k → a ≡ get_or arcs (k - 1) a → arc_at (stored_net problem arcs supplies) k ≡ stored_arc a
+pub stored_at : (problem : Problem) (arcs : List StoredArc) (supplies : List ℤ) (k : ℕ) (a : StoredArc) → IsArcNumber (stored_net problem arcs supplies) k
+    → a ≡ get_or arcs (k - 1) a → arc_at (stored_net problem arcs supplies) k ≡ stored_arc a
 stored_at problem arcs supplies k a h e =
     let here : k - 1 < length arcs = omega (arith, h, length-map arcs stored_arc) in
     get_or-map stored_arc arcs (k - 1) a no_arc here ∙ ap stored_arc (sym e)
@@ -86,7 +87,8 @@ pub record IsStoredAt (g : Network) (k : ℕ) (a : StoredArc) : Type 0 where
   pub ends : HasEnds (node_count g) (stored_arc a)
   pub arc : IsNetArc (stored_arc a)
 
-pub stored_arc_at : (g : Network) (problem : Problem) (arcs : List StoredArc) (supplies : List ℤ) (k : ℕ) (a : StoredArc) → stored_net problem arcs supplies ≡ g → IsNet (stored_net problem arcs supplies) → IsArcNumber g k → a ≡ get_or arcs (k - 1) a → IsStoredAt g k a
+pub stored_arc_at : (g : Network) (problem : Problem) (arcs : List StoredArc) (supplies : List ℤ) (k : ℕ) (a : StoredArc)
+    → stored_net problem arcs supplies ≡ g → IsNet (stored_net problem arcs supplies) → IsArcNumber g k → a ≡ get_or arcs (k - 1) a → IsStoredAt g k a
 stored_arc_at g problem arcs supplies k a view ok h e =
     let here : IsArcNumber (stored_net problem arcs supplies) k = subst (λ n. IsArcNumber n k) (sym view) h in
     let is = stored_at problem arcs supplies k a here e in
@@ -104,11 +106,13 @@ pub record IsReadAmount (s : Pseudoflow) (g : Network) (k : ℕ) (x : ℤ) : Typ
   pub width : (arc_at s.net k).cap ≤ℤ pos width_limit
   pub same_width : (arc_at g k).cap ≡ (arc_at s.net k).cap
 
-pub amount_in_range : (s : Pseudoflow) (g : Network) (amounts : List ℤ) (k : ℕ) → record { net = g; amounts = amounts } ≡ s → IsPseudoflow (record { net = g; amounts = amounts }) → IsArcNumber s.net k → k - 1 < length amounts
+pub amount_in_range : (s : Pseudoflow) (g : Network) (amounts : List ℤ) (k : ℕ) → record { net = g; amounts = amounts } ≡ s
+    → IsPseudoflow (record { net = g; amounts = amounts }) → IsArcNumber s.net k → k - 1 < length amounts
 amount_in_range s g amounts k view ok h =
     (amount_of (record { net = g; amounts = amounts }) k ok (subst (λ (t : Pseudoflow). IsArcNumber t.net k) (sym view) h)).in_range
 
-pub read_amount : (s : Pseudoflow) (g : Network) (amounts : List ℤ) (k : ℕ) (x : ℤ) → record { net = g; amounts = amounts } ≡ s → IsPseudoflow (record { net = g; amounts = amounts }) → IsArcNumber s.net k → x ≡ get_or amounts (k - 1) x → IsReadAmount s g k x
+pub read_amount : (s : Pseudoflow) (g : Network) (amounts : List ℤ) (k : ℕ) (x : ℤ) → record { net = g; amounts = amounts } ≡ s
+    → IsPseudoflow (record { net = g; amounts = amounts }) → IsArcNumber s.net k → x ≡ get_or amounts (k - 1) x → IsReadAmount s g k x
 read_amount s g amounts k x view ok h e =
     let here : IsArcNumber g k = subst (λ (t : Pseudoflow). IsArcNumber t.net k) (sym view) h in
     let a = amount_of (record { net = g; amounts = amounts }) k ok here in
@@ -127,6 +131,7 @@ room_back s r e = rw e refl
 pub room_forward : (s : Pseudoflow) (r : Rid) → r.back ≡ false → room_of s r ≡ (arc_at s.net r.arc).cap -ℤ amount_at s r.arc
 room_forward s r e = rw e refl
 
-pub read_room : (s : Pseudoflow) (g : Network) (amounts : List ℤ) (r : Rid) → record { net = g; amounts = amounts } ≡ s → IsPseudoflow (record { net = g; amounts = amounts }) → IsArcNumber s.net r.arc → HasSmallRoom (room_of s r)
+pub read_room : (s : Pseudoflow) (g : Network) (amounts : List ℤ) (r : Rid) → record { net = g; amounts = amounts } ≡ s
+    → IsPseudoflow (record { net = g; amounts = amounts }) → IsArcNumber s.net r.arc → HasSmallRoom (room_of s r)
 read_room s g amounts r view ok h =
     room_small s r.arc r.back (subst IsPseudoflow view ok) h

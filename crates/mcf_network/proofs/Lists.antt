@@ -19,6 +19,7 @@ Contains-cons x xs y (zero, l, e) = inl e
 Contains-cons x xs y (suc k, l, e) = inr (k, omega arith, e)
 
 -- one element more of a list that is copied
-pub take_next : {X : Type 0} (xs : List X) (i : ℕ) (x d : X) (before after : List X) → before ≡ take i xs → i < length xs → get_or xs i d ≡ x → after ≡ before ++ x ∷ [] → after ≡ take (i + 1) xs
+pub take_next : {X : Type 0} (xs : List X) (i : ℕ) (x d : X) (before after : List X) → before ≡ take i xs → i < length xs → get_or xs i d ≡ x
+    → after ≡ before ++ x ∷ [] → after ≡ take (i + 1) xs
 take_next xs i x d before after eb h ex e =
     e ∙ ap (λ ys. ys ++ x ∷ []) eb ∙ ap (λ z. take i xs ++ z ∷ []) (sym ex) ∙ sym (take_more xs i d h)

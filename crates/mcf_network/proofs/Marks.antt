@@ -1,5 +1,6 @@
 -- A table of marks, with one node more.
-use Rattle.std.proofs.Common.{◌≡◌, ℕ, zero, suc, cond, ◌+◌, ◌-◌, ◌≤◌, Bool, true, false, List, length, get_or, set, replicate, refl, ap, sym, ◌∙◌, arith, ◌⊎◌, inl, inr}
+use Rattle.std.proofs.Common.{◌≡◌, ℕ, zero, suc, cond, ◌+◌, ◌-◌, ◌≤◌, Bool, true, false, List, length, get_or, set, replicate, refl, ap, sym, ◌∙◌, arith, ◌⊎◌}
+use Rattle.std.proofs.Common.{inl, inr}
 use Rattle.std.proofs.lemmas.Bool.{cases_eq}
 use Rattle.std.proofs.lemmas.List.{get_or-set_other, get_or-set_same}
 use Rattle.std.proofs.lemmas.List.Sums.{count_by-le-length, sum_by-set}
@@ -21,7 +22,8 @@ marked_still table v w h e =
     ]
 
 -- no other node is marked
-pub marked_only : (table : List Bool) (v w : ℕ) → IsNode (length table) v → IsNode (length table) w → in_table (with_node table v) w ≡ true → (w ≡ v) ⊎ (in_table table w ≡ true)
+pub marked_only : (table : List Bool) (v w : ℕ) → IsNode (length table) v → IsNode (length table) w → in_table (with_node table v) w ≡ true
+    → (w ≡ v) ⊎ (in_table table w ≡ true)
 marked_only table v w h k e =
     elim (cases_eq (w - 1) (v - 1)) [
       | inl same ↦ inl (omega arith)

@@ -1,5 +1,6 @@
 -- The net of a network: what it keeps, and how the loops make it.
-use Rattle.std.proofs.Common.{◌≡◌, ◌≢◌, ℕ, ◌+◌, ◌-◌, ◌*◌, ◌^◌, ◌≤◌, ◌<◌, max, eqb, List, [], ◌∷◌, ◌++◌, length, map, take, get_or, refl, sym, ap, subst, ◌∙◌, arith, ℤ, pos, ◌+ℤ◌, ◌-ℤ◌, inl, inr}
+use Rattle.std.proofs.Common.{◌≡◌, ◌≢◌, ℕ, ◌+◌, ◌-◌, ◌*◌, ◌^◌, ◌≤◌, ◌<◌, max, eqb, List, [], ◌∷◌, ◌++◌, length, map, take, get_or, refl, sym, ap, subst, ◌∙◌}
+use Rattle.std.proofs.Common.{arith, ℤ, pos, ◌+ℤ◌, ◌-ℤ◌, inl, inr}
 use Rattle.std.specs.Prelude.{Some, slice_get, sum, unsigned_abs}
 use Rattle.std.specs.List.{All, range_with_len}
 use Rattle.std.proofs.Math.Seq.{take-length}
@@ -96,15 +97,18 @@ pub left_none : (g : Network) (v : ℕ) → left_after g 0 v ≡ at_node g.suppl
 left_none g v = omega (arith, ints)
 
 -- one arc more
-pub left_more : (g : Network) (i v : ℕ) (a : Arc) → i < length g.arcs → get_or g.arcs i no_arc ≡ a → left_after g (i + 1) v ≡ left_after g i v -ℤ when (eqb a.src v) a.low +ℤ when (eqb a.dst v) a.low
+pub left_more : (g : Network) (i v : ℕ) (a : Arc) → i < length g.arcs → get_or g.arcs i no_arc ≡ a
+    → left_after g (i + 1) v ≡ left_after g i v -ℤ when (eqb a.src v) a.low +ℤ when (eqb a.dst v) a.low
 left_more g i v a h e =
     let more = net_more g.arcs (lows g.arcs) i no_arc (pos 0) v h (omega (arith, length-map g.arcs (λ (b : Arc). b.low))) in
     let low : get_or (lows g.arcs) i (pos 0) ≡ (get_or g.arcs i no_arc).low = get_or-map (λ (b : Arc). b.low) g.arcs i no_arc (pos 0) h in
-    let at : net (take (i + 1) g.arcs) (lows g.arcs) v ≡ net (take i g.arcs) (lows g.arcs) v +ℤ when (eqb a.src v) a.low -ℤ when (eqb a.dst v) a.low = rw (low, e) at more in
+    let at : net (take (i + 1) g.arcs) (lows g.arcs) v ≡ net (take i g.arcs) (lows g.arcs) v +ℤ when (eqb a.src v) a.low -ℤ when (eqb a.dst v) a.low =
+    rw (low, e) at more in
     omega (arith, ints, at)
 
 -- the supplies as a list
-pub left_list : (g : Network) (left : List ℤ) → length left ≡ node_count g → ((v : ℕ) → IsNode (node_count g) v → at_node left v ≡ supply_left g v) → left ≡ map (supply_left g) (range_with_len 1 (node_count g))
+pub left_list : (g : Network) (left : List ℤ) → length left ≡ node_count g → ((v : ℕ) → IsNode (node_count g) v → at_node left v ≡ supply_left g v)
+    → left ≡ map (supply_left g) (range_with_len 1 (node_count g))
 left_list g left n each =
     let count = length-map-range_with_len (supply_left g) 1 (node_count g) in
     ext_get_or (pos 0) left (map (supply_left g) (range_with_len 1 (node_count g))) (n ∙ sym count)
@@ -141,7 +145,8 @@ kept_supplies g h = sym (left_list g g.supplies refl (λ v hv. sym (kept_supply 
 
 pairing_kept : (supplies : List ℤ) (a : Arc) → IsPairing supplies a → IsPairing supplies (without_low a)
 pairing_kept supplies a h =
-    let other : a.src ≢ a.dst = λ e. let row = h.from_row in let column = h.to_column in let same = ap (at_node supplies) e in absurd (omega (arith, ints, row, column, same)) in
+    let other : a.src ≢ a.dst = λ e. let row = h.from_row in let column = h.to_column in let same = ap (at_node supplies) e in
+    absurd (omega (arith, ints, row, column, same)) in
     let low = h.low_is in
     let cap = h.cap_is in
     record {
@@ -187,7 +192,8 @@ net_of_ok g ok =
     record {
       nodes = omega (arith, n, ok.nodes);
       arcs = omega (arith, m, ok.arcs);
-      ends = rw n (All-map (HasEnds (node_count g)) without_low g.arcs (λ k d l. let e = ok.ends k d l in record { src_is_node = e.src_is_node; dst_is_node = e.dst_is_node }));
+      ends = rw n (All-map (HasEnds (node_count g)) without_low g.arcs (λ k d l. let e = ok.ends k d l in
+          record { src_is_node = e.src_is_node; dst_is_node = e.dst_is_node }));
       each_arc = All-map IsNetArc without_low g.arcs (λ k d l. net_arc_ok (get_or g.arcs k d) (ok.within_wide.arcs k d l));
       supplies = net_supplies_small g ok;
       total = net_total g ok.total;
@@ -209,7 +215,9 @@ pub left_start : (g : Network) (left : List ℤ) → left ≡ g.supplies → IsL
 left_start g left e =
     rw e (record { count = refl; each = λ v h. sym (left_none g v) })
 
-pub left_next : (g : Network) (i : ℕ) (a : Arc) (left left' : List ℤ) → IsLeft g i left → i < length g.arcs → slice_get g.arcs (i + 1 - 1) ≡ Some a → length left' ≡ length left → ((v : ℕ) → IsNode (length left) v → at_node left' v ≡ at_node left v -ℤ when (eqb a.src v) a.low +ℤ when (eqb a.dst v) a.low) → IsLeft g (i + 1) left'
+pub left_next : (g : Network) (i : ℕ) (a : Arc) (left left' : List ℤ) → IsLeft g i left → i < length g.arcs → slice_get g.arcs (i + 1 - 1) ≡ Some a
+    → length left' ≡ length left → ((v : ℕ) → IsNode (length left) v → at_node left' v ≡ at_node left v -ℤ when (eqb a.src v) a.low +ℤ when
+    (eqb a.dst v) a.low) → IsLeft g (i + 1) left'
 left_next g i a left left' old h is n each =
     let back : i + 1 - 1 ≡ i = omega arith in
     let e = get_or_from_slice_get g.arcs i a no_arc (rw back at is) in
@@ -222,7 +230,8 @@ pub left_end : (g : Network) (i : ℕ) (left : List ℤ) → IsLeft g i left →
 left_end g i left old e =
     left_list g left old.count (λ v h. old.each v h ∙ ap (λ j. left_after g j v) e ∙ left_all g v)
 
-pub left_entry_small : (g : Network) (i v : ℕ) (left : List ℤ) → IsWellFormed limits g → IsLeft g i left → i ≤ length g.arcs → IsNode (length left) v → IsUpTo (10 ^ 30) (at_node left v)
+pub left_entry_small : (g : Network) (i v : ℕ) (left : List ℤ) → IsWellFormed limits g → IsLeft g i left → i ≤ length g.arcs → IsNode (length left) v
+    → IsUpTo (10 ^ 30) (at_node left v)
 left_entry_small g i v left ok old h hv =
     let node : IsNode (node_count g) v = omega (arith, hv, old.count) in
     omega (arith, ints, old.each v node, left_small g i v ok node h)
@@ -243,10 +252,13 @@ arc_of g i a ok h is =
       within = subst (IsArcWithinLimits wide_limits) e (ok.within_wide.arcs i no_arc h);
     }
 
-pub stored_is : (a : Arc) (src dst : ℕ) (width cost : ℤ) → src ≡ a.src → dst ≡ a.dst → width ≡ width_of a → cost ≡ a.cost → stored_arc (record { src = src; dst = dst; width = width; cost = cost }) ≡ without_low a
+pub stored_is : (a : Arc) (src dst : ℕ) (width cost : ℤ) → src ≡ a.src → dst ≡ a.dst → width ≡ width_of a → cost ≡ a.cost
+    → stored_arc (record { src = src; dst = dst; width = width; cost = cost }) ≡ without_low a
 stored_is a src dst width cost es ed ew ec = rw (es, ed, ew, ec) refl
 
-pub arcs_next : (g : Network) (i : ℕ) (a : Arc) (s : StoredArc) (arcs after : List StoredArc) → map stored_arc arcs ≡ map without_low (take i g.arcs) → i < length g.arcs → get_or g.arcs i no_arc ≡ a → stored_arc s ≡ without_low a → after ≡ arcs ++ s ∷ [] → map stored_arc after ≡ map without_low (take (i + 1) g.arcs)
+pub arcs_next : (g : Network) (i : ℕ) (a : Arc) (s : StoredArc) (arcs after : List StoredArc) → map stored_arc arcs ≡ map without_low (take i g.arcs)
+    → i < length g.arcs → get_or g.arcs i no_arc ≡ a → stored_arc s ≡ without_low a → after ≡ arcs ++ s ∷ []
+    → map stored_arc after ≡ map without_low (take (i + 1) g.arcs)
 arcs_next g i a s arcs after old h e is ea =
     ap (map stored_arc) ea ∙ map-append stored_arc arcs (s ∷ []) ∙ ap (λ (xs : List Arc). xs ++ stored_arc s ∷ []) old
     ∙ ap (λ (x : Arc). map without_low (take i g.arcs) ++ x ∷ []) (is ∙ ap without_low (sym e))
@@ -257,6 +269,7 @@ net_ends g ok =
     All-map (HasEnds (node_count g)) without_low g.arcs (λ k d l. let e = ok.ends k d l in record { src_is_node = e.src_is_node; dst_is_node = e.dst_is_node })
 
 -- what is stored is the net
-pub net_is : (g : Network) (problem : Problem) (arcs : List StoredArc) (supplies : List ℤ) → problem ≡ g.problem → map stored_arc arcs ≡ map without_low g.arcs → supplies ≡ map (supply_left g) (range_with_len 1 (node_count g)) → stored_net problem arcs supplies ≡ net_of g
+pub net_is : (g : Network) (problem : Problem) (arcs : List StoredArc) (supplies : List ℤ) → problem ≡ g.problem → map stored_arc arcs ≡ map without_low g.arcs
+    → supplies ≡ map (supply_left g) (range_with_len 1 (node_count g)) → stored_net problem arcs supplies ≡ net_of g
 unfolding net_of
 net_is g problem arcs supplies ep ea es = rw (ep, ea, es) refl

@@ -1,5 +1,6 @@
 -- What a push does to a state, and bounds of surpluses.
-use Rattle.std.proofs.Common.{◌≡◌, ◌≢◌, ℕ, zero, suc, ◌-◌, ◌*◌, ◌^◌, ◌<◌, Bool, true, false, eqb, cond, List, [], ◌∷◌, length, set, get_or, replicate, refl, ap, sym, ◌∙◌, arith, subst, ℤ, pos, ◌+ℤ◌, ◌-ℤ◌, neg_ℤ, ◌≤ℤ◌, ◌⊎◌, inl, inr, to_z, of_z, w64}
+use Rattle.std.proofs.Common.{◌≡◌, ◌≢◌, ℕ, zero, suc, ◌-◌, ◌*◌, ◌^◌, ◌<◌, Bool, true, false, eqb, cond, List, [], ◌∷◌, length, set, get_or, replicate, refl, ap}
+use Rattle.std.proofs.Common.{sym, ◌∙◌, arith, subst, ℤ, pos, ◌+ℤ◌, ◌-ℤ◌, neg_ℤ, ◌≤ℤ◌, ◌⊎◌, inl, inr, to_z, of_z, w64}
 use Rattle.std.specs.List.{All}
 use Rattle.std.proofs.Math.Seq.{take-length}
 use mir.Syntax.{w128}
@@ -44,7 +45,8 @@ when-zero true = refl
 when-zero false = refl
 
 -- a read after a write
-pub read_written : (xs : List ℤ) (i v : ℕ) (a d : ℤ) → i < length xs → ((v ≡ i) × (get_or (set xs i a) v d ≡ a)) ⊎ ((v ≢ i) × (get_or (set xs i a) v d ≡ get_or xs v d))
+pub read_written : (xs : List ℤ) (i v : ℕ) (a d : ℤ) → i < length xs → ((v ≡ i) × (get_or (set xs i a) v d ≡ a))
+    ⊎ ((v ≢ i) × (get_or (set xs i a) v d ≡ get_or xs v d))
 read_written xs i v a d l =
     elim (cases_eq v i) [
       | inl e ↦ inl (e, get_or-set_at xs i v a d e l)
@@ -54,7 +56,8 @@ read_written xs i v a d l =
 -- ---- amounts
 
 -- an amount from 0 to the width in place of that of an arc
-pub set_ok : (s : Pseudoflow) (k : ℕ) (y : ℤ) → IsPseudoflow s → IsArcNumber s.net k → pos 0 ≤ℤ y → y ≤ℤ (arc_at s.net k).cap → IsPseudoflow (record s { amounts = set s.amounts (k - 1) y })
+pub set_ok : (s : Pseudoflow) (k : ℕ) (y : ℤ) → IsPseudoflow s → IsArcNumber s.net k → pos 0 ≤ℤ y → y ≤ℤ (arc_at s.net k).cap
+    → IsPseudoflow (record s { amounts = set s.amounts (k - 1) y })
 set_ok s k y ok h low high =
     let none = (net_arc_at s.net k ok.of_net h).no_low in
     record {
@@ -62,7 +65,8 @@ set_ok s k y ok h low high =
       within_bounds = AllZip-set CanCarry s.net.arcs s.amounts (k - 1) no_arc y (omega arith) ok.within_bounds (omega (arith, ints, none, low), high);
     }
 
-pub pushed_ok : (s : Pseudoflow) (k : ℕ) (b : Bool) (x : ℤ) → IsPseudoflow s → IsArcNumber s.net k → pos 0 ≤ℤ x → x ≤ℤ room_of s (rid k b) → IsPseudoflow (pushed s (rid k b) x)
+pub pushed_ok : (s : Pseudoflow) (k : ℕ) (b : Bool) (x : ℤ) → IsPseudoflow s → IsArcNumber s.net k → pos 0 ≤ℤ x → x ≤ℤ room_of s (rid k b)
+    → IsPseudoflow (pushed s (rid k b) x)
 pushed_ok s k true x ok h low high =
     let a = amount_of s k ok h in
     let u = a.high in
@@ -73,7 +77,9 @@ pushed_ok s k false x ok h low high =
     set_ok s k _ ok h (omega (arith, ints, low, l)) (omega (arith, ints, high))
 
 -- the net of a node after one amount changed by x
-net_changed : (s : Pseudoflow) (k : ℕ) (x : ℤ) (v : ℕ) → IsPseudoflow s → IsArcNumber s.net k → net s.net.arcs (set s.amounts (k - 1) (amount_at s k +ℤ x)) v ≡ net s.net.arcs s.amounts v +ℤ when (eqb (arc_at s.net k).src v) x -ℤ when (eqb (arc_at s.net k).dst v) x
+net_changed : (s : Pseudoflow) (k : ℕ) (x : ℤ) (v : ℕ) → IsPseudoflow s → IsArcNumber s.net k
+    → net s.net.arcs (set s.amounts (k - 1) (amount_at s k +ℤ x)) v ≡ net s.net.arcs s.amounts v +ℤ when (eqb (arc_at s.net k).src v) x -ℤ when
+    (eqb (arc_at s.net k).dst v) x
 net_changed s k x v ok h =
     let here : k - 1 < length s.net.arcs = omega arith in
     let there : k - 1 < length s.amounts = omega (arith, here, amount_count s ok) in
@@ -82,7 +88,8 @@ net_changed s k x v ok h =
     omega (arith, ints, out, into, when-add (eqb (arc_at s.net k).src v) (amount_at s k) x, when-add (eqb (arc_at s.net k).dst v) (amount_at s k) x)
 
 -- the surplus moves from the tail to the head
-pub pushed_surplus : (s : Pseudoflow) (k : ℕ) (b : Bool) (x : ℤ) → IsPseudoflow s → IsArcNumber s.net k → (v : ℕ) → surplus_at (pushed s (rid k b) x) v ≡ surplus_at s v -ℤ when (eqb (tail s.net (rid k b)) v) x +ℤ when (eqb (head s.net (rid k b)) v) x
+pub pushed_surplus : (s : Pseudoflow) (k : ℕ) (b : Bool) (x : ℤ) → IsPseudoflow s → IsArcNumber s.net k → (v : ℕ)
+    → surplus_at (pushed s (rid k b) x) v ≡ surplus_at s v -ℤ when (eqb (tail s.net (rid k b)) v) x +ℤ when (eqb (head s.net (rid k b)) v) x
 pushed_surplus s k true x ok h v =
     let e = net_changed s k (neg_ℤ x) v ok h in
     omega (arith, ints, e, when-neg (eqb (arc_at s.net k).src v) x, when-neg (eqb (arc_at s.net k).dst v) x)
@@ -102,8 +109,10 @@ placed_up_to b a f h =
 net_small : (s : Pseudoflow) (v : ℕ) → IsPseudoflow s → IsUpTo (4 * 10 ^ 25) (net s.net.arcs s.amounts v)
 net_small s v ok =
     let all = AllZip-with CanCarry IsNetArc s.net.arcs s.amounts ok.of_net.each_arc ok.within_bounds in
-    let out = rw (take-length s.net.arcs) at (flow_sum_up_to Placed (λ a f. when (eqb a.src v) f) (2 * 10 ^ 18) (λ a f. placed_up_to (eqb a.src v) a f) s.net.arcs s.amounts (length s.net.arcs) all) in
-    let into = rw (take-length s.net.arcs) at (flow_sum_up_to Placed (λ a f. when (eqb a.dst v) f) (2 * 10 ^ 18) (λ a f. placed_up_to (eqb a.dst v) a f) s.net.arcs s.amounts (length s.net.arcs) all) in
+    let out = rw (take-length s.net.arcs) at (flow_sum_up_to Placed (λ a f. when (eqb a.src v) f) (2 * 10 ^ 18)
+    (λ a f. placed_up_to (eqb a.src v) a f) s.net.arcs s.amounts (length s.net.arcs) all) in
+    let into = rw (take-length s.net.arcs) at (flow_sum_up_to Placed (λ a f. when (eqb a.dst v) f) (2 * 10 ^ 18)
+    (λ a f. placed_up_to (eqb a.dst v) a f) s.net.arcs s.amounts (length s.net.arcs) all) in
     let count = ok.of_net.arcs in
     omega (arith, ints, out, into, count)
 
@@ -117,7 +126,9 @@ kept_small s kept v ok h =
     rw (ok.each v l) (surplus_small s v ok.flow l)
 
 -- the kept surpluses after a push
-pub keeps_pushed : (s : Pseudoflow) (kept kept' : List ℤ) (r : Rid) (x : ℤ) (from to : ℕ) → KeepsSurplus s kept → IsArcNumber s.net r.arc → pos 0 ≤ℤ x → x ≤ℤ room_of s r → from ≡ tail s.net r → to ≡ head s.net r → length kept' ≡ length kept → ((v : ℕ) → IsNode (length kept) v → at_node kept' v ≡ at_node kept v -ℤ when (eqb from v) x +ℤ when (eqb to v) x) → KeepsSurplus (pushed s r x) kept'
+pub keeps_pushed : (s : Pseudoflow) (kept kept' : List ℤ) (r : Rid) (x : ℤ) (from to : ℕ) → KeepsSurplus s kept → IsArcNumber s.net r.arc → pos 0 ≤ℤ x
+    → x ≤ℤ room_of s r → from ≡ tail s.net r → to ≡ head s.net r → length kept' ≡ length kept
+    → ((v : ℕ) → IsNode (length kept) v → at_node kept' v ≡ at_node kept v -ℤ when (eqb from v) x +ℤ when (eqb to v) x) → KeepsSurplus (pushed s r x) kept'
 keeps_pushed s kept kept' r x from to ok h low high ef et n each =
     record {
       flow = pushed_ok s r.arc r.back x ok.flow h low high;
@@ -156,7 +167,9 @@ zero_keeps g ok =
 -- ---- what the code of a push does
 
 -- the new amount, as the code gives it
-pub changed_is : (b : Bool) (y a x : ℤ) → pos 0 ≤ℤ a → a ≤ℤ pos width_limit → pos 0 ≤ℤ x → x ≤ℤ pos width_limit → y ≡ cond b (to_z w64 (of_z w64 a) -ℤ to_z w128 (of_z w128 x)) (to_z w64 (of_z w64 a) +ℤ to_z w128 (of_z w128 x)) → to_z w64 (of_z w64 y) ≡ cond b (a -ℤ x) (a +ℤ x)
+pub changed_is : (b : Bool) (y a x : ℤ) → pos 0 ≤ℤ a → a ≤ℤ pos width_limit → pos 0 ≤ℤ x → x ≤ℤ pos width_limit
+    → y ≡ cond b (to_z w64 (of_z w64 a) -ℤ to_z w128 (of_z w128 x)) (to_z w64 (of_z w64 a) +ℤ to_z w128 (of_z w128 x))
+    → to_z w64 (of_z w64 y) ≡ cond b (a -ℤ x) (a +ℤ x)
 changed_is true y a x al ah xl xh e = omega (arith, ints)
 changed_is false y a x al ah xl xh e = omega (arith, ints)
 
@@ -167,7 +180,10 @@ pub record IsPushStep (s : Pseudoflow) (r : Rid) (x : ℤ) (after : Pseudoflow) 
   pub moves : (v : ℕ) → surplus_at after v ≡ surplus_at s v -ℤ when (eqb (tail s.net r) v) x +ℤ when (eqb (head s.net r) v) x
 
 module _ (g : Network) (amounts kept kept' : List ℤ) (r : Rid) (x a y : ℤ) (i from to : ℕ) where
-  push_step_at : KeepsSurplus (record { net = g; amounts = amounts }) kept → i ≡ r.arc → IsArcNumber g r.arc → pos 0 ≤ℤ x → x ≤ℤ room_of (record { net = g; amounts = amounts }) r → a ≡ get_or amounts (i - 1) a → y ≡ cond r.back (a -ℤ x) (a +ℤ x) → from ≡ tail g r → to ≡ head g r → length kept' ≡ length kept → ((v : ℕ) → IsNode (length kept) v → at_node kept' v ≡ at_node kept v -ℤ when (eqb from v) x +ℤ when (eqb to v) x) → IsPushStep (record { net = g; amounts = amounts }) r x (record { net = g; amounts = set amounts (i - 1) y }) kept'
+  push_step_at : KeepsSurplus (record { net = g; amounts = amounts }) kept → i ≡ r.arc → IsArcNumber g r.arc → pos 0 ≤ℤ x
+      → x ≤ℤ room_of (record { net = g; amounts = amounts }) r → a ≡ get_or amounts (i - 1) a → y ≡ cond r.back (a -ℤ x) (a +ℤ x) → from ≡ tail g r
+      → to ≡ head g r → length kept' ≡ length kept → ((v : ℕ) → IsNode (length kept) v → at_node kept' v ≡ at_node kept v -ℤ when (eqb from v) x +ℤ when
+      (eqb to v) x) → IsPushStep (record { net = g; amounts = amounts }) r x (record { net = g; amounts = set amounts (i - 1) y }) kept'
   push_step_at ok ei h low high ea ey ef et n each =
       let s : Pseudoflow = record { net = g; amounts = amounts } in
       let here = (amount_of s r.arc ok.flow h).in_range in
@@ -179,10 +195,14 @@ module _ (g : Network) (amounts kept kept' : List ℤ) (r : Rid) (x a y : ℤ) (
         moves = λ v. ap (λ (t : Pseudoflow). surplus_at t v) is ∙ pushed_surplus s r.arc r.back x ok.flow h v;
       }
 
-  pub push_step : (s : Pseudoflow) → record { net = g; amounts = amounts } ≡ s → KeepsSurplus (record { net = g; amounts = amounts }) kept → i ≡ r.arc → IsArcNumber s.net r.arc → pos 0 ≤ℤ x → x ≤ℤ room_of s r → a ≡ get_or amounts (i - 1) a → y ≡ cond r.back (a -ℤ x) (a +ℤ x) → from ≡ tail g r → to ≡ head g r → length kept' ≡ length kept → ((v : ℕ) → IsNode (length kept) v → at_node kept' v ≡ at_node kept v -ℤ when (eqb from v) x +ℤ when (eqb to v) x) → IsPushStep s r x (record { net = g; amounts = set amounts (i - 1) y }) kept'
+  pub push_step : (s : Pseudoflow) → record { net = g; amounts = amounts } ≡ s → KeepsSurplus (record { net = g; amounts = amounts }) kept → i ≡ r.arc
+      → IsArcNumber s.net r.arc → pos 0 ≤ℤ x → x ≤ℤ room_of s r → a ≡ get_or amounts (i - 1) a → y ≡ cond r.back (a -ℤ x) (a +ℤ x) → from ≡ tail g r
+      → to ≡ head g r → length kept' ≡ length kept → ((v : ℕ) → IsNode (length kept) v → at_node kept' v ≡ at_node kept v -ℤ when (eqb from v) x +ℤ when
+      (eqb to v) x) → IsPushStep s r x (record { net = g; amounts = set amounts (i - 1) y }) kept'
   push_step s view ok ei h low high ea ey ef et n each =
       subst (λ (t : Pseudoflow). IsPushStep t r x (record { net = g; amounts = set amounts (i - 1) y }) kept') view
-      (push_step_at ok ei (subst (λ (t : Pseudoflow). IsArcNumber t.net r.arc) (sym view) h) low (subst (λ (t : Pseudoflow). x ≤ℤ room_of t r) (sym view) high) ea ey ef et n each)
+      (push_step_at ok ei (subst (λ (t : Pseudoflow). IsArcNumber t.net r.arc) (sym view) h) low
+      (subst (λ (t : Pseudoflow). x ≤ℤ room_of t r) (sym view) high) ea ey ef et n each)
 
 -- a kept surplus, as a read gives it
 pub record IsReadSurplus (s : Pseudoflow) (v : ℕ) (x : ℤ) : Type 0 where
@@ -190,7 +210,8 @@ pub record IsReadSurplus (s : Pseudoflow) (v : ℕ) (x : ℤ) : Type 0 where
   pub small : IsUpTo (2 * 10 ^ 26) x
   pub flow : IsPseudoflow s
 
-pub read_surplus : (s : Pseudoflow) (g : Network) (amounts kept : List ℤ) (v : ℕ) (x : ℤ) → record { net = g; amounts = amounts } ≡ s → KeepsSurplus (record { net = g; amounts = amounts }) kept → IsNode (node_count s.net) v → x ≡ get_or kept (v - 1) x → IsReadSurplus s v x
+pub read_surplus : (s : Pseudoflow) (g : Network) (amounts kept : List ℤ) (v : ℕ) (x : ℤ) → record { net = g; amounts = amounts } ≡ s
+    → KeepsSurplus (record { net = g; amounts = amounts }) kept → IsNode (node_count s.net) v → x ≡ get_or kept (v - 1) x → IsReadSurplus s v x
 read_surplus s g amounts kept v x view ok h e =
     let t : Pseudoflow = record { net = g; amounts = amounts } in
     let here : IsNode (node_count g) v = subst (λ (t : Pseudoflow). IsNode (node_count t.net) v) (sym view) h in

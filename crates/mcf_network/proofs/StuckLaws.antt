@@ -32,8 +32,10 @@ no_surplus_of_feasible s feasible v h =
     let e = feasible.meets_supplies v h in omega (arith, ints, e)
 
 pub feasible_flows_are_states_lem : FeasibleFlowsAreStates
-feasible_flows_are_states_lem g flow ok =
-    (λ feasible. (record { of_net = ok; within_bounds = feasible.within_bounds }, no_surplus_of_feasible (record { net = g; amounts = flow }) feasible), λ state. feasible_of_state (record { net = g; amounts = flow }) state.0 state.1)
+feasible_flows_are_states_lem g flow ok = (
+  λ feasible. (record { of_net = ok; within_bounds = feasible.within_bounds }, no_surplus_of_feasible (record { net = g; amounts = flow }) feasible),
+  λ state. feasible_of_state (record { net = g; amounts = flow }) state.0 state.1,
+)
 
 -- ---- stuck sets
 
@@ -49,7 +51,8 @@ when-true false x e = absurd (false≢true e)
 abbrev Crosses : (ℕ → Bool) → Arc → ℤ → Type 0
 Crosses set a f = (when (leaves set a) f ≡ when (leaves set a) a.cap) × (when (enters set a) f ≡ when (enters set a) a.low)
 
-crosses_at : (s t : Bool) (f cap low : ℤ) → (s ≡ true → t ≡ false → f ≡ cap) → (t ≡ true → s ≡ false → f ≡ low) → (when (s && not t) f ≡ when (s && not t) cap) × (when (t && not s) f ≡ when (t && not s) low)
+crosses_at : (s t : Bool) (f cap low : ℤ) → (s ≡ true → t ≡ false → f ≡ cap) → (t ≡ true → s ≡ false → f ≡ low)
+    → (when (s && not t) f ≡ when (s && not t) cap) × (when (t && not s) f ≡ when (t && not s) low)
 crosses_at true true f cap low full empty = (refl, refl)
 crosses_at true false f cap low full empty = (full refl refl, refl)
 crosses_at false true f cap low full empty = (refl, empty refl refl)
@@ -74,7 +77,8 @@ module _ (s : Pseudoflow) (set : ℕ → Bool) (ok : IsPseudoflow s) (stuck : Is
       (λ p. omega (arith, ints, p, low, none))
 
   crosses : (k : ℕ) → IsArcNumber s.net k → Crosses set (arc_at s.net k) (amount_at s k)
-  crosses k h = crosses_at (set (arc_at s.net k).src) (set (arc_at s.net k).dst) (amount_at s k) (arc_at s.net k).cap (arc_at s.net k).low (full k h) (empty k h)
+  crosses k h = crosses_at (set (arc_at s.net k).src) (set (arc_at s.net k).dst) (amount_at s k) (arc_at s.net k).cap (arc_at s.net k).low (full k h)
+      (empty k h)
 
   cross_at : (i : ℕ) → i < length s.net.arcs → Crosses set (get_or s.net.arcs i no_arc) (get_or s.amounts i (pos 0))
   cross_at i h =
@@ -84,23 +88,30 @@ module _ (s : Pseudoflow) (set : ℕ → Bool) (ok : IsPseudoflow s) (stuck : Is
   all_cross : AllZip (Crosses set) s.net.arcs s.amounts
   all_cross =
       AllZip_from (Crosses set) s.net.arcs s.amounts (amount_count s ok)
-      (λ i h a f. subst (λ (b : Arc). Crosses set b (get_or s.amounts i f)) (get_or_default s.net.arcs i no_arc a h) (subst (λ (x : ℤ). Crosses set (get_or s.net.arcs i no_arc) x) (get_or_default s.amounts i (pos 0) f (omega (arith, amount_count s ok))) (cross_at i h)))
+      (λ i h a f. subst (λ (b : Arc). Crosses set b (get_or s.amounts i f)) (get_or_default s.net.arcs i no_arc a h)
+      (subst (λ (x : ℤ). Crosses set (get_or s.net.arcs i no_arc) x) (get_or_default s.amounts i (pos 0) f (omega (arith, amount_count s ok)))
+      (cross_at i h)))
 
-  surplus_in_set : node_sum (λ v. when (set v) (surplus_at s v)) (node_count s.net) ≡ supply_in s.net.supplies set -ℤ (flow_sum (λ a f. when (leaves set a) f) s.net.arcs s.amounts -ℤ flow_sum (λ a f. when (enters set a) f) s.net.arcs s.amounts)
+  surplus_in_set : node_sum (λ v. when (set v) (surplus_at s v)) (node_count s.net) ≡ supply_in s.net.supplies set -ℤ
+      (flow_sum (λ a f. when (leaves set a) f) s.net.arcs s.amounts -ℤ flow_sum (λ a f. when (enters set a) f) s.net.arcs s.amounts)
   surplus_in_set =
-      node_sum-same (λ v. when (set v) (surplus_at s v)) (λ v. when (set v) (at_node s.net.supplies v) -ℤ when (set v) (net s.net.arcs s.amounts v)) (node_count s.net) (λ v h. when-sub (set v) (at_node s.net.supplies v) (net s.net.arcs s.amounts v))
+      node_sum-same (λ v. when (set v) (surplus_at s v)) (λ v. when (set v) (at_node s.net.supplies v) -ℤ when (set v) (net s.net.arcs s.amounts v))
+      (node_count s.net) (λ v h. when-sub (set v) (at_node s.net.supplies v) (net s.net.arcs s.amounts v))
       ∙ node_sum-sub (λ v. when (set v) (at_node s.net.supplies v)) (λ v. when (set v) (net s.net.arcs s.amounts v)) (node_count s.net)
       ∙ ap (λ z. supply_in s.net.supplies set -ℤ z) (nets_across (node_count s.net) s.net.arcs s.amounts set ok.of_net.ends)
 
   surplus_above_zero : pos 0 <ℤ node_sum (λ v. when (set v) (surplus_at s v)) (node_count s.net)
   surplus_above_zero =
       let (u, h, inside, positive) = stuck.source in
-      node_sum_above_zero (λ v. when (set v) (surplus_at s v)) (node_count s.net) u h (rw (when-true (set u) (surplus_at s u) inside) positive) (λ v q. when_at_least_zero (set v) (surplus_at s v) (stuck.no_deficit v q))
+      node_sum_above_zero (λ v. when (set v) (surplus_at s v)) (node_count s.net) u h (rw (when-true (set u) (surplus_at s u) inside) positive)
+      (λ v q. when_at_least_zero (set v) (surplus_at s v) (stuck.no_deficit v q))
 
   pub stuck_blocks : can_send s.net set <ℤ must_send s.net set
   stuck_blocks =
-      let out = flow_sum-same_at (Crosses set) (λ a f. when (leaves set a) f) (λ a f. when (leaves set a) a.cap) (λ a f q. q.0) s.net.arcs s.amounts all_cross ∙ flow_sum-arc_sum (Crosses set) (λ a. when (leaves set a) a.cap) s.net.arcs s.amounts all_cross in
-      let into = flow_sum-same_at (Crosses set) (λ a f. when (enters set a) f) (λ a f. when (enters set a) a.low) (λ a f q. q.1) s.net.arcs s.amounts all_cross ∙ flow_sum-arc_sum (Crosses set) (λ a. when (enters set a) a.low) s.net.arcs s.amounts all_cross in
+      let out = flow_sum-same_at (Crosses set) (λ a f. when (leaves set a) f) (λ a f. when (leaves set a) a.cap) (λ a f q. q.0) s.net.arcs s.amounts all_cross
+      ∙ flow_sum-arc_sum (Crosses set) (λ a. when (leaves set a) a.cap) s.net.arcs s.amounts all_cross in
+      let into = flow_sum-same_at (Crosses set) (λ a f. when (enters set a) f) (λ a f. when (enters set a) a.low) (λ a f q. q.1) s.net.arcs s.amounts all_cross
+      ∙ flow_sum-arc_sum (Crosses set) (λ a. when (enters set a) a.low) s.net.arcs s.amounts all_cross in
       omega (arith, ints, surplus_above_zero, surplus_in_set, out, into)
 
 pub stuck_sets_block_lem : StuckSetsBlock

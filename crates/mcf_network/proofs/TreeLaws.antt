@@ -30,7 +30,8 @@ at_bound_restored a x h =
     ]
 
 -- the net of a node asks for the ends of the arcs alone
-flow_kept : (t : Arc → ℤ → ℤ) → ((a : Arc) (f : ℤ) → t (without_low a) f ≡ t a f) → (arcs : List Arc) (z : List ℤ) → flow_sum t (map without_low arcs) z ≡ flow_sum t arcs z
+flow_kept : (t : Arc → ℤ → ℤ) → ((a : Arc) (f : ℤ) → t (without_low a) f ≡ t a f) → (arcs : List Arc) (z : List ℤ)
+    → flow_sum t (map without_low arcs) z ≡ flow_sum t arcs z
 flow_kept t same [] z = refl
 flow_kept t same (a ∷ arcs) [] = refl
 flow_kept t same (a ∷ arcs) (f ∷ z) = omega (arith, ints, same a f, flow_kept t same arcs z)
@@ -42,7 +43,8 @@ net_kept arcs z v =
     omega (arith, ints, out, into)
 
 -- what is 0 where the restored flow is at a bound is 0 where the amount is
-free_in_net : (g : Network) (amounts z : List ℤ) → length amounts ≡ length g.arcs → IsFreeCirculation g (restored g.arcs amounts) z → IsFreeCirculation (net_of g) amounts z
+free_in_net : (g : Network) (amounts z : List ℤ) → length amounts ≡ length g.arcs → IsFreeCirculation g (restored g.arcs amounts) z
+    → IsFreeCirculation (net_of g) amounts z
 unfolding net_of
 free_in_net g amounts z n circulation =
     let arc_count = length-map g.arcs without_low in

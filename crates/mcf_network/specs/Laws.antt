@@ -17,7 +17,8 @@ use Rattle.mcf_network.specs.TreeSolutions.{IsTreeSolution}
 -- amounts are a feasible flow of a net exactly where they are a state without surplus
 abbrev pub FeasibleFlowsAreStates : Type 0
 FeasibleFlowsAreStates =
-    (g : Network) (flow : List ℤ) → IsNet g → IsFeasible g flow ↔ (IsPseudoflow (record { net = g; amounts = flow }) × HasNoSurplus (record { net = g; amounts = flow }))
+    (g : Network) (flow : List ℤ) → IsNet g → IsFeasible g flow ↔ (IsPseudoflow (record { net = g; amounts = flow })
+    × HasNoSurplus (record { net = g; amounts = flow }))
 
 -- a set that no surplus can leave must send more than it can
 abbrev pub StuckSetsBlock : Type 0
@@ -27,7 +28,8 @@ StuckSetsBlock = (s : Pseudoflow) (set : ℕ → Bool) → IsPseudoflow s → Is
 -- cost that is the same for all
 abbrev pub NetFlowsCostNoMore : Type 0
 NetFlowsCostNoMore =
-    (g : Network) (flow : List ℤ) → IsFeasible g flow → (amounts : List ℤ) × IsFeasible (net_of g) amounts × ((cost (net_of g).arcs amounts +ℤ fixed_cost g.arcs) ≤ℤ cost g.arcs flow)
+    (g : Network) (flow : List ℤ) → IsFeasible g flow → (amounts : List ℤ) × IsFeasible (net_of g) amounts
+    × ((cost (net_of g).arcs amounts +ℤ fixed_cost g.arcs) ≤ℤ cost g.arcs flow)
 
 -- a node set blocks the net exactly where it blocks the network, by the same side
 abbrev pub NetsBlockAlike : Type 0
@@ -42,7 +44,8 @@ RestoredLeastFlowsAreLeast =
 -- the greatest prices not above 0 of a feasible flow of the net are those of the flow for which it stands
 abbrev pub GreatestPricesCarryOver : Type 0
 GreatestPricesCarryOver =
-    (g : Network) (prices amounts : List ℤ) → IsFeasible (net_of g) amounts → AreGreatestPrices (net_of g) prices amounts ↔ AreGreatestPrices g prices (restored g.arcs amounts)
+    (g : Network) (prices amounts : List ℤ) → IsFeasible (net_of g) amounts → AreGreatestPrices (net_of g) prices amounts
+    ↔ AreGreatestPrices g prices (restored g.arcs amounts)
 
 -- a tree solution of the net stands for a tree solution of the network
 abbrev pub RestoredTreeSolutionsAreTreeSolutions : Type 0

@@ -42,7 +42,8 @@ cycle_can_push s walk x cycle positive room =
       distinct = λ i j d h l e. cycle.distinct i j d h l (ap (tail s.net) e);
     }
 
-pub cycle_feasible : (g : Network) (s : Pseudoflow) (walk : List Rid) (x : ℤ) → IsFeasibleState g s → IsNegativeCycle s walk → CanPushAlong s walk x → IsFeasibleState g (pushed_along s walk x)
+pub cycle_feasible : (g : Network) (s : Pseudoflow) (walk : List Rid) (x : ℤ) → IsFeasibleState g s → IsNegativeCycle s walk → CanPushAlong s walk x
+    → IsFeasibleState g (pushed_along s walk x)
 cycle_feasible g s walk x ok cycle can =
     let same = along_net s walk x in
     record {
@@ -60,14 +61,16 @@ cycle_feasible g s walk x ok cycle can =
 abbrev pub cost_height : Pseudoflow → ℕ
 cost_height s = nat_abs (cost s.net.arcs s.amounts +ℤ pos net_total_limit)
 
-pub cost_height_falls : (s : Pseudoflow) (walk : List Rid) (x : ℤ) → IsPseudoflow s → IsNegativeCycle s walk → CanPushAlong s walk x → pos 0 <ℤ x → cost_height (pushed_along s walk x) < cost_height s
+pub cost_height_falls : (s : Pseudoflow) (walk : List Rid) (x : ℤ) → IsPseudoflow s → IsNegativeCycle s walk → CanPushAlong s walk x → pos 0 <ℤ x
+    → cost_height (pushed_along s walk x) < cost_height s
 cost_height_falls s walk x ok cycle can positive =
     let change = cost_along s walk x ok can in
     let less = mul_below_zero (walk_cost s.net walk) x cycle.negative positive in
     let after = along_ok s walk x ok can in
     let floor = (cost_up_to (pushed_along s walk x).net.arcs (pushed_along s walk x).amounts net_total_limit after.of_net.total after.within_bounds).0 in
     let same = ap (λ (n : Network). cost n.arcs (pushed_along s walk x).amounts) (along_net s walk x) in
-    nat_abs_falls (cost (pushed_along s walk x).net.arcs (pushed_along s walk x).amounts +ℤ pos net_total_limit) (cost s.net.arcs s.amounts +ℤ pos net_total_limit) (omega (arith, ints, floor)) (omega (arith, ints, less, change, same))
+    nat_abs_falls (cost (pushed_along s walk x).net.arcs (pushed_along s walk x).amounts +ℤ pos net_total_limit)
+    (cost s.net.arcs s.amounts +ℤ pos net_total_limit) (omega (arith, ints, floor)) (omega (arith, ints, less, change, same))
 
 -- a cancelled cycle leaves a state without surplus, which costs less
 module _ (s s' : Pseudoflow) (walk : List Rid) (cycle : IsNegativeCycle s walk) (done : IsCancelled s s' walk) where
@@ -88,7 +91,8 @@ pub least_from_prices : (g : Network) (s : Pseudoflow) (ys : List ℤ) → IsFea
 least_from_prices g s ys ok prices =
     record {
       feasible = ok;
-      least = subst (λ n. IsLeast n s.amounts) ok.of_net (shown_flows_are_least_lem s.net ys s.amounts ok.flow.of_net.ends (feasible_of_state s ok.flow ok.no_surplus) prices.low.show_flow);
+      least = subst (λ n. IsLeast n s.amounts) ok.of_net (shown_flows_are_least_lem s.net ys s.amounts ok.flow.of_net.ends
+          (feasible_of_state s ok.flow ok.no_surplus) prices.low.show_flow);
     }
 
 pub state_prices : (g : Network) (s : Pseudoflow) (ys : List ℤ) → IsFeasibleState g s → AreGreatestPrices s.net ys s.amounts → AreStatePrices g s ys
@@ -110,7 +114,8 @@ least_no_cycle g s walk ok cycle =
     let after = cycle_feasible g s walk (pos 1) ok.feasible cycle can in
     let change = cost_along s walk (pos 1) ok.feasible.flow can in
     let less = mul_below_zero (walk_cost s.net walk) (pos 1) cycle.negative (omega (arith, ints)) in
-    let feasible = subst (λ n. IsFeasible n (pushed_along s walk (pos 1)).amounts) after.of_net (feasible_of_state (pushed_along s walk (pos 1)) after.flow after.no_surplus) in
+    let feasible = subst (λ n. IsFeasible n (pushed_along s walk (pos 1)).amounts) after.of_net
+    (feasible_of_state (pushed_along s walk (pos 1)) after.flow after.no_surplus) in
     let least = ok.least.least (pushed_along s walk (pos 1)).amounts feasible in
     let here = ap (λ (n : Network). cost n.arcs s.amounts) ok.feasible.of_net in
     let there = ap (λ (n : Network). cost n.arcs (pushed_along s walk (pos 1)).amounts) ok.feasible.of_net in

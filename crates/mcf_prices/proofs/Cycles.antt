@@ -1,5 +1,6 @@
 -- The search for a cycle of links over all nodes, and the measure of the rounds.
-use Rattle.std.proofs.Common.{◌≡◌, ℕ, suc, ◌<◌, ◌≤◌, ◌+◌, ◌-◌, ◌*◌, List, [], ◌∷◌, length, Bool, true, false, ℤ, pos, negsuc, nat_abs, ◌+ℤ◌, neg_ℤ, ◌≤ℤ◌, ◌<ℤ◌, sym, ap, subst, ◌∙◌, arith, ◌⊎◌, inl, inr}
+use Rattle.std.proofs.Common.{◌≡◌, ℕ, suc, ◌<◌, ◌≤◌, ◌+◌, ◌-◌, ◌*◌, List, [], ◌∷◌, length, Bool, true, false, ℤ, pos, negsuc, nat_abs, ◌+ℤ◌, neg_ℤ, ◌≤ℤ◌, ◌<ℤ◌}
+use Rattle.std.proofs.Common.{sym, ap, subst, ◌∙◌, arith, ◌⊎◌, inl, inr}
 use Rattle.std.proofs.lemmas.Int.{ints}
 use Rattle.std.proofs.lemmas.Bool.{true≢false, cases_eq}
 use Rattle.std.proofs.lemmas.List.{length-replicate}
@@ -41,7 +42,10 @@ walk_leaves g [] u w walk = inl walk
 walk_leaves g (r ∷ rest) u w walk = inr (0, omega arith, λ d. walk.0)
 
 -- after a walk that closed no cycle was taken back
-pub cycle_next : (l : Labels) (seen done done' : List Bool) (path : List Rid) (v end : ℕ) → ((j : ℕ) → 1 ≤ j → j ≤ v → IsSettled l done j) → IsTrail l path seen done → IsWalk l.flow.net (v + 1) path end → IsSettled l done end → IsDone l done' → ((u : ℕ) → in_table done u ≡ true → in_table done' u ≡ true) → ((u : ℕ) → HasTail l.flow.net path u → in_table done' u ≡ true) → CycleAt l seen done' (v + 1)
+pub cycle_next : (l : Labels) (seen done done' : List Bool) (path : List Rid) (v end : ℕ) → ((j : ℕ) → 1 ≤ j → j ≤ v → IsSettled l done j)
+    → IsTrail l path seen done → IsWalk l.flow.net (v + 1) path end → IsSettled l done end → IsDone l done'
+    → ((u : ℕ) → in_table done u ≡ true → in_table done' u ≡ true) → ((u : ℕ) → HasTail l.flow.net path u → in_table done' u ≡ true)
+    → CycleAt l seen done' (v + 1)
 cycle_next l seen done done' path v end before trail walk settled floors kept left =
     record {
       trail = record {
@@ -71,21 +75,24 @@ cycle_next l seen done done' path v end before trail walk settled floors kept le
     still u (inr a) = inr a
 
 -- a settled node is not far below 0
-pub settled_floor : (l : Labels) (done : List Bool) (v : ℕ) → IsLabelling l → IsDone l done → IsNode (length done) v → IsSettled l done v → neg_ℤ (pos (cost_limit * member_count done)) ≤ℤ at_node l.prices v
+pub settled_floor : (l : Labels) (done : List Bool) (v : ℕ) → IsLabelling l → IsDone l done → IsNode (length done) v → IsSettled l done v
+    → neg_ℤ (pos (cost_limit * member_count done)) ≤ℤ at_node l.prices v
 settled_floor l done v ok floors h (inl a) = floors.floor v h a
 settled_floor l done v ok floors h (inr a) =
     let none = ok.linked.roots v (h.0, omega (arith, h, floors.count, ok.link_count)) a in
     omega (arith, ints, none)
 
 -- all settled, so none is far below 0
-pub cycle_end : (l : Labels) (seen done : List Bool) (v : ℕ) → IsLabelling l → CycleAt l seen done v → node_count l.flow.net ≤ v → AreAtLeast (cost_limit * node_count l.flow.net) l.prices
+pub cycle_end : (l : Labels) (seen done : List Bool) (v : ℕ) → IsLabelling l → CycleAt l seen done v → node_count l.flow.net ≤ v
+    → AreAtLeast (cost_limit * node_count l.flow.net) l.prices
 cycle_end l seen done v ok at n u h =
     let inside : IsNode (length done) u = (h.0, omega (arith, h, ok.count, at.floors.count)) in
     let low = settled_floor l done u ok at.floors inside (at.before u h.0 (omega (arith, h, ok.count))) in
     omega (arith, ints, low, count_small done, at.floors.count)
 
 -- where a walk closed a cycle the path leaves its end
-pub end_leaves : (l : Labels) (seen done : List Bool) (path : List Rid) (end : ℕ) → IsTrail l path seen done → IsNode (length seen) end → in_table seen end ≡ true → (IsSettled l done end → ⊥) → HasTail l.flow.net path end
+pub end_leaves : (l : Labels) (seen done : List Bool) (path : List Rid) (end : ℕ) → IsTrail l path seen done → IsNode (length seen) end
+    → in_table seen end ≡ true → (IsSettled l done end → ⊥) → HasTail l.flow.net path end
 end_leaves l seen done path end trail h e closed =
     elim (trail.seen end h e) [
       | inl a ↦ absurd (closed (inl a))

@@ -1,5 +1,6 @@
 -- A residual arc that lowers a price keeps what is known of the labels.
-use Rattle.std.proofs.Common.{◌≡◌, ◌≢◌, ℕ, zero, suc, ◌<◌, ◌≤◌, ◌+◌, ◌-◌, List, [], ◌∷◌, length, get_or, set, cond, eqb, Option, Some, None, ℤ, pos, ◌+ℤ◌, ◌-ℤ◌, neg_ℤ, ◌≤ℤ◌, ◌<ℤ◌, refl, sym, ap, subst, ◌∙◌, arith, inl, inr, length-set, replicate}
+use Rattle.std.proofs.Common.{◌≡◌, ◌≢◌, ℕ, zero, suc, ◌<◌, ◌≤◌, ◌+◌, ◌-◌, List, [], ◌∷◌, length, get_or, set, cond, eqb, Option, Some, None, ℤ, pos, ◌+ℤ◌, ◌-ℤ◌}
+use Rattle.std.proofs.Common.{neg_ℤ, ◌≤ℤ◌, ◌<ℤ◌, refl, sym, ap, subst, ◌∙◌, arith, inl, inr, length-set, replicate}
 use Rattle.std.proofs.lemmas.Int.{ints}
 use Rattle.std.proofs.lemmas.Bool.{cases_eq, eq-eqb, ne_eqb}
 use Rattle.std.proofs.lemmas.List.{get_or-replicate, length-replicate}
@@ -35,10 +36,12 @@ module _ (l : Labels) (r : Rid) (ok : IsLabelling l) (room : HasRoom l.flow r) (
       let here = ok.not_above_zero (tail l.flow.net r - 1) (pos 0) (let t = from_in in omega (arith, t)) in
       All-set (λ y. y ≤ℤ pos 0) l.prices (tail l.flow.net r - 1) (offer l r) (omega (arith, ints, here, less)) ok.not_above_zero
 
-  lowered_above : (others : List ℤ) → AreLowPrices l.flow.net others l.flow.amounts → (v : ℕ) → IsNode (node_count l.flow.net) v → at_node others v ≤ℤ at_node (lowered l r).prices v
+  lowered_above : (others : List ℤ) → AreLowPrices l.flow.net others l.flow.amounts → (v : ℕ) → IsNode (node_count l.flow.net) v
+      → at_node others v ≤ℤ at_node (lowered l r).prices v
   lowered_above others low v h =
       elim (read_node l.prices (tail l.flow.net r) v (offer l r) (pos 0) from_in h.0) [
-        | inl (e, w) ↦ (let keeps = respects_from_shows l.flow others r.arc r.back ok.flow low.show_flow room in let there = ok.above others low (head l.flow.net r) to_in in rw (w, e) (omega (arith, ints, keeps, there)))
+        | inl (e, w) ↦ (let keeps = respects_from_shows l.flow others r.arc r.back ok.flow low.show_flow room in
+            let there = ok.above others low (head l.flow.net r) to_in in rw (w, e) (omega (arith, ints, keeps, there)))
         | inr (n, w) ↦ (let b = ok.above others low v h in rw w b)
       ]
 
@@ -76,14 +79,24 @@ module _ (l : Labels) (r : Rid) (ok : IsLabelling l) (room : HasRoom l.flow r) (
         has_room = room;
         falls = elim (read_node l.prices (tail l.flow.net r) (head l.flow.net r) (offer l r) (pos 0) from_in to_in.0) [
           | inl (h, w) ↦ inl (let old = ap (at_node l.prices) h in omega (arith, ints, w, p, old, less))
-          | inr (n, w) ↦ inr (omega (arith, ints, w, p), omega (arith, stamped_same stamp clock v e, stamped_other stamp clock (head l.flow.net r) n, before (head l.flow.net r)))
+          | inr (n, w) ↦ inr (
+            omega (arith, ints, w, p),
+            omega (
+              arith,
+              stamped_same stamp clock v e,
+              stamped_other stamp clock (head l.flow.net r) n,
+              before
+                  (head l.flow.net r),
+            ),
+          )
         ];
       }
 
   head_low : (q : Rid) → HasRoom l.flow q → 1 ≤ head l.flow.net q
   head_low q h = (head_is_node l.flow.net q.arc q.back ok.flow.of_net h.arc).0
 
-  linked_there : (stamp : ℕ → ℕ) (clock : ℕ) → (v : ℕ) (q : Rid) → 1 ≤ v → v ≢ tail l.flow.net r → IsLink l stamp v q → IsLink (lowered l r) (stamped stamp clock) v q
+  linked_there : (stamp : ℕ → ℕ) (clock : ℕ) → (v : ℕ) (q : Rid) → 1 ≤ v → v ≢ tail l.flow.net r → IsLink l stamp v q
+      → IsLink (lowered l r) (stamped stamp clock) v q
   linked_there stamp clock v q h n link =
       let same = lowered_other v h n in
       record {
@@ -96,7 +109,16 @@ module _ (l : Labels) (r : Rid) (ok : IsLabelling l) (room : HasRoom l.flow r) (
           ])
           | inr (m, w) ↦ elim link.falls [
             | inl f ↦ inl (omega (arith, ints, w, same, f))
-            | inr (f, g) ↦ inr (omega (arith, ints, w, same, f), omega (arith, g, stamped_other stamp clock v n, stamped_other stamp clock (head l.flow.net q) m))
+            | inr (f, g) ↦ inr (
+              omega (arith, ints, w, same, f),
+              omega (
+                arith,
+                g,
+                stamped_other stamp clock v n,
+                stamped_other stamp clock
+                    (head l.flow.net q) m,
+              ),
+            )
           ]
         ];
       }
@@ -116,7 +138,8 @@ module _ (l : Labels) (r : Rid) (ok : IsLabelling l) (room : HasRoom l.flow r) (
           | inr n ↦ omega (arith, stamped_other old.stamp old.clock v n, old.before v)
         ];
         links = λ v q h is. elim (read_node l.links (tail l.flow.net r) v (Some r) None links_in h.0) [
-          | inl (e, w) ↦ (let same : r ≡ q = cc in subst (λ x. IsLink (lowered l r) (stamped old.stamp old.clock) v x) same (linked_here old.stamp old.clock old.before v e))
+          | inl (e, w) ↦ (let same : r ≡ q = cc in subst (λ x. IsLink (lowered l r) (stamped old.stamp old.clock) v x) same
+              (linked_here old.stamp old.clock old.before v e))
           | inr (n, w) ↦ linked_there old.stamp old.clock v q h.0 n (old.links v q (old_node v h) (cc))
         ];
         roots = λ v h is. elim (read_node l.links (tail l.flow.net r) v (Some r) None links_in h.0) [
@@ -177,7 +200,11 @@ module _ (l : Labels) (r : Rid) (ok : IsLabelling l) (room : HasRoom l.flow r) (
       omega (arith, ints, here, there)
 
 -- all prices 0 and no link
-pub start_ok : (s : Pseudoflow) → IsPseudoflow s → IsLabelling (record { flow = s; prices = replicate (node_count s.net) (pos 0); links = replicate (node_count s.net) None })
+pub start_ok : (s : Pseudoflow) → IsPseudoflow s → IsLabelling (record {
+  flow = s;
+  prices = replicate (node_count s.net) (pos 0);
+  links = replicate (node_count s.net) None;
+})
 start_ok s ok =
     let n = node_count s.net in
     let m = length-replicate n (pos 0) in
@@ -187,7 +214,8 @@ start_ok s ok =
       count = m;
       link_count = k;
       not_above_zero = λ i d h. rw (get_or-replicate n i (pos 0) d (omega (arith, m, h))) (omega (arith, ints));
-      above = λ others low v h. rw (get_or-replicate n (v - 1) (pos 0) (pos 0) (omega (arith, h))) (low.not_above_zero (v - 1) (pos 0) (omega (arith, h, low.one_per_node)));
+      above = λ others low v h. rw (get_or-replicate n (v - 1) (pos 0) (pos 0) (omega (arith, h)))
+          (low.not_above_zero (v - 1) (pos 0) (omega (arith, h, low.one_per_node)));
       linked = record {
         stamp = λ _. 0;
         clock = 0;

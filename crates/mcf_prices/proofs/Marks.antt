@@ -10,7 +10,8 @@ use Rattle.mcf_network.specs.NodeSets.{member_count, with_node}
 use Rattle.mcf_network.proofs.Marks.{counted_new}
 
 -- a read of the entry of a node after a write of one
-pub read_node : {X : Type 0} (xs : List X) (i v : ℕ) (a d : X) → IsNode (length xs) i → 1 ≤ v → ((v ≡ i) × (get_or (set xs (i - 1) a) (v - 1) d ≡ a)) ⊎ ((v ≢ i) × (get_or (set xs (i - 1) a) (v - 1) d ≡ get_or xs (v - 1) d))
+pub read_node : {X : Type 0} (xs : List X) (i v : ℕ) (a d : X) → IsNode (length xs) i → 1 ≤ v
+    → ((v ≡ i) × (get_or (set xs (i - 1) a) (v - 1) d ≡ a)) ⊎ ((v ≢ i) × (get_or (set xs (i - 1) a) (v - 1) d ≡ get_or xs (v - 1) d))
 read_node xs i v a d h low =
     elim (cases_eq v i) [
       | inl e ↦ (let same : v - 1 ≡ i - 1 = ap (λ k. k - 1) e in inl (e, get_or-set_at xs (i - 1) (v - 1) a d same (omega arith)))
@@ -22,6 +23,7 @@ pub counted_again : (table : List Bool) (v : ℕ) → IsNode (length table) v �
 counted_again table v h e =
     omega (arith, sum_by-set (λ b. cond b 1 0) table (v - 1) true false (omega arith), ap {B = ℕ} (λ b. cond b 1 0) e)
 
-pub counted_more : (table : List Bool) (v : ℕ) (b : Bool) → IsNode (length table) v → in_table table v ≡ b → member_count table ≤ member_count (with_node table v)
+pub counted_more : (table : List Bool) (v : ℕ) (b : Bool) → IsNode (length table) v → in_table table v ≡ b
+    → member_count table ≤ member_count (with_node table v)
 counted_more table v true h e = omega (arith, counted_again table v h e)
 counted_more table v false h e = omega (arith, counted_new table v h e)

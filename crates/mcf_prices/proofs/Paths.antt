@@ -1,5 +1,6 @@
 -- The marks of a walk along links.
-use Rattle.std.proofs.Common.{◌≡◌, ◌≢◌, ℕ, ◌<◌, ◌-◌, ◌*◌, List, [], ◌∷◌, ◌++◌, length, Bool, true, false, Option, Some, None, pos, neg_ℤ, ◌≤ℤ◌, refl, sym, ap, subst, ◌∙◌, arith, ◌⊎◌, inl, inr, length-set}
+use Rattle.std.proofs.Common.{◌≡◌, ◌≢◌, ℕ, ◌<◌, ◌-◌, ◌*◌, List, [], ◌∷◌, ◌++◌, length, Bool, true, false, Option, Some, None, pos, neg_ℤ, ◌≤ℤ◌, refl, sym, ap}
+use Rattle.std.proofs.Common.{subst, ◌∙◌, arith, ◌⊎◌, inl, inr, length-set}
 use Rattle.std.specs.List.{All}
 use Rattle.std.specs.Option.{IfSome, IfNone}
 use Rattle.std.proofs.lemmas.Int.{ints}
@@ -29,7 +30,8 @@ HasTail-here g path r v e =
     (length path, omega (arith, length_push path r), λ d. rw (get_or_push path r d (length path) refl) e)
 
 -- a node is marked: it is that node, or it was marked
-marked_by : (table : List Bool) (at v : ℕ) → IsNode (length table) at → IsNode (length (with_node table at)) v → in_table (with_node table at) v ≡ true → (v ≡ at) ⊎ (IsNode (length table) v × (in_table table v ≡ true))
+marked_by : (table : List Bool) (at v : ℕ) → IsNode (length table) at → IsNode (length (with_node table at)) v → in_table (with_node table at) v ≡ true
+    → (v ≡ at) ⊎ (IsNode (length table) v × (in_table table v ≡ true))
 marked_by table at v h k m =
     elim (read_node table at v true false h k.0) [
       | inl (e, w) ↦ inl e
@@ -37,15 +39,18 @@ marked_by table at v h k m =
     ]
 
 -- a step is pushed on the path, and its tail is marked
-pub trail_push : (l : Labels) (path : List Rid) (seen done : List Bool) (r : Rid) (at : ℕ) → IsTrail l path seen done → IsNode (node_count l.flow.net) at → in_table seen at ≡ false → IsStep l r → tail l.flow.net r ≡ at → IsTrail l (path ++ r ∷ []) (with_node seen at) done
+pub trail_push : (l : Labels) (path : List Rid) (seen done : List Bool) (r : Rid) (at : ℕ) → IsTrail l path seen done → IsNode (node_count l.flow.net) at
+    → in_table seen at ≡ false → IsStep l r → tail l.flow.net r ≡ at → IsTrail l (path ++ r ∷ []) (with_node seen at) done
 trail_push l path seen done r at ok h fresh step e =
     let inside : IsNode (length seen) at = (h.0, omega (arith, h, ok.seen_count)) in
     record {
       seen_count = length-set seen (at - 1) true ∙ ok.seen_count;
       done_count = ok.done_count;
       steps = All-push (IsStep l) path r ok.steps step;
-      distinct = all_pairs_push (λ q p. tail l.flow.net q ≢ tail l.flow.net p) path r ok.distinct (λ k d p same. let a = ok.path_seen k d p in let b = ap (in_table seen) (same ∙ e) in true≢false (sym a ∙ b ∙ fresh));
-      path_seen = All-push (λ q. in_table (with_node seen at) (tail l.flow.net q) ≡ true) path r (λ k d p. marked_still seen at _ inside (ok.path_seen k d p)) (ap (in_table (with_node seen at)) e ∙ marked_new seen at inside);
+      distinct = all_pairs_push (λ q p. tail l.flow.net q ≢ tail l.flow.net p) path r ok.distinct
+          (λ k d p same. let a = ok.path_seen k d p in let b = ap (in_table seen) (same ∙ e) in true≢false (sym a ∙ b ∙ fresh));
+      path_seen = All-push (λ q. in_table (with_node seen at) (tail l.flow.net q) ≡ true) path r (λ k d p. marked_still seen at _ inside (ok.path_seen k d p))
+          (ap (in_table (with_node seen at)) e ∙ marked_new seen at inside);
       seen = λ v p m. elim (marked_by seen at v inside p m) [
         | inl s ↦ inr (inr (HasTail-here l.flow.net path r v (e ∙ sym s)))
         | inr (n, w) ↦ elim (ok.seen v n w) [
@@ -57,7 +62,8 @@ trail_push l path seen done r at ok h fresh step e =
     }
 
 -- a node without a link is marked
-pub trail_root : (l : Labels) (path : List Rid) (seen done : List Bool) (at : ℕ) → IsTrail l path seen done → IsNode (node_count l.flow.net) at → link_at l at ≡ None → IsTrail l path (with_node seen at) done
+pub trail_root : (l : Labels) (path : List Rid) (seen done : List Bool) (at : ℕ) → IsTrail l path seen done → IsNode (node_count l.flow.net) at
+    → link_at l at ≡ None → IsTrail l path (with_node seen at) done
 trail_root l path seen done at ok h root =
     let inside : IsNode (length seen) at = (h.0, omega (arith, h, ok.seen_count)) in
     record {
@@ -90,11 +96,14 @@ HasTail-unpush : (g : Network) (path : List Rid) (r : Rid) (v : ℕ) → HasTail
 HasTail-unpush g path r v leaves =
     elim (cases_eq leaves.0 (length path)) [
       | inl e ↦ inl (subst (λ q. tail g q ≡ v) (get_or_push path r r leaves.0 (sym e)) (leaves.2 r))
-      | inr n ↦ (let h : leaves.0 < length path = (let m = leaves.1 in omega (arith, m, n, length_push path r)) in inr (leaves.0, h, λ d. subst (λ q. tail g q ≡ v) (get_or_append_left path (r ∷ []) d leaves.0 h) (leaves.2 d)))
+      | inr n ↦ (let h : leaves.0 < length path = (let m = leaves.1 in omega (arith, m, n, length_push path r)) in
+          inr (leaves.0, h, λ d. subst (λ q. tail g q ≡ v) (get_or_append_left path (r ∷ []) d leaves.0 h) (leaves.2 d)))
     ]
 
 -- the floor of the tail of a step that is marked
-floor_here : (l : Labels) (now : List Bool) (r : Rid) (end : ℕ) (b : Bool) → IsLabelling l → IsStep l r → IsDone l now → head l.flow.net r ≡ end → neg_ℤ (pos (cost_limit * member_count now)) ≤ℤ at_node l.prices end → in_table now (tail l.flow.net r) ≡ b → IsNode (length now) (tail l.flow.net r) → neg_ℤ (pos (cost_limit * member_count (with_node now (tail l.flow.net r)))) ≤ℤ at_node l.prices (tail l.flow.net r)
+floor_here : (l : Labels) (now : List Bool) (r : Rid) (end : ℕ) (b : Bool) → IsLabelling l → IsStep l r → IsDone l now → head l.flow.net r ≡ end
+    → neg_ℤ (pos (cost_limit * member_count now)) ≤ℤ at_node l.prices end → in_table now (tail l.flow.net r) ≡ b → IsNode (length now) (tail l.flow.net r)
+    → neg_ℤ (pos (cost_limit * member_count (with_node now (tail l.flow.net r)))) ≤ℤ at_node l.prices (tail l.flow.net r)
 floor_here l now r end true ok step done e floor m inside =
     let here = done.floor (tail l.flow.net r) inside m in
     omega (arith, ints, here, counted_more now (tail l.flow.net r) true inside m)
@@ -105,7 +114,8 @@ floor_here l now r end false ok step done e floor m inside =
     omega (arith, ints, falls, low, there, floor, counted_new now (tail l.flow.net r) inside m)
 
 -- one residual arc taken back
-pub finish_step : (l : Labels) (first now : List Bool) (whole path : List Rid) (r : Rid) → IsLabelling l → FinishAt l first now whole (path ++ r ∷ []) → FinishAt l first (with_node now (tail l.flow.net r)) whole path
+pub finish_step : (l : Labels) (first now : List Bool) (whole path : List Rid) (r : Rid) → IsLabelling l → FinishAt l first now whole (path ++ r ∷ [])
+    → FinishAt l first (with_node now (tail l.flow.net r)) whole path
 finish_step l first now whole path r ok at =
     let step = All-last (IsStep l) path r at.steps in
     let parts = IsWalk-pop l.flow.net path r at.walk.0 at.walk.1 at.walk.2 in
@@ -118,7 +128,13 @@ finish_step l first now whole path r ok at =
         count = length-set now (tail l.flow.net r - 1) true ∙ at.done.count;
         floor = λ v h m. elim (marked_by now (tail l.flow.net r) v inside h m) [
           | inl e ↦ subst (λ x. neg_ℤ (pos (cost_limit * member_count (with_node now (tail l.flow.net r)))) ≤ℤ at_node l.prices x) (sym e) here
-          | inr (n, w) ↦ (let old = at.done.floor v n w in omega (arith, ints, old, counted_more now (tail l.flow.net r) (in_table now (tail l.flow.net r)) inside refl))
+          | inr (n, w) ↦ (let old = at.done.floor v n w in omega (
+            arith,
+            ints,
+            old,
+            counted_more now (tail l.flow.net r)
+                (in_table now (tail l.flow.net r)) inside refl,
+          ))
         ];
       };
       kept = λ v m. marked_still now (tail l.flow.net r) v inside (at.kept v m);
@@ -136,7 +152,8 @@ pub no_tail : (g : Network) (v : ℕ) → HasTail g [] v → ⊥
 no_tail g v leaves = let h = leaves.1 in omega (arith, h)
 
 -- a link is a step
-pub link_step : (l : Labels) (v : ℕ) (o : Option Rid) → IsLabelling l → IsNode (length l.links) v → o ≡ link_at l v → IfSome o (λ r. IsStep l r × (tail l.flow.net r ≡ v))
+pub link_step : (l : Labels) (v : ℕ) (o : Option Rid) → IsLabelling l → IsNode (length l.links) v → o ≡ link_at l v
+    → IfSome o (λ r. IsStep l r × (tail l.flow.net r ≡ v))
 link_step l v None ok h e = tt
 link_step l v (Some r) ok h e =
     let link = ok.linked.links v r h (sym e) in

@@ -1,5 +1,6 @@
 -- The greatest prices of a state are small: where no price lies between two marks that are a cost apart, all below could be raised.
-use Rattle.std.proofs.Common.{◌≡◌, ℕ, zero, suc, ◌≤◌, ◌+◌, ◌-◌, ◌*◌, ◌^◌, List, [], ◌∷◌, length, get_or, map, cond, true, false, ℤ, pos, neg_ℤ, ◌+ℤ◌, ◌≤ℤ◌, ◌<ℤ◌, refl, subst, ◌∙◌, arith, ◌⊎◌, inl, inr, Bool}
+use Rattle.std.proofs.Common.{◌≡◌, ℕ, zero, suc, ◌≤◌, ◌+◌, ◌-◌, ◌*◌, ◌^◌, List, [], ◌∷◌, length, get_or, map, cond, true, false, ℤ, pos, neg_ℤ, ◌+ℤ◌, ◌≤ℤ◌}
+use Rattle.std.proofs.Common.{◌<ℤ◌, refl, subst, ◌∙◌, arith, ◌⊎◌, inl, inr, Bool}
 use Rattle.std.specs.Prelude.{int_lt}
 use Rattle.std.specs.List.{All}
 use Rattle.std.proofs.lemmas.Bool.{cases_lt}
@@ -23,7 +24,8 @@ use Rattle.mcf_prices.proofs.Showing.{respects_from_shows, shows_from_respects}
 -- ---- how many prices are not below a mark
 
 below : (y m : ℤ) → ((y <ℤ m) × (int_lt y m ≡ true)) ⊎ ((m ≤ℤ y) × (int_lt y m ≡ false))
-below y m = by_lt_z y m (λ h. let e : int_lt y m ≡ true = grind (arith, ints) in inl (h, e)) (λ h. let e : int_lt y m ≡ false = grind (arith, ints) in inr (h, e))
+below y m = by_lt_z y m (λ h. let e : int_lt y m ≡ true = grind (arith, ints) in inl (h, e))
+    (λ h. let e : int_lt y m ≡ false = grind (arith, ints) in inr (h, e))
 
 -- 1 where the price is not below the mark
 abbrev one_above : ℤ → ℤ → ℕ
@@ -146,14 +148,17 @@ module _ (s : Pseudoflow) (ys : List ℤ) (ok : IsPseudoflow s) (great : AreGrea
   node_in : (v : ℕ) → IsNode (node_count s.net) v → IsNode (length ys) v
   node_in v h = (h.0, omega (arith, h, great.low.one_per_node))
 
-  raised_respects : (m : ℤ) → ((r : Rid) → HasRoom s r → at_node ys (tail s.net r) <ℤ m → m ≤ℤ at_node ys (head s.net r) → at_node ys (tail s.net r) <ℤ (unit_cost s.net r +ℤ at_node ys (head s.net r))) → (r : Rid) → Respects s (map (raise m) ys) r
+  raised_respects : (m : ℤ) → ((r : Rid) → HasRoom s r → at_node ys (tail s.net r) <ℤ m → m ≤ℤ at_node ys (head s.net r)
+      → at_node ys (tail s.net r) <ℤ (unit_cost s.net r +ℤ at_node ys (head s.net r))) → (r : Rid) → Respects s (map (raise m) ys) r
   raised_respects m slack r room =
       let from = raised_at m ys (tail s.net r) (node_in (tail s.net r) (tail_is_node s.net r.arc r.back ok.of_net room.arc)) in
       let to = raised_at m ys (head s.net r) (node_in (head s.net r) (head_is_node s.net r.arc r.back ok.of_net room.arc)) in
-      rw (from, to) (raise_respects m (at_node ys (tail s.net r)) (at_node ys (head s.net r)) (unit_cost s.net r) (respects_from_shows s ys r.arc r.back ok great.low.show_flow room) (slack r room))
+      rw (from, to) (raise_respects m (at_node ys (tail s.net r)) (at_node ys (head s.net r)) (unit_cost s.net r)
+      (respects_from_shows s ys r.arc r.back ok great.low.show_flow room) (slack r room))
 
   -- where all residual arcs with room have slack across a mark, no price is below it
-  none_below : (m : ℤ) → m ≤ℤ pos 0 → ((r : Rid) → HasRoom s r → at_node ys (tail s.net r) <ℤ m → m ≤ℤ at_node ys (head s.net r) → at_node ys (tail s.net r) <ℤ (unit_cost s.net r +ℤ at_node ys (head s.net r))) → (v : ℕ) → IsNode (node_count s.net) v → m ≤ℤ at_node ys v
+  none_below : (m : ℤ) → m ≤ℤ pos 0 → ((r : Rid) → HasRoom s r → at_node ys (tail s.net r) <ℤ m → m ≤ℤ at_node ys (head s.net r)
+      → at_node ys (tail s.net r) <ℤ (unit_cost s.net r +ℤ at_node ys (head s.net r))) → (v : ℕ) → IsNode (node_count s.net) v → m ≤ℤ at_node ys v
   none_below m mark slack v h =
       let others : AreLowPrices s.net (map (raise m) ys) s.amounts = record {
         one_per_node = length-map ys (raise m) ∙ great.low.one_per_node;
@@ -229,7 +234,8 @@ module _ (s : Pseudoflow) (ys : List ℤ) (ok : IsPseudoflow s) (great : AreGrea
   last_floor : (f : ℕ) → HasFloor (node_count s.net - 1) f → AreAtLeast f ys
   last_floor f (inl low) v h = low v h
   last_floor f (inr count) v h =
-      price_at (λ y. neg_ℤ (pos f) ≤ℤ y) v (above_all (neg_ℤ (pos f)) ys (omega (arith, h, count, great.low.one_per_node))) (h.0, omega (arith, h, great.low.one_per_node))
+      price_at (λ y. neg_ℤ (pos f) ≤ℤ y) v (above_all (neg_ℤ (pos f)) ys (omega (arith, h, count, great.low.one_per_node)))
+      (h.0, omega (arith, h, great.low.one_per_node))
 
   pub greatest_are_small : AreSmallPrices s.net ys
   greatest_are_small size costs k d h =

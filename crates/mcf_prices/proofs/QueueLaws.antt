@@ -22,12 +22,14 @@ no_queue_ok n h =
     }
 
 -- a node that did not wait
-pub push_ok : (q : Waiting) (v : ℕ) → IsQueue q → IsNode (length q.table) v → in_table q.table v ≡ false → IsQueue (record { table = with_node q.table v; nodes = q.nodes ++ v ∷ [] })
+pub push_ok : (q : Waiting) (v : ℕ) → IsQueue q → IsNode (length q.table) v → in_table q.table v ≡ false
+    → IsQueue (record { table = with_node q.table v; nodes = q.nodes ++ v ∷ [] })
 push_ok q v ok h e =
     let same = length-set q.table (v - 1) true in
     record {
       limit = omega (arith, ok.limit, same);
-      are_nodes = All-push (IsNode (length (with_node q.table v))) q.nodes v (λ k d l. let old = ok.are_nodes k d l in (old.0, omega (arith, old, same))) (h.0, omega (arith, h, same));
+      are_nodes = All-push (IsNode (length (with_node q.table v))) q.nodes v (λ k d l. let old = ok.are_nodes k d l in (old.0, omega (arith, old, same)))
+          (h.0, omega (arith, h, same));
       count = omega (arith, ok.count, length_push q.nodes v, counted_new q.table v h e);
       marked = λ w k m. elim (read_node q.table v w true false h k.0) [
         | inl (s, _) ↦ subst (λ x. Contains (q.nodes ++ v ∷ []) x) (sym s) (Contains-push q.nodes v)
@@ -58,7 +60,8 @@ queued_ok q v false ok h e =
     })
 
 -- the nodes up to the next one wait
-pub queued_more : (q : Waiting) (n : ℕ) → IsQueue q → IsNode (length q.table) (n + 1) → ((v : ℕ) → IsNode n v → Contains q.nodes v) → (v : ℕ) → IsNode (n + 1) v → Contains (queued q (n + 1)).nodes v
+pub queued_more : (q : Waiting) (n : ℕ) → IsQueue q → IsNode (length q.table) (n + 1) → ((v : ℕ) → IsNode n v → Contains q.nodes v) → (v : ℕ)
+    → IsNode (n + 1) v → Contains (queued q (n + 1)).nodes v
 queued_more q n ok h before v k =
     let now = queued_ok q (n + 1) (in_table q.table (n + 1)) ok h refl in
     elim (cases_eq v (n + 1)) [

@@ -46,7 +46,8 @@ progress_none l q depth ok queue =
       falls = λ h. absurd (omega arith);
     }
 
-pub entering_start : (l : Labels) (q : Waiting) (w : ℕ) (rest : List Rid) → IsLabelling l → IsQueue q → ((r : Rid) → HasRoom l.flow r → head l.flow.net r ≡ w → Contains rest (reverse r)) → IsEntering l l q q w rest
+pub entering_start : (l : Labels) (q : Waiting) (w : ℕ) (rest : List Rid) → IsLabelling l → IsQueue q
+    → ((r : Rid) → HasRoom l.flow r → head l.flow.net r ≡ w → Contains rest (reverse r)) → IsEntering l l q q w rest
 entering_start l q w rest ok queue every =
     record {
       progress = progress_none l q cost_limit ok queue;
@@ -56,7 +57,8 @@ entering_start l q w rest ok queue every =
     }
 
 -- a residual arc that was handled, after another one lowered the price of its tail
-handled_lowered : (l : Labels) (q q' : Waiting) (r p : Rid) → IsLabelling l → IsLowering l (lowered l r) r → IsQueued q q' (tail l.flow.net r) → HasRoom l.flow p → IsHandled l q p → IsHandled (lowered l r) q' p
+handled_lowered : (l : Labels) (q q' : Waiting) (r p : Rid) → IsLabelling l → IsLowering l (lowered l r) r → IsQueued q q' (tail l.flow.net r)
+    → HasRoom l.flow p → IsHandled l q p → IsHandled (lowered l r) q' p
 handled_lowered l q q' r p ok low queued' room (inr waits) = inr (queued'.others (head l.flow.net p) waits)
 handled_lowered l q q' r p ok low queued' room (inl respects) =
     elim (cases_eq (head l.flow.net p) (tail l.flow.net r)) [
@@ -89,7 +91,9 @@ empty_lacks xs v none has =
     omega (arith, h, z)
 
 -- the next residual arc lowered the price of its tail, which was put into the queue
-pub entering_lowered : (old now : Labels) (before q q' : Waiting) (w : ℕ) (out : Rid) (rest : List Rid) → IsNode (length old.prices) w → IsEntering old now before q w (out ∷ rest) → IsLowering now (lowered now (reverse out)) (reverse out) → head old.flow.net (reverse out) ≡ w → IsQueue q' → IsQueued q q' (tail now.flow.net (reverse out)) → IsEntering old (lowered now (reverse out)) before q' w rest
+pub entering_lowered : (old now : Labels) (before q q' : Waiting) (w : ℕ) (out : Rid) (rest : List Rid) → IsNode (length old.prices) w
+    → IsEntering old now before q w (out ∷ rest) → IsLowering now (lowered now (reverse out)) (reverse out) → head old.flow.net (reverse out) ≡ w → IsQueue q'
+    → IsQueued q q' (tail now.flow.net (reverse out)) → IsEntering old (lowered now (reverse out)) before q' w rest
 entering_lowered old now before q q' w out rest inside at low enters queue queued' =
     let ok = at.progress.valid in
     let r = reverse out in
@@ -99,7 +103,8 @@ entering_lowered old now before q q' w out rest inside at low enters queue queue
     let less = lowered_total now r ok low.has_room low.less in
     let node = head_is_node now.flow.net r.arc r.back ok.flow.of_net low.has_room.arc in
     let same = lowered_other now r ok low.has_room low.less (head now.flow.net r) node.0 (λ e. no_loop now.flow r.arc r.back ok.flow low.has_room (sym e)) in
-    let same_w : at_node (lowered now r).prices w ≡ at_node now.prices w = subst (λ x. at_node (lowered now r).prices x ≡ at_node now.prices x) enters_now same in
+    let same_w : at_node (lowered now r).prices w ≡ at_node now.prices w = subst (λ x. at_node (lowered now r).prices x ≡ at_node now.prices x) enters_now
+    same in
     record {
       progress = record {
         valid = lowered_ok now r ok low.has_room low.less;
@@ -129,7 +134,8 @@ entering_lowered old now before q q' w out rest inside at low enters queue queue
     }
 
 -- the next residual arc lowered no price
-pub entering_kept : (old now : Labels) (before q : Waiting) (w : ℕ) (out : Rid) (rest : List Rid) → IsEntering old now before q w (out ∷ rest) → Respects now.flow now.prices (reverse out) → IsEntering old now before q w rest
+pub entering_kept : (old now : Labels) (before q : Waiting) (w : ℕ) (out : Rid) (rest : List Rid) → IsEntering old now before q w (out ∷ rest)
+    → Respects now.flow now.prices (reverse out) → IsEntering old now before q w rest
 entering_kept old now before q w out rest at respects =
     record {
       progress = at.progress;
@@ -157,13 +163,17 @@ head_reverse g k false = refl
 pub entered_leaves : (l : Labels) (w : ℕ) (g : Network) (list : List Rid) → g ≡ l.flow.net → ListsLeaving g w list → All (Leaves l.flow.net w) list
 entered_leaves l w g list net lists = subst (λ n. All (Leaves n w) list) net lists.each_leaves
 
-pub entered_first : (inside l : Labels) (q : Waiting) (w : ℕ) (g : Network) (list : List Rid) → inside ≡ l → IsLabelling inside → IsQueue q → g ≡ l.flow.net → ListsLeaving g w list → IsEntering l l q q w list
+pub entered_first : (inside l : Labels) (q : Waiting) (w : ℕ) (g : Network) (list : List Rid) → inside ≡ l → IsLabelling inside → IsQueue q → g ≡ l.flow.net
+    → ListsLeaving g w list → IsEntering l l q q w list
 entered_first inside l q w g list view ok queue net lists =
     entering_start l q w list (subst IsLabelling view ok) queue (λ r room e.
     let every = (subst (λ n. ListsLeaving n w list) net lists).every in
     every (reverse r) (record { arc = room.arc; from = tail_reverse l.flow.net r.arc r.back ∙ e }))
 
-pub entered_lowered : (inside old now new : Labels) (before q q' : Waiting) (w from : ℕ) (g : Network) (out : Rid) (rest : List Rid) → inside ≡ old → IsLabelling inside → IsNode (node_count old.flow.net) w → length before.table ≡ node_count old.flow.net → Leaves old.flow.net w out → IsEntering old now before q w (out ∷ rest) → IsLowering now new (reverse out) → g ≡ old.flow.net → from ≡ tail g (reverse out) → IsQueue q' → q' ≡ queued q from → IsEntering old new before q' w rest
+pub entered_lowered : (inside old now new : Labels) (before q q' : Waiting) (w from : ℕ) (g : Network) (out : Rid) (rest : List Rid) → inside ≡ old
+    → IsLabelling inside → IsNode (node_count old.flow.net) w → length before.table ≡ node_count old.flow.net → Leaves old.flow.net w out
+    → IsEntering old now before q w (out ∷ rest) → IsLowering now new (reverse out) → g ≡ old.flow.net → from ≡ tail g (reverse out) → IsQueue q'
+    → q' ≡ queued q from → IsEntering old new before q' w rest
 entered_lowered inside old now new before q q' w from g out rest view ok node table leaves at low net from_is valid value =
     let r = reverse out in
     let old_ok = subst IsLabelling view ok in
@@ -173,10 +183,13 @@ entered_lowered inside old now new before q q' w from g out rest view ok node ta
     let nodes = ap (λ (s : Pseudoflow). node_count s.net) flow in
     let rows = at.progress.table in
     let in_table' : IsNode (length q.table) (tail now.flow.net r) = (is_node.0, omega (arith, is_node, nodes, rows, table)) in
-    let is_queued = subst (λ x. IsQueued q x (tail now.flow.net r)) (sym (value ∙ ap (queued q) here)) (queued_ok q (tail now.flow.net r) (in_table q.table (tail now.flow.net r)) at.progress.queue in_table' refl) in
+    let is_queued = subst (λ x. IsQueued q x (tail now.flow.net r)) (sym (value ∙ ap (queued q) here))
+    (queued_ok q (tail now.flow.net r) (in_table q.table (tail now.flow.net r)) at.progress.queue in_table' refl) in
     subst (λ (x : Labels). IsEntering old x before q' w rest) (sym low.lowers)
-    (entering_lowered old now before q q' w out rest (node.0, omega (arith, node, old_ok.count)) at (record { has_room = low.has_room; less = low.less; lowers = refl }) (head_reverse old.flow.net out.arc out.back ∙ leaves.from) valid is_queued)
+    (entering_lowered old now before q q' w out rest (node.0, omega (arith, node, old_ok.count)) at
+    (record { has_room = low.has_room; less = low.less; lowers = refl }) (head_reverse old.flow.net out.arc out.back ∙ leaves.from) valid is_queued)
 
-pub entered_kept : (old now new : Labels) (before q : Waiting) (w : ℕ) (out : Rid) (rest : List Rid) → IsEntering old now before q w (out ∷ rest) → IsKeeping now new (reverse out) → IsEntering old new before q w rest
+pub entered_kept : (old now new : Labels) (before q : Waiting) (w : ℕ) (out : Rid) (rest : List Rid) → IsEntering old now before q w (out ∷ rest)
+    → IsKeeping now new (reverse out) → IsEntering old new before q w rest
 entered_kept old now new before q w out rest at kept =
     subst (λ (x : Labels). IsEntering old x before q w rest) (sym kept.same) (entering_kept old now before q w out rest at kept.respects)

@@ -1,5 +1,6 @@
 -- A round: the nodes that wait relax the residual arcs that enter them, one after another.
-use Rattle.std.proofs.Common.{◌≡◌, ℕ, ◌<◌, ◌≤◌, ◌+◌, ◌-◌, ◌*◌, ◌^◌, List, [], ◌∷◌, length, get_or, replicate, ℤ, pos, ◌<ℤ◌, refl, sym, ap, subst, ◌∙◌, arith, ◌⊎◌, inl, inr}
+use Rattle.std.proofs.Common.{◌≡◌, ℕ, ◌<◌, ◌≤◌, ◌+◌, ◌-◌, ◌*◌, ◌^◌, List, [], ◌∷◌, length, get_or, replicate, ℤ, pos, ◌<ℤ◌, refl, sym, ap, subst, ◌∙◌, arith}
+use Rattle.std.proofs.Common.{◌⊎◌, inl, inr}
 use Rattle.std.specs.List.{Contains}
 use Rattle.std.proofs.lemmas.Int.{ints}
 use Rattle.std.proofs.lemmas.Bool.{cases_eq, cases_lt}
@@ -53,7 +54,8 @@ pub record RoundAt (first now : Labels) (before after : Waiting) (nodes : List �
   pub handled : (r : Rid) → HasRoom first.flow r → IsHandled now after r ⊎ WaitsFrom nodes i (head first.flow.net r)
   pub still : after.nodes ≡ [] → now.prices ≡ first.prices
 
-pub round_start : (l : Labels) (q waiting : Waiting) → IsLabelling l → IsQueue q → ((r : Rid) → HasRoom l.flow r → IsHandled l waiting r) → RoundAt l l q q waiting.nodes 0
+pub round_start : (l : Labels) (q waiting : Waiting) → IsLabelling l → IsQueue q → ((r : Rid) → HasRoom l.flow r → IsHandled l waiting r)
+    → RoundAt l l q q waiting.nodes 0
 round_start l q waiting ok queue handled =
     record {
       progress = progress_none l q (cost_limit * 0) ok queue;
@@ -70,14 +72,17 @@ empty_within [] ys none within = refl
 empty_within (x ∷ xs) ys none within = absurd (empty_lacks ys x none (within x (0, omega arith, refl)))
 
 -- node w at place i relaxed the residual arcs that enter it
-pub round_next : (first now next : Labels) (before q q' : Waiting) (nodes : List ℕ) (i w : ℕ) → RoundAt first now before q nodes i → i < length nodes → w ≡ get_or nodes i w → IsProgress now next q q' cost_limit → ((r : Rid) → HasRoom now.flow r → head now.flow.net r ≡ w → IsHandled next q' r) → (q'.nodes ≡ [] → next.prices ≡ now.prices) → RoundAt first next before q' nodes (i + 1)
+pub round_next : (first now next : Labels) (before q q' : Waiting) (nodes : List ℕ) (i w : ℕ) → RoundAt first now before q nodes i → i < length nodes
+    → w ≡ get_or nodes i w → IsProgress now next q q' cost_limit → ((r : Rid) → HasRoom now.flow r → head now.flow.net r ≡ w → IsHandled next q' r)
+    → (q'.nodes ≡ [] → next.prices ≡ now.prices) → RoundAt first next before q' nodes (i + 1)
 round_next first now next before q q' nodes i w at inside is progress here still_now =
     record {
       progress = progress_join first now next before q q' (cost_limit * i) cost_limit (cost_limit * (i + 1)) (omega arith) at.progress progress;
       handled = λ r room. elim (at.handled r room) [
         | inl handled ↦ inl (still r (subst (λ s. HasRoom s r) (sym at.progress.flow) room) handled)
         | inr waits ↦ elim (cases_eq waits.0 i) [
-          | inl e ↦ inl (here r (subst (λ s. HasRoom s r) (sym at.progress.flow) room) (ap (λ (s : Pseudoflow). head s.net r) at.progress.flow ∙ same r waits e))
+          | inl e ↦ inl (here r (subst (λ s. HasRoom s r) (sym at.progress.flow) room)
+              (ap (λ (s : Pseudoflow). head s.net r) at.progress.flow ∙ same r waits e))
           | inr n ↦ inr (waits.0, (let low = waits.1 in omega (arith, low, n)), waits.2, waits.3)
         ]
       ];
@@ -86,13 +91,15 @@ round_next first now next before q q' nodes i w at inside is progress here still
   where
     still : (r : Rid) → HasRoom now.flow r → IsHandled now q r → IsHandled next q' r
     still r room (inl respects) = progress.keeps r room respects
-    still r room (inr waits) = inr (subst (λ (s : Pseudoflow). Contains q'.nodes (head s.net r)) (sym progress.flow) (progress.waits (head now.flow.net r) waits))
+    still r room (inr waits) = inr (subst (λ (s : Pseudoflow). Contains q'.nodes (head s.net r)) (sym progress.flow)
+        (progress.waits (head now.flow.net r) waits))
 
     same : (r : Rid) (waits : WaitsFrom nodes i (head first.flow.net r)) → waits.0 ≡ i → head first.flow.net r ≡ w
     same r waits e =
         sym waits.3 ∙ ap (λ k. get_or nodes k (head first.flow.net r)) e ∙ get_or_default nodes i (head first.flow.net r) w inside ∙ sym is
 
-pub round_end : (first now : Labels) (before after : Waiting) (nodes : List ℕ) (i : ℕ) → length nodes ≤ i → i ≤ node_limit → RoundAt first now before after nodes i → IsProgress first now before after (10 ^ 21) × ((r : Rid) → HasRoom first.flow r → IsHandled now after r)
+pub round_end : (first now : Labels) (before after : Waiting) (nodes : List ℕ) (i : ℕ) → length nodes ≤ i → i ≤ node_limit
+    → RoundAt first now before after nodes i → IsProgress first now before after (10 ^ 21) × ((r : Rid) → HasRoom first.flow r → IsHandled now after r)
 round_end first now before after nodes i past small at = (
   record {
     valid = p.valid;
@@ -115,7 +122,8 @@ round_end first now before after nodes i past small at = (
     p = at.progress
 
 -- where nobody waits, the prices are the greatest that show the amounts
-pub greatest_at_end : (l : Labels) (q : Waiting) → IsLabelling l → q.nodes ≡ [] → ((r : Rid) → HasRoom l.flow r → IsHandled l q r) → AreGreatestPrices l.flow.net l.prices l.flow.amounts
+pub greatest_at_end : (l : Labels) (q : Waiting) → IsLabelling l → q.nodes ≡ [] → ((r : Rid) → HasRoom l.flow r → IsHandled l q r)
+    → AreGreatestPrices l.flow.net l.prices l.flow.amounts
 greatest_at_end l q ok none handled =
     record {
       low = record {
@@ -138,22 +146,26 @@ few_nodes q ok = omega (arith, ok.limit, ok.count, count_small q.table)
 pub start_floor : (n f : ℕ) (ys : List ℤ) → ys ≡ replicate n (pos 0) → AreAtLeast f ys
 start_floor n f ys e v h =
     let count = ap (λ (xs : List ℤ). length xs) e in
-    let zero : at_node ys v ≡ pos 0 = ap (λ (xs : List ℤ). at_node xs v) e ∙ get_or-replicate n (v - 1) (pos 0) (pos 0) (omega (arith, h, count, length-replicate n (pos 0))) in
+    let zero : at_node ys v ≡ pos 0 = ap (λ (xs : List ℤ). at_node xs v) e ∙ get_or-replicate n (v - 1) (pos 0) (pos 0)
+    (omega (arith, h, count, length-replicate n (pos 0))) in
     omega (arith, ints, zero)
 
-pub all_wait : (l : Labels) (q : Waiting) (g : Network) → g ≡ l.flow.net → IsLabelling l → ((v : ℕ) → IsNode (node_count g) v → Contains q.nodes v) → (r : Rid) → HasRoom l.flow r → IsHandled l q r
+pub all_wait : (l : Labels) (q : Waiting) (g : Network) → g ≡ l.flow.net → IsLabelling l → ((v : ℕ) → IsNode (node_count g) v → Contains q.nodes v) → (r : Rid)
+    → HasRoom l.flow r → IsHandled l q r
 all_wait l q g net ok each r room =
     let node = head_is_node l.flow.net r.arc r.back ok.flow.of_net room.arc in
     inr (each (head l.flow.net r) (subst (λ n. IsNode (node_count n) (head l.flow.net r)) (sym net) node))
 
-pub floor_between : (l : Labels) (s : Pseudoflow) → l.flow ≡ s → IsLabelling l → AreAtLeast (cost_limit * node_count s.net) l.prices → AreAtLeast (10 ^ 28) l.prices
+pub floor_between : (l : Labels) (s : Pseudoflow) → l.flow ≡ s → IsLabelling l → AreAtLeast (cost_limit * node_count s.net) l.prices
+    → AreAtLeast (10 ^ 28) l.prices
 floor_between l s same ok floor v h =
     let here = floor v h in
     let limit = ok.flow.of_net.nodes in
     let count = ap (λ (t : Pseudoflow). node_count t.net) same in
     omega (arith, ints, here, limit, count)
 
-pub recovered_prices : (s : Pseudoflow) (l l' : Labels) (p q : Waiting) (d : ℕ) (ys : List ℤ) → l.flow ≡ s → IsProgress l l' p q d → ((r : Rid) → HasRoom l.flow r → IsHandled l' q r) → q.nodes ≡ [] → ys ≡ l'.prices → AreGreatestPrices s.net ys s.amounts
+pub recovered_prices : (s : Pseudoflow) (l l' : Labels) (p q : Waiting) (d : ℕ) (ys : List ℤ) → l.flow ≡ s → IsProgress l l' p q d
+    → ((r : Rid) → HasRoom l.flow r → IsHandled l' q r) → q.nodes ≡ [] → ys ≡ l'.prices → AreGreatestPrices s.net ys s.amounts
 recovered_prices s l l' p q d ys same progress handled none is =
     let flow = progress.flow ∙ same in
     let prices = greatest_at_end l' q progress.valid none (λ r room. handled r (subst (λ t. HasRoom t r) progress.flow room)) in

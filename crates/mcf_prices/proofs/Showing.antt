@@ -42,21 +42,25 @@ respects_from_shows s y k true ok shows h =
     let complementary = AllZip-at (IsComplementary y) s.net.arcs s.amounts (k - 1) no_arc (pos 0) shows here in
     let low = (net_arc_at s.net k ok.of_net h.arc).no_low in
     let room = h.room in
-    by_lt_z (pos 0) (reduced_cost y (arc_at s.net k)) (λ p. let e = complementary.0 p in absurd (omega (arith, ints, e, room, low))) (λ p. omega (arith, ints, p))
+    by_lt_z (pos 0) (reduced_cost y (arc_at s.net k)) (λ p. let e = complementary.0 p in absurd (omega (arith, ints, e, room, low)))
+    (λ p. omega (arith, ints, p))
 respects_from_shows s y k false ok shows h =
     let here : k - 1 < length s.net.arcs = (let a = h.arc in omega (arith, a)) in
     let complementary = AllZip-at (IsComplementary y) s.net.arcs s.amounts (k - 1) no_arc (pos 0) shows here in
     let room = h.room in
     by_lt_z (reduced_cost y (arc_at s.net k)) (pos 0) (λ p. let e = complementary.1 p in absurd (omega (arith, ints, e, room))) (λ p. omega (arith, ints, p))
 
-complementary_at : (s : Pseudoflow) (y : List ℤ) (k : ℕ) → IsPseudoflow s → ((r : Rid) → Respects s y r) → IsArcNumber s.net k → IsComplementary y (arc_at s.net k) (amount_at s k)
+complementary_at : (s : Pseudoflow) (y : List ℤ) (k : ℕ) → IsPseudoflow s → ((r : Rid) → Respects s y r) → IsArcNumber s.net k
+    → IsComplementary y (arc_at s.net k) (amount_at s k)
 complementary_at s y k ok respects h =
     let amount = amount_of s k ok h in
     let low = amount.low in
     let high = amount.high in
     let none = (net_arc_at s.net k ok.of_net h).no_low in (
-      λ p. by_lt_z (pos 0) (amount_at s k) (λ q. let r = respects (rid k true) (record { arc = h; room = q }) in absurd (omega (arith, ints, r, p))) (λ q. omega (arith, ints, low, none, q)),
-      λ p. by_lt_z (pos 0) (room_of s (rid k false)) (λ q. let r = respects (rid k false) (record { arc = h; room = q }) in absurd (omega (arith, ints, r, p))) (λ q. omega (arith, ints, high, q)),
+      λ p. by_lt_z (pos 0) (amount_at s k) (λ q. let r = respects (rid k true) (record { arc = h; room = q }) in absurd (omega (arith, ints, r, p)))
+          (λ q. omega (arith, ints, low, none, q)),
+      λ p. by_lt_z (pos 0) (room_of s (rid k false)) (λ q. let r = respects (rid k false) (record { arc = h; room = q }) in absurd (omega (arith, ints, r, p)))
+          (λ q. omega (arith, ints, high, q)),
     )
 
 pub shows_from_respects : (s : Pseudoflow) (y : List ℤ) → IsPseudoflow s → ((r : Rid) → Respects s y r) → Shows s.net.arcs y s.amounts

@@ -17,4 +17,5 @@ LeastStatesHaveNoCycle = (g : Network) (s : Pseudoflow) (walk : List Rid) → Is
 -- the greatest prices not above 0 that show a state are small, and so within the limit of prices
 abbrev pub GreatestPricesAreSmall : Type 0
 GreatestPricesAreSmall =
-    (s : Pseudoflow) (prices : List ℤ) → IsPseudoflow s → AreGreatestPrices s.net prices s.amounts → AreSmallPrices s.net prices × All (IsUpTo price_limit) prices
+    (s : Pseudoflow) (prices : List ℤ) → IsPseudoflow s → AreGreatestPrices s.net prices s.amounts
+    → AreSmallPrices s.net prices × All (IsUpTo price_limit) prices

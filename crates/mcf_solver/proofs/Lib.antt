@@ -5,5 +5,6 @@ pub mod LoopFlows
 pub mod Making
 pub mod MemberLists
 pub mod SentLists
+pub mod Shapes
 pub mod SupplyTotals
 pub mod WantedMemory

@@ -1,14 +1,23 @@
 -- Where the flow of an answer comes from.
-use Rattle.std.proofs.Common.{◌≡◌, subst}
+use Rattle.std.proofs.Common.{◌≡◌, ℕ, refl, subst, sym}
 use Rattle.std.specs.Prelude.{Result, Ok, Err, IfOk}
 use Rattle.mcf_answer.specs.declared.answers.Answer.{Answer}
 use Rattle.mcf_answer.specs.declared.answers.Answer.TheVariants.{Flow, Blocked, Refused}
 use Rattle.mcf_instance.specs.Network.{Network}
+use Rattle.mcf_instance.specs.declared.problem.Problem.{Problem}
+use Rattle.mcf_instance.specs.declared.problem.Problem.TheVariants.{Min, Asn}
 use Rattle.mcf_network.specs.Removal.{net_of}
 use Rattle.mcf_network.specs.States.{Pseudoflow}
-use Rattle.mcf_solver.specs.Making.{HasMadeFlow, IsMadeBy, IsMadeByEngine, meant}
+use Rattle.mcf_solver.specs.Making.{HasMadeFlow, IsMadeBy, IsMadeByEngine, IsMadeBySimplex, meant, new_block_rule, suited}
 use Rattle.mcf_solver.specs.declared.choice.Choice.{Choice}
+use Rattle.mcf_solver.specs.declared.choice.EngineChoice.{EngineChoice}
+use Rattle.mcf_solver.specs.declared.choice.EngineChoice.TheVariants.{Auto, Cancel, Simplex, Scaling, Sap}
+use Rattle.mcf_simplex.specs.Blocks.{BlockRule, IsBlockPick}
+use Rattle.mcf_simplex.specs.Runs.{IsMadeByRun}
+use Rattle.mcf_solver.specs.declared.choice.PricingChoice.{PricingChoice}
+use Rattle.mcf_solver.specs.declared.choice.PricingChoice.TheVariants.{Block}
 use Rattle.mcf_solver.specs.declared.choice.Meant.{Meant}
+use Rattle.mcf_solver.specs.declared.choice.Meant.TheVariants.{BySap}
 
 -- what was made one way was made another
 pub made_otherwise : (P Q : Network → Pseudoflow → Type 0) (g : Network) → ((s : Pseudoflow) → P (net_of g) s → Q (net_of g) s)
@@ -23,7 +32,43 @@ made_otherwise_if_ok P Q g step (Ok a) h = made_otherwise P Q g step a h
 made_otherwise_if_ok P Q g step (Err e) h = tt
 
 -- what the engine made that is meant is made as the choice means
-pub made_by_meant : (m : Meant) (choice : Choice) (g : Network) (s : Pseudoflow) → m ≡ meant choice.engine g.problem
+made_by_meant : (m : Meant) (choice : Choice) (g : Network) (s : Pseudoflow) → m ≡ meant choice.engine g.problem
     → IsMadeByEngine m choice (net_of g) s → IsMadeBy choice (net_of g) s
 unfolding net_of
 made_by_meant m choice g s is made = subst (λ x. IsMadeByEngine x choice (net_of g) s) is made
+
+pub made_as_meant : {E : Type 0} (m : Meant) (choice : Choice) (g : Network) (P : Network → Pseudoflow → Type 0) (r : Result Answer E)
+    → m ≡ meant choice.engine g.problem → ((s : Pseudoflow) → P (net_of g) s → IsMadeByEngine m choice (net_of g) s)
+    → IfOk r (HasMadeFlow P (Ok g)) → IfOk r (HasMadeFlow (IsMadeBy choice) (Ok g))
+made_as_meant m choice g P r is step h =
+    made_otherwise_if_ok P (IsMadeBy choice) g (λ (s : Pseudoflow) made. made_by_meant m choice g s is (step s made)) r h
+
+-- the engine for assignments is meant for assignments alone
+suited_to_assignments : (p : Problem) → BySap ≡ suited p → p ≡ Asn
+suited_to_assignments Min h = cc
+suited_to_assignments Asn h = refl
+
+meant_for_assignments : (e : EngineChoice) (p : Problem) → BySap ≡ meant e p → p ≡ Asn
+meant_for_assignments Auto p h = suited_to_assignments p h
+meant_for_assignments Cancel p h = cc
+meant_for_assignments Simplex p h = cc
+meant_for_assignments Scaling p h = cc
+meant_for_assignments Sap p h = suited_to_assignments p h
+
+-- so its net is of one
+pub net_for_assignments : (e : EngineChoice) (g : Network) → BySap ≡ meant e g.problem → (net_of g).problem ≡ Asn
+unfolding net_of
+net_for_assignments e g h = meant_for_assignments e g.problem h
+
+-- what a rule made that is chosen is made by the chosen rule
+pub made_by_rule : {E : Type 0} (pricing chosen : PricingChoice) (size : ℕ) (g : Network) (P : Network → Pseudoflow → Type 0) (r : Result Answer E)
+    → chosen ≡ pricing → ((s : Pseudoflow) → P (net_of g) s → IsMadeBySimplex pricing size (net_of g) s)
+    → IfOk r (HasMadeFlow P (Ok g)) → IfOk r (HasMadeFlow (IsMadeBySimplex chosen size) (Ok g))
+made_by_rule pricing chosen size g P r is step h =
+    made_otherwise_if_ok P (IsMadeBySimplex chosen size) g (λ (s : Pseudoflow) made.
+    subst (λ (rule : PricingChoice). IsMadeBySimplex rule size (net_of g) s) (sym is) (step s made)) r h
+
+-- a run of blocks from a rule that is the new one
+pub made_by_blocks : (size : ℕ) (old : BlockRule) (g : Network) (s : Pseudoflow) (new : BlockRule) → old ≡ new_block_rule size
+    → IsMadeByRun IsBlockPick old g s new → IsMadeBySimplex Block size g s
+made_by_blocks size old g s new is made = (new, subst (λ (rule : BlockRule). IsMadeByRun IsBlockPick rule g s new) is made)

@@ -19,7 +19,7 @@ use Rattle.mcf_instance.specs.Reading.{reading}
 use Rattle.mcf_solver.specs.declared.choice.Kind.{Kind}
 use Rattle.mcf_solver.specs.declared.choice.Kind.TheVariants.{Flow as WithFlow, Blocked as WithSet, Refused as WithRefusal}
 use Rattle.mcf_solver.specs.Chosen.{IsChosenSolution}
-use Rattle.mcf_solver.specs.Making.{HasMadeFlow, IsMadeBy}
+use Rattle.mcf_solver.specs.Making.{HasMadeFlow, HasShapedFlow, IsMadeBy}
 use Rattle.mcf_solver.specs.declared.choice.Choice.{Choice}
 
 -- a flow that no feasible flow undercuts, its cost, and the greatest prices not above 0 that show it
@@ -55,6 +55,7 @@ pub record IsAnswerTo (choice : Choice) (input : List ℕ) (kind : Kind) (text :
   pub written : text ≡ written answer
   pub owed : IsOwed (reading limits input) answer
   pub made : HasMadeFlow (IsMadeBy choice) (reading limits input) answer
+  pub shaped : HasShapedFlow choice (reading limits input) answer
   pub is_kind : kind ≡ answer_kind answer
   pub correct : IsCorrect input text
   pub accepted : accepts (verdict input text) ≡ true

@@ -1,5 +1,6 @@
 pub use Rattle.mcf_answer.specs.Spelling
 pub use Rattle.mcf_answer.specs.Written
+pub use Rattle.mcf_assign.specs.Runs as MatchingRuns
 pub use Rattle.mcf_checker.specs.Correct
 pub use Rattle.mcf_checker.specs.Judging
 pub use Rattle.mcf_feas.specs.Chosen as ChosenBlocks
@@ -10,11 +11,17 @@ pub use Rattle.mcf_instance.specs.Reading
 pub use Rattle.mcf_network.specs.Removal
 pub use Rattle.mcf_network.specs.Restoring
 pub use Rattle.mcf_network.specs.States
+pub use Rattle.mcf_network.specs.TreeSolutions
 pub use Rattle.mcf_prices.specs.Outcomes
 pub use Rattle.mcf_scaling.specs.Made
+pub use Rattle.mcf_simplex.specs.Blocks as BlockPicks
+pub use Rattle.mcf_simplex.specs.Picking
+pub use Rattle.mcf_simplex.specs.Runs as SimplexRuns
 pub use Rattle.mcf_text.specs.Row
 pub mod Answering
+pub mod BlockSizes
 pub mod Chosen
 pub mod Devices
 pub mod Making
 pub mod Running
+pub mod Private

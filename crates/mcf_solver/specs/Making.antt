@@ -1,33 +1,71 @@
 -- How the state behind a flow was made: by a new engine, the one that the choice means.
-use Rattle.std.specs.Prelude.{◌≡◌, ⊤, Result, Ok, Err}
+use Rattle.std.specs.Prelude.{◌≡◌, ⊤, ℕ, ℤ, List, Option, Result, Ok, Err}
 use Rattle.mcf_answer.specs.Solution.{Solution}
 use Rattle.mcf_answer.specs.declared.answers.Answer.{Answer}
 use Rattle.mcf_answer.specs.declared.answers.Answer.TheVariants.{Flow, Blocked, Refused}
 use Rattle.mcf_checker.specs.Correct.{amounts}
+use Rattle.mcf_assign.specs.Runs.{IsMatchedByRows}
+use Rattle.mcf_basis.specs.Structures.{TreeStructure}
 use Rattle.mcf_instance.specs.Fault.{Fault}
 use Rattle.mcf_instance.specs.Network.{Network}
 use Rattle.mcf_instance.specs.declared.problem.Problem.{Problem}
+use Rattle.mcf_instance.specs.declared.problem.Problem.TheVariants.{Min, Asn}
 use Rattle.mcf_network.specs.Removal.{net_of}
 use Rattle.mcf_network.specs.Restoring.{restored}
 use Rattle.mcf_network.specs.States.{Pseudoflow}
+use Rattle.mcf_network.specs.TreeSolutions.{IsTreeSolution}
 use Rattle.mcf_prices.specs.Outcomes.{IsLeastState}
+use Rattle.mcf_simplex.specs.Blocks.{BlockRule, IsBlockPick}
+use Rattle.mcf_simplex.specs.Picking.{IsBestPick, IsFirstPick}
+use Rattle.mcf_simplex.specs.Runs.{IsMadeByRun}
+use Rattle.mcf_simplex.specs.declared.best.Best.{Best as BestRule}
+use Rattle.mcf_simplex.specs.declared.first.First.{First as FirstRule}
 use Rattle.mcf_solver.specs.declared.choice.Choice.{Choice}
 use Rattle.mcf_solver.specs.declared.choice.EngineChoice.{EngineChoice}
 use Rattle.mcf_scaling.specs.Made.{IsScaled}
-use Rattle.mcf_solver.specs.declared.choice.EngineChoice.TheVariants.{Auto, Cancel, Scaling}
+use Rattle.mcf_solver.specs.declared.choice.EngineChoice.TheVariants.{Auto, Cancel, Simplex, Scaling, Sap}
+use Rattle.mcf_solver.specs.declared.choice.PricingChoice.{PricingChoice}
+use Rattle.mcf_solver.specs.declared.choice.PricingChoice.TheVariants.{First, Best, Block}
 use Rattle.mcf_solver.specs.declared.choice.Meant.{Meant}
-use Rattle.mcf_solver.specs.declared.choice.Meant.TheVariants.{ByCancel, ByScaling}
+use Rattle.mcf_solver.specs.declared.choice.Meant.TheVariants.{ByCancel, BySimplex, ByScaling, BySap}
+
+-- the engine that suits a problem
+abbrev pub suited : Problem → Meant
+suited Min = BySimplex
+suited Asn = BySap
 
 -- the engine that a choice means for a problem
 abbrev pub meant : EngineChoice → Problem → Meant
-meant Auto problem = ByScaling
+meant Auto problem = suited problem
 meant Cancel problem = ByCancel
+meant Simplex problem = BySimplex
 meant Scaling problem = ByScaling
+meant Sap problem = suited problem
 
--- the net's state was made by a new engine of this name; the plain engine asks nothing of how, and cost scaling counts its steps
+-- what the two rules pick that keep nothing
+abbrev pub first_picks : FirstRule → TreeStructure → Option ℕ → FirstRule → Type 0
+first_picks old b answer new = IsFirstPick b answer
+
+abbrev pub best_picks : BestRule → TreeStructure → Option ℕ → BestRule → Type 0
+best_picks old b answer new = IsBestPick b answer
+
+-- the rule with blocks of this size that has picked nothing: its first block begins with arc 1
+abbrev pub new_block_rule : ℕ → BlockRule
+new_block_rule size = record { size = size; next = 1 }
+
+-- the net's state was made by a run of the network simplex, with a new rule: the one that is chosen
+abbrev pub IsMadeBySimplex : PricingChoice → ℕ → Network → Pseudoflow → Type 0
+IsMadeBySimplex First size g s = (old new : FirstRule) × IsMadeByRun first_picks old g s new
+IsMadeBySimplex Best size g s = (old new : BestRule) × IsMadeByRun best_picks old g s new
+IsMadeBySimplex Block size g s = (new : BlockRule) × IsMadeByRun IsBlockPick (new_block_rule size) g s new
+
+-- the net's state was made by a new engine of this name; the plain engine asks nothing of how, cost scaling counts its steps, and the
+-- engine for assignments its searches
 abbrev pub IsMadeByEngine : Meant → Choice → Network → Pseudoflow → Type 0
 IsMadeByEngine ByCancel choice g s = ⊤
+IsMadeByEngine BySimplex choice g s = IsMadeBySimplex choice.pricing choice.block g s
 IsMadeByEngine ByScaling choice g s = IsScaled g s
+IsMadeByEngine BySap choice g s = IsMatchedByRows g s
 
 -- by a new engine that the choice means for the problem of the net
 abbrev pub IsMadeBy : Choice → Network → Pseudoflow → Type 0
@@ -46,3 +84,17 @@ HasMadeFlow IsMade (Ok g) (Flow a) = StandsForMade IsMade g a
 HasMadeFlow IsMade (Ok g) (Blocked a) = ⊤
 HasMadeFlow IsMade (Ok g) (Refused r) = ⊤
 HasMadeFlow IsMade (Err fault) a = ⊤
+
+-- a flow of the network simplex is a tree solution of the instance
+abbrev pub IsShapedBy : Meant → Network → List ℤ → Type 0
+IsShapedBy ByCancel g flow = ⊤
+IsShapedBy BySimplex g flow = IsTreeSolution g flow
+IsShapedBy ByScaling g flow = ⊤
+IsShapedBy BySap g flow = ⊤
+
+-- an answer's flow, where it has one, has the shape of those of the engine that the choice means
+abbrev pub HasShapedFlow : Choice → Result Network Fault → Answer → Type 0
+HasShapedFlow choice (Ok g) (Flow a) = IsShapedBy (meant choice.engine g.problem) g (amounts a.sent)
+HasShapedFlow choice (Ok g) (Blocked a) = ⊤
+HasShapedFlow choice (Ok g) (Refused r) = ⊤
+HasShapedFlow choice (Err fault) a = ⊤

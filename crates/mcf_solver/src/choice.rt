@@ -1,21 +1,42 @@
 //! What the caller chooses, and what kind of answer there is.
 
+use crate::block_size::BlockSize;
+
 /// Which engine solves.
 #[derive(Clone, Copy, Debug, Default, PartialEq, Eq)]
 pub enum EngineChoice {
-    /// The one that suits the problem.
+    /// The one that suits the problem: shortest augmenting paths for an assignment, the network simplex for a flow
+    /// problem.
     #[default]
     Auto,
     /// Cycle cancelling: slow, and short.
     Cancel,
+    /// The network simplex.
+    Simplex,
     /// Cost scaling.
     Scaling,
+    /// Shortest augmenting paths, for an assignment; for a flow problem it means `Auto`.
+    Sap,
 }
 
-/// How an instance is solved.
+/// Which arc enters at a pivot of the network simplex.
+#[derive(Clone, Copy, Debug, Default, PartialEq, Eq)]
+pub enum PricingChoice {
+    /// The eligible arc of least number.
+    First,
+    /// The eligible arc of greatest violation.
+    Best,
+    /// The eligible arc of greatest violation of the first block that has one, of the blocks in turn.
+    #[default]
+    Block,
+}
+
+/// How an instance is solved. The pricing rule and the size of its blocks matter to the network simplex alone.
 #[derive(Clone, Copy, Debug, Default, PartialEq, Eq)]
 pub struct Choice {
     pub engine: EngineChoice,
+    pub pricing: PricingChoice,
+    pub block: BlockSize,
 }
 
 /// What an answer holds.
@@ -34,6 +55,10 @@ pub enum Kind {
 pub(crate) enum Meant {
     // The plain engine.
     ByCancel,
+    // The network simplex.
+    BySimplex,
     // Cost scaling.
     ByScaling,
+    // Shortest augmenting paths.
+    BySap,
 }

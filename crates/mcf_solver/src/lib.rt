@@ -7,6 +7,7 @@
 //! answers is given, `Making` by which engine, `Answering` what is owed for a text, `Devices` and `Running` what a
 //! run from a source to a sink does.
 
+mod block_size;
 mod choice;
 mod device;
 mod fault;
@@ -15,7 +16,8 @@ mod running;
 mod set;
 mod solving;
 
-pub use choice::{Choice, EngineChoice, Kind};
+pub use block_size::BlockSize;
+pub use choice::{Choice, EngineChoice, Kind, PricingChoice};
 pub use device::{FromReader, IntoWriter, Sink, SinkFault, Source, SourceFault};
 pub use fault::RunFault;
 pub use running::{run, send};

@@ -4,7 +4,8 @@ ghost use Rattle.mcf_checker.specs.Correct.{HasNoFlow};
 ghost use Rattle.mcf_network.specs.Removal.{net_of};
 ghost use Rattle.mcf_checker.specs.Judging.{accepts, verdict};
 ghost use Rattle.mcf_solver.specs.Answering.{AppendsAnswer, HasFault, IsOwed, LacksRoom, answer_kind};
-ghost use Rattle.mcf_solver.specs.Making.{HasMadeFlow, IsMadeBy, meant};
+ghost use Rattle.mcf_solver.specs.Making.{HasMadeFlow, IsMadeBy, IsMadeBySimplex, meant, suited};
+ghost use Rattle.mcf_solver.specs.Private.Shaping.{MadeFlowsAreShaped};
 ghost use Rattle.mcf_instance.specs.Fault.{header};
 ghost use Rattle.mcf_instance.specs.Limits.{limits};
 ghost use Rattle.mcf_instance.specs.Network.{node_count};
@@ -12,15 +13,17 @@ ghost use Rattle.mcf_instance.specs.Reading.{reading};
 ghost use Rattle.mcf_text.specs.Row.{rows};
 ghost use Rattle.std.specs.Prelude.{Ok};
 
-use crate::choice::{Choice, EngineChoice, Kind, Meant};
+use crate::choice::{Choice, EngineChoice, Kind, Meant, PricingChoice};
 use crate::flow::flow_answer;
 use crate::set::set_answer;
 use mcf_answer::{Answer, write};
+use mcf_assign::Sap;
 use mcf_checker::correct_answers_are_accepted;
 use mcf_instance::{Instance, Problem, read};
-use mcf_network::Net;
+use mcf_network::{Net, restored_tree_solutions_are_tree_solutions};
 use mcf_prices::{Cancel, Engine, Outcome};
 use mcf_scaling::Scaling;
+use mcf_simplex::{Best, Block, First, Simplex, runs_are_tree_solutions};
 use mcf_text::NoMemory;
 use std::alloc::Global;
 
@@ -52,9 +55,20 @@ pub fn solve_text(
     ensures capacity { vec_capacity out.old ≤ vec_capacity out.new }
 {
     correct_answers_are_accepted();
+    made_flows_are_shaped();
     let answer = answer_to(alloc, input, choice)?;
     write(&answer, out)?;
     Ok(answer_kind(&answer))
+}
+
+// The flow of an answer that was made as a choice means has the shape that it means.
+fn made_flows_are_shaped()
+    ensures { MadeFlowsAreShaped }
+{
+    runs_are_tree_solutions::<First>();
+    runs_are_tree_solutions::<Best>();
+    runs_are_tree_solutions::<Block>();
+    restored_tree_solutions_are_tree_solutions();
 }
 
 // The answer to an instance text.
@@ -77,17 +91,47 @@ fn solve_instance(alloc: Global, instance: &Instance, choice: Choice) -> Result<
 {
     match engine_meant(choice.engine, instance.problem()) {
         Meant::ByCancel => solve_by(alloc, instance, &mut Cancel::new()),
+        Meant::BySimplex => solve_by_simplex(alloc, instance, choice),
         Meant::ByScaling => solve_by(alloc, instance, &mut Scaling::new()),
+        Meant::BySap => solve_by(alloc, instance, &mut Sap::new()),
     }
 }
 
 // The engine that is meant for a problem.
-fn engine_meant(engine: EngineChoice, _problem: Problem) -> Meant
-    ensures { result ≡ meant engine _problem }
+fn engine_meant(engine: EngineChoice, problem: Problem) -> Meant
+    ensures { result ≡ meant engine problem }
 {
     match engine {
         EngineChoice::Cancel => Meant::ByCancel,
-        EngineChoice::Auto | EngineChoice::Scaling => Meant::ByScaling,
+        EngineChoice::Simplex => Meant::BySimplex,
+        EngineChoice::Scaling => Meant::ByScaling,
+        EngineChoice::Auto | EngineChoice::Sap => suited(problem),
+    }
+}
+
+// The engine that suits a problem.
+fn suited(problem: Problem) -> Meant
+    ensures { result ≡ suited problem }
+{
+    match problem {
+        Problem::Min => Meant::BySimplex,
+        Problem::Asn => Meant::BySap,
+    }
+}
+
+// The answer to an instance, by the network simplex with a new rule, the one that is chosen.
+fn solve_by_simplex(alloc: Global, instance: &Instance, choice: Choice) -> Result<Answer, NoMemory>
+    ensures owed { IfOk result (IsOwed (Ok instance.now)) }
+    ensures made { IfOk result (HasMadeFlow (IsMadeBySimplex choice.pricing choice.block) (Ok instance.now)) }
+    ensures wants { OnErr result (1 ≤ node_count instance.now) }
+{
+    match choice.pricing {
+        PricingChoice::First => solve_by(alloc, instance, &mut Simplex::new(First)),
+        PricingChoice::Best => solve_by(alloc, instance, &mut Simplex::new(Best)),
+        PricingChoice::Block => {
+            let rule = Block::new(choice.block.get());
+            solve_by(alloc, instance, &mut Simplex::new(rule))
+        }
     }
 }
 

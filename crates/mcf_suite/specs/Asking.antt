@@ -1,57 +1,96 @@
 -- What the words of a command line ask.
-use Rattle.std.specs.Prelude.{◌≡◌, Bool, true, false, List, [], ◌∷◌, Option, Some, Result, IfOk, IfErr, codes, option_map, if◌then◌else◌}
+use Rattle.std.specs.Prelude.{◌≡◌, ℕ, Bool, true, false, List, [], ◌∷◌, Option, Some, None, Result, IfOk, IfErr, codes, option_and_then, option_map, unwrap_or, if◌then◌else◌}
 use Rattle.std.specs.Borrow.{Bor}
 use Rattle.std.specs.Option.{option_map_or}
 use Rattle.std.specs.Str.{bytes_eq}
-use Rattle.clap.specs.Words.{App, FailsBy, Row, Rule, Shape, Text, fault_of, first_of, kind_of, new_app, new_rule, subcommand_of, takes, with_rule, with_subcommand}
+use Rattle.std.specs.Str.Parse.{digits_value, without_leading_plus}
+use Rattle.clap.specs.Words.{App, FailsBy, Row, Rule, Shape, Text, fault_of, first_of, kind_of, new_app, new_rule, subcommand_of, takes, with_subcommand}
+use Rattle.clap.specs.ValueTests.{accepts}
 use Rattle.clap.specs.Walk.{texts}
+use Rattle.clap.specs.declared.builder.value_parser.ValueParser.{ValueParser}
 use Rattle.clap.specs.declared.builder.value_parser.ValueParser.TheVariants as parser
 use Rattle.clap.specs.declared.error.Error.{Error}
 use Rattle.clap.specs.declared.error.kind.ErrorKind.TheVariants.{OutOfMemory}
 use Rattle.mcf_suite.specs.declared.asking.Asked.{Asked}
 use Rattle.mcf_solver.specs.declared.choice.EngineChoice.{EngineChoice}
-use Rattle.mcf_solver.specs.declared.choice.EngineChoice.TheVariants.{Auto, Cancel, Scaling}
+use Rattle.mcf_solver.specs.declared.choice.EngineChoice.TheVariants.{Auto, Cancel, Simplex, Scaling, Sap}
+use Rattle.mcf_solver.specs.declared.choice.PricingChoice.{PricingChoice}
+use Rattle.mcf_solver.specs.declared.choice.PricingChoice.TheVariants.{First, Best, Block}
+use Rattle.mcf_solver.specs.BlockSizes.{block_limit, default_block}
 
 -- the names of the engines
 abbrev pub engine_names : List Text
-engine_names = codes "auto" ∷ codes "cancel" ∷ codes "scaling" ∷ []
+engine_names = codes "auto" ∷ codes "cancel" ∷ codes "simplex" ∷ codes "scaling" ∷ codes "sap" ∷ []
+
+-- the names of the pricing rules
+abbrev pub pricing_names : List Text
+pricing_names = codes "first" ∷ codes "best" ∷ codes "block" ∷ []
+
+-- the option of a name, whose value is one of these words, and this one where it is left out
+abbrev pub word_rule : Text → Bor (List (Bor Text)) → Text → Rule
+word_rule name words without = record (new_rule name) {
+  long = Some name;
+  value_names = 1;
+  parser = Some (parser.Names words);
+  defaults = without ∷ [];
+}
 
 -- `--engine ENGINE`, one of these names, and `auto` where it is left out
 abbrev pub engine_rule : Bor (List (Bor Text)) → Rule
-engine_rule names = record (new_rule (codes "engine")) {
-  long = Some (codes "engine");
+engine_rule names = word_rule (codes "engine") names (codes "auto")
+
+-- `--pricing RULE`, one of these names, and `block` where it is left out
+abbrev pub pricing_rule : Bor (List (Bor Text)) → Rule
+pricing_rule names = word_rule (codes "pricing") names (codes "block")
+
+-- what `--block` takes: the digits of a number from 1 to 1,000,000
+abbrev pub block_parser : ValueParser
+block_parser = parser.Unsigned 1 block_limit
+
+-- `--block N`, and 256 where it is left out
+abbrev pub block_rule : Rule
+block_rule = record (new_rule (codes "block")) {
+  long = Some (codes "block");
   value_names = 1;
-  parser = Some (parser.Names names);
-  defaults = codes "auto" ∷ [];
+  parser = Some block_parser;
+  defaults = codes "256" ∷ [];
 }
 
 -- `FILE`, which may be left out
 abbrev pub file_rule : Rule
 file_rule = record (new_rule (codes "file")) { value_names = 1 }
 
--- `solve [--engine ENGINE] [FILE]`
-abbrev pub solve_shape : Bor (List (Bor Text)) → Shape
-solve_shape names = (with_rule (with_rule (new_app (codes "solve")) (engine_rule names)) file_rule).top
+-- the arguments of `solve`, with these names of engines and of pricing rules
+abbrev pub solve_rules : Bor (List (Bor Text)) → Bor (List (Bor Text)) → List Rule
+solve_rules engines pricings = engine_rule engines ∷ pricing_rule pricings ∷ block_rule ∷ file_rule ∷ []
+
+-- `solve [--engine ENGINE] [--pricing RULE] [--block N] [FILE]`
+abbrev pub solve_shape : Bor (List (Bor Text)) → Bor (List (Bor Text)) → Shape
+solve_shape engines pricings = record (new_app (codes "solve")).top { rules = solve_rules engines pricings }
 
 -- `mcf`, which wants a subcommand
 abbrev pub mcf_top : App
 mcf_top = record { top = record (new_app (codes "mcf")).top { subcommand_required = true }; subs = [] }
 
 -- `mcf` with its one subcommand
-abbrev pub mcf_app : Bor (List (Bor Text)) → App
-mcf_app names = with_subcommand mcf_top (solve_shape names)
+abbrev pub mcf_app : Bor (List (Bor Text)) → Bor (List (Bor Text)) → App
+mcf_app engines pricings = with_subcommand mcf_top (solve_shape engines pricings)
 
 -- what a parse reads of the subcommand `solve`
 pub record IsSolve (shape : Shape) : Type 0 where
-  pub names : Bor (List (Bor Text))
-  pub spelled : texts names.now ≡ engine_names
-  pub reads : shape ≡ solve_shape names
+  pub engines : Bor (List (Bor Text))
+  pub pricings : Bor (List (Bor Text))
+  pub engines_spelled : texts engines.now ≡ engine_names
+  pub pricings_spelled : texts pricings.now ≡ pricing_names
+  pub reads : shape ≡ solve_shape engines pricings
 
 -- what a parse reads of the command `mcf`
 pub record IsMcf (app : App) : Type 0 where
-  pub names : Bor (List (Bor Text))
-  pub spelled : texts names.now ≡ engine_names
-  pub reads : app ≡ mcf_app names
+  pub engines : Bor (List (Bor Text))
+  pub pricings : Bor (List (Bor Text))
+  pub engines_spelled : texts engines.now ≡ engine_names
+  pub pricings_spelled : texts pricings.now ≡ pricing_names
+  pub reads : app ≡ mcf_app engines pricings
 
 -- a word was given, and it is this one
 abbrev pub is_given : Option Text → Text → Bool
@@ -61,8 +100,25 @@ is_given name word = option_map_or (λ n. bytes_eq n word) name false
 abbrev pub engine_by : Option Text → EngineChoice
 engine_by name =
     if is_given name (codes "cancel") then Cancel
+    else (if is_given name (codes "simplex") then Simplex
     else (if is_given name (codes "scaling") then Scaling
-    else Auto)
+    else (if is_given name (codes "sap") then Sap
+    else Auto)))
+
+-- the pricing rule that a name asks for
+abbrev pub pricing_by : Option Text → PricingChoice
+pricing_by name =
+    if is_given name (codes "first") then First
+    else (if is_given name (codes "best") then Best
+    else Block)
+
+-- the number that a word writes, where `--block` takes the word
+abbrev pub block_in : Text → Option ℕ
+block_in word = if accepts false block_parser word then Some (digits_value 10 (without_leading_plus word)) else None
+
+-- the size of blocks that a word asks for
+abbrev pub block_by : Option Text → ℕ
+block_by word = unwrap_or (option_and_then block_in word) default_block
 
 -- what is asked is what the matches of the subcommand hold that the words name
 pub record Asks (app : App) (words : List Text) (asked : Asked) : Type 0 where
@@ -70,6 +126,8 @@ pub record Asks (app : App) (words : List Text) (asked : Asked) : Type 0 where
   pub rows : List Row
   pub subcommand : subcommand_of app words ≡ Some (name, rows)
   pub engine : asked.choice.engine ≡ engine_by (first_of (codes "engine") rows)
+  pub pricing : asked.choice.pricing ≡ pricing_by (first_of (codes "pricing") rows)
+  pub block : asked.choice.block ≡ block_by (first_of (codes "block") rows)
   pub file : option_map (λ (f : Bor Text). f.now) asked.file ≡ first_of (codes "file") rows
 
 -- what is asked is what the matches hold; only memory may be wanting where the command takes the words; and

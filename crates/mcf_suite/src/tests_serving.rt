@@ -1,5 +1,5 @@
 //! Runs of the command `mcf`: its words, its statuses and its lines.
-use crate::{Asked, Choice, EngineChoice, FromReader, IntoWriter, command, serve};
+use crate::{EngineChoice, FromReader, IntoWriter, PricingChoice, command, serve};
 use clap::Error;
 use mcf_text::NoMemory;
 use std::alloc::Global;
@@ -91,40 +91,100 @@ fn has_part(text: &[u8], part: &str) -> bool {
     }
 }
 
-static ASKED: [(Words, EngineChoice, Option<&str>); 4] = [
-    (&["mcf", "solve"], EngineChoice::Auto, None),
-    (
-        &["mcf", "solve", "--engine", "cancel", "a.min"],
-        EngineChoice::Cancel,
-        Some("a.min"),
-    ),
-    (
-        &["mcf", "solve", "b.min", "--engine=auto"],
-        EngineChoice::Auto,
-        Some("b.min"),
-    ),
-    (
-        &["mcf", "solve", "--engine=scaling"],
-        EngineChoice::Scaling,
-        None,
-    ),
+// Words, and what they ask for.
+struct Asking {
+    words: Words,
+    engine: EngineChoice,
+    pricing: PricingChoice,
+    block: u32,
+    file: Option<&'static str>,
+}
+
+static ASKED: [Asking; 8] = [
+    Asking {
+        words: &["mcf", "solve"],
+        engine: EngineChoice::Auto,
+        pricing: PricingChoice::Block,
+        block: 256,
+        file: None,
+    },
+    Asking {
+        words: &["mcf", "solve", "--engine", "cancel", "a.min"],
+        engine: EngineChoice::Cancel,
+        pricing: PricingChoice::Block,
+        block: 256,
+        file: Some("a.min"),
+    },
+    Asking {
+        words: &["mcf", "solve", "b.min", "--engine=auto"],
+        engine: EngineChoice::Auto,
+        pricing: PricingChoice::Block,
+        block: 256,
+        file: Some("b.min"),
+    },
+    Asking {
+        words: &["mcf", "solve", "--engine=scaling"],
+        engine: EngineChoice::Scaling,
+        pricing: PricingChoice::Block,
+        block: 256,
+        file: None,
+    },
+    Asking {
+        words: &["mcf", "solve", "--engine", "sap", "--pricing", "best"],
+        engine: EngineChoice::Sap,
+        pricing: PricingChoice::Best,
+        block: 256,
+        file: None,
+    },
+    Asking {
+        words: &[
+            "mcf",
+            "solve",
+            "--engine",
+            "simplex",
+            "--pricing",
+            "block",
+            "--block",
+            "1",
+            "c.min",
+        ],
+        engine: EngineChoice::Simplex,
+        pricing: PricingChoice::Block,
+        block: 1,
+        file: Some("c.min"),
+    },
+    Asking {
+        words: &["mcf", "solve", "--block=1000000", "--pricing=first"],
+        engine: EngineChoice::Auto,
+        pricing: PricingChoice::First,
+        block: 1_000_000,
+        file: None,
+    },
+    Asking {
+        words: &["mcf", "solve", "--block", "+0016", "d.min"],
+        engine: EngineChoice::Auto,
+        pricing: PricingChoice::Block,
+        block: 16,
+        file: Some("d.min"),
+    },
 ];
 
-// Whether the words ask for an engine and a file.
-fn asks(
-    alloc: Global,
-    words: &[&str],
-    engine: EngineChoice,
-    file: Option<&str>,
-) -> Result<bool, Error> {
-    let choice = Choice { engine };
-    Ok(command(alloc, words)? == Asked { choice, file })
+// Whether the words ask for this.
+fn asks(alloc: Global, asking: &Asking) -> Result<bool, Error> {
+    let asked = command(alloc, asking.words)?;
+    let choice = asked.choice;
+    Ok(
+        choice.engine == asking.engine
+            && choice.pricing == asking.pricing
+            && choice.block.get() == asking.block
+            && asked.file == asking.file,
+    )
 }
 
 #[test]
 fn what_is_asked(rt: HostRuntime) -> Result<(), Fail> {
-    for (words, engine, file) in &ASKED {
-        assert!(rt; asks(rt.alloc(), *words, *engine, *file)?);
+    for asking in &ASKED {
+        assert!(rt; asks(rt.alloc(), asking)?);
     }
     Ok(())
 }
@@ -216,8 +276,22 @@ fn refusals(rt: HostRuntime) -> Result<(), Fail> {
 }
 
 // Words that ask for an answer, and whether they name a file.
-static SOLVING: [(Words, bool); 7] = [
+static SOLVING: [(Words, bool); 15] = [
     (&["mcf", "solve", "--engine", "auto"], false),
+    (&["mcf", "solve", "--engine", "simplex"], false),
+    (&["mcf", "solve", "--engine", "scaling"], false),
+    (&["mcf", "solve", "--engine", "sap"], false),
+    (&["mcf", "solve", "--pricing", "first", "a"], true),
+    (&["mcf", "solve", "--pricing", "best"], false),
+    (
+        &["mcf", "solve", "--pricing", "block", "--block", "1"],
+        false,
+    ),
+    (&["mcf", "solve", "--block", "2", "a"], true),
+    (
+        &["mcf", "solve", "--block=1000000", "--engine=simplex"],
+        false,
+    ),
     (&["mcf", "solve", "--engine", "cancel"], false),
     (&["mcf", "solve", "--engine=cancel"], false),
     (&["mcf", "solve", "-"], true),
@@ -246,7 +320,7 @@ fn words_that_ask_for_an_answer(rt: HostRuntime) -> Result<(), Fail> {
 }
 
 // Words that aren't a command, and what the text that says so names.
-static NO_COMMAND: [(Words, &str); 10] = [
+static NO_COMMAND: [(Words, &str); 18] = [
     (&[], ""),
     (&["mcf"], "subcommand"),
     (&["mcf", "dance"], "dance"),
@@ -255,6 +329,14 @@ static NO_COMMAND: [(Words, &str); 10] = [
     (&["mcf", "solve", "--engine"], "--engine"),
     (&["mcf", "solve", "--engine", "none"], "none"),
     (&["mcf", "solve", "--engine", "none", "a"], "none"),
+    (&["mcf", "solve", "--engine", "Sap"], "simplex"),
+    (&["mcf", "solve", "--pricing", "worst"], "worst"),
+    (&["mcf", "solve", "--block", "0"], "1..=1000000"),
+    (&["mcf", "solve", "--block=1000001"], "1000001"),
+    (&["mcf", "solve", "--block", "0x10"], "0x10"),
+    (&["mcf", "solve", "--block", "4294967552"], "4294967552"),
+    (&["mcf", "solve", "--block", ""], "--block"),
+    (&["mcf", "solve", "--block", "1", "--block", "1"], "--block"),
     (
         &["mcf", "solve", "--engine", "auto", "--engine", "auto"],
         "--engine",
@@ -277,14 +359,36 @@ fn words_that_are_refused(rt: HostRuntime) -> Result<(), Fail> {
 }
 
 // Words that ask for help, and a part of it.
-static HELP: [(Words, &str); 8] = [
+static HELP: [(Words, &str); 24] = [
     (&["mcf", "--help"], "solve"),
     (&["mcf", "-h"], "solve"),
     (&["mcf", "help"], "solve"),
     (&["mcf", "solve", "--help"], "--engine <ENGINE>"),
     (&["mcf", "help", "solve"], "--engine <ENGINE>"),
-    (&["mcf", "solve", "--help"], "auto, cancel, scaling"),
+    (&["mcf", "solve", "-h"], "--pricing <RULE>"),
+    (&["mcf", "solve", "--help"], "--block <N>"),
+    (
+        &["mcf", "solve", "--help"],
+        "auto, cancel, simplex, scaling, sap",
+    ),
     (&["mcf", "solve", "--help"], "[default: auto]"),
+    (&["mcf", "solve", "--help"], "first, best, block"),
+    (&["mcf", "solve", "--help"], "[default: block]"),
+    (&["mcf", "solve", "--help"], "1 to 1000000"),
+    (&["mcf", "solve", "--help"], "[default: 256]"),
+    (&["mcf", "solve", "--help"], "\n  auto     "),
+    (&["mcf", "solve", "--help"], "\n  cancel   "),
+    (&["mcf", "solve", "--help"], "\n  simplex  "),
+    (&["mcf", "solve", "--help"], "\n  scaling  "),
+    (&["mcf", "solve", "--help"], "\n  sap      "),
+    (&["mcf", "solve", "--help"], "\n  first    "),
+    (&["mcf", "solve", "--help"], "\n  best     "),
+    (&["mcf", "solve", "--help"], "\n  block    "),
+    (
+        &["mcf", "solve", "--help"],
+        "twice the square root of the number of arcs",
+    ),
+    (&["mcf", "solve", "-h"], "[FILE]"),
     (&["mcf", "solve", "a", "--help"], "[FILE]"),
 ];
 

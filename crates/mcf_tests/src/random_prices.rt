@@ -5,6 +5,7 @@ use crate::trees::{below, next};
 use mcf_network::Net;
 use mcf_prices::{Cancel, Engine, Outcome, Recovered, recover};
 use mcf_scaling::Scaling;
+use mcf_simplex::{First, Simplex};
 use mcf_text::{NoMemory, put_number};
 use std::alloc::Global;
 use std::test::Fail;
@@ -54,11 +55,7 @@ fn random_text(alloc: Global, seed: u64) -> Result<Vec<u8>, NoMemory> {
 }
 
 // Whether an engine ends with the prices that are recovered from its state; nothing where it ends with none.
-fn agrees<E: Engine>(
-    alloc: Global,
-    engine: &mut E,
-    net: &Net,
-) -> Result<Option<bool>, NoMemory>
+fn agrees<E: Engine>(alloc: Global, engine: &mut E, net: &Net) -> Result<Option<bool>, NoMemory>
     requires { E.Takes net.now }
 {
     match engine.solve(alloc, net)? {
@@ -78,7 +75,8 @@ fn all_agree(alloc: Global, seed: u64) -> Result<Option<bool>, NoMemory> {
     };
     let plain = agrees(alloc, &mut Cancel::new(), &net)?;
     let scaled = agrees(alloc, &mut Scaling::new(), &net)?;
-    if plain == scaled {
+    let pivoted = agrees(alloc, &mut Simplex::new(First), &net)?;
+    if plain == scaled && plain == pivoted {
         Ok(plain)
     } else {
         Ok(Some(false))

@@ -3,17 +3,110 @@
 //! Rows stand in statics, and a row is judged by a function that answers whether it holds: a test of many
 //! assertions, or one that makes its rows, takes long to prove.
 use mcf_checker::{Verdict, check};
-use mcf_solver::{Choice, EngineChoice, Kind, solve_text};
+use mcf_solver::{BlockSize, Choice, EngineChoice, Kind, PricingChoice, solve_text};
 use mcf_text::NoMemory;
 use std::alloc::Global;
 use std::test::Fail;
 
-// All engines.
-static ENGINES: [EngineChoice; 3] = [
-    EngineChoice::Auto,
-    EngineChoice::Cancel,
-    EngineChoice::Scaling,
+// A choice.
+struct Way {
+    engine: EngineChoice,
+    pricing: PricingChoice,
+    block: u32,
+}
+
+// Every engine, and the simplex with each rule and with blocks of several sizes.
+static WAYS: [Way; 10] = [
+    Way {
+        engine: EngineChoice::Auto,
+        pricing: PricingChoice::Block,
+        block: 256,
+    },
+    Way {
+        engine: EngineChoice::Cancel,
+        pricing: PricingChoice::Block,
+        block: 256,
+    },
+    Way {
+        engine: EngineChoice::Scaling,
+        pricing: PricingChoice::Block,
+        block: 256,
+    },
+    Way {
+        engine: EngineChoice::Sap,
+        pricing: PricingChoice::Best,
+        block: 256,
+    },
+    Way {
+        engine: EngineChoice::Simplex,
+        pricing: PricingChoice::First,
+        block: 256,
+    },
+    Way {
+        engine: EngineChoice::Simplex,
+        pricing: PricingChoice::Best,
+        block: 256,
+    },
+    Way {
+        engine: EngineChoice::Simplex,
+        pricing: PricingChoice::Block,
+        block: 1,
+    },
+    Way {
+        engine: EngineChoice::Simplex,
+        pricing: PricingChoice::Block,
+        block: 2,
+    },
+    Way {
+        engine: EngineChoice::Simplex,
+        pricing: PricingChoice::Block,
+        block: 256,
+    },
+    Way {
+        engine: EngineChoice::Simplex,
+        pricing: PricingChoice::Block,
+        block: 1_000_000,
+    },
 ];
+
+// The choice that a way names, if its block has a size that a block may have.
+fn choice_of(way: &Way) -> Option<Choice> {
+    let block = BlockSize::new(way.block)?;
+    Some(Choice {
+        engine: way.engine,
+        pricing: way.pricing,
+        block,
+    })
+}
+
+// A size, and whether a block may have it.
+static SIZES: [(u32, bool); 6] = [
+    (0, false),
+    (1, true),
+    (256, true),
+    (1_000_000, true),
+    (1_000_001, false),
+    (4_294_967_295, false),
+];
+
+// Whether a block of this size may be, and then has it.
+fn is_size(size: u32, may_be: bool) -> bool {
+    match BlockSize::new(size) {
+        Some(block) => may_be && block.get() == size,
+        None => !may_be,
+    }
+}
+
+#[test]
+fn sizes_of_blocks(rt: HostRuntime) -> Result<(), Fail> {
+    for (size, may_be) in &SIZES {
+        assert!(rt; is_size(*size, *may_be), "at {size}");
+    }
+    let choice = Choice::default();
+    assert!(rt; choice.engine == EngineChoice::Auto && choice.pricing == PricingChoice::Block);
+    assert!(rt; choice.block.get() == 256);
+    Ok(())
+}
 
 // An instance, its answer, and what kind of answer that is.
 struct Worked {
@@ -147,16 +240,33 @@ pub fn answered(
     instance: &[u8],
     engine: EngineChoice,
 ) -> Result<(Kind, Vec<u8>), NoMemory> {
+    let choice = Choice {
+        engine,
+        ..Choice::default()
+    };
+    answered_by(alloc, before, instance, choice)
+}
+
+// What is written of an instance by a choice, after bytes that were there.
+fn answered_by(
+    alloc: Global,
+    before: &[u8],
+    instance: &[u8],
+    choice: Choice,
+) -> Result<(Kind, Vec<u8>), NoMemory> {
     let mut out = Vec::new(alloc);
     out.extend_from_slice(before)?;
-    let kind = solve_text(alloc, instance, Choice { engine }, &mut out)?;
+    let kind = solve_text(alloc, instance, choice, &mut out)?;
     Ok((kind, out))
 }
 
-// Whether an engine answers so, after bytes that were there.
-fn is_answered(alloc: Global, worked: &Worked, engine: EngineChoice) -> Result<bool, NoMemory> {
+// Whether an instance is answered so by a choice, after bytes that were there.
+fn is_answered(alloc: Global, worked: &Worked, way: &Way) -> Result<bool, NoMemory> {
+    let Some(choice) = choice_of(way) else {
+        return Ok(false);
+    };
     let before = b"kept\n".as_slice();
-    let (kind, out) = answered(alloc, before, worked.instance.as_bytes(), engine)?;
+    let (kind, out) = answered_by(alloc, before, worked.instance.as_bytes(), choice)?;
     let answer = out.strip_prefix(before);
     Ok(kind == worked.kind && answer == Some(worked.answer.as_bytes()))
 }
@@ -170,10 +280,10 @@ fn is_accepted(alloc: Global, worked: &Worked) -> Result<bool, NoMemory> {
     ))
 }
 
-// Whether each engine answers so, and the checker accepts it.
+// Whether it is answered so by each choice, and the checker accepts it.
 fn is_right(alloc: Global, worked: &Worked) -> Result<bool, NoMemory> {
-    for engine in &ENGINES {
-        if !is_answered(alloc, worked, *engine)? {
+    for way in &WAYS {
+        if !is_answered(alloc, worked, way)? {
             return Ok(false);
         }
     }
@@ -189,14 +299,12 @@ fn worked_instances(rt: HostRuntime) -> Result<(), Fail> {
     Ok(())
 }
 
-// Whether an engine answers an instance with a flow of a cost that the checker accepts.
-fn costs(
-    alloc: Global,
-    instance: &str,
-    engine: EngineChoice,
-    cost: i128,
-) -> Result<bool, NoMemory> {
-    let (kind, out) = answered(alloc, b"", instance.as_bytes(), engine)?;
+// Whether an instance is answered by a choice with a flow of a cost that the checker accepts.
+fn costs(alloc: Global, instance: &str, way: &Way, cost: i128) -> Result<bool, NoMemory> {
+    let Some(choice) = choice_of(way) else {
+        return Ok(false);
+    };
+    let (kind, out) = answered_by(alloc, b"", instance.as_bytes(), choice)?;
     let verdict = check(alloc, instance.as_bytes(), &out)?;
     Ok(kind == Kind::Flow && verdict == Verdict::Flow(cost))
 }
@@ -205,8 +313,8 @@ fn costs(
 #[test]
 fn one_of_several_least_flows(rt: HostRuntime) -> Result<(), Fail> {
     let instance = "p min 2 2\nn 1 3\nn 2 -3\na 1 2 0 3 4\na 1 2 0 3 4\n";
-    for engine in &ENGINES {
-        assert!(rt; costs(rt.alloc(), instance, *engine, 12)?);
+    for way in &WAYS {
+        assert!(rt; costs(rt.alloc(), instance, way, 12)?);
     }
     Ok(())
 }

@@ -1,5 +1,6 @@
 -- The reader's state, and how a line changes it.
-use Rattle.std.specs.Prelude.{ℕ, ◌-◌, Bool, true, false, if◌then◌else◌, List, [], ◌∷◌, ◌++◌, map, length, bytes_eq, codes, nat_lt, option_map, slice_set, slice_index_or, replicate, ℤ, pos, neg_ℤ, Option, Some, None, is_some, Result, Ok, Err}
+use Rattle.std.specs.Prelude.{ℕ, ◌-◌, Bool, true, false, if◌then◌else◌, List, [], ◌∷◌, ◌++◌, map, length, bytes_eq, codes, nat_lt, option_map, slice_set}
+use Rattle.std.specs.Prelude.{slice_index_or, replicate, ℤ, pos, neg_ℤ, Option, Some, None, is_some, Result, Ok, Err}
 use Rattle.std.specs.Option.{option_or}
 use Rattle.mcf_instance.specs.declared.arc.PackedArc.{PackedArc}
 use Rattle.mcf_instance.specs.declared.code.Code.{Code}
@@ -56,13 +57,31 @@ outcome_grows (Ok item) = item_grows item
 outcome_grows (Err fault) = false
 
 abbrev pub with_item : StateData → Item → StateData
-with_item s (Problem h) = record { heading = Some h; listed = replicate h.nodes false; supplies = replicate h.nodes (default_supply h.problem); arcs = s.arcs; refusal = s.refusal }
-with_item s (Supply v z) = record { heading = s.heading; listed = slice_set s.listed (v - 1) true; supplies = slice_set s.supplies (v - 1) z; arcs = s.arcs; refusal = s.refusal }
+with_item s (Problem h) = record {
+  heading = Some h;
+  listed = replicate h.nodes false;
+  supplies = replicate h.nodes (default_supply h.problem);
+  arcs = s.arcs;
+  refusal = s.refusal;
+}
+with_item s (Supply v z) = record {
+  heading = s.heading;
+  listed = slice_set s.listed (v - 1) true;
+  supplies = slice_set s.supplies (v - 1) z;
+  arcs = s.arcs;
+  refusal = s.refusal;
+}
 with_item s (Link a) = record { heading = s.heading; listed = s.listed; supplies = s.supplies; arcs = s.arcs ++ a ∷ []; refusal = s.refusal }
 
 abbrev pub with_outcome : StateData → ℕ → Result Item Code → StateData
 with_outcome s number (Ok item) = with_item s item
-with_outcome s number (Err code) = record { heading = s.heading; listed = s.listed; supplies = s.supplies; arcs = s.arcs; refusal = Some (record { line = number; code = code }) }
+with_outcome s number (Err code) = record {
+  heading = s.heading;
+  listed = s.listed;
+  supplies = s.supplies;
+  arcs = s.arcs;
+  refusal = Some (record { line = number; code = code });
+}
 
 -- after a kept line: a refusal stays
 unfoldable pub after_row : Limits → StateData → Row → StateData

@@ -1,5 +1,6 @@
 -- The labels of a search for prices: a price for each node, and the residual arc that gave it.
-use Rattle.std.specs.Prelude.{◌≡◌, ℕ, ◌<◌, ◌≤◌, ◌-◌, List, [], ◌∷◌, length, Bool, Option, Some, None, ℤ, pos, neg_ℤ, ◌+ℤ◌, ◌≤ℤ◌, ◌<ℤ◌, ◌⊎◌, slice_index_or, slice_set}
+use Rattle.std.specs.Prelude.{◌≡◌, ℕ, ◌<◌, ◌≤◌, ◌-◌, List, [], ◌∷◌, length, Bool, Option, Some, None, ℤ, pos, neg_ℤ, ◌+ℤ◌, ◌≤ℤ◌, ◌<ℤ◌, ◌⊎◌, slice_index_or}
+use Rattle.std.specs.Prelude.{slice_set}
 use Rattle.std.specs.Bool.{MatchBool}
 use Rattle.mcf_instance.specs.Flow.{AreLowPrices, AreNotAboveZero}
 use Rattle.mcf_instance.specs.Limits.{wide_limits}
@@ -53,7 +54,8 @@ pub record IsLabelling (l : Labels) : Type 0 where
   pub count : length l.prices ≡ node_count l.flow.net
   pub link_count : length l.links ≡ node_count l.flow.net
   pub not_above_zero : AreNotAboveZero l.prices
-  pub above : (others : List ℤ) → AreLowPrices l.flow.net others l.flow.amounts → (v : ℕ) → IsNode (node_count l.flow.net) v → at_node others v ≤ℤ at_node l.prices v
+  pub above : (others : List ℤ) → AreLowPrices l.flow.net others l.flow.amounts → (v : ℕ) → IsNode (node_count l.flow.net) v
+      → at_node others v ≤ℤ at_node l.prices v
   pub linked : IsLinked l
 
 -- no price is below -f

@@ -33,7 +33,8 @@ pub returns-in_err-put_field-clause-refused : goal.returns-in_err-put_field-clau
 returns-in_err-put_field-clause-refused c =
     let number : ℤ = get_or c.args.numbers.now c.loop-number.number-index (pos 0) in
     let fits : SFits w128 number = search rules in
-    let short : vec_capacity c.loop-number.out < vec_len c.loop-number.out + length (field_text number) = simp to_z-of_z at c.in_err-put_field.ensures.refused in
+    let short : vec_capacity c.loop-number.out < vec_len c.loop-number.out + length (field_text number) =
+    simp to_z-of_z at c.in_err-put_field.ensures.refused in
     on_err c.from_residual-in_err-put_field.result _
     (refused_after c.args.out.now.items c.loop-number.out.items (c.args.word.now ++ flat_map field_text (take c.loop-number.number-index c.args.numbers.now))
     (field_text number) (line_text (Word c.args.word.now ∷ map Number c.args.numbers.now))
@@ -53,7 +54,8 @@ returns-in_err-push-clause-refused c =
 pub returns-in_err-put_field-clause-err : goal.returns-in_err-put_field-clause-err
 returns-in_err-put_field-clause-err c =
     on_err c.from_residual-in_err-put_field.result _
-    (keeps c.args.out.now.items c.loop-number.out.items c.put_field.new.out.items (c.args.word.now ++ flat_map field_text (take c.loop-number.number-index c.args.numbers.now))
+    (keeps c.args.out.now.items c.loop-number.out.items c.put_field.new.out.items
+    (c.args.word.now ++ flat_map field_text (take c.loop-number.number-index c.args.numbers.now))
     c.in_err-put_field.ensures.err c.loop-number.invariant.text)
 
 pub returns-in_err-push-clause-err : goal.returns-in_err-push-clause-err

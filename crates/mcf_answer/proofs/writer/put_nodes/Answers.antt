@@ -25,5 +25,6 @@ returns-in_err-put_node-clause-refused c =
 pub returns-in_err-put_node-clause-err : goal.returns-in_err-put_node-clause-err
 returns-in_err-put_node-clause-err c =
     on_err c.from_residual.result _
-    (keeps c.args.out.now.items c.loop-node.out.items c.put_node.new.out.items (flat_map line_text (map member_line (take c.loop-node.node-index c.args.nodes.now)))
+    (keeps c.args.out.now.items c.loop-node.out.items c.put_node.new.out.items (flat_map line_text
+    (map member_line (take c.loop-node.node-index c.args.nodes.now)))
     c.in_err-put_node.ensures.err c.loop-node.invariant.text)

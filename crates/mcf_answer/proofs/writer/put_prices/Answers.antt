@@ -14,7 +14,8 @@ pub loop-k-preserved : goal.loop-k-preserved
 loop-k-preserved c =
     let price : ℤ = get_or c.args.prices.now c.loop-k.k (pos 0) in
     let fits : SFits w128 price = search rules in
-    let appended : c.put_price.new.out.items ≡ c.loop-k.out.items ++ line_text (price_line (c.loop-k.k + 1, price)) = simp to_z-of_z at c.in_ok-put_price.ensures.ok in
+    let appended : c.put_price.new.out.items ≡ c.loop-k.out.items ++ line_text (price_line (c.loop-k.k + 1, price)) =
+    simp to_z-of_z at c.in_ok-put_price.ensures.ok in
     record {
       text =
           appended
@@ -27,7 +28,8 @@ pub returns-in_err-put_price-clause-refused : goal.returns-in_err-put_price-clau
 returns-in_err-put_price-clause-refused c =
     let price : ℤ = get_or c.args.prices.now c.loop-k.k (pos 0) in
     let fits : SFits w128 price = search rules in
-    let short : vec_capacity c.loop-k.out < vec_len c.loop-k.out + length (line_text (price_line (c.loop-k.k + 1, price))) = simp to_z-of_z at c.in_err-put_price.ensures.refused in
+    let short : vec_capacity c.loop-k.out < vec_len c.loop-k.out + length (line_text (price_line (c.loop-k.k + 1, price))) =
+    simp to_z-of_z at c.in_err-put_price.ensures.refused in
     on_err c.from_residual.result _
     (refused_after c.args.out.now.items c.loop-k.out.items (flat_map line_text (map price_line (enumerate_from 1 (take c.loop-k.k c.args.prices.now))))
     (line_text (price_line (c.loop-k.k + 1, price))) (flat_map line_text (map price_line (enumerate_from 1 c.args.prices.now)))

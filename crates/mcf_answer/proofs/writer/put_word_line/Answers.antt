@@ -14,23 +14,78 @@ returns-in_err-extend_from_slice-clause-refused c =
 pub returns-in_err-put_field-clause-refused : goal.returns-in_err-put_field-clause-refused
 returns-in_err-put_field-clause-refused c =
     let fits : SFits w128 c.args.number = c.ranges.number in
-    let short : vec_capacity c.extend_from_slice.new.self < vec_len c.extend_from_slice.new.self + length (field_text c.args.number) = simp to_z-of_z at c.in_err-put_field.ensures.refused in
-    on_err c.from_residual-in_err-put_field.result _ (omega (arith, length-word_line c.args.word.now c.args.last.now c.args.number, c.in_ok-extend_from_slice.ensures.len, c.extend_from_slice.ensures.capacity, short))
+    let short : vec_capacity c.extend_from_slice.new.self < vec_len c.extend_from_slice.new.self + length (field_text c.args.number) =
+    simp to_z-of_z at c.in_err-put_field.ensures.refused in
+    on_err c.from_residual-in_err-put_field.result _ (omega (
+      arith,
+      length-word_line c.args.word.now c.args.last.now c.args.number,
+      c.in_ok-extend_from_slice.ensures.len,
+      c.extend_from_slice.ensures.capacity,
+      short,
+    ))
 
 pub returns-in_err-push-clause-refused : goal.returns-in_err-push-clause-refused
 returns-in_err-push-clause-refused c =
     let fits : SFits w128 c.args.number = c.ranges.number in
-    let appended : c.put_field.new.out.items ≡ c.extend_from_slice.new.self.items ++ field_text c.args.number = simp to_z-of_z at c.in_ok-put_field.ensures.ok in
-    on_err c.from_residual-in_err-push.result _ (omega (arith, length-word_line c.args.word.now c.args.last.now c.args.number, c.args.out.now.ok.0, c.extend_from_slice.new.self.ok.0, c.put_field.new.out.ok.0, ap length c.in_ok-extend_from_slice.ensures.items ∙ length-append c.args.out.now.items c.args.word.now, ap length appended ∙ length-append c.extend_from_slice.new.self.items (field_text c.args.number), c.extend_from_slice.ensures.capacity, c.put_field.ensures.capacity, c.in_err-push.ensures.full))
+    let appended : c.put_field.new.out.items ≡ c.extend_from_slice.new.self.items ++ field_text c.args.number =
+    simp to_z-of_z at c.in_ok-put_field.ensures.ok in
+    on_err c.from_residual-in_err-push.result _ (omega (
+      arith,
+      length-word_line c.args.word.now c.args.last.now c.args.number,
+      c.args.out.now.ok.0,
+      c.extend_from_slice.new.self.ok.0,
+      c.put_field.new.out.ok.0,
+      ap length c.in_ok-extend_from_slice.ensures.items
+          ∙ length-append c.args.out.now.items c.args.word.now,
+      ap length appended ∙ length-append c.extend_from_slice.new.self.items
+          (field_text c.args.number),
+      c.extend_from_slice.ensures.capacity,
+      c.put_field.ensures.capacity,
+      c.in_err-push.ensures.full,
+    ))
 
 pub returns-in_err-extend_from_slice-2-clause-refused : goal.returns-in_err-extend_from_slice-2-clause-refused
 returns-in_err-extend_from_slice-2-clause-refused c =
     let fits : SFits w128 c.args.number = c.ranges.number in
-    let appended : c.put_field.new.out.items ≡ c.extend_from_slice.new.self.items ++ field_text c.args.number = simp to_z-of_z at c.in_ok-put_field.ensures.ok in
-    on_err c.from_residual-in_err-extend_from_slice-2.result _ (omega (arith, length-word_line c.args.word.now c.args.last.now c.args.number, c.args.out.now.ok.0, c.extend_from_slice.new.self.ok.0, c.put_field.new.out.ok.0, ap length c.in_ok-extend_from_slice.ensures.items ∙ length-append c.args.out.now.items c.args.word.now, ap length appended ∙ length-append c.extend_from_slice.new.self.items (field_text c.args.number), c.extend_from_slice.ensures.capacity, c.put_field.ensures.capacity, c.in_ok-push.ensures.len, c.push.ensures.capacity, c.in_err-extend_from_slice-2.ensures.full))
+    let appended : c.put_field.new.out.items ≡ c.extend_from_slice.new.self.items ++ field_text c.args.number =
+    simp to_z-of_z at c.in_ok-put_field.ensures.ok in
+    on_err c.from_residual-in_err-extend_from_slice-2.result _
+    (omega (
+      arith,
+      length-word_line c.args.word.now c.args.last.now c.args.number,
+      c.args.out.now.ok.0,
+      c.extend_from_slice.new.self.ok.0,
+      c.put_field.new.out.ok.0,
+      ap length c.in_ok-extend_from_slice.ensures.items ∙ length-append c.args.out.now.items c.args.word.now,
+      ap length appended
+          ∙ length-append c.extend_from_slice.new.self.items (field_text c.args.number),
+      c.extend_from_slice.ensures.capacity,
+      c.put_field.ensures.capacity,
+      c.in_ok-push.ensures.len,
+      c.push.ensures.capacity,
+      c.in_err-extend_from_slice-2.ensures.full,
+    ))
 
 pub returns-in_err-push-2-clause-refused : goal.returns-in_err-push-2-clause-refused
 returns-in_err-push-2-clause-refused c =
     let fits : SFits w128 c.args.number = c.ranges.number in
-    let appended : c.put_field.new.out.items ≡ c.extend_from_slice.new.self.items ++ field_text c.args.number = simp to_z-of_z at c.in_ok-put_field.ensures.ok in
-    on_err c.from_residual-in_err-push-2.result _ (omega (arith, length-word_line c.args.word.now c.args.last.now c.args.number, c.args.out.now.ok.0, c.extend_from_slice.new.self.ok.0, c.put_field.new.out.ok.0, ap length c.in_ok-extend_from_slice.ensures.items ∙ length-append c.args.out.now.items c.args.word.now, ap length appended ∙ length-append c.extend_from_slice.new.self.items (field_text c.args.number), c.extend_from_slice.ensures.capacity, c.put_field.ensures.capacity, c.in_ok-push.ensures.len, c.push.ensures.capacity, c.in_ok-extend_from_slice-2.ensures.len, c.extend_from_slice-2.ensures.capacity, c.in_err-push-2.ensures.full))
+    let appended : c.put_field.new.out.items ≡ c.extend_from_slice.new.self.items ++ field_text c.args.number =
+    simp to_z-of_z at c.in_ok-put_field.ensures.ok in
+    on_err c.from_residual-in_err-push-2.result _ (omega (
+      arith,
+      length-word_line c.args.word.now c.args.last.now c.args.number,
+      c.args.out.now.ok.0,
+      c.extend_from_slice.new.self.ok.0,
+      c.put_field.new.out.ok.0,
+      ap length c.in_ok-extend_from_slice.ensures.items
+          ∙ length-append c.args.out.now.items c.args.word.now,
+      ap length appended ∙ length-append c.extend_from_slice.new.self.items
+          (field_text c.args.number),
+      c.extend_from_slice.ensures.capacity,
+      c.put_field.ensures.capacity,
+      c.in_ok-push.ensures.len,
+      c.push.ensures.capacity,
+      c.in_ok-extend_from_slice-2.ensures.len,
+      c.extend_from_slice-2.ensures.capacity,
+      c.in_err-push-2.ensures.full,
+    ))

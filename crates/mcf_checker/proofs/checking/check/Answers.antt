@@ -53,7 +53,8 @@ returns-in-Ok-outcome-clause-exact c =
     let J = λ (v : Verdict). v ≡ judged (Ok c.in-Ok-outcome.instance) (Ok c.in-Ok.answer) in
     let Q = λ (v : Verdict). IsTrue (accepts v) ↔ IsCorrect input text in
     IfOk-weaker c.instance_verdict.result J Q
-    (λ v h. exact_at input text v parses (verdict_is input text (Ok c.in-Ok-outcome.instance) c.in-Ok.answer v outcome answer h)) c.instance_verdict.ensures.value
+    (λ v h. exact_at input text v parses (verdict_is input text (Ok c.in-Ok-outcome.instance) c.in-Ok.answer v outcome answer h))
+    c.instance_verdict.ensures.value
 
 pub returns-in-Ok-outcome-clause-least : goal.returns-in-Ok-outcome-clause-least
 returns-in-Ok-outcome-clause-least c =
@@ -66,7 +67,8 @@ returns-in-Ok-outcome-clause-least c =
     let reads = instance_reads input c.in-Ok-outcome.instance outcome c.instance_verdict.ensures.well_formed in
     let Q = λ (v : Verdict). (total : ℤ) → v ≡ FlowAccepted total → GivesLeastFlow input text total in
     IfOk-weaker c.instance_verdict.result J Q
-    (λ v h. least_at input text v parses reads (verdict_is input text (Ok c.in-Ok-outcome.instance) c.in-Ok.answer v outcome answer h)) c.instance_verdict.ensures.value
+    (λ v h. least_at input text v parses reads (verdict_is input text (Ok c.in-Ok-outcome.instance) c.in-Ok.answer v outcome answer h))
+    c.instance_verdict.ensures.value
 
 pub returns-in-Ok-outcome-clause-none : goal.returns-in-Ok-outcome-clause-none
 returns-in-Ok-outcome-clause-none c =
@@ -83,7 +85,8 @@ returns-in-Ok-outcome-clause-none c =
 pub returns-in-Ok-outcome-clause-wants : goal.returns-in-Ok-outcome-clause-wants
 returns-in-Ok-outcome-clause-wants c =
     on_err_weaker c.instance_verdict.result
-    (λ some. inl (instance_names_nodes c.args.input.now c.in-Ok-outcome.instance (sym c.in_ok-outcome.ensures.exact ∙ c.in-Ok-outcome.is) some)) c.instance_verdict.ensures.wants
+    (λ some. inl (instance_names_nodes c.args.input.now c.in-Ok-outcome.instance (sym c.in_ok-outcome.ensures.exact ∙ c.in-Ok-outcome.is) some))
+    c.instance_verdict.ensures.wants
 
 -- ---- a fault
 

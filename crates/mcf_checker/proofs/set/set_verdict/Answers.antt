@@ -20,7 +20,8 @@ returns-then-blocks-clause-value c =
     let side : c.answer.inside.side ≡ c.args.answer.now.side = ap (λ (a : BlockingSet). a.side) c.answer.view_is in
     let marks = rw (nodes, count) at c.in_ok-table.ensures.marks in
     let exact = rw (c.deref.ensures.value, side) at c.blocks-2.ensures.exact in
-    let same = Blocks-table c.args.instance.now c.in_ok-table.table.items c.args.answer.now.nodes c.args.answer.now.side c.node_count-count.ensures.well_formed.ends marks in
+    let same = Blocks-table c.args.instance.now c.in_ok-table.table.items c.args.answer.now.nodes c.args.answer.now.side
+    c.node_count-count.ensures.well_formed.ends marks in
     let test = rw (nodes, count) at c.are_nodes.ensures in
     rw nodes (at_blocking c.args.instance.now c.args.answer.now (sym test ∙ c.if-not-are_nodes.false) (same.0 (exact.0 c.if-blocks.true)))
 
@@ -31,5 +32,6 @@ returns-clause-value c =
     let side : c.answer.inside.side ≡ c.args.answer.now.side = ap (λ (a : BlockingSet). a.side) c.answer.view_is in
     let marks = rw (nodes, count) at c.in_ok-table.ensures.marks in
     let exact = rw (c.deref.ensures.value, side) at c.blocks-2.ensures.exact in
-    let same = Blocks-table c.args.instance.now c.in_ok-table.table.items c.args.answer.now.nodes c.args.answer.now.side c.node_count-count.ensures.well_formed.ends marks in
+    let same = Blocks-table c.args.instance.now c.in_ok-table.table.items c.args.answer.now.nodes c.args.answer.now.side
+    c.node_count-count.ensures.well_formed.ends marks in
     at_not_blocking c.args.instance.now c.args.answer.now (λ h. both_ways c.blocks-2.result c.if-blocks.false (exact.1 (same.1 h)))

@@ -5,12 +5,14 @@ use Rattle.mcf_checker.proofs.solution.first_bad_arc.Goals as goal
 pub loop-place-preserved : goal.loop-place-preserved
 loop-place-preserved c =
     below_more _ _ c.loop-place.invariant
-    (agreement_read c.args.instance.now.arcs c.args.sent.now c.loop-place.place c.index-sent-place.result c.agrees_at.result c.loop-place-test.true c.index-sent-place.is c.agrees_at.ensures ∙ c.if-not-agrees_at.false)
+    (agreement_read c.args.instance.now.arcs c.args.sent.now c.loop-place.place c.index-sent-place.result c.agrees_at.result c.loop-place-test.true
+    c.index-sent-place.is c.agrees_at.ensures ∙ c.if-not-agrees_at.false)
 
 pub returns-then-not-agrees_at : goal.returns-then-not-agrees_at
 returns-then-not-agrees_at c =
     sym (bad_arc-some c.args.instance.now c.args.sent.now c.loop-place.place (omega arith) c.loop-place.invariant
-    (agreement_read c.args.instance.now.arcs c.args.sent.now c.loop-place.place c.index-sent-place.result c.agrees_at.result c.loop-place-test.true c.index-sent-place.is c.agrees_at.ensures ∙ c.if-not-agrees_at.true))
+    (agreement_read c.args.instance.now.arcs c.args.sent.now c.loop-place.place c.index-sent-place.result c.agrees_at.result c.loop-place-test.true
+    c.index-sent-place.is c.agrees_at.ensures ∙ c.if-not-agrees_at.true))
 
 pub returns-then-sent-arc_count : goal.returns-then-sent-arc_count
 returns-then-sent-arc_count c =

@@ -11,7 +11,8 @@ use Rattle.mcf_checker.proofs.solution.first_bad_price.Goals as goal
 
 pub is_loose-requires-clause-limits : goal.is_loose-requires-clause-limits
 is_loose-requires-clause-limits c =
-    arc_has (IsArcWithinLimits wide_limits) c.args.instance.now.arcs c.loop-place.place c.arc_at.result c.arc_at.ensures.value c.arc_at.ensures.well_formed.within_wide.arcs
+    arc_has (IsArcWithinLimits wide_limits) c.args.instance.now.arcs c.loop-place.place c.arc_at.result c.arc_at.ensures.value
+    c.arc_at.ensures.well_formed.within_wide.arcs
 
 pub loop-place-preserved : goal.loop-place-preserved
 loop-place-preserved c =
@@ -21,7 +22,8 @@ loop-place-preserved c =
     let sent : c.as_slice-line-items.result.now ≡ c.args.answer.now.sent = c.as_slice-line-items.ensures ∙ ap (λ (a : Solution). a.sent) c.answer.view_is in
     below_more _ _ c.loop-place.invariant
     (rw (← prices, ← sent)
-    (looseness_read c.as_slice-prices.result.now c.args.instance.now.arcs c.as_slice-line-items.result.now c.loop-place.place c.arc_at.result c.line-item.result c.arc_at.ensures.value c.loop-place-test.true c.line-item.is ∙ sym loose ∙ c.if-is_loose.false))
+    (looseness_read c.as_slice-prices.result.now c.args.instance.now.arcs c.as_slice-line-items.result.now c.loop-place.place c.arc_at.result
+    c.line-item.result c.arc_at.ensures.value c.loop-place-test.true c.line-item.is ∙ sym loose ∙ c.if-is_loose.false))
 
 pub returns-then-is_loose : goal.returns-then-is_loose
 returns-then-is_loose c =
@@ -31,7 +33,8 @@ returns-then-is_loose c =
     let sent : c.as_slice-line-items.result.now ≡ c.args.answer.now.sent = c.as_slice-line-items.ensures ∙ ap (λ (a : Solution). a.sent) c.answer.view_is in
     sym (bad_price-some c.args.instance.now c.args.answer.now c.loop-place.place (omega (arith, ap length sent)) c.loop-place.invariant
     (rw (← prices, ← sent)
-    (looseness_read c.as_slice-prices.result.now c.args.instance.now.arcs c.as_slice-line-items.result.now c.loop-place.place c.arc_at.result c.line-item.result c.arc_at.ensures.value c.loop-place-test.true c.line-item.is ∙ sym loose ∙ c.if-is_loose.true)))
+    (looseness_read c.as_slice-prices.result.now c.args.instance.now.arcs c.as_slice-line-items.result.now c.loop-place.place c.arc_at.result
+    c.line-item.result c.arc_at.ensures.value c.loop-place-test.true c.line-item.is ∙ sym loose ∙ c.if-is_loose.true)))
 
 pub returns : goal.returns
 returns c =

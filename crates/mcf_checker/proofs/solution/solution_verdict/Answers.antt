@@ -26,13 +26,15 @@ first_bad_node-requires c =
 pub returns-in-Some-2-clause-value : goal.returns-in-Some-2-clause-value
 returns-in-Some-2-clause-value c =
     let sent : c.as_slice.result.now ≡ c.args.answer.now.sent = c.as_slice.ensures ∙ ap (λ (a : Solution). a.sent) c.answer.view_is in
-    let no_arc : bad_arc c.args.instance.now c.args.answer.now.sent ≡ None = sym (c.first_bad_arc.ensures ∙ ap (bad_arc c.args.instance.now) sent) ∙ c.in_default.is in
+    let no_arc : bad_arc c.args.instance.now c.args.answer.now.sent ≡ None = sym (c.first_bad_arc.ensures ∙ ap (bad_arc c.args.instance.now) sent)
+    ∙ c.in_default.is in
     at_bad_node c.args.instance.now c.args.answer.now c.in-Some-2.node no_arc (sym c.in-Some-2.is ∙ c.in_ok-node.ensures.value)
 
 pub first_bad_price-requires-clause-one_flow_each : goal.first_bad_price-requires-clause-one_flow_each
 first_bad_price-requires-clause-one_flow_each c =
     let sent : c.as_slice.result.now ≡ c.args.answer.now.sent = c.as_slice.ensures ∙ ap (λ (a : Solution). a.sent) c.answer.view_is in
-    let no_arc : bad_arc c.args.instance.now c.args.answer.now.sent ≡ None = sym (c.first_bad_arc.ensures ∙ ap (bad_arc c.args.instance.now) sent) ∙ c.in_default.is in
+    let no_arc : bad_arc c.args.instance.now c.args.answer.now.sent ≡ None = sym (c.first_bad_arc.ensures ∙ ap (bad_arc c.args.instance.now) sent)
+    ∙ c.in_default.is in
     sym (count_is c.args.instance.now.arcs c.args.answer.now.sent (AllAgree-from_none c.args.instance.now c.args.answer.now.sent no_arc).within_bounds)
 
 pub first_bad_price-requires-clause-one_price_each :
@@ -44,15 +46,18 @@ first_bad_price-requires-clause-one_price_each c =
 pub returns-in-Some-first_bad_price-clause-value : goal.returns-in-Some-first_bad_price-clause-value
 returns-in-Some-first_bad_price-clause-value c =
     let sent : c.as_slice.result.now ≡ c.args.answer.now.sent = c.as_slice.ensures ∙ ap (λ (a : Solution). a.sent) c.answer.view_is in
-    let no_arc : bad_arc c.args.instance.now c.args.answer.now.sent ≡ None = sym (c.first_bad_arc.ensures ∙ ap (bad_arc c.args.instance.now) sent) ∙ c.in_default.is in
+    let no_arc : bad_arc c.args.instance.now c.args.answer.now.sent ≡ None = sym (c.first_bad_arc.ensures ∙ ap (bad_arc c.args.instance.now) sent)
+    ∙ c.in_default.is in
     let no_node : bad_node c.args.instance.now c.args.answer.now ≡ None = sym c.in_ok-node.ensures.value ∙ c.in_default-2.is in
-    at_bad_price c.args.instance.now c.args.answer.now c.in-Some-first_bad_price.arc no_arc no_node (sym c.in-Some-first_bad_price.is ∙ c.first_bad_price.ensures)
+    at_bad_price c.args.instance.now c.args.answer.now c.in-Some-first_bad_price.arc no_arc no_node
+    (sym c.in-Some-first_bad_price.is ∙ c.first_bad_price.ensures)
 
 pub has_cost-requires : goal.has_cost-requires
 has_cost-requires c =
     let sent : c.as_slice.result.now ≡ c.args.answer.now.sent = c.as_slice.ensures ∙ ap (λ (a : Solution). a.sent) c.answer.view_is in
     let sent-2 : c.as_slice-2.result.now ≡ c.args.answer.now.sent = c.as_slice-2.ensures ∙ ap (λ (a : Solution). a.sent) c.answer.view_is in
-    let no_arc : bad_arc c.args.instance.now c.args.answer.now.sent ≡ None = sym (c.first_bad_arc.ensures ∙ ap (bad_arc c.args.instance.now) sent) ∙ c.in_default.is in
+    let no_arc : bad_arc c.args.instance.now c.args.answer.now.sent ≡ None = sym (c.first_bad_arc.ensures ∙ ap (bad_arc c.args.instance.now) sent)
+    ∙ c.in_default.is in
     let P = λ (s : List Sent). IsWithinBounds c.args.instance.now.arcs (amounts s) in
     subst P (sym sent-2) (AllAgree-from_none c.args.instance.now c.args.answer.now.sent no_arc).within_bounds
 
@@ -60,7 +65,8 @@ pub returns-then-has_cost-clause-value : goal.returns-then-has_cost-clause-value
 returns-then-has_cost-clause-value c =
     let sent : c.as_slice.result.now ≡ c.args.answer.now.sent = c.as_slice.ensures ∙ ap (λ (a : Solution). a.sent) c.answer.view_is in
     let sent-2 : c.as_slice-2.result.now ≡ c.args.answer.now.sent = c.as_slice-2.ensures ∙ ap (λ (a : Solution). a.sent) c.answer.view_is in
-    let no_arc : bad_arc c.args.instance.now c.args.answer.now.sent ≡ None = sym (c.first_bad_arc.ensures ∙ ap (bad_arc c.args.instance.now) sent) ∙ c.in_default.is in
+    let no_arc : bad_arc c.args.instance.now c.args.answer.now.sent ≡ None = sym (c.first_bad_arc.ensures ∙ ap (bad_arc c.args.instance.now) sent)
+    ∙ c.in_default.is in
     let no_node : bad_node c.args.instance.now c.args.answer.now ≡ None = sym c.in_ok-node.ensures.value ∙ c.in_default-2.is in
     let no_price : bad_price c.args.instance.now c.args.answer.now ≡ None = sym c.first_bad_price.ensures ∙ c.in_default-first_bad_price.is in
     let cost : c.answer.inside.cost ≡ c.args.answer.now.cost = ap (λ (a : Solution). a.cost) c.answer.view_is in
@@ -72,7 +78,8 @@ pub returns-else-has_cost-clause-value : goal.returns-else-has_cost-clause-value
 returns-else-has_cost-clause-value c =
     let sent : c.as_slice.result.now ≡ c.args.answer.now.sent = c.as_slice.ensures ∙ ap (λ (a : Solution). a.sent) c.answer.view_is in
     let sent-2 : c.as_slice-2.result.now ≡ c.args.answer.now.sent = c.as_slice-2.ensures ∙ ap (λ (a : Solution). a.sent) c.answer.view_is in
-    let no_arc : bad_arc c.args.instance.now c.args.answer.now.sent ≡ None = sym (c.first_bad_arc.ensures ∙ ap (bad_arc c.args.instance.now) sent) ∙ c.in_default.is in
+    let no_arc : bad_arc c.args.instance.now c.args.answer.now.sent ≡ None = sym (c.first_bad_arc.ensures ∙ ap (bad_arc c.args.instance.now) sent)
+    ∙ c.in_default.is in
     let no_node : bad_node c.args.instance.now c.args.answer.now ≡ None = sym c.in_ok-node.ensures.value ∙ c.in_default-2.is in
     let no_price : bad_price c.args.instance.now c.args.answer.now ≡ None = sym c.first_bad_price.ensures ∙ c.in_default-first_bad_price.is in
     let cost : c.answer.inside.cost ≡ c.args.answer.now.cost = ap (λ (a : Solution). a.cost) c.answer.view_is in

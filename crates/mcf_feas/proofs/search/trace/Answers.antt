@@ -19,8 +19,10 @@ loop-place-preserved c =
     let y = to_z w128 (of_z w128 c.min-amount.result) in
     let given : to_z w128 (of_z w128 c.room.result) ≡ c.room.result = search (rules, to_z-of_z) in
     let made : y ≡ c.min-amount.result = search (rules, to_z-of_z) in
-    let least = lesser_read (to_z w128 old.amount-bits) _ (room_of s c.in-Some.link.along) _ y old.invariant.positive link.room.room (given ∙ c.room.ensures.value) c.min-amount.ensures.value made in
-    rw (c.in_ok-push.ensures.items, reverse-append) (trace_step s visits old.place (reverse old.path.items) (node_at visits (length visits - 1)) (to_z w128 old.amount-bits) y ok old.invariant least.positive least.first c.in-Some.link link least.second least.either)
+    let least = lesser_read (to_z w128 old.amount-bits) _ (room_of s c.in-Some.link.along) _ y old.invariant.positive link.room.room
+    (given ∙ c.room.ensures.value) c.min-amount.ensures.value made in
+    rw (c.in_ok-push.ensures.items, reverse-append) (trace_step s visits old.place (reverse old.path.items) (node_at visits (length visits - 1))
+    (to_z w128 old.amount-bits) y ok old.invariant least.positive least.first c.in-Some.link link least.second least.either)
 
 pub returns-clause-path : goal.returns-clause-path
 returns-clause-path c =
@@ -29,9 +31,12 @@ returns-clause-path c =
     let old = c.loop-place in
     let ok = c.requires.forest in
     let some = linked_none s visits old.place _ ok old.invariant.in_range c.in_default.is in
-    let node = ap (λ (v : Visit). surplus_at s v.node) (get_or_default visits old.place c.index-visits-place-2.result (record { node = 0; link = None }) old.invariant.in_range) in
+    let node = ap (λ (v : Visit). surplus_at s v.node) (get_or_default visits old.place c.index-visits-place-2.result
+    (record { node = 0; link = None }) old.invariant.in_range) in
     let y = to_z w128 (of_z w128 c.min.result) in
     let given : to_z w128 (of_z w128 c.surplus.result) ≡ c.surplus.result = search (rules, to_z-of_z) in
     let made : y ≡ c.min.result = search (rules, to_z-of_z) in
-    let least = lesser_read (to_z w128 old.amount-bits) _ (surplus_at s (node_at visits old.place)) _ y old.invariant.positive some (given ∙ c.surplus.ensures.value ∙ node) c.min.ensures.value made in
-    rw c.reverse.ensures.items (trace_end s visits old.place (reverse old.path.items) (node_at visits (length visits - 1)) (to_z w128 old.amount-bits) y ok old.invariant least.positive least.first least.second least.either)
+    let least = lesser_read (to_z w128 old.amount-bits) _ (surplus_at s (node_at visits old.place)) _ y old.invariant.positive some
+    (given ∙ c.surplus.ensures.value ∙ node) c.min.ensures.value made in
+    rw c.reverse.ensures.items (trace_end s visits old.place (reverse old.path.items) (node_at visits (length visits - 1))
+    (to_z w128 old.amount-bits) y ok old.invariant least.positive least.first least.second least.either)

@@ -16,4 +16,5 @@ returns-clause-exact c =
     let can : b.result.cap_out ≡ can_send g set = b.ensures.cap_out ∙ ap (λ (arcs : List Arc). cap_leaving arcs set) c.packed_arcs.ensures.value in
     let low : b.result.low_in ≡ low_entering g.arcs set = b.ensures.low_in ∙ ap (λ (arcs : List Arc). low_entering arcs set) c.packed_arcs.ensures.value in
     let supply : s.result ≡ supply_in g.supplies set = s.ensures.sum ∙ ap (λ (supplies : List ℤ). supply_in supplies set) c.packed_supplies.ensures.value in
-    less_than_sum b.result.cap_out s.result b.result.low_in (can_send g set) (must_send g set) fits s.ensures.small b.ensures.low_in_small can (ap (λ z. z +ℤ b.result.low_in) supply ∙ ap (λ z. supply_in g.supplies set +ℤ z) low)
+    less_than_sum b.result.cap_out s.result b.result.low_in (can_send g set) (must_send g set) fits s.ensures.small b.ensures.low_in_small can
+    (ap (λ z. z +ℤ b.result.low_in) supply ∙ ap (λ z. supply_in g.supplies set +ℤ z) low)

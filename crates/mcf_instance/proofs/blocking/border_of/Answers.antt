@@ -18,19 +18,23 @@ leaves_set-leaving-requires c =
 
 pub add_when-low_in-requires-clause-total : goal.add_when-low_in-requires-clause-total
 add_when-low_in-requires-clause-total c =
-    rw c.loop-arc.invariant.low_in (packed_lows_up_to (enters (in_table c.args.table.now)) c.args.arcs.now c.loop-arc.arc-index c.requires.small c.requires.count (omega arith))
+    rw c.loop-arc.invariant.low_in (packed_lows_up_to (enters (in_table c.args.table.now)) c.args.arcs.now c.loop-arc.arc-index c.requires.small
+    c.requires.count (omega arith))
 
 pub add_when-cap_in-requires-clause-total : goal.add_when-cap_in-requires-clause-total
 add_when-cap_in-requires-clause-total c =
-    rw c.loop-arc.invariant.cap_in (packed_caps_up_to (enters (in_table c.args.table.now)) c.args.arcs.now c.loop-arc.arc-index c.requires.small c.requires.count (omega arith))
+    rw c.loop-arc.invariant.cap_in (packed_caps_up_to (enters (in_table c.args.table.now)) c.args.arcs.now c.loop-arc.arc-index c.requires.small
+    c.requires.count (omega arith))
 
 pub add_when-low_out-requires-clause-total : goal.add_when-low_out-requires-clause-total
 add_when-low_out-requires-clause-total c =
-    rw c.loop-arc.invariant.low_out (packed_lows_up_to (leaves (in_table c.args.table.now)) c.args.arcs.now c.loop-arc.arc-index c.requires.small c.requires.count (omega arith))
+    rw c.loop-arc.invariant.low_out (packed_lows_up_to (leaves (in_table c.args.table.now)) c.args.arcs.now c.loop-arc.arc-index c.requires.small
+    c.requires.count (omega arith))
 
 pub add_when-cap_out-requires-clause-total : goal.add_when-cap_out-requires-clause-total
 add_when-cap_out-requires-clause-total c =
-    rw c.loop-arc.invariant.cap_out (packed_caps_up_to (leaves (in_table c.args.table.now)) c.args.arcs.now c.loop-arc.arc-index c.requires.small c.requires.count (omega arith))
+    rw c.loop-arc.invariant.cap_out (packed_caps_up_to (leaves (in_table c.args.table.now)) c.args.arcs.now c.loop-arc.arc-index c.requires.small
+    c.requires.count (omega arith))
 
 pub add_when-low_in-requires-clause-amount : goal.add_when-low_in-requires-clause-amount
 add_when-low_in-requires-clause-amount c =
@@ -75,8 +79,10 @@ loop-arc-preserved c =
 
 pub returns-clause-low_in_small : goal.returns-clause-low_in_small
 returns-clause-low_in_small c =
-    rw c.loop-arc.invariant.low_in (packed_lows_up_to (enters (in_table c.args.table.now)) c.args.arcs.now c.loop-arc.arc-index c.requires.small c.requires.count (omega arith))
+    rw c.loop-arc.invariant.low_in (packed_lows_up_to (enters (in_table c.args.table.now)) c.args.arcs.now c.loop-arc.arc-index c.requires.small
+    c.requires.count (omega arith))
 
 pub returns-clause-low_out_small : goal.returns-clause-low_out_small
 returns-clause-low_out_small c =
-    rw c.loop-arc.invariant.low_out (packed_lows_up_to (leaves (in_table c.args.table.now)) c.args.arcs.now c.loop-arc.arc-index c.requires.small c.requires.count (omega arith))
+    rw c.loop-arc.invariant.low_out (packed_lows_up_to (leaves (in_table c.args.table.now)) c.args.arcs.now c.loop-arc.arc-index c.requires.small
+    c.requires.count (omega arith))

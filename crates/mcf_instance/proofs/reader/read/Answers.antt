@@ -20,7 +20,8 @@ step-requires-clause-numbered c =
 pub returns-in-Some-refusal : goal.returns-in-Some-refusal
 returns-in-Some-refusal c =
     let kept : is_kept c.in-Some.line.bytes.now ≡ true = sym c.is_kept.ensures ∙ c.if-is_kept.true in
-    let read = read_kept c.args.text.now c.loop-line.state c.step.new.self c.loop-line.next (c.in-Some.line.number, c.in-Some.line.bytes.now) c.next.new.self (rw c.in-Some.ensures.steps at c.loop-line.invariant.read) kept c.in_ok-step.ensures.stands in
+    let read = read_kept c.args.text.now c.loop-line.state c.step.new.self c.loop-line.next (c.in-Some.line.number, c.in-Some.line.bytes.now) c.next.new.self
+    (rw c.in-Some.ensures.steps at c.loop-line.invariant.read) kept c.in_ok-step.ensures.stands in
     record { exact = sym (read_refused _ _ _ _ c.in-Some-refusal.refusal read (sym c.in-Some-refusal.ensures)); wants = tt }
 
 pub overflow_add-next : goal.overflow_add-next

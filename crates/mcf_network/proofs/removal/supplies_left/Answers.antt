@@ -43,8 +43,10 @@ loop-i-preserved c =
     let is = rw c.new.ensures at c.arc-a.ensures.value in
     let a = arc_of g c.loop-i.i c.arc-a.result c.arc-a.ensures.well_formed h is in
     let same : to_z w128 (of_z w128 c.arc-a.result.low) ≡ c.arc-a.result.low = omega (arith, ints, a.within.low_small) in
-    left_next g c.loop-i.i c.arc-a.result c.loop-i.left.items c.move_surplus.new.surpluses.items c.loop-i.invariant h is c.move_surplus.ensures.length (λ v hv. rw same at (c.move_surplus.ensures.each v hv))
+    left_next g c.loop-i.i c.arc-a.result c.loop-i.left.items c.move_surplus.new.surpluses.items c.loop-i.invariant h is c.move_surplus.ensures.length
+    (λ v hv. rw same at (c.move_surplus.ensures.each v hv))
 
 pub returns-clause-value : goal.returns-clause-value
 returns-clause-value c =
-    left_end c.args.instance.now c.loop-i.i c.loop-i.left.items c.loop-i.invariant (omega (arith, c.loop-i-test.false, c.loop-i.auto, c.arc_count-i-end.ensures.value))
+    left_end c.args.instance.now c.loop-i.i c.loop-i.left.items c.loop-i.invariant
+    (omega (arith, c.loop-i-test.false, c.loop-i.auto, c.arc_count-i-end.ensures.value))

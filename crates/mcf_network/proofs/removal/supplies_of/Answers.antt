@@ -21,4 +21,5 @@ loop-i-preserved c =
     let h : c.loop-i.i < length xs = omega (arith, c.loop-i-test.true, c.node_count-count.ensures.value) in
     let given : to_z w128 (of_z w128 c.supply.result) ≡ c.supply.result = search (rules, to_z-of_z) in
     let read = rw (c.new.ensures, back) at c.supply.ensures.value in
-    take_next xs c.loop-i.i (to_z w128 (of_z w128 c.supply.result)) (pos 0) c.loop-i.supplies.items c.push.new.self.items c.loop-i.invariant h (sym (given ∙ read)) (search rules)
+    take_next xs c.loop-i.i (to_z w128 (of_z w128 c.supply.result)) (pos 0) c.loop-i.supplies.items c.push.new.self.items c.loop-i.invariant h
+    (sym (given ∙ read)) (search rules)

@@ -12,6 +12,7 @@ returns c =
     stored_is a _ _ _ _ s d
     (elim c.if-src-dst.branch [
       | then-src-dst w ↦ (let none = width_loop a (sym s ∙ w.if-src-dst.true ∙ d) in omega (arith, ints, w.result-is, none))
-      | else-src-dst w ↦ (let wide = width_plain a (λ e. w.if-src-dst.false (s ∙ e ∙ sym d)) in omega (arith, ints, w.result-is, wide, c.requires.low_small, c.requires.cap_small))
+      | else-src-dst w ↦ (let wide = width_plain a (λ e. w.if-src-dst.false (s ∙ e ∙ sym d)) in
+          omega (arith, ints, w.result-is, wide, c.requires.low_small, c.requires.cap_small))
     ])
     (omega (arith, ints, c.requires.cost_small))

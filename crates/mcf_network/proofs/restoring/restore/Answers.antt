@@ -43,7 +43,9 @@ loop-i-preserved c =
     let read = rw (c.new-k.ensures, back) at c.amount-amount.ensures.value in
     let given : to_z w128 (of_z w128 c.amount-amount.result) ≡ c.amount-amount.result = search (rules, to_z-of_z) in
     let made : to_z w128 (of_z w128 c.restored_flow.result) ≡ c.restored_flow.result = search (rules, to_z-of_z) in
-    restored_next g.arcs s.amounts c.loop-i.i c.arc.result c.amount-amount.result (to_z w128 (of_z w128 c.restored_flow.result)) c.loop-i.flow.items c.push.new.self.items (omega (arith, same, amount_count s c.net-net.ensures.valid)) h a.is (sym read) (made ∙ (rw given at c.restored_flow.ensures)) c.loop-i.invariant (search rules)
+    restored_next g.arcs s.amounts c.loop-i.i c.arc.result c.amount-amount.result (to_z w128 (of_z w128 c.restored_flow.result)) c.loop-i.flow.items
+    c.push.new.self.items (omega (arith, same, amount_count s c.net-net.ensures.valid)) h a.is (sym read)
+    (made ∙ (rw given at c.restored_flow.ensures)) c.loop-i.invariant (search rules)
 
 pub returns-clause-value : goal.returns-clause-value
 returns-clause-value c =
@@ -52,7 +54,8 @@ returns-clause-value c =
     let same : length s.net.arcs ≡ length g.arcs = ap (λ (n : Network). length n.arcs) c.requires.of_net ∙ net_of-arc_count g in
     let count = amount_count s c.net-net.ensures.valid in
     let all = restored_all g s c.arc_count-count.ensures.well_formed c.requires.of_net c.net-net.ensures.valid c.requires.no_surplus in
-    let is = restored_done g.arcs s.amounts c.loop-i.i c.loop-i.flow.items (omega (arith, same, count)) (omega (arith, c.loop-i-test.false, c.arc_count-count.ensures.value)) c.loop-i.invariant in
+    let is = restored_done g.arcs s.amounts c.loop-i.i c.loop-i.flow.items (omega (arith, same, count))
+    (omega (arith, c.loop-i-test.false, c.arc_count-count.ensures.value)) c.loop-i.invariant in
     is
 
 pub returns-clause-feasible : goal.returns-clause-feasible
@@ -62,7 +65,8 @@ returns-clause-feasible c =
     let same : length s.net.arcs ≡ length g.arcs = ap (λ (n : Network). length n.arcs) c.requires.of_net ∙ net_of-arc_count g in
     let count = amount_count s c.net-net.ensures.valid in
     let all = restored_all g s c.arc_count-count.ensures.well_formed c.requires.of_net c.net-net.ensures.valid c.requires.no_surplus in
-    let is = restored_done g.arcs s.amounts c.loop-i.i c.loop-i.flow.items (omega (arith, same, count)) (omega (arith, c.loop-i-test.false, c.arc_count-count.ensures.value)) c.loop-i.invariant in
+    let is = restored_done g.arcs s.amounts c.loop-i.i c.loop-i.flow.items (omega (arith, same, count))
+    (omega (arith, c.loop-i-test.false, c.arc_count-count.ensures.value)) c.loop-i.invariant in
     rw is all.feasible
 
 pub returns-clause-shown : goal.returns-clause-shown
@@ -72,7 +76,8 @@ returns-clause-shown c =
     let same : length s.net.arcs ≡ length g.arcs = ap (λ (n : Network). length n.arcs) c.requires.of_net ∙ net_of-arc_count g in
     let count = amount_count s c.net-net.ensures.valid in
     let all = restored_all g s c.arc_count-count.ensures.well_formed c.requires.of_net c.net-net.ensures.valid c.requires.no_surplus in
-    let is = restored_done g.arcs s.amounts c.loop-i.i c.loop-i.flow.items (omega (arith, same, count)) (omega (arith, c.loop-i-test.false, c.arc_count-count.ensures.value)) c.loop-i.invariant in
+    let is = restored_done g.arcs s.amounts c.loop-i.i c.loop-i.flow.items (omega (arith, same, count))
+    (omega (arith, c.loop-i-test.false, c.arc_count-count.ensures.value)) c.loop-i.invariant in
     rw is all.shown
 
 pub returns-clause-cost : goal.returns-clause-cost
@@ -82,5 +87,6 @@ returns-clause-cost c =
     let same : length s.net.arcs ≡ length g.arcs = ap (λ (n : Network). length n.arcs) c.requires.of_net ∙ net_of-arc_count g in
     let count = amount_count s c.net-net.ensures.valid in
     let all = restored_all g s c.arc_count-count.ensures.well_formed c.requires.of_net c.net-net.ensures.valid c.requires.no_surplus in
-    let is = restored_done g.arcs s.amounts c.loop-i.i c.loop-i.flow.items (omega (arith, same, count)) (omega (arith, c.loop-i-test.false, c.arc_count-count.ensures.value)) c.loop-i.invariant in
+    let is = restored_done g.arcs s.amounts c.loop-i.i c.loop-i.flow.items (omega (arith, same, count))
+    (omega (arith, c.loop-i-test.false, c.arc_count-count.ensures.value)) c.loop-i.invariant in
     rw is all.cost_is

@@ -28,7 +28,8 @@ loop-r-preserved c =
     let next = rw (← c.r-item.is) at (drop_more c.args.walk.now c.loop-r.r-index c.r-item.result c.loop-r-test.true) in
     let same = to_z-of_z w128 c.args.amount c.ranges.amount in
     let can = subst (λ (x : List Rid). CanPushAlong c.loop-r.state x c.args.amount) next whole in
-    let rest = subst (λ (x : List Rid). pushed_along c.loop-r.state x c.args.amount ≡ pushed_along c.args.state.now c.args.walk.now c.args.amount) next (rw same at c.loop-r.invariant.rest) in
+    let rest = subst (λ (x : List Rid). pushed_along c.loop-r.state x c.args.amount ≡ pushed_along c.args.state.now c.args.walk.now c.args.amount) next
+    (rw same at c.loop-r.invariant.rest) in
     let value : c.push.new.self ≡ pushed c.loop-r.state c.r-item.result c.args.amount = rw same at c.push.ensures.value in
     rw (same, value) (record {
       flow = first_ok c.loop-r.state _ _ c.args.amount c.loop-r.invariant.flow can;
@@ -39,10 +40,14 @@ loop-r-preserved c =
 
 pub returns-clause-surpluses : goal.returns-clause-surpluses
 returns-clause-surpluses c u w walk v h =
-    let e : c.loop-r.state ≡ pushed_along c.args.state.now c.args.walk.now c.args.amount = along_done c.loop-r.state c.args.state.now c.args.walk.now c.loop-r.r-index c.args.amount _ (to_z-of_z w128 c.args.amount c.ranges.amount) c.loop-r-test.false c.loop-r.invariant.rest in
+    let e : c.loop-r.state ≡ pushed_along c.args.state.now c.args.walk.now c.args.amount =
+    along_done c.loop-r.state c.args.state.now c.args.walk.now c.loop-r.r-index c.args.amount _
+    (to_z-of_z w128 c.args.amount c.ranges.amount) c.loop-r-test.false c.loop-r.invariant.rest in
     rw e (moves_along c.args.state.now c.args.walk.now c.args.amount u w c.loop-r.invariant.start c.requires walk v)
 
 pub returns-clause-cost : goal.returns-clause-cost
 returns-clause-cost c =
-    let e : c.loop-r.state ≡ pushed_along c.args.state.now c.args.walk.now c.args.amount = along_done c.loop-r.state c.args.state.now c.args.walk.now c.loop-r.r-index c.args.amount _ (to_z-of_z w128 c.args.amount c.ranges.amount) c.loop-r-test.false c.loop-r.invariant.rest in
+    let e : c.loop-r.state ≡ pushed_along c.args.state.now c.args.walk.now c.args.amount =
+    along_done c.loop-r.state c.args.state.now c.args.walk.now c.loop-r.r-index c.args.amount _
+    (to_z-of_z w128 c.args.amount c.ranges.amount) c.loop-r-test.false c.loop-r.invariant.rest in
     rw e (cost_along c.args.state.now c.args.walk.now c.args.amount c.loop-r.invariant.start c.requires)

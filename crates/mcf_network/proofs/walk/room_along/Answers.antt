@@ -6,14 +6,17 @@ use Rattle.mcf_network.proofs.walk.room_along.Goals as goal
 
 pub loop-r-init : goal.loop-r-init
 loop-r-init c =
-    least_room_start c.args.state.now c.args.walk.now c.index-walk-0.result _ c.requires.some c.index-walk-0.is (omega (arith, ints, c.room-least.ensures.value, c.room-least.ensures.low, c.room-least.ensures.high))
+    least_room_start c.args.state.now c.args.walk.now c.index-walk-0.result _ c.requires.some c.index-walk-0.is
+    (omega (arith, ints, c.room-least.ensures.value, c.room-least.ensures.low, c.room-least.ensures.high))
 
 pub loop-r-preserved : goal.loop-r-preserved
 loop-r-preserved c =
     let same : to_z w128 (of_z w128 c.lesser-least.result) ≡ c.lesser-least.result = search (rules, to_z-of_z) in
     let given : to_z w128 (of_z w128 c.room.result) ≡ c.room.result = search (rules, to_z-of_z) in
     let e = c.lesser-least.ensures in
-    rw same (least_room_next c.args.state.now c.args.walk.now c.loop-r.r-index c.r-item.result (to_z w128 c.loop-r.least-bits) c.room.result c.lesser-least.result c.loop-r.invariant c.loop-r-test.true c.r-item.is c.room.ensures.value e.first (rw given at e.second) (rw given at e.either))
+    rw same (least_room_next c.args.state.now c.args.walk.now c.loop-r.r-index c.r-item.result
+    (to_z w128 c.loop-r.least-bits) c.room.result c.lesser-least.result c.loop-r.invariant c.loop-r-test.true c.r-item.is c.room.ensures.value e.first
+    (rw given at e.second) (rw given at e.either))
 
 pub returns : goal.returns
 returns c =

@@ -23,7 +23,8 @@ rounds-init c =
       waiting_table = c.in_ok-waiting.ensures.table ∙ ap node_count net;
       fallen = c.in_ok-fallen.ensures.value ∙ ap (λ (g : Network). no_queue (node_count g)) net;
       queue = c.in_ok-fallen.ensures.valid;
-      handled = all_wait c.in_ok-search.search c.in_ok-waiting.waiting _ (net ∙ ap (λ (s : Pseudoflow). s.net) (sym flow)) c.in_ok-search.ensures.valid c.in_ok-waiting.ensures.each;
+      handled = all_wait c.in_ok-search.search c.in_ok-waiting.waiting _ (net ∙ ap (λ (s : Pseudoflow). s.net) (sym flow)) c.in_ok-search.ensures.valid
+          c.in_ok-waiting.ensures.each;
     }
 
 pub round-requires-clause-floor : goal.round-requires-clause-floor
@@ -33,14 +34,16 @@ round-requires-clause-floor c =
 pub returns-then-is_empty-clause-recovered : goal.returns-then-is_empty-clause-recovered
 returns-then-is_empty-clause-recovered c =
     let none : c.round.new.fallen.nodes ≡ [] = c.if-is_empty.ensures.value.0 refl in
-    recovered_prices c.args.state.now c.rounds.search c.round.new.self _ c.round.new.fallen _ _ c.rounds.invariant.flow c.in_ok-round.ensures.progress c.in_ok-round.ensures.handled none c.into_prices.ensures
+    recovered_prices c.args.state.now c.rounds.search c.round.new.self _ c.round.new.fallen _ _ c.rounds.invariant.flow c.in_ok-round.ensures.progress
+    c.in_ok-round.ensures.handled none c.into_prices.ensures
 
 pub returns-then-is_empty-clause-small : goal.returns-then-is_empty-clause-small
 returns-then-is_empty-clause-small c =
     let none : c.round.new.fallen.nodes ≡ [] = c.if-is_empty.ensures.value.0 refl in
     let flow = c.in_ok-round.ensures.progress.flow ∙ c.rounds.invariant.flow in
     let pseudoflow = subst IsPseudoflow flow c.in_ok-round.ensures.progress.valid.flow in
-    greatest_are_small c.args.state.now _ pseudoflow (recovered_prices c.args.state.now c.rounds.search c.round.new.self _ c.round.new.fallen _ _ c.rounds.invariant.flow c.in_ok-round.ensures.progress c.in_ok-round.ensures.handled none c.into_prices.ensures)
+    greatest_are_small c.args.state.now _ pseudoflow (recovered_prices c.args.state.now c.rounds.search c.round.new.self _ c.round.new.fallen _ _
+    c.rounds.invariant.flow c.in_ok-round.ensures.progress c.in_ok-round.ensures.handled none c.into_prices.ensures)
 
 pub rounds-smaller : goal.rounds-smaller
 rounds-smaller c =

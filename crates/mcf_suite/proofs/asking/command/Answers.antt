@@ -1,13 +1,13 @@
 use Rattle.std.proofs.Common.{◌∙◌, ap, codes, inl, map, subst, sym}
 use Rattle.clap.proofs.WalkLemmas.{first_value-rows}
 use Rattle.clap.specs.Words.{HasKind, app_of, fault_of, found_of, kind_of}
-use Rattle.mcf_suite.specs.Asking.{engine_by, mcf_app}
-use Rattle.mcf_suite.proofs.AskedLemmas.{mcf_is_free, mcf_is_simple, named_rows, refused, some_mcf, some_names}
+use Rattle.mcf_suite.specs.Asking.{block_by, engine_by, pricing_by}
+use Rattle.mcf_suite.proofs.AskedLemmas.{mcf_is_free, mcf_is_simple, named_rows, refused, some_app, some_mcf}
 use Rattle.mcf_suite.proofs.asking.command.Goals as goal
 
 pub returns-in_err-mcf : goal.returns-in_err-mcf
 returns-in_err-mcf g c =
-    refused _ _ (mcf_app some_names) some_mcf _ (λ e h taken. h) (λ e h. inl h) c.from_residual.ensures.1
+    refused _ _ some_app some_mcf _ (λ e h taken. h) (λ e h. inl h) c.from_residual.ensures.1
 
 pub returns-in_err-matches : goal.returns-in_err-matches
 returns-in_err-matches g c =
@@ -32,7 +32,9 @@ returns g c =
         rows = _;
         subcommand = sym met.1 ∙ named.1;
         engine = c.engine_of.ensures ∙ ap engine_by (c.get_str.ensures ∙ first_value-rows found (codes "engine"));
-        file = c.get_str-2.ensures ∙ first_value-rows found (codes "file");
+        pricing = c.pricing_of.ensures ∙ ap pricing_by (c.get_str-2.ensures ∙ first_value-rows found (codes "pricing"));
+        block = c.block_of.ensures ∙ ap block_by (c.get_str-3.ensures ∙ first_value-rows found (codes "block"));
+        file = c.get_str-4.ensures ∙ first_value-rows found (codes "file");
       };
       taken = tt;
       faults = c.in_ok-matches.ensures.kinds (mcf_is_free _ is_mcf);

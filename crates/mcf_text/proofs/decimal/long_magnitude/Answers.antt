@@ -11,7 +11,8 @@ loop-digit-init c =
 pub loop-digit-preserved : goal.loop-digit-preserved
 loop-digit-preserved c =
     let is = sym c.is_ascii_digit.ensures.value ∙ c.if-not-is_ascii_digit.false in
-    let more = digits_after c.args.digits.now c.split_at.result.1.now 17 c.loop-digit.digit-index c.split_at.ensures.back c.loop-digit-test.true c.loop-digit.invariant.all is in
+    let more = digits_after c.args.digits.now c.split_at.result.1.now 17 c.loop-digit.digit-index c.split_at.ensures.back c.loop-digit-test.true
+    c.loop-digit.invariant.all is in
     record { all = more.0; value = omega (arith, more.1) }
 
 pub returns : goal.returns

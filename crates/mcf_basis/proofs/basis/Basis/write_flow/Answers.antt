@@ -72,3 +72,6 @@ returns-clause-value c =
       others = c.write_tree.ensures.outside;
     } in
     flow_written l c.args.self.now c.write_outside.new.state c.write_tree.new.state c.self.view_is c.self.invariant written
+
+pub returns-clause-valid : goal.returns-clause-valid
+returns-clause-valid c = c.write_tree.ensures.valid

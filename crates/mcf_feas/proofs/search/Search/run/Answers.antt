@@ -5,4 +5,5 @@ use Rattle.mcf_feas.proofs.search.Search.run.Goals as goal
 pub returns-clause-found : goal.returns-clause-found
 returns-clause-found c =
     let ok = c.loop-scanned.invariant in
-    stuck_at c.args.state.now c.loop-scanned.self.reached c.loop-scanned.self.visits.items c.loop-scanned.scanned c.requires.flow ok.scanned (omega arith) ok.some
+    stuck_at c.args.state.now c.loop-scanned.self.reached c.loop-scanned.self.visits.items c.loop-scanned.scanned c.requires.flow ok.scanned
+    (omega arith) ok.some

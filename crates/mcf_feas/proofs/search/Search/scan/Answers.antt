@@ -39,7 +39,8 @@ returns-then-surplus-lt0-clause-found c =
     let new = sym c.contains.ensures ∙ c.if-contains.false in
     let surplus = c.surplus.ensures in
     let low : surplus_at s to <ℤ pos 0 = omega (arith, ints, surplus.value, surplus.small, c.if-surplus-lt0.true) in
-    rw c.in_ok-visit.ensures.visits (scanning_found s old.self.reached old.self.visits.items c.args.place c.in-Some.along c.next.new.self at to c.link_along.result end.room end.end c.link_along.ensures end.is_node new low)
+    rw c.in_ok-visit.ensures.visits (scanning_found s old.self.reached old.self.visits.items c.args.place c.in-Some.along c.next.new.self at to
+    c.link_along.result end.room end.end c.link_along.ensures end.is_node new low)
 
 pub loop-along-preserved : goal.loop-along-preserved
 loop-along-preserved c =
@@ -54,7 +55,8 @@ loop-along-preserved c =
     rw (c.in_ok-visit.ensures.reached, c.in_ok-visit.ensures.visits) (record {
       can_next = tt;
       is_finite = tt;
-      scanning = scanning_push s old.self.reached old.self.visits.items c.args.place c.in-Some.along c.next.new.self at to c.link_along.result end.room end.end c.link_along.ensures end.is_node new high;
+      scanning = scanning_push s old.self.reached old.self.visits.items c.args.place c.in-Some.along c.next.new.self at to c.link_along.result end.room end.end
+          c.link_along.ensures end.is_node new high;
     })
 
 pub returns-clause-found : goal.returns-clause-found

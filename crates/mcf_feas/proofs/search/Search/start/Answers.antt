@@ -17,11 +17,15 @@ loop-number-preserved c =
     let small = c.surplus.ensures.small in
     let old = c.loop-number in
     elim c.if-surplus-gt0.branch [
-      | then-surplus-gt0+in_ok-visit w ↦ (let high : pos 0 <ℤ surplus_at s v = omega (arith, ints, value, small, w.if-surplus-gt0.true) in rw (w.self-is, w.in_ok-visit.ensures.reached, w.in_ok-visit.ensures.visits) (started_push s old.self.reached old.self.visits.items old.number v old.invariant c.new-node.ensures node high))
-      | else-surplus-gt0 w ↦ (let low : surplus_at s v ≤ℤ pos 0 = omega (arith, ints, value, small, w.if-surplus-gt0.false) in rw w.self-is (started_skip s old.self.reached old.self.visits.items old.number v old.invariant c.new-node.ensures low))
+      | then-surplus-gt0+in_ok-visit w ↦ (let high : pos 0 <ℤ surplus_at s v = omega (arith, ints, value, small, w.if-surplus-gt0.true) in
+          rw (w.self-is, w.in_ok-visit.ensures.reached, w.in_ok-visit.ensures.visits)
+          (started_push s old.self.reached old.self.visits.items old.number v old.invariant c.new-node.ensures node high))
+      | else-surplus-gt0 w ↦ (let low : surplus_at s v ≤ℤ pos 0 = omega (arith, ints, value, small, w.if-surplus-gt0.false) in
+          rw w.self-is (started_skip s old.self.reached old.self.visits.items old.number v old.invariant c.new-node.ensures low))
     ]
 
 pub returns-clause-sources : goal.returns-clause-sources
 returns-clause-sources c =
     let nodes = ap node_count c.net.ensures.value in
-    started_end c.args.state.now c.loop-number.self.reached c.loop-number.self.visits.items c.loop-number.number _ c.is_empty.result c.loop-number.invariant (omega (arith, nodes)) (omega arith) c.is_empty.ensures
+    started_end c.args.state.now c.loop-number.self.reached c.loop-number.self.visits.items c.loop-number.number _ c.is_empty.result c.loop-number.invariant
+    (omega (arith, nodes)) (omega arith) c.is_empty.ensures

@@ -9,5 +9,6 @@ pub path-preserved : goal.path-preserved
 path-preserved c =
     let l = c.args.self.now in
     let popped : c.path.path.items ≡ c.pop.new.self.items ++ c.in-Some.r ∷ [] = c.in-Some.ensures.items in
-    let from : c.route-from.result.0 ≡ tail l.flow.net c.in-Some.r = c.route-from.ensures.tail ∙ ap (λ (x : Network). tail x c.in-Some.r) (c.net.ensures.value ∙ ap (λ (x : Labels). x.flow.net) c.self.view_is) in
+    let from : c.route-from.result.0 ≡ tail l.flow.net c.in-Some.r = c.route-from.ensures.tail ∙ ap (λ (x : Network). tail x c.in-Some.r)
+    (c.net.ensures.value ∙ ap (λ (x : Labels). x.flow.net) c.self.view_is) in
     rw (c.insert.ensures, from) (finish_step l _ _ _ _ _ (subst IsLabelling c.self.view_is c.self.invariant) (rw popped at c.path.invariant))

@@ -18,7 +18,8 @@ returns-then-room-le0-clause-relaxed c =
 pub returns-then-index-price-clause-relaxed : goal.returns-then-index-price-clause-relaxed
 returns-then-index-price-clause-relaxed c =
     let l : Labels = record { flow = c.self.inside.state.now; prices = c.self.inside.prices.items; links = c.self.inside.links.items } in
-    let from : c.get.result ≡ tail c.args.self.now.flow.net c.args.r = c.get.ensures ∙ c.route-from.ensures.tail ∙ ap (λ (g : Network). tail g c.args.r) (c.net.ensures.value ∙ ap (λ (x : Labels). x.flow.net) c.self.view_is) in
+    let from : c.get.result ≡ tail c.args.self.now.flow.net c.args.r = c.get.ensures ∙ c.route-from.ensures.tail
+    ∙ ap (λ (g : Network). tail g c.args.r) (c.net.ensures.value ∙ ap (λ (x : Labels). x.flow.net) c.self.view_is) in
     let ok = subst IsLabelling c.self.view_is c.self.invariant in
     let node = tail_is_node c.args.self.now.flow.net c.args.r.arc c.args.r.back ok.flow.of_net c.requires.arc in
     let price = read_price l c.args.self.now c.get.result _ c.index.result.now c.self.view_is c.self.invariant node from c.index.ensures in
@@ -29,7 +30,8 @@ returns-then-index-price-clause-relaxed c =
 pub lower-requires-clause-less : goal.lower-requires-clause-less
 lower-requires-clause-less c =
     let l : Labels = record { flow = c.self.inside.state.now; prices = c.self.inside.prices.items; links = c.self.inside.links.items } in
-    let from : c.get.result ≡ tail c.args.self.now.flow.net c.args.r = c.get.ensures ∙ c.route-from.ensures.tail ∙ ap (λ (g : Network). tail g c.args.r) (c.net.ensures.value ∙ ap (λ (x : Labels). x.flow.net) c.self.view_is) in
+    let from : c.get.result ≡ tail c.args.self.now.flow.net c.args.r = c.get.ensures ∙ c.route-from.ensures.tail
+    ∙ ap (λ (g : Network). tail g c.args.r) (c.net.ensures.value ∙ ap (λ (x : Labels). x.flow.net) c.self.view_is) in
     let ok = subst IsLabelling c.self.view_is c.self.invariant in
     let node = tail_is_node c.args.self.now.flow.net c.args.r.arc c.args.r.back ok.flow.of_net c.requires.arc in
     let price = read_price l c.args.self.now c.get.result _ c.index.result.now c.self.view_is c.self.invariant node from c.index.ensures in

@@ -36,7 +36,10 @@ entering-preserved-in-Continue-1 c =
       can_next = tt;
       is_finite = tt;
       leaves = All-tail (Leaves c.args.self.now.flow.net c.args.w) c.in-Some.leaving c.next.new.self leaves;
-      entering = entered_lowered l c.args.self.now c.entering.self c.relax.new.self c.args.fallen.now c.entering.fallen c.insert.new.self c.args.w c.route-from.result.0 c.net-net.result.now c.in-Some.leaving c.next.new.self c.self.view_is c.self.invariant c.requires.node c.requires.table (All-head (Leaves c.args.self.now.flow.net c.args.w) c.in-Some.leaving c.next.new.self leaves) entering c.if-relax.ensures.relaxed net c.route-from.ensures.tail c.insert.ensures.valid value;
+      entering = entered_lowered l c.args.self.now c.entering.self c.relax.new.self c.args.fallen.now c.entering.fallen c.insert.new.self c.args.w
+          c.route-from.result.0 c.net-net.result.now c.in-Some.leaving c.next.new.self c.self.view_is c.self.invariant c.requires.node c.requires.table
+          (All-head (Leaves c.args.self.now.flow.net c.args.w) c.in-Some.leaving c.next.new.self leaves) entering c.if-relax.ensures.relaxed net
+          c.route-from.ensures.tail c.insert.ensures.valid value;
     }
 
 pub entering-preserved : goal.entering-preserved
@@ -48,5 +51,6 @@ entering-preserved c =
       can_next = tt;
       is_finite = tt;
       leaves = All-tail (Leaves c.args.self.now.flow.net c.args.w) c.in-Some.leaving c.next.new.self leaves;
-      entering = entered_kept c.args.self.now c.entering.self c.relax.new.self c.args.fallen.now c.entering.fallen c.args.w c.in-Some.leaving c.next.new.self entering c.if-relax.ensures.relaxed;
+      entering = entered_kept c.args.self.now c.entering.self c.relax.new.self c.args.fallen.now c.entering.fallen c.args.w c.in-Some.leaving c.next.new.self
+          entering c.if-relax.ensures.relaxed;
     }

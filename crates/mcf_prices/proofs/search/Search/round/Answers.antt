@@ -18,7 +18,9 @@ relax_entering-requires-clause-floor c v h =
 pub nodes-preserved : goal.nodes-preserved
 nodes-preserved c =
     let items = c.nodes-w-items.ensures.value in
-    round_next c.args.self.now c.nodes.self c.relax_entering.new.self c.args.fallen.now c.nodes.fallen c.relax_entering.new.fallen c.args.waiting.now.nodes c.nodes.w-index c.w-item.result c.nodes.invariant (rw items at c.nodes-test.true) (rw items at c.w-item.is) c.in_ok-relax_entering.ensures.progress c.in_ok-relax_entering.ensures.here c.in_ok-relax_entering.ensures.still
+    round_next c.args.self.now c.nodes.self c.relax_entering.new.self c.args.fallen.now c.nodes.fallen c.relax_entering.new.fallen c.args.waiting.now.nodes
+    c.nodes.w-index c.w-item.result c.nodes.invariant (rw items at c.nodes-test.true)
+    (rw items at c.w-item.is) c.in_ok-relax_entering.ensures.progress c.in_ok-relax_entering.ensures.here c.in_ok-relax_entering.ensures.still
 
 pub returns-clause-progress : goal.returns-clause-progress
 returns-clause-progress c =
@@ -26,7 +28,8 @@ returns-clause-progress c =
     let few = few_nodes c.args.waiting.now c.nodes-w-items.ensures.valid in
     let end = c.nodes.auto.w-index-end in
     let count = ap (λ (xs : List ℕ). length xs) items in
-    (round_end c.args.self.now c.nodes.self c.args.fallen.now c.nodes.fallen c.args.waiting.now.nodes c.nodes.w-index (rw items at c.nodes-test.false) (omega (arith, few, end, count)) c.nodes.invariant).0
+    (round_end c.args.self.now c.nodes.self c.args.fallen.now c.nodes.fallen c.args.waiting.now.nodes c.nodes.w-index (rw items at c.nodes-test.false)
+    (omega (arith, few, end, count)) c.nodes.invariant).0
 
 pub returns-clause-handled : goal.returns-clause-handled
 returns-clause-handled c =
@@ -34,4 +37,5 @@ returns-clause-handled c =
     let few = few_nodes c.args.waiting.now c.nodes-w-items.ensures.valid in
     let end = c.nodes.auto.w-index-end in
     let count = ap (λ (xs : List ℕ). length xs) items in
-    (round_end c.args.self.now c.nodes.self c.args.fallen.now c.nodes.fallen c.args.waiting.now.nodes c.nodes.w-index (rw items at c.nodes-test.false) (omega (arith, few, end, count)) c.nodes.invariant).1
+    (round_end c.args.self.now c.nodes.self c.args.fallen.now c.nodes.fallen c.args.waiting.now.nodes c.nodes.w-index (rw items at c.nodes-test.false)
+    (omega (arith, few, end, count)) c.nodes.invariant).1

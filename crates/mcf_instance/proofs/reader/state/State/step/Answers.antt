@@ -26,5 +26,7 @@ returns-clause-wants c =
     let row = row_of (c.args.number, c.args.line.now) in
     let fields = c.first_fields-first.ensures.fields in
     on_err_weaker c.advance.result
-    (λ g lines h. step_names_nodes c.args.self.now lines row h g.0 (sym (ap (λ fs. outcome_grows (item_of limits c.args.self.now fs)) fields ∙ ap outcome_grows (item_of-take c.args.self.now (fields_of c.args.line.now))) ∙ g.1))
+    (λ g lines h. step_names_nodes c.args.self.now lines row h g.0
+    (sym (ap (λ fs. outcome_grows (item_of limits c.args.self.now fs)) fields ∙ ap outcome_grows
+    (item_of-take c.args.self.now (fields_of c.args.line.now))) ∙ g.1))
     c.advance.ensures.grows

@@ -1,0 +1,112 @@
+//! Judges an answer for an instance, as `mcf_checker::check` does, in plain Rust, over the reader and the
+//! parser of the other peers.
+#![allow(dead_code)]
+#[path = "answer.rs"]
+mod answering;
+#[path = "read.rs"]
+mod reading;
+
+use answering::{Answer, Sent, parse};
+use reading::{State, read};
+use std::time::Instant;
+
+/// What is said of a flow answer.
+fn judge_flow(instance: &State, cost: i128, sent: &[Sent], prices: &[i128]) -> String {
+    let arcs = &instance.arcs;
+    for k in 0..arcs.len().max(sent.len()) {
+        let agrees = match (arcs.get(k), sent.get(k)) {
+            (Some(arc), Some(sent)) => {
+                arc.src == sent.src
+                    && arc.dst == sent.dst
+                    && i128::from(arc.low) <= sent.flow
+                    && sent.flow <= i128::from(arc.cap)
+            }
+            _ => false,
+        };
+        if !agrees {
+            return format!("rejected arc {}", k + 1);
+        }
+    }
+    let nodes = instance.supplies.len();
+    let mut nets = vec![0i128; nodes];
+    for sent in sent {
+        nets[sent.src as usize - 1] += sent.flow;
+        nets[sent.dst as usize - 1] -= sent.flow;
+    }
+    for v in 0..nodes.max(prices.len()) {
+        if v >= nodes || v >= prices.len() || nets[v] != i128::from(instance.supplies[v]) {
+            return format!("rejected node {}", v + 1);
+        }
+    }
+    for (k, (arc, sent)) in arcs.iter().zip(sent).enumerate() {
+        let reduced = i128::from(arc.cost) - prices[arc.src as usize - 1] + prices[arc.dst as usize - 1];
+        if reduced > 0 && i128::from(arc.low) < sent.flow || reduced < 0 && sent.flow < i128::from(arc.cap) {
+            return format!("rejected price {}", k + 1);
+        }
+    }
+    let total: i128 = arcs.iter().zip(sent).map(|(arc, sent)| i128::from(arc.cost) * sent.flow).sum();
+    if total == cost { format!("accepted flow {cost}") } else { "rejected cost".to_string() }
+}
+
+/// What is said of a set.
+fn judge_set(instance: &State, is_take: bool, nodes: &[u32]) -> String {
+    let mut table = vec![false; instance.supplies.len()];
+    for id in nodes {
+        match table.get_mut(*id as usize - 1) {
+            Some(mark) => *mark = true,
+            None => return "rejected set".to_string(),
+        }
+    }
+    let supply: i128 = nodes.iter().map(|id| i128::from(instance.supplies[*id as usize - 1])).sum();
+    let (mut low_in, mut cap_in, mut low_out, mut cap_out) = (0i128, 0i128, 0i128, 0i128);
+    for arc in &instance.arcs {
+        match (table[arc.src as usize - 1], table[arc.dst as usize - 1]) {
+            (false, true) => {
+                low_in += i128::from(arc.low);
+                cap_in += i128::from(arc.cap);
+            }
+            (true, false) => {
+                low_out += i128::from(arc.low);
+                cap_out += i128::from(arc.cap);
+            }
+            _ => {}
+        }
+    }
+    let blocks = if is_take { cap_in < low_out - supply } else { cap_out < supply + low_in };
+    if blocks { format!("accepted blocked {}", nodes.len()) } else { "rejected set".to_string() }
+}
+
+fn check(input: &[u8], answer: &[u8]) -> String {
+    let outcome = read(input);
+    let answer = match parse(answer) {
+        Ok(answer) => answer,
+        Err(line) => return format!("rejected shape {line}"),
+    };
+    match (outcome, answer) {
+        (Err((line, word)), Answer::Refused { line: said, code }) => {
+            if line == said as u128 && word == code {
+                format!("accepted refusal {line} {code}")
+            } else {
+                "rejected refusal".to_string()
+            }
+        }
+        (Ok(instance), Answer::Flow { cost, sent, prices }) => judge_flow(&instance, cost, &sent, &prices),
+        (Ok(instance), Answer::Blocked { is_take, nodes, .. }) => judge_set(&instance, is_take, &nodes),
+        _ => "rejected kind".to_string(),
+    }
+}
+
+fn main() -> std::io::Result<()> {
+    let mut words = std::env::args().skip(1);
+    let (Some(instance), Some(answer)) = (words.next(), words.next()) else {
+        panic!("usage: peer INSTANCE ANSWER");
+    };
+    let input = std::fs::read(instance)?;
+    let answer = std::fs::read(answer)?;
+    let start = Instant::now();
+    let verdict = check(&input, &answer);
+    let seconds = start.elapsed().as_secs_f64();
+    println!("{verdict}");
+    println!("seconds {seconds:.6}");
+    Ok(())
+}

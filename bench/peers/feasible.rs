@@ -1,0 +1,287 @@
+//! Finds a feasible flow of a net, as `mcf_feas::feasible` does, in plain Rust: rounds in which surplus is pushed
+//! down the levels of the nodes, and after each a breadth-first search from all nodes with a surplus, until a
+//! node that takes, and one augmenting path.
+#![allow(dead_code)]
+#[path = "net.rs"]
+pub mod net;
+
+use net::{Net, Rid, instance_of};
+use std::collections::VecDeque;
+use std::time::Instant;
+
+/// An amount for each arc, and what each node has left to send.
+pub struct State<'n> {
+    pub net: &'n Net,
+    pub amounts: Vec<i64>,
+    pub surpluses: Vec<i128>,
+}
+
+impl<'n> State<'n> {
+    pub fn zero(net: &'n Net) -> State<'n> {
+        State { net, amounts: vec![0; net.arcs.len()], surpluses: net.supplies.clone() }
+    }
+
+    pub fn room(&self, rid: Rid) -> i128 {
+        let amount = i128::from(self.amounts[rid.arc as usize]);
+        if rid.back { amount } else { i128::from(self.net.arcs[rid.arc as usize].width) - amount }
+    }
+
+    pub fn push(&mut self, rid: Rid, amount: i128) {
+        let (from, to) = self.net.route(rid);
+        self.amounts[rid.arc as usize] += if rid.back { -amount as i64 } else { amount as i64 };
+        self.surpluses[from as usize - 1] -= amount;
+        self.surpluses[to as usize - 1] += amount;
+    }
+
+    fn surplus(&self, v: u32) -> i128 {
+        self.surpluses[v as usize - 1]
+    }
+}
+
+/// A node that a search reached, and the place of the node from which it did, with the residual arc.
+#[derive(Clone, Copy)]
+struct Visit {
+    node: u32,
+    link: Option<(u32, Rid)>,
+}
+
+struct Search {
+    reached: Vec<bool>,
+    visits: Vec<Visit>,
+    path: Vec<Rid>,
+}
+
+impl Search {
+    fn new(nodes: usize) -> Search {
+        Search { reached: vec![false; nodes], visits: Vec::with_capacity(nodes), path: Vec::with_capacity(nodes) }
+    }
+
+    fn visit(&mut self, node: u32, link: Option<(u32, Rid)>) {
+        self.visits.push(Visit { node, link });
+        self.reached[node as usize - 1] = true;
+    }
+
+    /// Visits the nodes with a surplus, and says whether there is one.
+    fn start(&mut self, state: &State) -> bool {
+        self.reached.fill(false);
+        self.visits.clear();
+        for node in 1..=state.net.node_count() {
+            if state.surplus(node) > 0 {
+                self.visit(node, None);
+            }
+        }
+        !self.visits.is_empty()
+    }
+
+    /// Visits what can be reached, until a visited node takes, and says whether one does.
+    fn run(&mut self, state: &State) -> bool {
+        let mut place = 0;
+        while place < self.visits.len() {
+            for along in state.net.leaving(self.visits[place].node) {
+                if state.room(*along) <= 0 {
+                    continue;
+                }
+                let (_, to) = state.net.route(*along);
+                if self.reached[to as usize - 1] {
+                    continue;
+                }
+                self.visit(to, Some((place as u32, *along)));
+                if state.surplus(to) < 0 {
+                    return true;
+                }
+            }
+            place += 1;
+        }
+        false
+    }
+
+    /// Moves along the path to the last visited node as much as the path takes.
+    fn augment(&mut self, state: &mut State) {
+        self.path.clear();
+        let mut place = self.visits.len() - 1;
+        let mut amount = -state.surplus(self.visits[place].node);
+        while let Some((before, along)) = self.visits[place].link {
+            amount = amount.min(state.room(along));
+            self.path.push(along);
+            place = before as usize;
+        }
+        amount = amount.min(state.surplus(self.visits[place].node));
+        for along in self.path.iter().rev() {
+            state.push(*along, amount);
+        }
+    }
+}
+
+/// The level of each node, and the nodes that wait.
+struct Preflow {
+    levels: Vec<u32>,
+    queue: VecDeque<u32>,
+}
+
+impl Preflow {
+    fn new(nodes: usize) -> Preflow {
+        Preflow { levels: vec![0; nodes], queue: VecDeque::with_capacity(nodes) }
+    }
+
+    /// Finds how far each node is from the nodes that take, and then visits nodes with a surplus, first in, first
+    /// out, until none waits, or as many were visited as there are nodes, where a lift counts as four visits.
+    fn round(&mut self, state: &mut State) {
+        self.set_levels(state);
+        self.queue.clear();
+        for node in 1..=state.net.node_count() {
+            self.wake(state, node);
+        }
+        let mut budget = state.net.node_count();
+        while budget > 0 {
+            let Some(node) = self.queue.pop_front() else {
+                return;
+            };
+            budget = budget.saturating_sub(self.visit(state, node));
+        }
+    }
+
+    fn set_levels(&mut self, state: &State) {
+        self.queue.clear();
+        let far = state.net.node_count();
+        let mut sought = 0;
+        for node in 1..=far {
+            let surplus = state.surplus(node);
+            self.levels[node as usize - 1] = if surplus < 0 { 0 } else { far };
+            if surplus < 0 {
+                self.queue.push_back(node);
+            }
+            if surplus > 0 {
+                sought += 1;
+            }
+        }
+        while sought > 0 {
+            let Some(node) = self.queue.pop_front() else {
+                return;
+            };
+            let level = self.levels[node as usize - 1] + 1;
+            for along in state.net.leaving(node) {
+                let (_, from) = state.net.route(*along);
+                if self.levels[from as usize - 1] == far && state.room(Rid { back: !along.back, ..*along }) > 0 {
+                    self.levels[from as usize - 1] = level;
+                    self.queue.push_back(from);
+                    if state.surplus(from) > 0 {
+                        sought -= 1;
+                    }
+                }
+            }
+        }
+    }
+
+    fn wake(&mut self, state: &State, node: u32) {
+        if state.surplus(node) > 0 {
+            self.queue.push_back(node);
+        }
+    }
+
+    /// Pushes what a node has left to send to lower ones, and else lifts it.
+    fn visit(&mut self, state: &mut State, node: u32) -> u32 {
+        let net = state.net;
+        let level = self.levels[node as usize - 1];
+        let mut least = net.node_count();
+        for along in net.leaving(node) {
+            let other = self.open_level(state, *along);
+            if other >= level {
+                least = least.min(other);
+                continue;
+            }
+            if self.push_share(state, *along) {
+                return 1;
+            }
+            least = least.min(self.open_level(state, *along));
+        }
+        self.levels[node as usize - 1] = least + 1;
+        if least + 1 < net.node_count() {
+            self.queue.push_back(node);
+        }
+        4
+    }
+
+    fn open_level(&self, state: &State, along: Rid) -> u32 {
+        if state.room(along) <= 0 { state.net.node_count() } else { self.levels[state.net.route(along).1 as usize - 1] }
+    }
+
+    /// Pushes what the tail has left to send, as far as there is room, and no more than the head takes, if it does.
+    fn push_share(&mut self, state: &mut State, along: Rid) -> bool {
+        let (from, to) = state.net.route(along);
+        let held = state.surplus(from);
+        if held <= 0 {
+            return true;
+        }
+        let before = state.surplus(to);
+        let mut amount = held.min(state.room(along));
+        if before < 0 {
+            amount = amount.min(-before);
+        }
+        state.push(along, amount);
+        if before <= 0 {
+            if before < 0 && state.surplus(to) >= 0 {
+                self.lift(state, to);
+            }
+            self.wake(state, to);
+        }
+        amount == held
+    }
+
+    fn lift(&mut self, state: &State, node: u32) {
+        let opens = state.net.leaving(node).iter().map(|along| self.open_level(state, *along));
+        self.levels[node as usize - 1] = opens.min().map_or(state.net.node_count(), |least| least + 1);
+    }
+}
+
+pub enum Feas<'n> {
+    Flow(State<'n>),
+    Blocked(Vec<bool>),
+}
+
+pub fn feasible(net: &Net) -> Feas<'_> {
+    let nodes = net.supplies.len();
+    if net.supplies.iter().sum::<i128>() != 0 {
+        return Feas::Blocked(vec![true; nodes]);
+    }
+    let mut state = State::zero(net);
+    let mut preflow = Preflow::new(nodes);
+    let mut search = Search::new(nodes);
+    preflow.round(&mut state);
+    while search.start(&state) {
+        if !search.run(&state) {
+            return Feas::Blocked(search.reached);
+        }
+        search.augment(&mut state);
+        preflow.round(&mut state);
+    }
+    Feas::Flow(state)
+}
+
+/// The sum of each amount times the number of its arc, or how many nodes block.
+fn said(outcome: &Feas) -> String {
+    match outcome {
+        Feas::Flow(state) => {
+            let sum = state.amounts.iter().zip(1i128..).fold(0i128, |sum, (amount, k)| sum + k * i128::from(*amount));
+            format!("flow {sum}")
+        }
+        Feas::Blocked(set) => format!("blocked {}", set.iter().filter(|is_in| **is_in).count()),
+    }
+}
+
+fn main() -> std::io::Result<()> {
+    let words: Vec<String> = std::env::args().skip(1).collect();
+    let [path, times] = &words[..] else {
+        panic!("usage: peer INSTANCE TIMES");
+    };
+    let times: u32 = times.parse().expect("a number");
+    let net = Net::of(&instance_of(path)?);
+    let mut outcome = Feas::Blocked(Vec::new());
+    let start = Instant::now();
+    for _ in 0..times {
+        outcome = feasible(&net);
+    }
+    let seconds = start.elapsed().as_secs_f64();
+    println!("{}", said(&outcome));
+    println!("seconds {seconds:.6}");
+    Ok(())
+}

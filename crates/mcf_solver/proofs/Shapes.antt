@@ -1,0 +1,59 @@
+-- The flow of a run of the network simplex is a tree solution of the instance.
+use Rattle.std.proofs.Common.{◌≡◌, ◌∙◌, ℕ, length, refl, subst, sym}
+use Rattle.std.specs.Prelude.{Ok, Err}
+use Rattle.mcf_answer.specs.Solution.{Solution}
+use Rattle.mcf_answer.specs.declared.answers.Answer.TheVariants.{Flow, Blocked, Refused}
+use Rattle.mcf_checker.specs.Correct.{amounts}
+use Rattle.mcf_instance.specs.Flow.{CanCarry}
+use Rattle.mcf_instance.specs.Network.{Network}
+use Rattle.mcf_instance.proofs.AllZips.{length-AllZip}
+use Rattle.mcf_network.specs.Laws.{RestoredTreeSolutionsAreTreeSolutions}
+use Rattle.mcf_network.specs.Nets.{IsNet}
+use Rattle.mcf_network.specs.Removal.{net_of}
+use Rattle.mcf_network.specs.States.{Pseudoflow}
+use Rattle.mcf_network.specs.TreeSolutions.{IsTreeSolution}
+use Rattle.mcf_network.proofs.RestoringLaws.{net_of-arc_count}
+use Rattle.mcf_simplex.specs.Blocks.{IsBlockPick}
+use Rattle.mcf_simplex.specs.Laws.{RunsAreTreeSolutions}
+use Rattle.mcf_solver.specs.Making.{IsMadeBy, IsMadeByEngine, IsMadeBySimplex, IsShapedBy, StandsForMade, best_picks, first_picks, meant, new_block_rule}
+use Rattle.mcf_solver.specs.Private.Shaping.{MadeFlowsAreShaped}
+use Rattle.mcf_solver.specs.declared.choice.Choice.{Choice}
+use Rattle.mcf_solver.specs.declared.choice.Meant.{Meant}
+use Rattle.mcf_solver.specs.declared.choice.Meant.TheVariants.{ByCancel, BySimplex, ByScaling, BySap}
+use Rattle.mcf_solver.specs.declared.choice.PricingChoice.{PricingChoice}
+use Rattle.mcf_solver.specs.declared.choice.PricingChoice.TheVariants.{First, Best, Block}
+
+module _ (first : RunsAreTreeSolutions first_picks) (best : RunsAreTreeSolutions best_picks) (block : RunsAreTreeSolutions IsBlockPick) (stands : RestoredTreeSolutionsAreTreeSolutions) where
+  -- of the net
+  net_tree : (pricing : PricingChoice) (size : ℕ) (g : Network) (s : Pseudoflow) → IsNet g → IsMadeBySimplex pricing size g s → IsTreeSolution g s.amounts
+  net_tree First size g s net made = first made.0 g s made.1 net made.2
+  net_tree Best size g s net made = best made.0 g s made.1 net made.2
+  net_tree Block size g s net made = block (new_block_rule size) g s made.0 net made.1
+
+  -- and of the instance
+  tree_of : (pricing : PricingChoice) (size : ℕ) (g : Network) (a : Solution) → StandsForMade (IsMadeBySimplex pricing size) g a → IsTreeSolution g (amounts a.sent)
+  tree_of pricing size g a h =
+      let s = h.state in
+      let net : IsNet (net_of g) = subst IsNet h.least.feasible.of_net h.least.feasible.flow.of_net in
+      let count : length s.amounts ≡ length g.arcs = sym (sym (net_of-arc_count g) ∙ length-AllZip CanCarry (net_of g).arcs s.amounts h.least.least.feasible.within_bounds) in
+      subst (IsTreeSolution g) (sym h.restores) (stands g s.amounts count (net_tree pricing size (net_of g) s net h.made))
+
+  shaped_by : (m : Meant) (choice : Choice) (g : Network) (a : Solution) → meant choice.engine g.problem ≡ m → StandsForMade (IsMadeBy choice) g a
+      → IsShapedBy m g (amounts a.sent)
+  unfolding net_of
+  shaped_by ByCancel choice g a e h = tt
+  shaped_by BySimplex choice g a e h =
+      tree_of choice.pricing choice.block g a (record {
+        state = h.state;
+        least = h.least;
+        made = subst (λ (m : Meant). IsMadeByEngine m choice (net_of g) h.state) e h.made;
+        restores = h.restores;
+      })
+  shaped_by ByScaling choice g a e h = tt
+  shaped_by BySap choice g a e h = tt
+
+  pub shaped : MadeFlowsAreShaped
+  shaped choice (Ok g) (Flow a) h = shaped_by (meant choice.engine g.problem) choice g a refl h
+  shaped choice (Ok g) (Blocked a) h = tt
+  shaped choice (Ok g) (Refused r) h = tt
+  shaped choice (Err fault) a h = tt

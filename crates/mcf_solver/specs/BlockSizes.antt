@@ -1,0 +1,14 @@
+-- Sizes of the blocks of block pricing.
+use Rattle.std.specs.Prelude.{ℕ, ◌^◌, ◌≤◌}
+
+-- the most arcs of a block
+abbrev pub block_limit : ℕ
+block_limit = 10 ^ 6
+
+-- so many arcs may be a block
+abbrev pub IsBlockSize : ℕ → Type 0
+IsBlockSize size = (1 ≤ size) × (size ≤ block_limit)
+
+-- the size that nobody chose
+abbrev pub default_block : ℕ
+default_block = 256

@@ -1,0 +1,54 @@
+//! Sizes of blocks.
+ghost use Rattle.std.specs.Prelude.{◌≡◌, SomeIff};
+ghost use Rattle.mcf_solver.specs.BlockSizes.{IsBlockSize, default_block};
+
+use std::marker::Model;
+
+/// How many arcs a block of block pricing has: 1 to 1,000,000.
+#[derive(Clone, Copy, Debug, PartialEq, Eq)]
+pub struct BlockSize {
+    size: u32,
+}
+
+impl Model for BlockSize {
+    ghost use Rattle.std.specs.Prelude.{ℕ};
+    ghost use Rattle.mcf_solver.specs.BlockSizes.{IsBlockSize};
+
+    ghost Value = { ℕ };
+
+    ghost view = { λ b. b.size };
+
+    ghost invariant = { λ b. IsBlockSize b.size };
+
+    ghost inverse = { λ n. record { size = n } };
+}
+
+impl BlockSize {
+    /// This size, if it is one of a block.
+    pub fn new(size: u32) -> Option<BlockSize>
+        ensures { SomeIff result (IsBlockSize size) size }
+    {
+        if 1 <= size && size <= 1_000_000 {
+            Some(BlockSize { size })
+        } else {
+            None
+        }
+    }
+
+    /// How many arcs that are.
+    pub fn get(self) -> u32
+        ensures value { result ≡ self }
+        ensures range { IsBlockSize result }
+    {
+        self.size
+    }
+}
+
+impl Default for BlockSize {
+    ghost is_default = { λ b. b ≡ default_block };
+
+    /// Blocks of 256 arcs.
+    fn default() -> BlockSize {
+        BlockSize { size: 256 }
+    }
+}
