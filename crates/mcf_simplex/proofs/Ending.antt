@@ -1,20 +1,18 @@
 -- What a run ends with.
-use Rattle.std.proofs.Common.{◌≡◌, ℕ, ◌*◌, ◌^◌, ◌-◌, List, [], ◌∷◌, ◌++◌, length, drop, take, replicate, refl, sym, ap, ◌∙◌, arith, subst, inl, inr, Option, ℤ, pos, ◌≤ℤ◌, Bool}
+use Rattle.std.proofs.Common.{◌≡◌, ℕ, ◌*◌, ◌^◌, ◌-◌, List, [], ◌∷◌, ◌++◌, length, drop, take, replicate, refl, sym, ap, ◌∙◌, arith, subst}
+use Rattle.std.proofs.Common.{inl, inr, Option, ℤ, pos, ◌≤ℤ◌}
 use Rattle.std.specs.List.{All}
 use Rattle.std.proofs.lemmas.Int.{ints}
 use Rattle.std.proofs.Math.Seq.{take-append_seam}
 use Rattle.std.proofs.lemmas.List.Elements.{All-head, All-nil, All-weaker}
-use Rattle.mcf_instance.specs.Blocking.{Blocks, in_table}
 use Rattle.mcf_instance.specs.declared.arc.Arc.{Arc}
 use Rattle.mcf_instance.specs.declared.problem.Problem.{Problem}
-use Rattle.mcf_instance.specs.declared.problem.Side.TheVariants.{Send}
 use Rattle.mcf_instance.specs.Network.{Network, node_count}
 use Rattle.mcf_instance.specs.WellFormed.{HasEnds, IsUpTo}
 use Rattle.mcf_instance.proofs.Duality.{shown_flows_are_least_lem}
 use Rattle.mcf_network.specs.Nets.{IsNet}
 use Rattle.mcf_network.specs.States.{Pseudoflow, IsPseudoflow}
 use Rattle.mcf_network.proofs.StuckLaws.{no_surplus_of_feasible}
-use Rattle.mcf_feas.specs.Chosen.{IsChosenBlock, supply_total}
 use Rattle.mcf_prices.specs.declared.engine.Outcome.{Outcome}
 use Rattle.mcf_prices.specs.declared.engine.Outcome.TheVariants.{Least, Blocked}
 use Rattle.mcf_prices.specs.NearPrices.{AreNearPrices, near_limit}
@@ -27,10 +25,11 @@ use Rattle.mcf_basis.specs.Structures.{TreeStructure, state_of}
 use Rattle.mcf_basis.specs.Violations.{HasNoEligible}
 use Rattle.mcf_basis.proofs.LastBases.{last_bases_are_shown_lem}
 use Rattle.mcf_simplex.specs.Private.Loops.{IsLoop}
-use Rattle.mcf_simplex.specs.Runs.{IsMadeByRun}
+use Rattle.mcf_simplex.specs.Runs.{IsMadeByRun, IsRun}
 
 -- an answer whose state was made in one way is one whose state was made in another
-pub outcome_wider : (Made Wide : Pseudoflow → Type 0) (g : Network) (answer : Outcome) → ((s : Pseudoflow) → Made s → Wide s) → IsOutcome Made g answer → IsOutcome Wide g answer
+pub outcome_wider : (Made Wide : Pseudoflow → Type 0) (g : Network) (answer : Outcome)
+    → ((s : Pseudoflow) → Made s → Wide s) → IsOutcome Made g answer → IsOutcome Wide g answer
 outcome_wider Made Wide g (Least s prices) wider ok = (ok.0, ok.1, wider s ok.2)
 outcome_wider Made Wide g (Blocked table side) wider ok = ok
 
@@ -57,46 +56,59 @@ module _ (b : TreeStructure) (ok : IsBasis b) (last : HasNoEligible b) where
     near_at : length (drop 1 b.prices) ≡ node_count b.net → All (IsUpTo (3 * 10 ^ 36)) (drop 1 b.prices) → AreNearPrices (state_of b) 1 0 (drop 1 b.prices)
     near_at count small =
         let near : All (IsUpTo near_limit) (drop 1 b.prices) =
-        All-weaker (IsUpTo (3 * 10 ^ 36)) (IsUpTo near_limit) (λ y h. (let low = h.0 in let high = h.1 in (omega (arith, ints, low), omega (arith, ints, high)))) (drop 1 b.prices) small in
+        All-weaker (IsUpTo (3 * 10 ^ 36)) (IsUpTo near_limit) (λ y h. (let low = h.0 in let high = h.1 in (omega (arith, ints, low), omega (arith, ints, high))))
+        (drop 1 b.prices) small in
         shown_near (state_of b) (drop 1 b.prices) own_flow count near (last_bases_are_shown_lem b ok last clear).1
 
     pub last_least : (s : Pseudoflow) → s ≡ state_of b → IsLeastState b.net s
     last_least s e = subst (λ (x : Pseudoflow). IsLeastState b.net x) (sym e) least_at
 
-    pub last_near : (s : Pseudoflow) (ys : List ℤ) → s ≡ state_of b → ys ≡ drop 1 b.prices → length ys ≡ node_count b.net → All (IsUpTo (3 * 10 ^ 36)) ys → AreNearPrices s 1 0 ys
+    pub last_near : (s : Pseudoflow) (ys : List ℤ) → s ≡ state_of b → ys ≡ drop 1 b.prices → length ys ≡ node_count b.net
+        → All (IsUpTo (3 * 10 ^ 36)) ys → AreNearPrices s 1 0 ys
     last_near s ys e f count small =
         let here : AreNearPrices (state_of b) 1 0 (drop 1 b.prices) =
         near_at (ap (λ (l : List ℤ). length l) (sym f) ∙ count) (subst (λ (l : List ℤ). All (IsUpTo (3 * 10 ^ 36)) l) f small) in
         subst (λ (l : List ℤ). AreNearPrices s 1 0 l) (sym f) (subst (λ (x : Pseudoflow). AreNearPrices x 1 0 (drop 1 b.prices)) (sym e) here)
 
--- a set that blocks by `send`, where the supplies add up to 0
-pub chosen_cut : (g : Network) (table : List Bool) → length table ≡ node_count g → Blocks g (in_table table) Send → supply_total g ≡ pos 0 → IsChosenBlock g table Send
-chosen_cut g table count blocks balanced =
-    record {
-      one_per_node = count;
-      blocks = blocks;
-      chosen = record { take = (λ e. cc, λ l. absurd (omega (arith, ints, l, balanced))); whole = λ ne. absurd (ne balanced) };
-    }
-
 -- ---- how the state was made
 
-pub made_by_run : {R : Type 0} (Picks : R → TreeStructure → Option ℕ → R → Type 0) (r : R) (g : Network) (first : TreeStructure) (t : R) (last : TreeStructure) (s : Pseudoflow)
-    → IsStart g first → IsLoop Picks r first t last → IsBasis last → s ≡ state_of last → IsMadeByRun Picks r g s t
+pub made_by_run : {R : Type 0} (Picks : R → TreeStructure → Option ℕ → R → Type 0) (r : R) (g : Network) (first : TreeStructure) (t : R)
+    (last : TreeStructure) (s : Pseudoflow) → IsStart g first → IsLoop Picks r first t last → IsBasis last → s ≡ state_of last → IsMadeByRun Picks r g s t
 made_by_run Picks r g first t last s starts loop ok e =
-    inl (record { first = first; starts = starts; last = last; rule = loop.rule; pivots = loop.pivots; reached = loop.reached; bounded = loop.bounded; found_none = loop.found_none; basis = ok; state = e })
+    let run : IsRun Picks r g s t =
+    record {
+      first = first;
+      starts = starts;
+      last = last;
+      rule = loop.rule;
+      pivots = loop.pivots;
+      reached = loop.reached;
+      bounded = loop.bounded;
+      found_none = loop.found_none;
+      basis = ok;
+      state = e;
+    } in
+    inl run
 
-pub run_outcome : {R : Type 0} (Picks : R → TreeStructure → Option ℕ → R → Type 0) (r : R) (g : Network) (first : TreeStructure) (t : R) (last : TreeStructure) (answer : Outcome)
-    → IsStart g first → IsLoop Picks r first t last → IsBasis last → last.net ≡ first.net → IsOutcome (λ s. s ≡ state_of last) last.net answer → IsOutcome (λ s. IsMadeByRun Picks r g s t) g answer
+pub run_outcome : {R : Type 0} (Picks : R → TreeStructure → Option ℕ → R → Type 0) (r : R) (g : Network) (first : TreeStructure) (t : R)
+    (last : TreeStructure) (answer : Outcome) → IsStart g first → IsLoop Picks r first t last → IsBasis last → last.net ≡ first.net
+    → IsOutcome (λ s. s ≡ state_of last) last.net answer → IsOutcome (λ s. IsMadeByRun Picks r g s t) g answer
 run_outcome Picks r g first t last answer starts loop ok net outcome =
     let of_net : last.net ≡ g = net ∙ starts.of_net in
-    outcome_wider (λ s. s ≡ state_of last) (λ s. IsMadeByRun Picks r g s t) g answer (λ s e. made_by_run Picks r g first t last s starts loop ok e) (subst (λ n. IsOutcome (λ s. s ≡ state_of last) n answer) of_net outcome)
+    outcome_wider (λ s. s ≡ state_of last) (λ s. IsMadeByRun Picks r g s t) g answer (λ s e. made_by_run Picks r g first t last s starts loop ok e)
+    (subst (λ n. IsOutcome (λ s. s ≡ state_of last) n answer) of_net outcome)
 
 -- ---- a net without nodes
 
 pub empty_outcome : {R : Type 0} (Picks : R → TreeStructure → Option ℕ → R → Type 0) (r : R) (g : Network) (answer : Outcome) → node_count g ≡ 0
     → IsOutcome (λ s. s ≡ record { net = g; amounts = [] }) g answer → IsOutcome (λ s. IsMadeByRun Picks r g s r) g answer
 empty_outcome Picks r g answer none outcome =
-    outcome_wider (λ s. s ≡ record { net = g; amounts = [] }) (λ s. IsMadeByRun Picks r g s r) g answer (λ s e. inr (record { no_nodes = none; state = e; unasked = refl })) outcome
+    outcome_wider (λ s. s ≡ record { net = g; amounts = [] }) (λ s. IsMadeByRun Picks r g s r) g answer
+    (λ s e. inr (record { no_nodes = none; state = e; unasked = refl })) outcome
+
+abbrev IsEmptyAnswer : Network → Pseudoflow → List ℤ → Type 0
+IsEmptyAnswer g s ys =
+    IsLeastState g s × AreStatePrices g s ys × (s ≡ record { net = g; amounts = [] })
 
 abbrev net_with : Problem → List ℤ → List Arc → Network
 net_with problem supplies arcs = record { problem = problem; arcs = arcs; supplies = supplies }
@@ -116,7 +128,12 @@ module _ (problem : Problem) (supplies : List ℤ) (none : length supplies ≡ 0
     empty_least : IsLeastState (net_with problem supplies []) (record { net = net_with problem supplies []; amounts = [] })
     empty_least =
         record {
-          feasible = record { of_net = refl; flow = empty_flow; no_surplus = λ v h. (let low = h.0 in let high = h.1 in absurd (omega (arith, none, low, high))) };
+          feasible =
+              record {
+                of_net = refl;
+                flow = empty_flow;
+                no_surplus = λ v h. (let low = h.0 in let high = h.1 in absurd (omega (arith, none, low, high)));
+              };
           least =
               record {
                 feasible = record { within_bounds = tt; meets_supplies = λ v h. (let low = h.0 in let high = h.1 in absurd (omega (arith, none, low, high))) };
@@ -135,17 +152,19 @@ module _ (problem : Problem) (supplies : List ℤ) (none : length supplies ≡ 0
           small = λ size costs. All-nil (IsUpTo ((length supplies - 1) * size));
         }
 
-  pub empty_answer : (arcs : List Arc) (s : Pseudoflow) (ys : List ℤ) → IsNet (net_with problem supplies arcs) → s ≡ record { net = net_with problem supplies arcs; amounts = replicate (length arcs) (pos 0) } → ys ≡ []
-      → IsLeastState (net_with problem supplies arcs) s × AreStatePrices (net_with problem supplies arcs) s ys × (s ≡ record { net = net_with problem supplies arcs; amounts = [] })
+  pub empty_answer : (arcs : List Arc) (s : Pseudoflow) (ys : List ℤ) → IsNet (net_with problem supplies arcs)
+      → s ≡ record { net = net_with problem supplies arcs; amounts = replicate (length arcs) (pos 0) } → ys ≡ []
+      → IsEmptyAnswer (net_with problem supplies arcs) s ys
   empty_answer [] s ys ok e f =
       let e' : s ≡ record { net = net_with problem supplies []; amounts = [] } = e in (
         subst (λ (x : Pseudoflow). IsLeastState (net_with problem supplies []) x) (sym e') (empty_least ok),
-        subst (λ (l : List ℤ). AreStatePrices (net_with problem supplies []) s l) (sym f) (subst (λ (x : Pseudoflow). AreStatePrices (net_with problem supplies []) x []) (sym e') (empty_prices ok)),
+        subst (λ (l : List ℤ). AreStatePrices (net_with problem supplies []) s l) (sym f)
+            (subst (λ (x : Pseudoflow). AreStatePrices (net_with problem supplies []) x []) (sym e') (empty_prices ok)),
         e',
       )
   empty_answer (a ∷ arcs) s ys ok e f = absurd (no_arcs a arcs ok)
 
-pub without_nodes : (g : Network) (s : Pseudoflow) (ys : List ℤ) → IsPseudoflow s → node_count g ≡ 0 → s ≡ record { net = g; amounts = replicate (length g.arcs) (pos 0) } → ys ≡ []
-    → IsLeastState g s × AreStatePrices g s ys × (s ≡ record { net = g; amounts = [] })
+pub without_nodes : (g : Network) (s : Pseudoflow) (ys : List ℤ) → IsPseudoflow s → node_count g ≡ 0
+    → s ≡ record { net = g; amounts = replicate (length g.arcs) (pos 0) } → ys ≡ [] → IsEmptyAnswer g s ys
 without_nodes g s ys flow none e f =
     let ok : IsNet g = subst IsNet (ap (λ (x : Pseudoflow). x.net) e) flow.of_net in empty_answer g.problem g.supplies none g.arcs s ys ok e f

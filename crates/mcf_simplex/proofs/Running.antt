@@ -22,11 +22,18 @@ module _ {R : Type 0} (Picks : R → TreeStructure → Option ℕ → R → Type
   pub under_way_start : IsBasis b → IsUnderWay Picks r b r b
   under_way_start ok = record { pivots = 0; reached = start; basis = ok; net = refl; within = omega (arith, ints) }
 
-  pub under_way_next : (s t : R) (c d : TreeStructure) (k : ℕ) (moved : ℤ) → IsUnderWay Picks r b s c → Picks s c (Some k) t → IsPivot c k moved d → PairFalls c d → IsBasis d → IsUnderWay Picks r b t d
+  pub under_way_next : (s t : R) (c d : TreeStructure) (k : ℕ) (moved : ℤ) → IsUnderWay Picks r b s c → Picks s c (Some k) t
+      → IsPivot c k moved d → PairFalls c d → IsBasis d → IsUnderWay Picks r b t d
   under_way_next s t c d k moved w picks pivot falls ok =
       let less = ranks_fall_lem c d w.basis ok pivot.net falls in
       let within = w.within in
-      record { pivots = w.pivots + 1; reached = next w.reached picks pivot falls; basis = ok; net = pivot.net ∙ w.net; within = omega (arith, ints, less, within) }
+      record {
+        pivots = w.pivots + 1;
+        reached = next w.reached picks pivot falls;
+        basis = ok;
+        net = pivot.net ∙ w.net;
+        within = omega (arith, ints, less, within);
+      }
 
   pub under_way_end : (s t : R) (c : TreeStructure) → IsBasis b → IsUnderWay Picks r b s c → Picks s c None t → IsLoop Picks r b t c
   under_way_end s t c ok w picks =
