@@ -106,6 +106,9 @@ if [ -x bin/mcf ]; then
     answers "$long.ans" "$long.min" solve
     answers $pair.ans /dev/null solve --engine cancel $pair.min
     answers $pair.ans /dev/null solve --engine=scaling $pair.min
+    answers $pair.ans /dev/null solve --engine simplex --pricing best $pair.min
+    answers $pair.ans /dev/null solve --pricing=block --block 1 $pair.min
+    answers $pair.ans /dev/null solve --engine=sap $pair.min
     tells 'mcf: cannot open the file' bin/mcf solve examples/none.min
     tells "error: unexpected argument '$pair.min' found
 
