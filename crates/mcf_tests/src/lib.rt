@@ -7,6 +7,8 @@
 #[cfg(test)]
 mod answers;
 #[cfg(test)]
+mod asking_again;
+#[cfg(test)]
 mod assigning;
 #[cfg(test)]
 mod bases;
