@@ -116,7 +116,7 @@ struct Worked {
     answer: &'static str,
 }
 
-static WORKED: [Worked; 31] = [
+static WORKED: [Worked; 23] = [
     Worked {
         kind: Kind::Flow,
         instance: "p min 4 5\nn 1 4\nn 4 -4\na 1 2 0 4 2\na 1 3 0 2 2\na 2 3 0 2 1\na 2 4 0 3 3\na 3 4 0 5 1\n",
@@ -232,6 +232,10 @@ static WORKED: [Worked; 31] = [
         instance: "p min 2 2\na 1 2 0 1 1\n",
         answer: "r 3 missing\n",
     },
+];
+
+// Numbers past the former limits, and at those of today.
+static GREATEST: [Worked; 8] = [
     Worked {
         kind: Kind::Flow,
         instance: "p min 2 1\na 1 2 0 1000000000000001 0\n",
@@ -254,13 +258,17 @@ static WORKED: [Worked; 31] = [
     },
     Worked {
         kind: Kind::Flow,
-        instance: "p min 2 2\na 1 2 -1000000000000000000 1000000000000000000 -1000000000000000\na 2 1 -1000000000000000000 1000000000000000000 -1000000000000000\n",
+        instance: "p min 2 2\na 1 2 -1000000000000000000 1000000000000000000 -1000000000000000\n\
+            a 2 1 -1000000000000000000 1000000000000000000 -1000000000000000\n",
         answer: "s -2000000000000000000000000000000000\nf 1 2 1000000000000000000\nf 2 1 1000000000000000000\ny 1 0\ny 2 0\n",
     },
     Worked {
         kind: Kind::Flow,
-        instance: "p min 4 3\nn 1 1000000000000000000\nn 4 -1000000000000000000\na 1 2 0 1000000000000000000 1000000000000000\na 2 3 0 1000000000000000000 1000000000000000\na 3 4 0 1000000000000000000 1000000000000000\n",
-        answer: "s 3000000000000000000000000000000000\nf 1 2 1000000000000000000\nf 2 3 1000000000000000000\nf 3 4 1000000000000000000\ny 1 0\ny 2 -1000000000000000\ny 3 -2000000000000000\ny 4 -3000000000000000\n",
+        instance: "p min 4 3\nn 1 1000000000000000000\nn 4 -1000000000000000000\n\
+            a 1 2 0 1000000000000000000 1000000000000000\na 2 3 0 1000000000000000000 1000000000000000\n\
+            a 3 4 0 1000000000000000000 1000000000000000\n",
+        answer: "s 3000000000000000000000000000000000\nf 1 2 1000000000000000000\nf 2 3 1000000000000000000\n\
+            f 3 4 1000000000000000000\ny 1 0\ny 2 -1000000000000000\ny 3 -2000000000000000\ny 4 -3000000000000000\n",
     },
     Worked {
         kind: Kind::Flow,
@@ -340,6 +348,14 @@ fn worked_instances(rt: HostRuntime) -> Result<(), Fail> {
     Ok(())
 }
 
+#[test]
+fn the_greatest_numbers(rt: HostRuntime) -> Result<(), Fail> {
+    for worked in &GREATEST {
+        assert!(rt; is_right(rt.alloc(), worked)?, "at {}", worked.instance);
+    }
+    Ok(())
+}
+
 // Whether an instance is answered by a choice with a flow of a cost that the checker accepts.
 fn costs(alloc: Global, instance: &[u8], way: &Way, cost: i128) -> Result<bool, NoMemory> {
     let Some(choice) = choice_of(way) else {
@@ -360,13 +376,34 @@ fn one_of_several_least_flows(rt: HostRuntime) -> Result<(), Fail> {
     Ok(())
 }
 
+// What is written where 1,001 arcs between two nodes carry nothing.
+fn nothing_flows(alloc: Global) -> Result<Vec<u8>, NoMemory> {
+    let mut text = b"s 0\n".to_vec(alloc)?;
+    for _ in 0..1_001 {
+        text.extend_from_slice(b"f 1 2 0\n")?;
+    }
+    text.extend_from_slice(b"y 1 0\ny 2 0\n")?;
+    Ok(text)
+}
+
+// Whether this flow is written of an instance by a choice.
+fn writes(alloc: Global, instance: &[u8], way: &Way, answer: &[u8]) -> Result<bool, NoMemory> {
+    let Some(choice) = choice_of(way) else {
+        return Ok(false);
+    };
+    let (kind, out) = answered_by(alloc, b"", instance, choice)?;
+    Ok(kind == Kind::Flow && out.as_slice() == answer)
+}
+
 // Arcs whose total is 10^36 and that carry nothing.
 #[test]
 fn the_greatest_total(rt: HostRuntime) -> Result<(), Fail> {
     let instance = of_greatest_total(rt.alloc(), b"p min 2 1001\n", b"a 1 2 0 1 0\n")?;
+    let answer = nothing_flows(rt.alloc())?;
     for way in &WAYS {
-        assert!(rt; costs(rt.alloc(), &instance, way, 0)?);
+        assert!(rt; writes(rt.alloc(), &instance, way, &answer)?);
     }
+    assert!(rt; check(rt.alloc(), &instance, &answer)? == Verdict::Flow(0));
     Ok(())
 }
 
@@ -381,12 +418,15 @@ fn greatest_earning(alloc: Global) -> Result<Vec<u8>, NoMemory> {
     Ok(text)
 }
 
+// The plain engine would take as many steps as there are arcs, and memory at each.
 #[test]
 fn the_greatest_earning(rt: HostRuntime) -> Result<(), Fail> {
     let instance = greatest_earning(rt.alloc())?;
-    let cost = -1_000_000_000_000_000_000_000_000_000_000_000_000;
-    for way in &WAYS {
-        assert!(rt; costs(rt.alloc(), &instance, way, cost)?);
+    for engine in [EngineChoice::Simplex, EngineChoice::Scaling] {
+        let (kind, out) = answered(rt.alloc(), b"", &instance, engine)?;
+        let verdict = check(rt.alloc(), &instance, &out)?;
+        let earned = Verdict::Flow(-1_000_000_000_000_000_000_000_000_000_000_000_000);
+        assert!(rt; kind == Kind::Flow && verdict == earned);
     }
     Ok(())
 }
