@@ -1,11 +1,11 @@
 -- The least of some values, place by place: where several are least, the first.
-use Rattle.std.proofs.Common.{◌≡◌, ℕ, ◌+◌, ◌<◌, ◌≤◌, inl, inr, Option, Some, None, List, length, get_or, ap, arith, subst, sym, ℤ, pos, ◌<ℤ◌, ◌≤ℤ◌}
+use Rattle.std.proofs.Common.{◌≡◌, ℕ, ◌+◌, ◌<◌, ◌≤◌, inl, inr, List, length, get_or, ap, arith, subst, sym, ℤ, pos, ◌<ℤ◌, ◌≤ℤ◌}
 use Rattle.std.proofs.lemmas.Int.{ints}
 use Rattle.std.proofs.lemmas.Bool.{cases_eq}
 use Rattle.mcf_instance.specs.WellFormed.{IsUpTo}
 use Rattle.mcf_basis.specs.declared.offer.Offer.{Offer}
-use Rattle.mcf_basis.specs.Private.Layouts.{change_limit, no_offer}
-use Rattle.mcf_basis.specs.Private.Offered.{CanCompare, HasPricedEnds, IsFirstLeast, IsLeastOffer, reduced_of}
+use Rattle.mcf_basis.specs.Private.Layouts.{no_offer}
+use Rattle.mcf_basis.specs.Private.Offered.{CanCompare, HasPricedEnds}
 
 -- nothing below 0 was met; or the value at a place was, and each one before it is greater
 pub data IsFirstMet (value : ℕ → ℤ) (begin i place : ℕ) (least : ℤ) : Type 0 where
@@ -61,24 +61,6 @@ pub so_far-is : (value : ℕ → ℤ) (begin i place place' : ℕ) (least least'
     → IsLeastSoFar value begin i place least → IsLeastSoFar value begin i place' least'
 so_far-is value begin i place place' least least' e f so =
     subst (λ p. IsLeastSoFar value begin i p least') (sym e) (subst (λ x. IsLeastSoFar value begin i place x) (sym f) so)
-
--- the end of the loop
-module _ (prices : List ℤ) (offers : List Offer) (begin end i place : ℕ) (least : ℤ) (past : i ≡ end)
-    (so : IsLeastSoFar (reduced_of prices offers) begin i place least) where
-  pub least-some : least <ℤ pos 0 → IsLeastOffer prices offers begin end (Some place)
-  least-some lt = elim so.first [
-    | nowhere e ↦ absurd (omega (arith, ints, e, lt))
-    | met from to is neg before ↦ record {
-      low = from;
-      high = omega (arith, to, past);
-      gains = omega (arith, ints, is, neg);
-      least = λ j low high. (let h = so.each j low (omega (arith, high, past)) in omega (arith, ints, h, is));
-      first = λ j low high. (let h = before j low high in omega (arith, ints, h, is));
-    }
-  ]
-
-  pub least-none : pos 0 ≤ℤ least → IsLeastOffer prices offers begin end None
-  least-none ge = λ j low high. (let h = so.each j low (omega (arith, high, past)) in omega (arith, ints, h, ge))
 
 -- what is read of an offer, and its reduced cost
 pub record IsReadAt (prices : List ℤ) (limit : ℕ) (offers : List Offer) (i : ℕ) : Type 0 where

@@ -1,13 +1,12 @@
 -- The most violated arc is that of the first least offer.
-use Rattle.std.proofs.Common.{◌≡◌, ℕ, ◌+◌, ◌-◌, ◌<◌, ◌≤◌, Option, Some, None, length, get_or, arith, subst, ℤ, pos, neg_ℤ, ◌<ℤ◌}
+use Rattle.std.proofs.Common.{◌≡◌, ℕ, ◌+◌, ◌-◌, ◌≤◌, None, length, get_or, arith, subst, ℤ, pos, neg_ℤ, ◌<ℤ◌}
 use Rattle.std.proofs.lemmas.Int.{ints}
 use Rattle.mcf_instance.specs.Network.{IsArcNumber, node_count}
 use Rattle.mcf_basis.specs.Pivots.{IsEligible}
 use Rattle.mcf_basis.specs.Private.Layouts.{Layout, IsLaidOut, basis_in, no_offer, offer_at}
 use Rattle.mcf_basis.specs.Private.Offered.{CanCompare, HasPricedEnds, IsFirstLeast, IsLeastOffer, reduced_of}
-use Rattle.mcf_basis.specs.Structures.{TreeStructure}
 use Rattle.mcf_basis.specs.Violations.{IsMostViolated, IsMostViolatedPick, violation}
-use Rattle.mcf_basis.proofs.Offers.{IsReadOffer, offered, read_offer}
+use Rattle.mcf_basis.proofs.Offers.{IsReadOffer, read_offer}
 use Rattle.mcf_basis.proofs.Views.{price_fits}
 
 -- an offer by its place

@@ -1,5 +1,6 @@
 -- The star of the artificial arcs, as it is stored.
-use Rattle.std.proofs.Common.{◌≡◌, ℕ, zero, suc, ◌+◌, ◌-◌, ◌*◌, ◌^◌, ◌<◌, ◌≤◌, ◌++◌, inl, inr, Bool, true, false, eqb, cond, List, [], ◌∷◌, length, map, take, replicate, get_or, refl, sym, ap, ◌∙◌, arith, ℤ, pos, ◌<ℤ◌, ◌≤ℤ◌, length-append}
+use Rattle.std.proofs.Common.{◌≡◌, ℕ, zero, suc, ◌+◌, ◌-◌, ◌*◌, ◌^◌, ◌<◌, ◌≤◌, ◌++◌, inl, inr, Bool, true, false, eqb, cond, List, [], ◌∷◌, length, map, take}
+use Rattle.std.proofs.Common.{replicate, get_or, refl, sym, ap, ◌∙◌, arith, ℤ, pos, ◌<ℤ◌, ◌≤ℤ◌, length-append}
 use Rattle.std.specs.Prelude.{if◌then◌else◌, int_lt, max, sum, unsigned_abs}
 use Rattle.std.specs.List.{range_with_len}
 use Rattle.std.proofs.lemmas.Int.{ints}
@@ -19,7 +20,8 @@ use Rattle.mcf_basis.specs.declared.offer.Offer.{Offer}
 use Rattle.mcf_basis.specs.declared.rooms.Rooms.{Rooms}
 use Rattle.mcf_basis.specs.Artificial.{is_sender}
 use Rattle.mcf_basis.specs.Bases.{IsBasis}
-use Rattle.mcf_basis.specs.Private.Layouts.{Layout, IsLaidOut, IsOffer, IsStarTable, amount_by, amount_in, amount_outside, artificial_rooms, basis_in, forward_offer, no_offer, no_rooms, offer_at}
+use Rattle.mcf_basis.specs.Private.Layouts.{Layout, IsLaidOut, IsOffer, IsStarTable, amount_by, amount_in, amount_outside, artificial_rooms, basis_in}
+use Rattle.mcf_basis.specs.Private.Layouts.{forward_offer, no_offer, no_rooms, offer_at}
 use Rattle.mcf_basis.specs.Private.Layouts.IsOffer.{closed, forward}
 use Rattle.mcf_basis.specs.Ranks.{greatest_cost}
 use Rattle.mcf_basis.specs.Starts.{IsStart, start_amounts}
@@ -87,7 +89,8 @@ greatest_next [] i d h = absurd (omega arith)
 greatest_next (a ∷ arcs) zero d h = omega arith
 greatest_next (a ∷ arcs) (suc i) d h =
     let place : suc i + 1 ≡ suc (i + 1) = omega arith in
-    let ih : greatest_cost (take (i + 1) arcs) ≡ max (greatest_cost (take i arcs)) (unsigned_abs (get_or arcs i d).cost) = greatest_next arcs i d (omega arith) in
+    let ih : greatest_cost (take (i + 1) arcs) ≡ max (greatest_cost (take i arcs)) (unsigned_abs (get_or arcs i d).cost) =
+    greatest_next arcs i d (omega arith) in
     ap (λ j. greatest_cost (take j (a ∷ arcs))) place ∙ omega (arith, ih)
 
 -- ---- the star, as it is stored

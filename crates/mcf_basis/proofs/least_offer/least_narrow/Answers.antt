@@ -2,7 +2,7 @@ use Rattle.std.proofs.Common.{◌+◌, arith, refl}
 use Rattle.std.proofs.lemmas.Int.{ints}
 use Rattle.mcf_basis.specs.Private.Layouts.{narrow_limit}
 use Rattle.mcf_basis.specs.Private.Offered.{reduced_of}
-use Rattle.mcf_basis.proofs.LeastOffers.{least-none, least-some, read_at, so_far-is, so_far-less, so_far-same}
+use Rattle.mcf_basis.proofs.LeastOffers.{read_at, so_far-is, so_far-less, so_far-same}
 use Rattle.mcf_basis.proofs.least_offer.least_narrow.Goals.{then-reduced-least, else-reduced-least}
 use Rattle.mcf_basis.proofs.least_offer.least_narrow.Goals as goal
 
