@@ -111,11 +111,13 @@ BAD_FLOWS = [
 ]
 # What `mcf` refuses, and the table's line that it came from.
 REFUSED_FLOWS = [
-    ("name,supply\n\nA,1000000000000001\nB,-1000000000000001\n", "from,to,least,most,cost\n", "places.csv, line 3, column supply: a supply beyond"),
-    (PLACES, "from,to,least,most,cost\n\nMill,Wien,0,1000000000000001,1\n", "routes.csv, line 3, column most: an amount beyond"),
+    ("name,supply\n\nA,1000000000000000001\nB,-1000000000000000001\n", "from,to,least,most,cost\n", "places.csv, line 3, column supply: a supply beyond"),
+    (PLACES, "from,to,least,most,cost\n\nMill,Wien,0,1000000000000000001,1\n", "routes.csv, line 3, column most: an amount beyond"),
     (PLACES, "from,to,least,most,cost\nMill,Wien,-" + "9" * 40 + ",1,1\n", "routes.csv, line 2, column least: an amount beyond"),
     (PLACES, ROUTES + "Mill,Wien,5,4,1\n", "routes.csv, line 5, column least: least is greater than most"),
     (PLACES, "cost,from,to,least,most\n" + "9" * 30 + ",Mill,Wien,0,1\n", "routes.csv, line 2, column cost: a cost beyond"),
+    (PLACES, "from,to,least,most,cost\n" + "Mill,Wien,0,1000000000000000000,1000000000000000\n" * 1001,
+     "routes.csv, line 1002, column cost: with this route costs"),
 ]
 # The same two tables as PLACES and ROUTES, written in other ways that mean the same.
 SAME_PLACES = [
