@@ -16,7 +16,8 @@ PART
   scaling   solves nets of five families and of rising size by cost scaling, beside a program with the same steps,
             both without the seconds of the feasible flow, and then as a whole beside that of LEMON (left out where
             LEMON isn't there, of the package liblemon-dev)
-  simplex   solves nets of four families and of rising size by the network simplex, beside that of LEMON, as scaling
+  simplex   solves nets of four families and of rising size by the network simplex, beside that of LEMON, as scaling;
+            then the whole processes, `mcf` and a program by LEMON that read a file, solve it and write the answer
   solve     solves an instance in which nothing is worth moving, without the seconds of its engine, beside a
             program that reads, copies and writes the same
   text      splits a text of lines into fields and reads each field as a number
@@ -41,6 +42,7 @@ import sys
 import typing
 
 import assignments
+import processes
 
 BENCH = pathlib.Path(__file__).resolve().parent
 OUT = BENCH / "out"
@@ -121,10 +123,14 @@ def family_answers(_words):
         yield f"{family} {nodes}", [instance, answer], times
 
 
+def family_file(family, nodes):
+    path = OUT / f"{family}-{nodes}.min"
+    return make("gen.py", path, family, nodes, "--output", path)
+
+
 def solved_instances(sizes):
     for family, nodes, _ in of_families(sizes):
-        path = OUT / f"{family}-{nodes}.min"
-        yield f"{family} {nodes}", [make("gen.py", path, family, nodes, "--output", path)], 1
+        yield f"{family} {nodes}", [family_file(family, nodes)], 1
 
 
 def scaled_instances(_words):
@@ -282,6 +288,8 @@ def measure(part, words):
             size = net_bytes("ours", program, paths)
             net_bytes("the peer", peers[0].command, paths)
             within = within and size <= NET_BYTES
+    if part == "simplex":
+        within = processes.measure(words, peer, family_file) and within
     return within
 
 
