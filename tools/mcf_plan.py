@@ -15,7 +15,6 @@ import collections
 import csv
 import difflib
 import html
-import io
 import math
 import os
 import pathlib

@@ -17,7 +17,6 @@ import shutil
 import stat
 import sys
 import tempfile
-import textwrap
 import unittest
 import xml.etree.ElementTree
 
@@ -426,7 +425,7 @@ class Examples(WithFolder):
             plan = self.solved(tables, places, routes)
             groups = mcf_plan.groups_of(places, routes, plan)
             begin = max(range(len(places)), key=lambda number: plan.prices[number])
-            for end in range(len(places)):
+            for end in range(0, len(places), 1 if len(places) < 20 else 6):
                 figure = plan.prices[begin] - plan.prices[end]
                 for units in (1, -1):
                     changed = list(places)
