@@ -15,7 +15,6 @@ import collections
 import csv
 import difflib
 import html
-import io
 import math
 import os
 import pathlib
@@ -474,7 +473,7 @@ REFUSALS = {
     "bound": "an amount beyond what mcf takes",
     "order": "least is greater than most",
     "cost": "a cost beyond what mcf takes",
-    "total": "with this route costs times amounts add up to more than mcf takes",
+    "total": "with this route, costs times amounts add to more than mcf takes",
     "size": "more places or routes (persons, things or pairs) than mcf takes",
 }
 
