@@ -8,7 +8,7 @@ PART
   assign    solves assignments by the engine `sap`, beside dlib and LEMON, as whole processes; a library that isn't
             there is skipped with a word
   check     judges such an answer for its instance
-  feasible  finds a feasible flow, in nets of three families and of rising size
+  feasible  finds a feasible flow, in nets of five families and of rising size, beside the reading of the same text
   net       builds the net of a million arcs, and goes over the residual arcs of each node
   raise     raises prices of a least flow to the greatest, in nets of three families and of rising size
   read      reads an instance, and keeps it in 32 bytes an arc
@@ -50,7 +50,7 @@ ARCS = 1_000_000
 RESTING = 125_000
 # the sizes of each family, as powers of 2
 RECOVERED = {"netgen": (10, 12, 14, 16), "gridgen": (10, 12, 14, 16), "transp": (8, 9, 10)}
-SEARCHED = {"netgen": (10, 12, 14, 16), "gridgen": (10, 12, 14, 16), "transp": (8, 9, 10)}
+SEARCHED = {**{family: (10, 12, 14, 16) for family in ("netgen", "gridgen", "goto", "road")}, "transp": (8, 9, 10)}
 SCALED = {family: (12, 14) for family in ("netgen", "gridgen", "goto", "road", "assignment")}
 PIVOTED = {"netgen": (12, 14, 16), "gridgen": (12, 14), "road": (12, 14, 16), "goto": (12, 14)}
 # the greatest ratio to LEMON of families where updates of all prices, which the bounds on rises forbid, gain nothing
@@ -245,6 +245,9 @@ def measure(part, words):
         before[family] = ours
         label = f"{part} {name}".strip()
         print(f"{label}: ours {ours:.4f} s, the peer {peers:.4f} s, ratio {ours / peers:.2f}{grown}")
+        if part == "feasible":
+            reading = statistics.median(run([program[0], "read", inputs[0]])[1]["seconds"] for _ in range(runs))
+            print(f"  reading the text: {reading:.4f} s, of which this is {ours / reading:.2f}")
         most = WITHOUT_UPDATES.get(family, limit) if part == "scaling" else limit
         within = within and ours / peers <= most
         if part == "net":
