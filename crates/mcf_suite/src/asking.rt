@@ -147,6 +147,7 @@ fn engine_of(name: Option<&str>) -> EngineChoice
     ensures { result ≡ engine_by (option_map (λ n. n.now) name.entry) }
 {
     match name {
+        Some("auto") => EngineChoice::Auto,
         Some("cancel") => EngineChoice::Cancel,
         Some("simplex") => EngineChoice::Simplex,
         Some("scaling") => EngineChoice::Scaling,
@@ -162,6 +163,7 @@ fn pricing_of(name: Option<&str>) -> PricingChoice
     match name {
         Some("first") => PricingChoice::First,
         Some("best") => PricingChoice::Best,
+        Some("block") => PricingChoice::Block,
         _ => PricingChoice::Block,
     }
 }
