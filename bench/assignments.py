@@ -1,15 +1,15 @@
 """The part `assign` of run.py: `mcf solve --engine sap` beside dlib and LEMON, as whole processes.
 
 Dense instances, of uniform costs and of costs (i * j) mod 101, are solved beside dlib's assignment, sparse ones of
-8 arcs a row beside LEMON's network simplex. A peer whose library isn't there is skipped with a word, and so is the
-whole part where the program has no engine `sap`.
+8 arcs a row beside LEMON's network simplex. Printed are the least seconds of a processor of several runs. A peer
+whose library isn't there is skipped with a word, and so is the whole part where the program has no engine `sap`.
 """
+import os
 import pathlib
 import random
-import statistics
 import subprocess
 import sys
-import time
+import tempfile
 
 BENCH = pathlib.Path(__file__).resolve().parent
 OUT = BENCH / "out"
@@ -73,22 +73,26 @@ def build(source, libraries):
 
 
 def timed(command):
-    """The first line that a program writes, and its seconds from start to end."""
-    start = time.monotonic()
-    done = subprocess.run(command, check=True, capture_output=True, text=True)
-    return done.stdout.split("\n", 1)[0], time.monotonic() - start
+    """The first line that a program writes, and the seconds of a processor that it takes, those of the kernel included."""
+    with tempfile.TemporaryFile("w+") as out:
+        process = subprocess.Popen(command, stdout=out)
+        _, status, usage = os.wait4(process.pid, 0)
+        process.returncode = os.waitstatus_to_exitcode(status)
+        if status:
+            sys.exit(f"{command[0]} ended with status {process.returncode}")
+        out.seek(0)
+        return out.readline().rstrip("\n"), usage.ru_utime + usage.ru_stime
 
 
 def compare(ours, peer, runs):
-    """The medians of the seconds of both, in turn; the first run of each only warms up."""
+    """The least seconds of each, which other programs at work change least; both are run in turn."""
     times = []
-    for turn in range(runs + 1):
+    for _ in range(runs):
         (found, our_time), (peer_found, peer_time) = timed(ours), timed(peer)
         if found != peer_found:
             sys.exit(f"the answers differ: {found!r} and {peer_found!r}")
-        if turn:
-            times.append((our_time, peer_time))
-    return [statistics.median(column) for column in zip(*times)]
+        times.append((our_time, peer_time))
+    return [min(column) for column in zip(*times)]
 
 
 def measure(words, engine="sap"):

@@ -21,7 +21,6 @@ use Rattle.mcf_assign.specs.declared.search.Tables.{Tables}
 use Rattle.mcf_assign.specs.declared.search.Target.{Target}
 use Rattle.mcf_assign.specs.Extending.{Assigned, IsGrown, IsMatched, IsSettledList, IsShownMatching, IsStopped}
 use Rattle.mcf_assign.specs.Forests.{IsChangedWithin, IsOrder}
-use Rattle.mcf_assign.specs.Private.Heaps.{IsHeap}
 use Rattle.mcf_assign.specs.Private.Keeping.{AreFirstPrices, AreNearZero, FreeRowsAreFirst, IsEnded, IsIdle, IsKept, first_price}
 use Rattle.mcf_assign.specs.Matchings.{AreMatchingPrices, AreMates, IsColumn, IsMatchedRow, IsPair, IsPartialMatching, IsRow, column_of, row_of}
 use Rattle.mcf_assign.specs.Private.Searches.{AreRaised, HasEntries, Search, Settled, search_of}
@@ -165,27 +164,26 @@ module _ (s : Pseudoflow) (y z : List ℤ) (q : Search) (row : ℕ) (order : Lis
           ] in
           raised.others v is.0 unsettled ∙ first v is (λ m. none (ext.rows_kept v m))
 
-  idle_more : (tables tables' : Tables) → search_of tables ≡ q → order ≡ tables.order.items → IsHeap tables.heap → node_count s.net ≤ vec_capacity tables.order → tables'.heap ≡ tables.heap → search_of tables' ≡ search_of tables → tables'.order.items ≡ tables.order.items ++ c ∷ [] → vec_capacity tables'.order ≡ vec_capacity tables.order → IsIdle (node_count s.net) tables'
-  idle_more tables tables' eq eo heap room eh es el ec =
+  idle_more : (tables tables' : Tables) → search_of tables ≡ q → order ≡ tables.order.items → node_count s.net ≤ vec_capacity tables.order → search_of tables' ≡ search_of tables → tables'.order.items ≡ tables.order.items ++ c ∷ [] → vec_capacity tables'.order ≡ vec_capacity tables.order → IsIdle (node_count s.net) tables'
+  idle_more tables tables' eq eo room es el ec =
       let same = es ∙ eq in
       let list : tables'.order.items ≡ order ++ c ∷ [] = el ∙ ap (λ l. l ++ c ∷ []) (sym eo) in
       record {
-        heap = subst IsHeap (sym eh) heap;
         entries = subst (λ (x : Search). HasEntries (node_count s.net) x) (sym same) entries;
         room = omega (arith, room, ec);
         each = subst (λ (l : List ℕ). All (IsNode (node_count s.net)) l) (sym list) settled_more.each;
         listed = λ v n h. subst (λ (l : List ℕ). Contains l v) (sym list) (listed_more v n (subst (λ (x : Search). Settled x v) same h));
       }
 
-pub kept_grown : (s s' : Pseudoflow) (y z : List ℤ) (mates' : List ℕ) (tables tables' : Tables) (reached : List Bool) (row : ℕ) (t : Target) → IsPartialMatching s → AreMatchingPrices s y → AreNearZero s y → FreeRowsAreFirst s y → length reached ≡ node_count s.net → IsHeap tables.heap → HasEntries (node_count s.net) (search_of tables) → node_count s.net ≤ vec_capacity tables.order → IsRow s row → IsEnded s y (search_of tables) row tables.order.items → tables.best ≡ Some t → AreRaised s (search_of tables) t.dist y z → IsExtended s s' z row (column_of s t.arc) → AreMates s' mates' → tables'.heap ≡ tables.heap → search_of tables' ≡ search_of tables → tables'.order.items ≡ tables.order.items ++ column_of s t.arc ∷ [] → vec_capacity tables'.order ≡ vec_capacity tables.order → IsKept s' z mates' tables' reached
-kept_grown s s' y z mates' tables tables' reached row t ok shown near first count heap entries room is ended best raised ext mated eh es el ec =
+pub kept_grown : (s s' : Pseudoflow) (y z : List ℤ) (mates' : List ℕ) (tables tables' : Tables) (reached : List Bool) (row : ℕ) (t : Target) → IsPartialMatching s → AreMatchingPrices s y → AreNearZero s y → FreeRowsAreFirst s y → length reached ≡ node_count s.net → HasEntries (node_count s.net) (search_of tables) → node_count s.net ≤ vec_capacity tables.order → IsRow s row → IsEnded s y (search_of tables) row tables.order.items → tables.best ≡ Some t → AreRaised s (search_of tables) t.dist y z → IsExtended s s' z row (column_of s t.arc) → AreMates s' mates' → search_of tables' ≡ search_of tables → tables'.order.items ≡ tables.order.items ++ column_of s t.arc ∷ [] → vec_capacity tables'.order ≡ vec_capacity tables.order → IsKept s' z mates' tables' reached
+kept_grown s s' y z mates' tables tables' reached row t ok shown near first count entries room is ended best raised ext mated es el ec =
     let at_net : Network → Pseudoflow = λ (n : Network). record { net = n; amounts = s'.amounts } in
     let P : Network → Type 0 = λ (n : Network). IsExtended s (record { net = n; amounts = s'.amounts }) z row (column_of s t.arc) → AreMates (record { net = n; amounts = s'.amounts }) mates' → IsKept (record { net = n; amounts = s'.amounts }) z mates' tables' reached in
     subst P (sym ext.net) (λ x m. record {
       matching = x.matching;
       shown = shown_now s y z (search_of tables) row tables.order.items t ok shown entries ended best raised near first is s'.amounts x;
       mated = m;
-      idle = idle_more s y z (search_of tables) row tables.order.items t ok shown entries ended best raised tables tables' refl refl heap room eh es el ec;
+      idle = idle_more s y z (search_of tables) row tables.order.items t ok shown entries ended best raised tables tables' refl refl room es el ec;
       near = near_now s y z (search_of tables) row tables.order.items t ok shown entries ended best raised near first is;
       free_rows = first_now s y z (search_of tables) row tables.order.items t ok shown entries ended best raised near first is s'.amounts x;
       count = count;

@@ -1,5 +1,4 @@
 -- What the proofs of this crate alone need: no public clause names it.
-pub mod Heaps
 pub mod Searches
 pub mod Turning
 pub mod Keeping

@@ -4,16 +4,16 @@ ghost use Rattle.std.specs.List.{All, Contains};
 ghost use Rattle.mcf_instance.specs.Blocking.{in_table};
 ghost use Rattle.mcf_instance.specs.Network.{IsNode, at_node, node_count};
 ghost use Rattle.mcf_instance.specs.WellFormed.{IsUpTo};
+ghost use Rattle.mcf_prices.specs.Heaps.{NoneWaits};
 ghost use Rattle.mcf_assign.specs.Forests.{IsChangedWithin};
-ghost use Rattle.mcf_assign.specs.Private.Heaps.{IsHeap};
 ghost use Rattle.mcf_assign.specs.Private.Keeping.{IsEnded, IsIdle};
 ghost use Rattle.mcf_assign.specs.Matchings.{AreMatchingPrices, AreMates, IsMatchedRow, IsPartialMatching, IsRow, column_of};
 ghost use Rattle.mcf_assign.specs.Private.Searches.{AreRaised, HasEntries, Settled, search_of};
 ghost use Rattle.mcf_assign.specs.Private.Turning.{IsExtended};
 
-use crate::heap::Heap;
 use crate::search::{Tables, Target};
 use mcf_network::{Net, NodeSet, State};
+use mcf_prices::Heap;
 use mcf_text::{ArcId, NoMemory, NodeId};
 use std::alloc::Global;
 
@@ -30,7 +30,7 @@ impl Tables {
         let mut links = Vec::new(alloc);
         links.resize(nodes, 0)?;
         Ok(Tables {
-            heap: Heap::new(alloc, nodes)?,
+            heap: Heap::new(alloc, net)?,
             marks,
             links,
             best: None,
@@ -53,7 +53,6 @@ impl Tables {
         requires small { (v : ℕ) → IsNode (node_count state.now.net) v → IsUpTo (10 ^ 29) (at_node prices.now v) }
         requires row { IsRow state.now source }
         requires free { ¬ IsMatchedRow state.now source }
-        ensures heap { IsHeap self.new.heap }
         ensures entries { HasEntries (node_count state.now.net) (search_of self.new) }
         ensures room { node_count state.now.net ≤ vec_capacity self.new.order }
         ensures ended { IsEnded state.now prices.now (search_of self.new) source self.new.order.items }
@@ -89,7 +88,6 @@ impl Tables {
         ensures order { self.new.order.items ≡ self.old.order.items ++ column_of state.old target.arc ∷ [] }
         ensures room { vec_capacity self.new.order ≡ vec_capacity self.old.order }
         ensures tables { search_of self.new ≡ search_of self.old }
-        ensures heap { self.new.heap ≡ self.old.heap }
     {
         let arc = ArcId::new(target.arc);
         self.raise(prices, target.dist);
@@ -100,11 +98,9 @@ impl Tables {
 
     // Takes back what the search before left, in time of what it settled.
     fn reset(&mut self)
-        requires heap { IsHeap self.old.heap }
         requires each { All (IsNode (length self.old.marks.items)) self.old.order.items }
         requires listed { (v : ℕ) → IsNode (length self.old.marks.items) v → Settled (search_of self.old) v → Contains self.old.order.items v }
-        ensures heap { IsHeap self.new.heap }
-        ensures empty { self.new.heap.count ≡ 0 }
+        ensures empty { NoneWaits self.new.heap }
         ensures entries { (nodes : ℕ) → HasEntries nodes (search_of self.old) → HasEntries nodes (search_of self.new) }
         ensures unsettled { (v : ℕ) → in_table self.new.marks.items v ≡ false }
         ensures none { self.new.order.items ≡ [] }

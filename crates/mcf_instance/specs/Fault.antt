@@ -1,11 +1,11 @@
 -- The faults of an instance text.
 use Rattle.std.specs.Prelude.{ℕ, ◌==◌, nat_le, nat_lt, Bool, true, false, not, ◌&&◌, ◌||◌, if◌then◌else◌, List, [], ◌∷◌, ◌++◌, map, length, filter, filter_map}
-use Rattle.std.specs.Prelude.{find, bytes_eq, codes, drop, ℤ, pos, neg_ℤ, int_lt, Option, Some, None, option_map, slice_get}
+use Rattle.std.specs.Prelude.{find, bytes_eq, codes, drop, ℤ, pos, neg_ℤ, int_lt, Option, Some, None, option_map, slice_get, ◌*◌, max, sum, unsigned_abs}
 use Rattle.std.specs.List.{list_all, list_any}
 use Rattle.std.specs.Option.{option_or, option_map_or}
 use Rattle.mcf_instance.specs.declared.code.Code.{Code}
 use Rattle.mcf_instance.specs.declared.code.Code.TheVariants.{Kind, Fields, Problem, Number, SecondP, BeforeP, Size, Node, LateN, Twice, Supply, Bound, Order}
-use Rattle.mcf_instance.specs.declared.code.Code.TheVariants.{Cost, Extra, Side, NoP, Missing}
+use Rattle.mcf_instance.specs.declared.code.Code.TheVariants.{Cost, Extra, Side, Total, NoP, Missing}
 use Rattle.mcf_instance.specs.declared.problem.Problem.{Problem as Format}
 use Rattle.mcf_instance.specs.declared.problem.Problem.TheVariants.{Min, Asn}
 use Rattle.mcf_instance.specs.Limits.{Limits, node_limit, arc_limit}
@@ -95,6 +95,14 @@ field_counts earlier row =
     else (if of_min earlier then (if is_n row then 3 ∷ [] else 6 ∷ [])
     else (if is_n row then 2 ∷ [] else 4 ∷ [])))
 
+-- whether the number of fields is right
+abbrev pub has_field_count : List Row → Row → Bool
+has_field_count earlier row = list_any (λ n. length row.fields == n) (field_counts earlier row)
+
+-- whether the fields that should be whole numbers are
+abbrev pub has_numbers : Row → Bool
+has_numbers row = list_all is_whole (number_fields row)
+
 -- the places of the fields that name nodes
 abbrev pub node_places : Row → List ℕ
 node_places row = if is_n row then 1 ∷ [] else 1 ∷ 2 ∷ []
@@ -111,14 +119,34 @@ is_up_to bound z = is_within (neg_ℤ (pos bound)) (pos bound) z
 abbrev pub cost_place : List Row → ℕ
 cost_place earlier = if of_min earlier then 5 else 3
 
+-- ---- the total
+
+-- an arc line of `min` whose numbers can be read: a problem line stands before, the number of fields is right, and they are
+-- whole numbers
+abbrev pub is_counted : List Row → Row → Bool
+is_counted earlier row = is_a row && of_min earlier && has_p earlier && has_field_count earlier row && has_numbers row
+
+-- the most that the arc of an arc line of `min` can cost or earn
+abbrev pub line_weight : Row → ℕ
+line_weight row = unsigned_abs (number row 5) * max (unsigned_abs (number row 3)) (unsigned_abs (number row 4))
+
+-- the total of some lines: that of the arc lines of `min` among them whose numbers can be read
+unfoldable pub total_of : List Row → ℕ
+total_of lines = sum (map (λ line. line_weight line.1) (filter (λ line. is_counted line.0 line.1) (with_earlier lines)))
+
+-- the total is above the limit, if there is one
+abbrev pub passes : Option ℕ → ℕ → Bool
+passes None total = false
+passes (Some limit) total = nat_lt limit total
+
 -- ---- the table of faults
 
 -- whether a fault applies to a line, where these are the kept lines before it
 abbrev pub applies : Limits → Code → List Row → Row → Bool
 applies limits Kind earlier row = not (is_p row || is_n row || is_a row)
-applies limits Fields earlier row = not (list_any (λ n. length row.fields == n) (field_counts earlier row))
+applies limits Fields earlier row = not (has_field_count earlier row)
 applies limits Problem earlier row = is_p row && not (has_problem_word row)
-applies limits Number earlier row = not (list_all is_whole (number_fields row))
+applies limits Number earlier row = not (has_numbers row)
 applies limits SecondP earlier row = is_p row && has_p earlier
 applies limits BeforeP earlier row = not (is_p row) && not (has_p earlier)
 applies limits Size earlier row = is_p row && not (size_fits row)
@@ -131,13 +159,14 @@ applies limits Order earlier row = is_a row && of_min earlier && int_lt (number 
 applies limits Cost earlier row = is_a row && not (is_up_to limits.cost (number row (cost_place earlier)))
 applies limits Extra earlier row = is_a row && nat_le (header earlier).arcs (length (arc_lines earlier))
 applies limits Side earlier row = is_a row && not (of_min earlier) && (not (is_listed earlier (node row 1)) || is_listed earlier (node row 2))
+applies limits Total earlier row = is_a row && of_min earlier && passes limits.total (total_of (earlier ++ row ∷ []))
 -- the last two are no faults of a line
 applies limits NoP earlier row = false
 applies limits Missing earlier row = false
 
 -- the faults of a line, in the order in which they are looked for
 abbrev pub table : List Code
-table = Kind ∷ Fields ∷ Problem ∷ Number ∷ SecondP ∷ BeforeP ∷ Size ∷ Node ∷ LateN ∷ Twice ∷ Supply ∷ Bound ∷ Order ∷ Cost ∷ Extra ∷ Side ∷ []
+table = Kind ∷ Fields ∷ Problem ∷ Number ∷ SecondP ∷ BeforeP ∷ Size ∷ Node ∷ LateN ∷ Twice ∷ Supply ∷ Bound ∷ Order ∷ Cost ∷ Extra ∷ Side ∷ Total ∷ []
 
 -- the fault of a line: the first of the table that applies
 unfoldable pub fault_of_line : Limits → List Row → Row → Option Code
@@ -187,6 +216,7 @@ code_word Order = codes "order"
 code_word Cost = codes "cost"
 code_word Extra = codes "extra"
 code_word Side = codes "side"
+code_word Total = codes "total"
 code_word NoP = codes "no-p"
 code_word Missing = codes "missing"
 

@@ -1,5 +1,5 @@
 -- What every instance keeps.
-use Rattle.std.specs.Prelude.{ℕ, ◌*◌, ◌≤◌, max, map, length, sum, ℤ, pos, neg_ℤ, ◌≤ℤ◌, unsigned_abs}
+use Rattle.std.specs.Prelude.{ℕ, ◌*◌, ◌≤◌, max, map, length, sum, ℤ, pos, neg_ℤ, ◌≤ℤ◌, unsigned_abs, Option, Some, None}
 use Rattle.std.specs.List.{All}
 use Rattle.mcf_instance.specs.declared.arc.Arc.{Arc}
 use Rattle.mcf_instance.specs.Assignment.{OnAssignment, IsAssignment}
@@ -26,10 +26,16 @@ pub record IsArcWithinLimits (limits : Limits) (a : Arc) : Type 0 where
 abbrev pub weight : Arc → ℕ
 weight a = unsigned_abs a.cost * max (unsigned_abs a.low) (unsigned_abs a.cap)
 
--- arcs and supplies within the limits
+-- the total is within the limit, if there is one
+abbrev pub IsWithinTotal : Option ℕ → ℕ → Type 0
+IsWithinTotal None total = Unit {0}
+IsWithinTotal (Some limit) total = total ≤ limit
+
+-- arcs, supplies and the total of the arcs within the limits
 pub record IsWithinLimits (limits : Limits) (g : Network) : Type 0 where
   pub arcs : All (IsArcWithinLimits limits) g.arcs
   pub supplies : All (IsUpTo limits.supply) g.supplies
+  pub total : IsWithinTotal limits.total (sum (map weight g.arcs))
 
 -- what an instance keeps under the limits of its reader; the wide limits and the total are what the
 -- layers above stand on

@@ -7,13 +7,11 @@ use Rattle.mcf_instance.specs.WellFormed.{IsUpTo}
 use Rattle.mcf_network.specs.States.{Pseudoflow}
 use Rattle.mcf_assign.specs.declared.search.Tables.{Tables}
 use Rattle.mcf_assign.specs.Forests.{IsOrder}
-use Rattle.mcf_assign.specs.Private.Heaps.{IsHeap}
 use Rattle.mcf_assign.specs.Matchings.{AreMatchingPrices, AreMates, IsMatchedRow, IsPartialMatching, IsRow}
 use Rattle.mcf_assign.specs.Private.Searches.{HasEntries, IsNear, IsOver, IsSearch, Search, Settled, reach_of, search_of}
 
 -- tables for so many nodes: what is settled is listed, and there is room to list every node
 pub record IsIdle (nodes : ℕ) (tables : Tables) : Type 0 where
-  pub heap : IsHeap tables.heap
   pub entries : HasEntries nodes (search_of tables)
   pub room : nodes ≤ vec_capacity tables.order
   pub each : All (IsNode nodes) tables.order.items

@@ -4,14 +4,16 @@ use Rattle.std.specs.Prelude.{pos, int_lt, Option, Some, None, Result, Ok, Err}
 use Rattle.mcf_instance.specs.declared.arc.PackedArc.{PackedArc}
 use Rattle.mcf_instance.specs.declared.code.Code.{Code}
 use Rattle.mcf_instance.specs.declared.code.Code.TheVariants.{Fields, Problem, Number, SecondP, BeforeP, Size, Node, LateN, Twice, Supply, Bound, Order, Cost}
-use Rattle.mcf_instance.specs.declared.code.Code.TheVariants.{Extra, Side}
+use Rattle.mcf_instance.specs.declared.code.Code.TheVariants.{Extra, Side, Total}
 use Rattle.mcf_instance.specs.declared.problem.Problem.{Problem as Format}
 use Rattle.mcf_instance.specs.declared.problem.Problem.TheVariants.{Min, Asn}
 use Rattle.mcf_instance.specs.declared.reader.line.Heading.{Heading}
 use Rattle.mcf_instance.specs.declared.reader.line.ArcNumbers.{ArcNumbers}
 use Rattle.mcf_instance.specs.Blocking.{in_table}
-use Rattle.mcf_instance.specs.Fault.{is_min, is_up_to}
+use Rattle.mcf_instance.specs.Fault.{is_min, is_up_to, passes}
 use Rattle.mcf_instance.specs.Limits.{Limits, node_limit, arc_limit}
+use Rattle.mcf_instance.specs.Packed.{unpacked}
+use Rattle.mcf_instance.specs.WellFormed.{weight}
 use Rattle.mcf_text.specs.Row.{natural}
 use Rattle.mcf_text.specs.Whole.{is_whole, is_within, whole_value}
 
@@ -116,16 +118,24 @@ abbrev pub unless_fault : {X : Type 0} → Option Code → Result X Code → Res
 unless_fault None r = r
 unless_fault (Some e) r = Err e
 
-unfoldable pub arc_tests : Limits → Heading → ℕ → List Bool → ArcNumbers → Result PackedArc Code
-arc_tests limits h arcs listed a =
+-- with the arc the total of an instance of `min` is above the limit
+abbrev pub passes_total : Limits → Format → ℕ → PackedArc → Bool
+passes_total limits problem total a = is_min problem && passes limits.total (total + weight (unpacked a))
+
+-- the arc, where the total allows it
+abbrev pub within_total : Limits → Format → ℕ → PackedArc → Result PackedArc Code
+within_total limits problem total a = if passes_total limits problem total a then Err Total else Ok a
+
+unfoldable pub arc_tests : Limits → Heading → ℕ → ℕ → List Bool → ArcNumbers → Result PackedArc Code
+arc_tests limits h arcs total listed a =
     checked_node h a.src >>= λ src.
     checked_node h a.dst >>= λ dst.
     unless_fault (amount_fault limits a.low a.cap a.cost)
     (if nat_le h.arcs arcs then Err Extra
     else (if is_wrong_side h listed src dst then Err Side
-    else Ok (record { src = src; dst = dst; low = a.low; cap = a.cap; cost = a.cost })))
+    else within_total limits h.problem total (record { src = src; dst = dst; low = a.low; cap = a.cap; cost = a.cost })))
 
-unfoldable pub arc_line : Limits → Option Heading → ℕ → List Bool → List (List ℕ) → Result PackedArc Code
-arc_line limits heading arcs listed fields =
+unfoldable pub arc_line : Limits → Option Heading → ℕ → ℕ → List Bool → List (List ℕ) → Result PackedArc Code
+arc_line limits heading arcs total listed fields =
     if not (arc_count_fits heading (length fields)) then Err Fields
-    else (arc_numbers fields >>= λ a. with_heading heading (λ h. arc_tests limits h arcs listed a))
+    else (arc_numbers fields >>= λ a. with_heading heading (λ h. arc_tests limits h arcs total listed a))

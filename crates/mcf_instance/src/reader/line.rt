@@ -2,8 +2,12 @@
 ghost use Rattle.std.specs.Prelude.{◌≡◌, ◌≤ℤ◌, ◌<ℤ◌, map, length, bytes_eq, pos, ◌<◌, ◌^◌, ◌≤◌, ◌&&◌, IfSome, IfOk};
 ghost use Rattle.mcf_instance.specs.Blocking.{in_table};
 ghost use Rattle.mcf_instance.specs.Fault.{is_up_to};
-ghost use Rattle.mcf_instance.specs.Limits.{arc_limit, limits, node_limit};
-ghost use Rattle.mcf_instance.specs.Private.LineReader.{number_at, problem_at, problem_line as problem_reading, node_count_fits as node_count_fits_lem, node_numbers as node_number_reading, node_tests as node_testing, checked_node, node_line as node_reading, arc_count_fits as arc_count_fits_lem, arc_numbers as arc_number_reading, is_wrong_side, amount_fault as amount_fault_lem, arc_tests as arc_testing, arc_line as arc_reading};
+ghost use Rattle.mcf_instance.specs.Limits.{arc_limit, limits, node_limit, total_limit};
+ghost use Rattle.mcf_instance.specs.Private.LineReader.{number_at, problem_at, problem_line as problem_reading, node_count_fits as node_count_fits_lem};
+ghost use Rattle.mcf_instance.specs.Private.LineReader.{node_numbers as node_number_reading, node_tests as node_testing, checked_node};
+ghost use Rattle.mcf_instance.specs.Private.LineReader.{node_line as node_reading, arc_count_fits as arc_count_fits_lem, arc_numbers as arc_number_reading};
+ghost use Rattle.mcf_instance.specs.Private.LineReader.{is_wrong_side, amount_fault as amount_fault_lem, passes_total, within_total, arc_tests as arc_testing};
+ghost use Rattle.mcf_instance.specs.Private.LineReader.{arc_line as arc_reading};
 ghost use Rattle.mcf_text.specs.Row.{natural};
 ghost use Rattle.mcf_text.specs.Whole.{is_within};
 
@@ -18,11 +22,14 @@ const NODE_LIMIT: i64 = 1_000_000;
 const ARC_LIMIT: i64 = 10_000_000;
 
 // How far from 0 a supply, a bound and a cost may lie.
-const SUPPLY_LIMIT: i64 = 1_000_000_000_000_000;
+const SUPPLY_LIMIT: i64 = 1_000_000_000_000_000_000;
 
-const BOUND_LIMIT: i64 = 1_000_000_000_000_000;
+const BOUND_LIMIT: i64 = 1_000_000_000_000_000_000;
 
-const COST_LIMIT: i64 = 1_000_000_000_000;
+const COST_LIMIT: i64 = 1_000_000_000_000_000;
+
+// How great the total of the arcs of an instance of `min` may be.
+const TOTAL_LIMIT: u128 = 1_000_000_000_000_000_000_000_000_000_000_000_000;
 
 // How far from 0 the numbers lie that are kept as they are, and what stands for the others.
 const KEPT_SIZE: i128 = 1_000_000_000_000_000_000;
@@ -310,10 +317,33 @@ fn amount_fault(low: i64, cap: i64, cost: i64) -> Option<Code>
     None
 }
 
+// Whether the total of the arcs so far is above the limit with one more.
+fn passes_total(problem: Problem, total: u128, arc: PackedArc) -> bool
+    requires { total ≤ total_limit }
+    ensures { result ≡ passes_total limits problem total arc }
+{
+    match problem {
+        Problem::Min => TOTAL_LIMIT < total + arc.weight(),
+        Problem::Asn => false,
+    }
+}
+
+// The arc, where the total allows it.
+fn within_total(problem: Problem, total: u128, arc: PackedArc) -> Result<PackedArc, Code>
+    requires { total ≤ total_limit }
+    ensures { result ≡ within_total limits problem total arc }
+{
+    if passes_total(problem, total, arc) {
+        return Err(Code::Total);
+    }
+    Ok(arc)
+}
+
 #[tactic(auto, unfolding(crate::specs::Private::LineReader::arc_tests))]
 fn arc_tests(
     heading: Heading,
     arcs: usize,
+    total: u128,
     listed: &[bool],
     src: i64,
     dst: i64,
@@ -321,8 +351,9 @@ fn arc_tests(
     cap: i64,
     cost: i64,
 ) -> Result<PackedArc, Code>
-    requires { length listed.now ≡ heading.nodes }
-    ensures { result ≡ arc_testing limits heading arcs listed.now (record { src = src; dst = dst; low = low; cap = cap; cost = cost }) }
+    requires tabled { length listed.now ≡ heading.nodes }
+    requires total { total ≤ total_limit }
+    ensures { result ≡ arc_testing limits heading arcs total listed.now (record { src = src; dst = dst; low = low; cap = cap; cost = cost }) }
 {
     let src = node_of(heading, src)?;
     let dst = node_of(heading, dst)?;
@@ -335,13 +366,17 @@ fn arc_tests(
     if is_wrong_side(heading, listed, src, dst) {
         return Err(Code::Side);
     }
-    Ok(PackedArc {
-        src,
-        dst,
-        low,
-        cap,
-        cost,
-    })
+    within_total(
+        heading.problem,
+        total,
+        PackedArc {
+            src,
+            dst,
+            low,
+            cap,
+            cost,
+        },
+    )
 }
 
 /// What an arc line says.
@@ -349,11 +384,13 @@ fn arc_tests(
 pub(crate) fn arc_line(
     heading: Option<Heading>,
     arcs: usize,
+    total: u128,
     listed: &[bool],
     fields: &[&[u8]],
 ) -> Result<PackedArc, Code>
-    requires { IfSome heading (λ h. length listed.now ≡ h.nodes) }
-    ensures { result ≡ arc_reading limits heading arcs listed.now (map (λ f. f.now) fields.now) }
+    requires tabled { IfSome heading (λ h. length listed.now ≡ h.nodes) }
+    requires total { total ≤ total_limit }
+    ensures { result ≡ arc_reading limits heading arcs total listed.now (map (λ f. f.now) fields.now) }
 {
     if !arc_count_fits(heading, fields.len()) {
         return Err(Code::Fields);
@@ -364,6 +401,7 @@ pub(crate) fn arc_line(
         Some(heading) => arc_tests(
             heading,
             arcs,
+            total,
             listed,
             numbers.src,
             numbers.dst,
