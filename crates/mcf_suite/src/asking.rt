@@ -41,7 +41,7 @@ Pricing rules of the simplex:
 
 Blocks of the simplex:
   256      the default
-  N        a size near twice the square root of the number of arcs suits large instances";
+  N        once to twice the square root of the number of arcs suits large instances, but for road maps";
 
 /// Reads what the words of a command line ask:
 /// `mcf solve [--engine auto|cancel|simplex|scaling|sap] [--pricing first|best|block] [--block N] [FILE]`, where N
