@@ -15,7 +15,6 @@ import collections
 import csv
 import difflib
 import html
-import io
 import math
 import os
 import pathlib
@@ -384,7 +383,7 @@ def flow_instance(places, routes, place_table, route_table):
     for route in routes:
         lines.append(f"a {route.tail} {route.head} {route.least} {route.most} {route.cost}")
         farther = "least" if abs(route.least) > abs(route.most) else "most"
-        origins.append((route_table, route.line, {"bound": farther, "order": "least", "cost": "cost"}))
+        origins.append((route_table, route.line, {"bound": farther, "order": "least", "cost": "cost", "total": "cost"}))
     return Instance("min", "\n".join(lines) + "\n", origins)
 
 
@@ -474,6 +473,7 @@ REFUSALS = {
     "bound": "an amount beyond what mcf takes",
     "order": "least is greater than most",
     "cost": "a cost beyond what mcf takes",
+    "total": "with this route, costs times amounts add to more than mcf takes",
     "size": "more places or routes (persons, things or pairs) than mcf takes",
 }
 

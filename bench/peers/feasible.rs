@@ -113,7 +113,7 @@ impl Search {
 }
 
 const PASSES: u32 = 4;
-const SHALLOW: u32 = 20;
+const SHALLOW: u32 = 16;
 
 /// The level of each node, and the nodes that wait.
 struct Preflow {
@@ -178,12 +178,12 @@ impl Preflow {
         }
     }
 
-    /// Ends where all of so many nodes with a surplus have their level, or half of them at low levels.
+    /// Ends where all of so many nodes with a surplus have their level, or three quarters of them at low levels.
     fn search_back(&mut self, state: &State, senders: u32) -> u32 {
         let far = state.net.node_count();
         let mut sought = senders;
         let mut level = 1;
-        while sought > 0 && (level > SHALLOW || sought > senders / 2) {
+        while sought > 0 && (level > SHALLOW || sought > senders / 4) {
             let Some(node) = self.queue.pop_front() else {
                 return far;
             };

@@ -7,13 +7,13 @@ use mcf_network::{Rid, State};
 use mcf_text::NodeId;
 use std::collections::VecDeque;
 
-// Up to which level it is enough that half of the nodes with a surplus have theirs. Where more arcs lie between, as on
-// a map of roads, lifts one arc at a time would cost more than the search for the levels.
-const SHALLOW: u32 = 20;
+// Up to which level it is enough that three quarters of the nodes with a surplus have theirs. Where more arcs lie
+// between, as on a map of roads, lifts one arc at a time would cost more than the search for the levels.
+const SHALLOW: u32 = 16;
 
 /// Sets the level of each node to the least number of residual arcs with room to a node that takes, by a
 /// breadth-first search backward from the nodes that take. It ends once all of so many nodes with a surplus have
-/// their level, or half of them, where these are near; the nodes that it didn't reach by then are one level above
+/// their level, or three quarters of them, where these are near; the nodes that it didn't reach by then are one level above
 /// those from which it went on, and above every level where there was nothing left to search.
 pub(crate) fn set_levels(
     state: &State<'_>,
@@ -76,7 +76,7 @@ fn is_enough(senders: u32, sought: u32, level: u32) -> bool {
     if level > SHALLOW {
         sought == 0
     } else {
-        sought <= senders / 2
+        sought <= senders / 4
     }
 }
 

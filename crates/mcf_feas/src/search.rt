@@ -1,5 +1,6 @@
 //! Breadth-first search from the nodes with a surplus, and augmenting paths.
-ghost use Rattle.std.specs.Prelude.{◌≡◌, ℕ, ◌∷◌, ◌++◌, [], ◌<◌, ◌≤◌, true, IfOk, IfNone, IfSome, OnErr, OnOk, length, vec_capacity, pos, ◌+◌, ◌≤ℤ◌, ◌-◌};
+ghost use Rattle.std.specs.Prelude.{◌≡◌, ℕ, ◌∷◌, ◌++◌, [], ◌<◌, ◌≤◌, true, IfOk};
+ghost use Rattle.std.specs.Prelude.{IfNone, IfSome, OnErr, OnOk, length, vec_capacity, pos, ◌+◌, ◌≤ℤ◌, ◌-◌};
 ghost use Rattle.std.specs.Bool.{MatchBool};
 ghost use Rattle.mcf_instance.specs.Blocking.{in_table};
 ghost use Rattle.mcf_instance.specs.Network.{IsArcNumber, IsNode, node_count};

@@ -38,12 +38,12 @@ none_at p x xs e = go (p x) refl
     go false f = f
 
 -- a fault of the table doesn't apply to a good line
-pub applies_not : (bounds : Limits) (lines : List Row) (row : Row) (k : ℕ) (code : Code) (rest : List Code) → drop k table ≡ code ∷ rest
-    → fault_of_line bounds lines row ≡ None → applies bounds code lines row ≡ false
+pub applies_not : (allowed : Limits) (lines : List Row) (row : Row) (k : ℕ) (code : Code) (rest : List Code) → drop k table ≡ code ∷ rest
+    → fault_of_line allowed lines row ≡ None → applies allowed code lines row ≡ false
 unfolding fault_of_line
-applies_not bounds lines row k code rest at none =
-    none_at (λ c. applies bounds c lines row) code rest (ap (find (λ c. applies bounds c lines row)) (sym at)
-    ∙ none_from (λ c. applies bounds c lines row) table k none)
+applies_not allowed lines row k code rest at none =
+    none_at (λ c. applies allowed c lines row) code rest (ap (find (λ c. applies allowed c lines row)) (sym at)
+    ∙ none_from (λ c. applies allowed c lines row) table k none)
 
 -- the words of the kinds differ
 not_n : (row : Row) → is_p row ≡ true → is_n row ≡ false

@@ -21,10 +21,10 @@ use Rattle.mcf_instance.proofs.Totals.{with_earlier-append_one}
 
 -- ---- one more line
 
-faults-append_one : (bounds : Limits) (lines : List Row) (row : Row)
-    → faults bounds (lines ++ row ∷ []) ≡ faults bounds lines ++ cons_option (as_fault bounds (lines, row)) []
+faults-append_one : (allowed : Limits) (lines : List Row) (row : Row)
+    → faults allowed (lines ++ row ∷ []) ≡ faults allowed lines ++ cons_option (as_fault allowed (lines, row)) []
 unfolding faults
-faults-append_one bounds lines row = rw (with_earlier-append_one, filter_map-append) refl
+faults-append_one allowed lines row = rw (with_earlier-append_one, filter_map-append) refl
 
 first-append : {X : Type 0} (xs ys : List X) → slice_get (xs ++ ys) 0 ≡ option_or (slice_get xs 0) (slice_get ys 0)
 first-append [] ys = refl
@@ -34,12 +34,12 @@ first_of_option : {X : Type 0} (o : Option X) → slice_get (cons_option o []) 0
 first_of_option None = refl
 first_of_option (Some x) = refl
 
-pub first_fault_more : (bounds : Limits) (lines : List Row) (row : Row)
-    → slice_get (faults bounds (lines ++ row ∷ [])) 0 ≡ option_or (slice_get (faults bounds lines) 0) (as_fault bounds (lines, row))
-first_fault_more bounds lines row =
-    ap (λ rs. slice_get rs 0) (faults-append_one bounds lines row)
-    ∙ first-append (faults bounds lines) (cons_option (as_fault bounds (lines, row)) [])
-    ∙ ap (option_or (slice_get (faults bounds lines) 0)) (first_of_option (as_fault bounds (lines, row)))
+pub first_fault_more : (allowed : Limits) (lines : List Row) (row : Row)
+    → slice_get (faults allowed (lines ++ row ∷ [])) 0 ≡ option_or (slice_get (faults allowed lines) 0) (as_fault allowed (lines, row))
+first_fault_more allowed lines row =
+    ap (λ rs. slice_get rs 0) (faults-append_one allowed lines row)
+    ∙ first-append (faults allowed lines) (cons_option (as_fault allowed (lines, row)) [])
+    ∙ ap (option_or (slice_get (faults allowed lines) 0)) (first_of_option (as_fault allowed (lines, row)))
 
 -- ---- the two facts about a state without refusal
 

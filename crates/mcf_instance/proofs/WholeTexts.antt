@@ -88,12 +88,12 @@ read_unkept text s next x rest h unkept =
 
 -- ---- the end
 
-pub first_fault_stays : (bounds : Limits) (xs ys : List Row) (fault : Fault) → slice_get (faults bounds xs) 0 ≡ Some fault
-    → slice_get (faults bounds (xs ++ ys)) 0 ≡ Some fault
-first_fault_stays bounds xs [] fault e = ap (λ rs. slice_get (faults bounds rs) 0) (append-nil xs) ∙ e
-first_fault_stays bounds xs (y ∷ ys) fault e =
-    ap (λ rs. slice_get (faults bounds rs) 0) (sym (append_assoc xs (y ∷ []) ys))
-    ∙ first_fault_stays bounds (xs ++ y ∷ []) ys fault (first_fault_more bounds xs y ∙ ap (λ o. option_or o (as_fault bounds (xs, y))) e)
+pub first_fault_stays : (allowed : Limits) (xs ys : List Row) (fault : Fault) → slice_get (faults allowed xs) 0 ≡ Some fault
+    → slice_get (faults allowed (xs ++ ys)) 0 ≡ Some fault
+first_fault_stays allowed xs [] fault e = ap (λ rs. slice_get (faults allowed rs) 0) (append-nil xs) ∙ e
+first_fault_stays allowed xs (y ∷ ys) fault e =
+    ap (λ rs. slice_get (faults allowed rs) 0) (sym (append_assoc xs (y ∷ []) ys))
+    ∙ first_fault_stays allowed (xs ++ y ∷ []) ys fault (first_fault_more allowed xs y ∙ ap (λ o. option_or o (as_fault allowed (xs, y))) e)
 
 pub rows_joined : (text : List ℕ) (before rest : List (ℕ × List ℕ)) → numbered_lines 1 text ≡ before ++ rest → rows text ≡ kept_rows before ++ kept_rows rest
 rows_joined text before rest e = ap kept_rows e ∙ kept_rows-append before rest

@@ -215,7 +215,7 @@ former_instances_stay_lem text g e = go (slice_get (faults former_limits (rows t
     go : (o : Option Fault) (end : Option Code) → slice_get (faults former_limits (rows text)) 0 ≡ o → fault_at_end (rows text) ≡ end
         → reading limits text ≡ Ok g
     go (Some fault) end a b = let bad = rw a at e in cc
-    go None (Some code) a b = let bad = rw (a, b) at e in cc
+    go None (Some _) a b = let bad = rw (a, b) at e in cc
     go None None a b =
         let good = rw (a, b) at e in
         rw (lines_stay [] (rows text) no_lines_small no_faults no_faults_now a, b) good

@@ -36,7 +36,7 @@ pub enum Code {
     Extra,
     /// An arc of an assignment doesn't go from a node with a node line to one without.
     Side,
-    /// The total of the arcs so far is above the limit.
+    /// The total of the arcs so far, of the size of the cost times that of the greater bound, is above 10^36.
     Total,
     /// The text has no problem line.
     NoP,

@@ -31,15 +31,15 @@ pub record IsSoundAssignment (listed : List Bool) (supplies : List ℤ) (arcs : 
   pub supplies_are : supplies ≡ map side_supply listed
   pub pairings : All (IsPairing supplies) (map unpacked arcs)
 
-pub record IsSound (limits : Limits) (heading : Option Heading) (listed : List Bool) (supplies : List ℤ) (arcs : List PackedArc) (total : ℕ) : Type 0 where
+pub record IsSound (allowed : Limits) (heading : Option Heading) (listed : List Bool) (supplies : List ℤ) (arcs : List PackedArc) (total : ℕ) : Type 0 where
   pub nodes_small : heading_nodes heading ≤ node_limit
   pub arcs_small : heading_arcs heading ≤ arc_limit
   pub one_flag_a_node : length listed ≡ heading_nodes heading
   pub one_supply_a_node : length supplies ≡ heading_nodes heading
   pub arc_room : length arcs ≤ heading_arcs heading
   pub ends : All (HasEnds (heading_nodes heading)) (map unpacked arcs)
-  pub arcs_within : All (IsArcWithinLimits limits) (map unpacked arcs)
-  pub supplies_within : All (IsUpTo limits.supply) supplies
+  pub arcs_within : All (IsArcWithinLimits allowed) (map unpacked arcs)
+  pub supplies_within : All (IsUpTo allowed.supply) supplies
   pub total_is : total ≡ sum (map weight (map unpacked arcs))
   pub total_small : total ≤ total_limit
   pub assignment : OnAssignment (problem_or_min heading) (IsSoundAssignment listed supplies arcs)
@@ -51,11 +51,11 @@ pub record HeadingFits (heading : Option Heading) (h : Heading) : Type 0 where
   pub nodes_small : h.nodes ≤ node_limit
   pub arcs_small : h.arcs ≤ arc_limit
 
-pub record SupplyFits (limits : Limits) (heading : Option Heading) (arcs : List PackedArc) (v : ℕ) (z : ℤ) : Type 0 where
+pub record SupplyFits (allowed : Limits) (heading : Option Heading) (arcs : List PackedArc) (v : ℕ) (z : ℤ) : Type 0 where
   pub low : 1 ≤ v
   pub high : v ≤ heading_nodes heading
   pub before_arcs : arcs ≡ []
-  pub small : IsUpTo limits.supply z
+  pub small : IsUpTo allowed.supply z
   pub assignment : OnAssignment (problem_or_min heading) (z ≡ pos 1)
 
 -- an arc of an assignment from a node with a node line to one without
@@ -70,14 +70,14 @@ abbrev pub OnMin : Format → Type 0 → Type 0
 OnMin Min P = P
 OnMin Asn P = Unit {0}
 
-pub record LinkFits (limits : Limits) (heading : Option Heading) (listed : List Bool) (arcs : List PackedArc) (total : ℕ) (a : PackedArc) : Type 0 where
+pub record LinkFits (allowed : Limits) (heading : Option Heading) (listed : List Bool) (arcs : List PackedArc) (total : ℕ) (a : PackedArc) : Type 0 where
   pub room : length arcs < heading_arcs heading
   pub ends : HasEnds (heading_nodes heading) (unpacked a)
-  pub is_within : IsArcWithinLimits limits (unpacked a)
+  pub is_within : IsArcWithinLimits allowed (unpacked a)
   pub total_small : OnMin (problem_or_min heading) (total + weight (unpacked a) ≤ total_limit)
   pub assignment : OnAssignment (problem_or_min heading) (IsFlaggedPair listed a)
 
 abbrev pub ItemFits : Limits → StateData → Item → Type 0
-ItemFits limits s (Problem h) = HeadingFits s.heading h
-ItemFits limits s (Supply v z) = SupplyFits limits s.heading s.arcs v z
-ItemFits limits s (Link a) = LinkFits limits s.heading s.listed s.arcs s.total a
+ItemFits allowed s (Problem h) = HeadingFits s.heading h
+ItemFits allowed s (Supply v z) = SupplyFits allowed s.heading s.arcs v z
+ItemFits allowed s (Link a) = LinkFits allowed s.heading s.listed s.arcs s.total a

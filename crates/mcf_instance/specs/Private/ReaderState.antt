@@ -37,10 +37,10 @@ field_limit = 7
 
 -- what a line says, or its fault
 unfoldable pub item_of : Limits → StateData → List (List ℕ) → Result Item Code
-item_of limits s fields =
+item_of allowed s fields =
     if bytes_eq (slice_index_or fields 0 []) (codes "p") then (problem_line (is_some s.heading) fields >>= λ h. Ok (Problem h))
-    else (if bytes_eq (slice_index_or fields 0 []) (codes "n") then (node_line limits s.heading (length s.arcs) s.listed fields >>= λ n. Ok (Supply n.0 n.1))
-    else (if bytes_eq (slice_index_or fields 0 []) (codes "a") then (arc_line limits s.heading (length s.arcs) s.total s.listed fields >>= λ a. Ok (Link a))
+    else (if bytes_eq (slice_index_or fields 0 []) (codes "n") then (node_line allowed s.heading (length s.arcs) s.listed fields >>= λ n. Ok (Supply n.0 n.1))
+    else (if bytes_eq (slice_index_or fields 0 []) (codes "a") then (arc_line allowed s.heading (length s.arcs) s.total s.listed fields >>= λ a. Ok (Link a))
     else Err Kind))
 
 -- the supply of a node without a node line
@@ -97,7 +97,7 @@ with_outcome s number (Err code) = record {
 
 -- after a kept line: a refusal stays
 unfoldable pub after_row : Limits → StateData → Row → StateData
-after_row limits s row = if is_some s.refusal then s else with_outcome s row.number (item_of limits s row.fields)
+after_row allowed s row = if is_some s.refusal then s else with_outcome s row.number (item_of allowed s row.fields)
 
 -- ---- the end
 

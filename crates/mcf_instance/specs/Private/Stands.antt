@@ -26,6 +26,6 @@ pub record Holds (s : StateData) (lines : List Row) : Type 0 where
   pub total_is : of_min lines ≡ true → s.total ≡ total_of lines
 
 -- the state refuses with the first fault of the lines, and where there is none holds what they say
-pub record Stands (limits : Limits) (s : StateData) (lines : List Row) : Type 0 where
-  pub refusal_is : s.refusal ≡ slice_get (faults limits lines) 0
+pub record Stands (allowed : Limits) (s : StateData) (lines : List Row) : Type 0 where
+  pub refusal_is : s.refusal ≡ slice_get (faults allowed lines) 0
   pub holds : s.refusal ≡ None → Holds s lines

@@ -38,7 +38,14 @@ impl Model for State {
 
     ghost Value = { StateData };
 
-    ghost view = { λ s. record { heading = s.heading; listed = s.listed.items; supplies = s.supplies.items; arcs = s.arcs.items; total = s.total; refusal = s.refusal } };
+    ghost view = { λ s. record {
+      heading = s.heading;
+      listed = s.listed.items;
+      supplies = s.supplies.items;
+      arcs = s.arcs.items;
+      total = s.total;
+      refusal = s.refusal;
+    } };
 
     ghost invariant = { λ s. IsSound limits s.heading s.listed.items s.supplies.items s.arcs.items s.total };
 }
