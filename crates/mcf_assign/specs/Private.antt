@@ -1,4 +1,5 @@
 -- What the proofs of this crate alone need: no public clause names it.
+pub mod RowLists
 pub mod Searches
 pub mod Turning
 pub mod Keeping

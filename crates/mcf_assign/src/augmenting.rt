@@ -8,9 +8,11 @@ ghost use Rattle.mcf_prices.specs.Heaps.{NoneWaits};
 ghost use Rattle.mcf_assign.specs.Forests.{IsChangedWithin};
 ghost use Rattle.mcf_assign.specs.Private.Keeping.{IsEnded, IsIdle};
 ghost use Rattle.mcf_assign.specs.Matchings.{AreMatchingPrices, AreMates, IsMatchedRow, IsPartialMatching, IsRow, column_of};
+ghost use Rattle.mcf_assign.specs.Private.RowLists.{AreRows};
 ghost use Rattle.mcf_assign.specs.Private.Searches.{AreRaised, HasEntries, Settled, search_of};
 ghost use Rattle.mcf_assign.specs.Private.Turning.{IsExtended};
 
+use crate::rows::Rows;
 use crate::search::{Tables, Target};
 use mcf_network::{Net, NodeSet, State};
 use mcf_prices::Heap;
@@ -42,11 +44,13 @@ impl Tables {
     pub(crate) fn search(
         &mut self,
         state: &State<'_>,
+        rows: &Rows,
         prices: &[i128],
         mates: &[u32],
         source: NodeId,
     ) -> Option<Target>
         requires matching { IsPartialMatching state.now }
+        requires rows { AreRows state.now.net rows.now }
         requires prices { AreMatchingPrices state.now prices.now }
         requires mates { AreMates state.now mates.now }
         requires idle { IsIdle (node_count state.now.net) self.old }
@@ -60,7 +64,7 @@ impl Tables {
     {
         self.reset();
         self.begin(state, source);
-        self.run(state, prices, mates, source);
+        self.run(state, rows, prices, mates, source);
         self.best
     }
 

@@ -10,6 +10,7 @@ ghost use Rattle.mcf_assign.specs.Matchings.{IsMatchedRow, IsRow};
 
 use crate::augmenting::fill;
 use crate::extended::Extended;
+use crate::rows::Rows;
 use crate::search::Tables;
 use mcf_network::{Net, NodeSet, State};
 use mcf_text::{NoMemory, NodeId};
@@ -23,6 +24,7 @@ use std::marker::Model;
 #[derive(Drop)]
 pub struct Matching<'n> {
     state: State<'n>,
+    rows: Rows,
     prices: Vec<i128>,
     mates: Vec<u32>,
     tables: Tables,
@@ -38,7 +40,9 @@ impl<'n> Model for Matching<'n> {
 
     ghost view = { λ a. record { flow = a.state; prices = a.prices.items; settled = a.tables.order.items; reached = a.reached } };
 
-    ghost invariant = { λ a. IsKept a.state a.prices.items a.mates.items a.tables a.reached };
+    ghost use Rattle.mcf_assign.specs.Private.RowLists.{AreRows};
+
+    ghost invariant = { λ a. IsKept a.state a.prices.items a.mates.items a.tables a.reached × AreRows a.state.net a.rows };
 }
 
 impl<'n> Matching<'n> {
@@ -57,10 +61,12 @@ impl<'n> Matching<'n> {
         ensures wants { OnErr result (1 ≤ node_count net.now) }
     {
         let state = State::zero(alloc, net)?;
+        let rows = Rows::new(alloc, net)?;
         let prices = first_prices(alloc, net)?;
         let mates = no_mates(alloc, net)?;
         Ok(Matching {
             state,
+            rows,
             prices,
             mates,
             tables: Tables::new(alloc, net)?,
@@ -81,7 +87,9 @@ impl<'n> Matching<'n> {
     {
         let prices = self.prices.as_slice();
         let mates = self.mates.as_slice();
-        let found = self.tables.search(&self.state, prices, mates, row);
+        let found = self
+            .tables
+            .search(&self.state, &self.rows, prices, mates, row);
         match found {
             Some(target) => {
                 let prices = self.prices.as_mut_slice();
@@ -131,6 +139,7 @@ impl<'n> Matching<'n> {
     {
         let Matching {
             state,
+            rows: _,
             prices,
             mates: _,
             tables: _,
@@ -145,6 +154,7 @@ impl<'n> Matching<'n> {
     {
         let Matching {
             state: _,
+            rows: _,
             prices: _,
             mates: _,
             tables: _,

@@ -1,24 +1,25 @@
 use Rattle.std.proofs.Common.{◌++◌, ℕ, ℤ, List, length, drop, take, ap, sym, subst, ◌∙◌, arith, refl}
-use Rattle.mcf_instance.specs.Network.{IsNode}
+use Rattle.mcf_instance.specs.Network.{Network, IsNode}
 use Rattle.mcf_assign.specs.Extending.{Assigned, IsGrown, IsStopped}
 use Rattle.mcf_assign.specs.Private.Keeping.{IsEnded, IsKept}
 use Rattle.mcf_assign.specs.Matchings.{IsRow}
+use Rattle.mcf_assign.specs.Private.RowLists.{AreRows}
 use Rattle.mcf_assign.specs.Private.Searches.{AreRaised, search_of}
 use Rattle.mcf_assign.proofs.Kept.{grown_from, kept_grown, near_small, shown_kept, stopped_from, written}
 use Rattle.mcf_assign.proofs.matching.Matching.extend.Goals as goal
 
 pub search-found-requires-clause-small : goal.search-found-requires-clause-small
 search-found-requires-clause-small c =
-    near_small c.self.inside.state c.self.inside.prices.items c.as_slice-prices.result.now c.self.invariant.near c.as_slice-prices.ensures.value
+    near_small c.self.inside.state c.self.inside.prices.items c.as_slice-prices.result.now c.self.invariant.0.near c.as_slice-prices.ensures.value
 
 pub augment-requires-clause-small : goal.augment-requires-clause-small
 augment-requires-clause-small c =
-    near_small c.self.inside.state c.self.inside.prices.items c.as_mut_slice-prices.result.now c.self.invariant.near c.as_mut_slice-prices.ensures.value
+    near_small c.self.inside.state c.self.inside.prices.items c.as_mut_slice-prices.result.now c.self.invariant.0.near c.as_mut_slice-prices.ensures.value
 
 pub invariant_of-self : goal.invariant_of-self
 invariant_of-self c =
     let i = c.self.inside in
-    let k = c.self.invariant in
+    let k = c.self.invariant.0 in
     let e = c.augment.ensures in
     let t = c.in-Some.target in
     let s = c.search-found.ensures in
@@ -33,12 +34,15 @@ invariant_of-self c =
     let vm = ap (λ (l : List ℕ). length l) c.as_mut_slice-mates.ensures.value in
     let wp = written i.prices.len c.augment.new.prices (drop (length c.augment.new.prices) i.prices.items) (omega (arith, i.prices.ok.0, lp, vp)) in
     let wm = written i.mates.len c.augment.new.mates (drop (length c.augment.new.mates) i.mates.items) (omega (arith, i.mates.ok.0, lm, vm)) in
-    subst (λ (y : List ℤ). IsKept c.augment.new.state y (take i.mates.len (c.augment.new.mates ++ drop (length c.augment.new.mates) i.mates.items)) c.augment.new.self i.reached) (sym wp) (subst (λ (m : List ℕ). IsKept c.augment.new.state c.augment.new.prices m c.augment.new.self i.reached) (sym wm) kept)
+    let grown = subst (λ (y : List ℤ). IsKept c.augment.new.state y (take i.mates.len (c.augment.new.mates ++ drop (length c.augment.new.mates) i.mates.items))
+    c.augment.new.self i.reached) (sym wp) (subst (λ (m : List ℕ). IsKept c.augment.new.state c.augment.new.prices m c.augment.new.self i.reached) (sym wm)
+    kept) in
+    (grown, subst (λ (g : Network). AreRows g i.rows) (sym (e.extended c.args.row ended_mut).net) c.self.invariant.1)
 
 pub returns-in-Some-clause-extended : goal.returns-in-Some-clause-extended
 returns-in-Some-clause-extended c =
     let i = c.self.inside in
-    let k = c.self.invariant in
+    let k = c.self.invariant.0 in
     let e = c.augment.ensures in
     let t = c.in-Some.target in
     let s = c.search-found.ensures in
@@ -50,7 +54,7 @@ returns-in-Some-clause-extended c =
 pub returns-in-Some-clause-shown : goal.returns-in-Some-clause-shown
 returns-in-Some-clause-shown c =
     let i = c.self.inside in
-    let k = c.self.invariant in
+    let k = c.self.invariant.0 in
     let e = c.augment.ensures in
     let t = c.in-Some.target in
     let s = c.search-found.ensures in
@@ -67,7 +71,7 @@ returns-in-Some-clause-shown c =
 pub returns-in-None-clause-extended : goal.returns-in-None-clause-extended
 returns-in-None-clause-extended c =
     let i = c.self.inside in
-    let k = c.self.invariant in
+    let k = c.self.invariant.0 in
     let s = c.search-found.ensures in
     let list = c.as_slice.ensures.value in
     let members = rw list at c.fill.ensures.members in
@@ -76,4 +80,5 @@ returns-in-None-clause-extended c =
 pub returns-in-None-clause-shown : goal.returns-in-None-clause-shown
 returns-in-None-clause-shown c =
     let i = c.self.inside in
-    shown_kept i.state i.prices.items i.mates.items i.tables i.reached c.self.invariant (record { flow = i.state; prices = i.prices.items; settled = c.search-found.new.self.order.items; reached = c.fill.new.set }) refl refl
+    shown_kept i.state i.prices.items i.mates.items i.tables i.reached c.self.invariant.0
+    (record { flow = i.state; prices = i.prices.items; settled = c.search-found.new.self.order.items; reached = c.fill.new.set }) refl refl

@@ -3,6 +3,7 @@ use Rattle.std.proofs.lemmas.List.{length-replicate}
 use Rattle.mcf_instance.specs.Network.{node_count}
 use Rattle.mcf_network.specs.States.{Pseudoflow, IsPseudoflow}
 use Rattle.mcf_assign.specs.Private.Keeping.{IsKept}
+use Rattle.mcf_assign.specs.Private.RowLists.{AreRows}
 use Rattle.mcf_assign.proofs.Kept.{kept_first, shown_kept}
 use Rattle.mcf_assign.proofs.matching.Matching.start.Goals as goal
 
@@ -12,7 +13,10 @@ invariant_of-result-2 c =
     let inside = c.state.view_is ∙ value in
     let valid = subst (λ (s : Pseudoflow). IsPseudoflow s) value c.in_ok-state.ensures.valid in
     let count = ap (λ (t : List Bool). length t) c.in_ok-new-2.ensures.value ∙ length-replicate (node_count c.args.net.now) false in
-    subst (λ (s : Pseudoflow). IsKept s c.in_ok-prices.prices.items c.in_ok-mates.mates.items c.in_ok-new.field-0 c.in_ok-new-2.field-0) (sym inside) (kept_first c.args.net.now c.in_ok-prices.prices.items c.in_ok-mates.mates.items c.in_ok-new.field-0 c.in_ok-new-2.field-0 valid c.requires c.in_ok-prices.ensures.prices c.in_ok-mates.ensures.value c.in_ok-new.ensures.idle count)
+    let kept = subst (λ (s : Pseudoflow). IsKept s c.in_ok-prices.prices.items c.in_ok-mates.mates.items c.in_ok-new.field-0 c.in_ok-new-2.field-0) (sym inside)
+    (kept_first c.args.net.now c.in_ok-prices.prices.items c.in_ok-mates.mates.items c.in_ok-new.field-0 c.in_ok-new-2.field-0 valid c.requires
+    c.in_ok-prices.ensures.prices c.in_ok-mates.ensures.value c.in_ok-new.ensures.idle count) in
+    (kept, subst (λ (s : Pseudoflow). AreRows s.net c.in_ok-rows.rows) (sym inside) c.in_ok-rows.ensures.rows)
 
 pub returns-clause-shown : goal.returns-clause-shown
 returns-clause-shown c =
