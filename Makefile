@@ -1,8 +1,10 @@
 # make        proves and builds the programs into bin/ and runs them on examples/
 # make test   the gate: every proof from nothing, the must-fail edits, the tests, the programs
 # make bench  the measurements of bench/
+# make tools-test   the tests of tools/, on the plans of examples/plans/ too: needs the programs of bin/ and Python 3
+# make install      puts the programs, the planner's tool and the manual pages under PREFIX (and DESTDIR before it); make uninstall removes just these
 
-.PHONY: all test bench
+.PHONY: all test bench tools-test install uninstall
 .NOTPARALLEL:
 
 # The programs among the crates that crates.txt lists; the logs are bin/NAME.log.
@@ -17,3 +19,22 @@ test:
 
 bench:
 	@python3 bench/run.py
+
+tools-test:
+	@python3 tools/test_mcf_plan.py
+
+PREFIX = /usr/local
+BIN = $(DESTDIR)$(PREFIX)/bin
+MAN = $(DESTDIR)$(PREFIX)/share/man/man1
+
+# Nothing is built here, so that what was proved by one user can be installed by another.
+install:
+	@test -x bin/mcf && test -x bin/mcfcheck || { echo "make install: bin/mcf and bin/mcfcheck aren't there; run make first" >&2; exit 1; }
+	install -d "$(BIN)" "$(MAN)"
+	install -m 755 bin/mcf bin/mcfcheck "$(BIN)"
+	install -m 755 tools/mcf_plan.py "$(BIN)/mcf_plan"
+	install -m 644 man/mcf.1 man/mcfcheck.1 man/mcf_plan.1 "$(MAN)"
+
+uninstall:
+	rm -f "$(BIN)/mcf" "$(BIN)/mcfcheck" "$(BIN)/mcf_plan"
+	rm -f "$(MAN)/mcf.1" "$(MAN)/mcfcheck.1" "$(MAN)/mcf_plan.1"

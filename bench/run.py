@@ -8,14 +8,16 @@ PART
   assign    solves assignments by the engine `sap`, beside dlib and LEMON, as whole processes; a library that isn't
             there is skipped with a word
   check     judges such an answer for its instance
-  feasible  finds a feasible flow, in nets of three families and of rising size
+  feasible  finds a feasible flow, in nets of five families and of rising size, beside the reading of the same text
   net       builds the net of a million arcs, and goes over the residual arcs of each node
   raise     raises prices of a least flow to the greatest, in nets of three families and of rising size
   read      reads an instance, and keeps it in 32 bytes an arc
   recover   recovers prices from a least flow, in nets of three families and of rising size
-  scaling   solves nets of five families and of rising size by cost scaling, beside that of LEMON (left out where
+  scaling   solves nets of five families and of rising size by cost scaling, beside a program with the same steps,
+            both without the seconds of the feasible flow, and then as a whole beside that of LEMON (left out where
             LEMON isn't there, of the package liblemon-dev)
-  simplex   solves nets of four families and of rising size by the network simplex, beside that of LEMON, as scaling
+  simplex   solves nets of four families and of rising size by the network simplex, beside that of LEMON, as scaling;
+            then the whole processes, `mcf` and a program by LEMON that read a file, solve it and write the answer
   solve     solves an instance in which nothing is worth moving, without the seconds of its engine, beside a
             program that reads, copies and writes the same
   text      splits a text of lines into fields and reads each field as a number
@@ -37,8 +39,10 @@ import shutil
 import statistics
 import subprocess
 import sys
+import typing
 
 import assignments
+import processes
 
 BENCH = pathlib.Path(__file__).resolve().parent
 OUT = BENCH / "out"
@@ -50,11 +54,11 @@ ARCS = 1_000_000
 RESTING = 125_000
 # the sizes of each family, as powers of 2
 RECOVERED = {"netgen": (10, 12, 14, 16), "gridgen": (10, 12, 14, 16), "transp": (8, 9, 10)}
-SEARCHED = {"netgen": (10, 12, 14, 16), "gridgen": (10, 12, 14, 16), "transp": (8, 9, 10)}
+SEARCHED = {**{family: (10, 12, 14, 16) for family in ("netgen", "gridgen", "goto", "road")}, "transp": (8, 9, 10)}
 SCALED = {family: (12, 14) for family in ("netgen", "gridgen", "goto", "road", "assignment")}
 PIVOTED = {"netgen": (12, 14, 16), "gridgen": (12, 14), "road": (12, 14, 16), "goto": (12, 14)}
 # the greatest ratio to LEMON of families where updates of all prices, which the bounds on rises forbid, gain nothing
-WITHOUT_UPDATES = {"assignment": 3}
+WITHOUT_UPDATES = {"assignment": 1}
 # the random swaps that are tried in the tree of so many nodes
 SWAPPED = {1_000: 300_000, 10_000: 300_000, 100_000: 300_000, 1_000_000: 1_000_000}
 # the most bytes an arc that a net may take
@@ -119,10 +123,14 @@ def family_answers(_words):
         yield f"{family} {nodes}", [instance, answer], times
 
 
+def family_file(family, nodes):
+    path = OUT / f"{family}-{nodes}.min"
+    return make("gen.py", path, family, nodes, "--output", path)
+
+
 def solved_instances(sizes):
     for family, nodes, _ in of_families(sizes):
-        path = OUT / f"{family}-{nodes}.min"
-        yield f"{family} {nodes}", [make("gen.py", path, family, nodes, "--output", path)], 1
+        yield f"{family} {nodes}", [family_file(family, nodes)], 1
 
 
 def scaled_instances(_words):
@@ -148,15 +156,19 @@ PARTS = {
     "raise": (family_answers, 1.25),
     "read": (sparse, 1.2),
     "recover": (family_answers, 1.25),
-    "scaling": (scaled_instances, 20),
-    "simplex": (pivoted_instances, 2.5),
+    "scaling": (scaled_instances, 1.25),
+    "simplex": (pivoted_instances, None),
     "solve": (resting, 1.25),
     "text": (sparse, 1.1),
     "tree": (trees, 1.25),
 }
 REPEATED = {"feasible", "net", "raise", "recover"}
-# the parts whose peer is LEMON, with the word by which its driver knows the algorithm
-LEMON = {"scaling": "cs", "simplex": "ns"}
+# the parts that have LEMON for a peer: the word by which its driver knows the algorithm, and the greatest ratio
+LEMON = {"scaling": ("cs", 9), "simplex": ("ns", 2.5)}
+# the parts that have no other
+LEMON_ALONE = {"simplex"}
+# the seconds that are left out beside a peer of our own
+LEFT_OUT = {"scaling": "feasible_seconds"}
 
 
 def build_program():
@@ -170,21 +182,45 @@ def has_lemon():
     return bool(shutil.which("g++")) and subprocess.run(asked, capture_output=True).returncode == 0
 
 
-def build_peer(part):
-    peer = OUT / f"{part}-peer"
-    if part in LEMON:
+class Peer(typing.NamedTuple):
+    """What a part is measured beside: its words before the input, and the greatest ratio."""
+
+    name: str
+    command: list
+    limit: float
+    left_out: str | None = None
+
+    def seconds(self, times):
+        return times["seconds"] - (times[self.left_out] if self.left_out else 0)
+
+    def most(self, family):
+        """The greatest ratio in a family."""
+        return WITHOUT_UPDATES.get(family, self.limit) if self.name == "LEMON" else self.limit
+
+
+def peers_of(part, limit):
+    """Builds the peers of a part: a program of our own, LEMON, or both."""
+    peers = []
+    if part not in LEMON_ALONE:
+        program = OUT / f"{part}-peer"
+        source = BENCH / "peers" / f"{part}.rs"
+        subprocess.run(["rustc", "--edition", "2024", "-O", "-o", str(program), str(source)], check=True)
+        peers.append(Peer("the peer", [str(program)], limit, LEFT_OUT.get(part)))
+    if part in LEMON and not has_lemon():
+        print(f"{part}: LEMON is left out, as it isn't there (liblemon-dev)")
+    elif part in LEMON:
+        program = OUT / "lemon-peer"
         source = BENCH / "peers" / "lemon_mcf.cc"
-        subprocess.run(["g++", "-O3", "-DNDEBUG", "-o", str(peer), str(source), "-llemon"], check=True)
-        return peer
-    source = BENCH / "peers" / f"{part}.rs"
-    subprocess.run(["rustc", "--edition", "2024", "-O", "-o", str(peer), str(source)], check=True)
-    return peer
+        subprocess.run(["g++", "-O3", "-DNDEBUG", "-o", str(program), str(source), "-llemon"], check=True)
+        word, most = LEMON[part]
+        peers.append(Peer("LEMON", [str(program), word], most))
+    return peers
 
 
 def run(command):
     """What the program found, and its seconds by their names."""
     done = subprocess.run(command, check=True, capture_output=True, text=True)
-    if command[1] in LEMON.values():
+    if command[0] == str(OUT / "lemon-peer"):
         return lemon_found(done.stdout.split())
     found, *times = done.stdout.splitlines()
     return found, {name: float(seconds) for name, seconds in (line.split() for line in times)}
@@ -225,10 +261,9 @@ def measure(part, words):
     if part == "assign":
         return assignments.measure(words)
     maker, limit = PARTS[part]
-    if part in LEMON and not has_lemon():
-        print(f"{part}: left out, as LEMON isn't there (liblemon-dev)")
+    peers = peers_of(part, limit)
+    if not peers:
         return True
-    peer = build_peer(part)
     program = [str(CRATE / "out" / "mcf_bench"), part]
     runs = max(5, words.runs)
     print(f"{part}: {runs} runs of each")
@@ -236,21 +271,25 @@ def measure(part, words):
     before = {}
     for name, paths, times in maker(words):
         inputs = [*map(str, paths), *([str(times)] if part in REPEATED else [])]
-        asked = [LEMON[part], *inputs] if part in LEMON else inputs
-        seconds = compare(program + inputs, [str(peer), *asked], runs)
-        ours = statistics.median(our_times["seconds"] for our_times, _ in seconds) / times
-        peers = statistics.median(peer_times["seconds"] for _, peer_times in seconds) / times
         family = name.split(" ")[0]
-        grown = f", {ours / before[family]:.1f} times as long as before" if family in before else ""
-        before[family] = ours
-        label = f"{part} {name}".strip()
-        print(f"{label}: ours {ours:.4f} s, the peer {peers:.4f} s, ratio {ours / peers:.2f}{grown}")
-        most = WITHOUT_UPDATES.get(family, limit) if part == "scaling" else limit
-        within = within and ours / peers <= most
+        for peer in peers:
+            seconds = compare(program + inputs, peer.command + inputs, runs)
+            ours = statistics.median(peer.seconds(our_times) for our_times, _ in seconds) / times
+            theirs = statistics.median(peer.seconds(peer_times) for _, peer_times in seconds) / times
+            grown = f", {ours / before[peer.name, family]:.1f} times as long as before" if (peer.name, family) in before else ""
+            before[peer.name, family] = ours
+            label = f"{part} {name}".strip()
+            print(f"{label}: ours {ours:.4f} s, {peer.name} {theirs:.4f} s, ratio {ours / theirs:.2f}{grown}")
+            within = within and ours / theirs <= peer.most(family)
+        if part == "feasible":
+            reading = statistics.median(run([program[0], "read", inputs[0]])[1]["seconds"] for _ in range(runs))
+            print(f"  reading the text: {reading:.4f} s, of which this is {ours / reading:.2f}")
         if part == "net":
             size = net_bytes("ours", program, paths)
-            net_bytes("the peer", [str(peer)], paths)
+            net_bytes("the peer", peers[0].command, paths)
             within = within and size <= NET_BYTES
+    if part == "simplex":
+        within = processes.measure(words, peer, family_file) and within
     return within
 
 

@@ -2,8 +2,9 @@
 """Proves the crates that the programs stand on, and builds the programs into bin/.
 
 Crates that don't stand on one another are proved at the same time, as many as processors and memory allow, those with the longest chain above
-them first. One line says which are at work and how many are left. `rt run` then builds each program and runs it on an example; it is the judge,
-and looks for itself at what has changed: where nothing has since the last time, nothing but it is called.
+them first. One line says which are at work and how many are left. A check keeps others out of its crate and of all below it, so that each has a
+copy of these to itself, by links, in bin/proofs/; what it keeps is then put where it belongs. `rt run` builds each program and runs it on an
+example; it is the judge, and looks for itself at what has changed: where nothing has since the last time, nothing but it is called.
 
 Usage: scripts/build.py [PROGRAM ..]      all programs that crates.txt lists, where none is named
 """
@@ -17,6 +18,7 @@ import time
 
 TOP = pathlib.Path(__file__).resolve().parent.parent
 BIN = TOP / "bin"
+COPIES = BIN / "proofs"
 # The words of one run of each program that ends with status 0.
 EXAMPLE = "../../examples/transport"
 WORDS = {"mcfcheck": [EXAMPLE + ".min", EXAMPLE + ".ans"], "mcf": ["solve", EXAMPLE + ".min"]}
@@ -98,9 +100,34 @@ class Progress:
             print()
 
 
-def command(name, jobs):
-    """What proves a crate; a program is also built and run."""
-    return ["rt", "run", "--", *WORDS[name]] if name in WORDS else ["rt", "check", "--jobs", str(jobs)]
+def linked(folder, copy):
+    """Puts a copy of a folder, whose files are links to the same contents, in place of another."""
+    shutil.rmtree(copy, ignore_errors=True)
+    if folder.exists():
+        shutil.copytree(folder, copy, copy_function=os.link)
+
+
+def copied(below, name):
+    """A copy of a crate and of those below it, with what their checks kept. Answers the crate's folder there."""
+    copy, needed = COPIES / name, closure(below, [name])
+    for crate in needed:
+        for part in ("src", "specs", "proofs", "out"):
+            linked(TOP / "crates" / crate / part, copy / "crates" / crate / part)
+    lines = (TOP / "crates.txt").read_text().splitlines(keepends=True)
+    (copy / "crates.txt").write_text("".join(line for line in lines if line.split(":")[0].strip() in needed))
+    return copy / "crates" / name
+
+
+def begin(below, name, jobs):
+    """Begins the proof of a crate; its log is in bin/."""
+    log = open(BIN / f"{name}.log", "w")
+    return subprocess.Popen(["rt", "check", "--jobs", str(jobs)], cwd=copied(below, name), stdout=log, stderr=subprocess.STDOUT)
+
+
+def end(name):
+    """Puts what a check kept where it belongs."""
+    linked(COPIES / name / "crates" / name / "out", TOP / "crates" / name / "out")
+    shutil.rmtree(COPIES / name)
 
 
 def prove(below, names, progress):
@@ -113,18 +140,33 @@ def prove(below, names, progress):
         begins = ready[: room - len(running)]
         for name in begins:
             left.remove(name)
-            log = open(BIN / f"{name}.log", "w")
-            jobs = max(1, room // (len(running) + len(begins)))
-            running[name] = subprocess.Popen(command(name, jobs), cwd=TOP / "crates" / name, stdout=log, stderr=subprocess.STDOUT)
+            running[name] = begin(below, name, max(2, room // (len(running) + len(begins))) if room > 1 else 1)
         if begins:
-            progress.show(f"proving {', '.join(sorted(running))}; {len(left)} more wait" if left else f"proving and building {', '.join(sorted(running))}")
+            progress.show(f"proving {', '.join(sorted(running))}; {len(left)} more wait")
         time.sleep(0.2)
         for name in [n for n, p in running.items() if p.poll() is not None]:
             if running.pop(name).returncode != 0:
                 for other in running.values():
                     other.terminate()
                 return name
+            end(name)
     return None
+
+
+def run(name):
+    """Builds a program and runs it on an example. Answers whether both were done."""
+    with open(BIN / f"{name}.log", "w") as log:
+        words = ["rt", "run", "--", *WORDS[name]]
+        return subprocess.run(words, cwd=TOP / "crates" / name, stdout=log, stderr=subprocess.STDOUT).returncode == 0
+
+
+def prove_in_copies(below, names, progress):
+    """Proves crates in copies, and takes these away again. Answers the crate that isn't proved, if there is one."""
+    shutil.rmtree(COPIES, ignore_errors=True)
+    try:
+        return prove(below, names, progress)
+    finally:
+        shutil.rmtree(COPIES, ignore_errors=True)
 
 
 def build(programs):
@@ -132,8 +174,10 @@ def build(programs):
     below = crates()
     names = closure(below, programs)
     now, kept, progress = stamp(names), BIN / "sources", Progress()
-    todo = programs if kept.exists() and kept.read_text() == now else names
-    failed = prove({n: [b for b in bs if b in todo] for n, bs in below.items()}, set(todo), progress)
+    failed = None if kept.exists() and kept.read_text() == now else prove_in_copies(below, names, progress)
+    if not failed:
+        progress.show(f"building {', '.join(programs)}")
+        failed = next((name for name in programs if not run(name)), None)
     progress.end()
     if failed:
         print((BIN / f"{failed}.log").read_text(), end="")

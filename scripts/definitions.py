@@ -126,7 +126,8 @@ CHAPTERS = [
      ["mcf_instance Limits", "mcf_instance Network"]),
     ("Which line is bad, and what a good text stands for", "A fault is a line and a code; the kinds of line are looked at in the order of the table of faults.",
      ["mcf_instance WellFormed", "mcf_instance Fault", "mcf_instance Reading"]),
-    ("Flows, costs and prices", "Flows are whole, one number for each arc. The reduced cost of an arc is its cost less the price where it begins plus the price where it ends.",
+    ("Flows, costs and prices",
+     "Flows are whole, one number for each arc. The reduced cost of an arc is its cost less the price where it begins plus the price where it ends.",
      ["mcf_instance Flow"]),
     ("Sets that block", "A node set is a test of nodes. An arc with both ends in the set counts in neither direction.",
      ["mcf_instance Blocking", "mcf_feas Chosen"]),
@@ -134,8 +135,8 @@ CHAPTERS = [
      ["mcf_answer Ranges", "mcf_answer Solution", "mcf_answer BlockingSet", "mcf_answer Token", "mcf_answer Spelling", "mcf_answer Written"]),
     ("When an answer is correct", "", ["mcf_checker Correct", "mcf_checker Judging"]),
     ("How the state behind a flow was made", "The net of an instance has no lower bounds; a state of it gives each arc an amount.",
-     ["mcf_network Removal", "mcf_network Residual", "mcf_network States", "mcf_network Restoring", "mcf_prices Outcomes", "mcf_solver Making", "mcf_solver Choosing", "mcf_solver Made"]),
-    ("The theorem", "", ["mcf_solver Chosen", "mcf_solver Answering"]),
+     ["mcf_network Removal", "mcf_network Residual", "mcf_network States", "mcf_network Restoring", "mcf_prices Outcomes", "mcf_solver Making"]),
+    ("The theorem", "", ["mcf_solver ChosenSolutions", "mcf_solver Answering"]),
 ]
 
 
@@ -179,8 +180,9 @@ feasible flow undercuts, with prices whose reduced costs show it, or a node set 
 accepts such answers, and only texts that are so.**
 
 That sentence is the contract of two functions, and the prover accepts their bodies. Whoever wants to believe it, and nothing else, reads the contracts
-below and the definitions that they rest on: {len(core)}, in some {core_lines} lines, for what an answer says, and {len(found) - len(LEAVES) - len(core)} more for which engine made its
-flow and how, {lines} lines in all. No engine, no net and no proof is among what the least cost of a flow rests on.
+below and the definitions that they rest on: {len(core)}, in some {core_lines} lines, for what an answer says, and
+{len(found) - len(LEAVES) - len(core)} more for which engine made its flow and how, {lines} lines in all. No engine, no net and no proof is among what the
+least cost of a flow rests on.
 
 `IfOk r P` says that P holds of what an `Ok` holds, `OnErr r P` that P holds if it is an error; `x.now` is the value behind a reference, `x.old` and
 `x.new` what it was before and after the call; `.items` are the elements of a vector. The lists, options and numbers are those of the kit's library,

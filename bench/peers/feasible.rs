@@ -1,6 +1,6 @@
 //! Finds a feasible flow of a net, as `mcf_feas::feasible` does, in plain Rust: rounds in which surplus is pushed
-//! down the levels of the nodes, and after each a breadth-first search from all nodes with a surplus, until a
-//! node that takes, and one augmenting path.
+//! down the levels of the nodes, up to four times, and after each round a breadth-first search from all nodes with
+//! a surplus, until a node that takes, and one augmenting path.
 #![allow(dead_code)]
 #[path = "net.rs"]
 pub mod net;
@@ -112,6 +112,9 @@ impl Search {
     }
 }
 
+const PASSES: u32 = 4;
+const SHALLOW: u32 = 16;
+
 /// The level of each node, and the nodes that wait.
 struct Preflow {
     levels: Vec<u32>,
@@ -123,14 +126,25 @@ impl Preflow {
         Preflow { levels: vec![0; nodes], queue: VecDeque::with_capacity(nodes) }
     }
 
+    /// Pushes surplus down the levels, and again while each time no more than half of the nodes with a surplus are
+    /// left.
+    fn round(&mut self, state: &mut State) {
+        let mut before = u32::MAX;
+        for _ in 0..PASSES {
+            let senders = self.start(state);
+            if senders == 0 || senders > before / 2 {
+                return;
+            }
+            before = senders;
+            self.pass(state, senders);
+        }
+    }
+
     /// Finds how far each node is from the nodes that take, and then visits nodes with a surplus, first in, first
     /// out, until none waits, or as many were visited as there are nodes, where a lift counts as four visits.
-    fn round(&mut self, state: &mut State) {
-        self.set_levels(state);
-        self.queue.clear();
-        for node in 1..=state.net.node_count() {
-            self.wake(state, node);
-        }
+    fn pass(&mut self, state: &mut State, senders: u32) {
+        self.set_levels(state, senders);
+        self.start(state);
         let mut budget = state.net.node_count();
         while budget > 0 {
             let Some(node) = self.queue.pop_front() else {
@@ -140,36 +154,54 @@ impl Preflow {
         }
     }
 
-    fn set_levels(&mut self, state: &State) {
+    fn start(&mut self, state: &State) -> u32 {
+        self.queue.clear();
+        for node in 1..=state.net.node_count() {
+            self.wake(state, node);
+        }
+        self.queue.len() as u32
+    }
+
+    fn set_levels(&mut self, state: &State, senders: u32) {
         self.queue.clear();
         let far = state.net.node_count();
-        let mut sought = 0;
         for node in 1..=far {
-            let surplus = state.surplus(node);
-            self.levels[node as usize - 1] = if surplus < 0 { 0 } else { far };
-            if surplus < 0 {
+            let takes = state.surplus(node) < 0;
+            self.levels[node as usize - 1] = if takes { 0 } else { far };
+            if takes {
                 self.queue.push_back(node);
             }
-            if surplus > 0 {
-                sought += 1;
-            }
         }
-        while sought > 0 {
+        let top = self.search_back(state, senders);
+        for level in &mut self.levels {
+            *level = (*level).min(top);
+        }
+    }
+
+    /// Ends where all of so many nodes with a surplus have their level, or three quarters of them at low levels.
+    fn search_back(&mut self, state: &State, senders: u32) -> u32 {
+        let far = state.net.node_count();
+        let mut sought = senders;
+        let mut level = 1;
+        while sought > 0 && (level > SHALLOW || sought > senders / 4) {
             let Some(node) = self.queue.pop_front() else {
-                return;
+                return far;
             };
-            let level = self.levels[node as usize - 1] + 1;
+            level = self.levels[node as usize - 1] + 1;
             for along in state.net.leaving(node) {
-                let (_, from) = state.net.route(*along);
-                if self.levels[from as usize - 1] == far && state.room(Rid { back: !along.back, ..*along }) > 0 {
-                    self.levels[from as usize - 1] = level;
-                    self.queue.push_back(from);
-                    if state.surplus(from) > 0 {
-                        sought -= 1;
-                    }
+                if state.room(Rid { back: !along.back, ..*along }) <= 0 {
+                    continue;
                 }
+                let (_, from) = state.net.route(*along);
+                if self.levels[from as usize - 1] < far {
+                    continue;
+                }
+                self.levels[from as usize - 1] = level;
+                self.queue.push_back(from);
+                sought -= u32::from(state.surplus(from) > 0);
             }
         }
+        level
     }
 
     fn wake(&mut self, state: &State, node: u32) {

@@ -17,6 +17,12 @@ pub refused_after : (old mid front part all : List ℕ) (old_len mid_len cap mor
 refused_after old mid front part all old_len mid_len cap more is_old is_mid e grown short within =
     omega (arith, is_old, is_mid, ap length e ∙ length-append old front, grown, short, within)
 
+-- how long a text is after a word and a number
+pub length-word_field : (old word_put put word : List ℕ) (number : ℤ) → word_put ≡ old ++ word → put ≡ word_put ++ field_text number
+    → length put ≡ length old + length word + length (field_text number)
+length-word_field old word_put put word number first second =
+    omega (arith, ap length first ∙ length-append old word, ap length second ∙ length-append word_put (field_text number))
+
 -- what holds, holds where there is an error
 pub on_err : {T E : Type 0} (r : Result T E) (P : Type 0) → P → OnErr r P
 on_err (Ok x) P p = tt

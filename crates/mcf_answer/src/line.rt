@@ -1,7 +1,8 @@
 //! What a line of an answer text says.
 ghost use Rattle.std.specs.Prelude.{◌≡◌, ◌≤◌, false, IfSome};
 ghost use Rattle.mcf_answer.specs.Ranges.{IsAmount, IsNodeInRange};
-ghost use Rattle.mcf_answer.specs.Said.{amount_of, code_of, cost_said, line_number_of, node_of, member_said, number_within, price_said, refusal_said, sent_said, set_said, side_of};
+ghost use Rattle.mcf_answer.specs.Said.{amount_of, code_of, cost_said, line_number_of, node_of, member_said, number_within, price_said, refusal_said};
+ghost use Rattle.mcf_answer.specs.Said.{sent_said, set_said, side_of};
 ghost use Rattle.mcf_answer.specs.Token.{is_word, token_of, tokens_of};
 ghost use Rattle.mcf_text.specs.Fields.{fields_of};
 ghost use Rattle.mcf_text.specs.Whole.{is_whole};

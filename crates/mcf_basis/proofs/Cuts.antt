@@ -1,12 +1,13 @@
 -- At a last basis where an artificial arc carries something, the nodes of price above 0 can't send what they must.
-use Rattle.std.proofs.Common.{◌≡◌, ◌≢◌, ℕ, zero, suc, ◌+◌, ◌-◌, ◌*◌, ◌<◌, ◌≤◌, ◌⊎◌, inl, inr, Bool, true, false, not, eqb, List, length, map, drop, sum, set, get_or, refl, sym, ap, ◌∙◌, subst, arith, ℤ, pos, neg_ℤ, ◌+ℤ◌, ◌-ℤ◌, ◌≤ℤ◌, ◌<ℤ◌, length-set}
+use Rattle.std.proofs.Common.{◌≡◌, ◌≢◌, ℕ, zero, suc, ◌+◌, ◌-◌, ◌*◌, ◌<◌, ◌≤◌, ◌⊎◌, inl, inr, Bool, true, false, not, eqb, List, length, map, drop, sum, set}
+use Rattle.std.proofs.Common.{get_or, refl, sym, ap, ◌∙◌, subst, arith, ℤ, pos, neg_ℤ, ◌+ℤ◌, ◌-ℤ◌, ◌≤ℤ◌, ◌<ℤ◌, length-set}
 use Rattle.std.specs.Prelude.{int_lt, max, unsigned_abs}
-use Rattle.std.specs.List.{AllZip, range_with_len}
+use Rattle.std.specs.List.{AllZip}
 use Rattle.std.proofs.Math.Nat.{le-max_right, mul-le-mul_left}
 use Rattle.std.proofs.lemmas.Bool.{and_parts, cases_Bool, cases_eq}
 use Rattle.std.proofs.lemmas.Int.{ints}
-use Rattle.std.proofs.lemmas.List.{get_or_default, get_or-drop, get_or-map, get_or-set_other, length-drop, length-map}
-use Rattle.std.proofs.lemmas.List.FromFn.{get_or-map-range_with_len, length-map-range_with_len}
+use Rattle.std.proofs.lemmas.List.{get_or-drop, get_or-map, get_or-set_other, length-drop, length-map}
+use Rattle.std.proofs.lemmas.List.FromFn.{length-map-range_with_len}
 use Rattle.std.proofs.lemmas.List.Sums.{sum_by-set}
 use Rattle.mcf_instance.specs.declared.arc.Arc.{Arc}
 use Rattle.mcf_instance.specs.declared.problem.Side.TheVariants.{Send}
@@ -35,12 +36,12 @@ use Rattle.mcf_basis.specs.Structures.Joins.{out_of, into}
 use Rattle.mcf_basis.specs.Violations.{HasNoEligible}
 use Rattle.mcf_basis.proofs.Cycles.{tree_of}
 use Rattle.mcf_basis.proofs.Around.{arcs_of}
-use Rattle.mcf_basis.proofs.Flows.{amount_count, own_carried, own_count, split_sum}
+use Rattle.mcf_basis.proofs.Flows.{amount_count, own_count, split_sum}
 use Rattle.mcf_basis.proofs.Labels.{added_arc, added_label, inner_arc, own_arc, own_label, root_arc}
-use Rattle.mcf_basis.proofs.LastBases.{node_count_added, supply_added}
+use Rattle.mcf_basis.proofs.LastBases.{node_count_added, read_arc, read_own, supply_added, zero_or_more}
 use Rattle.mcf_basis.proofs.Offers.{not_in_tree, own_reduced}
-use Rattle.mcf_basis.proofs.PivotBounds.{zero_or_more}
 use Rattle.mcf_basis.proofs.PricesTurned.{cases_in_tree}
+use Rattle.mcf_basis.proofs.StarBases.{added_arcs, apart_dst, apart_src, arc_at_place, sender_dst, sender_src, taker_dst, taker_src}
 use Rattle.mcf_basis.proofs.StrongPivot.{labels_apart}
 use Rattle.mcf_basis.proofs.TreeFlows.{single_term}
 use Rattle.mcf_basis.proofs.TreePrices.{in_tree}
@@ -101,41 +102,10 @@ pub data NodeCase (b : TreeStructure) (v : ℕ) : Type 0 where
   sends : unsent b v ≡ artificial_amount b v → (pos 0 <ℤ artificial_amount b v → price_at b v ≡ pos (artificial_cost b.net)) → NodeCase b v
   takes : unsent b v ≡ neg_ℤ (artificial_amount b v) → (pos 0 <ℤ artificial_amount b v → price_at b v ≡ neg_ℤ (pos (artificial_cost b.net))) → NodeCase b v
 
-sender_src : (g : Network) (v : ℕ) → is_sender g v ≡ true → (artificial_arc g v).src ≡ v
-sender_src g v e = rw e refl
-
-sender_dst : (g : Network) (v : ℕ) → is_sender g v ≡ true → (artificial_arc g v).dst ≡ 0
-sender_dst g v e = rw e refl
-
-taker_src : (g : Network) (v : ℕ) → is_sender g v ≡ false → (artificial_arc g v).src ≡ 0
-taker_src g v e = rw e refl
-
-taker_dst : (g : Network) (v : ℕ) → is_sender g v ≡ false → (artificial_arc g v).dst ≡ v
-taker_dst g v e = rw e refl
-
--- an artificial arc has no end at another node
-apart_src : (g : Network) (u v : ℕ) → 0 < v → u ≢ v → (artificial_arc g u).src ≢ v
-apart_src g u v up ne q = elim (cases_Bool (is_sender g u)) [
-  | inl e ↦ ne (sym (sender_src g u e) ∙ q)
-  | inr e ↦ (let z : 0 ≡ v = sym (taker_src g u e) ∙ q in omega (arith, z, up))
-]
-
-apart_dst : (g : Network) (u v : ℕ) → 0 < v → u ≢ v → (artificial_arc g u).dst ≢ v
-apart_dst g u v up ne q = elim (cases_Bool (is_sender g u)) [
-  | inl e ↦ (let z : 0 ≡ v = sym (sender_dst g u e) ∙ q in omega (arith, z, up))
-  | inr e ↦ ne (sym (taker_dst g u e) ∙ q)
-]
-
-abbrev added_arcs : Network → List Arc
-added_arcs g = map (artificial_arc g) (range_with_len 1 (node_count g))
-
 -- of the artificial arcs one alone is at v
 module _ (g : Network) (flow : List ℤ) (count : length flow ≡ node_count g) (v : ℕ) (h : IsNode (node_count g) v) where
   added_size : length flow ≡ length (added_arcs g)
   added_size = count ∙ sym (length-map-range_with_len (artificial_arc g) 1 (node_count g))
-
-  arc_at_place : (i : ℕ) → i < node_count g → get_or (added_arcs g) i no_arc ≡ artificial_arc g (i + 1)
-  arc_at_place i l = get_or-map-range_with_len (artificial_arc g) 1 (node_count g) i (i + 1) no_arc l (omega arith)
 
   added_out : outflow (added_arcs g) flow v ≡ when (eqb (artificial_arc g v).src v) (get_or flow (v - 1) (pos 0))
   added_out =
@@ -143,9 +113,9 @@ module _ (g : Network) (flow : List ℤ) (count : length flow ≡ node_count g) 
       let back : v - 1 + 1 ≡ v = omega arith in
       single_term (λ a f. when (eqb a.src v) f) (added_arcs g) flow (v - 1) added_size (omega (arith, n, h))
       (λ i l ne. (let m : i < node_count g = omega (arith, n, l) in
-      subst (λ a. when (eqb a.src v) (get_or flow i (pos 0)) ≡ pos 0) (sym (arc_at_place i m))
+      subst (λ a. when (eqb a.src v) (get_or flow i (pos 0)) ≡ pos 0) (sym (arc_at_place g i m))
       (when-other (artificial_arc g (i + 1)).src v _ (λ q. apart_src g (i + 1) v (omega arith) (λ e. ne (omega arith)) (sym q)))))
-      ∙ ap (λ a. when (eqb a.src v) (get_or flow (v - 1) (pos 0))) (arc_at_place (v - 1) (omega arith) ∙ ap (artificial_arc g) back)
+      ∙ ap (λ a. when (eqb a.src v) (get_or flow (v - 1) (pos 0))) (arc_at_place g (v - 1) (omega arith) ∙ ap (artificial_arc g) back)
 
   added_in : inflow (added_arcs g) flow v ≡ when (eqb (artificial_arc g v).dst v) (get_or flow (v - 1) (pos 0))
   added_in =
@@ -153,9 +123,9 @@ module _ (g : Network) (flow : List ℤ) (count : length flow ≡ node_count g) 
       let back : v - 1 + 1 ≡ v = omega arith in
       single_term (λ a f. when (eqb a.dst v) f) (added_arcs g) flow (v - 1) added_size (omega (arith, n, h))
       (λ i l ne. (let m : i < node_count g = omega (arith, n, l) in
-      subst (λ a. when (eqb a.dst v) (get_or flow i (pos 0)) ≡ pos 0) (sym (arc_at_place i m))
+      subst (λ a. when (eqb a.dst v) (get_or flow i (pos 0)) ≡ pos 0) (sym (arc_at_place g i m))
       (when-other (artificial_arc g (i + 1)).dst v _ (λ q. apart_dst g (i + 1) v (omega arith) (λ e. ne (omega arith)) (sym q)))))
-      ∙ ap (λ a. when (eqb a.dst v) (get_or flow (v - 1) (pos 0))) (arc_at_place (v - 1) (omega arith) ∙ ap (artificial_arc g) back)
+      ∙ ap (λ a. when (eqb a.dst v) (get_or flow (v - 1) (pos 0))) (arc_at_place g (v - 1) (omega arith) ∙ ap (artificial_arc g) back)
 
 module _ (b : TreeStructure) (ok : IsBasis b) where
   pub artificial_low : (v : ℕ) → IsNode (node_count b.net) v → pos 0 ≤ℤ artificial_amount b v
@@ -518,18 +488,6 @@ module _ (b : TreeStructure) (ok : IsBasis b) (none : HasNoEligible b) where
   abbrev Crosses : Arc → ℤ → Type 0
   Crosses a f = (leaves side a ≡ true → f ≡ a.cap) × (enters side a ≡ true → f ≡ pos 0)
 
-  read_arc : (i : ℕ) (x : Arc) → i < length b.net.arcs → get_or b.net.arcs i x ≡ arc_at b.net (i + 1)
-  read_arc i x h =
-      let place : i + 1 - 1 ≡ i = omega arith in
-      get_or_default b.net.arcs i x no_arc h ∙ ap (λ j. get_or b.net.arcs j no_arc) (sym place)
-
-  read_own : (i : ℕ) (y : ℤ) → i < length b.net.arcs → get_or (state_of b).amounts i y ≡ carried b (i + 1)
-  read_own i y h =
-      let place : i + 1 - 1 ≡ i = omega arith in
-      let count = own_count b ok in
-      get_or_default (state_of b).amounts i y (pos 0) (omega (arith, count, h))
-      ∙ (ap (λ j. get_or (state_of b).amounts j (pos 0)) (sym place) ∙ own_carried b ok (i + 1) (pos 0) (omega arith, omega arith))
-
   -- an arc without width carries nothing, which is all that it can
   narrow : (k : ℕ) → IsArcNumber b.net k → (arc_at b.net k).cap ≡ pos 0 → carried b k ≡ pos 0
   narrow k h c =
@@ -569,7 +527,7 @@ module _ (b : TreeStructure) (ok : IsBasis b) (none : HasNoEligible b) where
     crossing : AllZip Crosses b.net.arcs (state_of b).amounts
     crossing =
         AllZip_from Crosses b.net.arcs (state_of b).amounts (sym (own_count b ok))
-        (λ i h x y. rw (read_arc i x h, read_own i y h) (crossing_arc (i + 1) (omega arith, omega arith)))
+        (λ i h x y. rw (read_arc b ok i x h, read_own b ok i y h) (crossing_arc (i + 1) (omega arith, omega arith)))
 
     sum_leaving : flow_sum (λ a f. when (leaves side a) f) b.net.arcs (state_of b).amounts ≡ cap_leaving b.net.arcs side
     sum_leaving =

@@ -1,5 +1,6 @@
 -- What is read of a basis at the end: its flow, its prices and its cut.
-use Rattle.std.proofs.Common.{◌≡◌, ◌≢◌, ℕ, zero, suc, ◌+◌, ◌-◌, ◌*◌, ◌^◌, ◌<◌, ◌≤◌, inl, inr, Bool, true, false, eqb, cond, List, length, map, take, drop, get_or, refl, sym, ap, ◌∙◌, arith, subst, ℤ, pos, ◌+ℤ◌, length-drop}
+use Rattle.std.proofs.Common.{◌≡◌, ◌≢◌, ℕ, zero, suc, ◌+◌, ◌-◌, ◌*◌, ◌^◌, ◌<◌, ◌≤◌, inl, inr, Bool, true, false, eqb, cond, List, length, map, take, drop}
+use Rattle.std.proofs.Common.{get_or, refl, sym, ap, ◌∙◌, arith, subst, ℤ, pos, ◌+ℤ◌, length-drop}
 use Rattle.std.specs.Prelude.{◌↔◌, IsTrue, Option, Some, None, if◌then◌else◌, int_lt}
 use Rattle.std.specs.List.{All, find, range_with_len}
 use Rattle.std.proofs.lemmas.Bool.{cases_eq, cond-true, cond-false, eq-eqb, eqb-true, le-leb, lt-leb, true≢false}

@@ -1,5 +1,6 @@
 -- The amounts of a basis: those of the arcs of the net, and those of the artificial arcs.
-use Rattle.std.proofs.Common.{◌≡◌, ℕ, suc, ◌+◌, ◌-◌, ◌<◌, ◌≤◌, ◌++◌, eqb, List, [], ◌∷◌, length, map, take, drop, get_or, refl, sym, ap, ◌∙◌, arith, ℤ, pos, ◌+ℤ◌}
+use Rattle.std.proofs.Common.{◌≡◌, ℕ, suc, ◌+◌, ◌-◌, ◌<◌, ◌≤◌, ◌++◌, eqb, List, [], ◌∷◌, length, map, take, drop, get_or, refl, sym, ap, ◌∙◌, arith, ℤ, pos}
+use Rattle.std.proofs.Common.{◌+ℤ◌}
 use Rattle.std.specs.List.{range_with_len}
 use Rattle.std.proofs.lemmas.Int.{ints}
 use Rattle.std.proofs.lemmas.List.{get_or-take, get_or-drop, take-append-drop, length-take-le, length-drop}
@@ -16,14 +17,17 @@ use Rattle.mcf_basis.proofs.Labels.{label_count}
 
 -- a sum over all arcs: that over the arcs of the net, and that over the artificial ones
 pub split_sum : (t : Arc → ℤ → ℤ) (g : Network) (amounts : List ℤ) → length g.arcs ≤ length amounts →
-    flow_sum t (with_artificial g).arcs amounts ≡ flow_sum t g.arcs (take (length g.arcs) amounts) +ℤ flow_sum t (map (artificial_arc g) (range_with_len 1 (node_count g))) (drop (length g.arcs) amounts)
+    flow_sum t (with_artificial g).arcs amounts ≡ flow_sum t g.arcs (take (length g.arcs) amounts) +ℤ flow_sum t
+    (map (artificial_arc g) (range_with_len 1 (node_count g))) (drop (length g.arcs) amounts)
 unfolding with_artificial
 split_sum t g amounts h =
     ap (flow_sum t (g.arcs ++ map (artificial_arc g) (range_with_len 1 (node_count g)))) (sym (take-append-drop (length g.arcs) amounts))
-    ∙ flow_sum-append t g.arcs (map (artificial_arc g) (range_with_len 1 (node_count g))) (take (length g.arcs) amounts) (drop (length g.arcs) amounts) (sym (length-take-le (length g.arcs) amounts h))
+    ∙ flow_sum-append t g.arcs (map (artificial_arc g) (range_with_len 1 (node_count g))) (take (length g.arcs) amounts) (drop (length g.arcs) amounts)
+    (sym (length-take-le (length g.arcs) amounts h))
 
 -- a sum over amounts that are all 0
-pub sum_of_zeros : (t : Arc → ℤ → ℤ) → ((a : Arc) → t a (pos 0) ≡ pos 0) → (arcs : List Arc) (flow : List ℤ) → ((i : ℕ) → i < length flow → get_or flow i (pos 0) ≡ pos 0) → flow_sum t arcs flow ≡ pos 0
+pub sum_of_zeros : (t : Arc → ℤ → ℤ) → ((a : Arc) → t a (pos 0) ≡ pos 0) → (arcs : List Arc) (flow : List ℤ)
+    → ((i : ℕ) → i < length flow → get_or flow i (pos 0) ≡ pos 0) → flow_sum t arcs flow ≡ pos 0
 sum_of_zeros t zeros [] flow each = refl
 sum_of_zeros t zeros (a ∷ arcs) [] each = refl
 sum_of_zeros t zeros (a ∷ arcs) (f ∷ flow) each =
@@ -49,17 +53,22 @@ module _ (b : TreeStructure) (ok : IsBasis b) where
       let e = amount_count in
       let l : length (drop (length b.net.arcs) b.amounts) ≡ length b.amounts - length b.net.arcs = length-drop (length b.net.arcs) b.amounts in
       let place : length b.net.arcs + (i + 1) - 1 ≡ length b.net.arcs + i = omega arith in
-      get_or-drop (length b.net.arcs) b.amounts i (pos 0) ∙ (sym (ap (λ j. get_or b.amounts j (pos 0)) place) ∙ none (i + 1) (omega (arith, e, l, h), omega (arith, e, l, h)))
+      get_or-drop (length b.net.arcs) b.amounts i (pos 0) ∙ (sym (ap (λ j. get_or b.amounts j (pos 0)) place) ∙ none (i + 1)
+      (omega (arith, e, l, h), omega (arith, e, l, h)))
 
   pub net_without : HasNoArtificial b → (v : ℕ) → net (with_artificial b.net).arcs b.amounts v ≡ net b.net.arcs (state_of b).amounts v
   net_without none v =
       let e = amount_count in
-      let out : outflow (with_artificial b.net).arcs b.amounts v ≡ outflow b.net.arcs (state_of b).amounts v +ℤ outflow (map (artificial_arc b.net) (range_with_len 1 (node_count b.net))) (drop (length b.net.arcs) b.amounts) v =
+      let out : outflow (with_artificial b.net).arcs b.amounts v ≡ outflow b.net.arcs (state_of b).amounts v +ℤ outflow
+      (map (artificial_arc b.net) (range_with_len 1 (node_count b.net))) (drop (length b.net.arcs) b.amounts) v =
       split_sum (λ a f. when (eqb a.src v) f) b.net b.amounts (omega (arith, e)) in
-      let inn : inflow (with_artificial b.net).arcs b.amounts v ≡ inflow b.net.arcs (state_of b).amounts v +ℤ inflow (map (artificial_arc b.net) (range_with_len 1 (node_count b.net))) (drop (length b.net.arcs) b.amounts) v =
+      let inn : inflow (with_artificial b.net).arcs b.amounts v ≡ inflow b.net.arcs (state_of b).amounts v +ℤ inflow
+      (map (artificial_arc b.net) (range_with_len 1 (node_count b.net))) (drop (length b.net.arcs) b.amounts) v =
       split_sum (λ a f. when (eqb a.dst v) f) b.net b.amounts (omega (arith, e)) in
       let out0 : outflow (map (artificial_arc b.net) (range_with_len 1 (node_count b.net))) (drop (length b.net.arcs) b.amounts) v ≡ pos 0 =
-      sum_of_zeros (λ a f. when (eqb a.src v) f) (λ a. when-zero (eqb a.src v)) (map (artificial_arc b.net) (range_with_len 1 (node_count b.net))) (drop (length b.net.arcs) b.amounts) (no_rest none) in
+      sum_of_zeros (λ a f. when (eqb a.src v) f) (λ a. when-zero (eqb a.src v)) (map (artificial_arc b.net) (range_with_len 1 (node_count b.net)))
+      (drop (length b.net.arcs) b.amounts) (no_rest none) in
       let inn0 : inflow (map (artificial_arc b.net) (range_with_len 1 (node_count b.net))) (drop (length b.net.arcs) b.amounts) v ≡ pos 0 =
-      sum_of_zeros (λ a f. when (eqb a.dst v) f) (λ a. when-zero (eqb a.dst v)) (map (artificial_arc b.net) (range_with_len 1 (node_count b.net))) (drop (length b.net.arcs) b.amounts) (no_rest none) in
+      sum_of_zeros (λ a f. when (eqb a.dst v) f) (λ a. when-zero (eqb a.dst v)) (map (artificial_arc b.net) (range_with_len 1 (node_count b.net)))
+      (drop (length b.net.arcs) b.amounts) (no_rest none) in
       omega (arith, ints, out, inn, out0, inn0)

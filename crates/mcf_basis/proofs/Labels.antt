@@ -64,7 +64,8 @@ one_is_node g v true e = inl (rw e refl)
 one_is_node g v false e = inr (rw e refl)
 
 -- an arc at the root is artificial
-pub root_arc : (g : Network) (label v : ℕ) → IsNet g → IsLabel g label → 0 < v → Joins g label v 0 → (arc_at (with_artificial g) label).cost ≡ pos (artificial_cost g)
+pub root_arc : (g : Network) (label v : ℕ) → IsNet g → IsLabel g label → 0 < v → Joins g label v 0
+    → (arc_at (with_artificial g) label).cost ≡ pos (artificial_cost g)
 root_arc g label v ok h up joins =
     elim (label_case g label h) [
       | own k ↦ absurd (let same = own_arc g label k in let ends = ends_at g label ok k in

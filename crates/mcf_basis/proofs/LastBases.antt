@@ -1,5 +1,6 @@
 -- The flow of a basis at which no arc is eligible.
-use Rattle.std.proofs.Common.{◌≡◌, ℕ, zero, suc, ◌+◌, ◌-◌, ◌<◌, ◌⊎◌, inl, inr, length, drop, get_or, refl, sym, ap, ◌∙◌, arith, subst, ℤ, pos, negsuc, ◌<ℤ◌, ◌≤ℤ◌}
+use Rattle.std.proofs.Common.{◌≡◌, ℕ, zero, suc, ◌+◌, ◌-◌, ◌<◌, ◌⊎◌, inl, inr, length, drop, get_or, refl, sym, ap, ◌∙◌, arith, subst, ℤ, pos, negsuc, ◌<ℤ◌}
+use Rattle.std.proofs.Common.{◌≤ℤ◌}
 use Rattle.std.specs.List.{AllZip}
 use Rattle.std.proofs.lemmas.Int.{ints}
 use Rattle.std.proofs.lemmas.Grind.{get_or_after_one}
@@ -21,7 +22,7 @@ use Rattle.mcf_basis.proofs.Flows.{net_without, own_carried, own_count}
 use Rattle.mcf_basis.proofs.Labels.{own_label}
 use Rattle.mcf_basis.proofs.Offers.{not_in_tree, own_reduced}
 
-zero_or_more : (z : ℤ) → pos 0 ≤ℤ z → (z ≡ pos 0) ⊎ (pos 0 <ℤ z)
+pub zero_or_more : (z : ℤ) → pos 0 ≤ℤ z → (z ≡ pos 0) ⊎ (pos 0 <ℤ z)
 zero_or_more (pos zero) h = inl refl
 zero_or_more (pos (suc n)) h = inr (omega (arith, ints))
 zero_or_more (negsuc n) h = absurd (omega (arith, ints))
@@ -36,14 +37,15 @@ supply_added g v = refl
 
 module _ (b : TreeStructure) (ok : IsBasis b) where
   -- what the arc at a place carries, whatever the reads give past the end
-  read_arc : (i : ℕ) (x : Arc) → i < length b.net.arcs → get_or b.net.arcs i x ≡ arc_at b.net (i + 1)
+  pub read_arc : (i : ℕ) (x : Arc) → i < length b.net.arcs → get_or b.net.arcs i x ≡ arc_at b.net (i + 1)
   read_arc i x h = let place : i + 1 - 1 ≡ i = omega arith in get_or_default b.net.arcs i x no_arc h ∙ ap (λ j. get_or b.net.arcs j no_arc) (sym place)
 
-  read_own : (i : ℕ) (y : ℤ) → i < length b.net.arcs → get_or (state_of b).amounts i y ≡ carried b (i + 1)
+  pub read_own : (i : ℕ) (y : ℤ) → i < length b.net.arcs → get_or (state_of b).amounts i y ≡ carried b (i + 1)
   read_own i y h =
       let place : i + 1 - 1 ≡ i = omega arith in
       let count = own_count b ok in
-      get_or_default (state_of b).amounts i y (pos 0) (omega (arith, count, h)) ∙ (ap (λ j. get_or (state_of b).amounts j (pos 0)) (sym place) ∙ own_carried b ok (i + 1) (pos 0) (omega arith, omega arith))
+      get_or_default (state_of b).amounts i y (pos 0) (omega (arith, count, h)) ∙
+      (ap (λ j. get_or (state_of b).amounts j (pos 0)) (sym place) ∙ own_carried b ok (i + 1) (pos 0) (omega arith, omega arith))
 
   held : (i : ℕ) → i < length b.net.arcs → CanCarry (arc_at b.net (i + 1)) (carried b (i + 1))
   held i h =
@@ -69,7 +71,7 @@ module _ (b : TreeStructure) (ok : IsBasis b) where
   }
 
   -- the reduced cost by the prices of the nodes alone
-  node_price : (v : ℕ) → IsNode (node_count b.net) v → at_node (drop 1 b.prices) v ≡ price_at b v
+  pub node_price : (v : ℕ) → IsNode (node_count b.net) v → at_node (drop 1 b.prices) v ≡ price_at b v
   node_price v h =
       let place : 1 + (v - 1) ≡ v = omega arith in
       get_or_after_one b.prices (v - 1) (pos 0) ∙ ap (price_at b) place

@@ -1,9 +1,9 @@
 -- At a last basis no artificial arc carries anything where some flow is feasible.
-use Rattle.std.proofs.Common.{◌≡◌, ℕ, zero, suc, ◌+◌, ◌-◌, inl, inr, List, [], ◌∷◌, drop, map, sum, ap, sym, ◌∙◌, arith, ℤ, pos, negsuc, neg_ℤ, ◌+ℤ◌, ◌-ℤ◌, ◌*ℤ◌, ◌≤ℤ◌, ◌<ℤ◌}
+use Rattle.std.proofs.Common.{◌≡◌, ℕ, zero, suc, inl, inr, List, [], ◌∷◌, drop, map, sum, ap, sym, ◌∙◌, arith, ℤ, pos, negsuc, neg_ℤ, ◌+ℤ◌, ◌-ℤ◌}
+use Rattle.std.proofs.Common.{◌*ℤ◌, ◌≤ℤ◌, ◌<ℤ◌}
 use Rattle.std.specs.Prelude.{max, unsigned_abs}
 use Rattle.std.specs.List.{All}
 use Rattle.std.proofs.Math.Nat.{le-max_right}
-use Rattle.std.proofs.lemmas.Grind.{get_or_after_one}
 use Rattle.std.proofs.lemmas.Int.{ints}
 use Rattle.std.proofs.lemmas.List.Elements.{All-head, All-tail}
 use Rattle.mcf_instance.specs.declared.arc.Arc.{Arc}
@@ -23,8 +23,7 @@ use Rattle.mcf_basis.specs.Structures.{TreeStructure, price_at, state_of}
 use Rattle.mcf_basis.specs.Violations.{HasNoEligible}
 use Rattle.mcf_basis.proofs.Cuts.{artificial_amount, artificial_low, node_case, unsent}
 use Rattle.mcf_basis.proofs.Cuts.NodeCase.{sends, takes}
-use Rattle.mcf_basis.proofs.LastBases.{shows, within}
-use Rattle.mcf_basis.proofs.PivotBounds.{zero_or_more}
+use Rattle.mcf_basis.proofs.LastBases.{node_price, shows, within, zero_or_more}
 
 -- ---- costs of two flows
 
@@ -74,15 +73,10 @@ module _ (b : TreeStructure) (ok : IsBasis b) where
   abbrev paid : Arc → ℤ → ℤ
   paid a f = reduced_cost prices a *ℤ f
 
-  node_price : (v : ℕ) → IsNode (node_count b.net) v → at_node prices v ≡ price_at b v
-  node_price v h =
-      let place : 1 + (v - 1) ≡ v = omega arith in
-      get_or_after_one b.prices (v - 1) (pos 0) ∙ ap (price_at b) place
-
   -- what a node has unsent costs, at its price, what its artificial arc costs
   unsent_paid : (v : ℕ) → IsNode (node_count b.net) v → at_node prices v *ℤ unsent b v ≡ pos (artificial_cost b.net) *ℤ artificial_amount b v
   unsent_paid v h =
-      ap (λ p. p *ℤ unsent b v) (node_price v h) ∙ elim (zero_or_more (artificial_amount b v) (artificial_low b ok v h)) [
+      ap (λ p. p *ℤ unsent b v) (node_price b ok v h) ∙ elim (zero_or_more (artificial_amount b v) (artificial_low b ok v h)) [
         | inl z ↦ elim (node_case b ok v h) [
           | sends e p ↦ both_none (price_at b v) (unsent b v) (artificial_amount b v) (omega (arith, ints, e, z)) z
           | takes e p ↦ both_none (price_at b v) (unsent b v) (artificial_amount b v) (omega (arith, ints, e, z)) z

@@ -3,6 +3,7 @@ pub mod TreePrices
 pub mod LeastFound
 pub mod Offers
 pub mod Views
+pub mod LeastOffers
 pub mod MostViolated
 pub mod RankLaws
 pub mod Flows
@@ -18,6 +19,7 @@ pub mod TreeRooms
 pub mod Climbed
 pub mod PushedRooms
 pub mod TurnedRooms
+pub mod Repricing
 pub mod StartLayouts
 pub mod Endings
 pub mod CyclePlaces

@@ -1,94 +1,72 @@
--- The most violated arc, arc by arc.
-use Rattle.std.proofs.Common.{◌≡◌, ℕ, ◌+◌, ◌<◌, ◌≤◌, inl, inr, Option, Some, None, sym, ap, arith, subst, ℤ, pos, neg_ℤ, ◌<ℤ◌, ◌≤ℤ◌}
+-- The most violated arc is that of the first least offer.
+use Rattle.std.proofs.Common.{◌≡◌, ℕ, ◌+◌, ◌-◌, ◌≤◌, None, length, get_or, arith, subst, ℤ, pos, neg_ℤ, ◌<ℤ◌}
 use Rattle.std.proofs.lemmas.Int.{ints}
-use Rattle.std.proofs.lemmas.Bool.{cases_eq}
+use Rattle.mcf_instance.specs.Network.{IsArcNumber, node_count}
 use Rattle.mcf_basis.specs.Pivots.{IsEligible}
-use Rattle.mcf_basis.specs.Structures.{TreeStructure}
-use Rattle.mcf_basis.specs.Violations.{HasNoneIn, IsMostViolated, IsMostViolatedPick, violation}
+use Rattle.mcf_basis.specs.Private.Layouts.{Layout, IsLaidOut, basis_in, no_offer, offer_at}
+use Rattle.mcf_basis.specs.Private.Offered.{CanCompare, HasPricedEnds, IsFirstLeast, IsLeastOffer, reduced_of}
+use Rattle.mcf_basis.specs.Violations.{IsMostViolated, IsMostViolatedPick, violation}
+use Rattle.mcf_basis.proofs.Offers.{IsReadOffer, read_offer}
+use Rattle.mcf_basis.proofs.Views.{price_fits}
 
--- the most violated of the arcs so far, and its reduced cost in the direction in which it gains; 0 where none is eligible
-abbrev pub IsBestSoFar : TreeStructure → ℕ → ℕ → Option ℕ → ℤ → Type 0
-IsBestSoFar b first end None least = HasNoneIn b first end × (least ≡ pos 0)
-IsBestSoFar b first end (Some k) least = IsMostViolated b first end k × (least ≡ neg_ℤ (pos (violation b k)))
+-- an offer by its place
+pub record IsPlacedOffer (l : Layout) (k i : ℕ) : Type 0 where
+  pub ends : HasPricedEnds (length l.table.prices) (offer_at l k)
+  pub eligible : reduced_of l.table.prices l.offers i <ℤ pos 0 → IsEligible (basis_in l) k
+  pub only : IsEligible (basis_in l) k → reduced_of l.table.prices l.offers i <ℤ pos 0
+  pub size : IsEligible (basis_in l) k → reduced_of l.table.prices l.offers i ≡ neg_ℤ (pos (violation (basis_in l) k))
 
-pub so_far-start : (b : TreeStructure) (first : ℕ) (least : ℤ) → least ≡ pos 0 → IsBestSoFar b first first None least
-so_far-start b first least e = (λ j low high. absurd (omega arith), e)
+module _ (l : Layout) (ok : IsLaidOut l) where
+  placed : (k : ℕ) → IsArcNumber l.net k → IsPlacedOffer l k (k - 1)
+  unfolding basis_in
+  placed k h =
+      let r : IsReadOffer (basis_in l) k (offer_at l k) = read_offer l k ok h in
+      let count : length l.table.prices ≡ node_count l.net + 1 = ok.basis.prices.one_per_node in
+      let from = r.from in
+      let to = r.to in
+      record {
+        ends = record { from = omega (arith, count, from); to = omega (arith, count, to); cost = r.cost };
+        eligible = r.eligible;
+        only = r.only;
+        size = λ el. r.size (r.only el);
+      }
 
-pub so_far-end : (b : TreeStructure) (first end : ℕ) (found : Option ℕ) (least : ℤ) → IsBestSoFar b first end found least → IsMostViolatedPick b first end found
-so_far-end b first end None least s = s.0
-so_far-end b first end (Some k) least s = s.0
+  at_place : (i : ℕ) → IsArcNumber l.net (i + 1) → IsPlacedOffer l (i + 1) i
+  at_place i h =
+      let back : i + 1 - 1 ≡ i = omega arith in
+      subst (IsPlacedOffer l (i + 1)) back (placed (i + 1) h)
 
--- an empty range
-pub so_far-empty : (b : TreeStructure) (first end : ℕ) → end ≤ first → IsMostViolatedPick b first end None
-so_far-empty b first end h = λ j low high. absurd (omega arith)
-
-module _ (b : TreeStructure) (first k : ℕ) (value : ℤ) (in_order : first ≤ k)
-    (eligible : (value <ℤ pos 0 → IsEligible b k) × (IsEligible b k → value <ℤ pos 0)) (size : value <ℤ pos 0 → value ≡ neg_ℤ (pos (violation b k))) where
-  -- an arc that violates more takes over
-  pub so_far-better : (found : Option ℕ) (least : ℤ) → IsBestSoFar b first k found least → value <ℤ least → IsBestSoFar b first (k + 1) (Some k) value
-  so_far-better None least s lt =
-      let z = s.1 in
-      let neg : value <ℤ pos 0 = omega (arith, ints, z, lt) in (
+  module _ (first end : ℕ) (low : 1 ≤ first) (order : first ≤ end) (high : end ≤ length l.net.arcs + 1) where
+    pub can_compare : CanCompare l.table.prices l.table.limit l.offers (first - 1) (end - 1)
+    unfolding basis_in
+    can_compare =
+        let size = ok.offers_size in
+        let count : length l.table.prices ≡ node_count l.net + 1 = ok.basis.prices.one_per_node in
         record {
-          low = in_order;
-          high = omega arith;
-          eligible = eligible.0 neg;
-          greatest = λ j low high el. elim (cases_eq j k) [
-            | inl e ↦ (let v : violation b j ≡ violation b k = ap (violation b) e in omega (arith, v))
-            | inr ne ↦ absurd (s.0 j low (omega arith) el)
-          ];
-          first_one = λ j low high el. absurd (s.0 j low high el);
-        },
-        size neg,
-      )
-  so_far-better (Some m) least s lt =
-      let z = s.1 in
-      let neg : value <ℤ pos 0 = omega (arith, ints, z, lt) in
-      let v : value ≡ neg_ℤ (pos (violation b k)) = size neg in
-      let more : violation b m < violation b k = omega (arith, ints, z, lt, v) in
-      let best : IsMostViolated b first k m = s.0 in (
-        record {
-          low = in_order;
-          high = omega arith;
-          eligible = eligible.0 neg;
-          greatest = λ j low high el. elim (cases_eq j k) [
-            | inl e ↦ (let same : violation b j ≡ violation b k = ap (violation b) e in omega (arith, same))
-            | inr ne ↦ (let le : violation b j ≤ violation b m = best.greatest j low (omega arith) el in omega (arith, le, more))
-          ];
-          first_one = λ j low high el. (let le : violation b j ≤ violation b m = best.greatest j low high el in omega (arith, le, more));
-        },
-        v,
-      )
+          order = omega arith;
+          high = omega (arith, size);
+          ends = λ i from to. (let back : i + 1 - 1 ≡ i = omega arith in
+              subst (λ j. HasPricedEnds (length l.table.prices) (get_or l.offers j no_offer)) back (placed (i + 1) (omega arith, omega (arith, to))).ends);
+          small = λ v h. price_fits l ok v (omega (arith, h, count));
+        }
 
-  -- one that doesn't changes nothing
-  pub so_far-same : (found : Option ℕ) (least : ℤ) → IsBestSoFar b first k found least → least ≤ℤ value → IsBestSoFar b first (k + 1) found least
-  so_far-same None least s ge =
-      let z = s.1 in (
-        λ j low high el. elim (cases_eq j k) [
-          | inl e ↦ (let neg : value <ℤ pos 0 = eligible.1 (subst (IsEligible b) e el) in omega (arith, ints, z, ge, neg))
-          | inr ne ↦ s.0 j low (omega arith) el
-        ],
-        s.1,
-      )
-  so_far-same (Some m) least s ge =
-      let z = s.1 in
-      let best : IsMostViolated b first k m = s.0 in
-      let inside : m < k = best.high in (
+    pub most_violated_some : (i : ℕ) → IsFirstLeast l.table.prices l.offers (first - 1) (end - 1) i → IsMostViolated (basis_in l) first end (i + 1)
+    most_violated_some i found =
+        let from = found.low in
+        let to = found.high in
+        let here = at_place i (omega arith, omega (arith, to)) in
+        let el : IsEligible (basis_in l) (i + 1) = here.eligible found.gains in
+        let size = here.size el in
         record {
-          low = best.low;
-          high = omega (arith, inside);
-          eligible = best.eligible;
-          greatest = λ j low high el. elim (cases_eq j k) [
-            | inl e ↦ (let neg : value <ℤ pos 0 = eligible.1 (subst (IsEligible b) e el) in
-                let v : value ≡ neg_ℤ (pos (violation b k)) = size neg in
-                let same : violation b j ≡ violation b k = ap (violation b) e in
-                omega (arith, ints, z, ge, v, same))
-            | inr ne ↦ best.greatest j low (omega arith) el
-          ];
-          first_one = best.first_one;
-        },
-        s.1,
-      )
+          low = omega (arith, from);
+          high = omega (arith, to);
+          eligible = el;
+          greatest = λ j above below other. (let there = (placed j (omega arith, omega arith)).size other in
+              let le = found.least (j - 1) (omega arith) (omega arith) in omega (arith, ints, size, there, le));
+          first_one = λ j above below other. (let there = (placed j (omega arith, omega (arith, below, to))).size other in
+              let lt = found.first (j - 1) (omega arith) (omega arith) in omega (arith, ints, size, there, lt));
+        }
 
-pub so_far-is : (b : TreeStructure) (first n : ℕ) (o o' : Option ℕ) (x x' : ℤ) → o' ≡ o → x' ≡ x → IsBestSoFar b first n o x → IsBestSoFar b first n o' x'
-so_far-is b first n o o' x x' e f s = subst (λ q. IsBestSoFar b first n q x') (sym e) (subst (λ y. IsBestSoFar b first n o y) (sym f) s)
+    pub most_violated_none : IsLeastOffer l.table.prices l.offers (first - 1) (end - 1) None → IsMostViolatedPick (basis_in l) first end None
+    most_violated_none none = λ j above below other. (let neg = (placed j (omega arith, omega arith)).only other in
+        let ge = none (j - 1) (omega arith) (omega arith) in omega (arith, ints, neg, ge))

@@ -21,7 +21,8 @@ use Rattle.mcf_basis.proofs.Labels.{own_arc}
 use Rattle.mcf_basis.proofs.Views.{carried_outside}
 
 -- the reduced cost of an arc of the net, by the arc itself
-pub own_reduced : (b : TreeStructure) (k : ℕ) → IsArcNumber b.net k → reduced_at b k ≡ (arc_at b.net k).cost -ℤ price_at b (arc_at b.net k).src +ℤ price_at b (arc_at b.net k).dst
+pub own_reduced : (b : TreeStructure) (k : ℕ) → IsArcNumber b.net k
+    → reduced_at b k ≡ (arc_at b.net k).cost -ℤ price_at b (arc_at b.net k).src +ℤ price_at b (arc_at b.net k).dst
 own_reduced b k h = ap (λ a. a.cost -ℤ price_at b a.src +ℤ price_at b a.dst) (own_arc b.net k h)
 
 -- the reduced cost of a residual arc that is offered
@@ -67,7 +68,8 @@ module _ (l : Layout) (k : ℕ) (ok : IsLaidOut l) (h : IsArcNumber l.net k) whe
   empty e out = carried_outside l k h out ∙ cond-true _ _ _ (eq-eqb _ _ (ap (λ o. o.from) e))
 
   -- and all that it can where it is turned
-  full : offer_at l k ≡ turned_offer l.net k → (arc_at l.net k).src ≢ (arc_at l.net k).dst → ¬ IsInTree (basis_in l) k → carried (basis_in l) k ≡ (arc_at l.net k).cap
+  full : offer_at l k ≡ turned_offer l.net k → (arc_at l.net k).src ≢ (arc_at l.net k).dst → ¬ IsInTree (basis_in l) k
+      → carried (basis_in l) k ≡ (arc_at l.net k).cap
   full e ne out = carried_outside l k h out ∙ cond-false _ _ _ (ne_eqb _ _ (λ q. ne (sym q ∙ ap (λ o. o.from) e)))
 
   read_closed : (arc_at l.net k).cap ≡ pos 0 → offer_at l k ≡ no_offer → IsReadOffer (basis_in l) k (offer_at l k)
@@ -130,7 +132,8 @@ module _ (l : Layout) (k : ℕ) (ok : IsLaidOut l) (h : IsArcNumber l.net k) whe
   ]
 
 -- the offer that the code reads
-pub offer_read : (l : Layout) (b : TreeStructure) (k i : ℕ) (o : Offer) → basis_in l ≡ b → IsLaidOut l → IsArcNumber b.net k → i ≡ k - 1 → o ≡ get_or l.offers i o → IsReadOffer b k o
+pub offer_read : (l : Layout) (b : TreeStructure) (k i : ℕ) (o : Offer) → basis_in l ≡ b → IsLaidOut l → IsArcNumber b.net k → i ≡ k - 1
+    → o ≡ get_or l.offers i o → IsReadOffer b k o
 unfolding basis_in
 offer_read l b k i o e ok h same read =
     let count : length l.offers ≡ length l.net.arcs = ok.offers_size in
@@ -153,7 +156,8 @@ pub record IsReadReduced (b : TreeStructure) (k src dst : ℕ) (c : ℤ) : Type 
   pub cost : IsUpTo wide_limits.cost c
   pub value : reduced_at b k ≡ c -ℤ price_at b src +ℤ price_at b dst
 
-pub reduced_read : (b : TreeStructure) (g : Network) (k src dst : ℕ) (c : ℤ) → g ≡ b.net → IsBasis b → IsArcNumber b.net k → src ≡ (arc_at g k).src → dst ≡ (arc_at g k).dst → c ≡ (arc_at g k).cost → IsReadReduced b k src dst c
+pub reduced_read : (b : TreeStructure) (g : Network) (k src dst : ℕ) (c : ℤ) → g ≡ b.net → IsBasis b → IsArcNumber b.net k → src ≡ (arc_at g k).src
+    → dst ≡ (arc_at g k).dst → c ≡ (arc_at g k).cost → IsReadReduced b k src dst c
 reduced_read b g k src dst c net ok h is_src is_dst is_cost =
     let a : IsNetArc (arc_at b.net k) = net_arc_at b.net k ok.of_net h in
     let small = a.cost_small in

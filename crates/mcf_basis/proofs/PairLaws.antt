@@ -1,5 +1,6 @@
 -- Each pivot lowers the pair of the cost and the sum of the prices.
-use Rattle.std.proofs.Common.{◌≡◌, ℕ, zero, suc, ◌+◌, ◌<◌, ◌≤◌, ◌⊎◌, Bool, true, false, length, refl, sym, ap, ◌∙◌, subst, arith, inl, inr, ℤ, pos, negsuc, ◌+ℤ◌, ◌-ℤ◌, ◌≤ℤ◌, ◌<ℤ◌}
+use Rattle.std.proofs.Common.{◌≡◌, ℕ, ◌+◌, ◌<◌, ◌≤◌, Bool, true, false, length, refl, sym, ap, ◌∙◌, subst, arith, inl, inr, ℤ, pos}
+use Rattle.std.proofs.Common.{◌+ℤ◌, ◌-ℤ◌, ◌≤ℤ◌, ◌<ℤ◌}
 use Rattle.std.specs.Prelude.{int_lt}
 use Rattle.std.proofs.Math.IntN.{◌*ℤ◌, *ℤ_comm}
 use Rattle.std.proofs.lemmas.Bool.{cases_Bool, cases_eq, both_ways}
@@ -24,14 +25,11 @@ use Rattle.mcf_basis.proofs.Around.{IsAround, IsLeaving, arcs_of, from_of, left_
 use Rattle.mcf_basis.proofs.Around.IsLeaving.{enter, left, right}
 use Rattle.mcf_basis.proofs.CyclePlaces.{leaving_of_last, up_at}
 use Rattle.mcf_basis.proofs.Cycles.{HasTwoEnds, around, two_ends}
+use Rattle.mcf_basis.proofs.LastBases.{zero_or_more}
 use Rattle.mcf_basis.proofs.Pushed.{left_outside, left_step, node_of, step_at}
 use Rattle.mcf_basis.proofs.PushedSums.{entering_cost, entering_low, is_turned, none_turned, not_turned, round_cost, turned_reduced}
+use Rattle.mcf_basis.proofs.StrongKept.{moved_low}
 use Rattle.mcf_basis.proofs.StrongPivot.{labels_apart}
-
-zero_or_above : (z : ℤ) → pos 0 ≤ℤ z → (z ≡ pos 0) ⊎ (pos 0 <ℤ z)
-zero_or_above (pos zero) h = inl refl
-zero_or_above (pos (suc n)) h = inr (omega (arith, ints))
-zero_or_above (negsuc n) h = absurd (omega (arith, ints))
 
 not_above_zero : (b : Bool) (z : ℤ) → z <ℤ pos 0 → when b z ≤ℤ pos 0
 not_above_zero true z h = omega (arith, ints, h)
@@ -198,12 +196,12 @@ module _ (old new : TreeStructure) (k : ℕ) (moved : ℤ) (ok : IsBasis old) (p
   leaves : IsLeaving old k pivot.apex moved pivot.leaves
   leaves = (leaving_of_last old k pivot.apex moved pivot.leaves ok is_around pivot.last_blocking).0
 
-  pub pair_falls : pos 0 ≤ℤ moved → PairFalls old new
-  pair_falls low =
-      elim (zero_or_above moved low) [
+  pub pair_falls : PairFalls old new
+  pair_falls =
+      elim (zero_or_more moved (moved_low old new k moved ok pivot)) [
         | inl still ↦ inr (cost_stays still, still_falls still pivot.leaves leaves pivot.mended)
         | inr some ↦ inl (cost_falls some)
       ]
 
 pub pivots_lower_the_pair_lem : PivotsLowerThePair
-pivots_lower_the_pair_lem old new k moved ok ok' pivot low = pair_falls old new k moved ok pivot low
+pivots_lower_the_pair_lem old new k moved ok pivot = pair_falls old new k moved ok pivot

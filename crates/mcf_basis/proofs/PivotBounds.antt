@@ -1,5 +1,6 @@
 -- The amounts after a pivot: within their bounds, and at a bound outside the new tree.
-use Rattle.std.proofs.Common.{◌≡◌, ◌≢◌, ℕ, ◌+◌, ◌<◌, ◌≤◌, ◌⊎◌, inl, inr, true, false, not, length, refl, sym, ap, ◌∙◌, subst, arith, ℤ, pos, negsuc, zero, suc, ◌+ℤ◌, ◌-ℤ◌, ◌≤ℤ◌, ◌<ℤ◌}
+use Rattle.std.proofs.Common.{◌≡◌, ◌≢◌, ℕ, ◌+◌, ◌<◌, ◌≤◌, ◌⊎◌, inl, inr, true, false, not, length, sym, ap, ◌∙◌, subst, arith, ℤ, pos}
+use Rattle.std.proofs.Common.{◌+ℤ◌, ◌-ℤ◌, ◌≤ℤ◌}
 use Rattle.std.proofs.lemmas.Int.{ints}
 use Rattle.std.proofs.lemmas.Bool.{both_ways, cases_eq, cases_lt, eq-eqb, ne_eqb}
 use Rattle.mcf_instance.specs.Network.{IsNode, node_count}
@@ -12,16 +13,13 @@ use Rattle.mcf_basis.specs.Bases.{CanHold, IsAtBound, IsBasis}
 use Rattle.mcf_basis.specs.Pivots.{IsPivot, entering}
 use Rattle.mcf_basis.specs.Structures.{TreeStructure, CanTake, IsInTree, carried, leaving}
 use Rattle.mcf_basis.proofs.Labels.{own_label}
-use Rattle.mcf_basis.proofs.Around.{CanGoRound, IsAround, IsLeaving, WentRound, arcs_of, from_of, left_node, left_steps, right_node, right_steps, round_amount, to_of}
+use Rattle.mcf_basis.proofs.Around.{CanGoRound, IsAround, IsLeaving, WentRound, arcs_of, from_of, left_node, left_steps, right_node, right_steps, round_amount}
+use Rattle.mcf_basis.proofs.Around.{to_of}
 use Rattle.mcf_basis.proofs.Around.IsLeaving.{right, enter, left}
+use Rattle.mcf_basis.proofs.LastBases.{zero_or_more}
 use Rattle.mcf_basis.proofs.PricesTurned.{cases_found, new_tree}
 use Rattle.mcf_basis.proofs.Pushes.{Leaves}
 use Rattle.mcf_basis.proofs.StrongKept.{entering_leaves, pivoted_amount}
-
-pub zero_or_more : (z : ℤ) → pos 0 ≤ℤ z → (z ≡ pos 0) ⊎ (pos 0 <ℤ z)
-zero_or_more (pos zero) h = inl refl
-zero_or_more (pos (suc n)) h = inr (omega (arith, ints))
-zero_or_more (negsuc n) h = absurd (omega (arith, ints))
 
 -- one residual arc along which x went
 module _ (b : TreeStructure) (label v : ℕ) (x : ℤ) (new : ℕ → ℤ)

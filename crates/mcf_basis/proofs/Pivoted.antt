@@ -306,7 +306,7 @@ module _ (l : Layout) (k : ℕ) (ok : IsLaidOut l) (el : IsEligible (basis_in l)
         record {
           pivot = pivot;
           laid_out = h.laid_out basis;
-          falls = pivots_lower_the_pair_lem (basis_in l) (basis_in l') k (pos f.amount) is_basis basis pivot (omega (arith, ints));
+          falls = pivots_lower_the_pair_lem (basis_in l) (basis_in l') k (pos f.amount) is_basis pivot;
         }
 
     pub turned : (t t' : SpanningTree) (offers : List Offer) (rooms rooms' : List Rooms) (artificial : List ℤ) (table table' : Prices) (reduced : ℤ)

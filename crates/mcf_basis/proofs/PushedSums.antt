@@ -1,5 +1,6 @@
 -- What an amount that goes round the cycle of a pivot changes of the sums: no surplus, and the cost by the reduced cost of the arc that enters.
-use Rattle.std.proofs.Common.{◌≡◌, ℕ, zero, suc, ◌+◌, ◌-◌, ◌<◌, ◌≤◌, ◌++◌, Bool, true, false, not, eqb, cond, List, [], ◌∷◌, length, set, refl, sym, ap, ◌∙◌, subst, arith, inl, inr, ℤ, pos, negsuc, ◌+ℤ◌, ◌-ℤ◌, ◌<ℤ◌, neg_ℤ}
+use Rattle.std.proofs.Common.{◌≡◌, ℕ, zero, suc, ◌+◌, ◌-◌, ◌<◌, ◌≤◌, ◌++◌, Bool, true, false, not, eqb, cond, List, [], ◌∷◌, length, set, refl, sym, ap, ◌∙◌}
+use Rattle.std.proofs.Common.{subst, arith, inl, inr, ℤ, pos, negsuc, ◌+ℤ◌, ◌-ℤ◌, ◌<ℤ◌, neg_ℤ}
 use Rattle.std.specs.Prelude.{int_lt}
 use Rattle.std.specs.List.{All}
 use Rattle.std.proofs.Math.IntN.{◌*ℤ◌, *ℤ_comm}

@@ -1,5 +1,6 @@
 -- No rank lies far below 0.
-use Rattle.std.proofs.Common.{◌≡◌, ℕ, suc, ◌+◌, ◌-◌, ◌*◌, ◌<◌, List, [], ◌∷◌, length, map, drop, sum, get_or, refl, sym, ap, ◌∙◌, arith, ℤ, pos, negsuc, neg_ℤ, ◌+ℤ◌, ◌*ℤ◌, ◌≤ℤ◌}
+use Rattle.std.proofs.Common.{◌≡◌, ℕ, suc, ◌+◌, ◌-◌, ◌*◌, ◌<◌, List, [], ◌∷◌, length, map, drop, sum, get_or, refl, sym, ap, ◌∙◌, arith, ℤ, pos, negsuc, neg_ℤ}
+use Rattle.std.proofs.Common.{◌+ℤ◌, ◌*ℤ◌, ◌≤ℤ◌}
 use Rattle.std.specs.Prelude.{unsigned_abs}
 use Rattle.std.specs.List.{range_with_len}
 use Rattle.std.proofs.lemmas.Int.{ints}
@@ -23,7 +24,8 @@ use Rattle.mcf_basis.proofs.Labels.{added_label}
 use Rattle.mcf_basis.proofs.LastBases.{within}
 use Rattle.mcf_basis.proofs.RankLaws.{price_sum_reached, rank_falls}
 
-sum_low : (t : Arc → ℤ → ℤ) (arcs : List Arc) (flow : List ℤ) → ((i : ℕ) → i < length arcs → i < length flow → pos 0 ≤ℤ t (get_or arcs i no_arc) (get_or flow i (pos 0))) → pos 0 ≤ℤ flow_sum t arcs flow
+sum_low : (t : Arc → ℤ → ℤ) (arcs : List Arc) (flow : List ℤ)
+    → ((i : ℕ) → i < length arcs → i < length flow → pos 0 ≤ℤ t (get_or arcs i no_arc) (get_or flow i (pos 0))) → pos 0 ≤ℤ flow_sum t arcs flow
 sum_low t [] flow each = omega (arith, ints)
 sum_low t (a ∷ arcs) [] each = omega (arith, ints)
 sum_low t (a ∷ arcs) (f ∷ flow) each =
@@ -32,32 +34,40 @@ sum_low t (a ∷ arcs) (f ∷ flow) each =
     omega (arith, ints, first, rest)
 
 artificial_paid : (b : TreeStructure) → IsBasis b → (i : ℕ) → i < length (map (artificial_arc b.net) (range_with_len 1 (node_count b.net))) →
-    pos 0 ≤ℤ ((get_or (map (artificial_arc b.net) (range_with_len 1 (node_count b.net))) i no_arc).cost *ℤ get_or (drop (length b.net.arcs) b.amounts) i (pos 0))
+    pos 0 ≤ℤ ((get_or (map (artificial_arc b.net) (range_with_len 1 (node_count b.net))) i no_arc).cost *ℤ get_or (drop (length b.net.arcs) b.amounts) i
+    (pos 0))
 artificial_paid b ok i h =
-    let n : length (map (artificial_arc b.net) (range_with_len 1 (node_count b.net))) ≡ node_count b.net = length-map-range_with_len (artificial_arc b.net) 1 (node_count b.net) in
+    let n : length (map (artificial_arc b.net) (range_with_len 1 (node_count b.net))) ≡ node_count b.net =
+    length-map-range_with_len (artificial_arc b.net) 1 (node_count b.net) in
     let arc = get_or-map-range_with_len (artificial_arc b.net) 1 (node_count b.net) i (i + 1) no_arc (omega (arith, n, h)) (omega arith) in
     let node : IsNode (node_count b.net) (i + 1) = (omega arith, omega (arith, n, h)) in
     let held = ok.flow.within_bounds (length b.net.arcs + (i + 1)) (added_label b.net (i + 1) node) in
     let place : length b.net.arcs + (i + 1) - 1 ≡ length b.net.arcs + i = omega arith in
-    let read : get_or (drop (length b.net.arcs) b.amounts) i (pos 0) ≡ carried b (length b.net.arcs + (i + 1)) = get_or-drop (length b.net.arcs) b.amounts i (pos 0) ∙ sym (ap (λ j. get_or b.amounts j (pos 0)) place) in
+    let read : get_or (drop (length b.net.arcs) b.amounts) i (pos 0) ≡ carried b (length b.net.arcs + (i + 1)) =
+    get_or-drop (length b.net.arcs) b.amounts i (pos 0) ∙ sym (ap (λ j. get_or b.amounts j (pos 0)) place) in
     let low = held.low in
     let paid = ap (λ a. a.cost) arc in
-    mul_at_least_zero (get_or (map (artificial_arc b.net) (range_with_len 1 (node_count b.net))) i no_arc).cost (get_or (drop (length b.net.arcs) b.amounts) i (pos 0)) (omega (arith, ints, paid)) (omega (arith, ints, read, low))
+    mul_at_least_zero (get_or (map (artificial_arc b.net) (range_with_len 1 (node_count b.net))) i no_arc).cost
+    (get_or (drop (length b.net.arcs) b.amounts) i (pos 0)) (omega (arith, ints, paid)) (omega (arith, ints, read, low))
 
 -- a basis costs no less than all arcs of the net can earn
 cost_low : (b : TreeStructure) → IsBasis b → neg_ℤ (pos (artificial_cost b.net)) ≤ℤ full_cost b
 cost_low b ok =
     let count = amount_count b ok in
-    let split : full_cost b ≡ cost b.net.arcs (state_of b).amounts +ℤ flow_sum (λ a f. a.cost *ℤ f) (map (artificial_arc b.net) (range_with_len 1 (node_count b.net))) (drop (length b.net.arcs) b.amounts) =
+    let split : full_cost b ≡ cost b.net.arcs (state_of b).amounts +ℤ flow_sum (λ a f. a.cost *ℤ f)
+    (map (artificial_arc b.net) (range_with_len 1 (node_count b.net))) (drop (length b.net.arcs) b.amounts) =
     split_sum (λ a f. a.cost *ℤ f) b.net b.amounts (omega (arith, count)) in
-    let own : IsUpTo (sum (map weight b.net.arcs)) (cost b.net.arcs (state_of b).amounts) = cost_up_to b.net.arcs (state_of b).amounts (sum (map weight b.net.arcs)) (omega arith) (within b ok) in
-    let paid = sum_low (λ a f. a.cost *ℤ f) (map (artificial_arc b.net) (range_with_len 1 (node_count b.net))) (drop (length b.net.arcs) b.amounts) (λ i l m. artificial_paid b ok i l) in
+    let own : IsUpTo (sum (map weight b.net.arcs)) (cost b.net.arcs (state_of b).amounts) =
+    cost_up_to b.net.arcs (state_of b).amounts (sum (map weight b.net.arcs)) (omega arith) (within b ok) in
+    let paid = sum_low (λ a f. a.cost *ℤ f) (map (artificial_arc b.net) (range_with_len 1 (node_count b.net))) (drop (length b.net.arcs) b.amounts)
+    (λ i l m. artificial_paid b ok i l) in
     omega (arith, ints, split, own, paid)
 
 -- over plain numbers
 deep : (c s : ℤ) (low half : ℕ) → neg_ℤ (pos low) ≤ℤ c → IsUpTo half s → pos 0 ≤ℤ ((c *ℤ pos (2 * half + 1) +ℤ s) +ℤ pos (low * (2 * half + 1) + 2 * half))
 deep c s low half h near =
-    let times : (neg_ℤ (pos low) *ℤ pos (2 * half + 1)) ≤ℤ (c *ℤ pos (2 * half + 1)) = mul-mono_left (neg_ℤ (pos low)) c (pos (2 * half + 1)) (omega (arith, ints)) h in
+    let times : (neg_ℤ (pos low) *ℤ pos (2 * half + 1)) ≤ℤ (c *ℤ pos (2 * half + 1)) =
+    mul-mono_left (neg_ℤ (pos low)) c (pos (2 * half + 1)) (omega (arith, ints)) h in
     let turned : neg_ℤ (pos low) *ℤ pos (2 * half + 1) ≡ neg_ℤ (pos low *ℤ pos (2 * half + 1)) = neg-mul (pos low) (pos (2 * half + 1)) in
     let product : pos low *ℤ pos (2 * half + 1) ≡ pos (low * (2 * half + 1)) = refl in
     omega (arith, ints, times, turned, product, near)
@@ -68,7 +78,8 @@ size_of_low (negsuc n) h = absurd (omega (arith, ints))
 
 counted : (b : TreeStructure) → IsBasis b → pos (rank_above b) ≡ rank_of b +ℤ pos (rank_depth b.net)
 counted b ok =
-    size_of_low (rank_of b +ℤ pos (rank_depth b.net)) (deep (full_cost b) (price_sum b) (artificial_cost b.net) (node_count b.net * price_reach b.net) (cost_low b ok) (price_sum_reached b ok))
+    size_of_low (rank_of b +ℤ pos (rank_depth b.net)) (deep (full_cost b) (price_sum b) (artificial_cost b.net) (node_count b.net * price_reach b.net)
+    (cost_low b ok) (price_sum_reached b ok))
 
 pub ranks_count_down_lem : RanksCountDown
 ranks_count_down_lem old new ok ok' net falls =

@@ -20,7 +20,8 @@ price_sum_reached b ok = node_sum_up_to (price_at b) (price_reach b.net) (node_c
 lower_cost : (c d s t : ℤ) (half : ℕ) → IsUpTo half s → IsUpTo half t → d <ℤ c → (d *ℤ pos (2 * half + 1) +ℤ t) <ℤ (c *ℤ pos (2 * half + 1) +ℤ s)
 lower_cost c d s t half a b lt =
     let step : d ≤ℤ (c -ℤ pos 1) = omega (arith, ints) in
-    let times : (d *ℤ pos (2 * half + 1)) ≤ℤ ((c -ℤ pos 1) *ℤ pos (2 * half + 1)) = mul-mono_left d (c -ℤ pos 1) (pos (2 * half + 1)) (omega (arith, ints)) step in
+    let times : (d *ℤ pos (2 * half + 1)) ≤ℤ ((c -ℤ pos 1) *ℤ pos (2 * half + 1)) =
+    mul-mono_left d (c -ℤ pos 1) (pos (2 * half + 1)) (omega (arith, ints)) step in
     let split : (c -ℤ pos 1) *ℤ pos (2 * half + 1) ≡ c *ℤ pos (2 * half + 1) -ℤ pos 1 *ℤ pos (2 * half + 1) = sub-mul c (pos 1) (pos (2 * half + 1)) in
     let one : pos 1 *ℤ pos (2 * half + 1) ≡ pos (2 * half + 1) = one-mul (pos (2 * half + 1)) in
     omega (arith, ints, a, b, times, split, one)
@@ -34,7 +35,8 @@ pub rank_falls : (old new : TreeStructure) → IsBasis old → IsBasis new → n
 rank_falls old new ok ok' net falls =
     let half : ℕ = node_count old.net * price_reach old.net in
     let was : IsUpTo (node_count old.net * price_reach old.net) (price_sum old) = price_sum_reached old ok in
-    let is : IsUpTo (node_count old.net * price_reach old.net) (price_sum new) = subst (λ (g : Network). IsUpTo (node_count g * price_reach g) (price_sum new)) net (price_sum_reached new ok') in
+    let is : IsUpTo (node_count old.net * price_reach old.net) (price_sum new) =
+    subst (λ (g : Network). IsUpTo (node_count g * price_reach g) (price_sum new)) net (price_sum_reached new ok') in
     subst (λ (g : Network). (full_cost new *ℤ pos (price_span g + 1) +ℤ price_sum new) <ℤ rank_of old) (sym net)
     (elim falls [
       | inl lt ↦ lower_cost (full_cost old) (full_cost new) (price_sum old) (price_sum new) (node_count old.net * price_reach old.net) was is lt
@@ -45,16 +47,19 @@ pub ranks_fall_lem : RanksFall
 ranks_fall_lem = rank_falls
 
 -- over plain numbers
-within_bound : (c d s t floor pivots : ℤ) (half : ℕ) → IsUpTo half s → IsUpTo half t → floor ≤ℤ d → (pivots +ℤ (d *ℤ pos (2 * half + 1) +ℤ t)) ≤ℤ (c *ℤ pos (2 * half + 1) +ℤ s) →
+within_bound : (c d s t floor pivots : ℤ) (half : ℕ) → IsUpTo half s → IsUpTo half t → floor ≤ℤ d
+    → (pivots +ℤ (d *ℤ pos (2 * half + 1) +ℤ t)) ≤ℤ (c *ℤ pos (2 * half + 1) +ℤ s) →
     pivots ≤ℤ ((c -ℤ floor) +ℤ ((c -ℤ floor) +ℤ pos 1) *ℤ pos (2 * half))
 within_bound c d s t floor pivots half a b low h =
     let times : (floor *ℤ pos (2 * half + 1)) ≤ℤ (d *ℤ pos (2 * half + 1)) = mul-mono_left floor d (pos (2 * half + 1)) (omega (arith, ints)) low in
     let more_pos : pos (2 * half + 1) ≡ pos (2 * half) +ℤ pos 1 = omega (arith, ints) in
     let c_split : c *ℤ pos (2 * half + 1) ≡ c *ℤ pos (2 * half) +ℤ c *ℤ pos 1 = ap (λ x. c *ℤ x) more_pos ∙ mul-add c (pos (2 * half)) (pos 1) in
     let c_one : c *ℤ pos 1 ≡ c = mul-one c in
-    let f_split : floor *ℤ pos (2 * half + 1) ≡ floor *ℤ pos (2 * half) +ℤ floor *ℤ pos 1 = ap (λ x. floor *ℤ x) more_pos ∙ mul-add floor (pos (2 * half)) (pos 1) in
+    let f_split : floor *ℤ pos (2 * half + 1) ≡ floor *ℤ pos (2 * half) +ℤ floor *ℤ pos 1 =
+    ap (λ x. floor *ℤ x) more_pos ∙ mul-add floor (pos (2 * half)) (pos 1) in
     let f_one : floor *ℤ pos 1 ≡ floor = mul-one floor in
-    let e_split : ((c -ℤ floor) +ℤ pos 1) *ℤ pos (2 * half) ≡ (c -ℤ floor) *ℤ pos (2 * half) +ℤ pos 1 *ℤ pos (2 * half) = add-mul (c -ℤ floor) (pos 1) (pos (2 * half)) in
+    let e_split : ((c -ℤ floor) +ℤ pos 1) *ℤ pos (2 * half) ≡ (c -ℤ floor) *ℤ pos (2 * half) +ℤ pos 1 *ℤ pos (2 * half) =
+    add-mul (c -ℤ floor) (pos 1) (pos (2 * half)) in
     let e_one : pos 1 *ℤ pos (2 * half) ≡ pos (2 * half) = one-mul (pos (2 * half)) in
     let d_split : (c -ℤ floor) *ℤ pos (2 * half) ≡ c *ℤ pos (2 * half) -ℤ floor *ℤ pos (2 * half) = sub-mul c floor (pos (2 * half)) in
     omega (arith, ints, a, b, times, h, c_split, c_one, f_split, f_one, e_split, e_one, d_split)
@@ -62,8 +67,11 @@ within_bound c d s t floor pivots half a b low h =
 pub ranks_bound_pivots_lem : RanksBoundPivots
 ranks_bound_pivots_lem first last pivots floor ok ok' net h low =
     let was : IsUpTo (node_count first.net * price_reach first.net) (price_sum first) = price_sum_reached first ok in
-    let is : IsUpTo (node_count first.net * price_reach first.net) (price_sum last) = subst (λ (g : Network). IsUpTo (node_count g * price_reach g) (price_sum last)) net (price_sum_reached last ok') in
+    let is : IsUpTo (node_count first.net * price_reach first.net) (price_sum last) =
+    subst (λ (g : Network). IsUpTo (node_count g * price_reach g) (price_sum last)) net (price_sum_reached last ok') in
     let flow : IsFullFlow (full_state last) first.net = subst (IsFullFlow (full_state last)) net ok'.flow in
     let above : floor ≤ℤ full_cost last = low (full_state last) flow in
-    let ranks : (pos pivots +ℤ (full_cost last *ℤ pos (price_span first.net + 1) +ℤ price_sum last)) ≤ℤ rank_of first = subst (λ (g : Network). (pos pivots +ℤ (full_cost last *ℤ pos (price_span g + 1) +ℤ price_sum last)) ≤ℤ rank_of first) net h in
-    within_bound (full_cost first) (full_cost last) (price_sum first) (price_sum last) floor (pos pivots) (node_count first.net * price_reach first.net) was is above ranks
+    let ranks : (pos pivots +ℤ (full_cost last *ℤ pos (price_span first.net + 1) +ℤ price_sum last)) ≤ℤ rank_of first =
+    subst (λ (g : Network). (pos pivots +ℤ (full_cost last *ℤ pos (price_span g + 1) +ℤ price_sum last)) ≤ℤ rank_of first) net h in
+    within_bound (full_cost first) (full_cost last) (price_sum first) (price_sum last) floor (pos pivots) (node_count first.net * price_reach first.net) was is
+    above ranks

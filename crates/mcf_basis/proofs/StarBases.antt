@@ -1,5 +1,6 @@
 -- The star of the artificial arcs is a basis.
-use Rattle.std.proofs.Common.{◌≡◌, ◌≢◌, ℕ, zero, suc, ◌+◌, ◌-◌, ◌<◌, ◌≤◌, ◌++◌, inl, inr, true, false, not, eqb, List, [], length, map, take, drop, replicate, get_or, refl, sym, ap, ◌∙◌, arith, subst, ℤ, pos, negsuc, neg_ℤ, ◌+ℤ◌, ◌-ℤ◌, ◌<ℤ◌, ◌≤ℤ◌, length-append}
+use Rattle.std.proofs.Common.{◌≡◌, ◌≢◌, ℕ, zero, suc, ◌+◌, ◌-◌, ◌<◌, ◌≤◌, ◌++◌, inl, inr, true, false, not, eqb, List, [], length, map, take, drop, replicate}
+use Rattle.std.proofs.Common.{get_or, refl, sym, ap, ◌∙◌, arith, subst, ℤ, pos, negsuc, neg_ℤ, ◌+ℤ◌, ◌-ℤ◌, ◌<ℤ◌, ◌≤ℤ◌, length-append}
 use Rattle.std.specs.Prelude.{unsigned_abs, int_le}
 use Rattle.std.specs.List.{All, range_with_len}
 use Rattle.std.proofs.lemmas.Int.{ints}
@@ -41,34 +42,34 @@ size_below (pos n) h = absurd (omega (arith, ints))
 size_below (negsuc n) h = omega (arith, ints)
 
 -- the ends of an artificial arc
-sender_src : (g : Network) (v : ℕ) → is_sender g v ≡ true → (artificial_arc g v).src ≡ v
+pub sender_src : (g : Network) (v : ℕ) → is_sender g v ≡ true → (artificial_arc g v).src ≡ v
 sender_src g v e = rw e refl
 
-sender_dst : (g : Network) (v : ℕ) → is_sender g v ≡ true → (artificial_arc g v).dst ≡ 0
+pub sender_dst : (g : Network) (v : ℕ) → is_sender g v ≡ true → (artificial_arc g v).dst ≡ 0
 sender_dst g v e = rw e refl
 
-taker_src : (g : Network) (v : ℕ) → is_sender g v ≡ false → (artificial_arc g v).src ≡ 0
+pub taker_src : (g : Network) (v : ℕ) → is_sender g v ≡ false → (artificial_arc g v).src ≡ 0
 taker_src g v e = rw e refl
 
-taker_dst : (g : Network) (v : ℕ) → is_sender g v ≡ false → (artificial_arc g v).dst ≡ v
+pub taker_dst : (g : Network) (v : ℕ) → is_sender g v ≡ false → (artificial_arc g v).dst ≡ v
 taker_dst g v e = rw e refl
 
 -- an artificial arc has no end at another node
-apart_src : (g : Network) (u v : ℕ) → 0 < v → u ≢ v → (artificial_arc g u).src ≢ v
+pub apart_src : (g : Network) (u v : ℕ) → 0 < v → u ≢ v → (artificial_arc g u).src ≢ v
 apart_src g u v up ne q = elim (cases_Bool (is_sender g u)) [
   | inl e ↦ ne (sym (sender_src g u e) ∙ q)
   | inr e ↦ (let z : 0 ≡ v = sym (taker_src g u e) ∙ q in omega (arith, z, up))
 ]
 
-apart_dst : (g : Network) (u v : ℕ) → 0 < v → u ≢ v → (artificial_arc g u).dst ≢ v
+pub apart_dst : (g : Network) (u v : ℕ) → 0 < v → u ≢ v → (artificial_arc g u).dst ≢ v
 apart_dst g u v up ne q = elim (cases_Bool (is_sender g u)) [
   | inl e ↦ (let z : 0 ≡ v = sym (sender_dst g u e) ∙ q in omega (arith, z, up))
   | inr e ↦ ne (sym (taker_dst g u e) ∙ q)
 ]
 
 -- the artificial arcs, and what they carry at the start
-abbrev star_arcs : Network → List Arc
-star_arcs g = map (artificial_arc g) (range_with_len 1 (node_count g))
+abbrev pub added_arcs : Network → List Arc
+added_arcs g = map (artificial_arc g) (range_with_len 1 (node_count g))
 
 abbrev star_amount : Network → ℕ → ℤ
 star_amount g u = pos (unsigned_abs (at_node g.supplies u))
@@ -76,49 +77,52 @@ star_amount g u = pos (unsigned_abs (at_node g.supplies u))
 abbrev star_flow : Network → List ℤ
 star_flow g = map (λ u. pos (unsigned_abs (at_node g.supplies u))) (range_with_len 1 (node_count g))
 
+pub arc_at_place : (g : Network) (i : ℕ) → i < node_count g → get_or (added_arcs g) i no_arc ≡ artificial_arc g (i + 1)
+arc_at_place g i l = get_or-map-range_with_len (artificial_arc g) 1 (node_count g) i (i + 1) no_arc l (omega arith)
+
 -- what the artificial arcs carry away from a node is its supply
 module _ (g : Network) (v : ℕ) (h : IsNode (node_count g) v) where
-  star_size : length (star_flow g) ≡ length (star_arcs g)
-  star_size = length-map-range_with_len (λ u. pos (unsigned_abs (at_node g.supplies u))) 1 (node_count g) ∙ sym (length-map-range_with_len (artificial_arc g) 1 (node_count g))
-
-  arc_at_place : (i : ℕ) → i < node_count g → get_or (star_arcs g) i no_arc ≡ artificial_arc g (i + 1)
-  arc_at_place i l = get_or-map-range_with_len (artificial_arc g) 1 (node_count g) i (i + 1) no_arc l (omega arith)
+  star_size : length (star_flow g) ≡ length (added_arcs g)
+  star_size = length-map-range_with_len (λ u. pos (unsigned_abs (at_node g.supplies u))) 1 (node_count g) ∙ sym
+      (length-map-range_with_len (artificial_arc g) 1 (node_count g))
 
   flow_at_place : (i : ℕ) → i < node_count g → get_or (star_flow g) i (pos 0) ≡ pos (unsigned_abs (at_node g.supplies (i + 1)))
   flow_at_place i l = get_or-map-range_with_len (λ u. pos (unsigned_abs (at_node g.supplies u))) 1 (node_count g) i (i + 1) (pos 0) l (omega arith)
 
-  star_out : outflow (star_arcs g) (star_flow g) v ≡ when (eqb (artificial_arc g v).src v) (pos (unsigned_abs (at_node g.supplies v)))
+  star_out : outflow (added_arcs g) (star_flow g) v ≡ when (eqb (artificial_arc g v).src v) (pos (unsigned_abs (at_node g.supplies v)))
   star_out =
       let n = length-map-range_with_len (artificial_arc g) 1 (node_count g) in
       let back : v - 1 + 1 ≡ v = omega arith in
-      single_term (λ a f. when (eqb a.src v) f) (star_arcs g) (star_flow g) (v - 1) star_size (omega (arith, n, h))
+      single_term (λ a f. when (eqb a.src v) f) (added_arcs g) (star_flow g) (v - 1) star_size (omega (arith, n, h))
       (λ i l ne. (let m : i < node_count g = omega (arith, n, l) in
-      subst (λ a. when (eqb a.src v) (get_or (star_flow g) i (pos 0)) ≡ pos 0) (sym (arc_at_place i m))
+      subst (λ a. when (eqb a.src v) (get_or (star_flow g) i (pos 0)) ≡ pos 0) (sym (arc_at_place g i m))
       (when-other (artificial_arc g (i + 1)).src v _ (λ q. apart_src g (i + 1) v (omega arith) (λ e. ne (omega arith)) (sym q)))))
-      ∙ (ap (λ a. when (eqb a.src v) (get_or (star_flow g) (v - 1) (pos 0))) (arc_at_place (v - 1) (omega arith) ∙ ap (artificial_arc g) back)
+      ∙ (ap (λ a. when (eqb a.src v) (get_or (star_flow g) (v - 1) (pos 0))) (arc_at_place g (v - 1) (omega arith) ∙ ap (artificial_arc g) back)
       ∙ ap (when (eqb (artificial_arc g v).src v)) (flow_at_place (v - 1) (omega arith) ∙ ap (λ u. pos (unsigned_abs (at_node g.supplies u))) back))
 
-  star_in : inflow (star_arcs g) (star_flow g) v ≡ when (eqb (artificial_arc g v).dst v) (pos (unsigned_abs (at_node g.supplies v)))
+  star_in : inflow (added_arcs g) (star_flow g) v ≡ when (eqb (artificial_arc g v).dst v) (pos (unsigned_abs (at_node g.supplies v)))
   star_in =
       let n = length-map-range_with_len (artificial_arc g) 1 (node_count g) in
       let back : v - 1 + 1 ≡ v = omega arith in
-      single_term (λ a f. when (eqb a.dst v) f) (star_arcs g) (star_flow g) (v - 1) star_size (omega (arith, n, h))
+      single_term (λ a f. when (eqb a.dst v) f) (added_arcs g) (star_flow g) (v - 1) star_size (omega (arith, n, h))
       (λ i l ne. (let m : i < node_count g = omega (arith, n, l) in
-      subst (λ a. when (eqb a.dst v) (get_or (star_flow g) i (pos 0)) ≡ pos 0) (sym (arc_at_place i m))
+      subst (λ a. when (eqb a.dst v) (get_or (star_flow g) i (pos 0)) ≡ pos 0) (sym (arc_at_place g i m))
       (when-other (artificial_arc g (i + 1)).dst v _ (λ q. apart_dst g (i + 1) v (omega arith) (λ e. ne (omega arith)) (sym q)))))
-      ∙ (ap (λ a. when (eqb a.dst v) (get_or (star_flow g) (v - 1) (pos 0))) (arc_at_place (v - 1) (omega arith) ∙ ap (artificial_arc g) back)
+      ∙ (ap (λ a. when (eqb a.dst v) (get_or (star_flow g) (v - 1) (pos 0))) (arc_at_place g (v - 1) (omega arith) ∙ ap (artificial_arc g) back)
       ∙ ap (when (eqb (artificial_arc g v).dst v)) (flow_at_place (v - 1) (omega arith) ∙ ap (λ u. pos (unsigned_abs (at_node g.supplies u))) back))
 
-  pub star_net : net (star_arcs g) (star_flow g) v ≡ at_node g.supplies v
+  pub star_net : net (added_arcs g) (star_flow g) v ≡ at_node g.supplies v
   star_net =
       let out = star_out in
       let inn = star_in in
       elim (cases_Bool (is_sender g v)) [
         | inl e ↦ (let s = when-same (artificial_arc g v).src v (pos (unsigned_abs (at_node g.supplies v))) (sym (sender_src g v e)) in
-            let d = when-other (artificial_arc g v).dst v (pos (unsigned_abs (at_node g.supplies v))) (λ q. (let z : v ≡ 0 = q ∙ sender_dst g v e in omega (arith, z, h))) in
+            let d = when-other (artificial_arc g v).dst v (pos (unsigned_abs (at_node g.supplies v)))
+            (λ q. (let z : v ≡ 0 = q ∙ sender_dst g v e in omega (arith, z, h))) in
             let size = size_low (at_node g.supplies v) (at_most (pos 0) (at_node g.supplies v) e) in
             omega (arith, ints, out, inn, s, d, size))
-        | inr e ↦ (let s = when-other (artificial_arc g v).src v (pos (unsigned_abs (at_node g.supplies v))) (λ q. (let z : v ≡ 0 = q ∙ taker_src g v e in omega (arith, z, h))) in
+        | inr e ↦ (let s = when-other (artificial_arc g v).src v (pos (unsigned_abs (at_node g.supplies v)))
+            (λ q. (let z : v ≡ 0 = q ∙ taker_src g v e in omega (arith, z, h))) in
             let d = when-same (artificial_arc g v).dst v (pos (unsigned_abs (at_node g.supplies v))) (sym (taker_dst g v e)) in
             let size = size_below (at_node g.supplies v) (below_zero (at_node g.supplies v) e) in
             omega (arith, ints, out, inn, s, d, size))
@@ -134,7 +138,8 @@ taken (suc n) xs zero h = refl
 taken (suc n) xs (suc i) h = taken n xs i (omega arith)
 
 -- the star with these amounts and prices is a basis
-module _ (b : TreeStructure) (ok : IsNet b.net) (spanning : IsSpanning b.tree) (star : IsStar b.tree (node_count b.net) (length b.net.arcs)) (amounts : b.amounts ≡ start_amounts b.net) (prices : b.prices ≡ start_prices b.net) where
+module _ (b : TreeStructure) (ok : IsNet b.net) (spanning : IsSpanning b.tree) (star : IsStar b.tree (node_count b.net) (length b.net.arcs))
+    (amounts : b.amounts ≡ start_amounts b.net) (prices : b.prices ≡ start_prices b.net) where
   star_label : (v : ℕ) → IsNode (node_count b.net) v → label_of b.tree v ≡ length b.net.arcs + v
   star_label v h = star.label v (omega arith) h.1
 
@@ -148,7 +153,8 @@ module _ (b : TreeStructure) (ok : IsNet b.net) (spanning : IsSpanning b.tree) (
   own_empty k h =
       let n = length-replicate (length b.net.arcs) (pos 0) in
       ap (λ xs. get_or xs (k - 1) (pos 0)) amounts
-      ∙ (get_or_append_left (replicate (length b.net.arcs) (pos 0)) (star_flow b.net) (pos 0) (k - 1) (omega (arith, n, h)) ∙ get_or-replicate (length b.net.arcs) (k - 1) (pos 0) (pos 0) (omega arith))
+      ∙ (get_or_append_left (replicate (length b.net.arcs) (pos 0)) (star_flow b.net) (pos 0) (k - 1) (omega (arith, n, h)) ∙ get_or-replicate
+      (length b.net.arcs) (k - 1) (pos 0) (pos 0) (omega arith))
 
   added_amount : (v label : ℕ) → IsNode (node_count b.net) v → label ≡ length b.net.arcs + v → carried b label ≡ star_amount b.net v
   added_amount v label h e =
@@ -183,7 +189,8 @@ module _ (b : TreeStructure) (ok : IsNet b.net) (spanning : IsSpanning b.tree) (
 
   star_balanced : (v : ℕ) → IsNode (node_count b.net) v → reduced_at b (label_of b.tree v) ≡ pos 0
   star_balanced v h =
-      let cut : reduced_at b (label_of b.tree v) ≡ (artificial_arc b.net v).cost -ℤ price_at b (artificial_arc b.net v).src +ℤ price_at b (artificial_arc b.net v).dst = ap (λ a. a.cost -ℤ price_at b a.src +ℤ price_at b a.dst) (star_arc v h) in
+      let cut : reduced_at b (label_of b.tree v) ≡ (artificial_arc b.net v).cost -ℤ price_at b (artificial_arc b.net v).src +ℤ price_at b
+      (artificial_arc b.net v).dst = ap (λ a. a.cost -ℤ price_at b a.src +ℤ price_at b a.dst) (star_arc v h) in
       let root = root_start_price in
       let here = node_start_price v h in
       elim (cases_Bool (is_sender b.net v)) [
@@ -199,7 +206,8 @@ module _ (b : TreeStructure) (ok : IsNet b.net) (spanning : IsSpanning b.tree) (
 
   star_prices : HasTreePrices b
   star_prices = record {
-    one_per_node = (let n = length-map-range_with_len (start_price b.net) 1 (node_count b.net) in let l : length b.prices ≡ length (start_prices b.net) = ap length prices in omega (arith, n, l));
+    one_per_node = (let n = length-map-range_with_len (start_price b.net) 1 (node_count b.net) in let l : length b.prices ≡ length (start_prices b.net) =
+        ap length prices in omega (arith, n, l));
     root = root_start_price;
     balanced = star_balanced;
   }
@@ -233,16 +241,22 @@ module _ (b : TreeStructure) (ok : IsNet b.net) (spanning : IsSpanning b.tree) (
   star_no_surplus v h =
       let node : IsNode (node_count b.net) v = subst (λ n. IsNode n v) (sym (node_count_added b.net)) h in
       let r = length-replicate (length b.net.arcs) (pos 0) in
-      let cut : net (with_artificial b.net).arcs b.amounts v ≡ net (with_artificial b.net).arcs (start_amounts b.net) v = ap (λ xs. net (with_artificial b.net).arcs xs v) amounts in
-      let size : length b.net.arcs ≤ length (start_amounts b.net) = (let a = length-append (replicate (length b.net.arcs) (pos 0)) (star_flow b.net) in omega (arith, a, r)) in
+      let cut : net (with_artificial b.net).arcs b.amounts v ≡ net (with_artificial b.net).arcs (start_amounts b.net) v =
+      ap (λ xs. net (with_artificial b.net).arcs xs v) amounts in
+      let size : length b.net.arcs ≤ length (start_amounts b.net) =
+      (let a = length-append (replicate (length b.net.arcs) (pos 0)) (star_flow b.net) in omega (arith, a, r)) in
       let out = split_sum (λ a f. when (eqb a.src v) f) b.net (start_amounts b.net) size in
       let inn = split_sum (λ a f. when (eqb a.dst v) f) b.net (start_amounts b.net) size in
       let rest : drop (length b.net.arcs) (start_amounts b.net) ≡ star_flow b.net = dropped (length b.net.arcs) (star_flow b.net) in
       let zeros = taken (length b.net.arcs) (star_flow b.net) in
-      let out0 : flow_sum (λ a f. when (eqb a.src v) f) b.net.arcs (take (length b.net.arcs) (start_amounts b.net)) ≡ pos 0 = sum_of_zeros (λ a f. when (eqb a.src v) f) (λ a. when-zero (eqb a.src v)) b.net.arcs (take (length b.net.arcs) (start_amounts b.net)) zeros in
-      let inn0 : flow_sum (λ a f. when (eqb a.dst v) f) b.net.arcs (take (length b.net.arcs) (start_amounts b.net)) ≡ pos 0 = sum_of_zeros (λ a f. when (eqb a.dst v) f) (λ a. when-zero (eqb a.dst v)) b.net.arcs (take (length b.net.arcs) (start_amounts b.net)) zeros in
-      let out1 : flow_sum (λ a f. when (eqb a.src v) f) (star_arcs b.net) (drop (length b.net.arcs) (start_amounts b.net)) ≡ flow_sum (λ a f. when (eqb a.src v) f) (star_arcs b.net) (star_flow b.net) = ap (flow_sum (λ a f. when (eqb a.src v) f) (star_arcs b.net)) rest in
-      let inn1 : flow_sum (λ a f. when (eqb a.dst v) f) (star_arcs b.net) (drop (length b.net.arcs) (start_amounts b.net)) ≡ flow_sum (λ a f. when (eqb a.dst v) f) (star_arcs b.net) (star_flow b.net) = ap (flow_sum (λ a f. when (eqb a.dst v) f) (star_arcs b.net)) rest in
+      let out0 : flow_sum (λ a f. when (eqb a.src v) f) b.net.arcs (take (length b.net.arcs) (start_amounts b.net)) ≡ pos 0 =
+      sum_of_zeros (λ a f. when (eqb a.src v) f) (λ a. when-zero (eqb a.src v)) b.net.arcs (take (length b.net.arcs) (start_amounts b.net)) zeros in
+      let inn0 : flow_sum (λ a f. when (eqb a.dst v) f) b.net.arcs (take (length b.net.arcs) (start_amounts b.net)) ≡ pos 0 =
+      sum_of_zeros (λ a f. when (eqb a.dst v) f) (λ a. when-zero (eqb a.dst v)) b.net.arcs (take (length b.net.arcs) (start_amounts b.net)) zeros in
+      let out1 : flow_sum (λ a f. when (eqb a.src v) f) (added_arcs b.net) (drop (length b.net.arcs) (start_amounts b.net)) ≡ flow_sum
+      (λ a f. when (eqb a.src v) f) (added_arcs b.net) (star_flow b.net) = ap (flow_sum (λ a f. when (eqb a.src v) f) (added_arcs b.net)) rest in
+      let inn1 : flow_sum (λ a f. when (eqb a.dst v) f) (added_arcs b.net) (drop (length b.net.arcs) (start_amounts b.net)) ≡ flow_sum
+      (λ a f. when (eqb a.dst v) f) (added_arcs b.net) (star_flow b.net) = ap (flow_sum (λ a f. when (eqb a.dst v) f) (added_arcs b.net)) rest in
       let away = star_net b.net v node in
       let supply = supply_added b.net v in
       omega (arith, ints, cut, out, inn, out0, inn0, out1, inn1, away, supply)
@@ -261,7 +275,8 @@ module _ (b : TreeStructure) (ok : IsNet b.net) (spanning : IsSpanning b.tree) (
         forward = λ f l. absurd (let e = star_label v h in omega (arith, e, l, h));
         backward = λ back. (let amount = added_amount v (label_of b.tree v) h (star_label v h) in
             elim (cases_Bool (is_sender b.net v)) [
-              | inl e ↦ absurd (let src : (arc_at (with_artificial b.net) (label_of b.tree v)).src ≡ v = ap (λ a. a.src) (star_arc v h) ∙ sender_src b.net v e in
+              | inl e ↦ absurd (let src : (arc_at (with_artificial b.net) (label_of b.tree v)).src ≡ v =
+                  ap (λ a. a.src) (star_arc v h) ∙ sender_src b.net v e in
                   true≢false (sym back ∙ ap not (eq-eqb _ _ src)))
               | inr e ↦ (let size = size_below (at_node b.net.supplies v) (below_zero (at_node b.net.supplies v) e) in
                   let low = below_zero (at_node b.net.supplies v) e in

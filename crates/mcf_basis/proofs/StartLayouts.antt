@@ -1,5 +1,6 @@
 -- The star of the artificial arcs, as it is stored.
-use Rattle.std.proofs.Common.{◌≡◌, ℕ, zero, suc, ◌+◌, ◌-◌, ◌*◌, ◌^◌, ◌<◌, ◌≤◌, ◌++◌, inl, inr, Bool, true, false, eqb, cond, List, [], ◌∷◌, length, map, take, replicate, get_or, refl, sym, ap, ◌∙◌, arith, ℤ, pos, ◌<ℤ◌, ◌≤ℤ◌, length-append}
+use Rattle.std.proofs.Common.{◌≡◌, ℕ, zero, suc, ◌+◌, ◌-◌, ◌*◌, ◌^◌, ◌<◌, ◌≤◌, ◌++◌, inl, inr, Bool, true, false, eqb, cond, List, [], ◌∷◌, length, map, take}
+use Rattle.std.proofs.Common.{replicate, get_or, refl, sym, ap, ◌∙◌, arith, ℤ, pos, ◌<ℤ◌, ◌≤ℤ◌, length-append}
 use Rattle.std.specs.Prelude.{if◌then◌else◌, int_lt, max, sum, unsigned_abs}
 use Rattle.std.specs.List.{range_with_len}
 use Rattle.std.proofs.lemmas.Int.{ints}
@@ -19,9 +20,11 @@ use Rattle.mcf_basis.specs.declared.offer.Offer.{Offer}
 use Rattle.mcf_basis.specs.declared.rooms.Rooms.{Rooms}
 use Rattle.mcf_basis.specs.Artificial.{is_sender}
 use Rattle.mcf_basis.specs.Bases.{IsBasis}
-use Rattle.mcf_basis.specs.Private.Layouts.{Layout, IsLaidOut, IsOffer, amount_by, amount_in, amount_outside, artificial_rooms, basis_in, forward_offer, no_offer, no_rooms, offer_at}
+use Rattle.mcf_basis.specs.Private.Layouts.{Layout, IsLaidOut, IsOffer, IsStarTable, amount_by, amount_in, amount_outside, artificial_rooms, basis_in}
+use Rattle.mcf_basis.specs.Private.Layouts.{forward_offer, no_offer, no_rooms, offer_at}
 use Rattle.mcf_basis.specs.Private.Layouts.IsOffer.{closed, forward}
-use Rattle.mcf_basis.specs.Starts.{IsStart, start_amounts, start_prices}
+use Rattle.mcf_basis.specs.Ranks.{greatest_cost}
+use Rattle.mcf_basis.specs.Starts.{IsStart, start_amounts}
 use Rattle.mcf_basis.specs.Structures.{IsInTree}
 use Rattle.mcf_basis.proofs.StarBases.{star_is_basis}
 use Rattle.mcf_basis.proofs.Views.{none_below}
@@ -78,6 +81,18 @@ weight_small a ok =
     let le = mul-le (unsigned_abs a.cost) (unsigned_abs a.cap) (10 ^ 15) (2 * 10 ^ 18) cost cap in
     omega (arith, le)
 
+-- ---- the greatest cost, and how far prices reach
+
+pub greatest_next : (arcs : List Arc) (i : ℕ) (d : Arc) → i < length arcs
+    → greatest_cost (take (i + 1) arcs) ≡ max (greatest_cost (take i arcs)) (unsigned_abs (get_or arcs i d).cost)
+greatest_next [] i d h = absurd (omega arith)
+greatest_next (a ∷ arcs) zero d h = omega arith
+greatest_next (a ∷ arcs) (suc i) d h =
+    let place : suc i + 1 ≡ suc (i + 1) = omega arith in
+    let ih : greatest_cost (take (i + 1) arcs) ≡ max (greatest_cost (take i arcs)) (unsigned_abs (get_or arcs i d).cost) =
+    greatest_next arcs i d (omega arith) in
+    ap (λ j. greatest_cost (take j (a ∷ arcs))) place ∙ omega (arith, ih)
+
 -- ---- the star, as it is stored
 
 abbrev pub star_offer : Network → ℕ → Offer
@@ -96,8 +111,7 @@ pub record IsStarStored (l : Layout) : Type 0 where
   pub offers : l.offers ≡ map (star_offer l.net) (range_with_len 1 (length l.net.arcs))
   pub rooms : l.rooms ≡ no_rooms ∷ map (star_rooms l.net) (range_with_len 1 (node_count l.net))
   pub artificial : l.artificial ≡ pos 0 ∷ map (star_amount l.net) (range_with_len 1 (node_count l.net))
-  pub prices : l.table.prices ≡ start_prices l.net
-  pub priced : l.table.priced ≡ 0
+  pub table : IsStarTable l.net l.table
 
 -- a read behind the entry of the root
 behind : {X : Type 0} (y d : X) (f : ℕ → X) (n v : ℕ) → IsNode n v → get_or (y ∷ map f (range_with_len 1 n)) v d ≡ f v
@@ -191,7 +205,7 @@ module _ (l : Layout) (s : IsStarStored l) where
 
   star_basis : IsBasis (basis_in l)
   unfolding basis_in
-  star_basis = star_is_basis (basis_in l) s.of_net s.spanning s.star amounts_are s.prices
+  star_basis = star_is_basis (basis_in l) s.of_net s.spanning s.star amounts_are s.table.prices
 
   not_own : (v : ℕ) → IsNode (node_count l.net) v → label_of l.tree v ≤ length l.net.arcs → ⊥
   not_own v h le = let e = label_is v h in omega (arith, e, le, h)
@@ -207,9 +221,10 @@ module _ (l : Layout) (s : IsStarStored l) where
     artificial = λ v h e. ap (λ xs. get_or xs v no_rooms) s.rooms ∙ (behind no_rooms no_rooms (star_rooms l.net) (node_count l.net) v h
         ∙ ap (λ x. artificial_rooms (is_sender l.net v) (unsigned_abs x))
         (sym (ap (λ xs. get_or xs v (pos 0)) s.artificial ∙ behind (pos 0) (pos 0) (star_amount l.net) (node_count l.net) v h)));
+    fits = s.table.fits;
     wide = λ v h le. absurd (not_own v h le);
   }
 
   pub star_starts : IsStart l.net (basis_in l)
   unfolding basis_in
-  star_starts = record { of_net = refl; star = s.star; amounts = amounts_are; prices = s.prices; priced = s.priced; basis = star_basis }
+  star_starts = record { of_net = refl; star = s.star; amounts = amounts_are; prices = s.table.prices; priced = s.table.priced; basis = star_basis }

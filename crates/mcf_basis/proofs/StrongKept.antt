@@ -1,5 +1,6 @@
 -- A pivot keeps a basis strongly feasible.
-use Rattle.std.proofs.Common.{◌≡◌, ◌≢◌, ℕ, zero, suc, ◌+◌, ◌-◌, ◌<◌, ◌≤◌, ◌&&◌, ◌⊎◌, inl, inr, Bool, true, false, not, eqb, List, length, Some, None, refl, sym, ap, ◌∙◌, subst, arith, ℤ, pos, negsuc, ◌+ℤ◌, ◌≤ℤ◌}
+use Rattle.std.proofs.Common.{◌≡◌, ◌≢◌, ℕ, zero, suc, ◌+◌, ◌-◌, ◌<◌, ◌≤◌, ◌&&◌, ◌⊎◌, inl, inr, Bool, true, false, not, eqb, List, length, Some, None, refl, sym}
+use Rattle.std.proofs.Common.{ap, ◌∙◌, subst, arith, ℤ, pos, negsuc, ◌+ℤ◌, ◌≤ℤ◌}
 use Rattle.std.specs.Prelude.{nat_le, slice_index, slice_index_or, int_lt, if◌then◌else◌}
 use Rattle.std.proofs.lemmas.Bool.{and_from, and_parts, cases_Bool, cases_eq, cases_lt, eq-eqb, eqb-true, le-leb, leb-true, ne_eqb, true≢false}
 use Rattle.std.proofs.lemmas.Int.{ints}
@@ -17,7 +18,8 @@ use Rattle.mcf_basis.specs.Pivots.{IsEligible, IsExchanged, IsMended, IsPivot, e
 use Rattle.mcf_basis.specs.Pivots.IsMended.{kept, exchanged}
 use Rattle.mcf_basis.specs.Structures.{TreeStructure, CanTake, carried, leaving, reduced_at}
 use Rattle.mcf_basis.proofs.Pushed.{round_at}
-use Rattle.mcf_basis.proofs.Around.{CanGoRound, IsAround, IsLeaving, WentRound, arcs_of, down_arc, from_of, left_node, left_steps, right_node, right_steps, round_amount, to_of, up_arc}
+use Rattle.mcf_basis.proofs.Around.{CanGoRound, IsAround, IsLeaving, WentRound, arcs_of, down_arc, from_of, left_node, left_steps, right_node, right_steps}
+use Rattle.mcf_basis.proofs.Around.{round_amount, to_of, up_arc}
 use Rattle.mcf_basis.proofs.Around.IsLeaving.{right, enter, left}
 use Rattle.mcf_basis.proofs.CyclePlaces.{leaving_of_last, up_all, up_at}
 use Rattle.mcf_basis.proofs.Cycles.{around, below_apex}

@@ -4,7 +4,8 @@ use Rattle.std.specs.Prelude.{slice_index}
 use Rattle.std.proofs.lemmas.Bool.{cases_eq, cases_lt}
 use Rattle.mcf_links.specs.Rooted.{climb, IsRooted, IsTurned, IsRelabelled}
 use Rattle.mcf_links.proofs.Paths.{climb-within, climb-suc, depth-climb, above_root}
-use Rattle.mcf_basis.proofs.Pushes.{Arcs, IsWithin, JoinsEnds, CanLeave, IsTreeOf, IsCycle, IsPushed, HasRoomUp, CanLeave-back, CanLeave-more, CanLeave-kept, CanLeave-same, CanLeave-le, JoinsEnds-sym}
+use Rattle.mcf_basis.proofs.Pushes.{Arcs, IsWithin, JoinsEnds, CanLeave, IsTreeOf, IsCycle, IsPushed, HasRoomUp, CanLeave-back, CanLeave-more, CanLeave-kept}
+use Rattle.mcf_basis.proofs.Pushes.{CanLeave-same, CanLeave-le, JoinsEnds-sym}
 use Rattle.mcf_basis.proofs.Pushes.JoinsEnds.{out_of, into}
 
 -- v is one of the first n nodes of the path from a
@@ -35,7 +36,8 @@ climb_next : (ps : List ℕ) (k v : ℕ) → climb ps (k + 1) v ≡ slice_index 
 climb_next ps k v = (let e : k + 1 ≡ suc k = omega arith in ap (λ i. climb ps i v) e) ∙ climb-suc ps k v
 
 -- an arc of the tree is that of one node alone
-pub labels_apart : (g : Arcs) (ps ls : List ℕ) (d : ℕ → ℕ) → IsTreeOf g ps ls d → (u v : ℕ) → 0 < u → u < length ps → 0 < v → v < length ps → u ≢ v → slice_index ls u ≢ slice_index ls v
+pub labels_apart : (g : Arcs) (ps ls : List ℕ) (d : ℕ → ℕ) → IsTreeOf g ps ls d → (u v : ℕ) → 0 < u → u < length ps → 0 < v → v < length ps → u ≢ v
+    → slice_index ls u ≢ slice_index ls v
 labels_apart g ps ls d t u v pu hu pv hv ne same =
     crossed (t.joined u pu hu) (subst (λ arc. JoinsEnds g arc v (slice_index ps v)) (sym same) (t.joined v pv hv))
   where
@@ -81,13 +83,15 @@ module _ (g : Arcs) (ps ls : List ℕ) (d : ℕ → ℕ) (old new : ℕ → ℤ)
       (push.left k lt) push.some (strong.room (climb ps k a) w.1 w.0)
 
   -- where an arc up from b doesn't block, its node keeps room
-  kept_right : (k : ℕ) → k < j → CanLeave g old (slice_index ls (climb ps k b)) (climb ps k b) (delta +ℤ pos 1) → CanLeave g new (slice_index ls (climb ps k b)) (climb ps k b) (pos 1)
+  kept_right : (k : ℕ) → k < j → CanLeave g old (slice_index ls (climb ps k b)) (climb ps k b) (delta +ℤ pos 1)
+      → CanLeave g new (slice_index ls (climb ps k b)) (climb ps k b) (pos 1)
   kept_right k lt room =
       let w : (climb ps k b < length ps) × (0 < climb ps k b) = right_at k lt in
       CanLeave-more g old new (slice_index ls (climb ps k b)) (climb ps k b) (slice_index ps (climb ps k b)) delta
       (λ e. parent_apart (climb ps k b) w.1 w.0 (sym e)) (tree.joined (climb ps k b) w.1 w.0) (push.right k lt) room
 
-  kept_other : (v : ℕ) → 0 < v → v < length ps → ((k : ℕ) → k < i → v ≢ climb ps k a) → ((k : ℕ) → k < j → v ≢ climb ps k b) → CanLeave g new (slice_index ls v) v (pos 1)
+  kept_other : (v : ℕ) → 0 < v → v < length ps → ((k : ℕ) → k < i → v ≢ climb ps k a) → ((k : ℕ) → k < j → v ≢ climb ps k b)
+      → CanLeave g new (slice_index ls v) v (pos 1)
   kept_other v p h off_left off_right =
       CanLeave-same g old new (slice_index ls v) v (pos 1)
       (push.others (slice_index ls v) (cycle.outside v p h)
@@ -96,7 +100,8 @@ module _ (g : Arcs) (ps ls : List ℕ) (d : ℕ → ℕ) (old new : ℕ → ℤ)
       (strong.room v p h)
 
   -- what the arcs that stay with their node leave it
-  pub kept : (v : ℕ) → 0 < v → v < length ps → ((k : ℕ) → k < j → v ≡ climb ps k b → CanLeave g old (slice_index ls v) v (delta +ℤ pos 1)) → CanLeave g new (slice_index ls v) v (pos 1)
+  pub kept : (v : ℕ) → 0 < v → v < length ps → ((k : ℕ) → k < j → v ≡ climb ps k b → CanLeave g old (slice_index ls v) v (delta +ℤ pos 1))
+      → CanLeave g new (slice_index ls v) v (pos 1)
   kept v p h room =
       elim (cases_walk ps a i v) [
         | inl w ↦ (rw w.leads (kept_left w.at w.short))
@@ -118,7 +123,8 @@ module _ (g : Arcs) (ps ls : List ℕ) (d : ℕ → ℕ) (old new : ℕ → ℤ)
   same_suc k = omega arith
 
   -- an arc on b's side leaves, and something moves
-  module _ (m : ℕ) (qs ms : List ℕ) (in_walk : m < j) (turned : IsTurned ps qs d (climb ps m b) b a) (relabelled : IsRelabelled ps ls ms d (climb ps m b) enter b)
+  module _ (m : ℕ) (qs ms : List ℕ) (in_walk : m < j) (turned : IsTurned ps qs d (climb ps m b) b a)
+      (relabelled : IsRelabelled ps ls ms d (climb ps m b) enter b)
       (positive : pos 1 ≤ℤ delta) (room : (k : ℕ) → m < k → k < j → CanLeave g old (slice_index ls (climb ps k b)) (climb ps k b) (delta +ℤ pos 1)) where
     right_length : d b - d (climb ps m b) ≡ m
     right_length =
@@ -128,7 +134,8 @@ module _ (g : Arcs) (ps ls : List ℕ) (d : ℕ → ℕ) (old new : ℕ → ℤ)
     right_stretch : (v k : ℕ) → k ≤ m → v ≡ climb ps k b → CanLeave g new (slice_index ms v) v (pos 1)
     right_stretch v zero h e =
         let label : slice_index ms v ≡ enter = ap (slice_index ms) e ∙ relabelled.joined in
-        rw (label, e) (CanLeave-le g new enter b (pos 1) delta positive (CanLeave-back g old new enter a b delta cycle.apart cycle.joined push.entering (fits enter) (low enter)))
+        rw (label, e) (CanLeave-le g new enter b (pos 1) delta positive
+        (CanLeave-back g old new enter a b delta cycle.apart cycle.joined push.entering (fits enter) (low enter)))
     right_stretch v (suc k) h e =
         let up : v ≡ slice_index ps (climb ps k b) = e ∙ climb-suc ps k b in
         let length_is : d b - d (climb ps m b) ≡ m = right_length in
@@ -137,7 +144,8 @@ module _ (g : Arcs) (ps ls : List ℕ) (d : ℕ → ℕ) (old new : ℕ → ℤ)
         let w : (climb ps k b < length ps) × (0 < climb ps k b) = right_at k (omega arith) in
         rw (label, up) (CanLeave-le g new (slice_index ls (climb ps k b)) (slice_index ps (climb ps k b)) (pos 1) delta positive
         (CanLeave-back g old new (slice_index ls (climb ps k b)) (climb ps k b) (slice_index ps (climb ps k b)) delta
-        (λ q. parent_apart (climb ps k b) w.1 w.0 (sym q)) (tree.joined (climb ps k b) w.1 w.0) (push.right k (omega arith)) (fits (slice_index ls (climb ps k b))) (low (slice_index ls (climb ps k b)))))
+        (λ q. parent_apart (climb ps k b) w.1 w.0 (sym q)) (tree.joined (climb ps k b) w.1 w.0) (push.right k (omega arith))
+        (fits (slice_index ls (climb ps k b))) (low (slice_index ls (climb ps k b)))))
 
     pub strong_right : HasRoomUp g qs ms new
     strong_right = record {
@@ -154,7 +162,8 @@ module _ (g : Arcs) (ps ls : List ℕ) (d : ℕ → ℕ) (old new : ℕ → ℤ)
     }
 
   -- an arc on a's side leaves
-  module _ (m : ℕ) (qs ms : List ℕ) (in_walk : m < i) (turned : IsTurned ps qs d (climb ps m a) a b) (relabelled : IsRelabelled ps ls ms d (climb ps m a) enter a)
+  module _ (m : ℕ) (qs ms : List ℕ) (in_walk : m < i) (turned : IsTurned ps qs d (climb ps m a) a b)
+      (relabelled : IsRelabelled ps ls ms d (climb ps m a) enter a)
       (room_left : (k : ℕ) → k < m → CanLeave g old (slice_index ls (climb ps k a)) (slice_index ps (climb ps k a)) (delta +ℤ pos 1))
       (room_entering : CanLeave g old enter a (delta +ℤ pos 1))
       (room_right : (k : ℕ) → k < j → CanLeave g old (slice_index ls (climb ps k b)) (climb ps k b) (delta +ℤ pos 1)) where

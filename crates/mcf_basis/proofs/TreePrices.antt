@@ -1,5 +1,6 @@
 -- How far from 0 the prices of a basis lie.
-use Rattle.std.proofs.Common.{◌≡◌, ℕ, zero, suc, ◌+◌, ◌-◌, ◌*◌, ◌^◌, ◌<◌, ◌≤◌, inl, inr, List, [], ◌∷◌, length, map, sum, ap, ◌∙◌, arith, subst, get_or, pos, ◌+ℤ◌, ◌-ℤ◌}
+use Rattle.std.proofs.Common.{◌≡◌, ℕ, zero, suc, ◌+◌, ◌-◌, ◌*◌, ◌^◌, ◌<◌, ◌≤◌, inl, inr, List, [], ◌∷◌, length, map, sum, ap, ◌∙◌, arith, subst, get_or, pos}
+use Rattle.std.proofs.Common.{◌+ℤ◌, ◌-ℤ◌}
 use Rattle.std.specs.Prelude.{unsigned_abs}
 use Rattle.std.specs.List.{All}
 use Rattle.std.proofs.lemmas.Int.{ints}
@@ -40,7 +41,8 @@ le_refl_of : (n : ℕ) → n ≤ n
 le_refl_of n = omega arith
 
 -- one step away from a node of known price
-one_step : (b : TreeStructure) (label u v near far : ℕ) → Joins b.net label u v → reduced_at b label ≡ pos 0 → IsUpTo near (arc_at (with_artificial b.net) label).cost → IsUpTo far (price_at b v) → IsUpTo (near + far) (price_at b u)
+one_step : (b : TreeStructure) (label u v near far : ℕ) → Joins b.net label u v → reduced_at b label ≡ pos 0
+    → IsUpTo near (arc_at (with_artificial b.net) label).cost → IsUpTo far (price_at b v) → IsUpTo (near + far) (price_at b u)
 one_step b label u v near far (out_of s d) r c p =
     let e : ((arc_at (with_artificial b.net) label).cost -ℤ price_at b u) +ℤ price_at b v ≡ pos 0 = rw (s, d) at r in
     (omega (arith, ints), omega (arith, ints))
@@ -62,10 +64,12 @@ module _ (b : TreeStructure) (ok : IsBasis b) where
       let inside : v < size_of b.tree = in_tree v h in
       let up : 0 < v = above_root b.tree.parents (depth_of b.tree) ok.spanning.rooted v (omega arith) in
       let f : depth_of b.tree v ≡ depth_of b.tree (parent_of b.tree v) + 1 = ok.spanning.rooted.falls v up inside in
-      let z : parent_of b.tree v ≡ 0 = root_from_depth b.tree.parents (depth_of b.tree) ok.spanning.rooted (parent_of b.tree v) (ok.spanning.rooted.within v inside) (omega arith) in
+      let z : parent_of b.tree v ≡ 0 = root_from_depth b.tree.parents (depth_of b.tree) ok.spanning.rooted (parent_of b.tree v)
+      (ok.spanning.rooted.within v inside) (omega arith) in
       let arc : HasTreeArc b v = ok.tree_arcs v (omega arith, h) in
       let joins : Joins b.net (label_of b.tree v) v 0 = subst (Joins b.net (label_of b.tree v) v) z arc.joins in
-      let cost : (arc_at (with_artificial b.net) (label_of b.tree v)).cost ≡ pos (artificial_cost b.net) = root_arc b.net (label_of b.tree v) v ok.of_net arc.label up joins in
+      let cost : (arc_at (with_artificial b.net) (label_of b.tree v)).cost ≡ pos (artificial_cost b.net) =
+      root_arc b.net (label_of b.tree v) v ok.of_net arc.label up joins in
       let n : artificial_cost b.net + 0 * greatest_cost b.net.arcs ≡ artificial_cost b.net + 0 = omega arith in
       rw n (one_step b (label_of b.tree v) v 0 (artificial_cost b.net) 0 joins (ok.prices.balanced v (omega arith, h))
       (omega (arith, ints), omega (arith, ints)) (let p : price_at b 0 ≡ pos 0 = ok.prices.root in (omega (arith, ints), omega (arith, ints))))
@@ -76,11 +80,16 @@ module _ (b : TreeStructure) (ok : IsBasis b) where
       let high : 0 < parent_of b.tree v = above_root b.tree.parents (depth_of b.tree) ok.spanning.rooted (parent_of b.tree v) (omega arith) in
       let arc : HasTreeArc b v = ok.tree_arcs v (omega arith, h) in
       let own : IsArcNumber b.net (label_of b.tree v) = inner_arc b.net (label_of b.tree v) v (parent_of b.tree v) arc.label up high arc.joins in
-      let same : (arc_at (with_artificial b.net) (label_of b.tree v)).cost ≡ (arc_at b.net (label_of b.tree v)).cost = ap (λ a. a.cost) (own_arc b.net (label_of b.tree v) own) in
-      let small : unsigned_abs (arc_at b.net (label_of b.tree v)).cost ≤ greatest_cost b.net.arcs = cost_within b.net.arcs (label_of b.tree v - 1) no_arc (omega arith) in
-      let near : IsUpTo (unsigned_abs (arc_at b.net (label_of b.tree v)).cost) (arc_at b.net (label_of b.tree v)).cost = up_to_size (arc_at b.net (label_of b.tree v)).cost in
-      let n : artificial_cost b.net + suc k * greatest_cost b.net.arcs ≡ greatest_cost b.net.arcs + (artificial_cost b.net + k * greatest_cost b.net.arcs) = omega arith in
-      rw n (one_step b (label_of b.tree v) v (parent_of b.tree v) (greatest_cost b.net.arcs) (artificial_cost b.net + k * greatest_cost b.net.arcs) arc.joins (ok.prices.balanced v (omega arith, h))
+      let same : (arc_at (with_artificial b.net) (label_of b.tree v)).cost ≡ (arc_at b.net (label_of b.tree v)).cost =
+      ap (λ a. a.cost) (own_arc b.net (label_of b.tree v) own) in
+      let small : unsigned_abs (arc_at b.net (label_of b.tree v)).cost ≤ greatest_cost b.net.arcs =
+      cost_within b.net.arcs (label_of b.tree v - 1) no_arc (omega arith) in
+      let near : IsUpTo (unsigned_abs (arc_at b.net (label_of b.tree v)).cost) (arc_at b.net (label_of b.tree v)).cost =
+      up_to_size (arc_at b.net (label_of b.tree v)).cost in
+      let n : artificial_cost b.net + suc k * greatest_cost b.net.arcs ≡ greatest_cost b.net.arcs + (artificial_cost b.net + k * greatest_cost b.net.arcs) =
+      omega arith in
+      rw n (one_step b (label_of b.tree v) v (parent_of b.tree v) (greatest_cost b.net.arcs) (artificial_cost b.net + k * greatest_cost b.net.arcs) arc.joins
+      (ok.prices.balanced v (omega arith, h))
       (omega (arith, ints), omega (arith, ints))
       (tree_price k (parent_of b.tree v) (omega arith) (parent_in v h)))
 
@@ -94,8 +103,10 @@ module _ (b : TreeStructure) (ok : IsBasis b) where
       elim (cases_eq (depth_of b.tree v) 0) [
         | inl z ↦ (let at_root : v ≡ 0 = root_from_depth b.tree.parents (depth_of b.tree) ok.spanning.rooted v inside z in
             let p : price_at b v ≡ pos 0 = ap (price_at b) at_root ∙ root in (omega (arith, ints), omega (arith, ints)))
-        | inr nz ↦ (let p : IsUpTo (artificial_cost b.net + (depth_of b.tree v - 1) * greatest_cost b.net.arcs) (price_at b v) = tree_price (depth_of b.tree v - 1) v (omega arith) h in
-            let le : (depth_of b.tree v - 1) * greatest_cost b.net.arcs ≤ node_count b.net * greatest_cost b.net.arcs = mul-le-mul (omega arith) (le_refl_of (greatest_cost b.net.arcs)) in
+        | inr nz ↦ (let p : IsUpTo (artificial_cost b.net + (depth_of b.tree v - 1) * greatest_cost b.net.arcs) (price_at b v) =
+            tree_price (depth_of b.tree v - 1) v (omega arith) h in
+            let le : (depth_of b.tree v - 1) * greatest_cost b.net.arcs ≤ node_count b.net * greatest_cost b.net.arcs =
+            mul-le-mul (omega arith) (le_refl_of (greatest_cost b.net.arcs)) in
             (omega (arith, ints), omega (arith, ints)))
       ]
 

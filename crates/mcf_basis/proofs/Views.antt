@@ -1,15 +1,17 @@
 -- What is read of a basis that is stored.
 use Rattle.std.proofs.Common.{◌≡◌, ℕ, ◌+◌, ◌-◌, ◌*◌, ◌^◌, ◌<◌, ◌≤◌, eqb, length, get_or, None, ap, ◌∙◌, arith, subst, pos}
 use Rattle.std.proofs.lemmas.Bool.{cond-true, ne_eqb, le-leb}
+use Rattle.std.proofs.lemmas.Int.{ints}
 use Rattle.std.proofs.lemmas.List.FromFn.{get_or-map-range_with_len}
 use Rattle.mcf_instance.specs.Network.{IsArcNumber, node_count}
 use Rattle.mcf_instance.specs.WellFormed.{IsUpTo}
 use Rattle.mcf_tree.specs.SpanningTree.{label_of}
 use Rattle.mcf_basis.specs.Bases.{IsBasis}
 use Rattle.mcf_basis.specs.Private.Layouts.{Layout, IsLaidOut, amount_by, amount_in, amount_outside, basis_in, node_below}
+use Rattle.mcf_basis.specs.Ranks.{price_reach}
 use Rattle.mcf_basis.specs.Structures.{TreeStructure, IsInTree, carried, price_at}
 use Rattle.mcf_basis.proofs.LeastFound.{found_nowhere}
-use Rattle.mcf_basis.proofs.TreePrices.{price_small}
+use Rattle.mcf_basis.proofs.TreePrices.{price_reached, price_small}
 
 pub view_net : (l : Layout) (b : TreeStructure) → basis_in l ≡ b → l.net ≡ b.net
 unfolding basis_in
@@ -33,6 +35,14 @@ read_price l b v e ok h =
       value = ap (λ x. price_at x v) e;
       small = price_small (basis_in l) ok.basis v (omega arith);
     }
+
+-- each price has room
+pub price_fits : (l : Layout) → IsLaidOut l → (v : ℕ) → v ≤ node_count l.net → IsUpTo l.table.limit (price_at (basis_in l) v)
+unfolding basis_in
+price_fits l ok v h =
+    let p : IsUpTo (price_reach l.net) (price_at (basis_in l) v) = price_reached (basis_in l) ok.basis v h in
+    let fits = ok.fits in
+    (omega (arith, ints, p, fits), omega (arith, ints, p, fits))
 
 -- what the arc of a label carries, by how it is stored
 pub carried_in : (l : Layout) (label : ℕ) → 1 ≤ label → label ≤ length l.net.arcs + node_count l.net → carried (basis_in l) label ≡ amount_in l label

@@ -19,7 +19,7 @@ HasNoArtificial b =
 -- each pivot lowers the pair
 abbrev pub PivotsLowerThePair : Type 0
 PivotsLowerThePair =
-    (old new : TreeStructure) (k : ℕ) (moved : ℤ) → IsBasis old → IsBasis new → IsPivot old k moved new → pos 0 ≤ℤ moved → PairFalls old new
+    (old new : TreeStructure) (k : ℕ) (moved : ℤ) → IsBasis old → IsPivot old k moved new → PairFalls old new
 
 -- where the pair falls, the rank does
 abbrev pub RanksFall : Type 0
@@ -34,7 +34,8 @@ RanksCountDown =
 -- as many pivots as the rank fell by are within the bound
 abbrev pub RanksBoundPivots : Type 0
 RanksBoundPivots =
-    (first last : TreeStructure) (pivots : ℕ) (floor : ℤ) → IsBasis first → IsBasis last → last.net ≡ first.net → (pos pivots +ℤ rank_of last) ≤ℤ rank_of first → IsFloor first.net floor → pos pivots ≤ℤ pivot_bound first.net (full_cost first -ℤ floor)
+    (first last : TreeStructure) (pivots : ℕ) (floor : ℤ) → IsBasis first → IsBasis last → last.net ≡ first.net → (pos pivots +ℤ rank_of last) ≤ℤ rank_of first
+    → IsFloor first.net floor → pos pivots ≤ℤ pivot_bound first.net (full_cost first -ℤ floor)
 
 -- the flow of a basis is a tree solution
 abbrev pub BasesAreTreeSolutions : Type 0
@@ -43,12 +44,14 @@ BasesAreTreeSolutions = (b : TreeStructure) → IsBasis b → IsTreeSolution b.n
 -- where no arc is eligible and no artificial arc carries anything, the flow is feasible, and the prices of the basis show it
 abbrev pub LastBasesAreShown : Type 0
 LastBasesAreShown =
-    (b : TreeStructure) → IsBasis b → HasNoEligible b → HasNoArtificial b → IsFeasible b.net (state_of b).amounts × Shows b.net.arcs (drop 1 b.prices) (state_of b).amounts
+    (b : TreeStructure) → IsBasis b → HasNoEligible b → HasNoArtificial b
+    → IsFeasible b.net (state_of b).amounts × Shows b.net.arcs (drop 1 b.prices) (state_of b).amounts
 
 -- a pivot keeps a basis a basis
 abbrev pub PivotsKeepBases : Type 0
 PivotsKeepBases =
-    (old new : TreeStructure) (k : ℕ) (moved : ℤ) → IsBasis old → IsPivot old k moved new → IsSpanning new.tree → length new.prices ≡ length old.prices → IsBasis new
+    (old new : TreeStructure) (k : ℕ) (moved : ℤ) → IsBasis old → IsPivot old k moved new → IsSpanning new.tree
+    → length new.prices ≡ length old.prices → IsBasis new
 
 -- where no arc is eligible and some flow is feasible, no artificial arc carries anything
 abbrev pub LastBasesAreFeasible : Type 0

@@ -45,7 +45,8 @@ pub record IsKept (old new : TreeStructure) : Type 0 where
 -- in it change by the reduced cost of r, so that r has reduced cost 0, and all other prices stay.
 pub record IsExchanged (old : TreeStructure) (r : Rid) (out inner outer : ℕ) (new : TreeStructure) : Type 0 where
   pub is_node : IsNode (node_count old.net) out
-  pub ends : ((inner ≡ tail (with_artificial old.net) r) × (outer ≡ head (with_artificial old.net) r)) ⊎ ((inner ≡ head (with_artificial old.net) r) × (outer ≡ tail (with_artificial old.net) r))
+  pub ends : ((inner ≡ tail (with_artificial old.net) r) × (outer ≡ head (with_artificial old.net) r)) ⊎
+      ((inner ≡ head (with_artificial old.net) r) × (outer ≡ tail (with_artificial old.net) r))
   pub inside : IsAbove old.tree out inner
   pub outside : ¬ IsAbove old.tree out outer
   pub swapped : IsSwapped old.tree new.tree out r.arc inner outer
@@ -65,7 +66,8 @@ pub data IsMended (old : TreeStructure) (r q : Rid) (new : TreeStructure) : Type
 pub record IsPivot (old : TreeStructure) (k : ℕ) (moved : ℤ) (new : TreeStructure) : Type 0 where
   pub eligible : IsEligible old k
   pub apex : ℕ
-  pub is_apex : IsApex old.tree.parents (depth_of old.tree) (tail (with_artificial old.net) (entering old k)) (head (with_artificial old.net) (entering old k)) apex
+  pub is_apex : IsApex old.tree.parents (depth_of old.tree) (tail (with_artificial old.net) (entering old k))
+      (head (with_artificial old.net) (entering old k)) apex
   pub leaves : Rid
   pub last_blocking : IsLastBlocking old (cycle_of old (entering old k) apex) moved leaves
   pub net : new.net ≡ old.net

@@ -2,3 +2,5 @@
 pub mod Layouts
 pub mod Climbs
 pub mod Turned
+pub mod Columns
+pub mod Offered

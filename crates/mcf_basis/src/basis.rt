@@ -105,15 +105,10 @@ impl<'n> Basis<'n> {
     {
         // Called for its clause alone: this is a basis.
         let _net = self.net();
-        let mut found = None;
-        let mut least = 0;
-        'arcs: for number in first..end {
-            let value = self.offered(ArcId::new(number));
-            if value < least {
-                least = value;
-                found = Some(ArcId::new(number));
-            }
-        }
-        found
+        let begin = first as usize - 1;
+        let place = self
+            .table
+            .least_offer(&self.offers, begin, end as usize - 1)?;
+        Some(ArcId::new(place as u32 + 1))
     }
 }

@@ -56,7 +56,7 @@ impl<'n> Basis<'n> {
     {
         // Called for its clause alone: this is a basis.
         let _net = self.net();
-        prices.copy_from_slice(self.table.of_nodes());
+        self.table.write_nodes(prices);
     }
 
     /// Marks the nodes of price above 0: where no arc is eligible and the supplies add up to 0, but an artificial arc still carries

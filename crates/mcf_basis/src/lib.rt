@@ -13,6 +13,7 @@ mod climb;
 mod ending;
 mod exchange;
 mod laws;
+mod least_offer;
 mod leaving_arc;
 mod offer;
 mod pivot;

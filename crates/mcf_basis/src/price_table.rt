@@ -1,13 +1,31 @@
-//! A price for each node. Only `set` writes one, and adds one to the count.
+//! A price for each node, in 64 bits where every price of every basis of the net fits them, else in 128.
 
-ghost use Rattle.std.specs.Prelude.{◌≡◌, ℕ, ◌+◌, ◌-◌, ◌^◌, ◌<◌, ◌≤◌, List, drop, length, set, get_or, pos};
+ghost use Rattle.std.specs.Prelude.{◌≡◌, ℕ, ◌+◌, ◌^◌, ◌<◌, ◌≤◌, List, drop, length, get_or, pos};
+ghost use Rattle.mcf_basis.specs.Private.Columns.{limit_of, prices_in};
+ghost use Rattle.mcf_basis.specs.Private.Layouts.{narrow_limit, wide_limit};
+ghost use Rattle.mcf_basis.specs.Private.Offered.{CanCompare, IsLeastOffer};
+ghost use Rattle.mcf_basis.specs.Private.Turned.{AreRaised, CanRaise};
 
+use crate::least_offer::{least_narrow, least_wide};
+use crate::offer::Offer;
+use crate::reprice::{reprice_narrow, reprice_wide};
+use mcf_text::NodeId;
 use std::marker::Model;
 
+/// The prices, and how many of them were written.
+///
+/// A loop over them asks once in which form they are kept, and then runs over numbers of one size.
 #[derive(Drop)]
 pub struct PriceTable {
-    prices: Vec<i128>,
+    column: Column,
     priced: u64,
+}
+
+// The same prices, in one of two sizes.
+#[derive(Drop)]
+enum Column {
+    Narrow(Vec<i64>),
+    Wide(Vec<i128>),
 }
 
 impl Model for PriceTable {
@@ -15,44 +33,102 @@ impl Model for PriceTable {
 
     ghost Value = { Prices };
 
-    ghost view = { λ t. record { prices = t.prices.items; priced = t.priced } };
+    ghost use Rattle.mcf_basis.specs.Private.Columns.{limit_of, prices_in};
+
+    ghost view = { λ t. record { prices = prices_in t.column; priced = t.priced; limit = limit_of t.column } };
 }
 
 impl PriceTable {
-    /// A table of these prices, of which none counts as written.
-    pub fn of(prices: Vec<i128>) -> PriceTable
-        ensures { result ≡ record { prices = prices.items; priced = 0 } }
+    /// A table of prices that have room in 64 bits, of which none counts as written.
+    pub fn narrow(prices: Vec<i64>) -> PriceTable
+        ensures { result ≡ record { prices = prices.items; priced = 0; limit = narrow_limit } }
     {
-        PriceTable { prices, priced: 0 }
+        PriceTable {
+            column: Column::Narrow(prices),
+            priced: 0,
+        }
     }
 
-    /// The prices of the nodes but the root.
-    pub fn of_nodes(&self) -> &[i128]
-        requires { 1 ≤ length self.now.prices }
-        ensures { result.now ≡ drop 1 self.now.prices }
+    /// A table of prices that may need 128 bits.
+    pub fn wide(prices: Vec<i128>) -> PriceTable
+        ensures { result ≡ record { prices = prices.items; priced = 0; limit = wide_limit } }
     {
-        &self.prices[1..]
+        PriceTable {
+            column: Column::Wide(prices),
+            priced: 0,
+        }
     }
 
+    /// The price of a node.
     pub fn get(&self, v: u32) -> i128
         requires { v < length self.now.prices }
         ensures { result ≡ get_or self.now.prices v (pos 0) }
     {
-        self.prices[v as usize]
+        match &self.column {
+            Column::Narrow(prices) => i128::from(prices[v as usize]),
+            Column::Wide(prices) => prices[v as usize],
+        }
     }
 
-    pub fn set(&mut self, v: u32, price: i128)
-        requires in_range { v < length self.old.prices }
-        requires countable { self.old.priced < 2 ^ 64 - 1 }
-        ensures { self.new ≡ record self.old { prices = set self.old.prices v price; priced = self.old.priced + 1 } }
+    /// Of the offers from place `begin` up to but not including `end` the first of least reduced cost, if that is below 0.
+    pub fn least_offer(&self, offers: &[Offer], begin: usize, end: usize) -> Option<usize>
+        requires { CanCompare self.now.prices self.now.limit offers.now begin end }
+        ensures { IsLeastOffer self.now.prices offers.now begin end result }
     {
-        self.prices[v as usize] = price;
-        self.priced += 1;
+        match &self.column {
+            Column::Narrow(prices) => least_narrow(offers, prices, begin, end),
+            Column::Wide(prices) => least_wide(offers, prices, begin, end),
+        }
+    }
+
+    /// Writes the prices of the nodes but the root.
+    pub fn write_nodes(&self, prices: &mut [i128])
+        requires { length self.now.prices ≡ length prices.old + 1 }
+        ensures { prices.new ≡ drop 1 self.now.prices }
+    {
+        match &self.column {
+            Column::Narrow(narrow) => widen(&narrow[1..], prices),
+            Column::Wide(wide) => prices.copy_from_slice(&wide[1..]),
+        }
+    }
+
+    /// Adds a change to the prices of listed nodes, none of which is listed twice.
+    pub fn reprice(&mut self, part: &[NodeId], change: i128)
+        requires raises { CanRaise part.now change self.old.limit self.old.prices }
+        requires countable { self.old.priced + length part.now < 2 ^ 64 }
+        ensures prices { AreRaised part.now change self.old.prices self.new.prices }
+        ensures priced { self.new.priced ≡ self.old.priced + length part.now }
+        ensures limit { self.new.limit ≡ self.old.limit }
+    {
+        reprice_column(&mut self.column, part, change);
+        self.priced += part.len() as u64;
     }
 
     pub fn forget_count(&mut self)
         ensures { self.new ≡ record self.old { priced = 0 } }
     {
         self.priced = 0;
+    }
+}
+
+// Adds a change to the prices of listed nodes.
+fn reprice_column(column: &mut Column, part: &[NodeId], change: i128)
+    requires { CanRaise part.now change (limit_of column.old) (prices_in column.old) }
+    ensures prices { AreRaised part.now change (prices_in column.old) (prices_in column.new) }
+    ensures limit { limit_of column.new ≡ limit_of column.old }
+{
+    match column {
+        Column::Narrow(prices) => reprice_narrow(prices, part, change as i64),
+        Column::Wide(prices) => reprice_wide(prices, part, change),
+    }
+}
+
+// Writes numbers of 64 bits as numbers of 128.
+fn widen(narrow: &[i64], wide: &mut [i128])
+    requires { length narrow.now ≡ length wide.old }
+    ensures { wide.new ≡ narrow.now }
+{
+    for i in 0..narrow.len() {
+        wide[i] = i128::from(narrow[i]);
     }
 }

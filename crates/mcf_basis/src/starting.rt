@@ -1,12 +1,13 @@
 //! The basis with which the simplex begins.
-ghost use Rattle.std.specs.Prelude.{◌≡◌, ◌∷◌, ◌≤ℤ◌, IfOk, if◌then◌else◌, int_le, int_lt, length, map, min, neg_ℤ, pos, unsigned_abs};
+ghost use Rattle.std.specs.Prelude.{◌≡◌, ◌∷◌, ◌≤ℤ◌, IfOk, if◌then◌else◌, int_le, int_lt, length, map, max, min, neg_ℤ, pos, unsigned_abs};
 ghost use Rattle.std.specs.List.{range_with_len};
 ghost use Rattle.mcf_instance.specs.Network.{IsArcNumber, IsNode, at_node, node_count};
 ghost use Rattle.mcf_instance.specs.WellFormed.{weight};
 ghost use Rattle.mcf_network.specs.Nets.{IsNet};
 ghost use Rattle.mcf_network.specs.Residual.{arc_at};
 ghost use Rattle.mcf_basis.specs.Artificial.{artificial_cost, is_sender};
-ghost use Rattle.mcf_basis.specs.Private.Layouts.{artificial_rooms, forward_offer, no_offer, no_rooms, room_limit};
+ghost use Rattle.mcf_basis.specs.Private.Layouts.{IsStarTable, artificial_rooms, forward_offer, no_offer, no_rooms, room_limit};
+ghost use Rattle.mcf_basis.specs.Ranks.{greatest_cost, price_reach};
 ghost use Rattle.mcf_basis.specs.Starts.{IsStart, start_prices};
 
 use crate::basis::Basis;
@@ -17,6 +18,9 @@ use mcf_network::Net;
 use mcf_text::{ArcId, NoMemory, NodeId};
 use mcf_tree::Tree;
 use std::alloc::Global;
+
+// The greatest size of a price for which there is room in 64 bits, beside a reduced cost.
+const NARROW_LIMIT: u128 = 3_000_000_000_000_000_000;
 
 impl<'n> Basis<'n> {
     /// The basis with which the simplex begins: each node hangs on the root by its artificial arc, which carries what the node sends or
@@ -34,8 +38,7 @@ impl<'n> Basis<'n> {
         let offers = star_offers(alloc, net)?;
         let rooms = star_rooms(alloc, net)?;
         let artificial = star_amounts(alloc, net)?;
-        let prices = star_prices(alloc, net, artificial_cost(net))?;
-        let table = PriceTable::of(prices);
+        let table = star_table(alloc, net, artificial_cost(net))?;
         Ok(Basis {
             net,
             tree,
@@ -143,8 +146,23 @@ fn star_amount(net: &Net, v: NodeId) -> i128
     net.supply(v).unsigned_abs() as i128
 }
 
-// The prices of the tree of the artificial arcs, which have this cost.
-fn star_prices(alloc: Global, net: &Net, cost: i128) -> Result<Vec<i128>, NoMemory>
+// The prices of the tree of the artificial arcs, which have this cost: in 64 bits where each price of each basis of the net has room
+// there.
+fn star_table(alloc: Global, net: &Net, cost: i128) -> Result<PriceTable, NoMemory>
+    requires { cost ≡ pos (artificial_cost net.now) }
+    ensures { IfOk result (IsStarTable net.now) }
+{
+    let reach = price_reach(net, cost);
+    if reach <= NARROW_LIMIT {
+        let prices = narrow_prices(alloc, net, cost as i64)?;
+        return Ok(PriceTable::narrow(prices));
+    }
+    let prices = wide_prices(alloc, net, cost)?;
+    Ok(PriceTable::wide(prices))
+}
+
+// The prices in 64 bits.
+fn narrow_prices(alloc: Global, net: &Net, cost: i64) -> Result<Vec<i64>, NoMemory>
     requires { cost ≡ pos (artificial_cost net.now) }
     ensures { IfOk result (λ made. made.items ≡ start_prices net.now) }
 {
@@ -152,17 +170,66 @@ fn star_prices(alloc: Global, net: &Net, cost: i128) -> Result<Vec<i128>, NoMemo
     let mut made = Vec::with_capacity(alloc, count as usize + 1)?;
     made.push(0)?;
     for i in 0..count {
-        made.push(star_price(net.supply(NodeId::new(i + 1)), cost))?;
+        made.push(narrow_price(net.supply(NodeId::new(i + 1)), cost))?;
+    }
+    Ok(made)
+}
+
+// The prices in 128 bits.
+fn wide_prices(alloc: Global, net: &Net, cost: i128) -> Result<Vec<i128>, NoMemory>
+    requires { cost ≡ pos (artificial_cost net.now) }
+    ensures { IfOk result (λ made. made.items ≡ start_prices net.now) }
+{
+    let count = net.node_count();
+    let mut made = Vec::with_capacity(alloc, count as usize + 1)?;
+    made.push(0)?;
+    for i in 0..count {
+        made.push(wide_price(net.supply(NodeId::new(i + 1)), cost))?;
     }
     Ok(made)
 }
 
 // The price of a node with this supply.
-fn star_price(supply: i128, cost: i128) -> i128
+fn narrow_price(supply: i128, cost: i64) -> i64
     requires { pos 0 ≤ℤ cost }
     ensures { result ≡ (if int_le (pos 0) supply then cost else neg_ℤ cost) }
 {
     if 0 <= supply { cost } else { -cost }
+}
+
+// The same in 128 bits.
+fn wide_price(supply: i128, cost: i128) -> i128
+    requires { pos 0 ≤ℤ cost }
+    ensures { result ≡ (if int_le (pos 0) supply then cost else neg_ℤ cost) }
+{
+    if 0 <= supply { cost } else { -cost }
+}
+
+// How far from 0 a price of a basis of the net can lie, where its artificial arcs have this cost.
+fn price_reach(net: &Net, cost: i128) -> u128
+    requires { cost ≡ pos (artificial_cost net.now) }
+    ensures value { result ≡ price_reach net.now }
+    ensures net { IsNet net.now }
+{
+    cost.unsigned_abs() + u128::from(net.node_count()) * greatest_cost(net)
+}
+
+// The greatest size of a cost, 0 without arcs.
+fn greatest_cost(net: &Net) -> u128
+    ensures { result ≡ greatest_cost net.now.arcs }
+{
+    let mut greatest = 0;
+    for i in 0..net.arc_count() {
+        greatest = greater(greatest, net.cost(ArcId::new(i + 1)).unsigned_abs());
+    }
+    greatest
+}
+
+// The greater of two numbers.
+fn greater(left: u128, right: u128) -> u128
+    ensures { result ≡ max left right }
+{
+    if left < right { right } else { left }
 }
 
 // The cost of an artificial arc: one more than all arcs of the net together can cost or earn.

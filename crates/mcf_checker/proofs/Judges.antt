@@ -69,12 +69,6 @@ unfolding verdict
 verdict_is input text r a v e k h =
     h ∙ ap (λ (x : Result Network Fault). judged x (Ok a)) e ∙ ap (judged (reading limits input)) k
 
-pub no_flow_in_misfit : (line : ℕ) (total : ℤ) → BadShape line ≡ FlowAccepted total → ⊥
-no_flow_in_misfit line total e = cc
-
-pub no_set_in_misfit : (line count : ℕ) → BadShape line ≡ SetAccepted count → ⊥
-no_set_in_misfit line count e = cc
-
 -- ---- accepted is right
 
 same_of : (same : Bool) (r : Fault) → accepts (cond same (RefusalAccepted r) BadRefusal) ≡ true → same ≡ true

@@ -1,5 +1,5 @@
 -- Runs of the command.
-use Rattle.std.proofs.Common.{◌≡◌, ℕ, ◌<◌, ◌≤◌, Bor, IfErr, IfOk, OnOk, if◌then◌else◌, List, [], Result, Ok, Err, Option, length, map, slice_index_or, arith}
+use Rattle.std.proofs.Common.{◌≡◌, ℕ, ◌<◌, Bor, IfErr, IfOk, OnOk, if◌then◌else◌, List, [], Result, Ok, Err, Option, length, map, slice_index_or}
 use Rattle.std.proofs.Common.{refl, sym, ap, subst, ◌∙◌}
 use Rattle.std.proofs.lemmas.List.{get_or-map}
 use Rattle.std.specs.Fn.{Called, CalledAt, Mut}
@@ -75,7 +75,3 @@ line_of_fault failure unreadable Unreadable e = ap failure_line e
 pub if-failed : {A E : Type 0} (result : Result A E) (P Q : E → Type 0) → ((e : E) → P e → Q e) → IfErr result P → IfErr result Q
 if-failed (Ok x) P Q h p = tt
 if-failed (Err e) P Q h p = h e p
-
--- a status of at most 1 isn't the one that tells of no verdict
-pub no_failure : (status : ℕ) (P : Type 0) → status ≤ 1 → status ≡ 3 → P
-no_failure status P small e = absurd (omega arith)

@@ -1,7 +1,7 @@
 -- Bytes taken by one call after another. The same lemmas stand in mcf_solver, for its sinks.
-use Rattle.std.proofs.Common.{◌≡◌, ◌++◌, ◌+◌, ℕ, List, [], Option, None, Some, length, take, drop, sym, ap, ◌∙◌, append_assoc, ◌-◌}
+use Rattle.std.proofs.Common.{◌++◌, ◌+◌, ℕ, List, Option, None, Some, length, take, drop, sym, ap, ◌∙◌, append_assoc, ◌-◌}
 use Rattle.std.proofs.Math.Seq.{take-add}
-use Rattle.std.proofs.lemmas.List.{append-nil, take-append-drop, take_rest}
+use Rattle.std.proofs.lemmas.List.{take-append-drop, take_rest}
 use Rattle.std.specs.Io.KnownBytes.{Appends, Keeps}
 use Rattle.mcf_checker.specs.Runs.{TakesBeginning}
 
@@ -38,7 +38,3 @@ begins first next last text taken p q = record {
   whole = sym (take-append-drop taken text);
   taken = appends-kept first next last (take taken text) p q;
 }
-
--- all of it
-pub begins-whole : (first last : Option (List ℕ)) (text : List ℕ) → Appends first last text → TakesBeginning first last text
-begins-whole first last text p = record { part = text; rest = []; whole = sym (append-nil text); taken = p }

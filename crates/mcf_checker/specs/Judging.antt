@@ -95,7 +95,7 @@ same_fault r s = r.line == s.line && bytes_eq (code_word r.code) (code_word s.co
 
 -- of what an instance text and an answer text stand for
 unfoldable pub judged : Result Network Fault → Result Answer Shape → Verdict
-judged reading (Err shape) = BadShape shape.line
+judged read (Err shape) = BadShape shape.line
 judged (Err fault) (Ok (Flow a)) = BadKind
 judged (Err fault) (Ok (Blocked a)) = BadKind
 judged (Ok g) (Ok (Refused r)) = BadKind

@@ -167,7 +167,8 @@ fn run<S: AsStr, R: FnMut(&str) -> Result<Vec<u8>, FileFault>, O: Write>(
     out: &mut O,
 ) -> Result<u8, Failure>
     requires { R.IsAlwaysCallable read.old }
-    ensures judged { IfOk result (λ status. JudgesAndPrints R.FnMut (λ file. file.items) read.old (map S.text words.now) status (O.contents out.old) (O.contents out.new)) }
+    ensures judged { IfOk result (λ status. JudgesAndPrints R.FnMut (λ file. file.items) read.old (map S.text words.now) status
+        (O.contents out.old) (O.contents out.new)) }
     ensures small { IfOk result (λ status. status ≤ 1) }
     ensures usage { length words.now ≢ 3 → (result ≡ Err Failure.Usage) × (out.new ≡ out.old) × (read.new ≡ read.old) }
     ensures reads { length words.now ≡ 3 → ReadsFiles R.FnMut read.old (map S.text words.now) (out.new ≡ out.old) }

@@ -18,7 +18,7 @@ use Rattle.mcf_network.specs.Stuck.{IsStuck}
 use Rattle.mcf_network.specs.Walks.{HasRoom}
 use Rattle.mcf_network.proofs.ArcLaws.{tail_is_node}
 use Rattle.mcf_network.proofs.Lists.{Contains-cons}
-use Rattle.mcf_network.proofs.Marks.{count_none, counted_new, marked_new, marked_only, marked_still, unmarked}
+use Rattle.mcf_network.proofs.Marks.{count_none, count_small, counted_new, marked_new, marked_only, marked_still, unmarked}
 use Rattle.mcf_feas.specs.declared.search.Link.{Link}
 use Rattle.mcf_feas.specs.declared.search.Visit.{Visit}
 use Rattle.mcf_feas.specs.Private.Searching.{IsFound, IsReachedBy, IsScanned, IsSearch, node_at, visit_at}
@@ -79,6 +79,16 @@ reached_new s visits v (Some l) next =
       from = next.from ∙ sym (node_old visits v (Some l) l.place (omega arith));
       to = next.to ∙ sym (node_new visits v (Some l) (length visits) refl);
     }
+
+-- a node that is not visited yet has its place among the visits
+pub search_room : (s : Pseudoflow) (table : List Bool) (visits : List Visit) (v : ℕ) → IsSearch s table visits → IsNode (node_count s.net) v
+    → in_table table v ≡ false → length visits < node_count s.net
+search_room s table visits v ok h new =
+    let here : IsNode (length table) v = omega (arith, h, ok.nodes) in
+    let few = count_small (with_node table v) in
+    let more = counted_new table v here new in
+    let same = length-set table (v - 1) true in
+    omega (arith, few, more, same, ok.nodes, ok.count)
 
 module _ (s : Pseudoflow) (table : List Bool) (visits : List Visit) (v : ℕ) (link : Option Link) (ok : IsSearch s table visits)
     (h : IsNode (node_count s.net) v) (new : in_table table v ≡ false) (next : IsNext s visits v link) where

@@ -1,19 +1,20 @@
 //! A feasible state of a net, or a node set that blocks.
 ghost use Rattle.std.specs.Bool.{MatchBool};
-ghost use Rattle.std.specs.Prelude.{◌≡◌, ◌≤◌, ◌≤ℤ◌, ℕ, IfOk, OnErr, length, pos};
+ghost use Rattle.std.specs.Prelude.{◌≡◌, ◌≤◌, ◌≤ℤ◌, ℕ, IfOk, OnErr, length, vec_capacity, pos};
 ghost use Rattle.mcf_instance.specs.Blocking.{in_table};
 ghost use Rattle.mcf_instance.specs.Network.{IsNode, node_count};
 ghost use Rattle.mcf_network.specs.States.{IsPseudoflow, surplus_at};
 ghost use Rattle.mcf_network.specs.Stuck.{IsStuck};
 ghost use Rattle.mcf_feas.specs.Feasible.{IsFeas};
 
-use crate::preflow::Preflow;
+use crate::preflow::round;
 use crate::search::Search;
 use crate::supplies::unbalanced;
 use mcf_instance::Side;
 use mcf_network::{Net, NodeSet, State};
-use mcf_text::NoMemory;
+use mcf_text::{NoMemory, NodeId};
 use std::alloc::Global;
+use std::collections::VecDeque;
 
 /// A state of a net without surplus, or a node set that blocks every flow, with its side.
 #[derive(Drop)]
@@ -30,10 +31,11 @@ pub enum Feas<'n> {
 /// up to less than 0. Where they add up to 0, the set blocks by `Send`.
 ///
 /// It pushes surplus down the levels of the nodes, first in, first out (Goldberg and Tarjan; Ahuja, Magnanti
-/// and Orlin, Network Flows, section 7.7), in rounds. After each round a breadth-first search from the nodes with
-/// a surplus shows that none is left, or that none can leave the nodes reached, or finds an augmenting path
-/// (chapter 6). The time of a round is mostly linear in the nodes and arcs. The memory is linear in the nodes and
-/// arcs, and is taken before the first round.
+/// and Orlin, Network Flows, section 7.7), in rounds. A level is at most how far a node is from the nodes that take;
+/// where these are near it is found for three quarters of the nodes with a surplus, and the others are lifted as they
+/// are visited. After each round a breadth-first search from the nodes with a surplus shows that none is left, or
+/// that none can leave the nodes reached, or finds an augmenting path (chapter 6). The time of a round is mostly
+/// linear in the nodes and arcs. The memory is linear in the nodes and arcs, and is taken before the first round.
 ///
 /// # Errors
 ///
@@ -46,25 +48,39 @@ pub fn feasible<'n>(alloc: Global, net: &'n Net) -> Result<Feas<'n>, NoMemory>
         return Ok(Feas::Blocked(set, side));
     }
     let mut state = State::zero(alloc, net)?;
-    let mut preflow = Preflow::new(alloc, net)?;
+    let (mut levels, mut queue) = tables(alloc, net)?;
     let mut search = Search::new(alloc, net)?;
-    let settled = push_in_rounds(&mut state, &mut preflow, &mut search)?;
+    let settled = push_in_rounds(&mut state, levels.as_mut_slice(), &mut queue, &mut search)?;
     if settled {
         return Ok(Feas::Flow(state));
     }
     Ok(Feas::Blocked(search.into_reached(), Side::Send))
 }
 
+// The tables of the pushes, which every round uses again: the level of each node, and the nodes that wait.
+fn tables(alloc: Global, net: &Net) -> Result<(Vec<u32>, VecDeque<NodeId>), NoMemory>
+    ensures levels { IfOk result (λ made. length made.0.items ≡ node_count net.now) }
+    ensures wants { OnErr result (1 ≤ node_count net.now) }
+{
+    let nodes = net.node_count() as usize;
+    let mut levels = Vec::new(alloc);
+    levels.resize(nodes, 0)?;
+    let queue = VecDeque::with_capacity(alloc, nodes)?;
+    Ok((levels, queue))
+}
+
 // Pushes surplus in rounds, with a search after each and a push along the path that it finds, until a search finds no
 // path. Says whether no node has a surplus then.
 fn push_in_rounds(
     state: &mut State<'_>,
-    preflow: &mut Preflow,
+    levels: &mut [u32],
+    queue: &mut VecDeque<NodeId>,
     search: &mut Search,
 ) -> Result<bool, NoMemory>
     requires flow { IsPseudoflow state.old }
-    requires levels { length preflow.old.levels.items ≡ node_count state.old.net }
+    requires levels { length levels.old ≡ node_count state.old.net }
     requires nodes { length search.old.reached ≡ node_count state.old.net }
+    requires room { node_count state.old.net ≤ vec_capacity search.old.visits }
     ensures net { IfOk result (λ _. state.new.net ≡ state.old.net) }
     ensures flow { IfOk result (λ _. IsPseudoflow state.new) }
     ensures nodes { IfOk result (λ _. length search.new.reached ≡ node_count state.old.net) }
@@ -73,13 +89,13 @@ fn push_in_rounds(
         (IsStuck state.new (in_table search.new.reached))) }
     ensures wants { OnErr result (1 ≤ node_count state.old.net) }
 {
-    preflow.round(state)?;
-    'searches: while search.start(state)? {
-        if !search.run(state)? {
+    round(state, levels, queue);
+    'searches: while search.start(state) {
+        if !search.run(state) {
             return Ok(false);
         }
         search.augment(state)?;
-        preflow.round(state)?;
+        round(state, levels, queue);
     }
     Ok(true)
 }

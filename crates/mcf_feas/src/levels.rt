@@ -1,107 +1,122 @@
 //! Levels: how far each node is from the nodes that take, along residual arcs with room.
-ghost use Rattle.std.specs.Prelude.{◌≡◌, ◌≤◌, OnErr, OnOk, length};
+ghost use Rattle.std.specs.Prelude.{◌≡◌, length};
 ghost use Rattle.mcf_instance.specs.Network.{IsNode, node_count};
-ghost use Rattle.mcf_feas.specs.Private.Pushing.{AreNodes};
 
+use crate::waiting::{next_waiting, wait};
 use mcf_network::{Rid, State};
-use mcf_text::{NoMemory, NodeId};
+use mcf_text::NodeId;
 use std::collections::VecDeque;
 
+// Up to which level it is enough that three quarters of the nodes with a surplus have theirs. Where more arcs lie
+// between, as on a map of roads, lifts one arc at a time would cost more than the search for the levels.
+const SHALLOW: u32 = 16;
+
 /// Sets the level of each node to the least number of residual arcs with room to a node that takes, by a
-/// breadth-first search backward from the nodes that take. It ends once each node with a surplus has its level; the
-/// nodes that it didn't reach by then have the count of nodes.
+/// breadth-first search backward from the nodes that take. It ends once all of so many nodes with a surplus have
+/// their level, or three quarters of them, where these are near; the nodes that it didn't reach by then are one level above
+/// those from which it went on, and above every level where there was nothing left to search.
 pub(crate) fn set_levels(
     state: &State<'_>,
-    levels: &mut Vec<u32>,
+    levels: &mut [u32],
     queue: &mut VecDeque<NodeId>,
-) -> Result<(), NoMemory>
-    requires { length levels.old.items ≡ node_count state.now.net }
-    ensures levels { OnOk result (length levels.new.items ≡ node_count state.now.net) }
-    ensures wants { OnErr result (1 ≤ node_count state.now.net) }
+    senders: u32,
+)
+    requires { length levels.old ≡ node_count state.now.net }
 {
-    start_levels(state, levels, queue)?;
-    let mut sought = sender_count(state);
-    'nodes: for _ in 0..state.net().node_count() {
-        if sought == 0 {
-            return Ok(());
-        }
-        let Some(node) = queue.pop_front() else {
-            return Ok(());
-        };
-        let reached = level_tails(state, levels, queue, node)?;
-        sought = sought.saturating_sub(reached);
-    }
-    Ok(())
-}
-
-// How many nodes have a surplus.
-fn sender_count(state: &State<'_>) -> u32 {
-    let mut count = 0u32;
-    'nodes: for number in 0..state.net().node_count() {
-        if state.surplus(NodeId::new(number + 1)) > 0 {
-            count = count.saturating_add(1);
-        }
-    }
-    count
+    start_levels(state, levels, queue);
+    let top = search_back(state, levels, queue, senders);
+    lower_to(levels, top);
 }
 
 // Sets the level of each node that takes to 0, and lets it wait; sets the others above every level.
-fn start_levels(
-    state: &State<'_>,
-    levels: &mut Vec<u32>,
-    queue: &mut VecDeque<NodeId>,
-) -> Result<(), NoMemory>
-    requires { length levels.old.items ≡ node_count state.now.net }
-    ensures levels { OnOk result (length levels.new.items ≡ node_count state.now.net) }
-    ensures nodes { OnOk result (AreNodes (node_count state.now.net) queue.new.items) }
-    ensures wants { OnErr result (1 ≤ node_count state.now.net) }
+fn start_levels(state: &State<'_>, levels: &mut [u32], queue: &mut VecDeque<NodeId>)
+    requires { length levels.old ≡ node_count state.now.net }
 {
     queue.clear();
     let far = state.net().node_count();
     'nodes: for number in 0..far {
         let node = NodeId::new(number + 1);
-        if state.surplus(node) < 0 {
-            levels[number as usize] = 0;
-            queue.push_back(node)?;
-        } else {
-            levels[number as usize] = far;
+        let takes = state.surplus(node) < 0;
+        levels[number as usize] = if takes { 0 } else { far };
+        if takes {
+            wait(queue, node);
         }
     }
-    Ok(())
 }
 
-// Sets the level of each node that has none yet, and from which a residual arc with room leads to a node, one
-// above that node, and lets it wait. Says how many of these have a surplus.
+// Sets the levels of the nodes behind those that wait, until enough of so many nodes with a surplus have theirs.
+// Says a level that the nodes without one are not below.
+fn search_back(
+    state: &State<'_>,
+    levels: &mut [u32],
+    queue: &mut VecDeque<NodeId>,
+    senders: u32,
+) -> u32
+    requires { length levels.old ≡ node_count state.now.net }
+{
+    let far = state.net().node_count();
+    let mut sought = senders;
+    let mut level = 1;
+    'nodes: for _ in 0..far {
+        if is_enough(senders, sought, level) {
+            return level;
+        }
+        let Some(node) = next_waiting(state, queue) else {
+            return far;
+        };
+        level = levels[node.get() as usize - 1].saturating_add(1);
+        let reached = level_tails(state, levels, queue, node, level);
+        sought = sought.saturating_sub(reached);
+    }
+    far
+}
+
+// Whether enough of so many nodes with a surplus have their level, where some are still sought.
+fn is_enough(senders: u32, sought: u32, level: u32) -> bool {
+    if level > SHALLOW {
+        sought == 0
+    } else {
+        sought <= senders / 4
+    }
+}
+
+// Sets the level of each node that has none yet, and from which a residual arc with room leads to a node, to the
+// level above that node, and lets it wait. Says how many of these have a surplus.
 fn level_tails(
     state: &State<'_>,
-    levels: &mut Vec<u32>,
+    levels: &mut [u32],
     queue: &mut VecDeque<NodeId>,
     node: NodeId,
-) -> Result<u32, NoMemory>
-    requires levels { length levels.old.items ≡ node_count state.now.net }
-    requires nodes { AreNodes (node_count state.now.net) queue.old.items }
+    level: u32,
+) -> u32
+    requires levels { length levels.old ≡ node_count state.now.net }
     requires node { IsNode (node_count state.now.net) node }
-    ensures levels { OnOk result (length levels.new.items ≡ node_count state.now.net) }
-    ensures nodes { OnOk result (AreNodes (node_count state.now.net) queue.new.items) }
-    ensures wants { OnErr result (1 ≤ node_count state.now.net) }
 {
     let net = state.net();
     let far = net.node_count();
-    let level = levels[node.get() as usize - 1].saturating_add(1);
     let mut senders = 0u32;
     'tails: for along in net.leaving(node) {
         let Rid { arc, back } = along;
+        if state.room(Rid { arc, back: !back }) <= 0 {
+            continue;
+        }
         let (_, from) = net.route(Rid { arc, back });
         let place = from.get() as usize - 1;
         if levels[place] < far {
             continue;
         }
-        if state.room(Rid { arc, back: !back }) <= 0 {
-            continue;
-        }
         levels[place] = level;
-        queue.push_back(from)?;
+        wait(queue, from);
         senders = senders.saturating_add(u32::from(state.surplus(from) > 0));
     }
-    Ok(senders)
+    senders
+}
+
+// Lowers the levels above one to it.
+fn lower_to(levels: &mut [u32], top: u32) {
+    'levels: for i in 0..levels.len() {
+        if levels[i] > top {
+            levels[i] = top;
+        }
+    }
 }

@@ -12,6 +12,7 @@ mod levels;
 mod preflow;
 mod search;
 mod supplies;
+mod waiting;
 
 pub use feas::{Feas, feasible};
 pub use laws::{answers_are_exact, blocked_has_no_state};

@@ -1,5 +1,6 @@
 //! Breadth-first search from the nodes with a surplus, and augmenting paths.
-ghost use Rattle.std.specs.Prelude.{◌≡◌, ℕ, ◌∷◌, ◌++◌, [], ◌<◌, ◌≤◌, true, IfOk, IfNone, IfSome, OnErr, OnOk, length, pos, ◌+◌, ◌≤ℤ◌, ◌-◌};
+ghost use Rattle.std.specs.Prelude.{◌≡◌, ℕ, ◌∷◌, ◌++◌, [], ◌<◌, ◌≤◌, true, IfOk};
+ghost use Rattle.std.specs.Prelude.{IfNone, IfSome, OnErr, OnOk, length, vec_capacity, pos, ◌+◌, ◌≤ℤ◌, ◌-◌};
 ghost use Rattle.std.specs.Bool.{MatchBool};
 ghost use Rattle.mcf_instance.specs.Blocking.{in_table};
 ghost use Rattle.mcf_instance.specs.Network.{IsArcNumber, IsNode, node_count};
@@ -38,6 +39,7 @@ impl Search {
     /// The tables for a net.
     pub(crate) fn new(alloc: Global, net: &Net) -> Result<Search, NoMemory>
         ensures nodes { IfOk result (λ search. length search.reached ≡ node_count net.now) }
+        ensures room { IfOk result (λ search. node_count net.now ≤ vec_capacity search.visits) }
         ensures wants { OnErr result (1 ≤ node_count net.now) }
     {
         let nodes = net.node_count() as usize;
@@ -56,68 +58,72 @@ impl Search {
     }
 
     // Visits a node.
-    fn visit(&mut self, node: NodeId, link: Option<Link>) -> Result<(), NoMemory>
-        requires { IsNode (length self.old.reached) node }
-        ensures reached { OnOk result (self.new.reached ≡ with_node self.old.reached node) }
-        ensures visits { OnOk result (self.new.visits.items
-            ≡ self.old.visits.items ++ record { node = node; link = link } ∷ []) }
+    fn visit(&mut self, node: NodeId, link: Option<Link>)
+        requires node { IsNode (length self.old.reached) node }
+        requires room { length self.old.visits.items < vec_capacity self.old.visits }
+        ensures reached { self.new.reached ≡ with_node self.old.reached node }
+        ensures visits { self.new.visits.items
+            ≡ self.old.visits.items ++ record { node = node; link = link } ∷ [] }
+        ensures room { vec_capacity self.new.visits ≡ vec_capacity self.old.visits }
     {
-        self.visits.push(Visit { node, link })?;
+        self.visits.push_reserved(Visit { node, link });
         self.reached.insert(node);
-        Ok(())
     }
 
     /// Begins a search: visits the nodes with a surplus, and says whether there is one.
-    pub(crate) fn start(&mut self, state: &State<'_>) -> Result<bool, NoMemory>
-        requires { length self.old.reached ≡ node_count state.now.net }
-        ensures scanned { IfOk result (λ _. IsScanned state.now self.new.reached self.new.visits.items 0) }
-        ensures sources { IfOk result (λ some. MatchBool some
+    pub(crate) fn start(&mut self, state: &State<'_>) -> bool
+        requires nodes { length self.old.reached ≡ node_count state.now.net }
+        requires room { node_count state.now.net ≤ vec_capacity self.old.visits }
+        ensures scanned { IsScanned state.now self.new.reached self.new.visits.items 0 }
+        ensures room { node_count state.now.net ≤ vec_capacity self.new.visits }
+        ensures sources { MatchBool result
             (0 < length self.new.visits.items)
-            ((v : ℕ) → IsNode (node_count state.now.net) v → surplus_at state.now v ≤ℤ pos 0)) }
-        ensures wants { OnErr result (1 ≤ node_count state.now.net) }
+            ((v : ℕ) → IsNode (node_count state.now.net) v → surplus_at state.now v ≤ℤ pos 0) }
     {
         self.reached.clear();
         self.visits.clear();
         for number in 0..state.net().node_count() {
             let node = NodeId::new(number + 1);
             if state.surplus(node) > 0 {
-                self.visit(node, None)?;
+                self.visit(node, None);
             }
         }
-        Ok(!self.visits.is_empty())
+        !self.visits.is_empty()
     }
 
     /// Visits what can be reached, until a visited node takes, and says whether one does.
-    pub(crate) fn run(&mut self, state: &State<'_>) -> Result<bool, NoMemory>
+    pub(crate) fn run(&mut self, state: &State<'_>) -> bool
         requires flow { IsPseudoflow state.now }
+        requires room { node_count state.now.net ≤ vec_capacity self.old.visits }
         requires scanned { IsScanned state.now self.old.reached self.old.visits.items 0 }
         requires some { 0 < length self.old.visits.items }
-        ensures nodes { IfOk result (λ _. length self.new.reached ≡ node_count state.now.net) }
-        ensures found { IfOk result (λ found. MatchBool found
+        ensures nodes { length self.new.reached ≡ node_count state.now.net }
+        ensures room { node_count state.now.net ≤ vec_capacity self.new.visits }
+        ensures found { MatchBool result
             (IsFound state.now self.new.visits.items)
-            (IsStuck state.now (in_table self.new.reached))) }
-        ensures wants { OnErr result (1 ≤ node_count state.now.net) }
+            (IsStuck state.now (in_table self.new.reached)) }
     {
         let mut scanned = 0;
         while scanned < self.visits.len() {
-            if self.scan(state, scanned)? {
-                return Ok(true);
+            if self.scan(state, scanned) {
+                return true;
             }
             scanned += 1;
         }
-        Ok(false)
+        false
     }
 
     // Visits the nodes to which residual arcs with room lead from the node at a place, until one of them takes,
     // and says whether one does.
-    fn scan(&mut self, state: &State<'_>, place: usize) -> Result<bool, NoMemory>
+    fn scan(&mut self, state: &State<'_>, place: usize) -> bool
+        requires room { node_count state.now.net ≤ vec_capacity self.old.visits }
         requires scanned { IsScanned state.now self.old.reached self.old.visits.items place }
         requires place { place < length self.old.visits.items }
-        ensures nodes { IfOk result (λ _. length self.new.reached ≡ node_count state.now.net) }
-        ensures found { IfOk result (λ found. MatchBool found
+        ensures nodes { length self.new.reached ≡ node_count state.now.net }
+        ensures room { node_count state.now.net ≤ vec_capacity self.new.visits }
+        ensures found { MatchBool result
             (IsFound state.now self.new.visits.items)
-            (IsScanned state.now self.new.reached self.new.visits.items (place + 1))) }
-        ensures wants { OnErr result (1 ≤ node_count state.now.net) }
+            (IsScanned state.now self.new.reached self.new.visits.items (place + 1)) }
     {
         let net = state.net();
         let from = self.visits[place].node;
@@ -129,18 +135,19 @@ impl Search {
             if self.reached.contains(to) {
                 continue;
             }
-            self.visit(to, Some(link_along(place as u32, arc, back)))?;
+            self.visit(to, Some(link_along(place as u32, arc, back)));
             if state.surplus(to) < 0 {
-                return Ok(true);
+                return true;
             }
         }
-        Ok(false)
+        false
     }
 
     /// Moves along the path to the last visited node as much as the path takes.
     pub(crate) fn augment(&mut self, state: &mut State<'_>) -> Result<(), NoMemory>
         requires { IsFound state.old self.old.visits.items }
         ensures nodes { length self.new.reached ≡ length self.old.reached }
+        ensures room { vec_capacity self.new.visits ≡ vec_capacity self.old.visits }
         ensures augmented { OnOk result (IsAugmented state.old state.new) }
         ensures wants { OnErr result (1 ≤ node_count state.old.net) }
     {

@@ -4,10 +4,11 @@ use Rattle.std.specs.Prelude.{Option, find, codes, ◌≢◌}
 use Rattle.std.specs.List.{list_all}
 use Rattle.std.proofs.lemmas.Slice.Eq.{bytes_eq-Decides}
 use Rattle.mcf_instance.specs.declared.code.Code.{Code}
-use Rattle.mcf_instance.specs.declared.code.Code.TheVariants.{Kind, SecondP, BeforeP, Node, Twice}
+use Rattle.mcf_instance.specs.declared.code.Code.TheVariants.{Kind, Fields, Number, SecondP, BeforeP, Node, Twice}
 use Rattle.mcf_text.specs.Row.{Row, node, number, field}
 use Rattle.mcf_instance.specs.Fault.{is_p, is_n, is_a, has_p, header, header_of, is_listed, is_node_number, node_places, fault_of_line, applies, table}
-use Rattle.mcf_instance.specs.Limits.{limits}
+use Rattle.mcf_instance.specs.Fault.{has_field_count, has_numbers, is_counted, of_min}
+use Rattle.mcf_instance.specs.Limits.{Limits, limits}
 use Rattle.mcf_instance.specs.Reading.{arc_of}
 use Rattle.mcf_instance.specs.Private.Stands.{heading_of, Holds}
 use Rattle.mcf_instance.specs.declared.reader.line.Item.{Item}
@@ -15,7 +16,7 @@ use Rattle.mcf_instance.specs.declared.reader.line.Item.TheVariants.{Problem, Su
 use Rattle.mcf_instance.specs.Private.ReaderState.{StateData, item_of, with_item}
 use Rattle.mcf_instance.proofs.NodeLines.{ok_unless}
 use Rattle.mcf_instance.proofs.Ranges.{natural_low}
-use Rattle.std.proofs.lemmas.Bool.{and_parts, not-false}
+use Rattle.std.proofs.lemmas.Bool.{and_from, and_parts, not-false}
 use Rattle.mcf_instance.proofs.ArcLines.{packed}
 use Rattle.mcf_instance.proofs.Items.{item_said, item_reads}
 use Rattle.mcf_instance.proofs.Taken.{holds_problem, holds_supply, holds_link, supply_said}
@@ -37,12 +38,12 @@ none_at p x xs e = go (p x) refl
     go false f = f
 
 -- a fault of the table doesn't apply to a good line
-pub applies_not : (lines : List Row) (row : Row) (k : ℕ) (code : Code) (rest : List Code) → drop k table ≡ code ∷ rest → fault_of_line limits lines row ≡ None
-    → applies limits code lines row ≡ false
+pub applies_not : (allowed : Limits) (lines : List Row) (row : Row) (k : ℕ) (code : Code) (rest : List Code) → drop k table ≡ code ∷ rest
+    → fault_of_line allowed lines row ≡ None → applies allowed code lines row ≡ false
 unfolding fault_of_line
-applies_not lines row k code rest at none =
-    none_at (λ c. applies limits c lines row) code rest (ap (find (λ c. applies limits c lines row)) (sym at)
-    ∙ none_from (λ c. applies limits c lines row) table k none)
+applies_not allowed lines row k code rest at none =
+    none_at (λ c. applies allowed c lines row) code rest (ap (find (λ c. applies allowed c lines row)) (sym at)
+    ∙ none_from (λ c. applies allowed c lines row) table k none)
 
 -- the words of the kinds differ
 not_n : (row : Row) → is_p row ≡ true → is_n row ≡ false
@@ -65,34 +66,44 @@ some_header s lines h e none = absurd (cc (sym none ∙ (h.heading_is ∙ ap (λ
 after_problem : (s : StateData) (lines : List Row) (row : Row) → Holds s lines → fault_of_line limits lines row ≡ None → is_p row ≡ true
     → Holds (with_item s (Problem (heading_of (header_of row)))) (lines ++ row ∷ [])
 after_problem s lines row h good p =
-    let second : (is_p row && has_p lines) ≡ false = applies_not lines row 4 SecondP _ refl good in
+    let second : (is_p row && has_p lines) ≡ false = applies_not limits lines row 4 SecondP _ refl good in
     let seen : has_p lines ≡ false = sym (ap (λ b. b && has_p lines) p) ∙ second in
     holds_problem s lines row h (no_header s lines h seen) p (not_n row p) (not_a row p)
 
 has_header : (lines : List Row) (row : Row) → fault_of_line limits lines row ≡ None → is_p row ≡ false → has_p lines ≡ true
 has_header lines row good p =
-    let early : (not (is_p row) && not (has_p lines)) ≡ false = applies_not lines row 5 BeforeP _ refl good in
+    let early : (not (is_p row) && not (has_p lines)) ≡ false = applies_not limits lines row 5 BeforeP _ refl good in
     not-false (has_p lines) (sym (ap (λ b. not b && not (has_p lines)) p) ∙ early)
 
 after_node : (s : StateData) (lines : List Row) (row : Row) → Holds s lines → fault_of_line limits lines row ≡ None → is_p row ≡ false → is_n row ≡ true
     → Holds (with_item s (Supply (node row 1) (supply_said (header lines).problem row))) (lines ++ row ∷ [])
 after_node s lines row h good p n =
-    let twice : (is_n row && is_listed lines (node row 1)) ≡ false = applies_not lines row 9 Twice _ refl good in
+    let twice : (is_n row && is_listed lines (node row 1)) ≡ false = applies_not limits lines row 9 Twice _ refl good in
     let fresh : is_listed lines (node row 1) ≡ false = sym (ap (λ b. b && is_listed lines (node row 1)) n) ∙ twice in
     let range : (not (is_p row) && not (list_all (λ k. is_node_number lines (number row k)) (node_places row))) ≡ false =
-    applies_not lines row 7 Node _ refl good in
+    applies_not limits lines row 7 Node _ refl good in
     let inside : (is_node_number lines (number row 1) && true) ≡ true =
     not-false _ (sym (ap (λ b. not b && not (list_all (λ k. is_node_number lines (number row k)) (node_places row))) p
     ∙ ap (λ b. not (list_all (λ k. is_node_number lines (number row k)) (cond b (1 ∷ []) (1 ∷ 2 ∷ [])))) n) ∙ range) in
     holds_supply s lines row h (some_header s lines h (has_header lines row good p)) p n (n_not_a row n)
     (natural_low _ (number row 1) (and_parts (is_node_number lines (number row 1)) true inside).0) fresh
 
+-- a good arc line of `min` is counted
+counted_line : (lines : List Row) (row : Row) → fault_of_line limits lines row ≡ None → is_a row ≡ true → of_min lines ≡ true → has_p lines ≡ true
+    → is_counted lines row ≡ true
+counted_line lines row good a min seen =
+    let fields : has_field_count lines row ≡ true = not-false _ (applies_not limits lines row 1 Fields _ refl good) in
+    let numbers : has_numbers row ≡ true = not-false _ (applies_not limits lines row 3 Number _ refl good) in
+    and_from _ (has_numbers row)
+    (and_from _ (has_field_count lines row) (and_from _ (has_p lines) (and_from (is_a row) (of_min lines) a min) seen) fields) numbers
+
 after_arc : (s : StateData) (lines : List Row) (row : Row) → Holds s lines → fault_of_line limits lines row ≡ None → is_p row ≡ false → is_n row ≡ false
     → Holds (with_item s (Link (packed (arc_of (header lines).problem row)))) (lines ++ row ∷ [])
 after_arc s lines row h good p n =
-    let kind : not (is_p row || is_n row || is_a row) ≡ false = applies_not lines row 0 Kind _ refl good in
+    let kind : not (is_p row || is_n row || is_a row) ≡ false = applies_not limits lines row 0 Kind _ refl good in
     let a : is_a row ≡ true = not-false (is_a row) (sym (ap (λ b. not (b || is_n row || is_a row)) p ∙ ap (λ b. not (b || is_a row)) n) ∙ kind) in
     holds_link s lines row h (some_header s lines h (has_header lines row good p)) p n a
+    (λ min. counted_line lines row good a min (has_header lines row good p))
 
 after_said : (s : StateData) (lines : List Row) (row : Row) → Holds s lines → fault_of_line limits lines row ≡ None
     → Holds (with_item s (item_said lines row)) (lines ++ row ∷ [])

@@ -14,6 +14,7 @@ use Rattle.mcf_instance.specs.declared.arc.Arc.{Arc}
 use Rattle.mcf_instance.specs.Limits.{arc_limit, node_limit, total_limit, wide_limits}
 use Rattle.mcf_instance.specs.Network.{IsNode, arc_sum, at_node, flow_sum, node_sum, when}
 use Rattle.mcf_instance.specs.Flow.{CanCarry, IsWithinBounds, cost}
+use Rattle.mcf_instance.specs.Private.Sums.{sum_limit, supply_sum_limit}
 use Rattle.mcf_instance.specs.WellFormed.{IsArcWithinLimits, IsUpTo, weight}
 use Rattle.mcf_instance.proofs.AllZips.{AllZip-at, AllZip-with, length-AllZip}
 use Rattle.mcf_instance.proofs.ArcSums.{flow_sum_more}
@@ -82,36 +83,36 @@ node_sum_up_to t m (suc n) e =
 -- ---- node sets
 
 -- the supplies of a set of the first nodes
-pub supply_up_to : (supplies : List ℤ) (set : ℕ → Bool) (i : ℕ) → All (IsUpTo (10 ^ 18)) supplies → length supplies ≤ node_limit → i ≤ length supplies
-    → IsUpTo (10 ^ 24) (node_sum (λ v. when (set v) (at_node supplies v)) i)
+pub supply_up_to : (supplies : List ℤ) (set : ℕ → Bool) (i : ℕ) → All (IsUpTo wide_limits.supply) supplies → length supplies ≤ node_limit → i ≤ length supplies
+    → IsUpTo supply_sum_limit (node_sum (λ v. when (set v) (at_node supplies v)) i)
 supply_up_to supplies set i small n h =
-    let sum = node_sum_up_to (λ v. when (set v) (at_node supplies v)) (10 ^ 18) i
-    (λ v q. when_up_to (set v) (10 ^ 18) (at_node supplies v) (small (v - 1) (pos 0) (omega arith))) in
+    let sum = node_sum_up_to (λ v. when (set v) (at_node supplies v)) wide_limits.supply i
+    (λ v q. when_up_to (set v) wide_limits.supply (at_node supplies v) (small (v - 1) (pos 0) (omega arith))) in
     omega (arith, ints, sum)
 
 -- the lows, or the caps, of the first arcs that pass a test
 pub lows_up_to : (test : Arc → Bool) (arcs : List Arc) (i : ℕ) → All (IsArcWithinLimits wide_limits) arcs → length arcs ≤ arc_limit → i ≤ length arcs
-    → IsUpTo (10 ^ 25) (arc_sum (λ a. when (test a) a.low) (take i arcs))
+    → IsUpTo sum_limit (arc_sum (λ a. when (test a) a.low) (take i arcs))
 lows_up_to test arcs i small n h =
-    let sum = arc_sum_up_to (IsArcWithinLimits wide_limits) (λ a. when (test a) a.low) (10 ^ 18)
-    (λ a q. when_up_to (test a) (10 ^ 18) a.low q.low_small) arcs i small in
+    let sum = arc_sum_up_to (IsArcWithinLimits wide_limits) (λ a. when (test a) a.low) wide_limits.bound
+    (λ a q. when_up_to (test a) wide_limits.bound a.low q.low_small) arcs i small in
     omega (arith, ints, sum)
 
 pub caps_up_to : (test : Arc → Bool) (arcs : List Arc) (i : ℕ) → All (IsArcWithinLimits wide_limits) arcs → length arcs ≤ arc_limit → i ≤ length arcs
-    → IsUpTo (10 ^ 25) (arc_sum (λ a. when (test a) a.cap) (take i arcs))
+    → IsUpTo sum_limit (arc_sum (λ a. when (test a) a.cap) (take i arcs))
 caps_up_to test arcs i small n h =
-    let sum = arc_sum_up_to (IsArcWithinLimits wide_limits) (λ a. when (test a) a.cap) (10 ^ 18)
-    (λ a q. when_up_to (test a) (10 ^ 18) a.cap q.cap_small) arcs i small in
+    let sum = arc_sum_up_to (IsArcWithinLimits wide_limits) (λ a. when (test a) a.cap) wide_limits.bound
+    (λ a q. when_up_to (test a) wide_limits.bound a.cap q.cap_small) arcs i small in
     omega (arith, ints, sum)
 
 -- the same, of all arcs
 pub low_all_up_to : (test : Arc → Bool) (arcs : List Arc) → All (IsArcWithinLimits wide_limits) arcs → length arcs ≤ arc_limit
-    → IsUpTo (10 ^ 25) (arc_sum (λ a. when (test a) a.low) arcs)
+    → IsUpTo sum_limit (arc_sum (λ a. when (test a) a.low) arcs)
 low_all_up_to test arcs small n =
     rw (take-length arcs) at (lows_up_to test arcs (length arcs) small n (omega arith))
 
 pub cap_all_up_to : (test : Arc → Bool) (arcs : List Arc) → All (IsArcWithinLimits wide_limits) arcs → length arcs ≤ arc_limit
-    → IsUpTo (10 ^ 25) (arc_sum (λ a. when (test a) a.cap) arcs)
+    → IsUpTo sum_limit (arc_sum (λ a. when (test a) a.cap) arcs)
 cap_all_up_to test arcs small n =
     rw (take-length arcs) at (caps_up_to test arcs (length arcs) small n (omega arith))
 
@@ -203,7 +204,7 @@ each_placed arcs flow small bounds =
     AllZip-with CanCarry (IsArcWithinLimits wide_limits) arcs flow small bounds
 
 -- a flow within the bounds is small
-pub flow_up_to : (a : Arc) (f : ℤ) → IsPlaced a f → IsUpTo (10 ^ 18) f
+pub flow_up_to : (a : Arc) (f : ℤ) → IsPlaced a f → IsUpTo wide_limits.bound f
 flow_up_to a f h = omega (arith, ints, h.0.low_small, h.0.cap_small, h.1)
 
 -- what a loop that adds up the cost needs at arc i
@@ -222,8 +223,8 @@ cost_step arcs flow i d e small total bounds h =
     let k : i < length flow = omega (arith, length-AllZip CanCarry arcs flow bounds) in
     record {
       in_range = k;
-      cost_read = read_back (get_or arcs i d).cost (10 ^ 15) here.0.cost_small (lit< tt);
-      flow_read = read_back (get_or flow i e) (10 ^ 18) (flow_up_to (get_or arcs i d) (get_or flow i e) here) (lit< tt);
+      cost_read = read_back (get_or arcs i d).cost wide_limits.cost here.0.cost_small (lit< tt);
+      flow_read = read_back (get_or flow i e) wide_limits.bound (flow_up_to (get_or arcs i d) (get_or flow i e) here) (lit< tt);
       term_small = term_up_to arcs flow i total_limit d e total bounds h;
       before_small = cost_part_up_to arcs flow i total_limit total bounds;
       next = flow_sum_more (λ a f. a.cost *ℤ f) arcs flow i d e h k;

@@ -5,7 +5,7 @@ use Rattle.std.specs.List.{range_with_len}
 use Rattle.mcf_instance.specs.declared.code.Code.{Code}
 use Rattle.mcf_instance.specs.declared.code.Code.TheVariants.{Fields, Missing, NoP, Number}
 use Rattle.mcf_instance.specs.declared.problem.Problem.TheVariants.{Min}
-use Rattle.mcf_instance.specs.Fault.{Fault, fault_at_end, fault_of_line, faults, first_fault, first_fault_of_lines}
+use Rattle.mcf_instance.specs.Fault.{Fault, fault_at_end, fault_of_line, faults, first_fault, first_fault_of_lines, total_of}
 use Rattle.mcf_instance.specs.Limits.{limits}
 use Rattle.mcf_instance.specs.Reading.{instance_of_lines, reading}
 
@@ -21,76 +21,76 @@ abbrev all_at : ℕ → ℕ → Code → List (Option Fault)
 all_at count line code = replicate count (Some (record { line = line; code = code }))
 
 cut_from_0 : faults_of_cuts 0 1 ≡ all_at 1 1 NoP
-unfolding first_fault first_fault_of_lines faults fault_of_line fault_at_end
+unfolding first_fault first_fault_of_lines faults fault_of_line total_of fault_at_end
 cut_from_0 = refl
 
 cut_from_1 : faults_of_cuts 1 8 ≡ all_at 8 1 Fields
-unfolding first_fault first_fault_of_lines faults fault_of_line fault_at_end
+unfolding first_fault first_fault_of_lines faults fault_of_line total_of fault_at_end
 cut_from_1 = refl
 
 cut_from_9 : faults_of_cuts 9 2 ≡ all_at 2 2 Missing
-unfolding first_fault first_fault_of_lines faults fault_of_line fault_at_end
+unfolding first_fault first_fault_of_lines faults fault_of_line total_of fault_at_end
 cut_from_9 = refl
 
 cut_from_11 : faults_of_cuts 11 4 ≡ all_at 4 2 Fields
-unfolding first_fault first_fault_of_lines faults fault_of_line fault_at_end
+unfolding first_fault first_fault_of_lines faults fault_of_line total_of fault_at_end
 cut_from_11 = refl
 
 cut_from_15 : faults_of_cuts 15 2 ≡ all_at 2 3 Missing
-unfolding first_fault first_fault_of_lines faults fault_of_line fault_at_end
+unfolding first_fault first_fault_of_lines faults fault_of_line total_of fault_at_end
 cut_from_15 = refl
 
 cut_from_17 : faults_of_cuts 17 4 ≡ all_at 4 3 Fields
-unfolding first_fault first_fault_of_lines faults fault_of_line fault_at_end
+unfolding first_fault first_fault_of_lines faults fault_of_line total_of fault_at_end
 cut_from_17 = refl
 
 cut_from_21 : faults_of_cuts 21 1 ≡ all_at 1 3 Number
-unfolding first_fault first_fault_of_lines faults fault_of_line fault_at_end
+unfolding first_fault first_fault_of_lines faults fault_of_line total_of fault_at_end
 cut_from_21 = refl
 
 cut_from_22 : faults_of_cuts 22 2 ≡ all_at 2 4 Missing
-unfolding first_fault first_fault_of_lines faults fault_of_line fault_at_end
+unfolding first_fault first_fault_of_lines faults fault_of_line total_of fault_at_end
 cut_from_22 = refl
 
 cut_from_24 : faults_of_cuts 24 10 ≡ all_at 10 4 Fields
-unfolding first_fault first_fault_of_lines faults fault_of_line fault_at_end
+unfolding first_fault first_fault_of_lines faults fault_of_line total_of fault_at_end
 cut_from_24 = refl
 
 cut_from_34 : faults_of_cuts 34 2 ≡ all_at 2 5 Missing
-unfolding first_fault first_fault_of_lines faults fault_of_line fault_at_end
+unfolding first_fault first_fault_of_lines faults fault_of_line total_of fault_at_end
 cut_from_34 = refl
 
 cut_from_36 : faults_of_cuts 36 10 ≡ all_at 10 5 Fields
-unfolding first_fault first_fault_of_lines faults fault_of_line fault_at_end
+unfolding first_fault first_fault_of_lines faults fault_of_line total_of fault_at_end
 cut_from_36 = refl
 
 cut_from_46 : faults_of_cuts 46 2 ≡ all_at 2 6 Missing
-unfolding first_fault first_fault_of_lines faults fault_of_line fault_at_end
+unfolding first_fault first_fault_of_lines faults fault_of_line total_of fault_at_end
 cut_from_46 = refl
 
 cut_from_48 : faults_of_cuts 48 10 ≡ all_at 10 6 Fields
-unfolding first_fault first_fault_of_lines faults fault_of_line fault_at_end
+unfolding first_fault first_fault_of_lines faults fault_of_line total_of fault_at_end
 cut_from_48 = refl
 
 cut_from_58 : faults_of_cuts 58 2 ≡ all_at 2 7 Missing
-unfolding first_fault first_fault_of_lines faults fault_of_line fault_at_end
+unfolding first_fault first_fault_of_lines faults fault_of_line total_of fault_at_end
 cut_from_58 = refl
 
 cut_from_60 : faults_of_cuts 60 10 ≡ all_at 10 7 Fields
-unfolding first_fault first_fault_of_lines faults fault_of_line fault_at_end
+unfolding first_fault first_fault_of_lines faults fault_of_line total_of fault_at_end
 cut_from_60 = refl
 
 cut_from_70 : faults_of_cuts 70 2 ≡ all_at 2 8 Missing
-unfolding first_fault first_fault_of_lines faults fault_of_line fault_at_end
+unfolding first_fault first_fault_of_lines faults fault_of_line total_of fault_at_end
 cut_from_70 = refl
 
 cut_from_72 : faults_of_cuts 72 10 ≡ all_at 10 8 Fields
-unfolding first_fault first_fault_of_lines faults fault_of_line fault_at_end
+unfolding first_fault first_fault_of_lines faults fault_of_line total_of fault_at_end
 cut_from_72 = refl
 
 -- without its last line end, and whole, it has no fault
 uncut : faults_of_cuts 82 2 ≡ replicate 2 None
-unfolding first_fault first_fault_of_lines faults fault_of_line fault_at_end
+unfolding first_fault first_fault_of_lines faults fault_of_line total_of fault_at_end
 uncut = refl
 
 stands_for : reading limits text ≡ Ok (record {
@@ -102,5 +102,5 @@ stands_for : reading limits text ≡ Ok (record {
       ∷ record { src = 3; dst = 4; low = pos 0; cap = pos 5; cost = pos 1 } ∷ [];
   supplies = pos 4 ∷ pos 0 ∷ pos 0 ∷ negsuc 3 ∷ [];
 })
-unfolding first_fault first_fault_of_lines faults fault_of_line fault_at_end instance_of_lines reading
+unfolding first_fault first_fault_of_lines faults fault_of_line total_of fault_at_end instance_of_lines reading
 stands_for = refl

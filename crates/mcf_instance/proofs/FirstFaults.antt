@@ -72,18 +72,18 @@ fault_after n xs (y ∷ ys) f none h e = go (fault_of_line limits xs y) refl (λ
     go : (o : Option Code) → fault_of_line limits xs y ≡ o → (slice_get (faults limits (xs ++ y ∷ [])) 0 ≡ None
         → slice_get (faults limits ((xs ++ y ∷ []) ++ ys)) 0 ≡ Some f → n < f.line) → n < f.line
     go (Some code) is later =
-        let here : slice_get (faults limits (xs ++ y ∷ [])) 0 ≡ Some (record { line = y.number; code = code }) = first_fault_more xs y
+        let here : slice_get (faults limits (xs ++ y ∷ [])) 0 ≡ Some (record { line = y.number; code = code }) = first_fault_more limits xs y
         ∙ ap (λ o. option_or o (as_fault limits (xs, y))) none ∙ ap (option_map (λ c. record { line = y.number; code = c })) is in
         let same : ◌≡◌ {A = Option Fault} (Some (record { line = y.number; code = code })) (Some f) =
-        sym (first_fault_stays (xs ++ y ∷ []) ys (record { line = y.number; code = code }) here) ∙ joined in
+        sym (first_fault_stays limits (xs ++ y ∷ []) ys (record { line = y.number; code = code }) here) ∙ joined in
         let line : y.number ≡ f.line = line_of _ f same in
         omega (arith, line, All-head (λ (r : Row). n < r.number) y ys h)
       where
         line_of : (a b : Fault) → ◌≡◌ {A = Option Fault} (Some a) (Some b) → a.line ≡ b.line
         line_of a b e = let is : a ≡ b = cc in ap (λ (r : Fault). r.line) is
     go None is later =
-        later (first_fault_more xs y ∙ ap (λ o. option_or o (as_fault limits (xs, y))) none ∙ ap (option_map (λ c. record { line = y.number; code = c })) is)
-        joined
+        later (first_fault_more limits xs y ∙ ap (λ o. option_or o (as_fault limits (xs, y))) none
+        ∙ ap (option_map (λ c. record { line = y.number; code = c })) is) joined
 
 -- the same of a text: its first fault is at a line after them, or after the last
 pub text_fault_after : (text : List ℕ) (n : ℕ) (xs ys : List Row) (fault : Fault) → rows text ≡ xs ++ ys → slice_get (faults limits xs) 0 ≡ None

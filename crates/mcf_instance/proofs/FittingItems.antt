@@ -1,5 +1,5 @@
 -- What a line of a good text says fits the state.
-use Rattle.std.proofs.Common.{◌≡◌, ℕ, ◌<◌, ◌≤◌, Bool, true, false, not, cond, ◌&&◌, List, [], length, refl, sym, ◌∙◌, Some, None, Ok, Err, arith}
+use Rattle.std.proofs.Common.{◌≡◌, ℕ, ◌+◌, ◌<◌, ◌≤◌, Bool, true, false, not, cond, ◌&&◌, List, [], length, refl, sym, ◌∙◌, Some, None, Ok, Err, arith}
 use Rattle.std.specs.Prelude.{Option, Result, ℤ, pos, ◌≤ℤ◌, bytes_eq, codes, slice_index_or, nat_lt, nat_le, int_lt, ◌==◌, is_some, IfOk}
 use Rattle.std.proofs.lemmas.Int.{ints}
 use Rattle.std.proofs.lemmas.Result.{IfOk-at_ok}
@@ -14,13 +14,13 @@ use Rattle.mcf_instance.specs.declared.reader.line.Item.{Item}
 use Rattle.mcf_instance.specs.Assignment.{OnAssignment}
 use Rattle.mcf_instance.specs.Blocking.{in_table}
 use Rattle.mcf_instance.specs.Fault.{is_up_to}
-use Rattle.mcf_instance.specs.Limits.{limits, node_limit, arc_limit}
+use Rattle.mcf_instance.specs.Limits.{limits, node_limit, arc_limit, total_limit}
 use Rattle.mcf_instance.specs.Private.LineReader.{◌>>=◌, arc_count_fits, arc_line, arc_numbers, arc_tests, is_wrong_side, checked_node, node_count_fits}
-use Rattle.mcf_instance.specs.Private.LineReader.{node_line, node_numbers, node_tests, number_at, problem_at, problem_line, with_heading}
+use Rattle.mcf_instance.specs.Private.LineReader.{node_line, node_numbers, node_tests, number_at, problem_at, problem_line, passes_total, with_heading}
 use Rattle.mcf_instance.specs.Packed.{unpacked}
 use Rattle.mcf_instance.specs.Private.ReaderState.{StateData, item_of, problem_or_min}
-use Rattle.mcf_instance.specs.Private.ReaderSound.{IsFlaggedPair, ItemFits, heading_arcs, heading_nodes}
-use Rattle.mcf_instance.specs.WellFormed.{HasEnds, IsArcWithinLimits, IsUpTo}
+use Rattle.mcf_instance.specs.Private.ReaderSound.{IsFlaggedPair, ItemFits, OnMin, heading_arcs, heading_nodes}
+use Rattle.mcf_instance.specs.WellFormed.{HasEnds, IsArcWithinLimits, IsUpTo, weight}
 use Rattle.mcf_text.specs.Row.{natural}
 use Rattle.mcf_text.specs.Whole.{is_within}
 use Rattle.std.proofs.lemmas.Bool.{and_parts, eqb-true, ltb-false, leb-false, ne_eqb, not-false, or_parts}
@@ -125,10 +125,11 @@ node_line_fits (Some h) arcs listed fields = go h.problem refl
 -- ---- arc lines
 
 -- what an arc line must say
-pub record ArcFits (o : Option Heading) (arcs : ℕ) (listed : List Bool) (a : PackedArc) : Type 0 where
+pub record ArcFits (o : Option Heading) (arcs total : ℕ) (listed : List Bool) (a : PackedArc) : Type 0 where
   pub room : arcs < heading_arcs o
   pub ends : HasEnds (heading_nodes o) (unpacked a)
   pub is_within : IsArcWithinLimits limits (unpacked a)
+  pub total_small : OnMin (problem_or_min o) (total + weight (unpacked a) ≤ total_limit)
   pub assignment : OnAssignment (problem_or_min o) (IsFlaggedPair listed a)
 
 abbrev UnitBounds : Format → ArcNumbers → Type 0
@@ -145,11 +146,15 @@ sides_fit h listed a unit right = at h.problem unit right
         let parts = or_parts (not (in_table listed a.src)) (in_table listed a.dst) r in
         record { from_flagged = not-false _ parts.0; to_unflagged = parts.1; low_is = u.0; cap_is = u.1 }
 
-arc_tests_fit : (h : Heading) (arcs : ℕ) (listed : List Bool) (a : ArcNumbers) → UnitBounds h.problem a
-    → IfOk (arc_tests limits h arcs listed a) (ArcFits (Some h) arcs listed)
+total_fits : (p : Format) (total : ℕ) (a : PackedArc) → passes_total limits p total a ≡ false → OnMin p (total + weight (unpacked a) ≤ total_limit)
+total_fits Min total a e = ltb-false total_limit (total + weight (unpacked a)) e
+total_fits Asn total a e = tt
+
+arc_tests_fit : (h : Heading) (arcs total : ℕ) (listed : List Bool) (a : ArcNumbers) → UnitBounds h.problem a
+    → IfOk (arc_tests limits h arcs total listed a) (ArcFits (Some h) arcs total listed)
 unfolding arc_tests
-arc_tests_fit h arcs listed a unit =
-    let P : PackedArc → Type 0 = ArcFits (Some h) arcs listed in
+arc_tests_fit h arcs total listed a unit =
+    let P : PackedArc → Type 0 = ArcFits (Some h) arcs total listed in
     if_ok_node h a.src _ P (λ src src_low src_high.
     if_ok_node h a.dst _ P (λ dst dst_low dst_high.
     rw (unless_fault-amount_fault a.low a.cap a.cost)
@@ -159,6 +164,8 @@ arc_tests_fit h arcs listed a unit =
     if_ok_test (not (is_up_to limits.cost a.cost)) _ _ P (λ cost.
     if_ok_test (nat_le h.arcs arcs) _ _ P (λ room.
     if_ok_test (is_wrong_side h listed src dst) _ _ P (λ sides.
+    let arc : PackedArc = record { src = src; dst = dst; low = a.low; cap = a.cap; cost = a.cost } in
+    if_ok_test (passes_total limits h.problem total arc) _ _ P (λ most.
     record {
       room = leb-false h.arcs arcs room;
       ends = record { src_is_node = (src_low, src_high); dst_is_node = (dst_low, dst_high) };
@@ -168,34 +175,35 @@ arc_tests_fit h arcs listed a unit =
         cap_small = up_to_is limits.bound a.cap both.1;
         cost_small = up_to_is limits.cost a.cost (not-false _ cost);
       };
-      assignment = sides_fit h listed (record { src = src; dst = dst; low = a.low; cap = a.cap; cost = a.cost }) unit sides;
-    }))))))))
+      total_small = total_fits h.problem total arc most;
+      assignment = sides_fit h listed arc unit sides;
+    })))))))))
 
 asn_arc_numbers : (fields : List (List ℕ)) → (length fields == 6) ≡ false → IfOk (arc_numbers fields) (λ a. (a.low ≡ pos 0) × (a.cap ≡ pos 1))
 asn_arc_numbers fields e =
     let P : ArcNumbers → Type 0 = λ a. (a.low ≡ pos 0) × (a.cap ≡ pos 1) in
     rw e (if_ok_bind (number_at fields 1) _ P (λ _. if_ok_bind (number_at fields 2) _ P (λ _. if_ok_bind (number_at fields 3) _ P (λ _. (refl, refl)))))
 
-arc_line_fits : (o : Option Heading) (arcs : ℕ) (listed : List Bool) (fields : List (List ℕ))
-    → IfOk (arc_line limits o arcs listed fields) (ArcFits o arcs listed)
+arc_line_fits : (o : Option Heading) (arcs total : ℕ) (listed : List Bool) (fields : List (List ℕ))
+    → IfOk (arc_line limits o arcs total listed fields) (ArcFits o arcs total listed)
 unfolding arc_line
-arc_line_fits None arcs listed fields =
-    if_ok_test (not (arc_count_fits None (length fields))) Fields (arc_numbers fields >>= λ a. with_heading None (λ h. arc_tests limits h arcs listed a))
-    (ArcFits None arcs listed)
-    (λ _. if_ok_bind (arc_numbers fields) (λ a. with_heading None (λ h. arc_tests limits h arcs listed a)) (ArcFits None arcs listed) (λ _. tt))
-arc_line_fits (Some h) arcs listed fields = at h.problem
+arc_line_fits None arcs total listed fields =
+    if_ok_test (not (arc_count_fits None (length fields))) Fields (arc_numbers fields >>= λ a. with_heading None (λ h. arc_tests limits h arcs total listed a))
+    (ArcFits None arcs total listed)
+    (λ _. if_ok_bind (arc_numbers fields) (λ a. with_heading None (λ h. arc_tests limits h arcs total listed a)) (ArcFits None arcs total listed) (λ _. tt))
+arc_line_fits (Some h) arcs total listed fields = at h.problem
   where
-    at : (p : Format) → IfOk (arc_line limits (Some (record { problem = p; nodes = h.nodes; arcs = h.arcs })) arcs listed fields)
-        (ArcFits (Some (record { problem = p; nodes = h.nodes; arcs = h.arcs })) arcs listed)
+    at : (p : Format) → IfOk (arc_line limits (Some (record { problem = p; nodes = h.nodes; arcs = h.arcs })) arcs total listed fields)
+        (ArcFits (Some (record { problem = p; nodes = h.nodes; arcs = h.arcs })) arcs total listed)
     at Min =
         let g : Heading = record { problem = Min; nodes = h.nodes; arcs = h.arcs } in
-        if_ok_test _ _ _ (ArcFits (Some g) arcs listed) (λ _. if_ok_bind (arc_numbers fields) _ (ArcFits (Some g) arcs listed)
-        (λ a. arc_tests_fit g arcs listed a tt))
+        if_ok_test _ _ _ (ArcFits (Some g) arcs total listed) (λ _. if_ok_bind (arc_numbers fields) _ (ArcFits (Some g) arcs total listed)
+        (λ a. arc_tests_fit g arcs total listed a tt))
     at Asn =
         let g : Heading = record { problem = Asn; nodes = h.nodes; arcs = h.arcs } in
-        if_ok_test (not (length fields == 4)) _ _ (ArcFits (Some g) arcs listed) (λ count.
-        if_ok_then (arc_numbers fields) _ (λ a. (a.low ≡ pos 0) × (a.cap ≡ pos 1)) (ArcFits (Some g) arcs listed)
-        (asn_arc_numbers fields (no_other_count (length fields) 4 6 (omega arith) (not-false _ count))) (λ a unit. arc_tests_fit g arcs listed a unit))
+        if_ok_test (not (length fields == 4)) _ _ (ArcFits (Some g) arcs total listed) (λ count.
+        if_ok_then (arc_numbers fields) _ (λ a. (a.low ≡ pos 0) × (a.cap ≡ pos 1)) (ArcFits (Some g) arcs total listed)
+        (asn_arc_numbers fields (no_other_count (length fields) 4 6 (omega arith) (not-false _ count))) (λ a unit. arc_tests_fit g arcs total listed a unit))
 
 -- ---- any line
 
@@ -219,9 +227,9 @@ if_ok_item s fields = go (bytes_eq (slice_index_or fields 0 []) (codes "p")) (by
         (node_line_fits s.heading (length s.arcs) s.listed fields)
         (λ n fit. record { low = fit.0; high = fit.1; before_arcs = nil_from_length s.arcs fit.2; small = fit.3; assignment = fit.4 }))
     go false false true e f g =
-        rw (e, f, g) (if_ok_then (arc_line limits s.heading (length s.arcs) s.listed fields) _ _ (ItemFits limits s)
-        (arc_line_fits s.heading (length s.arcs) s.listed fields)
-        (λ a fit. record { room = fit.room; ends = fit.ends; is_within = fit.is_within; assignment = fit.assignment }))
+        rw (e, f, g) (if_ok_then (arc_line limits s.heading (length s.arcs) s.total s.listed fields) _ _ (ItemFits limits s)
+        (arc_line_fits s.heading (length s.arcs) s.total s.listed fields)
+        (λ a fit. record { room = fit.room; ends = fit.ends; is_within = fit.is_within; total_small = fit.total_small; assignment = fit.assignment }))
     go false false false e f g = rw (e, f, g) tt
 
 pub item_fits : (s : StateData) (fields : List (List ℕ)) (item : Item) → item_of limits s fields ≡ Ok item → ItemFits limits s item

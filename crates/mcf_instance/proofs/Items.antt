@@ -9,7 +9,7 @@ use Rattle.mcf_instance.specs.declared.problem.Problem.{Problem as Format}
 use Rattle.mcf_instance.specs.declared.problem.Problem.TheVariants.{Min, Asn}
 use Rattle.mcf_text.specs.Row.{Row, node, field}
 use Rattle.mcf_instance.specs.Blocking.{in_table}
-use Rattle.mcf_instance.specs.Fault.{is_p, is_n, is_a, has_p, header, header_of, arc_lines, is_listed, fault_of_line}
+use Rattle.mcf_instance.specs.Fault.{is_p, is_n, is_a, has_p, header, header_of, arc_lines, is_listed, is_min, fault_of_line}
 use Rattle.mcf_instance.specs.Limits.{limits}
 use Rattle.mcf_instance.specs.Packed.{unpacked}
 use Rattle.mcf_instance.specs.Reading.{arc_of}
@@ -78,15 +78,18 @@ node_item s lines row h kind = rw (node_read s lines row h kind, kind) (bind_ok 
     (node row 1, supply_said (header lines).problem row) (λ n. Supply n.0 n.1))
 
 arc_read : (s : StateData) (lines : List Row) (row : Row) → Holds s lines → field row 0 ≡ codes "a"
-    → arc_line limits s.heading (length s.arcs) s.listed row.fields ≡ ok_unless (fault_of_line limits lines row) (packed (arc_of (header lines).problem row))
+    → arc_line limits s.heading (length s.arcs) s.total s.listed row.fields
+    ≡ ok_unless (fault_of_line limits lines row) (packed (arc_of (header lines).problem row))
 arc_read s lines row h kind = rw (h.heading_is, arcs_of s lines h) (go (has_p lines) (header lines).problem refl refl)
   where
     go : (b : Bool) (f : Format) → has_p lines ≡ b → (header lines).problem ≡ f → arc_line limits (heading_seen lines)
-        (length (arc_lines lines)) s.listed row.fields ≡ ok_unless (fault_of_line limits lines row) (packed (arc_of (header lines).problem row))
-    go false f e g = rw e (arc_line_early lines row.number row.fields s.listed (λ row. packed (arc_of (header lines).problem row)) e kind)
-    go true Min e g = arc_line_reads lines row.number row.fields s.listed e kind g ∙ ap
-        (λ p. ok_unless (fault_of_line limits lines row) (packed (arc_of p row))) (sym g)
-    go true Asn e g = arc_pair_reads lines row.number row.fields s.listed e kind (flags_of s lines h) g
+        (length (arc_lines lines)) s.total s.listed row.fields ≡ ok_unless (fault_of_line limits lines row) (packed (arc_of (header lines).problem row))
+    go false f e g = rw e (arc_line_early lines row.number s.total row.fields s.listed (λ row. packed (arc_of (header lines).problem row)) e kind)
+    go true Min e g =
+        ap (λ t. arc_line limits (heading_seen lines) (length (arc_lines lines)) t s.listed row.fields) (h.total_is (ap is_min g))
+        ∙ arc_line_reads lines row.number row.fields s.listed e kind g
+        ∙ ap (λ p. ok_unless (fault_of_line limits lines row) (packed (arc_of p row))) (sym g)
+    go true Asn e g = arc_pair_reads lines row.number s.total row.fields s.listed e kind (flags_of s lines h) g
         ∙ ap (λ p. ok_unless (fault_of_line limits lines row) (packed (arc_of p row))) (sym g)
 
 arc_item : (s : StateData) (lines : List Row) (row : Row) → Holds s lines → field row 0 ≡ codes "a" → ReadsItem s lines row

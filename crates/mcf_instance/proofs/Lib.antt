@@ -31,5 +31,7 @@ pub mod Simulation
 pub mod SoundStates
 pub mod Tables
 pub mod Taken
+pub mod Totals
+pub mod WiderLimits
 pub mod WholeTexts
 pub mod Words

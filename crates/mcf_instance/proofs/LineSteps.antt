@@ -1,8 +1,8 @@
 -- What a line says, past the test of its number of fields and the reading of its numbers.
 use Rattle.std.proofs.Common.{◌≡◌, ℕ, ◌+◌, Bool, true, false, not, cond, ◌&&◌, List, [], length, refl, ap, ◌∙◌, Some, None, Ok, Err}
-use Rattle.std.specs.Prelude.{Option, Result, ℤ, pos, neg_ℤ, int_lt, slice_index_or}
+use Rattle.std.specs.Prelude.{Option, Result, ℤ, pos, neg_ℤ, int_lt, nat_le, slice_index_or}
 use Rattle.mcf_instance.specs.declared.code.Code.{Code}
-use Rattle.mcf_instance.specs.declared.code.Code.TheVariants.{Bound, Order, Cost, Number}
+use Rattle.mcf_instance.specs.declared.code.Code.TheVariants.{Bound, Order, Cost, Extra, Number}
 use Rattle.mcf_text.specs.Whole.{is_whole, whole_of, whole_value}
 use Rattle.mcf_text.specs.declared.number.Whole.{Whole}
 use Rattle.mcf_text.specs.declared.number.Whole.TheVariants.{Value, NotWhole, OutOfRange}
@@ -11,7 +11,7 @@ use Rattle.mcf_instance.specs.declared.reader.line.Heading.{Heading}
 use Rattle.mcf_instance.specs.declared.reader.line.ArcNumbers.{ArcNumbers}
 use Rattle.mcf_instance.specs.Limits.{limits}
 use Rattle.mcf_instance.specs.Private.LineReader.{clamped, kept_size, number_at, amount_fault, unless_fault, node_line, node_tests, node_count_fits}
-use Rattle.mcf_instance.specs.Private.LineReader.{node_numbers, arc_line, arc_tests, arc_count_fits, arc_numbers}
+use Rattle.mcf_instance.specs.Private.LineReader.{checked_node, node_numbers, arc_line, arc_tests, arc_count_fits, arc_numbers}
 
 -- what the reader makes of what a field says as a whole number among those that are kept
 abbrev pub number_read : Whole → Result ℤ Code
@@ -35,10 +35,11 @@ pub node_line_at : (o : Option Heading) (h : Heading) (arcs : ℕ) (listed : Lis
 unfolding node_line
 node_line_at o h arcs listed fields a b p q r = rw (q, r, p) refl
 
-pub arc_line_at : (o : Option Heading) (h : Heading) (arcs : ℕ) (listed : List Bool) (fields : List (List ℕ)) (a : ArcNumbers) → o ≡ Some h
-    → arc_count_fits o (length fields) ≡ true → arc_numbers fields ≡ Ok a → arc_line limits o arcs listed fields ≡ arc_tests limits h arcs listed a
+pub arc_line_at : (o : Option Heading) (h : Heading) (arcs total : ℕ) (listed : List Bool) (fields : List (List ℕ)) (a : ArcNumbers) → o ≡ Some h
+    → arc_count_fits o (length fields) ≡ true → arc_numbers fields ≡ Ok a
+    → arc_line limits o arcs total listed fields ≡ arc_tests limits h arcs total listed a
 unfolding arc_line
-arc_line_at o h arcs listed fields a p q r = rw (q, r, p) refl
+arc_line_at o h arcs total listed fields a p q r = rw (q, r, p) refl
 
 -- the tests of the bounds and the cost, one after the other
 unless_fault-cond : {X : Type 0} (b : Bool) (e : Code) (o : Option Code) (r : Result X Code)
@@ -55,3 +56,10 @@ unless_fault-amount_fault l c k r =
     let orders = unless_fault-cond (int_lt c l) Order _ r ∙ ap (cond (int_lt c l) (Err Order)) costs in
     unless_fault-cond (not (is_up_to limits.bound l && is_up_to limits.bound c)) Bound _ r
     ∙ ap (cond (not (is_up_to limits.bound l && is_up_to limits.bound c)) (Err Bound)) orders
+
+-- an arc past the number that the heading says
+pub arc_tests_extra : (h : Heading) (arcs total : ℕ) (listed : List Bool) (a : ArcNumbers) (src dst : ℕ) → checked_node h a.src ≡ Ok src
+    → checked_node h a.dst ≡ Ok dst → amount_fault limits a.low a.cap a.cost ≡ None → nat_le h.arcs arcs ≡ true
+    → arc_tests limits h arcs total listed a ≡ Err Extra
+unfolding arc_tests
+arc_tests_extra h arcs total listed a src dst p q r e = rw (p, q, r, e) refl

@@ -12,8 +12,8 @@ abbrev pub kept_rows : List (ℕ × List ℕ) → List Row
 kept_rows lines = map row_of (filter (λ line. is_kept line.1) lines)
 
 -- the state stands for the lines of the text before the rest, and the rest begins at this number
-pub record HasRead (limits : Limits) (text : List ℕ) (s : StateData) (next : ℕ) (rest : List (ℕ × List ℕ)) : Type 0 where
+pub record HasRead (allowed : Limits) (text : List ℕ) (s : StateData) (next : ℕ) (rest : List (ℕ × List ℕ)) : Type 0 where
   pub before : List (ℕ × List ℕ)
   pub joined : numbered_lines 1 text ≡ before ++ rest
   pub next_is : next ≡ 1 + length before
-  pub stands : Stands limits s (kept_rows before)
+  pub stands : Stands allowed s (kept_rows before)

@@ -11,7 +11,7 @@ use Rattle.std.proofs.lemmas.List.FromFn.{length-enumerate_from}
 use Rattle.mcf_instance.specs.declared.code.Code.{Code}
 use Rattle.mcf_instance.specs.declared.reader.line.Item.{Item}
 use Rattle.mcf_instance.specs.declared.reader.line.Item.TheVariants.{Problem, Supply, Link}
-use Rattle.mcf_instance.specs.Fault.{Fault, as_fault, fault_of_line, faults, first_fault, has_p, header, header_of, is_p, no_header}
+use Rattle.mcf_instance.specs.Fault.{as_fault, fault_of_line, faults, first_fault, has_p, header, header_of, is_p, no_header}
 use Rattle.mcf_instance.specs.Limits.{limits}
 use Rattle.mcf_instance.specs.Memory.{NamesNodes}
 use Rattle.mcf_instance.specs.Private.ReaderSound.{LinkFits, heading_nodes}
@@ -64,7 +64,7 @@ step_names_nodes s lines row stands none grows = go (item_of limits s row.fields
     faultless item is =
         let line : fault_of_line limits lines row ≡ None = sym (same_fault s lines row held) ∙ ap fault_of is in
         let before : slice_get (faults limits lines) 0 ≡ None = sym stands.refusal_is ∙ none in
-        first_fault_more lines row ∙ ap (λ o. option_or o (as_fault limits (lines, row))) before ∙ ap
+        first_fault_more limits lines row ∙ ap (λ o. option_or o (as_fault limits (lines, row))) before ∙ ap
         (option_map (λ code. record { line = row.number; code = code })) line
 
     go : (r : Result Item Code) → item_of limits s row.fields ≡ r → outcome_grows r ≡ true → (1 ≤ (header (lines ++ row ∷ [])).nodes)
@@ -76,7 +76,7 @@ step_names_nodes s lines row stands none grows = go (item_of limits s row.fields
         (seen_nodes (lines ++ row ∷ []) (subst (λ o. 1 ≤ heading_nodes o) after.heading_is (ltb-true 0 h.nodes g)), faultless (Problem h) is)
     go (Ok (Link a)) is g =
         let after = after_item s lines row (Link a) held is in
-        let fits : LinkFits limits s.heading s.listed s.arcs a = item_fits s row.fields (Link a) is in
+        let fits : LinkFits limits s.heading s.listed s.arcs s.total a = item_fits s row.fields (Link a) is in
         let some : 1 ≤ heading_nodes s.heading = omega (arith, fits.ends.src_is_node.0, fits.ends.src_is_node.1) in
         (seen_nodes (lines ++ row ∷ []) (subst (λ o. 1 ≤ heading_nodes o) after.heading_is some), faultless (Link a) is)
 

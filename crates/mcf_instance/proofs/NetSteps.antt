@@ -1,11 +1,12 @@
 -- The nets of all nodes, as a loop over the arcs makes them: it adds each arc's flow at one end and takes it off at the other.
-use Rattle.std.proofs.Common.{◌≡◌, ◌≢◌, ℕ, ◌+◌, ◌-◌, ◌*◌, ◌^◌, ◌≤◌, ◌<◌, eqb, List, length, take, set, get_or, refl, ap, sym, ◌∙◌, arith, ℤ, pos, ◌+ℤ◌, ◌-ℤ◌}
+use Rattle.std.proofs.Common.{◌≡◌, ◌≢◌, ℕ, ◌+◌, ◌-◌, ◌*◌, ◌≤◌, ◌<◌, eqb, List, length, take, set, get_or, refl, ap, sym, ◌∙◌, arith, ℤ, pos, ◌+ℤ◌, ◌-ℤ◌}
 use Rattle.std.proofs.Common.{neg_ℤ, inl, inr, lit<, to_z, of_z, length-set, get_or-set_same, get_or-set_other}
 use Rattle.std.specs.List.{All}
 use Rattle.std.proofs.lemmas.Int.{ints}
 use Rattle.std.proofs.lemmas.Bool.{eq-eqb, ne_eqb, cases_eq}
 use Rattle.std.proofs.lemmas.List.{get_or_read}
 use Rattle.std.specs.Int.{w128}
+use Rattle.mcf_instance.specs.Private.Sums.{sum_limit}
 use Rattle.mcf_instance.specs.declared.arc.Arc.{Arc}
 use Rattle.mcf_instance.specs.Limits.{arc_limit, wide_limits}
 use Rattle.mcf_instance.specs.Network.{IsNode, at_node, when}
@@ -39,12 +40,14 @@ net_more arcs flow i d e v h k =
 
 -- the net of a node over the first arcs is small
 pub net_up_to : (arcs : List Arc) (flow : List ℤ) (i v : ℕ) → All (IsArcWithinLimits wide_limits) arcs → length arcs ≤ arc_limit → IsWithinBounds arcs flow
-    → i ≤ length arcs → IsUpTo (2 * 10 ^ 25) (net (take i arcs) flow v)
+    → i ≤ length arcs → IsUpTo (2 * sum_limit) (net (take i arcs) flow v)
 net_up_to arcs flow i v small count bounds h =
     let all = each_placed arcs flow small bounds in
-    let out = flow_sum_up_to IsPlaced (λ a f. when (eqb a.src v) f) (10 ^ 18) (λ a f q. when_up_to (eqb a.src v) (10 ^ 18) f (flow_up_to a f q)) arcs flow i
+    let out = flow_sum_up_to IsPlaced (λ a f. when (eqb a.src v) f) wide_limits.bound
+    (λ a f q. when_up_to (eqb a.src v) wide_limits.bound f (flow_up_to a f q)) arcs flow i
     all in
-    let into = flow_sum_up_to IsPlaced (λ a f. when (eqb a.dst v) f) (10 ^ 18) (λ a f q. when_up_to (eqb a.dst v) (10 ^ 18) f (flow_up_to a f q)) arcs flow i
+    let into = flow_sum_up_to IsPlaced (λ a f. when (eqb a.dst v) f) wide_limits.bound
+    (λ a f q. when_up_to (eqb a.dst v) wide_limits.bound f (flow_up_to a f q)) arcs flow i
     all in
     omega (arith, ints, out, into)
 
@@ -52,7 +55,7 @@ net_up_to arcs flow i v small count bounds h =
 pub record NetStepSecond (nodes : ℕ) (arcs : List Arc) (flow after : List ℤ) (f y : ℤ) : Type 0 where
   pub entry_read : to_z w128 (of_z w128 y) ≡ y
   pub difference_read : to_z w128 (of_z w128 (y -ℤ f)) ≡ y -ℤ f
-  pub entry_small : IsUpTo (3 * 10 ^ 25) y
+  pub entry_small : IsUpTo (3 * sum_limit) y
   pub next : AreNets nodes arcs flow after
 
 -- two writes, at the ends s and t of an arc of flow f: the entries were `before`, and are `after`
@@ -87,8 +90,8 @@ pub record NetStep (arcs : List Arc) (flow : List ℤ) (i : ℕ) (f x : ℤ) : T
   pub flow_read : to_z w128 (of_z w128 f) ≡ f
   pub entry_read : to_z w128 (of_z w128 x) ≡ x
   pub sum_read : to_z w128 (of_z w128 (x +ℤ f)) ≡ x +ℤ f
-  pub flow_small : IsUpTo (10 ^ 18) f
-  pub entry_small : IsUpTo (2 * 10 ^ 25) x
+  pub flow_small : IsUpTo wide_limits.bound f
+  pub entry_small : IsUpTo (2 * sum_limit) x
 
 module _ (nodes : ℕ) (arcs : List Arc) (flow nets : List ℤ) (i : ℕ) (d : Arc) (e : ℤ) (ends : All (HasEnds nodes) arcs)
     (limits : All (IsArcWithinLimits wide_limits) arcs) (count : length arcs ≤ arc_limit) (bounds : IsWithinBounds arcs flow)
@@ -96,7 +99,7 @@ module _ (nodes : ℕ) (arcs : List Arc) (flow nets : List ℤ) (i : ℕ) (d : A
   flow_in_range : i < length flow
   flow_in_range = omega (arith, length-AllZip CanCarry arcs flow bounds)
 
-  this_flow_small : IsUpTo (10 ^ 18) (get_or flow i e)
+  this_flow_small : IsUpTo wide_limits.bound (get_or flow i e)
   this_flow_small =
       flow_up_to (get_or arcs i d) (get_or flow i e) (AllZip-at IsPlaced arcs flow i d e (each_placed arcs flow limits bounds) h)
 
@@ -105,7 +108,7 @@ module _ (nodes : ℕ) (arcs : List Arc) (flow nets : List ℤ) (i : ℕ) (d : A
       let s = (ends i d h).src_is_node in
       let p : (get_or arcs i d).src - 1 < length nets = omega (arith, known.one_per_node) in
       let at : x ≡ at_node nets (get_or arcs i d).src = get_or_read nets ((get_or arcs i d).src - 1) x p is (pos 0) in
-      let small : IsUpTo (2 * 10 ^ 25) x = omega (
+      let small : IsUpTo (2 * sum_limit) x = omega (
         arith,
         ints,
         at,
@@ -115,9 +118,9 @@ module _ (nodes : ℕ) (arcs : List Arc) (flow nets : List ℤ) (i : ℕ) (d : A
       ) in
       record {
         in_range = flow_in_range;
-        flow_read = read_back (get_or flow i e) (10 ^ 18) this_flow_small (lit< tt);
-        entry_read = read_back x (2 * 10 ^ 25) small (lit< tt);
-        sum_read = read_back (x +ℤ get_or flow i e) (3 * 10 ^ 25) (omega (arith, ints, small, this_flow_small)) (lit< tt);
+        flow_read = read_back (get_or flow i e) wide_limits.bound this_flow_small (lit< tt);
+        entry_read = read_back x (2 * sum_limit) small (lit< tt);
+        sum_read = read_back (x +ℤ get_or flow i e) (3 * sum_limit) (omega (arith, ints, small, this_flow_small)) (lit< tt);
         flow_small = this_flow_small;
         entry_small = small;
       }
@@ -134,17 +137,17 @@ module _ (nodes : ℕ) (arcs : List Arc) (flow nets : List ℤ) (i : ℕ) (d : A
       known.one_per_node known.each next is-x is-y in
       let both = after_both nodes (net (take i arcs) flow) (net (take (i + 1) arcs) flow) nets a.src a.dst f x y en.src_is_node en.dst_is_node
       known.one_per_node known.each next is-x is-y in
-      let small : IsUpTo (3 * 10 ^ 25) y = omega (
+      let small : IsUpTo (3 * sum_limit) y = omega (
         arith,
         ints,
         y-is,
         net_up_to arcs flow i a.dst limits count bounds (omega arith),
         when_up_to
-            (eqb a.src a.dst) (10 ^ 18) f this_flow_small,
+            (eqb a.src a.dst) wide_limits.bound f this_flow_small,
       ) in
       record {
-        entry_read = read_back y (3 * 10 ^ 25) small (lit< tt);
-        difference_read = read_back (y -ℤ f) (4 * 10 ^ 25) (omega (arith, ints, small, this_flow_small)) (lit< tt);
+        entry_read = read_back y (3 * sum_limit) small (lit< tt);
+        difference_read = read_back (y -ℤ f) (4 * sum_limit) (omega (arith, ints, small, this_flow_small)) (lit< tt);
         entry_small = small;
         next = record {
           one_per_node = length-set (set nets (a.src - 1) (x +ℤ f)) (a.dst - 1) (y -ℤ f) ∙ length-set nets (a.src - 1) (x +ℤ f)

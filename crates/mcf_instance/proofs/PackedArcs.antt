@@ -1,8 +1,9 @@
 -- Arcs as they are stored, read one by one.
-use Rattle.std.proofs.Common.{◌≡◌, ℕ, ◌+◌, ◌^◌, ◌≤◌, ◌<◌, Bool, subst, List, length, map, take, get_or, ap, ◌∙◌, arith, ℤ, pos, ◌+ℤ◌}
+use Rattle.std.proofs.Common.{◌≡◌, ℕ, ◌+◌, ◌≤◌, ◌<◌, Bool, subst, List, length, map, take, get_or, ap, ◌∙◌, arith, ℤ, pos, ◌+ℤ◌}
 use Rattle.std.specs.List.{All}
 use Rattle.std.proofs.Math.ListN.{get_or-map}
 use Rattle.std.proofs.lemmas.List.{length-map}
+use Rattle.mcf_instance.specs.Private.Sums.{sum_limit}
 use Rattle.mcf_instance.specs.declared.arc.Arc.{Arc}
 use Rattle.mcf_instance.specs.declared.arc.PackedArc.{PackedArc}
 use Rattle.mcf_instance.specs.Limits.{arc_limit, wide_limits}
@@ -30,13 +31,13 @@ packed_sum_next t arcs i h =
 
 -- the lows, or the caps, of the first arcs that pass a test
 pub packed_lows_up_to : (test : Arc → Bool) (arcs : List PackedArc) (i : ℕ) → All (IsArcWithinLimits wide_limits) (map unpacked arcs) → length arcs ≤ arc_limit
-    → i ≤ length arcs → IsUpTo (10 ^ 25) (arc_sum (λ a. when (test a) a.low) (take i (map unpacked arcs)))
+    → i ≤ length arcs → IsUpTo sum_limit (arc_sum (λ a. when (test a) a.low) (take i (map unpacked arcs)))
 packed_lows_up_to test arcs i small count h =
     let n = length-map arcs unpacked in
     lows_up_to test (map unpacked arcs) i small (omega (arith, n)) (omega (arith, n))
 
 pub packed_caps_up_to : (test : Arc → Bool) (arcs : List PackedArc) (i : ℕ) → All (IsArcWithinLimits wide_limits) (map unpacked arcs) → length arcs ≤ arc_limit
-    → i ≤ length arcs → IsUpTo (10 ^ 25) (arc_sum (λ a. when (test a) a.cap) (take i (map unpacked arcs)))
+    → i ≤ length arcs → IsUpTo sum_limit (arc_sum (λ a. when (test a) a.cap) (take i (map unpacked arcs)))
 packed_caps_up_to test arcs i small count h =
     let n = length-map arcs unpacked in
     caps_up_to test (map unpacked arcs) i small (omega (arith, n)) (omega (arith, n))

@@ -3,12 +3,11 @@ use Rattle.std.proofs.Common.{◌≡◌, ℕ, Bool, true, false, cond, List, [],
 use Rattle.std.specs.Prelude.{Option, Result, option_map, slice_get, is_some}
 use Rattle.std.specs.List.{cons_option}
 use Rattle.std.specs.Option.{option_or}
-use Rattle.std.proofs.lemmas.List.{map-append}
 use Rattle.std.proofs.lemmas.List.Elements.{filter_map-append}
 use Rattle.mcf_instance.specs.declared.code.Code.{Code}
-use Rattle.mcf_text.specs.Row.{Row, with_earlier}
-use Rattle.mcf_instance.specs.Fault.{Fault, as_fault, fault_at_end, fault_of_line, faults, first_fault_of_lines, has_p, header, arc_lines}
-use Rattle.mcf_instance.specs.Limits.{limits}
+use Rattle.mcf_text.specs.Row.{Row}
+use Rattle.mcf_instance.specs.Fault.{Fault, as_fault, fault_at_end, fault_of_line, faults, first_fault_of_lines, has_p, header, arc_lines, total_of}
+use Rattle.mcf_instance.specs.Limits.{Limits, limits}
 use Rattle.mcf_instance.specs.Reading.{instance_of_lines, reading_of}
 use Rattle.mcf_instance.specs.Private.Stands.{heading_of, heading_seen, Holds, Stands}
 use Rattle.mcf_instance.specs.declared.reader.line.Item.{Item}
@@ -18,16 +17,14 @@ use Rattle.mcf_instance.proofs.Faults.{fault_of}
 use Rattle.mcf_instance.proofs.NodeLines.{ok_unless}
 use Rattle.mcf_instance.proofs.Items.{arcs_of, item_said, item_reads}
 use Rattle.mcf_instance.proofs.After.{after_item}
+use Rattle.mcf_instance.proofs.Totals.{with_earlier-append_one}
 
 -- ---- one more line
 
-pub with_earlier-append_one : {X : Type 0} (xs : List X) (x : X) → with_earlier (xs ++ x ∷ []) ≡ with_earlier xs ++ (xs, x) ∷ []
-with_earlier-append_one [] x = refl
-with_earlier-append_one (y ∷ ys) x = rw (with_earlier-append_one ys x, map-append) refl
-
-faults-append_one : (lines : List Row) (row : Row) → faults limits (lines ++ row ∷ []) ≡ faults limits lines ++ cons_option (as_fault limits (lines, row)) []
+faults-append_one : (allowed : Limits) (lines : List Row) (row : Row)
+    → faults allowed (lines ++ row ∷ []) ≡ faults allowed lines ++ cons_option (as_fault allowed (lines, row)) []
 unfolding faults
-faults-append_one lines row = rw (with_earlier-append_one, filter_map-append) refl
+faults-append_one allowed lines row = rw (with_earlier-append_one, filter_map-append) refl
 
 first-append : {X : Type 0} (xs ys : List X) → slice_get (xs ++ ys) 0 ≡ option_or (slice_get xs 0) (slice_get ys 0)
 first-append [] ys = refl
@@ -37,12 +34,12 @@ first_of_option : {X : Type 0} (o : Option X) → slice_get (cons_option o []) 0
 first_of_option None = refl
 first_of_option (Some x) = refl
 
-pub first_fault_more : (lines : List Row) (row : Row) → slice_get (faults limits (lines ++ row ∷ [])) 0 ≡ option_or (slice_get (faults limits lines) 0)
-    (as_fault limits (lines, row))
-first_fault_more lines row =
-    ap (λ rs. slice_get rs 0) (faults-append_one lines row)
-    ∙ first-append (faults limits lines) (cons_option (as_fault limits (lines, row)) [])
-    ∙ ap (option_or (slice_get (faults limits lines) 0)) (first_of_option (as_fault limits (lines, row)))
+pub first_fault_more : (allowed : Limits) (lines : List Row) (row : Row)
+    → slice_get (faults allowed (lines ++ row ∷ [])) 0 ≡ option_or (slice_get (faults allowed lines) 0) (as_fault allowed (lines, row))
+first_fault_more allowed lines row =
+    ap (λ rs. slice_get rs 0) (faults-append_one allowed lines row)
+    ∙ first-append (faults allowed lines) (cons_option (as_fault allowed (lines, row)) [])
+    ∙ ap (option_or (slice_get (faults allowed lines) 0)) (first_of_option (as_fault allowed (lines, row)))
 
 -- ---- the two facts about a state without refusal
 
@@ -104,7 +101,7 @@ keeps_refusal : (s : StateData) (item : Item) → (with_item s item).refusal ≡
 keeps_refusal s item = elim item as (λ i. (with_item s i).refusal ≡ s.refusal) [ Item.Problem h ↦ refl | Item.Supply v z ↦ refl | Item.Link a ↦ refl ]
 
 pub stands_empty : Stands limits empty []
-unfolding faults
+unfolding faults total_of
 stands_empty = record {
   refusal_is = refl;
   holds = λ e. record {
@@ -113,6 +110,7 @@ stands_empty = record {
     listed_is = refl;
     supplies_are = refl;
     arcs_are = refl;
+    total_is = λ _. refl;
   };
 }
 
@@ -133,21 +131,22 @@ stands_after s lines row h = go s.refusal (item_of limits s row.fields) refl ref
     go (Some refusal) r e f =
         let first : slice_get (faults limits lines) 0 ≡ Some refusal = sym h.refusal_is ∙ e in
         subst (λ t. Stands limits t (lines ++ row ∷ [])) (sym (after_refused s row refusal e)) record {
-          refusal_is = e ∙ sym (first_fault_more lines row ∙ ap (λ o. option_or o (as_fault limits (lines, row))) first);
+          refusal_is = e ∙ sym (first_fault_more limits lines row ∙ ap (λ o. option_or o (as_fault limits (lines, row))) first);
           holds = λ none. cc;
         }
     go None (Err code) e f =
         let first : slice_get (faults limits lines) 0 ≡ None = sym h.refusal_is ∙ e in
         let fault : fault_of_line limits lines row ≡ Some code = sym (same_fault s lines row (h.holds e)) ∙ ap fault_of f in
         subst (λ t. Stands limits t (lines ++ row ∷ [])) (sym (after_judged s row (Err code) e f)) record {
-          refusal_is = sym (first_fault_more lines row ∙ ap (λ o. option_or o (as_fault limits (lines, row))) first ∙ refusal_at lines row (Some code) fault);
+          refusal_is = sym (first_fault_more limits lines row ∙ ap (λ o. option_or o (as_fault limits (lines, row))) first
+              ∙ refusal_at lines row (Some code) fault);
           holds = λ none. cc;
         }
     go None (Ok item) e f =
         let first : slice_get (faults limits lines) 0 ≡ None = sym h.refusal_is ∙ e in
         let fault : fault_of_line limits lines row ≡ None = sym (same_fault s lines row (h.holds e)) ∙ ap fault_of f in
         subst (λ t. Stands limits t (lines ++ row ∷ [])) (sym (after_judged s row (Ok item) e f)) record {
-          refusal_is = keeps_refusal s item ∙ e ∙ sym (first_fault_more lines row ∙ ap (λ o. option_or o (as_fault limits (lines, row))) first
+          refusal_is = keeps_refusal s item ∙ e ∙ sym (first_fault_more limits lines row ∙ ap (λ o. option_or o (as_fault limits (lines, row))) first
               ∙ refusal_at lines row None fault);
           holds = λ none. after_item s lines row item (h.holds e) f;
         }

@@ -1,12 +1,13 @@
 -- The reader's states stay sound, and a sound state holds a well-formed instance.
-use Rattle.std.proofs.Common.{◌≡◌, ℕ, zero, suc, ◌-◌, ◌*◌, ◌≤◌, max, Bool, true, false, List, [], ◌∷◌, ◌++◌, map, length, get_or, set, replicate, refl, sym}
+use Rattle.std.proofs.Common.{◌≡◌, ℕ, zero, suc, ◌+◌, ◌-◌, ◌*◌, ◌≤◌, max, Bool, true, false, List, [], ◌∷◌, ◌++◌, map, length, get_or, set, replicate, refl}
+use Rattle.std.proofs.Common.{sym}
 use Rattle.std.proofs.Common.{◌∙◌, ap, subst, inl, inr, Some, None, arith}
 use Rattle.std.specs.Prelude.{◌⊎◌, Option, ℤ, pos, neg_ℤ, unsigned_abs, sum}
 use Rattle.std.specs.List.{All}
 use Rattle.std.proofs.lemmas.Int.{ints}
 use Rattle.std.proofs.lemmas.List.{length-map, length-set, length-replicate, map-append, map-set, get_or-map, length_push, nil_from_length}
 use Rattle.std.proofs.lemmas.List.Elements.{All-nil, All-replicate, All-set, All-push, All-weaker, All-map}
-use Rattle.std.proofs.lemmas.List.Sums.{sum_by-le, sum-map}
+use Rattle.std.proofs.lemmas.List.Sums.{sum_by-append, sum_by-le, sum-map}
 use Rattle.std.proofs.Math.Nat.{mul-le-mul}
 use Rattle.mcf_instance.specs.declared.arc.Arc.{Arc}
 use Rattle.mcf_instance.specs.declared.arc.PackedArc.{PackedArc}
@@ -19,10 +20,12 @@ use Rattle.mcf_instance.specs.Limits.{limits, wide_limits, total_limit, node_lim
 use Rattle.mcf_instance.specs.Network.{at_node}
 use Rattle.mcf_instance.specs.Packed.{unpacked}
 use Rattle.mcf_instance.specs.Private.ReaderState.{default_supply, problem_or_min}
-use Rattle.mcf_instance.specs.Private.ReaderSound.{HeadingFits, IsFlaggedPair, IsSound, IsSoundAssignment, LinkFits, SupplyFits, heading_arcs, heading_nodes}
+use Rattle.mcf_instance.specs.Private.ReaderSound.{HeadingFits, IsFlaggedPair, IsSound, IsSoundAssignment, LinkFits, OnMin, SupplyFits, heading_arcs}
+use Rattle.mcf_instance.specs.Private.ReaderSound.{heading_nodes}
 use Rattle.mcf_instance.specs.Private.ReaderSound.{side_supply}
 use Rattle.mcf_instance.specs.WellFormed.{HasEnds, IsArcWithinLimits, IsUpTo, IsWellFormed, weight}
 use Rattle.mcf_instance.proofs.Bounds.{size_up_to}
+use Rattle.mcf_instance.proofs.Totals.{sum_one}
 
 -- ---- a problem line
 
@@ -38,9 +41,9 @@ sides_at_first : (p : Format) (n : ℕ) → OnAssignment p (IsSoundAssignment (r
 sides_at_first Min n = tt
 sides_at_first Asn n = record { supplies_are = sym (map-replicate side_supply n false); pairings = All-nil _ }
 
-first_heading : (h : Heading) → h.nodes ≤ node_limit → h.arcs ≤ arc_limit → IsSound limits (Some h) (replicate h.nodes false)
-    (replicate h.nodes (default_supply h.problem)) []
-first_heading h nodes arcs =
+first_heading : (h : Heading) (total : ℕ) → h.nodes ≤ node_limit → h.arcs ≤ arc_limit → total ≡ sum (map weight (map unpacked [])) → total ≤ total_limit
+    → IsSound limits (Some h) (replicate h.nodes false) (replicate h.nodes (default_supply h.problem)) [] total
+first_heading h total nodes arcs none small =
     record {
       nodes_small = nodes;
       arcs_small = arcs;
@@ -50,16 +53,20 @@ first_heading h nodes arcs =
       ends = All-nil _;
       arcs_within = All-nil _;
       supplies_within = All-replicate (IsUpTo limits.supply) h.nodes (default_supply h.problem) (default_small h.problem);
+      total_is = none;
+      total_small = small;
       assignment = sides_at_first h.problem h.nodes;
     }
 
-pub sound_heading : (o : Option Heading) (listed : List Bool) (supplies : List ℤ) (arcs : List PackedArc) (h : Heading) → IsSound limits o listed supplies arcs
-    → HeadingFits o h
-    → IsSound limits (Some h) (replicate h.nodes false) (replicate h.nodes (default_supply h.problem)) arcs
-sound_heading o listed supplies arcs h sound fits =
+pub sound_heading : (o : Option Heading) (listed : List Bool) (supplies : List ℤ) (arcs : List PackedArc) (total : ℕ) (h : Heading)
+    → IsSound limits o listed supplies arcs total → HeadingFits o h
+    → IsSound limits (Some h) (replicate h.nodes false) (replicate h.nodes (default_supply h.problem)) arcs total
+sound_heading o listed supplies arcs total h sound fits =
     let none : length arcs ≤ heading_arcs None = subst (λ p. length arcs ≤ heading_arcs p) fits.first sound.arc_room in
-    subst (λ xs. IsSound limits (Some h) (replicate h.nodes false) (replicate h.nodes (default_supply h.problem)) xs)
-    (sym (nil_from_length arcs (omega (arith, none)))) (first_heading h fits.nodes_small fits.arcs_small)
+    let empty : arcs ≡ [] = nil_from_length arcs (omega (arith, none)) in
+    let start : total ≡ sum (map weight (map unpacked [])) = sound.total_is ∙ ap (λ xs. sum (map weight (map unpacked xs))) empty in
+    subst (λ xs. IsSound limits (Some h) (replicate h.nodes false) (replicate h.nodes (default_supply h.problem)) xs total)
+    (sym empty) (first_heading h total fits.nodes_small fits.arcs_small start sound.total_small)
 
 -- ---- a node line
 
@@ -73,10 +80,10 @@ sides_after Asn listed supplies k z h e =
       pairings = All-nil _;
     }
 
-pub sound_supply : (o : Option Heading) (listed : List Bool) (supplies : List ℤ) (arcs : List PackedArc) (v : ℕ) (z : ℤ)
-    → IsSound limits o listed supplies arcs → SupplyFits limits o arcs v z
-    → IsSound limits o (set listed (v - 1) true) (set supplies (v - 1) z) arcs
-sound_supply o listed supplies arcs v z sound fits =
+pub sound_supply : (o : Option Heading) (listed : List Bool) (supplies : List ℤ) (arcs : List PackedArc) (total v : ℕ) (z : ℤ)
+    → IsSound limits o listed supplies arcs total → SupplyFits limits o arcs v z
+    → IsSound limits o (set listed (v - 1) true) (set supplies (v - 1) z) arcs total
+sound_supply o listed supplies arcs total v z sound fits =
     record {
       nodes_small = sound.nodes_small;
       arcs_small = sound.arcs_small;
@@ -86,6 +93,8 @@ sound_supply o listed supplies arcs v z sound fits =
       ends = sound.ends;
       arcs_within = sound.arcs_within;
       supplies_within = All-set (IsUpTo limits.supply) supplies (v - 1) z fits.small sound.supplies_within;
+      total_is = sound.total_is;
+      total_small = sound.total_small;
       assignment = subst (λ xs. OnAssignment (problem_or_min o) (IsSoundAssignment (set listed (v - 1) true) (set supplies (v - 1) z) xs))
           (sym fits.before_arcs)
           (sides_after (problem_or_min o) listed supplies (v - 1) z (subst (λ xs. OnAssignment (problem_or_min o) (IsSoundAssignment listed supplies xs))
@@ -118,20 +127,59 @@ sides_with_arc Asn listed supplies arcs a n long ends h pair =
       };
     }
 
-pub sound_link : (o : Option Heading) (listed : List Bool) (supplies : List ℤ) (arcs : List PackedArc) (a : PackedArc) → IsSound limits o listed supplies arcs
-    → LinkFits limits o listed arcs a
-    → IsSound limits o listed supplies (arcs ++ a ∷ [])
-sound_link o listed supplies arcs a sound fits =
+weights_push : (arcs : List PackedArc) (a : PackedArc)
+    → sum (map weight (map unpacked (arcs ++ a ∷ []))) ≡ sum (map weight (map unpacked arcs)) + weight (unpacked a)
+weights_push arcs a =
+    let lists : map weight (map unpacked (arcs ++ a ∷ [])) ≡ map weight (map unpacked arcs) ++ weight (unpacked a) ∷ [] =
+    ap (map weight) (map-append unpacked arcs (a ∷ [])) ∙ map-append weight (map unpacked arcs) (unpacked a ∷ []) in
+    ap sum lists ∙ sum_by-append (λ n. n) (map weight (map unpacked arcs)) (weight (unpacked a) ∷ [])
+    ∙ ap (λ n. sum (map weight (map unpacked arcs)) + n) (sum_one (weight (unpacked a)))
+
+-- an arc of an assignment carries one unit at most
+pair_weight : (supplies : List ℤ) (a : Arc) → IsPairing supplies a → IsArcWithinLimits limits a → weight a ≤ limits.cost * 1
+pair_weight supplies a pair h =
+    let cost = size_up_to limits.cost a.cost h.cost_small in
+    let most : max (unsigned_abs a.low) (unsigned_abs a.cap) ≤ 1 = rw (pair.low_is, pair.cap_is) (omega arith) in
+    mul-le-mul cost most
+
+-- the total with one more arc: of `min` by the test, of an assignment by the number of arcs
+total_after : (p : Format) (listed : List Bool) (supplies : List ℤ) (arcs : List PackedArc) → length (map unpacked arcs) ≤ arc_limit
+    → All (IsArcWithinLimits limits) (map unpacked arcs) → OnAssignment p (IsSoundAssignment listed supplies arcs)
+    → OnMin p (sum (map weight (map unpacked arcs)) ≤ total_limit) → sum (map weight (map unpacked arcs)) ≤ total_limit
+total_after Min listed supplies arcs few within sides fits = fits
+total_after Asn listed supplies arcs few within sides fits =
+    let each = sum_by-le weight (limits.cost * 1) (map unpacked arcs) (λ i d l. pair_weight supplies _ (sides.pairings i d l) (within i d l)) in
+    let same = sum-map weight (map unpacked arcs) in
+    omega arith
+
+on_min : {P Q : Type 0} (p : Format) → (P → Q) → OnMin p P → OnMin p Q
+on_min Min f h = f h
+on_min Asn f h = tt
+
+pub sound_link : (o : Option Heading) (listed : List Bool) (supplies : List ℤ) (arcs : List PackedArc) (total : ℕ) (a : PackedArc)
+    → IsSound limits o listed supplies arcs total → LinkFits limits o listed arcs total a
+    → IsSound limits o listed supplies (arcs ++ a ∷ []) (total + weight (unpacked a))
+sound_link o listed supplies arcs total a sound fits =
+    let more = length_push arcs a in
+    let room : length (arcs ++ a ∷ []) ≤ heading_arcs o = omega (arith, fits.room) in
+    let few : length (map unpacked (arcs ++ a ∷ [])) ≤ arc_limit = rw (length-map (arcs ++ a ∷ []) unpacked) (omega (arith, room, sound.arcs_small)) in
+    let within = push_arc (IsArcWithinLimits limits) arcs a sound.arcs_within fits.is_within in
+    let sides = sides_with_arc (problem_or_min o) listed supplies arcs a (heading_nodes o) sound.one_flag_a_node fits.ends sound.assignment fits.assignment in
+    let total_is : total + weight (unpacked a) ≡ sum (map weight (map unpacked (arcs ++ a ∷ []))) =
+    ap (λ t. t + weight (unpacked a)) sound.total_is ∙ sym (weights_push arcs a) in
+    let fitting = on_min (problem_or_min o) (subst (λ t. t ≤ total_limit) total_is) fits.total_small in
     record {
       nodes_small = sound.nodes_small;
       arcs_small = sound.arcs_small;
       one_flag_a_node = sound.one_flag_a_node;
       one_supply_a_node = sound.one_supply_a_node;
-      arc_room = let more = length_push arcs a in omega (arith, fits.room);
+      arc_room = room;
       ends = push_arc (HasEnds (heading_nodes o)) arcs a sound.ends fits.ends;
-      arcs_within = push_arc (IsArcWithinLimits limits) arcs a sound.arcs_within fits.is_within;
+      arcs_within = within;
       supplies_within = sound.supplies_within;
-      assignment = sides_with_arc (problem_or_min o) listed supplies arcs a (heading_nodes o) sound.one_flag_a_node fits.ends sound.assignment fits.assignment;
+      total_is = total_is;
+      total_small = subst (λ t. t ≤ total_limit) (sym total_is) (total_after (problem_or_min o) listed supplies (arcs ++ a ∷ []) few within sides fitting);
+      assignment = sides;
     }
 
 -- ---- the instance at the end
@@ -148,21 +196,6 @@ arc_wide a h =
       cost_small = up_to_wide limits.cost wide_limits.cost a.cost (omega arith) h.cost_small;
     }
 
-weight_small : (a : Arc) → IsArcWithinLimits limits a → weight a ≤ limits.cost * limits.bound
-weight_small a h =
-    let cost = size_up_to limits.cost a.cost h.cost_small in
-    let low = size_up_to limits.bound a.low h.low_small in
-    let cap = size_up_to limits.bound a.cap h.cap_small in
-    let most : max (unsigned_abs a.low) (unsigned_abs a.cap) ≤ limits.bound = omega arith in
-    mul-le-mul cost most
-
-total_small : (arcs : List Arc) → length arcs ≤ arc_limit → All (IsArcWithinLimits limits) arcs → sum (map weight arcs) ≤ total_limit
-total_small arcs few within =
-    let each = sum_by-le weight (limits.cost * limits.bound) arcs (All-weaker (IsArcWithinLimits limits)
-    (λ a. weight a ≤ limits.cost * limits.bound) weight_small arcs within) in
-    let same = sum-map weight arcs in
-    omega arith
-
 side_supply_is : (b : Bool) → (side_supply b ≡ pos 1) ⊎ (side_supply b ≡ neg_ℤ (pos 1))
 side_supply_is true = inl refl
 side_supply_is false = inr refl
@@ -177,21 +210,24 @@ assignment_at_end Asn listed supplies arcs h =
       each_arc = h.pairings;
     }
 
-pub well_formed : (h : Heading) (listed : List Bool) (supplies : List ℤ) (arcs : List PackedArc) → IsSound limits (Some h) listed supplies arcs
+pub well_formed : (h : Heading) (listed : List Bool) (supplies : List ℤ) (arcs : List PackedArc) (total : ℕ)
+    → IsSound limits (Some h) listed supplies arcs total
     → IsWellFormed limits (record { problem = h.problem; arcs = map unpacked arcs; supplies = supplies })
-well_formed h listed supplies arcs sound =
+well_formed h listed supplies arcs total sound =
     let nodes : length supplies ≡ h.nodes = sound.one_supply_a_node in
     let few : length (map unpacked arcs) ≤ arc_limit = rw (length-map arcs unpacked) (omega (arith, sound.arc_room, sound.arcs_small)) in
+    let total_small : sum (map weight (map unpacked arcs)) ≤ total_limit = subst (λ t. t ≤ total_limit) sound.total_is sound.total_small in
     record {
       nodes = omega (arith, sound.nodes_small);
       arcs = few;
       ends = subst (λ n. All (HasEnds n) (map unpacked arcs)) (sym nodes) sound.ends;
-      within = record { arcs = sound.arcs_within; supplies = sound.supplies_within };
+      within = record { arcs = sound.arcs_within; supplies = sound.supplies_within; total = total_small };
       within_wide = record {
         arcs = All-weaker (IsArcWithinLimits limits) (IsArcWithinLimits wide_limits) arc_wide (map unpacked arcs) sound.arcs_within;
         supplies = All-weaker (IsUpTo limits.supply) (IsUpTo wide_limits.supply) (λ z u. up_to_wide limits.supply wide_limits.supply z (omega arith) u)
             supplies sound.supplies_within;
+        total = total_small;
       };
-      total = total_small (map unpacked arcs) few sound.arcs_within;
+      total = total_small;
       assignment = assignment_at_end h.problem listed supplies arcs sound.assignment;
     }

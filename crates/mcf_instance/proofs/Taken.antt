@@ -1,5 +1,6 @@
 -- A good line taken into the state of the lines before it.
-use Rattle.std.proofs.Common.{◌≡◌, ℕ, zero, suc, ◌+◌, ◌-◌, ◌≤◌, Bool, true, false, cond, ◌||◌, List, [], ◌∷◌, ◌++◌, map, refl, sym, ◌∙◌, ap, subst, Some, None}
+use Rattle.std.proofs.Common.{◌≡◌, ℕ, zero, suc, ◌+◌, ◌-◌, ◌≤◌, Bool, true, false, cond, ◌&&◌, ◌||◌, List, [], ◌∷◌, ◌++◌, map, refl, sym, ◌∙◌, ap, subst, Some}
+use Rattle.std.proofs.Common.{None}
 use Rattle.std.proofs.Common.{arith}
 use Rattle.std.specs.Prelude.{Option, ℤ, pos, neg_ℤ, filter, find, slice_set, ◌==◌, ◌≢◌, replicate}
 use Rattle.std.specs.List.{list_any, range_with_len}
@@ -12,13 +13,16 @@ use Rattle.std.proofs.lemmas.List.Folds.{list_any-append, find-append}
 use Rattle.mcf_instance.specs.declared.problem.Problem.{Problem as Format}
 use Rattle.mcf_instance.specs.declared.problem.Problem.TheVariants.{Min, Asn}
 use Rattle.mcf_text.specs.Row.{Row, node, number}
-use Rattle.mcf_instance.specs.Fault.{is_p, is_n, is_a, has_p, header, header_of, no_header, is_listed}
+use Rattle.mcf_instance.specs.Fault.{Header, is_p, is_n, is_a, is_min, has_p, header, header_of, no_header, is_listed, of_min, has_field_count, has_numbers}
+use Rattle.mcf_instance.specs.Fault.{is_counted, line_weight, total_of}
 use Rattle.mcf_instance.specs.Packed.{unpacked}
 use Rattle.mcf_instance.specs.Reading.{arc_of, supply_of}
 use Rattle.mcf_instance.specs.Private.Stands.{heading_of, heading_seen, Holds}
 use Rattle.mcf_instance.proofs.ArcLines.{packed}
 use Rattle.mcf_instance.specs.declared.reader.line.Item.TheVariants.{Problem, Supply, Link}
 use Rattle.mcf_instance.specs.Private.ReaderState.{StateData, with_item, default_supply}
+use Rattle.mcf_instance.specs.WellFormed.{weight}
+use Rattle.mcf_instance.proofs.Totals.{total-append_counted, total-append_other}
 
 option_or_none : {X : Type 0} (o : Option X) → option_or o None ≡ o
 option_or_none None = refl
@@ -70,11 +74,25 @@ supply_alike : (f : Format) (lines more : List Row) → filter is_n more ≡ fil
 supply_alike Min lines more e v = ap (λ ns. option_map_or (λ row. number row 2) (find (λ row. node row 1 == v) ns) (pos 0)) e
 supply_alike Asn lines more e v = ap (λ b. cond b (pos 1) (neg_ℤ (pos 1))) (is_listed_alike lines more e v)
 
+-- ---- the total
+
+of_min-append_other : (lines : List Row) (row : Row) → is_p row ≡ false → of_min (lines ++ row ∷ []) ≡ of_min lines
+of_min-append_other lines row p = ap (λ (h : Header). is_min h.problem) (header-append_other lines row p)
+
+-- no other line than an arc line is counted
+not_counted : (lines : List Row) (row : Row) → is_a row ≡ false → is_counted lines row ≡ false
+not_counted lines row a = ap (λ b. b && of_min lines && has_p lines && has_field_count lines row && has_numbers row) a
+
+weight_of_min : (f : Format) (row : Row) → is_min f ≡ true → weight (arc_of f row) ≡ line_weight row
+weight_of_min Min row e = refl
+weight_of_min Asn row e = cc
+
 -- ---- an arc line
 
 pub holds_link : (s : StateData) (lines : List Row) (row : Row) → Holds s lines → s.heading ≢ None → is_p row ≡ false → is_n row ≡ false → is_a row ≡ true
+    → (of_min lines ≡ true → is_counted lines row ≡ true)
     → Holds (with_item s (Link (packed (arc_of (header lines).problem row)))) (lines ++ row ∷ [])
-holds_link s lines row h some p n a =
+holds_link s lines row h some p n a counted =
     let nodes = filter-append_other is_n lines row n in
     record {
       first_is_heading = λ none. absurd (some none);
@@ -89,6 +107,11 @@ holds_link s lines row h some p n a =
         map-append unpacked s.arcs,
         h.arcs_are,
       ) refl;
+      total_is = λ min.
+          let same : of_min lines ≡ true = sym (of_min-append_other lines row p) ∙ min in
+          ap (λ t. t + weight (arc_of (header lines).problem row)) (h.total_is same)
+          ∙ ap (λ w. total_of lines + w) (weight_of_min (header lines).problem row same)
+          ∙ sym (total-append_counted lines row (counted same));
     }
 
 -- ---- a node line
@@ -163,6 +186,7 @@ holds_supply s lines row h some p n a low e =
           (ap (supply_of (header lines).problem (lines ++ row ∷ [])) place ∙ supply_here (header lines).problem lines row n e)
           (λ w q. supply_other (header lines).problem lines row n w (λ r. q (r ∙ sym place))));
       arcs_are = rw (header-append_other lines row p, filter-append_other is_a lines row a) h.arcs_are;
+      total_is = λ min. h.total_is (sym (of_min-append_other lines row p) ∙ min) ∙ sym (total-append_other lines row (not_counted lines row a));
     }
 
 -- ---- a problem line
@@ -187,6 +211,7 @@ holds_first s row h p n a =
       supplies_are = rw is (replicate_table (supply_of (header_of row).problem (row ∷ [])) (default_supply (header_of row).problem) 1 _
           (supply_none (header_of row).problem row n));
       arcs_are = rw is (h.arcs_are ∙ ap (λ b. map (arc_of (header_of row).problem) (cond b (row ∷ []) [])) (sym a));
+      total_is = λ _. h.total_is refl ∙ sym (total-append_other [] row (not_counted [] row a));
     }
 
 pub holds_problem : (s : StateData) (lines : List Row) (row : Row) → Holds s lines → s.heading ≡ None → is_p row ≡ true → is_n row ≡ false → is_a row ≡ false

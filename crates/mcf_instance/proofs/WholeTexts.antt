@@ -7,7 +7,7 @@ use Rattle.std.proofs.lemmas.List.{append-nil, append_assoc, length_push, map-ap
 use Rattle.std.proofs.lemmas.List.FromFn.{length-enumerate_from}
 use Rattle.std.proofs.lemmas.List.Elements.{filter-append}
 use Rattle.mcf_instance.specs.Fault.{Fault, as_fault, faults, first_fault, first_fault_of_lines}
-use Rattle.mcf_instance.specs.Limits.{limits}
+use Rattle.mcf_instance.specs.Limits.{Limits, limits}
 use Rattle.mcf_instance.specs.Reading.{instance_of_lines, reading, reading_of}
 use Rattle.mcf_instance.specs.Private.ReaderState.{StateData, empty, finished}
 use Rattle.mcf_instance.specs.Private.Stands.{Stands}
@@ -88,11 +88,12 @@ read_unkept text s next x rest h unkept =
 
 -- ---- the end
 
-pub first_fault_stays : (xs ys : List Row) (fault : Fault) → slice_get (faults limits xs) 0 ≡ Some fault → slice_get (faults limits (xs ++ ys)) 0 ≡ Some fault
-first_fault_stays xs [] fault e = ap (λ rs. slice_get (faults limits rs) 0) (append-nil xs) ∙ e
-first_fault_stays xs (y ∷ ys) fault e =
-    ap (λ rs. slice_get (faults limits rs) 0) (sym (append_assoc xs (y ∷ []) ys))
-    ∙ first_fault_stays (xs ++ y ∷ []) ys fault (first_fault_more xs y ∙ ap (λ o. option_or o (as_fault limits (xs, y))) e)
+pub first_fault_stays : (allowed : Limits) (xs ys : List Row) (fault : Fault) → slice_get (faults allowed xs) 0 ≡ Some fault
+    → slice_get (faults allowed (xs ++ ys)) 0 ≡ Some fault
+first_fault_stays allowed xs [] fault e = ap (λ rs. slice_get (faults allowed rs) 0) (append-nil xs) ∙ e
+first_fault_stays allowed xs (y ∷ ys) fault e =
+    ap (λ rs. slice_get (faults allowed rs) 0) (sym (append_assoc xs (y ∷ []) ys))
+    ∙ first_fault_stays allowed (xs ++ y ∷ []) ys fault (first_fault_more allowed xs y ∙ ap (λ o. option_or o (as_fault allowed (xs, y))) e)
 
 pub rows_joined : (text : List ℕ) (before rest : List (ℕ × List ℕ)) → numbered_lines 1 text ≡ before ++ rest → rows text ≡ kept_rows before ++ kept_rows rest
 rows_joined text before rest e = ap kept_rows e ∙ kept_rows-append before rest
@@ -102,7 +103,7 @@ pub read_refused : (text : List ℕ) (s : StateData) (next : ℕ) (rest : List (
 unfolding reading first_fault first_fault_of_lines
 read_refused text s next rest fault h e =
     let first : slice_get (faults limits (rows text)) 0 ≡ Some fault =
-    ap (λ rs. slice_get (faults limits rs) 0) (rows_joined text h.before rest h.joined) ∙ first_fault_stays (kept_rows h.before) (kept_rows rest) fault
+    ap (λ rs. slice_get (faults limits rs) 0) (rows_joined text h.before rest h.joined) ∙ first_fault_stays limits (kept_rows h.before) (kept_rows rest) fault
     (sym h.stands.refusal_is ∙ e) in
     rw first refl
 

@@ -4,7 +4,7 @@ use Rattle.std.specs.Prelude.{◌↔◌, find, bytes_eq}
 use Rattle.std.proofs.lemmas.Slice.Eq.{bytes_eq-Decides}
 use Rattle.mcf_instance.specs.declared.code.Code.{Code}
 use Rattle.mcf_instance.specs.declared.code.Code.TheVariants.{Kind, Fields, Problem, Number, SecondP, BeforeP, Size, Node, LateN, Twice, Supply, Bound, Order}
-use Rattle.mcf_instance.specs.declared.code.Code.TheVariants.{Cost, Extra, Side, NoP, Missing}
+use Rattle.mcf_instance.specs.declared.code.Code.TheVariants.{Cost, Extra, Side, Total, NoP, Missing}
 use Rattle.mcf_instance.specs.Fault.{all_codes, code_of_word, code_word}
 
 -- the code of its own word
@@ -25,6 +25,7 @@ code_of_word-code_word Order = refl
 code_of_word-code_word Cost = refl
 code_of_word-code_word Extra = refl
 code_of_word-code_word Side = refl
+code_of_word-code_word Total = refl
 code_of_word-code_word NoP = refl
 code_of_word-code_word Missing = refl
 

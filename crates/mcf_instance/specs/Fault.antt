@@ -1,15 +1,15 @@
 -- The faults of an instance text.
 use Rattle.std.specs.Prelude.{ℕ, ◌==◌, nat_le, nat_lt, Bool, true, false, not, ◌&&◌, ◌||◌, if◌then◌else◌, List, [], ◌∷◌, ◌++◌, map, length, filter, filter_map}
-use Rattle.std.specs.Prelude.{find, bytes_eq, codes, drop, ℤ, pos, neg_ℤ, int_lt, Option, Some, None, option_map, slice_get}
+use Rattle.std.specs.Prelude.{find, bytes_eq, codes, drop, ℤ, pos, neg_ℤ, int_lt, Option, Some, None, option_map, slice_get, ◌*◌, max, sum, unsigned_abs}
 use Rattle.std.specs.List.{list_all, list_any}
 use Rattle.std.specs.Option.{option_or, option_map_or}
 use Rattle.mcf_instance.specs.declared.code.Code.{Code}
 use Rattle.mcf_instance.specs.declared.code.Code.TheVariants.{Kind, Fields, Problem, Number, SecondP, BeforeP, Size, Node, LateN, Twice, Supply, Bound, Order}
-use Rattle.mcf_instance.specs.declared.code.Code.TheVariants.{Cost, Extra, Side, NoP, Missing}
+use Rattle.mcf_instance.specs.declared.code.Code.TheVariants.{Cost, Extra, Side, Total, NoP, Missing}
 use Rattle.mcf_instance.specs.declared.problem.Problem.{Problem as Format}
 use Rattle.mcf_instance.specs.declared.problem.Problem.TheVariants.{Min, Asn}
 use Rattle.mcf_instance.specs.Limits.{Limits, node_limit, arc_limit}
-use Rattle.mcf_text.specs.Row.{Row, rows, field, begins, number, node, with_earlier, line_after}
+use Rattle.mcf_text.specs.Row.{Row, rows, field, begins, number, natural, node, with_earlier, line_after}
 use Rattle.mcf_text.specs.Whole.{is_whole, is_within}
 
 -- a fault: the number of the line, and what is wrong there
@@ -52,8 +52,12 @@ is_good_header row = length row.fields == 4 && has_problem_word row && is_whole 
 abbrev pub no_header : Header
 no_header = record { problem = Min; nodes = 0; arcs = 0 }
 
+-- the number that a field says as a count of nodes or arcs
+abbrev pub count : Row → ℕ → ℕ
+count row k = natural (number row k)
+
 abbrev pub header_of : Row → Header
-header_of row = if is_good_header row then record { problem = problem_of row; nodes = node row 2; arcs = node row 3 } else no_header
+header_of row = if is_good_header row then record { problem = problem_of row; nodes = count row 2; arcs = count row 3 } else no_header
 
 -- what the first problem line of some lines says
 abbrev pub header : List Row → Header
@@ -95,6 +99,14 @@ field_counts earlier row =
     else (if of_min earlier then (if is_n row then 3 ∷ [] else 6 ∷ [])
     else (if is_n row then 2 ∷ [] else 4 ∷ [])))
 
+-- whether the number of fields is right
+abbrev pub has_field_count : List Row → Row → Bool
+has_field_count earlier row = list_any (λ n. length row.fields == n) (field_counts earlier row)
+
+-- whether the fields that should be whole numbers are
+abbrev pub has_numbers : Row → Bool
+has_numbers row = list_all is_whole (number_fields row)
+
 -- the places of the fields that name nodes
 abbrev pub node_places : Row → List ℕ
 node_places row = if is_n row then 1 ∷ [] else 1 ∷ 2 ∷ []
@@ -111,45 +123,65 @@ is_up_to bound z = is_within (neg_ℤ (pos bound)) (pos bound) z
 abbrev pub cost_place : List Row → ℕ
 cost_place earlier = if of_min earlier then 5 else 3
 
+-- ---- the total
+
+-- an arc line of `min` whose numbers can be read: none of `fields`, `number` and `before-p` applies to it
+abbrev pub is_counted : List Row → Row → Bool
+is_counted earlier row = is_a row && of_min earlier && has_p earlier && has_field_count earlier row && has_numbers row
+
+-- the most that the arc of an arc line of `min` can cost or earn
+abbrev pub line_weight : Row → ℕ
+line_weight row = unsigned_abs (number row 5) * max (unsigned_abs (number row 3)) (unsigned_abs (number row 4))
+
+-- the total of some lines: that of the arc lines of `min` among them whose numbers can be read
+unfoldable pub total_of : List Row → ℕ
+total_of lines = sum (map (λ line. line_weight line.1) (filter (λ line. is_counted line.0 line.1) (with_earlier lines)))
+
+-- the total is above the limit, if there is one
+abbrev pub passes : Option ℕ → ℕ → Bool
+passes None total = false
+passes (Some limit) total = nat_lt limit total
+
 -- ---- the table of faults
 
 -- whether a fault applies to a line, where these are the kept lines before it
 abbrev pub applies : Limits → Code → List Row → Row → Bool
-applies limits Kind earlier row = not (is_p row || is_n row || is_a row)
-applies limits Fields earlier row = not (list_any (λ n. length row.fields == n) (field_counts earlier row))
-applies limits Problem earlier row = is_p row && not (has_problem_word row)
-applies limits Number earlier row = not (list_all is_whole (number_fields row))
-applies limits SecondP earlier row = is_p row && has_p earlier
-applies limits BeforeP earlier row = not (is_p row) && not (has_p earlier)
-applies limits Size earlier row = is_p row && not (size_fits row)
-applies limits Node earlier row = not (is_p row) && not (list_all (λ k. is_node_number earlier (number row k)) (node_places row))
-applies limits LateN earlier row = is_n row && nat_lt 0 (length (arc_lines earlier))
-applies limits Twice earlier row = is_n row && is_listed earlier (node row 1)
-applies limits Supply earlier row = is_n row && of_min earlier && not (is_up_to limits.supply (number row 2))
-applies limits Bound earlier row = is_a row && of_min earlier && not (is_up_to limits.bound (number row 3) && is_up_to limits.bound (number row 4))
-applies limits Order earlier row = is_a row && of_min earlier && int_lt (number row 4) (number row 3)
-applies limits Cost earlier row = is_a row && not (is_up_to limits.cost (number row (cost_place earlier)))
-applies limits Extra earlier row = is_a row && nat_le (header earlier).arcs (length (arc_lines earlier))
-applies limits Side earlier row = is_a row && not (of_min earlier) && (not (is_listed earlier (node row 1)) || is_listed earlier (node row 2))
+applies allowed Kind earlier row = not (is_p row || is_n row || is_a row)
+applies allowed Fields earlier row = not (has_field_count earlier row)
+applies allowed Problem earlier row = is_p row && not (has_problem_word row)
+applies allowed Number earlier row = not (has_numbers row)
+applies allowed SecondP earlier row = is_p row && has_p earlier
+applies allowed BeforeP earlier row = not (is_p row) && not (has_p earlier)
+applies allowed Size earlier row = is_p row && not (size_fits row)
+applies allowed Node earlier row = not (is_p row) && not (list_all (λ k. is_node_number earlier (number row k)) (node_places row))
+applies allowed LateN earlier row = is_n row && nat_lt 0 (length (arc_lines earlier))
+applies allowed Twice earlier row = is_n row && is_listed earlier (node row 1)
+applies allowed Supply earlier row = is_n row && of_min earlier && not (is_up_to allowed.supply (number row 2))
+applies allowed Bound earlier row = is_a row && of_min earlier && not (is_up_to allowed.bound (number row 3) && is_up_to allowed.bound (number row 4))
+applies allowed Order earlier row = is_a row && of_min earlier && int_lt (number row 4) (number row 3)
+applies allowed Cost earlier row = is_a row && not (is_up_to allowed.cost (number row (cost_place earlier)))
+applies allowed Extra earlier row = is_a row && nat_le (header earlier).arcs (length (arc_lines earlier))
+applies allowed Side earlier row = is_a row && not (of_min earlier) && (not (is_listed earlier (node row 1)) || is_listed earlier (node row 2))
+applies allowed Total earlier row = is_a row && of_min earlier && passes allowed.total (total_of (earlier ++ row ∷ []))
 -- the last two are no faults of a line
-applies limits NoP earlier row = false
-applies limits Missing earlier row = false
+applies allowed NoP earlier row = false
+applies allowed Missing earlier row = false
 
 -- the faults of a line, in the order in which they are looked for
 abbrev pub table : List Code
-table = Kind ∷ Fields ∷ Problem ∷ Number ∷ SecondP ∷ BeforeP ∷ Size ∷ Node ∷ LateN ∷ Twice ∷ Supply ∷ Bound ∷ Order ∷ Cost ∷ Extra ∷ Side ∷ []
+table = Kind ∷ Fields ∷ Problem ∷ Number ∷ SecondP ∷ BeforeP ∷ Size ∷ Node ∷ LateN ∷ Twice ∷ Supply ∷ Bound ∷ Order ∷ Cost ∷ Extra ∷ Side ∷ Total ∷ []
 
 -- the fault of a line: the first of the table that applies
 unfoldable pub fault_of_line : Limits → List Row → Row → Option Code
-fault_of_line limits earlier row = find (λ code. applies limits code earlier row) table
+fault_of_line allowed earlier row = find (λ code. applies allowed code earlier row) table
 
 -- a line, after those before it, as a fault, if it has one
 abbrev pub as_fault : Limits → List Row × Row → Option Fault
-as_fault limits line = option_map (λ code. record { line = line.1.number; code = code }) (fault_of_line limits line.0 line.1)
+as_fault allowed line = option_map (λ code. record { line = line.1.number; code = code }) (fault_of_line allowed line.0 line.1)
 
 -- the faults of the lines, each judged by those before it
 unfoldable pub faults : Limits → List Row → List Fault
-faults limits lines = filter_map (as_fault limits) (with_earlier lines)
+faults allowed lines = filter_map (as_fault allowed) (with_earlier lines)
 
 -- the fault of the lines as a whole
 unfoldable pub fault_at_end : List Row → Option Code
@@ -160,12 +192,12 @@ fault_at_end lines =
 -- the first fault of some kept lines, where the line after the last has this number: that of the first
 -- faulty line, else that of the whole
 unfoldable pub first_fault_of_lines : Limits → ℕ → List Row → Option Fault
-first_fault_of_lines limits after lines =
-    option_or (slice_get (faults limits lines) 0) (option_map (λ code. record { line = after; code = code }) (fault_at_end lines))
+first_fault_of_lines allowed after lines =
+    option_or (slice_get (faults allowed lines) 0) (option_map (λ code. record { line = after; code = code }) (fault_at_end lines))
 
 -- the first fault of a text
 unfoldable pub first_fault : Limits → List ℕ → Option Fault
-first_fault limits text = first_fault_of_lines limits (line_after text) (rows text)
+first_fault allowed text = first_fault_of_lines allowed (line_after text) (rows text)
 
 -- ---- words
 
@@ -187,6 +219,7 @@ code_word Order = codes "order"
 code_word Cost = codes "cost"
 code_word Extra = codes "extra"
 code_word Side = codes "side"
+code_word Total = codes "total"
 code_word NoP = codes "no-p"
 code_word Missing = codes "missing"
 

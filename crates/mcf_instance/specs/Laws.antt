@@ -1,10 +1,12 @@
--- The two laws on which a certificate rests.
-use Rattle.std.specs.Prelude.{ℕ, Bool, List, ℤ}
+-- The two laws on which a certificate rests, and that of the limits.
+use Rattle.std.specs.Prelude.{◌≡◌, ℕ, Bool, List, ℤ, Ok}
 use Rattle.std.specs.List.{All}
 use Rattle.mcf_instance.specs.declared.problem.Side.{Side}
 use Rattle.mcf_instance.specs.Blocking.{Blocks}
 use Rattle.mcf_instance.specs.Flow.{IsFeasible, IsLeast, Shows}
+use Rattle.mcf_instance.specs.Limits.{limits, former_limits}
 use Rattle.mcf_instance.specs.Network.{Network, node_count}
+use Rattle.mcf_instance.specs.Reading.{reading}
 use Rattle.mcf_instance.specs.WellFormed.{HasEnds}
 
 -- a feasible flow that some prices show is least (weak duality)
@@ -16,3 +18,7 @@ ShownFlowsAreLeast =
 abbrev pub BlockedHasNoFlow : Type 0
 BlockedHasNoFlow =
     (g : Network) (set : ℕ → Bool) (side : Side) (flow : List ℤ) → All (HasEnds (node_count g)) g.arcs → Blocks g set side → ¬ IsFeasible g flow
+
+-- a text without a fault under the former limits has none under those of today, and is the same instance
+abbrev pub FormerInstancesStay : Type 0
+FormerInstancesStay = (text : List ℕ) (g : Network) → reading former_limits text ≡ Ok g → reading limits text ≡ Ok g

@@ -1,23 +1,29 @@
 -- The limits of an instance.
-use Rattle.std.specs.Prelude.{ℕ, ◌^◌}
+use Rattle.std.specs.Prelude.{ℕ, ◌^◌, Option, Some, None}
 
--- how far from 0 the supply of a node, a bound of an arc and the cost of an arc may lie
+-- how far from 0 the supply of a node, a bound of an arc and the cost of an arc may lie, and how great the
+-- total of the arcs may be, where that is looked at
 pub record Limits : Type 0 where
   pub supply : ℕ
   pub bound : ℕ
   pub cost : ℕ
-
--- the limits of today
-abbrev pub limits : Limits
-limits = record { supply = 10 ^ 15; bound = 10 ^ 15; cost = 10 ^ 12 }
-
--- limits that every later change of these keeps, on which all above the reader stands
-abbrev pub wide_limits : Limits
-wide_limits = record { supply = 10 ^ 18; bound = 10 ^ 18; cost = 10 ^ 15 }
+  pub total : Option ℕ
 
 -- the greatest total, over the arcs, of the size of the cost times that of the greater bound
 abbrev pub total_limit : ℕ
 total_limit = 10 ^ 36
+
+-- the limits of today
+abbrev pub limits : Limits
+limits = record { supply = 10 ^ 18; bound = 10 ^ 18; cost = 10 ^ 15; total = Some total_limit }
+
+-- the limits before these: no total was looked at
+abbrev pub former_limits : Limits
+former_limits = record { supply = 10 ^ 15; bound = 10 ^ 15; cost = 10 ^ 12; total = None }
+
+-- limits that every later change of these keeps, on which all above the reader stands
+abbrev pub wide_limits : Limits
+wide_limits = record { supply = 10 ^ 18; bound = 10 ^ 18; cost = 10 ^ 15; total = Some total_limit }
 
 -- how many nodes and arcs there may be
 abbrev pub node_limit : ℕ

@@ -5,6 +5,6 @@ use Rattle.mcf_instance.specs.Limits.{Limits}
 use Rattle.mcf_text.specs.Row.{Row, rows}
 
 -- the first problem line is good, names a node, and comes before the first fault
-pub record NamesNodes (limits : Limits) (text : List ℕ) : Type 0 where
+pub record NamesNodes (allowed : Limits) (text : List ℕ) : Type 0 where
   pub nodes : 1 ≤ (header (rows text)).nodes
-  pub before_fault : (row : Row) (fault : Fault) → find is_p (rows text) ≡ Some row → first_fault limits text ≡ Some fault → row.number < fault.line
+  pub before_fault : (row : Row) (fault : Fault) → find is_p (rows text) ≡ Some row → first_fault allowed text ≡ Some fault → row.number < fault.line

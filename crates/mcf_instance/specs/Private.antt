@@ -3,3 +3,4 @@ pub mod LineReader
 pub mod ReaderSound
 pub mod ReaderState
 pub mod Stands
+pub mod Sums

@@ -38,4 +38,4 @@ reading_of None g = Ok g
 
 -- what a text stands for: an instance, or its first fault
 unfoldable pub reading : Limits → List ℕ → Result Network Fault
-reading limits text = reading_of (first_fault limits text) (instance_of_lines (rows text))
+reading allowed text = reading_of (first_fault allowed text) (instance_of_lines (rows text))

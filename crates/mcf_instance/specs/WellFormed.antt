@@ -1,5 +1,5 @@
 -- What every instance keeps.
-use Rattle.std.specs.Prelude.{ℕ, ◌*◌, ◌≤◌, max, map, length, sum, ℤ, pos, neg_ℤ, ◌≤ℤ◌, unsigned_abs}
+use Rattle.std.specs.Prelude.{ℕ, ◌*◌, ◌≤◌, max, map, length, sum, ℤ, pos, neg_ℤ, ◌≤ℤ◌, unsigned_abs, Option, Some, None}
 use Rattle.std.specs.List.{All}
 use Rattle.mcf_instance.specs.declared.arc.Arc.{Arc}
 use Rattle.mcf_instance.specs.Assignment.{OnAssignment, IsAssignment}
@@ -16,28 +16,34 @@ pub record HasEnds (nodes : ℕ) (a : Arc) : Type 0 where
   pub dst_is_node : IsNode nodes a.dst
 
 -- the bounds of an arc are in order and, like its cost, within the limits
-pub record IsArcWithinLimits (limits : Limits) (a : Arc) : Type 0 where
+pub record IsArcWithinLimits (allowed : Limits) (a : Arc) : Type 0 where
   pub ordered : a.low ≤ℤ a.cap
-  pub low_small : IsUpTo limits.bound a.low
-  pub cap_small : IsUpTo limits.bound a.cap
-  pub cost_small : IsUpTo limits.cost a.cost
+  pub low_small : IsUpTo allowed.bound a.low
+  pub cap_small : IsUpTo allowed.bound a.cap
+  pub cost_small : IsUpTo allowed.cost a.cost
 
 -- the most that an arc can cost or earn
 abbrev pub weight : Arc → ℕ
 weight a = unsigned_abs a.cost * max (unsigned_abs a.low) (unsigned_abs a.cap)
 
--- arcs and supplies within the limits
-pub record IsWithinLimits (limits : Limits) (g : Network) : Type 0 where
-  pub arcs : All (IsArcWithinLimits limits) g.arcs
-  pub supplies : All (IsUpTo limits.supply) g.supplies
+-- the total is within the limit, if there is one
+abbrev pub IsWithinTotal : Option ℕ → ℕ → Type 0
+IsWithinTotal None total = Unit {0}
+IsWithinTotal (Some limit) total = total ≤ limit
+
+-- arcs, supplies and the total of the arcs within the limits
+pub record IsWithinLimits (allowed : Limits) (g : Network) : Type 0 where
+  pub arcs : All (IsArcWithinLimits allowed) g.arcs
+  pub supplies : All (IsUpTo allowed.supply) g.supplies
+  pub total : IsWithinTotal allowed.total (sum (map weight g.arcs))
 
 -- what an instance keeps under the limits of its reader; the wide limits and the total are what the
 -- layers above stand on
-pub record IsWellFormed (limits : Limits) (g : Network) : Type 0 where
+pub record IsWellFormed (allowed : Limits) (g : Network) : Type 0 where
   pub nodes : node_count g ≤ node_limit
   pub arcs : length g.arcs ≤ arc_limit
   pub ends : All (HasEnds (node_count g)) g.arcs
-  pub within : IsWithinLimits limits g
+  pub within : IsWithinLimits allowed g
   pub within_wide : IsWithinLimits wide_limits g
   pub total : sum (map weight g.arcs) ≤ total_limit
   pub assignment : OnAssignment g.problem (IsAssignment g)

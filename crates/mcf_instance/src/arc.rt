@@ -1,6 +1,7 @@
 //! Arcs: as callers see them, and as an instance stores them.
-ghost use Rattle.std.specs.Prelude.{◌≡◌};
+ghost use Rattle.std.specs.Prelude.{◌≡◌, ◌≤◌, ◌^◌};
 ghost use Rattle.mcf_instance.specs.Packed.{unpacked};
+ghost use Rattle.mcf_instance.specs.WellFormed.{weight};
 
 use mcf_text::NodeId;
 
@@ -36,5 +37,14 @@ impl PackedArc {
             cap: i128::from(self.cap),
             cost: i128::from(self.cost),
         }
+    }
+
+    /// The most that the arc can cost or earn: the size of its cost times that of its greater bound.
+    pub(crate) fn weight(self) -> u128
+        ensures value { result ≡ weight (unpacked self) }
+        ensures small { result ≤ 2 ^ 126 }
+    {
+        let bound = self.low.unsigned_abs().max(self.cap.unsigned_abs());
+        u128::from(self.cost.unsigned_abs()) * u128::from(bound)
     }
 }

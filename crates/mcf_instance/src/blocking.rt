@@ -1,5 +1,5 @@
 //! Whether a node set blocks every flow.
-ghost use Rattle.std.specs.Prelude.{◌≡◌, ◌^◌, ◌≤◌, ◌+ℤ◌, ◌↔◌, ℕ, ℤ, IfOk, IsTrue, List, OnErr, length, map};
+ghost use Rattle.std.specs.Prelude.{◌≡◌, ◌≤◌, ◌+ℤ◌, ◌↔◌, ℕ, ℤ, IfOk, IsTrue, List, OnErr, length, map};
 ghost use Rattle.std.specs.List.{All};
 ghost use Rattle.mcf_instance.specs.Blocking.{Blocks, cap_entering, cap_leaving, enters, in_list, in_table, leaves, low_entering, low_leaving, supply_in};
 ghost use Rattle.mcf_instance.specs.Flow.{IsFeasible};
@@ -7,6 +7,7 @@ ghost use Rattle.mcf_instance.specs.Limits.{arc_limit, limits, node_limit, wide_
 ghost use Rattle.mcf_instance.specs.Network.{IsNode, node_count, when};
 ghost use Rattle.mcf_instance.specs.Packed.{unpacked};
 ghost use Rattle.mcf_instance.specs.WellFormed.{HasEnds, IsArcWithinLimits, IsUpTo, IsWellFormed};
+ghost use Rattle.mcf_instance.specs.Private.Sums.{sum_limit};
 
 use crate::arc::PackedArc;
 use crate::copies::copies;
@@ -43,8 +44,8 @@ pub fn table_of(alloc: Global, nodes: u32, members: &[NodeId]) -> Result<Vec<boo
 
 /// The total, with the amount added where it counts.
 fn add_when(total: i128, counts: bool, amount: i64) -> i128
-    requires total { IsUpTo (10 ^ 25) total }
-    requires amount { IsUpTo (10 ^ 18) amount }
+    requires total { IsUpTo sum_limit total }
+    requires amount { IsUpTo wide_limits.bound amount }
     ensures { result ≡ total +ℤ when counts amount }
 {
     if counts {
@@ -73,10 +74,10 @@ fn leaves_set(arc: &PackedArc, table: &[bool]) -> bool
 /// The sum of the supplies in the set.
 fn supply_within(supplies: &[i64], table: &[bool]) -> i128
     requires count { length supplies.now ≤ node_limit }
-    requires small { All (IsUpTo (10 ^ 18)) supplies.now }
+    requires small { All (IsUpTo wide_limits.supply) supplies.now }
     requires one_per_node { length table.now ≡ length supplies.now }
     ensures sum { result ≡ supply_in supplies.now (in_table table.now) }
-    ensures small { IsUpTo (10 ^ 25) result }
+    ensures small { IsUpTo sum_limit result }
 {
     let mut total = 0;
     for (place, supply) in supplies.iter().enumerate() {
@@ -94,8 +95,8 @@ fn border_of(arcs: &[PackedArc], table: &[bool]) -> Border
     ensures cap_in { result.cap_in ≡ cap_entering (map unpacked arcs.now) (in_table table.now) }
     ensures low_out { result.low_out ≡ low_leaving (map unpacked arcs.now) (in_table table.now) }
     ensures cap_out { result.cap_out ≡ cap_leaving (map unpacked arcs.now) (in_table table.now) }
-    ensures low_in_small { IsUpTo (10 ^ 25) result.low_in }
-    ensures low_out_small { IsUpTo (10 ^ 25) result.low_out }
+    ensures low_in_small { IsUpTo sum_limit result.low_in }
+    ensures low_out_small { IsUpTo sum_limit result.low_out }
 {
     let mut low_in = 0;
     let mut cap_in = 0;

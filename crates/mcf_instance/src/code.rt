@@ -1,4 +1,4 @@
-//! The eighteen faults of an instance text.
+//! The nineteen faults of an instance text.
 
 /// What is wrong with a line of an instance text, in the order in which a line's faults are looked for;
 /// the last two are faults of the whole text.
@@ -36,6 +36,8 @@ pub enum Code {
     Extra,
     /// An arc of an assignment doesn't go from a node with a node line to one without.
     Side,
+    /// The total of the arcs so far, of the size of the cost times that of the greater bound, is above 10^36.
+    Total,
     /// The text has no problem line.
     NoP,
     /// Fewer arc lines than the problem line says.
@@ -68,6 +70,7 @@ impl Code {
             Code::Cost => "cost",
             Code::Extra => "extra",
             Code::Side => "side",
+            Code::Total => "total",
             Code::NoP => "no-p",
             Code::Missing => "missing",
         }
@@ -97,7 +100,7 @@ impl Code {
 }
 
 // The codes, in the order in which a line's faults are looked for, and then those of the whole text.
-static ALL: [Code; 18] = [
+static ALL: [Code; 19] = [
     Code::Kind,
     Code::Fields,
     Code::Problem,
@@ -114,6 +117,7 @@ static ALL: [Code; 18] = [
     Code::Cost,
     Code::Extra,
     Code::Side,
+    Code::Total,
     Code::NoP,
     Code::Missing,
 ];

@@ -10,7 +10,8 @@ use crate::problem::Problem;
 use mcf_text::{ArcId, NodeId};
 use std::marker::Model;
 
-/// A minimum-cost flow problem or an assignment problem, within the limits.
+/// A minimum-cost flow problem or an assignment problem, within the limits: supplies and bounds at most 10^18 from 0, costs at
+/// most 10^15, and the total over the arcs, of the size of the cost times that of the greater bound, at most 10^36.
 ///
 /// Nodes and arcs are numbered from 1. A clause sees the network: its problem, its arcs in order and
 /// the supplies of its nodes in order.

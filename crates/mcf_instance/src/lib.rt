@@ -19,7 +19,7 @@ pub use arc::Arc;
 pub use blocking::{blocks, table_of};
 pub use code::Code;
 pub use instances::Instance;
-pub use laws::{blocked_has_no_flow, shown_flows_are_least};
+pub use laws::{blocked_has_no_flow, former_instances_stay, shown_flows_are_least};
 pub use problem::{Problem, Side};
 pub use reader::read;
 pub use refusal::Refusal;

@@ -21,7 +21,7 @@ use Rattle.mcf_network.specs.declared.rid.Rid.{Rid}
 use Rattle.mcf_network.specs.Nets.{IsNet, IsNetArc, width_limit}
 use Rattle.mcf_network.specs.Residual.{no_arc, arc_at, tail, head}
 use Rattle.mcf_network.specs.States.{Pseudoflow, IsPseudoflow, KeepsSurplus, amount_at, pushed, room_of, surplus_at}
-use Rattle.mcf_network.proofs.ArcLaws.{amount_count, amount_of, net_arc_at, supply_at}
+use Rattle.mcf_network.proofs.ArcLaws.{amount_count, amount_of, net_arc_at, read_amount, read_room, supply_at}
 
 abbrev pub rid : ℕ → Bool → Rid
 rid k b = record { arc = k; back = b }
@@ -203,6 +203,23 @@ module _ (g : Network) (amounts kept kept' : List ℤ) (r : Rid) (x a y : ℤ) (
       subst (λ (t : Pseudoflow). IsPushStep t r x (record { net = g; amounts = set amounts (i - 1) y }) kept') view
       (push_step_at ok ei (subst (λ (t : Pseudoflow). IsArcNumber t.net r.arc) (sym view) h) low
       (subst (λ (t : Pseudoflow). x ≤ℤ room_of t r) (sym view) high) ea ey ef et n each)
+
+-- the step of a push, by what its calls read and wrote
+pub push_made : (s : Pseudoflow) (g : Network) (amounts kept kept' : List ℤ) (r : Rid) (x a w : ℤ) (i from to : ℕ)
+    → record { net = g; amounts = amounts } ≡ s → KeepsSurplus (record { net = g; amounts = amounts }) kept → i ≡ r.arc → IsArcNumber s.net r.arc
+    → pos 0 ≤ℤ x → x ≤ℤ room_of s r → to_z w128 (of_z w128 x) ≡ x → a ≡ get_or amounts (i - 1) a
+    → w ≡ cond r.back (to_z w64 (of_z w64 a) -ℤ to_z w128 (of_z w128 x)) (to_z w64 (of_z w64 a) +ℤ to_z w128 (of_z w128 x))
+    → from ≡ tail g r → to ≡ head g r → length kept' ≡ length kept
+    → ((v : ℕ) → IsNode (length kept) v → at_node kept' v ≡ at_node kept v -ℤ when (eqb from v) (to_z w128 (of_z w128 x))
+    +ℤ when (eqb to v) (to_z w128 (of_z w128 x)))
+    → IsPushStep s r x (record { net = g; amounts = set amounts (i - 1) (to_z w64 (of_z w64 w)) }) kept'
+push_made s g amounts kept kept' r x a w i from to view ok ei h low high same ea ew ef et n each =
+    let read = read_amount s g amounts r.arc a view ok.flow h (rw ei at ea) in
+    let room = read_room s g amounts r view ok.flow h in
+    let written : to_z w64 (of_z w64 w) ≡ cond r.back (a -ℤ x) (a +ℤ x) =
+    changed_is r.back w a x read.low (omega (arith, ints, read.high, read.width)) low (omega (arith, ints, high, room.high)) ew in
+    push_step g amounts kept kept' r x a (to_z w64 (of_z w64 w)) i from to s view ok ei h low high ea written ef et n
+    (λ v q. rw same at (each v q))
 
 -- a kept surplus, as a read gives it
 pub record IsReadSurplus (s : Pseudoflow) (v : ℕ) (x : ℤ) : Type 0 where

@@ -1,5 +1,6 @@
 //! Laws of states and of nets, each the contract of a function that does nothing.
-ghost use Rattle.mcf_network.specs.Laws.{FeasibleFlowsAreStates, GreatestPricesCarryOver, NetFlowsCostNoMore, NetsBlockAlike, RestoredLeastFlowsAreLeast, RestoredTreeSolutionsAreTreeSolutions, StuckSetsBlock};
+ghost use Rattle.mcf_network.specs.Laws.{FeasibleFlowsAreStates, GreatestPricesCarryOver, NetFlowsCostNoMore, NetsBlockAlike, RestoredLeastFlowsAreLeast};
+ghost use Rattle.mcf_network.specs.Laws.{RestoredTreeSolutionsAreTreeSolutions, StuckSetsBlock};
 
 /// The states of a net without surplus are its feasible flows.
 pub fn feasible_flows_are_states()

@@ -36,7 +36,8 @@ impl Model for Net {
 
     ghost view = { λ n. stored_net n.problem n.arcs.items n.supplies.items };
 
-    ghost invariant = { λ n. IsNet (stored_net n.problem n.arcs.items n.supplies.items) × (1 ≤ length n.supplies.items → IsStored (stored_net n.problem n.arcs.items n.supplies.items) n.firsts.items n.outs.items) };
+    ghost invariant = { λ n. IsNet (stored_net n.problem n.arcs.items n.supplies.items)
+        × (1 ≤ length n.supplies.items → IsStored (stored_net n.problem n.arcs.items n.supplies.items) n.firsts.items n.outs.items) };
 }
 
 impl Net {

@@ -12,7 +12,8 @@ pub(crate) fn move_surplus(surpluses: &mut Vec<i128>, from: NodeId, to: NodeId, 
     requires x { IsUpTo (10 ^ 30) x }
     requires each { (v : ℕ) → IsNode (length surpluses.old.items) v → IsUpTo (10 ^ 30) (at_node surpluses.old.items v) }
     ensures length { length surpluses.new.items ≡ length surpluses.old.items }
-    ensures each { (v : ℕ) → IsNode (length surpluses.old.items) v → at_node surpluses.new.items v ≡ at_node surpluses.old.items v -ℤ when (from == v) x +ℤ when (to == v) x }
+    ensures each { (v : ℕ) → IsNode (length surpluses.old.items) v →
+        at_node surpluses.new.items v ≡ at_node surpluses.old.items v -ℤ when (from == v) x +ℤ when (to == v) x }
 {
     if x == 0 {
         return;

@@ -1,9 +1,9 @@
 -- A push round a negative cycle: the state keeps no surplus, and gets cheaper.
-use Rattle.std.proofs.Common.{◌≡◌, ℕ, ◌<◌, List, [], ◌∷◌, length, ℤ, pos, nat_abs, ◌+ℤ◌, ◌≤ℤ◌, ◌<ℤ◌, ap, sym, subst, ◌∙◌, arith}
+use Rattle.std.proofs.Common.{◌≡◌, ℕ, ◌<◌, List, ℤ, pos, nat_abs, ◌+ℤ◌, ◌≤ℤ◌, ◌<ℤ◌, ap, sym, subst, ◌∙◌, arith}
 use Rattle.std.specs.List.{All, Any}
 use Rattle.std.proofs.lemmas.Int.{ints}
 use Rattle.mcf_instance.specs.Flow.{AreGreatestPrices, IsFeasible, IsLeast, cost}
-use Rattle.mcf_instance.specs.Network.{Network, IsArcNumber, node_count}
+use Rattle.mcf_instance.specs.Network.{Network, node_count}
 use Rattle.mcf_instance.proofs.Bounds.{cost_up_to}
 use Rattle.mcf_instance.proofs.Duality.{shown_flows_are_least_lem}
 use Rattle.mcf_instance.proofs.IntLaws.{mul_below_zero}
@@ -20,13 +20,6 @@ use Rattle.mcf_prices.specs.Outcomes.{AreStatePrices, IsLeastState}
 use Rattle.mcf_prices.specs.Recovering.{AreSmallPrices}
 use Rattle.mcf_prices.proofs.PriceFloors.{greatest_are_small}
 use Rattle.mcf_prices.proofs.Cycles.{nat_abs_falls}
-
-pub cycle_some : (s : Pseudoflow) (walk : List Rid) → IsNegativeCycle s walk → 0 < length walk
-cycle_some s [] cycle = let less = cycle.negative in absurd (omega (arith, ints, less))
-cycle_some s (r ∷ rest) cycle = omega arith
-
-pub cycle_arcs : (s : Pseudoflow) (walk : List Rid) → IsNegativeCycle s walk → All (λ r. IsArcNumber s.net r.arc) walk
-cycle_arcs s walk cycle k d h = (cycle.has_room k d h).arc
 
 pub cycle_positive : (s : Pseudoflow) (walk : List Rid) (x : ℤ) → IsNegativeCycle s walk → Any (λ r. x ≡ room_of s r) walk → pos 0 <ℤ x
 cycle_positive s walk x cycle (k, r, h, at, is) =

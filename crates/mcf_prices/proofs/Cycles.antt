@@ -1,40 +1,22 @@
 -- The search for a cycle of links over all nodes, and the measure of the rounds.
-use Rattle.std.proofs.Common.{◌≡◌, ℕ, suc, ◌<◌, ◌≤◌, ◌+◌, ◌-◌, ◌*◌, List, [], ◌∷◌, length, Bool, true, false, ℤ, pos, negsuc, nat_abs, ◌+ℤ◌, neg_ℤ, ◌≤ℤ◌, ◌<ℤ◌}
+use Rattle.std.proofs.Common.{◌≡◌, ℕ, suc, ◌<◌, ◌≤◌, ◌+◌, ◌-◌, ◌*◌, List, [], ◌∷◌, length, Bool, true, ℤ, pos, negsuc, nat_abs, ◌+ℤ◌, neg_ℤ, ◌≤ℤ◌, ◌<ℤ◌}
 use Rattle.std.proofs.Common.{sym, ap, subst, ◌∙◌, arith, ◌⊎◌, inl, inr}
 use Rattle.std.proofs.lemmas.Int.{ints}
-use Rattle.std.proofs.lemmas.Bool.{true≢false, cases_eq}
-use Rattle.std.proofs.lemmas.List.{length-replicate}
+use Rattle.std.proofs.lemmas.Bool.{cases_eq}
 use Rattle.mcf_instance.specs.Blocking.{in_table}
 use Rattle.mcf_instance.specs.Network.{Network, IsNode, at_node, node_count}
 use Rattle.mcf_network.specs.declared.rid.Rid.{Rid}
-use Rattle.mcf_network.specs.NodeSets.{member_count, no_nodes}
+use Rattle.mcf_network.specs.NodeSets.{member_count}
 use Rattle.mcf_network.specs.Walks.{IsWalk}
 use Rattle.mcf_prices.specs.Private.Labels.{Labels, IsLabelling, AreAtLeast, cost_limit, total}
 use Rattle.mcf_prices.specs.Private.Trails.{HasTail, IsTrail, IsDone, IsSettled}
-use Rattle.mcf_network.proofs.Marks.{unmarked, count_small}
+use Rattle.mcf_network.proofs.Marks.{count_small}
 
 -- after v nodes: no path is under way, each node that was seen is settled, and so is each node up to v
 pub record CycleAt (l : Labels) (seen done : List Bool) (v : ℕ) : Type 0 where
   pub trail : IsTrail l [] seen done
   pub floors : IsDone l done
   pub before : (j : ℕ) → 1 ≤ j → j ≤ v → IsSettled l done j
-
-pub cycle_start : (l : Labels) → CycleAt l (no_nodes (node_count l.flow.net)) (no_nodes (node_count l.flow.net)) 0
-cycle_start l =
-    let n = node_count l.flow.net in
-    let m = length-replicate n false in
-    record {
-      trail = record {
-        seen_count = m;
-        done_count = m;
-        steps = λ k d h. absurd (omega arith);
-        distinct = λ i j d p q. absurd (omega arith);
-        path_seen = λ k d h. absurd (omega arith);
-        seen = λ v h e. absurd (true≢false (sym e ∙ unmarked n v));
-      };
-      floors = record { count = m; floor = λ v h e. absurd (true≢false (sym e ∙ unmarked n v)) };
-      before = λ j h k. absurd (omega arith);
-    }
 
 -- a walk ends where it begins, or leaves its beginning
 walk_leaves : (g : Network) (path : List Rid) (u w : ℕ) → IsWalk g u path w → (u ≡ w) ⊎ HasTail g path u
@@ -89,16 +71,6 @@ cycle_end l seen done v ok at n u h =
     let inside : IsNode (length done) u = (h.0, omega (arith, h, ok.count, at.floors.count)) in
     let low = settled_floor l done u ok at.floors inside (at.before u h.0 (omega (arith, h, ok.count))) in
     omega (arith, ints, low, count_small done, at.floors.count)
-
--- where a walk closed a cycle the path leaves its end
-pub end_leaves : (l : Labels) (seen done : List Bool) (path : List Rid) (end : ℕ) → IsTrail l path seen done → IsNode (length seen) end
-    → in_table seen end ≡ true → (IsSettled l done end → ⊥) → HasTail l.flow.net path end
-end_leaves l seen done path end trail h e closed =
-    elim (trail.seen end h e) [
-      | inl a ↦ absurd (closed (inl a))
-      | inr (inl a) ↦ absurd (closed (inr a))
-      | inr (inr a) ↦ a
-    ]
 
 -- the total is not far below 0
 total_floor : (ys : List ℤ) (f : ℕ) → ((k : ℕ) → k < length ys → neg_ℤ (pos f) ≤ℤ at_node ys (k + 1)) → neg_ℤ (pos (f * length ys)) ≤ℤ total ys

@@ -2,7 +2,7 @@
 use Rattle.std.proofs.Common.{◌≡◌, ◌≢◌, ℕ, ◌<◌, ◌-◌, ◌*◌, List, [], ◌∷◌, ◌++◌, length, Bool, true, false, Option, Some, None, pos, neg_ℤ, ◌≤ℤ◌, refl, sym, ap}
 use Rattle.std.proofs.Common.{subst, ◌∙◌, arith, ◌⊎◌, inl, inr, length-set}
 use Rattle.std.specs.List.{All}
-use Rattle.std.specs.Option.{IfSome, IfNone}
+use Rattle.std.specs.Option.{IfSome}
 use Rattle.std.proofs.lemmas.Int.{ints}
 use Rattle.std.proofs.lemmas.Bool.{true≢false, cases_eq}
 use Rattle.std.proofs.lemmas.List.{get_or_append_left, get_or_push, length_push}
@@ -58,23 +58,6 @@ trail_push l path seen done r at ok h fresh step e =
           | inr (inl a) ↦ inr (inl a)
           | inr (inr a) ↦ inr (inr (HasTail-push l.flow.net path r v a))
         ]
-      ];
-    }
-
--- a node without a link is marked
-pub trail_root : (l : Labels) (path : List Rid) (seen done : List Bool) (at : ℕ) → IsTrail l path seen done → IsNode (node_count l.flow.net) at
-    → link_at l at ≡ None → IsTrail l path (with_node seen at) done
-trail_root l path seen done at ok h root =
-    let inside : IsNode (length seen) at = (h.0, omega (arith, h, ok.seen_count)) in
-    record {
-      seen_count = length-set seen (at - 1) true ∙ ok.seen_count;
-      done_count = ok.done_count;
-      steps = ok.steps;
-      distinct = ok.distinct;
-      path_seen = λ k d p. marked_still seen at _ inside (ok.path_seen k d p);
-      seen = λ v p m. elim (marked_by seen at v inside p m) [
-        | inl s ↦ inr (inl (ap (link_at l) s ∙ root))
-        | inr (n, w) ↦ ok.seen v n w
       ];
     }
 
@@ -147,10 +130,6 @@ finish_step l first now whole path r ok at =
       ];
     }
 
--- nothing is left of an empty path
-pub no_tail : (g : Network) (v : ℕ) → HasTail g [] v → ⊥
-no_tail g v leaves = let h = leaves.1 in omega (arith, h)
-
 -- a link is a step
 pub link_step : (l : Labels) (v : ℕ) (o : Option Rid) → IsLabelling l → IsNode (length l.links) v → o ≡ link_at l v
     → IfSome o (λ r. IsStep l r × (tail l.flow.net r ≡ v))
@@ -159,8 +138,3 @@ link_step l v (Some r) ok h e =
     let link = ok.linked.links v r h (sym e) in
     let from = link.from in
     (record { link = ap (link_at l) from ∙ sym e; is_node = (omega (arith, h, from), omega (arith, h, from)); has_room = link.has_room }, from)
-
--- a node without a link has the price 0
-pub link_root : (l : Labels) (v : ℕ) (o : Option Rid) → IsLabelling l → IsNode (length l.links) v → o ≡ link_at l v → IfNone o (at_node l.prices v ≡ pos 0)
-link_root l v None ok h e = ok.linked.roots v h (sym e)
-link_root l v (Some r) ok h e = tt

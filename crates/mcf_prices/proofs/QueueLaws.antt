@@ -1,25 +1,15 @@
 -- What a queue keeps when a node is put into it.
-use Rattle.std.proofs.Common.{◌≡◌, ℕ, ◌+◌, ◌-◌, ◌≤◌, Bool, true, false, [], ◌∷◌, ◌++◌, length, refl, sym, ◌∙◌, arith, inl, inr, length-set, subst}
+use Rattle.std.proofs.Common.{◌≡◌, ℕ, ◌+◌, ◌-◌, Bool, true, false, [], ◌∷◌, ◌++◌, length, refl, sym, ◌∙◌, arith, inl, inr, length-set, subst}
 use Rattle.std.specs.List.{Contains}
-use Rattle.std.proofs.lemmas.Bool.{true≢false, cases_eq}
-use Rattle.std.proofs.lemmas.List.{length_push, length-replicate}
+use Rattle.std.proofs.lemmas.Bool.{cases_eq}
+use Rattle.std.proofs.lemmas.List.{length_push}
 use Rattle.std.proofs.lemmas.List.Elements.{All-push, Contains-append_left, Contains-push}
 use Rattle.mcf_instance.specs.Blocking.{in_table}
-use Rattle.mcf_instance.specs.Limits.{node_limit}
 use Rattle.mcf_instance.specs.Network.{IsNode}
 use Rattle.mcf_network.specs.NodeSets.{with_node}
-use Rattle.mcf_prices.specs.Private.Queues.{Waiting, IsQueue, no_queue, queued}
-use Rattle.mcf_network.proofs.Marks.{counted_new, count_none, unmarked}
+use Rattle.mcf_prices.specs.Private.Queues.{Waiting, IsQueue, queued}
+use Rattle.mcf_network.proofs.Marks.{counted_new}
 use Rattle.mcf_prices.proofs.Marks.{read_node}
-
-pub no_queue_ok : (n : ℕ) → n ≤ node_limit → IsQueue (no_queue n)
-no_queue_ok n h =
-    record {
-      limit = omega (arith, h, length-replicate n false);
-      are_nodes = λ k d l. absurd (omega arith);
-      count = sym (count_none n);
-      marked = λ v k e. absurd (true≢false (sym e ∙ unmarked n v));
-    }
 
 -- a node that did not wait
 pub push_ok : (q : Waiting) (v : ℕ) → IsQueue q → IsNode (length q.table) v → in_table q.table v ≡ false

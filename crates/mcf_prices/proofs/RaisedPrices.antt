@@ -14,11 +14,11 @@ use Rattle.mcf_network.specs.States.{Pseudoflow, IsPseudoflow}
 use Rattle.mcf_network.proofs.ArcLaws.{head_is_node, tail_is_node}
 use Rattle.mcf_network.proofs.Marks.{count_none, unmarked}
 use Rattle.mcf_prices.specs.Heaps.{Keyed, NoneWaits}
-use Rattle.mcf_prices.specs.Private.Labels.{AreAtLeast, Respects, cost_limit}
+use Rattle.mcf_prices.specs.Private.Labels.{Respects}
 use Rattle.mcf_prices.specs.NearPrices.{AreNearPrices}
 use Rattle.mcf_prices.specs.Outcomes.{AreStatePrices}
 use Rattle.mcf_prices.specs.Private.Raisings.{AreRounded, IsLength, IsRaising, IsRoundedDown, Settled, label}
-use Rattle.mcf_prices.proofs.LabelLengths.{cancelled, rounded_above, rounded_price, rounded_respects}
+use Rattle.mcf_prices.proofs.LabelLengths.{cancelled, rounded_above, rounded_respects}
 use Rattle.mcf_prices.proofs.RaisingSteps.{none_contained}
 use Rattle.mcf_prices.proofs.PriceFloors.{greatest_are_small}
 use Rattle.mcf_prices.proofs.Showing.{shows_from_respects}

@@ -1,8 +1,10 @@
 //! An indexed binary heap of items numbered from 0.
-ghost use Rattle.std.specs.Prelude.{◌≡◌, ◌≢◌, ◌+◌, ◌*◌, ◌^◌, ◌<◌, ◌≤◌, ◌≤ℤ◌, ◌↔◌, ℕ, true, false, IfOk, IfSome, IfNone, IsTrue, OnErr, length, replicate, pos, slice_index_or, slice_set};
+ghost use Rattle.std.specs.Prelude.{◌≡◌, ◌≢◌, ◌+◌, ◌*◌, ◌^◌, ◌<◌, ◌≤◌, ◌≤ℤ◌, ℕ, true, false, IfOk, IfSome, IfNone, OnErr, length, replicate, pos};
+ghost use Rattle.std.specs.Prelude.{slice_index_or, slice_set};
 ghost use Rattle.std.specs.Bool.{MatchBool};
 ghost use Rattle.mcf_prices.specs.Heaps.{ComesFirst};
-ghost use Rattle.mcf_prices.specs.Private.ItemHeaps.{IsChild, IsHeap, IsOrdered, IsOrderedAbove, IsOrderedBelow, IsPlaced, IsSwapped, Precedes, PrecedesAll, entry, key_at, table_of};
+ghost use Rattle.mcf_prices.specs.Private.ItemHeaps.{IsChild, IsHeap, IsOrderedAbove, IsOrderedBelow, IsPlaced, IsSwapped, Precedes, PrecedesAll};
+ghost use Rattle.mcf_prices.specs.Private.ItemHeaps.{entry, key_at, table_of};
 
 use mcf_text::NoMemory;
 use std::alloc::Global;
@@ -136,8 +138,10 @@ impl ItemHeap {
         requires item { v < length self.old.places.items }
         ensures placed { IsPlaced self.new.count self.new.slots.items self.new.places.items }
         ensures slot { entry self.new.places.items v ≡ result + 1 }
-        ensures kept { 0 < entry self.old.places.items v → (self.new.count ≡ self.old.count) × (self.new.slots ≡ self.old.slots) × (entry self.old.places.items v ≡ result + 1) }
-        ensures fresh { entry self.old.places.items v ≡ 0 → (self.new.count ≡ self.old.count + 1) × (self.new.slots.items ≡ slice_set self.old.slots.items self.old.count v) × (result ≡ self.old.count) }
+        ensures kept { 0 < entry self.old.places.items v →
+            (self.new.count ≡ self.old.count) × (self.new.slots ≡ self.old.slots) × (entry self.old.places.items v ≡ result + 1) }
+        ensures fresh { entry self.old.places.items v ≡ 0 → (self.new.count ≡ self.old.count + 1)
+            × (self.new.slots.items ≡ slice_set self.old.slots.items self.old.count v) × (result ≡ self.old.count) }
         ensures table { table_of self.new.places.items ≡ slice_set (table_of self.old.places.items) v true }
         ensures items { length self.new.places.items ≡ length self.old.places.items }
         ensures keys { self.new.keys ≡ self.old.keys }
@@ -256,7 +260,8 @@ impl ItemHeap {
         requires counted { length self.now.keys.items ≡ length self.now.places.items }
         requires slot { at < self.now.count }
         ensures child { IfSome result (λ c. IsChild at c × (c < self.now.count)) }
-        ensures least { IfSome result (λ c. (j : ℕ) → IsChild at j → j < self.now.count → Precedes self.now.keys.items (entry self.now.slots.items c) (entry self.now.slots.items j)) }
+        ensures least { IfSome result (λ c. (j : ℕ) → IsChild at j → j < self.now.count →
+            Precedes self.now.keys.items (entry self.now.slots.items c) (entry self.now.slots.items j)) }
         ensures none { IfNone result (self.now.count ≤ 2 * at + 1) }
     {
         let left = 2 * at + 1;
@@ -276,7 +281,9 @@ impl ItemHeap {
         requires counted { length self.now.keys.items ≡ length self.now.places.items }
         requires i { i < self.now.count }
         requires j { j < self.now.count }
-        ensures { MatchBool result (Precedes self.now.keys.items (entry self.now.slots.items i) (entry self.now.slots.items j)) (Precedes self.now.keys.items (entry self.now.slots.items j) (entry self.now.slots.items i)) }
+        ensures { MatchBool result
+            (Precedes self.now.keys.items (entry self.now.slots.items i) (entry self.now.slots.items j))
+            (Precedes self.now.keys.items (entry self.now.slots.items j) (entry self.now.slots.items i)) }
     {
         let a = self.slots[i as usize];
         let b = self.slots[j as usize];

@@ -1,5 +1,5 @@
 //! The greatest prices that show a state, from prices that nearly show it.
-ghost use Rattle.std.specs.Prelude.{◌≡◌, ◌≢◌, ◌+◌, ◌*◌, ◌^◌, ◌<◌, ◌≤◌, ◌+ℤ◌, ◌-ℤ◌, ◌*ℤ◌, ◌≤ℤ◌, ◌∷◌, ℕ, ℤ, List, [], IfOk, OnErr, length, neg_ℤ, pos};
+ghost use Rattle.std.specs.Prelude.{◌≡◌, ◌+◌, ◌*◌, ◌^◌, ◌<◌, ◌≤◌, ◌+ℤ◌, ◌-ℤ◌, ◌*ℤ◌, ◌≤ℤ◌, ◌∷◌, ℕ, ℤ, List, [], IfOk, OnErr, length, neg_ℤ, pos};
 ghost use Rattle.std.specs.List.{All};
 ghost use Rattle.mcf_instance.specs.Limits.{node_limit};
 ghost use Rattle.mcf_instance.specs.Network.{IsArcNumber, IsNode, at_node, node_count};
@@ -160,7 +160,8 @@ fn relax(
     requires last { IsLastSettled (node_count state.now.net) heap.old (tail state.now.net out) }
     requires base { base ≡ label prices.now heap.old (tail state.now.net out) }
     requires search { (rest : List Rid) × IsRaising state.now scale slack prices.now heap.old (out ∷ rest) }
-    ensures search { (rest : List Rid) → IsRaising state.now scale slack prices.now heap.old (out ∷ rest) → IsRaising state.now scale slack prices.now heap.new rest }
+    ensures search { (rest : List Rid) → IsRaising state.now scale slack prices.now heap.old (out ∷ rest) →
+        IsRaising state.now scale slack prices.now heap.new rest }
     ensures kept { KeepsSettled (node_count state.now.net) heap.old heap.new }
 {
     let (arc, back) = (out.arc, !out.back);

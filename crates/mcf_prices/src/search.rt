@@ -1,5 +1,6 @@
 //! A search for prices, and for cycles of the residual arcs that gave them.
-ghost use Rattle.std.specs.Prelude.{◌≡◌, ◌<◌, ◌≤◌, ◌*◌, ◌^◌, ◌≤ℤ◌, ◌<ℤ◌, ℕ, [], None, Some, Option, true, false, IfNone, IfOk, IfSome, OnErr, OnOk, drop, length, neg_ℤ, pos, replicate};
+ghost use Rattle.std.specs.Prelude.{◌≡◌, ◌<◌, ◌≤◌, ◌*◌, ◌^◌, ◌≤ℤ◌, ◌<ℤ◌, ℕ, [], None, Some, Option, true, false, IfNone, IfOk, IfSome, OnErr, OnOk, drop};
+ghost use Rattle.std.specs.Prelude.{length, neg_ℤ, pos, replicate};
 ghost use Rattle.std.specs.Bool.{OnFalse, OnTrue};
 ghost use Rattle.std.specs.List.{All, HoldsAt};
 ghost use Rattle.mcf_instance.specs.Blocking.{in_table};
@@ -192,7 +193,8 @@ impl<'s, 'n> Search<'s, 'n> {
     fn close(&self, alloc: Global, path: &[Rid], u: NodeId) -> Result<Vec<Rid>, NoMemory>
         requires steps { All (IsStep self.now) path.now }
         requires leaves { HasTail self.now.flow.net path.now u }
-        ensures { IfOk result (λ rest. (k : ℕ) × (k < length path.now) × HoldsAt (λ r. tail self.now.flow.net r ≡ u) path.now k × (rest.items ≡ drop k path.now)) }
+        ensures { IfOk result (λ rest. (k : ℕ) × (k < length path.now)
+            × HoldsAt (λ r. tail self.now.flow.net r ≡ u) path.now k × (rest.items ≡ drop k path.now)) }
     {
         'path: for (k, r) in path.iter().enumerate() {
             let (from, _) = self.state.net().route(*r);

@@ -31,7 +31,7 @@ filled_start s prices ok =
     }
 
 -- the room of a residual arc, by the amount of its arc
-room_same : (s t : Pseudoflow) (r : Rid) → s.net ≡ t.net → amount_at s r.arc ≡ amount_at t r.arc → room_of s r ≡ room_of t r
+pub room_same : (s t : Pseudoflow) (r : Rid) → s.net ≡ t.net → amount_at s r.arc ≡ amount_at t r.arc → room_of s r ≡ room_of t r
 room_same s t r net same = go r.back r.arc net same
   where
     go : (b : Bool) (k : ℕ) → s.net ≡ t.net → amount_at s k ≡ amount_at t k → room_of s (rid k b) ≡ room_of t (rid k b)
@@ -83,7 +83,7 @@ room_pushed s k false ok h =
       | inr (n, w) ↦ absurd (n refl)
     ]
 
-others_pushed : (s : Pseudoflow) (k j : ℕ) (b : Bool) (x : ℤ) → IsPseudoflow s → IsArcNumber s.net k → IsArcNumber s.net j → j ≢ k
+pub others_pushed : (s : Pseudoflow) (k j : ℕ) (b : Bool) (x : ℤ) → IsPseudoflow s → IsArcNumber s.net k → IsArcNumber s.net j → j ≢ k
     → amount_at (pushed s (rid k b) x) j ≡ amount_at s j
 others_pushed s k j true x ok h q n =
     elim (read_written s.amounts (k - 1) (j - 1) (amount_at s k -ℤ x) (pos 0) (amount_of s k ok h).in_range) [

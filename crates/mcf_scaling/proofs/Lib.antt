@@ -4,7 +4,9 @@ pub mod Heights
 pub mod QueueLaws
 pub mod Methods
 pub mod NoCycles
+pub mod PlaceLaws
 pub mod Rises
+pub mod RoomLaws
 pub mod RunLaws
 pub mod ScaleLaws
 pub mod Scans

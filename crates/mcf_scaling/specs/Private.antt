@@ -1,3 +1,4 @@
 -- What the proofs of this crate alone need: no public clause names it.
 pub mod Currents
+pub mod Places
 pub mod Queues

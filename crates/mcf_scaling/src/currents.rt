@@ -1,14 +1,16 @@
-//! The residual arcs of a node that are still to be looked at.
-ghost use Rattle.std.specs.Prelude.{◌≡◌, ◌≤◌, ◌⊎◌, ℕ, [], IfNone, IfOk, IfSome, OnErr};
+//! The residual arcs of a node that are still to be looked at: those from its current place on.
+ghost use Rattle.std.specs.Prelude.{◌≡◌, ◌≤◌, ◌⊎◌, [], IfNone, IfOk, IfSome, OnErr};
 ghost use Rattle.std.specs.List.{All, Contains};
-ghost use Rattle.mcf_instance.specs.Network.{node_count};
+ghost use Rattle.mcf_instance.specs.Network.{IsNode, node_count};
 ghost use Rattle.mcf_network.specs.declared.rid.Rid.{Rid};
 ghost use Rattle.mcf_network.specs.Stars.{Leaves};
-ghost use Rattle.mcf_scaling.specs.Private.Currents.{AreAllLeaving};
+ghost use Rattle.mcf_scaling.specs.Private.Currents.{AreFirsts, rest_from};
+ghost use Rattle.mcf_scaling.specs.Private.Places.{AreRooms, IsStarOf, span_of};
 ghost use Rattle.mcf_scaling.specs.Optimality.{AreSmallPrices, IsAdmissible};
 
-use crate::pricing::is_admissible;
-use mcf_network::{Leaving, Net, Rid, State};
+use crate::places::{Places, residual_of};
+use crate::pricing::{factor_of, is_admissible, price_of};
+use mcf_network::{Net, Rid, State};
 use mcf_text::{NoMemory, NodeId};
 use std::alloc::Global;
 
@@ -17,34 +19,49 @@ use std::alloc::Global;
 pub(crate) fn next_admissible(
     state: &State<'_>,
     prices: &[i128],
-    v: u32,
-    rest: &mut Leaving<'_>,
+    places: &Places,
+    rooms: &[bool],
+    v: NodeId,
+    current: &mut usize,
 ) -> Option<Rid>
+    requires star { IsStarOf state.now.net places.now }
+    requires rooms { AreRooms state.now rooms.now }
     requires prices { AreSmallPrices (node_count state.now.net) prices.now }
-    requires leaves { All (Leaves state.now.net v) rest.old }
-    ensures leaves { All (Leaves state.now.net v) rest.new }
-    ensures passed { (r : Rid) → Contains rest.old r → (¬ IsAdmissible state.now prices.now r) ⊎ Contains rest.new r }
+    requires node { IsNode (node_count state.now.net) v }
+    requires within { current.old ≤ (span_of places.now v).end }
+    requires leaves { All (Leaves state.now.net v) (rest_from places.now v current.old) }
+    ensures within { current.new ≤ (span_of places.now v).end }
+    ensures leaves { All (Leaves state.now.net v) (rest_from places.now v current.new) }
+    ensures passed { (r : Rid) → Contains (rest_from places.now v current.old) r → (¬ IsAdmissible state.now prices.now r) ⊎ Contains (rest_from places.now v current.new) r }
     ensures some { IfSome result (λ r. IsAdmissible state.now prices.now r × Leaves state.now.net v r) }
-    ensures none { IfNone result (rest.new ≡ []) }
+    ensures none { IfNone result (rest_from places.now v current.new ≡ []) }
 {
-    'looking: while let Some(first) = rest.first() {
-        let (arc, back) = (first.arc, first.back);
-        if is_admissible(state, prices, Rid { arc, back }) {
-            return Some(Rid { arc, back });
+    let end = places.span(v).end;
+    let price = price_of(prices, v);
+    let factor = factor_of(state);
+    let mut i = *current;
+    'looking: while i < end {
+        let place = places.at(i);
+        if is_admissible(state, prices, rooms, price, factor, place) {
+            *current = i;
+            return Some(residual_of(place.link));
         }
-        rest.next();
+        i += 1;
     }
+    *current = i;
     None
 }
 
-/// All residual arcs that leave each node.
-pub(crate) fn all_leaving<'n>(alloc: Global, net: &'n Net) -> Result<Vec<Leaving<'n>>, NoMemory>
-    ensures value { IfOk result (λ made. AreAllLeaving net.now made.items (node_count net.now)) }
+/// The first place of each node.
+pub(crate) fn all_firsts(alloc: Global, net: &Net, places: &Places) -> Result<Vec<usize>, NoMemory>
+    requires { IsStarOf net.now places.now }
+    ensures value { IfOk result (λ made. AreFirsts places.now made.items (node_count net.now)) }
     ensures wants { OnErr result (1 ≤ node_count net.now) }
 {
-    let mut rests = Vec::new(alloc);
+    let mut firsts = Vec::new(alloc);
     'nodes: for number in 0..net.node_count() {
-        rests.push(net.leaving(NodeId::new(number + 1)))?;
+        let span = places.span(NodeId::new(number + 1));
+        firsts.push(span.first)?;
     }
-    Ok(rests)
+    Ok(firsts)
 }

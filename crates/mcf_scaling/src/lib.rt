@@ -5,14 +5,16 @@
 //! It stands on `mcf_network`, `mcf_feas` and `mcf_prices`. Definitions stand in `specs/`: `Refinements` and
 //! `Optimality` say what a refinement holds and keeps, `Phases` what its steps do and what runs of them are, `Scales`
 //! how many phases a net takes, `Made` how the engine made a state, `Laws` what holds of steps and phases, and
-//! `Currents` and `Queues` what the current arcs and the queue of a refinement keep.
+//! `Currents`, `Places` and `Queues` what the current arcs, the tables and the queue of a refinement keep.
 
 mod currents;
 mod filling;
 mod laws;
+mod places;
 mod pricing;
 mod queue;
 mod refine;
+mod rooms;
 mod scale;
 mod scaling;
 

@@ -10,16 +10,19 @@ ghost use Rattle.mcf_network.specs.Residual.{tail};
 ghost use Rattle.mcf_network.specs.States.{IsPseudoflow, pushed, room_of, surplus_at};
 ghost use Rattle.mcf_scaling.specs.Optimality.{AreSmallPrices, IsAdmissible, IsLeastReduced};
 ghost use Rattle.mcf_network.specs.Walks.{HasRoom};
+ghost use Rattle.mcf_scaling.specs.Private.Places.{AreRooms, IsStarOf};
 ghost use Rattle.mcf_scaling.specs.Phases.{IsBegun, IsDone, IsPush, IsRelabel};
 ghost use Rattle.mcf_scaling.specs.Refinements.{IsActive, IsNodeOf, IsRefinement, reduced, within};
 ghost use Rattle.mcf_scaling.specs.Scales.{IsStart};
 
-use crate::currents::{all_leaving, next_admissible};
+use crate::currents::{all_firsts, next_admissible};
 use crate::filling::fill;
+use crate::places::Places;
 use crate::pricing::{least_reduced, reduced_cost};
 use crate::queue::{Queue, enqueue, enqueue_all, tidy};
+use crate::rooms::{mark, mark_all, rooms_of};
 use crate::scale::{first_scale, power};
-use mcf_network::{Leaving, Rid, State};
+use mcf_network::{Rid, State};
 use mcf_text::{ArcId, NoMemory, NodeId};
 use std::alloc::Global;
 use std::marker::Model;
@@ -41,14 +44,19 @@ pub struct Refine<'n> {
     before: Vec<i128>,
     // e is 2 to this power
     scale: u32,
-    // for each node, the residual arcs from its current arc on: none of those before it is admissible
-    rests: Vec<Leaving<'n>>,
+    // the residual arcs of the net, one node after another
+    places: Places,
+    // for each residual arc whether it has room
+    rooms: Vec<bool>,
+    // for each node the place of its current arc: none of those before it is admissible
+    currents: Vec<usize>,
     // each active node, and the first is active
     queue: Queue,
 }
 
 impl<'n> Model for Refine<'n> {
     ghost use Rattle.mcf_scaling.specs.Private.Currents.{AreCurrent};
+    ghost use Rattle.mcf_scaling.specs.Private.Places.{AreRooms, IsStarOf};
     ghost use Rattle.mcf_scaling.specs.Private.Queues.{IsQueueOf};
     ghost use Rattle.mcf_scaling.specs.Refinements.{IsRefinement, Refinement};
 
@@ -57,8 +65,10 @@ impl<'n> Model for Refine<'n> {
     ghost view = { λ a. record { flow = a.state; prices = a.prices.items; before = a.before.items; scale = a.scale } };
 
     ghost invariant = { λ a. IsRefinement (record { flow = a.state; prices = a.prices.items; before = a.before.items; scale = a.scale })
-        × AreCurrent a.state a.prices.items a.rests.items
-        × IsQueueOf a.state a.queue };
+        × AreCurrent a.state a.prices.items a.places a.currents.items
+        × IsQueueOf a.state a.queue
+        × IsStarOf a.state.net a.places
+        × AreRooms a.state a.rooms.items };
 }
 
 impl<'n> Refine<'n> {
@@ -79,14 +89,18 @@ impl<'n> Refine<'n> {
         let scale = first_scale(net);
         let prices = zeros(alloc, nodes)?;
         let before = zeros(alloc, nodes)?;
-        let rests = all_leaving(alloc, net)?;
+        let places = Places::new(alloc, net)?;
+        let rooms = rooms_of(alloc, &state)?;
+        let currents = all_firsts(alloc, net, &places)?;
         let queue = Queue::new(alloc, net)?;
         Ok(Refine {
             state,
             prices,
             before,
             scale,
-            rests,
+            places,
+            rooms,
+            currents,
             queue,
         })
     }
@@ -145,7 +159,14 @@ impl<'n> Refine<'n> {
         ensures valid { IsRefinement self.new }
     {
         let i = v.get() as usize - 1;
-        next_admissible(&self.state, &self.prices, v.get(), &mut self.rests[i])
+        next_admissible(
+            &self.state,
+            &self.prices,
+            &self.places,
+            &self.rooms,
+            v,
+            &mut self.currents[i],
+        )
     }
 
     /// Pushes the lesser of the surplus of its tail and its room along a residual arc with room and negative
@@ -160,6 +181,7 @@ impl<'n> Refine<'n> {
         let (arc, back) = (r.arc, r.back);
         let (_, to) = self.state.net().route(Rid { arc, back });
         let amount = push_share(&mut self.state, arc, back);
+        mark(&self.state, &mut self.rooms, arc);
         enqueue(&self.state, &mut self.queue, to);
         tidy(&self.state, &mut self.queue);
         amount
@@ -174,10 +196,17 @@ impl<'n> Refine<'n> {
         ensures high { pos (within self.old) ≤ℤ result }
         ensures valid { IsRefinement self.new }
     {
-        let rise = rise_of(&self.state, &self.prices, v, self.scale);
+        let rise = rise_of(
+            &self.state,
+            &self.prices,
+            &self.places,
+            &self.rooms,
+            v,
+            self.scale,
+        );
         raise(&mut self.prices, v, rise);
-        let net = self.state.net();
-        self.rests[v.get() as usize - 1] = net.leaving(v);
+        let span = self.places.span(v);
+        self.currents[v.get() as usize - 1] = span.first;
         rise
     }
 
@@ -189,6 +218,7 @@ impl<'n> Refine<'n> {
         ensures valid { IsRefinement self.new }
     {
         fill(&mut self.state, &self.prices);
+        mark_all(&self.state, &mut self.rooms);
         self.before.copy_from_slice(&self.prices);
         self.scale -= 1;
         enqueue_all(&self.state, &mut self.queue);
@@ -206,7 +236,9 @@ impl<'n> Refine<'n> {
             prices,
             before: _,
             scale: _,
-            rests: _,
+            places: _,
+            rooms: _,
+            currents: _,
             queue: _,
         } = self;
         (state, prices)
@@ -239,7 +271,16 @@ fn push_share(state: &mut State<'_>, arc: ArcId, back: bool) -> i128
 
 // By how much the price of a node is raised: by e and the least reduced cost of the residual arcs with room that
 // leave it, of which there is one.
-fn rise_of(state: &State<'_>, prices: &[i128], v: NodeId, scale: u32) -> i128
+fn rise_of(
+    state: &State<'_>,
+    prices: &[i128],
+    places: &Places,
+    rooms: &[bool],
+    v: NodeId,
+    scale: u32,
+) -> i128
+    requires star { IsStarOf state.now.net places.now }
+    requires rooms { AreRooms state.now rooms.now }
     requires flow { IsPseudoflow state.now }
     requires prices { AreSmallPrices (node_count state.now.net) prices.now }
     requires node { IsNode (node_count state.now.net) v }
@@ -248,7 +289,7 @@ fn rise_of(state: &State<'_>, prices: &[i128], v: NodeId, scale: u32) -> i128
     ensures value { (least : ℤ) × IsLeastReduced state.now prices.now v least × (result ≡ least +ℤ pos (2 ^ scale)) }
     ensures small { IsUpTo (10 ^ 31) result }
 {
-    let Some(least) = least_reduced(state, prices, v) else {
+    let Some(least) = least_reduced(state, prices, places, rooms, v) else {
         unreachable!()
     };
     sum(least, power(scale))

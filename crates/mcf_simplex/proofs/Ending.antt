@@ -1,6 +1,6 @@
 -- What a run ends with.
 use Rattle.std.proofs.Common.{◌≡◌, ℕ, ◌*◌, ◌^◌, ◌-◌, List, [], ◌∷◌, ◌++◌, length, drop, take, replicate, refl, sym, ap, ◌∙◌, arith, subst}
-use Rattle.std.proofs.Common.{inl, inr, Option, ℤ, pos, ◌≤ℤ◌}
+use Rattle.std.proofs.Common.{inl, Option, ℤ, pos, ◌≤ℤ◌}
 use Rattle.std.specs.List.{All}
 use Rattle.std.proofs.lemmas.Int.{ints}
 use Rattle.std.proofs.Math.Seq.{take-append_seam}
@@ -56,7 +56,8 @@ module _ (b : TreeStructure) (ok : IsBasis b) (last : HasNoEligible b) where
     near_at : length (drop 1 b.prices) ≡ node_count b.net → All (IsUpTo (3 * 10 ^ 36)) (drop 1 b.prices) → AreNearPrices (state_of b) 1 0 (drop 1 b.prices)
     near_at count small =
         let near : All (IsUpTo near_limit) (drop 1 b.prices) =
-        All-weaker (IsUpTo (3 * 10 ^ 36)) (IsUpTo near_limit) (λ y h. (let low = h.0 in let high = h.1 in (omega (arith, ints, low), omega (arith, ints, high))))
+        All-weaker (IsUpTo (3 * 10 ^ 36)) (IsUpTo near_limit) (λ y h. (let low = h.0 in let high = h.1 in
+        (omega (arith, ints, low), omega (arith, ints, high))))
         (drop 1 b.prices) small in
         shown_near (state_of b) (drop 1 b.prices) own_flow count near (last_bases_are_shown_lem b ok last clear).1
 
@@ -99,12 +100,6 @@ run_outcome Picks r g first t last answer starts loop ok net outcome =
     (subst (λ n. IsOutcome (λ s. s ≡ state_of last) n answer) of_net outcome)
 
 -- ---- a net without nodes
-
-pub empty_outcome : {R : Type 0} (Picks : R → TreeStructure → Option ℕ → R → Type 0) (r : R) (g : Network) (answer : Outcome) → node_count g ≡ 0
-    → IsOutcome (λ s. s ≡ record { net = g; amounts = [] }) g answer → IsOutcome (λ s. IsMadeByRun Picks r g s r) g answer
-empty_outcome Picks r g answer none outcome =
-    outcome_wider (λ s. s ≡ record { net = g; amounts = [] }) (λ s. IsMadeByRun Picks r g s r) g answer
-    (λ s e. inr (record { no_nodes = none; state = e; unasked = refl })) outcome
 
 abbrev IsEmptyAnswer : Network → Pseudoflow → List ℤ → Type 0
 IsEmptyAnswer g s ys =

@@ -5,7 +5,8 @@ use Rattle.mcf_instance.specs.Network.{IsArcNumber}
 use Rattle.mcf_basis.specs.Pivots.{IsEligible}
 use Rattle.mcf_basis.specs.Structures.{TreeStructure}
 use Rattle.mcf_basis.specs.Violations.{HasNoEligible, HasNoneIn, IsMostViolated, IsMostViolatedPick, violation}
-use Rattle.mcf_simplex.specs.Blocks.{BlockRule, HasNoneInRound, IsBlockPick, IsFound, IsInBlock, IsMoreViolated, IsNothing, IsRoundPick, arc_in_round, block_end, round_arc, start_arc}
+use Rattle.mcf_simplex.specs.Blocks.{BlockRule, HasNoneInRound, IsBlockPick, IsFound, IsInBlock, IsMoreViolated, IsNothing, IsRoundPick, arc_in_round}
+use Rattle.mcf_simplex.specs.Blocks.{block_end, round_arc, start_arc}
 
 pub round_low : (arcs start p : ℕ) → start + p ≤ arcs → arc_in_round arcs start p ≡ start + p
 round_low arcs start p h = cond-true _ _ _ (le-leb (start + p) arcs h)
@@ -14,9 +15,11 @@ pub round_high : (arcs start p : ℕ) → arcs < start + p → arc_in_round arcs
 round_high arcs start p h = cond-false _ _ _ (lt-leb (start + p) arcs h)
 
 -- a block of arcs that stand side by side, from this arc on
-module _ (b : TreeStructure) (start begin end first last : ℕ) (same : last + begin ≡ first + end) (at : (p : ℕ) → begin ≤ p → p < end → round_arc b start p + begin ≡ first + p) where
+module _ (b : TreeStructure) (start begin end first last : ℕ) (same : last + begin ≡ first + end)
+    (at : (p : ℕ) → begin ≤ p → p < end → round_arc b start p + begin ≡ first + p) where
   none_shifted : HasNoneIn b first last → HasNoneInRound b start begin end
-  none_shifted none = λ p low high el. (let e : round_arc b start p + begin ≡ first + p = at p low high in none (round_arc b start p) (omega arith) (omega arith) el)
+  none_shifted none = λ p low high el. (let e : round_arc b start p + begin ≡ first + p = at p low high in
+      none (round_arc b start p) (omega arith) (omega arith) el)
 
   place_of : (k : ℕ) → IsMostViolated b first last k → IsInBlock b start begin end k
   place_of k best =
@@ -29,8 +32,10 @@ module _ (b : TreeStructure) (start begin end first last : ℕ) (same : last + b
         high = omega arith;
         is = omega arith;
         eligible = best.eligible;
-        greatest = λ p l h el. (let e : round_arc b start p + begin ≡ first + p = at p l h in best.greatest (round_arc b start p) (omega arith) (omega arith) el);
-        first_one = λ p l h el. (let e : round_arc b start p + begin ≡ first + p = at p l (omega arith) in best.first_one (round_arc b start p) (omega arith) (omega arith) el);
+        greatest = λ p l h el. (let e : round_arc b start p + begin ≡ first + p = at p l h in
+            best.greatest (round_arc b start p) (omega arith) (omega arith) el);
+        first_one = λ p l h el. (let e : round_arc b start p + begin ≡ first + p = at p l (omega arith) in
+            best.first_one (round_arc b start p) (omega arith) (omega arith) el);
       }
 
   pub shifted : (answer : Option ℕ) → IsMostViolatedPick b first last answer → IsRoundPick b start begin end answer
@@ -38,15 +43,19 @@ module _ (b : TreeStructure) (start begin end first last : ℕ) (same : last + b
   shifted (Some k) best = place_of k best
 
 -- before the last arc, and after it
-pub pick_low : (b : TreeStructure) (start begin end first last : ℕ) (answer : Option ℕ) → first ≡ start + begin → last ≡ start + end → last ≤ length b.net.arcs + 1 → IsMostViolatedPick b first last answer → IsRoundPick b start begin end answer
+pub pick_low : (b : TreeStructure) (start begin end first last : ℕ) (answer : Option ℕ) → first ≡ start + begin → last ≡ start + end →
+    last ≤ length b.net.arcs + 1 → IsMostViolatedPick b first last answer → IsRoundPick b start begin end answer
 pick_low b start begin end first last answer is_first is_last h best =
     shifted b start begin end first last (omega arith)
     (λ p low high. (let e : round_arc b start p ≡ start + p = round_low (length b.net.arcs) start p (omega arith) in omega arith)) answer best
 
-pub pick_high : (b : TreeStructure) (start begin end first last : ℕ) (answer : Option ℕ) → length b.net.arcs < start + begin → begin ≤ end → first ≡ start + begin - length b.net.arcs → last ≡ start + end - length b.net.arcs → IsMostViolatedPick b first last answer → IsRoundPick b start begin end answer
+pub pick_high : (b : TreeStructure) (start begin end first last : ℕ) (answer : Option ℕ) → length b.net.arcs < start + begin → begin ≤ end →
+    first ≡ start + begin - length b.net.arcs → last ≡ start + end - length b.net.arcs → IsMostViolatedPick b first last answer →
+    IsRoundPick b start begin end answer
 pick_high b start begin end first last answer h order is_first is_last best =
     shifted b start begin end first last (omega arith)
-    (λ p low high. (let e : round_arc b start p ≡ start + p - length b.net.arcs = round_high (length b.net.arcs) start p (omega arith) in omega arith)) answer best
+    (λ p low high. (let e : round_arc b start p ≡ start + p - length b.net.arcs = round_high (length b.net.arcs) start p (omega arith) in omega arith))
+    answer best
 
 -- two blocks, one after the other
 module _ (b : TreeStructure) (start begin mid end : ℕ) (left : begin ≤ mid) (right : mid ≤ end) where
@@ -114,7 +123,8 @@ module _ (b : TreeStructure) (start begin mid end : ℕ) (left : begin ≤ mid) 
         ];
       }
 
-  pub joined : (early late answer : Option ℕ) → IsRoundPick b start begin mid early → IsRoundPick b start mid end late → IsMoreViolated b early late answer → IsRoundPick b start begin end answer
+  pub joined : (early late answer : Option ℕ) → IsRoundPick b start begin mid early → IsRoundPick b start mid end late → IsMoreViolated b early late answer →
+      IsRoundPick b start begin end answer
   joined None None answer e l same = subst (IsRoundPick b start begin end) (sym same) (none_joined e l)
   joined None (Some j) answer e l same = subst (IsRoundPick b start begin end) (sym same) (late_alone j e l)
   joined (Some k) None answer e l same = subst (IsRoundPick b start begin end) (sym same) (early_alone k e l)
@@ -122,8 +132,10 @@ module _ (b : TreeStructure) (start begin mid end : ℕ) (left : begin ≤ mid) 
   joined (Some k) (Some j) answer e l (inr same) = subst (IsRoundPick b start begin end) (sym same.0) (late_wins k j e l same.1)
 
 -- the block that goes past the last arc
-pub pick_both : (b : TreeStructure) (start begin end first last : ℕ) (early late answer : Option ℕ) → first ≡ start + begin → start + begin ≤ length b.net.arcs → length b.net.arcs + 1 < start + end → start ≤ length b.net.arcs →
-    last ≡ start + end - length b.net.arcs → IsMostViolatedPick b first (length b.net.arcs + 1) early → IsMostViolatedPick b 1 last late → IsMoreViolated b early late answer → IsRoundPick b start begin end answer
+pub pick_both : (b : TreeStructure) (start begin end first last : ℕ) (early late answer : Option ℕ) → first ≡ start + begin →
+    start + begin ≤ length b.net.arcs → length b.net.arcs + 1 < start + end → start ≤ length b.net.arcs →
+    last ≡ start + end - length b.net.arcs → IsMostViolatedPick b first (length b.net.arcs + 1) early → IsMostViolatedPick b 1 last late →
+    IsMoreViolated b early late answer → IsRoundPick b start begin end answer
 pick_both b start begin end first last early late answer is_first low high begins is_last e l more =
     joined b start begin (length b.net.arcs + 1 - start) end (omega arith) (omega arith) early late answer
     (pick_low b start begin (length b.net.arcs + 1 - start) first (length b.net.arcs + 1) early is_first (omega arith) (omega arith) e)
@@ -134,7 +146,8 @@ none_of_round : (b : TreeStructure) (start : ℕ) → 1 ≤ start → start ≤ 
 none_of_round b start low high none k el =
     let arc : IsArcNumber b.net k = el.arc in
     elim (cases_lt k start) [
-      | inl before ↦ (let e : round_arc b start (k + length b.net.arcs - start) ≡ start + (k + length b.net.arcs - start) - length b.net.arcs = round_high (length b.net.arcs) start (k + length b.net.arcs - start) (omega arith) in
+      | inl before ↦ (let e : round_arc b start (k + length b.net.arcs - start) ≡ start + (k + length b.net.arcs - start) - length b.net.arcs =
+          round_high (length b.net.arcs) start (k + length b.net.arcs - start) (omega arith) in
           let same : round_arc b start (k + length b.net.arcs - start) ≡ k = omega arith in
           none (k + length b.net.arcs - start) (omega arith) (omega arith) (subst (IsEligible b) (sym same) el))
       | inr from ↦ (let e : round_arc b start (k - start) ≡ start + (k - start) = round_low (length b.net.arcs) start (k - start) (omega arith) in
@@ -148,10 +161,8 @@ pub record IsPassed (b : TreeStructure) (size start passed : ℕ) : Type 0 where
   pub whole : passed ≡ min (blocks * size) (length b.net.arcs)
   pub none : HasNoneInRound b start 0 passed
 
-pub passed_none : (b : TreeStructure) (size start : ℕ) → IsPassed b size start 0
-passed_none b size start = record { blocks = 0; whole = omega arith; none = λ p low high. absurd (omega arith) }
-
-pub passed_more : (b : TreeStructure) (size start passed end : ℕ) → IsPassed b size start passed → passed < length b.net.arcs → end ≡ block_end (length b.net.arcs) size passed → HasNoneInRound b start passed end → IsPassed b size start end
+pub passed_more : (b : TreeStructure) (size start passed end : ℕ) → IsPassed b size start passed → passed < length b.net.arcs →
+    end ≡ block_end (length b.net.arcs) size passed → HasNoneInRound b start passed end → IsPassed b size start end
 passed_more b size start passed end p more is_end none =
     let whole : passed ≡ min (p.blocks * size) (length b.net.arcs) = p.whole in
     let product : (p.blocks + 1) * size ≡ p.blocks * size + size = omega arith in
@@ -161,7 +172,8 @@ passed_more b size start passed end p more is_end none =
       none = none_joined b start 0 passed end (omega arith) (omega arith) p.none none;
     }
 
-pub passed_found : (b : TreeStructure) (old new : BlockRule) (start passed end k : ℕ) → start ≡ start_arc (length b.net.arcs) old.next → IsPassed b old.size start passed → passed < length b.net.arcs → end ≡ block_end (length b.net.arcs) old.size passed →
+pub passed_found : (b : TreeStructure) (old new : BlockRule) (start passed end k : ℕ) → start ≡ start_arc (length b.net.arcs) old.next →
+    IsPassed b old.size start passed → passed < length b.net.arcs → end ≡ block_end (length b.net.arcs) old.size passed →
     IsInBlock b start passed end k → new.size ≡ old.size → new.next ≡ round_arc b start end → IsBlockPick old b (Some k) new
 passed_found b old new start passed end k is_start p more is_end found size next =
     let whole : passed ≡ min (p.blocks * old.size) (length b.net.arcs) = p.whole in
@@ -177,16 +189,15 @@ passed_found b old new start passed end k is_start p more is_end found size next
     })
 
 -- all were passed
-pub none_left : (b : TreeStructure) (size start passed : ℕ) → 1 ≤ start → (1 ≤ length b.net.arcs → start ≤ length b.net.arcs) → IsPassed b size start passed → length b.net.arcs ≤ passed → HasNoEligible b
+pub none_left : (b : TreeStructure) (size start passed : ℕ) → 1 ≤ start → (1 ≤ length b.net.arcs → start ≤ length b.net.arcs) → IsPassed b size start passed →
+    length b.net.arcs ≤ passed → HasNoEligible b
 none_left b size start passed low high p all k el =
     let whole : passed ≡ min (p.blocks * size) (length b.net.arcs) = p.whole in
     let arc = el.arc in
     none_of_round b start low (high (omega (arith, arc))) (λ q l h. p.none q l (omega arith)) k el
 
-pub passed_nothing : (b : TreeStructure) (old new : BlockRule) (start passed : ℕ) → start ≡ start_arc (length b.net.arcs) old.next → 1 ≤ start → (1 ≤ length b.net.arcs → start ≤ length b.net.arcs) → IsPassed b old.size start passed →
+pub passed_nothing : (b : TreeStructure) (old new : BlockRule) (start passed : ℕ) → start ≡ start_arc (length b.net.arcs) old.next → 1 ≤ start →
+    (1 ≤ length b.net.arcs → start ≤ length b.net.arcs) → IsPassed b old.size start passed →
     length b.net.arcs ≤ passed → new.size ≡ old.size → new.next ≡ start → IsBlockPick old b None new
 passed_nothing b old new start passed is_start low high p all size next =
     subst (λ s. IsNothing b old s new) is_start (record { none = none_left b old.size start passed low high p all; size = size; next = next })
-
-pub found_eligible : (b : TreeStructure) (start begin end k : ℕ) → IsRoundPick b start begin end (Some k) → IsEligible b k
-found_eligible b start begin end k found = found.eligible

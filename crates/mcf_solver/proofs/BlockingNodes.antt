@@ -29,7 +29,8 @@ some_node g [] Take h = absurd (omega (arith, ints, h, arc_sum-zero g.arcs, node
 some_node g (v ∷ nodes) side h = omega arith
 
 -- the list names the nodes that a table marks, which block the net of an instance
-module _ (g : Network) (table : List Bool) (nodes : List ℕ) (side : Side) (alike : NetsBlockAlike) (ok : IsWellFormed limits g) (chosen : IsChosenBlock (net_of g) table side) (same : (v : ℕ) → IsNode (node_count g) v → in_list nodes v ≡ in_table table v) where
+module _ (g : Network) (table : List Bool) (nodes : List ℕ) (side : Side) (alike : NetsBlockAlike) (ok : IsWellFormed limits g)
+    (chosen : IsChosenBlock (net_of g) table side) (same : (v : ℕ) → IsNode (node_count g) v → in_list nodes v ≡ in_table table v) where
   pub list_blocks : Blocks g (in_list nodes) side
   list_blocks =
       Blocks-same g (in_table table) (in_list nodes) ok.ends (λ v h. sym (same v h)) side ((alike g (in_table table) side ok.ends).0 chosen.blocks)
@@ -41,7 +42,8 @@ module _ (g : Network) (table : List Bool) (nodes : List ℕ) (side : Side) (ali
   whole_list other v h =
       same v h ∙ chosen.chosen.whole (λ e. other (sym total_is ∙ e)) v (subst (λ (n : ℕ). IsNode n v) (sym (net_of-node_count g)) h)
 
-  pub set_in_range : All (IsNode (node_count g)) nodes → IsStrictlyIncreasing nodes → length nodes ≤ node_count g → IsBlockingSet (record { side = side; nodes = nodes })
+  pub set_in_range : All (IsNode (node_count g)) nodes → IsStrictlyIncreasing nodes → length nodes ≤ node_count g →
+      IsBlockingSet (record { side = side; nodes = nodes })
   set_in_range all rises few = record {
     nonempty = some_node g nodes side list_blocks;
     few = let n = ok.nodes in omega (arith, few, n);

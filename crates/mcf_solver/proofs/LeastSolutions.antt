@@ -18,7 +18,7 @@ use Rattle.mcf_network.proofs.RestoringLaws.{net_of-arc_count}
 use Rattle.mcf_prices.specs.Outcomes.{IsLeastState}
 use Rattle.mcf_prices.specs.Recovering.{price_limit}
 use Rattle.mcf_solver.specs.Answering.{IsLeastSolution}
-use Rattle.mcf_solver.specs.Chosen.{IsLoopSettled}
+use Rattle.mcf_solver.specs.ChosenSolutions.{IsLoopSettled}
 use Rattle.mcf_solver.proofs.LoopFlows.{loops_settled}
 
 -- prices within their limit are amounts

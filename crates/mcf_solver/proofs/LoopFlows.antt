@@ -4,7 +4,7 @@ use Rattle.std.specs.List.{AllZip}
 use Rattle.mcf_instance.specs.declared.arc.Arc.{Arc}
 use Rattle.mcf_network.specs.Restoring.{restored}
 use Rattle.mcf_network.proofs.RestoringLaws.{restored_loop}
-use Rattle.mcf_solver.specs.Chosen.{IsLoopSettled}
+use Rattle.mcf_solver.specs.ChosenSolutions.{IsLoopSettled}
 
 pub loops_settled : (arcs : List Arc) (flow : List ℤ) → length arcs ≡ length flow → AllZip IsLoopSettled arcs (restored arcs flow)
 loops_settled [] flow h = tt

@@ -11,12 +11,12 @@ use Rattle.mcf_answer.specs.Solution.{IsSent}
 use Rattle.mcf_answer.specs.declared.answers.Sent.{Sent}
 use Rattle.mcf_checker.specs.Correct.{amounts, arc_ends, sent_ends}
 use Rattle.mcf_instance.specs.declared.arc.Arc.{Arc}
-use Rattle.mcf_instance.specs.Flow.{IsWithinBounds, CanCarry}
-use Rattle.mcf_instance.specs.Limits.{limits}
+use Rattle.mcf_instance.specs.Flow.{IsWithinBounds, CanCarry, cost}
+use Rattle.mcf_instance.specs.Limits.{limits, total_limit}
 use Rattle.mcf_instance.specs.Network.{Network, node_count}
 use Rattle.mcf_instance.specs.WellFormed.{HasEnds, IsUpTo, IsWellFormed}
 use Rattle.mcf_instance.proofs.AllZips.{AllZip-at, length-AllZip}
-use Rattle.mcf_instance.proofs.Bounds.{CostStep, IsPlaced, cost_step, each_placed, flow_up_to}
+use Rattle.mcf_instance.proofs.Bounds.{CostStep, IsPlaced, cost_part_up_to, cost_step, each_placed, flow_up_to}
 
 -- the lines of the first arcs
 pub record IsSentUpTo (g : Network) (flow : List ℤ) (i : ℕ) (sent : List Sent) : Type 0 where
@@ -24,8 +24,27 @@ pub record IsSentUpTo (g : Network) (flow : List ℤ) (i : ℕ) (sent : List Sen
   pub carried : amounts sent ≡ take i flow
   pub fit : All IsSent sent
 
+-- the cost and the lines of the first arcs
+pub record IsCarriedUpTo (g : Network) (flow : List ℤ) (i : ℕ) (total : ℤ) (sent : List Sent) : Type 0 where
+  pub cost_is : total ≡ cost (take i g.arcs) flow
+  pub ends : sent_ends sent ≡ take i (arc_ends g)
+  pub carried : amounts sent ≡ take i flow
+  pub fit : All IsSent sent
+
+pub lines_of : (g : Network) (flow : List ℤ) (i : ℕ) (total : ℤ) (sent : List Sent) → IsCarriedUpTo g flow i total sent → IsSentUpTo g flow i sent
+lines_of g flow i total sent so_far = record { ends = so_far.ends; carried = so_far.carried; fit = so_far.fit }
+
+-- what the first arcs cost is an amount
+pub carried_small : (g : Network) (flow : List ℤ) (i : ℕ) (total : ℤ) (sent : List Sent) → IsWellFormed limits g → IsWithinBounds g.arcs flow →
+    IsCarriedUpTo g flow i total sent → IsAmount total
+carried_small g flow i total sent ok bounds so_far =
+    let small : IsUpTo total_limit (cost (take i g.arcs) flow) = cost_part_up_to g.arcs flow i total_limit ok.total bounds in
+    let is = so_far.cost_is in
+    omega (arith, ints, small, is)
+
 -- what is read of a list that grows by one, where it is the beginning of another
-map_next : {X Y : Type 0} (f : X → Y) (before after : List X) (x : X) (ys : List Y) (i : ℕ) (d : Y) → i < length ys → map f before ≡ take i ys → after ≡ before ++ x ∷ [] → f x ≡ get_or ys i d → map f after ≡ take (i + 1) ys
+map_next : {X Y : Type 0} (f : X → Y) (before after : List X) (x : X) (ys : List Y) (i : ℕ) (d : Y) → i < length ys → map f before ≡ take i ys →
+    after ≡ before ++ x ∷ [] → f x ≡ get_or ys i d → map f after ≡ take (i + 1) ys
 map_next f before after x ys i d h so_far e here =
     ap (map f) e
     ∙ map_push f before x
@@ -34,7 +53,8 @@ map_next f before after x ys i d h so_far e here =
     ∙ sym (take_more ys i d h)
 
 -- the arc of number k, which is at place i, and what it carries
-module _ (g : Network) (flow : List ℤ) (i k : ℕ) (a : Arc) (ok : IsWellFormed limits g) (bounds : IsWithinBounds g.arcs flow) (h : i < length g.arcs) (number : k ≡ i + 1) (read : slice_get g.arcs (k - 1) ≡ Some a) where
+module _ (g : Network) (flow : List ℤ) (i k : ℕ) (a : Arc) (ok : IsWellFormed limits g) (bounds : IsWithinBounds g.arcs flow) (h : i < length g.arcs)
+    (number : k ≡ i + 1) (read : slice_get g.arcs (k - 1) ≡ Some a) where
   arc_is : get_or g.arcs i a ≡ a
   arc_is =
       let back : k - 1 ≡ i = omega (arith, number) in
@@ -65,7 +85,8 @@ module _ (g : Network) (flow : List ℤ) (i k : ℕ) (a : Arc) (ok : IsWellForme
       }
 
   -- one line more
-  pub sent_more : (s : Sent) (before after : List Sent) → s.src ≡ a.src → s.dst ≡ a.dst → s.flow ≡ get_or flow i (pos 0) → IsSentUpTo g flow i before → after ≡ before ++ s ∷ [] → IsSentUpTo g flow (i + 1) after
+  pub sent_more : (s : Sent) (before after : List Sent) → s.src ≡ a.src → s.dst ≡ a.dst → s.flow ≡ get_or flow i (pos 0) → IsSentUpTo g flow i before →
+      after ≡ before ++ s ∷ [] → IsSentUpTo g flow (i + 1) after
   sent_more s before after src dst carries so_far e =
       let end : Arc → ℕ × ℕ = λ b. (b.src, b.dst) in
       let within : i < length (arc_ends g) = omega (arith, h, length-map g.arcs end) in

@@ -23,7 +23,8 @@ use Rattle.mcf_solver.specs.declared.choice.Meant.TheVariants.{ByCancel, BySimpl
 use Rattle.mcf_solver.specs.declared.choice.PricingChoice.{PricingChoice}
 use Rattle.mcf_solver.specs.declared.choice.PricingChoice.TheVariants.{First, Best, Block}
 
-module _ (first : RunsAreTreeSolutions first_picks) (best : RunsAreTreeSolutions best_picks) (block : RunsAreTreeSolutions IsBlockPick) (stands : RestoredTreeSolutionsAreTreeSolutions) where
+module _ (first : RunsAreTreeSolutions first_picks) (best : RunsAreTreeSolutions best_picks) (block : RunsAreTreeSolutions IsBlockPick)
+    (stands : RestoredTreeSolutionsAreTreeSolutions) where
   -- of the net
   net_tree : (pricing : PricingChoice) (size : ℕ) (g : Network) (s : Pseudoflow) → IsNet g → IsMadeBySimplex pricing size g s → IsTreeSolution g s.amounts
   net_tree First size g s net made = first made.0 g s made.1 net made.2
@@ -31,11 +32,13 @@ module _ (first : RunsAreTreeSolutions first_picks) (best : RunsAreTreeSolutions
   net_tree Block size g s net made = block (new_block_rule size) g s made.0 net made.1
 
   -- and of the instance
-  tree_of : (pricing : PricingChoice) (size : ℕ) (g : Network) (a : Solution) → StandsForMade (IsMadeBySimplex pricing size) g a → IsTreeSolution g (amounts a.sent)
+  tree_of : (pricing : PricingChoice) (size : ℕ) (g : Network) (a : Solution) → StandsForMade (IsMadeBySimplex pricing size) g a →
+      IsTreeSolution g (amounts a.sent)
   tree_of pricing size g a h =
       let s = h.state in
       let net : IsNet (net_of g) = subst IsNet h.least.feasible.of_net h.least.feasible.flow.of_net in
-      let count : length s.amounts ≡ length g.arcs = sym (sym (net_of-arc_count g) ∙ length-AllZip CanCarry (net_of g).arcs s.amounts h.least.least.feasible.within_bounds) in
+      let count : length s.amounts ≡ length g.arcs =
+      sym (sym (net_of-arc_count g) ∙ length-AllZip CanCarry (net_of g).arcs s.amounts h.least.least.feasible.within_bounds) in
       subst (IsTreeSolution g) (sym h.restores) (stands g s.amounts count (net_tree pricing size (net_of g) s net h.made))
 
   shaped_by : (m : Meant) (choice : Choice) (g : Network) (a : Solution) → meant choice.engine g.problem ≡ m → StandsForMade (IsMadeBy choice) g a

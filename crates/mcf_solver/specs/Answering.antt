@@ -18,7 +18,7 @@ use Rattle.mcf_instance.specs.Network.{Network}
 use Rattle.mcf_instance.specs.Reading.{reading}
 use Rattle.mcf_solver.specs.declared.choice.Kind.{Kind}
 use Rattle.mcf_solver.specs.declared.choice.Kind.TheVariants.{Flow as WithFlow, Blocked as WithSet, Refused as WithRefusal}
-use Rattle.mcf_solver.specs.Chosen.{IsChosenSolution}
+use Rattle.mcf_solver.specs.ChosenSolutions.{IsChosenSolution}
 use Rattle.mcf_solver.specs.Making.{HasMadeFlow, HasShapedFlow, IsMadeBy}
 use Rattle.mcf_solver.specs.declared.choice.Choice.{Choice}
 

@@ -3,7 +3,7 @@ pub use Rattle.mcf_answer.specs.Written
 pub use Rattle.mcf_assign.specs.Runs as MatchingRuns
 pub use Rattle.mcf_checker.specs.Correct
 pub use Rattle.mcf_checker.specs.Judging
-pub use Rattle.mcf_feas.specs.Chosen as ChosenBlocks
+pub use Rattle.mcf_feas.specs.Chosen
 pub use Rattle.mcf_instance.specs.Fault
 pub use Rattle.mcf_instance.specs.Flow
 pub use Rattle.mcf_instance.specs.Limits
@@ -20,7 +20,7 @@ pub use Rattle.mcf_simplex.specs.Runs as SimplexRuns
 pub use Rattle.mcf_text.specs.Row
 pub mod Answering
 pub mod BlockSizes
-pub mod Chosen
+pub mod ChosenSolutions
 pub mod Devices
 pub mod Making
 pub mod Running

@@ -41,47 +41,44 @@ pub(crate) fn flow_answer(
     greatest_prices_carry_over();
     greatest_prices_are_small();
     let flow = restore(alloc, instance, state)?;
-    let cost = total_cost(instance, &flow);
-    let sent = sent_along(alloc, instance, &flow)?;
+    let carried = carried_along(alloc, instance, &flow)?;
     Ok(FlowAnswer {
-        cost,
-        sent: SentList::new(sent),
+        cost: carried.cost,
+        sent: SentList::new(carried.sent),
         prices: PriceList::new(prices),
     })
 }
 
-// The cost of a flow: the sum over the arcs of cost times flow.
-fn total_cost(instance: &Instance, flow: &[i128]) -> i128
-    requires { IsWithinBounds instance.now.arcs flow.now }
-    ensures value { result ≡ cost instance.now.arcs flow.now }
-    ensures small { IsAmount result }
-    ensures well_formed { IsWellFormed limits instance.now }
-{
-    let mut total = 0;
-    for i in 0..instance.arc_count() {
-        let arc = instance.arc(ArcId::new(i + 1));
-        total += arc.cost * flow[i as usize];
-    }
-    total
+// What a flow costs, and what each arc carries, with its ends, in the order of the arcs.
+#[derive(Drop)]
+struct Carried {
+    cost: i128,
+    sent: Vec<Sent>,
 }
 
-// What each arc carries, with its ends, in the order of the arcs.
-fn sent_along(alloc: Global, instance: &Instance, flow: &[i128]) -> Result<Vec<Sent>, NoMemory>
+// The cost of a flow and what it carries, in one pass over the arcs.
+fn carried_along(alloc: Global, instance: &Instance, flow: &[i128]) -> Result<Carried, NoMemory>
     requires { IsWithinBounds instance.now.arcs flow.now }
-    ensures ends { IfOk result (λ sent. sent_ends sent.items ≡ arc_ends instance.now) }
-    ensures flow { IfOk result (λ sent. amounts sent.items ≡ flow.now) }
-    ensures fit { IfOk result (λ sent. All IsSent sent.items) }
+    ensures value { IfOk result (λ made. made.cost ≡ cost instance.now.arcs flow.now) }
+    ensures small { IfOk result (λ made. IsAmount made.cost) }
+    ensures ends { IfOk result (λ made. sent_ends made.sent.items ≡ arc_ends instance.now) }
+    ensures flow { IfOk result (λ made. amounts made.sent.items ≡ flow.now) }
+    ensures fit { IfOk result (λ made. All IsSent made.sent.items) }
+    ensures well_formed { IsWellFormed limits instance.now }
     ensures wants { OnErr result (1 ≤ length instance.now.arcs) }
 {
     let count = instance.arc_count();
+    let mut total = 0;
     let mut sent = Vec::with_capacity(alloc, count as usize)?;
     for i in 0..count {
         let arc = instance.arc(ArcId::new(i + 1));
+        let amount = flow[i as usize];
+        total += arc.cost * amount;
         sent.push(Sent {
             src: arc.src,
             dst: arc.dst,
-            flow: flow[i as usize],
+            flow: amount,
         })?;
     }
-    Ok(sent)
+    Ok(Carried { cost: total, sent })
 }

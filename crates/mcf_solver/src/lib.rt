@@ -3,7 +3,7 @@
 //! A DIMACS text is read, solved by an engine, and answered with its evidence; and so from a source to a sink.
 //!
 //! It stands on all the crates below, and of `mcf_checker` on its definitions alone. It doesn't speak of the
-//! command line, which `mcf_suite` adds. Definitions stand in `specs/`: `Chosen` says which of several right
+//! command line, which `mcf_suite` adds. Definitions stand in `specs/`: `ChosenSolutions` says which of several right
 //! answers is given, `Making` by which engine, `Answering` what is owed for a text, `Devices` and `Running` what a
 //! run from a source to a sink does.
 

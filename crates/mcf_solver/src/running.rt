@@ -36,7 +36,8 @@ pub fn run<S: Source, K: Sink>(
     ensures finished { OnOk result (K.IsFinished sink.new) }
     ensures worked { OnOk result (K.failures sink.new ≡ K.failures sink.old) }
     ensures write_failed { IfErr result (λ fault. fault ≡ RunFault.Write → CountsOneFailure (K.failures sink.old) (K.failures sink.new)) }
-    ensures beginning { IfErr result (λ fault. fault ≡ RunFault.Write → SendsBeginning choice (S.remaining source.old) (K.contents sink.old) (K.contents sink.new)) }
+    ensures beginning { IfErr result (λ fault. fault ≡ RunFault.Write →
+        SendsBeginning choice (S.remaining source.old) (K.contents sink.old) (K.contents sink.new)) }
     ensures read_failed { IfErr result (λ fault. fault ≡ RunFault.Read → CountsOneFailure (S.failures source.old) (S.failures source.new)) }
     ensures unfailed { OnOk result (S.failures source.new ≡ S.failures source.old) }
     ensures unfailed_otherwise { IfErr result (λ fault. fault ≢ RunFault.Read → S.failures source.new ≡ S.failures source.old) }

@@ -14,7 +14,8 @@ use Rattle.mcf_solver.specs.Running.{IsTooLong, TakesBeginning}
 use Rattle.mcf_suite.specs.declared.serving.Failure.{Failure}
 use Rattle.mcf_suite.specs.declared.serving.Failure.TheVariants.{Usage, Open, Run}
 use Rattle.mcf_suite.specs.Private.Failing.{IsFailure, IsHelpFailure, IsRunFailure, failure_text}
-use Rattle.mcf_suite.specs.Serving.{Answers, AnswersInPart, AsksToSolve, GivesBytes, IsAskedFor, IsReason, IsSource, IsUnopened, Serves, ServesInPart, Tells, fault_line}
+use Rattle.mcf_suite.specs.Serving.{Answers, AnswersInPart, AsksToSolve, GivesBytes, IsAskedFor, IsReason, IsSource, IsUnopened, Serves, ServesInPart, Tells}
+use Rattle.mcf_suite.specs.Serving.{fault_line}
 
 -- a kind that an error has, where it isn't want of memory
 kind_among : (kinds : Kinds) (e : Error) → kind_of e ≡ DisplayHelp → HasKind kinds e → IsAmong DisplayHelp kinds
@@ -123,7 +124,8 @@ module _ {S : Type 0} (remaining : S → Option (List ℕ)) (failures : S → �
 
   pub failed_from : (r : Result ℕ Failure) (old new : Option (List ℕ)) (untouched failed : Type 0)
       → IfErr r (IsRunFailure (remaining source) (failures source) (failures after) untouched (failed × AnswersInPart asked.choice (remaining source) old new))
-      → IfErr r (IsFailure remaining failures input input' Opens words untouched (failed × ServesInPart words (GivesBytes remaining input input' Opens) old new))
+      → IfErr r (IsFailure remaining failures input input' Opens words untouched
+      (failed × ServesInPart words (GivesBytes remaining input input' Opens) old new))
   failed_from (Ok status) old new untouched failed h = tt
   failed_from (Err (Usage text)) old new untouched failed h = absurd h
   failed_from (Err Open) old new untouched failed h = absurd h
@@ -148,7 +150,8 @@ reason_of remaining failures input input' Opens words untouched failed (Run TooL
 
 -- what becomes of the sink where there is no answer
 pub kept_or_begun : {S : Type 0} (remaining : S → Option (List ℕ)) (failures : S → ℕ) (input input' : S) (Opens : Text → Option S → Type 0) (words : List Text)
-    (untouched failed begun : Type 0) (failure : Failure) → IsFailure remaining failures input input' Opens words untouched (failed × begun) failure → untouched ⊎ begun
+    (untouched failed begun : Type 0) (failure : Failure)
+    → IsFailure remaining failures input input' Opens words untouched (failed × begun) failure → untouched ⊎ begun
 kept_or_begun remaining failures input input' Opens words untouched failed begun failure h =
     elim (reason_of remaining failures input input' Opens words untouched (failed × begun) failure h) [
       | inl (write, told) ↦ inr write.1
@@ -156,7 +159,8 @@ kept_or_begun remaining failures input input' Opens words untouched failed begun
     ]
 
 -- a text that is sent is taken, or sending it failed
-sent_in_part : {E : Type 0} (r : Result (Unit {0}) E) (old new : Option (List ℕ)) (text : List ℕ) (heard unheard : Type 0) → OnOk r heard → OnOk r (Appends old new text)
+sent_in_part : {E : Type 0} (r : Result (Unit {0}) E) (old new : Option (List ℕ)) (text : List ℕ) (heard unheard : Type 0) → OnOk r heard →
+    OnOk r (Appends old new text)
     → OnErr r unheard → OnErr r (TakesBeginning old new text) → (heard × Appends old new text) ⊎ (unheard × TakesBeginning old new text)
 sent_in_part (Ok done) old new text heard unheard done' all failed part = inl (done', all)
 sent_in_part (Err fault) old new text heard unheard done all failed part = inr (failed, part)
@@ -164,7 +168,8 @@ sent_in_part (Err fault) old new text heard unheard done all failed part = inr (
 -- what is told of a failure
 pub told_of : {S E : Type 0} (remaining : S → Option (List ℕ)) (failures : S → ℕ) (input input' : S) (Opens : Text → Option S → Type 0) (words : List Text)
     (untouched failed begun heard unheard : Type 0) (failure : Failure) (r : Result (Unit {0}) E) (old new : Option (List ℕ)) (text : List ℕ)
-    → IsFailure remaining failures input input' Opens words untouched (failed × begun) failure → text ≡ failure_text failure → OnOk r heard → OnOk r (Appends old new text)
+    → IsFailure remaining failures input input' Opens words untouched (failed × begun) failure → text ≡ failure_text failure → OnOk r heard
+    → OnOk r (Appends old new text)
     → OnErr r unheard → OnErr r (TakesBeginning old new text)
     → Tells (IsReason remaining failures input input' Opens words) untouched failed heard unheard old new
 told_of remaining failures input input' Opens words untouched failed begun heard unheard failure r old new text h is done all missed part = record {

@@ -1,5 +1,6 @@
 -- What the words of a command line ask.
-use Rattle.std.specs.Prelude.{◌≡◌, ℕ, Bool, true, false, List, [], ◌∷◌, Option, Some, None, Result, IfOk, IfErr, codes, option_and_then, option_map, unwrap_or, if◌then◌else◌}
+use Rattle.std.specs.Prelude.{◌≡◌, ℕ, Bool, true, false, List, [], ◌∷◌, Option, Some, None, Result, IfOk, IfErr, codes, option_and_then, option_map, unwrap_or}
+use Rattle.std.specs.Prelude.{find, map, if◌then◌else◌}
 use Rattle.std.specs.Borrow.{Bor}
 use Rattle.std.specs.Option.{option_map_or}
 use Rattle.std.specs.Str.{bytes_eq}
@@ -18,13 +19,20 @@ use Rattle.mcf_solver.specs.declared.choice.PricingChoice.{PricingChoice}
 use Rattle.mcf_solver.specs.declared.choice.PricingChoice.TheVariants.{First, Best, Block}
 use Rattle.mcf_solver.specs.BlockSizes.{block_limit, default_block}
 
--- the names of the engines
-abbrev pub engine_names : List Text
-engine_names = codes "auto" ∷ codes "cancel" ∷ codes "simplex" ∷ codes "scaling" ∷ codes "sap" ∷ []
+-- the names of the engines, and what each asks for
+abbrev pub engine_words : List (Text × EngineChoice)
+engine_words =
+    (codes "auto", Auto) ∷ (codes "cancel", Cancel) ∷ (codes "simplex", Simplex) ∷ (codes "scaling", Scaling) ∷ (codes "sap", Sap) ∷ []
 
--- the names of the pricing rules
+abbrev pub engine_names : List Text
+engine_names = map (λ (row : Text × EngineChoice). row.0) engine_words
+
+-- the names of the pricing rules, and what each asks for
+abbrev pub pricing_words : List (Text × PricingChoice)
+pricing_words = (codes "first", First) ∷ (codes "best", Best) ∷ (codes "block", Block) ∷ []
+
 abbrev pub pricing_names : List Text
-pricing_names = codes "first" ∷ codes "best" ∷ codes "block" ∷ []
+pricing_names = map (λ (row : Text × PricingChoice). row.0) pricing_words
 
 -- the option of a name, whose value is one of these words, and this one where it is left out
 abbrev pub word_rule : Text → Bor (List (Bor Text)) → Text → Rule
@@ -96,21 +104,17 @@ pub record IsMcf (app : App) : Type 0 where
 abbrev pub is_given : Option Text → Text → Bool
 is_given name word = option_map_or (λ n. bytes_eq n word) name false
 
+-- what the first row of a table asks for whose name is this one; and this where no row has it
+abbrev pub choice_by : {C : Type 0} → List (Text × C) → C → Option Text → C
+choice_by table without name = option_map_or (λ row. row.1) (find (λ row. is_given name row.0) table) without
+
 -- the engine that a name asks for
 abbrev pub engine_by : Option Text → EngineChoice
-engine_by name =
-    if is_given name (codes "cancel") then Cancel
-    else (if is_given name (codes "simplex") then Simplex
-    else (if is_given name (codes "scaling") then Scaling
-    else (if is_given name (codes "sap") then Sap
-    else Auto)))
+engine_by name = choice_by engine_words Auto name
 
 -- the pricing rule that a name asks for
 abbrev pub pricing_by : Option Text → PricingChoice
-pricing_by name =
-    if is_given name (codes "first") then First
-    else (if is_given name (codes "best") then Best
-    else Block)
+pricing_by name = choice_by pricing_words Block name
 
 -- the number that a word writes, where `--block` takes the word
 abbrev pub block_in : Text → Option ℕ

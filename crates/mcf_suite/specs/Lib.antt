@@ -1,7 +1,7 @@
 pub use Rattle.mcf_solver.specs.Answering
 pub use Rattle.mcf_solver.specs.BlockSizes
 pub use Rattle.mcf_solver.specs.Chosen
-pub use Rattle.mcf_solver.specs.ChosenBlocks
+pub use Rattle.mcf_solver.specs.ChosenSolutions
 pub use Rattle.mcf_solver.specs.Correct
 pub use Rattle.mcf_solver.specs.Devices
 pub use Rattle.mcf_solver.specs.Fault

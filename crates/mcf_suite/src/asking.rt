@@ -41,7 +41,7 @@ Pricing rules of the simplex:
 
 Blocks of the simplex:
   256      the default
-  N        a size near twice the square root of the number of arcs suits large instances";
+  N        once to twice the square root of the number of arcs suits large instances, but for road maps";
 
 /// Reads what the words of a command line ask:
 /// `mcf solve [--engine auto|cancel|simplex|scaling|sap] [--pricing first|best|block] [--block N] [FILE]`, where N
@@ -147,6 +147,7 @@ fn engine_of(name: Option<&str>) -> EngineChoice
     ensures { result ≡ engine_by (option_map (λ n. n.now) name.entry) }
 {
     match name {
+        Some("auto") => EngineChoice::Auto,
         Some("cancel") => EngineChoice::Cancel,
         Some("simplex") => EngineChoice::Simplex,
         Some("scaling") => EngineChoice::Scaling,
@@ -162,6 +163,7 @@ fn pricing_of(name: Option<&str>) -> PricingChoice
     match name {
         Some("first") => PricingChoice::First,
         Some("best") => PricingChoice::Best,
+        Some("block") => PricingChoice::Block,
         _ => PricingChoice::Block,
     }
 }

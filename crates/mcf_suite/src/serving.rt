@@ -5,7 +5,8 @@ ghost use Rattle.clap.specs.Words.{kind_of};
 ghost use Rattle.mcf_solver.specs.Devices.{CountsOneFailure};
 ghost use Rattle.mcf_solver.specs.Running.{TakesBeginning};
 ghost use Rattle.mcf_suite.specs.Private.Failing.{IsFailure, IsHelpFailure, IsRunFailure, failure_text};
-ghost use Rattle.mcf_suite.specs.Serving.{Answers, AnswersInPart, AsksToSolve, GivesBytes, IsAskedFor, IsReason, OpensBy, Serves, ServesInPart, Tells, fault_line, status_of};
+ghost use Rattle.mcf_suite.specs.Serving.{Answers, AnswersInPart, AsksToSolve, GivesBytes, IsAskedFor, IsReason, OpensBy, Serves, ServesInPart, Tells};
+ghost use Rattle.mcf_suite.specs.Serving.{fault_line, status_of};
 
 use crate::asking::command;
 use clap::Error;

@@ -40,6 +40,7 @@ fn answers_are_written_as_they_were_read(rt: HostRuntime) -> Result<(), Fail> {
         b"r 1 kind\n".as_slice(),
         b"r 3 late-n\n".as_slice(),
         b"r 2 no-p\n".as_slice(),
+        b"r 1002 total\n".as_slice(),
         b"r 10000000000000000000000000000000000000 missing\n".as_slice(),
     ] {
         assert_eq!(rt; rewritten(rt.alloc(), text)?.as_slice(), text);

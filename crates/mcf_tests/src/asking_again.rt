@@ -8,10 +8,49 @@ use mcf_assign::Sap;
 use mcf_network::Net;
 use mcf_prices::{Cancel, Engine, Outcome};
 use mcf_scaling::Scaling;
-use mcf_simplex::{Best, First, Simplex};
+use mcf_simplex::{Best, Block, First, Simplex};
 use mcf_text::NoMemory;
 use std::alloc::Global;
 use std::test::Fail;
+
+// The text of a net, and the cost of a least flow, or nothing where no flow is feasible.
+#[derive(Clone, Copy)]
+struct Row {
+    text: &'static [u8],
+    cost: Option<i128>,
+}
+
+// A flow, a set of all nodes, and a set that must send more than it can.
+static FLOW_PROBLEMS: [Row; 3] = [
+    Row {
+        text: b"p min 4 5\nn 1 4\nn 4 -4\na 1 2 0 4 2\na 1 3 0 2 2\na 2 3 0 2 1\na 2 4 0 3 3\na 3 4 0 5 1\n",
+        cost: Some(14),
+    },
+    Row {
+        text: b"p min 2 1\nn 1 4\na 1 2 0 4 2\n",
+        cost: None,
+    },
+    Row {
+        text: b"p min 2 1\nn 1 4\nn 2 -4\na 1 2 0 3 2\n",
+        cost: None,
+    },
+];
+
+// A matching, a set of all nodes, and two rows with one column between them.
+static ASSIGNMENTS: [Row; 3] = [
+    Row {
+        text: b"p asn 4 4\nn 1\nn 2\na 1 3 1\na 1 4 5\na 2 3 2\na 2 4 2\n",
+        cost: Some(3),
+    },
+    Row {
+        text: b"p asn 3 2\nn 1\nn 2\na 1 3 1\na 2 3 2\n",
+        cost: None,
+    },
+    Row {
+        text: b"p asn 4 2\nn 1\nn 2\na 1 3 1\na 2 3 2\n",
+        cost: None,
+    },
+];
 
 // What a net is answered with, by an engine that is asked once more where memory was wanting: the cost of a least flow,
 // or nothing where there is no flow.
@@ -28,52 +67,49 @@ fn cost_by<E: Engine>(alloc: Global, engine: &mut E, net: &Net) -> Result<Option
     }
 }
 
-// Whether each engine that takes every net finds this cost.
-fn all_find(alloc: Global, text: &[u8], cost: Option<i128>) -> Result<bool, NoMemory> {
-    let Some(net) = net_of(alloc, text)? else {
+// Whether an engine takes the net of a row, and finds what the row has.
+fn finds<E: Engine>(alloc: Global, engine: &mut E, row: &Row) -> Result<bool, NoMemory> {
+    let Some(net) = net_of(alloc, row.text)? else {
         return Ok(false);
     };
-    let plain = cost_by(alloc, &mut Cancel::new(), &net)?;
-    let scaled = cost_by(alloc, &mut Scaling::new(), &net)?;
-    let first = cost_by(alloc, &mut Simplex::new(First), &net)?;
-    let best = cost_by(alloc, &mut Simplex::new(Best), &net)?;
-    Ok(plain == cost && scaled == cost && first == cost && best == cost)
-}
-
-#[test]
-fn flows_by_engines_asked_again(rt: HostRuntime) -> Result<(), Fail> {
-    let text =
-        b"p min 4 5\nn 1 4\nn 4 -4\na 1 2 0 4 2\na 1 3 0 2 2\na 2 3 0 2 1\na 2 4 0 3 3\na 3 4 0 5 1\n";
-    assert!(rt; all_find(rt.alloc(), text, Some(14))?);
-    Ok(())
-}
-
-#[test]
-fn sets_by_engines_asked_again(rt: HostRuntime) -> Result<(), Fail> {
-    let uneven = b"p min 2 1\nn 1 4\na 1 2 0 4 2\n";
-    assert!(rt; all_find(rt.alloc(), uneven, None)?);
-    let narrow = b"p min 2 1\nn 1 4\nn 2 -4\na 1 2 0 3 2\n";
-    assert!(rt; all_find(rt.alloc(), narrow, None)?);
-    Ok(())
-}
-
-// Whether the engine for assignments finds this cost.
-fn assigned(alloc: Global, text: &[u8], cost: Option<i128>) -> Result<bool, NoMemory> {
-    let Some(net) = net_of(alloc, text)? else {
-        return Ok(false);
-    };
-    let mut engine = Sap::new();
     if !engine.takes(&net) {
         return Ok(false);
     }
-    Ok(cost_by(alloc, &mut engine, &net)? == cost)
+    Ok(cost_by(alloc, engine, &net)? == row.cost)
+}
+
+// Whether one engine, asked for each row in turn, finds what it has.
+fn finds_all<E: Engine>(alloc: Global, engine: &mut E, rows: &[Row]) -> Result<bool, NoMemory> {
+    for row in rows {
+        if !finds(alloc, engine, row)? {
+            return Ok(false);
+        }
+    }
+    Ok(true)
+}
+
+#[test]
+fn cycle_cancelling_asked_again(rt: HostRuntime) -> Result<(), Fail> {
+    assert!(rt; finds_all(rt.alloc(), &mut Cancel::new(), &FLOW_PROBLEMS)?);
+    Ok(())
+}
+
+#[test]
+fn scaling_asked_again(rt: HostRuntime) -> Result<(), Fail> {
+    assert!(rt; finds_all(rt.alloc(), &mut Scaling::new(), &FLOW_PROBLEMS)?);
+    Ok(())
+}
+
+#[test]
+fn simplex_asked_again(rt: HostRuntime) -> Result<(), Fail> {
+    assert!(rt; finds_all(rt.alloc(), &mut Simplex::new(First), &FLOW_PROBLEMS)?);
+    assert!(rt; finds_all(rt.alloc(), &mut Simplex::new(Best), &FLOW_PROBLEMS)?);
+    assert!(rt; finds_all(rt.alloc(), &mut Simplex::new(Block::new(2)), &FLOW_PROBLEMS)?);
+    Ok(())
 }
 
 #[test]
 fn assignments_asked_again(rt: HostRuntime) -> Result<(), Fail> {
-    let pairs = b"p asn 4 4\nn 1\nn 2\na 1 3 1\na 1 4 5\na 2 3 2\na 2 4 2\n";
-    assert!(rt; assigned(rt.alloc(), pairs, Some(3))?);
-    let shared = b"p asn 4 2\nn 1\nn 2\na 1 3 1\na 2 3 2\n";
-    assert!(rt; assigned(rt.alloc(), shared, None)?);
+    assert!(rt; finds_all(rt.alloc(), &mut Sap::new(), &ASSIGNMENTS)?);
     Ok(())
 }

@@ -1,5 +1,5 @@
 //! Texts, and what they stand for.
-use mcf_instance::{Arc, Code, Instance, Problem, read};
+use mcf_instance::{Arc, Code, Instance, Problem, former_instances_stay, read};
 use mcf_text::{ArcId, NoMemory, NodeId};
 use std::alloc::Global;
 use std::test::Fail;
@@ -86,7 +86,7 @@ fn is_instance(
     Ok(is_problem && are_supplies && are_arcs)
 }
 
-static FAULTY_TEXTS: [(&[u8], u128, &str); 39] = [
+static FAULTY_TEXTS: [(&[u8], u128, &str); 42] = [
     (b"", 1, "no-p"),
     (b"c hello\n", 2, "no-p"),
     (b" \t\n\r\n  ", 4, "no-p"),
@@ -109,15 +109,18 @@ static FAULTY_TEXTS: [(&[u8], u128, &str); 39] = [
     (b"p min 2 1\na 1 3 0 1 1\n", 2, "node"),
     (b"p min 2 1\na 1 3 5 1 0\n", 2, "node"),
     (b"p min 2 0\nn 1 5\nn +01 5\n", 3, "twice"),
-    (b"p min 2 1\nn 1 1000000000000001\n", 2, "supply"),
-    (b"p min 2 1\na 1 2 0 1000000000000001 0\n", 2, "bound"),
+    (b"p min 2 1\nn 1 1000000000000000001\n", 2, "supply"),
+    (b"p min 2 1\nn 1 -1000000000000000001\n", 2, "supply"),
+    (b"p min 2 1\nn 1 1000000000000001\n", 3, "missing"),
+    (b"p min 2 1\na 1 2 0 1000000000000000001 0\n", 2, "bound"),
+    (b"p min 2 1\na 1 2 -1000000000000000001 0 0\n", 2, "bound"),
     (
         b"p min 2 1\na 1 2 0 1111111111111111111111111111111111111111 0\n",
         2,
         "bound",
     ),
     (b"p min 2 1\na 1 2 5 1 0\n", 2, "order"),
-    (b"p min 2 1\na 1 2 0 1 -1000000000001\n", 2, "cost"),
+    (b"p min 2 1\na 1 2 0 1 -1000000000000001\n", 2, "cost"),
     (b"p min 2 0\na 1 2 0 1 0\n", 2, "extra"),
     (b"p asn 2 1\nn 1\na 2 1 5\n", 3, "side"),
     (b"p asn 2 1\nn 1\na 1 1 5\n", 3, "side"),
@@ -229,5 +232,72 @@ fn numbers_of_a_million_digits(rt: HostRuntime) -> Result<(), Fail> {
     assert!(rt; is_refused(rt.alloc(), &nines, 2, "bound")?);
     let zeros = text_of_long_cap(rt.alloc(), b'0')?;
     assert!(rt; is_instance(rt.alloc(), &zeros, Problem::Min, &[0, 0], &ONE_ARC)?);
+    Ok(())
+}
+
+static PAST_THE_FORMER_BOUND: [Row; 1] = [(1, 2, 0, 1_000_000_000_000_001, 0)];
+
+static PAST_THE_FORMER_COST: [Row; 1] = [(1, 2, 0, 1, -1_000_000_000_001)];
+
+#[test]
+fn numbers_past_the_former_limits(rt: HostRuntime) -> Result<(), Fail> {
+    former_instances_stay();
+    let bound = b"p min 2 1\na 1 2 0 1000000000000001 0\n";
+    assert!(rt;
+        is_instance(
+            rt.alloc(),
+            bound,
+            Problem::Min,
+            &[0, 0],
+            &PAST_THE_FORMER_BOUND
+        )?
+    );
+    let cost = b"p min 2 1\na 1 2 0 1 -1000000000001\n";
+    assert!(rt;
+        is_instance(
+            rt.alloc(),
+            cost,
+            Problem::Min,
+            &[0, 0],
+            &PAST_THE_FORMER_COST
+        )?
+    );
+    Ok(())
+}
+
+// An instance on two nodes, with as many arcs as its problem line names: a thousand of the greatest bound and cost, whose
+// total is 10^36, and then these lines.
+pub fn of_greatest_total(alloc: Global, heading: &[u8], lines: &[u8]) -> Result<Vec<u8>, NoMemory> {
+    let mut text = heading.to_vec(alloc)?;
+    for _ in 0..1_000 {
+        text.extend_from_slice(b"a 1 2 0 1000000000000000000 1000000000000000\n")?;
+    }
+    text.extend_from_slice(lines)?;
+    Ok(text)
+}
+
+// What the problem line and the last lines are after a thousand arcs of the greatest weight, and the refusal of the whole.
+static TOTALS: [(&[u8], &[u8], u128, &str); 5] = [
+    (b"p min 2 1001\n", b"a 1 2 0 1 1\n", 1_002, "total"),
+    (b"p min 2 1001\n", b"a 1 2 -1 0 -1\n", 1_002, "total"),
+    (
+        b"p min 2 1002\n",
+        b"a 1 2 0 1 0\na 1 2 0 1 1\n",
+        1_003,
+        "total",
+    ),
+    (b"p min 2 1000\n", b"a 1 2 0 1 1\n", 1_002, "extra"),
+    (b"p min 2 1002\n", b"a 1 2 0 1 0\n", 1_003, "missing"),
+];
+
+#[test]
+fn totals_are_looked_at(rt: HostRuntime) -> Result<(), Fail> {
+    for (heading, lines, line, word) in TOTALS.iter() {
+        let text = of_greatest_total(rt.alloc(), heading, lines)?;
+        assert!(rt;
+            is_refused(rt.alloc(), &text, *line, word)?,
+            "at {line} {word}"
+        );
+    }
     Ok(())
 }

@@ -27,6 +27,8 @@ mod networks;
 #[cfg(test)]
 mod plain;
 #[cfg(test)]
+mod price_sizes;
+#[cfg(test)]
 mod prices;
 #[cfg(test)]
 mod raising;

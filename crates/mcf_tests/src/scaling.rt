@@ -1,7 +1,5 @@
 //! Phases, relabels and least flows of worked nets, by cost scaling.
-ghost use Rattle.std.specs.Prelude.{◌≡◌};
 ghost use Rattle.mcf_feas.specs.Feasible.{IsFeasibleState};
-ghost use Rattle.mcf_scaling.specs.Refinements.{IsRefinement};
 
 use crate::networks::net_of;
 use mcf_feas::{Feas, feasible};

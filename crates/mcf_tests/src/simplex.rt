@@ -91,7 +91,7 @@ fn moved_by(basis: &mut Basis<'_>, k: ArcId) -> Option<i128>
 }
 
 // Asks a rule, and lets the arc that it picks enter: its number, and how much moves.
-fn step<P: Pricing>(rule: &mut P, basis: &mut Basis<'_>) -> Option<(u32, Option<i128>)> {
+pub fn step<P: Pricing>(rule: &mut P, basis: &mut Basis<'_>) -> Option<(u32, Option<i128>)> {
     let k = rule.pick(basis)?;
     let moved = moved_by(basis, k);
     Some((k.get(), moved))
@@ -210,7 +210,7 @@ fn solved<P: Pricing + Drop>(alloc: Global, net: &Net, rule: P) -> Result<Option
 }
 
 // Whether the simplex solves a net for a cost, or finds that no flow is feasible, under each rule.
-fn is_solved_by_each(alloc: Global, net: &Net, cost: Option<i128>) -> Result<bool, NoMemory> {
+pub fn is_solved_by_each(alloc: Global, net: &Net, cost: Option<i128>) -> Result<bool, NoMemory> {
     let first = solved(alloc, net, First)? == cost;
     let best = solved(alloc, net, Best)? == cost;
     let greatest = solved(alloc, net, Greatest)? == cost;

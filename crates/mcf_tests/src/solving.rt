@@ -2,6 +2,7 @@
 //!
 //! Rows stand in statics, and a row is judged by a function that answers whether it holds: a test of many
 //! assertions, or one that makes its rows, takes long to prove.
+use crate::instances::of_greatest_total;
 use mcf_checker::{Verdict, check};
 use mcf_solver::{BlockSize, Choice, EngineChoice, Kind, PricingChoice, solve_text};
 use mcf_text::NoMemory;
@@ -233,6 +234,54 @@ static WORKED: [Worked; 23] = [
     },
 ];
 
+// Numbers past the former limits, and at those of today.
+static GREATEST: [Worked; 8] = [
+    Worked {
+        kind: Kind::Flow,
+        instance: "p min 2 1\na 1 2 0 1000000000000001 0\n",
+        answer: "s 0\nf 1 2 0\ny 1 0\ny 2 0\n",
+    },
+    Worked {
+        kind: Kind::Flow,
+        instance: "p min 2 1\na 1 2 0 1 -1000000000001\n",
+        answer: "s 0\nf 1 2 0\ny 1 -1000000000001\ny 2 0\n",
+    },
+    Worked {
+        kind: Kind::Flow,
+        instance: "p min 2 1\nn 1 1000000000000000000\nn 2 -1000000000000000000\na 1 2 0 1000000000000000000 1000000000000000\n",
+        answer: "s 1000000000000000000000000000000000\nf 1 2 1000000000000000000\ny 1 0\ny 2 -1000000000000000\n",
+    },
+    Worked {
+        kind: Kind::Flow,
+        instance: "p min 2 1\nn 1 -1000000000000000000\nn 2 1000000000000000000\na 1 2 -1000000000000000000 -1000000000000000000 -1000000000000000\n",
+        answer: "s 1000000000000000000000000000000000\nf 1 2 -1000000000000000000\ny 1 0\ny 2 0\n",
+    },
+    Worked {
+        kind: Kind::Flow,
+        instance: "p min 2 2\na 1 2 -1000000000000000000 1000000000000000000 -1000000000000000\n\
+            a 2 1 -1000000000000000000 1000000000000000000 -1000000000000000\n",
+        answer: "s -2000000000000000000000000000000000\nf 1 2 1000000000000000000\nf 2 1 1000000000000000000\ny 1 0\ny 2 0\n",
+    },
+    Worked {
+        kind: Kind::Flow,
+        instance: "p min 4 3\nn 1 1000000000000000000\nn 4 -1000000000000000000\n\
+            a 1 2 0 1000000000000000000 1000000000000000\na 2 3 0 1000000000000000000 1000000000000000\n\
+            a 3 4 0 1000000000000000000 1000000000000000\n",
+        answer: "s 3000000000000000000000000000000000\nf 1 2 1000000000000000000\nf 2 3 1000000000000000000\n\
+            f 3 4 1000000000000000000\ny 1 0\ny 2 -1000000000000000\ny 3 -2000000000000000\ny 4 -3000000000000000\n",
+    },
+    Worked {
+        kind: Kind::Flow,
+        instance: "p asn 4 4\nn 1\nn 2\na 1 3 1000000000000000\na 1 4 -1000000000000000\na 2 3 -1000000000000000\na 2 4 1000000000000000\n",
+        answer: "s -2000000000000000\nf 1 3 0\nf 1 4 1\nf 2 3 1\nf 2 4 0\ny 1 0\ny 2 0\ny 3 0\ny 4 0\n",
+    },
+    Worked {
+        kind: Kind::Blocked,
+        instance: "p min 2 1\nn 1 1000000000000000000\nn 2 -1000000000000000000\na 1 2 -1000000000000000000 999999999999999999 1000000000000000\n",
+        answer: "i 1 send\nx 1\n",
+    },
+];
+
 /// What is written of an instance by an engine, after bytes that were there.
 pub fn answered(
     alloc: Global,
@@ -299,22 +348,85 @@ fn worked_instances(rt: HostRuntime) -> Result<(), Fail> {
     Ok(())
 }
 
+#[test]
+fn the_greatest_numbers(rt: HostRuntime) -> Result<(), Fail> {
+    for worked in &GREATEST {
+        assert!(rt; is_right(rt.alloc(), worked)?, "at {}", worked.instance);
+    }
+    Ok(())
+}
+
 // Whether an instance is answered by a choice with a flow of a cost that the checker accepts.
-fn costs(alloc: Global, instance: &str, way: &Way, cost: i128) -> Result<bool, NoMemory> {
+fn costs(alloc: Global, instance: &[u8], way: &Way, cost: i128) -> Result<bool, NoMemory> {
     let Some(choice) = choice_of(way) else {
         return Ok(false);
     };
-    let (kind, out) = answered_by(alloc, b"", instance.as_bytes(), choice)?;
-    let verdict = check(alloc, instance.as_bytes(), &out)?;
+    let (kind, out) = answered_by(alloc, b"", instance, choice)?;
+    let verdict = check(alloc, instance, &out)?;
     Ok(kind == Kind::Flow && verdict == Verdict::Flow(cost))
 }
 
 // Two arcs of one cost: either may carry what the other doesn't.
 #[test]
 fn one_of_several_least_flows(rt: HostRuntime) -> Result<(), Fail> {
-    let instance = "p min 2 2\nn 1 3\nn 2 -3\na 1 2 0 3 4\na 1 2 0 3 4\n";
+    let instance = b"p min 2 2\nn 1 3\nn 2 -3\na 1 2 0 3 4\na 1 2 0 3 4\n";
     for way in &WAYS {
         assert!(rt; costs(rt.alloc(), instance, way, 12)?);
+    }
+    Ok(())
+}
+
+// What is written where 1,001 arcs between two nodes carry nothing.
+fn nothing_flows(alloc: Global) -> Result<Vec<u8>, NoMemory> {
+    let mut text = b"s 0\n".to_vec(alloc)?;
+    for _ in 0..1_001 {
+        text.extend_from_slice(b"f 1 2 0\n")?;
+    }
+    text.extend_from_slice(b"y 1 0\ny 2 0\n")?;
+    Ok(text)
+}
+
+// Whether this flow is written of an instance by a choice.
+fn writes(alloc: Global, instance: &[u8], way: &Way, answer: &[u8]) -> Result<bool, NoMemory> {
+    let Some(choice) = choice_of(way) else {
+        return Ok(false);
+    };
+    let (kind, out) = answered_by(alloc, b"", instance, choice)?;
+    Ok(kind == Kind::Flow && out.as_slice() == answer)
+}
+
+// Arcs whose total is 10^36 and that carry nothing.
+#[test]
+fn the_greatest_total(rt: HostRuntime) -> Result<(), Fail> {
+    let instance = of_greatest_total(rt.alloc(), b"p min 2 1001\n", b"a 1 2 0 1 0\n")?;
+    let answer = nothing_flows(rt.alloc())?;
+    for way in &WAYS {
+        assert!(rt; writes(rt.alloc(), &instance, way, &answer)?);
+    }
+    assert!(rt; check(rt.alloc(), &instance, &answer)? == Verdict::Flow(0));
+    Ok(())
+}
+
+// A thousand arcs that earn most, each with one to come back by: what they earn is their total, 10^36.
+fn greatest_earning(alloc: Global) -> Result<Vec<u8>, NoMemory> {
+    let mut text = b"p min 2 2000\n".to_vec(alloc)?;
+    for _ in 0..1_000 {
+        text.extend_from_slice(
+            b"a 1 2 0 1000000000000000000 -1000000000000000\na 2 1 0 1000000000000000000 0\n",
+        )?;
+    }
+    Ok(text)
+}
+
+// The plain engine would take as many steps as there are arcs, and memory at each.
+#[test]
+fn the_greatest_earning(rt: HostRuntime) -> Result<(), Fail> {
+    let instance = greatest_earning(rt.alloc())?;
+    for engine in [EngineChoice::Simplex, EngineChoice::Scaling] {
+        let (kind, out) = answered(rt.alloc(), b"", &instance, engine)?;
+        let verdict = check(rt.alloc(), &instance, &out)?;
+        let earned = Verdict::Flow(-1_000_000_000_000_000_000_000_000_000_000_000_000);
+        assert!(rt; kind == Kind::Flow && verdict == earned);
     }
     Ok(())
 }

@@ -1,7 +1,6 @@
 -- What pushes of surplus from node to node keep.
-use Rattle.std.specs.Prelude.{◌≡◌, ℕ, ◌≤◌, List, ℤ, pos, negsuc}
-use Rattle.std.specs.List.{All}
-use Rattle.mcf_instance.specs.Network.{IsNode, node_count, node_sum}
+use Rattle.std.specs.Prelude.{◌≡◌, ℕ, ◌≤◌, ℤ, pos, negsuc}
+use Rattle.mcf_instance.specs.Network.{node_count, node_sum}
 use Rattle.mcf_network.specs.States.{Pseudoflow, IsPseudoflow, surplus_at}
 
 -- x where it is above 0, and else 0
@@ -18,7 +17,3 @@ pub record IsPushedOn (s s' : Pseudoflow) : Type 0 where
   pub net : s'.net ≡ s.net
   pub flow : IsPseudoflow s'
   pub no_more : excess s' ≤ excess s
-
--- the list has nodes alone, of so many
-pub record AreNodes (nodes : ℕ) (list : List ℕ) : Type 0 where
-  pub each : All (IsNode nodes) list

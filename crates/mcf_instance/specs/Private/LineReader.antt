@@ -4,14 +4,16 @@ use Rattle.std.specs.Prelude.{pos, int_lt, Option, Some, None, Result, Ok, Err}
 use Rattle.mcf_instance.specs.declared.arc.PackedArc.{PackedArc}
 use Rattle.mcf_instance.specs.declared.code.Code.{Code}
 use Rattle.mcf_instance.specs.declared.code.Code.TheVariants.{Fields, Problem, Number, SecondP, BeforeP, Size, Node, LateN, Twice, Supply, Bound, Order, Cost}
-use Rattle.mcf_instance.specs.declared.code.Code.TheVariants.{Extra, Side}
+use Rattle.mcf_instance.specs.declared.code.Code.TheVariants.{Extra, Side, Total}
 use Rattle.mcf_instance.specs.declared.problem.Problem.{Problem as Format}
 use Rattle.mcf_instance.specs.declared.problem.Problem.TheVariants.{Min, Asn}
 use Rattle.mcf_instance.specs.declared.reader.line.Heading.{Heading}
 use Rattle.mcf_instance.specs.declared.reader.line.ArcNumbers.{ArcNumbers}
 use Rattle.mcf_instance.specs.Blocking.{in_table}
-use Rattle.mcf_instance.specs.Fault.{is_min, is_up_to}
+use Rattle.mcf_instance.specs.Fault.{is_min, is_up_to, passes}
 use Rattle.mcf_instance.specs.Limits.{Limits, node_limit, arc_limit}
+use Rattle.mcf_instance.specs.Packed.{unpacked}
+use Rattle.mcf_instance.specs.WellFormed.{weight}
 use Rattle.mcf_text.specs.Row.{natural}
 use Rattle.mcf_text.specs.Whole.{is_whole, is_within, whole_value}
 
@@ -66,11 +68,11 @@ abbrev pub checked_node : Heading → ℤ → Result ℕ Code
 checked_node h z = if is_within (pos 1) (pos h.nodes) z then Ok (natural z) else Err Node
 
 unfoldable pub node_tests : Limits → Heading → ℕ → List Bool → ℤ → ℤ → Result (ℕ × ℤ) Code
-node_tests limits h arcs listed node supply =
+node_tests allowed h arcs listed node supply =
     checked_node h node >>= λ v.
     (if nat_lt 0 arcs then Err LateN
     else (if in_table listed v then Err Twice
-    else (if not (is_up_to limits.supply supply) then Err Supply
+    else (if not (is_up_to allowed.supply supply) then Err Supply
     else Ok (v, supply))))
 
 abbrev pub with_heading : {X : Type 0} → Option Heading → (Heading → Result X Code) → Result X Code
@@ -78,9 +80,9 @@ with_heading None f = Err BeforeP
 with_heading (Some h) f = f h
 
 unfoldable pub node_line : Limits → Option Heading → ℕ → List Bool → List (List ℕ) → Result (ℕ × ℤ) Code
-node_line limits heading arcs listed fields =
+node_line allowed heading arcs listed fields =
     if not (node_count_fits heading (length fields)) then Err Fields
-    else (node_numbers fields >>= λ n. with_heading heading (λ h. node_tests limits h arcs listed n.0 n.1))
+    else (node_numbers fields >>= λ n. with_heading heading (λ h. node_tests allowed h arcs listed n.0 n.1))
 
 -- ---- arc lines
 
@@ -105,10 +107,10 @@ is_wrong_side h listed src dst = not (is_min h.problem) && (not (in_table listed
 
 -- the first fault of the bounds and the cost of an arc
 unfoldable pub amount_fault : Limits → ℤ → ℤ → ℤ → Option Code
-amount_fault limits low cap cost =
-    if not (is_up_to limits.bound low && is_up_to limits.bound cap) then Some Bound
+amount_fault allowed low cap cost =
+    if not (is_up_to allowed.bound low && is_up_to allowed.bound cap) then Some Bound
     else (if int_lt cap low then Some Order
-    else (if not (is_up_to limits.cost cost) then Some Cost
+    else (if not (is_up_to allowed.cost cost) then Some Cost
     else None))
 
 -- goes on where there is no fault
@@ -116,16 +118,24 @@ abbrev pub unless_fault : {X : Type 0} → Option Code → Result X Code → Res
 unless_fault None r = r
 unless_fault (Some e) r = Err e
 
-unfoldable pub arc_tests : Limits → Heading → ℕ → List Bool → ArcNumbers → Result PackedArc Code
-arc_tests limits h arcs listed a =
+-- with the arc the total of an instance of `min` is above the limit
+abbrev pub passes_total : Limits → Format → ℕ → PackedArc → Bool
+passes_total allowed problem total a = is_min problem && passes allowed.total (total + weight (unpacked a))
+
+-- the arc, where the total allows it
+abbrev pub within_total : Limits → Format → ℕ → PackedArc → Result PackedArc Code
+within_total allowed problem total a = if passes_total allowed problem total a then Err Total else Ok a
+
+unfoldable pub arc_tests : Limits → Heading → ℕ → ℕ → List Bool → ArcNumbers → Result PackedArc Code
+arc_tests allowed h arcs total listed a =
     checked_node h a.src >>= λ src.
     checked_node h a.dst >>= λ dst.
-    unless_fault (amount_fault limits a.low a.cap a.cost)
+    unless_fault (amount_fault allowed a.low a.cap a.cost)
     (if nat_le h.arcs arcs then Err Extra
     else (if is_wrong_side h listed src dst then Err Side
-    else Ok (record { src = src; dst = dst; low = a.low; cap = a.cap; cost = a.cost })))
+    else within_total allowed h.problem total (record { src = src; dst = dst; low = a.low; cap = a.cap; cost = a.cost })))
 
-unfoldable pub arc_line : Limits → Option Heading → ℕ → List Bool → List (List ℕ) → Result PackedArc Code
-arc_line limits heading arcs listed fields =
+unfoldable pub arc_line : Limits → Option Heading → ℕ → ℕ → List Bool → List (List ℕ) → Result PackedArc Code
+arc_line allowed heading arcs total listed fields =
     if not (arc_count_fits heading (length fields)) then Err Fields
-    else (arc_numbers fields >>= λ a. with_heading heading (λ h. arc_tests limits h arcs listed a))
+    else (arc_numbers fields >>= λ a. with_heading heading (λ h. arc_tests allowed h arcs total listed a))

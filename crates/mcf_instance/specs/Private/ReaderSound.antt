@@ -1,16 +1,18 @@
 -- What every state of the reader keeps, and what a line must say for it to stay so.
-use Rattle.std.specs.Prelude.{◌≡◌, ℕ, ◌<◌, ◌≤◌, Bool, true, false, if◌then◌else◌, List, [], map, length, ℤ, pos, neg_ℤ, Option, Some, None}
+use Rattle.std.specs.Prelude.{◌≡◌, ℕ, ◌+◌, ◌<◌, ◌≤◌, Bool, true, false, if◌then◌else◌, List, [], map, length, sum, ℤ, pos, neg_ℤ, Option, Some, None}
 use Rattle.std.specs.List.{All}
 use Rattle.mcf_instance.specs.declared.arc.PackedArc.{PackedArc}
+use Rattle.mcf_instance.specs.declared.problem.Problem.{Problem as Format}
+use Rattle.mcf_instance.specs.declared.problem.Problem.TheVariants.{Min, Asn}
 use Rattle.mcf_instance.specs.declared.reader.line.Heading.{Heading}
 use Rattle.mcf_instance.specs.declared.reader.line.Item.{Item}
 use Rattle.mcf_instance.specs.declared.reader.line.Item.TheVariants.{Problem, Supply, Link}
 use Rattle.mcf_instance.specs.Assignment.{OnAssignment, IsPairing}
 use Rattle.mcf_instance.specs.Blocking.{in_table}
-use Rattle.mcf_instance.specs.Limits.{Limits, node_limit, arc_limit}
+use Rattle.mcf_instance.specs.Limits.{Limits, node_limit, arc_limit, total_limit}
 use Rattle.mcf_instance.specs.Packed.{unpacked}
 use Rattle.mcf_instance.specs.Private.ReaderState.{StateData, problem_or_min}
-use Rattle.mcf_instance.specs.WellFormed.{HasEnds, IsArcWithinLimits, IsUpTo}
+use Rattle.mcf_instance.specs.WellFormed.{HasEnds, IsArcWithinLimits, IsUpTo, weight}
 
 -- the nodes and the arcs of a heading, none without one
 abbrev pub heading_nodes : Option Heading → ℕ
@@ -29,15 +31,17 @@ pub record IsSoundAssignment (listed : List Bool) (supplies : List ℤ) (arcs : 
   pub supplies_are : supplies ≡ map side_supply listed
   pub pairings : All (IsPairing supplies) (map unpacked arcs)
 
-pub record IsSound (limits : Limits) (heading : Option Heading) (listed : List Bool) (supplies : List ℤ) (arcs : List PackedArc) : Type 0 where
+pub record IsSound (allowed : Limits) (heading : Option Heading) (listed : List Bool) (supplies : List ℤ) (arcs : List PackedArc) (total : ℕ) : Type 0 where
   pub nodes_small : heading_nodes heading ≤ node_limit
   pub arcs_small : heading_arcs heading ≤ arc_limit
   pub one_flag_a_node : length listed ≡ heading_nodes heading
   pub one_supply_a_node : length supplies ≡ heading_nodes heading
   pub arc_room : length arcs ≤ heading_arcs heading
   pub ends : All (HasEnds (heading_nodes heading)) (map unpacked arcs)
-  pub arcs_within : All (IsArcWithinLimits limits) (map unpacked arcs)
-  pub supplies_within : All (IsUpTo limits.supply) supplies
+  pub arcs_within : All (IsArcWithinLimits allowed) (map unpacked arcs)
+  pub supplies_within : All (IsUpTo allowed.supply) supplies
+  pub total_is : total ≡ sum (map weight (map unpacked arcs))
+  pub total_small : total ≤ total_limit
   pub assignment : OnAssignment (problem_or_min heading) (IsSoundAssignment listed supplies arcs)
 
 -- ---- what a line may say
@@ -47,11 +51,11 @@ pub record HeadingFits (heading : Option Heading) (h : Heading) : Type 0 where
   pub nodes_small : h.nodes ≤ node_limit
   pub arcs_small : h.arcs ≤ arc_limit
 
-pub record SupplyFits (limits : Limits) (heading : Option Heading) (arcs : List PackedArc) (v : ℕ) (z : ℤ) : Type 0 where
+pub record SupplyFits (allowed : Limits) (heading : Option Heading) (arcs : List PackedArc) (v : ℕ) (z : ℤ) : Type 0 where
   pub low : 1 ≤ v
   pub high : v ≤ heading_nodes heading
   pub before_arcs : arcs ≡ []
-  pub small : IsUpTo limits.supply z
+  pub small : IsUpTo allowed.supply z
   pub assignment : OnAssignment (problem_or_min heading) (z ≡ pos 1)
 
 -- an arc of an assignment from a node with a node line to one without
@@ -61,13 +65,19 @@ pub record IsFlaggedPair (listed : List Bool) (a : PackedArc) : Type 0 where
   pub low_is : a.low ≡ pos 0
   pub cap_is : a.cap ≡ pos 1
 
-pub record LinkFits (limits : Limits) (heading : Option Heading) (listed : List Bool) (arcs : List PackedArc) (a : PackedArc) : Type 0 where
+-- a fact that holds if the problem is the flow problem
+abbrev pub OnMin : Format → Type 0 → Type 0
+OnMin Min P = P
+OnMin Asn P = Unit {0}
+
+pub record LinkFits (allowed : Limits) (heading : Option Heading) (listed : List Bool) (arcs : List PackedArc) (total : ℕ) (a : PackedArc) : Type 0 where
   pub room : length arcs < heading_arcs heading
   pub ends : HasEnds (heading_nodes heading) (unpacked a)
-  pub is_within : IsArcWithinLimits limits (unpacked a)
+  pub is_within : IsArcWithinLimits allowed (unpacked a)
+  pub total_small : OnMin (problem_or_min heading) (total + weight (unpacked a) ≤ total_limit)
   pub assignment : OnAssignment (problem_or_min heading) (IsFlaggedPair listed a)
 
 abbrev pub ItemFits : Limits → StateData → Item → Type 0
-ItemFits limits s (Problem h) = HeadingFits s.heading h
-ItemFits limits s (Supply v z) = SupplyFits limits s.heading s.arcs v z
-ItemFits limits s (Link a) = LinkFits limits s.heading s.listed s.arcs a
+ItemFits allowed s (Problem h) = HeadingFits s.heading h
+ItemFits allowed s (Supply v z) = SupplyFits allowed s.heading s.arcs v z
+ItemFits allowed s (Link a) = LinkFits allowed s.heading s.listed s.arcs s.total a

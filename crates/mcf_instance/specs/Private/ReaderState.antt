@@ -1,5 +1,5 @@
 -- The reader's state, and how a line changes it.
-use Rattle.std.specs.Prelude.{ℕ, ◌-◌, Bool, true, false, if◌then◌else◌, List, [], ◌∷◌, ◌++◌, map, length, bytes_eq, codes, nat_lt, option_map, slice_set}
+use Rattle.std.specs.Prelude.{ℕ, ◌+◌, ◌-◌, Bool, true, false, if◌then◌else◌, List, [], ◌∷◌, ◌++◌, map, length, bytes_eq, codes, nat_lt, option_map, slice_set}
 use Rattle.std.specs.Prelude.{slice_index_or, replicate, ℤ, pos, neg_ℤ, Option, Some, None, is_some, Result, Ok, Err}
 use Rattle.std.specs.Option.{option_or}
 use Rattle.mcf_instance.specs.declared.arc.PackedArc.{PackedArc}
@@ -16,18 +16,20 @@ use Rattle.mcf_instance.specs.Private.LineReader.{◌>>=◌, problem_line, node_
 use Rattle.mcf_instance.specs.Network.{Network}
 use Rattle.mcf_instance.specs.Packed.{unpacked}
 use Rattle.mcf_instance.specs.Reading.{reading_of}
+use Rattle.mcf_instance.specs.WellFormed.{weight}
 use Rattle.mcf_text.specs.Row.{Row}
 
--- what the lines so far say, or the first fault
+-- what the lines so far say, with the total of their arcs, or the first fault
 pub record StateData : Type 0 where
   pub heading : Option Heading
   pub listed : List Bool
   pub supplies : List ℤ
   pub arcs : List PackedArc
+  pub total : ℕ
   pub refusal : Option Fault
 
 abbrev pub empty : StateData
-empty = record { heading = None; listed = []; supplies = []; arcs = []; refusal = None }
+empty = record { heading = None; listed = []; supplies = []; arcs = []; total = 0; refusal = None }
 
 -- how many fields of a line are looked at
 abbrev pub field_limit : ℕ
@@ -35,10 +37,10 @@ field_limit = 7
 
 -- what a line says, or its fault
 unfoldable pub item_of : Limits → StateData → List (List ℕ) → Result Item Code
-item_of limits s fields =
+item_of allowed s fields =
     if bytes_eq (slice_index_or fields 0 []) (codes "p") then (problem_line (is_some s.heading) fields >>= λ h. Ok (Problem h))
-    else (if bytes_eq (slice_index_or fields 0 []) (codes "n") then (node_line limits s.heading (length s.arcs) s.listed fields >>= λ n. Ok (Supply n.0 n.1))
-    else (if bytes_eq (slice_index_or fields 0 []) (codes "a") then (arc_line limits s.heading (length s.arcs) s.listed fields >>= λ a. Ok (Link a))
+    else (if bytes_eq (slice_index_or fields 0 []) (codes "n") then (node_line allowed s.heading (length s.arcs) s.listed fields >>= λ n. Ok (Supply n.0 n.1))
+    else (if bytes_eq (slice_index_or fields 0 []) (codes "a") then (arc_line allowed s.heading (length s.arcs) s.total s.listed fields >>= λ a. Ok (Link a))
     else Err Kind))
 
 -- the supply of a node without a node line
@@ -62,6 +64,7 @@ with_item s (Problem h) = record {
   listed = replicate h.nodes false;
   supplies = replicate h.nodes (default_supply h.problem);
   arcs = s.arcs;
+  total = s.total;
   refusal = s.refusal;
 }
 with_item s (Supply v z) = record {
@@ -69,9 +72,17 @@ with_item s (Supply v z) = record {
   listed = slice_set s.listed (v - 1) true;
   supplies = slice_set s.supplies (v - 1) z;
   arcs = s.arcs;
+  total = s.total;
   refusal = s.refusal;
 }
-with_item s (Link a) = record { heading = s.heading; listed = s.listed; supplies = s.supplies; arcs = s.arcs ++ a ∷ []; refusal = s.refusal }
+with_item s (Link a) = record {
+  heading = s.heading;
+  listed = s.listed;
+  supplies = s.supplies;
+  arcs = s.arcs ++ a ∷ [];
+  total = s.total + weight (unpacked a);
+  refusal = s.refusal;
+}
 
 abbrev pub with_outcome : StateData → ℕ → Result Item Code → StateData
 with_outcome s number (Ok item) = with_item s item
@@ -80,12 +91,13 @@ with_outcome s number (Err code) = record {
   listed = s.listed;
   supplies = s.supplies;
   arcs = s.arcs;
+  total = s.total;
   refusal = Some (record { line = number; code = code });
 }
 
 -- after a kept line: a refusal stays
 unfoldable pub after_row : Limits → StateData → Row → StateData
-after_row limits s row = if is_some s.refusal then s else with_outcome s row.number (item_of limits s row.fields)
+after_row allowed s row = if is_some s.refusal then s else with_outcome s row.number (item_of allowed s row.fields)
 
 -- ---- the end
 

@@ -2,8 +2,10 @@
 ghost use Rattle.std.specs.Prelude.{◌≡◌, ◌≤ℤ◌, ◌<ℤ◌, map, length, bytes_eq, pos, ◌<◌, ◌^◌, ◌≤◌, ◌&&◌, IfSome, IfOk};
 ghost use Rattle.mcf_instance.specs.Blocking.{in_table};
 ghost use Rattle.mcf_instance.specs.Fault.{is_up_to};
-ghost use Rattle.mcf_instance.specs.Limits.{arc_limit, limits, node_limit};
-ghost use Rattle.mcf_instance.specs.Private.LineReader.{number_at, problem_at, problem_line as problem_reading, node_count_fits as node_count_fits_lem, node_numbers as node_number_reading, node_tests as node_testing, checked_node, node_line as node_reading, arc_count_fits as arc_count_fits_lem, arc_numbers as arc_number_reading, is_wrong_side, amount_fault as amount_fault_lem, arc_tests as arc_testing, arc_line as arc_reading};
+ghost use Rattle.mcf_instance.specs.Limits.{arc_limit, limits, node_limit, total_limit};
+ghost use Rattle.mcf_instance.specs.Private.LineReader.{number_at, problem_at, problem_line, node_count_fits, node_numbers, node_tests, checked_node};
+ghost use Rattle.mcf_instance.specs.Private.LineReader.{node_line, arc_count_fits, arc_numbers, is_wrong_side, amount_fault, passes_total, within_total};
+ghost use Rattle.mcf_instance.specs.Private.LineReader.{arc_tests, arc_line};
 ghost use Rattle.mcf_text.specs.Row.{natural};
 ghost use Rattle.mcf_text.specs.Whole.{is_within};
 
@@ -18,11 +20,14 @@ const NODE_LIMIT: i64 = 1_000_000;
 const ARC_LIMIT: i64 = 10_000_000;
 
 // How far from 0 a supply, a bound and a cost may lie.
-const SUPPLY_LIMIT: i64 = 1_000_000_000_000_000;
+const SUPPLY_LIMIT: i64 = 1_000_000_000_000_000_000;
 
-const BOUND_LIMIT: i64 = 1_000_000_000_000_000;
+const BOUND_LIMIT: i64 = 1_000_000_000_000_000_000;
 
-const COST_LIMIT: i64 = 1_000_000_000_000;
+const COST_LIMIT: i64 = 1_000_000_000_000_000;
+
+// How great the total of the arcs of an instance of `min` may be.
+const TOTAL_LIMIT: u128 = 1_000_000_000_000_000_000_000_000_000_000_000_000;
 
 // How far from 0 the numbers lie that are kept as they are, and what stands for the others.
 const KEPT_SIZE: i128 = 1_000_000_000_000_000_000;
@@ -102,7 +107,7 @@ fn sizes_fit(nodes: i64, arcs: i64) -> bool
 
 #[tactic(auto, unfolding(crate::specs::Private::LineReader::problem_line))]
 pub(crate) fn problem_line(is_seen: bool, fields: &[&[u8]]) -> Result<Heading, Code>
-    ensures { result ≡ problem_reading is_seen (map (λ f. f.now) fields.now) }
+    ensures { result ≡ problem_line is_seen (map (λ f. f.now) fields.now) }
 {
     if fields.len() != 4 {
         return Err(Code::Fields);
@@ -157,7 +162,7 @@ fn node_of(heading: Heading, value: i64) -> Result<u32, Code>
 }
 
 fn node_count_fits(heading: Option<Heading>, count: usize) -> bool
-    ensures { result ≡ node_count_fits_lem heading count }
+    ensures { result ≡ node_count_fits heading count }
 {
     match heading {
         None => count == 3 || count == 2,
@@ -178,7 +183,7 @@ fn node_count_fits(heading: Option<Heading>, count: usize) -> bool
 
 fn node_numbers(fields: &[&[u8]]) -> Result<(i64, i64), Code>
     requires { 2 ≤ length fields.now }
-    ensures { result ≡ node_number_reading (map (λ f. f.now) fields.now) }
+    ensures { result ≡ node_numbers (map (λ f. f.now) fields.now) }
 {
     let node = number_of(fields, 1)?;
     if fields.len() == 3 {
@@ -198,7 +203,7 @@ fn node_tests(
     supply: i64,
 ) -> Result<(u32, i64), Code>
     requires { length listed.now ≡ heading.nodes }
-    ensures { result ≡ node_testing limits heading arcs listed.now node supply }
+    ensures { result ≡ node_tests limits heading arcs listed.now node supply }
 {
     let node = node_of(heading, node)?;
     if 0 < arcs {
@@ -222,7 +227,7 @@ pub(crate) fn node_line(
     fields: &[&[u8]],
 ) -> Result<(u32, i64), Code>
     requires { IfSome heading (λ h. length listed.now ≡ h.nodes) }
-    ensures { result ≡ node_reading limits heading arcs listed.now (map (λ f. f.now) fields.now) }
+    ensures { result ≡ node_line limits heading arcs listed.now (map (λ f. f.now) fields.now) }
 {
     if !node_count_fits(heading, fields.len()) {
         return Err(Code::Fields);
@@ -235,7 +240,7 @@ pub(crate) fn node_line(
 }
 
 fn arc_count_fits(heading: Option<Heading>, count: usize) -> bool
-    ensures { result ≡ arc_count_fits_lem heading count }
+    ensures { result ≡ arc_count_fits heading count }
 {
     match heading {
         None => count == 6 || count == 4,
@@ -256,7 +261,7 @@ fn arc_count_fits(heading: Option<Heading>, count: usize) -> bool
 
 fn arc_numbers(fields: &[&[u8]]) -> Result<ArcNumbers, Code>
     requires { 4 ≤ length fields.now }
-    ensures { result ≡ arc_number_reading (map (λ f. f.now) fields.now) }
+    ensures { result ≡ arc_numbers (map (λ f. f.now) fields.now) }
 {
     let src = number_of(fields, 1)?;
     let dst = number_of(fields, 2)?;
@@ -296,7 +301,7 @@ fn is_wrong_side(heading: Heading, listed: &[bool], src: u32, dst: u32) -> bool
 // The first fault of the bounds and the cost of an arc.
 #[tactic(auto, unfolding(crate::specs::Private::LineReader::amount_fault))]
 fn amount_fault(low: i64, cap: i64, cost: i64) -> Option<Code>
-    ensures { result ≡ amount_fault_lem limits low cap cost }
+    ensures { result ≡ amount_fault limits low cap cost }
 {
     if !are_both_up_to(BOUND_LIMIT, low, cap) {
         return Some(Code::Bound);
@@ -310,10 +315,33 @@ fn amount_fault(low: i64, cap: i64, cost: i64) -> Option<Code>
     None
 }
 
+// Whether the total of the arcs so far is above the limit with one more.
+fn passes_total(problem: Problem, total: u128, arc: PackedArc) -> bool
+    requires { total ≤ total_limit }
+    ensures { result ≡ passes_total limits problem total arc }
+{
+    match problem {
+        Problem::Min => TOTAL_LIMIT < total + arc.weight(),
+        Problem::Asn => false,
+    }
+}
+
+// The arc, where the total allows it.
+fn within_total(problem: Problem, total: u128, arc: PackedArc) -> Result<PackedArc, Code>
+    requires { total ≤ total_limit }
+    ensures { result ≡ within_total limits problem total arc }
+{
+    if passes_total(problem, total, arc) {
+        return Err(Code::Total);
+    }
+    Ok(arc)
+}
+
 #[tactic(auto, unfolding(crate::specs::Private::LineReader::arc_tests))]
 fn arc_tests(
     heading: Heading,
     arcs: usize,
+    total: u128,
     listed: &[bool],
     src: i64,
     dst: i64,
@@ -321,8 +349,9 @@ fn arc_tests(
     cap: i64,
     cost: i64,
 ) -> Result<PackedArc, Code>
-    requires { length listed.now ≡ heading.nodes }
-    ensures { result ≡ arc_testing limits heading arcs listed.now (record { src = src; dst = dst; low = low; cap = cap; cost = cost }) }
+    requires tabled { length listed.now ≡ heading.nodes }
+    requires total { total ≤ total_limit }
+    ensures { result ≡ arc_tests limits heading arcs total listed.now (record { src = src; dst = dst; low = low; cap = cap; cost = cost }) }
 {
     let src = node_of(heading, src)?;
     let dst = node_of(heading, dst)?;
@@ -335,13 +364,17 @@ fn arc_tests(
     if is_wrong_side(heading, listed, src, dst) {
         return Err(Code::Side);
     }
-    Ok(PackedArc {
-        src,
-        dst,
-        low,
-        cap,
-        cost,
-    })
+    within_total(
+        heading.problem,
+        total,
+        PackedArc {
+            src,
+            dst,
+            low,
+            cap,
+            cost,
+        },
+    )
 }
 
 /// What an arc line says.
@@ -349,11 +382,13 @@ fn arc_tests(
 pub(crate) fn arc_line(
     heading: Option<Heading>,
     arcs: usize,
+    total: u128,
     listed: &[bool],
     fields: &[&[u8]],
 ) -> Result<PackedArc, Code>
-    requires { IfSome heading (λ h. length listed.now ≡ h.nodes) }
-    ensures { result ≡ arc_reading limits heading arcs listed.now (map (λ f. f.now) fields.now) }
+    requires tabled { IfSome heading (λ h. length listed.now ≡ h.nodes) }
+    requires total { total ≤ total_limit }
+    ensures { result ≡ arc_line limits heading arcs total listed.now (map (λ f. f.now) fields.now) }
 {
     if !arc_count_fits(heading, fields.len()) {
         return Err(Code::Fields);
@@ -364,6 +399,7 @@ pub(crate) fn arc_line(
         Some(heading) => arc_tests(
             heading,
             arcs,
+            total,
             listed,
             numbers.src,
             numbers.dst,

@@ -20,13 +20,14 @@ use mcf_text::NoMemory;
 use std::alloc::Global;
 use std::marker::Model;
 
-/// What the lines so far say, or the first fault.
+/// What the lines so far say, with the total of their arcs, or the first fault.
 #[derive(Drop)]
 pub(crate) struct State {
     heading: Option<Heading>,
     listed: Vec<bool>,
     supplies: Vec<i64>,
     arcs: Vec<PackedArc>,
+    total: u128,
     refusal: Option<Refusal>,
 }
 
@@ -37,9 +38,16 @@ impl Model for State {
 
     ghost Value = { StateData };
 
-    ghost view = { λ s. record { heading = s.heading; listed = s.listed.items; supplies = s.supplies.items; arcs = s.arcs.items; refusal = s.refusal } };
+    ghost view = { λ s. record {
+      heading = s.heading;
+      listed = s.listed.items;
+      supplies = s.supplies.items;
+      arcs = s.arcs.items;
+      total = s.total;
+      refusal = s.refusal;
+    } };
 
-    ghost invariant = { λ s. IsSound limits s.heading s.listed.items s.supplies.items s.arcs.items };
+    ghost invariant = { λ s. IsSound limits s.heading s.listed.items s.supplies.items s.arcs.items s.total };
 }
 
 impl State {
@@ -52,6 +60,7 @@ impl State {
             listed: Vec::new(alloc),
             supplies: Vec::new(alloc),
             arcs: Vec::new(alloc),
+            total: 0,
             refusal: None,
         }
     }
@@ -70,7 +79,13 @@ impl State {
             let (node, supply) = node_line(self.heading, self.arcs.len(), &self.listed, fields)?;
             Ok(Item::Supply(node, supply))
         } else if is_word(word, b"a") {
-            let arc = arc_line(self.heading, self.arcs.len(), &self.listed, fields)?;
+            let arc = arc_line(
+                self.heading,
+                self.arcs.len(),
+                self.total,
+                &self.listed,
+                fields,
+            )?;
             Ok(Item::Link(arc))
         } else {
             Err(Code::Kind)
@@ -112,6 +127,7 @@ impl State {
             }
             Item::Link(arc) => {
                 self.arcs.push(arc)?;
+                self.total += arc.weight();
                 Ok(())
             }
         }
@@ -199,6 +215,7 @@ impl State {
             listed: _,
             supplies,
             arcs,
+            total: _,
             refusal: _,
         } = self;
         match heading {

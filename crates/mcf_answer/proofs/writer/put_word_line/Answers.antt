@@ -1,10 +1,9 @@
-use Rattle.std.proofs.Common.{◌≡◌, ◌+◌, ◌<◌, ◌++◌, length, vec_len, vec_capacity, ap, ◌∙◌, arith}
+use Rattle.std.proofs.Common.{◌+◌, ◌<◌, length, vec_len, vec_capacity, arith}
 use Rattle.std.proofs.lemmas.Int.{to_z-of_z}
-use Rattle.std.proofs.lemmas.List.{length-append}
 use mir.Val.{SFits}
 use mir.Syntax.{w128}
 use Rattle.mcf_answer.proofs.Appends.{field_text}
-use Rattle.mcf_answer.proofs.Room.{length-word_line, on_err}
+use Rattle.mcf_answer.proofs.Room.{length-word_field, length-word_line, on_err}
 use Rattle.mcf_answer.proofs.writer.put_word_line.Goals as goal
 
 pub returns-in_err-extend_from_slice-clause-refused : goal.returns-in_err-extend_from_slice-clause-refused
@@ -27,18 +26,14 @@ returns-in_err-put_field-clause-refused c =
 pub returns-in_err-push-clause-refused : goal.returns-in_err-push-clause-refused
 returns-in_err-push-clause-refused c =
     let fits : SFits w128 c.args.number = c.ranges.number in
-    let appended : c.put_field.new.out.items ≡ c.extend_from_slice.new.self.items ++ field_text c.args.number =
-    simp to_z-of_z at c.in_ok-put_field.ensures.ok in
+    let so_far = length-word_field c.args.out.now.items c.extend_from_slice.new.self.items c.put_field.new.out.items c.args.word.now c.args.number
+    c.in_ok-extend_from_slice.ensures.items (simp to_z-of_z at c.in_ok-put_field.ensures.ok) in
     on_err c.from_residual-in_err-push.result _ (omega (
       arith,
+      so_far,
       length-word_line c.args.word.now c.args.last.now c.args.number,
       c.args.out.now.ok.0,
-      c.extend_from_slice.new.self.ok.0,
       c.put_field.new.out.ok.0,
-      ap length c.in_ok-extend_from_slice.ensures.items
-          ∙ length-append c.args.out.now.items c.args.word.now,
-      ap length appended ∙ length-append c.extend_from_slice.new.self.items
-          (field_text c.args.number),
       c.extend_from_slice.ensures.capacity,
       c.put_field.ensures.capacity,
       c.in_err-push.ensures.full,
@@ -47,18 +42,14 @@ returns-in_err-push-clause-refused c =
 pub returns-in_err-extend_from_slice-2-clause-refused : goal.returns-in_err-extend_from_slice-2-clause-refused
 returns-in_err-extend_from_slice-2-clause-refused c =
     let fits : SFits w128 c.args.number = c.ranges.number in
-    let appended : c.put_field.new.out.items ≡ c.extend_from_slice.new.self.items ++ field_text c.args.number =
-    simp to_z-of_z at c.in_ok-put_field.ensures.ok in
-    on_err c.from_residual-in_err-extend_from_slice-2.result _
-    (omega (
+    let so_far = length-word_field c.args.out.now.items c.extend_from_slice.new.self.items c.put_field.new.out.items c.args.word.now c.args.number
+    c.in_ok-extend_from_slice.ensures.items (simp to_z-of_z at c.in_ok-put_field.ensures.ok) in
+    on_err c.from_residual-in_err-extend_from_slice-2.result _ (omega (
       arith,
+      so_far,
       length-word_line c.args.word.now c.args.last.now c.args.number,
       c.args.out.now.ok.0,
-      c.extend_from_slice.new.self.ok.0,
       c.put_field.new.out.ok.0,
-      ap length c.in_ok-extend_from_slice.ensures.items ∙ length-append c.args.out.now.items c.args.word.now,
-      ap length appended
-          ∙ length-append c.extend_from_slice.new.self.items (field_text c.args.number),
       c.extend_from_slice.ensures.capacity,
       c.put_field.ensures.capacity,
       c.in_ok-push.ensures.len,
@@ -69,18 +60,14 @@ returns-in_err-extend_from_slice-2-clause-refused c =
 pub returns-in_err-push-2-clause-refused : goal.returns-in_err-push-2-clause-refused
 returns-in_err-push-2-clause-refused c =
     let fits : SFits w128 c.args.number = c.ranges.number in
-    let appended : c.put_field.new.out.items ≡ c.extend_from_slice.new.self.items ++ field_text c.args.number =
-    simp to_z-of_z at c.in_ok-put_field.ensures.ok in
+    let so_far = length-word_field c.args.out.now.items c.extend_from_slice.new.self.items c.put_field.new.out.items c.args.word.now c.args.number
+    c.in_ok-extend_from_slice.ensures.items (simp to_z-of_z at c.in_ok-put_field.ensures.ok) in
     on_err c.from_residual-in_err-push-2.result _ (omega (
       arith,
+      so_far,
       length-word_line c.args.word.now c.args.last.now c.args.number,
       c.args.out.now.ok.0,
-      c.extend_from_slice.new.self.ok.0,
       c.put_field.new.out.ok.0,
-      ap length c.in_ok-extend_from_slice.ensures.items
-          ∙ length-append c.args.out.now.items c.args.word.now,
-      ap length appended ∙ length-append c.extend_from_slice.new.self.items
-          (field_text c.args.number),
       c.extend_from_slice.ensures.capacity,
       c.put_field.ensures.capacity,
       c.in_ok-push.ensures.len,

@@ -3,7 +3,8 @@ use mir.Syntax.{w128}
 use Rattle.std.proofs.lemmas.Int.{to_z-of_z}
 use Rattle.mcf_basis.specs.Private.Layouts.{Layout, no_offer, offer_at}
 use Rattle.mcf_basis.specs.declared.offer.Offer.{Offer}
-use Rattle.mcf_basis.proofs.Pivoted.{cost_small, from_in_table, from_in_tree, from_small, number, push_asked, reduced_is, replace_ready, rooms_sized, round_found, to_in_table, to_in_tree, to_small, turned}
+use Rattle.mcf_basis.proofs.Pivoted.{cost_small, from_in_table, from_in_tree, from_small, number, push_asked, reduced_is, replace_ready, rooms_sized}
+use Rattle.mcf_basis.proofs.Pivoted.{round_found, to_in_table, to_in_tree, to_small, turned}
 use Rattle.mcf_basis.proofs.pivot.turn.Goals as goal
 
 pub slice_copy_out-offer : goal.slice_copy_out-offer

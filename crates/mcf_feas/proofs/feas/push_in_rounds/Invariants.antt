@@ -1,4 +1,4 @@
-use Rattle.std.proofs.Common.{◌≡◌, length}
+use Rattle.std.proofs.Common.{◌≡◌, ◌≤◌, length, vec_capacity}
 use Rattle.mcf_instance.specs.Network.{node_count}
 use Rattle.mcf_network.specs.States.{IsPseudoflow}
 use Rattle.mcf_feas.specs.Private.Pushing.{excess}
@@ -10,7 +10,7 @@ invariant-searches l =
       of_net : l.state.net ≡ l.initial.state.net;
       flow : IsPseudoflow l.state;
       nodes : length l.search.reached ≡ node_count l.initial.state.net;
-      levels : length l.preflow.levels.items ≡ node_count l.initial.state.net;
+      room : node_count l.initial.state.net ≤ vec_capacity l.search.visits;
     }
 
 abbrev pub decreases-searches : goal.decreases-searches

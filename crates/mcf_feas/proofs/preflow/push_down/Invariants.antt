@@ -1,8 +1,6 @@
-use Rattle.std.proofs.Common.{◌≡◌, length}
 use Rattle.std.specs.List.{All}
-use Rattle.mcf_instance.specs.Network.{node_count}
 use Rattle.mcf_network.specs.Stars.{Leaves}
-use Rattle.mcf_feas.specs.Private.Pushing.{AreNodes, IsPushedOn}
+use Rattle.mcf_feas.specs.Private.Pushing.{IsPushedOn}
 use Rattle.mcf_feas.proofs.preflow.push_down.Given as goal
 
 abbrev pub invariant-arcs : goal.invariant-arcs
@@ -11,7 +9,5 @@ invariant-arcs l =
       can_next : (goal.iterator-arcs).can_next l.along-iterator;
       is_finite : (goal.iterator-arcs).is_finite l.along-iterator;
       pushed : IsPushedOn l.initial.state l.state;
-      levels : length l.levels.items ≡ node_count l.initial.state.net;
-      nodes : AreNodes (node_count l.initial.state.net) l.queue.items;
       leaves : All (Leaves l.initial.state.net l.fn.from) l.along-iterator;
     }

@@ -16,8 +16,8 @@ share-amount-requires-clause-some c =
     let from : c.route-from.result.0 ≡ tail s.net r = c.route-from.ensures.tail ∙ ap (λ (g : Network). tail g r) c.net.ensures.value in
     omega (arith, ints, c.surplus.ensures.value, c.surplus.ensures.small, ap (surplus_at s) from, c.if-surplus-le0.false)
 
-pub returns-clause-pushed : goal.returns-clause-pushed
-returns-clause-pushed c =
+pub returns : goal.returns
+returns c =
     let s = c.args.state.now in
     let r = rid c.args.arc c.args.back in
     let ok = c.net.ensures.valid in

@@ -31,7 +31,9 @@ returns-clause-none c =
     let m : c.arc_count-arcs.result ≡ length c.args.basis.now.net.arcs = c.arc_count-arcs.ensures.value ∙ ap (λ g. length g.arcs) c.net.ensures.value in
     let all = c.rounds-test.false in
     let high = c.start_arc-start.ensures.high in
-    none_left b c.args.size c.start_arc-start.result c.rounds.passed c.start_arc-start.ensures.low (λ h. (let low = high (omega (arith, m, h)) in omega (arith, m, low))) c.rounds.invariant (omega (arith, m, all))
+    none_left b c.args.size c.start_arc-start.result c.rounds.passed c.start_arc-start.ensures.low
+    (λ h. (let low = high (omega (arith, m, h)) in omega (arith, m, low)))
+    c.rounds.invariant (omega (arith, m, all))
 
 pub returns-clause-picks : goal.returns-clause-picks
 returns-clause-picks c =

@@ -24,14 +24,15 @@ pub returns-clause-solution : goal.returns-clause-solution
 returns-clause-solution c =
     let g = c.args.instance.now in
     let s = c.args.state.now in
-    let answer : Solution = record { cost = to_z w128 (of_z w128 c.total_cost-cost.result); sent = c.new.result; prices = c.new-2.result } in
+    let answer : Solution = record { cost = to_z w128 (of_z w128 c.in_ok-carried.carried.cost); sent = c.new.result; prices = c.new-2.result } in
     let made : IsMadeOf g s c.in_ok-flow.flow.items answer = record {
       restored_is = c.in_ok-flow.ensures.value;
-      ends = ap sent_ends c.new.ensures ∙ c.in_ok-sent.ensures.ends;
-      carried = ap amounts c.new.ensures ∙ c.in_ok-sent.ensures.flow ∙ c.deref-2.ensures.value;
+      ends = ap sent_ends c.new.ensures ∙ c.in_ok-carried.ensures.ends;
+      carried = ap amounts c.new.ensures ∙ c.in_ok-carried.ensures.flow ∙ c.deref.ensures.value;
       greatest = subst (λ (prices : List ℤ). AreGreatestPrices (net_of g) prices s.amounts) (sym c.new-2.ensures) c.requires.shown.greatest;
-      cost_is = read_back c.total_cost-cost.result amount_limit c.total_cost-cost.ensures.small (lit< tt)
-          ∙ c.total_cost-cost.ensures.value
+      cost_is = read_back c.in_ok-carried.carried.cost amount_limit c.in_ok-carried.ensures.small (lit< tt)
+          ∙ c.in_ok-carried.ensures.value
           ∙ ap (cost g.arcs) c.deref.ensures.value;
     } in
-    is_least_solution g s c.in_ok-flow.flow.items answer c.requires.least made c.restored_least_flows_are_least.ensures c.greatest_prices_carry_over.ensures c.total_cost-cost.ensures.well_formed
+    is_least_solution g s c.in_ok-flow.flow.items answer c.requires.least made c.restored_least_flows_are_least.ensures c.greatest_prices_carry_over.ensures
+    c.carried_along.ensures.well_formed

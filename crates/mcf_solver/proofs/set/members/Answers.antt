@@ -8,8 +8,10 @@ loop-i-preserved c =
     elim c.if-contains.branch [
       | then-contains+in_ok-push w ↦
           subst (λ list. AreMembersUpTo c.args.set.now (c.loop-i.i + 1) list.items) (sym w.list-is)
-          (member_listed c.args.set.now c.loop-i.i c.new-v.result c.new-v.ensures c.loop-i.list.items c.loop-i.invariant w.push.new.self.items (sym c.contains.ensures ∙ w.if-contains.true) (search rules))
+          (member_listed c.args.set.now c.loop-i.i c.new-v.result c.new-v.ensures c.loop-i.list.items c.loop-i.invariant w.push.new.self.items
+          (sym c.contains.ensures ∙ w.if-contains.true) (search rules))
       | else-contains w ↦
           subst (λ list. AreMembersUpTo c.args.set.now (c.loop-i.i + 1) list.items) (sym w.list-is)
-          (member_skipped c.args.set.now c.loop-i.i c.new-v.result c.new-v.ensures c.loop-i.list.items c.loop-i.invariant (sym c.contains.ensures ∙ w.if-contains.false))
+          (member_skipped c.args.set.now c.loop-i.i c.new-v.result c.new-v.ensures c.loop-i.list.items c.loop-i.invariant
+          (sym c.contains.ensures ∙ w.if-contains.false))
     ]

@@ -21,7 +21,8 @@ invariant_of-result c =
     let chosen = subst (λ (n : Network). IsChosenBlock n c.args.set.now c.args.side) c.requires.of_instance c.requires.blocks in
     let listed = rw c.node_count.ensures.value at c.in_ok-nodes.ensures in
     subst (λ (nodes : List ℕ). IsBlockingSet (record { side = c.args.side; nodes = nodes })) (sym c.new.ensures)
-    (set_in_range g c.args.set.now c.in_ok-nodes.nodes.items c.args.side c.nets_block_alike.ensures ok chosen listed.same listed.are_nodes listed.ascending listed.few)
+    (set_in_range g c.args.set.now c.in_ok-nodes.nodes.items c.args.side c.nets_block_alike.ensures ok chosen listed.same listed.are_nodes listed.ascending
+    listed.few)
 
 pub returns-clause-proof : goal.returns-clause-proof
 returns-clause-proof c =
@@ -30,4 +31,5 @@ returns-clause-proof c =
     let chosen = subst (λ (n : Network). IsChosenBlock n c.args.set.now c.args.side) c.requires.of_instance c.requires.blocks in
     let listed = rw c.node_count.ensures.value at c.in_ok-nodes.ensures in
     subst (λ (nodes : List ℕ). IsNoFlowProof g (record { side = c.args.side; nodes = nodes })) (sym c.new.ensures)
-    (shows_no_flow g c.args.set.now c.in_ok-nodes.nodes.items c.args.side c.nets_block_alike.ensures ok chosen listed.same listed.are_nodes c.blocked_has_no_flow.ensures)
+    (shows_no_flow g c.args.set.now c.in_ok-nodes.nodes.items c.args.side c.nets_block_alike.ensures ok chosen listed.same listed.are_nodes
+    c.blocked_has_no_flow.ensures)

@@ -7,19 +7,22 @@ use Rattle.mcf_solver.proofs.solving.solve_instance.Goals as goal
 pub returns-in-ByCancel-clause-made : goal.returns-in-ByCancel-clause-made
 returns-in-ByCancel-clause-made c =
     let choice = c.args.choice in
-    let is : ByCancel ≡ meant choice.engine c.args.instance.now.problem = sym c.in-ByCancel.is ∙ c.engine_meant.ensures ∙ ap (meant choice.engine) c.problem.ensures.value in
+    let is : ByCancel ≡ meant choice.engine c.args.instance.now.problem =
+    sym c.in-ByCancel.is ∙ c.engine_meant.ensures ∙ ap (meant choice.engine) c.problem.ensures.value in
     made_as_meant ByCancel choice c.args.instance.now _ c.solve_by.result is (λ s made. tt) c.solve_by.ensures.made
 
 pub returns-in-BySimplex-clause-made : goal.returns-in-BySimplex-clause-made
 returns-in-BySimplex-clause-made c =
     let choice = c.args.choice in
-    let is : BySimplex ≡ meant choice.engine c.args.instance.now.problem = sym c.in-BySimplex.is ∙ c.engine_meant.ensures ∙ ap (meant choice.engine) c.problem.ensures.value in
+    let is : BySimplex ≡ meant choice.engine c.args.instance.now.problem =
+    sym c.in-BySimplex.is ∙ c.engine_meant.ensures ∙ ap (meant choice.engine) c.problem.ensures.value in
     made_as_meant BySimplex choice c.args.instance.now _ c.solve_by_simplex.result is (λ s made. made) c.solve_by_simplex.ensures.made
 
 pub returns-in-ByScaling-clause-made : goal.returns-in-ByScaling-clause-made
 returns-in-ByScaling-clause-made c =
     let choice = c.args.choice in
-    let is : ByScaling ≡ meant choice.engine c.args.instance.now.problem = sym c.in-ByScaling.is ∙ c.engine_meant.ensures ∙ ap (meant choice.engine) c.problem.ensures.value in
+    let is : ByScaling ≡ meant choice.engine c.args.instance.now.problem =
+    sym c.in-ByScaling.is ∙ c.engine_meant.ensures ∙ ap (meant choice.engine) c.problem.ensures.value in
     made_as_meant ByScaling choice c.args.instance.now _ c.solve_by-in-ByScaling.result is (λ s made. made) c.solve_by-in-ByScaling.ensures.made
 
 pub solve_by-requires-in-BySap : goal.solve_by-requires-in-BySap
@@ -30,5 +33,6 @@ solve_by-requires-in-BySap c =
 pub returns-in-BySap-clause-made : goal.returns-in-BySap-clause-made
 returns-in-BySap-clause-made c =
     let choice = c.args.choice in
-    let is : BySap ≡ meant choice.engine c.args.instance.now.problem = sym c.in-BySap.is ∙ c.engine_meant.ensures ∙ ap (meant choice.engine) c.problem.ensures.value in
+    let is : BySap ≡ meant choice.engine c.args.instance.now.problem =
+    sym c.in-BySap.is ∙ c.engine_meant.ensures ∙ ap (meant choice.engine) c.problem.ensures.value in
     made_as_meant BySap choice c.args.instance.now _ c.solve_by-in-BySap.result is (λ s made. made) c.solve_by-in-BySap.ensures.made

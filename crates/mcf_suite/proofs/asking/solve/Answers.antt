@@ -17,7 +17,8 @@ returns-clause-shape c =
     let pricing_is : rule_of c.help-pricing.result ≡ pricing_rule pricings = ap rule_of c.help-pricing.ensures ∙ c.word_option-2.ensures.rule in
     let engine_local : c.help-engine.result.global ≡ false = search rules in
     let pricing_local : c.help-pricing.result.global ≡ false = search rules in
-    let new_is : app_of c.after_help.result ≡ new_app (codes "solve") = ap app_of_fields c.after_help.ensures ∙ ap app_of_fields c.about.ensures ∙ c.new.ensures.app in
+    let new_is : app_of c.after_help.result ≡ new_app (codes "solve") =
+    ap app_of_fields c.after_help.ensures ∙ ap app_of_fields c.about.ensures ∙ c.new.ensures.app in
     let one = c.in_ok-arg.ensures.shape engine_local ∙ ap₂ with_rule new_is engine_is in
     let two = c.in_ok-arg-2.ensures.shape pricing_local ∙ ap₂ with_rule one pricing_is in
     let three = c.in_ok-arg-3.ensures.shape c.block_option.ensures.local ∙ ap₂ with_rule two c.block_option.ensures.rule in

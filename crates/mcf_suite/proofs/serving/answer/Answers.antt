@@ -4,7 +4,8 @@ use Rattle.mcf_suite.proofs.ServedLemmas.{asked_for, asks_to_solve, failed_from,
 use Rattle.mcf_suite.proofs.serving.answer.Goals as goal
 
 pub returns-in-Err-clause-served : goal.returns-in-Err-clause-served
-returns-in-Err-clause-served g c = help_is_served _ _ c.in-Err.ensures.app c.in-Err.error c.print_help.result _ _ c.in-Err.ensures.is_mcf c.in-Err.ensures.faults
+returns-in-Err-clause-served g c =
+    help_is_served _ _ c.in-Err.ensures.app c.in-Err.error c.print_help.result _ _ c.in-Err.ensures.is_mcf c.in-Err.ensures.faults
     c.print_help.ensures.status c.print_help.ensures.asked c.print_help.ensures.taken
 
 pub returns-in-Err-clause-failed : goal.returns-in-Err-clause-failed
@@ -17,14 +18,18 @@ returns-in-Err-clause-failed g c =
 pub returns-in_default-clause-failed : goal.returns-in_default-clause-failed
 returns-in_default-clause-failed g c =
     let asks = c.in-Ok.ensures in
-    let Opens = OpensBy g.P.FnMut c.args.opener.now c.open.new.opener in
-    (refl, asks_to_solve asks.app c.in-Ok.asked asks.is_mcf asks.faults asks.asks (unopened Opens c.in-Ok.asked.file c.in-Some.name c.in-Some.is c.in_default.ensures))
+    let Opens = OpensBy g.P.FnMut c.args.opener.now c.open.new.opener in (
+      refl,
+      asks_to_solve asks.app c.in-Ok.asked asks.is_mcf asks.faults asks.asks
+          (unopened Opens c.in-Ok.asked.file c.in-Some.name c.in-Some.is c.in_default.ensures),
+    )
 
 pub returns-in_default-clause-unasked : goal.returns-in_default-clause-unasked
 returns-in_default-clause-unasked g c =
     let asks = c.in-Ok.ensures in
     let Opens = OpensBy g.P.FnMut c.args.opener.now c.open.new.opener in
-    inr (asks_to_solve asks.app c.in-Ok.asked asks.is_mcf asks.faults asks.asks (asked_for Opens c.in-Ok.asked.file c.in-Some.name c.open.result c.in-Some.is c.open.ensures))
+    inr (asks_to_solve asks.app c.in-Ok.asked asks.is_mcf asks.faults asks.asks
+    (asked_for Opens c.in-Ok.asked.file c.in-Some.name c.open.result c.in-Some.is c.open.ensures))
 
 pub returns-in-Some-open-clause-served : goal.returns-in-Some-open-clause-served
 returns-in-Some-open-clause-served g c =
@@ -32,7 +37,8 @@ returns-in-Some-open-clause-served g c =
     let Opens = OpensBy g.P.FnMut c.args.opener.now c.open.new.opener in
     served_from g.S.Source.remaining g.S.Source.failures c.args.input.now c.args.input.now Opens (map g.W.AsStr.text c.args.words.now)
     asks.app c.in-Ok.asked asks.is_mcf asks.faults asks.asks c.in-Some-open.source c.answer_from.new.source
-    (source_opened c.args.input.now c.args.input.now c.in-Some-open.source c.answer_from.new.source Opens c.in-Ok.asked.file c.in-Some.name c.in-Some.is c.in-Some-open.ensures)
+    (source_opened c.args.input.now c.args.input.now c.in-Some-open.source c.answer_from.new.source Opens c.in-Ok.asked.file c.in-Some.name c.in-Some.is
+    c.in-Some-open.ensures)
     c.answer_from.result _ _ c.answer_from.ensures.answered
 
 pub returns-in-Some-open-clause-failed : goal.returns-in-Some-open-clause-failed
@@ -41,14 +47,16 @@ returns-in-Some-open-clause-failed g c =
     let Opens = OpensBy g.P.FnMut c.args.opener.now c.open.new.opener in
     failed_from g.S.Source.remaining g.S.Source.failures c.args.input.now c.args.input.now Opens (map g.W.AsStr.text c.args.words.now)
     asks.app c.in-Ok.asked asks.is_mcf asks.faults asks.asks c.in-Some-open.source c.answer_from.new.source
-    (source_opened c.args.input.now c.args.input.now c.in-Some-open.source c.answer_from.new.source Opens c.in-Ok.asked.file c.in-Some.name c.in-Some.is c.in-Some-open.ensures)
+    (source_opened c.args.input.now c.args.input.now c.in-Some-open.source c.answer_from.new.source Opens c.in-Ok.asked.file c.in-Some.name c.in-Some.is
+    c.in-Some-open.ensures)
     c.answer_from.result _ _ _ _ c.answer_from.ensures.failed
 
 pub returns-in-Some-open-clause-unasked : goal.returns-in-Some-open-clause-unasked
 returns-in-Some-open-clause-unasked g c =
     let asks = c.in-Ok.ensures in
     let Opens = OpensBy g.P.FnMut c.args.opener.now c.open.new.opener in
-    inr (asks_to_solve asks.app c.in-Ok.asked asks.is_mcf asks.faults asks.asks (asked_for Opens c.in-Ok.asked.file c.in-Some.name c.open.result c.in-Some.is c.open.ensures))
+    inr (asks_to_solve asks.app c.in-Ok.asked asks.is_mcf asks.faults asks.asks
+    (asked_for Opens c.in-Ok.asked.file c.in-Some.name c.open.result c.in-Some.is c.open.ensures))
 
 pub returns-in-None-clause-served : goal.returns-in-None-clause-served
 returns-in-None-clause-served g c =

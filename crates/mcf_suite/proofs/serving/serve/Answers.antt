@@ -11,4 +11,5 @@ returns-in-Err-clause-beginning g c three = kept_or_begun g.S.Source.remaining g
 pub returns-in-Err-clause-told : goal.returns-in-Err-clause-told
 returns-in-Err-clause-told g c three = told_of g.S.Source.remaining g.S.Source.failures c.args.input.now c.answer.new.input
     (OpensBy g.P.FnMut c.args.opener.now c.answer.new.opener) (map g.W.AsStr.text c.args.words.now) _ _ _ _ _ c.in-Err.failure
-    c.send.result _ _ c.as_bytes.result.now c.in-Err.ensures.failed (rw c.as_bytes.ensures.value c.text.ensures) c.send.ensures.finished c.send.ensures.taken c.send.ensures.failed c.send.ensures.beginning
+    c.send.result _ _ c.as_bytes.result.now c.in-Err.ensures.failed (rw c.as_bytes.ensures.value c.text.ensures) c.send.ensures.finished c.send.ensures.taken
+    c.send.ensures.failed c.send.ensures.beginning

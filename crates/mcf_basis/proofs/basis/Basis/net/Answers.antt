@@ -4,5 +4,12 @@ use Rattle.mcf_basis.proofs.basis.Basis.net.Goals as goal
 
 pub returns-clause-value : goal.returns-clause-value
 returns-clause-value c =
-    let l : Layout = record { net = c.self.inside.net.now; tree = c.self.inside.tree; offers = c.self.inside.offers.items; rooms = c.self.inside.rooms.items; artificial = c.self.inside.artificial.items; table = c.self.inside.table } in
+    let l : Layout = record {
+      net = c.self.inside.net.now;
+      tree = c.self.inside.tree;
+      offers = c.self.inside.offers.items;
+      rooms = c.self.inside.rooms.items;
+      artificial = c.self.inside.artificial.items;
+      table = c.self.inside.table;
+    } in
     view_net l c.args.self.now c.self.view_is

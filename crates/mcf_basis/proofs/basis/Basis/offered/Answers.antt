@@ -8,27 +8,59 @@ use Rattle.mcf_basis.proofs.basis.Basis.offered.Goals as goal
 
 pub index-offer-requires : goal.index-offer-requires
 index-offer-requires c =
-    let l : Layout = record { net = c.self.inside.net.now; tree = c.self.inside.tree; offers = c.self.inside.offers.items; rooms = c.self.inside.rooms.items; artificial = c.self.inside.artificial.items; table = c.self.inside.table } in
-    let h : c.get.result - 1 < length c.self.inside.offers.items = offer_in_range l c.args.self.now c.args.k (c.get.result - 1) c.self.view_is c.self.invariant c.requires (ap (λ i. i - 1) c.get.ensures) in
+    let l : Layout = record {
+      net = c.self.inside.net.now;
+      tree = c.self.inside.tree;
+      offers = c.self.inside.offers.items;
+      rooms = c.self.inside.rooms.items;
+      artificial = c.self.inside.artificial.items;
+      table = c.self.inside.table;
+    } in
+    let h : c.get.result - 1 < length c.self.inside.offers.items =
+    offer_in_range l c.args.self.now c.args.k (c.get.result - 1) c.self.view_is c.self.invariant c.requires (ap (λ i. i - 1) c.get.ensures) in
     let size = c.self.inside.offers.ok.0 in
     omega (arith, h, size)
 
 pub get-requires-2 : goal.get-requires-2
 get-requires-2 c =
-    let l : Layout = record { net = c.self.inside.net.now; tree = c.self.inside.tree; offers = c.self.inside.offers.items; rooms = c.self.inside.rooms.items; artificial = c.self.inside.artificial.items; table = c.self.inside.table } in
-    let o = offer_read l c.args.self.now c.args.k (c.get.result - 1) c.index-offer.result.now c.self.view_is c.self.invariant c.requires (ap (λ i. i - 1) c.get.ensures) c.index-offer.ensures in
+    let l : Layout = record {
+      net = c.self.inside.net.now;
+      tree = c.self.inside.tree;
+      offers = c.self.inside.offers.items;
+      rooms = c.self.inside.rooms.items;
+      artificial = c.self.inside.artificial.items;
+      table = c.self.inside.table;
+    } in
+    let o = offer_read l c.args.self.now c.args.k (c.get.result - 1) c.index-offer.result.now c.self.view_is c.self.invariant c.requires
+    (ap (λ i. i - 1) c.get.ensures) c.index-offer.ensures in
     (read_price l c.args.self.now c.index-offer.result.now.from c.self.view_is c.self.invariant o.from).in_range
 
 pub get-requires-3 : goal.get-requires-3
 get-requires-3 c =
-    let l : Layout = record { net = c.self.inside.net.now; tree = c.self.inside.tree; offers = c.self.inside.offers.items; rooms = c.self.inside.rooms.items; artificial = c.self.inside.artificial.items; table = c.self.inside.table } in
-    let o = offer_read l c.args.self.now c.args.k (c.get.result - 1) c.index-offer.result.now c.self.view_is c.self.invariant c.requires (ap (λ i. i - 1) c.get.ensures) c.index-offer.ensures in
+    let l : Layout = record {
+      net = c.self.inside.net.now;
+      tree = c.self.inside.tree;
+      offers = c.self.inside.offers.items;
+      rooms = c.self.inside.rooms.items;
+      artificial = c.self.inside.artificial.items;
+      table = c.self.inside.table;
+    } in
+    let o = offer_read l c.args.self.now c.args.k (c.get.result - 1) c.index-offer.result.now c.self.view_is c.self.invariant c.requires
+    (ap (λ i. i - 1) c.get.ensures) c.index-offer.ensures in
     (read_price l c.args.self.now c.index-offer.result.now.to c.self.view_is c.self.invariant o.to).in_range
 
 pub overflow_sub-result : goal.overflow_sub-result
 overflow_sub-result c =
-    let l : Layout = record { net = c.self.inside.net.now; tree = c.self.inside.tree; offers = c.self.inside.offers.items; rooms = c.self.inside.rooms.items; artificial = c.self.inside.artificial.items; table = c.self.inside.table } in
-    let o = offer_read l c.args.self.now c.args.k (c.get.result - 1) c.index-offer.result.now c.self.view_is c.self.invariant c.requires (ap (λ i. i - 1) c.get.ensures) c.index-offer.ensures in
+    let l : Layout = record {
+      net = c.self.inside.net.now;
+      tree = c.self.inside.tree;
+      offers = c.self.inside.offers.items;
+      rooms = c.self.inside.rooms.items;
+      artificial = c.self.inside.artificial.items;
+      table = c.self.inside.table;
+    } in
+    let o = offer_read l c.args.self.now c.args.k (c.get.result - 1) c.index-offer.result.now c.self.view_is c.self.invariant c.requires
+    (ap (λ i. i - 1) c.get.ensures) c.index-offer.ensures in
     let cost = o.cost in
     let p = read_price l c.args.self.now c.index-offer.result.now.from c.self.view_is c.self.invariant o.from in
     let first : c.get-2.result ≡ get_or c.self.inside.table.prices c.index-offer.result.now.from (pos 0) = c.get-2.ensures in
@@ -37,8 +69,16 @@ overflow_sub-result c =
 
 pub overflow_add-result : goal.overflow_add-result
 overflow_add-result c =
-    let l : Layout = record { net = c.self.inside.net.now; tree = c.self.inside.tree; offers = c.self.inside.offers.items; rooms = c.self.inside.rooms.items; artificial = c.self.inside.artificial.items; table = c.self.inside.table } in
-    let o = offer_read l c.args.self.now c.args.k (c.get.result - 1) c.index-offer.result.now c.self.view_is c.self.invariant c.requires (ap (λ i. i - 1) c.get.ensures) c.index-offer.ensures in
+    let l : Layout = record {
+      net = c.self.inside.net.now;
+      tree = c.self.inside.tree;
+      offers = c.self.inside.offers.items;
+      rooms = c.self.inside.rooms.items;
+      artificial = c.self.inside.artificial.items;
+      table = c.self.inside.table;
+    } in
+    let o = offer_read l c.args.self.now c.args.k (c.get.result - 1) c.index-offer.result.now c.self.view_is c.self.invariant c.requires
+    (ap (λ i. i - 1) c.get.ensures) c.index-offer.ensures in
     let cost = o.cost in
     let p = read_price l c.args.self.now c.index-offer.result.now.from c.self.view_is c.self.invariant o.from in
     let first : c.get-2.result ≡ get_or c.self.inside.table.prices c.index-offer.result.now.from (pos 0) = c.get-2.ensures in
@@ -52,8 +92,16 @@ overflow_add-result c =
 
 pub returns-clause-small : goal.returns-clause-small
 returns-clause-small c =
-    let l : Layout = record { net = c.self.inside.net.now; tree = c.self.inside.tree; offers = c.self.inside.offers.items; rooms = c.self.inside.rooms.items; artificial = c.self.inside.artificial.items; table = c.self.inside.table } in
-    let o = offer_read l c.args.self.now c.args.k (c.get.result - 1) c.index-offer.result.now c.self.view_is c.self.invariant c.requires (ap (λ i. i - 1) c.get.ensures) c.index-offer.ensures in
+    let l : Layout = record {
+      net = c.self.inside.net.now;
+      tree = c.self.inside.tree;
+      offers = c.self.inside.offers.items;
+      rooms = c.self.inside.rooms.items;
+      artificial = c.self.inside.artificial.items;
+      table = c.self.inside.table;
+    } in
+    let o = offer_read l c.args.self.now c.args.k (c.get.result - 1) c.index-offer.result.now c.self.view_is c.self.invariant c.requires
+    (ap (λ i. i - 1) c.get.ensures) c.index-offer.ensures in
     let cost = o.cost in
     let p = read_price l c.args.self.now c.index-offer.result.now.from c.self.view_is c.self.invariant o.from in
     let first : c.get-2.result ≡ get_or c.self.inside.table.prices c.index-offer.result.now.from (pos 0) = c.get-2.ensures in
@@ -67,8 +115,16 @@ returns-clause-small c =
 
 pub returns-clause-violation : goal.returns-clause-violation
 returns-clause-violation c =
-    (λ neg. (let l : Layout = record { net = c.self.inside.net.now; tree = c.self.inside.tree; offers = c.self.inside.offers.items; rooms = c.self.inside.rooms.items; artificial = c.self.inside.artificial.items; table = c.self.inside.table } in
-    let o = offer_read l c.args.self.now c.args.k (c.get.result - 1) c.index-offer.result.now c.self.view_is c.self.invariant c.requires (ap (λ i. i - 1) c.get.ensures) c.index-offer.ensures in
+    (λ neg. (let l : Layout = record {
+      net = c.self.inside.net.now;
+      tree = c.self.inside.tree;
+      offers = c.self.inside.offers.items;
+      rooms = c.self.inside.rooms.items;
+      artificial = c.self.inside.artificial.items;
+      table = c.self.inside.table;
+    } in
+    let o = offer_read l c.args.self.now c.args.k (c.get.result - 1) c.index-offer.result.now c.self.view_is c.self.invariant c.requires
+    (ap (λ i. i - 1) c.get.ensures) c.index-offer.ensures in
     let cost = o.cost in
     let p = read_price l c.args.self.now c.index-offer.result.now.from c.self.view_is c.self.invariant o.from in
     let first : c.get-2.result ≡ get_or c.self.inside.table.prices c.index-offer.result.now.from (pos 0) = c.get-2.ensures in
@@ -78,13 +134,22 @@ returns-clause-violation c =
     let second_small = q.small in
     let first_value = p.value in
     let second_value = q.value in
-    let value : offered c.args.self.now c.index-offer.result.now ≡ neg_ℤ (pos (violation c.args.self.now c.args.k)) = o.size (omega (arith, ints, neg, cost, first, first_small, second, second_small, first_value, second_value, c.from.ensures)) in
+    let value : offered c.args.self.now c.index-offer.result.now ≡ neg_ℤ (pos (violation c.args.self.now c.args.k)) =
+    o.size (omega (arith, ints, neg, cost, first, first_small, second, second_small, first_value, second_value, c.from.ensures)) in
     omega (arith, ints, value, cost, first, first_small, second, second_small, first_value, second_value, c.from.ensures)))
 
 pub returns-clause-eligible : goal.returns-clause-eligible
 returns-clause-eligible c =
-    let l : Layout = record { net = c.self.inside.net.now; tree = c.self.inside.tree; offers = c.self.inside.offers.items; rooms = c.self.inside.rooms.items; artificial = c.self.inside.artificial.items; table = c.self.inside.table } in
-    let o = offer_read l c.args.self.now c.args.k (c.get.result - 1) c.index-offer.result.now c.self.view_is c.self.invariant c.requires (ap (λ i. i - 1) c.get.ensures) c.index-offer.ensures in
+    let l : Layout = record {
+      net = c.self.inside.net.now;
+      tree = c.self.inside.tree;
+      offers = c.self.inside.offers.items;
+      rooms = c.self.inside.rooms.items;
+      artificial = c.self.inside.artificial.items;
+      table = c.self.inside.table;
+    } in
+    let o = offer_read l c.args.self.now c.args.k (c.get.result - 1) c.index-offer.result.now c.self.view_is c.self.invariant c.requires
+    (ap (λ i. i - 1) c.get.ensures) c.index-offer.ensures in
     let cost = o.cost in
     let p = read_price l c.args.self.now c.index-offer.result.now.from c.self.view_is c.self.invariant o.from in
     let first : c.get-2.result ≡ get_or c.self.inside.table.prices c.index-offer.result.now.from (pos 0) = c.get-2.ensures in
@@ -95,5 +160,6 @@ returns-clause-eligible c =
     let first_value = p.value in
     let second_value = q.value in (
       λ neg. o.eligible (omega (arith, ints, neg, cost, first, first_small, second, second_small, first_value, second_value, c.from.ensures)),
-      λ el. (let neg : offered c.args.self.now c.index-offer.result.now <ℤ pos 0 = o.only el in omega (arith, ints, neg, cost, first, first_small, second, second_small, first_value, second_value, c.from.ensures)),
+      λ el. (let neg : offered c.args.self.now c.index-offer.result.now <ℤ pos 0 =
+          o.only el in omega (arith, ints, neg, cost, first, first_small, second, second_small, first_value, second_value, c.from.ensures)),
     )

@@ -1,8 +1,7 @@
-use Rattle.std.proofs.Common.{◌≡◌, ◌∷◌, length, map, ap, pos, ◌∙◌}
+use Rattle.std.proofs.Common.{◌≡◌, ◌∷◌, length, map, pos}
 use Rattle.std.specs.List.{range_with_len}
 use Rattle.mcf_instance.specs.Network.{node_count}
-use Rattle.mcf_basis.specs.Private.Layouts.{Layout, Prices, no_rooms}
-use Rattle.mcf_basis.specs.Starts.{start_prices}
+use Rattle.mcf_basis.specs.Private.Layouts.{Layout, no_rooms}
 use Rattle.mcf_basis.proofs.StartLayouts.{IsStarStored, star_amount, star_laid_out, star_offer, star_rooms, star_starts}
 use Rattle.mcf_basis.proofs.basis.Basis.start.Goals as goal
 
@@ -15,13 +14,12 @@ invariant_of-result c =
       offers = c.in_ok-offers.offers.items;
       rooms = c.in_ok-rooms.rooms.items;
       artificial = c.in_ok-artificial.artificial.items;
-      table = c.of-table.result;
+      table = c.in_ok-table.table;
     } in
     let tree = rw (c.node_count.ensures.value, c.arc_count.ensures.value) at c.in_ok-tree.ensures in
     let offers : c.in_ok-offers.offers.items ≡ map (star_offer g) (range_with_len 1 (length g.arcs)) = c.in_ok-offers.ensures in
     let rooms : c.in_ok-rooms.rooms.items ≡ no_rooms ∷ map (star_rooms g) (range_with_len 1 (node_count g)) = c.in_ok-rooms.ensures in
     let artificial : c.in_ok-artificial.artificial.items ≡ pos 0 ∷ map (star_amount g) (range_with_len 1 (node_count g)) = c.in_ok-artificial.ensures in
-    let prices : c.in_ok-prices.prices.items ≡ start_prices g = c.in_ok-prices.ensures in
     let stored : IsStarStored l = record {
       of_net = c.node_count.ensures.of_net;
       star = tree.0;
@@ -29,8 +27,7 @@ invariant_of-result c =
       offers = offers;
       rooms = rooms;
       artificial = artificial;
-      prices = ap (λ (t : Prices). t.prices) c.of-table.ensures ∙ prices;
-      priced = ap (λ (t : Prices). t.priced) c.of-table.ensures;
+      table = c.in_ok-table.ensures;
     } in
     star_laid_out l stored
 
@@ -43,13 +40,12 @@ returns c =
       offers = c.in_ok-offers.offers.items;
       rooms = c.in_ok-rooms.rooms.items;
       artificial = c.in_ok-artificial.artificial.items;
-      table = c.of-table.result;
+      table = c.in_ok-table.table;
     } in
     let tree = rw (c.node_count.ensures.value, c.arc_count.ensures.value) at c.in_ok-tree.ensures in
     let offers : c.in_ok-offers.offers.items ≡ map (star_offer g) (range_with_len 1 (length g.arcs)) = c.in_ok-offers.ensures in
     let rooms : c.in_ok-rooms.rooms.items ≡ no_rooms ∷ map (star_rooms g) (range_with_len 1 (node_count g)) = c.in_ok-rooms.ensures in
     let artificial : c.in_ok-artificial.artificial.items ≡ pos 0 ∷ map (star_amount g) (range_with_len 1 (node_count g)) = c.in_ok-artificial.ensures in
-    let prices : c.in_ok-prices.prices.items ≡ start_prices g = c.in_ok-prices.ensures in
     let stored : IsStarStored l = record {
       of_net = c.node_count.ensures.of_net;
       star = tree.0;
@@ -57,7 +53,6 @@ returns c =
       offers = offers;
       rooms = rooms;
       artificial = artificial;
-      prices = ap (λ (t : Prices). t.prices) c.of-table.ensures ∙ prices;
-      priced = ap (λ (t : Prices). t.priced) c.of-table.ensures;
+      table = c.in_ok-table.ensures;
     } in
     star_starts l stored

@@ -3,7 +3,7 @@ use Rattle.std.specs.Prelude.{◌<ℤ◌}
 use Rattle.std.proofs.lemmas.Int.{ints}
 use Rattle.mcf_instance.specs.Blocking.{in_table}
 use Rattle.mcf_network.specs.States.{surplus_at}
-use Rattle.mcf_feas.proofs.Searches.{scanning_closed, scanning_end, scanning_found, scanning_marked, scanning_push}
+use Rattle.mcf_feas.proofs.Searches.{scanning_closed, scanning_end, scanning_found, scanning_marked, scanning_push, search_room}
 use Rattle.mcf_feas.proofs.search.Search.scan.Goals as goal
 
 pub loop-along-preserved-in_default : goal.loop-along-preserved-in_default
@@ -14,6 +14,7 @@ loop-along-preserved-in_default c =
     record {
       can_next = tt;
       is_finite = tt;
+      room = old.invariant.room;
       scanning = scanning_closed c.args.state.now old.self.reached old.self.visits.items c.args.place c.in-Some.along c.next.new.self at none;
     }
 
@@ -26,8 +27,18 @@ loop-along-preserved-then-contains c =
     record {
       can_next = tt;
       is_finite = tt;
+      room = old.invariant.room;
       scanning = scanning_marked c.args.state.now old.self.reached old.self.visits.items c.args.place c.in-Some.along c.next.new.self at marked;
     }
+
+pub visit-requires-clause-room : goal.visit-requires-clause-room
+visit-requires-clause-room c =
+    let old = c.loop-along in
+    let at = rw c.in-Some.ensures.steps at old.invariant.scanning in
+    let new = sym c.contains.ensures ∙ c.if-contains.false in
+    let few = search_room c.args.state.now old.self.reached old.self.visits.items c.in-Some-open_end.to at.scanned.search
+    c.in-Some-open_end.ensures.open.is_node new in
+    omega (arith, few, old.invariant.room)
 
 pub returns-then-surplus-lt0-clause-found : goal.returns-then-surplus-lt0-clause-found
 returns-then-surplus-lt0-clause-found c =
@@ -39,7 +50,7 @@ returns-then-surplus-lt0-clause-found c =
     let new = sym c.contains.ensures ∙ c.if-contains.false in
     let surplus = c.surplus.ensures in
     let low : surplus_at s to <ℤ pos 0 = omega (arith, ints, surplus.value, surplus.small, c.if-surplus-lt0.true) in
-    rw c.in_ok-visit.ensures.visits (scanning_found s old.self.reached old.self.visits.items c.args.place c.in-Some.along c.next.new.self at to
+    rw c.visit.ensures.visits (scanning_found s old.self.reached old.self.visits.items c.args.place c.in-Some.along c.next.new.self at to
     c.link_along.result end.room end.end c.link_along.ensures end.is_node new low)
 
 pub loop-along-preserved : goal.loop-along-preserved
@@ -52,9 +63,10 @@ loop-along-preserved c =
     let new = sym c.contains.ensures ∙ c.if-contains.false in
     let surplus = c.surplus.ensures in
     let high : pos 0 ≤ℤ surplus_at s to = omega (arith, ints, surplus.value, surplus.small, c.if-surplus-lt0.false) in
-    rw (c.in_ok-visit.ensures.reached, c.in_ok-visit.ensures.visits) (record {
+    rw (c.visit.ensures.reached, c.visit.ensures.visits, c.visit.ensures.room) (record {
       can_next = tt;
       is_finite = tt;
+      room = old.invariant.room;
       scanning = scanning_push s old.self.reached old.self.visits.items c.args.place c.in-Some.along c.next.new.self at to c.link_along.result end.room end.end
           c.link_along.ensures end.is_node new high;
     })

@@ -1,3 +1,5 @@
+use Rattle.std.proofs.Common.{◌≤◌, vec_capacity}
+use Rattle.mcf_instance.specs.Network.{node_count}
 use Rattle.mcf_feas.proofs.Searches.{IsScanning}
 use Rattle.mcf_feas.proofs.search.Search.scan.Given as goal
 
@@ -6,5 +8,6 @@ invariant-loop-along l =
     record {
       can_next : (goal.iterator-loop-along).can_next l.along-iterator;
       is_finite : (goal.iterator-loop-along).is_finite l.along-iterator;
+      room : node_count l.state.net ≤ vec_capacity l.self.visits;
       scanning : IsScanning l.state l.self.reached l.self.visits.items l.place l.along-iterator;
     }

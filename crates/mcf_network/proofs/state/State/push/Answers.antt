@@ -1,8 +1,8 @@
-use Rattle.std.proofs.Common.{◌≡◌, ◌-ℤ◌, ◌+ℤ◌, arith, cond, to_z, of_z, w64}
+use Rattle.std.proofs.Common.{arith}
 use mir.Syntax.{w128}
 use Rattle.std.proofs.lemmas.Int.{ints, to_z-of_z}
 use Rattle.mcf_network.proofs.ArcLaws.{amount_in_range, read_amount, read_room}
-use Rattle.mcf_network.proofs.StateLaws.{changed_is, kept_small, push_step}
+use Rattle.mcf_network.proofs.StateLaws.{kept_small, push_made}
 use Rattle.mcf_network.proofs.state.State.push.Goals as goal
 
 pub index-requires : goal.index-requires
@@ -48,63 +48,31 @@ move_surplus-requires-clause-each c v h =
 pub invariant_of-self : goal.invariant_of-self
 invariant_of-self c =
     let s = c.self.inside in
-    let a = read_amount c.args.self.now c.self.inside.net.now c.self.inside.amounts.items c.args.r.arc c.index.result.now c.self.view_is c.self.invariant.flow
-    c.requires.arc (rw c.get.ensures at c.index.ensures) in
-    let room = read_room c.args.self.now s.net.now s.amounts.items c.args.r c.self.view_is c.self.invariant.flow c.requires.arc in
-    let y : to_z w64 (of_z w64 c.changed_amount-changed.result) ≡ cond c.args.r.back (c.index.result.now -ℤ c.args.amount)
-    (c.index.result.now +ℤ c.args.amount) = changed_is c.args.r.back c.changed_amount-changed.result c.index.result.now c.args.amount a.low
-    (omega (arith, ints, a.high, a.width)) c.requires.low (omega (arith, ints, c.requires.high, room.high)) c.changed_amount-changed.ensures in
-    let same = to_z-of_z w128 c.args.amount c.ranges.amount in
-    let step = push_step s.net.now s.amounts.items s.surpluses.items c.move_surplus.new.surpluses.items c.args.r c.args.amount c.index.result.now
-    (to_z w64 (of_z w64 c.changed_amount-changed.result)) c.get.result _ _ c.args.self.now c.self.view_is c.self.invariant c.get.ensures c.requires.arc
-    c.requires.low c.requires.high c.index.ensures y c.route.ensures.tail c.route.ensures.head c.move_surplus.ensures.length
-    (λ u q. rw same at (c.move_surplus.ensures.each u q)) in
-    step.keeps
+    (push_made c.args.self.now s.net.now s.amounts.items s.surpluses.items c.move_surplus.new.surpluses.items c.args.r c.args.amount c.index.result.now
+    c.changed_amount-changed.result c.get.result _ _ c.self.view_is c.self.invariant c.get.ensures c.requires.arc c.requires.low c.requires.high
+    (to_z-of_z w128 c.args.amount c.ranges.amount) c.index.ensures c.changed_amount-changed.ensures c.route.ensures.tail c.route.ensures.head
+    c.move_surplus.ensures.length c.move_surplus.ensures.each).keeps
 
 pub returns-clause-value : goal.returns-clause-value
 returns-clause-value c =
     let s = c.self.inside in
-    let a = read_amount c.args.self.now c.self.inside.net.now c.self.inside.amounts.items c.args.r.arc c.index.result.now c.self.view_is c.self.invariant.flow
-    c.requires.arc (rw c.get.ensures at c.index.ensures) in
-    let room = read_room c.args.self.now s.net.now s.amounts.items c.args.r c.self.view_is c.self.invariant.flow c.requires.arc in
-    let y : to_z w64 (of_z w64 c.changed_amount-changed.result) ≡ cond c.args.r.back (c.index.result.now -ℤ c.args.amount)
-    (c.index.result.now +ℤ c.args.amount) = changed_is c.args.r.back c.changed_amount-changed.result c.index.result.now c.args.amount a.low
-    (omega (arith, ints, a.high, a.width)) c.requires.low (omega (arith, ints, c.requires.high, room.high)) c.changed_amount-changed.ensures in
-    let same = to_z-of_z w128 c.args.amount c.ranges.amount in
-    let step = push_step s.net.now s.amounts.items s.surpluses.items c.move_surplus.new.surpluses.items c.args.r c.args.amount c.index.result.now
-    (to_z w64 (of_z w64 c.changed_amount-changed.result)) c.get.result _ _ c.args.self.now c.self.view_is c.self.invariant c.get.ensures c.requires.arc
-    c.requires.low c.requires.high c.index.ensures y c.route.ensures.tail c.route.ensures.head c.move_surplus.ensures.length
-    (λ u q. rw same at (c.move_surplus.ensures.each u q)) in
-    step.is
+    (push_made c.args.self.now s.net.now s.amounts.items s.surpluses.items c.move_surplus.new.surpluses.items c.args.r c.args.amount c.index.result.now
+    c.changed_amount-changed.result c.get.result _ _ c.self.view_is c.self.invariant c.get.ensures c.requires.arc c.requires.low c.requires.high
+    (to_z-of_z w128 c.args.amount c.ranges.amount) c.index.ensures c.changed_amount-changed.ensures c.route.ensures.tail c.route.ensures.head
+    c.move_surplus.ensures.length c.move_surplus.ensures.each).is
 
 pub returns-clause-surpluses : goal.returns-clause-surpluses
 returns-clause-surpluses c v h =
     let s = c.self.inside in
-    let a = read_amount c.args.self.now c.self.inside.net.now c.self.inside.amounts.items c.args.r.arc c.index.result.now c.self.view_is c.self.invariant.flow
-    c.requires.arc (rw c.get.ensures at c.index.ensures) in
-    let room = read_room c.args.self.now s.net.now s.amounts.items c.args.r c.self.view_is c.self.invariant.flow c.requires.arc in
-    let y : to_z w64 (of_z w64 c.changed_amount-changed.result) ≡ cond c.args.r.back (c.index.result.now -ℤ c.args.amount)
-    (c.index.result.now +ℤ c.args.amount) = changed_is c.args.r.back c.changed_amount-changed.result c.index.result.now c.args.amount a.low
-    (omega (arith, ints, a.high, a.width)) c.requires.low (omega (arith, ints, c.requires.high, room.high)) c.changed_amount-changed.ensures in
-    let same = to_z-of_z w128 c.args.amount c.ranges.amount in
-    let step = push_step s.net.now s.amounts.items s.surpluses.items c.move_surplus.new.surpluses.items c.args.r c.args.amount c.index.result.now
-    (to_z w64 (of_z w64 c.changed_amount-changed.result)) c.get.result _ _ c.args.self.now c.self.view_is c.self.invariant c.get.ensures c.requires.arc
-    c.requires.low c.requires.high c.index.ensures y c.route.ensures.tail c.route.ensures.head c.move_surplus.ensures.length
-    (λ u q. rw same at (c.move_surplus.ensures.each u q)) in
-    step.moves v
+    (push_made c.args.self.now s.net.now s.amounts.items s.surpluses.items c.move_surplus.new.surpluses.items c.args.r c.args.amount c.index.result.now
+    c.changed_amount-changed.result c.get.result _ _ c.self.view_is c.self.invariant c.get.ensures c.requires.arc c.requires.low c.requires.high
+    (to_z-of_z w128 c.args.amount c.ranges.amount) c.index.ensures c.changed_amount-changed.ensures c.route.ensures.tail c.route.ensures.head
+    c.move_surplus.ensures.length c.move_surplus.ensures.each).moves v
 
 pub returns-clause-valid : goal.returns-clause-valid
 returns-clause-valid c =
     let s = c.self.inside in
-    let a = read_amount c.args.self.now c.self.inside.net.now c.self.inside.amounts.items c.args.r.arc c.index.result.now c.self.view_is c.self.invariant.flow
-    c.requires.arc (rw c.get.ensures at c.index.ensures) in
-    let room = read_room c.args.self.now s.net.now s.amounts.items c.args.r c.self.view_is c.self.invariant.flow c.requires.arc in
-    let y : to_z w64 (of_z w64 c.changed_amount-changed.result) ≡ cond c.args.r.back (c.index.result.now -ℤ c.args.amount)
-    (c.index.result.now +ℤ c.args.amount) = changed_is c.args.r.back c.changed_amount-changed.result c.index.result.now c.args.amount a.low
-    (omega (arith, ints, a.high, a.width)) c.requires.low (omega (arith, ints, c.requires.high, room.high)) c.changed_amount-changed.ensures in
-    let same = to_z-of_z w128 c.args.amount c.ranges.amount in
-    let step = push_step s.net.now s.amounts.items s.surpluses.items c.move_surplus.new.surpluses.items c.args.r c.args.amount c.index.result.now
-    (to_z w64 (of_z w64 c.changed_amount-changed.result)) c.get.result _ _ c.args.self.now c.self.view_is c.self.invariant c.get.ensures c.requires.arc
-    c.requires.low c.requires.high c.index.ensures y c.route.ensures.tail c.route.ensures.head c.move_surplus.ensures.length
-    (λ u q. rw same at (c.move_surplus.ensures.each u q)) in
-    step.keeps.flow
+    (push_made c.args.self.now s.net.now s.amounts.items s.surpluses.items c.move_surplus.new.surpluses.items c.args.r c.args.amount c.index.result.now
+    c.changed_amount-changed.result c.get.result _ _ c.self.view_is c.self.invariant c.get.ensures c.requires.arc c.requires.low c.requires.high
+    (to_z-of_z w128 c.args.amount c.ranges.amount) c.index.ensures c.changed_amount-changed.ensures c.route.ensures.tail c.route.ensures.head
+    c.move_surplus.ensures.length c.move_surplus.ensures.each).keeps.flow

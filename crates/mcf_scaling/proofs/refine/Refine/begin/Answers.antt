@@ -1,8 +1,13 @@
-use Rattle.std.proofs.Common.{◌≡◌, rules}
+use Rattle.std.proofs.Common.{◌≡◌, ◌*◌, ◌∙◌, length, rules, sym, ap, subst}
+use Rattle.mcf_instance.specs.Network.{Network}
+use Rattle.mcf_scaling.specs.Private.Places.{IsStarOf}
 use Rattle.mcf_scaling.proofs.CurrentLaws.{begin_current}
 use Rattle.mcf_scaling.proofs.Methods.{begun_made}
 use Rattle.mcf_scaling.specs.Refinements.{Refinement}
 use Rattle.mcf_scaling.proofs.refine.Refine.begin.Goals as goal
+
+pub mark_all-requires : goal.mark_all-requires
+mark_all-requires c = c.self.invariant.4.count ∙ ap (λ (g : Network). 2 * length g.arcs) (sym c.fill.ensures.net)
 
 pub invariant_of-self : goal.invariant_of-self
 invariant_of-self c =
@@ -16,9 +21,11 @@ invariant_of-self c =
     let copied : c.copy_from_slice.new.self.items ≡ a.prices = search rules in (
       begun_made a c.args.self.now c.fill.new.state c.deref.result.now c.copy_from_slice.new.self.items c.self.view_is c.self.invariant.0
           c.requires.scale c.requires.rest c.fill.ensures c.deref.ensures.value copied,
-      begin_current a c.fill.new.state c.deref.result.now
-          c.self.inside.rests.items c.fill.ensures c.deref.ensures.value c.self.invariant.1,
+      begin_current a c.fill.new.state c.deref.result.now c.self.inside.places
+          c.self.inside.currents.items c.fill.ensures c.deref.ensures.value c.self.invariant.1,
       c.tidy.ensures,
+      subst (λ (g : Network). IsStarOf g c.self.inside.places) (sym c.fill.ensures.net) c.self.invariant.3,
+      c.mark_all.ensures,
     )
 
 pub returns-clause-valid : goal.returns-clause-valid

@@ -1,5 +1,8 @@
-use Rattle.std.proofs.Common.{ap, ◌∙◌}
-use Rattle.mcf_instance.specs.Network.{Network}
+use Rattle.std.proofs.Common.{◌*◌, ◌∙◌, length, sym, ap, subst}
+use Rattle.mcf_instance.specs.Network.{Network, IsArcNumber}
+use Rattle.mcf_network.specs.States.{Pseudoflow}
+use Rattle.mcf_scaling.specs.Private.Places.{IsStarOf}
+use Rattle.mcf_scaling.proofs.RoomLaws.{pushed_rooms}
 use Rattle.mcf_network.specs.Residual.{head}
 use Rattle.mcf_network.proofs.StateLaws.{rid}
 use Rattle.mcf_scaling.proofs.CurrentLaws.{push_current}
@@ -19,6 +22,22 @@ push_share-amount-requires-clause-active c =
     } in
     push_low a c.args.self.now c.args.r c.self.view_is c.requires.active
 
+pub mark-requires-clause-arc : goal.mark-requires-clause-arc
+mark-requires-clause-arc c =
+    let a : Refinement = record {
+      flow = c.self.inside.state;
+      prices = c.self.inside.prices.items;
+      before = c.self.inside.before.items;
+      scale =
+          c.self.inside.scale;
+    } in
+    subst (λ (g : Network). IsArcNumber g c.args.r.arc) (sym (ap (λ (p : Pseudoflow). p.net) c.push_share-amount.ensures.value))
+    (arc_of a c.args.self.now c.args.r c.self.view_is c.requires.admissible)
+
+pub mark-requires-clause-count : goal.mark-requires-clause-count
+mark-requires-clause-count c =
+    c.self.invariant.4.count ∙ ap (λ (p : Pseudoflow). 2 * length p.net.arcs) (sym c.push_share-amount.ensures.value)
+
 pub invariant_of-self : goal.invariant_of-self
 invariant_of-self c =
     let a : Refinement = record {
@@ -31,9 +50,13 @@ invariant_of-self c =
       push_made a c.args.self.now c.args.r c.push_share-amount.result c.push_share-amount.new.state c.self.view_is c.self.invariant.0
           c.requires.admissible c.requires.active c.push_share-amount.ensures.value c.push_share-amount.ensures.amount,
       push_current a c.args.self.now
-          c.args.r c.push_share-amount.result c.push_share-amount.new.state c.self.inside.rests.items c.self.view_is c.self.invariant.0
+          c.args.r c.push_share-amount.result c.push_share-amount.new.state c.self.inside.places c.self.inside.currents.items c.self.view_is c.self.invariant.0
           c.requires.admissible c.requires.active c.push_share-amount.ensures.value c.push_share-amount.ensures.amount c.self.invariant.1,
       c.tidy.ensures,
+      subst (λ (g : Network). IsStarOf g c.self.inside.places) (sym (ap (λ (p : Pseudoflow). p.net) c.push_share-amount.ensures.value)) c.self.invariant.3,
+      pushed_rooms a.flow c.push_share-amount.new.state c.args.r.arc c.args.r.back c.push_share-amount.result c.self.inside.rooms.items
+          c.mark.new.rooms.items c.self.invariant.0.flow (arc_of a c.args.self.now c.args.r c.self.view_is c.requires.admissible)
+          c.push_share-amount.ensures.value c.self.invariant.4 c.mark.ensures,
     )
 
 pub returns-clause-valid : goal.returns-clause-valid

@@ -6,6 +6,7 @@ use Rattle.mcf_scaling.proofs.CurrentLaws.{relabel_current}
 use Rattle.mcf_scaling.proofs.Methods.{active_not_shut, relabel_raised, relabel_rises, relabel_stepped}
 use Rattle.mcf_scaling.proofs.Sizes.{small_prices}
 use Rattle.mcf_scaling.specs.Optimality.{AreSmallPrices}
+use Rattle.mcf_scaling.specs.declared.places.Span.{Span}
 use Rattle.mcf_scaling.specs.Private.Currents.{AreCurrent}
 use Rattle.mcf_scaling.specs.Refinements.{Refinement}
 use Rattle.mcf_scaling.proofs.refine.Refine.relabel.Goals as goal
@@ -51,11 +52,14 @@ invariant_of-self c =
       relabel_raised a c.args.self.now c.args.v c.rise_of-rise.result c.deref.result.now c.raise.new.prices.items c.self.view_is c.self.invariant.0
           c.requires.active c.requires.stuck c.deref.ensures.value c.rise_of-rise.ensures.value raised,
       subst
-          (λ (n : ℕ). AreCurrent a.flow c.raise.new.prices.items (set c.self.inside.rests.items (n - 1) c.leaving.result)) (sym c.get.ensures)
+          (λ (n : ℕ). AreCurrent a.flow c.raise.new.prices.items c.self.inside.places (set c.self.inside.currents.items (n - 1) c.span-span.result.first))
+          (sym c.get.ensures)
           (relabel_current a c.args.self.now (record a { prices = c.raise.new.prices.items }) c.args.v c.rise_of-rise.result c.raise.new.prices.items
-          c.net-net.result.now c.self.inside.rests.items c.leaving.result c.self.invariant.0 c.self.view_is step raised c.net-net.ensures.value
-          c.leaving.ensures c.self.invariant.1),
+          c.self.inside.places c.self.inside.currents.items c.span-span.result.first c.self.invariant.0 c.self.view_is step raised c.self.invariant.3
+          (ap (λ (s : Span). s.first) c.span-span.ensures) c.self.invariant.1),
       c.self.invariant.2,
+      c.self.invariant.3,
+      c.self.invariant.4,
     )
 
 pub returns-clause-valid : goal.returns-clause-valid

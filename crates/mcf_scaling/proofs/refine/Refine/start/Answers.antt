@@ -3,6 +3,7 @@ use Rattle.mcf_instance.specs.Network.{Network, node_count}
 use Rattle.mcf_scaling.proofs.CurrentLaws.{all_current}
 use Rattle.mcf_scaling.proofs.QueueLaws.{start_queue}
 use Rattle.mcf_scaling.proofs.Methods.{start_made}
+use Rattle.mcf_scaling.specs.Private.Places.{IsStarOf}
 use Rattle.mcf_scaling.specs.Scales.{ArePhases}
 use Rattle.mcf_scaling.proofs.refine.Refine.start.Goals as goal
 
@@ -13,10 +14,12 @@ invariant_of-result c =
     let before : c.in_ok-before.before.items ≡ replicate (node_count c.args.state.net) (pos 0) = search rules in (
       start_made c.args.state c.first_scale-scale.result c.in_ok-prices.prices.items c.in_ok-before.before.items c.requires prices before phases
           c.first_scale-scale.ensures.small,
-      all_current c.args.state c.net-net.result.now c.in_ok-prices.prices.items c.in_ok-rests.rests.items
-          (sym c.net-net.ensures.value) c.in_ok-rests.ensures.value,
+      all_current c.args.state c.net-net.result.now c.in_ok-prices.prices.items c.in_ok-places.places c.in_ok-currents.currents.items
+          (sym c.net-net.ensures.value) c.in_ok-places.ensures.value c.in_ok-currents.ensures.value,
       start_queue c.args.state c.net-net.result.now c.in_ok-queue.queue c.requires.flow
           c.requires.no_surplus c.net-net.ensures.value c.in_ok-queue.ensures.value,
+      subst (λ (g : Network). IsStarOf g c.in_ok-places.places) c.net-net.ensures.value c.in_ok-places.ensures.value,
+      c.in_ok-rooms.ensures.value,
     )
 
 pub returns-clause-valid : goal.returns-clause-valid

@@ -4,4 +4,5 @@ use Rattle.mcf_simplex.proofs.block.BlockPricing.pick.Goals as goal
 
 pub returns-clause-picks : goal.returns-clause-picks
 returns-clause-picks c =
-    subst (λ (old : BlockRule). IsBlockPick old c.args.basis.now c.pick_block-picked.result.arc (record { size = c.self.inside.size; next = c.pick_block-picked.result.next })) c.self.view_is c.pick_block-picked.ensures.picks
+    let new : BlockRule = record { size = c.self.inside.size; next = c.pick_block-picked.result.next } in
+    subst (λ (old : BlockRule). IsBlockPick old c.args.basis.now c.pick_block-picked.result.arc new) c.self.view_is c.pick_block-picked.ensures.picks

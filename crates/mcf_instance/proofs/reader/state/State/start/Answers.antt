@@ -13,4 +13,4 @@ invariant_of-self c =
     elim c.match-heading.branch [ in-Min w ↦ search rules | in-Asn w ↦ search rules ] in
     let listed = c.in_ok-listed.ensures.value in
     let supplies = c.in_ok-supplies.ensures.value ∙ ap (replicate c.args.heading.nodes) supply in
-    rw (listed, supplies) (sound_heading _ _ _ _ _ c.self.invariant fits)
+    rw (listed, supplies) (sound_heading _ _ _ _ _ _ c.self.invariant fits)

@@ -1,0 +1,25 @@
+//! Nodes that wait, first in, first out.
+ghost use Rattle.std.specs.Prelude.{IfSome};
+ghost use Rattle.mcf_instance.specs.Network.{IsNode, node_count};
+
+use mcf_network::State;
+use mcf_text::NodeId;
+use std::collections::VecDeque;
+
+/// Lets a node wait, if the queue has a place left: it takes no memory.
+pub(crate) fn wait(queue: &mut VecDeque<NodeId>, node: NodeId) {
+    if queue.len() < queue.capacity() {
+        queue.push_back_reserved(node);
+    }
+}
+
+/// The node of the net that waits longest, which waits no longer.
+pub(crate) fn next_waiting(state: &State<'_>, queue: &mut VecDeque<NodeId>) -> Option<NodeId>
+    ensures { IfSome result (IsNode (node_count state.now.net)) }
+{
+    let node = queue.pop_front()?;
+    if node.get() == 0 || node.get() > state.net().node_count() {
+        return None;
+    }
+    Some(node)
+}

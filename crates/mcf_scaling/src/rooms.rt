@@ -1,0 +1,60 @@
+//! A mark for each residual arc, which tells whether it has room.
+ghost use Rattle.std.specs.Prelude.{◌≡◌, ◌*◌, ◌≤◌, IfOk, OnErr, length};
+ghost use Rattle.std.specs.Bool.{OnFalse, OnTrue};
+ghost use Rattle.mcf_instance.specs.Network.{IsArcNumber, node_count};
+ghost use Rattle.mcf_network.specs.Walks.{HasRoom};
+ghost use Rattle.mcf_scaling.specs.Private.Places.{AreRooms, IsMarked};
+
+use mcf_network::{Rid, State};
+use mcf_text::{ArcId, NoMemory};
+use std::alloc::Global;
+
+/// The marks of a state.
+pub(crate) fn rooms_of(alloc: Global, state: &State<'_>) -> Result<Vec<bool>, NoMemory>
+    ensures value { IfOk result (λ made. AreRooms state.now made.items) }
+    ensures wants { OnErr result (1 ≤ node_count state.now.net) }
+{
+    let mut rooms = blank(alloc, 2 * state.net().arc_count() as usize)?;
+    mark_all(state, &mut rooms);
+    Ok(rooms)
+}
+
+// So many marks.
+fn blank(alloc: Global, count: usize) -> Result<Vec<bool>, NoMemory>
+    ensures count { IfOk result (λ made. length made.items ≡ count) }
+    ensures wants { OnErr result (1 ≤ count) }
+{
+    let mut made = Vec::new(alloc);
+    made.resize(count, false)?;
+    Ok(made)
+}
+
+/// Writes the marks of all residual arcs.
+pub(crate) fn mark_all(state: &State<'_>, rooms: &mut Vec<bool>)
+    requires { length rooms.old.items ≡ 2 * length state.now.net.arcs }
+    ensures { AreRooms state.now rooms.new.items }
+{
+    'arcs: for number in 0..state.net().arc_count() {
+        mark(state, rooms, ArcId::new(number + 1));
+    }
+}
+
+/// Writes the marks of an arc, forward and backward.
+pub(crate) fn mark(state: &State<'_>, rooms: &mut Vec<bool>, arc: ArcId)
+    requires arc { IsArcNumber state.now.net arc }
+    requires count { length rooms.old.items ≡ 2 * length state.now.net.arcs }
+    ensures { IsMarked state.now rooms.old.items rooms.new.items arc }
+{
+    let link = 2 * (arc.get() as usize - 1);
+    rooms[link] = has_room(state, arc, false);
+    rooms[link + 1] = has_room(state, arc, true);
+}
+
+// Whether a residual arc has room.
+fn has_room(state: &State<'_>, arc: ArcId, back: bool) -> bool
+    requires { IsArcNumber state.now.net arc }
+    ensures yes { OnTrue result (HasRoom state.now (record { arc = arc; back = back })) }
+    ensures no { OnFalse result (¬ HasRoom state.now (record { arc = arc; back = back })) }
+{
+    state.room(Rid { arc, back }) > 0
+}

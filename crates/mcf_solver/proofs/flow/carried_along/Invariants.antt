@@ -1,0 +1,5 @@
+use Rattle.mcf_solver.proofs.SentLists.{IsCarriedUpTo}
+use Rattle.mcf_solver.proofs.flow.carried_along.Given as goal
+
+abbrev pub invariant-loop-i : goal.invariant-loop-i
+invariant-loop-i l = IsCarriedUpTo l.instance l.flow l.i l.total l.sent.items
