@@ -189,11 +189,11 @@ impl Preflow {
             };
             level = self.levels[node as usize - 1] + 1;
             for along in state.net.leaving(node) {
-                if state.room(Rid { back: !along.back, ..*along }) <= 0 {
+                if !along.back && state.amounts[along.arc as usize] == 0 {
                     continue;
                 }
                 let (_, from) = state.net.route(*along);
-                if self.levels[from as usize - 1] < far {
+                if self.levels[from as usize - 1] < far || state.room(Rid { back: !along.back, ..*along }) <= 0 {
                     continue;
                 }
                 self.levels[from as usize - 1] = level;

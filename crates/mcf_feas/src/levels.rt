@@ -1,10 +1,10 @@
 //! Levels: how far each node is from the nodes that take, along residual arcs with room.
 ghost use Rattle.std.specs.Prelude.{◌≡◌, length};
-ghost use Rattle.mcf_instance.specs.Network.{IsNode, node_count};
+ghost use Rattle.mcf_instance.specs.Network.{IsArcNumber, IsNode, node_count};
 
 use crate::waiting::{next_waiting, wait};
 use mcf_network::{Rid, State};
-use mcf_text::NodeId;
+use mcf_text::{ArcId, NodeId};
 use std::collections::VecDeque;
 
 // Up to which level it is enough that three quarters of the nodes with a surplus have theirs. Where more arcs lie
@@ -97,7 +97,7 @@ fn level_tails(
     let mut senders = 0u32;
     'tails: for along in net.leaving(node) {
         let Rid { arc, back } = along;
-        if state.room(Rid { arc, back: !back }) <= 0 {
+        if is_unused(state, arc, back) {
             continue;
         }
         let (_, from) = net.route(Rid { arc, back });
@@ -105,11 +105,24 @@ fn level_tails(
         if levels[place] < far {
             continue;
         }
+        if state.room(Rid { arc, back: !back }) <= 0 {
+            continue;
+        }
         levels[place] = level;
         wait(queue, from);
         senders = senders.saturating_add(u32::from(state.surplus(from) > 0));
     }
     senders
+}
+
+// Whether a residual arc is an arc, and not the way back, and carries nothing, so that nothing can come back along it.
+fn is_unused(state: &State<'_>, arc: ArcId, back: bool) -> bool
+    requires { IsArcNumber state.now.net arc }
+{
+    if back {
+        return false;
+    }
+    state.amount(arc) == 0
 }
 
 // Lowers the levels above one to it.
