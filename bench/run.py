@@ -289,7 +289,7 @@ def measure(part, words):
             net_bytes("the peer", peers[0].command, paths)
             within = within and size <= NET_BYTES
     if part == "simplex":
-        within = processes.measure(words, peer, family_file) and within
+        within = processes.measure(words, peers[-1].command[0], family_file) and within
     return within
 
 

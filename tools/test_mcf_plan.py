@@ -116,7 +116,7 @@ REFUSED_FLOWS = [
     (PLACES, ROUTES + "Mill,Wien,5,4,1\n", "routes.csv, line 5, column least: least is greater than most"),
     (PLACES, "cost,from,to,least,most\n" + "9" * 30 + ",Mill,Wien,0,1\n", "routes.csv, line 2, column cost: a cost beyond"),
     (PLACES, "from,to,least,most,cost\n" + "Mill,Wien,0,1000000000000000000,1000000000000000\n" * 1001,
-     "routes.csv, line 1002, column cost: with this route costs"),
+     "routes.csv, line 1002, column cost: with this route, costs"),
 ]
 # The same two tables as PLACES and ROUTES, written in other ways that mean the same.
 SAME_PLACES = [
