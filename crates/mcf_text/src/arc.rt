@@ -20,7 +20,7 @@ impl Model for ArcId {
 }
 
 impl ArcId {
-    ghost use Rattle.std.specs.Prelude.{◌≡◌};
+    ghost use Rattle.std.specs.Prelude.{◌≡◌, ◌+◌, ◌-◌, ◌<◌, ◌≤◌, ◌^◌};
 
     /// The arc with this number.
     pub fn new(number: u32) -> ArcId
@@ -34,5 +34,21 @@ impl ArcId {
         ensures { result ≡ self }
     {
         self.number
+    }
+
+    /// The arc at a place of a list of all arcs, counted from 0: its number is one more.
+    pub fn at(place: u32) -> ArcId
+        requires { place + 1 < 2 ^ 32 }
+        ensures { result ≡ place + 1 }
+    {
+        ArcId::new(place + 1)
+    }
+
+    /// Where the arc stands in a list of all arcs, counted from 0: its number, which isn't 0, less 1.
+    pub fn place(self) -> usize
+        requires { 1 ≤ self }
+        ensures { result ≡ self - 1 }
+    {
+        self.get() as usize - 1
     }
 }

@@ -20,7 +20,7 @@ impl Model for NodeId {
 }
 
 impl NodeId {
-    ghost use Rattle.std.specs.Prelude.{◌≡◌};
+    ghost use Rattle.std.specs.Prelude.{◌≡◌, ◌+◌, ◌-◌, ◌<◌, ◌≤◌, ◌^◌};
 
     /// The node with this number.
     pub fn new(number: u32) -> NodeId
@@ -34,5 +34,21 @@ impl NodeId {
         ensures { result ≡ self }
     {
         self.number
+    }
+
+    /// The node at a place of a list of all nodes, counted from 0: its number is one more.
+    pub fn at(place: u32) -> NodeId
+        requires { place + 1 < 2 ^ 32 }
+        ensures { result ≡ place + 1 }
+    {
+        NodeId::new(place + 1)
+    }
+
+    /// Where the node stands in a list of all nodes, counted from 0: its number, which isn't 0, less 1.
+    pub fn place(self) -> usize
+        requires { 1 ≤ self }
+        ensures { result ≡ self - 1 }
+    {
+        self.get() as usize - 1
     }
 }
