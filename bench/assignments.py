@@ -64,7 +64,7 @@ KINDS = {
 def build(source, libraries):
     """The peer, or nothing where it can't be built."""
     peer = OUT / f"assign-{pathlib.Path(source).stem}-peer"
-    command = ["g++", "-O3", "-DNDEBUG", str(BENCH / "assign" / source), "-o", str(peer), *libraries]
+    command = ["g++", "-O3", "-DNDEBUG", str(BENCH / "peers" / "assign" / source), "-o", str(peer), *libraries]
     try:
         done = subprocess.run(command, capture_output=True)
     except FileNotFoundError:

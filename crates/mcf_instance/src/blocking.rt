@@ -10,9 +10,9 @@ ghost use Rattle.mcf_instance.specs.WellFormed.{HasEnds, IsArcWithinLimits, IsUp
 ghost use Rattle.mcf_instance.specs.Private.Sums.{sum_limit};
 
 use crate::arc::PackedArc;
-use crate::copies::copies;
 use crate::instances::Instance;
 use crate::problem::Side;
+use crate::repeated::copies;
 use mcf_text::{NoMemory, NodeId};
 use std::alloc::Global;
 

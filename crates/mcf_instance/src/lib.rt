@@ -8,12 +8,12 @@
 mod arc;
 mod blocking;
 mod code;
-mod copies;
 mod instances;
 mod laws;
 mod problem;
 mod reader;
 mod refusal;
+mod repeated;
 
 pub use arc::Arc;
 pub use blocking::{blocks, table_of};
@@ -23,3 +23,4 @@ pub use laws::{blocked_has_no_flow, former_instances_stay, shown_flows_are_least
 pub use problem::{Problem, Side};
 pub use reader::read;
 pub use refusal::Refusal;
+pub use repeated::copies;

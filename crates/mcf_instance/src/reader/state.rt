@@ -10,12 +10,12 @@ ghost use Rattle.mcf_text.specs.Row.{Row, row_of};
 
 use crate::arc::PackedArc;
 use crate::code::Code;
-use crate::copies::copies;
 use crate::instances::Instance;
 use crate::problem::Problem;
 use crate::reader::fields::first_fields;
 use crate::reader::line::{Heading, Item, arc_line, is_word, node_line, problem_line};
 use crate::refusal::Refusal;
+use crate::repeated::copies;
 use mcf_text::NoMemory;
 use std::alloc::Global;
 use std::marker::Model;
