@@ -1,5 +1,5 @@
 //! Texts, and what they stand for.
-use mcf_instance::{Arc, Code, Instance, Problem, former_instances_stay, read};
+use mcf_instance::{Arc, Code, Instance, Problem, copies, former_instances_stay, read};
 use mcf_text::{ArcId, NoMemory, NodeId};
 use std::alloc::Global;
 use std::test::Fail;
@@ -299,5 +299,13 @@ fn totals_are_looked_at(rt: HostRuntime) -> Result<(), Fail> {
             "at {line} {word}"
         );
     }
+    Ok(())
+}
+
+#[test]
+fn lists_of_one_value(rt: HostRuntime) -> Result<(), Fail> {
+    let sevens = copies(rt.alloc(), 3, 7)?;
+    assert!(rt; sevens.as_slice() == &[7, 7, 7]);
+    assert!(rt; copies(rt.alloc(), 0, true)?.is_empty());
     Ok(())
 }

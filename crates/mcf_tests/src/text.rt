@@ -247,6 +247,8 @@ fn numbers_of_nodes_and_arcs(rt: HostRuntime) {
     assert!(rt; NodeId::new(9) < NodeId::new(10) && ArcId::new(9) < ArcId::new(10));
     ids_are_ordered_by_number();
     assert!(rt; ArcId::new(3).get() == 3);
+    assert!(rt; NodeId::at(0) == NodeId::new(1) && ArcId::at(6) == ArcId::new(7));
+    assert!(rt; NodeId::new(7).place() == 6 && ArcId::new(1).place() == 0);
 }
 
 // Whether a number makes a text longer, or none, where memory is wanting and the text is as it was.

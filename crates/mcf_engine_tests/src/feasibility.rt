@@ -2,8 +2,7 @@
 ghost use Rattle.std.specs.Prelude.{◌≡◌, length};
 ghost use Rattle.mcf_instance.specs.Network.{node_count};
 
-use crate::instances::instance_of;
-use crate::networks::net_of;
+use crate::networks::{instance_of, net_of};
 use mcf_feas::{Feas, answers_are_exact, blocked_has_no_state, feasible, unbalanced};
 use mcf_instance::{Instance, Side};
 use mcf_network::{Net, NodeSet, State, restore};

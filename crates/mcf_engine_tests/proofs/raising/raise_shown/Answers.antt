@@ -1,6 +1,6 @@
 use Rattle.std.proofs.Common.{arith}
 use Rattle.std.proofs.lemmas.Int.{ints}
-use Rattle.mcf_tests.proofs.raising.raise_shown.Goals as goal
+use Rattle.mcf_engine_tests.proofs.raising.raise_shown.Goals as goal
 
 pub raise-requires-clause-near : goal.raise-requires-clause-near
 raise-requires-clause-near c =

@@ -1,6 +1,6 @@
 use Rattle.mcf_feas.specs.Feasible.{IsFeasibleState}
 use Rattle.mcf_prices.proofs.Cancelling.{cost_height}
-use Rattle.mcf_tests.proofs.prices.cancel_by_one.Given as goal
+use Rattle.mcf_engine_tests.proofs.prices.cancel_by_one.Given as goal
 
 abbrev pub invariant-cycles : goal.invariant-cycles
 invariant-cycles l = IsFeasibleState l.fn.state.net l.state

@@ -2,7 +2,7 @@
 ghost use Rattle.std.specs.Prelude.{◌≡◌, ◌∷◌, [], IsTrue, false};
 ghost use Rattle.mcf_network.specs.States.{HasNoSurplus};
 
-use crate::instances::instance_of;
+use mcf_instance::{Instance, read};
 use mcf_network::{
     Net, NodeSet, Rid, State, feasible_flows_are_states, greatest_prices_carry_over,
     net_flows_cost_no_more, nets_block_alike, push_along, restore, restored_least_flows_are_least,
@@ -11,6 +11,14 @@ use mcf_network::{
 use mcf_text::{ArcId, NoMemory, NodeId};
 use std::alloc::Global;
 use std::test::Fail;
+
+/// The instance of a text, if that is one.
+pub fn instance_of(alloc: Global, text: &[u8]) -> Result<Option<Instance>, NoMemory> {
+    match read(alloc, text)? {
+        Ok(instance) => Ok(Some(instance)),
+        Err(_) => Ok(None),
+    }
+}
 
 /// The net of a text, if that is an instance.
 pub fn net_of(alloc: Global, text: &[u8]) -> Result<Option<Net>, NoMemory> {

@@ -1,6 +1,6 @@
 use Rattle.std.proofs.Common.{◌∙◌, sym}
-use Rattle.mcf_tests.proofs.Extensions.{extension_net, source_row, unmatched_row}
-use Rattle.mcf_tests.proofs.assigning.offer.Goals as goal
+use Rattle.mcf_engine_tests.proofs.Extensions.{extension_net, source_row, unmatched_row}
+use Rattle.mcf_engine_tests.proofs.assigning.offer.Goals as goal
 
 pub extend-requires-clause-row : goal.extend-requires-clause-row
 extend-requires-clause-row c =

@@ -2,7 +2,7 @@ use Rattle.std.proofs.Common.{◌≡◌, ◌<◌, ◌+◌, ◌-◌, ◌∙◌, a
 use Rattle.std.proofs.lemmas.Int.{ints}
 use Rattle.mcf_instance.specs.Network.{node_count}
 use Rattle.mcf_network.specs.States.{surplus_at}
-use Rattle.mcf_tests.proofs.networks.is_balanced.Goals as goal
+use Rattle.mcf_engine_tests.proofs.networks.is_balanced.Goals as goal
 
 pub loop-v-preserved : goal.loop-v-preserved
 loop-v-preserved c =

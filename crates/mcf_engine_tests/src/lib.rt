@@ -1,0 +1,31 @@
+#![tactic(auto)]
+
+//! The tests of nets, trees, prices and engines: what no clause says, and each public call with ample memory.
+//!
+//! They stand in a crate of their own, since a crate with tests is proved twice, and apart from the others, so that both are proved
+//! at the same time. It has no other function.
+
+#[cfg(test)]
+mod asking_again;
+#[cfg(test)]
+mod assigning;
+#[cfg(test)]
+mod bases;
+#[cfg(test)]
+mod feasibility;
+#[cfg(test)]
+mod networks;
+#[cfg(test)]
+mod price_sizes;
+#[cfg(test)]
+mod prices;
+#[cfg(test)]
+mod raising;
+#[cfg(test)]
+mod random_prices;
+#[cfg(test)]
+mod scaling;
+#[cfg(test)]
+mod simplex;
+#[cfg(test)]
+mod trees;
