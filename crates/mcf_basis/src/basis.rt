@@ -80,7 +80,7 @@ impl<'n> Basis<'n> {
         ensures small { IsUpTo (7 * 10 ^ 36) result }
         ensures basis { IsBasis self.now }
     {
-        let offer = self.offers[k.get() as usize - 1];
+        let offer = self.offers[k.place()];
         i128::from(offer.cost) - self.table.get(offer.from) + self.table.get(offer.to)
     }
 
@@ -109,6 +109,6 @@ impl<'n> Basis<'n> {
         let place = self
             .table
             .least_offer(&self.offers, begin, end as usize - 1)?;
-        Some(ArcId::new(place as u32 + 1))
+        Some(ArcId::at(place as u32))
     }
 }

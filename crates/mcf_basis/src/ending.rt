@@ -73,7 +73,7 @@ impl<'n> Basis<'n> {
     {
         set.clear();
         for i in 0..self.net.node_count() {
-            let v = NodeId::new(i + 1);
+            let v = NodeId::at(i);
             mark(set, v, 0 < self.price(v));
         }
     }
@@ -109,7 +109,7 @@ fn write_outside(net: &Net, offers: &[Offer], state: &mut State<'_>)
     ensures each { (k : ℕ) → IsArcNumber net.now k → amount_at state.new k ≡ (if (slice_index_or offers.now (k - 1) no_offer).from == (arc_at net.now k).src then pos 0 else (arc_at net.now k).cap) }
 {
     for i in 0..net.arc_count() {
-        let k = ArcId::new(i + 1);
+        let k = ArcId::at(i);
         set_amount(state, k, amount_outside(net, offers[i as usize], k));
     }
 }
@@ -142,7 +142,7 @@ fn write_tree(net: &Net, tree: &Tree, rooms: &[Rooms], state: &mut State<'_>)
     // Called for its clause alone: each amount is from 0 to the width of its arc.
     let _net = state.net();
     for i in 0..net.node_count() {
-        let v = NodeId::new(i + 1);
+        let v = NodeId::at(i);
         write_inside(net, tree.parent_arc(v), v, rooms[v.get() as usize], state);
     }
 }

@@ -90,7 +90,7 @@ fn turn(
 {
     tree.forget_counts();
     table.forget_count();
-    let offer = offers[k.get() as usize - 1];
+    let offer = offers[k.place()];
     let found = find_round(net, tree, rooms, offer, k);
     push(net, tree, rooms, artificial, round_of(found));
     let reduced = reduced_of(table, offer);

@@ -57,7 +57,7 @@ fn star_offers(alloc: Global, net: &Net) -> Result<Vec<Offer>, NoMemory>
     let count = net.arc_count();
     let mut made = Vec::with_capacity(alloc, count as usize)?;
     for i in 0..count {
-        made.push(star_offer(net, ArcId::new(i + 1)))?;
+        made.push(star_offer(net, ArcId::at(i)))?;
     }
     Ok(made)
 }
@@ -91,7 +91,7 @@ fn star_rooms(alloc: Global, net: &Net) -> Result<Vec<Rooms>, NoMemory>
     let mut made = Vec::with_capacity(alloc, count as usize + 1)?;
     made.push(Rooms { up: 0, down: 0 })?;
     for i in 0..count {
-        made.push(star_room(net.supply(NodeId::new(i + 1))))?;
+        made.push(star_room(net.supply(NodeId::at(i))))?;
     }
     Ok(made)
 }
@@ -133,7 +133,7 @@ fn star_amounts(alloc: Global, net: &Net) -> Result<Vec<i128>, NoMemory>
     let mut made = Vec::with_capacity(alloc, count as usize + 1)?;
     made.push(0)?;
     for i in 0..count {
-        made.push(star_amount(net, NodeId::new(i + 1)))?;
+        made.push(star_amount(net, NodeId::at(i)))?;
     }
     Ok(made)
 }
@@ -170,7 +170,7 @@ fn narrow_prices(alloc: Global, net: &Net, cost: i64) -> Result<Vec<i64>, NoMemo
     let mut made = Vec::with_capacity(alloc, count as usize + 1)?;
     made.push(0)?;
     for i in 0..count {
-        made.push(narrow_price(net.supply(NodeId::new(i + 1)), cost))?;
+        made.push(narrow_price(net.supply(NodeId::at(i)), cost))?;
     }
     Ok(made)
 }
@@ -184,7 +184,7 @@ fn wide_prices(alloc: Global, net: &Net, cost: i128) -> Result<Vec<i128>, NoMemo
     let mut made = Vec::with_capacity(alloc, count as usize + 1)?;
     made.push(0)?;
     for i in 0..count {
-        made.push(wide_price(net.supply(NodeId::new(i + 1)), cost))?;
+        made.push(wide_price(net.supply(NodeId::at(i)), cost))?;
     }
     Ok(made)
 }
@@ -220,7 +220,7 @@ fn greatest_cost(net: &Net) -> u128
 {
     let mut greatest = 0;
     for i in 0..net.arc_count() {
-        greatest = greater(greatest, net.cost(ArcId::new(i + 1)).unsigned_abs());
+        greatest = greater(greatest, net.cost(ArcId::at(i)).unsigned_abs());
     }
     greatest
 }
@@ -238,7 +238,7 @@ fn artificial_cost(net: &Net) -> i128
 {
     let mut total = 1;
     for i in 0..net.arc_count() {
-        total += weight(net, ArcId::new(i + 1));
+        total += weight(net, ArcId::at(i));
     }
     total as i128
 }

@@ -10,7 +10,7 @@ ghost use Rattle.mcf_feas.specs.Feasible.{IsFeas};
 use crate::preflow::round;
 use crate::search::Search;
 use crate::supplies::unbalanced;
-use mcf_instance::Side;
+use mcf_instance::{Side, copies};
 use mcf_network::{Net, NodeSet, State};
 use mcf_text::{NoMemory, NodeId};
 use std::alloc::Global;
@@ -63,8 +63,7 @@ fn tables(alloc: Global, net: &Net) -> Result<(Vec<u32>, VecDeque<NodeId>), NoMe
     ensures wants { OnErr result (1 ≤ node_count net.now) }
 {
     let nodes = net.node_count() as usize;
-    let mut levels = Vec::new(alloc);
-    levels.resize(nodes, 0)?;
+    let levels = copies(alloc, nodes, 0)?;
     let queue = VecDeque::with_capacity(alloc, nodes)?;
     Ok((levels, queue))
 }

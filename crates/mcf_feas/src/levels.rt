@@ -35,7 +35,7 @@ fn start_levels(state: &State<'_>, levels: &mut [u32], queue: &mut VecDeque<Node
     queue.clear();
     let far = state.net().node_count();
     'nodes: for number in 0..far {
-        let node = NodeId::new(number + 1);
+        let node = NodeId::at(number);
         let takes = state.surplus(node) < 0;
         levels[number as usize] = if takes { 0 } else { far };
         if takes {
@@ -64,7 +64,7 @@ fn search_back(
         let Some(node) = next_waiting(state, queue) else {
             return far;
         };
-        level = levels[node.get() as usize - 1].saturating_add(1);
+        level = levels[node.place()].saturating_add(1);
         let reached = level_tails(state, levels, queue, node, level);
         sought = sought.saturating_sub(reached);
     }
@@ -101,7 +101,7 @@ fn level_tails(
             continue;
         }
         let (_, from) = net.route(Rid { arc, back });
-        let place = from.get() as usize - 1;
+        let place = from.place();
         if levels[place] < far {
             continue;
         }

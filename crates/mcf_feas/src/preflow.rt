@@ -51,7 +51,7 @@ fn start(state: &State<'_>, queue: &mut VecDeque<NodeId>) -> u32 {
     queue.clear();
     let mut senders = 0u32;
     'nodes: for number in 0..state.net().node_count() {
-        let node = NodeId::new(number + 1);
+        let node = NodeId::at(number);
         if state.surplus(node) > 0 {
             senders = senders.saturating_add(1);
             wait(queue, node);
@@ -95,7 +95,7 @@ fn visit(
         return 1;
     };
     let level = least.saturating_add(1);
-    levels[node.get() as usize - 1] = level;
+    levels[node.place()] = level;
     if level < far {
         wait(queue, node);
     }
@@ -115,7 +115,7 @@ fn push_down(
     ensures { IsPushedOn state.old state.new }
 {
     let net = state.net();
-    let level = levels[from.get() as usize - 1];
+    let level = levels[from.place()];
     let mut least = net.node_count();
     'arcs: for along in net.leaving(from) {
         let Rid { arc, back } = along;
@@ -141,7 +141,7 @@ fn open_level(state: &State<'_>, levels: &[u32], arc: ArcId, back: bool) -> u32
         return state.net().node_count();
     }
     let (_, to) = state.net().route(Rid { arc, back });
-    levels[to.get() as usize - 1]
+    levels[to.place()]
 }
 
 // Pushes a share of what the node has left to send that a residual arc leaves along the arc, and says whether that
@@ -219,7 +219,7 @@ fn lift(state: &State<'_>, levels: &mut [u32], node: NodeId)
         let Rid { arc, back } = along;
         least = least.min(open_level(state, levels, arc, back));
     }
-    levels[node.get() as usize - 1] = least.saturating_add(1);
+    levels[node.place()] = least.saturating_add(1);
 }
 
 // Lets a node wait, if it has a surplus.

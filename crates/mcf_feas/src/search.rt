@@ -83,7 +83,7 @@ impl Search {
         self.reached.clear();
         self.visits.clear();
         for number in 0..state.net().node_count() {
-            let node = NodeId::new(number + 1);
+            let node = NodeId::at(number);
             if state.surplus(node) > 0 {
                 self.visit(node, None);
             }

@@ -40,7 +40,7 @@ fn supply_total(net: &Net) -> i128
 {
     let mut total = 0;
     for number in 0..net.node_count() {
-        total += net.supply(NodeId::new(number + 1));
+        total += net.supply(NodeId::at(number));
     }
     total
 }
@@ -53,7 +53,7 @@ fn all_nodes(alloc: Global, net: &Net) -> Result<NodeSet, NoMemory>
 {
     let mut set = NodeSet::new(alloc, net)?;
     for number in 0..net.node_count() {
-        set.insert(NodeId::new(number + 1));
+        set.insert(NodeId::at(number));
     }
     Ok(set)
 }

@@ -180,39 +180,39 @@ pub record IsPushStep (s : Pseudoflow) (r : Rid) (x : ℤ) (after : Pseudoflow) 
   pub moves : (v : ℕ) → surplus_at after v ≡ surplus_at s v -ℤ when (eqb (tail s.net r) v) x +ℤ when (eqb (head s.net r) v) x
 
 module _ (g : Network) (amounts kept kept' : List ℤ) (r : Rid) (x a y : ℤ) (i from to : ℕ) where
-  push_step_at : KeepsSurplus (record { net = g; amounts = amounts }) kept → i ≡ r.arc → IsArcNumber g r.arc → pos 0 ≤ℤ x
-      → x ≤ℤ room_of (record { net = g; amounts = amounts }) r → a ≡ get_or amounts (i - 1) a → y ≡ cond r.back (a -ℤ x) (a +ℤ x) → from ≡ tail g r
+  push_step_at : KeepsSurplus (record { net = g; amounts = amounts }) kept → i ≡ r.arc - 1 → IsArcNumber g r.arc → pos 0 ≤ℤ x
+      → x ≤ℤ room_of (record { net = g; amounts = amounts }) r → a ≡ get_or amounts i a → y ≡ cond r.back (a -ℤ x) (a +ℤ x) → from ≡ tail g r
       → to ≡ head g r → length kept' ≡ length kept → ((v : ℕ) → IsNode (length kept) v → at_node kept' v ≡ at_node kept v -ℤ when (eqb from v) x +ℤ when
-      (eqb to v) x) → IsPushStep (record { net = g; amounts = amounts }) r x (record { net = g; amounts = set amounts (i - 1) y }) kept'
+      (eqb to v) x) → IsPushStep (record { net = g; amounts = amounts }) r x (record { net = g; amounts = set amounts i y }) kept'
   push_step_at ok ei h low high ea ey ef et n each =
       let s : Pseudoflow = record { net = g; amounts = amounts } in
       let here = (amount_of s r.arc ok.flow h).in_range in
       let is_a : a ≡ amount_at s r.arc = get_or_read amounts (r.arc - 1) a here (rw (← ei) ea) (pos 0) in
-      let is : record { net = g; amounts = set amounts (i - 1) y } ≡ pushed s r x = rw (ei, ey, is_a) refl in
+      let is : record { net = g; amounts = set amounts i y } ≡ pushed s r x = rw (ei, ey, is_a) refl in
       record {
         keeps = subst (λ (t : Pseudoflow). KeepsSurplus t kept') (sym is) (keeps_pushed s kept kept' r x from to ok h low high ef et n each);
         is = is;
         moves = λ v. ap (λ (t : Pseudoflow). surplus_at t v) is ∙ pushed_surplus s r.arc r.back x ok.flow h v;
       }
 
-  pub push_step : (s : Pseudoflow) → record { net = g; amounts = amounts } ≡ s → KeepsSurplus (record { net = g; amounts = amounts }) kept → i ≡ r.arc
-      → IsArcNumber s.net r.arc → pos 0 ≤ℤ x → x ≤ℤ room_of s r → a ≡ get_or amounts (i - 1) a → y ≡ cond r.back (a -ℤ x) (a +ℤ x) → from ≡ tail g r
+  pub push_step : (s : Pseudoflow) → record { net = g; amounts = amounts } ≡ s → KeepsSurplus (record { net = g; amounts = amounts }) kept → i ≡ r.arc - 1
+      → IsArcNumber s.net r.arc → pos 0 ≤ℤ x → x ≤ℤ room_of s r → a ≡ get_or amounts i a → y ≡ cond r.back (a -ℤ x) (a +ℤ x) → from ≡ tail g r
       → to ≡ head g r → length kept' ≡ length kept → ((v : ℕ) → IsNode (length kept) v → at_node kept' v ≡ at_node kept v -ℤ when (eqb from v) x +ℤ when
-      (eqb to v) x) → IsPushStep s r x (record { net = g; amounts = set amounts (i - 1) y }) kept'
+      (eqb to v) x) → IsPushStep s r x (record { net = g; amounts = set amounts i y }) kept'
   push_step s view ok ei h low high ea ey ef et n each =
-      subst (λ (t : Pseudoflow). IsPushStep t r x (record { net = g; amounts = set amounts (i - 1) y }) kept') view
+      subst (λ (t : Pseudoflow). IsPushStep t r x (record { net = g; amounts = set amounts i y }) kept') view
       (push_step_at ok ei (subst (λ (t : Pseudoflow). IsArcNumber t.net r.arc) (sym view) h) low
       (subst (λ (t : Pseudoflow). x ≤ℤ room_of t r) (sym view) high) ea ey ef et n each)
 
 -- the step of a push, by what its calls read and wrote
 pub push_made : (s : Pseudoflow) (g : Network) (amounts kept kept' : List ℤ) (r : Rid) (x a w : ℤ) (i from to : ℕ)
-    → record { net = g; amounts = amounts } ≡ s → KeepsSurplus (record { net = g; amounts = amounts }) kept → i ≡ r.arc → IsArcNumber s.net r.arc
-    → pos 0 ≤ℤ x → x ≤ℤ room_of s r → to_z w128 (of_z w128 x) ≡ x → a ≡ get_or amounts (i - 1) a
+    → record { net = g; amounts = amounts } ≡ s → KeepsSurplus (record { net = g; amounts = amounts }) kept → i ≡ r.arc - 1 → IsArcNumber s.net r.arc
+    → pos 0 ≤ℤ x → x ≤ℤ room_of s r → to_z w128 (of_z w128 x) ≡ x → a ≡ get_or amounts i a
     → w ≡ cond r.back (to_z w64 (of_z w64 a) -ℤ to_z w128 (of_z w128 x)) (to_z w64 (of_z w64 a) +ℤ to_z w128 (of_z w128 x))
     → from ≡ tail g r → to ≡ head g r → length kept' ≡ length kept
     → ((v : ℕ) → IsNode (length kept) v → at_node kept' v ≡ at_node kept v -ℤ when (eqb from v) (to_z w128 (of_z w128 x))
     +ℤ when (eqb to v) (to_z w128 (of_z w128 x)))
-    → IsPushStep s r x (record { net = g; amounts = set amounts (i - 1) (to_z w64 (of_z w64 w)) }) kept'
+    → IsPushStep s r x (record { net = g; amounts = set amounts i (to_z w64 (of_z w64 w)) }) kept'
 push_made s g amounts kept kept' r x a w i from to view ok ei h low high same ea ew ef et n each =
     let read = read_amount s g amounts r.arc a view ok.flow h (rw ei at ea) in
     let room = read_room s g amounts r view ok.flow h in

@@ -73,7 +73,7 @@ impl Net {
         ensures src_is_node { IsNode (node_count self.now) result.0 }
         ensures dst_is_node { IsNode (node_count self.now) result.1 }
     {
-        let a = self.arcs[k.get() as usize - 1];
+        let a = self.arcs[k.place()];
         (NodeId::new(a.src), NodeId::new(a.dst))
     }
 
@@ -83,7 +83,7 @@ impl Net {
         ensures value { result ≡ (arc_at self.now k).cap }
         ensures of_net { IsNet self.now }
     {
-        i128::from(self.arcs[k.get() as usize - 1].width)
+        i128::from(self.arcs[k.place()].width)
     }
 
     /// The cost of each unit on an arc, at most 10^15 from 0.
@@ -92,7 +92,7 @@ impl Net {
         ensures value { result ≡ (arc_at self.now k).cost }
         ensures of_net { IsNet self.now }
     {
-        i128::from(self.arcs[k.get() as usize - 1].cost)
+        i128::from(self.arcs[k.place()].cost)
     }
 
     /// The supply of a node, at most 10^26 from 0: what it sends, less what it takes.
@@ -101,7 +101,7 @@ impl Net {
         ensures value { result ≡ at_node self.now.supplies v }
         ensures of_net { IsNet self.now }
     {
-        self.supplies[v.get() as usize - 1]
+        self.supplies[v.place()]
     }
 
     /// The node that a residual arc leaves, and the one that it enters.
@@ -122,7 +122,7 @@ impl Net {
         ensures value { result ≡ unit_cost self.now r }
         ensures of_net { IsNet self.now }
     {
-        let cost = i128::from(self.arcs[r.arc.get() as usize - 1].cost);
+        let cost = i128::from(self.arcs[r.arc.place()].cost);
         if r.back { -cost } else { cost }
     }
 

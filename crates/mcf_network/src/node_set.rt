@@ -6,6 +6,7 @@ ghost use Rattle.mcf_instance.specs.Network.{IsNode, node_count};
 ghost use Rattle.mcf_network.specs.NodeSets.{member_count, no_nodes, with_node};
 
 use crate::net::Net;
+use mcf_instance::copies;
 use mcf_text::{NoMemory, NodeId};
 use std::alloc::Global;
 use std::marker::Model;
@@ -39,8 +40,7 @@ impl NodeSet {
         ensures value { IfOk result (λ set. set ≡ no_nodes (node_count net.now)) }
         ensures wants { OnErr result (1 ≤ node_count net.now) }
     {
-        let mut marks = Vec::new(alloc);
-        marks.resize(net.node_count() as usize, false)?;
+        let marks = copies(alloc, net.node_count() as usize, false)?;
         Ok(NodeSet { marks, count: 0 })
     }
 
@@ -57,7 +57,7 @@ impl NodeSet {
         requires { IsNode (length self.now) v }
         ensures { result ≡ in_table self.now v }
     {
-        self.marks[v.get() as usize - 1]
+        self.marks[v.place()]
     }
 
     /// Puts a node into the set.
@@ -65,7 +65,7 @@ impl NodeSet {
         requires { IsNode (length self.old) v }
         ensures { self.new ≡ with_node self.old v }
     {
-        let k = v.get() as usize - 1;
+        let k = v.place();
         if !self.marks[k] {
             self.marks[k] = true;
             self.count += 1;

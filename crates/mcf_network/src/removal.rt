@@ -51,7 +51,7 @@ fn arcs_without_lows(alloc: Global, instance: &Instance) -> Result<Vec<StoredArc
     let count = instance.arc_count();
     let mut arcs = Vec::with_capacity(alloc, count as usize)?;
     for i in 0..count {
-        arcs.push(without_low(instance.arc(ArcId::new(i + 1))))?;
+        arcs.push(without_low(instance.arc(ArcId::at(i))))?;
     }
     Ok(arcs)
 }
@@ -82,7 +82,7 @@ fn supplies_left(alloc: Global, instance: &Instance) -> Result<Vec<i128>, NoMemo
 {
     let mut left = supplies_of(alloc, instance)?;
     for i in 0..instance.arc_count() {
-        let a = instance.arc(ArcId::new(i + 1));
+        let a = instance.arc(ArcId::at(i));
         move_surplus(&mut left, a.src, a.dst, a.low);
     }
     Ok(left)
@@ -96,7 +96,7 @@ fn supplies_of(alloc: Global, instance: &Instance) -> Result<Vec<i128>, NoMemory
     let count = instance.node_count();
     let mut supplies = Vec::with_capacity(alloc, count as usize)?;
     for i in 0..count {
-        supplies.push(instance.supply(NodeId::new(i + 1)))?;
+        supplies.push(instance.supply(NodeId::at(i)))?;
     }
     Ok(supplies)
 }

@@ -33,7 +33,7 @@ pub fn restore(alloc: Global, instance: &Instance, state: &State<'_>) -> Result<
     let count = instance.arc_count();
     let mut flow = Vec::with_capacity(alloc, count as usize)?;
     for i in 0..count {
-        let k = ArcId::new(i + 1);
+        let k = ArcId::at(i);
         let amount = state.amount(k);
         flow.push(restored_flow(instance.arc(k), amount))?;
     }

@@ -9,6 +9,7 @@ ghost use Rattle.mcf_network.specs.States.{IsPseudoflow, MovesSurplus, amount_at
 use crate::net::Net;
 use crate::rid::Rid;
 use crate::surplus::move_surplus;
+use mcf_instance::copies;
 use mcf_text::{ArcId, NoMemory, NodeId};
 use std::alloc::Global;
 use std::marker::Model;
@@ -45,7 +46,7 @@ impl<'n> State<'n> {
         ensures valid { IfOk result IsPseudoflow }
         ensures wants { OnErr result (1 ≤ node_count net.now) }
     {
-        let amounts = zeros(alloc, net.arcs.len())?;
+        let amounts = copies(alloc, net.arcs.len(), 0)?;
         let surpluses = copy_of(alloc, &net.supplies)?;
         Ok(State {
             net,
@@ -70,7 +71,7 @@ impl<'n> State<'n> {
         ensures high { result ≤ℤ (arc_at self.now.net k).cap }
         ensures valid { IsPseudoflow self.now }
     {
-        i128::from(self.amounts[k.get() as usize - 1])
+        i128::from(self.amounts[k.place()])
     }
 
     /// The surplus of a node: its supply less the net of the amounts.
@@ -80,7 +81,7 @@ impl<'n> State<'n> {
         ensures small { IsUpTo (2 * 10 ^ 26) result }
         ensures valid { IsPseudoflow self.now }
     {
-        self.surpluses[v.get() as usize - 1]
+        self.surpluses[v.place()]
     }
 
     /// How much more a residual arc can carry: its amount backward, else its width less its amount.
@@ -90,7 +91,7 @@ impl<'n> State<'n> {
         ensures low { pos 0 ≤ℤ result }
         ensures high { result ≤ℤ pos width_limit }
     {
-        let amount = i128::from(self.amounts[r.arc.get() as usize - 1]);
+        let amount = i128::from(self.amounts[r.arc.place()]);
         if r.back {
             amount
         } else {
@@ -108,23 +109,13 @@ impl<'n> State<'n> {
         ensures valid { IsPseudoflow self.new }
     {
         let back = r.back;
-        let k = r.arc.get() as usize - 1;
+        let k = r.arc.place();
         let net = self.net;
         let (from, to) = net.route(r);
         let changed = changed_amount(self.amounts[k], back, amount);
         self.amounts[k] = changed;
         move_surplus(&mut self.surpluses, from, to, amount);
     }
-}
-
-// So many zeros.
-fn zeros(alloc: Global, count: usize) -> Result<Vec<i64>, NoMemory>
-    ensures value { IfOk result (λ made. made.items ≡ replicate count (pos 0)) }
-    ensures wants { OnErr result (1 ≤ count) }
-{
-    let mut made = Vec::new(alloc);
-    made.resize(count, 0)?;
-    Ok(made)
 }
 
 // A copy of some numbers.

@@ -30,6 +30,6 @@ fn add_surplus(surpluses: &mut Vec<i128>, u: NodeId, x: i128)
     ensures length { length surpluses.new.items ≡ length surpluses.old.items }
     ensures each { (v : ℕ) → IsNode (length surpluses.old.items) v → at_node surpluses.new.items v ≡ at_node surpluses.old.items v +ℤ when (u == v) x }
 {
-    let more = surpluses[u.get() as usize - 1] + x;
-    surpluses[u.get() as usize - 1] = more;
+    let more = surpluses[u.place()] + x;
+    surpluses[u.place()] = more;
 }

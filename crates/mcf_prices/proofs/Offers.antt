@@ -11,18 +11,18 @@ use Rattle.mcf_prices.specs.Private.Labels.{Labels, IsLabelling, AreAtLeast, off
 use Rattle.mcf_prices.proofs.Showing.{cost_small}
 
 -- the price of a node, as a read gives it
-pub read_price : (l l' : Labels) (k v : ℕ) (x : ℤ) → l ≡ l' → IsLabelling l → IsNode (node_count l'.flow.net) v → k ≡ v → x ≡ get_or l.prices (k - 1) x
+pub read_price : (l l' : Labels) (k v : ℕ) (x : ℤ) → l ≡ l' → IsLabelling l → IsNode (node_count l'.flow.net) v → k ≡ v - 1 → x ≡ get_or l.prices k x
     → x ≡ at_node l'.prices v
 read_price l l' k v x view ok h same e =
     let old : IsNode (node_count l.flow.net) v = subst (λ (y : Labels). IsNode (node_count y.flow.net) v) (sym view) h in
-    get_or_read l.prices (k - 1) x (omega (arith, ok.count, old, same)) e (pos 0) ∙ ap (λ i. get_or l.prices (i - 1) (pos 0)) same
+    get_or_read l.prices k x (omega (arith, ok.count, old, same)) e (pos 0) ∙ ap (λ i. get_or l.prices i (pos 0)) same
     ∙ ap (λ (y : Labels). at_node y.prices v) view
 
-pub read_link : (l l' : Labels) (k v : ℕ) (x : Option Rid) → l ≡ l' → IsLabelling l → IsNode (node_count l'.flow.net) v → k ≡ v → x ≡ get_or l.links (k - 1) x
+pub read_link : (l l' : Labels) (k v : ℕ) (x : Option Rid) → l ≡ l' → IsLabelling l → IsNode (node_count l'.flow.net) v → k ≡ v - 1 → x ≡ get_or l.links k x
     → x ≡ link_at l' v
 read_link l l' k v x view ok h same e =
     let old : IsNode (node_count l.flow.net) v = subst (λ (y : Labels). IsNode (node_count y.flow.net) v) (sym view) h in
-    get_or_read l.links (k - 1) x (omega (arith, ok.link_count, old, same)) e None ∙ ap (λ i. get_or l.links (i - 1) None) same
+    get_or_read l.links k x (omega (arith, ok.link_count, old, same)) e None ∙ ap (λ i. get_or l.links i None) same
     ∙ ap (λ (y : Labels). link_at y v) view
 
 -- a cost and a price, which a residual arc offers together
@@ -32,13 +32,13 @@ pub record IsOffered (l : Labels) (r : Rid) (cost price : ℤ) : Type 0 where
   pub price_up_to : IsUpTo (10 ^ 30) price
 
 pub offered : (l l' : Labels) (g : Network) (r : Rid) (k to : ℕ) (cost price : ℤ) → l ≡ l' → IsLabelling l → AreAtLeast (10 ^ 30) l'.prices
-    → IsArcNumber l'.flow.net r.arc → g ≡ l.flow.net → cost ≡ unit_cost g r → to ≡ head g r → k ≡ to → price ≡ get_or l.prices (k - 1) price
+    → IsArcNumber l'.flow.net r.arc → g ≡ l.flow.net → cost ≡ unit_cost g r → to ≡ head g r → k ≡ to - 1 → price ≡ get_or l.prices k price
     → IsOffered l' r cost price
 offered l l' g r k to cost price view ok floor arc same_net is_cost is_to is_k e =
     let now : IsLabelling l' = subst IsLabelling view ok in
     let net : g ≡ l'.flow.net = same_net ∙ ap (λ (y : Labels). y.flow.net) view in
     let node = head_is_node l'.flow.net r.arc r.back now.flow.of_net arc in
-    let here : k ≡ head l'.flow.net r = is_k ∙ is_to ∙ ap (λ n. head n r) net in
+    let here : k ≡ head l'.flow.net r - 1 = is_k ∙ ap (λ n. n - 1) (is_to ∙ ap (λ n. head n r) net) in
     let price_is = read_price l l' k (head l'.flow.net r) price view ok node here e in
     let cost_is : cost ≡ unit_cost l'.flow.net r = is_cost ∙ ap (λ n. unit_cost n r) net in
     let small = cost_small l'.flow.net r.arc r.back now.flow.of_net arc in

@@ -90,7 +90,7 @@ impl Heap {
         ensures none { IfNone result (NoneWaits self.now) }
     {
         let item = self.items.first()?;
-        Some(NodeId::new(item + 1))
+        Some(NodeId::at(item))
     }
 
     /// Takes out the node that comes first, or none if none waits. It keeps its key.
@@ -101,7 +101,7 @@ impl Heap {
         ensures same { IfNone result (self.new ≡ self.old) }
     {
         let item = self.items.pop()?;
-        Some(NodeId::new(item + 1))
+        Some(NodeId::at(item))
     }
 
     /// Takes all nodes out, in time that grows with how many wait and not with how many there are. They keep

@@ -6,6 +6,7 @@ ghost use Rattle.mcf_prices.specs.Heaps.{ComesFirst};
 ghost use Rattle.mcf_prices.specs.Private.ItemHeaps.{IsChild, IsHeap, IsOrderedAbove, IsOrderedBelow, IsPlaced, IsSwapped, Precedes, PrecedesAll};
 ghost use Rattle.mcf_prices.specs.Private.ItemHeaps.{entry, key_at, table_of};
 
+use mcf_instance::copies;
 use mcf_text::NoMemory;
 use std::alloc::Global;
 
@@ -29,12 +30,9 @@ impl ItemHeap {
         ensures none { IfOk result (λ h. table_of h.places.items ≡ replicate items false) }
         ensures wants { OnErr result (1 ≤ items) }
     {
-        let mut keys = Vec::new(alloc);
-        keys.resize(items, 0)?;
-        let mut slots = Vec::new(alloc);
-        slots.resize(items, 0)?;
-        let mut places = Vec::new(alloc);
-        places.resize(items, 0)?;
+        let keys = copies(alloc, items, 0)?;
+        let slots = copies(alloc, items, 0)?;
+        let places = copies(alloc, items, 0)?;
         Ok(ItemHeap {
             keys,
             slots,

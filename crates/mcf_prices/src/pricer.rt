@@ -101,7 +101,7 @@ fn wait_all(heap: &mut Heap, net: &Net, prices: &[i128])
     ensures { IsReady prices.now heap.new }
 {
     'nodes: for number in 0..net.node_count() {
-        let v = NodeId::new(number + 1);
+        let v = NodeId::at(number);
         heap.lower(v, opposite_price(prices, v));
     }
 }
@@ -185,7 +185,7 @@ fn price_of(prices: &[i128], v: NodeId) -> i128
     requires { IsNode (length prices.now) v }
     ensures { result ≡ at_node prices.now v }
 {
-    prices[v.get() as usize - 1]
+    prices[v.place()]
 }
 
 // The label of a node.
@@ -241,7 +241,7 @@ fn round_all(heap: &Heap, scale: u32, prices: &mut [i128])
     ensures { AreRounded scale prices.old heap.now prices.new }
 {
     'nodes: for i in 0..prices.len() {
-        let v = NodeId::new(i as u32 + 1);
+        let v = NodeId::at(i as u32);
         let label = label_of(heap, prices, v);
         prices[i] = rounded_down(label, scale);
     }

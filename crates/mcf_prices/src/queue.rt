@@ -49,7 +49,7 @@ impl Queue {
     {
         let mut all = Queue::new(alloc, net)?;
         for number in 0..net.node_count() {
-            all.insert(NodeId::new(number + 1))?;
+            all.insert(NodeId::at(number))?;
         }
         Ok(all)
     }

@@ -15,6 +15,7 @@ ghost use Rattle.mcf_prices.specs.Private.Rounds.{IsHandled, IsProgress};
 ghost use Rattle.mcf_prices.specs.Private.Trails.{IsDone, IsSettled, IsStep, IsTrail, HasTail};
 
 use crate::queue::Queue;
+use mcf_instance::copies;
 use mcf_network::{NodeSet, Rid, State};
 use mcf_text::{NoMemory, NodeId};
 use std::alloc::Global;
@@ -47,10 +48,8 @@ impl<'s, 'n> Search<'s, 'n> {
         ensures wants { OnErr result (1 ≤ node_count state.now.net) }
     {
         let nodes = state.net().node_count() as usize;
-        let mut prices = Vec::new(alloc);
-        prices.resize(nodes, 0)?;
-        let mut links = Vec::new(alloc);
-        links.resize(nodes, None)?;
+        let prices = copies(alloc, nodes, 0)?;
+        let links = copies(alloc, nodes, None)?;
         Ok(Search {
             state,
             prices,
@@ -67,7 +66,7 @@ impl<'s, 'n> Search<'s, 'n> {
         let (arc, back) = (r.arc, r.back);
         let net = self.state.net();
         let (_, to) = net.route(Rid { arc, back });
-        net.unit_cost(Rid { arc, back }) + self.prices[to.get() as usize - 1]
+        net.unit_cost(Rid { arc, back }) + self.prices[to.place()]
     }
 
     // Gives the tail the price that the residual arc offers, which is lower.
@@ -80,8 +79,8 @@ impl<'s, 'n> Search<'s, 'n> {
     {
         let (arc, back) = (r.arc, r.back);
         let (from, _) = self.state.net().route(Rid { arc, back });
-        self.prices[from.get() as usize - 1] = price;
-        self.links[from.get() as usize - 1] = Some(Rid { arc, back });
+        self.prices[from.place()] = price;
+        self.links[from.place()] = Some(Rid { arc, back });
     }
 
     // Relaxes a residual arc, and says whether the price of its tail fell.
@@ -97,7 +96,7 @@ impl<'s, 'n> Search<'s, 'n> {
         }
         let price = self.offer(Rid { arc, back });
         let (from, _) = self.state.net().route(Rid { arc, back });
-        if self.prices[from.get() as usize - 1] <= price {
+        if self.prices[from.place()] <= price {
             return false;
         }
         self.lower(Rid { arc, back }, price);
@@ -154,7 +153,7 @@ impl<'s, 'n> Search<'s, 'n> {
         ensures step { IfSome result (λ r. IsStep self.now r × (tail self.now.flow.net r ≡ v)) }
         ensures root { IfNone result (at_node self.now.prices v ≡ pos 0) }
     {
-        self.links[v.get() as usize - 1]
+        self.links[v.place()]
     }
 
     // Follows the links from a node until one that was seen, or one without a link.
@@ -243,7 +242,7 @@ impl<'s, 'n> Search<'s, 'n> {
         let mut done = NodeSet::new(alloc, net)?;
         'nodes: for number in 0..net.node_count() {
             let mut path = Vec::new(alloc);
-            let from = NodeId::new(number + 1);
+            let from = NodeId::at(number);
             let end = self.follow(&mut seen, &done, from, &mut path)?;
             if self.is_closed(&done, end) {
                 let walk = self.close(alloc, path.as_slice(), end)?;

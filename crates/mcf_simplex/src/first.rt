@@ -15,7 +15,7 @@ impl Pricing for First {
     /// The eligible arc of least number, if there is one.
     fn pick(&mut self, basis: &Basis<'_>) -> Option<ArcId> {
         for place in 0..basis.net().arc_count() {
-            let k = ArcId::new(place + 1);
+            let k = ArcId::at(place);
             if basis.eligible(k) {
                 return Some(k);
             }

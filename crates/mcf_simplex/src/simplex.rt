@@ -13,7 +13,7 @@ use crate::pricing::Pricing;
 use crate::run::run;
 use mcf_basis::Basis;
 use mcf_feas::unbalanced;
-use mcf_instance::Side;
+use mcf_instance::{Side, copies};
 use mcf_network::{Net, NodeSet, State};
 use mcf_prices::{Engine, Outcome, Pricer};
 use mcf_text::NoMemory;
@@ -121,8 +121,7 @@ impl<'n> Workspace<'n> {
         let state = State::zero(alloc, net)?;
         let cut = NodeSet::new(alloc, net)?;
         let pricer = Pricer::start(alloc, net)?;
-        let mut prices = Vec::new(alloc);
-        prices.resize(nodes, 0)?;
+        let prices = copies(alloc, nodes, 0)?;
         Ok(Workspace {
             basis,
             state,

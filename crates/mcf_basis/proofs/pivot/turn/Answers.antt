@@ -20,7 +20,7 @@ slice_copy_out-offer c =
     } in
     let size = c.requires.laid_out.offers_size in
     let n = number l c.args.k c.requires.laid_out c.requires.eligible in
-    omega (arith, size, n, c.get.ensures)
+    omega (arith, size, n, c.place.ensures)
 
 pub find_round-found-requires-clause-arc : goal.find_round-found-requires-clause-arc
 find_round-found-requires-clause-arc c =
@@ -46,8 +46,8 @@ find_round-found-requires-clause-sized c =
           c.args.artificial.now;
       table = c.args.table.now;
     } in
-    let o : Offer = get_or c.args.offers.now (c.get.result - 1) no_offer in
-    let is : o ≡ offer_at l c.args.k = ap (λ i. get_or c.args.offers.now (i - 1) no_offer) c.get.ensures in
+    let o : Offer = get_or c.args.offers.now c.place.result no_offer in
+    let is : o ≡ offer_at l c.args.k = ap (λ i. get_or c.args.offers.now i no_offer) c.place.ensures in
     rooms_sized l c.args.k c.requires.laid_out c.requires.eligible c.forget_counts.new.self o c.forget_count.new.self c.forget_counts.ensures.value
     c.forget_count.ensures is
 
@@ -62,8 +62,8 @@ find_round-found-requires-clause-from c =
           c.args.artificial.now;
       table = c.args.table.now;
     } in
-    let o : Offer = get_or c.args.offers.now (c.get.result - 1) no_offer in
-    let is : o ≡ offer_at l c.args.k = ap (λ i. get_or c.args.offers.now (i - 1) no_offer) c.get.ensures in
+    let o : Offer = get_or c.args.offers.now c.place.result no_offer in
+    let is : o ≡ offer_at l c.args.k = ap (λ i. get_or c.args.offers.now i no_offer) c.place.ensures in
     from_in_tree l c.args.k c.requires.laid_out c.requires.eligible c.forget_counts.new.self o c.forget_count.new.self c.forget_counts.ensures.value
     c.forget_count.ensures is
 
@@ -78,8 +78,8 @@ find_round-found-requires-clause-to c =
           c.args.artificial.now;
       table = c.args.table.now;
     } in
-    let o : Offer = get_or c.args.offers.now (c.get.result - 1) no_offer in
-    let is : o ≡ offer_at l c.args.k = ap (λ i. get_or c.args.offers.now (i - 1) no_offer) c.get.ensures in
+    let o : Offer = get_or c.args.offers.now c.place.result no_offer in
+    let is : o ≡ offer_at l c.args.k = ap (λ i. get_or c.args.offers.now i no_offer) c.place.ensures in
     to_in_tree l c.args.k c.requires.laid_out c.requires.eligible c.forget_counts.new.self o c.forget_count.new.self c.forget_counts.ensures.value
     c.forget_count.ensures is
 
@@ -94,8 +94,8 @@ reduced_of-reduced-requires-clause-from c =
           c.args.artificial.now;
       table = c.args.table.now;
     } in
-    let o : Offer = get_or c.args.offers.now (c.get.result - 1) no_offer in
-    let is : o ≡ offer_at l c.args.k = ap (λ i. get_or c.args.offers.now (i - 1) no_offer) c.get.ensures in
+    let o : Offer = get_or c.args.offers.now c.place.result no_offer in
+    let is : o ≡ offer_at l c.args.k = ap (λ i. get_or c.args.offers.now i no_offer) c.place.ensures in
     from_in_table l c.args.k c.requires.laid_out c.requires.eligible c.forget_counts.new.self o c.forget_count.new.self c.forget_counts.ensures.value
     c.forget_count.ensures is
 
@@ -110,8 +110,8 @@ reduced_of-reduced-requires-clause-to c =
           c.args.artificial.now;
       table = c.args.table.now;
     } in
-    let o : Offer = get_or c.args.offers.now (c.get.result - 1) no_offer in
-    let is : o ≡ offer_at l c.args.k = ap (λ i. get_or c.args.offers.now (i - 1) no_offer) c.get.ensures in
+    let o : Offer = get_or c.args.offers.now c.place.result no_offer in
+    let is : o ≡ offer_at l c.args.k = ap (λ i. get_or c.args.offers.now i no_offer) c.place.ensures in
     to_in_table l c.args.k c.requires.laid_out c.requires.eligible c.forget_counts.new.self o c.forget_count.new.self c.forget_counts.ensures.value
     c.forget_count.ensures is
 
@@ -126,8 +126,8 @@ reduced_of-reduced-requires-clause-cost c =
           c.args.artificial.now;
       table = c.args.table.now;
     } in
-    let o : Offer = get_or c.args.offers.now (c.get.result - 1) no_offer in
-    let is : o ≡ offer_at l c.args.k = ap (λ i. get_or c.args.offers.now (i - 1) no_offer) c.get.ensures in
+    let o : Offer = get_or c.args.offers.now c.place.result no_offer in
+    let is : o ≡ offer_at l c.args.k = ap (λ i. get_or c.args.offers.now i no_offer) c.place.ensures in
     cost_small l c.args.k c.requires.laid_out c.requires.eligible c.forget_counts.new.self o c.forget_count.new.self c.forget_counts.ensures.value
     c.forget_count.ensures is
 
@@ -142,8 +142,8 @@ reduced_of-reduced-requires-clause-from_small c =
           c.args.artificial.now;
       table = c.args.table.now;
     } in
-    let o : Offer = get_or c.args.offers.now (c.get.result - 1) no_offer in
-    let is : o ≡ offer_at l c.args.k = ap (λ i. get_or c.args.offers.now (i - 1) no_offer) c.get.ensures in
+    let o : Offer = get_or c.args.offers.now c.place.result no_offer in
+    let is : o ≡ offer_at l c.args.k = ap (λ i. get_or c.args.offers.now i no_offer) c.place.ensures in
     from_small l c.args.k c.requires.laid_out c.requires.eligible c.forget_counts.new.self o c.forget_count.new.self c.forget_counts.ensures.value
     c.forget_count.ensures is
 
@@ -158,8 +158,8 @@ reduced_of-reduced-requires-clause-to_small c =
           c.args.artificial.now;
       table = c.args.table.now;
     } in
-    let o : Offer = get_or c.args.offers.now (c.get.result - 1) no_offer in
-    let is : o ≡ offer_at l c.args.k = ap (λ i. get_or c.args.offers.now (i - 1) no_offer) c.get.ensures in
+    let o : Offer = get_or c.args.offers.now c.place.result no_offer in
+    let is : o ≡ offer_at l c.args.k = ap (λ i. get_or c.args.offers.now i no_offer) c.place.ensures in
     to_small l c.args.k c.requires.laid_out c.requires.eligible c.forget_counts.new.self o c.forget_count.new.self c.forget_counts.ensures.value
     c.forget_count.ensures is
 
@@ -174,8 +174,8 @@ push-requires c =
           c.args.artificial.now;
       table = c.args.table.now;
     } in
-    let o : Offer = get_or c.args.offers.now (c.get.result - 1) no_offer in
-    let is : o ≡ offer_at l c.args.k = ap (λ i. get_or c.args.offers.now (i - 1) no_offer) c.get.ensures in
+    let o : Offer = get_or c.args.offers.now c.place.result no_offer in
+    let is : o ≡ offer_at l c.args.k = ap (λ i. get_or c.args.offers.now i no_offer) c.place.ensures in
     let round = round_found l c.args.k c.requires.laid_out c.requires.eligible c.forget_counts.new.self o c.find_round-found.result
     c.forget_counts.ensures.value is c.find_round-found.ensures.value in
     push_asked l c.args.k c.requires.laid_out c.requires.eligible c.find_round-found.result round c.forget_counts.new.self c.round_of.result
@@ -192,8 +192,8 @@ replace-requires c =
           c.args.artificial.now;
       table = c.args.table.now;
     } in
-    let o : Offer = get_or c.args.offers.now (c.get.result - 1) no_offer in
-    let is : o ≡ offer_at l c.args.k = ap (λ i. get_or c.args.offers.now (i - 1) no_offer) c.get.ensures in
+    let o : Offer = get_or c.args.offers.now c.place.result no_offer in
+    let is : o ≡ offer_at l c.args.k = ap (λ i. get_or c.args.offers.now i no_offer) c.place.ensures in
     let round = round_found l c.args.k c.requires.laid_out c.requires.eligible c.forget_counts.new.self o c.find_round-found.result
     c.forget_counts.ensures.value is c.find_round-found.ensures.value in
     let back : to_z w128 (of_z w128 c.reduced_of-reduced.result) ≡ c.reduced_of-reduced.result = search (rules, to_z-of_z) in
@@ -214,8 +214,8 @@ returns c =
           c.args.artificial.now;
       table = c.args.table.now;
     } in
-    let o : Offer = get_or c.args.offers.now (c.get.result - 1) no_offer in
-    let is : o ≡ offer_at l c.args.k = ap (λ i. get_or c.args.offers.now (i - 1) no_offer) c.get.ensures in
+    let o : Offer = get_or c.args.offers.now c.place.result no_offer in
+    let is : o ≡ offer_at l c.args.k = ap (λ i. get_or c.args.offers.now i no_offer) c.place.ensures in
     let round = round_found l c.args.k c.requires.laid_out c.requires.eligible c.forget_counts.new.self o c.find_round-found.result
     c.forget_counts.ensures.value is c.find_round-found.ensures.value in
     let back : to_z w128 (of_z w128 c.reduced_of-reduced.result) ≡ c.reduced_of-reduced.result = search (rules, to_z-of_z) in

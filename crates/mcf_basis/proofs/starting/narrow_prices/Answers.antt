@@ -15,7 +15,7 @@ loop-i-preserved c =
     let pushed : c.push-in-loop-i.new.self.items ≡ c.loop-i.made.items ++ to_z w64 (of_z w64 c.narrow_price.result) ∷ [] = search rules in
     let read : to_z w128 (of_z w128 c.supply.result) ≡ c.supply.result = search (rules, to_z-of_z) in
     let supply : to_z w128 (of_z w128 c.supply.result) ≡ at_node g.supplies (c.loop-i.i + 1) =
-    read ∙ (c.supply.ensures.value ∙ ap (at_node g.supplies) c.new.ensures) in
+    read ∙ (c.supply.ensures.value ∙ ap (at_node g.supplies) c.at.ensures) in
     let given : to_z w64 (of_z w64 c.args.cost) ≡ c.args.cost = search (rules, to_z-of_z) in
     let cost : to_z w64 (of_z w64 c.args.cost) ≡ pos (artificial_cost g) = given ∙ c.requires in
     made_behind (pos 0) (start_price g) c.loop-i.i c.loop-i.made.items c.push-in-loop-i.new.self.items _ c.loop-i.invariant

@@ -10,4 +10,4 @@ loop-i-preserved c =
     let made : to_z w128 (of_z w128 c.star_amount.result) ≡ c.star_amount.result = search (rules, to_z-of_z) in
     let pushed : c.push-in-loop-i.new.self.items ≡ c.loop-i.made.items ++ to_z w128 (of_z w128 c.star_amount.result) ∷ [] = search rules in
     made_behind (pos 0) (star_amount g) c.loop-i.i c.loop-i.made.items c.push-in-loop-i.new.self.items _ c.loop-i.invariant
-    (made ∙ (c.star_amount.ensures ∙ ap (star_amount g) c.new.ensures)) pushed
+    (made ∙ (c.star_amount.ensures ∙ ap (star_amount g) c.at.ensures)) pushed

@@ -13,6 +13,6 @@ loop-i-preserved c =
     let pushed : c.push-in-loop-i.new.self.items ≡ c.loop-i.made.items ++ c.star_room.result ∷ [] = search rules in
     let read : to_z w128 (of_z w128 c.supply.result) ≡ c.supply.result = search (rules, to_z-of_z) in
     let supply : to_z w128 (of_z w128 c.supply.result) ≡ at_node g.supplies (c.loop-i.i + 1) =
-    read ∙ (c.supply.ensures.value ∙ ap (at_node g.supplies) c.new.ensures) in
+    read ∙ (c.supply.ensures.value ∙ ap (at_node g.supplies) c.at.ensures) in
     made_behind no_rooms (star_rooms g) c.loop-i.i c.loop-i.made.items c.push-in-loop-i.new.self.items c.star_room.result c.loop-i.invariant
     (c.star_room.ensures ∙ ap (λ x. artificial_rooms (int_le (pos 0) x) (unsigned_abs x)) supply) pushed

@@ -10,8 +10,8 @@ pub overflow_add-total : goal.overflow_add-total
 overflow_add-total c =
     let g = c.args.net.now in
     let ok = c.supply-total.ensures.of_net in
-    let node : IsNode (node_count g) c.new.result = omega (arith, c.node_count-number-end.ensures.value) in
-    let supply = supply_at g c.new.result ok node in
+    let node : IsNode (node_count g) c.at.result = omega (arith, c.node_count-number-end.ensures.value) in
+    let supply = supply_at g c.at.result ok node in
     let total = total_small g c.loop-number.number ok (omega (arith, node)) in
     omega (arith, ints, c.loop-number.invariant, c.supply-total.ensures.value, supply, total)
 
@@ -19,9 +19,9 @@ pub loop-number-preserved : goal.loop-number-preserved
 loop-number-preserved c =
     let g = c.args.net.now in
     let ok = c.supply-total.ensures.of_net in
-    let node : IsNode (node_count g) c.new.result = omega (arith, c.node_count-number-end.ensures.value) in
-    let supply = supply_at g c.new.result ok node in
+    let node : IsNode (node_count g) c.at.result = omega (arith, c.node_count-number-end.ensures.value) in
+    let supply = supply_at g c.at.result ok node in
     let total = total_small g c.loop-number.number ok (omega (arith, node)) in
     let next = node_sum_next (at_node g.supplies) c.loop-number.number in
-    let here = ap (at_node g.supplies) c.new.ensures in
+    let here = ap (at_node g.supplies) c.at.ensures in
     omega (arith, ints, c.loop-number.invariant, c.supply-total.ensures.value, supply, total, next, here)

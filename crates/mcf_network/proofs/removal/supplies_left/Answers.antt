@@ -11,7 +11,7 @@ pub move_surplus-requires-clause-from : goal.move_surplus-requires-clause-from
 move_surplus-requires-clause-from c =
     let g = c.args.instance.now in
     let h : c.loop-i.i < length g.arcs = omega (arith, c.loop-i-test.true, c.arc_count-i-end.ensures.value) in
-    let is = rw c.new.ensures at c.arc-a.ensures.value in
+    let is = rw c.at.ensures at c.arc-a.ensures.value in
     let a = arc_of g c.loop-i.i c.arc-a.result c.arc-a.ensures.well_formed h is in
     omega (arith, a.ends.src_is_node, c.loop-i.invariant.count)
 
@@ -19,7 +19,7 @@ pub move_surplus-requires-clause-to : goal.move_surplus-requires-clause-to
 move_surplus-requires-clause-to c =
     let g = c.args.instance.now in
     let h : c.loop-i.i < length g.arcs = omega (arith, c.loop-i-test.true, c.arc_count-i-end.ensures.value) in
-    let is = rw c.new.ensures at c.arc-a.ensures.value in
+    let is = rw c.at.ensures at c.arc-a.ensures.value in
     let a = arc_of g c.loop-i.i c.arc-a.result c.arc-a.ensures.well_formed h is in
     omega (arith, a.ends.dst_is_node, c.loop-i.invariant.count)
 
@@ -27,7 +27,7 @@ pub move_surplus-requires-clause-x : goal.move_surplus-requires-clause-x
 move_surplus-requires-clause-x c =
     let g = c.args.instance.now in
     let h : c.loop-i.i < length g.arcs = omega (arith, c.loop-i-test.true, c.arc_count-i-end.ensures.value) in
-    let is = rw c.new.ensures at c.arc-a.ensures.value in
+    let is = rw c.at.ensures at c.arc-a.ensures.value in
     let a = arc_of g c.loop-i.i c.arc-a.result c.arc-a.ensures.well_formed h is in
     omega (arith, ints, a.within.low_small)
 
@@ -40,7 +40,7 @@ pub loop-i-preserved : goal.loop-i-preserved
 loop-i-preserved c =
     let g = c.args.instance.now in
     let h : c.loop-i.i < length g.arcs = omega (arith, c.loop-i-test.true, c.arc_count-i-end.ensures.value) in
-    let is = rw c.new.ensures at c.arc-a.ensures.value in
+    let is = rw c.at.ensures at c.arc-a.ensures.value in
     let a = arc_of g c.loop-i.i c.arc-a.result c.arc-a.ensures.well_formed h is in
     let same : to_z w128 (of_z w128 c.arc-a.result.low) ≡ c.arc-a.result.low = omega (arith, ints, a.within.low_small) in
     left_next g c.loop-i.i c.arc-a.result c.loop-i.left.items c.move_surplus.new.surpluses.items c.loop-i.invariant h is c.move_surplus.ensures.length

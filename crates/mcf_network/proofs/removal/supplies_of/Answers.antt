@@ -20,6 +20,6 @@ loop-i-preserved c =
     let back : c.loop-i.i + 1 - 1 ≡ c.loop-i.i = omega arith in
     let h : c.loop-i.i < length xs = omega (arith, c.loop-i-test.true, c.node_count-count.ensures.value) in
     let given : to_z w128 (of_z w128 c.supply.result) ≡ c.supply.result = search (rules, to_z-of_z) in
-    let read = rw (c.new.ensures, back) at c.supply.ensures.value in
+    let read = rw (c.at.ensures, back) at c.supply.ensures.value in
     take_next xs c.loop-i.i (to_z w128 (of_z w128 c.supply.result)) (pos 0) c.loop-i.supplies.items c.push.new.self.items c.loop-i.invariant h
     (sym (given ∙ read)) (search rules)

@@ -13,7 +13,7 @@ amount-amount-requires c =
     let s = c.args.state.now in
     let same : length s.net.arcs ≡ length g.arcs = ap (λ (n : Network). length n.arcs) c.requires.of_net ∙ net_of-arc_count g in
     let h : c.loop-i.i < length g.arcs = omega (arith, c.loop-i-test.true, c.arc_count-count.ensures.value) in
-    omega (arith, c.new-k.ensures, h, same)
+    omega (arith, c.at-k.ensures, h, same)
 
 pub restored_flow-requires-clause-arc : goal.restored_flow-requires-clause-arc
 restored_flow-requires-clause-arc c =
@@ -21,7 +21,7 @@ restored_flow-requires-clause-arc c =
     let s = c.args.state.now in
     let same : length s.net.arcs ≡ length g.arcs = ap (λ (n : Network). length n.arcs) c.requires.of_net ∙ net_of-arc_count g in
     let h : c.loop-i.i < length g.arcs = omega (arith, c.loop-i-test.true, c.arc_count-count.ensures.value) in
-    (arc_of g c.loop-i.i c.arc.result c.arc.ensures.well_formed h (rw c.new-k.ensures at c.arc.ensures.value)).within
+    (arc_of g c.loop-i.i c.arc.result c.arc.ensures.well_formed h (rw c.at-k.ensures at c.arc.ensures.value)).within
 
 pub restored_flow-requires-clause-high : goal.restored_flow-requires-clause-high
 restored_flow-requires-clause-high c =
@@ -29,7 +29,7 @@ restored_flow-requires-clause-high c =
     let s = c.args.state.now in
     let same : length s.net.arcs ≡ length g.arcs = ap (λ (n : Network). length n.arcs) c.requires.of_net ∙ net_of-arc_count g in
     let h : c.loop-i.i < length g.arcs = omega (arith, c.loop-i-test.true, c.arc_count-count.ensures.value) in
-    let amount = amount_of s c.new-k.result c.net-net.ensures.valid (omega (arith, c.new-k.ensures, h, same)) in
+    let amount = amount_of s c.at-k.result c.net-net.ensures.valid (omega (arith, c.at-k.ensures, h, same)) in
     omega (arith, ints, c.amount-amount.ensures.low, c.amount-amount.ensures.high, amount.width)
 
 pub loop-i-preserved : goal.loop-i-preserved
@@ -38,9 +38,9 @@ loop-i-preserved c =
     let s = c.args.state.now in
     let same : length s.net.arcs ≡ length g.arcs = ap (λ (n : Network). length n.arcs) c.requires.of_net ∙ net_of-arc_count g in
     let h : c.loop-i.i < length g.arcs = omega (arith, c.loop-i-test.true, c.arc_count-count.ensures.value) in
-    let a = arc_of g c.loop-i.i c.arc.result c.arc.ensures.well_formed h (rw c.new-k.ensures at c.arc.ensures.value) in
+    let a = arc_of g c.loop-i.i c.arc.result c.arc.ensures.well_formed h (rw c.at-k.ensures at c.arc.ensures.value) in
     let back : c.loop-i.i + 1 - 1 ≡ c.loop-i.i = omega arith in
-    let read = rw (c.new-k.ensures, back) at c.amount-amount.ensures.value in
+    let read = rw (c.at-k.ensures, back) at c.amount-amount.ensures.value in
     let given : to_z w128 (of_z w128 c.amount-amount.result) ≡ c.amount-amount.result = search (rules, to_z-of_z) in
     let made : to_z w128 (of_z w128 c.restored_flow.result) ≡ c.restored_flow.result = search (rules, to_z-of_z) in
     restored_next g.arcs s.amounts c.loop-i.i c.arc.result c.amount-amount.result (to_z w128 (of_z w128 c.restored_flow.result)) c.loop-i.flow.items

@@ -9,12 +9,12 @@ pub overflow_add-more : goal.overflow_add-more
 overflow_add-more c =
     let xs = c.args.surpluses.now.items in
     let p = c.index.result.now in
-    let was : p ≡ at_node xs c.args.u = get_or_read xs (c.args.u - 1) p (search rules) (rw c.get.ensures at c.index.ensures) (pos 0) in
+    let was : p ≡ at_node xs c.args.u = get_or_read xs (c.args.u - 1) p (search rules) (rw c.place.ensures at c.index.ensures) (pos 0) in
     omega (arith, ints, was, c.requires.surplus, c.requires.x)
 
 pub returns-clause-each : goal.returns-clause-each
 returns-clause-each c v h =
     let xs = c.args.surpluses.now.items in
     let p = c.index.result.now in
-    let was : p ≡ at_node xs c.args.u = get_or_read xs (c.args.u - 1) p (search rules) (rw c.get.ensures at c.index.ensures) (pos 0) in
-    rw c.get-2.ensures (add_at_node xs c.args.u v p c.args.x _ c.requires.node h was (omega (arith, ints, was, c.requires.surplus, c.requires.x)))
+    let was : p ≡ at_node xs c.args.u = get_or_read xs (c.args.u - 1) p (search rules) (rw c.place.ensures at c.index.ensures) (pos 0) in
+    rw c.place-2.ensures (add_at_node xs c.args.u v p c.args.x _ c.requires.node h was (omega (arith, ints, was, c.requires.surplus, c.requires.x)))

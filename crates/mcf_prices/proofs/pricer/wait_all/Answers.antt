@@ -12,24 +12,24 @@ nodes-init c =
 
 pub opposite_price-requires-clause-small : goal.opposite_price-requires-clause-small
 opposite_price-requires-clause-small c =
-    let v = c.new-v.ensures in
+    let v = c.at-v.ensures in
     let inside = c.nodes-test.true in
     let nodes = c.node_count-number-end.ensures.value in
-    c.requires.small (c.new-v.result - 1) (pos 0) (omega (arith, v, inside, nodes, c.requires.prices))
+    c.requires.small (c.at-v.result - 1) (pos 0) (omega (arith, v, inside, nodes, c.requires.prices))
 
 pub lower-requires-clause-low : goal.lower-requires-clause-low
 lower-requires-clause-low c waits =
-    absurd (true≢false (sym waits ∙ c.nodes.invariant.rest c.new-v.result (let v = c.new-v.ensures in omega (arith, v))))
+    absurd (true≢false (sym waits ∙ c.nodes.invariant.rest c.at-v.result (let v = c.at-v.ensures in omega (arith, v))))
 
 pub nodes-preserved : goal.nodes-preserved
 nodes-preserved c =
     let inside = c.nodes-test.true in
     let nodes = c.node_count-number-end.ensures.value in
     let t : to_z w128 (of_z w128 c.opposite_price.result) ≡ c.opposite_price.result = search (rules, to_z-of_z) in
-    let new : c.lower.new.self ≡ waiting_with c.nodes.heap c.new-v.result c.opposite_price.result = cc (t, c.lower.ensures) in
+    let new : c.lower.new.self ≡ waiting_with c.nodes.heap c.at-v.result c.opposite_price.result = cc (t, c.lower.ensures) in
     subst (λ h. AreWaiting c.args.prices.now h (c.nodes.number + 1)) (sym new)
-    (wait_next c.args.prices.now c.nodes.heap c.nodes.number c.new-v.result c.opposite_price.result c.nodes.invariant
-    (omega (arith, inside, nodes, c.requires.prices)) c.new-v.ensures c.opposite_price.ensures)
+    (wait_next c.args.prices.now c.nodes.heap c.nodes.number c.at-v.result c.opposite_price.result c.nodes.invariant
+    (omega (arith, inside, nodes, c.requires.prices)) c.at-v.ensures c.opposite_price.ensures)
 
 pub returns : goal.returns
 returns c =

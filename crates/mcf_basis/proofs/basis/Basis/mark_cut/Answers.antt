@@ -28,7 +28,7 @@ price-requires c =
     } in
     let count : c.node_count-i-end.result ≡ node_count c.args.self.now.net =
     c.node_count-i-end.ensures.value ∙ ap node_count (view_net l c.args.self.now c.self.view_is) in
-    let v = c.new-v.ensures in
+    let v = c.at-v.ensures in
     (omega arith, omega (arith, count, v, c.loop-i-test.true))
 
 pub mark-requires : goal.mark-requires
@@ -44,7 +44,7 @@ mark-requires c =
     let count : c.node_count-i-end.result ≡ node_count c.args.self.now.net =
     c.node_count-i-end.ensures.value ∙ ap node_count (view_net l c.args.self.now c.self.view_is) in
     let room = c.loop-i.invariant.room in
-    let v = c.new-v.ensures in
+    let v = c.at-v.ensures in
     (omega arith, omega (arith, count, room, v, c.loop-i-test.true))
 
 pub loop-i-preserved : goal.loop-i-preserved
@@ -60,9 +60,9 @@ loop-i-preserved c =
     let b = c.args.self.now in
     let count : c.node_count-i-end.result ≡ node_count b.net = c.node_count-i-end.ensures.value ∙ ap node_count (view_net l b c.self.view_is) in
     let read : to_z w128 (of_z w128 c.price.result) ≡ c.price.result = search (rules, to_z-of_z) in
-    marked_next (node_count b.net) c.loop-i.i c.new-v.result (λ v. int_lt (pos 0) (price_at b v)) c.loop-i.set c.mark.new.set
+    marked_next (node_count b.net) c.loop-i.i c.at-v.result (λ v. int_lt (pos 0) (price_at b v)) c.loop-i.set c.mark.new.set
     (int_lt (pos 0) (to_z w128 (of_z w128 c.price.result))) c.loop-i.invariant
-    (omega (arith, count, c.loop-i-test.true)) c.new-v.ensures (ap (int_lt (pos 0)) (read ∙ c.price.ensures.value)) c.mark.ensures
+    (omega (arith, count, c.loop-i-test.true)) c.at-v.ensures (ap (int_lt (pos 0)) (read ∙ c.price.ensures.value)) c.mark.ensures
 
 pub returns-clause-room : goal.returns-clause-room
 returns-clause-room c = c.loop-i.invariant.room

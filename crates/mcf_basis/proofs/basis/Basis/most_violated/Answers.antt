@@ -53,5 +53,5 @@ returns-clause-value c =
     let high : c.args.end ≤ length l.net.arcs + 1 = omega (arith, arcs, c.requires.high) in
     let k = c.in_ok-place.place in
     let found = rw c.deref.ensures.value at c.in_ok-place.ensures in
-    rw c.new.ensures (subst (λ b. IsMostViolated b c.args.first c.args.end (k + 1)) c.self.view_is
+    rw c.at.ensures (subst (λ b. IsMostViolated b c.args.first c.args.end (k + 1)) c.self.view_is
     (most_violated_some l c.self.invariant c.args.first c.args.end c.requires.low c.requires.order high k found))

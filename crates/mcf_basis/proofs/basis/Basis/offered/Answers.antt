@@ -16,10 +16,24 @@ index-offer-requires c =
       artificial = c.self.inside.artificial.items;
       table = c.self.inside.table;
     } in
-    let h : c.get.result - 1 < length c.self.inside.offers.items =
-    offer_in_range l c.args.self.now c.args.k (c.get.result - 1) c.self.view_is c.self.invariant c.requires (ap (λ i. i - 1) c.get.ensures) in
+    let h : c.place.result < length c.self.inside.offers.items =
+    offer_in_range l c.args.self.now c.args.k c.place.result c.self.view_is c.self.invariant c.requires c.place.ensures in
     let size = c.self.inside.offers.ok.0 in
     omega (arith, h, size)
+
+pub get-requires : goal.get-requires
+get-requires c =
+    let l : Layout = record {
+      net = c.self.inside.net.now;
+      tree = c.self.inside.tree;
+      offers = c.self.inside.offers.items;
+      rooms = c.self.inside.rooms.items;
+      artificial = c.self.inside.artificial.items;
+      table = c.self.inside.table;
+    } in
+    let o = offer_read l c.args.self.now c.args.k c.place.result c.index-offer.result.now c.self.view_is c.self.invariant c.requires
+    c.place.ensures c.index-offer.ensures in
+    (read_price l c.args.self.now c.index-offer.result.now.from c.self.view_is c.self.invariant o.from).in_range
 
 pub get-requires-2 : goal.get-requires-2
 get-requires-2 c =
@@ -31,22 +45,8 @@ get-requires-2 c =
       artificial = c.self.inside.artificial.items;
       table = c.self.inside.table;
     } in
-    let o = offer_read l c.args.self.now c.args.k (c.get.result - 1) c.index-offer.result.now c.self.view_is c.self.invariant c.requires
-    (ap (λ i. i - 1) c.get.ensures) c.index-offer.ensures in
-    (read_price l c.args.self.now c.index-offer.result.now.from c.self.view_is c.self.invariant o.from).in_range
-
-pub get-requires-3 : goal.get-requires-3
-get-requires-3 c =
-    let l : Layout = record {
-      net = c.self.inside.net.now;
-      tree = c.self.inside.tree;
-      offers = c.self.inside.offers.items;
-      rooms = c.self.inside.rooms.items;
-      artificial = c.self.inside.artificial.items;
-      table = c.self.inside.table;
-    } in
-    let o = offer_read l c.args.self.now c.args.k (c.get.result - 1) c.index-offer.result.now c.self.view_is c.self.invariant c.requires
-    (ap (λ i. i - 1) c.get.ensures) c.index-offer.ensures in
+    let o = offer_read l c.args.self.now c.args.k c.place.result c.index-offer.result.now c.self.view_is c.self.invariant c.requires
+    c.place.ensures c.index-offer.ensures in
     (read_price l c.args.self.now c.index-offer.result.now.to c.self.view_is c.self.invariant o.to).in_range
 
 pub overflow_sub-result : goal.overflow_sub-result
@@ -59,11 +59,11 @@ overflow_sub-result c =
       artificial = c.self.inside.artificial.items;
       table = c.self.inside.table;
     } in
-    let o = offer_read l c.args.self.now c.args.k (c.get.result - 1) c.index-offer.result.now c.self.view_is c.self.invariant c.requires
-    (ap (λ i. i - 1) c.get.ensures) c.index-offer.ensures in
+    let o = offer_read l c.args.self.now c.args.k c.place.result c.index-offer.result.now c.self.view_is c.self.invariant c.requires
+    c.place.ensures c.index-offer.ensures in
     let cost = o.cost in
     let p = read_price l c.args.self.now c.index-offer.result.now.from c.self.view_is c.self.invariant o.from in
-    let first : c.get-2.result ≡ get_or c.self.inside.table.prices c.index-offer.result.now.from (pos 0) = c.get-2.ensures in
+    let first : c.get.result ≡ get_or c.self.inside.table.prices c.index-offer.result.now.from (pos 0) = c.get.ensures in
     let first_small = p.small in
     omega (arith, ints, cost, first, first_small, c.from.ensures)
 
@@ -77,14 +77,14 @@ overflow_add-result c =
       artificial = c.self.inside.artificial.items;
       table = c.self.inside.table;
     } in
-    let o = offer_read l c.args.self.now c.args.k (c.get.result - 1) c.index-offer.result.now c.self.view_is c.self.invariant c.requires
-    (ap (λ i. i - 1) c.get.ensures) c.index-offer.ensures in
+    let o = offer_read l c.args.self.now c.args.k c.place.result c.index-offer.result.now c.self.view_is c.self.invariant c.requires
+    c.place.ensures c.index-offer.ensures in
     let cost = o.cost in
     let p = read_price l c.args.self.now c.index-offer.result.now.from c.self.view_is c.self.invariant o.from in
-    let first : c.get-2.result ≡ get_or c.self.inside.table.prices c.index-offer.result.now.from (pos 0) = c.get-2.ensures in
+    let first : c.get.result ≡ get_or c.self.inside.table.prices c.index-offer.result.now.from (pos 0) = c.get.ensures in
     let first_small = p.small in
     let q = read_price l c.args.self.now c.index-offer.result.now.to c.self.view_is c.self.invariant o.to in
-    let second : c.get-3.result ≡ get_or c.self.inside.table.prices c.index-offer.result.now.to (pos 0) = c.get-3.ensures in
+    let second : c.get-2.result ≡ get_or c.self.inside.table.prices c.index-offer.result.now.to (pos 0) = c.get-2.ensures in
     let second_small = q.small in
     let first_value = p.value in
     let second_value = q.value in
@@ -100,14 +100,14 @@ returns-clause-small c =
       artificial = c.self.inside.artificial.items;
       table = c.self.inside.table;
     } in
-    let o = offer_read l c.args.self.now c.args.k (c.get.result - 1) c.index-offer.result.now c.self.view_is c.self.invariant c.requires
-    (ap (λ i. i - 1) c.get.ensures) c.index-offer.ensures in
+    let o = offer_read l c.args.self.now c.args.k c.place.result c.index-offer.result.now c.self.view_is c.self.invariant c.requires
+    c.place.ensures c.index-offer.ensures in
     let cost = o.cost in
     let p = read_price l c.args.self.now c.index-offer.result.now.from c.self.view_is c.self.invariant o.from in
-    let first : c.get-2.result ≡ get_or c.self.inside.table.prices c.index-offer.result.now.from (pos 0) = c.get-2.ensures in
+    let first : c.get.result ≡ get_or c.self.inside.table.prices c.index-offer.result.now.from (pos 0) = c.get.ensures in
     let first_small = p.small in
     let q = read_price l c.args.self.now c.index-offer.result.now.to c.self.view_is c.self.invariant o.to in
-    let second : c.get-3.result ≡ get_or c.self.inside.table.prices c.index-offer.result.now.to (pos 0) = c.get-3.ensures in
+    let second : c.get-2.result ≡ get_or c.self.inside.table.prices c.index-offer.result.now.to (pos 0) = c.get-2.ensures in
     let second_small = q.small in
     let first_value = p.value in
     let second_value = q.value in
@@ -123,14 +123,14 @@ returns-clause-violation c =
       artificial = c.self.inside.artificial.items;
       table = c.self.inside.table;
     } in
-    let o = offer_read l c.args.self.now c.args.k (c.get.result - 1) c.index-offer.result.now c.self.view_is c.self.invariant c.requires
-    (ap (λ i. i - 1) c.get.ensures) c.index-offer.ensures in
+    let o = offer_read l c.args.self.now c.args.k c.place.result c.index-offer.result.now c.self.view_is c.self.invariant c.requires
+    c.place.ensures c.index-offer.ensures in
     let cost = o.cost in
     let p = read_price l c.args.self.now c.index-offer.result.now.from c.self.view_is c.self.invariant o.from in
-    let first : c.get-2.result ≡ get_or c.self.inside.table.prices c.index-offer.result.now.from (pos 0) = c.get-2.ensures in
+    let first : c.get.result ≡ get_or c.self.inside.table.prices c.index-offer.result.now.from (pos 0) = c.get.ensures in
     let first_small = p.small in
     let q = read_price l c.args.self.now c.index-offer.result.now.to c.self.view_is c.self.invariant o.to in
-    let second : c.get-3.result ≡ get_or c.self.inside.table.prices c.index-offer.result.now.to (pos 0) = c.get-3.ensures in
+    let second : c.get-2.result ≡ get_or c.self.inside.table.prices c.index-offer.result.now.to (pos 0) = c.get-2.ensures in
     let second_small = q.small in
     let first_value = p.value in
     let second_value = q.value in
@@ -148,14 +148,14 @@ returns-clause-eligible c =
       artificial = c.self.inside.artificial.items;
       table = c.self.inside.table;
     } in
-    let o = offer_read l c.args.self.now c.args.k (c.get.result - 1) c.index-offer.result.now c.self.view_is c.self.invariant c.requires
-    (ap (λ i. i - 1) c.get.ensures) c.index-offer.ensures in
+    let o = offer_read l c.args.self.now c.args.k c.place.result c.index-offer.result.now c.self.view_is c.self.invariant c.requires
+    c.place.ensures c.index-offer.ensures in
     let cost = o.cost in
     let p = read_price l c.args.self.now c.index-offer.result.now.from c.self.view_is c.self.invariant o.from in
-    let first : c.get-2.result ≡ get_or c.self.inside.table.prices c.index-offer.result.now.from (pos 0) = c.get-2.ensures in
+    let first : c.get.result ≡ get_or c.self.inside.table.prices c.index-offer.result.now.from (pos 0) = c.get.ensures in
     let first_small = p.small in
     let q = read_price l c.args.self.now c.index-offer.result.now.to c.self.view_is c.self.invariant o.to in
-    let second : c.get-3.result ≡ get_or c.self.inside.table.prices c.index-offer.result.now.to (pos 0) = c.get-3.ensures in
+    let second : c.get-2.result ≡ get_or c.self.inside.table.prices c.index-offer.result.now.to (pos 0) = c.get-2.ensures in
     let second_small = q.small in
     let first_value = p.value in
     let second_value = q.value in (

@@ -10,18 +10,18 @@ use Rattle.mcf_feas.proofs.search.Search.start.Goals.{then-surplus-gt0, else-sur
 pub visit-requires-clause-room : goal.visit-requires-clause-room
 visit-requires-clause-room c =
     let s = c.args.state.now in
-    let v = c.new-node.result in
+    let v = c.at-node.result in
     let old = c.loop-number in
     let started = old.invariant.started in
     let nodes = ap node_count c.net.ensures.value in
     let node : IsNode (node_count s.net) v = omega (arith, nodes) in
-    let few = search_room s old.self.reached old.self.visits.items v started.scanned.search node (started.untouched v (omega (arith, c.new-node.ensures))) in
+    let few = search_room s old.self.reached old.self.visits.items v started.scanned.search node (started.untouched v (omega (arith, c.at-node.ensures))) in
     omega (arith, few, old.invariant.room)
 
 pub loop-number-preserved : goal.loop-number-preserved
 loop-number-preserved c =
     let s = c.args.state.now in
-    let v = c.new-node.result in
+    let v = c.at-node.result in
     let nodes = ap node_count c.net.ensures.value in
     let node : IsNode (node_count s.net) v = omega (arith, nodes) in
     let value = c.surplus.ensures.value in
@@ -30,12 +30,12 @@ loop-number-preserved c =
     elim c.if-surplus-gt0.branch [
       | then-surplus-gt0 w ↦ (let high : pos 0 <ℤ surplus_at s v = omega (arith, ints, value, small, w.if-surplus-gt0.true) in
           rw (w.self-is, w.visit.ensures.reached, w.visit.ensures.visits, w.visit.ensures.room) (record {
-            started = started_push s old.self.reached old.self.visits.items old.number v old.invariant.started c.new-node.ensures node high;
+            started = started_push s old.self.reached old.self.visits.items old.number v old.invariant.started c.at-node.ensures node high;
             room = old.invariant.room;
           }))
       | else-surplus-gt0 w ↦ (let low : surplus_at s v ≤ℤ pos 0 = omega (arith, ints, value, small, w.if-surplus-gt0.false) in
           rw w.self-is (record {
-            started = started_skip s old.self.reached old.self.visits.items old.number v old.invariant.started c.new-node.ensures low;
+            started = started_skip s old.self.reached old.self.visits.items old.number v old.invariant.started c.at-node.ensures low;
             room = old.invariant.room;
           }))
     ]

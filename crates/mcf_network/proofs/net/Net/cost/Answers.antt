@@ -8,7 +8,7 @@ pub returns-clause-value : goal.returns-clause-value
 returns-clause-value c =
     let n = c.self.inside in
     let a = stored_arc_at c.args.self.now n.problem n.arcs.items n.supplies.items c.args.k c.index.result.now c.self.view_is c.self.invariant.0 c.requires
-    (rw c.get.ensures at c.index.ensures) in
+    (rw c.place.ensures at c.index.ensures) in
     let e = ap (λ (x : Arc). x.cost) a.is in
     let small = a.arc.cost_small in
     omega (arith, ints, e, small, c.from.ensures)

@@ -7,7 +7,7 @@ pub returns : goal.returns
 returns c =
     let n = c.self.inside in
     let a = stored_arc_at c.args.self.now n.problem n.arcs.items n.supplies.items c.args.k c.index-a.result.now c.self.view_is c.self.invariant.0 c.requires
-    (rw (← c.get.ensures) c.index-a.ensures) in
+    (rw (← c.place.ensures) c.index-a.ensures) in
     record {
       src = c.new.ensures ∙ sym (ap (λ (x : Arc). x.src) a.is);
       dst = c.new-2.ensures ∙ sym (ap (λ (x : Arc). x.dst) a.is);

@@ -8,7 +8,7 @@ pub returns-then-r-clause-value : goal.returns-then-r-clause-value
 returns-then-r-clause-value c =
     let n = c.self.inside in
     let a = stored_arc_at c.args.self.now n.problem n.arcs.items n.supplies.items c.args.r.arc c.index.result.now c.self.view_is c.self.invariant.0 c.requires
-    (rw (← c.get.ensures) c.index.ensures) in
+    (rw (← c.place.ensures) c.index.ensures) in
     let e = ap (λ (x : Arc). x.cost) a.is in
     let small = a.arc.cost_small in
     rw c.if-r.true (omega (arith, ints, e, small, c.from-cost.ensures))

@@ -6,5 +6,5 @@ pub returns : goal.returns
 returns c =
     let marks = c.self.inside.marks.items in
     let here : c.args.v - 1 < length marks = rw c.self.view_is (omega (arith, c.requires)) in
-    let read : c.index.result.now ≡ get_or marks (c.args.v - 1) false = get_or_read marks (c.args.v - 1) _ here (rw c.get.ensures at c.index.ensures) false in
+    let read : c.index.result.now ≡ get_or marks (c.args.v - 1) false = get_or_read marks (c.args.v - 1) _ here (rw c.place.ensures at c.index.ensures) false in
     rw c.self.view_is at read

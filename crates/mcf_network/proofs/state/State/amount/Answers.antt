@@ -7,7 +7,7 @@ pub index-requires : goal.index-requires
 index-requires c =
     omega (
       arith,
-      c.get.ensures,
+      c.place.ensures,
       amount_in_range c.args.self.now c.self.inside.net.now c.self.inside.amounts.items c.args.k c.self.view_is
           c.self.invariant.flow c.requires,
     )
@@ -15,17 +15,17 @@ index-requires c =
 pub returns-clause-value : goal.returns-clause-value
 returns-clause-value c =
     let a = read_amount c.args.self.now c.self.inside.net.now c.self.inside.amounts.items c.args.k c.index.result.now c.self.view_is c.self.invariant.flow
-    c.requires (rw (← c.get.ensures) c.index.ensures) in
+    c.requires (rw (← c.place.ensures) c.index.ensures) in
     omega (arith, ints, c.from.ensures, a.is, a.low, a.high, a.width)
 
 pub returns-clause-low : goal.returns-clause-low
 returns-clause-low c =
     let a = read_amount c.args.self.now c.self.inside.net.now c.self.inside.amounts.items c.args.k c.index.result.now c.self.view_is c.self.invariant.flow
-    c.requires (rw (← c.get.ensures) c.index.ensures) in
+    c.requires (rw (← c.place.ensures) c.index.ensures) in
     omega (arith, ints, c.from.ensures, a.low, a.high, a.width)
 
 pub returns-clause-high : goal.returns-clause-high
 returns-clause-high c =
     let a = read_amount c.args.self.now c.self.inside.net.now c.self.inside.amounts.items c.args.k c.index.result.now c.self.view_is c.self.invariant.flow
-    c.requires (rw (← c.get.ensures) c.index.ensures) in
+    c.requires (rw (← c.place.ensures) c.index.ensures) in
     omega (arith, ints, c.from.ensures, a.low, a.high, a.width)

@@ -9,7 +9,7 @@ pub index-requires : goal.index-requires
 index-requires c =
     omega (
       arith,
-      c.get.ensures,
+      c.place-k.ensures,
       amount_in_range c.args.self.now c.self.inside.net.now c.self.inside.amounts.items c.args.r.arc c.self.view_is
           c.self.invariant.flow c.requires.arc,
     )
@@ -17,13 +17,13 @@ index-requires c =
 pub changed_amount-changed-requires-clause-amount_low : goal.changed_amount-changed-requires-clause-amount_low
 changed_amount-changed-requires-clause-amount_low c =
     let a = read_amount c.args.self.now c.self.inside.net.now c.self.inside.amounts.items c.args.r.arc c.index.result.now c.self.view_is c.self.invariant.flow
-    c.requires.arc (rw c.get.ensures at c.index.ensures) in
+    c.requires.arc (rw c.place-k.ensures at c.index.ensures) in
     omega (arith, ints, a.low, a.high, a.width)
 
 pub changed_amount-changed-requires-clause-amount_high : goal.changed_amount-changed-requires-clause-amount_high
 changed_amount-changed-requires-clause-amount_high c =
     let a = read_amount c.args.self.now c.self.inside.net.now c.self.inside.amounts.items c.args.r.arc c.index.result.now c.self.view_is c.self.invariant.flow
-    c.requires.arc (rw c.get.ensures at c.index.ensures) in
+    c.requires.arc (rw c.place-k.ensures at c.index.ensures) in
     omega (arith, ints, a.low, a.high, a.width)
 
 pub changed_amount-changed-requires-clause-x_high : goal.changed_amount-changed-requires-clause-x_high
@@ -35,7 +35,7 @@ pub index_mut-requires : goal.index_mut-requires
 index_mut-requires c =
     omega (
       arith,
-      c.get.ensures,
+      c.place-k.ensures,
       amount_in_range c.args.self.now c.self.inside.net.now c.self.inside.amounts.items c.args.r.arc c.self.view_is
           c.self.invariant.flow c.requires.arc,
     )
@@ -49,7 +49,7 @@ pub invariant_of-self : goal.invariant_of-self
 invariant_of-self c =
     let s = c.self.inside in
     (push_made c.args.self.now s.net.now s.amounts.items s.surpluses.items c.move_surplus.new.surpluses.items c.args.r c.args.amount c.index.result.now
-    c.changed_amount-changed.result c.get.result _ _ c.self.view_is c.self.invariant c.get.ensures c.requires.arc c.requires.low c.requires.high
+    c.changed_amount-changed.result c.place-k.result _ _ c.self.view_is c.self.invariant c.place-k.ensures c.requires.arc c.requires.low c.requires.high
     (to_z-of_z w128 c.args.amount c.ranges.amount) c.index.ensures c.changed_amount-changed.ensures c.route.ensures.tail c.route.ensures.head
     c.move_surplus.ensures.length c.move_surplus.ensures.each).keeps
 
@@ -57,7 +57,7 @@ pub returns-clause-value : goal.returns-clause-value
 returns-clause-value c =
     let s = c.self.inside in
     (push_made c.args.self.now s.net.now s.amounts.items s.surpluses.items c.move_surplus.new.surpluses.items c.args.r c.args.amount c.index.result.now
-    c.changed_amount-changed.result c.get.result _ _ c.self.view_is c.self.invariant c.get.ensures c.requires.arc c.requires.low c.requires.high
+    c.changed_amount-changed.result c.place-k.result _ _ c.self.view_is c.self.invariant c.place-k.ensures c.requires.arc c.requires.low c.requires.high
     (to_z-of_z w128 c.args.amount c.ranges.amount) c.index.ensures c.changed_amount-changed.ensures c.route.ensures.tail c.route.ensures.head
     c.move_surplus.ensures.length c.move_surplus.ensures.each).is
 
@@ -65,7 +65,7 @@ pub returns-clause-surpluses : goal.returns-clause-surpluses
 returns-clause-surpluses c v h =
     let s = c.self.inside in
     (push_made c.args.self.now s.net.now s.amounts.items s.surpluses.items c.move_surplus.new.surpluses.items c.args.r c.args.amount c.index.result.now
-    c.changed_amount-changed.result c.get.result _ _ c.self.view_is c.self.invariant c.get.ensures c.requires.arc c.requires.low c.requires.high
+    c.changed_amount-changed.result c.place-k.result _ _ c.self.view_is c.self.invariant c.place-k.ensures c.requires.arc c.requires.low c.requires.high
     (to_z-of_z w128 c.args.amount c.ranges.amount) c.index.ensures c.changed_amount-changed.ensures c.route.ensures.tail c.route.ensures.head
     c.move_surplus.ensures.length c.move_surplus.ensures.each).moves v
 
@@ -73,6 +73,6 @@ pub returns-clause-valid : goal.returns-clause-valid
 returns-clause-valid c =
     let s = c.self.inside in
     (push_made c.args.self.now s.net.now s.amounts.items s.surpluses.items c.move_surplus.new.surpluses.items c.args.r c.args.amount c.index.result.now
-    c.changed_amount-changed.result c.get.result _ _ c.self.view_is c.self.invariant c.get.ensures c.requires.arc c.requires.low c.requires.high
+    c.changed_amount-changed.result c.place-k.result _ _ c.self.view_is c.self.invariant c.place-k.ensures c.requires.arc c.requires.low c.requires.high
     (to_z-of_z w128 c.args.amount c.ranges.amount) c.index.ensures c.changed_amount-changed.ensures c.route.ensures.tail c.route.ensures.head
     c.move_surplus.ensures.length c.move_surplus.ensures.each).keeps.flow

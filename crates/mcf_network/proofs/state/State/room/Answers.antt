@@ -7,7 +7,7 @@ pub index-requires : goal.index-requires
 index-requires c =
     omega (
       arith,
-      c.get.ensures,
+      c.place.ensures,
       amount_in_range c.args.self.now c.self.inside.net.now c.self.inside.amounts.items c.args.r.arc c.self.view_is
           c.self.invariant.flow c.requires,
     )
@@ -15,25 +15,25 @@ index-requires c =
 pub returns-then-r-clause-value : goal.returns-then-r-clause-value
 returns-then-r-clause-value c =
     let a = read_amount c.args.self.now c.self.inside.net.now c.self.inside.amounts.items c.args.r.arc c.index.result.now c.self.view_is c.self.invariant.flow
-    c.requires (rw (← c.get.ensures) c.index.ensures) in
+    c.requires (rw (← c.place.ensures) c.index.ensures) in
     omega (arith, ints, c.from-amount.ensures, a.is, a.low, a.high, a.width, room_back c.args.self.now c.args.r c.if-r.true)
 
 pub returns-then-r-clause-low : goal.returns-then-r-clause-low
 returns-then-r-clause-low c =
     let a = read_amount c.args.self.now c.self.inside.net.now c.self.inside.amounts.items c.args.r.arc c.index.result.now c.self.view_is c.self.invariant.flow
-    c.requires (rw (← c.get.ensures) c.index.ensures) in
+    c.requires (rw (← c.place.ensures) c.index.ensures) in
     omega (arith, ints, c.from-amount.ensures, a.is, a.low, a.high, a.width)
 
 pub returns-then-r-clause-high : goal.returns-then-r-clause-high
 returns-then-r-clause-high c =
     let a = read_amount c.args.self.now c.self.inside.net.now c.self.inside.amounts.items c.args.r.arc c.index.result.now c.self.view_is c.self.invariant.flow
-    c.requires (rw (← c.get.ensures) c.index.ensures) in
+    c.requires (rw (← c.place.ensures) c.index.ensures) in
     omega (arith, ints, c.from-amount.ensures, a.is, a.low, a.high, a.width)
 
 pub returns-else-r-clause-value : goal.returns-else-r-clause-value
 returns-else-r-clause-value c =
     let a = read_amount c.args.self.now c.self.inside.net.now c.self.inside.amounts.items c.args.r.arc c.index.result.now c.self.view_is c.self.invariant.flow
-    c.requires (rw (← c.get.ensures) c.index.ensures) in
+    c.requires (rw (← c.place.ensures) c.index.ensures) in
     omega (
       arith,
       ints,
@@ -50,11 +50,11 @@ returns-else-r-clause-value c =
 pub returns-else-r-clause-low : goal.returns-else-r-clause-low
 returns-else-r-clause-low c =
     let a = read_amount c.args.self.now c.self.inside.net.now c.self.inside.amounts.items c.args.r.arc c.index.result.now c.self.view_is c.self.invariant.flow
-    c.requires (rw (← c.get.ensures) c.index.ensures) in
+    c.requires (rw (← c.place.ensures) c.index.ensures) in
     omega (arith, ints, c.from-amount.ensures, c.width.ensures.value, a.is, a.low, a.high, a.width, a.same_width)
 
 pub returns-else-r-clause-high : goal.returns-else-r-clause-high
 returns-else-r-clause-high c =
     let a = read_amount c.args.self.now c.self.inside.net.now c.self.inside.amounts.items c.args.r.arc c.index.result.now c.self.view_is c.self.invariant.flow
-    c.requires (rw (← c.get.ensures) c.index.ensures) in
+    c.requires (rw (← c.place.ensures) c.index.ensures) in
     omega (arith, ints, c.from-amount.ensures, c.width.ensures.value, a.is, a.low, a.high, a.width, a.same_width)

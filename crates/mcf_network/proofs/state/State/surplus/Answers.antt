@@ -7,5 +7,5 @@ pub returns-clause-small : goal.returns-clause-small
 returns-clause-small c =
     let s = c.self.inside in
     let x = read_surplus c.args.self.now s.net.now s.amounts.items s.surpluses.items c.args.v c.index.result.now c.self.view_is c.self.invariant c.requires
-    (rw (← c.get.ensures) c.index.ensures) in
+    (rw (← c.place.ensures) c.index.ensures) in
     omega (arith, ints, x.small)

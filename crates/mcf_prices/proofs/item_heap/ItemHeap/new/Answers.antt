@@ -5,9 +5,9 @@ use Rattle.mcf_prices.proofs.item_heap.ItemHeap.new.Goals as goal
 
 pub returns-clause-valid : goal.returns-clause-valid
 returns-clause-valid c =
-    let k : c.resize.new.self.items ≡ replicate c.args.items (pos 0) = search rules in
-    let s : c.resize-2.new.self.items ≡ replicate c.args.items 0 = search rules in
-    let p : c.resize-3.new.self.items ≡ replicate c.args.items 0 = search rules in
+    let k = c.in_ok-keys.ensures.value in
+    let s = c.in_ok-slots.ensures.value in
+    let p = c.in_ok-places.ensures.value in
     record {
       placed = rw (s, p) (none_placed c.args.items);
       ordered = λ p j h l. absurd (omega (arith, l));
@@ -16,5 +16,4 @@ returns-clause-valid c =
 
 pub returns-clause-none : goal.returns-clause-none
 returns-clause-none c =
-    let p : c.resize-3.new.self.items ≡ replicate c.args.items 0 = search rules in
-    rw p (table_zeros c.args.items)
+    rw c.in_ok-places.ensures.value (table_zeros c.args.items)

@@ -16,7 +16,7 @@ returns-then-is_closed-clause-some c =
 pub nodes-preserved : goal.nodes-preserved
 nodes-preserved c =
     cycle_next c.args.self.now _ _ _ _ c.nodes.number c.in_ok-end.end c.nodes.invariant.before c.in_ok-end.ensures.trail
-    (rw c.new-from.ensures at c.in_ok-end.ensures.walk) (OnFalse_at c.if-is_closed.false c.is_closed.ensures.open) c.finish.ensures.done
+    (rw c.at-from.ensures at c.in_ok-end.ensures.walk) (OnFalse_at c.if-is_closed.false c.is_closed.ensures.open) c.finish.ensures.done
     c.finish.ensures.kept c.finish.ensures.path
 
 pub returns-clause-none : goal.returns-clause-none

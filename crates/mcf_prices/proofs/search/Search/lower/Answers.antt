@@ -1,4 +1,4 @@
-use Rattle.std.proofs.Common.{◌≡◌, to_z, of_z, ◌<ℤ◌, subst, sym, ap, ◌∙◌}
+use Rattle.std.proofs.Common.{◌≡◌, ◌-◌, to_z, of_z, ◌<ℤ◌, subst, sym, ap, ◌∙◌}
 use mir.Syntax.{w128}
 use Rattle.std.proofs.lemmas.Int.{to_z-of_z}
 use Rattle.mcf_instance.specs.Network.{Network, at_node}
@@ -17,10 +17,10 @@ invariant_of-self c =
     let less' : offer c.args.self.now c.args.r <ℤ at_node c.args.self.now.prices (tail c.args.self.now.flow.net c.args.r) =
     rw c.requires.price at c.requires.less in
     let less = subst (λ (x : Labels). offer x c.args.r <ℤ at_node x.prices (tail x.flow.net c.args.r)) (sym c.self.view_is) less' in
-    let from : c.get.result ≡ tail l.flow.net c.args.r = c.get.ensures ∙ c.route-from.ensures.tail
-    ∙ ap (λ (g : Network). tail g c.args.r) c.net.ensures.value in
-    let from-2 : c.get-2.result ≡ tail l.flow.net c.args.r = c.get-2.ensures ∙ c.route-from.ensures.tail
-    ∙ ap (λ (g : Network). tail g c.args.r) c.net.ensures.value in
+    let from : c.place.result ≡ tail l.flow.net c.args.r - 1 = c.place.ensures ∙ ap (λ v. v - 1) (c.route-from.ensures.tail
+    ∙ ap (λ (g : Network). tail g c.args.r) c.net.ensures.value) in
+    let from-2 : c.place-2.result ≡ tail l.flow.net c.args.r - 1 = c.place-2.ensures ∙ ap (λ v. v - 1) (c.route-from.ensures.tail
+    ∙ ap (λ (g : Network). tail g c.args.r) c.net.ensures.value) in
     rw (p, from, from-2) (lowered_ok l c.args.r c.self.invariant room less)
 
 pub returns-clause-valid : goal.returns-clause-valid
@@ -32,8 +32,8 @@ returns-clause-valid c =
     let less' : offer c.args.self.now c.args.r <ℤ at_node c.args.self.now.prices (tail c.args.self.now.flow.net c.args.r) =
     rw c.requires.price at c.requires.less in
     let less = subst (λ (x : Labels). offer x c.args.r <ℤ at_node x.prices (tail x.flow.net c.args.r)) (sym c.self.view_is) less' in
-    let from : c.get.result ≡ tail l.flow.net c.args.r = c.get.ensures ∙ c.route-from.ensures.tail
-    ∙ ap (λ (g : Network). tail g c.args.r) c.net.ensures.value in
-    let from-2 : c.get-2.result ≡ tail l.flow.net c.args.r = c.get-2.ensures ∙ c.route-from.ensures.tail
-    ∙ ap (λ (g : Network). tail g c.args.r) c.net.ensures.value in
+    let from : c.place.result ≡ tail l.flow.net c.args.r - 1 = c.place.ensures ∙ ap (λ v. v - 1) (c.route-from.ensures.tail
+    ∙ ap (λ (g : Network). tail g c.args.r) c.net.ensures.value) in
+    let from-2 : c.place-2.result ≡ tail l.flow.net c.args.r - 1 = c.place-2.ensures ∙ ap (λ v. v - 1) (c.route-from.ensures.tail
+    ∙ ap (λ (g : Network). tail g c.args.r) c.net.ensures.value) in
     rw (p, from, from-2) (lowered_ok l c.args.r c.self.invariant room less)

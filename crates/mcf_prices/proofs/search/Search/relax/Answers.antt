@@ -1,4 +1,4 @@
-use Rattle.std.proofs.Common.{◌≡◌, arith, ap, refl, rules, subst, ◌∙◌, to_z, of_z}
+use Rattle.std.proofs.Common.{◌≡◌, ◌-◌, arith, ap, refl, rules, subst, ◌∙◌, to_z, of_z}
 use mir.Syntax.{w128}
 use Rattle.std.proofs.lemmas.Int.{ints, to_z-of_z}
 use Rattle.mcf_instance.specs.Network.{Network}
@@ -18,11 +18,11 @@ returns-then-room-le0-clause-relaxed c =
 pub returns-then-index-price-clause-relaxed : goal.returns-then-index-price-clause-relaxed
 returns-then-index-price-clause-relaxed c =
     let l : Labels = record { flow = c.self.inside.state.now; prices = c.self.inside.prices.items; links = c.self.inside.links.items } in
-    let from : c.get.result ≡ tail c.args.self.now.flow.net c.args.r = c.get.ensures ∙ c.route-from.ensures.tail
-    ∙ ap (λ (g : Network). tail g c.args.r) (c.net.ensures.value ∙ ap (λ (x : Labels). x.flow.net) c.self.view_is) in
+    let from : c.place.result ≡ tail c.args.self.now.flow.net c.args.r - 1 = c.place.ensures ∙ ap (λ v. v - 1) (c.route-from.ensures.tail
+    ∙ ap (λ (g : Network). tail g c.args.r) (c.net.ensures.value ∙ ap (λ (x : Labels). x.flow.net) c.self.view_is)) in
     let ok = subst IsLabelling c.self.view_is c.self.invariant in
     let node = tail_is_node c.args.self.now.flow.net c.args.r.arc c.args.r.back ok.flow.of_net c.requires.arc in
-    let price = read_price l c.args.self.now c.get.result _ c.index.result.now c.self.view_is c.self.invariant node from c.index.ensures in
+    let price = read_price l c.args.self.now c.place.result _ c.index.result.now c.self.view_is c.self.invariant node from c.index.ensures in
     let offer = c.offer-price.ensures in
     let le = c.if-index-price.true in
     record { same = refl; respects = λ h. omega (arith, ints, price, offer, le) }
@@ -30,11 +30,11 @@ returns-then-index-price-clause-relaxed c =
 pub lower-requires-clause-less : goal.lower-requires-clause-less
 lower-requires-clause-less c =
     let l : Labels = record { flow = c.self.inside.state.now; prices = c.self.inside.prices.items; links = c.self.inside.links.items } in
-    let from : c.get.result ≡ tail c.args.self.now.flow.net c.args.r = c.get.ensures ∙ c.route-from.ensures.tail
-    ∙ ap (λ (g : Network). tail g c.args.r) (c.net.ensures.value ∙ ap (λ (x : Labels). x.flow.net) c.self.view_is) in
+    let from : c.place.result ≡ tail c.args.self.now.flow.net c.args.r - 1 = c.place.ensures ∙ ap (λ v. v - 1) (c.route-from.ensures.tail
+    ∙ ap (λ (g : Network). tail g c.args.r) (c.net.ensures.value ∙ ap (λ (x : Labels). x.flow.net) c.self.view_is)) in
     let ok = subst IsLabelling c.self.view_is c.self.invariant in
     let node = tail_is_node c.args.self.now.flow.net c.args.r.arc c.args.r.back ok.flow.of_net c.requires.arc in
-    let price = read_price l c.args.self.now c.get.result _ c.index.result.now c.self.view_is c.self.invariant node from c.index.ensures in
+    let price = read_price l c.args.self.now c.place.result _ c.index.result.now c.self.view_is c.self.invariant node from c.index.ensures in
     let less = c.if-index-price.false in
     omega (arith, ints, price, less)
 

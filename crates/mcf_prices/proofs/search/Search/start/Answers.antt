@@ -5,12 +5,12 @@ use Rattle.mcf_prices.proofs.search.Search.start.Goals as goal
 
 pub invariant_of-result : goal.invariant_of-result
 invariant_of-result c =
-    let e : c.resize.new.self.items ≡ replicate (node_count c.args.state.now.net) (pos 0) = search rules in
-    let f : c.resize-2.new.self.items ≡ replicate (node_count c.args.state.now.net) None = search rules in
+    let e : c.in_ok-prices.prices.items ≡ replicate (node_count c.args.state.now.net) (pos 0) = search rules in
+    let f : c.in_ok-links.links.items ≡ replicate (node_count c.args.state.now.net) None = search rules in
     rw (e, f) (start_ok c.args.state.now c.net.ensures.valid)
 
 pub returns-clause-valid : goal.returns-clause-valid
 returns-clause-valid c =
-    let e : c.resize.new.self.items ≡ replicate (node_count c.args.state.now.net) (pos 0) = search rules in
-    let f : c.resize-2.new.self.items ≡ replicate (node_count c.args.state.now.net) None = search rules in
+    let e : c.in_ok-prices.prices.items ≡ replicate (node_count c.args.state.now.net) (pos 0) = search rules in
+    let f : c.in_ok-links.links.items ≡ replicate (node_count c.args.state.now.net) None = search rules in
     rw (e, f) (start_ok c.args.state.now c.net.ensures.valid)
