@@ -1,5 +1,6 @@
 -- What keeps the residual arcs that are still to be looked at.
-use Rattle.std.proofs.Common.{◌≡◌, ◌≢◌, ℕ, ◌+◌, ◌-◌, ◌≤◌, Bool, List, [], ◌∷◌, ◌++◌, Option, Some, None, length, set, get_or, refl, sym, ap, ◌∙◌, arith, subst, ℤ, pos, ◌+ℤ◌, ◌≤ℤ◌, ◌⊎◌, inl, inr, length-set}
+use Rattle.std.proofs.Common.{◌≡◌, ◌≢◌, ℕ, ◌+◌, ◌-◌, ◌≤◌, Bool, List, [], ◌∷◌, ◌++◌, Option, Some, None, length, set, get_or, refl, sym, ap, ◌∙◌, arith, subst}
+use Rattle.std.proofs.Common.{ℤ, pos, ◌+ℤ◌, ◌≤ℤ◌, ◌⊎◌, inl, inr, length-set}
 use Rattle.std.specs.Prelude.{◌<ℤ◌}
 use Rattle.std.specs.List.{All, Contains}
 use Rattle.std.proofs.lemmas.Int.{ints}
@@ -225,15 +226,15 @@ relabel_current a b c v rise ys star currents first ok same step raised places i
     (raised_current a.flow a.prices star currents v rise first ok.flow ok.count node (omega (arith, ints, most))
     (rw is (places.rises v node)) (rw is (places.lists v node)) current)
 
--- a look at the residual arcs of a node, as the code makes it: v is read as i, the entry is lent, and comes back as new
-module _ (a b : Refinement) (star : Star) (currents : List ℕ) (v i entry : ℕ) (same : a ≡ b) (node : IsNodeOf b v) (read : i ≡ v)
-    (current : AreCurrent a.flow a.prices star currents) (lent : entry ≡ get_or currents (i - 1) entry) where
+-- a look at the residual arcs of a node, as the code makes it: its place is i, the entry is lent, and comes back as new
+module _ (a b : Refinement) (star : Star) (currents : List ℕ) (v i entry : ℕ) (same : a ≡ b) (node : IsNodeOf b v) (read : i ≡ v - 1)
+    (current : AreCurrent a.flow a.prices star currents) (lent : entry ≡ get_or currents i entry) where
   here : IsNodeOf a v
   here = subst (λ (z : Refinement). IsNodeOf z v) (sym same) node
 
   entry_is : entry ≡ current_of currents v
   entry_is =
-      lent ∙ ap (λ (j : ℕ). get_or currents (j - 1) entry) read ∙ get_or_default currents (v - 1) entry 0 (let n = here in omega (arith, n, current.count))
+      lent ∙ ap (λ (j : ℕ). get_or currents j entry) read ∙ get_or_default currents (v - 1) entry 0 (let n = here in omega (arith, n, current.count))
 
   pub entry_within : entry ≤ (span_of star v).end
   entry_within = rw entry_is (current.within v here)
@@ -243,9 +244,9 @@ module _ (a b : Refinement) (star : Star) (currents : List ℕ) (v i entry : ℕ
 
   pub entry_current : (new : ℕ) (ps : List ℤ) → ps ≡ a.prices → new ≤ (span_of star v).end → All (Leaves a.flow.net v) (rest_from star v new)
       → ((q : Rid) → Contains (rest_from star v entry) q → (¬ IsAdmissible a.flow ps q) ⊎ Contains (rest_from star v new) q)
-      → AreCurrent a.flow a.prices star (set currents (i - 1) new)
+      → AreCurrent a.flow a.prices star (set currents i new)
   entry_current new ps is within leave passed =
-      subst (λ (j : ℕ). AreCurrent a.flow a.prices star (set currents (j - 1) new)) (sym read)
+      subst (λ (j : ℕ). AreCurrent a.flow a.prices star (set currents j new)) (sym read)
       (looked_current a.flow a.prices star currents v new current here within leave
       (λ q inside. subst (λ (ys : List ℤ). (¬ IsAdmissible a.flow ys q) ⊎ Contains (rest_from star v new) q) is
       (passed q (subst (λ (j : ℕ). Contains (rest_from star v j) q) (sym entry_is) inside))))
@@ -258,8 +259,8 @@ module _ (a b : Refinement) (star : Star) (currents : List ℕ) (v i entry : ℕ
   entry_none None new ps is within leave passed none =
       let set_back = entry_current new ps is within leave passed in
       let inside : IsNode (length currents) v = (let n = here in (n.0, omega (arith, n, current.count))) in
-      let placed : current_of (set currents (i - 1) new) v ≡ new = ap (λ (j : ℕ). current_of (set currents (j - 1) new) v) read
+      let placed : current_of (set currents i new) v ≡ new = ap (λ (j : ℕ). current_of (set currents j new) v) read
       ∙ get_or-set_same currents (v - 1) new 0 (let n = inside in omega (arith, n)) in
       subst (λ (z : Refinement). (r : Rid) → tail z.flow.net r ≡ v → ¬ IsAdmissible z.flow z.prices r) same
-      (none_current a.flow a.prices star (set currents (i - 1) new) v set_back here (ap (rest_from star v) placed ∙ none))
+      (none_current a.flow a.prices star (set currents i new) v set_back here (ap (rest_from star v) placed ∙ none))
   entry_none (Some r) new ps is within leave passed none = tt

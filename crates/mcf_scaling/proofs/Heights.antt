@@ -1,5 +1,6 @@
 -- The measure of a phase: each push and each relabel lowers it.
-use Rattle.std.proofs.Common.{◌≡◌, ℕ, zero, suc, ◌+◌, ◌-◌, ◌*◌, ◌^◌, ◌<◌, eqb, Bool, List, [], ◌∷◌, length, set, sym, ap, ◌∙◌, arith, subst, ℤ, pos, nat_abs, neg_ℤ, ◌+ℤ◌, ◌-ℤ◌, ◌≤ℤ◌, inl, inr}
+use Rattle.std.proofs.Common.{◌≡◌, ℕ, zero, suc, ◌+◌, ◌-◌, ◌*◌, ◌^◌, ◌<◌, eqb, Bool, List, [], ◌∷◌, length, set, sym, ap, ◌∙◌, arith, subst, ℤ, pos, nat_abs}
+use Rattle.std.proofs.Common.{neg_ℤ, ◌+ℤ◌, ◌-ℤ◌, ◌≤ℤ◌, inl, inr}
 use Rattle.std.specs.Int.{int_min}
 use Rattle.std.proofs.Math.IntN.{◌*ℤ◌, *ℤ_comm}
 use Rattle.std.proofs.lemmas.Int.{ints}
@@ -7,7 +8,8 @@ use Rattle.std.proofs.lemmas.Bool.{eq-eqb, ne_eqb}
 use Rattle.mcf_instance.specs.Flow.{cost}
 use Rattle.mcf_instance.specs.Network.{IsArcNumber, IsNode, at_node, node_count, node_sum, when}
 use Rattle.mcf_instance.proofs.Bounds.{cost_up_to}
-use Rattle.mcf_instance.proofs.IntLaws.{add-mul, mul-add, mul-mono, mul-mono_left, mul-sub, mul-one, mul-zero, mul_above_zero, mul_below_zero, sub-mul, zero-mul}
+use Rattle.mcf_instance.proofs.IntLaws.{add-mul, mul-add, mul-mono, mul-mono_left, mul-sub, mul-one, mul-zero, mul_above_zero, mul_below_zero, sub-mul}
+use Rattle.mcf_instance.proofs.IntLaws.{zero-mul}
 use Rattle.mcf_instance.proofs.NodeSums.{node_sum-add, node_sum-at, node_sum-same, node_sum-sub}
 use Rattle.mcf_network.specs.declared.rid.Rid.{Rid}
 use Rattle.mcf_network.specs.Nets.{net_total_limit}

@@ -1,12 +1,11 @@
 -- The marks that tell which residual arcs have room.
-use Rattle.std.proofs.Common.{◌≡◌, ◌≢◌, ℕ, ◌+◌, ◌-◌, ◌*◌, ◌<◌, ◌≤◌, Bool, true, false, List, length, set, get_or, refl, sym, ap, ◌∙◌, arith, subst, ℤ, length-set, inl, inr}
-use Rattle.std.specs.Bool.{OnFalse, OnTrue}
+use Rattle.std.proofs.Common.{◌≡◌, ◌≢◌, ℕ, ◌+◌, ◌-◌, ◌*◌, ◌<◌, ◌≤◌, Bool, true, false, List, length, set, get_or, sym, ap, ◌∙◌, arith, subst, ℤ}
+use Rattle.std.proofs.Common.{length-set, inl, inr}
 use Rattle.std.proofs.lemmas.Bool.{cases_eq}
 use Rattle.std.proofs.lemmas.List.{get_or_default, get_or-set_other, get_or-set_same}
 use Rattle.mcf_instance.specs.Network.{Network, IsArcNumber}
 use Rattle.mcf_network.specs.declared.rid.Rid.{Rid}
 use Rattle.mcf_network.specs.States.{Pseudoflow, IsPseudoflow, amount_at, pushed, room_of}
-use Rattle.mcf_network.specs.Walks.{HasRoom}
 use Rattle.mcf_network.proofs.StateLaws.{rid}
 use Rattle.mcf_scaling.specs.Private.Places.{AreRooms, AreRoomsUpTo, IsMarked, Tells, mark_of, residual_of}
 use Rattle.mcf_scaling.proofs.Fillings.{others_pushed, room_same}
@@ -20,13 +19,15 @@ pub marked : (s : Pseudoflow) (old : List Bool) (k link : ℕ) (forward back : B
 marked s old k link forward back h count e some other =
     let low : link < length old = omega (arith, h, count, e) in
     let high : link + 1 < length (set old link forward) = omega (arith, h, count, e, length-set old link forward) in
-    let first : mark_of (set (set old link forward) (link + 1) back) link ≡ forward = get_or-set_other (set old link forward) (link + 1) link back false (omega arith)
+    let first : mark_of (set (set old link forward) (link + 1) back) link ≡ forward = get_or-set_other
+    (set old link forward) (link + 1) link back false (omega arith)
     ∙ get_or-set_same old link forward false low in
     let second : mark_of (set (set old link forward) (link + 1) back) (link + 1) ≡ back = get_or-set_same (set old link forward) (link + 1) back false high in
     record {
       count = length-set (set old link forward) (link + 1) back ∙ length-set old link forward;
       here = λ at within same. elim (links_of k at same) [
-        | inl is ↦ (let place : link ≡ at = e ∙ sym is in subst (λ (j : ℕ). Tells s (residual_of j) (mark_of (set (set old link forward) (link + 1) back) j)) place
+        | inl is ↦ (let place : link ≡ at = e ∙ sym is in subst (λ (j : ℕ). Tells s (residual_of j) (mark_of (set (set old link forward) (link + 1) back) j))
+            place
             (rw first (subst (λ (r : Rid). Tells s r forward) (sym (link_forward k link h.0 e)) some)))
         | inr is ↦ (let place : link + 1 ≡ at = ap (λ (j : ℕ). j + 1) e ∙ sym is in
             subst (λ (j : ℕ). Tells s (residual_of j) (mark_of (set (set old link forward) (link + 1) back) j)) place
@@ -64,7 +65,11 @@ rooms_end s rooms n so all =
 
 -- what the marks of other arcs tell stays
 tells_still : (s t : Pseudoflow) (r : Rid) (mark : Bool) → s.net ≡ t.net → room_of s r ≡ room_of t r → Tells s r mark → Tells t r mark
-tells_still s t r true net room so = record { yes = record { arc = subst (λ (g : Network). IsArcNumber g r.arc) net so.yes.arc; room = rw (sym room) so.yes.room }; no = tt }
+tells_still s t r true net room so =
+    record {
+      yes = record { arc = subst (λ (g : Network). IsArcNumber g r.arc) net so.yes.arc; room = rw (sym room) so.yes.room };
+      no = tt;
+    }
 tells_still s t r false net room so =
     record {
       yes = tt;

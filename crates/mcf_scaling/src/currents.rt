@@ -32,7 +32,8 @@ pub(crate) fn next_admissible(
     requires leaves { All (Leaves state.now.net v) (rest_from places.now v current.old) }
     ensures within { current.new ≤ (span_of places.now v).end }
     ensures leaves { All (Leaves state.now.net v) (rest_from places.now v current.new) }
-    ensures passed { (r : Rid) → Contains (rest_from places.now v current.old) r → (¬ IsAdmissible state.now prices.now r) ⊎ Contains (rest_from places.now v current.new) r }
+    ensures passed { (r : Rid) → Contains (rest_from places.now v current.old) r
+        → (¬ IsAdmissible state.now prices.now r) ⊎ Contains (rest_from places.now v current.new) r }
     ensures some { IfSome result (λ r. IsAdmissible state.now prices.now r × Leaves state.now.net v r) }
     ensures none { IfNone result (rest_from places.now v current.new ≡ []) }
 {
@@ -60,7 +61,7 @@ pub(crate) fn all_firsts(alloc: Global, net: &Net, places: &Places) -> Result<Ve
 {
     let mut firsts = Vec::new(alloc);
     'nodes: for number in 0..net.node_count() {
-        let span = places.span(NodeId::new(number + 1));
+        let span = places.span(NodeId::at(number));
         firsts.push(span.first)?;
     }
     Ok(firsts)

@@ -52,7 +52,7 @@ impl Places {
         let mut spans = Vec::with_capacity(alloc, net.node_count() as usize)?;
         let mut places = Vec::with_capacity(alloc, 2 * net.arc_count() as usize)?;
         'nodes: for number in 0..net.node_count() {
-            let span = put_leaving(net, &mut places, NodeId::new(number + 1))?;
+            let span = put_leaving(net, &mut places, NodeId::at(number))?;
             spans.push(span)?;
         }
         Ok(Places { spans, places })
@@ -63,7 +63,7 @@ impl Places {
         requires { IsNode (length self.now.spans) v }
         ensures { result ≡ span_of self.now v }
     {
-        self.spans[v.get() as usize - 1]
+        self.spans[v.place()]
     }
 
     /// What stands at a place.
@@ -80,7 +80,7 @@ pub(crate) fn residual_of(link: u32) -> Rid
     ensures { result ≡ residual_of link }
 {
     Rid {
-        arc: ArcId::new(link / 2 + 1),
+        arc: ArcId::at(link / 2),
         back: link % 2 == 1,
     }
 }

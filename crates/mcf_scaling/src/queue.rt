@@ -51,7 +51,7 @@ impl Queue {
         ensures value { self.new ≡ queued self.old v }
         ensures valid { IsQueue self.new }
     {
-        let i = v.get() as usize - 1;
+        let i = v.place();
         if !self.marks[i] {
             self.nodes.push_back_reserved(v);
             self.marks[i] = true;
@@ -76,7 +76,7 @@ impl Queue {
         ensures valid { IsQueue self.new }
     {
         let first = self.nodes.pop_front()?;
-        self.marks[first.get() as usize - 1] = false;
+        self.marks[first.place()] = false;
         Some(first)
     }
 }
@@ -103,7 +103,7 @@ pub(crate) fn enqueue_all(state: &State<'_>, queue: &mut Queue)
     ensures { HoldsActive state.now queue.new }
 {
     'nodes: for number in 0..state.net().node_count() {
-        enqueue(state, queue, NodeId::new(number + 1));
+        enqueue(state, queue, NodeId::at(number));
     }
 }
 

@@ -1,5 +1,5 @@
 //! Refining a state, phase by phase (Goldberg and Tarjan; Ahuja, Magnanti and Orlin, Network Flows, section 10.3).
-ghost use Rattle.std.specs.Prelude.{◌≡◌, ◌<ℤ◌, replicate, ◌↔◌, ◌*◌, ◌^◌, ◌≤◌, ◌≤ℤ◌, ◌+ℤ◌, ◌-◌, ℕ, ℤ, length, slice_set, IfNone, IfOk, IfSome, IsTrue, OnErr, pos};
+ghost use Rattle.std.specs.Prelude.{◌≡◌, ◌<ℤ◌, ◌↔◌, ◌*◌, ◌^◌, ◌≤◌, ◌≤ℤ◌, ◌+ℤ◌, ◌-◌, ℕ, ℤ, length, slice_set, IfNone, IfOk, IfSome, IsTrue, OnErr, pos};
 ghost use Rattle.std.specs.Bool.{OnFalse, OnTrue};
 ghost use Rattle.std.specs.Int.{int_min};
 ghost use Rattle.mcf_feas.specs.Feasible.{IsFeasibleState};
@@ -22,6 +22,7 @@ use crate::pricing::{least_reduced, reduced_cost};
 use crate::queue::{Queue, enqueue, enqueue_all, tidy};
 use crate::rooms::{mark, mark_all, rooms_of};
 use crate::scale::{first_scale, power};
+use mcf_instance::copies;
 use mcf_network::{Rid, State};
 use mcf_text::{ArcId, NoMemory, NodeId};
 use std::alloc::Global;
@@ -87,8 +88,8 @@ impl<'n> Refine<'n> {
         let net = state.net();
         let nodes = net.node_count() as usize;
         let scale = first_scale(net);
-        let prices = zeros(alloc, nodes)?;
-        let before = zeros(alloc, nodes)?;
+        let prices = copies(alloc, nodes, 0)?;
+        let before = copies(alloc, nodes, 0)?;
         let places = Places::new(alloc, net)?;
         let rooms = rooms_of(alloc, &state)?;
         let currents = all_firsts(alloc, net, &places)?;
@@ -136,7 +137,7 @@ impl<'n> Refine<'n> {
         requires { IsNodeOf self.now v }
         ensures value { result ≡ at_node self.now.prices v }
     {
-        self.prices[v.get() as usize - 1]
+        self.prices[v.place()]
     }
 
     /// The reduced cost of a residual arc: its cost times the count of nodes plus 1, less the price of its tail plus that
@@ -158,7 +159,7 @@ impl<'n> Refine<'n> {
         ensures same { self.new ≡ self.old }
         ensures valid { IsRefinement self.new }
     {
-        let i = v.get() as usize - 1;
+        let i = v.place();
         next_admissible(
             &self.state,
             &self.prices,
@@ -206,7 +207,7 @@ impl<'n> Refine<'n> {
         );
         raise(&mut self.prices, v, rise);
         let span = self.places.span(v);
-        self.currents[v.get() as usize - 1] = span.first;
+        self.currents[v.place()] = span.first;
         rise
     }
 
@@ -311,17 +312,7 @@ fn raise(prices: &mut Vec<i128>, v: NodeId, rise: i128)
     requires rise { IsUpTo (10 ^ 31) rise }
     ensures { prices.new.items ≡ slice_set prices.old.items (v - 1) (at_node prices.old.items v +ℤ rise) }
 {
-    let i = v.get() as usize - 1;
+    let i = v.place();
     let raised = sum(prices[i], rise);
     prices[i] = raised;
-}
-
-// So many zeros.
-fn zeros(alloc: Global, count: usize) -> Result<Vec<i128>, NoMemory>
-    ensures value { IfOk result (λ made. made.items ≡ replicate count (pos 0)) }
-    ensures wants { OnErr result (1 ≤ count) }
-{
-    let mut made = Vec::new(alloc);
-    made.resize(count, 0)?;
-    Ok(made)
 }

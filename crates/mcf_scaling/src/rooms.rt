@@ -35,7 +35,7 @@ pub(crate) fn mark_all(state: &State<'_>, rooms: &mut Vec<bool>)
     ensures { AreRooms state.now rooms.new.items }
 {
     'arcs: for number in 0..state.net().arc_count() {
-        mark(state, rooms, ArcId::new(number + 1));
+        mark(state, rooms, ArcId::at(number));
     }
 }
 
@@ -45,7 +45,7 @@ pub(crate) fn mark(state: &State<'_>, rooms: &mut Vec<bool>, arc: ArcId)
     requires count { length rooms.old.items ≡ 2 * length state.now.net.arcs }
     ensures { IsMarked state.now rooms.old.items rooms.new.items arc }
 {
-    let link = 2 * (arc.get() as usize - 1);
+    let link = 2 * arc.place();
     rooms[link] = has_room(state, arc, false);
     rooms[link + 1] = has_room(state, arc, true);
 }

@@ -11,7 +11,7 @@ arcs-preserved c =
     let count = c.arc_count-number-end.ensures.value ∙ ap (λ (g : Network). length g.arcs) c.net-net.ensures.value in
     let test = c.arcs-test.true in
     let here : IsArcNumber c.args.state.now.net (c.arcs.number + 1) = (omega arith, omega (arith, count, test)) in
-    let at = rw c.new.ensures at c.fill_arc.ensures in
+    let at = rw c.at.ensures at c.fill_arc.ensures in
     filled_next c.args.state.now c.arcs.state c.fill_arc.new.state c.args.prices.now c.arcs.number (c.arcs.number + 1) c.arcs.invariant at (omega arith) here
 
 pub returns : goal.returns

@@ -8,7 +8,7 @@ nodes-preserved c =
     record {
       size = c.enqueue.ensures.size ∙ c.nodes.invariant.size;
       valid = c.enqueue.ensures.valid;
-      every = queued_all c.args.state.now c.nodes.queue c.enqueue.new.queue c.nodes.number c.new.result c.new.ensures c.nodes.invariant.every
+      every = queued_all c.args.state.now c.nodes.queue c.enqueue.new.queue c.nodes.number c.at.result c.at.ensures c.nodes.invariant.every
           c.enqueue.ensures.kept c.enqueue.ensures.here;
     }
 

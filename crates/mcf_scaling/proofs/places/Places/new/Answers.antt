@@ -11,6 +11,6 @@ returns-in_err-places-clause-wants c =
 
 pub nodes-preserved : goal.nodes-preserved
 nodes-preserved c =
-    star_next c.args.net.now c.nodes.spans.items c.push.new.self.items c.nodes.places.items c.put_leaving.new.places.items c.nodes.number c.new.result
-    c.in_ok-span.span c.nodes.invariant c.in_ok-push.ensures.items c.new.ensures c.in_ok-span.ensures.before c.in_ok-span.ensures.each
+    star_next c.args.net.now c.nodes.spans.items c.push.new.self.items c.nodes.places.items c.put_leaving.new.places.items c.nodes.number c.at.result
+    c.in_ok-span.span c.nodes.invariant c.in_ok-push.ensures.items c.at.ensures c.in_ok-span.ensures.before c.in_ok-span.ensures.each
     c.in_ok-span.ensures.first c.in_ok-span.ensures.end c.in_ok-span.ensures.lists

@@ -1,4 +1,4 @@
-use Rattle.std.proofs.Common.{◌≡◌, ◌++◌, ◌∷◌, [], ◌-◌, true, false, length, length-set, sym, subst, rules, arith, deque_len}
+use Rattle.std.proofs.Common.{◌≡◌, ◌++◌, ◌∷◌, [], true, false, length, length-set, sym, subst, rules, arith, deque_len}
 use Rattle.mcf_instance.specs.Blocking.{in_table}
 use Rattle.mcf_instance.specs.Network.{IsNode}
 use Rattle.mcf_scaling.specs.Private.Queues.{Waiting}
@@ -24,7 +24,7 @@ invariant_of-self c =
     let pushed : c.push_back_reserved.new.self.items ≡ q.nodes ++ c.args.v ∷ [] = search rules in
     let cap = c.self.invariant.1 in
     let still = c.push_back_reserved.ensures.capacity in
-    (rw (pushed, c.get.ensures) made, omega (arith, cap, still, length-set c.self.inside.marks.items (c.get.result - 1) true))
+    (rw (pushed, c.place-i.ensures) made, omega (arith, cap, still, length-set c.self.inside.marks.items c.place-i.result true))
 
 pub returns-then-not-index-clause-valid : goal.returns-then-not-index-clause-valid
 returns-then-not-index-clause-valid c =
@@ -33,4 +33,4 @@ returns-then-not-index-clause-valid c =
     let fresh : in_table q.table c.args.v ≡ false = search rules in
     let made = queue_push q c.args.v c.self.invariant.0 h fresh in
     let pushed : c.push_back_reserved.new.self.items ≡ q.nodes ++ c.args.v ∷ [] = search rules in
-    rw (pushed, c.get.ensures) made
+    rw (pushed, c.place-i.ensures) made

@@ -26,8 +26,8 @@ next_admissible-requires-clause-within c =
       scale =
           c.self.inside.scale;
     } in
-    entry_within a c.args.self.now c.self.inside.places c.self.inside.currents.items c.args.v c.get.result c.index_mut.result.now c.self.view_is
-    c.requires c.get.ensures c.self.invariant.1 c.index_mut.ensures.value
+    entry_within a c.args.self.now c.self.inside.places c.self.inside.currents.items c.args.v c.place-i.result c.index_mut.result.now c.self.view_is
+    c.requires c.place-i.ensures c.self.invariant.1 c.index_mut.ensures.value
 
 pub next_admissible-requires-clause-leaves : goal.next_admissible-requires-clause-leaves
 next_admissible-requires-clause-leaves c =
@@ -38,8 +38,8 @@ next_admissible-requires-clause-leaves c =
       scale =
           c.self.inside.scale;
     } in
-    entry_leaves a c.args.self.now c.self.inside.places c.self.inside.currents.items c.args.v c.get.result c.index_mut.result.now c.self.view_is
-    c.requires c.get.ensures c.self.invariant.1 c.index_mut.ensures.value
+    entry_leaves a c.args.self.now c.self.inside.places c.self.inside.currents.items c.args.v c.place-i.result c.index_mut.result.now c.self.view_is
+    c.requires c.place-i.ensures c.self.invariant.1 c.index_mut.ensures.value
 
 pub invariant_of-self : goal.invariant_of-self
 invariant_of-self c =
@@ -51,8 +51,8 @@ invariant_of-self c =
           c.self.inside.scale;
     } in (
       c.self.invariant.0,
-      entry_current a c.args.self.now c.self.inside.places c.self.inside.currents.items c.args.v c.get.result c.index_mut.result.now c.self.view_is
-          c.requires c.get.ensures c.self.invariant.1 c.index_mut.ensures.value c.next_admissible.new.current c.deref.result.now
+      entry_current a c.args.self.now c.self.inside.places c.self.inside.currents.items c.args.v c.place-i.result c.index_mut.result.now c.self.view_is
+          c.requires c.place-i.ensures c.self.invariant.1 c.index_mut.ensures.value c.next_admissible.new.current c.deref.result.now
           c.deref.ensures.value c.next_admissible.ensures.within c.next_admissible.ensures.leaves c.next_admissible.ensures.passed,
       c.self.invariant.2,
       c.self.invariant.3,
@@ -68,7 +68,7 @@ returns-clause-none c =
       scale =
           c.self.inside.scale;
     } in
-    entry_none a c.args.self.now c.self.inside.places c.self.inside.currents.items c.args.v c.get.result c.index_mut.result.now c.self.view_is
-    c.requires c.get.ensures c.self.invariant.1 c.index_mut.ensures.value c.next_admissible.result c.next_admissible.new.current
+    entry_none a c.args.self.now c.self.inside.places c.self.inside.currents.items c.args.v c.place-i.result c.index_mut.result.now c.self.view_is
+    c.requires c.place-i.ensures c.self.invariant.1 c.index_mut.ensures.value c.next_admissible.result c.next_admissible.new.current
     c.deref.result.now c.deref.ensures.value c.next_admissible.ensures.within c.next_admissible.ensures.leaves c.next_admissible.ensures.passed
     c.next_admissible.ensures.none

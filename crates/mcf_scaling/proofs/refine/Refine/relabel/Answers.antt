@@ -52,8 +52,8 @@ invariant_of-self c =
       relabel_raised a c.args.self.now c.args.v c.rise_of-rise.result c.deref.result.now c.raise.new.prices.items c.self.view_is c.self.invariant.0
           c.requires.active c.requires.stuck c.deref.ensures.value c.rise_of-rise.ensures.value raised,
       subst
-          (λ (n : ℕ). AreCurrent a.flow c.raise.new.prices.items c.self.inside.places (set c.self.inside.currents.items (n - 1) c.span-span.result.first))
-          (sym c.get.ensures)
+          (λ (n : ℕ). AreCurrent a.flow c.raise.new.prices.items c.self.inside.places (set c.self.inside.currents.items n c.span-span.result.first))
+          (sym c.place.ensures)
           (relabel_current a c.args.self.now (record a { prices = c.raise.new.prices.items }) c.args.v c.rise_of-rise.result c.raise.new.prices.items
           c.self.inside.places c.self.inside.currents.items c.span-span.result.first c.self.invariant.0 c.self.view_is step raised c.self.invariant.3
           (ap (λ (s : Span). s.first) c.span-span.ensures) c.self.invariant.1),
