@@ -19,57 +19,57 @@ use Rattle.mcf_network.specs.Walks.{HasRoom}
 use Rattle.mcf_network.proofs.ArcLaws.{tail_is_node}
 use Rattle.mcf_network.proofs.Lists.{Contains-cons}
 use Rattle.mcf_network.proofs.Marks.{count_none, count_small, counted_new, marked_new, marked_only, marked_still, unmarked}
-use Rattle.mcf_feas.specs.declared.search.Link.{Link}
-use Rattle.mcf_feas.specs.declared.search.Visit.{Visit}
-use Rattle.mcf_feas.specs.Private.Searching.{IsFound, IsReachedBy, IsScanned, IsSearch, node_at, visit_at}
+use Rattle.mcf_feas.specs.declared.path_search.Predecessor.{Predecessor}
+use Rattle.mcf_feas.specs.declared.path_search.Visit.{Visit}
+use Rattle.mcf_feas.specs.Private.Searching.{IsFound, IsReachedBy, IsScanned, IsPathSearch, node_at, visit_at}
 
 -- ---- one visit more
 
-abbrev pub visit_of : ℕ → Option Link → Visit
-visit_of v link = record { node = v; link = link }
+abbrev pub visit_of : ℕ → Option Predecessor → Visit
+visit_of v predecessor = record { node = v; predecessor = predecessor }
 
-abbrev pub pushed_visit : List Visit → ℕ → Option Link → List Visit
-pushed_visit visits v link = visits ++ visit_of v link ∷ []
+abbrev pub pushed_visit : List Visit → ℕ → Option Predecessor → List Visit
+pushed_visit visits v predecessor = visits ++ visit_of v predecessor ∷ []
 
-at_old : (visits : List Visit) (v : ℕ) (link : Option Link) (i : ℕ) → i < length visits → visit_at (pushed_visit visits v link) i ≡ visit_at visits i
-at_old visits v link i h =
-    get_or_append_left visits (visit_of v link ∷ []) (visit_of 0 None) i h
+at_old : (visits : List Visit) (v : ℕ) (predecessor : Option Predecessor) (i : ℕ) → i < length visits → visit_at (pushed_visit visits v predecessor) i ≡ visit_at visits i
+at_old visits v predecessor i h =
+    get_or_append_left visits (visit_of v predecessor ∷ []) (visit_of 0 None) i h
 
-at_new : (visits : List Visit) (v : ℕ) (link : Option Link) (i : ℕ) → length visits ≡ i → visit_at (pushed_visit visits v link) i ≡ visit_of v link
-at_new visits v link i h = get_or_push visits (visit_of v link) (visit_of 0 None) i h
+at_new : (visits : List Visit) (v : ℕ) (predecessor : Option Predecessor) (i : ℕ) → length visits ≡ i → visit_at (pushed_visit visits v predecessor) i ≡ visit_of v predecessor
+at_new visits v predecessor i h = get_or_push visits (visit_of v predecessor) (visit_of 0 None) i h
 
-node_old : (visits : List Visit) (v : ℕ) (link : Option Link) (i : ℕ) → i < length visits → node_at (pushed_visit visits v link) i ≡ node_at visits i
-node_old visits v link i h = ap (λ (x : Visit). x.node) (at_old visits v link i h)
+node_old : (visits : List Visit) (v : ℕ) (predecessor : Option Predecessor) (i : ℕ) → i < length visits → node_at (pushed_visit visits v predecessor) i ≡ node_at visits i
+node_old visits v predecessor i h = ap (λ (x : Visit). x.node) (at_old visits v predecessor i h)
 
-node_new : (visits : List Visit) (v : ℕ) (link : Option Link) (i : ℕ) → length visits ≡ i → node_at (pushed_visit visits v link) i ≡ v
-node_new visits v link i h = ap (λ (x : Visit). x.node) (at_new visits v link i h)
+node_new : (visits : List Visit) (v : ℕ) (predecessor : Option Predecessor) (i : ℕ) → length visits ≡ i → node_at (pushed_visit visits v predecessor) i ≡ v
+node_new visits v predecessor i h = ap (λ (x : Visit). x.node) (at_new visits v predecessor i h)
 
 -- a way to reach an old node stays one
-reached_old : (s : Pseudoflow) (visits : List Visit) (v : ℕ) (link : Option Link) (i : ℕ) (old : Option Link) → i < length visits → IsReachedBy s visits i old
-    → IsReachedBy s (pushed_visit visits v link) i old
-reached_old s visits v link i None h by = rw (node_old visits v link i h) by
-reached_old s visits v link i (Some l) h by =
+reached_old : (s : Pseudoflow) (visits : List Visit) (v : ℕ) (predecessor : Option Predecessor) (i : ℕ) (old : Option Predecessor) → i < length visits → IsReachedBy s visits i old
+    → IsReachedBy s (pushed_visit visits v predecessor) i old
+reached_old s visits v predecessor i None h by = rw (node_old visits v predecessor i h) by
+reached_old s visits v predecessor i (Some l) h by =
     let earlier = by.earlier in
     record {
       earlier = by.earlier;
       room = by.room;
-      from = by.from ∙ sym (node_old visits v link l.place (omega arith));
-      to = by.to ∙ sym (node_old visits v link i h);
+      from = by.from ∙ sym (node_old visits v predecessor l.place (omega arith));
+      to = by.to ∙ sym (node_old visits v predecessor i h);
     }
 
 -- how a node comes to be the next: it has a surplus, or a residual arc with room leads to it from a visited one
-pub record IsNextLink (s : Pseudoflow) (visits : List Visit) (v : ℕ) (l : Link) : Type 0 where
+pub record IsNextPredecessor (s : Pseudoflow) (visits : List Visit) (v : ℕ) (l : Predecessor) : Type 0 where
   pub earlier : l.place < length visits
   pub room : HasRoom s l.along
   pub from : tail s.net l.along ≡ node_at visits l.place
   pub to : head s.net l.along ≡ v
 
-abbrev pub IsNext : Pseudoflow → List Visit → ℕ → Option Link → Type 0
+abbrev pub IsNext : Pseudoflow → List Visit → ℕ → Option Predecessor → Type 0
 IsNext s visits v None = pos 0 <ℤ surplus_at s v
-IsNext s visits v (Some l) = IsNextLink s visits v l
+IsNext s visits v (Some l) = IsNextPredecessor s visits v l
 
-reached_new : (s : Pseudoflow) (visits : List Visit) (v : ℕ) (link : Option Link) → IsNext s visits v link
-    → IsReachedBy s (pushed_visit visits v link) (length visits) link
+reached_new : (s : Pseudoflow) (visits : List Visit) (v : ℕ) (predecessor : Option Predecessor) → IsNext s visits v predecessor
+    → IsReachedBy s (pushed_visit visits v predecessor) (length visits) predecessor
 reached_new s visits v None next = rw (node_new visits v None (length visits) refl) next
 reached_new s visits v (Some l) next =
     let earlier = next.earlier in
@@ -81,7 +81,7 @@ reached_new s visits v (Some l) next =
     }
 
 -- a node that is not visited yet has its place among the visits
-pub search_room : (s : Pseudoflow) (table : List Bool) (visits : List Visit) (v : ℕ) → IsSearch s table visits → IsNode (node_count s.net) v
+pub search_room : (s : Pseudoflow) (table : List Bool) (visits : List Visit) (v : ℕ) → IsPathSearch s table visits → IsNode (node_count s.net) v
     → in_table table v ≡ false → length visits < node_count s.net
 search_room s table visits v ok h new =
     let here : IsNode (length table) v = omega (arith, h, ok.nodes) in
@@ -90,69 +90,69 @@ search_room s table visits v ok h new =
     let same = length-set table (v - 1) true in
     omega (arith, few, more, same, ok.nodes, ok.count)
 
-module _ (s : Pseudoflow) (table : List Bool) (visits : List Visit) (v : ℕ) (link : Option Link) (ok : IsSearch s table visits)
-    (h : IsNode (node_count s.net) v) (new : in_table table v ≡ false) (next : IsNext s visits v link) where
+module _ (s : Pseudoflow) (table : List Bool) (visits : List Visit) (v : ℕ) (predecessor : Option Predecessor) (ok : IsPathSearch s table visits)
+    (h : IsNode (node_count s.net) v) (new : in_table table v ≡ false) (next : IsNext s visits v predecessor) where
   in_range : IsNode (length table) v
   in_range = omega (arith, ok.nodes)
 
-  by_place : {P : ℕ → Type 0} → ((i : ℕ) → i < length visits → P i) → P (length visits) → (i : ℕ) → i < length (pushed_visit visits v link) → P i
+  by_place : {P : ℕ → Type 0} → ((i : ℕ) → i < length visits → P i) → P (length visits) → (i : ℕ) → i < length (pushed_visit visits v predecessor) → P i
   by_place {P} old here i l =
-      let n = length_push visits (visit_of v link) in
+      let n = length_push visits (visit_of v predecessor) in
       elim (cases_eq i (length visits)) [
         | inl e ↦ subst P (sym e) here
         | inr m ↦ old i (omega arith)
       ]
 
-  pub search_push : IsSearch s (with_node table v) (pushed_visit visits v link)
+  pub search_push : IsPathSearch s (with_node table v) (pushed_visit visits v predecessor)
   search_push =
-      let n = length_push visits (visit_of v link) in
+      let n = length_push visits (visit_of v predecessor) in
       record {
         forest = record {
-          are_nodes = by_place {P = λ i. IsNode (node_count s.net) (node_at (pushed_visit visits v link) i)}
-              (λ i l. rw (node_old visits v link i l) (ok.forest.are_nodes i l)) (rw (node_new visits v link (length visits) refl) h);
+          are_nodes = by_place {P = λ i. IsNode (node_count s.net) (node_at (pushed_visit visits v predecessor) i)}
+              (λ i l. rw (node_old visits v predecessor i l) (ok.forest.are_nodes i l)) (rw (node_new visits v predecessor (length visits) refl) h);
           distinct = λ i j less l. elim (cases_eq j (length visits)) [
-            | inl e ↦ (λ same. false≢true (sym new ∙ ap (in_table table) (sym (node_new visits v link j (sym e)) ∙ sym same
-                ∙ node_old visits v link i (omega arith)) ∙ ok.marked i (omega arith)))
-            | inr m ↦ (λ same. ok.forest.distinct i j less (omega (arith, n)) (sym (node_old visits v link i (omega (arith, n))) ∙ same
-                ∙ node_old visits v link j (omega (arith, n))))
+            | inl e ↦ (λ same. false≢true (sym new ∙ ap (in_table table) (sym (node_new visits v predecessor j (sym e)) ∙ sym same
+                ∙ node_old visits v predecessor i (omega arith)) ∙ ok.marked i (omega arith)))
+            | inr m ↦ (λ same. ok.forest.distinct i j less (omega (arith, n)) (sym (node_old visits v predecessor i (omega (arith, n))) ∙ same
+                ∙ node_old visits v predecessor j (omega (arith, n))))
           ];
-          linked = by_place {P = λ i. IsReachedBy s (pushed_visit visits v link) i (visit_at (pushed_visit visits v link) i).link}
-              (λ i l. rw (at_old visits v link i l) (reached_old s visits v link i (visit_at visits i).link l (ok.forest.linked i l)))
-              (rw (at_new visits v link (length visits) refl) (reached_new s visits v link next));
+          reached = by_place {P = λ i. IsReachedBy s (pushed_visit visits v predecessor) i (visit_at (pushed_visit visits v predecessor) i).predecessor}
+              (λ i l. rw (at_old visits v predecessor i l) (reached_old s visits v predecessor i (visit_at visits i).predecessor l (ok.forest.reached i l)))
+              (rw (at_new visits v predecessor (length visits) refl) (reached_new s visits v predecessor next));
         };
         nodes = length-set table (v - 1) true ∙ ok.nodes;
         count = omega (arith, n, ok.count, counted_new table v in_range new);
-        marked = by_place {P = λ i. in_table (with_node table v) (node_at (pushed_visit visits v link) i) ≡ true}
-            (λ i l. rw (node_old visits v link i l) (marked_still table v (node_at visits i) in_range (ok.marked i l)))
-            (rw (node_new visits v link (length visits) refl) (marked_new table v in_range));
+        marked = by_place {P = λ i. in_table (with_node table v) (node_at (pushed_visit visits v predecessor) i) ≡ true}
+            (λ i l. rw (node_old visits v predecessor i l) (marked_still table v (node_at visits i) in_range (ok.marked i l)))
+            (rw (node_new visits v predecessor (length visits) refl) (marked_new table v in_range));
         every = λ w k e. elim (marked_only table v w in_range (omega (arith, ok.nodes)) e) [
-          | inl same ↦ (length visits, omega (arith, n), node_new visits v link (length visits) refl ∙ sym same)
-          | inr old ↦ (let (i, l, at) = ok.every w k old in (i, omega (arith, n), node_old visits v link i l ∙ at))
+          | inl same ↦ (length visits, omega (arith, n), node_new visits v predecessor (length visits) refl ∙ sym same)
+          | inr old ↦ (let (i, l, at) = ok.every w k old in (i, omega (arith, n), node_old visits v predecessor i l ∙ at))
         ];
       }
 
   -- the node takes
-  pub found_push : surplus_at s v <ℤ pos 0 → IsFound s (pushed_visit visits v link)
+  pub found_push : surplus_at s v <ℤ pos 0 → IsFound s (pushed_visit visits v predecessor)
   found_push low =
-      let n = length_push visits (visit_of v link) in
-      let last : length (pushed_visit visits v link) - 1 ≡ length visits = omega (arith, n) in
+      let n = length_push visits (visit_of v predecessor) in
+      let last : length (pushed_visit visits v predecessor) - 1 ≡ length visits = omega (arith, n) in
       record {
         forest = search_push.forest;
         some = omega (arith, n);
-        deficit = rw (last, node_new visits v link (length visits) refl) low;
+        deficit = rw (last, node_new visits v predecessor (length visits) refl) low;
       }
 
   -- the node does not take
   pub scanned_push : (scanned : ℕ) → IsScanned s table visits scanned → pos 0 ≤ℤ surplus_at s v
-      → IsScanned s (with_node table v) (pushed_visit visits v link) scanned
+      → IsScanned s (with_node table v) (pushed_visit visits v predecessor) scanned
   scanned_push scanned old low =
       let within = old.within in
       record {
         search = search_push;
-        within = omega (arith, length_push visits (visit_of v link));
-        no_deficit = by_place {P = λ i. pos 0 ≤ℤ surplus_at s (node_at (pushed_visit visits v link) i)}
-            (λ i l. rw (node_old visits v link i l) (old.no_deficit i l)) (rw (node_new visits v link (length visits) refl) low);
-        closed = λ i l r room from. marked_still table v (head s.net r) in_range (old.closed i l r room (from ∙ node_old visits v link i (omega arith)));
+        within = omega (arith, length_push visits (visit_of v predecessor));
+        no_deficit = by_place {P = λ i. pos 0 ≤ℤ surplus_at s (node_at (pushed_visit visits v predecessor) i)}
+            (λ i l. rw (node_old visits v predecessor i l) (old.no_deficit i l)) (rw (node_new visits v predecessor (length visits) refl) low);
+        closed = λ i l r room from. marked_still table v (head s.net r) in_range (old.closed i l r room (from ∙ node_old visits v predecessor i (omega arith)));
       }
 
 -- ---- the nodes with a surplus
@@ -172,7 +172,7 @@ started_first s =
           forest = record {
             are_nodes = λ i l. absurd (omega arith);
             distinct = λ i j less l. absurd (omega arith);
-            linked = λ i l. absurd (omega arith);
+            reached = λ i l. absurd (omega arith);
           };
           nodes = length-replicate n false;
           count = sym (count_none n);
@@ -285,7 +285,7 @@ module _ (s : Pseudoflow) (table : List Bool) (visits : List Visit) (place : ℕ
 
 -- it leads to a node that is visited now
 module _ (s : Pseudoflow) (table : List Bool) (visits : List Visit) (place : ℕ) (r : Rid) (rest : List Rid) (old : IsScanning s table visits place (r ∷ rest))
-    (to : ℕ) (l : Link) (room : HasRoom s r) (end : head s.net r ≡ to) (is : l ≡ record { place = place; along = r }) (h : IsNode (node_count s.net) to)
+    (to : ℕ) (l : Predecessor) (room : HasRoom s r) (end : head s.net r ≡ to) (is : l ≡ record { place = place; along = r }) (h : IsNode (node_count s.net) to)
     (new : in_table table to ≡ false) where
   next_along : IsNext s visits to (Some l)
   next_along =
@@ -342,7 +342,7 @@ scanning_end s table visits place all =
 
 -- ---- what a search is stuck in
 
-source_at : (s : Pseudoflow) (visits : List Visit) (link : Option Link) → IsReachedBy s visits 0 link → pos 0 <ℤ surplus_at s (node_at visits 0)
+source_at : (s : Pseudoflow) (visits : List Visit) (predecessor : Option Predecessor) → IsReachedBy s visits 0 predecessor → pos 0 <ℤ surplus_at s (node_at visits 0)
 source_at s visits None by = by
 source_at s visits (Some l) by = absurd (let earlier = by.earlier in omega arith)
 
@@ -357,7 +357,7 @@ stuck_at s table visits scanned flow ok all some =
         node_at visits 0,
         ok.search.forest.are_nodes 0 some,
         ok.search.marked 0 some,
-        source_at s visits (visit_at visits 0).link
-            (ok.search.forest.linked 0 some),
+        source_at s visits (visit_at visits 0).predecessor
+            (ok.search.forest.reached 0 some),
       );
     }

@@ -11,9 +11,9 @@ use Rattle.mcf_network.specs.declared.rid.Rid.{Rid}
 use Rattle.mcf_network.specs.Residual.{head}
 use Rattle.mcf_network.specs.States.{Pseudoflow, room_of, surplus_at}
 use Rattle.mcf_network.specs.Walks.{HasRoomFor, IsWalk}
-use Rattle.mcf_feas.specs.declared.search.Link.{Link}
-use Rattle.mcf_feas.specs.declared.search.Visit.{Visit}
-use Rattle.mcf_feas.specs.Private.Searching.{IsFound, IsTreeLink, IsPath, IsReachedBy, IsForest, TakesAll, node_at}
+use Rattle.mcf_feas.specs.declared.path_search.Predecessor.{Predecessor}
+use Rattle.mcf_feas.specs.declared.path_search.Visit.{Visit}
+use Rattle.mcf_feas.specs.Private.Searching.{IsFound, IsPredecessor, IsPath, IsReachedBy, IsForest, TakesAll, node_at}
 
 -- what the lesser of two numbers above 0 is
 pub record IsLesser (x y least : ℤ) : Type 0 where
@@ -85,23 +85,23 @@ trace_first s visits x found e =
 
 module _ (s : Pseudoflow) (visits : List Visit) (place : ℕ) (walk : List Rid) (w : ℕ) (x y : ℤ) (ok : IsForest s visits)
     (old : IsTrace s visits place walk w x) (pos_y : pos 0 <ℤ y) (le_x : y ≤ℤ x) where
-  -- the path back goes along a link
-  pub trace_step : (l : Link) → IsTreeLink s visits place l → y ≤ℤ room_of s l.along → (y ≡ x) ⊎ (y ≡ room_of s l.along)
+  -- the path back goes on to the predecessor
+  pub trace_step : (l : Predecessor) → IsPredecessor s visits place l → y ≤ℤ room_of s l.along → (y ≡ x) ⊎ (y ≡ room_of s l.along)
       → IsTrace s visits l.place (l.along ∷ walk) w y
-  trace_step l link le_room either =
-      let earlier = link.earlier in
+  trace_step l predecessor le_room either =
+      let earlier = predecessor.earlier in
       let in_range = old.in_range in
       let taken = old.taken in
-      let arc = link.room in
+      let arc = predecessor.room in
       record {
         in_range = omega arith;
-        walks = (link.from, subst (λ u. IsWalk s.net u walk w) (sym link.to) old.walks);
+        walks = (predecessor.from, subst (λ u. IsWalk s.net u walk w) (sym predecessor.to) old.walks);
         room = All-cons (HasRoomFor s y) l.along walk (record { arc = arc.arc; room = le_room })
             (λ k d h. let there = old.room k d h in let room = there.room in record { arc = there.arc; room = omega (arith, ints, room, le_x) });
-        later = All-cons (EntersLater s visits l.place) l.along walk (place, earlier, in_range, link.to)
+        later = All-cons (EntersLater s visits l.place) l.along walk (place, earlier, in_range, predecessor.to)
             (λ k d h. let (p, a, b, e) = old.later k d h in (p, omega arith, b, e));
         distinct = AllPairs-cons (λ r q. r ≢ q) l.along walk (λ k d h same. let (p, a, b, e) = old.later k d h in
-            ok.distinct place p a b (sym link.to ∙ ap (head s.net) same ∙ e)) old.distinct;
+            ok.distinct place p a b (sym predecessor.to ∙ ap (head s.net) same ∙ e)) old.distinct;
         positive = pos_y;
         taken = omega (arith, ints, taken, le_x);
         most = all_but_next s walk l.along w x y either old.most;
@@ -126,17 +126,17 @@ module _ (s : Pseudoflow) (visits : List Visit) (place : ℕ) (walk : List Rid) 
         most = all_of_it s (node_at visits place) walk w x y either old.most;
       }
 
--- how a search came to a node, by cases on its link
-linked_at : (s : Pseudoflow) (visits : List Visit) (place : ℕ) (d : Visit) (o : Option Link) → IsForest s visits → place < length visits
-    → (get_or visits place d).link ≡ o → IsReachedBy s visits place o
-linked_at s visits place d o ok h e =
-    subst (λ (q : Option Link). IsReachedBy s visits place q) (ap (λ (x : Visit). x.link) (get_or_default visits place (record { node = 0; link = None }) d h)
-    ∙ e) (ok.linked place h)
+-- how a search came to a node, by cases on its predecessor
+reached_at : (s : Pseudoflow) (visits : List Visit) (place : ℕ) (d : Visit) (o : Option Predecessor) → IsForest s visits → place < length visits
+    → (get_or visits place d).predecessor ≡ o → IsReachedBy s visits place o
+reached_at s visits place d o ok h e =
+    subst (λ (q : Option Predecessor). IsReachedBy s visits place q) (ap (λ (x : Visit). x.predecessor) (get_or_default visits place (record { node = 0; predecessor = None }) d h)
+    ∙ e) (ok.reached place h)
 
-pub linked_none : (s : Pseudoflow) (visits : List Visit) (place : ℕ) (d : Visit) → IsForest s visits → place < length visits
-    → (get_or visits place d).link ≡ None → pos 0 <ℤ surplus_at s (node_at visits place)
-linked_none s visits place d ok h e = linked_at s visits place d None ok h e
+pub reached_none : (s : Pseudoflow) (visits : List Visit) (place : ℕ) (d : Visit) → IsForest s visits → place < length visits
+    → (get_or visits place d).predecessor ≡ None → pos 0 <ℤ surplus_at s (node_at visits place)
+reached_none s visits place d ok h e = reached_at s visits place d None ok h e
 
-pub linked_some : (s : Pseudoflow) (visits : List Visit) (place : ℕ) (d : Visit) (l : Link) → IsForest s visits → place < length visits
-    → (get_or visits place d).link ≡ Some l → IsTreeLink s visits place l
-linked_some s visits place d l ok h e = linked_at s visits place d (Some l) ok h e
+pub reached_some : (s : Pseudoflow) (visits : List Visit) (place : ℕ) (d : Visit) (l : Predecessor) → IsForest s visits → place < length visits
+    → (get_or visits place d).predecessor ≡ Some l → IsPredecessor s visits place l
+reached_some s visits place d l ok h e = reached_at s visits place d (Some l) ok h e

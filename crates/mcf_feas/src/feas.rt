@@ -8,7 +8,7 @@ ghost use Rattle.mcf_network.specs.Stuck.{IsStuck};
 ghost use Rattle.mcf_feas.specs.Feasible.{IsFeas};
 
 use crate::preflow::round;
-use crate::search::Search;
+use crate::path_search::PathSearch;
 use crate::supplies::unbalanced;
 use mcf_instance::{Side, copies};
 use mcf_network::{Net, NodeSet, State};
@@ -49,7 +49,7 @@ pub fn feasible<'n>(alloc: Global, net: &'n Net) -> Result<Feas<'n>, NoMemory>
     }
     let mut state = State::zero(alloc, net)?;
     let (mut levels, mut queue) = tables(alloc, net)?;
-    let mut search = Search::new(alloc, net)?;
+    let mut search = PathSearch::new(alloc, net)?;
     let settled = push_in_rounds(&mut state, levels.as_mut_slice(), &mut queue, &mut search)?;
     if settled {
         return Ok(Feas::Flow(state));
@@ -74,7 +74,7 @@ fn push_in_rounds(
     state: &mut State<'_>,
     levels: &mut [u32],
     queue: &mut VecDeque<NodeId>,
-    search: &mut Search,
+    search: &mut PathSearch,
 ) -> Result<bool, NoMemory>
     requires flow { IsPseudoflow state.old }
     requires levels { length levels.old ≡ node_count state.old.net }

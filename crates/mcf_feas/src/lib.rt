@@ -9,8 +9,8 @@
 mod feas;
 mod laws;
 mod levels;
+mod path_search;
 mod preflow;
-mod search;
 mod supplies;
 mod waiting;
 

@@ -11,10 +11,10 @@ mod engine;
 mod heap;
 mod item_heap;
 mod laws;
+mod price_search;
 mod pricer;
 mod queue;
 mod recovered;
-mod search;
 
 pub use cancel::Cancel;
 pub use engine::{Engine, Outcome};

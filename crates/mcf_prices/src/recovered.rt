@@ -4,7 +4,7 @@ ghost use Rattle.mcf_instance.specs.Network.{node_count};
 ghost use Rattle.mcf_prices.specs.Recovering.{HasSmallPrices, IsRecovered};
 
 use crate::queue::Queue;
-use crate::search::Search;
+use crate::price_search::PriceSearch;
 use mcf_network::{Rid, State};
 use mcf_text::NoMemory;
 use std::alloc::Global;
@@ -37,7 +37,7 @@ pub fn recover(alloc: Global, state: &State<'_>) -> Result<Recovered, NoMemory>
     ensures wants { OnErr result (1 ≤ node_count state.now.net) }
 {
     let net = state.net();
-    let mut search = Search::start(alloc, state)?;
+    let mut search = PriceSearch::start(alloc, state)?;
     let mut waiting = Queue::all(alloc, net)?;
     let mut fallen = Queue::new(alloc, net)?;
     'rounds: loop {

@@ -8,18 +8,18 @@ use Rattle.mcf_network.specs.NodeSets.{member_count}
 use Rattle.mcf_network.specs.Residual.{tail, head}
 use Rattle.mcf_network.specs.States.{Pseudoflow, IsPseudoflow, MovesSurplus, room_of, surplus_at}
 use Rattle.mcf_network.specs.Walks.{CanPushAlong, HasRoom, IsWalk, pushed_along}
-use Rattle.mcf_feas.specs.declared.search.Link.{Link}
-use Rattle.mcf_feas.specs.declared.search.Visit.{Visit}
+use Rattle.mcf_feas.specs.declared.path_search.Predecessor.{Predecessor}
+use Rattle.mcf_feas.specs.declared.path_search.Visit.{Visit}
 
 -- the visit at a place, and its node
 abbrev pub visit_at : List Visit → ℕ → Visit
-visit_at visits i = slice_index_or visits i (record { node = 0; link = None })
+visit_at visits i = slice_index_or visits i (record { node = 0; predecessor = None })
 
 abbrev pub node_at : List Visit → ℕ → ℕ
 node_at visits i = (visit_at visits i).node
 
 -- a residual arc with room leads from the node at an earlier place to the one at this place
-pub record IsTreeLink (s : Pseudoflow) (visits : List Visit) (i : ℕ) (l : Link) : Type 0 where
+pub record IsPredecessor (s : Pseudoflow) (visits : List Visit) (i : ℕ) (l : Predecessor) : Type 0 where
   pub earlier : l.place < i
   pub room : HasRoom s l.along
   pub from : tail s.net l.along ≡ node_at visits l.place
@@ -31,19 +31,19 @@ pub record LeadsTo (s : Pseudoflow) (r : Rid) (v : ℕ) : Type 0 where
   pub end : head s.net r ≡ v
   pub is_node : IsNode (node_count s.net) v
 
--- how a search came to the node at a place: it has a surplus, or a link leads to it
-abbrev pub IsReachedBy : Pseudoflow → List Visit → ℕ → Option Link → Type 0
+-- how a search came to the node at a place: it has a surplus, or a predecessor
+abbrev pub IsReachedBy : Pseudoflow → List Visit → ℕ → Option Predecessor → Type 0
 IsReachedBy s visits i None = pos 0 <ℤ surplus_at s (node_at visits i)
-IsReachedBy s visits i (Some l) = IsTreeLink s visits i l
+IsReachedBy s visits i (Some l) = IsPredecessor s visits i l
 
 -- the nodes visited, each once, and how a search came to each
 pub record IsForest (s : Pseudoflow) (visits : List Visit) : Type 0 where
   pub are_nodes : (i : ℕ) → i < length visits → IsNode (node_count s.net) (node_at visits i)
   pub distinct : (i j : ℕ) → i < j → j < length visits → node_at visits i ≢ node_at visits j
-  pub linked : (i : ℕ) → i < length visits → IsReachedBy s visits i (visit_at visits i).link
+  pub reached : (i : ℕ) → i < length visits → IsReachedBy s visits i (visit_at visits i).predecessor
 
 -- the table marks the nodes visited
-pub record IsSearch (s : Pseudoflow) (table : List Bool) (visits : List Visit) : Type 0 where
+pub record IsPathSearch (s : Pseudoflow) (table : List Bool) (visits : List Visit) : Type 0 where
   pub forest : IsForest s visits
   pub nodes : length table ≡ node_count s.net
   pub count : length visits ≡ member_count table
@@ -53,7 +53,7 @@ pub record IsSearch (s : Pseudoflow) (table : List Bool) (visits : List Visit) :
 -- so far no visited node takes anything, and the residual arcs with room that leave the first of them lead
 -- to visited nodes
 pub record IsScanned (s : Pseudoflow) (table : List Bool) (visits : List Visit) (scanned : ℕ) : Type 0 where
-  pub search : IsSearch s table visits
+  pub search : IsPathSearch s table visits
   pub within : scanned ≤ length visits
   pub no_deficit : (i : ℕ) → i < length visits → pos 0 ≤ℤ surplus_at s (node_at visits i)
   pub closed : (i : ℕ) → i < scanned → (r : Rid) → HasRoom s r → tail s.net r ≡ node_at visits i → in_table table (head s.net r) ≡ true
