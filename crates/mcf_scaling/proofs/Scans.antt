@@ -1,5 +1,5 @@
 -- What a look at the residual arcs that leave a node finds.
-use Rattle.std.proofs.Common.{◌≡◌, ℕ, List, [], ◌∷◌, Option, Some, None, sym, arith, subst, ℤ, ◌≤ℤ◌, ◌⊎◌, inl, inr}
+use Rattle.std.proofs.Common.{◌≡◌, ◌∙◌, ℕ, List, [], ◌∷◌, Option, Some, None, ap, refl, sym, arith, subst, ℤ, ◌≤ℤ◌, ◌⊎◌, inl, inr}
 use Rattle.std.specs.Int.{int_min}
 use Rattle.std.specs.List.{All, Contains}
 use Rattle.std.specs.Option.{IfSome, IfNone}
@@ -11,6 +11,7 @@ use Rattle.mcf_network.specs.Stars.{Leaves, ListsLeaving}
 use Rattle.mcf_network.specs.States.{Pseudoflow}
 use Rattle.mcf_network.specs.Walks.{HasRoom}
 use Rattle.mcf_network.proofs.Lists.{Contains-cons}
+use Rattle.mcf_scaling.specs.Private.Leasts.{StandsFor}
 use Rattle.mcf_scaling.specs.Optimality.{IsAdmissible, IsLeastReduced, lesser_of, scaled_reduced}
 
 pub nothing_in : {X : Type 0} (x : X) → Contains [] x → ⊥
@@ -47,6 +48,13 @@ at_most_other (Some x) (Some y) z h = omega (arith, ints, clamps, h)
 
 lesser_is : (x y : ℤ) → (int_min x y ≡ x) ⊎ (int_min x y ≡ y)
 lesser_is x y = by_lt_z x y (λ p. inl (omega (arith, ints, clamps, p))) (λ p. inr (omega (arith, ints, clamps, p)))
+
+-- what a number stands for is one
+pub stands_for_one : (x : ℤ) (a b : Option ℤ) → StandsFor x a → StandsFor x b → a ≡ b
+stands_for_one x None None h k = refl
+stands_for_one x None (Some z) h k = let low = k.1 in absurd (omega (arith, ints, h, low))
+stands_for_one x (Some y) None h k = let low = h.1 in absurd (omega (arith, ints, k, low))
+stands_for_one x (Some y) (Some z) h k = ap Some (sym h.0 ∙ k.0)
 
 reached_lesser : (P : ℤ → Type 0) (a b : Option ℤ) → IfSome a P → IfSome b P → IfSome (lesser_of a b) P
 reached_lesser P None b h k = k
