@@ -1,5 +1,5 @@
 -- What is read of a basis that is stored.
-use Rattle.std.proofs.Common.{◌≡◌, ℕ, ◌+◌, ◌-◌, ◌*◌, ◌^◌, ◌<◌, ◌≤◌, eqb, length, get_or, None, ap, ◌∙◌, arith, subst, pos}
+use Rattle.std.proofs.Common.{◌≡◌, ℕ, ◌+◌, ◌-◌, ◌<◌, ◌≤◌, eqb, length, get_or, None, ap, ◌∙◌, arith, subst, pos}
 use Rattle.std.proofs.lemmas.Bool.{cond-true, ne_eqb, le-leb}
 use Rattle.std.proofs.lemmas.Int.{ints}
 use Rattle.std.proofs.lemmas.List.FromFn.{get_or-map-range_with_len}

@@ -38,11 +38,23 @@ impl<'n> Model for Basis<'n> {
 
     ghost Value = { TreeStructure };
 
-    ghost view = { λ b. basis_in (record { net = b.net.now; tree = b.tree; offers = b.offers.items; rooms = b.rooms.items;
-        artificial = b.artificial.items; table = b.table }) };
+    ghost view = { λ b. basis_in (record {
+      net = b.net.now;
+      tree = b.tree;
+      offers = b.offers.items;
+      rooms = b.rooms.items;
+      artificial = b.artificial.items;
+      table = b.table;
+    }) };
 
-    ghost invariant = { λ b. IsLaidOut (record { net = b.net.now; tree = b.tree; offers = b.offers.items; rooms = b.rooms.items;
-        artificial = b.artificial.items; table = b.table }) };
+    ghost invariant = { λ b. IsLaidOut (record {
+      net = b.net.now;
+      tree = b.tree;
+      offers = b.offers.items;
+      rooms = b.rooms.items;
+      artificial = b.artificial.items;
+      table = b.table;
+    }) };
 }
 
 impl<'n> Basis<'n> {

@@ -141,7 +141,7 @@ fn write_tree(net: &Net, tree: &Tree, rooms: &[Rooms], state: &mut State<'_>)
     ensures valid { IsPseudoflow state.new }
     ensures inside { (v : ℕ) → IsNode (node_count net.now) v → label_of tree.now v ≤ length net.now.arcs → amount_at state.new (label_of tree.now v)
         ≡ (if (arc_at net.now (label_of tree.now v)).src == v then pos (slice_index_or rooms.now v no_rooms).down
-            else pos (slice_index_or rooms.now v no_rooms).up) }
+        else pos (slice_index_or rooms.now v no_rooms).up) }
     ensures outside { (k : ℕ) → IsArcNumber net.now k → ((v : ℕ) → IsNode (node_count net.now) v → label_of tree.now v ≢ k)
         → amount_at state.new k ≡ amount_at state.old k }
 {
