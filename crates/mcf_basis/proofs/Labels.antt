@@ -59,10 +59,6 @@ one_is_root : (g : Network) (v : ℕ) (sender : Bool) → is_sender g v ≡ send
 one_is_root g v true e = inr (rw e refl)
 one_is_root g v false e = inl (rw e refl)
 
-one_is_node : (g : Network) (v : ℕ) (sender : Bool) → is_sender g v ≡ sender → ((artificial_arc g v).src ≡ v) ⊎ ((artificial_arc g v).dst ≡ v)
-one_is_node g v true e = inl (rw e refl)
-one_is_node g v false e = inr (rw e refl)
-
 -- an arc at the root is artificial
 pub root_arc : (g : Network) (label v : ℕ) → IsNet g → IsLabel g label → 0 < v → Joins g label v 0
     → (arc_at (with_artificial g) label).cost ≡ pos (artificial_cost g)

@@ -18,12 +18,6 @@ pub record IsLeastSoFar (value : ℕ → ℤ) (begin i place : ℕ) (least : ℤ
   pub each : (j : ℕ) → begin ≤ j → j < i → least ≤ℤ value j
   pub first : IsFirstMet value begin i place least
 
-pub so_far-start : (value : ℕ → ℤ) (begin place : ℕ) (least : ℤ) → least ≡ pos 0 → IsLeastSoFar value begin begin place least
-so_far-start value begin place least e = record {
-  each = λ j low high. absurd (omega arith);
-  first = nowhere e;
-}
-
 module _ (value : ℕ → ℤ) (begin i place : ℕ) (least : ℤ) (in_order : begin ≤ i) (so : IsLeastSoFar value begin i place least) where
   low : least ≤ℤ pos 0
   low = elim so.first [

@@ -1,5 +1,5 @@
 -- The most violated arc is that of the first least offer.
-use Rattle.std.proofs.Common.{◌≡◌, ℕ, ◌+◌, ◌-◌, ◌≤◌, None, length, get_or, arith, subst, ℤ, pos, neg_ℤ, ◌<ℤ◌}
+use Rattle.std.proofs.Common.{◌≡◌, ℕ, ◌+◌, ◌-◌, ◌≤◌, None, length, get_or, arith, subst, pos, neg_ℤ, ◌<ℤ◌}
 use Rattle.std.proofs.lemmas.Int.{ints}
 use Rattle.mcf_instance.specs.Network.{IsArcNumber, node_count}
 use Rattle.mcf_basis.specs.Pivots.{IsEligible}

@@ -1,5 +1,5 @@
 -- One pivot, from what its parts leave.
-use Rattle.std.proofs.Common.{◌≡◌, ℕ, ◌+◌, ◌*◌, ◌^◌, ◌<◌, ◌≤◌, Bool, true, false, List, length, refl, sym, ap, ◌∙◌, arith, subst, ℤ, pos, ◌+ℤ◌, ◌-ℤ◌, ◌≤ℤ◌}
+use Rattle.std.proofs.Common.{◌≡◌, ℕ, ◌+◌, ◌<◌, ◌≤◌, Bool, true, false, List, length, refl, sym, ap, ◌∙◌, arith, subst, ℤ, pos, ◌+ℤ◌, ◌-ℤ◌, ◌≤ℤ◌}
 use Rattle.std.specs.Prelude.{unsigned_abs}
 use Rattle.std.proofs.lemmas.Int.{ints}
 use Rattle.mcf_instance.specs.Limits.{wide_limits}
@@ -21,7 +21,7 @@ use Rattle.mcf_basis.specs.Bases.{IsBasis}
 use Rattle.mcf_basis.specs.Pivots.{IsEligible, IsPivot, PairFalls, entering}
 use Rattle.mcf_basis.specs.Private.Climbs.{CanReplace, IsClimb, IsFound, IsReplaced}
 use Rattle.mcf_basis.specs.Private.Climbs.IsReplaced.{at_once, down, up}
-use Rattle.mcf_basis.specs.Private.Layouts.{Layout, IsLaidOut, Prices, basis_in, offer_at}
+use Rattle.mcf_basis.specs.Private.Layouts.{Layout, IsLaidOut, Prices, basis_in, offer_at, wide_limit}
 use Rattle.mcf_basis.specs.Private.Turned.{CanExchange, CanPush, IsExchangedBy, IsPushedRound, price_of}
 use Rattle.mcf_basis.specs.Structures.{TreeStructure, CanTake}
 use Rattle.mcf_basis.proofs.Around.{CanGoRound, IsAround, IsLeaving, WentRound, down_arc, from_of, to_of, up_arc}
@@ -196,11 +196,11 @@ module _ (l : Layout) (k : ℕ) (ok : IsLaidOut l) (el : IsEligible (basis_in l)
     pub cost_small : IsUpTo wide_limits.cost o.cost
     cost_small = rw is read.cost
 
-    pub from_small : IsUpTo (3 * 10 ^ 36) (price_of p o.from)
+    pub from_small : IsUpTo wide_limit (price_of p o.from)
     unfolding basis_in
     from_small = rw (is, counted) (price_small (basis_in l) ok.basis (offer_at l k).from read.from)
 
-    pub to_small : IsUpTo (3 * 10 ^ 36) (price_of p o.to)
+    pub to_small : IsUpTo wide_limit (price_of p o.to)
     unfolding basis_in
     to_small = rw (is, counted) (price_small (basis_in l) ok.basis (offer_at l k).to read.to)
 

@@ -1,5 +1,6 @@
 -- What an amount that went round the cycle of a pivot leaves each arc.
-use Rattle.std.proofs.Common.{◌≡◌, ◌≢◌, ℕ, zero, suc, ◌+◌, ◌-◌, ◌<◌, ◌≤◌, ◌++◌, Bool, true, false, not, eqb, cond, List, [], ◌∷◌, length, refl, sym, ap, ◌∙◌, arith, inl, inr, ℤ, pos, ◌+ℤ◌, ◌-ℤ◌, ◌≤ℤ◌, neg_ℤ}
+use Rattle.std.proofs.Common.{◌≡◌, ◌≢◌, ℕ, zero, suc, ◌+◌, ◌-◌, ◌<◌, ◌≤◌, ◌++◌, Bool, true, false, not, eqb, cond, List, [], ◌∷◌, length, refl, sym, ap, ◌∙◌}
+use Rattle.std.proofs.Common.{arith, inl, inr, ℤ, pos, ◌+ℤ◌, ◌-ℤ◌, ◌≤ℤ◌, neg_ℤ}
 use Rattle.std.specs.Prelude.{slice_index}
 use Rattle.std.specs.List.{All}
 use Rattle.std.proofs.lemmas.Bool.{cases_eq, cond-true, cond-false, eq-eqb, ne_eqb}
@@ -19,7 +20,8 @@ use Rattle.mcf_basis.specs.Artificial.{IsLabel, with_artificial}
 use Rattle.mcf_basis.specs.Bases.{IsBasis}
 use Rattle.mcf_basis.specs.Pivots.{IsEligible, entering}
 use Rattle.mcf_basis.specs.Structures.{TreeStructure, carried, cycle_of, down_path, full_state, up_path}
-use Rattle.mcf_basis.proofs.Around.{IsAround, WentRound, arcs_of, down_arc, from_of, left_node, left_steps, right_node, right_steps, round_amount, to_of, up_arc}
+use Rattle.mcf_basis.proofs.Around.{IsAround, WentRound, arcs_of, down_arc, from_of, left_node, left_steps, right_node, right_steps, round_amount, to_of}
+use Rattle.mcf_basis.proofs.Around.{up_arc}
 use Rattle.mcf_basis.proofs.Labels.{own_label}
 use Rattle.mcf_basis.proofs.Pushes.{Leaves}
 use Rattle.mcf_basis.proofs.StrongPivot.{labels_apart}

@@ -51,7 +51,8 @@ pub record IsPushed (g : Arcs) (ps ls : List ℕ) (old new : ℕ → ℤ) (enter
   pub left : (k : ℕ) → k < i → Leaves g old new (slice_index ls (climb ps k a)) (slice_index ps (climb ps k a)) delta
   pub entering : Leaves g old new enter a delta
   pub right : (k : ℕ) → k < j → Leaves g old new (slice_index ls (climb ps k b)) (climb ps k b) delta
-  pub others : (arc : ℕ) → arc ≢ enter → ((k : ℕ) → k < i → arc ≢ slice_index ls (climb ps k a)) → ((k : ℕ) → k < j → arc ≢ slice_index ls (climb ps k b)) → new arc ≡ old arc
+  pub others : (arc : ℕ) → arc ≢ enter → ((k : ℕ) → k < i → arc ≢ slice_index ls (climb ps k a))
+      → ((k : ℕ) → k < j → arc ≢ slice_index ls (climb ps k b)) → new arc ≡ old arc
 
 -- each arc of the tree has room toward the root
 pub record HasRoomUp (g : Arcs) (ps ls : List ℕ) (amount : ℕ → ℤ) : Type 0 where

@@ -44,13 +44,6 @@ single_term t (a ∷ arcs) (f ∷ flow) (suc at) e h others =
     single_term t arcs flow at (omega arith) (omega arith) (λ i l ne. others (suc i) (omega arith) (λ q. ne (omega arith))) in
     omega (arith, ints, first, rest)
 
--- what an arc adds to the net at v
-src_term : ℕ → Arc → ℤ → ℤ
-src_term v a f = when (eqb a.src v) f
-
-dst_term : ℕ → Arc → ℤ → ℤ
-dst_term v a f = when (eqb a.dst v) f
-
 nothing_at : (v : ℕ) (a : Arc) (f : ℤ) → f ≡ pos 0 → (when (eqb a.src v) f ≡ pos 0) × (when (eqb a.dst v) f ≡ pos 0)
 nothing_at v a f e = (ap (when (eqb a.src v)) e ∙ when-zero (eqb a.src v), ap (when (eqb a.dst v)) e ∙ when-zero (eqb a.dst v))
 

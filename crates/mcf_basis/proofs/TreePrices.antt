@@ -1,5 +1,5 @@
 -- How far from 0 the prices of a basis lie.
-use Rattle.std.proofs.Common.{◌≡◌, ℕ, zero, suc, ◌+◌, ◌-◌, ◌*◌, ◌^◌, ◌<◌, ◌≤◌, inl, inr, List, [], ◌∷◌, length, map, sum, ap, ◌∙◌, arith, subst, get_or, pos}
+use Rattle.std.proofs.Common.{◌≡◌, ℕ, zero, suc, ◌+◌, ◌-◌, ◌*◌, ◌<◌, ◌≤◌, inl, inr, List, [], ◌∷◌, length, map, sum, ap, ◌∙◌, arith, subst, get_or, pos}
 use Rattle.std.proofs.Common.{◌+ℤ◌, ◌-ℤ◌}
 use Rattle.std.specs.Prelude.{unsigned_abs}
 use Rattle.std.specs.List.{All}
@@ -21,6 +21,7 @@ use Rattle.mcf_basis.specs.Bases.{HasTreeArc, IsBasis}
 use Rattle.mcf_basis.specs.Ranks.{greatest_cost, price_reach}
 use Rattle.mcf_basis.specs.Structures.{TreeStructure, Joins, price_at, reduced_at}
 use Rattle.mcf_basis.specs.Structures.Joins.{out_of, into}
+use Rattle.mcf_basis.specs.Private.Layouts.{wide_limit}
 use Rattle.mcf_basis.proofs.Labels.{own_arc, root_arc, inner_arc}
 
 -- no arc costs more than the greatest cost
@@ -111,7 +112,7 @@ module _ (b : TreeStructure) (ok : IsBasis b) where
       ]
 
 -- within the limits of nets a price fits 128 bits, with much to spare
-pub reach_small : (g : Network) → IsNet g → price_reach g ≤ 3 * 10 ^ 36
+pub reach_small : (g : Network) → IsNet g → price_reach g ≤ wide_limit
 reach_small g ok =
     let total : sum (map weight g.arcs) ≤ net_total_limit = ok.total in
     let nodes : node_count g ≤ node_limit = ok.nodes in
@@ -120,8 +121,8 @@ reach_small g ok =
     let b : node_limit * greatest_cost g.arcs ≤ node_limit * wide_limits.cost = mul-le-mul_left node_limit cost in
     omega arith
 
-pub price_small : (b : TreeStructure) → IsBasis b → (v : ℕ) → v ≤ node_count b.net → IsUpTo (3 * 10 ^ 36) (price_at b v)
+pub price_small : (b : TreeStructure) → IsBasis b → (v : ℕ) → v ≤ node_count b.net → IsUpTo wide_limit (price_at b v)
 price_small b ok v h =
     let p : IsUpTo (price_reach b.net) (price_at b v) = price_reached b ok v h in
-    let small : price_reach b.net ≤ 3 * 10 ^ 36 = reach_small b.net ok.of_net in
+    let small : price_reach b.net ≤ wide_limit = reach_small b.net ok.of_net in
     (omega (arith, ints), omega (arith, ints))

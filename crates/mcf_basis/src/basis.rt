@@ -6,6 +6,7 @@ ghost use Rattle.mcf_basis.specs.Bases.{IsBasis};
 ghost use Rattle.mcf_basis.specs.Pivots.{IsEligible};
 ghost use Rattle.mcf_basis.specs.Structures.{price_at, reduced_at};
 ghost use Rattle.mcf_basis.specs.Violations.{IsMostViolatedPick, violation};
+ghost use Rattle.mcf_basis.specs.Private.Layouts.{reduced_limit};
 
 use crate::offer::Offer;
 use crate::price_table::PriceTable;
@@ -37,9 +38,23 @@ impl<'n> Model for Basis<'n> {
 
     ghost Value = { TreeStructure };
 
-    ghost view = { λ b. basis_in (record { net = b.net.now; tree = b.tree; offers = b.offers.items; rooms = b.rooms.items; artificial = b.artificial.items; table = b.table }) };
+    ghost view = { λ b. basis_in (record {
+      net = b.net.now;
+      tree = b.tree;
+      offers = b.offers.items;
+      rooms = b.rooms.items;
+      artificial = b.artificial.items;
+      table = b.table;
+    }) };
 
-    ghost invariant = { λ b. IsLaidOut (record { net = b.net.now; tree = b.tree; offers = b.offers.items; rooms = b.rooms.items; artificial = b.artificial.items; table = b.table }) };
+    ghost invariant = { λ b. IsLaidOut (record {
+      net = b.net.now;
+      tree = b.tree;
+      offers = b.offers.items;
+      rooms = b.rooms.items;
+      artificial = b.artificial.items;
+      table = b.table;
+    }) };
 }
 
 impl<'n> Basis<'n> {
@@ -77,7 +92,7 @@ impl<'n> Basis<'n> {
         requires { IsArcNumber self.now.net k }
         ensures eligible { (result <ℤ pos 0) ↔ IsEligible self.now k }
         ensures violation { result <ℤ pos 0 → result ≡ neg_ℤ (pos (violation self.now k)) }
-        ensures small { IsUpTo (7 * 10 ^ 36) result }
+        ensures small { IsUpTo reduced_limit result }
         ensures basis { IsBasis self.now }
     {
         let offer = self.offers[k.place()];

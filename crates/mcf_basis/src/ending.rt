@@ -1,5 +1,6 @@
 //! What a basis answers at the end: its flow, its prices, and the cut that blocks where there is no feasible flow.
-ghost use Rattle.std.specs.Prelude.{◌≡◌, ◌≢◌, ℕ, ◌+◌, ◌-◌, ◌*◌, ◌^◌, ◌<◌, ◌≤◌, ◌==◌, ◌↔◌, Bool, IsTrue, drop, if◌then◌else◌, int_lt, length, pos, slice_index_or, slice_set, true, ◌≤ℤ◌};
+ghost use Rattle.std.specs.Prelude.{◌≡◌, ◌≢◌, ℕ, ◌+◌, ◌-◌, ◌*◌, ◌^◌, ◌<◌, ◌≤◌, ◌==◌, ◌↔◌, Bool, IsTrue, drop, if◌then◌else◌, int_lt, length, pos};
+ghost use Rattle.std.specs.Prelude.{slice_index_or, slice_set, true, ◌≤ℤ◌};
 ghost use Rattle.std.specs.List.{All};
 ghost use Rattle.mcf_instance.specs.Blocking.{Blocks, in_table, supply_in};
 ghost use Rattle.mcf_instance.specs.declared.problem.Side.TheVariants.{Send};
@@ -106,7 +107,8 @@ fn write_outside(net: &Net, offers: &[Offer], state: &mut State<'_>)
     requires net { state.old.net ≡ net.now }
     requires offers { length offers.now ≡ length net.now.arcs }
     ensures net { state.new.net ≡ net.now }
-    ensures each { (k : ℕ) → IsArcNumber net.now k → amount_at state.new k ≡ (if (slice_index_or offers.now (k - 1) no_offer).from == (arc_at net.now k).src then pos 0 else (arc_at net.now k).cap) }
+    ensures each { (k : ℕ) → IsArcNumber net.now k → amount_at state.new k
+        ≡ (if (slice_index_or offers.now (k - 1) no_offer).from == (arc_at net.now k).src then pos 0 else (arc_at net.now k).cap) }
 {
     for i in 0..net.arc_count() {
         let k = ArcId::at(i);
@@ -133,11 +135,15 @@ fn write_tree(net: &Net, tree: &Tree, rooms: &[Rooms], state: &mut State<'_>)
     requires rooms { length rooms.now ≡ node_count net.now + 1 }
     requires low { (v : ℕ) → IsNode (node_count net.now) v → 1 ≤ label_of tree.now v }
     requires apart { (u v : ℕ) → IsNode (node_count net.now) u → IsNode (node_count net.now) v → label_of tree.now u ≡ label_of tree.now v → u ≡ v }
-    requires widths { (v : ℕ) → IsNode (node_count net.now) v → label_of tree.now v ≤ length net.now.arcs → pos ((slice_index_or rooms.now v no_rooms).up + (slice_index_or rooms.now v no_rooms).down) ≡ (arc_at net.now (label_of tree.now v)).cap }
+    requires widths { (v : ℕ) → IsNode (node_count net.now) v → label_of tree.now v ≤ length net.now.arcs
+        → pos ((slice_index_or rooms.now v no_rooms).up + (slice_index_or rooms.now v no_rooms).down) ≡ (arc_at net.now (label_of tree.now v)).cap }
     ensures net { state.new.net ≡ net.now }
     ensures valid { IsPseudoflow state.new }
-    ensures inside { (v : ℕ) → IsNode (node_count net.now) v → label_of tree.now v ≤ length net.now.arcs → amount_at state.new (label_of tree.now v) ≡ (if (arc_at net.now (label_of tree.now v)).src == v then pos (slice_index_or rooms.now v no_rooms).down else pos (slice_index_or rooms.now v no_rooms).up) }
-    ensures outside { (k : ℕ) → IsArcNumber net.now k → ((v : ℕ) → IsNode (node_count net.now) v → label_of tree.now v ≢ k) → amount_at state.new k ≡ amount_at state.old k }
+    ensures inside { (v : ℕ) → IsNode (node_count net.now) v → label_of tree.now v ≤ length net.now.arcs → amount_at state.new (label_of tree.now v)
+        ≡ (if (arc_at net.now (label_of tree.now v)).src == v then pos (slice_index_or rooms.now v no_rooms).down
+        else pos (slice_index_or rooms.now v no_rooms).up) }
+    ensures outside { (k : ℕ) → IsArcNumber net.now k → ((v : ℕ) → IsNode (node_count net.now) v → label_of tree.now v ≢ k)
+        → amount_at state.new k ≡ amount_at state.old k }
 {
     // Called for its clause alone: each amount is from 0 to the width of its arc.
     let _net = state.net();

@@ -1,5 +1,6 @@
 //! Laws of bases, each the contract of a function that does nothing.
-ghost use Rattle.mcf_basis.specs.Laws.{BasesAreTreeSolutions, LastBasesAreFeasible, LastBasesAreShown, PivotsKeepBases, PivotsLowerThePair, RanksBoundPivots, RanksCountDown, RanksFall};
+ghost use Rattle.mcf_basis.specs.Laws.{BasesAreTreeSolutions, LastBasesAreFeasible, LastBasesAreShown, PivotsKeepBases, PivotsLowerThePair, RanksBoundPivots};
+ghost use Rattle.mcf_basis.specs.Laws.{RanksCountDown, RanksFall};
 
 /// Each pivot lowers the pair of the cost and the sum of the prices: the cost falls, or nothing moves and the sum of the prices falls
 /// (Cunningham; Ahuja, Magnanti and Orlin, Network Flows, section 11.6).

@@ -1,5 +1,5 @@
 //! One pivot of the network simplex.
-ghost use Rattle.std.specs.Prelude.{◌≡◌, ℕ, ◌-◌, ◌*◌, ◌^◌, ◌<◌, ◌≤◌, ◌<ℤ◌, ◌+ℤ◌, ◌-ℤ◌, ℤ, length, pos, unsigned_abs};
+ghost use Rattle.std.specs.Prelude.{◌≡◌, ℕ, ◌-◌, ◌<◌, ◌≤◌, ◌<ℤ◌, ◌+ℤ◌, ◌-ℤ◌, ℤ, length, pos, unsigned_abs};
 ghost use Rattle.mcf_instance.specs.Limits.{wide_limits};
 ghost use Rattle.mcf_instance.specs.Network.{IsArcNumber};
 ghost use Rattle.mcf_instance.specs.WellFormed.{IsUpTo};
@@ -9,7 +9,7 @@ ghost use Rattle.mcf_basis.specs.declared.pivot.Step.TheVariants.{Moved, Still};
 ghost use Rattle.mcf_basis.specs.Bases.{IsBasis};
 ghost use Rattle.mcf_basis.specs.Pivots.{IsEligible, IsPivot, PairFalls};
 ghost use Rattle.mcf_basis.specs.Private.Climbs.{CanReplace, IsFound, IsReplaced, laid};
-ghost use Rattle.mcf_basis.specs.Private.Layouts.{IsLaidOut, basis_in};
+ghost use Rattle.mcf_basis.specs.Private.Layouts.{IsLaidOut, basis_in, wide_limit};
 ghost use Rattle.mcf_basis.specs.Private.Turned.{price_of};
 ghost use Rattle.mcf_basis.specs.Steps.{moved_by};
 
@@ -84,9 +84,11 @@ fn turn(
 ) -> u64
     requires laid_out { IsLaidOut (laid net.now tree.old offers.old rooms.old artificial.old table.old) }
     requires eligible { IsEligible (basis_in (laid net.now tree.old offers.old rooms.old artificial.old table.old)) k }
-    ensures pivot { IsPivot (basis_in (laid net.now tree.old offers.old rooms.old artificial.old table.old)) k (pos result) (basis_in (laid net.now tree.new offers.new rooms.new artificial.new table.new)) }
+    ensures pivot { IsPivot (basis_in (laid net.now tree.old offers.old rooms.old artificial.old table.old)) k (pos result)
+        (basis_in (laid net.now tree.new offers.new rooms.new artificial.new table.new)) }
     ensures laid_out { IsLaidOut (laid net.now tree.new offers.new rooms.new artificial.new table.new) }
-    ensures falls { PairFalls (basis_in (laid net.now tree.old offers.old rooms.old artificial.old table.old)) (basis_in (laid net.now tree.new offers.new rooms.new artificial.new table.new)) }
+    ensures falls { PairFalls (basis_in (laid net.now tree.old offers.old rooms.old artificial.old table.old))
+        (basis_in (laid net.now tree.new offers.new rooms.new artificial.new table.new)) }
 {
     tree.forget_counts();
     table.forget_count();
@@ -147,8 +149,8 @@ fn reduced_of(table: &PriceTable, offer: Offer) -> i128
     requires from { offer.from < length table.now.prices }
     requires to { offer.to < length table.now.prices }
     requires cost { IsUpTo wide_limits.cost offer.cost }
-    requires from_small { IsUpTo (3 * 10 ^ 36) (price_of table.now offer.from) }
-    requires to_small { IsUpTo (3 * 10 ^ 36) (price_of table.now offer.to) }
+    requires from_small { IsUpTo wide_limit (price_of table.now offer.from) }
+    requires to_small { IsUpTo wide_limit (price_of table.now offer.to) }
     ensures { result ≡ offer.cost -ℤ price_of table.now offer.from +ℤ price_of table.now offer.to }
 {
     i128::from(offer.cost) - table.get(offer.from) + table.get(offer.to)

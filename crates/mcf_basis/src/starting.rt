@@ -52,7 +52,8 @@ impl<'n> Basis<'n> {
 
 // The offers where no arc carries anything: all that have a width go forward.
 fn star_offers(alloc: Global, net: &Net) -> Result<Vec<Offer>, NoMemory>
-    ensures { IfOk result (λ made. made.items ≡ map (λ k. if int_lt (pos 0) (arc_at net.now k).cap then forward_offer net.now k else no_offer) (range_with_len 1 (length net.now.arcs))) }
+    ensures { IfOk result (λ made. made.items
+        ≡ map (λ k. if int_lt (pos 0) (arc_at net.now k).cap then forward_offer net.now k else no_offer) (range_with_len 1 (length net.now.arcs))) }
 {
     let count = net.arc_count();
     let mut made = Vec::with_capacity(alloc, count as usize)?;
@@ -85,7 +86,8 @@ fn star_offer(net: &Net, k: ArcId) -> Offer
 
 // The rooms of the artificial arcs, each of which carries what its node sends or takes, behind those of the root.
 fn star_rooms(alloc: Global, net: &Net) -> Result<Vec<Rooms>, NoMemory>
-    ensures { IfOk result (λ made. made.items ≡ no_rooms ∷ map (λ v. artificial_rooms (is_sender net.now v) (unsigned_abs (at_node net.now.supplies v))) (range_with_len 1 (node_count net.now))) }
+    ensures { IfOk result (λ made. made.items ≡ no_rooms
+        ∷ map (λ v. artificial_rooms (is_sender net.now v) (unsigned_abs (at_node net.now.supplies v))) (range_with_len 1 (node_count net.now))) }
 {
     let count = net.node_count();
     let mut made = Vec::with_capacity(alloc, count as usize + 1)?;

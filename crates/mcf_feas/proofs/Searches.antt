@@ -6,19 +6,19 @@ use Rattle.std.specs.List.{All, Contains}
 use Rattle.std.proofs.lemmas.Int.{ints, by_lt_z}
 use Rattle.std.proofs.lemmas.Bool.{cases_eq, eq-eqb, ne_eqb, false≢true}
 use Rattle.std.proofs.lemmas.List.Elements.{All-head, All-tail}
-use Rattle.std.proofs.lemmas.List.{get_or_append_left, get_or_push, get_or-set_other, length_push, length-replicate}
+use Rattle.std.proofs.lemmas.List.{get_or_append_left, get_or_push, get_or-set_other, length_push}
 use Rattle.mcf_instance.specs.Blocking.{in_table}
 use Rattle.mcf_instance.specs.Network.{IsNode, node_count}
 use Rattle.mcf_network.specs.declared.rid.Rid.{Rid}
-use Rattle.mcf_network.specs.NodeSets.{no_nodes, with_node}
+use Rattle.mcf_network.specs.NodeSets.{with_node}
 use Rattle.mcf_network.specs.Residual.{tail, head}
-use Rattle.mcf_network.specs.Stars.{Leaves, ListsLeaving}
+use Rattle.mcf_network.specs.Stars.{Leaves}
 use Rattle.mcf_network.specs.States.{Pseudoflow, IsPseudoflow, room_of, surplus_at}
 use Rattle.mcf_network.specs.Stuck.{IsStuck}
 use Rattle.mcf_network.specs.Walks.{HasRoom}
 use Rattle.mcf_network.proofs.ArcLaws.{tail_is_node}
 use Rattle.mcf_network.proofs.Lists.{Contains-cons}
-use Rattle.mcf_network.proofs.Marks.{count_none, count_small, counted_new, marked_new, marked_only, marked_still, unmarked}
+use Rattle.mcf_network.proofs.Marks.{count_small, counted_new, marked_new, marked_only, marked_still}
 use Rattle.mcf_feas.specs.declared.path_search.Predecessor.{Predecessor}
 use Rattle.mcf_feas.specs.declared.path_search.Visit.{Visit}
 use Rattle.mcf_feas.specs.Private.Searching.{IsFound, IsReachedBy, IsScanned, IsPathSearch, node_at, visit_at}
@@ -31,21 +31,25 @@ visit_of v predecessor = record { node = v; predecessor = predecessor }
 abbrev pub pushed_visit : List Visit → ℕ → Option Predecessor → List Visit
 pushed_visit visits v predecessor = visits ++ visit_of v predecessor ∷ []
 
-at_old : (visits : List Visit) (v : ℕ) (predecessor : Option Predecessor) (i : ℕ) → i < length visits → visit_at (pushed_visit visits v predecessor) i ≡ visit_at visits i
+at_old : (visits : List Visit) (v : ℕ) (predecessor : Option Predecessor) (i : ℕ) → i < length visits
+    → visit_at (pushed_visit visits v predecessor) i ≡ visit_at visits i
 at_old visits v predecessor i h =
     get_or_append_left visits (visit_of v predecessor ∷ []) (visit_of 0 None) i h
 
-at_new : (visits : List Visit) (v : ℕ) (predecessor : Option Predecessor) (i : ℕ) → length visits ≡ i → visit_at (pushed_visit visits v predecessor) i ≡ visit_of v predecessor
+at_new : (visits : List Visit) (v : ℕ) (predecessor : Option Predecessor) (i : ℕ) → length visits ≡ i
+    → visit_at (pushed_visit visits v predecessor) i ≡ visit_of v predecessor
 at_new visits v predecessor i h = get_or_push visits (visit_of v predecessor) (visit_of 0 None) i h
 
-node_old : (visits : List Visit) (v : ℕ) (predecessor : Option Predecessor) (i : ℕ) → i < length visits → node_at (pushed_visit visits v predecessor) i ≡ node_at visits i
+node_old : (visits : List Visit) (v : ℕ) (predecessor : Option Predecessor) (i : ℕ) → i < length visits
+    → node_at (pushed_visit visits v predecessor) i ≡ node_at visits i
 node_old visits v predecessor i h = ap (λ (x : Visit). x.node) (at_old visits v predecessor i h)
 
 node_new : (visits : List Visit) (v : ℕ) (predecessor : Option Predecessor) (i : ℕ) → length visits ≡ i → node_at (pushed_visit visits v predecessor) i ≡ v
 node_new visits v predecessor i h = ap (λ (x : Visit). x.node) (at_new visits v predecessor i h)
 
 -- a way to reach an old node stays one
-reached_old : (s : Pseudoflow) (visits : List Visit) (v : ℕ) (predecessor : Option Predecessor) (i : ℕ) (old : Option Predecessor) → i < length visits → IsReachedBy s visits i old
+reached_old : (s : Pseudoflow) (visits : List Visit) (v : ℕ) (predecessor : Option Predecessor) (i : ℕ) (old : Option Predecessor) → i < length visits
+    → IsReachedBy s visits i old
     → IsReachedBy s (pushed_visit visits v predecessor) i old
 reached_old s visits v predecessor i None h by = rw (node_old visits v predecessor i h) by
 reached_old s visits v predecessor i (Some l) h by =
@@ -163,30 +167,6 @@ pub record IsStarted (s : Pseudoflow) (table : List Bool) (visits : List Visit) 
   pub untouched : (v : ℕ) → k < v → in_table table v ≡ false
   pub sources : (v : ℕ) → IsNode (node_count s.net) v → v ≤ k → pos 0 <ℤ surplus_at s v → in_table table v ≡ true
 
-pub started_first : (s : Pseudoflow) → IsStarted s (no_nodes (node_count s.net)) [] 0
-started_first s =
-    let n = node_count s.net in
-    record {
-      scanned = record {
-        search = record {
-          forest = record {
-            are_nodes = λ i l. absurd (omega arith);
-            distinct = λ i j less l. absurd (omega arith);
-            reached = λ i l. absurd (omega arith);
-          };
-          nodes = length-replicate n false;
-          count = sym (count_none n);
-          marked = λ i l. absurd (omega arith);
-          every = λ v h e. absurd (false≢true (sym (unmarked n v) ∙ e));
-        };
-        within = omega arith;
-        no_deficit = λ i l. absurd (omega arith);
-        closed = λ i l. absurd (omega arith);
-      };
-      untouched = λ v l. unmarked n v;
-      sources = λ v h l. absurd (omega arith);
-    }
-
 module _ (s : Pseudoflow) (table : List Bool) (visits : List Visit) (k v : ℕ) (old : IsStarted s table visits k) (is : v ≡ k + 1) where
   pub started_push : IsNode (node_count s.net) v → pos 0 <ℤ surplus_at s v → IsStarted s (with_node table v) (pushed_visit visits v None) (k + 1)
   started_push h high =
@@ -235,16 +215,6 @@ pub record IsScanning (s : Pseudoflow) (table : List Bool) (visits : List Visit)
   pub in_range : place < length visits
   pub each : All (Leaves s.net (node_at visits place)) rest
   pub left : (r : Rid) → HasRoom s r → tail s.net r ≡ node_at visits place → (in_table table (head s.net r) ≡ true) ⊎ Contains rest r
-
-pub scanning_first : (s : Pseudoflow) (table : List Bool) (visits : List Visit) (place : ℕ) (list : List Rid) → IsScanned s table visits place
-    → place < length visits → ListsLeaving s.net (node_at visits place) list → IsScanning s table visits place list
-scanning_first s table visits place list ok h lists =
-    record {
-      scanned = ok;
-      in_range = h;
-      each = lists.each_leaves;
-      left = λ r room from. inr (lists.every r (record { arc = room.arc; from = from }));
-    }
 
 module _ (s : Pseudoflow) (table : List Bool) (visits : List Visit) (place : ℕ) (r : Rid) (rest : List Rid)
     (old : IsScanning s table visits place (r ∷ rest)) where
@@ -342,7 +312,8 @@ scanning_end s table visits place all =
 
 -- ---- what a search is stuck in
 
-source_at : (s : Pseudoflow) (visits : List Visit) (predecessor : Option Predecessor) → IsReachedBy s visits 0 predecessor → pos 0 <ℤ surplus_at s (node_at visits 0)
+source_at : (s : Pseudoflow) (visits : List Visit) (predecessor : Option Predecessor) → IsReachedBy s visits 0 predecessor
+    → pos 0 <ℤ surplus_at s (node_at visits 0)
 source_at s visits None by = by
 source_at s visits (Some l) by = absurd (let earlier = by.earlier in omega arith)
 

@@ -1,5 +1,5 @@
 -- The path to a visited node, from its end.
-use Rattle.std.proofs.Common.{◌≡◌, ◌≢◌, ℕ, ◌-◌, ◌<◌, List, [], ◌∷◌, length, get_or, refl, ap, sym, subst, ◌∙◌, arith, ℤ, pos, ◌+ℤ◌, ◌≤ℤ◌, ◌<ℤ◌, ◌⊎◌, inl, inr}
+use Rattle.std.proofs.Common.{◌≡◌, ◌≢◌, ℕ, ◌<◌, List, ◌∷◌, length, get_or, refl, ap, sym, subst, ◌∙◌, arith, ℤ, pos, ◌+ℤ◌, ◌≤ℤ◌, ◌<ℤ◌, ◌⊎◌, inl, inr}
 use Rattle.std.proofs.Common.{Option, Some, None, suc}
 use Rattle.std.specs.List.{All, AllPairs, Any}
 use Rattle.std.specs.Int.{int_min}
@@ -13,7 +13,7 @@ use Rattle.mcf_network.specs.States.{Pseudoflow, room_of, surplus_at}
 use Rattle.mcf_network.specs.Walks.{HasRoomFor, IsWalk}
 use Rattle.mcf_feas.specs.declared.path_search.Predecessor.{Predecessor}
 use Rattle.mcf_feas.specs.declared.path_search.Visit.{Visit}
-use Rattle.mcf_feas.specs.Private.Searching.{IsFound, IsPredecessor, IsPath, IsReachedBy, IsForest, TakesAll, node_at}
+use Rattle.mcf_feas.specs.Private.Searching.{IsPredecessor, IsPath, IsReachedBy, IsForest, TakesAll, node_at}
 
 -- what the lesser of two numbers above 0 is
 pub record IsLesser (x y least : ℤ) : Type 0 where
@@ -66,23 +66,6 @@ pub record IsTrace (s : Pseudoflow) (visits : List Visit) (place : ℕ) (walk : 
   pub taken : (x +ℤ surplus_at s w) ≤ℤ pos 0
   pub most : IsAllBut s walk w x
 
--- the path is empty at first
-pub trace_first : (s : Pseudoflow) (visits : List Visit) (x : ℤ) → IsFound s visits → x +ℤ surplus_at s (node_at visits (length visits - 1)) ≡ pos 0
-    → IsTrace s visits (length visits - 1) [] (node_at visits (length visits - 1)) x
-trace_first s visits x found e =
-    let some = found.some in
-    let deficit = found.deficit in
-    record {
-      in_range = omega arith;
-      walks = refl;
-      room = λ k d h. absurd (omega arith);
-      later = λ k d h. absurd (omega arith);
-      distinct = λ i j d h l. absurd (omega arith);
-      positive = omega (arith, ints, deficit, e);
-      taken = omega (arith, ints, e);
-      most = inl e;
-    }
-
 module _ (s : Pseudoflow) (visits : List Visit) (place : ℕ) (walk : List Rid) (w : ℕ) (x y : ℤ) (ok : IsForest s visits)
     (old : IsTrace s visits place walk w x) (pos_y : pos 0 <ℤ y) (le_x : y ≤ℤ x) where
   -- the path back goes on to the predecessor
@@ -130,7 +113,8 @@ module _ (s : Pseudoflow) (visits : List Visit) (place : ℕ) (walk : List Rid) 
 reached_at : (s : Pseudoflow) (visits : List Visit) (place : ℕ) (d : Visit) (o : Option Predecessor) → IsForest s visits → place < length visits
     → (get_or visits place d).predecessor ≡ o → IsReachedBy s visits place o
 reached_at s visits place d o ok h e =
-    subst (λ (q : Option Predecessor). IsReachedBy s visits place q) (ap (λ (x : Visit). x.predecessor) (get_or_default visits place (record { node = 0; predecessor = None }) d h)
+    subst (λ (q : Option Predecessor). IsReachedBy s visits place q)
+    (ap (λ (x : Visit). x.predecessor) (get_or_default visits place (record { node = 0; predecessor = None }) d h)
     ∙ e) (ok.reached place h)
 
 pub reached_none : (s : Pseudoflow) (visits : List Visit) (place : ℕ) (d : Visit) → IsForest s visits → place < length visits

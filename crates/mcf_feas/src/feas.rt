@@ -7,8 +7,8 @@ ghost use Rattle.mcf_network.specs.States.{IsPseudoflow, surplus_at};
 ghost use Rattle.mcf_network.specs.Stuck.{IsStuck};
 ghost use Rattle.mcf_feas.specs.Feasible.{IsFeas};
 
-use crate::preflow::round;
 use crate::path_search::PathSearch;
+use crate::preflow::round;
 use crate::supplies::unbalanced;
 use mcf_instance::{Side, copies};
 use mcf_network::{Net, NodeSet, State};

@@ -25,6 +25,7 @@ use Rattle.mcf_network.specs.Nets.{IsNet, IsNetArc, net_total_limit, supply_limi
 use Rattle.mcf_network.specs.Removal.{lows, net_of, supply_left, width_of, without_low}
 use Rattle.mcf_network.specs.declared.stored.StoredArc.{StoredArc}
 use Rattle.mcf_network.specs.Residual.{no_arc}
+use Rattle.mcf_network.specs.Private.Surpluses.{surplus_reach}
 use Rattle.mcf_network.specs.Stored.{stored_arc, stored_net}
 use Rattle.mcf_network.proofs.StateLaws.{when-zero}
 
@@ -231,7 +232,7 @@ left_end g i left old e =
     left_list g left old.count (λ v h. old.each v h ∙ ap (λ j. left_after g j v) e ∙ left_all g v)
 
 pub left_entry_small : (g : Network) (i v : ℕ) (left : List ℤ) → IsWellFormed limits g → IsLeft g i left → i ≤ length g.arcs → IsNode (length left) v
-    → IsUpTo (10 ^ 30) (at_node left v)
+    → IsUpTo surplus_reach (at_node left v)
 left_entry_small g i v left ok old h hv =
     let node : IsNode (node_count g) v = omega (arith, hv, old.count) in
     omega (arith, ints, old.each v node, left_small g i v ok node h)

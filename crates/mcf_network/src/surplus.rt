@@ -1,7 +1,8 @@
 //! What the nodes have left to send.
-ghost use Rattle.std.specs.Prelude.{◌≡◌, ◌+ℤ◌, ◌-ℤ◌, ◌*◌, ◌^◌, ◌==◌, ℕ, length};
+ghost use Rattle.std.specs.Prelude.{◌≡◌, ◌+ℤ◌, ◌-ℤ◌, ◌*◌, ◌==◌, ℕ, length};
 ghost use Rattle.mcf_instance.specs.Network.{IsNode, at_node, when};
 ghost use Rattle.mcf_instance.specs.WellFormed.{IsUpTo};
+ghost use Rattle.mcf_network.specs.Private.Surpluses.{surplus_reach};
 
 use mcf_text::NodeId;
 
@@ -9,8 +10,8 @@ use mcf_text::NodeId;
 pub(crate) fn move_surplus(surpluses: &mut Vec<i128>, from: NodeId, to: NodeId, x: i128)
     requires from { IsNode (length surpluses.old.items) from }
     requires to { IsNode (length surpluses.old.items) to }
-    requires x { IsUpTo (10 ^ 30) x }
-    requires each { (v : ℕ) → IsNode (length surpluses.old.items) v → IsUpTo (10 ^ 30) (at_node surpluses.old.items v) }
+    requires x { IsUpTo surplus_reach x }
+    requires each { (v : ℕ) → IsNode (length surpluses.old.items) v → IsUpTo surplus_reach (at_node surpluses.old.items v) }
     ensures length { length surpluses.new.items ≡ length surpluses.old.items }
     ensures each { (v : ℕ) → IsNode (length surpluses.old.items) v →
         at_node surpluses.new.items v ≡ at_node surpluses.old.items v -ℤ when (from == v) x +ℤ when (to == v) x }
@@ -25,8 +26,8 @@ pub(crate) fn move_surplus(surpluses: &mut Vec<i128>, from: NodeId, to: NodeId, 
 // Adds `x` to what a node has left to send.
 fn add_surplus(surpluses: &mut Vec<i128>, u: NodeId, x: i128)
     requires node { IsNode (length surpluses.old.items) u }
-    requires x { IsUpTo (10 ^ 30) x }
-    requires surplus { IsUpTo (2 * 10 ^ 30) (at_node surpluses.old.items u) }
+    requires x { IsUpTo surplus_reach x }
+    requires surplus { IsUpTo (2 * surplus_reach) (at_node surpluses.old.items u) }
     ensures length { length surpluses.new.items ≡ length surpluses.old.items }
     ensures each { (v : ℕ) → IsNode (length surpluses.old.items) v → at_node surpluses.new.items v ≡ at_node surpluses.old.items v +ℤ when (u == v) x }
 {

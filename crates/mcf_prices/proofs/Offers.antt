@@ -1,5 +1,5 @@
 -- What the code reads of the labels.
-use Rattle.std.proofs.Common.{◌≡◌, ℕ, ◌-◌, ◌^◌, get_or, Option, None, ℤ, pos, ◌+ℤ◌, ap, sym, subst, ◌∙◌, arith}
+use Rattle.std.proofs.Common.{◌≡◌, ℕ, ◌-◌, get_or, Option, None, ℤ, pos, ◌+ℤ◌, ap, sym, subst, ◌∙◌, arith}
 use Rattle.std.proofs.lemmas.Int.{ints}
 use Rattle.std.proofs.lemmas.List.{get_or_read}
 use Rattle.mcf_instance.specs.Network.{Network, IsArcNumber, IsNode, at_node, node_count}
@@ -7,7 +7,7 @@ use Rattle.mcf_instance.specs.WellFormed.{IsUpTo}
 use Rattle.mcf_network.specs.declared.rid.Rid.{Rid}
 use Rattle.mcf_network.specs.Residual.{head, unit_cost}
 use Rattle.mcf_network.proofs.ArcLaws.{head_is_node}
-use Rattle.mcf_prices.specs.Private.Labels.{Labels, IsLabelling, AreAtLeast, offer, link_at}
+use Rattle.mcf_prices.specs.Private.Labels.{Labels, IsLabelling, AreAtLeast, arc_depth, cost_limit, offer, link_at}
 use Rattle.mcf_prices.proofs.Showing.{cost_small}
 
 -- the price of a node, as a read gives it
@@ -28,10 +28,10 @@ read_link l l' k v x view ok h same e =
 -- a cost and a price, which a residual arc offers together
 pub record IsOffered (l : Labels) (r : Rid) (cost price : ℤ) : Type 0 where
   pub sum : cost +ℤ price ≡ offer l r
-  pub cost_up_to : IsUpTo (10 ^ 15) cost
-  pub price_up_to : IsUpTo (10 ^ 30) price
+  pub cost_up_to : IsUpTo cost_limit cost
+  pub price_up_to : IsUpTo arc_depth price
 
-pub offered : (l l' : Labels) (g : Network) (r : Rid) (k to : ℕ) (cost price : ℤ) → l ≡ l' → IsLabelling l → AreAtLeast (10 ^ 30) l'.prices
+pub offered : (l l' : Labels) (g : Network) (r : Rid) (k to : ℕ) (cost price : ℤ) → l ≡ l' → IsLabelling l → AreAtLeast arc_depth l'.prices
     → IsArcNumber l'.flow.net r.arc → g ≡ l.flow.net → cost ≡ unit_cost g r → to ≡ head g r → k ≡ to - 1 → price ≡ get_or l.prices k price
     → IsOffered l' r cost price
 offered l l' g r k to cost price view ok floor arc same_net is_cost is_to is_k e =

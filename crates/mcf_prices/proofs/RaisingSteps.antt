@@ -1,5 +1,5 @@
 -- What the steps of a search for the greatest prices keep.
-use Rattle.std.proofs.Common.{◌≡◌, ◌≢◌, ℕ, ◌+◌, ◌-◌, ◌^◌, ◌≤◌, Bool, true, false, List, [], ◌∷◌, length, set, ℤ, pos, ◌+ℤ◌, ◌-ℤ◌, ◌*ℤ◌, ◌≤ℤ◌, ◌<ℤ◌, refl, sym}
+use Rattle.std.proofs.Common.{◌≡◌, ◌≢◌, ℕ, ◌+◌, ◌-◌, ◌≤◌, Bool, true, false, List, [], ◌∷◌, length, set, ℤ, pos, ◌+ℤ◌, ◌-ℤ◌, ◌*ℤ◌, ◌≤ℤ◌, ◌<ℤ◌, refl, sym}
 use Rattle.std.proofs.Common.{ap, subst, ◌∙◌, arith, ◌⊎◌, inl, inr, length-set}
 use Rattle.std.specs.Prelude.{◌↔◌}
 use Rattle.std.specs.List.{Contains}
@@ -22,7 +22,7 @@ use Rattle.mcf_network.proofs.Lists.{Contains-cons}
 use Rattle.mcf_network.proofs.Marks.{count_small}
 use Rattle.mcf_prices.specs.Heaps.{ComesFirst, IsFirst, Keyed, Waits, waiting_with, with_key, without}
 use Rattle.mcf_prices.specs.NearPrices.{AreNearPrices, near_limit}
-use Rattle.mcf_prices.specs.Private.Raisings.{IsLastSettled, IsLength, IsRaising, IsReady, KeepsSettled, RespectsLabel, Settled, label, step}
+use Rattle.mcf_prices.specs.Private.Raisings.{IsLastSettled, IsLength, IsRaising, IsReady, KeepsSettled, RespectsLabel, Settled, label, label_reach, step}
 use Rattle.mcf_prices.proofs.HeapPlaces.{count_less}
 use Rattle.mcf_prices.proofs.LabelLengths.{length_fewer, length_next, length_zero}
 use Rattle.mcf_prices.proofs.Marks.{read_node}
@@ -96,7 +96,7 @@ module _ (s : Pseudoflow) (scale slack : ℕ) (y : List ℤ) (flow : IsPseudoflo
   pub price_small : (v : ℕ) → IsNode (node_count s.net) v → IsUpTo near_limit (at_node y v)
   price_small v n = near.small (v - 1) (pos 0) (let count = near.one_per_node in omega (arith, n, count))
 
-  pub label_small : (h : Keyed) (rest : List Rid) → IsRaising s scale slack y h rest → (v : ℕ) → IsNode (node_count s.net) v → IsUpTo (10 ^ 30) (label y h v)
+  pub label_small : (h : Keyed) (rest : List Rid) → IsRaising s scale slack y h rest → (v : ℕ) → IsNode (node_count s.net) v → IsUpTo label_reach (label y h v)
   label_small h rest search v n =
       let length = search.lengths v n in
       let low = length.low in

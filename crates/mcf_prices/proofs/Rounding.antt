@@ -1,5 +1,5 @@
 -- A round: the nodes that wait relax the residual arcs that enter them, one after another.
-use Rattle.std.proofs.Common.{◌≡◌, ℕ, ◌<◌, ◌≤◌, ◌+◌, ◌-◌, ◌*◌, ◌^◌, List, [], ◌∷◌, length, get_or, replicate, ℤ, pos, ◌<ℤ◌, refl, sym, ap, subst, ◌∙◌, arith}
+use Rattle.std.proofs.Common.{◌≡◌, ℕ, ◌<◌, ◌≤◌, ◌+◌, ◌-◌, ◌*◌, List, [], ◌∷◌, length, get_or, replicate, ℤ, pos, ◌<ℤ◌, refl, sym, ap, subst, ◌∙◌, arith}
 use Rattle.std.proofs.Common.{◌⊎◌, inl, inr}
 use Rattle.std.specs.List.{Contains}
 use Rattle.std.proofs.lemmas.Int.{ints}
@@ -13,7 +13,7 @@ use Rattle.mcf_network.specs.Residual.{head}
 use Rattle.mcf_network.specs.States.{Pseudoflow}
 use Rattle.mcf_network.specs.Walks.{HasRoom}
 use Rattle.mcf_network.proofs.ArcLaws.{head_is_node}
-use Rattle.mcf_prices.specs.Private.Labels.{Labels, IsLabelling, AreAtLeast, cost_limit, total}
+use Rattle.mcf_prices.specs.Private.Labels.{Labels, IsLabelling, AreAtLeast, cost_limit, round_depth, round_fall, total}
 use Rattle.mcf_prices.specs.Private.Queues.{Waiting, IsQueue, no_queue}
 use Rattle.mcf_prices.specs.Private.Rounds.{IsHandled, IsProgress}
 use Rattle.mcf_network.proofs.Marks.{count_small}
@@ -99,7 +99,7 @@ round_next first now next before q q' nodes i w at inside is progress here still
         sym waits.3 ∙ ap (λ k. get_or nodes k (head first.flow.net r)) e ∙ get_or_default nodes i (head first.flow.net r) w inside ∙ sym is
 
 pub round_end : (first now : Labels) (before after : Waiting) (nodes : List ℕ) (i : ℕ) → length nodes ≤ i → i ≤ node_limit
-    → RoundAt first now before after nodes i → IsProgress first now before after (10 ^ 21) × ((r : Rid) → HasRoom first.flow r → IsHandled now after r)
+    → RoundAt first now before after nodes i → IsProgress first now before after round_fall × ((r : Rid) → HasRoom first.flow r → IsHandled now after r)
 round_end first now before after nodes i past small at = (
   record {
     valid = p.valid;
@@ -157,7 +157,7 @@ all_wait l q g net ok each r room =
     inr (each (head l.flow.net r) (subst (λ n. IsNode (node_count n) (head l.flow.net r)) (sym net) node))
 
 pub floor_between : (l : Labels) (s : Pseudoflow) → l.flow ≡ s → IsLabelling l → AreAtLeast (cost_limit * node_count s.net) l.prices
-    → AreAtLeast (10 ^ 28) l.prices
+    → AreAtLeast round_depth l.prices
 floor_between l s same ok floor v h =
     let here = floor v h in
     let limit = ok.flow.of_net.nodes in

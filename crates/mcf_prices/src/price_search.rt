@@ -1,5 +1,5 @@
 //! A search for prices, and for cycles of the residual arcs that gave them.
-ghost use Rattle.std.specs.Prelude.{◌≡◌, ◌<◌, ◌≤◌, ◌*◌, ◌^◌, ◌≤ℤ◌, ◌<ℤ◌, ℕ, [], None, Some, Option, true, false, IfNone, IfOk, IfSome, OnErr, OnOk, drop};
+ghost use Rattle.std.specs.Prelude.{◌≡◌, ◌<◌, ◌≤◌, ◌*◌, ◌≤ℤ◌, ◌<ℤ◌, ℕ, [], None, Some, Option, true, false, IfNone, IfOk, IfSome, OnErr, OnOk, drop};
 ghost use Rattle.std.specs.Prelude.{length, neg_ℤ, pos, replicate};
 ghost use Rattle.std.specs.Bool.{OnFalse, OnTrue};
 ghost use Rattle.std.specs.List.{All, HoldsAt};
@@ -8,7 +8,8 @@ ghost use Rattle.mcf_instance.specs.Network.{IsArcNumber, IsNode, at_node, node_
 ghost use Rattle.mcf_network.specs.NodeSets.{member_count};
 ghost use Rattle.mcf_network.specs.Residual.{head, tail};
 ghost use Rattle.mcf_network.specs.Walks.{HasRoom, IsWalk};
-ghost use Rattle.mcf_prices.specs.Private.Labels.{AreAtLeast, IsLabelling, IsRelaxing, cost_limit, link_at, lowered, offer};
+ghost use Rattle.mcf_prices.specs.Private.Labels.{AreAtLeast, IsLabelling, IsRelaxing, arc_depth, cost_limit, link_at, lowered, node_depth};
+ghost use Rattle.mcf_prices.specs.Private.Labels.{offer, round_depth, round_fall};
 ghost use Rattle.mcf_prices.specs.NegativeCycles.{IsNegativeCycle};
 ghost use Rattle.mcf_prices.specs.Private.Queues.{IsQueue};
 ghost use Rattle.mcf_prices.specs.Private.Rounds.{IsHandled, IsProgress};
@@ -41,7 +42,10 @@ impl<'s, 'n> Model for PriceSearch<'s, 'n> {
 
 impl<'s, 'n> PriceSearch<'s, 'n> {
     /// All prices 0, and no links.
-    pub(crate) fn start(alloc: Global, state: &'s State<'n>) -> Result<PriceSearch<'s, 'n>, NoMemory>
+    pub(crate) fn start(
+        alloc: Global,
+        state: &'s State<'n>,
+    ) -> Result<PriceSearch<'s, 'n>, NoMemory>
         ensures flow { IfOk result (λ l. l.flow ≡ state.now) }
         ensures prices { IfOk result (λ l. l.prices ≡ replicate (node_count state.now.net) (pos 0)) }
         ensures valid { IfOk result IsLabelling }
@@ -60,7 +64,7 @@ impl<'s, 'n> PriceSearch<'s, 'n> {
     // The price that a residual arc offers to its tail.
     fn offer(&self, r: Rid) -> i128
         requires arc { IsArcNumber self.now.flow.net r.arc }
-        requires floor { AreAtLeast (10 ^ 30) self.now.prices }
+        requires floor { AreAtLeast arc_depth self.now.prices }
         ensures { result ≡ offer self.now r }
     {
         let (arc, back) = (r.arc, r.back);
@@ -86,7 +90,7 @@ impl<'s, 'n> PriceSearch<'s, 'n> {
     // Relaxes a residual arc, and says whether the price of its tail fell.
     fn relax(&mut self, r: Rid) -> bool
         requires arc { IsArcNumber self.old.flow.net r.arc }
-        requires floor { AreAtLeast (10 ^ 30) self.old.prices }
+        requires floor { AreAtLeast arc_depth self.old.prices }
         ensures relaxed { IsRelaxing self.old self.new r result }
         ensures valid { IsLabelling self.new }
     {
@@ -106,7 +110,7 @@ impl<'s, 'n> PriceSearch<'s, 'n> {
     // Relaxes the residual arcs that enter a node, and puts the nodes whose price fell into a queue.
     fn relax_entering(&mut self, w: NodeId, fallen: &mut Queue) -> Result<(), NoMemory>
         requires node { IsNode (node_count self.old.flow.net) w }
-        requires floor { AreAtLeast (10 ^ 29) self.old.prices }
+        requires floor { AreAtLeast node_depth self.old.prices }
         requires table { length fallen.old.table ≡ node_count self.old.flow.net }
         requires queue { IsQueue fallen.old }
         ensures progress { OnOk result (IsProgress self.old self.new fallen.old fallen.new cost_limit) }
@@ -130,12 +134,12 @@ impl<'s, 'n> PriceSearch<'s, 'n> {
     /// the other queue.
     pub(crate) fn round(&mut self, waiting: &Queue, fallen: &mut Queue) -> Result<(), NoMemory>
         requires valid { IsLabelling self.old }
-        requires floor { AreAtLeast (10 ^ 28) self.old.prices }
+        requires floor { AreAtLeast round_depth self.old.prices }
         requires waiting_table { length waiting.now.table ≡ node_count self.old.flow.net }
         requires table { length fallen.old.table ≡ node_count self.old.flow.net }
         requires queue { IsQueue fallen.old }
         requires handled { (r : Rid) → HasRoom self.old.flow r → IsHandled self.old waiting.now r }
-        ensures progress { OnOk result (IsProgress self.old self.new fallen.old fallen.new (10 ^ 21)) }
+        ensures progress { OnOk result (IsProgress self.old self.new fallen.old fallen.new round_fall) }
         ensures handled { OnOk result ((r : Rid) → HasRoom self.old.flow r → IsHandled self.new fallen.new r) }
         ensures still { OnOk result (fallen.new.nodes ≡ [] → self.new.prices ≡ self.old.prices) }
         ensures wants { OnErr result (1 ≤ node_count self.old.flow.net) }

@@ -12,7 +12,8 @@ ghost use Rattle.mcf_prices.specs.Heaps.{NoneWaits};
 ghost use Rattle.mcf_prices.specs.Private.Labels.{cost_limit};
 ghost use Rattle.mcf_prices.specs.NearPrices.{AreNearPrices, OptimalPricesAreNear, ShownPricesAreNear, near_limit};
 ghost use Rattle.mcf_prices.specs.Outcomes.{AreStatePrices};
-ghost use Rattle.mcf_prices.specs.Private.Raisings.{AreRounded, IsLastSettled, IsRaising, IsReady, IsRoundedDown, KeepsSettled, label, label_limit, step};
+ghost use Rattle.mcf_prices.specs.Private.Raisings.{AreRounded, IsLastSettled, IsRaising, IsReady, IsRoundedDown, KeepsSettled, label, label_limit};
+ghost use Rattle.mcf_prices.specs.Private.Raisings.{label_reach, quotient_reach, step};
 
 use crate::heap::Heap;
 use mcf_network::{Net, Rid, State};
@@ -193,7 +194,7 @@ fn label_of(heap: &Heap, prices: &[i128], v: NodeId) -> i128
     requires price { IsNode (length prices.now) v }
     requires key { IsNode (length heap.now.keys) v }
     requires small { IsUpTo near_limit (at_node prices.now v) }
-    requires low { neg_ℤ (pos (10 ^ 30)) ≤ℤ label prices.now heap.now v }
+    requires low { neg_ℤ (pos label_reach) ≤ℤ label prices.now heap.now v }
     requires high { label prices.now heap.now v ≤ℤ pos 0 }
     ensures { result ≡ label prices.now heap.now v }
 {
@@ -202,8 +203,8 @@ fn label_of(heap: &Heap, prices: &[i128], v: NodeId) -> i128
 
 // The key that a residual arc of a length offers to its tail, of a price, if its head has the label `base`.
 fn offered(base: i128, length: i128, price: i128) -> i128
-    requires base { IsUpTo (10 ^ 30) base }
-    requires length { IsUpTo (10 ^ 30) length }
+    requires base { IsUpTo label_reach base }
+    requires length { IsUpTo label_reach length }
     requires price { IsUpTo near_limit price }
     ensures { result ≡ base +ℤ length -ℤ price }
 {
@@ -215,7 +216,7 @@ fn step(state: &State<'_>, scale: u32, slack: u32, r: Rid) -> i128
     requires arc { IsArcNumber state.now.net r.arc }
     requires scale { scale ≤ node_limit + 1 }
     ensures value { result ≡ step state.now scale slack r }
-    ensures small { IsUpTo (10 ^ 30) result }
+    ensures small { IsUpTo label_reach result }
 {
     scaled(state.net().unit_cost(r), scale) + i128::from(slack)
 }
@@ -236,7 +237,7 @@ fn round_all(heap: &Heap, scale: u32, prices: &mut [i128])
     requires keys { length heap.now.keys ≡ length prices.old }
     requires few { length prices.old ≤ node_limit }
     requires small { All (IsUpTo near_limit) prices.old }
-    requires low { (v : ℕ) → IsNode (length prices.old) v → neg_ℤ (pos (10 ^ 30)) ≤ℤ label prices.old heap.now v }
+    requires low { (v : ℕ) → IsNode (length prices.old) v → neg_ℤ (pos label_reach) ≤ℤ label prices.old heap.now v }
     requires high { (v : ℕ) → IsNode (length prices.old) v → label prices.old heap.now v ≤ℤ pos 0 }
     ensures { AreRounded scale prices.old heap.now prices.new }
 {
@@ -250,7 +251,7 @@ fn round_all(heap: &Heap, scale: u32, prices: &mut [i128])
 // The quotient of a label by the scale, rounded down.
 fn rounded_down(label: i128, scale: u32) -> i128
     requires scale { 1 ≤ scale }
-    requires low { neg_ℤ (pos (10 ^ 30)) ≤ℤ label }
+    requires low { neg_ℤ (pos label_reach) ≤ℤ label }
     requires high { label ≤ℤ pos 0 }
     ensures { IsRoundedDown scale label result }
 {
@@ -262,17 +263,17 @@ fn rounded_down(label: i128, scale: u32) -> i128
 fn quotient_above(depth: u128, scale: u128) -> u128
     requires scale { 1 ≤ scale }
     requires scale_small { scale < 2 ^ 32 }
-    requires depth { depth ≤ 10 ^ 30 }
+    requires depth { depth ≤ label_reach }
     ensures enough { depth ≤ result * scale }
     ensures least { result * scale < depth + scale }
-    ensures small { result ≤ 10 ^ 31 }
+    ensures small { result ≤ quotient_reach }
 {
     (depth + (scale - 1)) / scale
 }
 
 // The opposite of a depth.
 fn opposite(depth: u128) -> i128
-    requires { depth ≤ 10 ^ 31 }
+    requires { depth ≤ quotient_reach }
     ensures { result ≡ neg_ℤ (pos depth) }
 {
     -(depth as i128)

@@ -3,8 +3,8 @@ ghost use Rattle.std.specs.Prelude.{◌≤◌, IfOk, OnErr};
 ghost use Rattle.mcf_instance.specs.Network.{node_count};
 ghost use Rattle.mcf_prices.specs.Recovering.{HasSmallPrices, IsRecovered};
 
-use crate::queue::Queue;
 use crate::price_search::PriceSearch;
+use crate::queue::Queue;
 use mcf_network::{Rid, State};
 use mcf_text::NoMemory;
 use std::alloc::Global;

@@ -1,5 +1,5 @@
 -- The labels of a search for prices: a price for each node, and the residual arc that gave it.
-use Rattle.std.specs.Prelude.{◌≡◌, ℕ, ◌<◌, ◌≤◌, ◌-◌, List, [], ◌∷◌, length, Bool, Option, Some, None, ℤ, pos, neg_ℤ, ◌+ℤ◌, ◌≤ℤ◌, ◌<ℤ◌, ◌⊎◌, slice_index_or}
+use Rattle.std.specs.Prelude.{◌≡◌, ℕ, ◌<◌, ◌≤◌, ◌-◌, ◌^◌, List, [], ◌∷◌, length, Bool, Option, Some, None, ℤ, pos, neg_ℤ, ◌+ℤ◌, ◌≤ℤ◌, ◌<ℤ◌, ◌⊎◌, slice_index_or}
 use Rattle.std.specs.Prelude.{slice_set}
 use Rattle.std.specs.Bool.{MatchBool}
 use Rattle.mcf_instance.specs.Flow.{AreLowPrices, AreNotAboveZero}
@@ -18,6 +18,20 @@ pub record Labels : Type 0 where
 -- the greatest size of the cost of an arc
 abbrev pub cost_limit : ℕ
 cost_limit = wide_limits.cost
+
+-- how far below 0 a price lies at most where a round begins, where a node relaxes in it, and where one arc does
+abbrev pub round_depth : ℕ
+round_depth = 10 ^ 28
+
+abbrev pub node_depth : ℕ
+node_depth = 10 ^ 29
+
+abbrev pub arc_depth : ℕ
+arc_depth = 10 ^ 30
+
+-- how far a price falls at most in a round
+abbrev pub round_fall : ℕ
+round_fall = 10 ^ 21
 
 abbrev pub link_at : Labels → ℕ → Option Rid
 link_at l v = slice_index_or l.links (v - 1) None

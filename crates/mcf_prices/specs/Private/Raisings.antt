@@ -17,6 +17,13 @@ use Rattle.mcf_prices.specs.Private.Labels.{cost_limit}
 abbrev pub label_limit : ℕ
 label_limit = 10 ^ 22
 
+-- how far from 0 a label lies at most, and what an arc adds to one; and how far a label divided by the scale and rounded
+abbrev pub label_reach : ℕ
+label_reach = 10 ^ 30
+
+abbrev pub quotient_reach : ℕ
+quotient_reach = 10 ^ 31
+
 -- the label of a node: its key, which is taken from its price on
 abbrev pub label : List ℤ → Keyed → ℕ → ℤ
 label y h v = at_node y v +ℤ at_node h.keys v

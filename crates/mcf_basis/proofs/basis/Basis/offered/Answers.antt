@@ -1,4 +1,4 @@
-use Rattle.std.proofs.Common.{◌≡◌, neg_ℤ, ◌-◌, ◌<◌, length, get_or, ap, arith, pos, ◌<ℤ◌}
+use Rattle.std.proofs.Common.{◌≡◌, neg_ℤ, ◌<◌, length, get_or, arith, pos, ◌<ℤ◌}
 use Rattle.std.proofs.lemmas.Int.{ints}
 use Rattle.mcf_basis.specs.Private.Layouts.{Layout}
 use Rattle.mcf_basis.specs.Violations.{violation}

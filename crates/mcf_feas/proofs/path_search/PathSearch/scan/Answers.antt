@@ -67,7 +67,8 @@ loop-along-preserved c =
       can_next = tt;
       is_finite = tt;
       room = old.invariant.room;
-      scanning = scanning_push s old.self.reached old.self.visits.items c.args.place c.in-Some.along c.next.new.self at to c.predecessor_along.result end.room end.end
+      scanning = scanning_push s old.self.reached old.self.visits.items c.args.place c.in-Some.along c.next.new.self at to
+          c.predecessor_along.result end.room end.end
           c.predecessor_along.ensures end.is_node new high;
     })
 

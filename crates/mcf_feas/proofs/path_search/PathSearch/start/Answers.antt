@@ -43,5 +43,6 @@ loop-number-preserved c =
 pub returns-clause-sources : goal.returns-clause-sources
 returns-clause-sources c =
     let nodes = ap node_count c.net.ensures.value in
-    started_end c.args.state.now c.loop-number.self.reached c.loop-number.self.visits.items c.loop-number.number _ c.is_empty.result c.loop-number.invariant.started
+    started_end c.args.state.now c.loop-number.self.reached c.loop-number.self.visits.items c.loop-number.number _ c.is_empty.result
+    c.loop-number.invariant.started
     (omega (arith, nodes)) (omega arith) c.is_empty.ensures

@@ -1,4 +1,4 @@
-use Rattle.std.proofs.Common.{◌≡◌, arith, replicate, rules, pos, ℤ, ℕ}
+use Rattle.std.proofs.Common.{arith, pos, ℤ, ℕ}
 use Rattle.std.proofs.lemmas.List.{length-replicate}
 use Rattle.mcf_prices.proofs.HeapPlaces.{none_placed, table_zeros}
 use Rattle.mcf_prices.proofs.item_heap.ItemHeap.new.Goals as goal

@@ -8,6 +8,7 @@ pub returns-clause-step : goal.returns-clause-step
 returns-clause-step c =
     let l : Labels = record { flow = c.self.inside.state.now; prices = c.self.inside.prices.items; links = c.self.inside.links.items } in
     let ok = subst IsLabelling c.self.view_is c.self.invariant in
-    let link = read_link l c.args.self.now c.place.result c.args.v c.index.result.now c.self.view_is c.self.invariant c.requires c.place.ensures c.index.ensures in
+    let link = read_link l c.args.self.now c.place.result c.args.v c.index.result.now c.self.view_is c.self.invariant c.requires c.place.ensures
+    c.index.ensures in
     let h = c.requires in
     link_step c.args.self.now c.args.v c.index.result.now ok (h.0, omega (arith, h, ok.link_count)) link

@@ -1,8 +1,8 @@
-use Rattle.std.proofs.Common.{◌≡◌, arith, ap, ◌∙◌, rules, ◌^◌}
+use Rattle.std.proofs.Common.{◌≡◌, arith, ap, ◌∙◌, rules}
 use Rattle.std.proofs.lemmas.Int.{ints}
 use Rattle.std.proofs.lemmas.List.Elements.{All-head, All-tail}
 use Rattle.mcf_network.specs.Stars.{Leaves}
-use Rattle.mcf_prices.specs.Private.Labels.{Labels}
+use Rattle.mcf_prices.specs.Private.Labels.{Labels, node_depth}
 use Rattle.mcf_prices.specs.Private.Queues.{queued}
 use Rattle.mcf_prices.proofs.Relaxing.{entered_first, entered_leaves, entered_lowered, entered_kept}
 use Rattle.mcf_prices.proofs.price_search.PriceSearch.relax_entering.Goals as goal
@@ -21,7 +21,7 @@ entering-init c =
 
 pub relax-requires-clause-floor : goal.relax-requires-clause-floor
 relax-requires-clause-floor c v h =
-    let deep = c.entering.invariant.entering.progress.floor (10 ^ 29) c.requires.floor v h in
+    let deep = c.entering.invariant.entering.progress.floor node_depth c.requires.floor v h in
     omega (arith, ints, deep)
 
 pub entering-preserved-in-Continue-1 : goal.entering-preserved-in-Continue-1

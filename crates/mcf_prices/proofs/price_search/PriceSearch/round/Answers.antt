@@ -1,5 +1,6 @@
-use Rattle.std.proofs.Common.{ℕ, ◌^◌, List, arith, length, ap}
+use Rattle.std.proofs.Common.{ℕ, List, arith, length, ap}
 use Rattle.std.proofs.lemmas.Int.{ints}
+use Rattle.mcf_prices.specs.Private.Labels.{round_depth}
 use Rattle.mcf_prices.proofs.Rounding.{round_start, round_next, round_end, few_nodes}
 use Rattle.mcf_prices.proofs.price_search.PriceSearch.round.Goals as goal
 
@@ -9,7 +10,7 @@ nodes-init c =
 
 pub relax_entering-requires-clause-floor : goal.relax_entering-requires-clause-floor
 relax_entering-requires-clause-floor c v h =
-    let deep = c.nodes.invariant.progress.floor (10 ^ 28) c.requires.floor v h in
+    let deep = c.nodes.invariant.progress.floor round_depth c.requires.floor v h in
     let few = few_nodes c.args.waiting.now c.nodes-w-items.ensures.valid in
     let end = c.nodes-test.true in
     let items = ap (λ (xs : List ℕ). length xs) c.nodes-w-items.ensures.value in
