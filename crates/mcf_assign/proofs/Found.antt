@@ -17,7 +17,8 @@ use Rattle.mcf_assign.proofs.PairLaws.{column_is}
 use Rattle.mcf_assign.proofs.Raised.{link_tight, raised_ok, target_tight}
 use Rattle.mcf_assign.proofs.Stepping.{reach_small}
 
-module _ (s : Pseudoflow) (y : List ℤ) (q : Search) (source : ℕ) (order : List ℕ) (t : Target) (ok : IsPartialMatching s) (shown : AreMatchingPrices s y) (entries : HasEntries (node_count s.net) q) (ended : IsEnded s y q source order) (best : q.best ≡ Some t) where
+module _ (s : Pseudoflow) (y : List ℤ) (q : Search) (source : ℕ) (order : List ℕ) (t : Target) (ok : IsPartialMatching s) (shown : AreMatchingPrices s y)
+    (entries : HasEntries (node_count s.net) q) (ended : IsEnded s y q source order) (best : q.best ≡ Some t) where
   pub found_arc : IsArcNumber s.net t.arc
   found_arc = (ended.search.best t best).0.arc
 

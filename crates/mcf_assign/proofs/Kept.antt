@@ -1,5 +1,6 @@
 -- What a matching keeps, and what a search did to it.
-use Rattle.std.proofs.Common.{◌≡◌, ◌≢◌, ℕ, ◌-◌, ◌^◌, ◌<◌, ◌≤◌, Bool, true, ltb, List, [], ◌∷◌, ◌++◌, length, get_or, take, replicate, None, Some, ℤ, pos, refl, sym, ◌∙◌, ap, subst, arith, ◌⊎◌, inl, inr, vec_capacity}
+use Rattle.std.proofs.Common.{◌≡◌, ◌≢◌, ℕ, ◌-◌, ◌^◌, ◌<◌, ◌≤◌, Bool, true, ltb, List, [], ◌∷◌, ◌++◌, length, get_or, take, replicate, None, Some, ℤ, pos, refl}
+use Rattle.std.proofs.Common.{sym, ◌∙◌, ap, subst, arith, ◌⊎◌, inl, inr, vec_capacity}
 use Rattle.std.specs.List.{All, Contains}
 use Rattle.std.proofs.lemmas.Int.{ints}
 use Rattle.std.proofs.lemmas.Bool.{cases_eq, ltb-true, lt-ltb}
@@ -36,7 +37,8 @@ use Rattle.mcf_assign.proofs.Surpluses.{row_or_column}
 pub written : {X : Type 0} (n : ℕ) (xs ys : List X) → n ≡ length xs → take n (xs ++ ys) ≡ xs
 written n xs ys e = ap (λ k. take k (xs ++ ys)) e ∙ take-append_seam xs ys
 
-pub shown_kept : (s : Pseudoflow) (y : List ℤ) (mates : List ℕ) (tables : Tables) (reached : List Bool) → IsKept s y mates tables reached → (m : Assigned) → m.flow ≡ s → m.prices ≡ y → IsShownMatching m
+pub shown_kept : (s : Pseudoflow) (y : List ℤ) (mates : List ℕ) (tables : Tables) (reached : List Bool) → IsKept s y mates tables reached → (m : Assigned)
+    → m.flow ≡ s → m.prices ≡ y → IsShownMatching m
 shown_kept s y mates tables reached kept m ef ep =
     let ok = subst IsPartialMatching (sym ef) kept.matching in
     let shown : AreMatchingPrices m.flow m.prices = subst (λ x. AreMatchingPrices m.flow x) (sym ep) (subst (λ x. AreMatchingPrices x y) (sym ef) kept.shown) in
@@ -51,12 +53,13 @@ near_small s y y' near e v n =
 
 -- ---- whether a node is matched, as its mate tells
 
-pub mates_tell : (s : Pseudoflow) (mates : List ℕ) (v i x : ℕ) → IsPartialMatching s → AreMates s mates → IsNode (node_count s.net) v → i ≡ v → x ≡ get_or mates (i - 1) x → (ltb 0 x ≡ true → IsMatched s v) × (IsMatched s v → ltb 0 x ≡ true)
+pub mates_tell : (s : Pseudoflow) (mates : List ℕ) (v i x : ℕ) → IsPartialMatching s → AreMates s mates → IsNode (node_count s.net) v → i ≡ v - 1
+    → x ≡ get_or mates i x → (ltb 0 x ≡ true → IsMatched s v) × (IsMatched s v → ltb 0 x ≡ true)
 mates_tell s mates v i x ok mated n ei ex =
     (λ h. forth (ltb-true 0 x h), λ h. lt-ltb 0 x (back h))
   where
     same : x ≡ get_or mates (v - 1) 0
-    same = (let count = mated.count in ex ∙ get_or_default mates (i - 1) x 0 (omega (arith, n, ei, count)) ∙ ap (λ j. get_or mates (j - 1) 0) ei)
+    same = (let count = mated.count in ex ∙ get_or_default mates i x 0 (omega (arith, n, ei, count)) ∙ ap (λ j. get_or mates j 0) ei)
 
     forth : 0 < x → IsMatched s v
     forth some =
@@ -80,7 +83,8 @@ mates_tell s mates v i x ok mated n ei ex =
 
 -- ---- one row more
 
-module _ (s : Pseudoflow) (y z : List ℤ) (q : Search) (row : ℕ) (order : List ℕ) (t : Target) (ok : IsPartialMatching s) (shown : AreMatchingPrices s y) (entries : HasEntries (node_count s.net) q) (ended : IsEnded s y q row order) (best : q.best ≡ Some t) (raised : AreRaised s q t.dist y z) where
+module _ (s : Pseudoflow) (y z : List ℤ) (q : Search) (row : ℕ) (order : List ℕ) (t : Target) (ok : IsPartialMatching s) (shown : AreMatchingPrices s y)
+    (entries : HasEntries (node_count s.net) q) (ended : IsEnded s y q row order) (best : q.best ≡ Some t) (raised : AreRaised s q t.dist y z) where
   abbrev c : ℕ
   c = column_of s t.arc
 
@@ -102,7 +106,9 @@ module _ (s : Pseudoflow) (y z : List ℤ) (q : Search) (row : ℕ) (order : Lis
   listed_more : (v : ℕ) → IsNode (node_count s.net) v → Settled q v → Contains (order ++ c ∷ []) v
   listed_more v n h = Contains-append_left order (c ∷ []) v (ended.order_ok.listed v n h)
 
-  pub grown_from : (s' : Pseudoflow) (y0 y1 : List ℤ) (l0 l1 : List ℕ) (r0 r1 : List Bool) → IsExtended s s' z row c → IsChangedWithin s s' q c → l1 ≡ order ++ c ∷ [] → IsGrown (record { flow = s; prices = y0; settled = l0; reached = r0 }) row (record { flow = s'; prices = y1; settled = l1; reached = r1 })
+  pub grown_from : (s' : Pseudoflow) (y0 y1 : List ℤ) (l0 l1 : List ℕ) (r0 r1 : List Bool) → IsExtended s s' z row c → IsChangedWithin s s' q c
+      → l1 ≡ order ++ c ∷ []
+      → IsGrown (record { flow = s; prices = y0; settled = l0; reached = r0 }) row (record { flow = s'; prices = y1; settled = l1; reached = r1 })
   grown_from s' y0 y1 l0 l1 r0 r1 ext changed e =
       record {
         net = ext.net;
@@ -139,8 +145,11 @@ module _ (s : Pseudoflow) (y z : List ℤ) (q : Search) (row : ℕ) (order : Lis
         elim (settled_or_not q v) [
           | inl h ↦ (
               let now = raised.settled v n h in
-              let far = ended.near.settled v n h in
-              (omega (arith, ints, top, at_row, at_column, few, count, nodes, now, far), omega (arith, ints, top, at_row, at_column, few, count, nodes, now, far)))
+              let far = ended.near.settled v n h in (
+                omega (arith, ints, top, at_row, at_column, few, count, nodes, now, far),
+                omega
+                    (arith, ints, top, at_row, at_column, few, count, nodes, now, far),
+              ))
           | inr g ↦ (let now = raised.others v n g in (omega (arith, ints, now, was), omega (arith, ints, now, was)))
         ]
 
@@ -164,7 +173,9 @@ module _ (s : Pseudoflow) (y z : List ℤ) (q : Search) (row : ℕ) (order : Lis
           ] in
           raised.others v is.0 unsettled ∙ first v is (λ m. none (ext.rows_kept v m))
 
-  idle_more : (tables tables' : Tables) → search_of tables ≡ q → order ≡ tables.order.items → node_count s.net ≤ vec_capacity tables.order → search_of tables' ≡ search_of tables → tables'.order.items ≡ tables.order.items ++ c ∷ [] → vec_capacity tables'.order ≡ vec_capacity tables.order → IsIdle (node_count s.net) tables'
+  idle_more : (tables tables' : Tables) → search_of tables ≡ q → order ≡ tables.order.items → node_count s.net ≤ vec_capacity tables.order
+      → search_of tables' ≡ search_of tables → tables'.order.items ≡ tables.order.items ++ c ∷ [] → vec_capacity tables'.order ≡ vec_capacity tables.order
+      → IsIdle (node_count s.net) tables'
   idle_more tables tables' eq eo room es el ec =
       let same = es ∙ eq in
       let list : tables'.order.items ≡ order ++ c ∷ [] = el ∙ ap (λ l. l ++ c ∷ []) (sym eo) in
@@ -175,10 +186,17 @@ module _ (s : Pseudoflow) (y z : List ℤ) (q : Search) (row : ℕ) (order : Lis
         listed = λ v n h. subst (λ (l : List ℕ). Contains l v) (sym list) (listed_more v n (subst (λ (x : Search). Settled x v) same h));
       }
 
-pub kept_grown : (s s' : Pseudoflow) (y z : List ℤ) (mates' : List ℕ) (tables tables' : Tables) (reached : List Bool) (row : ℕ) (t : Target) → IsPartialMatching s → AreMatchingPrices s y → AreNearZero s y → FreeRowsAreFirst s y → length reached ≡ node_count s.net → HasEntries (node_count s.net) (search_of tables) → node_count s.net ≤ vec_capacity tables.order → IsRow s row → IsEnded s y (search_of tables) row tables.order.items → tables.best ≡ Some t → AreRaised s (search_of tables) t.dist y z → IsExtended s s' z row (column_of s t.arc) → AreMates s' mates' → search_of tables' ≡ search_of tables → tables'.order.items ≡ tables.order.items ++ column_of s t.arc ∷ [] → vec_capacity tables'.order ≡ vec_capacity tables.order → IsKept s' z mates' tables' reached
+pub kept_grown : (s s' : Pseudoflow) (y z : List ℤ) (mates' : List ℕ) (tables tables' : Tables) (reached : List Bool) (row : ℕ) (t : Target)
+    → IsPartialMatching s → AreMatchingPrices s y → AreNearZero s y → FreeRowsAreFirst s y → length reached ≡ node_count s.net
+    → HasEntries (node_count s.net) (search_of tables) → node_count s.net ≤ vec_capacity tables.order → IsRow s row
+    → IsEnded s y (search_of tables) row tables.order.items → tables.best ≡ Some t → AreRaised s (search_of tables) t.dist y z
+    → IsExtended s s' z row (column_of s t.arc) → AreMates s' mates' → search_of tables' ≡ search_of tables
+    → tables'.order.items ≡ tables.order.items ++ column_of s t.arc ∷ [] → vec_capacity tables'.order ≡ vec_capacity tables.order
+    → IsKept s' z mates' tables' reached
 kept_grown s s' y z mates' tables tables' reached row t ok shown near first count entries room is ended best raised ext mated es el ec =
     let at_net : Network → Pseudoflow = λ (n : Network). record { net = n; amounts = s'.amounts } in
-    let P : Network → Type 0 = λ (n : Network). IsExtended s (record { net = n; amounts = s'.amounts }) z row (column_of s t.arc) → AreMates (record { net = n; amounts = s'.amounts }) mates' → IsKept (record { net = n; amounts = s'.amounts }) z mates' tables' reached in
+    let P : Network → Type 0 = λ (n : Network). IsExtended s (record { net = n; amounts = s'.amounts }) z row (column_of s t.arc) → AreMates
+    (record { net = n; amounts = s'.amounts }) mates' → IsKept (record { net = n; amounts = s'.amounts }) z mates' tables' reached in
     subst P (sym ext.net) (λ x m. record {
       matching = x.matching;
       shown = shown_now s y z (search_of tables) row tables.order.items t ok shown entries ended best raised near first is s'.amounts x;
@@ -191,7 +209,10 @@ kept_grown s s' y z mates' tables tables' reached row t ok shown near first coun
 
 -- ---- none more
 
-pub stopped_from : (s : Pseudoflow) (y y' y0 : List ℤ) (q : Search) (row : ℕ) (order l0 list : List ℕ) (r0 set : List Bool) → IsPartialMatching s → IsEnded s y q row order → q.best ≡ None → length set ≡ node_count s.net → ((v : ℕ) → IsNode (node_count s.net) v → (in_table set v ≡ true → Contains order v) × (Contains order v → in_table set v ≡ true)) → y' ≡ y0 → list ≡ order → IsStopped (record { flow = s; prices = y0; settled = l0; reached = r0 }) row (record { flow = s; prices = y'; settled = list; reached = set })
+pub stopped_from : (s : Pseudoflow) (y y' y0 : List ℤ) (q : Search) (row : ℕ) (order l0 list : List ℕ) (r0 set : List Bool) → IsPartialMatching s
+    → IsEnded s y q row order → q.best ≡ None → length set ≡ node_count s.net
+    → ((v : ℕ) → IsNode (node_count s.net) v → (in_table set v ≡ true → Contains order v) × (Contains order v → in_table set v ≡ true)) → y' ≡ y0 → list ≡ order
+    → IsStopped (record { flow = s; prices = y0; settled = l0; reached = r0 }) row (record { flow = s; prices = y'; settled = list; reached = set })
 stopped_from s y y' y0 q row order l0 list r0 set ok ended none count members ep el =
     record {
       flow = refl;
@@ -218,7 +239,8 @@ stopped_from s y y' y0 q row order l0 list r0 set ok ended none count members ep
     now : IsStuck s (in_table set)
     now =
         record {
-          closed = λ r room h. into (head s.net r) (head_is_node s.net r.arc r.back ok.flow.of_net room.arc) (stuck.closed r room (out (tail s.net r) (tail_is_node s.net r.arc r.back ok.flow.of_net room.arc) h));
+          closed = λ r room h. into (head s.net r) (head_is_node s.net r.arc r.back ok.flow.of_net room.arc)
+              (stuck.closed r room (out (tail s.net r) (tail_is_node s.net r.arc r.back ok.flow.of_net room.arc) h));
           no_deficit = λ v n h. stuck.no_deficit v n (out v n h);
           source = (let x = stuck.source in (x.0, x.1, into x.0 x.1 x.2, x.3));
         }
@@ -235,7 +257,9 @@ no_pair g k p =
     let zero_at : get_or (replicate (length g.arcs) (pos 0)) (k - 1) (pos 0) ≡ pos 0 = get_or-replicate (length g.arcs) (k - 1) (pos 0) (pos 0) (omega arith) in
     omega (arith, ints, one, zero_at)
 
-pub kept_first : (g : Network) (y : List ℤ) (mates : List ℕ) (tables : Tables) (reached : List Bool) → IsPseudoflow (first_state g) → g.problem ≡ Asn → AreFirstPrices g y (node_count g) → mates ≡ replicate (node_count g) 0 → IsIdle (node_count g) tables → length reached ≡ node_count g → IsKept (first_state g) y mates tables reached
+pub kept_first : (g : Network) (y : List ℤ) (mates : List ℕ) (tables : Tables) (reached : List Bool) → IsPseudoflow (first_state g) → g.problem ≡ Asn
+    → AreFirstPrices g y (node_count g) → mates ≡ replicate (node_count g) 0 → IsIdle (node_count g) tables → length reached ≡ node_count g
+    → IsKept (first_state g) y mates tables reached
 kept_first g y mates tables reached flow asn first em idle count =
     record {
       matching = ok;

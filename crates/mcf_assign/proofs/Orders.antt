@@ -1,5 +1,6 @@
 -- The list of the settled nodes as a search begins, and with one pair more.
-use Rattle.std.proofs.Common.{◌≡◌, ◌≢◌, ℕ, ◌+◌, ◌-◌, ◌<◌, zero, suc, cond, Bool, true, false, List, [], ◌∷◌, ◌++◌, length, get_or, set, replicate, ℤ, pos, refl, sym, ◌∙◌, ap, subst, arith, ◌⊎◌, inl, inr, length-set}
+use Rattle.std.proofs.Common.{◌≡◌, ◌≢◌, ℕ, ◌+◌, ◌-◌, ◌<◌, zero, suc, cond, Bool, true, false, List, [], ◌∷◌, ◌++◌, length, get_or, set, replicate, ℤ, pos, refl}
+use Rattle.std.proofs.Common.{sym, ◌∙◌, ap, subst, arith, ◌⊎◌, inl, inr, length-set}
 use Rattle.std.specs.List.{AllPairs, Contains}
 use Rattle.std.proofs.lemmas.Bool.{cases_eq, eq-eqb, ne_eqb, true≢false}
 use Rattle.std.proofs.lemmas.Int.{ints}
@@ -33,7 +34,8 @@ place_left [] ys v l = absurd (omega (arith, l))
 place_left (x ∷ xs) ys v l =
     elim (cases_eq x v) [
       | inl e ↦ place_here x (xs ++ ys) v e ∙ sym (place_here x xs v e)
-      | inr n ↦ place_later x (xs ++ ys) v n ∙ ap (λ k. k + 1) (place_left xs ys v (let same = place_later x xs v n in omega (arith, l, same))) ∙ sym (place_later x xs v n)
+      | inr n ↦ place_later x (xs ++ ys) v n ∙ ap (λ k. k + 1) (place_left xs ys v (let same = place_later x xs v n in omega (arith, l, same))) ∙ sym
+          (place_later x xs v n)
     ]
 
 place_at : (xs : List ℕ) (v i : ℕ) → i < length xs → get_or xs i v ≡ v → place xs v < length xs
@@ -72,7 +74,9 @@ back_room s k pair = (let one = pair.one in record { arc = pair.arc; room = omeg
 
 -- ---- the search begins
 
-pub ordered_start : (s : Pseudoflow) (q : Search) (source : ℕ) → IsPartialMatching s → IsRow s source → ((v : ℕ) → IsNode (node_count s.net) v → Settled q v → v ≡ source) → Settled q source → member_count q.settled ≡ 1 → ¬ IsMatchedRow s source → IsOrder s q source (source ∷ [])
+pub ordered_start : (s : Pseudoflow) (q : Search) (source : ℕ) → IsPartialMatching s → IsRow s source
+    → ((v : ℕ) → IsNode (node_count s.net) v → Settled q v → v ≡ source) → Settled q source → member_count q.settled ≡ 1 → ¬ IsMatchedRow s source
+    → IsOrder s q source (source ∷ [])
 ordered_start s q source ok row only settled tally free =
     record {
       rest = [];
@@ -97,7 +101,8 @@ ordered_start s q source ok row only settled tally free =
     at_zero v (suc k) l e = absurd (omega (arith, l))
 
 -- the same list, while the links of the settled columns stay
-pub ordered_kept : (s : Pseudoflow) (q q' : Search) (source : ℕ) (order order' : List ℕ) → order' ≡ order → q'.settled ≡ q.settled → ((v : ℕ) → IsNode (node_count s.net) v → Settled q v → link_at q' v ≡ link_at q v) → IsOrder s q source order → IsOrder s q' source order'
+pub ordered_kept : (s : Pseudoflow) (q q' : Search) (source : ℕ) (order order' : List ℕ) → order' ≡ order → q'.settled ≡ q.settled
+    → ((v : ℕ) → IsNode (node_count s.net) v → Settled q v → link_at q' v ≡ link_at q v) → IsOrder s q source order → IsOrder s q' source order'
 ordered_kept s q q' source order order' same settled links was =
     subst (λ o. IsOrder s q' source o) (sym same) now
   where
@@ -125,7 +130,9 @@ ordered_kept s q q' source order order' same settled links was =
 
 -- ---- one pair more
 
-module _ (s : Pseudoflow) (y : List ℤ) (q q' : Search) (source c r k0 : ℕ) (order : List ℕ) (ok : IsPartialMatching s) (search : IsSearch s y q source []) (was : IsOrder s q source order) (step : IsSettling s q q' c r) (pair : IsPair s k0) (at_column : column_of s k0 ≡ c) (at_row : row_of s k0 ≡ r) (waits : Waits q c) (more : member_count q'.settled ≡ member_count q.settled + 2) where
+module _ (s : Pseudoflow) (y : List ℤ) (q q' : Search) (source c r k0 : ℕ) (order : List ℕ) (ok : IsPartialMatching s) (search : IsSearch s y q source [])
+    (was : IsOrder s q source order) (step : IsSettling s q q' c r) (pair : IsPair s k0) (at_column : column_of s k0 ≡ c) (at_row : row_of s k0 ≡ r)
+    (waits : Waits q c) (more : member_count q'.settled ≡ member_count q.settled + 2) where
   abbrev longer : List ℕ
   longer = (order ++ c ∷ []) ++ r ∷ []
 
@@ -292,26 +299,34 @@ pub none_counted : (t : List Bool) → ((v : ℕ) → in_table t v ≡ false) �
 none_counted t h =
     ap member_count (all_false t (λ i. ap (λ j. get_or t j false) (let e : i ≡ i + 1 - 1 = omega arith in e) ∙ h (i + 1))) ∙ count_none (length t)
 
-pub begun_order : (s : Pseudoflow) (q q' : Search) (source i : ℕ) (order : List ℕ) → IsPartialMatching s → IsRow s source → ¬ IsMatchedRow s source → length q.settled ≡ node_count s.net → ((v : ℕ) → in_table q.settled v ≡ false) → i ≡ source → q'.settled ≡ set q.settled (i - 1) true → order ≡ source ∷ [] → IsOrder s q' source order
+pub begun_order : (s : Pseudoflow) (q q' : Search) (source i : ℕ) (order : List ℕ) → IsPartialMatching s → IsRow s source → ¬ IsMatchedRow s source
+    → length q.settled ≡ node_count s.net → ((v : ℕ) → in_table q.settled v ≡ false) → i ≡ source - 1 → q'.settled ≡ set q.settled i true → order ≡ source ∷ []
+    → IsOrder s q' source order
 begun_order s q q' source i order ok row free count unsettled ei settled listed =
-    let at : q'.settled ≡ with_node q.settled source = settled ∙ ap (λ j. set q.settled (j - 1) true) ei in
+    let at : q'.settled ≡ with_node q.settled source = settled ∙ ap (λ j. set q.settled j true) ei in
     let node : IsNode (length q.settled) source = (let n = row.0 in (n.0, omega (arith, n, count))) in
     let here : Settled q' source = ap (λ t. get_or t (source - 1) false) at ∙ marked_new q.settled source node in
     let only : (v : ℕ) → IsNode (node_count s.net) v → Settled q' v → v ≡ source =
-    λ (v : ℕ) (n : IsNode (node_count s.net) v) (h : Settled q' v). elim (marked_only q.settled source v node (n.0, omega (arith, n, count)) (sym (ap (λ t. get_or t (v - 1) false) at) ∙ h)) [
+    λ (v : ℕ) (n : IsNode (node_count s.net) v) (h : Settled q' v). elim
+    (marked_only q.settled source v node (n.0, omega (arith, n, count)) (sym (ap (λ t. get_or t (v - 1) false) at) ∙ h)) [
       | inl e ↦ e
       | inr was ↦ absurd (true≢false (sym was ∙ unsettled v))
     ] in
-    let one : member_count q'.settled ≡ 1 = (let a = ap member_count at in let b = counted_new q.settled source node (unsettled source) in let n = none_counted q.settled unsettled in omega (arith, a, b, n)) in
+    let one : member_count q'.settled ≡ 1 =
+    (let a = ap member_count at in let b = counted_new q.settled source node (unsettled source) in let n = none_counted q.settled unsettled in omega
+    (arith, a, b, n)) in
     subst (λ o. IsOrder s q' source o) (sym listed) (ordered_start s q' source ok row only here one free)
 
 -- a pair that is settled counts two more
-pub two_more : (s : Pseudoflow) (y : List ℤ) (q : Search) (source c r k0 : ℕ) → IsPartialMatching s → length q.settled ≡ node_count s.net → IsSearch s y q source [] → IsPair s k0 → column_of s k0 ≡ c → row_of s k0 ≡ r → Waits q c → member_count (settled_pair q c r).settled ≡ member_count q.settled + 2
+pub two_more : (s : Pseudoflow) (y : List ℤ) (q : Search) (source c r k0 : ℕ) → IsPartialMatching s → length q.settled ≡ node_count s.net
+    → IsSearch s y q source [] → IsPair s k0 → column_of s k0 ≡ c → row_of s k0 ≡ r → Waits q c
+    → member_count (settled_pair q c r).settled ≡ member_count q.settled + 2
 two_more s y q source c r k0 ok count search pair at_column at_row waits =
     let c_is : IsColumn s c = subst (λ v. IsColumn s v) at_column (column_is s k0 ok pair.arc) in
     let r_is : IsRow s r = subst (λ v. IsRow s v) at_row (row_is s k0 ok pair.arc) in
     let c_new : ¬ Settled q c = search.apart c c_is.0 waits in
-    let r_new : ¬ Settled q r = λ (h : Settled q r). c_new (subst (λ v. Settled q v) at_column (search.pairs k0 pair (subst (λ v. Settled q v) (sym at_row) h)).0) in
+    let r_new : ¬ Settled q r = λ (h : Settled q r). c_new
+    (subst (λ v. Settled q v) at_column (search.pairs k0 pair (subst (λ v. Settled q v) (sym at_row) h)).0) in
     let nc : IsNode (length q.settled) c = (let n = c_is.0 in (n.0, omega (arith, n, count))) in
     let nr : IsNode (length q.settled) r = (let n = r_is.0 in (n.0, omega (arith, n, count))) in
     let nr' : IsNode (length (with_node q.settled c)) r = (nr.0, omega (arith, nr, length-set q.settled (c - 1) true)) in

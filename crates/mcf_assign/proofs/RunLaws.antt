@@ -1,11 +1,13 @@
 -- Runs of searches: which rows they match, and what is left to send or to take when all rows are matched.
-use Rattle.std.proofs.Common.{◌≡◌, ℕ, zero, suc, ◌+◌, ◌-◌, ◌^◌, ◌≤◌, Bool, true, false, cond, List, [], ◌∷◌, ◌++◌, length, get_or, ℤ, pos, ◌≤ℤ◌, refl, sym, ◌∙◌, ap, subst, arith, ◌⊎◌, inl, inr}
+use Rattle.std.proofs.Common.{◌≡◌, ℕ, zero, suc, ◌+◌, ◌-◌, ◌^◌, ◌≤◌, Bool, true, false, cond, List, [], ◌∷◌, ◌++◌, length, get_or, ℤ, pos, ◌≤ℤ◌, refl, sym, ◌∙◌}
+use Rattle.std.proofs.Common.{ap, subst, arith, ◌⊎◌, inl, inr}
 use Rattle.std.specs.List.{All, Contains, filter, range_with_len}
 use Rattle.std.proofs.lemmas.Bool.{cases_eq}
 use Rattle.std.proofs.lemmas.Bool.Decides.{Decides-int_eq}
 use Rattle.std.proofs.lemmas.Int.{ints}
 use Rattle.std.proofs.lemmas.List.{append-nil}
-use Rattle.std.proofs.lemmas.List.Elements.{All-from_get_or, All-weaker, Contains-append_cases, Contains-append_left, Contains-push, Contains-push_cases, filter-append}
+use Rattle.std.proofs.lemmas.List.Elements.{All-from_get_or, All-weaker, Contains-append_cases, Contains-append_left, Contains-push, Contains-push_cases}
+use Rattle.std.proofs.lemmas.List.Elements.{filter-append}
 use Rattle.mcf_instance.specs.declared.problem.Side.TheVariants.{Send}
 use Rattle.mcf_instance.specs.Network.{Network, IsNode, at_node, node_count}
 use Rattle.mcf_instance.specs.Blocking.{Blocks, in_table}
@@ -43,7 +45,8 @@ range_split a (suc n) m j e =
 
 -- those up to v, and those after it
 sources_split : (g : Network) (n m k j v : ℕ) → j ≡ n + m → m ≡ suc k → v ≡ n + 1
-    → sources_to g j ≡ sources_to g n ++ cond (is_source g v) (v ∷ filter (is_source g) (range_with_len (v + 1) k)) (filter (is_source g) (range_with_len (v + 1) k))
+    → sources_to g j ≡ sources_to g n ++ cond (is_source g v) (v ∷ filter (is_source g) (range_with_len (v + 1) k))
+    (filter (is_source g) (range_with_len (v + 1) k))
 sources_split g n m k j v e longer at =
     let here : 1 + n ≡ v = omega (arith, at) in
     ap (filter (is_source g)) (range_split 1 n m j e)

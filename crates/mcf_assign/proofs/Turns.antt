@@ -2,7 +2,7 @@
 use Rattle.std.proofs.Common.{◌≡◌, ◌≢◌, ℕ, ◌+◌, ◌-◌, ◌<◌, true, false, Bool, List, get_or, ℤ, pos, refl, sym, ◌∙◌, ap, subst, arith, ◌⊎◌, inl, inr}
 use Rattle.mcf_instance.specs.Network.{Network, IsArcNumber}
 use Rattle.mcf_network.specs.Residual.{arc_at}
-use Rattle.mcf_network.specs.States.{Pseudoflow, amount_at, pushed}
+use Rattle.mcf_network.specs.States.{Pseudoflow, pushed}
 use Rattle.mcf_network.proofs.StateLaws.{rid}
 use Rattle.mcf_assign.specs.Forests.{IsChangedWithin, IsForest, IsTightArc, IsTurning, place}
 use Rattle.mcf_assign.specs.Matchings.{AreMates, IsColumn, IsMatchedColumn, IsMatchedRow, IsPair, IsPartialMatching, column_of, row_of}
@@ -19,7 +19,10 @@ abbrev joined : Pseudoflow → ℕ → Pseudoflow
 joined s k = pushed s (rid k false) (pos 1)
 
 -- one push along an arc between settled nodes, or to column t
-changed_more : (old : Pseudoflow) (amounts : List ℤ) (q : Search) (t k : ℕ) (b : Bool) → IsPartialMatching (record { net = old.net; amounts = amounts }) → IsArcNumber old.net k → Settled q (row_of old k) × (Settled q (column_of old k) ⊎ (column_of old k ≡ t)) → IsChangedWithin old (record { net = old.net; amounts = amounts }) q t → IsChangedWithin old (pushed (record { net = old.net; amounts = amounts }) (rid k b) (pos 1)) q t
+changed_more : (old : Pseudoflow) (amounts : List ℤ) (q : Search) (t k : ℕ) (b : Bool) → IsPartialMatching (record { net = old.net; amounts = amounts })
+    → IsArcNumber old.net k → Settled q (row_of old k) × (Settled q (column_of old k) ⊎ (column_of old k ≡ t))
+    → IsChangedWithin old (record { net = old.net; amounts = amounts }) q t
+    → IsChangedWithin old (pushed (record { net = old.net; amounts = amounts }) (rid k b) (pos 1)) q t
 changed_more old amounts q t k b ok arc ends before i h =
     elim (amount_pushed (record { net = old.net; amounts = amounts }) k i b (pos 1) ok.flow arc h) [
       | inl (e, is) ↦ inr (subst (λ x. Settled q (row_of old x) × (Settled q (column_of old x) ⊎ (column_of old x ≡ t))) (sym e) ends)
@@ -29,7 +32,8 @@ changed_more old amounts q t k b ok arc ends before i h =
       ]
     ]
 
-pub turning_start : (s : Pseudoflow) (mates : List ℕ) (q : Search) (order : List ℕ) (target source : ℕ) (z : List ℤ) → IsForest s q source order z → IsTightArc s q z target (column_of s target) → ¬ IsMatchedColumn s (column_of s target) → AreMates s mates → IsTurning s s mates q order target target
+pub turning_start : (s : Pseudoflow) (mates : List ℕ) (q : Search) (order : List ℕ) (target source : ℕ) (z : List ℤ) → IsForest s q source order z
+    → IsTightArc s q z target (column_of s target) → ¬ IsMatchedColumn s (column_of s target) → AreMates s mates → IsTurning s s mates q order target target
 turning_start s mates q order target source z forest tight free mated =
     record {
       net = refl;
@@ -38,7 +42,8 @@ turning_start s mates q order target source z forest tight free mated =
       arc = tight.arc;
       from = tight.from;
       to = inr refl;
-      turned = λ source' z' forest' tight'. (tight', turned_start s z' (place order) (place order (row_of s target) + 1) (column_of s target) forest'.matching forest'.tight free);
+      turned = λ source' z' forest' tight'.
+          (tight', turned_start s z' (place order) (place order (row_of s target) + 1) (column_of s target) forest'.matching forest'.tight free);
       changed = λ i h. inl refl;
     }
 
@@ -52,7 +57,9 @@ parted_row s j k ok pair from (i, p, e) =
 pub parted_column : (s : Pseudoflow) (j v : ℕ) → IsPartialMatching s → IsPair s j → ¬ IsMatchedColumn s v → ¬ IsMatchedColumn (parted s j) v
 parted_column s j v ok pair free (i, p, e) = free (i, ((unpaired_ok s j ok pair).was i p).0, e)
 
-module _ (old : Pseudoflow) (amounts : List ℤ) (mates : List ℕ) (q : Search) (order : List ℕ) (target k source : ℕ) (z : List ℤ) (forest : IsForest old q source order z) (end : IsTightArc old q z target (column_of old target)) (turning : IsTurning old (record { net = old.net; amounts = amounts }) mates q order target k) where
+module _ (old : Pseudoflow) (amounts : List ℤ) (mates : List ℕ) (q : Search) (order : List ℕ) (target k source : ℕ) (z : List ℤ)
+    (forest : IsForest old q source order z) (end : IsTightArc old q z target (column_of old target))
+    (turning : IsTurning old (record { net = old.net; amounts = amounts }) mates q order target k) where
   abbrev s : Pseudoflow
   s = record { net = old.net; amounts = amounts }
 
@@ -64,9 +71,6 @@ module _ (old : Pseudoflow) (amounts : List ℤ) (mates : List ℕ) (q : Search)
 
   pub free_at : ¬ IsMatchedColumn s (column_of s k)
   free_at = here.free
-
-  idle_at : amount_at s k ≡ pos 0
-  idle_at = free_idle s k turning.matching turning.arc free_at
 
   -- ---- the row is matched
 
@@ -117,19 +121,25 @@ module _ (old : Pseudoflow) (amounts : List ℤ) (mates : List ℕ) (q : Search)
         let column = parted_column s j (column_of s k) turning.matching pair free_at in
         (paired_ok mid k mid_ok turning.arc (free_idle mid k mid_ok turning.arc column) row column).matching
 
-    before : (source' : ℕ) (z' : List ℤ) → IsForest old q source' order z' → IsTightArc old q z' target t → (i : ℕ) → place order (row_of old i) < place order (row_of old next) + 1 → row_of s i ≢ row_of s k
+    before : (source' : ℕ) (z' : List ℤ) → IsForest old q source' order z' → IsTightArc old q z' target t → (i : ℕ)
+        → place order (row_of old i) < place order (row_of old next) + 1 → row_of s i ≢ row_of s k
     before source' z' forest' end' i l e =
         let falls = falls_at in
         let same = ap (place order) e in
         omega (arith, falls, same, l)
 
-    turned_now : (source' : ℕ) (z' : List ℤ) → IsForest old q source' order z' → IsTightArc old q z' target t → IsTightArc old q z' next (column_of old next) × IsTurned old done z' (place order) (place order (row_of old next) + 1) t (column_of old next)
+    turned_now : (source' : ℕ) (z' : List ℤ) → IsForest old q source' order z' → IsTightArc old q z' target t
+        → IsTightArc old q z' next (column_of old next) × IsTurned old done z' (place order) (place order (row_of old next) + 1) t (column_of old next)
     turned_now source' z' forest' end' =
         let was = turning.turned source' z' forest' end' in
         let link = forest'.links (column_of old j) column_j column_settled in
         let falls = falls_at in
-        let next_turned = turned_next old s z' (place order) (place order (row_of old k) + 1) t (column_of old k) k was.1 turning.arc refl was.0.tight j pair from (place order (row_of old next) + 1) (omega (arith, falls)) (before source' z' forest' end') in
-        (record { arc = link.arc; from = link.from; to = refl; tight = link.tight }, subst (λ c. IsTurned old done z' (place order) (place order (row_of old next) + 1) t c) (sym link.to) next_turned)
+        let next_turned = turned_next old s z' (place order) (place order (row_of old k) + 1) t (column_of old k) k was.1 turning.arc refl was.0.tight j pair
+        from (place order (row_of old next) + 1) (omega (arith, falls)) (before source' z' forest' end') in (
+          record { arc = link.arc; from = link.from; to = refl; tight = link.tight },
+          subst
+              (λ c. IsTurned old done z' (place order) (place order (row_of old next) + 1) t c) (sym link.to) next_turned,
+        )
 
     pub next_at : (mates' : List ℕ) → AreMates done mates' → IsTurning old done mates' q order target next
     next_at mates' mated =
@@ -141,7 +151,8 @@ module _ (old : Pseudoflow) (amounts : List ℤ) (mates : List ℕ) (q : Search)
           from = next_arc.from;
           to = inl (subst (λ v. Settled q v) (sym next_arc.to) column_settled);
           turned = turned_now;
-          changed = changed_more old (mid.amounts) q t k false mid_ok turning.arc (turning.from, turning.to) (changed_more old amounts q t j true turning.matching pair.arc (row_settled, inl column_settled) turning.changed);
+          changed = changed_more old (mid.amounts) q t k false mid_ok turning.arc (turning.from, turning.to)
+              (changed_more old amounts q t j true turning.matching pair.arc (row_settled, inl column_settled) turning.changed);
         }
 
   -- ---- the row is not matched: it is the source
@@ -157,7 +168,8 @@ module _ (old : Pseudoflow) (amounts : List ℤ) (mates : List ℕ) (q : Search)
     pub end_at : (source' : ℕ) (z' : List ℤ) → IsForest old q source' order z' → IsTightArc old q z' target t → IsExtended old (joined s k) z' source' t
     end_at source' z' forest' end' =
         let was = turning.turned source' z' forest' end' in
-        subst (λ r. IsExtended old (joined s k) z' r t) (is_source source' z' forest') (turned_end old s z' (place order) (place order (row_of old k) + 1) t (column_of old k) k was.1 turning.arc refl was.0.tight single)
+        subst (λ r. IsExtended old (joined s k) z' r t) (is_source source' z' forest')
+        (turned_end old s z' (place order) (place order (row_of old k) + 1) t (column_of old k) k was.1 turning.arc refl was.0.tight single)
 
     pub changed_at : IsChangedWithin old (joined s k) q t
     changed_at =
@@ -165,7 +177,8 @@ module _ (old : Pseudoflow) (amounts : List ℤ) (mates : List ℕ) (q : Search)
 
 -- ---- the same of a state whose net is known to be the same
 
-module _ (old s : Pseudoflow) (mates : List ℕ) (q : Search) (order : List ℕ) (target k source : ℕ) (z : List ℤ) (forest : IsForest old q source order z) (end : IsTightArc old q z target (column_of old target)) (turning : IsTurning old s mates q order target k) where
+module _ (old s : Pseudoflow) (mates : List ℕ) (q : Search) (order : List ℕ) (target k source : ℕ) (z : List ℤ) (forest : IsForest old q source order z)
+    (end : IsTightArc old q z target (column_of old target)) (turning : IsTurning old s mates q order target k) where
   abbrev at_net : Network → Pseudoflow
   at_net n = record { net = n; amounts = s.amounts }
 
@@ -174,48 +187,57 @@ module _ (old s : Pseudoflow) (mates : List ℕ) (q : Search) (order : List ℕ)
       let P : Network → Type 0 = λ n. IsTurning old (at_net n) mates q order target k → ¬ IsMatchedColumn (at_net n) (column_of (at_net n) k) in
       subst P (sym turning.net) (λ x. free_at old s.amounts mates q order target k source z forest end x) turning
 
-  pub turning_arc : IsArcNumber s.net k
-  turning_arc = subst (λ (n : Network). IsArcNumber n k) (sym turning.net) turning.arc
-
-  pub turning_next : (j : ℕ) → IsPair s j → row_of s j ≡ row_of s k → (mates' : List ℕ) → AreMates (joined (parted s j) k) mates' → IsTurning old (joined (parted s j) k) mates' q order target (link_at q (column_of s j))
+  pub turning_next : (j : ℕ) → IsPair s j → row_of s j ≡ row_of s k → (mates' : List ℕ) → AreMates (joined (parted s j) k) mates'
+      → IsTurning old (joined (parted s j) k) mates' q order target (link_at q (column_of s j))
   turning_next j pair from mates' mated =
-      let P : Network → Type 0 = λ n. IsTurning old (at_net n) mates q order target k → IsPair (at_net n) j → row_of (at_net n) j ≡ row_of (at_net n) k → AreMates (joined (parted (at_net n) j) k) mates' → IsTurning old (joined (parted (at_net n) j) k) mates' q order target (link_at q (column_of (at_net n) j)) in
+      let P : Network → Type 0 = λ n. IsTurning old (at_net n) mates q order target k → IsPair (at_net n) j → row_of (at_net n) j ≡ row_of (at_net n) k →
+      AreMates (joined (parted (at_net n) j) k) mates' → IsTurning old (joined (parted (at_net n) j) k) mates' q order target
+      (link_at q (column_of (at_net n) j)) in
       subst P (sym turning.net) (λ x p f m. next_at old s.amounts mates q order target k source z forest end x j p f mates' m) turning pair from mated
 
   pub turning_falls : (j : ℕ) → IsPair s j → row_of s j ≡ row_of s k → place order (row_of s (link_at q (column_of s j))) < place order (row_of s k)
   turning_falls j pair from =
-      let P : Network → Type 0 = λ n. IsTurning old (at_net n) mates q order target k → IsPair (at_net n) j → row_of (at_net n) j ≡ row_of (at_net n) k → place order (row_of (at_net n) (link_at q (column_of (at_net n) j))) < place order (row_of (at_net n) k) in
+      let P : Network → Type 0 = λ n. IsTurning old (at_net n) mates q order target k → IsPair (at_net n) j → row_of (at_net n) j ≡ row_of (at_net n) k → place
+      order (row_of (at_net n) (link_at q (column_of (at_net n) j))) < place order (row_of (at_net n) k) in
       subst P (sym turning.net) (λ x p f. falls_at old s.amounts mates q order target k source z forest end x j p f) turning pair from
 
-  pub turning_end : ¬ IsMatchedRow s (row_of s k) → (source' : ℕ) (z' : List ℤ) → IsForest old q source' order z' → IsTightArc old q z' target (column_of old target) → IsExtended old (joined s k) z' source' (column_of old target)
+  pub turning_end : ¬ IsMatchedRow s (row_of s k) → (source' : ℕ) (z' : List ℤ) → IsForest old q source' order z'
+      → IsTightArc old q z' target (column_of old target) → IsExtended old (joined s k) z' source' (column_of old target)
   turning_end single source' z' forest' end' =
-      let P : Network → Type 0 = λ n. IsTurning old (at_net n) mates q order target k → ¬ IsMatchedRow (at_net n) (row_of (at_net n) k) → IsExtended old (joined (at_net n) k) z' source' (column_of old target) in
+      let P : Network → Type 0 = λ n. IsTurning old (at_net n) mates q order target k → ¬ IsMatchedRow (at_net n) (row_of (at_net n) k) → IsExtended old
+      (joined (at_net n) k) z' source' (column_of old target) in
       subst P (sym turning.net) (λ x f. end_at old s.amounts mates q order target k source z forest end x f source' z' forest' end') turning single
 
   pub turning_changed : ¬ IsMatchedRow s (row_of s k) → IsChangedWithin old (joined s k) q (column_of old target)
   turning_changed single =
-      let P : Network → Type 0 = λ n. IsTurning old (at_net n) mates q order target k → ¬ IsMatchedRow (at_net n) (row_of (at_net n) k) → IsChangedWithin old (joined (at_net n) k) q (column_of old target) in
+      let P : Network → Type 0 = λ n. IsTurning old (at_net n) mates q order target k → ¬ IsMatchedRow (at_net n) (row_of (at_net n) k) → IsChangedWithin old
+      (joined (at_net n) k) q (column_of old target) in
       subst P (sym turning.net) (λ x f. changed_at old s.amounts mates q order target k source z forest end x f) turning single
 
-  pub turning_round : (j : ℕ) → IsPair s j → row_of s j ≡ row_of s k → (s' s'' : Pseudoflow) (g : Network) (mates' : List ℕ) (column i next : ℕ) → s' ≡ parted s j → s'' ≡ joined s' k → AreMates s'' mates' → g ≡ s''.net → column ≡ (arc_at g j).dst → i ≡ column → next ≡ get_or q.links (i - 1) 0 → IsTurning old s'' mates' q order target next × (place order (row_of s'' next) < place order (row_of s k))
+  pub turning_round : (j : ℕ) → IsPair s j → row_of s j ≡ row_of s k → (s' s'' : Pseudoflow) (g : Network) (mates' : List ℕ) (column i next : ℕ)
+      → s' ≡ parted s j → s'' ≡ joined s' k → AreMates s'' mates' → g ≡ s''.net → column ≡ (arc_at g j).dst → i ≡ column - 1 → next ≡ get_or q.links i 0
+      → IsTurning old s'' mates' q order target next × (place order (row_of s'' next) < place order (row_of s k))
   turning_round j pair from s' s'' g mates' column i next e e' mated net dst ei en =
       let same : s'' ≡ joined (parted s j) k = e' ∙ ap (λ x. joined x k) e in
       let at : column ≡ column_of s j = dst ∙ ap (λ (n : Network). (arc_at n j).dst) (net ∙ ap (λ (x : Pseudoflow). x.net) same) in
-      let link : next ≡ link_at q (column_of s j) = en ∙ ap (λ v. get_or q.links (v - 1) 0) (ei ∙ at) in
+      let link : next ≡ link_at q (column_of s j) = en ∙ ap (λ v. get_or q.links v 0) (ei ∙ ap (λ v. v - 1) at) in
       let P : Pseudoflow → Type 0 = λ x. IsTurning old x mates' q order target next × (place order (row_of x next) < place order (row_of s k)) in
       let Q : ℕ → Type 0 = λ x. IsTurning old (joined (parted s j) k) mates' q order target x × (place order (row_of s x) < place order (row_of s k)) in
       subst P (sym same) (subst Q (sym link) (turning_next j pair from mates' (subst (λ x. AreMates x mates') same mated), turning_falls j pair from))
 
 -- the arc of amount 1 at the row of an arc
-pub mate_read : (s : Pseudoflow) (g : Network) (mates : List ℕ) (k row i : ℕ) → g ≡ s.net → row ≡ (arc_at g k).src → i ≡ row → get_or mates (i - 1) 0 ≡ get_or mates (row_of s k - 1) 0
+pub mate_read : (s : Pseudoflow) (g : Network) (mates : List ℕ) (k row i : ℕ) → g ≡ s.net → row ≡ (arc_at g k).src → i ≡ row - 1
+    → get_or mates i 0 ≡ get_or mates (row_of s k - 1) 0
 mate_read s g mates k row i net src ei =
-    ap (λ v. get_or mates (v - 1) 0) (ei ∙ src ∙ ap (λ (n : Network). (arc_at n k).src) net)
+    ap (λ v. get_or mates v 0) (ei ∙ ap (λ v. v - 1) (src ∙ ap (λ (n : Network). (arc_at n k).src) net))
 
-pub mate_none : (s : Pseudoflow) (g : Network) (mates : List ℕ) (k row i : ℕ) → IsPartialMatching s → AreMates s mates → IsArcNumber s.net k → g ≡ s.net → row ≡ (arc_at g k).src → i ≡ row → get_or mates (i - 1) 0 ≡ 0 → ¬ IsMatchedRow s (row_of s k)
+pub mate_none : (s : Pseudoflow) (g : Network) (mates : List ℕ) (k row i : ℕ) → IsPartialMatching s → AreMates s mates → IsArcNumber s.net k → g ≡ s.net
+    → row ≡ (arc_at g k).src → i ≡ row - 1 → get_or mates i 0 ≡ 0 → ¬ IsMatchedRow s (row_of s k)
 mate_none s g mates k row i ok mated arc net src ei none =
     mated.no_row (row_of s k) (row_is s k ok arc) (sym (mate_read s g mates k row i net src ei) ∙ none)
 
-pub mate_some : (s : Pseudoflow) (g : Network) (mates : List ℕ) (k row i j : ℕ) → IsPartialMatching s → AreMates s mates → IsArcNumber s.net k → g ≡ s.net → row ≡ (arc_at g k).src → i ≡ row → get_or mates (i - 1) 0 ≢ 0 → j ≡ get_or mates (i - 1) 0 → IsPair s j × (row_of s j ≡ row_of s k)
+pub mate_some : (s : Pseudoflow) (g : Network) (mates : List ℕ) (k row i j : ℕ) → IsPartialMatching s → AreMates s mates → IsArcNumber s.net k → g ≡ s.net
+    → row ≡ (arc_at g k).src → i ≡ row - 1 → get_or mates i 0 ≢ 0 → j ≡ get_or mates i 0 → IsPair s j × (row_of s j ≡ row_of s k)
 mate_some s g mates k row i j ok mated arc net src ei some ej =
     let same = mate_read s g mates k row i net src ei in
     subst (λ x. IsPair s x × (row_of s x ≡ row_of s k)) (sym (ej ∙ same)) (mated.row (row_of s k) (row_is s k ok arc) (omega (arith, same, some)))

@@ -42,7 +42,8 @@ pub record IsGrown (old : Assigned) (row : ℕ) (new : Assigned) : Type 0 where
   pub rows : (v : ℕ) → IsMatchedRow new.flow v ↔ (IsMatchedRow old.flow v ⊎ (v ≡ row))
   pub columns : (v : ℕ) → IsMatchedColumn old.flow v → IsMatchedColumn new.flow v
   pub settled : IsSettledList (node_count old.flow.net) row new.settled
-  pub changed : (k : ℕ) → IsArcNumber old.flow.net k → amount_at new.flow k ≢ amount_at old.flow k → Contains new.settled (row_of old.flow k) × Contains new.settled (column_of old.flow k)
+  pub changed : (k : ℕ) → IsArcNumber old.flow.net k → amount_at new.flow k ≢ amount_at old.flow k
+      → Contains new.settled (row_of old.flow k) × Contains new.settled (column_of old.flow k)
 
 -- no amount and no price changed; what was reached is what was settled, and that is the row and every node to which
 -- residual arcs with room lead from it; it must send more than it can

@@ -79,5 +79,6 @@ pub record IsTurning (old s : Pseudoflow) (mates : List ℕ) (q : Search) (order
   pub arc : IsArcNumber old.net k
   pub from : Settled q (row_of old k)
   pub to : Settled q (column_of old k) ⊎ (column_of old k ≡ column_of old target)
-  pub turned : (source : ℕ) (z : List ℤ) → IsForest old q source order z → IsTightArc old q z target (column_of old target) → IsTightArc old q z k (column_of old k) × IsTurned old s z (place order) (place order (row_of old k) + 1) (column_of old target) (column_of old k)
+  pub turned : (source : ℕ) (z : List ℤ) → IsForest old q source order z → IsTightArc old q z target (column_of old target)
+      → IsTightArc old q z k (column_of old k) × IsTurned old s z (place order) (place order (row_of old k) + 1) (column_of old target) (column_of old k)
   pub changed : IsChangedWithin old s q (column_of old target)

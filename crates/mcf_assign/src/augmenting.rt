@@ -1,5 +1,6 @@
 //! A whole search, and the matching made greater by what it found.
-ghost use Rattle.std.specs.Prelude.{◌≡◌, ◌≢◌, ◌+◌, ◌-◌, ◌^◌, ◌<◌, ◌≤◌, ◌∷◌, ◌++◌, ◌↔◌, ℕ, ℤ, Bool, List, [], Some, false, true, IfOk, OnErr, length, pos, vec_capacity};
+ghost use Rattle.std.specs.Prelude.{◌≡◌, ◌≢◌, ◌+◌, ◌-◌, ◌^◌, ◌<◌, ◌≤◌, ◌∷◌, ◌++◌, ◌↔◌, ℕ, ℤ, Bool, List, [], Some, false, true, IfOk, OnErr, length, pos};
+ghost use Rattle.std.specs.Prelude.{vec_capacity};
 ghost use Rattle.std.specs.List.{All, Contains};
 ghost use Rattle.mcf_instance.specs.Blocking.{in_table};
 ghost use Rattle.mcf_instance.specs.Network.{IsNode, at_node, node_count};
@@ -86,7 +87,8 @@ impl Tables {
         requires small { (v : ℕ) → IsNode (node_count state.old.net) v → IsUpTo (10 ^ 29) (at_node prices.old v) }
         requires room { node_count state.old.net ≤ vec_capacity self.old.order }
         ensures raised { AreRaised state.old (search_of self.old) target.dist prices.old prices.new }
-        ensures extended { (source : ℕ) → IsEnded state.old prices.old (search_of self.old) source self.old.order.items → IsExtended state.old state.new prices.new source (column_of state.old target.arc) }
+        ensures extended { (source : ℕ) → IsEnded state.old prices.old (search_of self.old) source self.old.order.items
+            → IsExtended state.old state.new prices.new source (column_of state.old target.arc) }
         ensures mates { AreMates state.new mates.new }
         ensures changed { IsChangedWithin state.old state.new (search_of self.old) (column_of state.old target.arc) }
         ensures order { self.new.order.items ≡ self.old.order.items ++ column_of state.old target.arc ∷ [] }
@@ -123,7 +125,7 @@ fn unmark(marks: &mut [bool], nodes: &[NodeId])
     ensures { (v : ℕ) → in_table marks.new v ≡ false }
 {
     'nodes: for v in nodes {
-        marks[v.get() as usize - 1] = false;
+        marks[v.place()] = false;
     }
 }
 

@@ -12,6 +12,7 @@ use crate::augmenting::fill;
 use crate::extended::Extended;
 use crate::rows::Rows;
 use crate::search::Tables;
+use mcf_instance::copies;
 use mcf_network::{Net, NodeSet, State};
 use mcf_text::{NoMemory, NodeId};
 use std::alloc::Global;
@@ -63,7 +64,7 @@ impl<'n> Matching<'n> {
         let state = State::zero(alloc, net)?;
         let rows = Rows::new(alloc, net)?;
         let prices = first_prices(alloc, net)?;
-        let mates = no_mates(alloc, net)?;
+        let mates = copies(alloc, net.node_count() as usize, 0)?;
         Ok(Matching {
             state,
             rows,
@@ -110,7 +111,7 @@ impl<'n> Matching<'n> {
         ensures value { IsTrue result ↔ IsMatched self.now.flow v }
         ensures shown { IsShownMatching self.now }
     {
-        self.mates[v.get() as usize - 1] > 0
+        self.mates[v.place()] > 0
     }
 
     /// The nodes that the last search settled, in that order; none before the first.
@@ -174,21 +175,11 @@ fn first_prices(alloc: Global, net: &Net) -> Result<Vec<i128>, NoMemory>
     let mut prices = Vec::new(alloc);
     prices.resize(nodes as usize, 0)?;
     'nodes: for number in 0..nodes {
-        if net.supply(NodeId::new(number + 1)) > 0 {
+        if net.supply(NodeId::at(number)) > 0 {
             prices[number as usize] = FIRST_PRICE;
         }
     }
     Ok(prices)
-}
-
-// The mates before the first search: there are none.
-fn no_mates(alloc: Global, net: &Net) -> Result<Vec<u32>, NoMemory>
-    ensures value { IfOk result (λ made. made.items ≡ replicate (node_count net.now) 0) }
-    ensures wants { OnErr result (1 ≤ node_count net.now) }
-{
-    let mut mates = Vec::new(alloc);
-    mates.resize(net.node_count() as usize, 0)?;
-    Ok(mates)
 }
 
 // The price with which a row begins: no cost is further below 0.

@@ -96,7 +96,7 @@ fn match_rows(matching: &mut Matching<'_>, net: &Net) -> Extended
     ensures { AreOffered net.now (node_count net.now) result matching.new }
 {
     'rows: for number in 0..net.node_count() {
-        match match_node(matching, net, NodeId::new(number + 1)) {
+        match match_node(matching, net, NodeId::at(number)) {
             Extended::Matched => {}
             Extended::Blocked => return Extended::Blocked,
         }

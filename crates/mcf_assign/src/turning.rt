@@ -16,17 +16,20 @@ impl Tables {
     /// amount 1 on it leaves the matching, and each of amount 0 comes in.
     pub(crate) fn turn(&self, state: &mut State<'_>, mates: &mut [u32], target: ArcId)
         requires entries { HasEntries (node_count state.old.net) (search_of self.now) }
-        requires forest { (source : ℕ) × (z : List ℤ) × IsForest state.old (search_of self.now) source self.now.order.items z × IsTightArc state.old (search_of self.now) z target (column_of state.old target) }
+        requires forest { (source : ℕ) × (z : List ℤ) × IsForest state.old (search_of self.now) source self.now.order.items z
+            × IsTightArc state.old (search_of self.now) z target (column_of state.old target) }
         requires free { ¬ IsMatchedColumn state.old (column_of state.old target) }
         requires mates { AreMates state.old mates.old }
-        ensures extended { (source : ℕ) (z : List ℤ) → IsForest state.old (search_of self.now) source self.now.order.items z → IsTightArc state.old (search_of self.now) z target (column_of state.old target) → IsExtended state.old state.new z source (column_of state.old target) }
+        ensures extended { (source : ℕ) (z : List ℤ) → IsForest state.old (search_of self.now) source self.now.order.items z
+            → IsTightArc state.old (search_of self.now) z target (column_of state.old target)
+            → IsExtended state.old state.new z source (column_of state.old target) }
         ensures mates { AreMates state.new mates.new }
         ensures changed { IsChangedWithin state.old state.new (search_of self.now) (column_of state.old target) }
     {
         let mut arc = target;
         'path: loop {
             let (row, _) = state.net().ends(arc);
-            let mate = mates[row.get() as usize - 1];
+            let mate = mates[row.place()];
             if mate == 0 {
                 join(state, mates, arc);
                 return;
@@ -35,7 +38,7 @@ impl Tables {
             part(state, mates, pair);
             join(state, mates, arc);
             let (_, column) = state.net().ends(pair);
-            arc = ArcId::new(self.links[column.get() as usize - 1]);
+            arc = ArcId::new(self.links[column.place()]);
         }
     }
 }
@@ -51,8 +54,8 @@ fn part(state: &mut State<'_>, mates: &mut [u32], k: ArcId)
     let (row, column) = state.net().ends(k);
     let back = true;
     state.push(Rid { arc: k, back }, 1);
-    mates[row.get() as usize - 1] = 0;
-    mates[column.get() as usize - 1] = 0;
+    mates[row.place()] = 0;
+    mates[column.place()] = 0;
 }
 
 // Puts an arc between a row and a column that are not matched into a partial matching.
@@ -68,6 +71,6 @@ fn join(state: &mut State<'_>, mates: &mut [u32], k: ArcId)
     let (row, column) = state.net().ends(k);
     let back = false;
     state.push(Rid { arc: k, back }, 1);
-    mates[row.get() as usize - 1] = k.get();
-    mates[column.get() as usize - 1] = k.get();
+    mates[row.place()] = k.get();
+    mates[column.place()] = k.get();
 }

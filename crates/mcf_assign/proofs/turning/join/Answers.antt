@@ -7,4 +7,6 @@ push-requires-clause-high c =
 
 pub returns-clause-mates : goal.returns-clause-mates
 returns-clause-mates c =
-    joined_written c.args.state.now c.push.new.self c.net.result.now c.args.mates.now c.args.k c.ends-row.result.0 c.ends-row.result.1 c.get-2.result c.get-4.result c.get.result c.get-3.result c.requires.matching c.requires.arc c.requires.free_row c.requires.free_column c.requires.mates c.push.ensures.value c.net.ensures.value c.ends-row.ensures.src c.ends-row.ensures.dst c.get-2.ensures c.get-4.ensures c.get.ensures c.get-3.ensures
+    joined_written c.args.state.now c.push.new.self c.net.result.now c.args.mates.now c.args.k c.ends-row.result.0 c.ends-row.result.1 c.place.result
+    c.place-2.result c.get.result c.get-2.result c.requires.matching c.requires.arc c.requires.free_row c.requires.free_column c.requires.mates
+    c.push.ensures.value c.net.ensures.value c.ends-row.ensures.src c.ends-row.ensures.dst c.place.ensures c.place-2.ensures c.get.ensures c.get-2.ensures

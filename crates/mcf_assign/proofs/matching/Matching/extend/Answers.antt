@@ -24,10 +24,15 @@ invariant_of-self c =
     let t = c.in-Some.target in
     let s = c.search-found.ensures in
     let row = subst (λ (m : Assigned). IsRow m.flow c.args.row) (sym c.self.view_is) c.requires.row in
-    let ended = subst (λ (y : List ℤ). IsEnded i.state y (search_of c.search-found.new.self) c.args.row c.search-found.new.self.order.items) c.as_slice-prices.ensures.value s.ended in
-    let ended_mut = subst (λ (y : List ℤ). IsEnded i.state y (search_of c.search-found.new.self) c.args.row c.search-found.new.self.order.items) (sym c.as_mut_slice-prices.ensures.value) ended in
-    let raised = subst (λ (y : List ℤ). AreRaised i.state (search_of c.search-found.new.self) t.dist y c.augment.new.prices) c.as_mut_slice-prices.ensures.value e.raised in
-    let kept = kept_grown i.state c.augment.new.state i.prices.items c.augment.new.prices c.augment.new.mates c.search-found.new.self c.augment.new.self i.reached c.args.row t k.matching k.shown k.near k.free_rows k.count s.entries s.room row ended (sym c.in-Some.ensures.best) raised (e.extended c.args.row ended_mut) e.mates e.tables e.order e.room in
+    let ended = subst (λ (y : List ℤ). IsEnded i.state y (search_of c.search-found.new.self) c.args.row c.search-found.new.self.order.items)
+    c.as_slice-prices.ensures.value s.ended in
+    let ended_mut = subst (λ (y : List ℤ). IsEnded i.state y (search_of c.search-found.new.self) c.args.row c.search-found.new.self.order.items)
+    (sym c.as_mut_slice-prices.ensures.value) ended in
+    let raised = subst (λ (y : List ℤ). AreRaised i.state (search_of c.search-found.new.self) t.dist y c.augment.new.prices) c.as_mut_slice-prices.ensures.value
+    e.raised in
+    let kept = kept_grown i.state c.augment.new.state i.prices.items c.augment.new.prices c.augment.new.mates c.search-found.new.self c.augment.new.self
+    i.reached c.args.row t k.matching k.shown k.near k.free_rows k.count s.entries s.room row ended (sym c.in-Some.ensures.best) raised
+    (e.extended c.args.row ended_mut) e.mates e.tables e.order e.room in
     let lp = c.augment.auto.prices in
     let lm = c.augment.auto.mates in
     let vp = ap (λ (l : List ℤ). length l) c.as_mut_slice-prices.ensures.value in
@@ -46,10 +51,24 @@ returns-in-Some-clause-extended c =
     let e = c.augment.ensures in
     let t = c.in-Some.target in
     let s = c.search-found.ensures in
-    let ended = subst (λ (y : List ℤ). IsEnded i.state y (search_of c.search-found.new.self) c.args.row c.search-found.new.self.order.items) c.as_slice-prices.ensures.value s.ended in
-    let ended_mut = subst (λ (y : List ℤ). IsEnded i.state y (search_of c.search-found.new.self) c.args.row c.search-found.new.self.order.items) (sym c.as_mut_slice-prices.ensures.value) ended in
-    let raised = subst (λ (y : List ℤ). AreRaised i.state (search_of c.search-found.new.self) t.dist y c.augment.new.prices) c.as_mut_slice-prices.ensures.value e.raised in
-    subst (λ (m : Assigned). IsGrown m c.args.row (record { flow = c.augment.new.state; prices = take i.prices.len (c.augment.new.prices ++ drop (length c.augment.new.prices) i.prices.items); settled = c.augment.new.self.order.items; reached = i.reached })) c.self.view_is (grown_from i.state i.prices.items c.augment.new.prices (search_of c.search-found.new.self) c.args.row c.search-found.new.self.order.items t k.matching k.shown s.entries ended (sym c.in-Some.ensures.best) raised c.augment.new.state i.prices.items (take i.prices.len (c.augment.new.prices ++ drop (length c.augment.new.prices) i.prices.items)) i.tables.order.items c.augment.new.self.order.items i.reached i.reached (e.extended c.args.row ended_mut) e.changed e.order)
+    let ended = subst (λ (y : List ℤ). IsEnded i.state y (search_of c.search-found.new.self) c.args.row c.search-found.new.self.order.items)
+    c.as_slice-prices.ensures.value s.ended in
+    let ended_mut = subst (λ (y : List ℤ). IsEnded i.state y (search_of c.search-found.new.self) c.args.row c.search-found.new.self.order.items)
+    (sym c.as_mut_slice-prices.ensures.value) ended in
+    let raised = subst (λ (y : List ℤ). AreRaised i.state (search_of c.search-found.new.self) t.dist y c.augment.new.prices) c.as_mut_slice-prices.ensures.value
+    e.raised in
+    subst (λ (m : Assigned). IsGrown m c.args.row
+    (record {
+      flow = c.augment.new.state;
+      prices = take i.prices.len (c.augment.new.prices ++ drop (length c.augment.new.prices) i.prices.items);
+      settled =
+          c.augment.new.self.order.items;
+      reached = i.reached;
+    })) c.self.view_is
+    (grown_from i.state i.prices.items c.augment.new.prices (search_of c.search-found.new.self) c.args.row c.search-found.new.self.order.items t k.matching
+    k.shown s.entries ended (sym c.in-Some.ensures.best) raised c.augment.new.state i.prices.items
+    (take i.prices.len (c.augment.new.prices ++ drop (length c.augment.new.prices) i.prices.items)) i.tables.order.items c.augment.new.self.order.items
+    i.reached i.reached (e.extended c.args.row ended_mut) e.changed e.order)
 
 pub returns-in-Some-clause-shown : goal.returns-in-Some-clause-shown
 returns-in-Some-clause-shown c =
@@ -59,14 +78,26 @@ returns-in-Some-clause-shown c =
     let t = c.in-Some.target in
     let s = c.search-found.ensures in
     let row = subst (λ (m : Assigned). IsRow m.flow c.args.row) (sym c.self.view_is) c.requires.row in
-    let ended = subst (λ (y : List ℤ). IsEnded i.state y (search_of c.search-found.new.self) c.args.row c.search-found.new.self.order.items) c.as_slice-prices.ensures.value s.ended in
-    let ended_mut = subst (λ (y : List ℤ). IsEnded i.state y (search_of c.search-found.new.self) c.args.row c.search-found.new.self.order.items) (sym c.as_mut_slice-prices.ensures.value) ended in
-    let raised = subst (λ (y : List ℤ). AreRaised i.state (search_of c.search-found.new.self) t.dist y c.augment.new.prices) c.as_mut_slice-prices.ensures.value e.raised in
-    let kept = kept_grown i.state c.augment.new.state i.prices.items c.augment.new.prices c.augment.new.mates c.search-found.new.self c.augment.new.self i.reached c.args.row t k.matching k.shown k.near k.free_rows k.count s.entries s.room row ended (sym c.in-Some.ensures.best) raised (e.extended c.args.row ended_mut) e.mates e.tables e.order e.room in
+    let ended = subst (λ (y : List ℤ). IsEnded i.state y (search_of c.search-found.new.self) c.args.row c.search-found.new.self.order.items)
+    c.as_slice-prices.ensures.value s.ended in
+    let ended_mut = subst (λ (y : List ℤ). IsEnded i.state y (search_of c.search-found.new.self) c.args.row c.search-found.new.self.order.items)
+    (sym c.as_mut_slice-prices.ensures.value) ended in
+    let raised = subst (λ (y : List ℤ). AreRaised i.state (search_of c.search-found.new.self) t.dist y c.augment.new.prices) c.as_mut_slice-prices.ensures.value
+    e.raised in
+    let kept = kept_grown i.state c.augment.new.state i.prices.items c.augment.new.prices c.augment.new.mates c.search-found.new.self c.augment.new.self
+    i.reached c.args.row t k.matching k.shown k.near k.free_rows k.count s.entries s.room row ended (sym c.in-Some.ensures.best) raised
+    (e.extended c.args.row ended_mut) e.mates e.tables e.order e.room in
     let lp = c.augment.auto.prices in
     let vp = ap (λ (l : List ℤ). length l) c.as_mut_slice-prices.ensures.value in
     let wp = written i.prices.len c.augment.new.prices (drop (length c.augment.new.prices) i.prices.items) (omega (arith, i.prices.ok.0, lp, vp)) in
-    shown_kept c.augment.new.state c.augment.new.prices c.augment.new.mates c.augment.new.self i.reached kept (record { flow = c.augment.new.state; prices = take i.prices.len (c.augment.new.prices ++ drop (length c.augment.new.prices) i.prices.items); settled = c.augment.new.self.order.items; reached = i.reached }) refl wp
+    shown_kept c.augment.new.state c.augment.new.prices c.augment.new.mates c.augment.new.self i.reached kept
+    (record {
+      flow = c.augment.new.state;
+      prices = take i.prices.len (c.augment.new.prices ++ drop (length c.augment.new.prices) i.prices.items);
+      settled =
+          c.augment.new.self.order.items;
+      reached = i.reached;
+    }) refl wp
 
 pub returns-in-None-clause-extended : goal.returns-in-None-clause-extended
 returns-in-None-clause-extended c =
@@ -75,7 +106,11 @@ returns-in-None-clause-extended c =
     let s = c.search-found.ensures in
     let list = c.as_slice.ensures.value in
     let members = rw list at c.fill.ensures.members in
-    subst (λ (m : Assigned). IsStopped m c.args.row (record { flow = i.state; prices = i.prices.items; settled = c.search-found.new.self.order.items; reached = c.fill.new.set })) c.self.view_is (stopped_from i.state c.as_slice-prices.result.now i.prices.items i.prices.items (search_of c.search-found.new.self) c.args.row c.search-found.new.self.order.items i.tables.order.items c.search-found.new.self.order.items i.reached c.fill.new.set k.matching s.ended (sym c.in-None.ensures.best) (c.fill.ensures.count ∙ k.count) (λ v n. members v (subst (λ m. IsNode m v) (sym k.count) n)) refl refl)
+    subst (λ (m : Assigned). IsStopped m c.args.row
+    (record { flow = i.state; prices = i.prices.items; settled = c.search-found.new.self.order.items; reached = c.fill.new.set })) c.self.view_is
+    (stopped_from i.state c.as_slice-prices.result.now i.prices.items i.prices.items (search_of c.search-found.new.self) c.args.row
+    c.search-found.new.self.order.items i.tables.order.items c.search-found.new.self.order.items i.reached c.fill.new.set k.matching s.ended
+    (sym c.in-None.ensures.best) (c.fill.ensures.count ∙ k.count) (λ v n. members v (subst (λ m. IsNode m v) (sym k.count) n)) refl refl)
 
 pub returns-in-None-clause-shown : goal.returns-in-None-clause-shown
 returns-in-None-clause-shown c =

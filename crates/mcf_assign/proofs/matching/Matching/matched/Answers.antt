@@ -11,8 +11,8 @@ returns-clause-value c =
     let i = c.self.inside in
     let flow = ap (λ (m : Assigned). m.flow) c.self.view_is in
     subst (λ (s : Pseudoflow). (ltb 0 c.index.result.now ≡ true → IsMatched s c.args.v) × (IsMatched s c.args.v → ltb 0 c.index.result.now ≡ true)) flow
-    (mates_tell i.state i.mates.items c.args.v c.get.result c.index.result.now c.self.invariant.0.matching c.self.invariant.0.mated
-    (subst (λ (s : Pseudoflow). IsNode (node_count s.net) c.args.v) (sym flow) c.requires) c.get.ensures c.index.ensures)
+    (mates_tell i.state i.mates.items c.args.v c.place.result c.index.result.now c.self.invariant.0.matching c.self.invariant.0.mated
+    (subst (λ (s : Pseudoflow). IsNode (node_count s.net) c.args.v) (sym flow) c.requires) c.place.ensures c.index.ensures)
 
 pub returns-clause-shown : goal.returns-clause-shown
 returns-clause-shown c =

@@ -1,4 +1,4 @@
-use Rattle.std.proofs.Common.{false, Bool, List, ap, sym, subst, ◌∙◌, length, refl}
+use Rattle.std.proofs.Common.{◌≡◌, false, replicate, rules, Bool, List, ap, sym, subst, ◌∙◌, length, refl}
 use Rattle.std.proofs.lemmas.List.{length-replicate}
 use Rattle.mcf_instance.specs.Network.{node_count}
 use Rattle.mcf_network.specs.States.{Pseudoflow, IsPseudoflow}
@@ -12,10 +12,11 @@ invariant_of-result-2 c =
     let value = c.in_ok-state.ensures.value in
     let inside = c.state.view_is ∙ value in
     let valid = subst (λ (s : Pseudoflow). IsPseudoflow s) value c.in_ok-state.ensures.valid in
+    let mates : c.in_ok-mates.mates.items ≡ replicate (node_count c.args.net.now) 0 = search rules in
     let count = ap (λ (t : List Bool). length t) c.in_ok-new-2.ensures.value ∙ length-replicate (node_count c.args.net.now) false in
     let kept = subst (λ (s : Pseudoflow). IsKept s c.in_ok-prices.prices.items c.in_ok-mates.mates.items c.in_ok-new.field-0 c.in_ok-new-2.field-0) (sym inside)
     (kept_first c.args.net.now c.in_ok-prices.prices.items c.in_ok-mates.mates.items c.in_ok-new.field-0 c.in_ok-new-2.field-0 valid c.requires
-    c.in_ok-prices.ensures.prices c.in_ok-mates.ensures.value c.in_ok-new.ensures.idle count) in
+    c.in_ok-prices.ensures.prices mates c.in_ok-new.ensures.idle count) in
     (kept, subst (λ (s : Pseudoflow). AreRows s.net c.in_ok-rows.rows) (sym inside) c.in_ok-rows.ensures.rows)
 
 pub returns-clause-shown : goal.returns-clause-shown
@@ -23,6 +24,8 @@ returns-clause-shown c =
     let value = c.in_ok-state.ensures.value in
     let inside = c.state.view_is ∙ value in
     let valid = subst (λ (s : Pseudoflow). IsPseudoflow s) value c.in_ok-state.ensures.valid in
+    let mates : c.in_ok-mates.mates.items ≡ replicate (node_count c.args.net.now) 0 = search rules in
     let count = ap (λ (t : List Bool). length t) c.in_ok-new-2.ensures.value ∙ length-replicate (node_count c.args.net.now) false in
-    let kept = kept_first c.args.net.now c.in_ok-prices.prices.items c.in_ok-mates.mates.items c.in_ok-new.field-0 c.in_ok-new-2.field-0 valid c.requires c.in_ok-prices.ensures.prices c.in_ok-mates.ensures.value c.in_ok-new.ensures.idle count in
+    let kept = kept_first c.args.net.now c.in_ok-prices.prices.items c.in_ok-mates.mates.items c.in_ok-new.field-0 c.in_ok-new-2.field-0 valid c.requires
+    c.in_ok-prices.ensures.prices mates c.in_ok-new.ensures.idle count in
     shown_kept _ c.in_ok-prices.prices.items c.in_ok-mates.mates.items c.in_ok-new.field-0 c.in_ok-new-2.field-0 kept _ inside refl
