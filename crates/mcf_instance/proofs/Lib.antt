@@ -17,11 +17,11 @@ pub mod Hoffman
 pub mod IntLaws
 pub mod Items
 pub mod LineSteps
-pub mod LinesRead
 pub mod NetSteps
 pub mod NodeLines
 pub mod NodeSums
 pub mod PackedArcs
+pub mod Pieces
 pub mod RangeEnds
 pub mod Ranges
 pub mod SameSets

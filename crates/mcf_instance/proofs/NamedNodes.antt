@@ -24,7 +24,7 @@ use Rattle.mcf_instance.proofs.After.{after_item}
 use Rattle.mcf_instance.proofs.Faults.{fault_of}
 use Rattle.mcf_instance.proofs.FirstFaults.{holds_of_found, kept_numbers, numbers_after, numbers_before, text_fault_after}
 use Rattle.mcf_instance.proofs.FittingItems.{item_fits}
-use Rattle.mcf_instance.proofs.LinesRead.{kept_rows, HasRead}
+use Rattle.mcf_instance.specs.Private.LinesRead.{kept_rows, HasRead}
 use Rattle.mcf_instance.proofs.Simulation.{first_fault_more, same_fault}
 use Rattle.mcf_instance.proofs.WholeTexts.{kept_one, kept_rows-append, rows_joined}
 

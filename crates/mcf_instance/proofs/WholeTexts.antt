@@ -15,7 +15,7 @@ use Rattle.mcf_text.specs.Fields.{is_kept}
 use Rattle.mcf_text.specs.Lines.{lines_of, numbered_lines}
 use Rattle.mcf_text.specs.Row.{Row, line_after, row_of, rows}
 use Rattle.mcf_text.proofs.LinesLemmas.{length-numbered_lines}
-use Rattle.mcf_instance.proofs.LinesRead.{kept_rows, HasRead}
+use Rattle.mcf_instance.specs.Private.LinesRead.{kept_rows, HasRead}
 use Rattle.mcf_instance.proofs.Simulation.{finished_reads, first_fault_more, stands_empty}
 
 -- ---- lists

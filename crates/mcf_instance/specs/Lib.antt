@@ -3,6 +3,7 @@ pub use Rattle.mcf_text.specs.Whole
 pub mod Assignment
 pub mod Blocking
 pub mod Fault
+pub mod Feeding
 pub mod Flow
 pub mod Laws
 pub mod Limits

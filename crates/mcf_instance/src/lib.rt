@@ -21,6 +21,6 @@ pub use code::Code;
 pub use instances::Instance;
 pub use laws::{blocked_has_no_flow, former_instances_stay, shown_flows_are_least};
 pub use problem::{Problem, Side};
-pub use reader::read;
+pub use reader::{Reader, read};
 pub use refusal::Refusal;
 pub use repeated::copies;

@@ -6,12 +6,14 @@ ghost use Rattle.mcf_instance.specs.Reading.{reading};
 
 mod fields;
 mod line;
+mod pieces;
 mod state;
 
 use crate::instances::Instance;
 use crate::reader::state::State;
 use crate::refusal::Refusal;
 use mcf_text::{NoMemory, is_kept, lines};
+pub use pieces::Reader;
 use std::alloc::Global;
 
 /// The instance that a text stands for, or its first fault.

@@ -1,13 +1,17 @@
 -- Bytes given and taken by one call after another.
-use Rattle.std.proofs.Common.{◌≡◌, ◌++◌, ◌+◌, ◌<◌, ◌≤◌, ℕ, List, [], Option, None, Some, IfSome, Result, Ok, Err, IfErr, length, take, drop, sym, ap, ◌∙◌}
+use Rattle.std.proofs.Common.{◌≡◌, ◌++◌, ◌+◌, ◌<◌, ℕ, List, [], Option, None, Some, IfSome, Result, Ok, Err, IfErr, length, take, drop, sym, ap, ◌∙◌}
 use Rattle.std.proofs.Common.{append_assoc, length-append, arith, ◌-◌}
 use Rattle.std.proofs.Math.Seq.{take-add}
-use Rattle.std.proofs.lemmas.List.{append-nil, length-take, length-take-le, take-append-drop, take_rest}
+use Rattle.std.proofs.lemmas.List.{append-nil, take-append-drop, take_rest}
 use Rattle.std.specs.Io.KnownBytes.{Appends, Consumes, IsAtEnd, Keeps}
+use Rattle.mcf_instance.specs.Fault.{Fault}
+use Rattle.mcf_instance.specs.Limits.{limits}
+use Rattle.mcf_instance.specs.Network.{Network}
+use Rattle.mcf_instance.specs.Reading.{reading}
 use Rattle.mcf_solver.specs.declared.choice.Choice.{Choice}
 use Rattle.mcf_solver.specs.declared.choice.Kind.{Kind}
 use Rattle.mcf_solver.specs.Answering.{AppendsAnswer}
-use Rattle.mcf_solver.specs.Running.{SendsAnswer, SendsBeginning, TakesBeginning}
+use Rattle.mcf_solver.specs.Running.{ReadsGiven, SendsAnswer, SendsBeginning, TakesBeginning}
 
 -- some bytes, and then some more
 pub consumes-then : (first next last : Option (List ℕ)) (bytes more : List ℕ)
@@ -78,21 +82,6 @@ read-end first next last bytes piece count p q end none =
     let exact : Consumes first last bytes = rw append-nil at all in
     consumes-all first last bytes exact end
 
--- a read of more bytes than there is room for
-pub read-over : (first next last : Option (List ℕ)) (bytes piece : List ℕ) (count limit : ℕ)
-    → Consumes first next bytes → Consumes next last (take count piece) → count ≤ length piece
-    → limit - length bytes < count → IfSome first (λ xs. limit < length xs)
-read-over first next last bytes piece count limit p q within over =
-    let all = consumes-then first next last bytes (take count piece) p q in
-    consumes-within first last (bytes ++ take count piece) limit all
-    (omega (arith, length-append bytes (take count piece), length-take-le count piece within))
-
--- a read of bytes that there is room for
-pub read-fits : (bytes piece : List ℕ) (count limit : ℕ)
-    → length bytes ≤ limit → count ≤ limit - length bytes → length (bytes ++ take count piece) ≤ limit
-read-fits bytes piece count limit held within =
-    omega (arith, length-append bytes (take count piece), length-take count piece)
-
 -- the text that was appended to nothing is what was sent
 pub sent-is-appended : (choice : Choice) (input : List ℕ) (kind : Kind) (before after sent : List ℕ) → before ≡ []
     → (appends : AppendsAnswer choice input kind before after) → sent ≡ after → sent ≡ appends.text
@@ -100,32 +89,34 @@ sent-is-appended choice input kind before after sent nothing appends whole =
     whole ∙ appends.appended ∙ ap (λ bytes. bytes ++ appends.text) nothing
 
 -- what is sent of all that was given
-pub sends-answer : (choice : Choice) (given old new : Option (List ℕ)) (gathered input before after sent : List ℕ) (kind : Kind)
-    → IfSome given (λ bytes. bytes ≡ gathered) → input ≡ gathered → before ≡ []
-    → AppendsAnswer choice input kind before after → sent ≡ after → Appends old new sent
+pub sends-answer : (choice : Choice) (given old new : Option (List ℕ)) (outcome : Result Network Fault) (before after sent : List ℕ) (kind : Kind)
+    → ReadsGiven given outcome → before ≡ []
+    → ((input : List ℕ) → outcome ≡ reading limits input → AppendsAnswer choice input kind before after) → sent ≡ after → Appends old new sent
     → SendsAnswer choice given kind old new
-sends-answer choice given old new gathered input before after sent kind all same nothing appends whole taken =
-    let text = sent-is-appended choice input kind before after sent nothing appends whole in
+sends-answer choice given old new outcome before after sent kind reads nothing answers whole taken =
+    let appends = answers reads.input reads.is_read in
+    let text = sent-is-appended choice reads.input kind before after sent nothing appends whole in
     record {
-      input = input;
+      input = reads.input;
       text = appends.text;
-      is_given = rw same all;
+      is_given = reads.is_given;
       answer = appends.answer;
       taken = rw (← text) taken;
     }
 
 -- a beginning of what is sent of all that was given
-pub sends-beginning : (choice : Choice) (given old new : Option (List ℕ)) (gathered input before after sent : List ℕ) (kind : Kind)
-    → IfSome given (λ bytes. bytes ≡ gathered) → input ≡ gathered → before ≡ []
-    → AppendsAnswer choice input kind before after → sent ≡ after → TakesBeginning old new sent
+pub sends-beginning : (choice : Choice) (given old new : Option (List ℕ)) (outcome : Result Network Fault) (before after sent : List ℕ) (kind : Kind)
+    → ReadsGiven given outcome → before ≡ []
+    → ((input : List ℕ) → outcome ≡ reading limits input → AppendsAnswer choice input kind before after) → sent ≡ after → TakesBeginning old new sent
     → SendsBeginning choice given old new
-sends-beginning choice given old new gathered input before after sent kind all same nothing appends whole taken =
-    let text = sent-is-appended choice input kind before after sent nothing appends whole in
+sends-beginning choice given old new outcome before after sent kind reads nothing answers whole taken =
+    let appends = answers reads.input reads.is_read in
+    let text = sent-is-appended choice reads.input kind before after sent nothing appends whole in
     record {
-      input = input;
+      input = reads.input;
       kind = kind;
       text = appends.text;
-      is_given = rw same all;
+      is_given = reads.is_given;
       answer = appends.answer;
       taken = rw (← text) taken;
     }

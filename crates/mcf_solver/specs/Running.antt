@@ -1,6 +1,10 @@
 -- What a run from a source to a sink does.
-use Rattle.std.specs.Prelude.{◌≡◌, ◌++◌, ◌^◌, ◌<◌, ◌≤◌, ℕ, List, length, Option, IfSome, codes}
+use Rattle.std.specs.Prelude.{◌≡◌, ◌++◌, ◌^◌, ◌<◌, ◌≤◌, ℕ, List, length, Option, Result, IfSome, codes}
 use Rattle.std.specs.Io.KnownBytes.{Appends}
+use Rattle.mcf_instance.specs.Fault.{Fault}
+use Rattle.mcf_instance.specs.Limits.{limits}
+use Rattle.mcf_instance.specs.Network.{Network}
+use Rattle.mcf_instance.specs.Reading.{reading}
 use Rattle.mcf_solver.specs.declared.choice.Choice.{Choice}
 use Rattle.mcf_solver.specs.declared.choice.Kind.{Kind}
 use Rattle.mcf_solver.specs.declared.fault.RunFault.{RunFault}
@@ -10,6 +14,12 @@ use Rattle.mcf_solver.specs.Answering.{IsAnswerTo}
 -- the most bytes that are taken from a source
 abbrev pub text_limit : ℕ
 text_limit = 10 ^ 18
+
+-- what the source gave stands for this: an instance, or the first fault; a source that names no bytes gave some
+pub record ReadsGiven (given : Option (List ℕ)) (outcome : Result Network Fault) : Type 0 where
+  pub input : List ℕ
+  pub is_given : IfSome given (λ bytes. bytes ≡ input)
+  pub is_read : outcome ≡ reading limits input
 
 -- the sink took the text of an answer to what the source gave; a source that names no bytes gave some
 pub record SendsAnswer (choice : Choice) (given : Option (List ℕ)) (kind : Kind) (old new : Option (List ℕ)) : Type 0 where

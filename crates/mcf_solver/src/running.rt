@@ -1,22 +1,22 @@
 //! From a source to a sink.
-ghost use Rattle.std.specs.Prelude.{◌≡◌, ◌≢◌, IfErr, IfOk, IfSome, OnErr, OnOk, length};
+ghost use Rattle.std.specs.Prelude.{◌≡◌, ◌≢◌, IfErr, IfOk, OnErr, OnOk, length};
 ghost use Rattle.std.specs.Io.KnownBytes.{Appends};
 ghost use Rattle.mcf_solver.specs.Devices.{CountsOneFailure};
-ghost use Rattle.mcf_solver.specs.Running.{IsTakenWhole, IsTooLong, SendsAnswer, SendsBeginning, TakesBeginning};
+ghost use Rattle.mcf_solver.specs.Running.{IsTakenWhole, IsTooLong, ReadsGiven, SendsAnswer, SendsBeginning, TakesBeginning};
 
 use crate::choice::{Choice, Kind};
 use crate::device::{Sink, Source};
 use crate::fault::RunFault;
-use crate::solving::solve_text;
+use crate::solving::solve_outcome;
+use mcf_instance::{Instance, Reader, Refusal};
+use mcf_text::{FeedFault, NoMemory};
 use std::alloc::{AllocError, Global};
 
 // How many bytes are asked for at once.
 const PIECE: usize = 65_536;
 
-// The most bytes that are taken from a source.
-const TEXT_LIMIT: usize = 1_000_000_000_000_000_000;
-
-/// Reads an instance text to its end, solves it, and then writes the answer and finishes.
+/// Reads an instance text to its end, solves it, and then writes the answer and finishes. It reads pieces of at
+/// most 65,536 bytes, and keeps no more of the text than the line at hand.
 ///
 /// Nothing is tried again: the first failure of the source or of the sink ends the run.
 ///
@@ -44,24 +44,27 @@ pub fn run<S: Source, K: Sink>(
     ensures too_long { IfErr result (λ fault. fault ≡ RunFault.TooLong → IsTooLong (S.remaining source.old)) }
     ensures untouched { IfErr result (λ fault. fault ≢ RunFault.Write → sink.new ≡ sink.old) }
 {
-    let text = gather(alloc, source)?;
+    let outcome = read_source(alloc, source)?;
     let mut answer = Vec::new(alloc);
-    let kind = solve_text(alloc, &text, choice, &mut answer)?;
+    let kind = solve_outcome(alloc, outcome, choice, &mut answer)?;
     send(sink, &answer)?;
     Ok(kind)
 }
 
-// All bytes of a source.
-fn gather<S: Source>(alloc: Global, source: &mut S) -> Result<Vec<u8>, RunFault>
+// What all bytes of a source stand for, read piece by piece.
+fn read_source<S: Source>(
+    alloc: Global,
+    source: &mut S,
+) -> Result<Result<Instance, Refusal>, RunFault>
     ensures whole { OnOk result (IsTakenWhole (S.remaining source.old)) }
-    ensures all { IfOk result (λ text. IfSome (S.remaining source.old) (λ bytes. bytes ≡ text.items)) }
+    ensures read { IfOk result (ReadsGiven (S.remaining source.old)) }
     ensures read_failed { IfErr result (λ fault. fault ≡ RunFault.Read → CountsOneFailure (S.failures source.old) (S.failures source.new)) }
     ensures unfailed { OnOk result (S.failures source.new ≡ S.failures source.old) }
     ensures unfailed_otherwise { IfErr result (λ fault. fault ≢ RunFault.Read → S.failures source.new ≡ S.failures source.old) }
     ensures too_long { IfErr result (λ fault. fault ≡ RunFault.TooLong → IsTooLong (S.remaining source.old)) }
     ensures no_write { IfErr result (λ fault. fault ≢ RunFault.Write) }
 {
-    let mut text = Vec::new(alloc);
+    let mut reader = Reader::new(alloc);
     let mut room = zeros(alloc, PIECE)?;
     let piece = room.as_mut_slice();
     'reads: loop {
@@ -69,12 +72,16 @@ fn gather<S: Source>(alloc: Global, source: &mut S) -> Result<Vec<u8>, RunFault>
             return Err(RunFault::Read);
         };
         if count == 0 {
-            return Ok(text);
+            return match reader.end(alloc) {
+                Ok(outcome) => Ok(outcome),
+                Err(NoMemory) => Err(RunFault::NoMemory),
+            };
         }
-        if TEXT_LIMIT - text.len() < count {
-            return Err(RunFault::TooLong);
+        match reader.feed(alloc, &piece[..count]) {
+            Ok(()) => {}
+            Err(FeedFault::NoMemory) => return Err(RunFault::NoMemory),
+            Err(FeedFault::TooLong) => return Err(RunFault::TooLong),
         }
-        text.extend_from_slice(&piece[..count])?;
     }
 }
 

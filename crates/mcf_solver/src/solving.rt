@@ -1,5 +1,5 @@
 //! Instance texts solved.
-ghost use Rattle.std.specs.Prelude.{◌≡◌, ◌↔◌, ◌≤◌, ◌⊎◌, IfOk, OnErr, OnOk, drop, length, true, vec_capacity, vec_len};
+ghost use Rattle.std.specs.Prelude.{◌≡◌, ◌↔◌, ◌≤◌, ◌⊎◌, ℕ, List, IfOk, OnErr, OnOk, drop, length, true, vec_capacity, vec_len};
 ghost use Rattle.mcf_checker.specs.Correct.{HasNoFlow};
 ghost use Rattle.mcf_network.specs.Removal.{net_of};
 ghost use Rattle.mcf_checker.specs.Judging.{accepts, verdict};
@@ -19,7 +19,7 @@ use crate::set::set_answer;
 use mcf_answer::{Answer, write};
 use mcf_assign::Sap;
 use mcf_checker::correct_answers_are_accepted;
-use mcf_instance::{Instance, Problem, read};
+use mcf_instance::{Instance, Problem, Refusal, read};
 use mcf_network::{Net, restored_tree_solutions_are_tree_solutions};
 use mcf_prices::{Cancel, Engine, Outcome};
 use mcf_scaling::Scaling;
@@ -77,7 +77,37 @@ fn answer_to(alloc: Global, input: &[u8], choice: Choice) -> Result<Answer, NoMe
     ensures made { IfOk result (HasMadeFlow (IsMadeBy choice) (reading limits input.now)) }
     ensures wants { OnErr result (1 ≤ (header (rows input.now)).nodes) }
 {
-    match read(alloc, input)? {
+    let outcome = read(alloc, input)?;
+    answer_for(alloc, outcome, choice)
+}
+
+/// Appends the answer to what was read of an instance text, as `solve_text` does to a text.
+pub(crate) fn solve_outcome(
+    alloc: Global,
+    outcome: Result<Instance, Refusal>,
+    choice: Choice,
+    out: &mut Vec<u8>,
+) -> Result<Kind, NoMemory>
+    ensures { IfOk result (λ kind. (input : List ℕ) → outcome ≡ reading limits input → AppendsAnswer choice input kind out.old.items out.new.items) }
+{
+    correct_answers_are_accepted();
+    made_flows_are_shaped();
+    let owed = answer_for(alloc, outcome, choice)?;
+    write(&owed, out)?;
+    Ok(answer_kind(&owed))
+}
+
+// The answer to what was read of an instance text.
+fn answer_for(
+    alloc: Global,
+    outcome: Result<Instance, Refusal>,
+    choice: Choice,
+) -> Result<Answer, NoMemory>
+    ensures owed { IfOk result (IsOwed outcome) }
+    ensures made { IfOk result (HasMadeFlow (IsMadeBy choice) outcome) }
+    ensures wants { (input : List ℕ) → outcome ≡ reading limits input → OnErr result (1 ≤ (header (rows input)).nodes) }
+{
+    match outcome {
         Ok(instance) => solve_instance(alloc, &instance, choice),
         Err(refusal) => Ok(Answer::Refused(refusal)),
     }

@@ -1,14 +1,17 @@
 #![tactic(auto)]
 
-//! The text layer: the lines of a text, the fields of a line, whole numbers, and numbers as text.
+//! The text layer: the lines of a text, at once or in pieces, the fields of a line, whole numbers, and
+//! numbers as text.
 //!
 //! A text is bytes, of no encoding. Byte 10 ends a line; spaces, tabs and carriage returns are blanks
-//! and part the fields of a line; no other byte does either. Nothing here but `put_number` takes
-//! memory, and all of it takes time linear in the bytes that it is given.
+//! and part the fields of a line; no other byte does either. Nothing here but `put_number` and
+//! `LineFeed::feed` takes memory, and all of it takes time linear in the bytes that it is given.
 
 mod arc;
 mod decimal;
 mod error;
+mod fault;
+mod feed;
 mod laws;
 mod node;
 mod number;
@@ -18,6 +21,8 @@ mod split;
 pub use arc::ArcId;
 pub use decimal::{put_number, whole};
 pub use error::NoMemory;
+pub use fault::FeedFault;
+pub use feed::LineFeed;
 pub use laws::ids_are_ordered_by_number;
 pub use node::NodeId;
 pub use number::Whole;

@@ -1,0 +1,16 @@
+use Rattle.std.proofs.Common.{◌≡◌, ℕ, List, None, length}
+use Rattle.mcf_instance.specs.Limits.{limits}
+use Rattle.mcf_instance.specs.Private.LinesRead.{HasReadOn, HasReadPieces}
+use Rattle.mcf_instance.proofs.reader.pieces.read_finished.Given as goal
+
+-- the state stands for the lines so far, none of which has a fault
+abbrev pub invariant-finished : goal.invariant-finished
+invariant-finished l = record {
+  good : l.state.refusal ≡ None;
+  read : (text : List ℕ) → HasReadOn limits text l.initial.lines l.initial.state → HasReadPieces limits text l.lines l.state;
+  same_end : l.lines.has_ended ≡ l.initial.lines.has_ended;
+  same_count : l.lines.fed ≡ l.initial.lines.fed;
+}
+
+abbrev pub decreases-finished : goal.decreases-finished
+decreases-finished l = length l.lines.rest

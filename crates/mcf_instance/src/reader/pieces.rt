@@ -1,0 +1,190 @@
+//! The reader of instance texts that come in pieces.
+ghost use Rattle.std.specs.Prelude.{◌≡◌, ◌+◌, ◌<◌, ◌≤◌, ◌++◌, ◌∷◌, [], ℕ, List, false, length, None, IfErr, IfOk, IfSome, IsTrue, OnErr, OnOk};
+ghost use Rattle.mcf_instance.specs.Feeding.{StandsFor, WantsMemory};
+ghost use Rattle.mcf_instance.specs.Limits.{limits, line_limit};
+ghost use Rattle.mcf_instance.specs.Memory.{NamesNodes};
+ghost use Rattle.mcf_instance.specs.Private.LinesRead.{HasRead, HasReadOn};
+ghost use Rattle.mcf_text.specs.Feed.{byte_limit};
+
+use crate::instances::Instance;
+use crate::reader::state::State;
+use crate::refusal::Refusal;
+use mcf_text::{FeedFault, LineFeed, NoMemory, is_kept};
+use std::alloc::Global;
+use std::marker::Model;
+
+// The most bytes that are taken.
+const BYTE_LIMIT: u64 = 1_000_000_000_000_000_000;
+
+/// Reads an instance text that comes in pieces, which may be cut anywhere, as `read` reads a whole one.
+///
+/// A clause says which texts a reader stands for: the pieces that it took, joined. It keeps the bytes of the
+/// line at hand, and after the first faulty line none, but goes on counting them.
+#[derive(Drop)]
+pub struct Reader {
+    lines: LineFeed,
+    state: State,
+    fed: u64,
+    fault: Option<FeedFault>,
+}
+
+impl Model for Reader {
+    ghost use Rattle.std.specs.Prelude.{◌≡◌, ◌≤◌, false, None};
+    ghost use Rattle.mcf_instance.specs.Feeding.{ReaderData};
+    ghost use Rattle.mcf_text.specs.Feed.{byte_limit};
+
+    ghost Value = { ReaderData };
+
+    ghost view = { λ r. record { lines = r.lines; state = r.state; fed = r.fed; fault = r.fault } };
+
+    ghost invariant = { λ r. (r.fed ≤ byte_limit) × (r.lines.has_ended ≡ false) × (r.fault ≡ None → r.lines.fed ≤ r.fed) };
+}
+
+impl Reader {
+    ghost use Rattle.std.specs.Prelude.{◌↔◌, Some, Err};
+    ghost use Rattle.mcf_instance.specs.Reading.{reading};
+
+    /// The reader of the empty text, which takes no memory.
+    pub fn new(alloc: Global) -> Reader
+        ensures { StandsFor limits result [] }
+    {
+        Reader {
+            lines: LineFeed::new(alloc),
+            state: State::new(alloc),
+            fed: 0,
+            fault: None,
+        }
+    }
+
+    /// Takes the next piece, of any length.
+    ///
+    /// # Errors
+    ///
+    /// `TooLong` exactly where the bytes taken so far and the piece are more than 10^18, whatever stands in them;
+    /// `NoMemory` where there is no memory to keep the piece, or for what its lines name. A reader that
+    /// has refused a piece takes no other: it answers that same fault to each.
+    pub fn feed(&mut self, alloc: Global, piece: &[u8]) -> Result<(), FeedFault>
+        ensures ok { OnOk result ((text : List ℕ) → StandsFor limits self.old text → StandsFor limits self.new (text ++ piece.now)) }
+        ensures unrefused { OnOk result (self.new.fault ≡ None) }
+        ensures too_long { (text : List ℕ) → StandsFor limits self.old text → (result ≡ Err FeedFault.TooLong) ↔ (byte_limit < length text + length piece.now) }
+        ensures wants { (text : List ℕ) → StandsFor limits self.old text → result ≡ Err FeedFault.NoMemory → WantsMemory limits text piece.now }
+        ensures refused { IfErr result (λ fault. self.new.fault ≡ Some fault) }
+        ensures stays { IfSome self.old.fault (λ fault. result ≡ Err fault) }
+    {
+        if let Some(fault) = self.fault {
+            return Err(fault);
+        }
+        let len = piece.len() as u64;
+        let taken = if BYTE_LIMIT - self.fed < len {
+            Err(FeedFault::TooLong)
+        } else {
+            take_piece(alloc, &mut self.lines, &mut self.state, piece)
+        };
+        match taken {
+            Ok(()) => {
+                self.fed += len;
+                Ok(())
+            }
+            Err(fault) => {
+                self.fault = Some(fault);
+                Err(fault)
+            }
+        }
+    }
+
+    /// The instance that the text stands for, or its first fault: what `read` gives for the pieces joined. It
+    /// isn't asked where a piece was refused.
+    ///
+    /// # Errors
+    ///
+    /// `NoMemory` where there is no memory for what a last line names that byte 10 doesn't end.
+    pub fn end(self, alloc: Global) -> Result<Result<Instance, Refusal>, NoMemory>
+        requires { self.fault ≡ None }
+        ensures exact { (text : List ℕ) → StandsFor limits self text → IfOk result (λ outcome. outcome ≡ reading limits text) }
+        ensures wants { (text : List ℕ) → StandsFor limits self text → OnErr result (NamesNodes limits text) }
+    {
+        let Reader {
+            mut lines,
+            mut state,
+            fed: _,
+            fault: _,
+        } = self;
+        if state.refusal().is_none() {
+            lines.end();
+            read_finished(alloc, &mut lines, &mut state)?;
+        }
+        Ok(state.finish(lines.popped() + 1))
+    }
+}
+
+// Takes a piece, and its finished lines in; where a line was faulty, nothing is kept.
+fn take_piece(
+    alloc: Global,
+    lines: &mut LineFeed,
+    state: &mut State,
+    piece: &[u8],
+) -> Result<(), FeedFault>
+    requires { lines.old.has_ended ≡ false }
+    ensures read { OnOk result ((text : List ℕ) → HasReadOn limits text lines.old state.old → HasReadOn limits (text ++ piece.now) lines.new state.new) }
+    ensures too_long { result ≡ Err FeedFault.TooLong → byte_limit < lines.old.fed + length piece.now }
+    ensures wants { result ≡ Err FeedFault.NoMemory → (text : List ℕ) → HasReadOn limits text lines.old state.old → WantsMemory limits text piece.now }
+    ensures is_open { lines.new.has_ended ≡ false }
+    ensures counted { OnOk result (lines.new.fed ≤ lines.old.fed + length piece.now) }
+{
+    if state.refusal().is_some() {
+        return Ok(());
+    }
+    lines.feed(piece)?;
+    match read_finished(alloc, lines, state) {
+        Ok(()) => {
+            forget_after_fault(alloc, lines, state);
+            Ok(())
+        }
+        Err(NoMemory) => Err(FeedFault::NoMemory),
+    }
+}
+
+// Gives up the bytes that are kept, where a line was faulty.
+fn forget_after_fault(alloc: Global, lines: &mut LineFeed, state: &State)
+    requires { lines.old.has_ended ≡ false }
+    ensures read { (text : List ℕ) → HasReadOn limits text lines.old state.now → HasReadOn limits text lines.new state.now }
+    ensures is_open { lines.new.has_ended ≡ false }
+    ensures counted { lines.new.fed ≤ lines.old.fed }
+{
+    if state.refusal().is_some() {
+        *lines = LineFeed::new(alloc);
+    }
+}
+
+// Takes the finished lines in, up to the first faulty one.
+fn read_finished(alloc: Global, lines: &mut LineFeed, state: &mut State) -> Result<(), NoMemory>
+    requires { state.old.refusal ≡ None }
+    ensures read { OnOk result ((text : List ℕ) → HasReadOn limits text lines.old state.old → HasReadOn limits text lines.new state.new) }
+    ensures drained { OnOk result (state.new.refusal ≡ None → IsTrue lines.new.has_ended → lines.new.rest ≡ []) }
+    ensures wants { OnErr result ((text : List ℕ) → HasReadOn limits text lines.old state.old → NamesNodes limits text) }
+    ensures same_end { lines.new.has_ended ≡ lines.old.has_ended }
+    ensures same_count { lines.new.fed ≡ lines.old.fed }
+{
+    'finished: while let Some(line) = lines.pop() {
+        read_line(alloc, state, line.number, line.bytes)?;
+        if state.refusal().is_some() {
+            return Ok(());
+        }
+    }
+    Ok(())
+}
+
+// Takes a line in, of this number. One that isn't kept changes nothing.
+fn read_line(alloc: Global, state: &mut State, number: u128, line: &[u8]) -> Result<(), NoMemory>
+    requires { (1 ≤ number) × (number ≤ line_limit) }
+    ensures read { OnOk result ((text : List ℕ) (next : ℕ) (rest : List (ℕ × List ℕ)) → HasRead limits text state.old next ((number, line.now) ∷ rest)
+        → HasRead limits text state.new (number + 1) rest) }
+    ensures wants { OnErr result ((text : List ℕ) (next : ℕ) (rest : List (ℕ × List ℕ)) → HasRead limits text state.old next ((number, line.now) ∷ rest)
+        → NamesNodes limits text) }
+{
+    if !is_kept(line) {
+        return Ok(());
+    }
+    state.step(alloc, number, line)?;
+    Ok(())
+}

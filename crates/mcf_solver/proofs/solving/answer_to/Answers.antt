@@ -1,9 +1,0 @@
-use Rattle.std.proofs.Common.{◌∙◌, sym}
-use Rattle.std.proofs.lemmas.Result.{on_err_weaker}
-use Rattle.mcf_instance.proofs.HeaderNodes.{instance_named}
-use Rattle.mcf_solver.proofs.solving.answer_to.Goals as goal
-
-pub returns-in-Ok-clause-wants : goal.returns-in-Ok-clause-wants
-returns-in-Ok-clause-wants c =
-    on_err_weaker c.solve_instance.result
-    (instance_named c.args.input.now c.in-Ok.instance (sym c.in_ok-instance.ensures.exact ∙ c.in-Ok.is)) c.solve_instance.ensures.wants
