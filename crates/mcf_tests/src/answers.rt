@@ -26,6 +26,51 @@ fn misfit(alloc: Global, text: &[u8]) -> Result<u128, NoMemory> {
     }
 }
 
+// Texts of the second form, as they are written.
+static SPARSE_ANSWERS: [&[u8]; 8] = [
+    b"v 2\ns 14\ng 1 2\ng 2 2\ng 3 2\ng 5 4\ny 1 0\ny 2 -2\ny 3 -3\ny 4 -4\n",
+    b"v 2\ns 14\ng 1 2\ng 2 2\ng 3 2\ng 4 0\ng 5 4\ny 1 0\ny 2 -2\ny 3 -3\ny 4 -4\n",
+    b"v 2\ns 14\ng 1 2\ng 2 2\ng 3 2\ny 1 0\ny 2 -2\ny 3 -3\ny 4 -4\n",
+    b"v 2\ns 14\ng 1 2\ng 2 2\ng 3 2\ng 5 4\ng 6 0\ny 1 0\ny 2 -2\ny 3 -3\ny 4 -4\n",
+    b"v 2\ns 0\n",
+    b"v 2\ns -21\ng 1 7\ny 1 0\n",
+    b"v 2\ns 0\ng 1 0\ny 1 0\ny 2 -1\n",
+    b"v 2\ns 3\ng 10000000 -10000000000000000000000000000000000000\n",
+];
+
+// Texts that are no answers of the second form, each with the line at which that is seen.
+static NO_SPARSE_ANSWERS: [(&[u8], u128); 26] = [
+    (
+        b"v 2\ns 14\ng 2 2\ng 1 2\ng 3 2\ng 5 4\ny 1 0\ny 2 -2\ny 3 -3\ny 4 -4\n",
+        4,
+    ),
+    (b"v 2\n", 2),
+    (b"v 3\n", 1),
+    (b"v 2 2\ns 0\n", 1),
+    (b"v two\ns 0\n", 1),
+    (b"c one\nv 2\nc two\n\n", 5),
+    (b"v 2\nv 2\ns 0\n", 2),
+    (b"s 0\nv 2\n", 2),
+    (b"v 2\ng 1 0\ns 0\n", 2),
+    (b"v 2\ny 1 0\n", 2),
+    (b"v 2\ns 0\ns 0\n", 3),
+    (b"v 2\ns 0\nf 1 2 0\n", 3),
+    (b"v 2\ns 0\nx 1\n", 3),
+    (b"v 2\ni 1 send\nx 1\n", 2),
+    (b"v 2\nr 3 late-n\n", 2),
+    (b"s 0\ng 1 0\n", 2),
+    (b"i 1 send\ng 1 0\n", 2),
+    (b"g 1 0\n", 1),
+    (b"v 2\ns 0\ng 1 0\ng 1 0\n", 4),
+    (b"v 2\ns 0\ng 0 0\n", 3),
+    (b"v 2\ns 0\ng 10000001 0\n", 3),
+    (b"v 2\ns 0\ng 1 10000000000000000000000000000000000001\n", 3),
+    (b"v 2\ns 0\ng 1 1 0\n", 3),
+    (b"v 2\ns 0\ng 1\n", 3),
+    (b"v 2\ns 0\ny 2 0\n", 3),
+    (b"v 2\ns 0\ny 1 0\ng 1 0\n", 4),
+];
+
 #[test]
 fn answers_are_written_as_they_were_read(rt: HostRuntime) -> Result<(), Fail> {
     for text in [
@@ -35,14 +80,6 @@ fn answers_are_written_as_they_were_read(rt: HostRuntime) -> Result<(), Fail> {
         b"s 10000000000000000000000000000000000000\n".as_slice(),
         b"s -10000000000000000000000000000000000000\nf 1 1 0\n".as_slice(),
         b"s 3\ny 1 0\ny 2 10000000000000000000000000000000000000\n".as_slice(),
-        b"v 2\ns 14\ng 1 2\ng 2 2\ng 3 2\ng 5 4\ny 1 0\ny 2 -2\ny 3 -3\ny 4 -4\n".as_slice(),
-        b"v 2\ns 14\ng 1 2\ng 2 2\ng 3 2\ng 4 0\ng 5 4\ny 1 0\ny 2 -2\ny 3 -3\ny 4 -4\n".as_slice(),
-        b"v 2\ns 14\ng 1 2\ng 2 2\ng 3 2\ny 1 0\ny 2 -2\ny 3 -3\ny 4 -4\n".as_slice(),
-        b"v 2\ns 14\ng 1 2\ng 2 2\ng 3 2\ng 5 4\ng 6 0\ny 1 0\ny 2 -2\ny 3 -3\ny 4 -4\n".as_slice(),
-        b"v 2\ns 0\n".as_slice(),
-        b"v 2\ns -21\ng 1 7\ny 1 0\n".as_slice(),
-        b"v 2\ns 0\ng 1 0\ny 1 0\ny 2 -1\n".as_slice(),
-        b"v 2\ns 3\ng 10000000 -10000000000000000000000000000000000000\n".as_slice(),
         b"i 1 send\nx 1\n".as_slice(),
         b"i 1 take\nx 1000000\n".as_slice(),
         b"i 3 take\nx 2\nx 3\nx 20\n".as_slice(),
@@ -52,6 +89,14 @@ fn answers_are_written_as_they_were_read(rt: HostRuntime) -> Result<(), Fail> {
         b"r 1002 total\n".as_slice(),
         b"r 10000000000000000000000000000000000000 missing\n".as_slice(),
     ] {
+        assert_eq!(rt; rewritten(rt.alloc(), text)?.as_slice(), text);
+    }
+    Ok(())
+}
+
+#[test]
+fn sparse_answers_are_written_as_they_were_read(rt: HostRuntime) -> Result<(), Fail> {
+    for text in SPARSE_ANSWERS {
         assert_eq!(rt; rewritten(rt.alloc(), text)?.as_slice(), text);
     }
     Ok(())
@@ -118,34 +163,7 @@ fn texts_that_are_no_answers(rt: HostRuntime) -> Result<(), Fail> {
 
 #[test]
 fn texts_that_are_no_sparse_answers(rt: HostRuntime) -> Result<(), Fail> {
-    for (text, line) in [
-        (b"v 2\ns 14\ng 2 2\ng 1 2\ng 3 2\ng 5 4\ny 1 0\ny 2 -2\ny 3 -3\ny 4 -4\n".as_slice(), 4),
-        (b"v 2\n".as_slice(), 2),
-        (b"v 3\n".as_slice(), 1),
-        (b"v 2 2\ns 0\n".as_slice(), 1),
-        (b"v two\ns 0\n".as_slice(), 1),
-        (b"c one\nv 2\nc two\n\n".as_slice(), 5),
-        (b"v 2\nv 2\ns 0\n".as_slice(), 2),
-        (b"s 0\nv 2\n".as_slice(), 2),
-        (b"v 2\ng 1 0\ns 0\n".as_slice(), 2),
-        (b"v 2\ny 1 0\n".as_slice(), 2),
-        (b"v 2\ns 0\ns 0\n".as_slice(), 3),
-        (b"v 2\ns 0\nf 1 2 0\n".as_slice(), 3),
-        (b"v 2\ns 0\nx 1\n".as_slice(), 3),
-        (b"v 2\ni 1 send\nx 1\n".as_slice(), 2),
-        (b"v 2\nr 3 late-n\n".as_slice(), 2),
-        (b"s 0\ng 1 0\n".as_slice(), 2),
-        (b"i 1 send\ng 1 0\n".as_slice(), 2),
-        (b"g 1 0\n".as_slice(), 1),
-        (b"v 2\ns 0\ng 1 0\ng 1 0\n".as_slice(), 4),
-        (b"v 2\ns 0\ng 0 0\n".as_slice(), 3),
-        (b"v 2\ns 0\ng 10000001 0\n".as_slice(), 3),
-        (b"v 2\ns 0\ng 1 10000000000000000000000000000000000001\n".as_slice(), 3),
-        (b"v 2\ns 0\ng 1 1 0\n".as_slice(), 3),
-        (b"v 2\ns 0\ng 1\n".as_slice(), 3),
-        (b"v 2\ns 0\ny 2 0\n".as_slice(), 3),
-        (b"v 2\ns 0\ny 1 0\ng 1 0\n".as_slice(), 4),
-    ] {
+    for (text, line) in NO_SPARSE_ANSWERS {
         assert_eq!(rt; misfit(rt.alloc(), text)?, line);
     }
     Ok(())
@@ -215,7 +233,10 @@ fn answers_made_by_hand(rt: HostRuntime) -> Result<(), Fail> {
         prices: PriceList::new(Vec::new(rt.alloc())),
     };
     write(&Answer::Sparse(sparse), &mut out)?;
-    assert_eq!(rt; out.as_slice(), b"s -5\nr 7 second-p\nv 2\ns 6\ng 3 2\n".as_slice());
+    assert_eq!(rt;
+        out.as_slice(),
+        b"s -5\nr 7 second-p\nv 2\ns 6\ng 3 2\n".as_slice()
+    );
     Ok(())
 }
 
