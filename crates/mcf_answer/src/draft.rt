@@ -95,16 +95,17 @@ impl SparseAnswer {
     ghost use Rattle.mcf_text.specs.Fields.{fields_of};
 
     // Takes the price of a node in, if it is the next node.
-    fn take_price(&mut self, id: NodeId, price: i128) -> Result<bool, NoMemory>
-        requires node { IsNodeInRange id }
-        requires amount { IsAmount price }
-        ensures { IfOk result (λ fit. (if fit then Some self.new else None) ≡ sparse_priced self.old (Some (id, price))) }
+    fn take_price(&mut self, y: (NodeId, i128)) -> Result<bool, NoMemory>
+        requires node { IsNodeInRange y.0 }
+        requires amount { IsAmount y.1 }
+        ensures { IfOk result (λ fit. (if fit then Some self.new else None) ≡ sparse_priced self.old (Some y)) }
     {
-        if !self.prices.is_next(id) {
-            return Ok(false);
+        if self.prices.is_next(y.0) {
+            self.prices.push(y.1)?;
+            Ok(true)
+        } else {
+            Ok(false)
         }
-        self.prices.push(price)?;
-        Ok(true)
     }
 
     // Takes what an arc carries in, if its number is above that of the last and there is no price yet.
@@ -130,7 +131,7 @@ impl SparseAnswer {
             return self.take_moved(moved);
         }
         match price_line(line) {
-            Some((id, price)) => self.take_price(id, price),
+            Some(price) => self.take_price(price),
             None => Ok(false),
         }
     }
@@ -207,6 +208,19 @@ impl Draft {
         }))
     }
 
+    // Goes on to the next state, if there is one.
+    fn become_next(&mut self, next: Option<Draft>) -> bool
+        ensures { (if result then Some self.new else None) ≡ next }
+    {
+        match next {
+            Some(draft) => {
+                *self = draft;
+                true
+            }
+            None => false,
+        }
+    }
+
     /// Takes a kept line in, if it fits.
     #[tactic(auto, unfolding(crate::specs::Private::Draft::after))]
     pub(crate) fn take(&mut self, alloc: Global, line: &[u8]) -> Result<bool, NoMemory>
@@ -214,21 +228,9 @@ impl Draft {
         ensures wants { OnErr result (IsTrue (says_item (tokens_of (fields_of line.now)))) }
     {
         match self {
-            Draft::Empty => match Draft::open(alloc, line) {
-                Some(draft) => {
-                    *self = draft;
-                    Ok(true)
-                }
-                None => Ok(false),
-            },
+            Draft::Empty => Ok(self.become_next(Draft::open(alloc, line))),
             Draft::Flow(flow) => flow.take(line),
-            Draft::Announced => match Draft::open_sparse(alloc, line) {
-                Some(draft) => {
-                    *self = draft;
-                    Ok(true)
-                }
-                None => Ok(false),
-            },
+            Draft::Announced => Ok(self.become_next(Draft::open_sparse(alloc, line))),
             Draft::Sparse(flow) => flow.take(line),
             Draft::Blocked(set) => set.take(line),
             Draft::Refused(_) => Ok(false),

@@ -87,10 +87,10 @@ impl MovedList {
     pub(crate) fn is_below(&self, arc: ArcId) -> bool
         ensures { result ≡ is_above_last (arc_numbers self.now) arc }
     {
-        match self.items.last() {
-            Some(last) => last.0 < arc,
-            None => true,
-        }
+        let Some(last) = self.items.last() else {
+            return true;
+        };
+        last.0 < arc
     }
 }
 

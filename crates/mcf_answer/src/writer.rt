@@ -78,18 +78,18 @@ fn put_solution(out: &mut Vec<u8>, flow: &FlowAnswer) -> Result<(), NoMemory>
 
 // Appends the lines of a sparse flow answer.
 #[tactic(auto, using(crate::proofs::Appends::keeps))]
-fn put_sparse(out: &mut Vec<u8>, flow: &SparseAnswer) -> Result<(), NoMemory>
-    ensures ok { OnOk result (out.new.items ≡ out.old.items ++ flat_map line_text (sparse_lines flow.now)) }
-    ensures in_range { IsSparseSolution flow.now }
+fn put_sparse(out: &mut Vec<u8>, sparse: &SparseAnswer) -> Result<(), NoMemory>
+    ensures ok { OnOk result (out.new.items ≡ out.old.items ++ flat_map line_text (sparse_lines sparse.now)) }
+    ensures in_range { IsSparseSolution sparse.now }
     ensures err { OnErr result (take (length out.old.items) out.new.items ≡ out.old.items) }
     ensures capacity { vec_capacity out.old ≤ vec_capacity out.new }
-    ensures refused { OnErr result (vec_capacity out.old < vec_len out.old + length (flat_map line_text (sparse_lines flow.now))) }
+    ensures refused { OnErr result (vec_capacity out.old < vec_len out.old + length (flat_map line_text (sparse_lines sparse.now))) }
 {
-    let cost = flow.cost;
+    let cost = sparse.cost;
     put_line(out, b"v", &[2])?;
     put_line(out, b"s", &[cost])?;
-    put_moved(out, flow.moved.as_slice())?;
-    put_prices(out, flow.prices.as_slice())
+    put_moved(out, sparse.moved.as_slice())?;
+    put_prices(out, sparse.prices.as_slice())
 }
 
 // Appends the lines of a blocked answer.
