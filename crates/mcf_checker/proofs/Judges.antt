@@ -11,7 +11,7 @@ use Rattle.mcf_answer.specs.Spelling.{Spells}
 use Rattle.mcf_answer.specs.declared.answers.Answer.{Answer}
 use Rattle.mcf_answer.specs.declared.answers.Answer.TheVariants.{Blocked, Flow, Refused}
 use Rattle.mcf_answer.specs.declared.shape.Shape.{Shape}
-use Rattle.mcf_checker.specs.Correct.{GivesLeastFlow, HasNoFlow, IsCorrect, IsRight, IsRightSet, IsRightSolution, amounts}
+use Rattle.mcf_checker.specs.Correct.{GivesLeastFlow, HasNoFlow, IsCorrect, IsRight, IsRightFlow, IsRightSet, amounts, flow_given}
 use Rattle.mcf_checker.specs.Judging.{accepts, judged, same_fault, set_verdict, solution_verdict, verdict}
 use Rattle.mcf_checker.specs.declared.verdict.Verdict.{Verdict}
 use Rattle.mcf_checker.specs.declared.verdict.Verdict.TheVariants.{BadRefusal, BadShape, Blocked as SetAccepted, Flow as FlowAccepted}
@@ -123,11 +123,13 @@ accepts-exactly input text parses = (
 
 record AcceptedFlow (r : Result Network Fault) (p : Result Answer Shape) (total : ℤ) : Type 0 where
   instance : Network
-  solution : Solution
+  answer : Answer
+  prices : List ℤ
+  flow : List ℤ
   read : r ≡ Ok instance
-  parsed : p ≡ Ok (Flow solution)
-  right : IsRightSolution instance solution
-  total_is : total ≡ solution.cost
+  parsed : p ≡ Ok answer
+  given : flow_given instance answer ≡ Some flow
+  right : IsRightFlow instance total prices flow
 
 no_flow_refused : (same : Bool) (r : Fault) (total : ℤ) → cond same (RefusalAccepted r) BadRefusal ≡ FlowAccepted total → ⊥
 no_flow_refused true r total e = cc
@@ -155,8 +157,17 @@ flow_of (Err fault) (Ok (Refused r)) total e = absurd (no_flow_refused (same_fau
 flow_of (Ok g) (Ok (Flow a)) total e =
     let right = IsRightSolution-from_accepts g a (ap accepts e) in
     let same : FlowAccepted a.cost ≡ FlowAccepted total = at_right g a right ∙ e in
-    let cost : total ≡ a.cost = cc in
-    record { instance = g; solution = a; read = refl; parsed = refl; right = right; total_is = cost }
+    let cost : a.cost ≡ total = cc in
+    record {
+      instance = g;
+      answer = Flow a;
+      prices = a.prices;
+      flow = amounts a.sent;
+      read = refl;
+      parsed = refl;
+      given = refl;
+      right = subst (λ (z : ℤ). IsRightFlow g z a.prices (amounts a.sent)) cost right.right;
+    }
 flow_of (Ok g) (Ok (Blocked a)) total e = absurd (no_flow_in_set g a total e)
 flow_of (Ok g) (Ok (Refused r)) total e = absurd (cc)
 
@@ -189,11 +200,13 @@ accepted_flows_are_least input text total parses reads e =
     let w = flow_of (reading limits input) (parsing text) total e in
     record {
       instance = w.instance;
-      solution = w.solution;
+      answer = w.answer;
+      flow = w.flow;
       read = w.read;
-      spelled = (parses (Flow w.solution)).0 w.parsed;
-      least = shown_flows_are_least_lem w.instance w.solution.prices (amounts w.solution.sent) (reads w.instance w.read).ends w.right.feasible w.right.shown;
-      cost_is = w.total_is ∙ w.right.cost_is;
+      spelled = (parses w.answer).0 w.parsed;
+      given = w.given;
+      least = shown_flows_are_least_lem w.instance w.prices w.flow (reads w.instance w.read).ends w.right.feasible w.right.shown;
+      cost_is = w.right.cost_is;
     }
 
 pub accepted_sets_leave_no_flow : (input text : List ℕ) (count : ℕ) → ReadsWellFormed input → verdict input text ≡ SetAccepted count → HasNoFlow input

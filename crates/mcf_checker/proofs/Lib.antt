@@ -10,3 +10,4 @@ pub mod Runs
 pub mod Sent
 pub mod Sets
 pub mod Solutions
+pub mod StatedLines

@@ -47,10 +47,10 @@ bad_arc g sent =
 
 -- the least number of a node without a price line, of a price line without a node, or of a node whose net
 -- is not its supply
-abbrev pub bad_node : Network → Solution → Option ℕ
-bad_node g a =
-    least_up_to (max (node_count g) (length a.prices)) (λ v.
-    nat_lt (node_count g) v || nat_lt (length a.prices) v || not (int_eq (net g.arcs (amounts a.sent) v) (at_node g.supplies v)))
+abbrev pub bad_node : Network → List ℤ → List ℤ → Option ℕ
+bad_node g prices flow =
+    least_up_to (max (node_count g) (length prices)) (λ v.
+    nat_lt (node_count g) v || nat_lt (length prices) v || not (int_eq (net g.arcs flow v) (at_node g.supplies v)))
 
 -- ---- prices
 
@@ -65,19 +65,23 @@ option_is_loose prices None = false
 option_is_loose prices (Some m) = is_loose prices m
 
 -- the least arc whose flow the prices do not show
-abbrev pub bad_price : Network → Solution → Option ℕ
-bad_price g a =
-    least_up_to (length g.arcs) (λ k. option_is_loose a.prices (slice_get (zip g.arcs (amounts a.sent)) (k - 1)))
+abbrev pub bad_price : Network → List ℤ → List ℤ → Option ℕ
+bad_price g prices flow =
+    least_up_to (length g.arcs) (λ k. option_is_loose prices (slice_get (zip g.arcs flow) (k - 1)))
 
 -- ---- the verdicts
+
+-- of a flow within bounds for an instance, with its stated cost and prices
+unfoldable pub flow_verdict : Network → ℤ → List ℤ → List ℤ → Verdict
+flow_verdict g total prices flow =
+    option_map_or BadNode (bad_node g prices flow)
+    (option_map_or BadPrice (bad_price g prices flow)
+    (if int_eq total (cost g.arcs flow) then FlowAccepted total else BadCost))
 
 -- of a flow answer for an instance
 unfoldable pub solution_verdict : Network → Solution → Verdict
 solution_verdict g a =
-    option_map_or BadArc (bad_arc g a.sent)
-    (option_map_or BadNode (bad_node g a)
-    (option_map_or BadPrice (bad_price g a)
-    (if int_eq a.cost (cost g.arcs (amounts a.sent)) then FlowAccepted a.cost else BadCost)))
+    option_map_or BadArc (bad_arc g a.sent) (flow_verdict g a.cost a.prices (amounts a.sent))
 
 -- the set must send, or take, more than it can
 abbrev pub exceeds : Network → (ℕ → Bool) → Side → Bool

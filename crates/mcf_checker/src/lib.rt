@@ -12,6 +12,7 @@ mod laws;
 mod printing;
 mod set;
 mod solution;
+mod stated;
 mod verdict;
 
 pub use checking::check;

@@ -18,15 +18,19 @@ use Rattle.mcf_instance.specs.Network.{Network}
 use Rattle.mcf_instance.specs.Reading.{reading}
 use Rattle.mcf_solver.specs.declared.choice.Kind.{Kind}
 use Rattle.mcf_solver.specs.declared.choice.Kind.TheVariants.{Flow as WithFlow, Blocked as WithSet, Refused as WithRefusal}
-use Rattle.mcf_solver.specs.ChosenSolutions.{IsChosenSolution}
+use Rattle.mcf_solver.specs.ChosenSolutions.{IsChosenFlow}
 use Rattle.mcf_solver.specs.Making.{HasMadeFlow, HasShapedFlow, IsMadeBy}
 use Rattle.mcf_solver.specs.declared.choice.Choice.{Choice}
 
--- a flow that no feasible flow undercuts, its cost, and the greatest prices not above 0 that show it
+-- a flow that no feasible flow undercuts, and the greatest prices not above 0 that show it
+pub record IsLeastFlow (g : Network) (prices flow : List ℤ) : Type 0 where
+  pub least : IsLeast g flow
+  pub chosen : IsChosenFlow g prices flow
+
+-- a right answer of such a flow
 pub record IsLeastSolution (g : Network) (a : Solution) : Type 0 where
   pub right : IsRightSolution g a
-  pub least : IsLeast g (amounts a.sent)
-  pub chosen : IsChosenSolution g a
+  pub least : IsLeastFlow g a.prices (amounts a.sent)
 
 -- nodes that must send or take more than they can, so that no flow is feasible
 pub record IsNoFlowProof (g : Network) (a : BlockingSet) : Type 0 where
