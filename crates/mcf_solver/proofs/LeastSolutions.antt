@@ -1,5 +1,5 @@
 -- The flow that a least state of the net stands for.
-use Rattle.std.proofs.Common.{◌≡◌, List, sym, ap, ◌∙◌, ℤ, arith}
+use Rattle.std.proofs.Common.{◌≡◌, List, sym, ◌∙◌, ℤ, arith}
 use Rattle.std.specs.List.{All, AllZip}
 use Rattle.std.proofs.lemmas.Int.{ints}
 use Rattle.mcf_answer.specs.Ranges.{IsAmount}

@@ -1,4 +1,4 @@
-use Rattle.std.proofs.Common.{List, ℤ, ap, rules, subst, sym, ◌∙◌, lit<, to_z, of_z}
+use Rattle.std.proofs.Common.{◌≡◌, List, ℤ, ap, rules, subst, sym, ◌∙◌, lit<, to_z, of_z}
 use Rattle.std.specs.List.{All}
 use Rattle.std.specs.Int.{w128}
 use Rattle.mcf_answer.specs.Ranges.{IsAmount, amount_limit}
