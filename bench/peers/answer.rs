@@ -15,14 +15,16 @@ pub struct Sent {
 
 pub enum Answer {
     Flow { cost: i128, sent: Vec<Sent>, prices: Vec<i128> },
+    /// The second form of a flow, of which no line stands yet but the first where there is no cost.
+    Sparse { cost: Option<i128>, moved: Vec<(u32, i128)>, prices: Vec<i128> },
     Blocked { is_take: bool, count: i128, nodes: Vec<u32> },
     Refused { line: i128, code: String },
 }
 
 const AMOUNT: i128 = 10_000_000_000_000_000_000_000_000_000_000_000_000;
-const CODES: [&str; 18] = [
+const CODES: [&str; 19] = [
     "kind", "fields", "problem", "number", "second-p", "before-p", "size", "node", "late-n", "twice",
-    "supply", "bound", "order", "cost", "extra", "side", "no-p", "missing",
+    "supply", "bound", "order", "cost", "extra", "side", "total", "no-p", "missing",
 ];
 
 /// The whole number that a field says, from `lo` to `hi`; up to 17 digits are read in 64 bits.
@@ -57,6 +59,10 @@ fn node(field: &[u8]) -> Option<u32> {
 fn open(fields: &[&[u8]]) -> Option<Answer> {
     match fields {
         [b"s", cost] => Some(Answer::Flow { cost: amount(cost)?, sent: Vec::new(), prices: Vec::new() }),
+        [b"v", version] => {
+            number(version, 2, 2)?;
+            Some(Answer::Sparse { cost: None, moved: Vec::new(), prices: Vec::new() })
+        }
         [b"i", count, side] => {
             let is_take = match *side {
                 b"send" => false,
@@ -83,6 +89,23 @@ fn take(answer: &mut Answer, fields: &[&[u8]]) -> Option<()> {
             prices.push(amount(price)?);
             Some(())
         }
+        (Answer::Sparse { cost, .. }, fields) if cost.is_none() => {
+            let [b"s", said] = fields else { return None };
+            *cost = Some(amount(said)?);
+            Some(())
+        }
+        (Answer::Sparse { moved, prices, .. }, [b"g", arc, flow]) if prices.is_empty() => {
+            let arc = number(arc, 1, 10_000_000)? as u32;
+            if moved.last().is_some_and(|last| last.0 >= arc) {
+                return None;
+            }
+            moved.push((arc, amount(flow)?));
+            Some(())
+        }
+        (Answer::Sparse { prices, .. }, [b"y", id, price]) if node(id)? as usize == prices.len() + 1 => {
+            prices.push(amount(price)?);
+            Some(())
+        }
         (Answer::Blocked { count, nodes, .. }, [b"x", id]) if (nodes.len() as i128) < *count => {
             let id = node(id)?;
             if nodes.last().is_some_and(|last| *last >= id) {
@@ -106,6 +129,7 @@ pub fn parse(text: &[u8]) -> Result<Answer, u128> {
     })?;
     match answer {
         Some(Answer::Blocked { count, nodes, .. }) if count != nodes.len() as i128 => Err(lines + 1),
+        Some(Answer::Sparse { cost: None, .. }) => Err(lines + 1),
         Some(answer) => Ok(answer),
         None => Err(lines + 1),
     }
@@ -118,6 +142,18 @@ fn write(answer: &Answer) -> String {
             writeln!(out, "s {cost}").unwrap();
             for Sent { src, dst, flow } in sent {
                 writeln!(out, "f {src} {dst} {flow}").unwrap();
+            }
+            for (id, price) in prices.iter().enumerate() {
+                writeln!(out, "y {} {price}", id + 1).unwrap();
+            }
+        }
+        Answer::Sparse { cost, moved, prices } => {
+            writeln!(out, "v 2").unwrap();
+            if let Some(cost) = cost {
+                writeln!(out, "s {cost}").unwrap();
+            }
+            for (arc, flow) in moved {
+                writeln!(out, "g {arc} {flow}").unwrap();
             }
             for (id, price) in prices.iter().enumerate() {
                 writeln!(out, "y {} {price}", id + 1).unwrap();

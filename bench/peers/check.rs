@@ -27,24 +27,44 @@ fn judge_flow(instance: &State, cost: i128, sent: &[Sent], prices: &[i128]) -> S
             return format!("rejected arc {}", k + 1);
         }
     }
+    let flows: Vec<i128> = sent.iter().map(|sent| sent.flow).collect();
+    judge_amounts(instance, cost, &flows, prices)
+}
+
+/// What is said of a flow answer in the second form.
+fn judge_sparse(instance: &State, cost: i128, moved: &[(u32, i128)], prices: &[i128]) -> String {
+    let mut flows: Vec<i128> = instance.arcs.iter().map(|arc| i128::from(arc.low)).collect();
+    for (number, flow) in moved {
+        let place = *number as usize - 1;
+        match instance.arcs.get(place) {
+            Some(arc) if i128::from(arc.low) <= *flow && *flow <= i128::from(arc.cap) => flows[place] = *flow,
+            _ => return format!("rejected arc {number}"),
+        }
+    }
+    judge_amounts(instance, cost, &flows, prices)
+}
+
+/// What is said of a flow within the bounds of the arcs.
+fn judge_amounts(instance: &State, cost: i128, flows: &[i128], prices: &[i128]) -> String {
+    let arcs = &instance.arcs;
     let nodes = instance.supplies.len();
     let mut nets = vec![0i128; nodes];
-    for sent in sent {
-        nets[sent.src as usize - 1] += sent.flow;
-        nets[sent.dst as usize - 1] -= sent.flow;
+    for (arc, flow) in arcs.iter().zip(flows) {
+        nets[arc.src as usize - 1] += flow;
+        nets[arc.dst as usize - 1] -= flow;
     }
     for v in 0..nodes.max(prices.len()) {
         if v >= nodes || v >= prices.len() || nets[v] != i128::from(instance.supplies[v]) {
             return format!("rejected node {}", v + 1);
         }
     }
-    for (k, (arc, sent)) in arcs.iter().zip(sent).enumerate() {
+    for (k, (arc, flow)) in arcs.iter().zip(flows).enumerate() {
         let reduced = i128::from(arc.cost) - prices[arc.src as usize - 1] + prices[arc.dst as usize - 1];
-        if reduced > 0 && i128::from(arc.low) < sent.flow || reduced < 0 && sent.flow < i128::from(arc.cap) {
+        if reduced > 0 && i128::from(arc.low) < *flow || reduced < 0 && *flow < i128::from(arc.cap) {
             return format!("rejected price {}", k + 1);
         }
     }
-    let total: i128 = arcs.iter().zip(sent).map(|(arc, sent)| i128::from(arc.cost) * sent.flow).sum();
+    let total: i128 = arcs.iter().zip(flows).map(|(arc, flow)| i128::from(arc.cost) * flow).sum();
     if total == cost { format!("accepted flow {cost}") } else { "rejected cost".to_string() }
 }
 
@@ -91,6 +111,7 @@ fn check(input: &[u8], answer: &[u8]) -> String {
             }
         }
         (Ok(instance), Answer::Flow { cost, sent, prices }) => judge_flow(&instance, cost, &sent, &prices),
+        (Ok(instance), Answer::Sparse { cost: Some(cost), moved, prices }) => judge_sparse(&instance, cost, &moved, &prices),
         (Ok(instance), Answer::Blocked { is_take, nodes, .. }) => judge_set(&instance, is_take, &nodes),
         _ => "rejected kind".to_string(),
     }

@@ -6,26 +6,30 @@ use Rattle.std.specs.List.{enumerate_from}
 use Rattle.std.specs.List.Sorted.{IsStrictlyIncreasing}
 use Rattle.std.specs.Option.{option_map_or, option_or}
 use Rattle.std.proofs.lemmas.Bool.{eq-eqb, lt-ltb}
-use Rattle.std.proofs.lemmas.List.{get_or_append_left, get_or-append_right, length-append}
+use Rattle.std.proofs.lemmas.List.{get_or_append_left, get_or-append_right, length-append, map-append}
 use Rattle.std.proofs.lemmas.List.Elements.{All-head, All-tail}
 use Rattle.std.proofs.lemmas.Option.{slice_get-get_or}
-use Rattle.mcf_answer.specs.Private.Draft.{after, and_then, answer_of_draft, opened, priced, sent_or_priced, set_after, solution_after, with_member, with_price}
-use Rattle.mcf_answer.specs.Private.Draft.{with_said}
+use Rattle.mcf_answer.specs.Private.Draft.{after, and_then, answer_of_draft, costed, moved_or_priced, opened, priced, sent_or_priced, set_after, solution_after}
+use Rattle.mcf_answer.specs.Private.Draft.{sparse_after, sparse_priced, with_member, with_moved, with_price, with_said, with_sparse_price}
 use Rattle.mcf_answer.specs.Fits.{is_above_last}
 use Rattle.mcf_answer.specs.Parsing.{parsing}
 use Rattle.mcf_answer.specs.Ranges.{IsAmount, IsNodeInRange}
-use Rattle.mcf_answer.specs.Said.{Opening, OpensFlow, OpensSet, OpensRefusal, cost_said, opening_said, opens_set, price_said, refusal_said, sent_said, set_said}
-use Rattle.mcf_answer.specs.Said.{◌>>=◌}
+use Rattle.mcf_answer.specs.Said.{Opening, OpensFlow, OpensSparse, OpensSet, OpensRefusal, cost_said, moved_said, opening_said, opens_set, price_said}
+use Rattle.mcf_answer.specs.Said.{refusal_said, sent_said, set_said, version_said, ◌>>=◌}
 use Rattle.mcf_answer.specs.Solution.{IsSent}
-use Rattle.mcf_answer.specs.Spelling.{IsAnswer, Spells, cost_line, flow_line, member_line, price_line, refusal_line, set_line, spelling}
+use Rattle.mcf_answer.specs.SparseSolution.{IsMoved, arc_numbers}
+use Rattle.mcf_answer.specs.Spelling.{IsAnswer, Spells, cost_line, flow_line, member_line, moved_line, price_line, refusal_line, set_line, spelling}
+use Rattle.mcf_answer.specs.Spelling.{version_line}
 use Rattle.mcf_answer.specs.Token.{Token, tokens}
 use Rattle.mcf_answer.specs.declared.answers.Answer.{Answer}
-use Rattle.mcf_answer.specs.declared.answers.Answer.TheVariants.{Flow as FlowAnswered, Blocked as BlockedAnswered, Refused as RefusedAnswered}
+use Rattle.mcf_answer.specs.declared.answers.Answer.TheVariants.{Flow as FlowAnswered, Sparse as SparseAnswered, Blocked as BlockedAnswered}
+use Rattle.mcf_answer.specs.declared.answers.Answer.TheVariants.{Refused as RefusedAnswered}
 use Rattle.mcf_answer.specs.declared.answers.Sent.{Sent}
 use Rattle.mcf_answer.specs.declared.draft.Draft.{Draft}
-use Rattle.mcf_answer.specs.declared.draft.Draft.TheVariants.{Empty, Flow, Blocked, Refused}
+use Rattle.mcf_answer.specs.declared.draft.Draft.TheVariants.{Empty, Flow, Announced, Sparse, Blocked, Refused}
 use Rattle.mcf_answer.proofs.LinesRead.{answer_or, outcome}
-use Rattle.mcf_answer.proofs.SaidLemmas.{cost_said-line, member_said-line, price_said-line, refusal_said-line, sent_said-line, set_said-line}
+use Rattle.mcf_answer.proofs.SaidLemmas.{cost_said-line, member_said-line, moved_said-line, price_said-line, refusal_said-line, sent_said-line, set_said-line}
+use Rattle.mcf_answer.proofs.SaidLemmas.{version_said-line}
 use Rattle.mcf_answer.proofs.Simulation.{outcome-parsing, run-rows, run_rows}
 use Rattle.mcf_instance.specs.Fault.{Fault}
 use Rattle.mcf_instance.specs.Limits.{node_limit, line_limit}
@@ -84,6 +88,33 @@ price_taken cost sent done z h k =
     ∙ ap (λ b. option_map Flow (cond b (Some (with_price (record { cost = cost; sent = sent; prices = done }) z)) None))
     (eq-eqb (length done + 1) (length done + 1) refl)
 
+cost_taken : (cost : ℤ) → IsAmount cost → after Announced (cost_line cost) ≡ Some (costed cost)
+unfolding after
+cost_taken cost h = ap (option_map costed) (cost_said-line cost h)
+
+moved_taken : (cost : ℤ) (done : List (ℕ × ℤ)) (m : ℕ × ℤ) → IsMoved m → is_above_last (arc_numbers done) m.0 ≡ true
+    → after (Sparse (record { cost = cost; moved = done; prices = [] })) (moved_line m) ≡ Some
+    (Sparse (record { cost = cost; moved = done ++ m ∷ []; prices = [] }))
+unfolding after sparse_after
+moved_taken cost done m h above =
+    ap (λ o. option_map Sparse (moved_or_priced (record { cost = cost; moved = done; prices = [] }) o (price_said (moved_line m)))) (moved_said-line m h)
+    ∙ ap (λ b. option_map Sparse (cond (b && true) (Some (with_moved (record { cost = cost; moved = done; prices = [] }) m)) None)) above
+
+no_moved : (y : ℕ × ℤ) → moved_said (price_line y) ≡ None
+unfolding moved_said
+no_moved y = refl
+
+sparse_price_taken : (cost : ℤ) (moved : List (ℕ × ℤ)) (done : List ℤ) (z : ℤ) → IsNodeInRange (length done + 1) → IsAmount z
+    → after (Sparse (record { cost = cost; moved = moved; prices = done })) (price_line (length done + 1, z)) ≡ Some
+    (Sparse (record { cost = cost; moved = moved; prices = done ++ z ∷ [] }))
+unfolding after sparse_after
+sparse_price_taken cost moved done z h k =
+    ap (λ o. option_map Sparse (moved_or_priced (record { cost = cost; moved = moved; prices = done }) o (price_said (price_line (length done + 1, z)))))
+    (no_moved (length done + 1, z))
+    ∙ ap (λ o. option_map Sparse (sparse_priced (record { cost = cost; moved = moved; prices = done }) o)) (price_said-line (length done + 1) z h k)
+    ∙ ap (λ b. option_map Sparse (cond b (Some (with_sparse_price (record { cost = cost; moved = moved; prices = done }) z)) None))
+    (eq-eqb (length done + 1) (length done + 1) refl)
+
 node_taken : (side : Side) (count : ℕ) (done : List ℕ) (v : ℕ) → IsNodeInRange v → nat_lt (length done) count ≡ true → is_above_last done v ≡ true
     → after (Blocked (record { side = side; count = count; nodes = done })) (member_line v) ≡ Some
     (Blocked (record { side = side; count = count; nodes = done ++ v ∷ [] }))
@@ -135,6 +166,36 @@ above_before (w ∷ ws) todo v h =
     let below : get_or done k 0 < v = omega (arith, left, right, rises) in
     ap (λ o. option_map_or (λ u. nat_lt u v) o true) (slice_get-get_or done k 0 low) ∙ lt-ltb (get_or done k 0) v below
 
+moved_run : (cost : ℤ) (todo done : List (ℕ × ℤ)) → All IsMoved todo → IsStrictlyIncreasing (arc_numbers (done ++ todo))
+    → run_lines (Sparse (record { cost = cost; moved = done; prices = [] })) (map moved_line todo) ≡ Some
+    (Sparse (record { cost = cost; moved = done ++ todo; prices = [] }))
+moved_run cost [] done h rises = ap (λ ms. Some (Sparse (record { cost = cost; moved = ms; prices = [] }))) (sym (append-nil done))
+moved_run cost (m ∷ todo) done h rises =
+    let numbers : IsStrictlyIncreasing (arc_numbers done ++ m.0 ∷ arc_numbers todo) =
+    subst IsStrictlyIncreasing (map-append (λ n. n.0) done (m ∷ todo)) rises in
+    let above = above_before (arc_numbers done) (arc_numbers todo) m.0 numbers in
+    ap (λ o. o >>= λ e. run_lines e (map moved_line todo)) (moved_taken cost done m (All-head IsMoved m todo h) above)
+    ∙ moved_run cost todo (done ++ m ∷ []) (All-tail IsMoved m todo h)
+    (subst (λ ms. IsStrictlyIncreasing (arc_numbers ms)) (sym (append_assoc done (m ∷ []) todo)) rises)
+    ∙ ap (λ ms. Some (Sparse (record { cost = cost; moved = ms; prices = [] }))) (append_assoc done (m ∷ []) todo)
+
+sparse_prices_run : (cost : ℤ) (moved : List (ℕ × ℤ)) (todo done : List ℤ) (next : ℕ) → next ≡ length done + 1 → All IsAmount todo
+    → length done + length todo ≤ node_limit
+    → run_lines (Sparse (record { cost = cost; moved = moved; prices = done })) (map price_line (enumerate_from next todo)) ≡ Some
+    (Sparse (record { cost = cost; moved = moved; prices = done ++ todo }))
+sparse_prices_run cost moved [] done next place h few =
+    ap (λ zs. Some (Sparse (record { cost = cost; moved = moved; prices = zs }))) (sym (append-nil done))
+sparse_prices_run cost moved (z ∷ todo) done next place h few =
+    let node : IsNodeInRange (length done + 1) = (omega arith, omega (arith, few)) in
+    let after_next : next + 1 ≡ length (done ++ z ∷ []) + 1 = omega (arith, place, length-append done (z ∷ [])) in
+    let fewer : length (done ++ z ∷ []) + length todo ≤ node_limit = omega (arith, few, length-append done (z ∷ [])) in
+    ap (λ n. after (Sparse (record { cost = cost; moved = moved; prices = done })) (price_line (n, z)) >>= λ e. run_lines e
+    (map price_line (enumerate_from (next + 1) todo))) place
+    ∙ ap (λ o. o >>= λ e. run_lines e (map price_line (enumerate_from (next + 1) todo)))
+    (sparse_price_taken cost moved done z node (All-head IsAmount z todo h))
+    ∙ sparse_prices_run cost moved todo (done ++ z ∷ []) (next + 1) after_next (All-tail IsAmount z todo h) fewer
+    ∙ ap (λ zs. Some (Sparse (record { cost = cost; moved = moved; prices = zs }))) (append_assoc done (z ∷ []) todo)
+
 nodes_run : (side : Side) (count : ℕ) (todo done : List ℕ) → All IsNodeInRange todo → length done + length todo ≤ count → IsStrictlyIncreasing (done ++ todo)
     → run_lines (Blocked (record { side = side; count = count; nodes = done })) (map member_line todo) ≡ Some
     (Blocked (record { side = side; count = count; nodes = done ++ todo }))
@@ -153,23 +214,47 @@ nodes_run side count (v ∷ todo) done h few rises =
 
 cost_opens : (cost : ℤ) → IsAmount cost → opening_said (cost_line cost) ≡ Some (OpensFlow cost)
 unfolding opening_said
-cost_opens cost h = ap (λ o. option_or (option_map OpensFlow o) (option_or (option_map opens_set (set_said (cost_line cost)))
-    (option_map OpensRefusal (refusal_said (cost_line cost))))) (cost_said-line cost h)
+cost_opens cost h = ap (λ o. option_or (option_map OpensFlow o) (option_or (option_map (λ version. OpensSparse) (version_said (cost_line cost)))
+    (option_or (option_map opens_set (set_said (cost_line cost))) (option_map OpensRefusal (refusal_said (cost_line cost)))))) (cost_said-line cost h)
+
+no_cost_in_version : cost_said version_line ≡ None
+unfolding cost_said
+no_cost_in_version = refl
+
+version_opens : opening_said version_line ≡ Some OpensSparse
+unfolding opening_said
+version_opens =
+    ap (λ o. option_or (option_map OpensFlow o) (option_or (option_map (λ version. OpensSparse) (version_said version_line))
+    (option_or (option_map opens_set (set_said version_line)) (option_map OpensRefusal (refusal_said version_line))))) no_cost_in_version
+    ∙ ap (λ o. option_or (option_map (λ version. OpensSparse) o)
+    (option_or (option_map opens_set (set_said version_line)) (option_map OpensRefusal (refusal_said version_line)))) version_said-line
 
 no_cost_in_set : (side : Side) (count : ℕ) → cost_said (set_line side count) ≡ None
 unfolding cost_said
 no_cost_in_set side count = refl
 
+no_version_in_set : (side : Side) (count : ℕ) → version_said (set_line side count) ≡ None
+unfolding version_said
+no_version_in_set side count = refl
+
 set_opens : (side : Side) (count : ℕ) → IsNodeInRange count → opening_said (set_line side count) ≡ Some (OpensSet side count)
 unfolding opening_said
 set_opens side count h =
-    ap (λ o. option_or (option_map OpensFlow o) (option_or (option_map opens_set (set_said (set_line side count)))
-    (option_map OpensRefusal (refusal_said (set_line side count))))) (no_cost_in_set side count)
+    ap (λ o. option_or (option_map OpensFlow o) (option_or (option_map (λ version. OpensSparse) (version_said (set_line side count)))
+    (option_or (option_map opens_set (set_said (set_line side count))) (option_map OpensRefusal (refusal_said (set_line side count))))))
+    (no_cost_in_set side count)
+    ∙ ap (λ o. option_or (option_map (λ version. OpensSparse) o)
+    (option_or (option_map opens_set (set_said (set_line side count))) (option_map OpensRefusal (refusal_said (set_line side count)))))
+    (no_version_in_set side count)
     ∙ ap (λ o. option_or (option_map opens_set o) (option_map OpensRefusal (refusal_said (set_line side count)))) (set_said-line side count h)
 
 no_cost_in_refusal : (r : Fault) → cost_said (refusal_line r) ≡ None
 unfolding cost_said
 no_cost_in_refusal r = refl
+
+no_version_in_refusal : (r : Fault) → version_said (refusal_line r) ≡ None
+unfolding version_said
+no_version_in_refusal r = refl
 
 no_set_in_refusal : (r : Fault) → set_said (refusal_line r) ≡ None
 unfolding set_said
@@ -178,8 +263,10 @@ no_set_in_refusal r = refl
 refusal_opens : (r : Fault) → 1 ≤ r.line → r.line ≤ line_limit → opening_said (refusal_line r) ≡ Some (OpensRefusal r)
 unfolding opening_said
 refusal_opens r low high =
-    ap (λ o. option_or (option_map OpensFlow o) (option_or (option_map opens_set (set_said (refusal_line r)))
-    (option_map OpensRefusal (refusal_said (refusal_line r))))) (no_cost_in_refusal r)
+    ap (λ o. option_or (option_map OpensFlow o) (option_or (option_map (λ version. OpensSparse) (version_said (refusal_line r)))
+    (option_or (option_map opens_set (set_said (refusal_line r))) (option_map OpensRefusal (refusal_said (refusal_line r)))))) (no_cost_in_refusal r)
+    ∙ ap (λ o. option_or (option_map (λ version. OpensSparse) o)
+    (option_or (option_map opens_set (set_said (refusal_line r))) (option_map OpensRefusal (refusal_said (refusal_line r))))) (no_version_in_refusal r)
     ∙ ap (λ o. option_or (option_map opens_set o) (option_map OpensRefusal (refusal_said (refusal_line r)))) (no_set_in_refusal r)
     ∙ ap (option_map OpensRefusal) (refusal_said-line r low high)
 
@@ -190,6 +277,7 @@ first_taken line o e = ap (option_map opened) e
 -- the state of an answer
 abbrev draft_of_answer : Answer → Draft
 draft_of_answer (FlowAnswered a) = Flow a
+draft_of_answer (SparseAnswered a) = Sparse a
 draft_of_answer (BlockedAnswered a) = Blocked (record { side = a.side; count = length a.nodes; nodes = a.nodes })
 draft_of_answer (RefusedAnswered r) = Refused r
 
@@ -201,6 +289,13 @@ spelling_run (FlowAnswered a) h =
     ∙ run_lines-append (map flow_line a.sent) (map price_line (enumerate_from 1 a.prices)) (Flow (record { cost = a.cost; sent = []; prices = [] }))
     (Flow (record { cost = a.cost; sent = a.sent; prices = [] })) (sent_run a.cost a.sent [] h.sent_fit)
     ∙ prices_run a.cost a.sent a.prices [] 1 refl h.prices_small (omega (arith, h.few_prices))
+spelling_run (SparseAnswered a) h =
+    let others = map moved_line a.moved ++ map price_line (enumerate_from 1 a.prices) in
+    ap (λ o. o >>= λ e. run_lines e (cost_line a.cost ∷ others)) (first_taken version_line OpensSparse version_opens)
+    ∙ ap (λ o. o >>= λ e. run_lines e others) (cost_taken a.cost h.cost_small)
+    ∙ run_lines-append (map moved_line a.moved) (map price_line (enumerate_from 1 a.prices)) (Sparse (record { cost = a.cost; moved = []; prices = [] }))
+    (Sparse (record { cost = a.cost; moved = a.moved; prices = [] })) (moved_run a.cost a.moved [] h.moved_fit h.ascending)
+    ∙ sparse_prices_run a.cost a.moved a.prices [] 1 refl h.prices_small (omega (arith, h.few_prices))
 spelling_run (BlockedAnswered a) h =
     ap (λ o. o >>= λ e. run_lines e (map member_line a.nodes)) (first_taken (set_line a.side (length a.nodes)) (OpensSet a.side (length a.nodes))
     (set_opens a.side (length a.nodes) (h.nonempty, h.few)))
@@ -211,6 +306,7 @@ spelling_run (RefusedAnswered r) h =
 answer_finished : (a : Answer) → answer_of_draft (draft_of_answer a) ≡ Some a
 unfolding answer_of_draft
 answer_finished (FlowAnswered a) = refl
+answer_finished (SparseAnswered a) = refl
 answer_finished (BlockedAnswered a) = ap (λ b. cond b (Some (BlockedAnswered a)) None) (eq-eqb (length a.nodes) (length a.nodes) refl)
 answer_finished (RefusedAnswered r) = refl
 

@@ -1,18 +1,19 @@
 -- What an answer keeps, it keeps with one more line that fits.
-use Rattle.std.proofs.Common.{◌≡◌, ℕ, ◌+◌, ◌-◌, ◌<◌, true, List, [], ◌∷◌, ◌++◌, length, get_or, Some, sym, ap, ◌∙◌, inl, inr, arith}
+use Rattle.std.proofs.Common.{◌≡◌, ℕ, ◌+◌, ◌-◌, ◌<◌, true, List, [], ◌∷◌, ◌++◌, length, get_or, Some, sym, ap, subst, ◌∙◌, inl, inr, arith}
 use Rattle.std.specs.Prelude.{ℤ, nat_lt}
 use Rattle.std.specs.Option.{option_map_or}
 use Rattle.std.specs.List.Sorted.{IsStrictlyIncreasing}
 use Rattle.std.proofs.lemmas.Bool.{cases_eq, ltb-true}
-use Rattle.std.proofs.lemmas.List.{get_or_append_left, get_or_push, length-append}
+use Rattle.std.proofs.lemmas.List.{get_or_append_left, get_or_push, length-append, map_push}
 use Rattle.std.proofs.lemmas.List.Elements.{All-push}
 use Rattle.std.proofs.lemmas.Option.{slice_get-get_or}
-use Rattle.mcf_answer.specs.Private.Draft.{with_member, with_price, with_sent}
+use Rattle.mcf_answer.specs.Private.Draft.{with_member, with_moved, with_price, with_sent, with_sparse_price}
 use Rattle.mcf_answer.specs.Fits.{is_above_last}
 use Rattle.mcf_answer.specs.Private.PartialSet.{IsPartialSet, PartialSet}
 use Rattle.mcf_answer.specs.Ranges.{IsAmount, IsNodeInRange}
 use Rattle.mcf_answer.specs.Said.{member_said, sent_said}
 use Rattle.mcf_answer.specs.Solution.{IsSent, IsSolution, Solution}
+use Rattle.mcf_answer.specs.SparseSolution.{IsMoved, IsSparseSolution, SparseSolution, arc_numbers}
 use Rattle.mcf_answer.specs.Token.{Token}
 use Rattle.mcf_answer.specs.declared.answers.Sent.{Sent}
 use Rattle.mcf_answer.proofs.SaidLemmas.{member_said-some, sent_said-some}
@@ -55,6 +56,27 @@ pub with_price_fits : (a : Solution) (v : ℕ) (z : ℤ) → IsSolution a → Is
 with_price_fits a v z h node amount next = record {
   cost_small = h.cost_small;
   sent_fit = h.sent_fit;
+  prices_small = All-push IsAmount a.prices z h.prices_small amount;
+  few_prices = rw (length-append a.prices (z ∷ [])) (omega (arith, node.1, next));
+}
+
+pub with_moved_fits : (a : SparseSolution) (m : ℕ × ℤ) → IsSparseSolution a → IsMoved m → is_above_last (arc_numbers a.moved) m.0 ≡ true
+    → IsSparseSolution (with_moved a m)
+with_moved_fits a m h fits above = record {
+  cost_small = h.cost_small;
+  moved_fit = All-push IsMoved a.moved m h.moved_fit fits;
+  ascending =
+      subst IsStrictlyIncreasing (sym (map_push (λ n. n.0) a.moved m)) (IsStrictlyIncreasing-push (arc_numbers a.moved) m.0 h.ascending above);
+  prices_small = h.prices_small;
+  few_prices = h.few_prices;
+}
+
+pub with_sparse_price_fits : (a : SparseSolution) (v : ℕ) (z : ℤ) → IsSparseSolution a → IsNodeInRange v → IsAmount z → v ≡ length a.prices + 1
+    → IsSparseSolution (with_sparse_price a z)
+with_sparse_price_fits a v z h node amount next = record {
+  cost_small = h.cost_small;
+  moved_fit = h.moved_fit;
+  ascending = h.ascending;
   prices_small = All-push IsAmount a.prices z h.prices_small amount;
   few_prices = rw (length-append a.prices (z ∷ [])) (omega (arith, node.1, next));
 }

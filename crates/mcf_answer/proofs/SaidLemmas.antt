@@ -2,15 +2,16 @@
 use Rattle.std.proofs.Common.{◌≡◌, ℕ, ◌≤◌, Bool, true, false, cond, List, [], ◌∷◌, Some, None, refl, sym, ap, subst, ◌∙◌, arith, pos, negsuc}
 use Rattle.std.specs.Prelude.{ℤ, Option, codes, option_map, neg_ℤ}
 use Rattle.std.proofs.lemmas.Slice.Eq.{bytes_eq-Decides}
-use Rattle.mcf_answer.specs.Ranges.{IsAmount, IsNodeInRange, amount_limit}
-use Rattle.mcf_answer.specs.Said.{amount_of, code_of, cost_said, line_number_of, node_of, member_said, number_within, price_said, refusal_said, sent_said}
-use Rattle.mcf_answer.specs.Said.{set_said, side_of, ◌>>=◌}
+use Rattle.mcf_answer.specs.Ranges.{IsAmount, IsArcInRange, IsNodeInRange, amount_limit}
+use Rattle.mcf_answer.specs.Said.{amount_of, arc_of, code_of, cost_said, line_number_of, node_of, member_said, moved_said, number_within, price_said}
+use Rattle.mcf_answer.specs.Said.{refusal_said, sent_said, set_said, side_of, version_said, ◌>>=◌}
 use Rattle.mcf_answer.specs.Solution.{IsSent}
-use Rattle.mcf_answer.specs.Spelling.{cost_line, flow_line, member_line, price_line, refusal_line, set_line, side_word}
+use Rattle.mcf_answer.specs.SparseSolution.{IsMoved}
+use Rattle.mcf_answer.specs.Spelling.{cost_line, flow_line, member_line, moved_line, price_line, refusal_line, set_line, side_word, version_line}
 use Rattle.mcf_answer.specs.Token.{Token, Word, Number, is_word}
 use Rattle.mcf_answer.specs.declared.answers.Sent.{Sent}
 use Rattle.mcf_instance.specs.Fault.{Fault, code_word}
-use Rattle.mcf_instance.specs.Limits.{node_limit, line_limit}
+use Rattle.mcf_instance.specs.Limits.{node_limit, arc_limit, line_limit}
 use Rattle.mcf_instance.specs.declared.code.Code.{Code}
 use Rattle.mcf_instance.specs.declared.problem.Side.{Side}
 use Rattle.mcf_instance.specs.declared.problem.Side.TheVariants.{Send, Take}
@@ -94,6 +95,21 @@ node_of-some t v e =
 node_of-number : (v : ℕ) → IsNodeInRange v → node_of (Number (pos v)) ≡ Some v
 node_of-number v h = count_of-number node_limit v h.0 h.1
 
+arc_of-some : (t : Token) (k : ℕ) → arc_of t ≡ Some k → (t ≡ Number (pos k)) × IsArcInRange k
+arc_of-some t k e =
+    let f = count_of-some arc_limit t k e in
+    (f.0, (f.1, f.2))
+
+arc_of-number : (k : ℕ) → IsArcInRange k → arc_of (Number (pos k)) ≡ Some k
+arc_of-number k h = count_of-number arc_limit k h.0 h.1
+
+-- a number in the range from 2 to 2 is 2
+is_two : (z : ℤ) → is_within (pos 2) (pos 2) z ≡ true → z ≡ pos 2
+is_two (pos n) e =
+    let two : n ≡ 2 = grind arith in
+    ap pos two
+is_two (negsuc n) e = absurd (grind arith)
+
 is_word-true : (word : List ℕ) (t : Token) → is_word word t ≡ true → t ≡ Word word
 is_word-true word (Word bytes) e = ap Word ((bytes_eq-Decides bytes word).0 e)
 is_word-true word (Number z) e = cc
@@ -121,6 +137,19 @@ code_of-some (Word bytes) c e = ap Word (sym ((code_of_word-known bytes c).0 e))
 code_of-some (Number z) c e = cc
 
 -- ---- lines: what a line says is in range, and the line is the one that says it
+
+pub version_said-some : (line : List Token) (version : ℤ) → version_said line ≡ Some version → line ≡ version_line
+unfolding version_said
+version_said-some (word ∷ number ∷ []) version e =
+    let w = if-some (is_word (codes "v") word) (number_within (pos 2) (pos 2) number) version e in
+    let a = number_within-some (pos 2) (pos 2) number version w.1 in
+    let first : word ≡ Word (codes "v") = is_word-true (codes "v") word w.0 in
+    ap (λ t. t ∷ number ∷ []) first ∙ ap (λ t. Word (codes "v") ∷ t ∷ []) (a.0 ∙ ap Number (is_two version a.1))
+version_said-some line version e = cc
+
+pub version_said-line : version_said version_line ≡ Some (pos 2)
+unfolding version_said
+version_said-line = refl
 
 pub cost_said-some : (line : List Token) (cost : ℤ) → cost_said line ≡ Some cost → (line ≡ cost_line cost) × IsAmount cost
 unfolding cost_said
@@ -155,6 +184,24 @@ sent_said-some line s e = cc
 pub sent_said-line : (s : Sent) → IsSent s → sent_said (flow_line s) ≡ Some s
 unfolding sent_said
 sent_said-line s h = rw (node_of-number s.src h.src_is_node, node_of-number s.dst h.dst_is_node, amount_of-number s.flow h.flow_small) refl
+
+pub moved_said-some : (line : List Token) (m : ℕ × ℤ) → moved_said line ≡ Some m → (line ≡ moved_line m) × IsMoved m
+unfolding moved_said
+moved_said-some (word ∷ arc ∷ flow ∷ []) m e =
+    let w = if-some (is_word (codes "g") word) _ m e in
+    let a = bind-some (arc_of arc) _ m w.1 in
+    let b = bind-some (amount_of flow) _ m a.2 in
+    let is : m ≡ (a.0, b.0) = cc b.2 in
+    let first : word ≡ Word (codes "g") = is_word-true (codes "g") word w.0 in
+    let named = arc_of-some arc a.0 a.1 in
+    let amount = amount_of-some flow b.0 b.1 in
+    let line : word ∷ arc ∷ flow ∷ [] ≡ moved_line (a.0, b.0) = cc in
+    (line ∙ ap moved_line (sym is), subst IsMoved (sym is) (named.1, amount.1))
+moved_said-some line m e = cc
+
+pub moved_said-line : (m : ℕ × ℤ) → IsMoved m → moved_said (moved_line m) ≡ Some m
+unfolding moved_said
+moved_said-line m h = rw (arc_of-number m.0 h.0, amount_of-number m.1 h.1) refl
 
 pub price_said-some : (line : List Token) (y : ℕ × ℤ) → price_said line ≡ Some y → (line ≡ price_line y) × IsNodeInRange y.0 × IsAmount y.1
 unfolding price_said

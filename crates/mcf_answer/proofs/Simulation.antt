@@ -1,25 +1,28 @@
 -- The parser's state stands for the lines so far, and what it gives at the end is what the text stands for.
 use Rattle.std.proofs.Common.{◌≡◌, ℕ, ◌+◌, Bool, true, false, cond, ◌&&◌, ◌||◌, List, [], ◌∷◌, ◌++◌, length, Some, None, Ok, Err, refl, sym, ap, ◌∙◌, nat_eq}
-use Rattle.std.proofs.Common.{append_assoc, append-nil}
-use Rattle.std.specs.Prelude.{ℤ, Option, Result, map, filter, filter_map, is_some, nat_lt, option_map, slice_get}
+use Rattle.std.proofs.Common.{append_assoc, append-nil, arith}
+use Rattle.std.specs.Prelude.{ℤ, Option, Result, map, filter, filter_map, is_some, nat_lt, option_map, pos, slice_get, unwrap_or}
 use Rattle.std.specs.List.{cons_option}
 use Rattle.std.specs.Option.{option_map_or, option_or}
+use Rattle.std.proofs.lemmas.Bool.{lt-ltb}
 use Rattle.std.proofs.lemmas.List.{length-map, map-append, map-id}
 use Rattle.std.proofs.lemmas.List.Elements.{filter_map-append}
 use Rattle.std.proofs.lemmas.Simd.{map-map}
-use Rattle.mcf_answer.specs.Private.Draft.{after, and_then, answer_of_draft, opened, run, sent_or_priced, set_after, solution_after, with_price, with_said}
-use Rattle.mcf_answer.specs.Private.Draft.{with_sent}
-use Rattle.mcf_answer.specs.Fits.{as_misfit, fits, fits_after, has_all, is_above_last, is_complete, is_node_above, misfit, misfit_of_lines, misfits}
-use Rattle.mcf_answer.specs.Fits.{member_lines, price_lines, sent_lines}
-use Rattle.mcf_answer.specs.Parsing.{answer_of_lines, answer_opened, parsing, parsing_of}
-use Rattle.mcf_answer.specs.Said.{Opening, OpensFlow, OpensSet, OpensRefusal, member_said, opening_said, price_said, sent_said}
+use Rattle.mcf_answer.specs.Private.Draft.{after, and_then, answer_of_draft, costed, moved_or_priced, opened, run, sent_or_priced, set_after, solution_after}
+use Rattle.mcf_answer.specs.Private.Draft.{sparse_after, with_moved, with_price, with_said, with_sent, with_sparse_price}
+use Rattle.mcf_answer.specs.Fits.{as_misfit, fits, fits_after, fits_sparse, has_all, is_above_last, is_complete, is_node_above, misfit, misfit_of_lines}
+use Rattle.mcf_answer.specs.Fits.{misfits, member_lines, moved_lines, price_lines, sent_lines}
+use Rattle.mcf_answer.specs.Parsing.{answer_of_lines, answer_opened, cost_of, parsing, parsing_of, sparse_opened}
+use Rattle.mcf_answer.specs.Said.{Opening, OpensFlow, OpensSparse, OpensSet, OpensRefusal, cost_said, member_said, moved_said, opening_said, price_said}
+use Rattle.mcf_answer.specs.Said.{sent_said}
+use Rattle.mcf_answer.specs.SparseSolution.{arc_numbers}
 use Rattle.mcf_answer.specs.Token.{Token, token_lines, tokens}
 use Rattle.mcf_answer.specs.declared.answers.Answer.{Answer}
 use Rattle.mcf_answer.specs.declared.answers.Sent.{Sent}
 use Rattle.mcf_answer.specs.declared.draft.Draft.{Draft}
-use Rattle.mcf_answer.specs.declared.draft.Draft.TheVariants.{Empty, Flow, Blocked}
-use Rattle.mcf_answer.proofs.LinesRead.{filled, draft_of, answer_or, outcome}
-use Rattle.mcf_answer.proofs.SaidLemmas.{sent_said-some}
+use Rattle.mcf_answer.specs.declared.draft.Draft.TheVariants.{Empty, Flow, Sparse, Blocked}
+use Rattle.mcf_answer.proofs.LinesRead.{announced_filled, filled, draft_of, answer_or, outcome}
+use Rattle.mcf_answer.proofs.SaidLemmas.{moved_said-some, sent_said-some}
 use Rattle.mcf_instance.specs.declared.problem.Side.{Side}
 use Rattle.mcf_text.specs.Fields.{is_kept}
 use Rattle.mcf_text.specs.Lines.{numbered_lines}
@@ -31,6 +34,11 @@ use Rattle.mcf_text.specs.Row.{Row, line_after, row_of, rows, with_earlier}
 no_price : (line : List Token) (s : Sent) → sent_said line ≡ Some s → price_said line ≡ None
 unfolding price_said
 no_price line s e = ap price_said (sent_said-some line s e).0
+
+-- nor is a `g` line
+no_price_moved : (line : List Token) (m : ℕ × ℤ) → moved_said line ≡ Some m → price_said line ≡ None
+unfolding price_said
+no_price_moved line m e = ap price_said (moved_said-some line m e).0
 
 -- what the lines say, with one more line
 more : {X : Type 0} (said : List Token → Option X) (others : List (List Token)) (line : List Token) (o : Option X) → said line ≡ o
@@ -75,6 +83,48 @@ flow_step cost xs ys None (Some y) apart =
         ∙ ap (λ zs. Some (flow_of cost zs (ys ++ y ∷ []))) (sym (append-nil xs))
     go false = refl
 
+-- the state of a sparse flow answer, by what its lines say
+abbrev sparse_state : ℤ → List (ℕ × ℤ) → List (ℕ × ℤ) → Draft
+sparse_state cost moved prices = Sparse (record { cost = cost; moved = moved; prices = map (λ y. y.1) prices })
+
+sparse_more : (cost : List Token) (others : List (List Token)) (line : List Token) (om : Option (ℕ × ℤ)) (oy : Option (ℕ × ℤ)) → moved_said line ≡ om
+    → price_said line ≡ oy
+    → announced_filled (cost ∷ others ++ line ∷ []) ≡ sparse_state (cost_of cost) (moved_lines others ++ cons_option om [])
+    (price_lines others ++ cons_option oy [])
+sparse_more cost others line om oy e f =
+    ap (λ xs. sparse_state (cost_of cost) xs (price_lines (others ++ line ∷ []))) (more moved_said others line om e)
+    ∙ ap (sparse_state (cost_of cost) (moved_lines others ++ cons_option om [])) (more price_said others line oy f)
+
+-- a line of a sparse flow answer, by what it says
+sparse_step : (cost : ℤ) (xs : List (ℕ × ℤ)) (ys : List (ℕ × ℤ)) (om : Option (ℕ × ℤ)) (oy : Option (ℕ × ℤ)) → ((m : ℕ × ℤ) → om ≡ Some m → oy ≡ None)
+    → option_map Sparse (moved_or_priced (record { cost = cost; moved = xs; prices = map (λ y. y.1) ys }) om oy)
+    ≡ cond ((option_map_or (λ m. is_above_last (arc_numbers xs) m.0) om false && nat_eq (length ys) 0)
+    || option_map_or (λ y. nat_eq y.0 (length ys + 1)) oy false)
+    (Some (sparse_state cost (xs ++ cons_option om []) (ys ++ cons_option oy []))) None
+sparse_step cost xs ys None None apart = refl
+sparse_step cost xs ys (Some m) (Some y) apart = cc (apart m refl)
+sparse_step cost xs ys (Some m) None apart =
+    ap (λ n. option_map Sparse (cond (is_above_last (arc_numbers xs) m.0 && nat_eq n 0)
+    (Some (with_moved (record { cost = cost; moved = xs; prices = map (λ y. y.1) ys }) m)) None))
+    (length-map ys (λ y. y.1))
+    ∙ go (is_above_last (arc_numbers xs) m.0 && nat_eq (length ys) 0)
+  where
+    go : (b : Bool) → option_map Sparse (cond b (Some (with_moved (record { cost = cost; moved = xs; prices = map (λ y. y.1) ys }) m)) None)
+        ≡ cond (b || false) (Some (sparse_state cost (xs ++ m ∷ []) (ys ++ []))) None
+    go true = ap (λ zs. Some (sparse_state cost (xs ++ m ∷ []) zs)) (sym (append-nil ys))
+    go false = refl
+sparse_step cost xs ys None (Some y) apart =
+    ap (λ n. option_map Sparse (cond (nat_eq y.0 (n + 1)) (Some (with_sparse_price (record { cost = cost; moved = xs; prices = map (λ y. y.1) ys }) y.1)) None))
+    (length-map ys (λ y. y.1))
+    ∙ go (nat_eq y.0 (length ys + 1))
+  where
+    go : (b : Bool) → option_map Sparse (cond b (Some (with_sparse_price (record { cost = cost; moved = xs; prices = map (λ y. y.1) ys }) y.1)) None)
+        ≡ cond b (Some (sparse_state cost (xs ++ []) (ys ++ y ∷ []))) None
+    go true =
+        ap (λ zs. Some (Sparse (record { cost = cost; moved = xs; prices = zs }))) (sym (map-append (λ z. z.1) ys (y ∷ [])))
+        ∙ ap (λ zs. Some (sparse_state cost zs (ys ++ y ∷ []))) (sym (append-nil xs))
+    go false = refl
+
 -- a line of a set, by what it says
 set_step : (side : Side) (count : ℕ) (vs : List ℕ) (o : Option ℕ)
     → option_map Blocked (with_said (record { side = side; count = count; nodes = vs }) o)
@@ -92,12 +142,29 @@ set_step side count vs (Some v) = go (nat_lt (length vs) count && is_above_last 
     go true = refl
     go false = refl
 
+-- the line after a version line, by what it says
+cost_step : (o : Option ℤ)
+    → option_map costed o ≡ cond (is_some o) (Some (Sparse (record { cost = unwrap_or o (pos 0); moved = []; prices = [] }))) None
+cost_step None = refl
+cost_step (Some cost) = refl
+
+-- the state after one more line of a sparse flow answer, by whether the line fits
+after_announced : (others : List (List Token)) (line : List Token)
+    → after (announced_filled others) line ≡ cond (fits_sparse others line) (Some (announced_filled (others ++ line ∷ []))) None
+unfolding after sparse_after
+after_announced [] line = cost_step (cost_said line)
+after_announced (cost ∷ others) line =
+    sparse_step (cost_of cost) (moved_lines others) (price_lines others) (moved_said line) (price_said line) (no_price_moved line)
+    ∙ ap (λ d. cond (fits_sparse (cost ∷ others) line) (Some d) None)
+    (sym (sparse_more cost others line (moved_said line) (price_said line) refl refl))
+
 -- the state after one more line, by whether the line fits
 after_filled : (o : Option Opening) (others : List (List Token)) (line : List Token)
     → after (filled o others) line ≡ cond (fits_after o others line) (Some (filled o (others ++ line ∷ []))) None
 unfolding after solution_after set_after
 after_filled None others line = refl
 after_filled (Some (OpensRefusal r)) others line = refl
+after_filled (Some OpensSparse) others line = after_announced others line
 after_filled (Some (OpensSet side count)) others line =
     set_step side count (member_lines others) (member_said line)
     ∙ ap (λ vs. cond (nat_lt (length (member_lines others)) count && is_node_above (member_lines others) line)
@@ -111,6 +178,7 @@ after_filled (Some (OpensFlow cost)) others line =
 first_line : (o : Option Opening) → option_map opened o ≡ cond (is_some o) (Some (filled o [])) None
 first_line None = refl
 first_line (Some (OpensFlow cost)) = refl
+first_line (Some OpensSparse) = refl
 first_line (Some (OpensSet side count)) = refl
 first_line (Some (OpensRefusal r)) = refl
 
@@ -218,6 +286,9 @@ finished-filled : (o : Option Opening) (others : List (List Token)) → answer_o
 unfolding answer_of_draft
 finished-filled None others = refl
 finished-filled (Some (OpensFlow cost)) others = refl
+finished-filled (Some OpensSparse) [] = refl
+finished-filled (Some OpensSparse) (cost ∷ others) =
+    sym (ap (λ b. cond b (Some (sparse_opened (cost ∷ others))) None) (lt-ltb 0 (length (cost ∷ others)) (omega arith)))
 finished-filled (Some (OpensSet side count)) others = refl
 finished-filled (Some (OpensRefusal r)) others = refl
 

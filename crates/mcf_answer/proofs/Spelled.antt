@@ -11,26 +11,30 @@ use Rattle.std.proofs.lemmas.List.{map_push, nil_from_length}
 use Rattle.std.proofs.lemmas.List.Elements.{All-nil}
 use Rattle.std.proofs.lemmas.Option.{cond_some}
 use Rattle.mcf_answer.specs.BlockingSet.{IsBlockingSet}
-use Rattle.mcf_answer.specs.Private.Draft.{after, and_then, answer_of_draft, opened, sent_or_priced, set_after, solution_after, with_member, with_price}
-use Rattle.mcf_answer.specs.Private.Draft.{with_said, with_sent}
+use Rattle.mcf_answer.specs.Private.Draft.{after, and_then, answer_of_draft, costed, moved_or_priced, opened, sent_or_priced, set_after, solution_after}
+use Rattle.mcf_answer.specs.Private.Draft.{sparse_after, with_member, with_moved, with_price, with_said, with_sent, with_sparse_price}
 use Rattle.mcf_answer.specs.Fits.{is_above_last}
 use Rattle.mcf_answer.specs.Parsing.{parsing}
 use Rattle.mcf_answer.specs.Private.PartialSet.{IsPartialSet, PartialSet}
 use Rattle.mcf_answer.specs.Ranges.{IsAmount, IsNodeInRange}
-use Rattle.mcf_answer.specs.Said.{Opening, OpensFlow, OpensSet, OpensRefusal, cost_said, member_said, opening_said, opens_set, price_said, refusal_said}
-use Rattle.mcf_answer.specs.Said.{sent_said, set_said}
+use Rattle.mcf_answer.specs.Said.{Opening, OpensFlow, OpensSparse, OpensSet, OpensRefusal, cost_said, member_said, moved_said, opening_said, opens_set}
+use Rattle.mcf_answer.specs.Said.{price_said, refusal_said, sent_said, set_said, version_said}
 use Rattle.mcf_answer.specs.Solution.{IsSent, IsSolution, Solution}
-use Rattle.mcf_answer.specs.Spelling.{IsAnswer, Spells, cost_line, flow_line, member_line, price_line, refusal_line, set_line, solution_lines, spelling}
+use Rattle.mcf_answer.specs.SparseSolution.{IsMoved, IsSparseSolution, SparseSolution, arc_numbers}
+use Rattle.mcf_answer.specs.Spelling.{IsAnswer, Spells, cost_line, flow_line, member_line, moved_line, price_line, refusal_line, set_line, solution_lines}
+use Rattle.mcf_answer.specs.Spelling.{sparse_lines, spelling, version_line}
 use Rattle.mcf_answer.specs.Token.{Token, tokens}
 use Rattle.mcf_answer.specs.declared.answers.Answer.{Answer}
-use Rattle.mcf_answer.specs.declared.answers.Answer.TheVariants.{Flow as FlowAnswered, Blocked as BlockedAnswered, Refused as RefusedAnswered}
+use Rattle.mcf_answer.specs.declared.answers.Answer.TheVariants.{Flow as FlowAnswered, Sparse as SparseAnswered, Blocked as BlockedAnswered}
+use Rattle.mcf_answer.specs.declared.answers.Answer.TheVariants.{Refused as RefusedAnswered}
 use Rattle.mcf_answer.specs.declared.answers.Sent.{Sent}
 use Rattle.mcf_answer.specs.declared.draft.Draft.{Draft}
-use Rattle.mcf_answer.specs.declared.draft.Draft.TheVariants.{Empty, Flow, Blocked, Refused}
+use Rattle.mcf_answer.specs.declared.draft.Draft.TheVariants.{Empty, Flow, Announced, Sparse, Blocked, Refused}
 use Rattle.mcf_answer.proofs.Appends.{enumerate_from-push}
-use Rattle.mcf_answer.proofs.Grows.{with_member_fits, with_price_fits, with_sent_fits}
+use Rattle.mcf_answer.proofs.Grows.{with_member_fits, with_moved_fits, with_price_fits, with_sent_fits, with_sparse_price_fits}
 use Rattle.mcf_answer.proofs.LinesRead.{answer_or, outcome}
-use Rattle.mcf_answer.proofs.SaidLemmas.{cost_said-some, map-some, member_said-some, price_said-some, refusal_said-some, sent_said-some, set_said-some}
+use Rattle.mcf_answer.proofs.SaidLemmas.{cost_said-some, map-some, member_said-some, moved_said-some, price_said-some, refusal_said-some, sent_said-some}
+use Rattle.mcf_answer.proofs.SaidLemmas.{set_said-some, version_said-some}
 use Rattle.mcf_answer.proofs.Simulation.{outcome-parsing, run-rows, run_rows}
 use Rattle.mcf_instance.specs.Fault.{Fault}
 use Rattle.mcf_instance.specs.Limits.{line_limit}
@@ -44,6 +48,8 @@ use Rattle.mcf_text.specs.Row.{Row, line_after, rows}
 abbrev spelled : Draft → List (List Token)
 spelled Empty = []
 spelled (Flow a) = solution_lines a
+spelled Announced = version_line ∷ []
+spelled (Sparse a) = sparse_lines a
 spelled (Blocked a) = set_line a.side a.count ∷ map member_line a.nodes
 spelled (Refused r) = refusal_line r ∷ []
 
@@ -51,6 +57,8 @@ spelled (Refused r) = refusal_line r ∷ []
 abbrev IsDraft : Draft → Type 0
 IsDraft Empty = ⊤
 IsDraft (Flow a) = IsSolution a
+IsDraft Announced = ⊤
+IsDraft (Sparse a) = IsSparseSolution a
 IsDraft (Blocked a) = IsPartialSet a
 IsDraft (Refused r) = (1 ≤ r.line) × (r.line ≤ line_limit)
 
@@ -67,32 +75,38 @@ increasing_none k inside = absurd (omega (arith, inside))
 -- the first line of an answer
 opening_grows : (line : List Token) (o : Opening) → opening_said line ≡ Some o → Grows Empty line (opened o)
 unfolding opening_said
-opening_grows line o e = go (cost_said line) (set_said line) (refusal_said line) refl refl refl e
+opening_grows line o e = go (cost_said line) (version_said line) (set_said line) (refusal_said line) refl refl refl refl e
   where
-    go : (oc : Option ℤ) (os : Option (Side × ℕ)) (or : Option Fault) → cost_said line ≡ oc → set_said line ≡ os → refusal_said line ≡ or
-        → option_or (option_map OpensFlow oc) (option_or (option_map opens_set os) (option_map OpensRefusal or)) ≡ Some o → Grows Empty line (opened o)
-    go (Some cost) os or ec es er f =
+    go : (oc ov : Option ℤ) (os : Option (Side × ℕ)) (or : Option Fault) → cost_said line ≡ oc → version_said line ≡ ov → set_said line ≡ os
+        → refusal_said line ≡ or
+        → option_or (option_map OpensFlow oc) (option_or (option_map (λ version. OpensSparse) ov)
+        (option_or (option_map opens_set os) (option_map OpensRefusal or))) ≡ Some o
+        → Grows Empty line (opened o)
+    go None (Some version) os or ec ev es er f =
+        let is : OpensSparse ≡ o = cc f in
+        subst (λ p. Grows Empty line (opened p)) is record { lines = ap (λ l. l ∷ []) (sym (version_said-some line version ev)); in_range = tt }
+    go (Some cost) ov os or ec ev es er f =
         let said = cost_said-some line cost ec in
         let is : OpensFlow cost ≡ o = cc f in
         subst (λ p. Grows Empty line (opened p)) is record {
           lines = ap (λ l. l ∷ []) (sym said.0);
           in_range = record { cost_small = said.1; sent_fit = All-nil IsSent; prices_small = All-nil IsAmount; few_prices = omega arith };
         }
-    go None (Some set) or ec es er f =
+    go None None (Some set) or ec ev es er f =
         let said = set_said-some line set es in
         let is : OpensSet set.0 set.1 ≡ o = cc f in
         subst (λ p. Grows Empty line (opened p)) is record {
           lines = ap (λ l. l ∷ []) (sym said.0);
           in_range = record { some = said.1; few = omega arith; are_nodes = All-nil IsNodeInRange; ascending = increasing_none };
         }
-    go None None (Some r) ec es er f =
+    go None None None (Some r) ec ev es er f =
         let said = refusal_said-some line r er in
         let is : OpensRefusal r ≡ o = cc f in
         subst (λ p. Grows Empty line (opened p)) is record {
           lines = ap (λ l. l ∷ []) (sym said.0);
           in_range = (said.1, said.2);
         }
-    go None None None ec es er f = cc
+    go None None None None ec ev es er f = cc
 
 -- a flow line
 sent_grows : (a : Solution) (line : List Token) (s : Sent) → IsSolution a → sent_said line ≡ Some s → length a.prices ≡ 0
@@ -126,6 +140,54 @@ price_grows a line y h e next =
       in_range = with_price_fits a y.0 y.1 h said.1 said.2 next;
     }
 
+-- the cost line of a sparse flow answer
+cost_grows : (line : List Token) (cost : ℤ) → cost_said line ≡ Some cost → Grows Announced line (costed cost)
+cost_grows line cost e =
+    let said = cost_said-some line cost e in
+    record {
+      lines = ap (λ l. version_line ∷ l ∷ []) (sym said.0);
+      in_range = record {
+        cost_small = said.1;
+        moved_fit = All-nil IsMoved;
+        ascending = increasing_none;
+        prices_small = All-nil IsAmount;
+        few_prices = omega arith;
+      };
+    }
+
+-- a `g` line
+moved_grows : (a : SparseSolution) (line : List Token) (m : ℕ × ℤ) → IsSparseSolution a → moved_said line ≡ Some m
+    → is_above_last (arc_numbers a.moved) m.0 ≡ true → length a.prices ≡ 0 → Grows (Sparse a) line (Sparse (with_moved a m))
+moved_grows a line m h e above none =
+    let said = moved_said-some line m e in
+    let empty : a.prices ≡ [] = nil_from_length a.prices none in
+    let front : List (List Token) → List (List Token) = λ ls. version_line ∷ cost_line a.cost ∷ ls in
+    record {
+      lines =
+          ap (λ zs. front (map moved_line (a.moved ++ m ∷ []) ++ map price_line (enumerate_from 1 zs))) empty
+          ∙ ap front (append-nil (map moved_line (a.moved ++ m ∷ [])) ∙ map_push moved_line a.moved m ∙ ap (λ l. map moved_line a.moved ++ l ∷ []) (sym said.0))
+          ∙ ap (λ ls. front (ls ++ line ∷ [])) (sym (append-nil (map moved_line a.moved)))
+          ∙ sym (ap (λ zs. front (map moved_line a.moved ++ map price_line (enumerate_from 1 zs)) ++ line ∷ []) empty);
+      in_range = with_moved_fits a m h said.1 above;
+    }
+
+-- a price line of a sparse flow answer
+sparse_price_grows : (a : SparseSolution) (line : List Token) (y : ℕ × ℤ) → IsSparseSolution a → price_said line ≡ Some y → y.0 ≡ length a.prices + 1
+    → Grows (Sparse a) line (Sparse (with_sparse_price a y.1))
+sparse_price_grows a line y h e next =
+    let said = price_said-some line y e in
+    let place : 1 + length a.prices ≡ y.0 = omega (arith, next) in
+    let front : List (List Token) → List (List Token) = λ ls. version_line ∷ cost_line a.cost ∷ ls in
+    record {
+      lines =
+          ap (λ ys. front (map moved_line a.moved ++ map price_line ys)) (enumerate_from-push 1 a.prices y.1
+          ∙ ap (λ n. enumerate_from 1 a.prices ++ (n, y.1) ∷ []) place)
+          ∙ ap (λ ls. front (map moved_line a.moved ++ ls)) (map_push price_line (enumerate_from 1 a.prices) y
+          ∙ ap (λ l. map price_line (enumerate_from 1 a.prices) ++ l ∷ []) (sym said.0))
+          ∙ ap front (sym (append_assoc (map moved_line a.moved) (map price_line (enumerate_from 1 a.prices)) (line ∷ [])));
+      in_range = with_sparse_price_fits a y.0 y.1 h said.1 said.2 next;
+    }
+
 -- a node line
 node_grows : (a : PartialSet) (line : List Token) (v : ℕ) → IsPartialSet a → member_said line ≡ Some v → length a.nodes < a.count
     → is_above_last a.nodes v ≡ true → Grows (Blocked a) line (Blocked (with_member a v))
@@ -150,6 +212,21 @@ solution_grows a b line h e = go (sent_said line) (price_said line) refl refl e
         let t = cond_some (nat_eq (length a.prices) 0) (with_sent a s) b f in
         subst (λ d. Grows (Flow a) line (Flow d)) t.1 (sent_grows a line s h es (eqb-true (length a.prices) 0 t.0))
 
+sparse_grows : (a b : SparseSolution) (line : List Token) → IsSparseSolution a → sparse_after a line ≡ Some b → Grows (Sparse a) line (Sparse b)
+unfolding sparse_after
+sparse_grows a b line h e = go (moved_said line) (price_said line) refl refl e
+  where
+    go : (om : Option (ℕ × ℤ)) (oy : Option (ℕ × ℤ)) → moved_said line ≡ om → price_said line ≡ oy → moved_or_priced a om oy ≡ Some b
+        → Grows (Sparse a) line (Sparse b)
+    go None None em ey f = cc
+    go None (Some y) em ey f =
+        let t = cond_some (nat_eq y.0 (length a.prices + 1)) (with_sparse_price a y.1) b f in
+        subst (λ d. Grows (Sparse a) line (Sparse d)) t.1 (sparse_price_grows a line y h ey (eqb-true y.0 (length a.prices + 1) t.0))
+    go (Some m) oy em ey f =
+        let t = cond_some (is_above_last (arc_numbers a.moved) m.0 && nat_eq (length a.prices) 0) (with_moved a m) b f in
+        let both = and_parts (is_above_last (arc_numbers a.moved) m.0) (nat_eq (length a.prices) 0) t.0 in
+        subst (λ d. Grows (Sparse a) line (Sparse d)) t.1 (moved_grows a line m h em both.0 (eqb-true (length a.prices) 0 both.1))
+
 set_grows : (a b : PartialSet) (line : List Token) → IsPartialSet a → set_after a line ≡ Some b → Grows (Blocked a) line (Blocked b)
 unfolding set_after
 set_grows a b line h e = go (member_said line) refl e
@@ -169,6 +246,12 @@ line_grows Empty e line h f =
 line_grows (Flow a) e line h f =
     let t = map-some (solution_after a line) Flow e f in
     subst (Grows (Flow a) line) t.2 (solution_grows a t.0 line h t.1)
+line_grows Announced e line h f =
+    let t = map-some (cost_said line) costed e f in
+    subst (Grows Announced line) t.2 (cost_grows line t.0 t.1)
+line_grows (Sparse a) e line h f =
+    let t = map-some (sparse_after a line) Sparse e f in
+    subst (Grows (Sparse a) line) t.2 (sparse_grows a t.0 line h t.1)
 line_grows (Blocked a) e line h f =
     let t = map-some (set_after a line) Blocked e f in
     subst (Grows (Blocked a) line) t.2 (set_grows a t.0 line h t.1)
@@ -203,6 +286,10 @@ finished_spelled Empty a h e = cc
 finished_spelled (Flow b) a h e =
     let is : FlowAnswered b ≡ a = cc e in
     subst (λ x. (spelling x ≡ spelled (Flow b)) × IsAnswer x) is (refl, h)
+finished_spelled Announced a h e = cc
+finished_spelled (Sparse b) a h e =
+    let is : SparseAnswered b ≡ a = cc e in
+    subst (λ x. (spelling x ≡ spelled (Sparse b)) × IsAnswer x) is (refl, h)
 finished_spelled (Blocked b) a h e =
     let t = cond_some (nat_eq (length b.nodes) b.count) (BlockedAnswered (record { side = b.side; nodes = b.nodes })) a e in
     let size : length b.nodes ≡ b.count = eqb-true (length b.nodes) b.count t.0 in

@@ -11,11 +11,13 @@ use Rattle.std.proofs.lemmas.List.Elements.{All-append, All-cons, All-head, All-
 use Rattle.std.proofs.lemmas.List.Sums.{AllPass-from_list_all}
 use Rattle.mcf_answer.specs.Ranges.{IsAmount, IsNodeInRange}
 use Rattle.mcf_answer.specs.Solution.{IsSent}
-use Rattle.mcf_answer.specs.Spelling.{IsAnswer, Spells, cost_line, flow_line, member_line, price_line, refusal_line, set_line, side_word, spelling}
+use Rattle.mcf_answer.specs.SparseSolution.{IsMoved}
+use Rattle.mcf_answer.specs.Spelling.{IsAnswer, Spells, cost_line, flow_line, member_line, moved_line, price_line, refusal_line, set_line, side_word, spelling}
+use Rattle.mcf_answer.specs.Spelling.{version_line}
 use Rattle.mcf_answer.specs.Token.{Token, Word, Number, token_lines, token_of, tokens}
 use Rattle.mcf_answer.specs.Written.{line_text, token_text, written}
 use Rattle.mcf_answer.specs.declared.answers.Answer.{Answer}
-use Rattle.mcf_answer.specs.declared.answers.Answer.TheVariants.{Flow, Blocked, Refused}
+use Rattle.mcf_answer.specs.declared.answers.Answer.TheVariants.{Flow, Sparse, Blocked, Refused}
 use Rattle.mcf_answer.specs.declared.answers.Sent.{Sent}
 use Rattle.mcf_instance.specs.Fault.{Fault, code_word}
 use Rattle.mcf_instance.specs.Limits.{node_limit, line_limit}
@@ -200,6 +202,26 @@ plain_sent s h = record {
   );
 }
 
+plain_version : IsPlainLine version_line
+plain_version = record {
+  first = Word (codes "v");
+  others = Number (pos 2) ∷ [];
+  is = refl;
+  kept = refl;
+  plain = plain_word (codes "v") refl;
+  each = (plain_number (pos 2) (count_fits 2 (omega arith)), tt);
+}
+
+plain_moved : (m : ℕ × ℤ) → IsMoved m → IsPlainLine (moved_line m)
+plain_moved m h = record {
+  first = Word (codes "g");
+  others = Number (pos m.0) ∷ Number m.1 ∷ [];
+  is = refl;
+  kept = refl;
+  plain = plain_word (codes "g") refl;
+  each = (plain_number (pos m.0) (count_fits m.0 (omega (arith, h.0.1))), (plain_number m.1 (amount_fits m.1 h.1), tt));
+}
+
 plain_price : (v : ℕ) (z : ℤ) → v ≤ line_limit → IsAmount z → IsPlainLine (price_line (v, z))
 plain_price v z few h = record {
   first = Word (codes "y");
@@ -257,6 +279,13 @@ plain_answer (Flow a) h =
     All-cons IsPlainLine (cost_line a.cost) (map flow_line a.sent ++ map price_line (enumerate_from 1 a.prices)) (plain_cost a.cost h.cost_small)
     (All-append IsPlainLine (map flow_line a.sent) (map price_line (enumerate_from 1 a.prices)) (plain_each IsSent flow_line plain_sent a.sent h.sent_fit)
     (plain_prices 1 a.prices (omega (arith, h.few_prices)) h.prices_small))
+plain_answer (Sparse a) h =
+    let others = map moved_line a.moved ++ map price_line (enumerate_from 1 a.prices) in
+    All-cons IsPlainLine version_line (cost_line a.cost ∷ others) plain_version
+    (All-cons IsPlainLine (cost_line a.cost) others (plain_cost a.cost h.cost_small)
+    (All-append IsPlainLine (map moved_line a.moved) (map price_line (enumerate_from 1 a.prices))
+    (plain_each IsMoved moved_line plain_moved a.moved h.moved_fit)
+    (plain_prices 1 a.prices (omega (arith, h.few_prices)) h.prices_small)))
 plain_answer (Blocked a) h =
     All-cons IsPlainLine (set_line a.side (length a.nodes)) (map member_line a.nodes) (plain_set a.side (length a.nodes) h.few)
     (plain_each IsNodeInRange member_line plain_node a.nodes h.are_nodes)

@@ -5,6 +5,7 @@ pub mod Parsing
 pub mod Ranges
 pub mod Said
 pub mod Solution
+pub mod SparseSolution
 pub mod Spelling
 pub mod Token
 pub mod Written

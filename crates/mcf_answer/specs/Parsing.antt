@@ -1,11 +1,12 @@
 -- What a text stands for as an answer.
-use Rattle.std.specs.Prelude.{◌||◌, ℕ, Bool, List, [], ◌∷◌, map, Option, Some, None, Result, Ok, Err, is_some}
+use Rattle.std.specs.Prelude.{◌||◌, ℕ, Bool, List, [], ◌∷◌, map, ℤ, pos, Option, Some, None, Result, Ok, Err, is_some, unwrap_or}
 use Rattle.std.specs.List.{list_any}
-use Rattle.mcf_answer.specs.Fits.{misfit, sent_lines, price_lines, member_lines}
-use Rattle.mcf_answer.specs.Said.{Opening, OpensFlow, OpensSet, OpensRefusal, member_said, opening_said, price_said, sent_said}
+use Rattle.mcf_answer.specs.Fits.{misfit, sent_lines, moved_lines, price_lines, member_lines}
+use Rattle.mcf_answer.specs.Said.{Opening, OpensFlow, OpensSparse, OpensSet, OpensRefusal, cost_said, member_said, moved_said, opening_said, price_said}
+use Rattle.mcf_answer.specs.Said.{sent_said}
 use Rattle.mcf_answer.specs.Token.{Token, token_lines}
 use Rattle.mcf_answer.specs.declared.answers.Answer.{Answer}
-use Rattle.mcf_answer.specs.declared.answers.Answer.TheVariants.{Flow, Blocked, Refused}
+use Rattle.mcf_answer.specs.declared.answers.Answer.TheVariants.{Flow, Sparse, Blocked, Refused}
 use Rattle.mcf_answer.specs.declared.shape.Shape.{Shape}
 use Rattle.mcf_instance.specs.Fault.{Fault}
 use Rattle.mcf_instance.specs.declared.code.Code.TheVariants.{Kind}
@@ -14,11 +15,22 @@ use Rattle.mcf_instance.specs.declared.code.Code.TheVariants.{Kind}
 abbrev pub no_refusal : Fault
 no_refusal = record { line = 0; code = Kind }
 
+-- the cost of a cost line, and 0 of any other
+abbrev pub cost_of : List Token → ℤ
+cost_of line = unwrap_or (cost_said line) (pos 0)
+
+-- the answer that the lines after a version line fill
+abbrev pub sparse_opened : List (List Token) → Answer
+sparse_opened [] = Refused no_refusal
+sparse_opened (cost ∷ others) =
+    Sparse (record { cost = cost_of cost; moved = moved_lines others; prices = map (λ y. y.1) (price_lines others) })
+
 -- the answer that a first line opens and the other lines fill
 abbrev pub answer_opened : Option Opening → List (List Token) → Answer
 answer_opened None others = Refused no_refusal
 answer_opened (Some (OpensFlow cost)) others =
     Flow (record { cost = cost; sent = sent_lines others; prices = map (λ y. y.1) (price_lines others) })
+answer_opened (Some OpensSparse) others = sparse_opened others
 answer_opened (Some (OpensSet side count)) others = Blocked (record { side = side; nodes = member_lines others })
 answer_opened (Some (OpensRefusal r)) others = Refused r
 
@@ -38,7 +50,7 @@ parsing text = parsing_of (misfit text) (answer_of_lines (token_lines text))
 
 -- a line says what stands in a list: the flow of an arc, the price of a node, or a node of a set
 abbrev pub says_item : List Token → Bool
-says_item line = is_some (sent_said line) || (is_some (price_said line) || is_some (member_said line))
+says_item line = is_some (sent_said line) || (is_some (moved_said line) || (is_some (price_said line) || is_some (member_said line)))
 
 -- a kept line of the text does
 abbrev pub has_item_line : List ℕ → Bool

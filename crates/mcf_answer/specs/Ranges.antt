@@ -1,6 +1,6 @@
 -- The ranges of the numbers of answers.
-use Rattle.std.specs.Prelude.{ℕ, ◌^◌, ℤ}
-use Rattle.mcf_instance.specs.Limits.{node_limit}
+use Rattle.std.specs.Prelude.{ℕ, ◌≤◌, ◌^◌, ℤ}
+use Rattle.mcf_instance.specs.Limits.{arc_limit, node_limit}
 use Rattle.mcf_instance.specs.Network.{IsNode}
 use Rattle.mcf_instance.specs.WellFormed.{IsUpTo}
 
@@ -15,3 +15,7 @@ IsAmount z = IsUpTo amount_limit z
 -- the number of a node
 abbrev pub IsNodeInRange : ℕ → Type 0
 IsNodeInRange v = IsNode node_limit v
+
+-- the number of an arc
+abbrev pub IsArcInRange : ℕ → Type 0
+IsArcInRange k = (1 ≤ k) × (k ≤ arc_limit)

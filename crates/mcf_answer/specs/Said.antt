@@ -6,7 +6,7 @@ use Rattle.mcf_answer.specs.Spelling.{side_word}
 use Rattle.mcf_answer.specs.Token.{Token, Word, Number, is_word}
 use Rattle.mcf_answer.specs.declared.answers.Sent.{Sent}
 use Rattle.mcf_instance.specs.Fault.{Fault, code_of_word}
-use Rattle.mcf_instance.specs.Limits.{node_limit, line_limit}
+use Rattle.mcf_instance.specs.Limits.{node_limit, arc_limit, line_limit}
 use Rattle.mcf_instance.specs.declared.code.Code.{Code}
 use Rattle.mcf_instance.specs.declared.problem.Side.{Side}
 use Rattle.mcf_instance.specs.declared.problem.Side.TheVariants.{Send, Take}
@@ -32,6 +32,10 @@ amount_of t = number_within (neg_ℤ (pos amount_limit)) (pos amount_limit) t
 abbrev pub node_of : Token → Option ℕ
 node_of t = option_map natural (number_within (pos 1) (pos node_limit) t)
 
+-- the number of an arc
+abbrev pub arc_of : Token → Option ℕ
+arc_of t = option_map natural (number_within (pos 1) (pos arc_limit) t)
+
 -- the number of a line
 abbrev pub line_number_of : Token → Option ℕ
 line_number_of t = option_map natural (number_within (pos 1) (pos line_limit) t)
@@ -45,6 +49,11 @@ code_of (Number z) = None
 
 -- ---- a line
 
+-- the version of a line `v 2`
+unfoldable pub version_said : List Token → Option ℤ
+version_said (word ∷ version ∷ []) = if is_word (codes "v") word then number_within (pos 2) (pos 2) version else None
+version_said line = None
+
 -- the cost of a line `s COST`
 unfoldable pub cost_said : List Token → Option ℤ
 cost_said (word ∷ cost ∷ []) = if is_word (codes "s") word then amount_of cost else None
@@ -57,6 +66,12 @@ sent_said (word ∷ src ∷ dst ∷ flow ∷ []) =
     then (node_of src >>= λ s. node_of dst >>= λ d. amount_of flow >>= λ z. Some (record { src = s; dst = d; flow = z }))
     else None
 sent_said line = None
+
+-- the arc and the flow of a line `g ARC FLOW`
+unfoldable pub moved_said : List Token → Option (ℕ × ℤ)
+moved_said (word ∷ arc ∷ flow ∷ []) =
+    if is_word (codes "g") word then (arc_of arc >>= λ k. amount_of flow >>= λ z. Some (k, z)) else None
+moved_said line = None
 
 -- the node and the price of a line `y ID PRICE`
 unfoldable pub price_said : List Token → Option (ℕ × ℤ)
@@ -88,14 +103,16 @@ refusal_said line = None
 -- the kind of answer that a first line opens, and what the line says of it
 pub data Opening : Type 0 where
   OpensFlow : (cost : ℤ) → Opening
+  OpensSparse : Opening
   OpensSet : (side : Side) → (count : ℕ) → Opening
   OpensRefusal : (refusal : Fault) → Opening
 
 abbrev pub opens_set : Side × ℕ → Opening
 opens_set set = OpensSet set.0 set.1
 
--- a cost line, the first line of a set, or a refusal line
+-- a cost line, a version line, the first line of a set, or a refusal line
 unfoldable pub opening_said : List Token → Option Opening
 opening_said line =
     option_or (option_map OpensFlow (cost_said line))
-    (option_or (option_map opens_set (set_said line)) (option_map OpensRefusal (refusal_said line)))
+    (option_or (option_map (λ version. OpensSparse) (version_said line))
+    (option_or (option_map opens_set (set_said line)) (option_map OpensRefusal (refusal_said line))))

@@ -3,9 +3,10 @@ use Rattle.std.specs.Prelude.{◌≡◌, ℕ, ◌≤◌, List, [], ◌∷◌, �
 use Rattle.std.specs.List.{enumerate_from}
 use Rattle.mcf_answer.specs.BlockingSet.{BlockingSet, IsBlockingSet}
 use Rattle.mcf_answer.specs.Solution.{Solution, IsSolution}
+use Rattle.mcf_answer.specs.SparseSolution.{SparseSolution, IsSparseSolution}
 use Rattle.mcf_answer.specs.Token.{Token, Word, Number, token_lines}
 use Rattle.mcf_answer.specs.declared.answers.Answer.{Answer}
-use Rattle.mcf_answer.specs.declared.answers.Answer.TheVariants.{Flow, Blocked, Refused}
+use Rattle.mcf_answer.specs.declared.answers.Answer.TheVariants.{Flow, Sparse, Blocked, Refused}
 use Rattle.mcf_answer.specs.declared.answers.Sent.{Sent}
 use Rattle.mcf_instance.specs.Fault.{Fault, code_word}
 use Rattle.mcf_instance.specs.Limits.{line_limit}
@@ -18,6 +19,10 @@ abbrev pub side_word : Side → List ℕ
 side_word Send = codes "send"
 side_word Take = codes "take"
 
+-- `v 2`: the answer is in the second form, that of a sparse flow
+abbrev pub version_line : List Token
+version_line = Word (codes "v") ∷ Number (pos 2) ∷ []
+
 -- `s COST`
 abbrev pub cost_line : ℤ → List Token
 cost_line cost = Word (codes "s") ∷ Number cost ∷ []
@@ -25,6 +30,10 @@ cost_line cost = Word (codes "s") ∷ Number cost ∷ []
 -- `f SRC DST FLOW`
 abbrev pub flow_line : Sent → List Token
 flow_line s = Word (codes "f") ∷ Number (pos s.src) ∷ Number (pos s.dst) ∷ Number s.flow ∷ []
+
+-- `g ARC FLOW`
+abbrev pub moved_line : ℕ × ℤ → List Token
+moved_line m = Word (codes "g") ∷ Number (pos m.0) ∷ Number m.1 ∷ []
 
 -- `y ID PRICE`
 abbrev pub price_line : ℕ × ℤ → List Token
@@ -48,18 +57,24 @@ refusal_line r = Word (codes "r") ∷ Number (pos r.line) ∷ Word (code_word r.
 abbrev pub solution_lines : Solution → List (List Token)
 solution_lines a = cost_line a.cost ∷ map flow_line a.sent ++ map price_line (enumerate_from 1 a.prices)
 
+-- those of a sparse flow answer
+abbrev pub sparse_lines : SparseSolution → List (List Token)
+sparse_lines a = version_line ∷ cost_line a.cost ∷ map moved_line a.moved ++ map price_line (enumerate_from 1 a.prices)
+
 abbrev pub set_lines : BlockingSet → List (List Token)
 set_lines a = set_line a.side (length a.nodes) ∷ map member_line a.nodes
 
 -- the lines of an answer, each a list of words and numbers
 unfoldable pub spelling : Answer → List (List Token)
 spelling (Flow a) = solution_lines a
+spelling (Sparse a) = sparse_lines a
 spelling (Blocked a) = set_lines a
 spelling (Refused r) = refusal_line r ∷ []
 
--- the numbers of an answer are in range, and the nodes of a set ascend
+-- the numbers of an answer are in range; the arcs of a sparse flow and the nodes of a set ascend
 unfoldable pub IsAnswer : Answer → Type 0
 IsAnswer (Flow a) = IsSolution a
+IsAnswer (Sparse a) = IsSparseSolution a
 IsAnswer (Blocked a) = IsBlockingSet a
 IsAnswer (Refused r) = (1 ≤ r.line) × (r.line ≤ line_limit)
 

@@ -1,5 +1,5 @@
-//! The three kinds of answers.
-use crate::lists::{NodeList, PriceList, SentList};
+//! The kinds of answers, and the two forms of a flow.
+use crate::lists::{MovedList, NodeList, PriceList, SentList};
 use mcf_instance::{Refusal, Side};
 use mcf_text::NodeId;
 use std::marker::Model;
@@ -39,6 +39,31 @@ impl Model for FlowAnswer {
     ghost invariant = { λ a. IsSolution (record { cost = a.cost; sent = a.sent; prices = a.prices }) };
 }
 
+/// A flow with its cost and prices, as [`FlowAnswer`], that names by their numbers some arcs alone: any other
+/// arc carries its lower bound.
+///
+/// The cost, each flow and each price lie within 10^37 of 0, the numbers of the arcs are strictly ascending
+/// from 1 to 10,000,000, and there are at most 1,000,000 prices.
+#[derive(Debug, Drop)]
+pub struct SparseAnswer {
+    /// What all units together cost.
+    pub cost: i128,
+    /// The arcs that are named, each with how many units it carries.
+    pub moved: MovedList,
+    /// The price of each node, from node 1 on, in cost for each unit.
+    pub prices: PriceList,
+}
+
+impl Model for SparseAnswer {
+    ghost use Rattle.mcf_answer.specs.SparseSolution.{IsSparseSolution, SparseSolution};
+
+    ghost Value = { SparseSolution };
+
+    ghost view = { λ a. record { cost = a.cost; moved = a.moved; prices = a.prices } };
+
+    ghost invariant = { λ a. IsSparseSolution (record { cost = a.cost; moved = a.moved; prices = a.prices }) };
+}
+
 /// A node set that blocks every flow, with the side by which it does.
 ///
 /// The nodes are strictly ascending numbers from 1 to 1,000,000, at least one and at most 1,000,000.
@@ -63,8 +88,10 @@ impl Model for BlockedAnswer {
 /// The answer to an instance text.
 #[derive(Debug, Drop)]
 pub enum Answer {
-    /// A least-cost flow.
+    /// A least-cost flow, in the first form.
     Flow(FlowAnswer),
+    /// A least-cost flow, in the second form.
+    Sparse(SparseAnswer),
     /// No flow meets all bounds and supplies.
     Blocked(BlockedAnswer),
     /// The text is no instance.

@@ -1,9 +1,11 @@
 //! The parser's state: what the lines so far say.
-use crate::answers::{Answer, BlockedAnswer, FlowAnswer};
-use crate::line::{cost_line, flow_line, member_line, price_line, refusal_line, set_line};
-use crate::lists::{NodeList, PriceList, SentList};
+use crate::answers::{Answer, BlockedAnswer, FlowAnswer, SparseAnswer};
+use crate::line::{
+    cost_line, flow_line, member_line, moved_line, price_line, refusal_line, set_line, version_line,
+};
+use crate::lists::{MovedList, NodeList, PriceList, SentList};
 use mcf_instance::{Refusal, Side};
-use mcf_text::{NoMemory, NodeId};
+use mcf_text::{ArcId, NoMemory, NodeId};
 use std::alloc::Global;
 use std::marker::Model;
 
@@ -32,6 +34,10 @@ pub(crate) enum Draft {
     Empty,
     /// The lines of a flow answer.
     Flow(FlowAnswer),
+    /// The version line of a sparse flow answer.
+    Announced,
+    /// The lines of a sparse flow answer.
+    Sparse(SparseAnswer),
     /// The first lines of a blocked answer.
     Blocked(SetDraft),
     /// The line of a refusal.
@@ -52,7 +58,7 @@ impl FlowAnswer {
         requires amount { IsAmount price }
         ensures { IfOk result (λ fit. (if fit then Some self.new else None) ≡ priced self.old (Some (id, price))) }
     {
-        if id.get() as usize != self.prices.len() + 1 {
+        if !self.prices.is_next(id) {
             return Ok(false);
         }
         self.prices.push(price)?;
@@ -71,6 +77,57 @@ impl FlowAnswer {
             }
             self.sent.push(sent)?;
             return Ok(true);
+        }
+        match price_line(line) {
+            Some((id, price)) => self.take_price(id, price),
+            None => Ok(false),
+        }
+    }
+}
+
+impl SparseAnswer {
+    ghost use Rattle.std.specs.Prelude.{◌≡◌, IfOk, IsTrue, OnErr, Some, None, if◌then◌else◌};
+    ghost use Rattle.mcf_answer.specs.Private.Draft.{sparse_after, sparse_moved, sparse_priced};
+    ghost use Rattle.mcf_answer.specs.SparseSolution.{IsMoved};
+    ghost use Rattle.mcf_answer.specs.Parsing.{says_item};
+    ghost use Rattle.mcf_answer.specs.Ranges.{IsAmount, IsNodeInRange};
+    ghost use Rattle.mcf_answer.specs.Token.{tokens_of};
+    ghost use Rattle.mcf_text.specs.Fields.{fields_of};
+
+    // Takes the price of a node in, if it is the next node.
+    fn take_price(&mut self, id: NodeId, price: i128) -> Result<bool, NoMemory>
+        requires node { IsNodeInRange id }
+        requires amount { IsAmount price }
+        ensures { IfOk result (λ fit. (if fit then Some self.new else None) ≡ sparse_priced self.old (Some (id, price))) }
+    {
+        if !self.prices.is_next(id) {
+            return Ok(false);
+        }
+        self.prices.push(price)?;
+        Ok(true)
+    }
+
+    // Takes what an arc carries in, if its number is above that of the last and there is no price yet.
+    fn take_moved(&mut self, moved: (ArcId, i128)) -> Result<bool, NoMemory>
+        requires in_range { IsMoved moved }
+        ensures { IfOk result (λ fit. (if fit then Some self.new else None) ≡ sparse_moved self.old moved) }
+    {
+        if self.moved.is_below(moved.0) && self.prices.is_empty() {
+            self.moved.push(moved)?;
+            Ok(true)
+        } else {
+            Ok(false)
+        }
+    }
+
+    // Takes a line in, if it fits.
+    #[tactic(auto, unfolding(crate::specs::Private::Draft::sparse_after))]
+    fn take(&mut self, line: &[u8]) -> Result<bool, NoMemory>
+        ensures value { IfOk result (λ fit. (if fit then Some self.new else None) ≡ sparse_after self.old (tokens_of (fields_of line.now))) }
+        ensures wants { OnErr result (IsTrue (says_item (tokens_of (fields_of line.now)))) }
+    {
+        if let Some(moved) = moved_line(line) {
+            return self.take_moved(moved);
         }
         match price_line(line) {
             Some((id, price)) => self.take_price(id, price),
@@ -106,9 +163,9 @@ impl SetDraft {
 
 impl Draft {
     ghost use Rattle.std.specs.Prelude.{◌≡◌, IfOk, IsTrue, OnErr, Some, None, if◌then◌else◌, option_map};
-    ghost use Rattle.mcf_answer.specs.Private.Draft.{after, answer_of_draft, opened};
+    ghost use Rattle.mcf_answer.specs.Private.Draft.{after, answer_of_draft, costed, opened};
     ghost use Rattle.mcf_answer.specs.Parsing.{says_item};
-    ghost use Rattle.mcf_answer.specs.Said.{opening_said};
+    ghost use Rattle.mcf_answer.specs.Said.{cost_said, opening_said};
     ghost use Rattle.mcf_answer.specs.Token.{tokens_of};
     ghost use Rattle.mcf_text.specs.Fields.{fields_of};
 
@@ -124,6 +181,9 @@ impl Draft {
                 prices: PriceList::new(Vec::new(alloc)),
             }));
         }
+        if version_line(line).is_some() {
+            return Some(Draft::Announced);
+        }
         if let Some((side, count)) = set_line(line) {
             return Some(Draft::Blocked(SetDraft {
                 side,
@@ -133,6 +193,18 @@ impl Draft {
         }
         let refusal = refusal_line(line)?;
         Some(Draft::Refused(refusal))
+    }
+
+    // What a cost line opens after a version line.
+    fn open_sparse(alloc: Global, line: &[u8]) -> Option<Draft>
+        ensures { result ≡ option_map costed (cost_said (tokens_of (fields_of line.now))) }
+    {
+        let cost = cost_line(line)?;
+        Some(Draft::Sparse(SparseAnswer {
+            cost,
+            moved: MovedList::new(Vec::new(alloc)),
+            prices: PriceList::new(Vec::new(alloc)),
+        }))
     }
 
     /// Takes a kept line in, if it fits.
@@ -150,6 +222,14 @@ impl Draft {
                 None => Ok(false),
             },
             Draft::Flow(flow) => flow.take(line),
+            Draft::Announced => match Draft::open_sparse(alloc, line) {
+                Some(draft) => {
+                    *self = draft;
+                    Ok(true)
+                }
+                None => Ok(false),
+            },
+            Draft::Sparse(flow) => flow.take(line),
             Draft::Blocked(set) => set.take(line),
             Draft::Refused(_) => Ok(false),
         }
@@ -163,6 +243,8 @@ impl Draft {
         match self {
             Draft::Empty => None,
             Draft::Flow(flow) => Some(Answer::Flow(flow)),
+            Draft::Announced => None,
+            Draft::Sparse(flow) => Some(Answer::Sparse(flow)),
             Draft::Blocked(set) => {
                 let SetDraft { side, count, nodes } = set;
                 if nodes.len() != count as usize {

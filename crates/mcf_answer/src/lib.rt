@@ -14,11 +14,11 @@ mod parser;
 mod shape;
 mod writer;
 
-pub use answers::{Answer, BlockedAnswer, FlowAnswer, Sent};
+pub use answers::{Answer, BlockedAnswer, FlowAnswer, Sent, SparseAnswer};
 pub use laws::{
     no_text_spells_two_answers, texts_stand_for_what_they_spell, what_is_written_is_read_back,
 };
-pub use lists::{AnswerList, NodeList, PriceList, SentList};
+pub use lists::{AnswerList, MovedList, NodeList, PriceList, SentList};
 pub use parser::parse;
 pub use shape::Shape;
 pub use writer::write;

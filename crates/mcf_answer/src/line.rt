@@ -1,8 +1,9 @@
 //! What a line of an answer text says.
 ghost use Rattle.std.specs.Prelude.{◌≡◌, ◌≤◌, false, IfSome};
-ghost use Rattle.mcf_answer.specs.Ranges.{IsAmount, IsNodeInRange};
-ghost use Rattle.mcf_answer.specs.Said.{amount_of, code_of, cost_said, line_number_of, node_of, member_said, number_within, price_said, refusal_said};
-ghost use Rattle.mcf_answer.specs.Said.{sent_said, set_said, side_of};
+ghost use Rattle.mcf_answer.specs.Ranges.{IsAmount, IsArcInRange, IsNodeInRange};
+ghost use Rattle.mcf_answer.specs.Said.{amount_of, arc_of, code_of, cost_said, line_number_of, node_of, member_said, moved_said, number_within, price_said};
+ghost use Rattle.mcf_answer.specs.Said.{refusal_said, sent_said, set_said, side_of, version_said};
+ghost use Rattle.mcf_answer.specs.SparseSolution.{IsMoved};
 ghost use Rattle.mcf_answer.specs.Token.{is_word, token_of, tokens_of};
 ghost use Rattle.mcf_text.specs.Fields.{fields_of};
 ghost use Rattle.mcf_text.specs.Whole.{is_whole};
@@ -10,7 +11,7 @@ ghost use Rattle.mcf_instance.specs.Limits.{line_limit};
 
 use crate::answers::Sent;
 use mcf_instance::{Code, Refusal, Side};
-use mcf_text::{NodeId, Whole, fields, whole};
+use mcf_text::{ArcId, NodeId, Whole, fields, whole};
 
 // How far from 0 a cost, a flow and a price may lie, and the greatest number of a line: 10^37.
 const LIMIT: i128 = 10_000_000_000_000_000_000_000_000_000_000_000_000;
@@ -53,6 +54,15 @@ fn node(field: &[u8]) -> Option<NodeId>
     Some(NodeId::new(value))
 }
 
+// An arc.
+fn arc(field: &[u8]) -> Option<ArcId>
+    ensures value { result ≡ arc_of (token_of field.now) }
+    ensures in_range { IfSome result IsArcInRange }
+{
+    let value = number(field, 1, 10_000_000)?;
+    Some(ArcId::new(value as u32))
+}
+
 // The number of a line.
 fn line_number(field: &[u8]) -> Option<u128>
     ensures value { result ≡ line_number_of (token_of field.now) }
@@ -93,6 +103,20 @@ fn is_word(field: &[u8], word: &[u8]) -> bool
 
 // ---- a line
 
+/// The version of a line `v 2`.
+#[tactic(auto, unfolding(crate::specs::Said::version_said))]
+pub(crate) fn version_line(line: &[u8]) -> Option<i128>
+    ensures { result ≡ version_said (tokens_of (fields_of line.now)) }
+{
+    let mut parts = fields(line);
+    let word = parts.next()?;
+    let version = parts.next()?;
+    if parts.next().is_some() || !is_word(word, b"v") {
+        return None;
+    }
+    number(version, 2, 2)
+}
+
 /// The cost of a line `s COST`.
 #[tactic(auto, unfolding(crate::specs::Said::cost_said))]
 pub(crate) fn cost_line(line: &[u8]) -> Option<i128>
@@ -126,6 +150,22 @@ pub(crate) fn flow_line(line: &[u8]) -> Option<Sent>
         dst: node(dst)?,
         flow: amount(flow)?,
     })
+}
+
+/// The arc and the flow of a line `g ARC FLOW`.
+#[tactic(auto, unfolding(crate::specs::Said::moved_said))]
+pub(crate) fn moved_line(line: &[u8]) -> Option<(ArcId, i128)>
+    ensures value { result ≡ moved_said (tokens_of (fields_of line.now)) }
+    ensures in_range { IfSome result IsMoved }
+{
+    let mut parts = fields(line);
+    let word = parts.next()?;
+    let named = parts.next()?;
+    let flow = parts.next()?;
+    if parts.next().is_some() || !is_word(word, b"g") {
+        return None;
+    }
+    Some((arc(named)?, amount(flow)?))
 }
 
 /// The node and the price of a line `y ID PRICE`.

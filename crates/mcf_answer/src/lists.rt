@@ -1,6 +1,6 @@
 //! The lists of an answer.
 use crate::answers::Sent;
-use mcf_text::{NoMemory, NodeId};
+use mcf_text::{ArcId, NoMemory, NodeId};
 use std::marker::Model;
 
 /// A list of an answer. A clause sees the list.
@@ -19,6 +19,9 @@ impl<T> Model for AnswerList<T> {
 
 /// What the arcs carry, in their order.
 pub type SentList = AnswerList<Sent>;
+
+/// Some arcs by their numbers, each with how many units it carries.
+pub type MovedList = AnswerList<(ArcId, i128)>;
 
 /// The prices of the nodes, from node 1 on.
 pub type PriceList = AnswerList<i128>;
@@ -72,6 +75,33 @@ impl<T: Drop> AnswerList<T> {
     {
         self.items.push(item)?;
         Ok(())
+    }
+}
+
+impl MovedList {
+    ghost use Rattle.std.specs.Prelude.{◌≡◌};
+    ghost use Rattle.mcf_answer.specs.Fits.{is_above_last};
+    ghost use Rattle.mcf_answer.specs.SparseSolution.{arc_numbers};
+
+    /// Whether the number of the last arc, if there is one, is below that of this one.
+    pub(crate) fn is_below(&self, arc: ArcId) -> bool
+        ensures { result ≡ is_above_last (arc_numbers self.now) arc }
+    {
+        match self.items.last() {
+            Some(last) => last.0 < arc,
+            None => true,
+        }
+    }
+}
+
+impl PriceList {
+    ghost use Rattle.std.specs.Prelude.{◌≡◌, ◌==◌, ◌+◌, length};
+
+    /// Whether the price of this node is the next.
+    pub(crate) fn is_next(&self, id: NodeId) -> bool
+        ensures { result ≡ (id == length self.now + 1) }
+    {
+        id.get() as usize == self.items.len() + 1
     }
 }
 

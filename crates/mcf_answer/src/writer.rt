@@ -5,13 +5,15 @@ ghost use Rattle.std.specs.List.{enumerate_from};
 ghost use Rattle.mcf_answer.specs.BlockingSet.{IsBlockingSet};
 ghost use Rattle.mcf_answer.specs.Parsing.{parsing};
 ghost use Rattle.mcf_answer.specs.Solution.{IsSolution};
-ghost use Rattle.mcf_answer.specs.Spelling.{IsAnswer, Spells, flow_line, member_line, price_line, set_lines, side_word as side_word_of, solution_lines};
+ghost use Rattle.mcf_answer.specs.Spelling.{IsAnswer, Spells, flow_line, member_line, moved_line, price_line, set_lines, side_word as side_word_of};
+ghost use Rattle.mcf_answer.specs.Spelling.{solution_lines, sparse_lines};
+ghost use Rattle.mcf_answer.specs.SparseSolution.{IsSparseSolution};
 ghost use Rattle.mcf_answer.specs.Token.{Word, Number};
 ghost use Rattle.mcf_answer.specs.Written.{line_text, written};
 
-use crate::answers::{Answer, BlockedAnswer, FlowAnswer, Sent};
+use crate::answers::{Answer, BlockedAnswer, FlowAnswer, Sent, SparseAnswer};
 use mcf_instance::{Refusal, Side};
-use mcf_text::{NoMemory, NodeId, put_number};
+use mcf_text::{ArcId, NoMemory, NodeId, put_number};
 
 /// Appends the text of an answer: fields with one blank between them, numbers in decimal without a plus
 /// sign and without leading zeros, each line ended by byte 10.
@@ -49,6 +51,7 @@ fn put_answer(out: &mut Vec<u8>, answer: &Answer) -> Result<(), NoMemory>
 {
     match answer {
         Answer::Flow(flow) => put_solution(out, flow),
+        Answer::Sparse(flow) => put_sparse(out, flow),
         Answer::Blocked(set) => put_set(out, set),
         Answer::Refused(refusal) => put_word_line(
             out,
@@ -70,6 +73,22 @@ fn put_solution(out: &mut Vec<u8>, flow: &FlowAnswer) -> Result<(), NoMemory>
 {
     put_line(out, b"s", &[flow.cost])?;
     put_sent(out, flow.sent.as_slice())?;
+    put_prices(out, flow.prices.as_slice())
+}
+
+// Appends the lines of a sparse flow answer.
+#[tactic(auto, using(crate::proofs::Appends::keeps))]
+fn put_sparse(out: &mut Vec<u8>, flow: &SparseAnswer) -> Result<(), NoMemory>
+    ensures ok { OnOk result (out.new.items ≡ out.old.items ++ flat_map line_text (sparse_lines flow.now)) }
+    ensures in_range { IsSparseSolution flow.now }
+    ensures err { OnErr result (take (length out.old.items) out.new.items ≡ out.old.items) }
+    ensures capacity { vec_capacity out.old ≤ vec_capacity out.new }
+    ensures refused { OnErr result (vec_capacity out.old < vec_len out.old + length (flat_map line_text (sparse_lines flow.now))) }
+{
+    let cost = flow.cost;
+    put_line(out, b"v", &[2])?;
+    put_line(out, b"s", &[cost])?;
+    put_moved(out, flow.moved.as_slice())?;
     put_prices(out, flow.prices.as_slice())
 }
 
@@ -120,6 +139,30 @@ fn put_flow(out: &mut Vec<u8>, s: Sent) -> Result<(), NoMemory>
 {
     let numbers = [i128::from(s.src.get()), i128::from(s.dst.get()), s.flow];
     put_line(out, b"f", &numbers)
+}
+
+// Appends the lines of the arcs that are named.
+#[tactic(auto, using(crate::proofs::Appends::keeps))]
+fn put_moved(out: &mut Vec<u8>, moved: &[(ArcId, i128)]) -> Result<(), NoMemory>
+    ensures ok { OnOk result (out.new.items ≡ out.old.items ++ flat_map line_text (map moved_line moved.now)) }
+    ensures err { OnErr result (take (length out.old.items) out.new.items ≡ out.old.items) }
+    ensures capacity { vec_capacity out.old ≤ vec_capacity out.new }
+    ensures refused { OnErr result (vec_capacity out.old < vec_len out.old + length (flat_map line_text (map moved_line moved.now))) }
+{
+    for m in moved {
+        put_arc(out, *m)?;
+    }
+    Ok(())
+}
+
+// Appends the line of an arc that is named.
+fn put_arc(out: &mut Vec<u8>, m: (ArcId, i128)) -> Result<(), NoMemory>
+    ensures ok { OnOk result (out.new.items ≡ out.old.items ++ line_text (moved_line m)) }
+    ensures err { OnErr result (take (length out.old.items) out.new.items ≡ out.old.items) }
+    ensures capacity { vec_capacity out.old ≤ vec_capacity out.new }
+    ensures refused { OnErr result (vec_capacity out.old < vec_len out.old + length (line_text (moved_line m))) }
+{
+    put_line(out, b"g", &[i128::from(m.0.get()), m.1])
 }
 
 // Appends the price lines, from node 1 on.

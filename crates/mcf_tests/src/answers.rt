@@ -1,10 +1,11 @@
 //! Worked answers, and texts that are none.
 use mcf_answer::{
-    Answer, FlowAnswer, NodeList, PriceList, SentList, Shape, no_text_spells_two_answers, parse,
-    texts_stand_for_what_they_spell, what_is_written_is_read_back, write,
+    Answer, FlowAnswer, MovedList, NodeList, PriceList, SentList, Shape, SparseAnswer,
+    no_text_spells_two_answers, parse, texts_stand_for_what_they_spell,
+    what_is_written_is_read_back, write,
 };
 use mcf_instance::{Code, Refusal, Side};
-use mcf_text::{NoMemory, NodeId};
+use mcf_text::{ArcId, NoMemory, NodeId};
 use std::alloc::Global;
 use std::test::Fail;
 
@@ -24,6 +25,51 @@ fn misfit(alloc: Global, text: &[u8]) -> Result<u128, NoMemory> {
         Err(Shape { line }) => Ok(line),
     }
 }
+
+// Texts of the second form, as they are written.
+static SPARSE_ANSWERS: [&[u8]; 8] = [
+    b"v 2\ns 14\ng 1 2\ng 2 2\ng 3 2\ng 5 4\ny 1 0\ny 2 -2\ny 3 -3\ny 4 -4\n",
+    b"v 2\ns 14\ng 1 2\ng 2 2\ng 3 2\ng 4 0\ng 5 4\ny 1 0\ny 2 -2\ny 3 -3\ny 4 -4\n",
+    b"v 2\ns 14\ng 1 2\ng 2 2\ng 3 2\ny 1 0\ny 2 -2\ny 3 -3\ny 4 -4\n",
+    b"v 2\ns 14\ng 1 2\ng 2 2\ng 3 2\ng 5 4\ng 6 0\ny 1 0\ny 2 -2\ny 3 -3\ny 4 -4\n",
+    b"v 2\ns 0\n",
+    b"v 2\ns -21\ng 1 7\ny 1 0\n",
+    b"v 2\ns 0\ng 1 0\ny 1 0\ny 2 -1\n",
+    b"v 2\ns 3\ng 10000000 -10000000000000000000000000000000000000\n",
+];
+
+// Texts that are no answers of the second form, each with the line at which that is seen.
+static NO_SPARSE_ANSWERS: [(&[u8], u128); 26] = [
+    (
+        b"v 2\ns 14\ng 2 2\ng 1 2\ng 3 2\ng 5 4\ny 1 0\ny 2 -2\ny 3 -3\ny 4 -4\n",
+        4,
+    ),
+    (b"v 2\n", 2),
+    (b"v 3\n", 1),
+    (b"v 2 2\ns 0\n", 1),
+    (b"v two\ns 0\n", 1),
+    (b"c one\nv 2\nc two\n\n", 5),
+    (b"v 2\nv 2\ns 0\n", 2),
+    (b"s 0\nv 2\n", 2),
+    (b"v 2\ng 1 0\ns 0\n", 2),
+    (b"v 2\ny 1 0\n", 2),
+    (b"v 2\ns 0\ns 0\n", 3),
+    (b"v 2\ns 0\nf 1 2 0\n", 3),
+    (b"v 2\ns 0\nx 1\n", 3),
+    (b"v 2\ni 1 send\nx 1\n", 2),
+    (b"v 2\nr 3 late-n\n", 2),
+    (b"s 0\ng 1 0\n", 2),
+    (b"i 1 send\ng 1 0\n", 2),
+    (b"g 1 0\n", 1),
+    (b"v 2\ns 0\ng 1 0\ng 1 0\n", 4),
+    (b"v 2\ns 0\ng 0 0\n", 3),
+    (b"v 2\ns 0\ng 10000001 0\n", 3),
+    (b"v 2\ns 0\ng 1 10000000000000000000000000000000000001\n", 3),
+    (b"v 2\ns 0\ng 1 1 0\n", 3),
+    (b"v 2\ns 0\ng 1\n", 3),
+    (b"v 2\ns 0\ny 2 0\n", 3),
+    (b"v 2\ns 0\ny 1 0\ng 1 0\n", 4),
+];
 
 #[test]
 fn answers_are_written_as_they_were_read(rt: HostRuntime) -> Result<(), Fail> {
@@ -49,6 +95,14 @@ fn answers_are_written_as_they_were_read(rt: HostRuntime) -> Result<(), Fail> {
 }
 
 #[test]
+fn sparse_answers_are_written_as_they_were_read(rt: HostRuntime) -> Result<(), Fail> {
+    for text in SPARSE_ANSWERS {
+        assert_eq!(rt; rewritten(rt.alloc(), text)?.as_slice(), text);
+    }
+    Ok(())
+}
+
+#[test]
 fn other_spellings_are_read(rt: HostRuntime) -> Result<(), Fail> {
     for (text, plain) in [
         (
@@ -62,6 +116,10 @@ fn other_spellings_are_read(rt: HostRuntime) -> Result<(), Fail> {
         (
             b"\n\ti 02\tsend\nx +1\ncx 7\nx 4".as_slice(),
             b"i 2 send\nx 1\nx 4\n".as_slice(),
+        ),
+        (
+            b"c\n v\t+02\n\ns -0\ng 01  -1\r\nc g\ny 01 +5".as_slice(),
+            b"v 2\ns 0\ng 1 -1\ny 1 5\n".as_slice(),
         ),
     ] {
         assert_eq!(rt; rewritten(rt.alloc(), text)?.as_slice(), plain);
@@ -100,6 +158,29 @@ fn texts_that_are_no_answers(rt: HostRuntime) -> Result<(), Fail> {
     ] {
         assert_eq!(rt; misfit(rt.alloc(), text)?, line);
     }
+    Ok(())
+}
+
+#[test]
+fn texts_that_are_no_sparse_answers(rt: HostRuntime) -> Result<(), Fail> {
+    for (text, line) in NO_SPARSE_ANSWERS {
+        assert_eq!(rt; misfit(rt.alloc(), text)?, line);
+    }
+    Ok(())
+}
+
+#[test]
+fn the_parts_of_a_sparse_flow(rt: HostRuntime) -> Result<(), Fail> {
+    let text = b"v 2\ns 4\ng 2 -2\ng 7 9\ny 1 0\ny 2 -9\n";
+    let Ok(Answer::Sparse(flow)) = parse(rt.alloc(), text)? else {
+        return Err(Fail::from("no sparse flow"));
+    };
+    assert_eq!(rt; flow.cost, 4);
+    assert_eq!(rt;
+        flow.moved.as_slice(),
+        [(ArcId::new(2), -2), (ArcId::new(7), 9)].as_slice()
+    );
+    assert_eq!(rt; flow.prices.as_slice(), [0, -9].as_slice());
     Ok(())
 }
 
@@ -146,7 +227,16 @@ fn answers_made_by_hand(rt: HostRuntime) -> Result<(), Fail> {
         code: Code::SecondP,
     };
     write(&Answer::Refused(refusal), &mut out)?;
-    assert_eq!(rt; out.as_slice(), b"s -5\nr 7 second-p\n".as_slice());
+    let sparse = SparseAnswer {
+        cost: 6,
+        moved: MovedList::new([(ArcId::new(3), 2)].to_vec(rt.alloc())?),
+        prices: PriceList::new(Vec::new(rt.alloc())),
+    };
+    write(&Answer::Sparse(sparse), &mut out)?;
+    assert_eq!(rt;
+        out.as_slice(),
+        b"s -5\nr 7 second-p\nv 2\ns 6\ng 3 2\n".as_slice()
+    );
     Ok(())
 }
 

@@ -2,14 +2,17 @@
 use Rattle.std.specs.Prelude.{ℕ, ◌+◌, ◌==◌, nat_lt, ◌&&◌, if◌then◌else◌, List, [], ◌∷◌, ◌++◌, length, ℤ, Option, Some, None, option_map, Result, Ok, Err}
 use Rattle.mcf_answer.specs.Fits.{is_above_last}
 use Rattle.mcf_answer.specs.Private.PartialSet.{PartialSet}
-use Rattle.mcf_answer.specs.Said.{Opening, OpensFlow, OpensSet, OpensRefusal, opening_said, sent_said, price_said, member_said}
+use Rattle.mcf_answer.specs.Said.{Opening, OpensFlow, OpensSparse, OpensSet, OpensRefusal, cost_said, opening_said, sent_said, moved_said, price_said}
+use Rattle.mcf_answer.specs.Said.{member_said}
 use Rattle.mcf_answer.specs.Solution.{Solution}
+use Rattle.mcf_answer.specs.SparseSolution.{SparseSolution, arc_numbers}
 use Rattle.mcf_answer.specs.Token.{Token, tokens_of}
 use Rattle.mcf_answer.specs.declared.answers.Answer.{Answer}
-use Rattle.mcf_answer.specs.declared.answers.Answer.TheVariants.{Flow as FlowAnswered, Blocked as BlockedAnswered, Refused as RefusedAnswered}
+use Rattle.mcf_answer.specs.declared.answers.Answer.TheVariants.{Flow as FlowAnswered, Sparse as SparseAnswered, Blocked as BlockedAnswered}
+use Rattle.mcf_answer.specs.declared.answers.Answer.TheVariants.{Refused as RefusedAnswered}
 use Rattle.mcf_answer.specs.declared.answers.Sent.{Sent}
 use Rattle.mcf_answer.specs.declared.draft.Draft.{Draft}
-use Rattle.mcf_answer.specs.declared.draft.Draft.TheVariants.{Empty, Flow, Blocked, Refused}
+use Rattle.mcf_answer.specs.declared.draft.Draft.TheVariants.{Empty, Flow, Announced, Sparse, Blocked, Refused}
 use Rattle.mcf_text.specs.Fields.{fields_of, is_kept}
 
 -- ---- one line
@@ -17,14 +20,25 @@ use Rattle.mcf_text.specs.Fields.{fields_of, is_kept}
 -- after the first line
 abbrev pub opened : Opening → Draft
 opened (OpensFlow cost) = Flow (record { cost = cost; sent = []; prices = [] })
+opened OpensSparse = Announced
 opened (OpensSet side count) = Blocked (record { side = side; count = count; nodes = [] })
 opened (OpensRefusal r) = Refused r
+
+-- after the cost line of a sparse flow answer
+abbrev pub costed : ℤ → Draft
+costed cost = Sparse (record { cost = cost; moved = []; prices = [] })
 
 abbrev pub with_sent : Solution → Sent → Solution
 with_sent a s = record { cost = a.cost; sent = a.sent ++ s ∷ []; prices = a.prices }
 
 abbrev pub with_price : Solution → ℤ → Solution
 with_price a z = record { cost = a.cost; sent = a.sent; prices = a.prices ++ z ∷ [] }
+
+abbrev pub with_moved : SparseSolution → ℕ × ℤ → SparseSolution
+with_moved a m = record { cost = a.cost; moved = a.moved ++ m ∷ []; prices = a.prices }
+
+abbrev pub with_sparse_price : SparseSolution → ℤ → SparseSolution
+with_sparse_price a z = record { cost = a.cost; moved = a.moved; prices = a.prices ++ z ∷ [] }
 
 abbrev pub with_member : PartialSet → ℕ → PartialSet
 with_member a v = record { side = a.side; count = a.count; nodes = a.nodes ++ v ∷ [] }
@@ -42,6 +56,23 @@ sent_or_priced a (Some s) y = if length a.prices == 0 then Some (with_sent a s) 
 unfoldable pub solution_after : Solution → List Token → Option Solution
 solution_after a line = sent_or_priced a (sent_said line) (price_said line)
 
+-- a sparse flow answer after a price line
+abbrev pub sparse_priced : SparseSolution → Option (ℕ × ℤ) → Option SparseSolution
+sparse_priced a None = None
+sparse_priced a (Some y) = if y.0 == length a.prices + 1 then Some (with_sparse_price a y.1) else None
+
+-- a sparse flow answer after a `g` line
+abbrev pub sparse_moved : SparseSolution → ℕ × ℤ → Option SparseSolution
+sparse_moved a m = if is_above_last (arc_numbers a.moved) m.0 && length a.prices == 0 then Some (with_moved a m) else None
+
+-- a sparse flow answer after a line that says this as a `g` line, and as a price line
+abbrev pub moved_or_priced : SparseSolution → Option (ℕ × ℤ) → Option (ℕ × ℤ) → Option SparseSolution
+moved_or_priced a None y = sparse_priced a y
+moved_or_priced a (Some m) y = sparse_moved a m
+
+unfoldable pub sparse_after : SparseSolution → List Token → Option SparseSolution
+sparse_after a line = moved_or_priced a (moved_said line) (price_said line)
+
 -- a set after a member line
 abbrev pub with_said : PartialSet → Option ℕ → Option PartialSet
 with_said a None = None
@@ -54,6 +85,8 @@ set_after a line = with_said a (member_said line)
 unfoldable pub after : Draft → List Token → Option Draft
 after Empty line = option_map opened (opening_said line)
 after (Flow a) line = option_map Flow (solution_after a line)
+after Announced line = option_map costed (cost_said line)
+after (Sparse a) line = option_map Sparse (sparse_after a line)
 after (Blocked a) line = option_map Blocked (set_after a line)
 after (Refused r) line = None
 
@@ -74,5 +107,7 @@ run d (line ∷ lines) =
 unfoldable pub answer_of_draft : Draft → Option Answer
 answer_of_draft Empty = None
 answer_of_draft (Flow a) = Some (FlowAnswered a)
+answer_of_draft Announced = None
+answer_of_draft (Sparse a) = Some (SparseAnswered a)
 answer_of_draft (Blocked a) = if length a.nodes == a.count then Some (BlockedAnswered (record { side = a.side; nodes = a.nodes })) else None
 answer_of_draft (Refused r) = Some (RefusedAnswered r)
