@@ -51,7 +51,7 @@ has_line arcs (Moved moved) i bounds h = tt
 
 -- ---- the next line
 
-next_at_start : (moved : List (ℕ × ℤ)) → AreArcsInOrder moved → IsNextLine moved 0 0
+pub next_at_start : (moved : List (ℕ × ℤ)) → AreArcsInOrder moved → IsNextLine moved 0 0
 next_at_start moved order = record {
   ascending = λ i j m n h at-i at-j.
       let pairs = AllPairs-from_increasing (map (λ (l : ℕ × ℤ). l.0) moved) order.ascending i j 0 h
@@ -74,7 +74,7 @@ starts (Moved moved) order = next_at_start moved.now order
 
 -- ---- one step
 
-find_here : (p : ℕ × ℤ → Bool) (xs : List (ℕ × ℤ)) (i : ℕ) (x : ℕ × ℤ) → slice_get xs i ≡ Some x → p x ≡ true
+pub find_here : (p : ℕ × ℤ → Bool) (xs : List (ℕ × ℤ)) (i : ℕ) (x : ℕ × ℤ) → slice_get xs i ≡ Some x → p x ≡ true
     → ((j : ℕ) (y : ℕ × ℤ) → j < i → slice_get xs j ≡ Some y → p y ≡ false) → find p xs ≡ Some x
 find_here p [] i x at passes before = absurd (none-some x at)
 find_here p (y ∷ xs) zero x at passes before =
@@ -82,7 +82,7 @@ find_here p (y ∷ xs) zero x at passes before =
 find_here p (y ∷ xs) (suc i) x at passes before =
     rw (before 0 y (omega arith) refl) (find_here p xs i x at passes (λ j z h. before (suc j) z (omega (arith, h))))
 
-find_nowhere : (p : ℕ × ℤ → Bool) (xs : List (ℕ × ℤ)) → ((j : ℕ) (y : ℕ × ℤ) → slice_get xs j ≡ Some y → p y ≡ false) → find p xs ≡ None
+pub find_nowhere : (p : ℕ × ℤ → Bool) (xs : List (ℕ × ℤ)) → ((j : ℕ) (y : ℕ × ℤ) → slice_get xs j ≡ Some y → p y ≡ false) → find p xs ≡ None
 find_nowhere p [] none = refl
 find_nowhere p (y ∷ xs) none = rw (none 0 y refl) (find_nowhere p xs (λ j z. none (suc j) z))
 

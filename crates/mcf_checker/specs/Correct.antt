@@ -4,9 +4,10 @@ use Rattle.std.specs.List.{All, enumerate_from}
 use Rattle.std.specs.Option.{option_map_or}
 use Rattle.mcf_answer.specs.BlockingSet.{BlockingSet}
 use Rattle.mcf_answer.specs.Solution.{Solution}
+use Rattle.mcf_answer.specs.SparseSolution.{SparseSolution}
 use Rattle.mcf_answer.specs.Spelling.{Spells}
 use Rattle.mcf_answer.specs.declared.answers.Answer.{Answer}
-use Rattle.mcf_answer.specs.declared.answers.Answer.TheVariants.{Flow, Blocked, Refused}
+use Rattle.mcf_answer.specs.declared.answers.Answer.TheVariants.{Flow, Sparse, Blocked, Refused}
 use Rattle.mcf_answer.specs.declared.answers.Sent.{Sent}
 use Rattle.mcf_instance.specs.Blocking.{Blocks, in_list}
 use Rattle.mcf_instance.specs.declared.arc.Arc.{Arc}
@@ -48,6 +49,11 @@ pub record IsRightSolution (g : Network) (a : Solution) : Type 0 where
   pub same_ends : sent_ends a.sent ≡ arc_ends g
   pub right : IsRightFlow g a.cost a.prices (amounts a.sent)
 
+-- arcs of the instance, and the flow that they give is right
+pub record IsRightSparse (g : Network) (a : SparseSolution) : Type 0 where
+  pub of_instance : All (λ m. m.0 ≤ length g.arcs) a.moved
+  pub right : IsRightFlow g a.cost a.prices (spread g.arcs a.moved)
+
 -- nodes of the instance, which block by the named side
 pub record IsRightSet (g : Network) (a : BlockingSet) : Type 0 where
   pub of_instance : All (λ v. v ≤ node_count g) a.nodes
@@ -57,8 +63,10 @@ pub record IsRightSet (g : Network) (a : BlockingSet) : Type 0 where
 abbrev pub IsRight : Result Network Fault → Answer → Type 0
 IsRight (Err fault) (Refused r) = r ≡ fault
 IsRight (Ok g) (Flow a) = IsRightSolution g a
+IsRight (Ok g) (Sparse a) = IsRightSparse g a
 IsRight (Ok g) (Blocked a) = IsRightSet g a
 IsRight (Err fault) (Flow a) = ⊥
+IsRight (Err fault) (Sparse a) = ⊥
 IsRight (Err fault) (Blocked a) = ⊥
 IsRight (Ok g) (Refused r) = ⊥
 
@@ -72,6 +80,7 @@ pub record IsCorrect (input text : List ℕ) : Type 0 where
 -- the flow that an answer gives for an instance, if it gives one
 abbrev pub flow_given : Network → Answer → Option (List ℤ)
 flow_given g (Flow a) = Some (amounts a.sent)
+flow_given g (Sparse a) = Some (spread g.arcs a.moved)
 flow_given g (Blocked a) = None
 flow_given g (Refused r) = None
 

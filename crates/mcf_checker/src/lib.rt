@@ -12,6 +12,7 @@ mod laws;
 mod printing;
 mod set;
 mod solution;
+mod sparse;
 mod stated;
 mod verdict;
 

@@ -3,11 +3,12 @@
 use Rattle.std.specs.Prelude.{◌≡◌, ◌++◌, ◌+◌, ◌<◌, ℕ, true, List, length, ℤ, Result, Ok, Err}
 use Rattle.mcf_answer.specs.BlockingSet.{BlockingSet}
 use Rattle.mcf_answer.specs.Solution.{Solution}
+use Rattle.mcf_answer.specs.SparseSolution.{SparseSolution}
 use Rattle.mcf_answer.specs.Spelling.{IsAnswer}
 use Rattle.mcf_answer.specs.Written.{written}
 use Rattle.mcf_answer.specs.declared.answers.Answer.{Answer}
-use Rattle.mcf_answer.specs.declared.answers.Answer.TheVariants.{Flow, Blocked, Refused}
-use Rattle.mcf_checker.specs.Correct.{IsCorrect, IsRightSet, IsRightSolution, amounts}
+use Rattle.mcf_answer.specs.declared.answers.Answer.TheVariants.{Flow, Sparse, Blocked, Refused}
+use Rattle.mcf_checker.specs.Correct.{IsCorrect, IsRightSet, IsRightSolution, IsRightSparse, amounts, spread}
 use Rattle.mcf_checker.specs.Judging.{accepts, verdict}
 use Rattle.mcf_feas.specs.Chosen.{IsChosen}
 use Rattle.mcf_instance.specs.Blocking.{in_list}
@@ -32,6 +33,11 @@ pub record IsLeastSolution (g : Network) (a : Solution) : Type 0 where
   pub right : IsRightSolution g a
   pub least : IsLeastFlow g a.prices (amounts a.sent)
 
+-- and one of the second form
+pub record IsLeastSparse (g : Network) (a : SparseSolution) : Type 0 where
+  pub right : IsRightSparse g a
+  pub least : IsLeastFlow g a.prices (spread g.arcs a.moved)
+
 -- nodes that must send or take more than they can, so that no flow is feasible
 pub record IsNoFlowProof (g : Network) (a : BlockingSet) : Type 0 where
   pub right : IsRightSet g a
@@ -42,13 +48,16 @@ pub record IsNoFlowProof (g : Network) (a : BlockingSet) : Type 0 where
 abbrev pub IsOwed : Result Network Fault → Answer → Type 0
 IsOwed (Err fault) (Refused r) = r ≡ fault
 IsOwed (Ok g) (Flow a) = IsLeastSolution g a
+IsOwed (Ok g) (Sparse a) = IsLeastSparse g a
 IsOwed (Ok g) (Blocked a) = IsNoFlowProof g a
 IsOwed (Err fault) (Flow a) = ⊥
+IsOwed (Err fault) (Sparse a) = ⊥
 IsOwed (Err fault) (Blocked a) = ⊥
 IsOwed (Ok g) (Refused r) = ⊥
 
 abbrev pub answer_kind : Answer → Kind
 answer_kind (Flow a) = WithFlow
+answer_kind (Sparse a) = WithFlow
 answer_kind (Blocked a) = WithSet
 answer_kind (Refused r) = WithRefusal
 
