@@ -4,6 +4,7 @@ use Rattle.std.proofs.Common.{get_or, map, Some, None}
 use Rattle.std.specs.List.{AllZip, slice_get}
 use Rattle.std.specs.Prelude.{int_le}
 use Rattle.std.proofs.lemmas.Bool.{and_parts, and_from, eq-eqb, eqb-true, not_from_false, not_from_true, not-false, false≢true}
+use Rattle.std.proofs.lemmas.List.{length-map}
 use Rattle.std.proofs.lemmas.Option.{slice_get_past, slice_get_read, slice_get-get_or}
 use Rattle.mcf_answer.specs.declared.answers.Sent.{Sent}
 use Rattle.mcf_instance.proofs.Ranges.{at_most, at_most_passes}
@@ -13,6 +14,7 @@ use Rattle.mcf_checker.proofs.LeastNumbers.{least_none, least_none-each, least_s
 use Rattle.mcf_instance.specs.declared.arc.Arc.{Arc}
 use Rattle.mcf_instance.specs.Flow.{CanCarry, IsWithinBounds}
 use Rattle.mcf_instance.specs.Network.{Network}
+use Rattle.mcf_instance.proofs.AllZips.{length-AllZip}
 use Rattle.mcf_instance.proofs.ArcSums.{no_arc}
 
 -- the arc and the flow line at a place, from 0, are both there and agree, or are both missing
@@ -126,6 +128,11 @@ all_from_ends (a ∷ arcs) [] e h = absurd h
 all_from_ends (a ∷ arcs) (s ∷ sent) e h =
     let parts = cons_parts (s.src, s.dst) (a.src, a.dst) (sent_ends sent) (map (λ a. (a.src, a.dst)) arcs) e in
     (record { src_is = ap (λ (p : ℕ × ℕ). p.0) parts.0; dst_is = ap (λ (p : ℕ × ℕ). p.1) parts.0; carried = h.0 }, all_from_ends arcs sent parts.1 h.1)
+
+-- there are as many arcs as flow lines
+pub count_is : (arcs : List Arc) (sent : List Sent) → IsWithinBounds arcs (amounts sent) → length arcs ≡ length sent
+count_is arcs sent bounds =
+    length-AllZip CanCarry arcs (amounts sent) bounds ∙ length-map sent (λ s. s.flow)
 
 -- no arc is bad where each flow line is that of its arc
 pub record AllAgree (g : Network) (sent : List Sent) : Type 0 where

@@ -5,8 +5,6 @@ use Rattle.std.specs.Ordering.{int_eq}
 use Rattle.std.proofs.lemmas.Bool.{and_cases, and_parts, cases_lt, le-ltb, lt-ltb, ltb-false, ltb-true, not-false, not_from_false, not_from_true, or_from}
 use Rattle.std.proofs.lemmas.Bool.{or_left, or_parts, or_right, true≢false}
 use Rattle.std.proofs.lemmas.Bool.Decides.{Decides-int_eq}
-use Rattle.mcf_answer.specs.Solution.{Solution}
-use Rattle.mcf_checker.specs.Correct.{amounts}
 use Rattle.mcf_checker.specs.Judging.{bad_node, least_up_to}
 use Rattle.mcf_checker.proofs.LeastNumbers.{least-same, least_none, least_none-each, least_some}
 use Rattle.mcf_instance.specs.Flow.{net, AreNets}
@@ -81,60 +79,60 @@ module _ (nets supplies : List ℤ) (prices : ℕ) where
       least_none (is_unmet (at_node nets) supplies prices) (max (length supplies) prices) (λ j k. each j (omega arith))
 
 -- a table of the nets serves in place of the nets
-pub bad_node-table : (g : Network) (a : Solution) (nets : List ℤ) → AreNets (node_count g) g.arcs (amounts a.sent) nets
-    → least_up_to (max (node_count g) (length a.prices)) (is_unmet (at_node nets) g.supplies (length a.prices)) ≡ bad_node g a
-bad_node-table g a nets known =
-    least-same (is_unmet (at_node nets) g.supplies (length a.prices)) (is_unmet (net g.arcs (amounts a.sent)) g.supplies (length a.prices))
-    (max (node_count g) (length a.prices))
+pub bad_node-table : (g : Network) (prices flow nets : List ℤ) → AreNets (node_count g) g.arcs flow nets
+    → least_up_to (max (node_count g) (length prices)) (is_unmet (at_node nets) g.supplies (length prices)) ≡ bad_node g prices flow
+bad_node-table g prices flow nets known =
+    least-same (is_unmet (at_node nets) g.supplies (length prices)) (is_unmet (net g.arcs flow) g.supplies (length prices))
+    (max (node_count g) (length prices))
     (λ v low high. elim (cases_lt (node_count g) v) [
-      | inl beyond ↦ beyond_nodes (at_node nets) g.supplies (length a.prices) v beyond ∙ sym
-          (beyond_nodes (net g.arcs (amounts a.sent)) g.supplies (length a.prices) v beyond)
-      | inr node ↦ ap (λ z. ltb (length g.supplies) v || ltb (length a.prices) v || not (int_eq z (at_node g.supplies v))) (known.each v (low, node))
+      | inl beyond ↦ beyond_nodes (at_node nets) g.supplies (length prices) v beyond ∙ sym
+          (beyond_nodes (net g.arcs flow) g.supplies (length prices) v beyond)
+      | inr node ↦ ap (λ z. ltb (length g.supplies) v || ltb (length prices) v || not (int_eq z (at_node g.supplies v))) (known.each v (low, node))
     ])
 
 -- ---- what it means that there is none
 
 -- no node is bad where each has a price, and its net is its supply
-pub record AllMet (g : Network) (a : Solution) : Type 0 where
-  pub one_price_each : length a.prices ≡ node_count g
-  pub meets_supplies : (v : ℕ) → IsNode (node_count g) v → net g.arcs (amounts a.sent) v ≡ at_node g.supplies v
+pub record AllMet (g : Network) (prices flow : List ℤ) : Type 0 where
+  pub one_price_each : length prices ≡ node_count g
+  pub meets_supplies : (v : ℕ) → IsNode (node_count g) v → net g.arcs flow v ≡ at_node g.supplies v
 
-module _ (g : Network) (a : Solution) where
-  each_met : bad_node g a ≡ None → (v : ℕ) → 1 ≤ v → v ≤ max (node_count g) (length a.prices)
-      → is_unmet (net g.arcs (amounts a.sent)) g.supplies (length a.prices) v ≡ false
+module _ (g : Network) (prices flow : List ℤ) where
+  each_met : bad_node g prices flow ≡ None → (v : ℕ) → 1 ≤ v → v ≤ max (node_count g) (length prices)
+      → is_unmet (net g.arcs flow) g.supplies (length prices) v ≡ false
   each_met e v low high =
       let back : v - 1 + 1 ≡ v = omega arith in
-      sym (ap (is_unmet (net g.arcs (amounts a.sent)) g.supplies (length a.prices)) back)
-      ∙ least_none-each (is_unmet (net g.arcs (amounts a.sent)) g.supplies (length a.prices)) (max (node_count g) (length a.prices)) e (v - 1) (omega arith)
+      sym (ap (is_unmet (net g.arcs flow) g.supplies (length prices)) back)
+      ∙ least_none-each (is_unmet (net g.arcs flow) g.supplies (length prices)) (max (node_count g) (length prices)) e (v - 1) (omega arith)
 
-  not_more : bad_node g a ≡ None → (m n : ℕ) → m < n → n ≤ max (node_count g) (length a.prices)
-      → ((v : ℕ) → m < v → is_unmet (net g.arcs (amounts a.sent)) g.supplies (length a.prices) v ≡ true) → ⊥
+  not_more : bad_node g prices flow ≡ None → (m n : ℕ) → m < n → n ≤ max (node_count g) (length prices)
+      → ((v : ℕ) → m < v → is_unmet (net g.arcs flow) g.supplies (length prices) v ≡ true) → ⊥
   not_more e m n h k beyond =
       true≢false (sym (beyond (m + 1) (omega arith)) ∙ each_met e (m + 1) (omega arith) (omega arith))
 
-  pub AllMet-from_none : bad_node g a ≡ None → AllMet g a
+  pub AllMet-from_none : bad_node g prices flow ≡ None → AllMet g prices flow
   AllMet-from_none e =
-      let few : length a.prices ≤ node_count g = elim (cases_lt (node_count g) (length a.prices)) [
-        | inl more ↦ absurd (not_more e (node_count g) (length a.prices) more (omega arith)
-            (beyond_nodes (net g.arcs (amounts a.sent)) g.supplies (length a.prices)))
+      let few : length prices ≤ node_count g = elim (cases_lt (node_count g) (length prices)) [
+        | inl more ↦ absurd (not_more e (node_count g) (length prices) more (omega arith)
+            (beyond_nodes (net g.arcs flow) g.supplies (length prices)))
         | inr few ↦ few
       ] in
-      let enough : node_count g ≤ length a.prices = elim (cases_lt (length a.prices) (node_count g)) [
-        | inl fewer ↦ absurd (not_more e (length a.prices) (node_count g) fewer (omega arith)
-            (beyond_prices (net g.arcs (amounts a.sent)) g.supplies (length a.prices)))
+      let enough : node_count g ≤ length prices = elim (cases_lt (length prices) (node_count g)) [
+        | inl fewer ↦ absurd (not_more e (length prices) (node_count g) fewer (omega arith)
+            (beyond_prices (net g.arcs flow) g.supplies (length prices)))
         | inr enough ↦ enough
       ] in
       record {
         one_price_each = omega arith;
-        meets_supplies = λ v h. let parts = or_parts (ltb (node_count g) v || ltb (length a.prices) v)
-            (not (int_eq (net g.arcs (amounts a.sent) v) (at_node g.supplies v))) (each_met e v h.0 (omega (arith, h.1))) in
-            (Decides-int_eq (net g.arcs (amounts a.sent) v) (at_node g.supplies v)).0
-            (not-false (int_eq (net g.arcs (amounts a.sent) v) (at_node g.supplies v)) parts.1);
+        meets_supplies = λ v h. let parts = or_parts (ltb (node_count g) v || ltb (length prices) v)
+            (not (int_eq (net g.arcs flow v) (at_node g.supplies v))) (each_met e v h.0 (omega (arith, h.1))) in
+            (Decides-int_eq (net g.arcs flow v) (at_node g.supplies v)).0
+            (not-false (int_eq (net g.arcs flow v) (at_node g.supplies v)) parts.1);
       }
 
-  pub none-from_AllMet : AllMet g a → bad_node g a ≡ None
+  pub none-from_AllMet : AllMet g prices flow → bad_node g prices flow ≡ None
   none-from_AllMet h =
-      least_none (is_unmet (net g.arcs (amounts a.sent)) g.supplies (length a.prices)) (max (node_count g) (length a.prices))
-      (λ j k. within (net g.arcs (amounts a.sent)) g.supplies (length a.prices) (j + 1) (omega (arith, h.one_price_each)) (omega (arith, h.one_price_each))
-      ((Decides-int_eq (net g.arcs (amounts a.sent) (j + 1)) (at_node g.supplies (j + 1))).1
+      least_none (is_unmet (net g.arcs flow) g.supplies (length prices)) (max (node_count g) (length prices))
+      (λ j k. within (net g.arcs flow) g.supplies (length prices) (j + 1) (omega (arith, h.one_price_each)) (omega (arith, h.one_price_each))
+      ((Decides-int_eq (net g.arcs flow (j + 1)) (at_node g.supplies (j + 1))).1
       (h.meets_supplies (j + 1) (omega arith, omega (arith, h.one_price_each)))))

@@ -1,13 +1,10 @@
 -- The first arc whose flow the prices don't show: as a loop finds it, and what it means that there is none.
-use Rattle.std.proofs.Common.{◌≡◌, ℕ, zero, suc, ◌+◌, ◌-◌, ◌<◌, Bool, true, false, ◌&&◌, ◌||◌, refl, ap, sym, ◌∙◌, arith, List, [], ◌∷◌, length, get_or, Some}
+use Rattle.std.proofs.Common.{◌≡◌, ℕ, zero, suc, ◌+◌, ◌-◌, ◌<◌, Bool, true, false, ◌&&◌, ◌||◌, refl, ap, sym, ◌∙◌, arith, List, [], ◌∷◌, length, Some}
 use Rattle.std.proofs.Common.{None, ℤ, pos, ◌≤ℤ◌, ◌<ℤ◌}
 use Rattle.std.specs.List.{slice_get, zip}
 use Rattle.std.specs.Prelude.{int_lt}
 use Rattle.std.proofs.lemmas.Int.{ints}
-use Rattle.std.proofs.lemmas.Option.{none-some, slice_get_read}
-use Rattle.mcf_answer.specs.declared.answers.Sent.{Sent}
-use Rattle.mcf_answer.specs.Solution.{Solution}
-use Rattle.mcf_checker.specs.Correct.{amounts}
+use Rattle.std.proofs.lemmas.Option.{none-some}
 use Rattle.mcf_checker.specs.Judging.{bad_price, is_loose, option_is_loose}
 use Rattle.mcf_checker.proofs.LeastNumbers.{least_none, least_none-each, least_some}
 use Rattle.mcf_instance.specs.declared.arc.Arc.{Arc}
@@ -20,36 +17,35 @@ looseness prices arcs flow i = option_is_loose prices (slice_get (zip arcs flow)
 
 -- ---- as a loop finds it
 
-zip_read : (arcs : List Arc) (sent : List Sent) (i : ℕ) (a : Arc) (s : Sent) → slice_get arcs i ≡ Some a → slice_get sent i ≡ Some s
-    → slice_get (zip arcs (amounts sent)) i ≡ Some (a, s.flow)
-zip_read [] sent i a s e k = absurd (none-some a e)
-zip_read (b ∷ arcs) [] i a s e k = absurd (none-some s k)
-zip_read (b ∷ arcs) (t ∷ sent) zero a s e k =
-    let x : b ≡ a = cc in let y : t ≡ s = cc in rw (x, y) refl
-zip_read (b ∷ arcs) (t ∷ sent) (suc i) a s e k = zip_read arcs sent i a s e k
+pub zip_read : (arcs : List Arc) (flow : List ℤ) (i : ℕ) (a : Arc) (f : ℤ) → slice_get arcs i ≡ Some a → slice_get flow i ≡ Some f
+    → slice_get (zip arcs flow) i ≡ Some (a, f)
+zip_read [] flow i a f e k = absurd (none-some a e)
+zip_read (b ∷ arcs) [] i a f e k = absurd (none-some f k)
+zip_read (b ∷ arcs) (t ∷ flow) zero a f e k =
+    let x : b ≡ a = cc in let y : t ≡ f = cc in rw (x, y) refl
+zip_read (b ∷ arcs) (t ∷ flow) (suc i) a f e k = zip_read arcs flow i a f e k
 
--- the test at a place whose arc and flow line the loop has read
-pub looseness_read : (prices : List ℤ) (arcs : List Arc) (sent : List Sent) (i : ℕ) (a : Arc) (s : Sent) → slice_get arcs i ≡ Some a → i < length sent
-    → s ≡ get_or sent i s → looseness prices arcs (amounts sent) i ≡ is_loose prices (a, s.flow)
-looseness_read prices arcs sent i a s e h is =
-    ap (option_is_loose prices) (zip_read arcs sent i a s e (slice_get_read sent (length sent) i s refl h is))
+-- the test at a place whose arc and flow the loop has read
+pub looseness_read : (prices : List ℤ) (arcs : List Arc) (flow : List ℤ) (i : ℕ) (a : Arc) (f : ℤ) → slice_get arcs i ≡ Some a → slice_get flow i ≡ Some f
+    → looseness prices arcs flow i ≡ is_loose prices (a, f)
+looseness_read prices arcs flow i a f e k = ap (option_is_loose prices) (zip_read arcs flow i a f e k)
 
-module _ (g : Network) (a : Solution) where
-  test-is : (i : ℕ) → looseness a.prices g.arcs (amounts a.sent) (i + 1 - 1) ≡ looseness a.prices g.arcs (amounts a.sent) i
-  test-is i = let back : i + 1 - 1 ≡ i = omega arith in ap (looseness a.prices g.arcs (amounts a.sent)) back
+module _ (g : Network) (prices flow : List ℤ) where
+  test-is : (i : ℕ) → looseness prices g.arcs flow (i + 1 - 1) ≡ looseness prices g.arcs flow i
+  test-is i = let back : i + 1 - 1 ≡ i = omega arith in ap (looseness prices g.arcs flow) back
 
-  pub bad_price-some : (i : ℕ) → i < length g.arcs → ((j : ℕ) → j < i → looseness a.prices g.arcs (amounts a.sent) j ≡ false)
-      → looseness a.prices g.arcs (amounts a.sent) i ≡ true → bad_price g a ≡ Some (i + 1)
+  pub bad_price-some : (i : ℕ) → i < length g.arcs → ((j : ℕ) → j < i → looseness prices g.arcs flow j ≡ false)
+      → looseness prices g.arcs flow i ≡ true → bad_price g prices flow ≡ Some (i + 1)
   bad_price-some i h before here =
-      least_some (λ k. looseness a.prices g.arcs (amounts a.sent) (k - 1)) (length g.arcs) i h (λ j k. test-is j ∙ before j k) (test-is i ∙ here)
+      least_some (λ k. looseness prices g.arcs flow (k - 1)) (length g.arcs) i h (λ j k. test-is j ∙ before j k) (test-is i ∙ here)
 
-  pub bad_price-none : ((j : ℕ) → j < length g.arcs → looseness a.prices g.arcs (amounts a.sent) j ≡ false) → bad_price g a ≡ None
+  pub bad_price-none : ((j : ℕ) → j < length g.arcs → looseness prices g.arcs flow j ≡ false) → bad_price g prices flow ≡ None
   bad_price-none each =
-      least_none (λ k. looseness a.prices g.arcs (amounts a.sent) (k - 1)) (length g.arcs) (λ j k. test-is j ∙ each j k)
+      least_none (λ k. looseness prices g.arcs flow (k - 1)) (length g.arcs) (λ j k. test-is j ∙ each j k)
 
-  each_shown : bad_price g a ≡ None → (j : ℕ) → j < length g.arcs → looseness a.prices g.arcs (amounts a.sent) j ≡ false
+  each_shown : bad_price g prices flow ≡ None → (j : ℕ) → j < length g.arcs → looseness prices g.arcs flow j ≡ false
   each_shown e j h =
-      sym (test-is j) ∙ least_none-each (λ k. looseness a.prices g.arcs (amounts a.sent) (k - 1)) (length g.arcs) e j h
+      sym (test-is j) ∙ least_none-each (λ k. looseness prices g.arcs flow (k - 1)) (length g.arcs) e j h
 
 -- ---- what it means that there is none
 
@@ -85,10 +81,10 @@ each_of_all prices (a ∷ arcs) (f ∷ flow) h zero =
     not_loose (reduced_cost prices a) a.low a.cap f h.0.0 h.0.1
 each_of_all prices (a ∷ arcs) (f ∷ flow) h (suc j) = each_of_all prices arcs flow h.1 j
 
-pub Shows-from_none : (g : Network) (a : Solution) → IsWithinBounds g.arcs (amounts a.sent) → bad_price g a ≡ None → Shows g.arcs a.prices (amounts a.sent)
-Shows-from_none g a bounds e =
-    all_complementary a.prices g.arcs (amounts a.sent) bounds (each_shown g a e)
+pub Shows-from_none : (g : Network) (prices flow : List ℤ) → IsWithinBounds g.arcs flow → bad_price g prices flow ≡ None → Shows g.arcs prices flow
+Shows-from_none g prices flow bounds e =
+    all_complementary prices g.arcs flow bounds (each_shown g prices flow e)
 
-pub none-from_Shows : (g : Network) (a : Solution) → Shows g.arcs a.prices (amounts a.sent) → bad_price g a ≡ None
-none-from_Shows g a h =
-    bad_price-none g a (λ j k. each_of_all a.prices g.arcs (amounts a.sent) h j)
+pub none-from_Shows : (g : Network) (prices flow : List ℤ) → Shows g.arcs prices flow → bad_price g prices flow ≡ None
+none-from_Shows g prices flow h =
+    bad_price-none g prices flow (λ j k. each_of_all prices g.arcs flow h j)

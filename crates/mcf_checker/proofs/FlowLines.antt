@@ -1,18 +1,17 @@
--- What a loop over the flow lines needs at one of them: the steps of the sums over arcs and flows, as it reads them.
-use Rattle.std.proofs.Common.{◌≡◌, ℕ, ◌+◌, ◌-◌, ◌≤◌, ◌<◌, ap, subst, sym, ◌∙◌, arith, inl, inr, List, length, take, set, get_or, map, Some, ℤ, ◌+ℤ◌, ◌-ℤ◌}
+-- What a loop over the arcs and their flows needs at one of them: the steps of the sums, as it reads them.
+use Rattle.std.proofs.Common.{◌≡◌, ℕ, ◌+◌, ◌-◌, ◌≤◌, ap, subst, sym, ◌∙◌, arith, inl, inr, List, [], length, take, set, get_or, map, Some, ℤ, pos}
+use Rattle.std.proofs.Common.{◌+ℤ◌, ◌-ℤ◌}
+use Rattle.std.specs.Prelude.{replicate}
 use Rattle.std.specs.List.{All, slice_get, sum}
-use Rattle.std.proofs.Math.ListN.{get_or-map}
 use Rattle.std.proofs.Math.Seq.{take-length}
-use Rattle.std.proofs.lemmas.List.{length-map}
 use Rattle.std.proofs.lemmas.Bool.{cases_lt}
-use Rattle.std.proofs.lemmas.Option.{get_or_from_slice_get, none-some, slice_get_past}
-use Rattle.mcf_answer.specs.declared.answers.Sent.{Sent}
-use Rattle.mcf_checker.specs.Correct.{amounts}
+use Rattle.std.proofs.lemmas.List.{get_or-replicate, length-replicate}
+use Rattle.std.proofs.lemmas.Option.{get_or_from_slice_get, none-some, slice_get_past, slice_get_within}
 use Rattle.mcf_instance.specs.declared.arc.Arc.{Arc}
-use Rattle.mcf_instance.specs.Flow.{CanCarry, IsWithinBounds, AreNets}
+use Rattle.mcf_instance.specs.Flow.{IsWithinBounds, AreNets}
 use Rattle.mcf_instance.specs.Limits.{arc_limit, total_limit, wide_limits}
+use Rattle.mcf_instance.specs.Network.{at_node}
 use Rattle.mcf_instance.specs.WellFormed.{HasEnds, IsArcWithinLimits, weight}
-use Rattle.mcf_instance.proofs.AllZips.{length-AllZip}
 use Rattle.mcf_instance.proofs.Bounds.{CostStep, cost_step}
 use Rattle.mcf_instance.proofs.NetSteps.{NetStep, NetStepSecond, net_step, net_step_second}
 
@@ -24,44 +23,45 @@ arc_has P arcs i a at all =
       | inr past ↦ absurd (none-some a (sym (slice_get_past arcs i past) ∙ at))
     ]
 
--- there are as many arcs as flow lines
-pub count_is : (arcs : List Arc) (sent : List Sent) → IsWithinBounds arcs (amounts sent) → length arcs ≡ length sent
-count_is arcs sent bounds =
-    length-AllZip CanCarry arcs (amounts sent) bounds ∙ length-map sent (λ s. s.flow)
-
 -- the first arcs are all of them at the end
 pub take_whole : (arcs : List Arc) (i : ℕ) → i ≡ length arcs → take i arcs ≡ arcs
 take_whole arcs i e = ap (λ n. take n arcs) e ∙ take-length arcs
 
--- the arc and the flow line at a place, as the loop has read them
-module _ (arcs : List Arc) (sent : List Sent) (i : ℕ) (a : Arc) (s : Sent) (at : slice_get arcs i ≡ Some a) (is : s ≡ get_or sent i s) where
+-- nets of no arcs
+pub nets_at_start : (nodes : ℕ) (flow nets : List ℤ) → nets ≡ replicate nodes (pos 0) → AreNets nodes [] flow nets
+nets_at_start nodes flow nets e = record {
+  one_per_node = ap length e ∙ length-replicate nodes (pos 0);
+  each = λ v h. ap (λ (xs : List ℤ). at_node xs v) e ∙ get_or-replicate nodes (v - 1) (pos 0) (pos 0) (omega (arith, h));
+}
+
+-- the arc at a place and its flow, as the loop has read them
+module _ (arcs : List Arc) (flow : List ℤ) (i : ℕ) (a : Arc) (f : ℤ) (at : slice_get arcs i ≡ Some a) (carried : slice_get flow i ≡ Some f) where
   arc_is : get_or arcs i a ≡ a
   arc_is = get_or_from_slice_get arcs i a a at
 
-  flow_is : get_or (amounts sent) i s.flow ≡ s.flow
-  flow_is = get_or-map (λ t. t.flow) sent i s ∙ ap (λ t. t.flow) (sym is)
+  flow_is : get_or flow i f ≡ f
+  flow_is = get_or_from_slice_get flow i f f carried
 
-  pub cost_at : All (IsArcWithinLimits wide_limits) arcs → sum (map weight arcs) ≤ total_limit → IsWithinBounds arcs (amounts sent) → i < length sent
-      → CostStep arcs (amounts sent) i a s.flow
-  cost_at small total bounds h =
-      rw (arc_is, flow_is) at (cost_step arcs (amounts sent) i a s.flow small total bounds (omega (arith, count_is arcs sent bounds)))
+  pub cost_at : All (IsArcWithinLimits wide_limits) arcs → sum (map weight arcs) ≤ total_limit → IsWithinBounds arcs flow → CostStep arcs flow i a f
+  cost_at small total bounds =
+      rw (arc_is, flow_is) at (cost_step arcs flow i a f small total bounds (slice_get_within arcs i a at))
 
-  module _ (nodes : ℕ) (nets : List ℤ) (u v : ℕ) (src : u ≡ a.src) (dst : v ≡ a.dst) (ends : All (HasEnds nodes) arcs)
-      (small : All (IsArcWithinLimits wide_limits) arcs) (count : length arcs ≤ arc_limit) (bounds : IsWithinBounds arcs (amounts sent))
-      (known : AreNets nodes (take i arcs) (amounts sent) nets) (h : i < length sent) where
-    src_is : (get_or arcs i a).src ≡ u
-    src_is = ap (λ b. b.src) arc_is ∙ sym src
+  -- where the entries of the ends stand at these places
+  module _ (nodes : ℕ) (nets : List ℤ) (p q : ℕ) (src : p ≡ a.src - 1) (dst : q ≡ a.dst - 1) (ends : All (HasEnds nodes) arcs)
+      (small : All (IsArcWithinLimits wide_limits) arcs) (count : length arcs ≤ arc_limit) (bounds : IsWithinBounds arcs flow)
+      (known : AreNets nodes (take i arcs) flow nets) where
+    src_is : (get_or arcs i a).src - 1 ≡ p
+    src_is = ap (λ (b : Arc). b.src - 1) arc_is ∙ sym src
 
-    dst_is : (get_or arcs i a).dst ≡ v
-    dst_is = ap (λ b. b.dst) arc_is ∙ sym dst
+    dst_is : (get_or arcs i a).dst - 1 ≡ q
+    dst_is = ap (λ (b : Arc). b.dst - 1) arc_is ∙ sym dst
 
-    pub net_at : (x : ℤ) → x ≡ get_or nets (u - 1) x → NetStep arcs (amounts sent) i s.flow x
+    pub net_at : (x : ℤ) → x ≡ get_or nets p x → NetStep arcs flow i f x
     net_at x is-x =
-        rw flow_is at (net_step nodes arcs (amounts sent) nets i a s.flow ends small count bounds known (omega (arith, count_is arcs sent bounds)) x
-        (rw src_is is-x))
+        rw flow_is at (net_step nodes arcs flow nets i a f ends small count bounds known (slice_get_within arcs i a at) x (rw src_is is-x))
 
-    pub net_at_second : (x y : ℤ) → x ≡ get_or nets (u - 1) x → y ≡ get_or (set nets (u - 1) (x +ℤ s.flow)) (v - 1) y
-        → NetStepSecond nodes (take (i + 1) arcs) (amounts sent) (set (set nets (u - 1) (x +ℤ s.flow)) (v - 1) (y -ℤ s.flow)) s.flow y
+    pub net_at_second : (x y : ℤ) → x ≡ get_or nets p x → y ≡ get_or (set nets p (x +ℤ f)) q y
+        → NetStepSecond nodes (take (i + 1) arcs) flow (set (set nets p (x +ℤ f)) q (y -ℤ f)) f y
     net_at_second x y is-x is-y =
-        rw (src_is, dst_is, flow_is) at (net_step_second nodes arcs (amounts sent) nets i a s.flow ends small count bounds known
-        (omega (arith, count_is arcs sent bounds)) x y (rw src_is is-x) (rw (src_is, dst_is, flow_is) is-y))
+        rw (src_is, dst_is, flow_is) at (net_step_second nodes arcs flow nets i a f ends small count bounds known (slice_get_within arcs i a at) x y
+        (rw src_is is-x) (rw (src_is, dst_is, flow_is) is-y))

@@ -1,5 +1,9 @@
 -- The judge accepts what is right, and nothing else.
-use Rattle.std.proofs.Common.{◌≡◌, ℕ, Bool, true, false, cond, eqb, refl, sym, ap, subst, ◌∙◌, List, length, ℤ, Some, Result, Ok, Err}
+use Rattle.std.proofs.Common.{◌≡◌, ℕ, Bool, true, false, cond, eqb, refl, sym, ap, subst, ◌∙◌, List, length, ℤ, Option, Some, None, Result, Ok, Err}
+use Rattle.std.specs.List.{All}
+use Rattle.std.specs.Option.{option_map_or}
+use Rattle.std.specs.Ordering.{int_eq}
+use Rattle.std.specs.Prelude.{⊤}
 use Rattle.std.specs.Bool.{IsTrue}
 use Rattle.std.specs.Prelude.{◌↔◌, bytes_eq}
 use Rattle.std.proofs.lemmas.Bool.{and_from, and_parts, eq-eqb, eqb-true, false≢true}
@@ -7,18 +11,23 @@ use Rattle.std.proofs.lemmas.Slice.Eq.{bytes_eq-Decides}
 use Rattle.mcf_answer.specs.BlockingSet.{BlockingSet}
 use Rattle.mcf_answer.specs.Parsing.{parsing}
 use Rattle.mcf_answer.specs.Solution.{Solution}
-use Rattle.mcf_answer.specs.Spelling.{Spells}
+use Rattle.mcf_answer.specs.SparseSolution.{IsSparseSolution, SparseSolution}
+use Rattle.mcf_answer.specs.Spelling.{IsAnswer, Spells}
 use Rattle.mcf_answer.specs.declared.answers.Answer.{Answer}
-use Rattle.mcf_answer.specs.declared.answers.Answer.TheVariants.{Blocked, Flow, Refused}
+use Rattle.mcf_answer.specs.declared.answers.Answer.TheVariants.{Blocked, Flow, Refused, Sparse}
 use Rattle.mcf_answer.specs.declared.shape.Shape.{Shape}
-use Rattle.mcf_checker.specs.Correct.{GivesLeastFlow, HasNoFlow, IsCorrect, IsRight, IsRightSet, IsRightSolution, amounts}
-use Rattle.mcf_checker.specs.Judging.{accepts, judged, same_fault, set_verdict, solution_verdict, verdict}
+use Rattle.mcf_checker.specs.Correct.{GivesLeastFlow, HasNoFlow, IsCorrect, IsRight, IsRightFlow, IsRightSet, amounts, flow_given, spread}
+use Rattle.mcf_checker.specs.Judging.{accepts, bad_moved, bad_node, bad_price, flow_verdict, judged, same_fault, set_verdict, solution_verdict, sparse_verdict, verdict}
+use Rattle.mcf_checker.specs.Private.StatedFlows.{AreArcsInOrder}
 use Rattle.mcf_checker.specs.declared.verdict.Verdict.{Verdict}
-use Rattle.mcf_checker.specs.declared.verdict.Verdict.TheVariants.{BadRefusal, BadShape, Blocked as SetAccepted, Flow as FlowAccepted}
+use Rattle.mcf_checker.specs.declared.verdict.Verdict.TheVariants.{BadArc, BadCost, BadNode, BadPrice, BadRefusal, BadShape, Blocked as SetAccepted, Flow as FlowAccepted}
 use Rattle.mcf_checker.specs.declared.verdict.Verdict.TheVariants.{Refused as RefusalAccepted}
+use Rattle.mcf_checker.proofs.OrderedArcs.{HasOrder, read_ordered}
 use Rattle.mcf_checker.proofs.Sets.{IsRightSet-from_accepts, accepts-from_IsRightSet, at_right_set}
 use Rattle.mcf_checker.proofs.Solutions.{IsRightSolution-from_accepts, accepts-from_IsRightSolution, at_right}
+use Rattle.mcf_checker.proofs.SparseFlows.{IsRightSparse-from_accepts, accepts-from_IsRightSparse}
 use Rattle.mcf_instance.specs.Blocking.{in_list}
+use Rattle.mcf_instance.specs.Flow.{cost}
 use Rattle.mcf_instance.specs.Fault.{Fault, code_word}
 use Rattle.mcf_instance.specs.Limits.{limits}
 use Rattle.mcf_instance.specs.Network.{Network}
@@ -75,34 +84,59 @@ same_of : (same : Bool) (r : Fault) → accepts (cond same (RefusalAccepted r) B
 same_of true r e = refl
 same_of false r e = absurd (false≢true e)
 
+-- the arcs of what was read have their bounds in order
+abbrev HasOrderedArcs : Result Network Fault → Type 0
+HasOrderedArcs (Ok g) = All HasOrder g.arcs
+HasOrderedArcs (Err fault) = ⊤
+
+ordered_of : (input : List ℕ) → HasOrderedArcs (reading limits input)
+ordered_of input = go (reading limits input) refl
+  where
+    go : (r : Result Network Fault) → reading limits input ≡ r → HasOrderedArcs r
+    go (Ok g) is = read_ordered input g is
+    go (Err fault) is = tt
+
+-- the arcs that an answer names are in order
+pub in_order : (a : SparseSolution) → IsSparseSolution a → AreArcsInOrder a.moved
+in_order a h = record { numbered = λ k d l. (h.moved_fit k d l).0.0; ascending = h.ascending }
+
+answer_in_order : (a : SparseSolution) → IsAnswer (Sparse a) → AreArcsInOrder a.moved
+unfolding IsAnswer
+answer_in_order a h = in_order a h
+
 -- what the judge accepts is an answer, and right
 record Accepted (r : Result Network Fault) (p : Result Answer Shape) : Type 0 where
   answer : Answer
   parsed : p ≡ Ok answer
   right : IsRight r answer
 
-Accepted-from_test : (r : Result Network Fault) (p : Result Answer Shape) → accepts (judged r p) ≡ true → Accepted r p
+Accepted-from_test : (r : Result Network Fault) (p : Result Answer Shape) → HasOrderedArcs r → accepts (judged r p) ≡ true → Accepted r p
 unfolding judged
-Accepted-from_test (Ok g) (Err shape) e = absurd (false≢true e)
-Accepted-from_test (Err fault) (Err shape) e = absurd (false≢true e)
-Accepted-from_test (Err fault) (Ok (Flow a)) e = absurd (false≢true e)
-Accepted-from_test (Err fault) (Ok (Blocked a)) e = absurd (false≢true e)
-Accepted-from_test (Err fault) (Ok (Refused r)) e =
+Accepted-from_test (Ok g) (Err shape) ordered e = absurd (false≢true e)
+Accepted-from_test (Err fault) (Err shape) ordered e = absurd (false≢true e)
+Accepted-from_test (Err fault) (Ok (Flow a)) ordered e = absurd (false≢true e)
+Accepted-from_test (Err fault) (Ok (Sparse a)) ordered e = absurd (false≢true e)
+Accepted-from_test (Err fault) (Ok (Blocked a)) ordered e = absurd (false≢true e)
+Accepted-from_test (Err fault) (Ok (Refused r)) ordered e =
     record { answer = Refused r; parsed = refl; right = same_fault-true r fault (same_of (same_fault r fault) r e) }
-Accepted-from_test (Ok g) (Ok (Flow a)) e =
+Accepted-from_test (Ok g) (Ok (Flow a)) ordered e =
     record { answer = Flow a; parsed = refl; right = IsRightSolution-from_accepts g a e }
-Accepted-from_test (Ok g) (Ok (Blocked a)) e =
+Accepted-from_test (Ok g) (Ok (Sparse a)) ordered e =
+    record { answer = Sparse a; parsed = refl; right = IsRightSparse-from_accepts g a ordered e }
+Accepted-from_test (Ok g) (Ok (Blocked a)) ordered e =
     record { answer = Blocked a; parsed = refl; right = IsRightSet-from_accepts g a e }
-Accepted-from_test (Ok g) (Ok (Refused r)) e = absurd (false≢true e)
+Accepted-from_test (Ok g) (Ok (Refused r)) ordered e = absurd (false≢true e)
 
-test-from_right : (r : Result Network Fault) (a : Answer) → IsRight r a → accepts (judged r (Ok a)) ≡ true
+test-from_right : (r : Result Network Fault) (a : Answer) → IsAnswer a → IsRight r a → accepts (judged r (Ok a)) ≡ true
 unfolding judged
-test-from_right (Err fault) (Flow a) h = absurd h
-test-from_right (Err fault) (Blocked a) h = absurd h
-test-from_right (Err fault) (Refused r) h = rw (ap (same_fault r) (sym h) ∙ same_fault_refl r) refl
-test-from_right (Ok g) (Flow a) h = accepts-from_IsRightSolution g a h
-test-from_right (Ok g) (Blocked a) h = accepts-from_IsRightSet g a h
-test-from_right (Ok g) (Refused r) h = absurd h
+test-from_right (Err fault) (Flow a) fits h = absurd h
+test-from_right (Err fault) (Sparse a) fits h = absurd h
+test-from_right (Err fault) (Blocked a) fits h = absurd h
+test-from_right (Err fault) (Refused r) fits h = rw (ap (same_fault r) (sym h) ∙ same_fault_refl r) refl
+test-from_right (Ok g) (Flow a) fits h = accepts-from_IsRightSolution g a h
+test-from_right (Ok g) (Sparse a) fits h = accepts-from_IsRightSparse g a (answer_in_order a fits) h
+test-from_right (Ok g) (Blocked a) fits h = accepts-from_IsRightSet g a h
+test-from_right (Ok g) (Refused r) fits h = absurd h
 
 -- what the parser of answers says of a text
 abbrev pub ParsesExactly : List ℕ → Type 0
@@ -111,23 +145,25 @@ ParsesExactly text = (a : Answer) → (parsing text ≡ Ok a) ↔ Spells text a
 pub accepts-exactly : (input text : List ℕ) → ParsesExactly text → IsTrue (accepts (verdict input text)) ↔ IsCorrect input text
 unfolding verdict
 accepts-exactly input text parses = (
-  λ e. let w = Accepted-from_test (reading limits input) (parsing text) e in record {
+  λ e. let w = Accepted-from_test (reading limits input) (parsing text) (ordered_of input) e in record {
     answer = w.answer;
     spelled = (parses w.answer).0 w.parsed;
     right = w.right;
   },
-  λ h. rw ((parses h.answer).1 h.spelled) (test-from_right (reading limits input) h.answer h.right),
+  λ h. rw ((parses h.answer).1 h.spelled) (test-from_right (reading limits input) h.answer h.spelled.in_range h.right),
 )
 
 -- ---- accepted flows and sets
 
 record AcceptedFlow (r : Result Network Fault) (p : Result Answer Shape) (total : ℤ) : Type 0 where
   instance : Network
-  solution : Solution
+  answer : Answer
+  prices : List ℤ
+  flow : List ℤ
   read : r ≡ Ok instance
-  parsed : p ≡ Ok (Flow solution)
-  right : IsRightSolution instance solution
-  total_is : total ≡ solution.cost
+  parsed : p ≡ Ok answer
+  given : flow_given instance answer ≡ Some flow
+  right : IsRightFlow instance total prices flow
 
 no_flow_refused : (same : Bool) (r : Fault) (total : ℤ) → cond same (RefusalAccepted r) BadRefusal ≡ FlowAccepted total → ⊥
 no_flow_refused true r total e = cc
@@ -145,20 +181,72 @@ no_set_in_flow : (g : Network) (a : Solution) (count : ℕ) → solution_verdict
 no_set_in_flow g a count e =
     let s : FlowAccepted a.cost ≡ SetAccepted count = at_right g a (IsRightSolution-from_accepts g a (ap accepts e)) ∙ e in cc
 
-flow_of : (r : Result Network Fault) (p : Result Answer Shape) (total : ℤ) → judged r p ≡ FlowAccepted total → AcceptedFlow r p total
+-- the cases of a flow, as they come
+total_of_cases : (arc node price : Option ℕ) (right : Bool) (cost total : ℤ)
+    → option_map_or BadArc arc (option_map_or BadNode node (option_map_or BadPrice price (cond right (FlowAccepted cost) BadCost))) ≡ FlowAccepted total
+    → cost ≡ total
+total_of_cases (Some k) node price right cost total e = absurd (cc)
+total_of_cases None (Some v) price right cost total e = absurd (cc)
+total_of_cases None None (Some k) right cost total e = absurd (cc)
+total_of_cases None None None false cost total e = absurd (cc)
+total_of_cases None None None true cost total e = cc
+
+no_set_of_cases : (arc node price : Option ℕ) (right : Bool) (cost : ℤ) (count : ℕ)
+    → option_map_or BadArc arc (option_map_or BadNode node (option_map_or BadPrice price (cond right (FlowAccepted cost) BadCost))) ≡ SetAccepted count → ⊥
+no_set_of_cases (Some k) node price right cost count e = cc
+no_set_of_cases None (Some v) price right cost count e = cc
+no_set_of_cases None None (Some k) right cost count e = cc
+no_set_of_cases None None None false cost count e = cc
+no_set_of_cases None None None true cost count e = cc
+
+total_of_sparse : (g : Network) (a : SparseSolution) (total : ℤ) → sparse_verdict g a ≡ FlowAccepted total → a.cost ≡ total
+unfolding sparse_verdict flow_verdict
+total_of_sparse g a total e =
+    total_of_cases (bad_moved g a.moved) (bad_node g a.prices (spread g.arcs a.moved)) (bad_price g a.prices (spread g.arcs a.moved))
+    (int_eq a.cost (cost g.arcs (spread g.arcs a.moved))) a.cost total e
+
+no_set_in_sparse : (g : Network) (a : SparseSolution) (count : ℕ) → sparse_verdict g a ≡ SetAccepted count → ⊥
+unfolding sparse_verdict flow_verdict
+no_set_in_sparse g a count e =
+    no_set_of_cases (bad_moved g a.moved) (bad_node g a.prices (spread g.arcs a.moved)) (bad_price g a.prices (spread g.arcs a.moved))
+    (int_eq a.cost (cost g.arcs (spread g.arcs a.moved))) a.cost count e
+
+flow_of : (r : Result Network Fault) (p : Result Answer Shape) (total : ℤ) → HasOrderedArcs r → judged r p ≡ FlowAccepted total → AcceptedFlow r p total
 unfolding judged
-flow_of (Ok g) (Err shape) total e = absurd (cc)
-flow_of (Err fault) (Err shape) total e = absurd (cc)
-flow_of (Err fault) (Ok (Flow a)) total e = absurd (cc)
-flow_of (Err fault) (Ok (Blocked a)) total e = absurd (cc)
-flow_of (Err fault) (Ok (Refused r)) total e = absurd (no_flow_refused (same_fault r fault) r total e)
-flow_of (Ok g) (Ok (Flow a)) total e =
+flow_of (Ok g) (Err shape) total ordered e = absurd (cc)
+flow_of (Err fault) (Err shape) total ordered e = absurd (cc)
+flow_of (Err fault) (Ok (Flow a)) total ordered e = absurd (cc)
+flow_of (Err fault) (Ok (Sparse a)) total ordered e = absurd (cc)
+flow_of (Err fault) (Ok (Blocked a)) total ordered e = absurd (cc)
+flow_of (Err fault) (Ok (Refused r)) total ordered e = absurd (no_flow_refused (same_fault r fault) r total e)
+flow_of (Ok g) (Ok (Flow a)) total ordered e =
     let right = IsRightSolution-from_accepts g a (ap accepts e) in
     let same : FlowAccepted a.cost ≡ FlowAccepted total = at_right g a right ∙ e in
-    let cost : total ≡ a.cost = cc in
-    record { instance = g; solution = a; read = refl; parsed = refl; right = right; total_is = cost }
-flow_of (Ok g) (Ok (Blocked a)) total e = absurd (no_flow_in_set g a total e)
-flow_of (Ok g) (Ok (Refused r)) total e = absurd (cc)
+    let cost : a.cost ≡ total = cc in
+    record {
+      instance = g;
+      answer = Flow a;
+      prices = a.prices;
+      flow = amounts a.sent;
+      read = refl;
+      parsed = refl;
+      given = refl;
+      right = subst (λ (z : ℤ). IsRightFlow g z a.prices (amounts a.sent)) cost right.right;
+    }
+flow_of (Ok g) (Ok (Sparse a)) total ordered e =
+    let right = IsRightSparse-from_accepts g a ordered (ap accepts e) in
+    record {
+      instance = g;
+      answer = Sparse a;
+      prices = a.prices;
+      flow = spread g.arcs a.moved;
+      read = refl;
+      parsed = refl;
+      given = refl;
+      right = subst (λ (z : ℤ). IsRightFlow g z a.prices (spread g.arcs a.moved)) (total_of_sparse g a total e) right.right;
+    }
+flow_of (Ok g) (Ok (Blocked a)) total ordered e = absurd (no_flow_in_set g a total e)
+flow_of (Ok g) (Ok (Refused r)) total ordered e = absurd (cc)
 
 record AcceptedSet (r : Result Network Fault) : Type 0 where
   instance : Network
@@ -171,9 +259,11 @@ unfolding judged
 set_of (Ok g) (Err shape) count e = absurd (cc)
 set_of (Err fault) (Err shape) count e = absurd (cc)
 set_of (Err fault) (Ok (Flow a)) count e = absurd (cc)
+set_of (Err fault) (Ok (Sparse a)) count e = absurd (cc)
 set_of (Err fault) (Ok (Blocked a)) count e = absurd (cc)
 set_of (Err fault) (Ok (Refused r)) count e = absurd (no_set_refused (same_fault r fault) r count e)
 set_of (Ok g) (Ok (Flow a)) count e = absurd (no_set_in_flow g a count e)
+set_of (Ok g) (Ok (Sparse a)) count e = absurd (no_set_in_sparse g a count e)
 set_of (Ok g) (Ok (Blocked a)) count e =
     record { instance = g; set = a; read = refl; right = IsRightSet-from_accepts g a (ap accepts e) }
 set_of (Ok g) (Ok (Refused r)) count e = absurd (cc)
@@ -186,14 +276,16 @@ pub accepted_flows_are_least : (input text : List ℕ) (total : ℤ) → ParsesE
     → GivesLeastFlow input text total
 unfolding verdict
 accepted_flows_are_least input text total parses reads e =
-    let w = flow_of (reading limits input) (parsing text) total e in
+    let w = flow_of (reading limits input) (parsing text) total (ordered_of input) e in
     record {
       instance = w.instance;
-      solution = w.solution;
+      answer = w.answer;
+      flow = w.flow;
       read = w.read;
-      spelled = (parses (Flow w.solution)).0 w.parsed;
-      least = shown_flows_are_least_lem w.instance w.solution.prices (amounts w.solution.sent) (reads w.instance w.read).ends w.right.feasible w.right.shown;
-      cost_is = w.total_is ∙ w.right.cost_is;
+      spelled = (parses w.answer).0 w.parsed;
+      given = w.given;
+      least = shown_flows_are_least_lem w.instance w.prices w.flow (reads w.instance w.read).ends w.right.feasible w.right.shown;
+      cost_is = w.right.cost_is;
     }
 
 pub accepted_sets_leave_no_flow : (input text : List ℕ) (count : ℕ) → ReadsWellFormed input → verdict input text ≡ SetAccepted count → HasNoFlow input

@@ -6,7 +6,10 @@ pub mod FlowLines
 pub mod JudgedTexts
 pub mod Judges
 pub mod LeastNumbers
+pub mod OrderedArcs
 pub mod Runs
 pub mod Sent
 pub mod Sets
 pub mod Solutions
+pub mod SparseFlows
+pub mod StatedLines

@@ -1,17 +1,18 @@
 -- What the checker says of an answer text: the first of the verdicts that applies.
 use Rattle.std.specs.Prelude.{ℕ, ◌-◌, ◌==◌, nat_le, nat_lt, max, Bool, true, false, not, ◌&&◌, ◌||◌, if◌then◌else◌, List, length, find, zip, ℤ, int_le, int_lt}
-use Rattle.std.specs.Prelude.{pos, Option, Some, None, slice_get, Result, Ok, Err, bytes_eq}
+use Rattle.std.specs.Prelude.{pos, Option, Some, None, option_map, slice_get, Result, Ok, Err, bytes_eq}
 use Rattle.std.specs.List.{list_all, range_with_len}
 use Rattle.std.specs.Option.{option_map_or}
 use Rattle.std.specs.Ordering.{int_eq}
 use Rattle.mcf_answer.specs.BlockingSet.{BlockingSet}
 use Rattle.mcf_answer.specs.Parsing.{parsing}
 use Rattle.mcf_answer.specs.Solution.{Solution}
+use Rattle.mcf_answer.specs.SparseSolution.{SparseSolution}
 use Rattle.mcf_answer.specs.declared.answers.Answer.{Answer}
-use Rattle.mcf_answer.specs.declared.answers.Answer.TheVariants.{Flow, Blocked, Refused}
+use Rattle.mcf_answer.specs.declared.answers.Answer.TheVariants.{Flow, Sparse, Blocked, Refused}
 use Rattle.mcf_answer.specs.declared.answers.Sent.{Sent}
 use Rattle.mcf_answer.specs.declared.shape.Shape.{Shape}
-use Rattle.mcf_checker.specs.Correct.{amounts}
+use Rattle.mcf_checker.specs.Correct.{amounts, spread}
 use Rattle.mcf_checker.specs.declared.verdict.Verdict.{Verdict}
 use Rattle.mcf_checker.specs.declared.verdict.Verdict.TheVariants.{BadShape, BadKind, BadRefusal, Refused as RefusalAccepted, BadArc, BadNode, BadPrice}
 use Rattle.mcf_checker.specs.declared.verdict.Verdict.TheVariants.{BadCost, Flow as FlowAccepted, BadSet, Blocked as SetAccepted}
@@ -43,14 +44,27 @@ abbrev pub bad_arc : Network → List Sent → Option ℕ
 bad_arc g sent =
     least_up_to (max (length g.arcs) (length sent)) (λ k. not (arc_agrees (slice_get g.arcs (k - 1)) (slice_get sent (k - 1))))
 
+-- an arc is there, and can carry this much
+abbrev pub can_carry : Option Arc → ℤ → Bool
+can_carry None f = false
+can_carry (Some a) f = int_le a.low f && int_le f a.cap
+
+-- a line of the second form names an arc that is there, with a flow within its bounds
+abbrev pub moved_agrees : List Arc → ℕ × ℤ → Bool
+moved_agrees arcs m = can_carry (slice_get arcs (m.0 - 1)) m.1
+
+-- the arc of the first line that doesn't; as the lines ascend, it is the least
+abbrev pub bad_moved : Network → List (ℕ × ℤ) → Option ℕ
+bad_moved g moved = option_map (λ m. m.0) (find (λ m. not (moved_agrees g.arcs m)) moved)
+
 -- ---- nodes
 
 -- the least number of a node without a price line, of a price line without a node, or of a node whose net
 -- is not its supply
-abbrev pub bad_node : Network → Solution → Option ℕ
-bad_node g a =
-    least_up_to (max (node_count g) (length a.prices)) (λ v.
-    nat_lt (node_count g) v || nat_lt (length a.prices) v || not (int_eq (net g.arcs (amounts a.sent) v) (at_node g.supplies v)))
+abbrev pub bad_node : Network → List ℤ → List ℤ → Option ℕ
+bad_node g prices flow =
+    least_up_to (max (node_count g) (length prices)) (λ v.
+    nat_lt (node_count g) v || nat_lt (length prices) v || not (int_eq (net g.arcs flow v) (at_node g.supplies v)))
 
 -- ---- prices
 
@@ -65,19 +79,28 @@ option_is_loose prices None = false
 option_is_loose prices (Some m) = is_loose prices m
 
 -- the least arc whose flow the prices do not show
-abbrev pub bad_price : Network → Solution → Option ℕ
-bad_price g a =
-    least_up_to (length g.arcs) (λ k. option_is_loose a.prices (slice_get (zip g.arcs (amounts a.sent)) (k - 1)))
+abbrev pub bad_price : Network → List ℤ → List ℤ → Option ℕ
+bad_price g prices flow =
+    least_up_to (length g.arcs) (λ k. option_is_loose prices (slice_get (zip g.arcs flow) (k - 1)))
 
 -- ---- the verdicts
+
+-- of a flow within bounds for an instance, with its stated cost and prices
+unfoldable pub flow_verdict : Network → ℤ → List ℤ → List ℤ → Verdict
+flow_verdict g total prices flow =
+    option_map_or BadNode (bad_node g prices flow)
+    (option_map_or BadPrice (bad_price g prices flow)
+    (if int_eq total (cost g.arcs flow) then FlowAccepted total else BadCost))
 
 -- of a flow answer for an instance
 unfoldable pub solution_verdict : Network → Solution → Verdict
 solution_verdict g a =
-    option_map_or BadArc (bad_arc g a.sent)
-    (option_map_or BadNode (bad_node g a)
-    (option_map_or BadPrice (bad_price g a)
-    (if int_eq a.cost (cost g.arcs (amounts a.sent)) then FlowAccepted a.cost else BadCost)))
+    option_map_or BadArc (bad_arc g a.sent) (flow_verdict g a.cost a.prices (amounts a.sent))
+
+-- of a flow answer of the second form for an instance
+unfoldable pub sparse_verdict : Network → SparseSolution → Verdict
+sparse_verdict g a =
+    option_map_or BadArc (bad_moved g a.moved) (flow_verdict g a.cost a.prices (spread g.arcs a.moved))
 
 -- the set must send, or take, more than it can
 abbrev pub exceeds : Network → (ℕ → Bool) → Side → Bool
@@ -97,10 +120,12 @@ same_fault r s = r.line == s.line && bytes_eq (code_word r.code) (code_word s.co
 unfoldable pub judged : Result Network Fault → Result Answer Shape → Verdict
 judged read (Err shape) = BadShape shape.line
 judged (Err fault) (Ok (Flow a)) = BadKind
+judged (Err fault) (Ok (Sparse a)) = BadKind
 judged (Err fault) (Ok (Blocked a)) = BadKind
 judged (Ok g) (Ok (Refused r)) = BadKind
 judged (Err fault) (Ok (Refused r)) = if same_fault r fault then RefusalAccepted r else BadRefusal
 judged (Ok g) (Ok (Flow a)) = solution_verdict g a
+judged (Ok g) (Ok (Sparse a)) = sparse_verdict g a
 judged (Ok g) (Ok (Blocked a)) = set_verdict g a
 
 -- of an answer text for an instance text

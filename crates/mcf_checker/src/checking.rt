@@ -10,6 +10,7 @@ ghost use Rattle.mcf_instance.specs.WellFormed.{IsWellFormed};
 
 use crate::set::set_verdict;
 use crate::solution::solution_verdict;
+use crate::sparse::sparse_verdict;
 use crate::verdict::Verdict;
 use mcf_answer::{Answer, parse};
 use mcf_instance::{Instance, Refusal, read};
@@ -42,7 +43,7 @@ fn fault_verdict(fault: &Refusal, answer: &Answer) -> Verdict
 {
     match answer {
         Answer::Refused(refusal) => refusal_verdict(refusal, fault),
-        Answer::Flow(_) | Answer::Blocked(_) => Verdict::BadKind,
+        Answer::Flow(_) | Answer::Sparse(_) | Answer::Blocked(_) => Verdict::BadKind,
     }
 }
 
@@ -60,6 +61,7 @@ fn instance_verdict(
     prove!(instance.node_count() <= 1_000_000);
     match answer {
         Answer::Flow(answer) => solution_verdict(alloc, instance, answer),
+        Answer::Sparse(answer) => sparse_verdict(alloc, instance, answer),
         Answer::Blocked(answer) => set_verdict(alloc, instance, answer),
         Answer::Refused(_) => Ok(Verdict::BadKind),
     }
@@ -74,7 +76,7 @@ fn instance_verdict(
 /// # Errors
 /// `NoMemory` where there is no memory for what the texts say: an instance text whose first problem line
 /// isn't good, names no nodes or comes after a fault wants none, nor does an answer text without a line `f`,
-/// `y` or `x` that says something.
+/// `g`, `y` or `x` that says something.
 pub fn check(alloc: Global, input: &[u8], answer: &[u8]) -> Result<Verdict, NoMemory>
     ensures verdict { IfOk result (λ v. v ≡ verdict input.now answer.now) }
     ensures exact { IfOk result (λ v. IsTrue (accepts v) ↔ IsCorrect input.now answer.now) }

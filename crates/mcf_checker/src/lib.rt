@@ -12,6 +12,8 @@ mod laws;
 mod printing;
 mod set;
 mod solution;
+mod sparse;
+mod stated;
 mod verdict;
 
 pub use checking::check;

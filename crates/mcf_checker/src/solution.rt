@@ -3,27 +3,28 @@ ghost use Rattle.std.specs.Prelude.{◌≡◌, ◌<◌, ◌≤◌, ◌&&◌, ◌
 ghost use Rattle.std.specs.List.{All};
 ghost use Rattle.std.specs.Ordering.{int_eq};
 ghost use Rattle.mcf_answer.specs.Ranges.{IsAmount};
-ghost use Rattle.mcf_checker.specs.Correct.{amounts};
-ghost use Rattle.mcf_checker.specs.Judging.{arc_agrees, bad_arc, bad_node, bad_price, is_loose, least_up_to, solution_verdict};
+ghost use Rattle.mcf_checker.specs.Judging.{arc_agrees, bad_arc, bad_node, bad_price, flow_verdict, is_loose, least_up_to, solution_verdict};
+ghost use Rattle.mcf_checker.specs.Private.StatedFlows.{IsInOrder, flow_stated};
 ghost use Rattle.mcf_instance.specs.Flow.{IsWithinBounds, cost, reduced_cost, AreNets};
 ghost use Rattle.mcf_instance.specs.Limits.{limits, wide_limits};
 ghost use Rattle.mcf_instance.specs.Network.{at_node, node_count};
 ghost use Rattle.mcf_instance.specs.WellFormed.{HasEnds, IsArcWithinLimits, IsWellFormed};
 
+use crate::stated::{Stated, flow_at};
 use crate::verdict::Verdict;
 use mcf_answer::{FlowAnswer, Sent};
-use mcf_instance::{Arc, Instance};
+use mcf_instance::{Arc, Instance, copies};
 use mcf_text::{ArcId, NoMemory, NodeId};
 use std::alloc::Global;
 
 // The arc at a place, counted from 0.
-fn arc_at(instance: &Instance, place: usize) -> Arc
+fn arc_at(instance: &Instance, place: u32) -> Arc
     requires { place < length instance.now.arcs }
     ensures value { slice_get instance.now.arcs place ≡ Some result }
     ensures well_formed { IsWellFormed limits instance.now }
 {
-    prove!(place < instance.arc_count() as usize);
-    instance.arc(ArcId::new(place as u32 + 1))
+    prove!(place < instance.arc_count());
+    instance.arc(ArcId::at(place))
 }
 
 // The supply of the node at a place, counted from 0.
@@ -33,7 +34,7 @@ fn supply_at(instance: &Instance, place: usize) -> i128
     ensures well_formed { IsWellFormed limits instance.now }
 {
     prove!(place < instance.node_count() as usize);
-    instance.supply(NodeId::new(place as u32 + 1))
+    instance.supply(NodeId::at(place as u32))
 }
 
 // Whether the line is that of the arc: the same ends, and a flow within the bounds.
@@ -47,7 +48,7 @@ fn agrees(arc: &Arc, line: &Sent) -> bool
 fn agrees_at(instance: &Instance, place: usize, line: &Sent) -> bool
     ensures { result ≡ arc_agrees (slice_get instance.now.arcs place) (Some line.now) }
 {
-    place < instance.arc_count() as usize && agrees(&arc_at(instance, place), line)
+    place < instance.arc_count() as usize && agrees(&arc_at(instance, place as u32), line)
 }
 
 // The least number of an arc and a flow line that aren't both there, or that disagree.
@@ -66,18 +67,25 @@ fn first_bad_arc(instance: &Instance, sent: &[Sent]) -> Option<u64>
 }
 
 // What leaves each node less what enters it, in the order of the nodes.
-fn nets_of(alloc: Global, instance: &Instance, sent: &[Sent]) -> Result<Vec<i128>, NoMemory>
-    requires { IsWithinBounds instance.now.arcs (amounts sent.now) }
+fn nets_of(
+    alloc: Global,
+    instance: &Instance,
+    stated: Stated<'_>,
+) -> Result<Vec<i128>, NoMemory>
+    requires bounds { IsWithinBounds instance.now.arcs (flow_stated instance.now.arcs stated) }
+    requires order { IsInOrder stated }
     ensures value { IfOk result
-        (λ nets. AreNets (node_count instance.now) instance.now.arcs (amounts sent.now) nets.items) }
+        (λ nets. AreNets (node_count instance.now) instance.now.arcs (flow_stated instance.now.arcs stated.entry) nets.items) }
     ensures wants { OnErr result (1 ≤ node_count instance.now) }
 {
-    let mut nets = Vec::new(alloc);
-    nets.resize(instance.node_count() as usize, 0)?;
-    for (place, line) in sent.iter().enumerate() {
+    let mut nets = copies(alloc, instance.node_count() as usize, 0)?;
+    let count = instance.arc_count();
+    let mut next = 0;
+    for place in 0..count {
         let arc = arc_at(instance, place);
-        nets[arc.src.get() as usize - 1] += line.flow;
-        nets[arc.dst.get() as usize - 1] -= line.flow;
+        let flow = flow_at(stated, &arc, place, &mut next);
+        nets[arc.src.place()] += flow;
+        nets[arc.dst.place()] -= flow;
     }
     Ok(nets)
 }
@@ -114,14 +122,16 @@ fn first_unmet(instance: &Instance, nets: &[i128], prices: usize) -> Option<u32>
 fn first_bad_node(
     alloc: Global,
     instance: &Instance,
-    answer: &FlowAnswer,
+    prices: &[i128],
+    stated: Stated<'_>,
 ) -> Result<Option<u32>, NoMemory>
-    requires { bad_arc instance.now answer.now.sent ≡ None }
-    ensures value { IfOk result (λ v. v ≡ bad_node instance.now answer.now) }
+    requires bounds { IsWithinBounds instance.now.arcs (flow_stated instance.now.arcs stated) }
+    requires order { IsInOrder stated }
+    ensures value { IfOk result (λ v. v ≡ bad_node instance.now prices.now (flow_stated instance.now.arcs stated.entry)) }
     ensures wants { OnErr result (1 ≤ node_count instance.now) }
 {
-    let nets = nets_of(alloc, instance, answer.sent.as_slice())?;
-    Ok(first_unmet(instance, &nets, answer.prices.as_slice().len()))
+    let nets = nets_of(alloc, instance, stated)?;
+    Ok(first_unmet(instance, &nets, prices.len()))
 }
 
 // The cost of the arc less the price of its first end plus that of its second.
@@ -131,7 +141,7 @@ fn reduced_cost_of(arc: &Arc, prices: &[i128]) -> i128
     requires prices { All IsAmount prices.now }
     ensures { result ≡ reduced_cost prices.now arc.now }
 {
-    arc.cost - prices[arc.src.get() as usize - 1] + prices[arc.dst.get() as usize - 1]
+    arc.cost - prices[arc.src.place()] + prices[arc.dst.place()]
 }
 
 // Whether the prices don't show the flow of the arc.
@@ -146,38 +156,79 @@ fn is_loose(arc: &Arc, prices: &[i128], flow: i128) -> bool
 }
 
 // The least arc whose flow the prices don't show.
-fn first_bad_price(instance: &Instance, answer: &FlowAnswer) -> Option<u32>
-    requires one_flow_each { length answer.now.sent ≡ length instance.now.arcs }
-    requires one_price_each { length answer.now.prices ≡ node_count instance.now }
-    ensures { result ≡ bad_price instance.now answer.now }
+fn first_bad_price(instance: &Instance, prices: &[i128], stated: Stated<'_>) -> Option<u32>
+    requires bounds { IsWithinBounds instance.now.arcs (flow_stated instance.now.arcs stated) }
+    requires order { IsInOrder stated }
+    requires one_price_each { length prices.now ≡ node_count instance.now }
+    requires prices { All IsAmount prices.now }
+    ensures { result ≡ bad_price instance.now prices.now (flow_stated instance.now.arcs stated.entry) }
 {
-    let prices = answer.prices.as_slice();
-    for (place, line) in answer.sent.as_slice().iter().enumerate() {
-        if is_loose(&arc_at(instance, place), prices, line.flow) {
-            return Some(place as u32 + 1);
+    let count = instance.arc_count();
+    let mut next = 0;
+    for place in 0..count {
+        let arc = arc_at(instance, place);
+        let flow = flow_at(stated, &arc, place, &mut next);
+        if is_loose(&arc, prices, flow) {
+            return Some(place + 1);
         }
     }
     None
 }
 
 // The cost of the flow.
-fn cost_of(instance: &Instance, sent: &[Sent]) -> i128
-    requires { IsWithinBounds instance.now.arcs (amounts sent.now) }
-    ensures { result ≡ cost instance.now.arcs (amounts sent.now) }
+fn cost_of(instance: &Instance, stated: Stated<'_>) -> i128
+    requires bounds { IsWithinBounds instance.now.arcs (flow_stated instance.now.arcs stated) }
+    requires order { IsInOrder stated }
+    ensures { result ≡ cost instance.now.arcs (flow_stated instance.now.arcs stated.entry) }
 {
+    let count = instance.arc_count();
+    let mut next = 0;
     let mut total = 0;
-    for (place, line) in sent.iter().enumerate() {
-        total += arc_at(instance, place).cost * line.flow;
+    for place in 0..count {
+        let arc = arc_at(instance, place);
+        let flow = flow_at(stated, &arc, place, &mut next);
+        total += arc.cost * flow;
     }
     total
 }
 
 // Whether the stated cost is that of the flow.
-fn has_cost(instance: &Instance, sent: &[Sent], stated: i128) -> bool
-    requires { IsWithinBounds instance.now.arcs (amounts sent.now) }
-    ensures { result ≡ int_eq stated (cost instance.now.arcs (amounts sent.now)) }
+fn has_cost(instance: &Instance, stated: Stated<'_>, total: i128) -> bool
+    requires bounds { IsWithinBounds instance.now.arcs (flow_stated instance.now.arcs stated) }
+    requires order { IsInOrder stated }
+    ensures { result ≡ int_eq total (cost instance.now.arcs (flow_stated instance.now.arcs stated.entry)) }
 {
-    stated == cost_of(instance, sent)
+    total == cost_of(instance, stated)
+}
+
+/// The verdict on a flow within the bounds of an instance, with its stated cost and prices.
+///
+/// # Errors
+/// `NoMemory` where there is no memory for the nets of the nodes; an instance without nodes wants none.
+pub(crate) fn flow_verdict(
+    alloc: Global,
+    instance: &Instance,
+    total: i128,
+    prices: &[i128],
+    stated: Stated<'_>,
+) -> Result<Verdict, NoMemory>
+    requires bounds { IsWithinBounds instance.now.arcs (flow_stated instance.now.arcs stated) }
+    requires order { IsInOrder stated }
+    requires prices { All IsAmount prices.now }
+    ensures value { IfOk result (λ v. v ≡ flow_verdict instance.now total prices.now (flow_stated instance.now.arcs stated.entry)) }
+    ensures wants { OnErr result (1 ≤ node_count instance.now) }
+{
+    if let Some(node) = first_bad_node(alloc, instance, prices, stated)? {
+        return Ok(Verdict::BadNode(node));
+    }
+    if let Some(arc) = first_bad_price(instance, prices, stated) {
+        return Ok(Verdict::BadPrice(arc));
+    }
+    if has_cost(instance, stated, total) {
+        Ok(Verdict::Flow(total))
+    } else {
+        Ok(Verdict::BadCost)
+    }
 }
 
 /// The verdict on a flow answer for an instance.
@@ -192,18 +243,10 @@ pub(crate) fn solution_verdict(
     ensures value { IfOk result (λ v. v ≡ solution_verdict instance.now answer.now) }
     ensures wants { OnErr result (1 ≤ node_count instance.now) }
 {
-    if let Some(arc) = first_bad_arc(instance, answer.sent.as_slice()) {
+    let sent = answer.sent.as_slice();
+    let prices = answer.prices.as_slice();
+    if let Some(arc) = first_bad_arc(instance, sent) {
         return Ok(Verdict::BadArc(arc));
     }
-    if let Some(node) = first_bad_node(alloc, instance, answer)? {
-        return Ok(Verdict::BadNode(node));
-    }
-    if let Some(arc) = first_bad_price(instance, answer) {
-        return Ok(Verdict::BadPrice(arc));
-    }
-    if has_cost(instance, answer.sent.as_slice(), answer.cost) {
-        Ok(Verdict::Flow(answer.cost))
-    } else {
-        Ok(Verdict::BadCost)
-    }
+    flow_verdict(alloc, instance, answer.cost, prices, Stated::Each(sent))
 }

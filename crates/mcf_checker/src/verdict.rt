@@ -14,7 +14,8 @@ pub enum Verdict {
     /// Accepted: the refusal names the first fault.
     Refused(Refusal),
     /// The least number of an arc and a flow line that aren't both there, with the same ends and a flow
-    /// within the bounds.
+    /// within the bounds; of the second form, the least number of a line without such an arc, or with a flow
+    /// that isn't within its bounds.
     BadArc(u64),
     /// The least number of a node and a price line that aren't both there, or of a node whose net isn't its
     /// supply.

@@ -1,8 +1,9 @@
 -- Where the flow of an answer comes from.
 use Rattle.std.proofs.Common.{◌≡◌, ℕ, refl, subst, sym}
 use Rattle.std.specs.Prelude.{Result, Ok, Err, IfOk}
+use Rattle.std.proofs.lemmas.Option.{IfSome_then}
 use Rattle.mcf_answer.specs.declared.answers.Answer.{Answer}
-use Rattle.mcf_answer.specs.declared.answers.Answer.TheVariants.{Flow, Blocked, Refused}
+use Rattle.mcf_checker.specs.Correct.{flow_given}
 use Rattle.mcf_instance.specs.Network.{Network}
 use Rattle.mcf_instance.specs.declared.problem.Problem.{Problem}
 use Rattle.mcf_instance.specs.declared.problem.Problem.TheVariants.{Min, Asn}
@@ -22,9 +23,8 @@ use Rattle.mcf_solver.specs.declared.choice.Meant.TheVariants.{BySap}
 -- what was made one way was made another
 pub made_otherwise : (P Q : Network → Pseudoflow → Type 0) (g : Network) → ((s : Pseudoflow) → P (net_of g) s → Q (net_of g) s)
     → (a : Answer) → HasMadeFlow P (Ok g) a → HasMadeFlow Q (Ok g) a
-made_otherwise P Q g step (Flow a) h = record { state = h.state; least = h.least; made = step h.state h.made; restores = h.restores }
-made_otherwise P Q g step (Blocked a) h = tt
-made_otherwise P Q g step (Refused r) h = tt
+made_otherwise P Q g step a h =
+    IfSome_then (flow_given g a) h (λ flow m. record { state = m.state; least = m.least; made = step m.state m.made; restores = m.restores })
 
 pub made_otherwise_if_ok : {E : Type 0} (P Q : Network → Pseudoflow → Type 0) (g : Network) → ((s : Pseudoflow) → P (net_of g) s → Q (net_of g) s)
     → (r : Result Answer E) → IfOk r (HasMadeFlow P (Ok g)) → IfOk r (HasMadeFlow Q (Ok g))

@@ -1,9 +1,8 @@
 -- The flow of a run of the network simplex is a tree solution of the instance.
-use Rattle.std.proofs.Common.{◌≡◌, ◌∙◌, ℕ, length, refl, subst, sym}
+use Rattle.std.proofs.Common.{◌≡◌, ◌∙◌, ℕ, List, ℤ, length, refl, subst, sym}
 use Rattle.std.specs.Prelude.{Ok, Err}
-use Rattle.mcf_answer.specs.Solution.{Solution}
-use Rattle.mcf_answer.specs.declared.answers.Answer.TheVariants.{Flow, Blocked, Refused}
-use Rattle.mcf_checker.specs.Correct.{amounts}
+use Rattle.std.proofs.lemmas.Option.{IfSome_then}
+use Rattle.mcf_checker.specs.Correct.{flow_given}
 use Rattle.mcf_instance.specs.Flow.{CanCarry}
 use Rattle.mcf_instance.specs.Network.{Network}
 use Rattle.mcf_instance.proofs.AllZips.{length-AllZip}
@@ -32,31 +31,29 @@ module _ (first : RunsAreTreeSolutions first_picks) (best : RunsAreTreeSolutions
   net_tree Block size g s net made = block (new_block_rule size) g s made.0 net made.1
 
   -- and of the instance
-  tree_of : (pricing : PricingChoice) (size : ℕ) (g : Network) (a : Solution) → StandsForMade (IsMadeBySimplex pricing size) g a →
-      IsTreeSolution g (amounts a.sent)
-  tree_of pricing size g a h =
+  tree_of : (pricing : PricingChoice) (size : ℕ) (g : Network) (flow : List ℤ) → StandsForMade (IsMadeBySimplex pricing size) g flow →
+      IsTreeSolution g flow
+  tree_of pricing size g flow h =
       let s = h.state in
       let net : IsNet (net_of g) = subst IsNet h.least.feasible.of_net h.least.feasible.flow.of_net in
       let count : length s.amounts ≡ length g.arcs =
       sym (sym (net_of-arc_count g) ∙ length-AllZip CanCarry (net_of g).arcs s.amounts h.least.least.feasible.within_bounds) in
       subst (IsTreeSolution g) (sym h.restores) (stands g s.amounts count (net_tree pricing size (net_of g) s net h.made))
 
-  shaped_by : (m : Meant) (choice : Choice) (g : Network) (a : Solution) → meant choice.engine g.problem ≡ m → StandsForMade (IsMadeBy choice) g a
-      → IsShapedBy m g (amounts a.sent)
+  shaped_by : (m : Meant) (choice : Choice) (g : Network) (flow : List ℤ) → meant choice.engine g.problem ≡ m → StandsForMade (IsMadeBy choice) g flow
+      → IsShapedBy m g flow
   unfolding net_of
-  shaped_by ByCancel choice g a e h = tt
-  shaped_by BySimplex choice g a e h =
-      tree_of choice.pricing choice.block g a (record {
+  shaped_by ByCancel choice g flow e h = tt
+  shaped_by BySimplex choice g flow e h =
+      tree_of choice.pricing choice.block g flow (record {
         state = h.state;
         least = h.least;
         made = subst (λ (m : Meant). IsMadeByEngine m choice (net_of g) h.state) e h.made;
         restores = h.restores;
       })
-  shaped_by ByScaling choice g a e h = tt
-  shaped_by BySap choice g a e h = tt
+  shaped_by ByScaling choice g flow e h = tt
+  shaped_by BySap choice g flow e h = tt
 
   pub shaped : MadeFlowsAreShaped
-  shaped choice (Ok g) (Flow a) h = shaped_by (meant choice.engine g.problem) choice g a refl h
-  shaped choice (Ok g) (Blocked a) h = tt
-  shaped choice (Ok g) (Refused r) h = tt
+  shaped choice (Ok g) a h = IfSome_then (flow_given g a) h (λ flow m. shaped_by (meant choice.engine g.problem) choice g flow refl m)
   shaped choice (Err fault) a h = tt

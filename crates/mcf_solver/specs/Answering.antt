@@ -3,11 +3,12 @@
 use Rattle.std.specs.Prelude.{◌≡◌, ◌++◌, ◌+◌, ◌<◌, ℕ, true, List, length, ℤ, Result, Ok, Err}
 use Rattle.mcf_answer.specs.BlockingSet.{BlockingSet}
 use Rattle.mcf_answer.specs.Solution.{Solution}
+use Rattle.mcf_answer.specs.SparseSolution.{SparseSolution}
 use Rattle.mcf_answer.specs.Spelling.{IsAnswer}
 use Rattle.mcf_answer.specs.Written.{written}
 use Rattle.mcf_answer.specs.declared.answers.Answer.{Answer}
-use Rattle.mcf_answer.specs.declared.answers.Answer.TheVariants.{Flow, Blocked, Refused}
-use Rattle.mcf_checker.specs.Correct.{IsCorrect, IsRightSet, IsRightSolution, amounts}
+use Rattle.mcf_answer.specs.declared.answers.Answer.TheVariants.{Flow, Sparse, Blocked, Refused}
+use Rattle.mcf_checker.specs.Correct.{IsCorrect, IsRightSet, IsRightSolution, IsRightSparse, amounts, spread}
 use Rattle.mcf_checker.specs.Judging.{accepts, verdict}
 use Rattle.mcf_feas.specs.Chosen.{IsChosen}
 use Rattle.mcf_instance.specs.Blocking.{in_list}
@@ -18,15 +19,24 @@ use Rattle.mcf_instance.specs.Network.{Network}
 use Rattle.mcf_instance.specs.Reading.{reading}
 use Rattle.mcf_solver.specs.declared.choice.Kind.{Kind}
 use Rattle.mcf_solver.specs.declared.choice.Kind.TheVariants.{Flow as WithFlow, Blocked as WithSet, Refused as WithRefusal}
-use Rattle.mcf_solver.specs.ChosenSolutions.{IsChosenSolution}
+use Rattle.mcf_solver.specs.ChosenSolutions.{IsChosenFlow}
 use Rattle.mcf_solver.specs.Making.{HasMadeFlow, HasShapedFlow, IsMadeBy}
 use Rattle.mcf_solver.specs.declared.choice.Choice.{Choice}
 
--- a flow that no feasible flow undercuts, its cost, and the greatest prices not above 0 that show it
+-- a flow that no feasible flow undercuts, and the greatest prices not above 0 that show it
+pub record IsLeastFlow (g : Network) (prices flow : List ℤ) : Type 0 where
+  pub least : IsLeast g flow
+  pub chosen : IsChosenFlow g prices flow
+
+-- a right answer of such a flow
 pub record IsLeastSolution (g : Network) (a : Solution) : Type 0 where
   pub right : IsRightSolution g a
-  pub least : IsLeast g (amounts a.sent)
-  pub chosen : IsChosenSolution g a
+  pub least : IsLeastFlow g a.prices (amounts a.sent)
+
+-- and one of the second form
+pub record IsLeastSparse (g : Network) (a : SparseSolution) : Type 0 where
+  pub right : IsRightSparse g a
+  pub least : IsLeastFlow g a.prices (spread g.arcs a.moved)
 
 -- nodes that must send or take more than they can, so that no flow is feasible
 pub record IsNoFlowProof (g : Network) (a : BlockingSet) : Type 0 where
@@ -38,13 +48,16 @@ pub record IsNoFlowProof (g : Network) (a : BlockingSet) : Type 0 where
 abbrev pub IsOwed : Result Network Fault → Answer → Type 0
 IsOwed (Err fault) (Refused r) = r ≡ fault
 IsOwed (Ok g) (Flow a) = IsLeastSolution g a
+IsOwed (Ok g) (Sparse a) = IsLeastSparse g a
 IsOwed (Ok g) (Blocked a) = IsNoFlowProof g a
 IsOwed (Err fault) (Flow a) = ⊥
+IsOwed (Err fault) (Sparse a) = ⊥
 IsOwed (Err fault) (Blocked a) = ⊥
 IsOwed (Ok g) (Refused r) = ⊥
 
 abbrev pub answer_kind : Answer → Kind
 answer_kind (Flow a) = WithFlow
+answer_kind (Sparse a) = WithFlow
 answer_kind (Blocked a) = WithSet
 answer_kind (Refused r) = WithRefusal
 

@@ -1,8 +1,6 @@
--- Which of several right flow answers the suite gives.
-use Rattle.std.specs.Prelude.{◌≡◌, ℤ, pos, int_lt, if◌then◌else◌}
+-- Which of several right flows the suite gives.
+use Rattle.std.specs.Prelude.{◌≡◌, List, ℤ, pos, int_lt, if◌then◌else◌}
 use Rattle.std.specs.List.{AllZip}
-use Rattle.mcf_answer.specs.Solution.{Solution}
-use Rattle.mcf_checker.specs.Correct.{amounts}
 use Rattle.mcf_instance.specs.declared.arc.Arc.{Arc}
 use Rattle.mcf_instance.specs.Flow.{AreGreatestPrices}
 use Rattle.mcf_instance.specs.Network.{Network}
@@ -12,6 +10,6 @@ abbrev pub IsLoopSettled : Arc → ℤ → Type 0
 IsLoopSettled a f = a.src ≡ a.dst → f ≡ (if int_lt a.cost (pos 0) then a.cap else a.low)
 
 -- the prices are the greatest not above 0 that show the flow
-pub record IsChosenSolution (g : Network) (a : Solution) : Type 0 where
-  pub prices : AreGreatestPrices g a.prices (amounts a.sent)
-  pub loops : AllZip IsLoopSettled g.arcs (amounts a.sent)
+pub record IsChosenFlow (g : Network) (prices flow : List ℤ) : Type 0 where
+  pub greatest : AreGreatestPrices g prices flow
+  pub loops : AllZip IsLoopSettled g.arcs flow

@@ -1,9 +1,7 @@
 -- How the state behind a flow was made: by a new engine, the one that the choice means.
-use Rattle.std.specs.Prelude.{◌≡◌, ⊤, ℕ, ℤ, List, Option, Result, Ok, Err}
-use Rattle.mcf_answer.specs.Solution.{Solution}
+use Rattle.std.specs.Prelude.{◌≡◌, ⊤, ℕ, ℤ, List, Option, IfSome, Result, Ok, Err}
 use Rattle.mcf_answer.specs.declared.answers.Answer.{Answer}
-use Rattle.mcf_answer.specs.declared.answers.Answer.TheVariants.{Flow, Blocked, Refused}
-use Rattle.mcf_checker.specs.Correct.{amounts}
+use Rattle.mcf_checker.specs.Correct.{flow_given}
 use Rattle.mcf_assign.specs.Runs.{IsMatchedByRows}
 use Rattle.mcf_basis.specs.Structures.{TreeStructure}
 use Rattle.mcf_instance.specs.Fault.{Fault}
@@ -72,17 +70,15 @@ abbrev pub IsMadeBy : Choice → Network → Pseudoflow → Type 0
 IsMadeBy choice g s = IsMadeByEngine (meant choice.engine g.problem) choice g s
 
 -- the flow is what a least state of the net that was made so stands for
-pub record StandsForMade (IsMade : Network → Pseudoflow → Type 0) (g : Network) (a : Solution) : Type 0 where
+pub record StandsForMade (IsMade : Network → Pseudoflow → Type 0) (g : Network) (flow : List ℤ) : Type 0 where
   pub state : Pseudoflow
   pub least : IsLeastState (net_of g) state
   pub made : IsMade (net_of g) state
-  pub restores : amounts a.sent ≡ restored g.arcs state.amounts
+  pub restores : flow ≡ restored g.arcs state.amounts
 
--- an answer's flow, where it has one, was made so
+-- an answer's flow, where it gives one, was made so
 abbrev pub HasMadeFlow : (Network → Pseudoflow → Type 0) → Result Network Fault → Answer → Type 0
-HasMadeFlow IsMade (Ok g) (Flow a) = StandsForMade IsMade g a
-HasMadeFlow IsMade (Ok g) (Blocked a) = ⊤
-HasMadeFlow IsMade (Ok g) (Refused r) = ⊤
+HasMadeFlow IsMade (Ok g) a = IfSome (flow_given g a) (StandsForMade IsMade g)
 HasMadeFlow IsMade (Err fault) a = ⊤
 
 -- a flow of the network simplex is a tree solution of the instance
@@ -92,9 +88,7 @@ IsShapedBy BySimplex g flow = IsTreeSolution g flow
 IsShapedBy ByScaling g flow = ⊤
 IsShapedBy BySap g flow = ⊤
 
--- an answer's flow, where it has one, has the shape of those of the engine that the choice means
+-- an answer's flow, where it gives one, has the shape of those of the engine that the choice means
 abbrev pub HasShapedFlow : Choice → Result Network Fault → Answer → Type 0
-HasShapedFlow choice (Ok g) (Flow a) = IsShapedBy (meant choice.engine g.problem) g (amounts a.sent)
-HasShapedFlow choice (Ok g) (Blocked a) = ⊤
-HasShapedFlow choice (Ok g) (Refused r) = ⊤
+HasShapedFlow choice (Ok g) a = IfSome (flow_given g a) (IsShapedBy (meant choice.engine g.problem) g)
 HasShapedFlow choice (Err fault) a = ⊤

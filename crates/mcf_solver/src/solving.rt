@@ -194,7 +194,7 @@ fn answer_kind(answer: &Answer) -> Kind
     ensures { result ≡ answer_kind answer.now }
 {
     match answer {
-        Answer::Flow(_) => Kind::Flow,
+        Answer::Flow(_) | Answer::Sparse(_) => Kind::Flow,
         Answer::Blocked(_) => Kind::Blocked,
         Answer::Refused(_) => Kind::Refused,
     }

@@ -81,6 +81,68 @@ y 1 10000000000000000000000000000000000000\ny 2 -1000000000000000000000000000000
     ),
 ];
 
+const SPARSE: &str = "v 2\ns 14\ng 1 2\ng 2 2\ng 3 2\ng 5 4\ny 1 0\ny 2 -2\ny 3 -3\ny 4 -4\n";
+
+static SPARSE_FLOWS: [(&str, &str); 12] = [
+    (SPARSE, "accepted flow 14"),
+    (
+        "v 2\ns 14\ng 1 2\ng 2 2\ng 3 2\ng 4 0\ng 5 4\ny 1 0\ny 2 -2\ny 3 -3\ny 4 -4\n",
+        "accepted flow 14",
+    ),
+    (
+        "v 2\ns 14\ng 1 2\ng 2 2\ng 3 2\ny 1 0\ny 2 -2\ny 3 -3\ny 4 -4\n",
+        "rejected node 3",
+    ),
+    (
+        "v 2\ns 14\ng 1 2\ng 2 2\ng 3 2\ng 5 4\ng 6 0\ny 1 0\ny 2 -2\ny 3 -3\ny 4 -4\n",
+        "rejected arc 6",
+    ),
+    (
+        "v 2\ns 14\ng 2 2\ng 1 2\ng 3 2\ng 5 4\ny 1 0\ny 2 -2\ny 3 -3\ny 4 -4\n",
+        "rejected shape 4",
+    ),
+    ("v 2\n", "rejected shape 2"),
+    ("v 3\n", "rejected shape 1"),
+    (
+        "v 2\ns 15\ng 1 2\ng 2 2\ng 3 2\ng 5 4\ny 1 0\ny 2 -2\ny 3 -3\ny 4 -4\n",
+        "rejected cost",
+    ),
+    (
+        "v 2\ns 14\ng 1 2\ng 2 3\ng 3 2\ng 5 6\ny 1 0\ny 2 -2\ny 3 -3\ny 4 -4\n",
+        "rejected arc 2",
+    ),
+    (
+        "v 2\ns 14\ng 1 2\ng 2 2\ng 3 2\ng 4 -1\ng 5 4\ny 1 0\ny 2 -2\ny 3 -3\ny 4 -4\n",
+        "rejected arc 4",
+    ),
+    (
+        "v 2\ns 14\ng 1 2\ng 2 2\ng 3 2\ng 5 4\ny 1 0\ny 2 -2\ny 3 -3\n",
+        "rejected node 4",
+    ),
+    (
+        "v 2\ns 14\ng 1 2\ng 2 2\ng 3 2\ng 5 4\ny 1 0\ny 2 -2\ny 3 -3\ny 4 -9\n",
+        "rejected price 4",
+    ),
+];
+
+#[test]
+fn sparse_flows_for_the_four_nodes(rt: HostRuntime) -> Result<(), Fail> {
+    for (answer, want) in &SPARSE_FLOWS {
+        assert!(rt; is_printed(rt.alloc(), FOUR_NODES, answer, want)?);
+    }
+    assert!(rt; is_printed(rt.alloc(), LATE_NODE, SPARSE, "rejected kind")?);
+    Ok(())
+}
+
+// The low of the arc isn't 0: what no line names carries its low.
+#[test]
+fn arcs_without_a_line_carry_their_low(rt: HostRuntime) -> Result<(), Fail> {
+    let instance = "p min 2 1\nn 1 2\nn 2 -2\na 1 2 2 5 1\n";
+    assert!(rt; is_printed(rt.alloc(), instance, "v 2\ns 2\ny 1 0\ny 2 -1\n", "accepted flow 2")?);
+    assert!(rt; is_printed(rt.alloc(), instance, "v 2\ns 0\ng 1 0\ny 1 0\ny 2 -1\n", "rejected arc 1")?);
+    Ok(())
+}
+
 #[test]
 fn flows_for_the_four_nodes(rt: HostRuntime) -> Result<(), Fail> {
     for (answer, want) in &FLOWS {

@@ -1,42 +1,60 @@
-use Rattle.std.proofs.Common.{◌≡◌, ap, arith, below_more, length, rules, sym, ◌∙◌}
+use Rattle.std.proofs.Common.{arith, below_more, rules, subst, sym, ◌∙◌}
 use Rattle.std.specs.Int.{w128}
 use Rattle.std.specs.Prelude.{FitsSigned}
 use Rattle.std.proofs.lemmas.Int.{to_z-of_z}
-use Rattle.mcf_answer.specs.Solution.{Solution}
+use Rattle.std.proofs.lemmas.Option.{slice_get_within}
+use Rattle.mcf_checker.specs.Private.StatedFlows.{flow_stated}
 use Rattle.mcf_instance.specs.Limits.{wide_limits}
-use Rattle.mcf_instance.specs.WellFormed.{IsArcWithinLimits}
+use Rattle.mcf_instance.specs.WellFormed.{HasEnds, IsArcWithinLimits}
 use Rattle.mcf_checker.proofs.BadPrices.{looseness_read, bad_price-some, bad_price-none}
 use Rattle.mcf_checker.proofs.FlowLines.{arc_has}
+use Rattle.mcf_checker.proofs.StatedLines.{flow_read, has_line, starts}
 use Rattle.mcf_checker.proofs.solution.first_bad_price.Goals as goal
+
+pub loop-place-init : goal.loop-place-init
+loop-place-init c = (λ j h. absurd (omega (arith, h)), starts c.args.stated c.requires.order)
+
+pub flow_at-flow-requires-clause-line : goal.flow_at-flow-requires-clause-line
+flow_at-flow-requires-clause-line c =
+    has_line c.args.instance.now.arcs c.args.stated c.loop-place.place c.requires.bounds
+    (slice_get_within c.args.instance.now.arcs c.loop-place.place c.arc_at-arc.result c.arc_at-arc.ensures.value)
+
+pub is_loose-requires-clause-ends : goal.is_loose-requires-clause-ends
+is_loose-requires-clause-ends c =
+    subst (λ nodes. HasEnds nodes c.arc_at-arc.result) (sym c.requires.one_price_each)
+    (arc_has (HasEnds _) c.args.instance.now.arcs c.loop-place.place c.arc_at-arc.result c.arc_at-arc.ensures.value c.arc_at-arc.ensures.well_formed.ends)
 
 pub is_loose-requires-clause-limits : goal.is_loose-requires-clause-limits
 is_loose-requires-clause-limits c =
-    arc_has (IsArcWithinLimits wide_limits) c.args.instance.now.arcs c.loop-place.place c.arc_at.result c.arc_at.ensures.value
-    c.arc_at.ensures.well_formed.within_wide.arcs
+    arc_has (IsArcWithinLimits wide_limits) c.args.instance.now.arcs c.loop-place.place c.arc_at-arc.result c.arc_at-arc.ensures.value
+    c.arc_at-arc.ensures.well_formed.within_wide.arcs
 
 pub loop-place-preserved : goal.loop-place-preserved
 loop-place-preserved c =
-    let fits : FitsSigned w128 c.line-item.result.flow = search rules in
+    let arcs = c.args.instance.now.arcs in
+    let flow = flow_stated arcs c.args.stated in
+    let carried = flow_read arcs c.args.stated c.loop-place.place c.arc_at-arc.result c.flow_at-flow.result c.arc_at-arc.ensures.value
+    c.flow_at-flow.ensures.flow in
+    let fits : FitsSigned w128 c.flow_at-flow.result = search rules in
     let loose = simp to_z-of_z at c.is_loose.ensures in
-    let prices : c.as_slice-prices.result.now ≡ c.args.answer.now.prices = c.as_slice-prices.ensures ∙ ap (λ (a : Solution). a.prices) c.answer.view_is in
-    let sent : c.as_slice-line-items.result.now ≡ c.args.answer.now.sent = c.as_slice-line-items.ensures ∙ ap (λ (a : Solution). a.sent) c.answer.view_is in
-    below_more _ _ c.loop-place.invariant
-    (rw (← prices, ← sent)
-    (looseness_read c.as_slice-prices.result.now c.args.instance.now.arcs c.as_slice-line-items.result.now c.loop-place.place c.arc_at.result
-    c.line-item.result c.arc_at.ensures.value c.loop-place-test.true c.line-item.is ∙ sym loose ∙ c.if-is_loose.false))
+    (below_more _ _ c.loop-place.invariant.0
+    (looseness_read c.args.prices.now arcs flow c.loop-place.place c.arc_at-arc.result c.flow_at-flow.result c.arc_at-arc.ensures.value carried
+    ∙ sym loose ∙ c.if-is_loose.false), c.flow_at-flow.ensures.next)
 
 pub returns-then-is_loose : goal.returns-then-is_loose
 returns-then-is_loose c =
-    let fits : FitsSigned w128 c.line-item.result.flow = search rules in
+    let arcs = c.args.instance.now.arcs in
+    let flow = flow_stated arcs c.args.stated in
+    let carried = flow_read arcs c.args.stated c.loop-place.place c.arc_at-arc.result c.flow_at-flow.result c.arc_at-arc.ensures.value
+    c.flow_at-flow.ensures.flow in
+    let fits : FitsSigned w128 c.flow_at-flow.result = search rules in
     let loose = simp to_z-of_z at c.is_loose.ensures in
-    let prices : c.as_slice-prices.result.now ≡ c.args.answer.now.prices = c.as_slice-prices.ensures ∙ ap (λ (a : Solution). a.prices) c.answer.view_is in
-    let sent : c.as_slice-line-items.result.now ≡ c.args.answer.now.sent = c.as_slice-line-items.ensures ∙ ap (λ (a : Solution). a.sent) c.answer.view_is in
-    sym (bad_price-some c.args.instance.now c.args.answer.now c.loop-place.place (omega (arith, ap length sent)) c.loop-place.invariant
-    (rw (← prices, ← sent)
-    (looseness_read c.as_slice-prices.result.now c.args.instance.now.arcs c.as_slice-line-items.result.now c.loop-place.place c.arc_at.result
-    c.line-item.result c.arc_at.ensures.value c.loop-place-test.true c.line-item.is ∙ sym loose ∙ c.if-is_loose.true)))
+    sym (bad_price-some c.args.instance.now c.args.prices.now flow c.loop-place.place
+    (slice_get_within arcs c.loop-place.place c.arc_at-arc.result c.arc_at-arc.ensures.value) c.loop-place.invariant.0
+    (looseness_read c.args.prices.now arcs flow c.loop-place.place c.arc_at-arc.result c.flow_at-flow.result c.arc_at-arc.ensures.value carried
+    ∙ sym loose ∙ c.if-is_loose.true))
 
 pub returns : goal.returns
 returns c =
-    let sent : c.as_slice-line-items.result.now ≡ c.args.answer.now.sent = c.as_slice-line-items.ensures ∙ ap (λ (a : Solution). a.sent) c.answer.view_is in
-    sym (bad_price-none c.args.instance.now c.args.answer.now (λ j h. c.loop-place.invariant j (omega (arith, ap length sent))))
+    sym (bad_price-none c.args.instance.now c.args.prices.now (flow_stated c.args.instance.now.arcs c.args.stated)
+    (λ j h. c.loop-place.invariant.0 j (omega (arith, h, c.loop-place-test.false, c.arc_count-count.ensures.value))))

@@ -1,8 +1,8 @@
 use Rattle.std.proofs.Common.{◌≡◌, ℕ, ◌<◌, false}
-use Rattle.mcf_checker.specs.Correct.{amounts}
+use Rattle.mcf_checker.specs.Private.StatedFlows.{IsNext, flow_stated}
 use Rattle.mcf_checker.proofs.BadPrices.{looseness}
 use Rattle.mcf_checker.proofs.solution.first_bad_price.Given as goal
 
 abbrev pub invariant-loop-place : goal.invariant-loop-place
 invariant-loop-place l =
-    (j : ℕ) → j < l.place → looseness l.answer.prices l.instance.arcs (amounts l.answer.sent) j ≡ false
+    ((j : ℕ) → j < l.place → looseness l.prices l.instance.arcs (flow_stated l.instance.arcs l.stated) j ≡ false) × IsNext l.stated l.place l.next

@@ -1,14 +1,13 @@
-use Rattle.std.proofs.Common.{List, ℤ, ap, rules, subst, sym, ◌∙◌, lit<, to_z, of_z}
+use Rattle.std.proofs.Common.{◌≡◌, List, ℤ, ap, rules, subst, sym, ◌∙◌, lit<, to_z, of_z}
 use Rattle.std.specs.List.{All}
 use Rattle.std.specs.Int.{w128}
 use Rattle.mcf_answer.specs.Ranges.{IsAmount, amount_limit}
-use Rattle.mcf_answer.specs.Solution.{Solution}
 use Rattle.mcf_checker.specs.Correct.{amounts, sent_ends}
 use Rattle.mcf_instance.specs.Flow.{AreGreatestPrices, cost}
 use Rattle.mcf_instance.specs.Network.{Network}
 use Rattle.mcf_instance.proofs.Bounds.{read_back}
 use Rattle.mcf_network.specs.Removal.{net_of}
-use Rattle.mcf_solver.proofs.LeastSolutions.{IsMadeOf, amounts_from_prices, is_least_solution}
+use Rattle.mcf_solver.proofs.LeastSolutions.{IsMadeOf, amounts_from_prices, is_right_and_least}
 use Rattle.mcf_solver.proofs.flow.flow_answer.Goals as goal
 
 pub invariant_of-result : goal.invariant_of-result
@@ -24,15 +23,18 @@ pub returns-clause-solution : goal.returns-clause-solution
 returns-clause-solution c =
     let g = c.args.instance.now in
     let s = c.args.state.now in
-    let answer : Solution = record { cost = to_z w128 (of_z w128 c.in_ok-carried.carried.cost); sent = c.new.result; prices = c.new-2.result } in
-    let made : IsMadeOf g s c.in_ok-flow.flow.items answer = record {
-      restored_is = c.in_ok-flow.ensures.value;
-      ends = ap sent_ends c.new.ensures ∙ c.in_ok-carried.ensures.ends;
-      carried = ap amounts c.new.ensures ∙ c.in_ok-carried.ensures.flow ∙ c.deref.ensures.value;
+    let total = to_z w128 (of_z w128 c.in_ok-carried.carried.cost) in
+    let carried : amounts c.new.result ≡ c.in_ok-flow.flow.items = ap amounts c.new.ensures ∙ c.in_ok-carried.ensures.flow ∙ c.deref.ensures.value in
+    let made : IsMadeOf g s total c.new-2.result (amounts c.new.result) = record {
+      restored_is = carried ∙ c.in_ok-flow.ensures.value;
       greatest = subst (λ (prices : List ℤ). AreGreatestPrices (net_of g) prices s.amounts) (sym c.new-2.ensures) c.requires.shown.greatest;
       cost_is = read_back c.in_ok-carried.carried.cost amount_limit c.in_ok-carried.ensures.small (lit< tt)
           ∙ c.in_ok-carried.ensures.value
-          ∙ ap (cost g.arcs) c.deref.ensures.value;
+          ∙ ap (cost g.arcs) (c.deref.ensures.value ∙ sym carried);
     } in
-    is_least_solution g s c.in_ok-flow.flow.items answer c.requires.least made c.restored_least_flows_are_least.ensures c.greatest_prices_carry_over.ensures
-    c.carried_along.ensures.well_formed
+    let both = is_right_and_least g s total c.new-2.result (amounts c.new.result) c.requires.least made c.restored_least_flows_are_least.ensures
+    c.greatest_prices_carry_over.ensures c.carried_along.ensures.well_formed in
+    record {
+      right = record { same_ends = ap sent_ends c.new.ensures ∙ c.in_ok-carried.ensures.ends; right = both.right };
+      least = both.least;
+    }

@@ -1,0 +1,65 @@
+//! The verdict on a flow answer of the second form.
+ghost use Rattle.std.specs.Prelude.{◌≡◌, ◌≤◌, IfOk, OnErr, Some};
+ghost use Rattle.std.specs.List.{All};
+ghost use Rattle.mcf_checker.specs.Judging.{bad_moved, can_carry, moved_agrees, sparse_verdict};
+ghost use Rattle.mcf_instance.specs.Limits.{limits};
+ghost use Rattle.mcf_instance.specs.Network.{node_count};
+ghost use Rattle.mcf_instance.specs.WellFormed.{IsWellFormed};
+
+use crate::solution::flow_verdict;
+use crate::stated::Stated;
+use crate::verdict::Verdict;
+use mcf_answer::SparseAnswer;
+use mcf_instance::{Arc, Instance};
+use mcf_text::{ArcId, NoMemory};
+use std::alloc::Global;
+
+// Whether the arc can carry this much.
+fn can_carry(arc: &Arc, flow: i128) -> bool
+    ensures { result ≡ can_carry (Some arc.now) flow }
+{
+    arc.low <= flow && flow <= arc.cap
+}
+
+// Whether there is an arc of this number, and it can carry this much.
+fn is_carried(instance: &Instance, arc: ArcId, flow: i128) -> bool
+    requires { 1 ≤ arc }
+    ensures { result ≡ moved_agrees instance.now.arcs (arc, flow) }
+{
+    arc.get() <= instance.arc_count() && can_carry(&instance.arc(arc), flow)
+}
+
+// The least arc of a line that isn't of the instance, or can't carry what the line states.
+fn first_bad_moved(instance: &Instance, moved: &[(ArcId, i128)]) -> Option<u32>
+    requires { All (λ m. 1 ≤ m.0) moved.now }
+    ensures least { result ≡ bad_moved instance.now moved.now }
+    ensures well_formed { IsWellFormed limits instance.now }
+{
+    prove!(instance.node_count() <= 1_000_000);
+    for (place, line) in moved.iter().enumerate() {
+        if !is_carried(instance, line.0, line.1) {
+            return Some(line.0.get());
+        }
+    }
+    None
+}
+
+/// The verdict on a flow answer of the second form for an instance.
+///
+/// # Errors
+/// `NoMemory` where there is no memory for the nets of the nodes; an instance without nodes wants none.
+pub(crate) fn sparse_verdict(
+    alloc: Global,
+    instance: &Instance,
+    answer: &SparseAnswer,
+) -> Result<Verdict, NoMemory>
+    ensures value { IfOk result (λ v. v ≡ sparse_verdict instance.now answer.now) }
+    ensures wants { OnErr result (1 ≤ node_count instance.now) }
+{
+    let moved = answer.moved.as_slice();
+    let prices = answer.prices.as_slice();
+    if let Some(arc) = first_bad_moved(instance, moved) {
+        return Ok(Verdict::BadArc(u64::from(arc)));
+    }
+    flow_verdict(alloc, instance, answer.cost, prices, Stated::Moved(moved))
+}

@@ -1,0 +1,50 @@
+//! What a flow answer states, read along the arcs.
+ghost use Rattle.std.specs.Prelude.{◌≡◌, ◌+◌, slice_get};
+ghost use Rattle.mcf_checker.specs.Private.StatedFlows.{HasLine, IsFlowAt, IsNext, flow_if_of};
+
+use mcf_answer::Sent;
+use mcf_instance::Arc;
+use mcf_text::ArcId;
+
+/// The flow lines of an answer, in one of their forms.
+#[derive(Clone, Copy)]
+pub(crate) enum Stated<'a> {
+    /// A line for each arc, in order.
+    Each(&'a [Sent]),
+    /// Lines of arcs in order, by their numbers: the other arcs carry their low.
+    Moved(&'a [(ArcId, i128)]),
+}
+
+/// What the arc at a place carries, counted from 0, where `next` lines are of arcs before it; afterwards these are the
+/// lines of the arcs up to it.
+pub(crate) fn flow_at(stated: Stated<'_>, arc: &Arc, place: u32, next: &mut usize) -> i128
+    requires line { HasLine stated place }
+    requires next { IsNext stated place next.old }
+    ensures flow { IsFlowAt stated.entry arc.now place result }
+    ensures next { IsNext stated.entry (place + 1) next.new }
+{
+    match stated {
+        Stated::Each(sent) => sent[place as usize].flow,
+        Stated::Moved(moved) => match flow_of_next(moved, place, *next) {
+            Some(flow) => {
+                *next += 1;
+                flow
+            }
+            None => arc.low,
+        },
+    }
+}
+
+// The flow of the next line, if there is one and it is of the arc at the place.
+fn flow_of_next(moved: &[(ArcId, i128)], place: u32, next: usize) -> Option<i128>
+    ensures { result ≡ flow_if_of (place + 1) (slice_get moved.now next) }
+{
+    let Some(line) = moved.get(next) else {
+        return None;
+    };
+    if u64::from(line.0.get()) == u64::from(place) + 1 {
+        Some(line.1)
+    } else {
+        None
+    }
+}
