@@ -2,8 +2,8 @@
 use Rattle.std.proofs.Common.{◌≡◌, ◌++◌, ◌+◌, ◌<◌, ℕ, List, [], Option, None, Some, IfSome, Result, Ok, Err, IfErr, length, take, drop, sym, ap, ◌∙◌}
 use Rattle.std.proofs.Common.{append_assoc, length-append, arith, ◌-◌}
 use Rattle.std.proofs.Math.Seq.{take-add}
-use Rattle.std.proofs.lemmas.List.{append-nil, take-append-drop, take_rest}
-use Rattle.std.specs.Io.KnownBytes.{Appends, Consumes, IsAtEnd, Keeps}
+use Rattle.std.proofs.lemmas.List.{take-append-drop, take_rest}
+use Rattle.std.specs.Io.KnownBytes.{Appends, Consumes, Keeps}
 use Rattle.mcf_instance.specs.Fault.{Fault}
 use Rattle.mcf_instance.specs.Limits.{limits}
 use Rattle.mcf_instance.specs.Network.{Network}
@@ -21,13 +21,6 @@ consumes-then (Some xs) None last bytes more p q = absurd p
 consumes-then (Some xs) (Some ys) None bytes more p q = absurd q
 consumes-then (Some xs) (Some ys) (Some zs) bytes more p q =
     p ∙ ap (λ t. bytes ++ t) q ∙ sym (append_assoc bytes more zs)
-
--- all bytes, once none is left
-pub consumes-all : (first last : Option (List ℕ)) (bytes : List ℕ)
-    → Consumes first last bytes → IsAtEnd last → IfSome first (λ xs. xs ≡ bytes)
-consumes-all None last bytes p q = tt
-consumes-all (Some xs) None bytes p q = absurd p
-consumes-all (Some xs) (Some ys) bytes p q = p ∙ ap (λ t. bytes ++ t) q ∙ append-nil bytes
 
 -- no more bytes are given than there are
 pub consumes-within : (first last : Option (List ℕ)) (bytes : List ℕ) (limit : ℕ)
@@ -71,16 +64,6 @@ begins first next last text taken p q = record {
   whole = sym (take-append-drop taken text);
   taken = appends-kept first next last (take taken text) p q;
 }
-
--- a read of no bytes: all bytes were given before
-pub read-end : (first next last : Option (List ℕ)) (bytes piece : List ℕ) (count : ℕ)
-    → Consumes first next bytes → Consumes next last (take count piece) → IsAtEnd last → count ≡ 0
-    → IfSome first (λ xs. xs ≡ bytes)
-read-end first next last bytes piece count p q end none =
-    let nothing : Consumes next last [] = rw none at q in
-    let all = consumes-then first next last bytes [] p nothing in
-    let exact : Consumes first last bytes = rw append-nil at all in
-    consumes-all first last bytes exact end
 
 -- the text that was appended to nothing is what was sent
 pub sent-is-appended : (choice : Choice) (input : List ℕ) (kind : Kind) (before after sent : List ℕ) → before ≡ []
