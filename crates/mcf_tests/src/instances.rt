@@ -305,7 +305,7 @@ fn totals_are_looked_at(rt: HostRuntime) -> Result<(), Fail> {
 #[test]
 fn lists_of_one_value(rt: HostRuntime) -> Result<(), Fail> {
     let sevens = copies(rt.alloc(), 3, 7)?;
-    assert!(rt; sevens.as_slice() == &[7, 7, 7]);
+    assert!(rt; sevens.as_slice() == [7, 7, 7].as_slice());
     assert!(rt; copies(rt.alloc(), 0, true)?.is_empty());
     Ok(())
 }
