@@ -6,11 +6,14 @@ ghost use Rattle.mcf_assign.specs.Runs.{is_source};
 use crate::feasibility::is_set_of;
 use crate::networks::net_of;
 use crate::scaling::{cost_of, multiples};
+use crate::solving::answered;
 use mcf_assign::{Extended, Matching, Sap};
+use mcf_checker::{Verdict, check};
 use mcf_instance::{Problem, Side};
 use mcf_network::Net;
 use mcf_prices::{Cancel, Engine, Outcome};
 use mcf_scaling::Scaling;
+use mcf_solver::{EngineChoice, Kind};
 use mcf_text::{NoMemory, NodeId};
 use std::alloc::Global;
 use std::test::Fail;
@@ -264,6 +267,28 @@ fn agrees_with_cost_scaling(rt: HostRuntime) -> Result<(), Fail> {
     let (by_scaling, others) = answer_of(alloc, &mut Scaling::new(), &net)?.ok_or("no flow")?;
     assert!(rt; cost == 198 && by_scaling == 198);
     assert!(rt; prices.as_slice() == others.as_slice());
+    Ok(())
+}
+
+static ENGINES: [EngineChoice; 3] = [
+    EngineChoice::Sap,
+    EngineChoice::Scaling,
+    EngineChoice::Simplex,
+];
+
+// Whether an engine answers a text with a flow of cost 198, which the checker accepts.
+fn costs_198(alloc: Global, text: &[u8], engine: EngineChoice) -> Result<bool, NoMemory> {
+    let (kind, answer) = answered(alloc, b"", text, engine)?;
+    let verdict = check(alloc, text, &answer)?;
+    Ok(kind == Kind::Flow && verdict == Verdict::Flow(198))
+}
+
+#[test]
+fn three_engines_answer_with_one_cost(rt: HostRuntime) -> Result<(), Fail> {
+    let text = multiples(rt.alloc(), 200)?;
+    for engine in &ENGINES {
+        assert!(rt; costs_198(rt.alloc(), &text, *engine)?);
+    }
     Ok(())
 }
 
