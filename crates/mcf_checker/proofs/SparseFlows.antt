@@ -111,7 +111,7 @@ bounds_by_place f from (a ∷ arcs) each =
     let here : from + 0 ≡ from = omega arith in (
       subst (λ (n : ℕ). CanCarry a (f (n, a))) here (each 0 a refl),
       bounds_by_place f (from + 1) arcs (λ i b at.
-      let next : from + suc i ≡ from + 1 + i = omega arith in subst (λ (n : ℕ). CanCarry b (f (n, b))) next (each (suc i) b at)),
+          let next : from + suc i ≡ from + 1 + i = omega arith in subst (λ (n : ℕ). CanCarry b (f (n, b))) next (each (suc i) b at)),
     )
 
 place_by_bounds : (f : ℕ × Arc → ℤ) (from : ℕ) (arcs : List Arc) → IsWithinBounds arcs (map f (enumerate_from from arcs))

@@ -55,11 +55,11 @@ pub next_at_start : (moved : List (ℕ × ℤ)) → AreArcsInOrder moved → IsN
 next_at_start moved order = record {
   ascending = λ i j m n h at-i at-j.
       let pairs = AllPairs-from_increasing (map (λ (l : ℕ × ℤ). l.0) moved) order.ascending i j 0 h
-          (omega (arith, slice_get_within moved j n at-j, length-map moved (λ (l : ℕ × ℤ). l.0))) in
+      (omega (arith, slice_get_within moved j n at-j, length-map moved (λ (l : ℕ × ℤ). l.0))) in
       let first : get_or (map (λ (l : ℕ × ℤ). l.0) moved) i 0 ≡ m.0 =
-          get_or_from_slice_get (map (λ (l : ℕ × ℤ). l.0) moved) i m.0 0 (slice_get-map (λ (l : ℕ × ℤ). l.0) moved i ∙ ap (option_map (λ (l : ℕ × ℤ). l.0)) at-i) in
+      get_or_from_slice_get (map (λ (l : ℕ × ℤ). l.0) moved) i m.0 0 (slice_get-map (λ (l : ℕ × ℤ). l.0) moved i ∙ ap (option_map (λ (l : ℕ × ℤ). l.0)) at-i) in
       let second : get_or (map (λ (l : ℕ × ℤ). l.0) moved) j 0 ≡ n.0 =
-          get_or_from_slice_get (map (λ (l : ℕ × ℤ). l.0) moved) j n.0 0 (slice_get-map (λ (l : ℕ × ℤ). l.0) moved j ∙ ap (option_map (λ (l : ℕ × ℤ). l.0)) at-j) in
+      get_or_from_slice_get (map (λ (l : ℕ × ℤ). l.0) moved) j n.0 0 (slice_get-map (λ (l : ℕ × ℤ). l.0) moved j ∙ ap (option_map (λ (l : ℕ × ℤ). l.0)) at-j) in
       omega (arith, pairs, first, second);
   before = λ i m h at. absurd (omega (arith, h));
   behind = λ i m h at.
@@ -91,8 +91,8 @@ module _ (moved : List (ℕ × ℤ)) (place next : ℕ) (is : IsNextLine moved p
   pub stated_here : (a : Arc) (m : ℕ × ℤ) → slice_get moved next ≡ Some m → m.0 ≡ place + 1 → m.1 ≡ stated_or_low moved (place + 1, a)
   stated_here a m at same =
       let found : find (λ (l : ℕ × ℤ). eqb l.0 (place + 1)) moved ≡ Some m =
-          find_here (λ (l : ℕ × ℤ). eqb l.0 (place + 1)) moved next m at (eq-eqb m.0 (place + 1) same)
-          (λ j y h at-j. ne_eqb y.0 (place + 1) (λ e. omega (arith, e, is.before j y h at-j))) in
+      find_here (λ (l : ℕ × ℤ). eqb l.0 (place + 1)) moved next m at (eq-eqb m.0 (place + 1) same)
+      (λ j y h at-j. ne_eqb y.0 (place + 1) (λ e. omega (arith, e, is.before j y h at-j))) in
       sym (ap (λ (o : Option (ℕ × ℤ)). option_map_or (λ (l : ℕ × ℤ). l.1) o a.low) found)
 
   pub next_after_line : (m : ℕ × ℤ) → slice_get moved next ≡ Some m → m.0 ≡ place + 1 → IsNextLine moved (place + 1) (next + 1)
@@ -125,11 +125,11 @@ module _ (moved : List (ℕ × ℤ)) (place next : ℕ) (is : IsNextLine moved p
     pub low_here : (a : Arc) → a.low ≡ stated_or_low moved (place + 1, a)
     low_here a =
         let nowhere : find (λ (l : ℕ × ℤ). eqb l.0 (place + 1)) moved ≡ None =
-            find_nowhere (λ (l : ℕ × ℤ). eqb l.0 (place + 1)) moved
-            (λ j y at-j. ne_eqb y.0 (place + 1) (λ e. elim (cases_lt j next) [
-              | inl first ↦ omega (arith, e, is.before j y first at-j)
-              | inr last ↦ omega (arith, e, beyond j y last at-j)
-            ])) in
+        find_nowhere (λ (l : ℕ × ℤ). eqb l.0 (place + 1)) moved
+        (λ j y at-j. ne_eqb y.0 (place + 1) (λ e. elim (cases_lt j next) [
+          | inl first ↦ omega (arith, e, is.before j y first at-j)
+          | inr last ↦ omega (arith, e, beyond j y last at-j)
+        ])) in
         sym (ap (λ (o : Option (ℕ × ℤ)). option_map_or (λ (l : ℕ × ℤ). l.1) o a.low) nowhere)
 
     pub next_after_none : IsNextLine moved (place + 1) next
