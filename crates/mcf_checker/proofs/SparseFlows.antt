@@ -1,5 +1,6 @@
 -- The verdict on a flow answer of the second form: at each of its cases, and when it accepts.
-use Rattle.std.proofs.Common.{◌≡◌, ℕ, zero, suc, ◌+◌, ◌-◌, ◌≤◌, ◌<◌, Bool, true, false, not, cond, eqb, refl, ap, sym, subst, ◌∙◌, arith, inl, inr, List, [], ◌∷◌, length}
+use Rattle.std.proofs.Common.{◌≡◌, ℕ, zero, suc, ◌+◌, ◌-◌, ◌≤◌, ◌<◌, Bool, true, false, not, cond, eqb, refl, ap, sym, subst, ◌∙◌}
+use Rattle.std.proofs.Common.{arith, inl, inr, List, [], ◌∷◌, length}
 use Rattle.std.proofs.Common.{◌⊎◌, get_or, map, Option, Some, None, ℤ}
 use Rattle.std.specs.List.{All, enumerate_from, find, slice_get}
 use Rattle.std.specs.Option.{option_map, option_map_or}

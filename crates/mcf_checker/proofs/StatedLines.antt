@@ -1,6 +1,7 @@
 -- The lines of a flow answer, as a pass over the arcs reads them.
 use denote.Ref.{Bor}
-use Rattle.std.proofs.Common.{◌≡◌, ◌≢◌, ℕ, zero, suc, ◌+◌, ◌≤◌, ◌<◌, Bool, true, false, cond, eqb, refl, ap, sym, subst, ◌∙◌, arith, inl, inr, List, [], ◌∷◌, length}
+use Rattle.std.proofs.Common.{◌≡◌, ◌≢◌, ℕ, zero, suc, ◌+◌, ◌≤◌, ◌<◌, Bool, true, false, cond, eqb, refl, ap, sym, subst, ◌∙◌}
+use Rattle.std.proofs.Common.{arith, inl, inr, List, [], ◌∷◌, length}
 use Rattle.std.proofs.Common.{get_or, map, Option, Some, None, ℤ}
 use Rattle.std.specs.List.{enumerate_from, find, slice_get}
 use Rattle.std.specs.Option.{option_map, option_map_or}
@@ -144,7 +145,8 @@ module _ (moved : List (ℕ × ℤ)) (place next : ℕ) (is : IsNextLine moved p
 flow_if_some : (number : ℕ) (o : Option (ℕ × ℤ)) (f : ℤ) → Some f ≡ flow_if_of number o → (m : ℕ × ℤ) × (o ≡ Some m) × (m.0 ≡ number) × (f ≡ m.1)
 flow_if_some number None f e = absurd (none-some f (sym e))
 flow_if_some number (Some m) f e =
-    elim (eqb m.0 number) as (λ (b : Bool). eqb m.0 number ≡ b → Some f ≡ cond b (Some m.1) None → (k : ℕ × ℤ) × (Some m ≡ Some k) × (k.0 ≡ number) × (f ≡ k.1)) [
+    elim (eqb m.0 number) as (λ (b : Bool). eqb m.0 number ≡ b → Some f ≡ cond b (Some m.1) None
+    → (k : ℕ × ℤ) × (Some m ≡ Some k) × (k.0 ≡ number) × (f ≡ k.1)) [
       | true ↦ λ t h. (m, refl, eqb-true m.0 number t, same_Some f m.1 h)
       | false ↦ λ t h. absurd (none-some f (sym h))
     ] refl e
