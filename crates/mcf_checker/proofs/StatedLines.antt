@@ -120,7 +120,11 @@ module _ (moved : List (ℕ × ℤ)) (place next : ℕ) (is : IsNextLine moved p
           | inr other ↦
               let within : next < length moved = omega (arith, h, slice_get_within moved i l at-i) in
               let at : slice_get moved next ≡ Some (get_or moved next l) = slice_get-get_or moved next l within in
-              omega (arith, is.behind next (get_or moved next l) (omega arith) at, is.ascending next i (get_or moved next l) l (omega (arith, h, other)) at at-i)
+              omega (
+                arith,
+                is.behind next (get_or moved next l) (omega arith) at,
+                is.ascending next i (get_or moved next l) l (omega (arith, h, other)) at at-i,
+              )
         ]
 
     pub low_here : (a : Arc) → a.low ≡ stated_or_low moved (place + 1, a)
@@ -193,7 +197,8 @@ pub step_of_each : (stated : Stated) (sent : Bor (List Sent)) (place next : ℕ)
     → s ≡ get_or sent.now place s → IsStep stated a place s.flow next
 step_of_each stated sent place next a s is h read =
     let at : slice_get (amounts sent.now) place ≡ Some s.flow =
-    slice_get-map (λ (t : Sent). t.flow) sent.now place ∙ ap (option_map (λ (t : Sent). t.flow)) (slice_get_read sent.now (length sent.now) place s refl h read) in
+    slice_get-map (λ (t : Sent). t.flow) sent.now place
+    ∙ ap (option_map (λ (t : Sent). t.flow)) (slice_get_read sent.now (length sent.now) place s refl h read) in
     let step : IsStep (Each sent) a place s.flow next = record { flow = at; next_is = tt } in
     subst (λ (t : Stated). IsStep t a place s.flow next) (sym is) step
 
