@@ -17,10 +17,12 @@ use Rattle.mcf_answer.specs.declared.answers.Answer.{Answer}
 use Rattle.mcf_answer.specs.declared.answers.Answer.TheVariants.{Blocked, Flow, Refused, Sparse}
 use Rattle.mcf_answer.specs.declared.shape.Shape.{Shape}
 use Rattle.mcf_checker.specs.Correct.{GivesLeastFlow, HasNoFlow, IsCorrect, IsRight, IsRightFlow, IsRightSet, amounts, flow_given, spread}
-use Rattle.mcf_checker.specs.Judging.{accepts, bad_moved, bad_node, bad_price, flow_verdict, judged, same_fault, set_verdict, solution_verdict, sparse_verdict, verdict}
+use Rattle.mcf_checker.specs.Judging.{accepts, bad_moved, bad_node, bad_price, flow_verdict, judged, same_fault, set_verdict}
+use Rattle.mcf_checker.specs.Judging.{solution_verdict, sparse_verdict, verdict}
 use Rattle.mcf_checker.specs.Private.StatedFlows.{AreArcsInOrder}
 use Rattle.mcf_checker.specs.declared.verdict.Verdict.{Verdict}
-use Rattle.mcf_checker.specs.declared.verdict.Verdict.TheVariants.{BadArc, BadCost, BadNode, BadPrice, BadRefusal, BadShape, Blocked as SetAccepted, Flow as FlowAccepted}
+use Rattle.mcf_checker.specs.declared.verdict.Verdict.TheVariants.{BadArc, BadCost, BadNode, BadPrice, BadRefusal, BadShape}
+use Rattle.mcf_checker.specs.declared.verdict.Verdict.TheVariants.{Blocked as SetAccepted, Flow as FlowAccepted}
 use Rattle.mcf_checker.specs.declared.verdict.Verdict.TheVariants.{Refused as RefusalAccepted}
 use Rattle.mcf_checker.proofs.OrderedArcs.{HasOrder, read_ordered}
 use Rattle.mcf_checker.proofs.Sets.{IsRightSet-from_accepts, accepts-from_IsRightSet, at_right_set}

@@ -1,5 +1,6 @@
 -- The arcs of what a text stands for have their bounds in order.
-use Rattle.std.proofs.Common.{◌≡◌, ℕ, Bool, true, false, not, ◌&&◌, ◌||◌, cond, refl, sym, ap, subst, ◌∙◌, arith, List, [], ◌∷◌, ◌++◌, map, Option, Some, None, ℤ, ◌≤ℤ◌}
+use Rattle.std.proofs.Common.{◌≡◌, ℕ, Bool, true, false, not, ◌&&◌, ◌||◌, cond, refl, sym, ap, subst, ◌∙◌, arith, List, [], ◌∷◌}
+use Rattle.std.proofs.Common.{◌++◌, map, Option, Some, None, ℤ, ◌≤ℤ◌}
 use Rattle.std.specs.List.{All, filter, find, list_any, slice_get}
 use Rattle.std.specs.Option.{option_map, option_map_or, option_or}
 use Rattle.std.specs.Prelude.{Ok, int_lt}
@@ -14,7 +15,8 @@ use Rattle.mcf_instance.specs.declared.code.Code.{Code}
 use Rattle.mcf_instance.specs.declared.code.Code.TheVariants.{BeforeP, Order}
 use Rattle.mcf_instance.specs.declared.problem.Problem.{Problem}
 use Rattle.mcf_instance.specs.declared.problem.Problem.TheVariants.{Min, Asn}
-use Rattle.mcf_instance.specs.Fault.{Fault, as_fault, fault_at_end, fault_of_line, faults, first_fault, first_fault_of_lines, has_p, header, header_of, is_a, is_min}
+use Rattle.mcf_instance.specs.Fault.{Fault, as_fault, fault_at_end, fault_of_line, faults, first_fault, first_fault_of_lines, has_p, header}
+use Rattle.mcf_instance.specs.Fault.{header_of, is_a, is_min}
 use Rattle.mcf_instance.specs.Fault.{is_p, no_header, of_min}
 use Rattle.mcf_instance.specs.Limits.{limits}
 use Rattle.mcf_instance.specs.Network.{Network}
@@ -77,7 +79,8 @@ has_header lines row good p =
 not_below : (x y : ℤ) → int_lt x y ≡ false → y ≤ℤ x
 not_below x y e = grind (arith, ints)
 
-line_ordered : (q : Problem) (xs : List Row) (row : Row) → q ≡ (header xs).problem → fault_of_line limits xs row ≡ None → is_a row ≡ true → HasOrder (arc_of q row)
+line_ordered : (q : Problem) (xs : List Row) (row : Row) → q ≡ (header xs).problem → fault_of_line limits xs row ≡ None → is_a row ≡ true
+    → HasOrder (arc_of q row)
 line_ordered Min xs row same good a =
     let test : (is_a row && of_min xs && int_lt (number row 4) (number row 3)) ≡ false = applies_not limits xs row 12 Order _ refl good in
     let min : of_min xs ≡ true = ap is_min (sym same) in

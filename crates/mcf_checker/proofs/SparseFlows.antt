@@ -1,5 +1,6 @@
 -- The verdict on a flow answer of the second form: at each of its cases, and when it accepts.
-use Rattle.std.proofs.Common.{◌≡◌, ℕ, zero, suc, ◌+◌, ◌-◌, ◌≤◌, ◌<◌, Bool, true, false, not, cond, eqb, refl, ap, sym, subst, ◌∙◌, arith, inl, inr, List, [], ◌∷◌, length}
+use Rattle.std.proofs.Common.{◌≡◌, ℕ, zero, suc, ◌+◌, ◌-◌, ◌≤◌, ◌<◌, Bool, true, false, not, cond, eqb, refl, ap, sym, subst, ◌∙◌}
+use Rattle.std.proofs.Common.{arith, inl, inr, List, [], ◌∷◌, length}
 use Rattle.std.proofs.Common.{◌⊎◌, get_or, map, Option, Some, None, ℤ}
 use Rattle.std.specs.List.{All, enumerate_from, find, slice_get}
 use Rattle.std.specs.Option.{option_map, option_map_or}
@@ -111,7 +112,7 @@ bounds_by_place f from (a ∷ arcs) each =
     let here : from + 0 ≡ from = omega arith in (
       subst (λ (n : ℕ). CanCarry a (f (n, a))) here (each 0 a refl),
       bounds_by_place f (from + 1) arcs (λ i b at.
-      let next : from + suc i ≡ from + 1 + i = omega arith in subst (λ (n : ℕ). CanCarry b (f (n, b))) next (each (suc i) b at)),
+          let next : from + suc i ≡ from + 1 + i = omega arith in subst (λ (n : ℕ). CanCarry b (f (n, b))) next (each (suc i) b at)),
     )
 
 place_by_bounds : (f : ℕ × Arc → ℤ) (from : ℕ) (arcs : List Arc) → IsWithinBounds arcs (map f (enumerate_from from arcs))

@@ -1,6 +1,7 @@
 -- The lines of a flow answer, as a pass over the arcs reads them.
 use denote.Ref.{Bor}
-use Rattle.std.proofs.Common.{◌≡◌, ◌≢◌, ℕ, zero, suc, ◌+◌, ◌≤◌, ◌<◌, Bool, true, false, cond, eqb, refl, ap, sym, subst, ◌∙◌, arith, inl, inr, List, [], ◌∷◌, length}
+use Rattle.std.proofs.Common.{◌≡◌, ◌≢◌, ℕ, zero, suc, ◌+◌, ◌≤◌, ◌<◌, Bool, true, false, cond, eqb, refl, ap, sym, subst, ◌∙◌}
+use Rattle.std.proofs.Common.{arith, inl, inr, List, [], ◌∷◌, length}
 use Rattle.std.proofs.Common.{get_or, map, Option, Some, None, ℤ}
 use Rattle.std.specs.List.{enumerate_from, find, slice_get}
 use Rattle.std.specs.Option.{option_map, option_map_or}
@@ -55,11 +56,11 @@ pub next_at_start : (moved : List (ℕ × ℤ)) → AreArcsInOrder moved → IsN
 next_at_start moved order = record {
   ascending = λ i j m n h at-i at-j.
       let pairs = AllPairs-from_increasing (map (λ (l : ℕ × ℤ). l.0) moved) order.ascending i j 0 h
-          (omega (arith, slice_get_within moved j n at-j, length-map moved (λ (l : ℕ × ℤ). l.0))) in
+      (omega (arith, slice_get_within moved j n at-j, length-map moved (λ (l : ℕ × ℤ). l.0))) in
       let first : get_or (map (λ (l : ℕ × ℤ). l.0) moved) i 0 ≡ m.0 =
-          get_or_from_slice_get (map (λ (l : ℕ × ℤ). l.0) moved) i m.0 0 (slice_get-map (λ (l : ℕ × ℤ). l.0) moved i ∙ ap (option_map (λ (l : ℕ × ℤ). l.0)) at-i) in
+      get_or_from_slice_get (map (λ (l : ℕ × ℤ). l.0) moved) i m.0 0 (slice_get-map (λ (l : ℕ × ℤ). l.0) moved i ∙ ap (option_map (λ (l : ℕ × ℤ). l.0)) at-i) in
       let second : get_or (map (λ (l : ℕ × ℤ). l.0) moved) j 0 ≡ n.0 =
-          get_or_from_slice_get (map (λ (l : ℕ × ℤ). l.0) moved) j n.0 0 (slice_get-map (λ (l : ℕ × ℤ). l.0) moved j ∙ ap (option_map (λ (l : ℕ × ℤ). l.0)) at-j) in
+      get_or_from_slice_get (map (λ (l : ℕ × ℤ). l.0) moved) j n.0 0 (slice_get-map (λ (l : ℕ × ℤ). l.0) moved j ∙ ap (option_map (λ (l : ℕ × ℤ). l.0)) at-j) in
       omega (arith, pairs, first, second);
   before = λ i m h at. absurd (omega (arith, h));
   behind = λ i m h at.
@@ -91,8 +92,8 @@ module _ (moved : List (ℕ × ℤ)) (place next : ℕ) (is : IsNextLine moved p
   pub stated_here : (a : Arc) (m : ℕ × ℤ) → slice_get moved next ≡ Some m → m.0 ≡ place + 1 → m.1 ≡ stated_or_low moved (place + 1, a)
   stated_here a m at same =
       let found : find (λ (l : ℕ × ℤ). eqb l.0 (place + 1)) moved ≡ Some m =
-          find_here (λ (l : ℕ × ℤ). eqb l.0 (place + 1)) moved next m at (eq-eqb m.0 (place + 1) same)
-          (λ j y h at-j. ne_eqb y.0 (place + 1) (λ e. omega (arith, e, is.before j y h at-j))) in
+      find_here (λ (l : ℕ × ℤ). eqb l.0 (place + 1)) moved next m at (eq-eqb m.0 (place + 1) same)
+      (λ j y h at-j. ne_eqb y.0 (place + 1) (λ e. omega (arith, e, is.before j y h at-j))) in
       sym (ap (λ (o : Option (ℕ × ℤ)). option_map_or (λ (l : ℕ × ℤ). l.1) o a.low) found)
 
   pub next_after_line : (m : ℕ × ℤ) → slice_get moved next ≡ Some m → m.0 ≡ place + 1 → IsNextLine moved (place + 1) (next + 1)
@@ -119,17 +120,21 @@ module _ (moved : List (ℕ × ℤ)) (place next : ℕ) (is : IsNextLine moved p
           | inr other ↦
               let within : next < length moved = omega (arith, h, slice_get_within moved i l at-i) in
               let at : slice_get moved next ≡ Some (get_or moved next l) = slice_get-get_or moved next l within in
-              omega (arith, is.behind next (get_or moved next l) (omega arith) at, is.ascending next i (get_or moved next l) l (omega (arith, h, other)) at at-i)
+              omega (
+                arith,
+                is.behind next (get_or moved next l) (omega arith) at,
+                is.ascending next i (get_or moved next l) l (omega (arith, h, other)) at at-i,
+              )
         ]
 
     pub low_here : (a : Arc) → a.low ≡ stated_or_low moved (place + 1, a)
     low_here a =
         let nowhere : find (λ (l : ℕ × ℤ). eqb l.0 (place + 1)) moved ≡ None =
-            find_nowhere (λ (l : ℕ × ℤ). eqb l.0 (place + 1)) moved
-            (λ j y at-j. ne_eqb y.0 (place + 1) (λ e. elim (cases_lt j next) [
-              | inl first ↦ omega (arith, e, is.before j y first at-j)
-              | inr last ↦ omega (arith, e, beyond j y last at-j)
-            ])) in
+        find_nowhere (λ (l : ℕ × ℤ). eqb l.0 (place + 1)) moved
+        (λ j y at-j. ne_eqb y.0 (place + 1) (λ e. elim (cases_lt j next) [
+          | inl first ↦ omega (arith, e, is.before j y first at-j)
+          | inr last ↦ omega (arith, e, beyond j y last at-j)
+        ])) in
         sym (ap (λ (o : Option (ℕ × ℤ)). option_map_or (λ (l : ℕ × ℤ). l.1) o a.low) nowhere)
 
     pub next_after_none : IsNextLine moved (place + 1) next
@@ -144,7 +149,8 @@ module _ (moved : List (ℕ × ℤ)) (place next : ℕ) (is : IsNextLine moved p
 flow_if_some : (number : ℕ) (o : Option (ℕ × ℤ)) (f : ℤ) → Some f ≡ flow_if_of number o → (m : ℕ × ℤ) × (o ≡ Some m) × (m.0 ≡ number) × (f ≡ m.1)
 flow_if_some number None f e = absurd (none-some f (sym e))
 flow_if_some number (Some m) f e =
-    elim (eqb m.0 number) as (λ (b : Bool). eqb m.0 number ≡ b → Some f ≡ cond b (Some m.1) None → (k : ℕ × ℤ) × (Some m ≡ Some k) × (k.0 ≡ number) × (f ≡ k.1)) [
+    elim (eqb m.0 number) as (λ (b : Bool). eqb m.0 number ≡ b → Some f ≡ cond b (Some m.1) None
+    → (k : ℕ × ℤ) × (Some m ≡ Some k) × (k.0 ≡ number) × (f ≡ k.1)) [
       | true ↦ λ t h. (m, refl, eqb-true m.0 number t, same_Some f m.1 h)
       | false ↦ λ t h. absurd (none-some f (sym h))
     ] refl e
@@ -191,7 +197,8 @@ pub step_of_each : (stated : Stated) (sent : Bor (List Sent)) (place next : ℕ)
     → s ≡ get_or sent.now place s → IsStep stated a place s.flow next
 step_of_each stated sent place next a s is h read =
     let at : slice_get (amounts sent.now) place ≡ Some s.flow =
-    slice_get-map (λ (t : Sent). t.flow) sent.now place ∙ ap (option_map (λ (t : Sent). t.flow)) (slice_get_read sent.now (length sent.now) place s refl h read) in
+    slice_get-map (λ (t : Sent). t.flow) sent.now place
+    ∙ ap (option_map (λ (t : Sent). t.flow)) (slice_get_read sent.now (length sent.now) place s refl h read) in
     let step : IsStep (Each sent) a place s.flow next = record { flow = at; next_is = tt } in
     subst (λ (t : Stated). IsStep t a place s.flow next) (sym is) step
 

@@ -67,11 +67,7 @@ fn first_bad_arc(instance: &Instance, sent: &[Sent]) -> Option<u64>
 }
 
 // What leaves each node less what enters it, in the order of the nodes.
-fn nets_of(
-    alloc: Global,
-    instance: &Instance,
-    stated: Stated<'_>,
-) -> Result<Vec<i128>, NoMemory>
+fn nets_of(alloc: Global, instance: &Instance, stated: Stated<'_>) -> Result<Vec<i128>, NoMemory>
     requires bounds { IsWithinBounds instance.now.arcs (flow_stated instance.now.arcs stated) }
     requires order { IsInOrder stated }
     ensures value { IfOk result

@@ -36,10 +36,12 @@ loop-place-preserved c =
     let carried = flow_read arcs c.args.stated c.loop-place.place c.arc_at-arc.result c.flow_at-flow.result c.arc_at-arc.ensures.value
     c.flow_at-flow.ensures.flow in
     let fits : FitsSigned w128 c.flow_at-flow.result = search rules in
-    let loose = simp to_z-of_z at c.is_loose.ensures in
-    (below_more _ _ c.loop-place.invariant.0
-    (looseness_read c.args.prices.now arcs flow c.loop-place.place c.arc_at-arc.result c.flow_at-flow.result c.arc_at-arc.ensures.value carried
-    ∙ sym loose ∙ c.if-is_loose.false), c.flow_at-flow.ensures.next)
+    let loose = simp to_z-of_z at c.is_loose.ensures in (
+      below_more _ _ c.loop-place.invariant.0
+          (looseness_read c.args.prices.now arcs flow c.loop-place.place c.arc_at-arc.result c.flow_at-flow.result c.arc_at-arc.ensures.value carried
+          ∙ sym loose ∙ c.if-is_loose.false),
+      c.flow_at-flow.ensures.next,
+    )
 
 pub returns-then-is_loose : goal.returns-then-is_loose
 returns-then-is_loose c =
