@@ -6,14 +6,13 @@ ghost use Rattle.mcf_assign.specs.Runs.{is_source};
 use crate::feasibility::is_set_of;
 use crate::networks::net_of;
 use crate::scaling::{cost_of, multiples};
-use crate::solving::answered;
 use mcf_assign::{Extended, Matching, Sap};
 use mcf_checker::{Verdict, check};
 use mcf_instance::{Problem, Side};
 use mcf_network::Net;
 use mcf_prices::{Cancel, Engine, Outcome};
 use mcf_scaling::Scaling;
-use mcf_solver::{EngineChoice, Kind};
+use mcf_solver::{Choice, EngineChoice, Kind, solve_text};
 use mcf_text::{NoMemory, NodeId};
 use std::alloc::Global;
 use std::test::Fail;
@@ -278,7 +277,12 @@ static ENGINES: [EngineChoice; 3] = [
 
 // Whether an engine answers a text with a flow of cost 198, which the checker accepts.
 fn costs_198(alloc: Global, text: &[u8], engine: EngineChoice) -> Result<bool, NoMemory> {
-    let (kind, answer) = answered(alloc, b"", text, engine)?;
+    let choice = Choice {
+        engine,
+        ..Choice::default()
+    };
+    let mut answer = Vec::new(alloc);
+    let kind = solve_text(alloc, text, choice, &mut answer)?;
     let verdict = check(alloc, text, &answer)?;
     Ok(kind == Kind::Flow && verdict == Verdict::Flow(198))
 }

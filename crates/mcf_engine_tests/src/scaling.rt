@@ -295,3 +295,36 @@ fn starts_with_prices_zero(rt: HostRuntime) -> Result<(), Fail> {
     phases_end();
     Ok(())
 }
+
+// What the state costs that is handed over where the refinement of a text's net is done, if the prices are handed over
+// that were told before.
+fn handed_over(alloc: Global, text: &[u8]) -> Result<Option<i128>, NoMemory> {
+    let Some(net) = net_of(alloc, text)? else {
+        return Ok(None);
+    };
+    let Feas::Flow(state) = feasible(alloc, &net)? else {
+        return Ok(None);
+    };
+    let mut refine = Refine::start(alloc, state)?;
+    for _ in 0..10_000u32 {
+        if let Step::Done = take_step(&mut refine) {
+            break;
+        }
+    }
+    if refine.state().net().node_count() < 1 {
+        return Ok(None);
+    }
+    let told = refine.price(NodeId::new(1));
+    let (state, prices) = refine.into_parts();
+    match prices.first() {
+        Some(price) if *price == told => Ok(Some(cost_of(&state))),
+        _ => Ok(None),
+    }
+}
+
+#[test]
+fn hands_over_its_parts(rt: HostRuntime) -> Result<(), Fail> {
+    assert!(rt; handed_over(rt.alloc(), ROWS[0].text)? == Some(14));
+    assert!(rt; handed_over(rt.alloc(), ROWS[5].text)? == Some(-5));
+    Ok(())
+}

@@ -5,7 +5,7 @@ use Rattle.std.specs.Io.KnownBytes.{Consumes}
 use Rattle.mcf_answer.specs.Spelling.{IsAnswer, Spells}
 use Rattle.mcf_answer.specs.Written.{written}
 use Rattle.mcf_answer.specs.declared.answers.Answer.{Answer}
-use Rattle.mcf_answer.specs.declared.answers.Answer.TheVariants.{Flow, Blocked, Refused}
+use Rattle.mcf_answer.specs.declared.answers.Answer.TheVariants.{Flow, Sparse, Blocked, Refused}
 use Rattle.mcf_checker.specs.Correct.{IsCorrect, IsRight}
 use Rattle.mcf_checker.specs.Laws.{CorrectAnswersAreAccepted}
 use Rattle.mcf_instance.specs.Fault.{Fault}
@@ -63,8 +63,10 @@ module _ (reader : ReaderData) (first next last : Option (List ℕ)) (piece : Li
 right_of : (read : Result Network Fault) (answer : Answer) → IsOwed read answer → IsRight read answer
 right_of (Err fault) (Refused r) owed = owed
 right_of (Ok g) (Flow a) owed = owed.right
+right_of (Ok g) (Sparse a) owed = owed.right
 right_of (Ok g) (Blocked a) owed = owed.right
 right_of (Err fault) (Flow a) owed = owed
+right_of (Err fault) (Sparse a) owed = owed
 right_of (Err fault) (Blocked a) owed = owed
 right_of (Ok g) (Refused r) owed = owed
 

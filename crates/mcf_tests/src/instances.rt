@@ -86,7 +86,7 @@ fn is_instance(
     Ok(is_problem && are_supplies && are_arcs)
 }
 
-static FAULTY_TEXTS: [(&[u8], u128, &str); 42] = [
+pub static FAULTY_TEXTS: [(&[u8], u128, &str); 42] = [
     (b"", 1, "no-p"),
     (b"c hello\n", 2, "no-p"),
     (b" \t\n\r\n  ", 4, "no-p"),

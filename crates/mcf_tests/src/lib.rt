@@ -11,6 +11,8 @@ mod checking;
 #[cfg(test)]
 mod edited_texts;
 #[cfg(test)]
+mod feeding;
+#[cfg(test)]
 mod instances;
 #[cfg(test)]
 mod large;
