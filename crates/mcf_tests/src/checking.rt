@@ -138,8 +138,22 @@ fn sparse_flows_for_the_four_nodes(rt: HostRuntime) -> Result<(), Fail> {
 #[test]
 fn arcs_without_a_line_carry_their_low(rt: HostRuntime) -> Result<(), Fail> {
     let instance = "p min 2 1\nn 1 2\nn 2 -2\na 1 2 2 5 1\n";
-    assert!(rt; is_printed(rt.alloc(), instance, "v 2\ns 2\ny 1 0\ny 2 -1\n", "accepted flow 2")?);
-    assert!(rt; is_printed(rt.alloc(), instance, "v 2\ns 0\ng 1 0\ny 1 0\ny 2 -1\n", "rejected arc 1")?);
+    assert!(rt;
+        is_printed(
+            rt.alloc(),
+            instance,
+            "v 2\ns 2\ny 1 0\ny 2 -1\n",
+            "accepted flow 2"
+        )?
+    );
+    assert!(rt;
+        is_printed(
+            rt.alloc(),
+            instance,
+            "v 2\ns 0\ng 1 0\ny 1 0\ny 2 -1\n",
+            "rejected arc 1"
+        )?
+    );
     Ok(())
 }
 
