@@ -10,6 +10,7 @@ PART
   check     judges such an answer for its instance
   feasible  finds a feasible flow, in nets of five families and of rising size, beside the reading of the same text
   net       builds the net of a million arcs, and goes over the residual arcs of each node
+  pieces    reads a text of 100 MB in pieces, beside reading it at once, as whole processes, with the peak of their memory
   raise     raises prices of a least flow to the greatest, in nets of three families and of rising size
   read      reads an instance, and keeps it in 32 bytes an arc
   recover   recovers prices from a least flow, in nets of three families and of rising size
@@ -42,6 +43,7 @@ import sys
 import typing
 
 import assignments
+import pieces
 import processes
 
 BENCH = pathlib.Path(__file__).resolve().parent
@@ -260,6 +262,8 @@ def measure(part, words):
     """Runs each case of a part beside its peer, and says whether each figure is within the part's limit."""
     if part == "assign":
         return assignments.measure(words)
+    if part == "pieces":
+        return pieces.measure(words)
     maker, limit = PARTS[part]
     peers = peers_of(part, limit)
     if not peers:
@@ -304,7 +308,7 @@ def net_bytes(name, program, paths):
 
 def main():
     parser = argparse.ArgumentParser(description="compares parts of the suite with peers")
-    parser.add_argument("parts", nargs="*", choices=[[], *sorted([*PARTS, "assign"])], metavar="PART")
+    parser.add_argument("parts", nargs="*", choices=[[], *sorted([*PARTS, "assign", "pieces"])], metavar="PART")
     parser.add_argument("--runs", type=int, default=9)
     parser.add_argument("--nodes", type=int)
     parser.add_argument("--built", action="store_true")
@@ -312,7 +316,7 @@ def main():
     OUT.mkdir(exist_ok=True)
     if not words.built:
         build_program()
-    above = [part for part in words.parts or sorted([*PARTS, "assign"]) if not measure(part, words)]
+    above = [part for part in words.parts or sorted([*PARTS, "assign", "pieces"]) if not measure(part, words)]
     if above:
         sys.exit(f"above its limit: {', '.join(above)}")
 

@@ -126,9 +126,9 @@ fn outcome<S: Source, K: Sink>(
     }
 }
 
-// Whether a run ends at a read that fails, and leaves the sink as it is.
-fn ends_at_read(alloc: Global, call: u64) -> Result<bool, NoMemory> {
-    let mut source = Giver::new(FOUR_NODES.as_bytes(), 1, call);
+// Whether a run of a text, one byte a read, ends at a read that fails, and leaves the sink as it is.
+fn ends_at_read(alloc: Global, text: &str, call: u64) -> Result<bool, NoMemory> {
+    let mut source = Giver::new(text.as_bytes(), 1, call);
     let mut sink = Taker::new(alloc, 1, NEVER)?;
     let ended = outcome(alloc, &mut source, &mut sink)?;
     Ok(
@@ -143,7 +143,15 @@ fn ends_at_read(alloc: Global, call: u64) -> Result<bool, NoMemory> {
 #[test]
 fn reads_that_fail(rt: HostRuntime) -> Result<(), Fail> {
     for call in 1..=84u64 {
-        assert!(rt; ends_at_read(rt.alloc(), call)?, "at {call}");
+        assert!(rt; ends_at_read(rt.alloc(), FOUR_NODES, call)?, "at {call}");
+    }
+    Ok(())
+}
+
+#[test]
+fn reads_that_fail_after_a_faulty_line(rt: HostRuntime) -> Result<(), Fail> {
+    for call in 1..=5u64 {
+        assert!(rt; ends_at_read(rt.alloc(), "x 1\n", call)?, "at {call}");
     }
     Ok(())
 }
