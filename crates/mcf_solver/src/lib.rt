@@ -17,7 +17,7 @@ mod set;
 mod solving;
 
 pub use block_size::BlockSize;
-pub use choice::{Choice, EngineChoice, Kind, PricingChoice};
+pub use choice::{Choice, EngineChoice, Form, Kind, PricingChoice};
 pub use device::{FromReader, IntoWriter, Sink, SinkFault, Source, SourceFault};
 pub use fault::RunFault;
 pub use running::{run, send};
