@@ -4,7 +4,7 @@
 //!
 //! It stands on all the crates below, and of `mcf_checker` on its definitions alone. It doesn't speak of the
 //! command line, which `mcf_suite` adds. Definitions stand in `specs/`: `ChosenSolutions` says which of several right
-//! answers is given, `Making` by which engine, `Answering` what is owed for a text, `Devices` and `Running` what a
+//! answers is given, `Making` by which engine, `Forms` in which form, `Answering` what is owed for a text, `Devices` and `Running` what a
 //! run from a source to a sink does.
 
 mod block_size;
@@ -15,6 +15,7 @@ mod flow;
 mod running;
 mod set;
 mod solving;
+mod sparse;
 
 pub use block_size::BlockSize;
 pub use choice::{Choice, EngineChoice, Form, Kind, PricingChoice};
