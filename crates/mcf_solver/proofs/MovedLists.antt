@@ -1,9 +1,8 @@
 -- The arcs that don't carry their low, as a loop over the arcs lists them, and the flow that they give.
-use Rattle.std.proofs.Common.{◌≡◌, ℕ, zero, suc, ◌+◌, ◌-◌, ◌≤◌, ◌<◌, Bool, true, false, cond, eqb, refl, ap, sym, subst, ◌∙◌, arith, List, [], ◌∷◌, ◌++◌, length}
-use Rattle.std.proofs.Common.{get_or, map, drop, take, Option, Some, None, ℤ, pos}
+use Rattle.std.proofs.Common.{◌≡◌, ℕ, zero, suc, ◌+◌, ◌≤◌, ◌<◌, Bool, true, false, cond, eqb, refl, ap, sym, subst, ◌∙◌, arith, List, [], ◌∷◌, ◌++◌}
+use Rattle.std.proofs.Common.{get_or, length, map, drop, take, Option, Some, None, ℤ, pos}
 use Rattle.std.specs.List.{All, enumerate_from, filter_map, find, zip, cons_option}
 use Rattle.std.specs.List.Sorted.{IsStrictlyIncreasing}
-use Rattle.std.specs.Option.{option_map_or}
 use Rattle.std.specs.Ordering.{int_eq}
 use Rattle.std.proofs.lemmas.Bool.{eq-eqb, ne_eqb}
 use Rattle.std.proofs.lemmas.Bool.Decides.{Decides-int_eq}
@@ -23,6 +22,10 @@ use Rattle.mcf_instance.proofs.Bounds.{IsPlaced, each_placed, flow_up_to}
 use Rattle.mcf_solver.specs.Forms.{moved_arc, moved_of}
 use Rattle.mcf_solver.specs.Private.MovedArcs.{AreMovedOf}
 
+-- an arc with its flow, by a number, unless a test says that it carries its low
+abbrev pub line_unless : Bool → ℕ → ℤ → List (ℕ × ℤ) → List (ℕ × ℤ)
+line_unless is_low n f rest = cons_option (cond is_low None (Some (n, f))) rest
+
 -- the lines of arcs numbered from a number on
 abbrev pub moved_from : ℕ → List Arc → List ℤ → List (ℕ × ℤ)
 moved_from from arcs flow = filter_map moved_arc (enumerate_from from (zip arcs flow))
@@ -35,7 +38,7 @@ none_before n from [] flow h = refl
 none_before n from (a ∷ arcs) [] h = refl
 none_before n from (a ∷ arcs) (f ∷ flow) h =
     let rest = none_before n (from + 1) arcs flow (omega (arith, h)) in
-    elim (int_eq f a.low) as (λ (b : Bool). find (λ (l : ℕ × ℤ). eqb l.0 n) (cons_option (cond b None (Some (from, f))) (moved_from (from + 1) arcs flow)) ≡ None) [
+    elim (int_eq f a.low) as (λ (b : Bool). find (λ (l : ℕ × ℤ). eqb l.0 n) (line_unless b from f (moved_from (from + 1) arcs flow)) ≡ None) [
       | true ↦ rest
       | false ↦ rw (ne_eqb from n (λ e. omega (arith, e, h))) rest
     ]
@@ -55,7 +58,7 @@ moved_gives from (a ∷ arcs) [] h = absurd (omega (arith, h))
 moved_gives from (a ∷ arcs) (f ∷ flow) h =
     let later = moved_gives (from + 1) arcs flow (omega (arith, h)) in
     let rest = moved_from (from + 1) arcs flow in
-    elim (int_eq f a.low) as (λ (b : Bool). int_eq f a.low ≡ b → map (stated_or_low (cons_option (cond b None (Some (from, f))) rest)) (enumerate_from from (a ∷ arcs))
+    elim (int_eq f a.low) as (λ (b : Bool). int_eq f a.low ≡ b → map (stated_or_low (line_unless b from f rest)) (enumerate_from from (a ∷ arcs))
     ≡ f ∷ flow) [
       | true ↦ λ is.
           let low : f ≡ a.low = (Decides-int_eq f a.low).0 is in
@@ -69,12 +72,14 @@ spread_of_moved arcs flow h = moved_gives 1 arcs flow h
 
 -- ---- their numbers
 
+-- a line of so many arcs from a number on, with such a flow
 pub record IsMovedFrom (P : ℤ → Type 0) (from count : ℕ) (m : ℕ × ℤ) : Type 0 where
   pub low : from ≤ m.0
   pub high : m.0 < from + count
   pub flow : P m.1
 
-pub moved_in_range : (P : ℤ → Type 0) (from : ℕ) (arcs : List Arc) (flow : List ℤ) → All P flow → All (IsMovedFrom P from (length arcs)) (moved_from from arcs flow)
+moved_in_range : (P : ℤ → Type 0) (from : ℕ) (arcs : List Arc) (flow : List ℤ) → All P flow
+    → All (IsMovedFrom P from (length arcs)) (moved_from from arcs flow)
 moved_in_range P from [] flow all = λ k d h. absurd (omega (arith, h))
 moved_in_range P from (a ∷ arcs) [] all = λ k d h. absurd (omega (arith, h))
 moved_in_range P from (a ∷ arcs) (f ∷ flow) all =
@@ -82,7 +87,7 @@ moved_in_range P from (a ∷ arcs) (f ∷ flow) all =
     let weaker : All (IsMovedFrom P from (suc (length arcs))) (moved_from (from + 1) arcs flow) = λ k d h.
     let here = rest k d h in record { low = omega (arith, here.low); high = omega (arith, here.high); flow = here.flow } in
     let first : IsMovedFrom P from (suc (length arcs)) (from, f) = record { low = omega arith; high = omega arith; flow = all 0 f (omega arith) } in
-    elim (int_eq f a.low) as (λ (b : Bool). All (IsMovedFrom P from (suc (length arcs))) (cons_option (cond b None (Some (from, f))) (moved_from (from + 1) arcs flow))) [
+    elim (int_eq f a.low) as (λ (b : Bool). All (IsMovedFrom P from (suc (length arcs))) (line_unless b from f (moved_from (from + 1) arcs flow))) [
       | true ↦ weaker
       | false ↦ All-cons (IsMovedFrom P from (suc (length arcs))) (from, f) (moved_from (from + 1) arcs flow) first weaker
     ]
@@ -99,7 +104,7 @@ numbers_above n from (a ∷ arcs) [] h = λ k d inside. absurd (omega (arith, in
 numbers_above n from (a ∷ arcs) (f ∷ flow) h =
     let rest = numbers_above n (from + 1) arcs flow (omega (arith, h)) in
     let lines = moved_from (from + 1) arcs flow in
-    elim (int_eq f a.low) as (λ (b : Bool). All (λ m. n < m) (arc_numbers (cons_option (cond b None (Some (from, f))) lines))) [
+    elim (int_eq f a.low) as (λ (b : Bool). All (λ m. n < m) (arc_numbers (line_unless b from f lines))) [
       | true ↦ rest
       | false ↦ All-cons (λ m. n < m) from (arc_numbers lines) h rest
     ]
@@ -110,7 +115,7 @@ moved_ascends from (a ∷ arcs) [] = λ k h. absurd (omega (arith, h))
 moved_ascends from (a ∷ arcs) (f ∷ flow) =
     let rest = moved_ascends (from + 1) arcs flow in
     let lines = moved_from (from + 1) arcs flow in
-    elim (int_eq f a.low) as (λ (b : Bool). IsStrictlyIncreasing (arc_numbers (cons_option (cond b None (Some (from, f))) lines))) [
+    elim (int_eq f a.low) as (λ (b : Bool). IsStrictlyIncreasing (arc_numbers (line_unless b from f lines))) [
       | true ↦ rest
       | false ↦ increasing_cons from (arc_numbers lines) (numbers_above from (from + 1) arcs flow (omega arith)) rest
     ]
@@ -154,7 +159,7 @@ moved_more arcs flow i a f before after h k arc-is flow-is so_far e =
     let flow-here : drop i flow ≡ f ∷ drop (i + 1) flow = drop_more flow i (pos 0) k ∙ ap (λ (z : ℤ). z ∷ drop (i + 1) flow) flow-is in
     let here : moved_from (i + 1) (drop i arcs) (drop i flow) ≡ cons_option (moved_arc (i + 1, (a, f))) rest =
     ap (λ (xs : List Arc). moved_from (i + 1) xs (drop i flow)) arcs-here
-        ∙ ap (λ (ys : List ℤ). moved_from (i + 1) (a ∷ drop (i + 1) arcs) ys) flow-here in
+    ∙ ap (λ (ys : List ℤ). moved_from (i + 1) (a ∷ drop (i + 1) arcs) ys) flow-here in
     record {
       whole = ap (λ (xs : List (ℕ × ℤ)). xs ++ rest) e
           ∙ option_joins (moved_arc (i + 1, (a, f))) before rest

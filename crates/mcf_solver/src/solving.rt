@@ -31,7 +31,8 @@ use std::alloc::Global;
 
 /// Appends the answer to an instance text: the first fault of the text; or a feasible flow that no feasible
 /// flow undercuts, with its cost and the greatest prices not above 0 that show it; or a node set that must
-/// send or take more than it can, so that no flow is feasible.
+/// send or take more than it can, so that no flow is feasible. A flow is written in the form that is chosen: in the
+/// second it names exactly the arcs whose flow isn't their low.
 ///
 /// The checker accepts that answer, whatever engine was chosen. Which of several least flows is given, and
 /// which of several blocking sets where the supplies add up to 0, depends on the engine: a flow is the one that

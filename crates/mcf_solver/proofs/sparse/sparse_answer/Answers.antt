@@ -1,4 +1,4 @@
-use Rattle.std.proofs.Common.{◌≡◌, List, ℤ, length, ap, rules, subst, sym, ◌∙◌, lit<, to_z, of_z}
+use Rattle.std.proofs.Common.{◌≡◌, List, ℤ, ap, rules, subst, sym, ◌∙◌, lit<, to_z, of_z}
 use Rattle.std.specs.List.{All}
 use Rattle.std.specs.Int.{w128}
 use Rattle.mcf_answer.specs.Ranges.{IsAmount, amount_limit}
@@ -8,7 +8,6 @@ use Rattle.mcf_instance.specs.Network.{Network}
 use Rattle.mcf_instance.proofs.AllZips.{length-AllZip}
 use Rattle.mcf_instance.proofs.Bounds.{read_back}
 use Rattle.mcf_network.specs.Removal.{net_of}
-use Rattle.mcf_network.specs.Restoring.{restored}
 use Rattle.mcf_solver.specs.Forms.{moved_of}
 use Rattle.mcf_solver.specs.Private.MovedArcs.{AreMovedOf}
 use Rattle.mcf_solver.proofs.LeastSolutions.{IsMadeOf, amounts_from_prices, is_right_and_least}
