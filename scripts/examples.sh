@@ -1,6 +1,7 @@
 #!/bin/sh
 # Runs the programs of bin/ on the pairs of examples/: what `mcf solve` writes must be the answer there,
-# byte for byte, and `mcfcheck` must accept that answer. Then on a text of several pieces, from a file and from
+# byte for byte, and `mcfcheck` must accept that answer; what it writes in the second form must be the answer in
+# NAME.two, where there is one, and `mcfcheck` must accept it as it does the other. Then on a text of several pieces, from a file and from
 # standard input, and on words, files and a want of memory that leave no answer: what is said then is compared
 # too. `main` has no contract, so this is what judges it. Whatever program isn't there yet is passed over.
 set -u
@@ -13,7 +14,7 @@ fi
 
 written=$(mktemp) || exit 1
 long=$written.long
-trap 'rm -f "$written" "$written.err" "$long.min" "$long.ans" "$written.large"' EXIT
+trap 'rm -f "$written" "$written.err" "$written.two" "$long.min" "$long.ans" "$written.large"' EXIT
 pairs=0
 wrong=0
 
@@ -29,7 +30,7 @@ verdict_of() {
 # The status of `mcf solve` where its answer begins with this line.
 status_of() {
     case $1 in
-        "s "*) echo 0 ;;
+        "s "* | "v "*) echo 0 ;;
         "i "*) echo 1 ;;
         "r "*) echo 2 ;;
     esac
@@ -59,6 +60,16 @@ answers() {
         report "mcf $* with input $input: status $status, and not the bytes of $answer alone"
 }
 
+# What `mcf` answers in the second form `mcfcheck` accepts as it does the answer of a file.
+accepts_second() {
+    bin/mcf solve --form 2 "$1" > "$written.two" 2> "$written.err" < /dev/null
+    status=$?
+    line=$(head -n 1 "$2")
+    [ "$status" -eq "$(status_of "$line")" ] && [ ! -s "$written.err" ] &&
+        [ "$(bin/mcfcheck "$1" "$written.two")" = "$(verdict_of "$line")" ] ||
+        report "mcf solve --form 2 $1: status $status, and not accepted as $2 is"
+}
+
 # A run without an answer: status 3, nothing on standard output, and this text on standard error.
 tells() {
     text=$1
@@ -82,6 +93,8 @@ for instance in examples/*.min examples/*.asn; do
     pairs=$((pairs + 1))
     [ ! -x bin/mcfcheck ] || accepts "$instance" "$answer"
     [ ! -x bin/mcf ] || answers "$answer" /dev/null solve "$instance"
+    [ ! -x bin/mcf ] || [ ! -f "${instance%.*}.two" ] || answers "${instance%.*}.two" /dev/null solve --form 2 "$instance"
+    [ ! -x bin/mcf ] || [ ! -x bin/mcfcheck ] || accepts_second "$instance" "$answer"
 done
 
 # A text of 120,000 bytes, which comes in several pieces, and its answer; then a file that no memory holds.

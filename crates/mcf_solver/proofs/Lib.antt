@@ -4,6 +4,7 @@ pub mod LeastSolutions
 pub mod LoopFlows
 pub mod Making
 pub mod MemberLists
+pub mod MovedLists
 pub mod ReadPieces
 pub mod SentLists
 pub mod Shapes

@@ -35,11 +35,10 @@ pub lines_of : (g : Network) (flow : List ℤ) (i : ℕ) (total : ℤ) (sent : L
 lines_of g flow i total sent so_far = record { ends = so_far.ends; carried = so_far.carried; fit = so_far.fit }
 
 -- what the first arcs cost is an amount
-pub carried_small : (g : Network) (flow : List ℤ) (i : ℕ) (total : ℤ) (sent : List Sent) → IsWellFormed limits g → IsWithinBounds g.arcs flow →
-    IsCarriedUpTo g flow i total sent → IsAmount total
-carried_small g flow i total sent ok bounds so_far =
+pub carried_small : (g : Network) (flow : List ℤ) (i : ℕ) (total : ℤ) → IsWellFormed limits g → IsWithinBounds g.arcs flow → total ≡ cost (take i g.arcs) flow
+    → IsAmount total
+carried_small g flow i total ok bounds is =
     let small : IsUpTo total_limit (cost (take i g.arcs) flow) = cost_part_up_to g.arcs flow i total_limit ok.total bounds in
-    let is = so_far.cost_is in
     omega (arith, ints, small, is)
 
 -- what is read of a list that grows by one, where it is the beginning of another
@@ -55,7 +54,8 @@ map_next f before after x ys i d h so_far e here =
 -- the arc of number k, which is at place i, and what it carries
 module _ (g : Network) (flow : List ℤ) (i k : ℕ) (a : Arc) (ok : IsWellFormed limits g) (bounds : IsWithinBounds g.arcs flow) (h : i < length g.arcs)
     (number : k ≡ i + 1) (read : slice_get g.arcs (k - 1) ≡ Some a) where
-  arc_is : get_or g.arcs i a ≡ a
+  -- as the list has it
+  pub arc_is : get_or g.arcs i a ≡ a
   arc_is =
       let back : k - 1 ≡ i = omega (arith, number) in
       get_or_from_slice_get g.arcs i a a (subst (λ j. slice_get g.arcs j ≡ Some a) back read)

@@ -20,6 +20,7 @@ use Rattle.mcf_instance.specs.Reading.{reading}
 use Rattle.mcf_solver.specs.declared.choice.Kind.{Kind}
 use Rattle.mcf_solver.specs.declared.choice.Kind.TheVariants.{Flow as WithFlow, Blocked as WithSet, Refused as WithRefusal}
 use Rattle.mcf_solver.specs.ChosenSolutions.{IsChosenFlow}
+use Rattle.mcf_solver.specs.Forms.{HasForm}
 use Rattle.mcf_solver.specs.Making.{HasMadeFlow, HasShapedFlow, IsMadeBy}
 use Rattle.mcf_solver.specs.declared.choice.Choice.{Choice}
 
@@ -69,6 +70,7 @@ pub record IsAnswerTo (choice : Choice) (input : List ℕ) (kind : Kind) (text :
   pub owed : IsOwed (reading limits input) answer
   pub made : HasMadeFlow (IsMadeBy choice) (reading limits input) answer
   pub shaped : HasShapedFlow choice (reading limits input) answer
+  pub formed : HasForm choice.form (reading limits input) answer
   pub is_kind : kind ≡ answer_kind answer
   pub correct : IsCorrect input text
   pub accepted : accepts (verdict input text) ≡ true

@@ -22,6 +22,7 @@ pub mod Answering
 pub mod BlockSizes
 pub mod ChosenSolutions
 pub mod Devices
+pub mod Forms
 pub mod Making
 pub mod Running
 pub mod Private

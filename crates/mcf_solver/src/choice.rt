@@ -31,12 +31,23 @@ pub enum PricingChoice {
     Block,
 }
 
-/// How an instance is solved. The pricing rule and the size of its blocks matter to the network simplex alone.
+/// In which form a flow is written. Blocked and refused answers have one form.
+#[derive(Clone, Copy, Debug, Default, PartialEq, Eq)]
+pub enum Form {
+    /// Each arc by its ends, with what it carries.
+    #[default]
+    One,
+    /// The arcs that don't carry their low alone, each by its number, with what it carries.
+    Two,
+}
+
+/// How an instance is solved and answered. The pricing rule and the size of its blocks matter to the network simplex alone.
 #[derive(Clone, Copy, Debug, Default, PartialEq, Eq)]
 pub struct Choice {
     pub engine: EngineChoice,
     pub pricing: PricingChoice,
     pub block: BlockSize,
+    pub form: Form,
 }
 
 /// What an answer holds.

@@ -4,8 +4,8 @@
 //!
 //! It stands on all the crates below, and of `mcf_checker` on its definitions alone. It doesn't speak of the
 //! command line, which `mcf_suite` adds. Definitions stand in `specs/`: `ChosenSolutions` says which of several right
-//! answers is given, `Making` by which engine, `Answering` what is owed for a text, `Devices` and `Running` what a
-//! run from a source to a sink does.
+//! answers is given, `Making` by which engine, `Forms` in which form, `Answering` what is owed for a text, `Devices`
+//! and `Running` what a run from a source to a sink does.
 
 mod block_size;
 mod choice;
@@ -15,9 +15,10 @@ mod flow;
 mod running;
 mod set;
 mod solving;
+mod sparse;
 
 pub use block_size::BlockSize;
-pub use choice::{Choice, EngineChoice, Kind, PricingChoice};
+pub use choice::{Choice, EngineChoice, Form, Kind, PricingChoice};
 pub use device::{FromReader, IntoWriter, Sink, SinkFault, Source, SourceFault};
 pub use fault::RunFault;
 pub use running::{run, send};

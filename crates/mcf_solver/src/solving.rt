@@ -4,6 +4,7 @@ ghost use Rattle.mcf_checker.specs.Correct.{HasNoFlow};
 ghost use Rattle.mcf_network.specs.Removal.{net_of};
 ghost use Rattle.mcf_checker.specs.Judging.{accepts, verdict};
 ghost use Rattle.mcf_solver.specs.Answering.{AppendsAnswer, HasFault, IsOwed, LacksRoom, answer_kind};
+ghost use Rattle.mcf_solver.specs.Forms.{HasForm};
 ghost use Rattle.mcf_solver.specs.Making.{HasMadeFlow, IsMadeBy, IsMadeBySimplex, meant, suited};
 ghost use Rattle.mcf_solver.specs.Private.Shaping.{MadeFlowsAreShaped};
 ghost use Rattle.mcf_instance.specs.Fault.{header};
@@ -13,9 +14,10 @@ ghost use Rattle.mcf_instance.specs.Reading.{reading};
 ghost use Rattle.mcf_text.specs.Row.{rows};
 ghost use Rattle.std.specs.Prelude.{Ok};
 
-use crate::choice::{Choice, EngineChoice, Kind, Meant, PricingChoice};
+use crate::choice::{Choice, EngineChoice, Form, Kind, Meant, PricingChoice};
 use crate::flow::flow_answer;
 use crate::set::set_answer;
+use crate::sparse::sparse_answer;
 use mcf_answer::{Answer, write};
 use mcf_assign::Sap;
 use mcf_checker::correct_answers_are_accepted;
@@ -29,7 +31,8 @@ use std::alloc::Global;
 
 /// Appends the answer to an instance text: the first fault of the text; or a feasible flow that no feasible
 /// flow undercuts, with its cost and the greatest prices not above 0 that show it; or a node set that must
-/// send or take more than it can, so that no flow is feasible.
+/// send or take more than it can, so that no flow is feasible. A flow is written in the form that is chosen: in the
+/// second it names exactly the arcs whose flow isn't their low.
 ///
 /// The checker accepts that answer, whatever engine was chosen. Which of several least flows is given, and
 /// which of several blocking sets where the supplies add up to 0, depends on the engine: a flow is the one that
@@ -75,6 +78,7 @@ fn made_flows_are_shaped()
 fn answer_to(alloc: Global, input: &[u8], choice: Choice) -> Result<Answer, NoMemory>
     ensures owed { IfOk result (IsOwed (reading limits input.now)) }
     ensures made { IfOk result (HasMadeFlow (IsMadeBy choice) (reading limits input.now)) }
+    ensures formed { IfOk result (HasForm choice.form (reading limits input.now)) }
     ensures wants { OnErr result (1 ≤ (header (rows input.now)).nodes) }
 {
     let outcome = read(alloc, input)?;
@@ -105,6 +109,7 @@ fn answer_for(
 ) -> Result<Answer, NoMemory>
     ensures owed { IfOk result (IsOwed outcome) }
     ensures made { IfOk result (HasMadeFlow (IsMadeBy choice) outcome) }
+    ensures formed { IfOk result (HasForm choice.form outcome) }
     ensures wants { (input : List ℕ) → outcome ≡ reading limits input → OnErr result (1 ≤ (header (rows input)).nodes) }
 {
     match outcome {
@@ -117,13 +122,14 @@ fn answer_for(
 fn solve_instance(alloc: Global, instance: &Instance, choice: Choice) -> Result<Answer, NoMemory>
     ensures owed { IfOk result (IsOwed (Ok instance.now)) }
     ensures made { IfOk result (HasMadeFlow (IsMadeBy choice) (Ok instance.now)) }
+    ensures formed { IfOk result (HasForm choice.form (Ok instance.now)) }
     ensures wants { OnErr result (1 ≤ node_count instance.now) }
 {
     match engine_meant(choice.engine, instance.problem()) {
-        Meant::ByCancel => solve_by(alloc, instance, &mut Cancel::new()),
+        Meant::ByCancel => solve_by(alloc, instance, choice.form, &mut Cancel::new()),
         Meant::BySimplex => solve_by_simplex(alloc, instance, choice),
-        Meant::ByScaling => solve_by(alloc, instance, &mut Scaling::new()),
-        Meant::BySap => solve_by(alloc, instance, &mut Sap::new()),
+        Meant::ByScaling => solve_by(alloc, instance, choice.form, &mut Scaling::new()),
+        Meant::BySap => solve_by(alloc, instance, choice.form, &mut Sap::new()),
     }
 }
 
@@ -153,14 +159,15 @@ fn suited(problem: Problem) -> Meant
 fn solve_by_simplex(alloc: Global, instance: &Instance, choice: Choice) -> Result<Answer, NoMemory>
     ensures owed { IfOk result (IsOwed (Ok instance.now)) }
     ensures made { IfOk result (HasMadeFlow (IsMadeBySimplex choice.pricing choice.block) (Ok instance.now)) }
+    ensures formed { IfOk result (HasForm choice.form (Ok instance.now)) }
     ensures wants { OnErr result (1 ≤ node_count instance.now) }
 {
     match choice.pricing {
-        PricingChoice::First => solve_by(alloc, instance, &mut Simplex::new(First)),
-        PricingChoice::Best => solve_by(alloc, instance, &mut Simplex::new(Best)),
+        PricingChoice::First => solve_by(alloc, instance, choice.form, &mut Simplex::new(First)),
+        PricingChoice::Best => solve_by(alloc, instance, choice.form, &mut Simplex::new(Best)),
         PricingChoice::Block => {
             let rule = Block::new(choice.block.get());
-            solve_by(alloc, instance, &mut Simplex::new(rule))
+            solve_by(alloc, instance, choice.form, &mut Simplex::new(rule))
         }
     }
 }
@@ -169,19 +176,27 @@ fn solve_by_simplex(alloc: Global, instance: &Instance, choice: Choice) -> Resul
 fn solve_by<E: Engine>(
     alloc: Global,
     instance: &Instance,
+    form: Form,
     engine: &mut E,
 ) -> Result<Answer, NoMemory>
     requires { E.Takes (net_of instance.now) }
     ensures owed { IfOk result (IsOwed (Ok instance.now)) }
     ensures made { IfOk result (HasMadeFlow (λ g s. E.Made engine.old g s engine.new) (Ok instance.now)) }
+    ensures formed { IfOk result (HasForm form (Ok instance.now)) }
     ensures wants { OnErr result (1 ≤ node_count instance.now) }
 {
     let net = Net::of(alloc, instance)?;
     match engine.solve(alloc, &net)? {
-        Outcome::Least(state, prices) => {
-            let flow = flow_answer(alloc, instance, &state, prices)?;
-            Ok(Answer::Flow(flow))
-        }
+        Outcome::Least(state, prices) => match form {
+            Form::One => {
+                let flow = flow_answer(alloc, instance, &state, prices)?;
+                Ok(Answer::Flow(flow))
+            }
+            Form::Two => {
+                let flow = sparse_answer(alloc, instance, &state, prices)?;
+                Ok(Answer::Sparse(flow))
+            }
+        },
         Outcome::Blocked(set, side) => {
             let set = set_answer(alloc, instance, &net, &set, side)?;
             Ok(Answer::Blocked(set))

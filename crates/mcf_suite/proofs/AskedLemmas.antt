@@ -10,7 +10,7 @@ use Rattle.clap.specs.Words.{App, HasKind, Row, Text, fault_of, is_simple, is_si
 use Rattle.clap.specs.declared.error.Error.{Error}
 use Rattle.clap.specs.declared.error.kind.ErrorKind.TheVariants.{OutOfMemory}
 use Rattle.mcf_suite.specs.declared.asking.Asked.{Asked}
-use Rattle.mcf_suite.specs.Asking.{IsMcf, IsReading, block_in, block_parser, engine_names, mcf_app, pricing_names}
+use Rattle.mcf_suite.specs.Asking.{IsMcf, IsReading, block_in, block_parser, engine_names, form_names, mcf_app, pricing_names}
 
 -- some names that a parse may have read
 abbrev lent : List Text → Bor (List (Bor Text))
@@ -21,15 +21,17 @@ lent names = record {
 
 -- some command that a parse may have read
 unfoldable pub some_app : App
-some_app = mcf_app (lent engine_names) (lent pricing_names)
+some_app = mcf_app (lent engine_names) (lent pricing_names) (lent form_names)
 
 pub some_mcf : IsMcf some_app
 unfolding some_app
 some_mcf = record {
   engines = lent engine_names;
   pricings = lent pricing_names;
+  forms = lent form_names;
   engines_spelled = refl;
   pricings_spelled = refl;
+  forms_spelled = refl;
   reads = refl;
 }
 

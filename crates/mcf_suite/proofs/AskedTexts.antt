@@ -8,7 +8,9 @@ use Rattle.mcf_solver.specs.declared.choice.EngineChoice.{EngineChoice}
 use Rattle.mcf_solver.specs.declared.choice.EngineChoice.TheVariants.{Auto, Cancel, Scaling, Sap}
 use Rattle.mcf_solver.specs.declared.choice.PricingChoice.{PricingChoice}
 use Rattle.mcf_solver.specs.declared.choice.PricingChoice.TheVariants.{Best, Block}
-use Rattle.mcf_suite.specs.Asking.{block_by, engine_by, pricing_by}
+use Rattle.mcf_solver.specs.declared.choice.Form.{Form}
+use Rattle.mcf_solver.specs.declared.choice.Form.TheVariants.{One, Two}
+use Rattle.mcf_suite.specs.Asking.{block_by, engine_by, form_by, pricing_by}
 use Rattle.mcf_suite.proofs.AskedLemmas.{some_app}
 
 -- the name of the subcommand, the engine and the file
@@ -22,6 +24,11 @@ rule_asked_by : List Text → Option (PricingChoice × ℕ)
 unfolding some_app
 rule_asked_by words = option_map (λ p. (pricing_by (first_of (codes "pricing") p.1), block_by (first_of (codes "block") p.1)))
     (subcommand_of some_app words)
+
+-- the form of the answer
+form_asked_by : List Text → Option Form
+unfolding some_app
+form_asked_by words = option_map (λ p. form_by (first_of (codes "form") p.1)) (subcommand_of some_app words)
 
 with_neither : asked_by (codes "mcf" ∷ codes "solve" ∷ []) ≡ Some (codes "solve", Auto, None)
 unfolding clap_on_literals asked_by some_app
@@ -52,6 +59,18 @@ without_rule = refl
 with_rule : rule_asked_by (codes "mcf" ∷ codes "solve" ∷ codes "--block" ∷ codes "1000000" ∷ codes "--pricing=best" ∷ []) ≡ Some (Best, 1000000)
 unfolding clap_on_literals rule_asked_by some_app
 with_rule = refl
+
+without_form : form_asked_by (codes "mcf" ∷ codes "solve" ∷ codes "a.min" ∷ []) ≡ Some One
+unfolding clap_on_literals form_asked_by some_app
+without_form = refl
+
+with_form : form_asked_by (codes "mcf" ∷ codes "solve" ∷ codes "--form" ∷ codes "2" ∷ codes "a.min" ∷ []) ≡ Some Two
+unfolding clap_on_literals form_asked_by some_app
+with_form = refl
+
+no_form : fault_of some_app (codes "mcf" ∷ codes "solve" ∷ codes "--form=3" ∷ []) ≡ InvalidValue ∷ []
+unfolding clap_on_literals some_app
+no_form = refl
 
 taken : takes some_app (codes "mcf" ∷ codes "solve" ∷ codes "--engine" ∷ codes "cancel" ∷ codes "a.min" ∷ []) ≡ true
 unfolding clap_on_literals some_app

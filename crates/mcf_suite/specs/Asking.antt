@@ -17,6 +17,8 @@ use Rattle.mcf_solver.specs.declared.choice.EngineChoice.{EngineChoice}
 use Rattle.mcf_solver.specs.declared.choice.EngineChoice.TheVariants.{Auto, Cancel, Simplex, Scaling, Sap}
 use Rattle.mcf_solver.specs.declared.choice.PricingChoice.{PricingChoice}
 use Rattle.mcf_solver.specs.declared.choice.PricingChoice.TheVariants.{First, Best, Block}
+use Rattle.mcf_solver.specs.declared.choice.Form.{Form}
+use Rattle.mcf_solver.specs.declared.choice.Form.TheVariants.{One, Two}
 use Rattle.mcf_solver.specs.BlockSizes.{block_limit, default_block}
 
 -- the names of the engines, and what each asks for
@@ -33,6 +35,13 @@ pricing_words = (codes "first", First) ∷ (codes "best", Best) ∷ (codes "bloc
 
 abbrev pub pricing_names : List Text
 pricing_names = map (λ (row : Text × PricingChoice). row.0) pricing_words
+
+-- the names of the forms of an answer, and what each asks for
+abbrev pub form_words : List (Text × Form)
+form_words = (codes "1", One) ∷ (codes "2", Two) ∷ []
+
+abbrev pub form_names : List Text
+form_names = map (λ (row : Text × Form). row.0) form_words
 
 -- the option of a name, whose value is one of these words, and this one where it is left out
 abbrev pub word_rule : Text → Bor (List (Bor Text)) → Text → Rule
@@ -51,6 +60,10 @@ engine_rule names = word_rule (codes "engine") names (codes "auto")
 abbrev pub pricing_rule : Bor (List (Bor Text)) → Rule
 pricing_rule names = word_rule (codes "pricing") names (codes "block")
 
+-- `--form FORM`, one of these names, and `1` where it is left out
+abbrev pub form_rule : Bor (List (Bor Text)) → Rule
+form_rule names = word_rule (codes "form") names (codes "1")
+
 -- what `--block` takes: the digits of a number from 1 to 1,000,000
 abbrev pub block_parser : ValueParser
 block_parser = parser.Unsigned 1 block_limit
@@ -68,37 +81,45 @@ block_rule = record (new_rule (codes "block")) {
 abbrev pub file_rule : Rule
 file_rule = record (new_rule (codes "file")) { value_names = 1 }
 
--- the arguments of `solve`, with these names of engines and of pricing rules
-abbrev pub solve_rules : Bor (List (Bor Text)) → Bor (List (Bor Text)) → List Rule
-solve_rules engines pricings = engine_rule engines ∷ pricing_rule pricings ∷ block_rule ∷ file_rule ∷ []
+-- the rule is that of an option with some names, which are spelled so
+abbrev pub Offers : (Bor (List (Bor Text)) → Rule) → List Text → Rule → Type 0
+Offers rule_with spelled rule = (names : Bor (List (Bor Text))) × (texts names.now ≡ spelled) × (rule ≡ rule_with names)
 
--- `solve [--engine ENGINE] [--pricing RULE] [--block N] [FILE]`
-abbrev pub solve_shape : Bor (List (Bor Text)) → Bor (List (Bor Text)) → Shape
-solve_shape engines pricings = record (new_app (codes "solve")).top { rules = solve_rules engines pricings }
+-- the arguments of `solve`, with these names of engines, of pricing rules and of forms
+abbrev pub solve_rules : Bor (List (Bor Text)) → Bor (List (Bor Text)) → Bor (List (Bor Text)) → List Rule
+solve_rules engines pricings forms = engine_rule engines ∷ pricing_rule pricings ∷ block_rule ∷ form_rule forms ∷ file_rule ∷ []
+
+-- `solve [--engine ENGINE] [--pricing RULE] [--block N] [--form FORM] [FILE]`
+abbrev pub solve_shape : Bor (List (Bor Text)) → Bor (List (Bor Text)) → Bor (List (Bor Text)) → Shape
+solve_shape engines pricings forms = record (new_app (codes "solve")).top { rules = solve_rules engines pricings forms }
 
 -- `mcf`, which wants a subcommand
 abbrev pub mcf_top : App
 mcf_top = record { top = record (new_app (codes "mcf")).top { subcommand_required = true }; subs = [] }
 
 -- `mcf` with its one subcommand
-abbrev pub mcf_app : Bor (List (Bor Text)) → Bor (List (Bor Text)) → App
-mcf_app engines pricings = with_subcommand mcf_top (solve_shape engines pricings)
+abbrev pub mcf_app : Bor (List (Bor Text)) → Bor (List (Bor Text)) → Bor (List (Bor Text)) → App
+mcf_app engines pricings forms = with_subcommand mcf_top (solve_shape engines pricings forms)
 
 -- what a parse reads of the subcommand `solve`
 pub record IsSolve (shape : Shape) : Type 0 where
   pub engines : Bor (List (Bor Text))
   pub pricings : Bor (List (Bor Text))
+  pub forms : Bor (List (Bor Text))
   pub engines_spelled : texts engines.now ≡ engine_names
   pub pricings_spelled : texts pricings.now ≡ pricing_names
-  pub reads : shape ≡ solve_shape engines pricings
+  pub forms_spelled : texts forms.now ≡ form_names
+  pub reads : shape ≡ solve_shape engines pricings forms
 
 -- what a parse reads of the command `mcf`
 pub record IsMcf (app : App) : Type 0 where
   pub engines : Bor (List (Bor Text))
   pub pricings : Bor (List (Bor Text))
+  pub forms : Bor (List (Bor Text))
   pub engines_spelled : texts engines.now ≡ engine_names
   pub pricings_spelled : texts pricings.now ≡ pricing_names
-  pub reads : app ≡ mcf_app engines pricings
+  pub forms_spelled : texts forms.now ≡ form_names
+  pub reads : app ≡ mcf_app engines pricings forms
 
 -- a word was given, and it is this one
 abbrev pub is_given : Option Text → Text → Bool
@@ -116,6 +137,10 @@ engine_by name = choice_by engine_words Auto name
 abbrev pub pricing_by : Option Text → PricingChoice
 pricing_by name = choice_by pricing_words Block name
 
+-- the form of an answer that a name asks for
+abbrev pub form_by : Option Text → Form
+form_by name = choice_by form_words One name
+
 -- the number that a word writes, where `--block` takes the word
 abbrev pub block_in : Text → Option ℕ
 block_in word = if accepts false block_parser word then Some (digits_value 10 (without_leading_plus word)) else None
@@ -132,6 +157,7 @@ pub record Asks (app : App) (words : List Text) (asked : Asked) : Type 0 where
   pub engine : asked.choice.engine ≡ engine_by (first_of (codes "engine") rows)
   pub pricing : asked.choice.pricing ≡ pricing_by (first_of (codes "pricing") rows)
   pub block : asked.choice.block ≡ block_by (first_of (codes "block") rows)
+  pub form : asked.choice.form ≡ form_by (first_of (codes "form") rows)
   pub file : option_map (λ (f : Bor Text). f.now) asked.file ≡ first_of (codes "file") rows
 
 -- what is asked is what the matches hold; only memory may be wanting where the command takes the words; and

@@ -2,18 +2,19 @@
 ghost use Rattle.std.specs.Prelude.{◌≡◌, IfOk, false, map, option_map, true};
 ghost use Rattle.clap.specs.Words.{app_of, rule_of, shape_of};
 ghost use Rattle.clap.specs.declared.builder.command.Command.TheViews.{out-Command};
-ghost use Rattle.mcf_suite.specs.Asking.{IsMcf, IsReading, IsSolve, block_by, block_in, block_rule, engine_by, file_rule, pricing_by, word_rule};
+ghost use Rattle.mcf_suite.specs.Asking.{IsMcf, IsReading, IsSolve, Offers, block_by, block_in, block_rule, engine_by, engine_names, engine_rule, file_rule};
+ghost use Rattle.mcf_suite.specs.Asking.{form_by, form_names, form_rule, pricing_by, pricing_names, pricing_rule, word_rule};
 
 use clap::builder::ValueParser;
 use clap::{Arg, Command, Error};
-use mcf_solver::{BlockSize, Choice, EngineChoice, PricingChoice};
+use mcf_solver::{BlockSize, Choice, EngineChoice, Form, PricingChoice};
 use std::alloc::{AllocError, Global};
 use std::convert::AsStr;
 
 /// What the words of a command line ask.
 #[derive(Clone, Copy, Debug, PartialEq, Eq)]
 pub struct Asked<'a> {
-    /// How the instance is solved.
+    /// How the instance is solved and answered.
     pub choice: Choice,
     /// The file that has the instance; without one it is on standard input.
     pub file: Option<&'a str>,
@@ -24,6 +25,9 @@ static ENGINES: [&str; 5] = ["auto", "cancel", "simplex", "scaling", "sap"];
 
 // The names of the pricing rules.
 static RULES: [&str; 3] = ["first", "best", "block"];
+
+// The names of the forms of an answer.
+static FORMS: [&str; 2] = ["1", "2"];
 
 // When to choose what.
 static WHEN: &str = "\
@@ -41,11 +45,15 @@ Pricing rules of the simplex:
 
 Blocks of the simplex:
   256      the default
-  N        once to twice the square root of the number of arcs suits large instances, but for road maps";
+  N        once to twice the square root of the number of arcs suits large instances, but for road maps
+
+Forms of a flow:
+  1        a line for each arc, with its ends: the default
+  2        a line for each arc that doesn't carry its LOW, with its number: for instances of many arcs";
 
 /// Reads what the words of a command line ask:
-/// `mcf solve [--engine auto|cancel|simplex|scaling|sap] [--pricing first|best|block] [--block N] [FILE]`, where N
-/// is 1 to 1,000,000. What is left out is `auto`, `block` and 256.
+/// `mcf solve [--engine auto|cancel|simplex|scaling|sap] [--pricing first|best|block] [--block N] [--form 1|2] [FILE]`,
+/// where N is 1 to 1,000,000. What is left out is `auto`, `block`, 256 and 1.
 ///
 /// The words begin with the name of the program, which isn't read.
 ///
@@ -64,6 +72,7 @@ pub fn command<'a, W: AsStr>(alloc: Global, words: &'a [W]) -> Result<Asked<'a>,
             engine: engine_of(solve.get_str("engine")),
             pricing: pricing_of(solve.get_str("pricing")),
             block: block_of(solve.get_str("block")),
+            form: form_of(solve.get_str("form")),
         },
         file: solve.get_str("file"),
     })
@@ -86,18 +95,13 @@ fn solve<'a>(alloc: Global) -> Result<Command<'a>, AllocError>
     ensures shape { IfOk result (λ c. IsSolve (shape_of c)) }
     ensures local { IfOk result (λ c. (out-Command c).has_globals ≡ false) }
 {
-    let engine = word_option(alloc, "engine", "ENGINE", ENGINES.as_slice(), "auto").help(
-        "What solves the instance",
-    );
-    let pricing = word_option(alloc, "pricing", "RULE", RULES.as_slice(), "block").help(
-        "Which arc enters at a pivot of the simplex",
-    );
     Command::new(alloc, "solve")
         .about("Answers an instance in a DIMACS format")
         .after_help(WHEN)
-        .arg(engine)?
-        .arg(pricing)?
+        .arg(engine_option(alloc))?
+        .arg(pricing_option(alloc))?
         .arg(block_option(alloc))?
+        .arg(form_option(alloc))?
         .arg(file_argument(alloc))
 }
 
@@ -117,6 +121,36 @@ fn word_option<'a>(
         .value_name(value)
         .value_parser(words)
         .default_value(without)
+}
+
+// The option `--engine`.
+fn engine_option<'a>(alloc: Global) -> Arg<'a>
+    ensures rule { Offers engine_rule engine_names (rule_of result) }
+    ensures local { result.global ≡ false }
+{
+    word_option(alloc, "engine", "ENGINE", ENGINES.as_slice(), "auto").help(
+        "What solves the instance",
+    )
+}
+
+// The option `--pricing`.
+fn pricing_option<'a>(alloc: Global) -> Arg<'a>
+    ensures rule { Offers pricing_rule pricing_names (rule_of result) }
+    ensures local { result.global ≡ false }
+{
+    word_option(alloc, "pricing", "RULE", RULES.as_slice(), "block").help(
+        "Which arc enters at a pivot of the simplex",
+    )
+}
+
+// The option `--form`.
+fn form_option<'a>(alloc: Global) -> Arg<'a>
+    ensures rule { Offers form_rule form_names (rule_of result) }
+    ensures local { result.global ≡ false }
+{
+    word_option(alloc, "form", "FORM", FORMS.as_slice(), "1").help(
+        "In which form a flow is written",
+    )
 }
 
 // The option `--block`.
@@ -165,6 +199,17 @@ fn pricing_of(name: Option<&str>) -> PricingChoice
         Some("best") => PricingChoice::Best,
         Some("block") => PricingChoice::Block,
         _ => PricingChoice::Block,
+    }
+}
+
+// The form of an answer that a name asks for.
+fn form_of(name: Option<&str>) -> Form
+    ensures { result ≡ form_by (option_map (λ n. n.now) name.entry) }
+{
+    match name {
+        Some("1") => Form::One,
+        Some("2") => Form::Two,
+        _ => Form::One,
     }
 }
 

@@ -13,7 +13,7 @@ mod tests_serving;
 
 pub use asking::{Asked, command};
 pub use mcf_solver::{
-    BlockSize, Choice, EngineChoice, FromReader, IntoWriter, Kind, PricingChoice, RunFault, Sink,
-    SinkFault, Source, SourceFault, run, solve_text,
+    BlockSize, Choice, EngineChoice, Form, FromReader, IntoWriter, Kind, PricingChoice, RunFault,
+    Sink, SinkFault, Source, SourceFault, run, solve_text,
 };
 pub use serving::serve;

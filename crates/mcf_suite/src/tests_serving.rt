@@ -1,5 +1,5 @@
 //! Runs of the command `mcf`: its words, its statuses and its lines.
-use crate::{EngineChoice, FromReader, IntoWriter, PricingChoice, command, serve};
+use crate::{EngineChoice, Form, FromReader, IntoWriter, PricingChoice, command, serve};
 use clap::Error;
 use mcf_text::NoMemory;
 use std::alloc::Global;
@@ -97,15 +97,17 @@ struct Asking {
     engine: EngineChoice,
     pricing: PricingChoice,
     block: u32,
+    form: Form,
     file: Option<&'static str>,
 }
 
-static ASKED: [Asking; 8] = [
+static ASKED: [Asking; 10] = [
     Asking {
         words: &["mcf", "solve"],
         engine: EngineChoice::Auto,
         pricing: PricingChoice::Block,
         block: 256,
+        form: Form::One,
         file: None,
     },
     Asking {
@@ -113,6 +115,7 @@ static ASKED: [Asking; 8] = [
         engine: EngineChoice::Cancel,
         pricing: PricingChoice::Block,
         block: 256,
+        form: Form::One,
         file: Some("a.min"),
     },
     Asking {
@@ -120,6 +123,7 @@ static ASKED: [Asking; 8] = [
         engine: EngineChoice::Auto,
         pricing: PricingChoice::Block,
         block: 256,
+        form: Form::One,
         file: Some("b.min"),
     },
     Asking {
@@ -127,6 +131,7 @@ static ASKED: [Asking; 8] = [
         engine: EngineChoice::Scaling,
         pricing: PricingChoice::Block,
         block: 256,
+        form: Form::One,
         file: None,
     },
     Asking {
@@ -134,6 +139,7 @@ static ASKED: [Asking; 8] = [
         engine: EngineChoice::Sap,
         pricing: PricingChoice::Best,
         block: 256,
+        form: Form::One,
         file: None,
     },
     Asking {
@@ -151,6 +157,7 @@ static ASKED: [Asking; 8] = [
         engine: EngineChoice::Simplex,
         pricing: PricingChoice::Block,
         block: 1,
+        form: Form::One,
         file: Some("c.min"),
     },
     Asking {
@@ -158,6 +165,7 @@ static ASKED: [Asking; 8] = [
         engine: EngineChoice::Auto,
         pricing: PricingChoice::First,
         block: 1_000_000,
+        form: Form::One,
         file: None,
     },
     Asking {
@@ -165,7 +173,24 @@ static ASKED: [Asking; 8] = [
         engine: EngineChoice::Auto,
         pricing: PricingChoice::Block,
         block: 16,
+        form: Form::One,
         file: Some("d.min"),
+    },
+    Asking {
+        words: &["mcf", "solve", "--form", "1"],
+        engine: EngineChoice::Auto,
+        pricing: PricingChoice::Block,
+        block: 256,
+        form: Form::One,
+        file: None,
+    },
+    Asking {
+        words: &["mcf", "solve", "e.min", "--form=2", "--engine=scaling"],
+        engine: EngineChoice::Scaling,
+        pricing: PricingChoice::Block,
+        block: 256,
+        form: Form::Two,
+        file: Some("e.min"),
     },
 ];
 
@@ -177,6 +202,7 @@ fn asks(alloc: Global, asking: &Asking) -> Result<bool, Error> {
         choice.engine == asking.engine
             && choice.pricing == asking.pricing
             && choice.block.get() == asking.block
+            && choice.form == asking.form
             && asked.file == asking.file,
     )
 }
@@ -276,7 +302,7 @@ fn refusals(rt: HostRuntime) -> Result<(), Fail> {
 }
 
 // Words that ask for an answer, and whether they name a file.
-static SOLVING: [(Words, bool); 15] = [
+static SOLVING: [(Words, bool); 16] = [
     (&["mcf", "solve", "--engine", "auto"], false),
     (&["mcf", "solve", "--engine", "simplex"], false),
     (&["mcf", "solve", "--engine", "scaling"], false),
@@ -288,6 +314,7 @@ static SOLVING: [(Words, bool); 15] = [
         false,
     ),
     (&["mcf", "solve", "--block", "2", "a"], true),
+    (&["mcf", "solve", "--form", "1", "a"], true),
     (
         &["mcf", "solve", "--block=1000000", "--engine=simplex"],
         false,
@@ -320,7 +347,7 @@ fn words_that_ask_for_an_answer(rt: HostRuntime) -> Result<(), Fail> {
 }
 
 // Words that aren't a command, and what the text that says so names.
-static NO_COMMAND: [(Words, &str); 18] = [
+static NO_COMMAND: [(Words, &str); 20] = [
     (&[], ""),
     (&["mcf"], "subcommand"),
     (&["mcf", "dance"], "dance"),
@@ -341,6 +368,8 @@ static NO_COMMAND: [(Words, &str); 18] = [
         &["mcf", "solve", "--engine", "auto", "--engine", "auto"],
         "--engine",
     ),
+    (&["mcf", "solve", "--form", "3"], "--form"),
+    (&["mcf", "solve", "--form", "two"], "two"),
     (&["mcf", "solve", "a", "--dance"], "--dance"),
 ];
 
@@ -359,7 +388,7 @@ fn words_that_are_refused(rt: HostRuntime) -> Result<(), Fail> {
 }
 
 // Words that ask for help, and a part of it.
-static HELP: [(Words, &str); 24] = [
+static HELP: [(Words, &str); 28] = [
     (&["mcf", "--help"], "solve"),
     (&["mcf", "-h"], "solve"),
     (&["mcf", "help"], "solve"),
@@ -388,6 +417,10 @@ static HELP: [(Words, &str); 24] = [
         &["mcf", "solve", "--help"],
         "twice the square root of the number of arcs",
     ),
+    (&["mcf", "solve", "-h"], "--form <FORM>"),
+    (&["mcf", "solve", "--help"], "[default: 1]"),
+    (&["mcf", "solve", "--help"], "\n  1        "),
+    (&["mcf", "solve", "--help"], "\n  2        "),
     (&["mcf", "solve", "-h"], "[FILE]"),
     (&["mcf", "solve", "a", "--help"], "[FILE]"),
 ];

@@ -44,7 +44,7 @@ loop-i-preserved c =
     }
 
 pub returns-clause-small : goal.returns-clause-small
-returns-clause-small c = carried_small _ _ _ _ _ c.arc_count-count.ensures.well_formed c.requires c.loop-i.invariant
+returns-clause-small c = carried_small _ _ _ _ c.arc_count-count.ensures.well_formed c.requires c.loop-i.invariant.cost_is
 
 pub returns-clause-flow : goal.returns-clause-flow
 returns-clause-flow c =

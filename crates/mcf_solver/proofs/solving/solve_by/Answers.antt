@@ -8,8 +8,14 @@ returns-in_err-state-clause-wants g c =
     let some : 1 ≤ node_count c.args.instance.now = net_nodes c.args.instance.now c.in_ok-net.net c.in_ok-net.ensures.value c.in_err-state.ensures.wants in
     search rules
 
-pub returns-in_err-flow-in-Least-clause-wants : goal.returns-in_err-flow-in-Least-clause-wants
-returns-in_err-flow-in-Least-clause-wants g c =
+pub returns-in_err-flow-in-One-clause-wants : goal.returns-in_err-flow-in-One-clause-wants
+returns-in_err-flow-in-One-clause-wants g c =
     let some : 1 ≤ node_count c.args.instance.now =
-    arcs_have_nodes c.args.instance.now c.in_ok-net.net c.in_ok-net.ensures.value c.in_ok-net.ensures.of_net c.in_err-flow-in-Least.ensures.wants in
+    arcs_have_nodes c.args.instance.now c.in_ok-net.net c.in_ok-net.ensures.value c.in_ok-net.ensures.of_net c.in_err-flow-in-One.ensures.wants in
+    search rules
+
+pub returns-in_err-flow-in-Two-clause-wants : goal.returns-in_err-flow-in-Two-clause-wants
+returns-in_err-flow-in-Two-clause-wants g c =
+    let some : 1 ≤ node_count c.args.instance.now =
+    arcs_have_nodes c.args.instance.now c.in_ok-net.net c.in_ok-net.ensures.value c.in_ok-net.ensures.of_net c.in_err-flow-in-Two.ensures.wants in
     search rules

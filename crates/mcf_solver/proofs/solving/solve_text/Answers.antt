@@ -30,6 +30,7 @@ returns-clause-answer c =
         owed = c.in_ok-answer.ensures.owed;
         made = c.in_ok-answer.ensures.made;
         shaped = c.made_flows_are_shaped.ensures c.args.choice _ answer c.in_ok-answer.ensures.made;
+        formed = c.in_ok-answer.ensures.formed;
         is_kind = c.answer_kind.ensures;
         correct = correct;
         accepted = accepted;

@@ -1,7 +1,7 @@
 use Rattle.std.proofs.Common.{◌∙◌, ap, codes, inl, map, subst, sym}
 use Rattle.clap.proofs.WalkLemmas.{first_value-rows}
 use Rattle.clap.specs.Words.{HasKind, app_of, fault_of, found_of, kind_of}
-use Rattle.mcf_suite.specs.Asking.{block_by, engine_by, pricing_by}
+use Rattle.mcf_suite.specs.Asking.{block_by, engine_by, form_by, pricing_by}
 use Rattle.mcf_suite.proofs.AskedLemmas.{mcf_is_free, mcf_is_simple, named_rows, refused, some_app, some_mcf}
 use Rattle.mcf_suite.proofs.asking.command.Goals as goal
 
@@ -34,7 +34,8 @@ returns g c =
         engine = c.engine_of.ensures ∙ ap engine_by (c.get_str.ensures ∙ first_value-rows found (codes "engine"));
         pricing = c.pricing_of.ensures ∙ ap pricing_by (c.get_str-2.ensures ∙ first_value-rows found (codes "pricing"));
         block = c.block_of.ensures ∙ ap block_by (c.get_str-3.ensures ∙ first_value-rows found (codes "block"));
-        file = c.get_str-4.ensures ∙ first_value-rows found (codes "file");
+        form = c.form_of.ensures ∙ ap form_by (c.get_str-4.ensures ∙ first_value-rows found (codes "form"));
+        file = c.get_str-5.ensures ∙ first_value-rows found (codes "file");
       };
       taken = tt;
       faults = c.in_ok-matches.ensures.kinds (mcf_is_free _ is_mcf);

@@ -1,0 +1,106 @@
+//! The answer of the second form for a least state.
+ghost use Rattle.std.specs.Prelude.{◌≡◌, ◌≤◌, ◌++◌, [], IfOk, OnErr, OnOk, length};
+ghost use Rattle.std.specs.List.{cons_option};
+ghost use Rattle.std.specs.Ordering.{int_eq};
+ghost use Rattle.mcf_answer.specs.Ranges.{IsAmount};
+ghost use Rattle.mcf_checker.specs.Correct.{spread};
+ghost use Rattle.mcf_instance.specs.Flow.{IsWithinBounds, cost};
+ghost use Rattle.mcf_instance.specs.Limits.{limits};
+ghost use Rattle.mcf_instance.specs.WellFormed.{IsWellFormed};
+ghost use Rattle.mcf_network.specs.Removal.{net_of};
+ghost use Rattle.mcf_network.specs.Restoring.{restored};
+ghost use Rattle.mcf_prices.specs.Outcomes.{AreStatePrices, IsLeastState};
+ghost use Rattle.mcf_solver.specs.Answering.{IsLeastSparse};
+ghost use Rattle.mcf_solver.specs.Forms.{moved_arc, moved_of};
+ghost use Rattle.mcf_solver.specs.Private.MovedArcs.{AreMovedOf};
+
+use mcf_answer::{MovedList, PriceList, SparseAnswer};
+use mcf_instance::{Arc, Instance};
+use mcf_network::{State, greatest_prices_carry_over, restore, restored_least_flows_are_least};
+use mcf_prices::greatest_prices_are_small;
+use mcf_text::{ArcId, NoMemory};
+use std::alloc::Global;
+
+/// The answer of the second form for a least state of the net of an instance, with its prices: the arcs that don't
+/// carry their low, the flow's cost, and the prices, which show the flow as they show the state.
+///
+/// # Errors
+///
+/// Want of memory; an instance without arcs wants none.
+pub(crate) fn sparse_answer(
+    alloc: Global,
+    instance: &Instance,
+    state: &State<'_>,
+    prices: Vec<i128>,
+) -> Result<SparseAnswer, NoMemory>
+    requires least { IsLeastState (net_of instance.now) state.now }
+    requires shown { AreStatePrices (net_of instance.now) state.now prices.items }
+    ensures solution { IfOk result (IsLeastSparse instance.now) }
+    ensures restores { IfOk result (λ a. spread instance.now.arcs a.moved ≡ restored instance.now.arcs state.now.amounts) }
+    ensures listed { IfOk result (λ a. a.moved ≡ moved_of instance.now.arcs (spread instance.now.arcs a.moved)) }
+    ensures wants { OnErr result (1 ≤ length instance.now.arcs) }
+{
+    restored_least_flows_are_least();
+    greatest_prices_carry_over();
+    greatest_prices_are_small();
+    let flow = restore(alloc, instance, state)?;
+    let stated = stated_along(alloc, instance, &flow)?;
+    Ok(SparseAnswer {
+        cost: stated.cost,
+        moved: MovedList::new(stated.moved),
+        prices: PriceList::new(prices),
+    })
+}
+
+// What a flow costs, and the arcs that don't carry their low, each with what it carries, ascending.
+#[derive(Drop)]
+struct StatedFlow {
+    cost: i128,
+    moved: Vec<(ArcId, i128)>,
+}
+
+// The cost of a flow and the arcs that don't carry their low, in one pass over the arcs.
+fn stated_along(alloc: Global, instance: &Instance, flow: &[i128]) -> Result<StatedFlow, NoMemory>
+    requires { IsWithinBounds instance.now.arcs flow.now }
+    ensures value { IfOk result (λ made. made.cost ≡ cost instance.now.arcs flow.now) }
+    ensures small { IfOk result (λ made. IsAmount made.cost) }
+    ensures moved { IfOk result (λ made. made.moved.items ≡ moved_of instance.now.arcs flow.now) }
+    ensures are_moved { IfOk result (λ made. AreMovedOf instance.now made.moved.items) }
+    ensures well_formed { IsWellFormed limits instance.now }
+    ensures wants { OnErr result (1 ≤ length instance.now.arcs) }
+{
+    let count = instance.arc_count();
+    let mut total = 0;
+    let mut moved = Vec::new(alloc);
+    for i in 0..count {
+        let number = ArcId::at(i);
+        let arc = instance.arc(number);
+        let amount = flow[i as usize];
+        total += arc.cost * amount;
+        add_moved(&mut moved, number, &arc, amount)?;
+    }
+    Ok(StatedFlow { cost: total, moved })
+}
+
+// Appends an arc by its number with what it carries, unless that is its low.
+fn add_moved(
+    moved: &mut Vec<(ArcId, i128)>,
+    number: ArcId,
+    arc: &Arc,
+    amount: i128,
+) -> Result<(), NoMemory>
+    ensures { OnOk result (moved.new.items ≡ moved.old.items ++ cons_option (moved_arc (number, (arc.now, amount))) []) }
+{
+    if carries_low(arc, amount) {
+        return Ok(());
+    }
+    moved.push((number, amount))?;
+    Ok(())
+}
+
+// Whether an arc carries its low.
+fn carries_low(arc: &Arc, amount: i128) -> bool
+    ensures { result ≡ int_eq amount arc.now.low }
+{
+    amount == arc.low
+}
