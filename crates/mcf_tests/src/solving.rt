@@ -4,7 +4,7 @@
 //! assertions, or one that makes its rows, takes long to prove.
 use crate::instances::of_greatest_total;
 use mcf_checker::{Verdict, check};
-use mcf_solver::{BlockSize, Choice, EngineChoice, Kind, PricingChoice, solve_text};
+use mcf_solver::{BlockSize, Choice, EngineChoice, Form, Kind, PricingChoice, solve_text};
 use mcf_text::NoMemory;
 use std::alloc::Global;
 use std::test::Fail;
@@ -77,6 +77,7 @@ fn choice_of(way: &Way) -> Option<Choice> {
         engine: way.engine,
         pricing: way.pricing,
         block,
+        form: Form::One,
     })
 }
 
@@ -105,7 +106,7 @@ fn sizes_of_blocks(rt: HostRuntime) -> Result<(), Fail> {
     }
     let choice = Choice::default();
     assert!(rt; choice.engine == EngineChoice::Auto && choice.pricing == PricingChoice::Block);
-    assert!(rt; choice.block.get() == 256);
+    assert!(rt; choice.block.get() == 256 && choice.form == Form::One);
     Ok(())
 }
 
@@ -282,6 +283,40 @@ static GREATEST: [Worked; 8] = [
     },
 ];
 
+// Answers of the second form; those without a flow have one form.
+static SPARSE: [Worked; 6] = [
+    Worked {
+        kind: Kind::Flow,
+        instance: "p min 4 5\nn 1 4\nn 4 -4\na 1 2 0 4 2\na 1 3 0 2 2\na 2 3 0 2 1\na 2 4 0 3 3\na 3 4 0 5 1\n",
+        answer: "v 2\ns 14\ng 1 2\ng 2 2\ng 3 2\ng 5 4\ny 1 0\ny 2 -2\ny 3 -3\ny 4 -4\n",
+    },
+    Worked {
+        kind: Kind::Flow,
+        instance: "p min 0 0\n",
+        answer: "v 2\ns 0\n",
+    },
+    Worked {
+        kind: Kind::Blocked,
+        instance: "p min 2 1\nn 1 3\nn 2 -3\na 1 2 0 2 1\n",
+        answer: "i 1 send\nx 1\n",
+    },
+    Worked {
+        kind: Kind::Flow,
+        instance: "p min 1 1\na 1 1 0 7 -3\n",
+        answer: "v 2\ns -21\ng 1 7\ny 1 0\n",
+    },
+    Worked {
+        kind: Kind::Flow,
+        instance: "p min 3 3\nn 1 5\nn 3 -5\na 1 2 2 10 3\na 2 3 0 10 1\na 1 3 0 10 2\n",
+        answer: "v 2\ns 14\ng 2 2\ng 3 3\ny 1 0\ny 2 -1\ny 3 -2\n",
+    },
+    Worked {
+        kind: Kind::Flow,
+        instance: "p min 2 1\na 1 2 -1 5 1\n",
+        answer: "v 2\ns 0\ng 1 0\ny 1 0\ny 2 -1\n",
+    },
+];
+
 /// What is written of an instance by an engine, after bytes that were there.
 pub fn answered(
     alloc: Global,
@@ -309,11 +344,24 @@ fn answered_by(
     Ok((kind, out))
 }
 
-// Whether an instance is answered so by a choice, after bytes that were there.
+// The same choice, with the second form of a flow.
+fn with_second_form(choice: Choice) -> Choice {
+    Choice {
+        form: Form::Two,
+        ..choice
+    }
+}
+
+// Whether an instance is answered so by a choice of a way, after bytes that were there.
 fn is_answered(alloc: Global, worked: &Worked, way: &Way) -> Result<bool, NoMemory> {
     let Some(choice) = choice_of(way) else {
         return Ok(false);
     };
+    is_answered_by(alloc, worked, choice)
+}
+
+// Whether an instance is answered so by a choice, after bytes that were there.
+fn is_answered_by(alloc: Global, worked: &Worked, choice: Choice) -> Result<bool, NoMemory> {
     let before = b"kept\n".as_slice();
     let (kind, out) = answered_by(alloc, before, worked.instance.as_bytes(), choice)?;
     let answer = out.strip_prefix(before);
@@ -327,6 +375,41 @@ fn is_accepted(alloc: Global, worked: &Worked) -> Result<bool, NoMemory> {
         verdict,
         Verdict::Flow(_) | Verdict::Blocked(_) | Verdict::Refused(_)
     ))
+}
+
+// Whether it is answered so by each choice with the second form.
+fn is_sparse(alloc: Global, worked: &Worked) -> Result<bool, NoMemory> {
+    for way in &WAYS {
+        let Some(choice) = choice_of(way) else {
+            return Ok(false);
+        };
+        if !is_answered_by(alloc, worked, with_second_form(choice))? {
+            return Ok(false);
+        }
+    }
+    is_accepted(alloc, worked)
+}
+
+// Whether the checker says of the answer with the second form, by a way, what it says of the answer that is given.
+fn is_accepted_alike(alloc: Global, worked: &Worked, way: &Way) -> Result<bool, NoMemory> {
+    let Some(choice) = choice_of(way) else {
+        return Ok(false);
+    };
+    let instance = worked.instance.as_bytes();
+    let (kind, out) = answered_by(alloc, b"", instance, with_second_form(choice))?;
+    let first = check(alloc, instance, worked.answer.as_bytes())?;
+    let second = check(alloc, instance, &out)?;
+    Ok(kind == worked.kind && first == second)
+}
+
+// Whether that is so by each way.
+fn is_alike(alloc: Global, worked: &Worked) -> Result<bool, NoMemory> {
+    for way in &WAYS {
+        if !is_accepted_alike(alloc, worked, way)? {
+            return Ok(false);
+        }
+    }
+    Ok(true)
 }
 
 // Whether it is answered so by each choice, and the checker accepts it.
@@ -352,6 +435,26 @@ fn worked_instances(rt: HostRuntime) -> Result<(), Fail> {
 fn the_greatest_numbers(rt: HostRuntime) -> Result<(), Fail> {
     for worked in &GREATEST {
         assert!(rt; is_right(rt.alloc(), worked)?, "at {}", worked.instance);
+    }
+    Ok(())
+}
+
+// Answers of the second form, and that of each worked instance is accepted as its first form is.
+#[test]
+fn answers_of_the_second_form(rt: HostRuntime) -> Result<(), Fail> {
+    for worked in &SPARSE {
+        assert!(rt; is_sparse(rt.alloc(), worked)?, "at {}", worked.instance);
+    }
+    for worked in &WORKED {
+        assert!(rt; is_alike(rt.alloc(), worked)?, "at {}", worked.instance);
+    }
+    Ok(())
+}
+
+#[test]
+fn the_greatest_numbers_in_the_second_form(rt: HostRuntime) -> Result<(), Fail> {
+    for worked in &GREATEST {
+        assert!(rt; is_alike(rt.alloc(), worked)?, "at {}", worked.instance);
     }
     Ok(())
 }
