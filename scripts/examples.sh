@@ -51,13 +51,13 @@ accepts() {
 
 # `mcf` with these words, whose standard input is a file, writes the bytes of an answer, and says nothing else.
 answers() {
-    answer=$1
+    expected=$1
     input=$2
     shift 2
     bin/mcf "$@" < "$input" > "$written" 2> "$written.err"
     status=$?
-    [ "$status" -eq "$(status_of "$(head -n 1 "$answer")")" ] && cmp -s "$written" "$answer" && [ ! -s "$written.err" ] ||
-        report "mcf $* with input $input: status $status, and not the bytes of $answer alone"
+    [ "$status" -eq "$(status_of "$(head -n 1 "$expected")")" ] && cmp -s "$written" "$expected" && [ ! -s "$written.err" ] ||
+        report "mcf $* with input $input: status $status, and not the bytes of $expected alone"
 }
 
 # What `mcf` answers in the second form `mcfcheck` accepts as it does the answer of a file.
