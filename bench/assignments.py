@@ -1,7 +1,8 @@
 """The part `assign` of run.py: `mcf solve --engine sap` beside dlib and LEMON, as whole processes.
 
 Dense instances, of uniform costs and of costs (i * j) mod 101, are solved beside dlib's assignment, sparse ones of
-8 arcs a row beside LEMON's network simplex. Printed are the least seconds of a processor of several runs. A peer
+8 arcs a row beside LEMON's network simplex. The answer has the second form, which names the arcs that carry something; the peers write the
+cost alone. Printed are the least seconds of a processor of several runs. A peer
 whose library isn't there is skipped with a word, and so is the whole part where the program has no engine `sap`.
 """
 import os
@@ -73,7 +74,7 @@ def build(source, libraries):
 
 
 def timed(command):
-    """The first line that a program writes, and the seconds of a processor that it takes, those of the kernel included."""
+    """The line of the cost that a program writes, and the seconds of a processor that it takes, those of the kernel included."""
     with tempfile.TemporaryFile("w+") as out:
         process = subprocess.Popen(command, stdout=out)
         _, status, usage = os.wait4(process.pid, 0)
@@ -81,7 +82,7 @@ def timed(command):
         if status:
             sys.exit(f"{command[0]} ended with status {process.returncode}")
         out.seek(0)
-        return out.readline().rstrip("\n"), usage.ru_utime + usage.ru_stime
+        return next((line.rstrip("\n") for line in out if line.startswith("s ")), None), usage.ru_utime + usage.ru_stime
 
 
 def compare(ours, peer, runs):
@@ -115,7 +116,7 @@ def measure(words, engine="sap"):
             for rows in sizes:
                 path = write(OUT / f"assign-{name}-{rows}.asn", rows, arcs(rows))
                 ours, peers = compare(
-                    [str(PROGRAM), "solve", "--engine", engine, str(path)], [str(peer), str(path)], runs
+                    [str(PROGRAM), "solve", "--engine", engine, "--form", "2", str(path)], [str(peer), str(path)], runs
                 )
                 print(f"assign {name} {rows}: ours {ours:.4f} s, {library} {peers:.4f} s, ratio {ours / peers:.2f}")
                 within = within and ours / peers <= limit
