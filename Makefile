@@ -12,9 +12,10 @@ all:
 	@scripts/build.py
 	@scripts/examples.sh
 
-# First, whether docs/ and the spec files say the same.
+# First, whether docs/ says what the spec files say, and which edits there are.
 test:
 	@scripts/definitions.py check
+	@scripts/edits.py check
 	rt ci
 
 bench:

@@ -21,6 +21,8 @@ PART
             then the whole processes, `mcf` and a program by LEMON that read a file, solve it and write the answer
   solve     solves an instance in which nothing is worth moving, without the seconds of its engine, beside a
             program that reads, copies and writes the same
+  table     solves instances of all families and sizes by each engine, beside LEMON's network simplex and cost scaling and
+            dlib's assignment, as whole processes with the peak of their memory; prints a table, which no limit judges
   text      splits a text of lines into fields and reads each field as a number
   tree      swaps arcs of a spanning tree at random, in trees of rising size
 
@@ -45,6 +47,7 @@ import typing
 import assignments
 import pieces
 import processes
+import table
 
 BENCH = pathlib.Path(__file__).resolve().parent
 OUT = BENCH / "out"
@@ -167,6 +170,8 @@ PARTS = {
 REPEATED = {"feasible", "net", "raise", "recover"}
 # the parts that have LEMON for a peer: the word by which its driver knows the algorithm, and the greatest ratio
 LEMON = {"scaling": ("cs", 9), "simplex": ("ns", 2.5)}
+# the parts that have modules of their own
+WHOLE = ("assign", "pieces", "table")
 # the parts that have no other
 LEMON_ALONE = {"simplex"}
 # the seconds that are left out beside a peer of our own
@@ -182,6 +187,14 @@ def has_lemon():
     """Whether there is a compiler that finds LEMON."""
     asked = ["g++", "-fsyntax-only", "-include", "lemon/cost_scaling.h", "-x", "c++", os.devnull]
     return bool(shutil.which("g++")) and subprocess.run(asked, capture_output=True).returncode == 0
+
+
+def lemon_program():
+    """Builds the program by LEMON."""
+    program = OUT / "lemon-peer"
+    source = BENCH / "peers" / "lemon_mcf.cc"
+    subprocess.run(["g++", "-O3", "-DNDEBUG", "-o", str(program), str(source), "-llemon"], check=True)
+    return program
 
 
 class Peer(typing.NamedTuple):
@@ -211,11 +224,8 @@ def peers_of(part, limit):
     if part in LEMON and not has_lemon():
         print(f"{part}: LEMON is left out, as it isn't there (liblemon-dev)")
     elif part in LEMON:
-        program = OUT / "lemon-peer"
-        source = BENCH / "peers" / "lemon_mcf.cc"
-        subprocess.run(["g++", "-O3", "-DNDEBUG", "-o", str(program), str(source), "-llemon"], check=True)
         word, most = LEMON[part]
-        peers.append(Peer("LEMON", [str(program), word], most))
+        peers.append(Peer("LEMON", [str(lemon_program()), word], most))
     return peers
 
 
@@ -264,6 +274,8 @@ def measure(part, words):
         return assignments.measure(words)
     if part == "pieces":
         return pieces.measure(words)
+    if part == "table":
+        return table.measure(words, lemon_program() if has_lemon() else None, family_file)
     maker, limit = PARTS[part]
     peers = peers_of(part, limit)
     if not peers:
@@ -308,7 +320,7 @@ def net_bytes(name, program, paths):
 
 def main():
     parser = argparse.ArgumentParser(description="compares parts of the suite with peers")
-    parser.add_argument("parts", nargs="*", choices=[[], *sorted([*PARTS, "assign", "pieces"])], metavar="PART")
+    parser.add_argument("parts", nargs="*", choices=[[], *sorted([*PARTS, *WHOLE])], metavar="PART")
     parser.add_argument("--runs", type=int, default=9)
     parser.add_argument("--nodes", type=int)
     parser.add_argument("--built", action="store_true")
@@ -316,7 +328,7 @@ def main():
     OUT.mkdir(exist_ok=True)
     if not words.built:
         build_program()
-    above = [part for part in words.parts or sorted([*PARTS, "assign", "pieces"]) if not measure(part, words)]
+    above = [part for part in words.parts or sorted([*PARTS, *WHOLE]) if not measure(part, words)]
     if above:
         sys.exit(f"above its limit: {', '.join(above)}")
 

@@ -2,9 +2,10 @@
 """Proves the crates that the programs stand on, and builds the programs into bin/.
 
 Crates that don't stand on one another are proved at the same time, as many as processors and memory allow, those with the longest chain above
-them first. One line says which are at work and how many are left. A check keeps others out of its crate and of all below it, so that each has a
-copy of these to itself, by links, in bin/proofs/; what it keeps is then put where it belongs. `rt run` builds each program and runs it on an
-example; it is the judge, and looks for itself at what has changed: where nothing has since the last time, nothing but it is called.
+them first; the first of all may take every processor, and the others run beside it at a lower priority. One line says which are at work and how
+many are left. A check keeps others out of its crate and of all below it, so that each has a copy of these to itself, by links, in bin/proofs/;
+what it keeps is then put where it belongs. `rt run` builds each program in such a copy and runs it on an example. It is the judge, and looks for
+itself at what has changed: where nothing has since the last time, nothing but it is called.
 
 Usage: scripts/build.py [PROGRAM ..]      all programs that crates.txt lists, where none is named
 """
@@ -19,11 +20,13 @@ import time
 TOP = pathlib.Path(__file__).resolve().parent.parent
 BIN = TOP / "bin"
 COPIES = BIN / "proofs"
-# The words of one run of each program that ends with status 0.
+# The words of one run of each program that ends with status 0, from its folder.
 EXAMPLE = "../../examples/transport"
 WORDS = {"mcfcheck": [EXAMPLE + ".min", EXAMPLE + ".ans"], "mcf": ["solve", EXAMPLE + ".min"]}
 # What one check may take, in kilobytes.
 CHECK_MEMORY = 4 << 20
+# How much nicer a check is than the one with the longest chain above it.
+BESIDE = 5
 
 
 def crates():
@@ -108,21 +111,24 @@ def linked(folder, copy):
 
 
 def copied(below, name):
-    """A copy of a crate and of those below it, with what their checks kept. Answers the crate's folder there."""
+    """A copy of a crate with what its checks kept, and of the libraries below it as they are built. Answers the crate's folder there."""
     copy, needed = COPIES / name, closure(below, [name])
     for crate in needed:
-        for part in ("src", "specs", "proofs", "out"):
+        for part in ("src", "specs", "proofs", "out" if crate == name else "out/rlib"):
             linked(TOP / "crates" / crate / part, copy / "crates" / crate / part)
+    if name in WORDS:
+        linked(TOP / "examples", copy / "examples")
     lines = (TOP / "crates.txt").read_text().splitlines(keepends=True)
     (copy / "crates.txt").write_text("".join(line for line in lines if line.split(":")[0].strip() in needed))
     return copy / "crates" / name
 
 
-def begin(below, name, jobs):
-    """Begins the proof of a crate; its log is in bin/. A library is built with it, so that no crate above has to build it again."""
+def begin(below, name, jobs, nicer):
+    """Begins the proof of a crate; its log is in bin/. A library is built with it, so that no crate above has to build it again, and so is a program."""
     log = open(BIN / f"{name}.log", "w")
-    words = ["rt", "check" if name in WORDS else "lib", "--jobs", str(jobs)]
-    return subprocess.Popen(words, cwd=copied(below, name), stdout=log, stderr=subprocess.STDOUT)
+    words = ["rt", "run" if name in WORDS else "lib", "--jobs", str(jobs)] + (["--", *WORDS[name]] if name in WORDS else [])
+    folder = copied(below, name)
+    return subprocess.Popen(words, cwd=folder, stdout=log, stderr=subprocess.STDOUT, preexec_fn=lambda: os.nice(nicer))
 
 
 def end(name):
@@ -135,13 +141,15 @@ def prove(below, names, progress):
     """Proves crates, each after those on which it stands. Answers the crate that isn't proved, if there is one."""
     rank, left, running = heights(below, names), set(names), {}
     room = places()
+    jobs = min(room, 8)
     while left or running:
         unproved = left | running.keys()
         ready = sorted((n for n in left if unproved.isdisjoint(below[n])), key=lambda n: -rank[n])
         begins = ready[: room - len(running)]
         for name in begins:
             left.remove(name)
-            running[name] = begin(below, name, max(2, room // (len(running) + len(begins))) if room > 1 else 1)
+            is_first = all(rank[other] <= rank[name] for other in running)
+            running[name] = begin(below, name, jobs if is_first else max(1, jobs // 2), 0 if is_first else BESIDE)
         if begins:
             progress.show(f"proving {', '.join(sorted(running))}; {len(left)} more wait")
         time.sleep(0.2)
@@ -155,7 +163,7 @@ def prove(below, names, progress):
 
 
 def run(name):
-    """Builds a program and runs it on an example. Answers whether both were done."""
+    """Runs a program on an example, and builds it first where that has to be. Answers whether both were done."""
     with open(BIN / f"{name}.log", "w") as log:
         words = ["rt", "run", "--", *WORDS[name]]
         return subprocess.run(words, cwd=TOP / "crates" / name, stdout=log, stderr=subprocess.STDOUT).returncode == 0
@@ -175,10 +183,11 @@ def build(programs):
     below = crates()
     names = closure(below, programs)
     now, kept, progress = stamp(names), BIN / "sources", Progress()
-    failed = None if kept.exists() and kept.read_text() == now else prove_in_copies(below, names, progress)
-    if not failed:
-        progress.show(f"building {', '.join(programs)}")
+    if kept.exists() and kept.read_text() == now:
+        progress.show(f"running {', '.join(programs)}")
         failed = next((name for name in programs if not run(name)), None)
+    else:
+        failed = prove_in_copies(below, names, progress)
     progress.end()
     if failed:
         print((BIN / f"{failed}.log").read_text(), end="")

@@ -89,6 +89,8 @@ def reached(start, leaves, definitions, imports):
                 waiting.append((crate, module, word))
             elif word in taken:
                 of, path, was = taken[word]
+                if path.startswith("Private."):
+                    sys.exit(f"{crate} {module}: what a reader must read rests on {of} {path}.{was}, which is private")
                 if path.startswith("declared."):
                     types.add((of, path.removeprefix("declared.").removesuffix(".TheVariants")))
                 elif (of, path.split(".")[0], was) in definitions:
@@ -106,17 +108,13 @@ def type_text(crate, path):
     return None
 
 
-# Where a reader begins: what the clauses of the two calls cite. The verdict is named alone: a clause of `check` says that it accepts exactly where the
-# answer text is correct, so what it is made of needn't be believed.
-START = [
-    ("mcf_solver", "Answering", "AppendsAnswer"),
-    ("mcf_checker", "Correct", "IsCorrect"),
-    ("mcf_checker", "Correct", "GivesLeastFlow"),
-    ("mcf_checker", "Correct", "HasNoFlow"),
-]
+# Where a reader begins: what the clauses of the two calls cite, and their types that no definition names. The verdict is named alone: a clause of `check`
+# says that it accepts exactly where the answer text is correct, so what it is made of needn't be believed.
+CALLS = [("mcf_solver", "solving.rt", "solve_text"), ("mcf_checker", "checking.rt", "check")]
+TYPES = {("mcf_checker", "verdict.Verdict")}
 LEAVES = {("mcf_checker", "Judging", "verdict"), ("mcf_checker", "Judging", "accepts")}
 # Which engine made the state behind a flow, and how: what the flow costs doesn't rest on it.
-MAKING = {("mcf_solver", "Making", "HasMadeFlow"), ("mcf_solver", "Making", "IsMadeBy")}
+MAKING = {("mcf_solver", "Making", name) for name in ("HasMadeFlow", "HasShapedFlow", "IsMadeBy")}
 
 # The chapters: a title, what a reader should know, and the modules in reading order.
 CHAPTERS = [
@@ -146,6 +144,24 @@ def clauses(crate, file, name):
     return re.search(rf"^pub fn {name}\b.*?(?=^\{{)", source, re.M | re.S)[0].rstrip()
 
 
+def cited(definitions):
+    """The definitions that the clauses of the two calls cite, by the `ghost use` lines of their files."""
+    for crate, file, name in CALLS:
+        named = words("\n".join(line for line in clauses(crate, file, name).splitlines() if "ensures" in line or "requires" in line))
+        source = (TOP / "crates" / crate / "src" / file).read_text()
+        for of, module, names in re.findall(r"^ghost use Rattle\.(mcf_\w+)\.specs\.(\w+)\.\{(.*)\};$", source, re.M):
+            yield from ((of, module, word) for word in words(names) & named if (of, module, word) in definitions)
+
+
+def views(text):
+    """How the clauses see the types that a text names and that have a view of their own: the lines of their models."""
+    for file in sorted(TOP.glob("crates/*/src/**/*.rt")):
+        for name, body in re.findall(r"^impl Model for (\w+) \{\n(.*?)^\}", file.read_text(), re.M | re.S):
+            if name in words(text) and file.relative_to(TOP).parts[1] in ("mcf_text", "mcf_instance", "mcf_answer", "mcf_solver"):
+                lines = [line.strip() for line in body.splitlines() if line.strip().startswith(("ghost Value", "ghost view"))]
+                yield f"impl Model for {name} {{ {' '.join(lines)} }}"
+
+
 def fence(language, text):
     return f"```{language}\n{text.rstrip()}\n```\n"
 
@@ -153,8 +169,9 @@ def fence(language, text):
 def headline():
     """The page for a reader who wants to believe the theorem and nothing else."""
     definitions, imports = read_specs()
-    found, types = reached(START, LEAVES, definitions, imports)
-    core = reached(START, LEAVES | MAKING, definitions, imports)[0] - LEAVES - MAKING
+    start = list(cited(definitions))
+    found, types = reached(start, LEAVES, definitions, imports)
+    core = reached(start, LEAVES | MAKING, definitions, imports)[0] - LEAVES - MAKING
     order = [tuple(m.split()) for _, _, modules in CHAPTERS for m in modules]
     rest = sorted({k[:2] for k in found} - set(order))
     chapters = CHAPTERS[:-1] + ([("More that these cite", "", [" ".join(m) for m in rest])] if rest else []) + CHAPTERS[-1:]
@@ -169,8 +186,9 @@ def headline():
             lines += len(block.splitlines())
             core_lines += sum(len(d.text.splitlines()) + 2 for d in here if (d.crate, d.module) == module and (d.crate, d.module, d.name) in core)
             parts.append(f"`crates/{module[0]}/specs/{module[1]}.antt`\n\n" + fence("", block))
-    kinds = "\n\n".join(t for t in (type_text(*x) for x in sorted(types)) if t)
-    both = clauses("mcf_solver", "solving.rt", "solve_text") + "\n\n" + clauses("mcf_checker", "checking.rt", "check")
+    kinds = "\n\n".join(t for t in (type_text(*x) for x in sorted(types | TYPES)) if t)
+    both = "\n\n".join(clauses(*call) for call in CALLS)
+    seen = "\n".join(views(kinds + both))
     head = f"""# The headline, from the ground up
 
 Made by `scripts/definitions.py headline` from the code and the spec files. Don't edit it by hand.
@@ -193,6 +211,10 @@ What the verdict is made of is left out: by the clause `exact` of `check` it acc
 The types of the code that the definitions speak of, seen by them as records and cases with the same names:
 
 {fence("rust", kinds)}
+Some of these are seen as another value, which their `view` names:
+
+{fence("rust", seen)}
+What `run` and `judge` promise beyond this, on sources, sinks and files, is left out here: CONTRACTS.md has it.
 """
     return head + "\n".join(parts)
 

@@ -8,7 +8,7 @@ use Rattle.mcf_network.specs.NodeSets.{with_node}
 use Rattle.mcf_network.specs.States.{Pseudoflow}
 use Rattle.mcf_network.proofs.Marks.{count_small, counted_new}
 use Rattle.mcf_assign.specs.declared.search.Target.{Target}
-use Rattle.mcf_assign.specs.Forests.{IsForest, IsTightArc}
+use Rattle.mcf_assign.specs.Private.Forests.{IsForest, IsTightArc}
 use Rattle.mcf_assign.specs.Private.Keeping.{IsEnded}
 use Rattle.mcf_assign.specs.Matchings.{AreMatchingPrices, IsColumn, IsMatchedColumn, IsPartialMatching, column_of}
 use Rattle.mcf_assign.specs.Private.Searches.{AreRaised, HasEntries, IsBestUpTo, Search, Settled, Waits, dist_at}

@@ -21,9 +21,9 @@ use Rattle.mcf_network.proofs.StuckLaws.{stuck_sets_block_lem}
 use Rattle.mcf_assign.specs.declared.search.Tables.{Tables}
 use Rattle.mcf_assign.specs.declared.search.Target.{Target}
 use Rattle.mcf_assign.specs.Extending.{Assigned, IsGrown, IsMatched, IsSettledList, IsShownMatching, IsStopped}
-use Rattle.mcf_assign.specs.Forests.{IsChangedWithin, IsOrder}
+use Rattle.mcf_assign.specs.Private.Forests.{AreMates, IsChangedWithin, IsOrder}
 use Rattle.mcf_assign.specs.Private.Keeping.{AreFirstPrices, AreNearZero, FreeRowsAreFirst, IsEnded, IsIdle, IsKept, first_price}
-use Rattle.mcf_assign.specs.Matchings.{AreMatchingPrices, AreMates, IsColumn, IsMatchedRow, IsPair, IsPartialMatching, IsRow, column_of, row_of}
+use Rattle.mcf_assign.specs.Matchings.{AreMatchingPrices, IsColumn, IsMatchedRow, IsPair, IsPartialMatching, IsRow, column_of, row_of}
 use Rattle.mcf_assign.specs.Private.Searches.{AreRaised, HasEntries, Search, Settled, search_of}
 use Rattle.mcf_assign.specs.Private.Turning.{IsExtended}
 use Rattle.mcf_assign.proofs.Beginning.{over_stuck}
@@ -106,12 +106,13 @@ module _ (s : Pseudoflow) (y z : List ℤ) (q : Search) (row : ℕ) (order : Lis
   listed_more : (v : ℕ) → IsNode (node_count s.net) v → Settled q v → Contains (order ++ c ∷ []) v
   listed_more v n h = Contains-append_left order (c ∷ []) v (ended.order_ok.listed v n h)
 
-  pub grown_from : (s' : Pseudoflow) (y0 y1 : List ℤ) (l0 l1 : List ℕ) (r0 r1 : List Bool) → IsExtended s s' z row c → IsChangedWithin s s' q c
+  pub grown_from : (s' : Pseudoflow) (y0 y1 : List ℤ) (l0 l1 : List ℕ) (r : List Bool) → IsExtended s s' z row c → IsChangedWithin s s' q c
       → l1 ≡ order ++ c ∷ []
-      → IsGrown (record { flow = s; prices = y0; settled = l0; reached = r0 }) row (record { flow = s'; prices = y1; settled = l1; reached = r1 })
-  grown_from s' y0 y1 l0 l1 r0 r1 ext changed e =
+      → IsGrown (record { flow = s; prices = y0; settled = l0; reached = r }) row (record { flow = s'; prices = y1; settled = l1; reached = r })
+  grown_from s' y0 y1 l0 l1 r ext changed e =
       record {
         net = ext.net;
+        path = ext.path;
         rows = λ v. (λ h. ext.rows v h, λ h. row_now v h);
         columns = ext.columns_kept;
         settled = subst (λ l. IsSettledList (node_count s.net) row l) (sym e) settled_more;
@@ -125,6 +126,7 @@ module _ (s : Pseudoflow) (y z : List ℤ) (q : Search) (row : ℕ) (order : Lis
             ],
           )
         ];
+        reached = refl;
       }
     where
       row_now : (v : ℕ) → IsMatchedRow s v ⊎ (v ≡ row) → IsMatchedRow s' v

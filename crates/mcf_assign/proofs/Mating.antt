@@ -7,7 +7,8 @@ use Rattle.mcf_network.specs.Residual.{arc_at}
 use Rattle.mcf_network.specs.States.{Pseudoflow, amount_at, pushed, room_of}
 use Rattle.mcf_network.proofs.StateLaws.{rid}
 use Rattle.mcf_prices.proofs.Marks.{read_node}
-use Rattle.mcf_assign.specs.Matchings.{AreMates, IsColumn, IsMatchedColumn, IsMatchedRow, IsPair, IsPartialMatching, IsRow, column_of, row_of}
+use Rattle.mcf_assign.specs.Matchings.{IsColumn, IsMatchedColumn, IsMatchedRow, IsPair, IsPartialMatching, IsRow, column_of, row_of}
+use Rattle.mcf_assign.specs.Private.Forests.{AreMates}
 use Rattle.mcf_assign.proofs.PairLaws.{column_is, pairing_at, row_column, row_is}
 use Rattle.mcf_assign.proofs.Pairing.{IsPaired, IsUnpaired, paired_ok, unpaired_ok}
 use Rattle.mcf_assign.proofs.Turned.{free_idle}

@@ -14,7 +14,8 @@ use Rattle.mcf_network.specs.States.{Pseudoflow, amount_at}
 use Rattle.mcf_network.specs.Walks.{HasRoom}
 use Rattle.mcf_network.proofs.Marks.{count_none, counted_new, marked_new, marked_only}
 use Rattle.mcf_network.proofs.StateLaws.{rid}
-use Rattle.mcf_assign.specs.Forests.{IsOrder, IsReachable, place}
+use Rattle.mcf_assign.specs.Extending.{IsReachable}
+use Rattle.mcf_assign.specs.Private.Forests.{IsOrder, place}
 use Rattle.mcf_assign.specs.Matchings.{IsColumn, IsMatchedRow, IsPair, IsPartialMatching, IsRow, column_of, row_of}
 use Rattle.mcf_assign.specs.Private.Searches.{IsSearch, IsSettling, Search, Settled, Waits, link_at, settled_pair}
 use Rattle.mcf_assign.proofs.Nearest.{not_true}

@@ -110,13 +110,13 @@ sources_have g (suc n) v node source =
 
 pub run_net : (g : Network) (rows : List ℕ) (m : Assigned) → Run g rows m → m.flow.net ≡ g
 run_net g rows m (start first) = ap (λ (s : Pseudoflow). s.net) first.flow
-run_net g rows n (more {rows = before} {m = m} run is_row free grown) = grown.net ∙ run_net g before m run
+run_net g rows n (more {rows = before} {m = m} run is_row free grown shown) = grown.net ∙ run_net g before m run
 
 run_listed : (g : Network) (rows : List ℕ) (m : Assigned) (v : ℕ) → Run g rows m → IsMatchedRow m.flow v → Contains rows v
 run_listed g rows m v (start first) matched =
     let none = subst (λ (s : Pseudoflow). IsMatchedRow s v) first.flow matched in
     absurd (no_pair g none.0 none.1)
-run_listed g rows n v (more {rows = before} {row = row} {m = m} run is_row free grown) matched =
+run_listed g rows n v (more {rows = before} {row = row} {m = m} run is_row free grown shown) matched =
     elim ((grown.rows v).0 matched) [
       | inl was ↦ Contains-append_left before (row ∷ []) v (run_listed g before m v run was)
       | inr e ↦ subst (λ u. Contains (before ++ row ∷ []) u) (sym e) (Contains-push before row)
@@ -124,7 +124,7 @@ run_listed g rows n v (more {rows = before} {row = row} {m = m} run is_row free 
 
 run_matched : (g : Network) (rows : List ℕ) (m : Assigned) (v : ℕ) → Run g rows m → Contains rows v → IsMatchedRow m.flow v
 run_matched g rows m v (start first) listed = absurd (let l = listed.1 in omega (arith, l))
-run_matched g rows n v (more {rows = before} {row = row} {m = m} run is_row free grown) listed =
+run_matched g rows n v (more {rows = before} {row = row} {m = m} run is_row free grown shown) listed =
     elim (Contains-push_cases before row v listed) [
       | inl was ↦ (grown.rows v).1 (inl (run_matched g before m v run was))
       | inr e ↦ (grown.rows v).1 (inr (sym e))
@@ -149,10 +149,11 @@ module _ (g : Network) (v : ℕ) (m : Assigned) (node : IsNode (node_count g) v)
       let below = sources_below g (v - 1) v (run_listed g (sources_to g (v - 1)) m v run matched) in
       omega (arith, node, below)
 
-  pub offered_next : (found : Extended) (n : Assigned) → is_source g v ≡ true → IsExtension m v found n → AreOffered g v found n
-  offered_next Matched n source grown =
-      subst (λ l. Run g l n) (sym (sources_with g (v - 1) v at source)) (more run (offered_row source) offered_free grown)
-  offered_next Blocked n source stopped =
+  pub offered_next : (found : Extended) (n : Assigned) → is_source g v ≡ true → IsExtension m v found n → IsShownMatching n
+      → AreOffered g v found n
+  offered_next Matched n source grown shown =
+      subst (λ l. Run g l n) (sym (sources_with g (v - 1) v at source)) (more run (offered_row source) offered_free grown shown)
+  offered_next Blocked n source stopped shown =
       let rest = filter (is_source g) (range_with_len (v + 1) (node_count g - v)) in
       record {
         before = sources_to g (v - 1);

@@ -1,14 +1,23 @@
 -- The loop that turns a path.
-use Rattle.std.proofs.Common.{◌≡◌, ◌≢◌, ℕ, ◌+◌, ◌-◌, ◌<◌, true, false, Bool, List, get_or, ℤ, pos, refl, sym, ◌∙◌, ap, subst, arith, ◌⊎◌, inl, inr}
+use Rattle.std.proofs.Common.{◌≡◌, ◌≢◌, ℕ, ◌+◌, ◌-◌, ◌<◌, true, false, true≢false, Bool, List, [], ◌∷◌, get_or, ℤ, pos, refl, sym, ◌∙◌, ap, subst, arith}
+use Rattle.std.proofs.Common.{◌⊎◌, inl, inr}
+use Rattle.std.specs.List.{All}
+use Rattle.std.proofs.lemmas.Int.{ints}
+use Rattle.std.proofs.lemmas.List.Elements.{All-cons}
+use Rattle.std.proofs.lemmas.List.Kept.{AllPairs-cons}
 use Rattle.mcf_instance.specs.Network.{Network, IsArcNumber}
+use Rattle.mcf_network.specs.declared.rid.Rid.{Rid}
 use Rattle.mcf_network.specs.Residual.{arc_at}
-use Rattle.mcf_network.specs.States.{Pseudoflow, pushed}
+use Rattle.mcf_network.specs.States.{Pseudoflow, amount_at, pushed}
+use Rattle.mcf_network.specs.Walks.{HasRoomFor}
 use Rattle.mcf_network.proofs.StateLaws.{rid}
-use Rattle.mcf_assign.specs.Forests.{IsChangedWithin, IsForest, IsTightArc, IsTurning, place}
-use Rattle.mcf_assign.specs.Matchings.{AreMates, IsColumn, IsMatchedColumn, IsMatchedRow, IsPair, IsPartialMatching, column_of, row_of}
+use Rattle.mcf_assign.specs.Private.Forests.{AreMates, IsChangedWithin, IsForest, IsTightArc, IsTurning, place}
+use Rattle.mcf_assign.specs.Matchings.{IsColumn, IsMatchedColumn, IsMatchedRow, IsPair, IsPartialMatching, column_of, row_of}
 use Rattle.mcf_assign.specs.Private.Searches.{Search, Settled, link_at}
-use Rattle.mcf_assign.specs.Private.Turning.{IsTurned, IsExtended}
-use Rattle.mcf_assign.proofs.PairLaws.{column_is, row_is}
+use Rattle.mcf_assign.specs.Extending.{IsAugmented}
+use Rattle.mcf_assign.specs.Private.Turning.{IsExtended, IsPushedFrom, IsTurned}
+use Rattle.mcf_assign.proofs.Augmented.{push_first}
+use Rattle.mcf_assign.proofs.PairLaws.{amount_is, column_is, pairing_at, row_is}
 use Rattle.mcf_assign.proofs.Pairing.{amount_pushed, paired_ok, unpaired_ok}
 use Rattle.mcf_assign.proofs.Turned.{free_idle, turned_end, turned_next, turned_start}
 
@@ -45,6 +54,14 @@ turning_start s mates q order target source z forest tight free mated =
       turned = λ source' z' forest' tight'.
           (tight', turned_start s z' (place order) (place order (row_of s target) + 1) (column_of s target) forest'.matching forest'.tight free);
       changed = λ i h. inl refl;
+      path = record {
+        walk = [];
+        leads = refl;
+        can = record { low = omega (arith, ints); room = λ i d h. absurd (omega (arith, h)); distinct = λ i j d l h. absurd (omega (arith, h)) };
+        later = λ i d h. absurd (omega (arith, h));
+        not_matched = free;
+        turned = refl;
+      };
     }
 
 -- ---- what came out leaves its ends free
@@ -71,6 +88,36 @@ module _ (old : Pseudoflow) (amounts : List ℤ) (mates : List ℕ) (q : Search)
 
   pub free_at : ¬ IsMatchedColumn s (column_of s k)
   free_at = here.free
+
+  -- ---- the path so far, and arc k before it
+
+  path : IsPushedFrom old s (place order) (place order (row_of old k)) (column_of old k) t
+  path = turning.path
+
+  not_pair : ¬ IsPair old k
+  not_pair p = free_at (k, here.earlier k p (omega arith), refl)
+
+  k_room : HasRoomFor old (pos 1) (rid k false)
+  k_room =
+      let none : amount_at old k ≡ pos 0 = elim (amount_is old k forest.matching turning.arc) [
+        | inl e ↦ e
+        | inr p ↦ absurd (not_pair p)
+      ] in
+      let cap = (pairing_at old k forest.matching turning.arc).cap_is in
+      record { arc = turning.arc; room = omega (arith, ints, none, cap) }
+
+  -- no arc of this row is on the path
+  apart_from : (i : ℕ) → IsArcNumber old.net i → row_of old i ≡ row_of old k → All (λ (r : Rid). i - 1 ≢ r.arc - 1) path.walk
+  apart_from i arc at n d h e =
+      let there = (path.can.room n d h).arc in
+      let later = path.later n d h in
+      let same : i ≡ (get_or path.walk n d).arc = omega (arith, e, arc, there) in
+      let rows = ap (λ x. place order (row_of old x)) same in
+      let rows_at = ap (place order) at in
+      omega (arith, later, rows, rows_at)
+
+  distinct_from : (i : ℕ) (b : Bool) → IsArcNumber old.net i → row_of old i ≡ row_of old k → All (λ (r : Rid). rid i b ≢ r) path.walk
+  distinct_from i b arc at n d h e = apart_from i arc at n d h (ap (λ (r : Rid). r.arc - 1) e)
 
   -- ---- the row is matched
 
@@ -141,6 +188,33 @@ module _ (old : Pseudoflow) (amounts : List ℤ) (mates : List ℕ) (q : Search)
               (λ c. IsTurned old done z' (place order) (place order (row_of old next) + 1) t c) (sym link.to) next_turned,
         )
 
+    next_path : IsPushedFrom old done (place order) (place order (row_of old next)) (column_of old next) t
+    next_path =
+        let falls = falls_at in
+        let rows = ap (place order) from in
+        let one = was_pair.one in
+        let later : Rid → Type 0 = λ (r : Rid). place order (row_of old next) < place order (row_of old r.arc) in
+        let room = HasRoomFor old (pos 1) in
+        record {
+          walk = rid j true ∷ rid k false ∷ path.walk;
+          leads = (sym next_arc.to, (sym from, path.leads));
+          can = record {
+            low = path.can.low;
+            room = All-cons room (rid j true) (rid k false ∷ path.walk) (record { arc = was_pair.arc; room = omega (arith, ints, one) })
+                (All-cons room (rid k false) path.walk k_room path.can.room);
+            distinct = AllPairs-cons (λ (r q : Rid). r ≢ q) (rid j true) (rid k false ∷ path.walk)
+                (All-cons (λ (q : Rid). rid j true ≢ q) (rid k false) path.walk (λ e. true≢false (ap (λ (r : Rid). r.back) e))
+                (distinct_from j true was_pair.arc from))
+                (AllPairs-cons (λ (r q : Rid). r ≢ q) (rid k false) path.walk (distinct_from k false turning.arc refl) path.can.distinct);
+          };
+          later = All-cons later (rid j true) (rid k false ∷ path.walk) (omega (arith, falls, rows))
+              (All-cons later (rid k false) path.walk falls (λ n d h. let l = path.later n d h in omega (arith, falls, l)));
+          not_matched = path.not_matched;
+          turned = ap (λ (x : Pseudoflow). joined (parted x j) k) path.turned
+              ∙ ap (λ (x : Pseudoflow). joined x k) (push_first old path.walk (rid j true) (pos 1) (apart_from j was_pair.arc from))
+              ∙ push_first (parted old j) path.walk (rid k false) (pos 1) (apart_from k turning.arc refl);
+        }
+
     pub next_at : (mates' : List ℕ) → AreMates done mates' → IsTurning old done mates' q order target next
     next_at mates' mated =
         record {
@@ -153,6 +227,7 @@ module _ (old : Pseudoflow) (amounts : List ℤ) (mates : List ℕ) (q : Search)
           turned = turned_now;
           changed = changed_more old (mid.amounts) q t k false mid_ok turning.arc (turning.from, turning.to)
               (changed_more old amounts q t j true turning.matching pair.arc (row_settled, inl column_settled) turning.changed);
+          path = next_path;
         }
 
   -- ---- the row is not matched: it is the source
@@ -165,11 +240,27 @@ module _ (old : Pseudoflow) (amounts : List ℤ) (mates : List ℕ) (q : Search)
           | inr m ↦ absurd (single (here.rows.0 (row_of old k) m))
         ]
 
+    end_path : IsAugmented old (row_of old k) (joined s k)
+    end_path = record {
+      walk = rid k false ∷ path.walk;
+      column = t;
+      leads = (refl, path.leads);
+      can = record {
+        low = path.can.low;
+        room = All-cons (HasRoomFor old (pos 1)) (rid k false) path.walk k_room path.can.room;
+        distinct = AllPairs-cons (λ (r q : Rid). r ≢ q) (rid k false) path.walk (distinct_from k false turning.arc refl) path.can.distinct;
+      };
+      is_column = column_is old target forest.matching end.arc;
+      not_matched = path.not_matched;
+      turned = ap (λ (x : Pseudoflow). joined x k) path.turned ∙ push_first old path.walk (rid k false) (pos 1) (apart_from k turning.arc refl);
+    }
+
     pub end_at : (source' : ℕ) (z' : List ℤ) → IsForest old q source' order z' → IsTightArc old q z' target t → IsExtended old (joined s k) z' source' t
     end_at source' z' forest' end' =
         let was = turning.turned source' z' forest' end' in
         subst (λ r. IsExtended old (joined s k) z' r t) (is_source source' z' forest')
-        (turned_end old s z' (place order) (place order (row_of old k) + 1) t (column_of old k) k was.1 turning.arc refl was.0.tight single)
+        (turned_end old s z' (place order) (place order (row_of old k) + 1) t (column_of old k) k was.1 turning.arc refl was.0.tight single
+        end_path)
 
     pub changed_at : IsChangedWithin old (joined s k) q t
     changed_at =

@@ -1,14 +1,17 @@
 -- What a matching is to its callers, and what one search does to it.
-use Rattle.std.specs.Prelude.{◌≡◌, ◌≢◌, ◌↔◌, ℕ, Bool, true, List, ◌∷◌, length, ℤ, ◌⊎◌}
+use Rattle.std.specs.Prelude.{◌≡◌, ◌≢◌, ◌↔◌, ℕ, Bool, true, List, ◌∷◌, length, ℤ, pos, ◌⊎◌}
 use Rattle.std.specs.List.{All, AllPairs, Contains}
 use Rattle.mcf_instance.specs.declared.problem.Side.TheVariants.{Send}
 use Rattle.mcf_instance.specs.Blocking.{Blocks, in_table}
 use Rattle.mcf_instance.specs.Network.{IsArcNumber, IsNode, node_count}
+use Rattle.mcf_network.specs.declared.rid.Rid.{Rid}
+use Rattle.mcf_network.specs.Residual.{head, tail}
 use Rattle.mcf_network.specs.States.{Pseudoflow, amount_at}
+use Rattle.mcf_network.specs.Walks.{CanPushAlong, HasRoom, IsWalk, pushed_along}
 use Rattle.mcf_assign.specs.declared.extended.Extended.{Extended}
 use Rattle.mcf_assign.specs.declared.extended.Extended.TheVariants.{Matched, Blocked}
-use Rattle.mcf_assign.specs.Forests.{IsReachable}
-use Rattle.mcf_assign.specs.Matchings.{AreMatchingPrices, IsLeastMatching, IsMatchedColumn, IsMatchedRow, IsPair, IsPartialMatching, column_of, row_of}
+use Rattle.mcf_assign.specs.Matchings.{AreMatchingPrices, IsColumn, IsLeastMatching, IsMatchedColumn, IsMatchedRow, IsPair, IsPartialMatching}
+use Rattle.mcf_assign.specs.Matchings.{column_of, row_of}
 
 -- the amounts, the prices, the nodes that the last search settled in their order, and the table of the set that the
 -- last search reached that found no path
@@ -18,7 +21,7 @@ pub record Assigned : Type 0 where
   pub settled : List ℕ
   pub reached : List Bool
 
--- an arc of amount 1 ends at the node
+-- an arc of amount 1 has an end there
 abbrev pub IsMatched : Pseudoflow → ℕ → Type 0
 IsMatched s v = (k : ℕ) × IsPair s k × ((row_of s k ≡ v) ⊎ (column_of s k ≡ v))
 
@@ -28,6 +31,15 @@ pub record IsShownMatching (m : Assigned) : Type 0 where
   pub shown : AreMatchingPrices m.flow m.prices
   pub least : IsLeastMatching m.flow
 
+-- no residual arc with room leaves the set
+abbrev pub IsClosed : Pseudoflow → (ℕ → Bool) → Type 0
+IsClosed s set =
+    (r : Rid) → HasRoom s r → set (tail s.net r) ≡ true → set (head s.net r) ≡ true
+
+-- residual arcs with room lead from the row to v: v is in every closed set that holds the row
+abbrev pub IsReachable : Pseudoflow → ℕ → ℕ → Type 0
+IsReachable s row v = (set : ℕ → Bool) → IsClosed s set → set row ≡ true → set v ≡ true
+
 -- nodes of the net, none twice, the row first
 pub record IsSettledList (nodes row : ℕ) (list : List ℕ) : Type 0 where
   pub rest : List ℕ
@@ -35,15 +47,28 @@ pub record IsSettledList (nodes row : ℕ) (list : List ℕ) : Type 0 where
   pub once : AllPairs (λ u v. u ≢ v) list
   pub each : All (IsNode nodes) list
 
--- the rows that are matched are those before and the row asked, matched columns stay matched, and the search settled
--- both ends of each arc whose amount changed
+-- one more along each residual arc of a path from the row to a column that wasn't matched, each of which had room, and
+-- no other amount changed
+pub record IsAugmented (old : Pseudoflow) (row : ℕ) (new : Pseudoflow) : Type 0 where
+  pub walk : List Rid
+  pub column : ℕ
+  pub leads : IsWalk old.net row walk column
+  pub can : CanPushAlong old walk (pos 1)
+  pub is_column : IsColumn old column
+  pub not_matched : ¬ IsMatchedColumn old column
+  pub turned : new ≡ pushed_along old walk (pos 1)
+
+-- a path from the row was turned: the rows that are matched are those before and the row asked, matched columns stay
+-- matched, and the search settled both ends of each arc whose amount changed; the set that was reached before stays
 pub record IsGrown (old : Assigned) (row : ℕ) (new : Assigned) : Type 0 where
   pub net : new.flow.net ≡ old.flow.net
+  pub path : IsAugmented old.flow row new.flow
   pub rows : (v : ℕ) → IsMatchedRow new.flow v ↔ (IsMatchedRow old.flow v ⊎ (v ≡ row))
   pub columns : (v : ℕ) → IsMatchedColumn old.flow v → IsMatchedColumn new.flow v
   pub settled : IsSettledList (node_count old.flow.net) row new.settled
   pub changed : (k : ℕ) → IsArcNumber old.flow.net k → amount_at new.flow k ≢ amount_at old.flow k
       → Contains new.settled (row_of old.flow k) × Contains new.settled (column_of old.flow k)
+  pub reached : new.reached ≡ old.reached
 
 -- no amount and no price changed; what was reached is what was settled, and that is the row and every node to which
 -- residual arcs with room lead from it; it must send more than it can

@@ -2,5 +2,6 @@
 pub mod RowLists
 pub mod Searches
 pub mod Turning
+pub mod Forests
 pub mod Keeping
 pub mod Offering

@@ -3,12 +3,13 @@ use Rattle.std.specs.Prelude.{◌≡◌, ◌≢◌, ℕ, Bool, List, [], ◌∷�
 use Rattle.std.specs.List.{filter, range_with_len}
 use Rattle.std.specs.Ordering.{int_eq}
 use Rattle.mcf_instance.specs.Network.{Network, at_node, node_count}
+use Rattle.mcf_network.specs.NodeSets.{no_nodes}
 use Rattle.mcf_network.specs.States.{Pseudoflow}
 use Rattle.mcf_feas.specs.Chosen.{supply_total}
 use Rattle.mcf_prices.specs.declared.engine.Outcome.{Outcome}
 use Rattle.mcf_prices.specs.declared.engine.Outcome.TheVariants.{Least, Blocked as NoFlow}
 use Rattle.mcf_assign.specs.declared.extended.Extended.TheVariants.{Matched, Blocked}
-use Rattle.mcf_assign.specs.Extending.{Assigned, IsExtension}
+use Rattle.mcf_assign.specs.Extending.{Assigned, IsExtension, IsShownMatching}
 use Rattle.mcf_assign.specs.Matchings.{IsMatchedRow, IsRow}
 
 -- a node of supply 1
@@ -23,17 +24,19 @@ sources_to g n = filter (is_source g) (range_with_len 1 n)
 abbrev pub sources : Network → List ℕ
 sources g = sources_to g (node_count g)
 
--- the matching without pairs, before the first search
+-- the matching without pairs, before the first search: nothing was settled or reached, and its prices show it
 pub record IsStart (g : Network) (m : Assigned) : Type 0 where
   pub flow : m.flow ≡ record { net = g; amounts = replicate (length g.arcs) (pos 0) }
   pub settled : m.settled ≡ []
+  pub reached : m.reached ≡ no_nodes (node_count g)
+  pub shown : IsShownMatching m
 
 -- reached from the matching without pairs by one search from each row of a list, in that order, each of which matched
--- its row
+-- its row by a path from it, and after each of which prices show that no other amounts match the same rows for less
 pub data Run (g : Network) : List ℕ → Assigned → Type 0 where
   start : {m : Assigned} → IsStart g m → Run g [] m
   more : {rows : List ℕ} {row : ℕ} {m n : Assigned} → Run g rows m → IsRow m.flow row → ¬ IsMatchedRow m.flow row
-      → IsExtension m row Matched n → Run g (rows ++ row ∷ []) n
+      → IsExtension m row Matched n → IsShownMatching n → Run g (rows ++ row ∷ []) n
 
 -- one search from each source node, ascending, matched its row, and the last left this state
 pub record IsMatchedByRows (g : Network) (s : Pseudoflow) : Type 0 where

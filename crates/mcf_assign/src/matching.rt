@@ -4,6 +4,7 @@ ghost use Rattle.std.specs.List.{All};
 ghost use Rattle.mcf_instance.specs.declared.problem.Problem.TheVariants.{Asn};
 ghost use Rattle.mcf_instance.specs.Network.{IsNode, at_node, node_count};
 ghost use Rattle.mcf_instance.specs.WellFormed.{IsUpTo};
+ghost use Rattle.mcf_network.specs.NodeSets.{no_nodes};
 ghost use Rattle.mcf_assign.specs.Extending.{IsExtension, IsMatched, IsShownMatching};
 ghost use Rattle.mcf_assign.specs.Private.Keeping.{AreFirstPrices, first_price};
 ghost use Rattle.mcf_assign.specs.Matchings.{IsMatchedRow, IsRow};
@@ -47,7 +48,7 @@ impl<'n> Model for Matching<'n> {
 }
 
 impl<'n> Matching<'n> {
-    /// The matching without pairs.
+    /// The matching without pairs. Nothing was settled, and the set that was reached is empty.
     ///
     /// All the room that its searches need is made here.
     ///
@@ -59,6 +60,7 @@ impl<'n> Matching<'n> {
         ensures value { IfOk result (λ m. m.flow ≡ record { net = net.now; amounts = replicate (length net.now.arcs) (pos 0) }) }
         ensures shown { IfOk result IsShownMatching }
         ensures settled { IfOk result (λ m. m.settled ≡ []) }
+        ensures reached { IfOk result (λ m. m.reached ≡ no_nodes (node_count net.now)) }
         ensures wants { OnErr result (1 ≤ node_count net.now) }
     {
         let state = State::zero(alloc, net)?;
@@ -105,7 +107,7 @@ impl<'n> Matching<'n> {
         }
     }
 
-    /// Whether an arc of amount 1 ends at a node.
+    /// Whether an arc of amount 1 has an end at a node.
     pub fn matched(&self, v: NodeId) -> bool
         requires { IsNode (node_count self.now.flow.net) v }
         ensures value { IsTrue result ↔ IsMatched self.now.flow v }

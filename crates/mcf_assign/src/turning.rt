@@ -2,8 +2,8 @@
 ghost use Rattle.std.specs.Prelude.{◌≡◌, ℕ, ℤ, List, [], length, pos, true, false};
 ghost use Rattle.mcf_instance.specs.Network.{IsArcNumber, node_count};
 ghost use Rattle.mcf_network.specs.States.{pushed};
-ghost use Rattle.mcf_assign.specs.Forests.{IsChangedWithin, IsForest, IsTightArc};
-ghost use Rattle.mcf_assign.specs.Matchings.{AreMates, IsMatchedColumn, IsMatchedRow, IsPair, IsPartialMatching, column_of, row_of};
+ghost use Rattle.mcf_assign.specs.Private.Forests.{AreMates, IsChangedWithin, IsForest, IsTightArc};
+ghost use Rattle.mcf_assign.specs.Matchings.{IsMatchedColumn, IsMatchedRow, IsPair, IsPartialMatching, column_of, row_of};
 ghost use Rattle.mcf_assign.specs.Private.Searches.{HasEntries, search_of};
 ghost use Rattle.mcf_assign.specs.Private.Turning.{IsExtended};
 

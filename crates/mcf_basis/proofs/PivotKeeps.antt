@@ -5,11 +5,12 @@ use Rattle.mcf_network.specs.Nets.{IsNet}
 use Rattle.mcf_network.specs.States.{Pseudoflow, HasNoSurplus}
 use Rattle.mcf_network.specs.Walks.{pushed_along}
 use Rattle.mcf_network.proofs.WalkLaws.{along_net}
-use Rattle.mcf_tree.specs.SpanningTree.{IsSpanning}
+use Rattle.mcf_tree.specs.SpanningTree.{SpanningTree, IsSpanning}
 use Rattle.mcf_basis.specs.Artificial.{with_artificial}
 use Rattle.mcf_basis.specs.Bases.{IsBasis, IsFullFlow}
 use Rattle.mcf_basis.specs.Laws.{PivotsKeepBases}
 use Rattle.mcf_basis.specs.Pivots.{IsPivot, entering}
+use Rattle.mcf_basis.specs.Pivots.IsMended.{kept, exchanged}
 use Rattle.mcf_basis.specs.Structures.{TreeStructure, cycle_of, full_state}
 use Rattle.mcf_basis.proofs.Around.{CanGoRound, IsAround, IsLeaving, WentRound}
 use Rattle.mcf_basis.proofs.CyclePlaces.{leaving_of_last}
@@ -48,17 +49,33 @@ module _ (old new : TreeStructure) (k : ℕ) (moved : ℤ) (ok : IsBasis old) (p
     no_surplus = subst HasNoSurplus round_state (round_surplus old k pivot.apex moved ok pivot.eligible is_around);
   }
 
-  pub basis_kept : IsSpanning new.tree → length new.prices ≡ length old.prices → IsBasis new
-  basis_kept spanning count = record {
+  -- where the entering arc leaves at once, the tree is as it was
+  same_spanning : (t : SpanningTree) → IsSpanning t → IsSpanning (record t { hung = 0; measured = 0 })
+  same_spanning t s = record { labels_size = s.labels_size; depths_size = s.depths_size; numbered = s.numbered; rooted = s.rooted }
+
+  spans : IsSpanning new.tree
+  spans = elim pivot.mended [
+    | kept e at_once ↦ subst IsSpanning (sym at_once.tree) (same_spanning old.tree ok.spanning)
+    | exchanged out inner outer e x ↦ x.spanning
+  ]
+
+  count : length new.prices ≡ length old.prices
+  count = elim pivot.mended [
+    | kept e at_once ↦ ap (λ (ys : List ℤ). length ys) at_once.prices
+    | exchanged out inner outer e x ↦ x.one_price_each
+  ]
+
+  pub basis_kept : IsBasis new
+  basis_kept = record {
     of_net = subst IsNet (sym pivot.net) ok.of_net;
-    spanning = spanning;
+    spanning = spans;
     size = new_size old new k moved ok pivot;
     tree_arcs = new_tree_arcs old new k moved ok pivot;
     flow = new_flow;
     at_bounds = new_at_bounds old new k moved ok pivot is_around went leaves.1 leaves.0;
     prices = new_prices old new k moved ok pivot count;
-    strong = strong_kept old new k moved ok pivot spanning (new_tree_arcs old new k moved ok pivot) went;
+    strong = strong_kept old new k moved ok pivot spans (new_tree_arcs old new k moved ok pivot) went;
   }
 
 pub pivots_keep_bases_lem : PivotsKeepBases
-pivots_keep_bases_lem old new k moved ok pivot spanning count = basis_kept old new k moved ok pivot spanning count
+pivots_keep_bases_lem old new k moved ok pivot = basis_kept old new k moved ok pivot

@@ -302,7 +302,7 @@ module _ (l : Layout) (k : ℕ) (ok : IsLaidOut l) (el : IsEligible (basis_in l)
           amounts = h.amounts;
           mended = h.mended;
         } in
-        let basis : IsBasis (basis_in l') = pivots_keep_bases_lem (basis_in l) (basis_in l') k (pos f.amount) is_basis pivot h.spanning h.prices_size in
+        let basis : IsBasis (basis_in l') = pivots_keep_bases_lem (basis_in l) (basis_in l') k (pos f.amount) is_basis pivot in
         record {
           pivot = pivot;
           laid_out = h.laid_out basis;
@@ -319,6 +319,20 @@ module _ (l : Layout) (k : ℕ) (ok : IsLaidOut l) (el : IsEligible (basis_in l)
         pivoted (record { net = l.net; tree = t'; offers = offers; rooms = rooms'; artificial = artificial; table = table' })
         (replaced t t' offers rooms rooms' artificial table table' reduced fresh counted is
         (subst (λ (q : Round). IsPushedRound l.net t l.rooms rooms l.artificial artificial q.from q.to q.apex q.amount) same pushed) done)
+
+-- a depth is written for each price that is
+pub counted_alike : (g : Network) (t t' : SpanningTree) (offers offers' : List Offer) (rooms rooms' : List Rooms) (table table' : Prices) (k : ℕ) (r : ℤ)
+    (f : Found) → t.measured ≡ 0 → table.priced ≡ 0 → IsReplaced g t t' offers offers' rooms rooms' table table' k r f → t'.measured ≡ table'.priced
+counted_alike g t t' offers offers' rooms rooms' table table' k r f none fresh (at_once e tree turned same prices) =
+    ap (λ (s : SpanningTree). s.measured) tree ∙ (none ∙ sym (ap (λ (p : Prices). p.priced) prices ∙ fresh))
+counted_alike g t t' offers offers' rooms rooms' table table' k r f none fresh (down e h) =
+    let depths = h.measured in
+    let prices = h.prices_moved.priced in
+    omega (arith, depths, prices, fresh)
+counted_alike g t t' offers offers' rooms rooms' table table' k r f none fresh (up e h) =
+    let depths = h.measured in
+    let prices = h.prices_moved.priced in
+    omega (arith, depths, prices, fresh)
 
 -- the same of lists and numbers that are equal
 pub same_pivot : (b : TreeStructure) (l : Layout) (g : Network) (t : SpanningTree) (offers offers' : List Offer) (rooms rooms' : List Rooms)

@@ -3,7 +3,6 @@ use Rattle.std.specs.Prelude.{◌≡◌, ℕ, ◌+◌, ◌<◌, List, drop, leng
 use Rattle.mcf_instance.specs.Flow.{IsFeasible, Shows}
 use Rattle.mcf_instance.specs.Network.{IsNode, node_count}
 use Rattle.mcf_basis.specs.Bases.{IsBasis}
-use Rattle.mcf_tree.specs.SpanningTree.{IsSpanning}
 use Rattle.mcf_basis.specs.Pivots.{IsPivot, PairFalls}
 use Rattle.mcf_basis.specs.Ranks.{IsFloor, pivot_bound, rank_above, rank_of}
 use Rattle.mcf_basis.specs.Pivots.{full_cost}
@@ -50,8 +49,7 @@ LastBasesAreShown =
 -- a pivot keeps a basis a basis
 abbrev pub PivotsKeepBases : Type 0
 PivotsKeepBases =
-    (old new : TreeStructure) (k : ℕ) (moved : ℤ) → IsBasis old → IsPivot old k moved new → IsSpanning new.tree
-    → length new.prices ≡ length old.prices → IsBasis new
+    (old new : TreeStructure) (k : ℕ) (moved : ℤ) → IsBasis old → IsPivot old k moved new → IsBasis new
 
 -- where no arc is eligible and some flow is feasible, no artificial arc carries anything
 abbrev pub LastBasesAreFeasible : Type 0

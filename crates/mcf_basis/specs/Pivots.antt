@@ -8,7 +8,7 @@ use Rattle.mcf_network.specs.declared.rid.Rid.{Rid}
 use Rattle.mcf_network.specs.Residual.{arc_at, head, tail}
 use Rattle.mcf_network.specs.Walks.{pushed_along}
 use Rattle.mcf_tree.specs.Apex.{IsApex}
-use Rattle.mcf_tree.specs.SpanningTree.{IsAbove, IsSwapped, depth_of, label_of}
+use Rattle.mcf_tree.specs.SpanningTree.{IsAbove, IsSpanning, IsSwapped, depth_of, label_of}
 use Rattle.mcf_tree.specs.Subtree.{below_from, is_above}
 use Rattle.mcf_tree.specs.Written.{IsLocal}
 use Rattle.mcf_basis.specs.Artificial.{with_artificial}
@@ -42,7 +42,7 @@ pub record IsKept (old new : TreeStructure) : Type 0 where
   pub priced : new.priced ≡ 0
 
 -- The entering arc r takes the place of the arc above the node out: the part cut off there hangs on the other end of r, the prices
--- in it change by the reduced cost of r, so that r has reduced cost 0, and all other prices stay.
+-- in it change by the reduced cost of r, so that r has reduced cost 0, and all other prices stay. What is left is a tree again.
 pub record IsExchanged (old : TreeStructure) (r : Rid) (out inner outer : ℕ) (new : TreeStructure) : Type 0 where
   pub is_node : IsNode (node_count old.net) out
   pub ends : ((inner ≡ tail (with_artificial old.net) r) × (outer ≡ head (with_artificial old.net) r)) ⊎
@@ -50,6 +50,8 @@ pub record IsExchanged (old : TreeStructure) (r : Rid) (out inner outer : ℕ) (
   pub inside : IsAbove old.tree out inner
   pub outside : ¬ IsAbove old.tree out outer
   pub swapped : IsSwapped old.tree new.tree out r.arc inner outer
+  pub spanning : IsSpanning new.tree
+  pub one_price_each : length new.prices ≡ length old.prices
   pub change : ℤ
   pub prices : (v : ℕ) → v ≤ node_count old.net → price_at new v ≡ price_at old v +ℤ when (is_above old.tree out v) change
   pub balanced : reduced_at new r.arc ≡ pos 0

@@ -39,13 +39,15 @@ impl<'n> Basis<'n> {
     /// arc that blocks leaves, from the apex on in the direction in which the arc gains.
     ///
     /// So the tree stays strongly feasible, and the pair of the cost and the sum of the prices falls (Cunningham; Ahuja, Magnanti and
-    /// Orlin, Network Flows, sections 11.5 and 11.6). Time goes with the cycle and with the part of the tree that is moved.
+    /// Orlin, Network Flows, sections 11.5 and 11.6). Time goes with the cycle and with the part of the tree that is moved: as many
+    /// depths are written as prices.
     pub fn pivot(&mut self, k: ArcId) -> Step
         requires { IsEligible self.old k }
         ensures step { IsPivot self.old k (moved_by result) self.new }
         ensures above { (x : ℤ) → result ≡ Moved x → pos 0 <ℤ x }
         ensures basis { IsBasis self.new }
         ensures falls { PairFalls self.old self.new }
+        ensures counted { self.new.tree.measured ≡ self.new.priced }
     {
         let amount = turn(
             self.net,
@@ -89,6 +91,7 @@ fn turn(
     ensures laid_out { IsLaidOut (laid net.now tree.new offers.new rooms.new artificial.new table.new) }
     ensures falls { PairFalls (basis_in (laid net.now tree.old offers.old rooms.old artificial.old table.old))
         (basis_in (laid net.now tree.new offers.new rooms.new artificial.new table.new)) }
+    ensures counted { tree.new.measured ≡ table.new.priced }
 {
     tree.forget_counts();
     table.forget_count();

@@ -100,8 +100,7 @@ impl PriceTable {
         ensures priced { self.new.priced ≡ self.old.priced + length part.now }
         ensures limit { self.new.limit ≡ self.old.limit }
     {
-        reprice_column(&mut self.column, part, change);
-        self.priced += part.len() as u64;
+        self.priced = reprice_column(&mut self.column, part, change, self.priced);
     }
 
     pub fn forget_count(&mut self)
@@ -111,15 +110,17 @@ impl PriceTable {
     }
 }
 
-// Adds a change to the prices of listed nodes.
-fn reprice_column(column: &mut Column, part: &[NodeId], change: i128)
-    requires { CanRaise part.now change (limit_of column.old) (prices_in column.old) }
+// Adds a change to the prices of listed nodes, and answers how many prices were written then, where so many were before.
+fn reprice_column(column: &mut Column, part: &[NodeId], change: i128, before: u64) -> u64
+    requires raises { CanRaise part.now change (limit_of column.old) (prices_in column.old) }
+    requires countable { before + length part.now < 2 ^ 64 }
     ensures prices { AreRaised part.now change (prices_in column.old) (prices_in column.new) }
     ensures limit { limit_of column.new ≡ limit_of column.old }
+    ensures counted { result ≡ before + length part.now }
 {
     match column {
-        Column::Narrow(prices) => reprice_narrow(prices, part, change as i64),
-        Column::Wide(prices) => reprice_wide(prices, part, change),
+        Column::Narrow(prices) => reprice_narrow(prices, part, change as i64, before),
+        Column::Wide(prices) => reprice_wide(prices, part, change, before),
     }
 }
 

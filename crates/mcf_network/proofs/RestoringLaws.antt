@@ -1,12 +1,13 @@
 -- A network and its net: flows, costs, prices and blocking sets carry over.
 use Rattle.std.proofs.Common.{◌≡◌, ◌≢◌, ℕ, zero, suc, ◌+◌, ◌≤◌, ◌<◌, Bool, true, false, not, ◌&&◌, cond, eqb, List, [], ◌∷◌, ◌++◌, length, map, take, get_or}
 use Rattle.std.proofs.Common.{refl, sym, ap, subst, ◌∙◌, arith, ℤ, pos, negsuc, ◌+ℤ◌, ◌-ℤ◌, ◌≤ℤ◌, inl, inr, ◌⊎◌}
-use Rattle.std.specs.Prelude.{◌<ℤ◌, ◌↔◌, int_lt}
+use Rattle.std.specs.Prelude.{◌<ℤ◌, ◌↔◌, Some, int_lt, slice_get}
 use Rattle.std.specs.List.{All, range_with_len}
 use Rattle.std.proofs.Math.IntN.{◌*ℤ◌}
 use Rattle.std.proofs.lemmas.Int.{ints}
 use Rattle.std.proofs.lemmas.Bool.{cases_eq, eq-eqb, false≢true, ne_eqb}
 use Rattle.std.proofs.lemmas.List.{length-map, take_all}
+use Rattle.std.proofs.lemmas.Option.{get_or_from_slice_get, slice_get-get_or, slice_get_within}
 use Rattle.std.proofs.lemmas.List.Elements.{All-head, All-tail}
 use Rattle.std.proofs.lemmas.List.FromFn.{length-map-range_with_len}
 use Rattle.mcf_instance.specs.declared.arc.Arc.{Arc}
@@ -371,14 +372,19 @@ get_or-restored (a ∷ arcs) (x ∷ amounts) zero l h = refl
 get_or-restored (a ∷ arcs) (x ∷ amounts) (suc i) l h =
     get_or-restored arcs amounts i (omega arith) (omega (arith, h))
 
--- one arc more of the loop
-pub restored_next : (arcs : List Arc) (amounts : List ℤ) (i : ℕ) (a : Arc) (x y : ℤ) (before after : List ℤ) → length arcs ≡ length amounts → i < length arcs
-    → get_or arcs i no_arc ≡ a → get_or amounts i (pos 0) ≡ x → y ≡ restored_flow a x → before ≡ take i (restored arcs amounts) → after ≡ before ++ y ∷ []
-    → after ≡ take (i + 1) (restored arcs amounts)
-restored_next arcs amounts i a x y before after n h ea ex ey eb e =
+-- one entry, as the code reads it
+pub restored_read : (arcs : List Arc) (amounts : List ℤ) (i : ℕ) (a : Arc) (x y : ℤ) → length arcs ≡ length amounts → i < length arcs
+    → get_or arcs i no_arc ≡ a → get_or amounts i (pos 0) ≡ x → y ≡ restored_flow a x → slice_get (restored arcs amounts) i ≡ Some y
+restored_read arcs amounts i a x y n h ea ex ey =
     let at = get_or-restored arcs amounts i h n in
     let is : y ≡ get_or (restored arcs amounts) i (pos 0) = rw (at, ea, ex) ey in
-    take_next (restored arcs amounts) i y (pos 0) before after eb (omega (arith, h, length-restored arcs amounts n)) (sym is) e
+    slice_get-get_or (restored arcs amounts) i (pos 0) (omega (arith, h, length-restored arcs amounts n)) ∙ ap (λ (z : ℤ). Some z) (sym is)
+
+-- one arc more of the loop
+pub restored_next : (flow : List ℤ) (i : ℕ) (x y : ℤ) (before after : List ℤ) → slice_get flow i ≡ Some x → y ≡ x → before ≡ take i flow
+    → after ≡ before ++ y ∷ [] → after ≡ take (i + 1) flow
+restored_next flow i x y before after read same eb e =
+    take_next flow i y (pos 0) before after eb (slice_get_within flow i x read) (get_or_from_slice_get flow i x (pos 0) read ∙ sym same) e
 
 pub net_of-arc_count : (g : Network) → length (net_of g).arcs ≡ length g.arcs
 unfolding net_of

@@ -30,7 +30,7 @@ pub use laws::{
 pub use leaving::Leaving;
 pub use net::Net;
 pub use node_set::NodeSet;
-pub use restoring::restore;
+pub use restoring::{restore, restored_amount};
 pub use rid::Rid;
 pub use state::State;
 pub use walk::{push_along, room_along};

@@ -1,5 +1,5 @@
 //! Lower bounds taken away.
-ghost use Rattle.std.specs.Prelude.{◌≡◌, ◌≤◌, IfOk, OnErr, length, map};
+ghost use Rattle.std.specs.Prelude.{◌≡◌, ◌≤◌, IfOk, OnErr, OnOk, length, map};
 ghost use Rattle.std.specs.List.{range_with_len};
 ghost use Rattle.mcf_instance.specs.Limits.{wide_limits};
 ghost use Rattle.mcf_instance.specs.Network.{node_count};
@@ -30,8 +30,8 @@ impl Net {
         ensures wants { OnErr result (1 ≤ node_count instance.now) }
     {
         let nodes = instance.node_count();
-        let arcs = arcs_without_lows(alloc, instance)?;
-        let supplies = supplies_left(alloc, instance)?;
+        let mut supplies = supplies_of(alloc, instance)?;
+        let arcs = arcs_without_lows(alloc, instance, &mut supplies)?;
         let (firsts, outs) = forward_star(alloc, &arcs, nodes)?;
         Ok(Net {
             problem: instance.problem(),
@@ -43,15 +43,23 @@ impl Net {
     }
 }
 
-// The arcs with their lows taken away.
-fn arcs_without_lows(alloc: Global, instance: &Instance) -> Result<Vec<StoredArc>, NoMemory>
+// The arcs with their lows taken away, which leaves of the supplies what each node still has to send, in one pass.
+fn arcs_without_lows(
+    alloc: Global,
+    instance: &Instance,
+    left: &mut Vec<i128>,
+) -> Result<Vec<StoredArc>, NoMemory>
+    requires { left.old.items ≡ instance.now.supplies }
     ensures value { IfOk result (λ arcs. map stored_arc arcs.items ≡ map without_low instance.now.arcs) }
+    ensures left { OnOk result (left.new.items ≡ map (supply_left instance.now) (range_with_len 1 (node_count instance.now))) }
     ensures wants { OnErr result (1 ≤ length instance.now.arcs) }
 {
     let count = instance.arc_count();
     let mut arcs = Vec::with_capacity(alloc, count as usize)?;
     for i in 0..count {
-        arcs.push(without_low(instance.arc(ArcId::at(i))))?;
+        let a = instance.arc(ArcId::at(i));
+        move_surplus(left, a.src, a.dst, a.low);
+        arcs.push(without_low(a))?;
     }
     Ok(arcs)
 }
@@ -73,19 +81,6 @@ fn without_low(a: Arc) -> StoredArc
         },
         cost: a.cost as i64,
     }
-}
-
-// The supplies that are left when each arc carries its low.
-fn supplies_left(alloc: Global, instance: &Instance) -> Result<Vec<i128>, NoMemory>
-    ensures value { IfOk result (λ left. left.items ≡ map (supply_left instance.now) (range_with_len 1 (node_count instance.now))) }
-    ensures wants { OnErr result (1 ≤ node_count instance.now) }
-{
-    let mut left = supplies_of(alloc, instance)?;
-    for i in 0..instance.arc_count() {
-        let a = instance.arc(ArcId::at(i));
-        move_surplus(&mut left, a.src, a.dst, a.low);
-    }
-    Ok(left)
 }
 
 // The supplies of the nodes.

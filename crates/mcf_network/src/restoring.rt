@@ -1,7 +1,8 @@
 //! Lower bounds put back.
-ghost use Rattle.std.specs.Prelude.{◌≡◌, ◌+ℤ◌, ◌≤◌, ◌≤ℤ◌, ◌↔◌, ℤ, List, IfOk, OnErr, length, pos};
+ghost use Rattle.std.specs.Prelude.{◌≡◌, ◌+ℤ◌, ◌≤◌, ◌≤ℤ◌, ◌↔◌, ◌-◌, ℤ, List, IfOk, OnErr, Some, length, pos, slice_get};
 ghost use Rattle.mcf_instance.specs.Flow.{IsFeasible, Shows, cost};
 ghost use Rattle.mcf_instance.specs.Limits.{wide_limits};
+ghost use Rattle.mcf_instance.specs.Network.{IsArcNumber};
 ghost use Rattle.mcf_instance.specs.WellFormed.{IsArcWithinLimits};
 ghost use Rattle.mcf_network.specs.Nets.{width_limit};
 ghost use Rattle.mcf_network.specs.Removal.{net_of};
@@ -33,11 +34,19 @@ pub fn restore(alloc: Global, instance: &Instance, state: &State<'_>) -> Result<
     let count = instance.arc_count();
     let mut flow = Vec::with_capacity(alloc, count as usize)?;
     for i in 0..count {
-        let k = ArcId::at(i);
-        let amount = state.amount(k);
-        flow.push(restored_flow(instance.arc(k), amount))?;
+        flow.push(restored_amount(instance, state, ArcId::at(i)))?;
     }
     Ok(flow)
+}
+
+/// What an arc carries in that flow: of the flow that `restore` lists, the entry of this arc.
+pub fn restored_amount(instance: &Instance, state: &State<'_>, k: ArcId) -> i128
+    requires of_net { state.now.net ≡ net_of instance.now }
+    requires arc { IsArcNumber instance.now k }
+    ensures value { slice_get (restored instance.now.arcs state.now.amounts) (k - 1) ≡ Some result }
+{
+    let amount = state.amount(k);
+    restored_flow(instance.arc(k), amount)
 }
 
 // What an arc carries where the arc of the net carries an amount.

@@ -1,28 +1,30 @@
 -- What the steps of a search for the greatest prices keep.
-use Rattle.std.proofs.Common.{◌≡◌, ◌≢◌, ℕ, ◌+◌, ◌-◌, ◌≤◌, Bool, true, false, List, [], ◌∷◌, length, set, ℤ, pos, ◌+ℤ◌, ◌-ℤ◌, ◌*ℤ◌, ◌≤ℤ◌, ◌<ℤ◌, refl, sym}
+use Rattle.std.proofs.Common.{◌≡◌, ◌≢◌, ℕ, ◌+◌, ◌-◌, ◌≤◌, Bool, true, false, List, [], ◌∷◌, ◌++◌, length, set, ℤ, pos, ◌+ℤ◌, ◌-ℤ◌, ◌*ℤ◌, ◌≤ℤ◌, ◌<ℤ◌, refl, sym}
 use Rattle.std.proofs.Common.{ap, subst, ◌∙◌, arith, ◌⊎◌, inl, inr, length-set}
-use Rattle.std.specs.Prelude.{◌↔◌}
-use Rattle.std.specs.List.{Contains}
+use Rattle.std.specs.Prelude.{◌↔◌, not}
+use Rattle.std.specs.List.{All, Contains}
 use Rattle.std.proofs.lemmas.Bool.{true≢false}
 use Rattle.std.proofs.lemmas.Int.{ints}
-use Rattle.std.proofs.lemmas.List.{set-get_or}
+use Rattle.std.proofs.lemmas.List.{append_assoc, set-get_or}
+use Rattle.std.proofs.lemmas.List.Elements.{All-head, All-push, All-tail}
 use Rattle.mcf_instance.specs.Blocking.{in_table}
 use Rattle.mcf_instance.specs.Flow.{AreLowPrices}
-use Rattle.mcf_instance.specs.Network.{Network, IsNode, at_node, node_count}
+use Rattle.mcf_instance.specs.Network.{Network, IsArcNumber, IsNode, at_node, node_count}
 use Rattle.mcf_instance.specs.WellFormed.{IsUpTo}
 use Rattle.mcf_instance.proofs.IntLaws.{add-mul, mul-mono_left, zero-mul}
 use Rattle.mcf_network.specs.declared.rid.Rid.{Rid}
 use Rattle.mcf_network.specs.NodeSets.{member_count}
 use Rattle.mcf_network.specs.Residual.{tail, head, unit_cost}
-use Rattle.mcf_network.specs.Stars.{ListsLeaving}
+use Rattle.mcf_network.specs.Stars.{Leaves, ListsLeaving}
 use Rattle.mcf_network.specs.States.{Pseudoflow, IsPseudoflow}
 use Rattle.mcf_network.specs.Walks.{HasRoom}
 use Rattle.mcf_network.proofs.ArcLaws.{head_is_node, tail_is_node}
-use Rattle.mcf_network.proofs.Lists.{Contains-cons}
+use Rattle.mcf_network.proofs.Lists.{All-behind, Contains-cons}
 use Rattle.mcf_network.proofs.Marks.{count_small}
 use Rattle.mcf_prices.specs.Heaps.{ComesFirst, IsFirst, Keyed, Waits, waiting_with, with_key, without}
 use Rattle.mcf_prices.specs.NearPrices.{AreNearPrices, near_limit}
-use Rattle.mcf_prices.specs.Private.Raisings.{IsLastSettled, IsLength, IsRaising, IsReady, KeepsSettled, RespectsLabel, Settled, label, label_reach, step}
+use Rattle.mcf_prices.specs.Private.Raisings.{ArePassed, IsLastSettled, IsLength, IsRaising, IsReady, KeepsSettled, OffersNone, RespectsLabel, Settled}
+use Rattle.mcf_prices.specs.Private.Raisings.{label, label_reach, step}
 use Rattle.mcf_prices.proofs.HeapPlaces.{count_less}
 use Rattle.mcf_prices.proofs.LabelLengths.{length_fewer, length_next, length_zero}
 use Rattle.mcf_prices.proofs.Marks.{read_node}
@@ -81,10 +83,34 @@ settled_from : (t b : Bool) → ((b ≡ true) ↔ (t ≡ true)) → b ≡ false 
 settled_from false b e f = refl
 settled_from true b e f = absurd (true≢false (sym (e.1 refl) ∙ f))
 
+-- one residual arc more is passed over
+pub passed_more : (s : Pseudoflow) (scale slack : ℕ) (base : ℤ) (list rest : List Rid) (out : Rid)
+    → OffersNone s scale slack base (record { arc = out.arc; back = not out.back }) → ArePassed s scale slack base list (out ∷ rest)
+    → ArePassed s scale slack base list rest
+passed_more s scale slack base list rest out offer before =
+    record {
+      first = before.first ++ out ∷ [];
+      none = All-push (λ (r : Rid). OffersNone s scale slack base (record { arc = r.arc; back = not r.back })) before.first out before.none offer;
+      whole = before.whole ∙ sym (append_assoc before.first (out ∷ []) rest);
+    }
+
 -- what relaxing a residual arc does to a search, whatever is still to come
 pub record IsRelaxed (s : Pseudoflow) (scale slack : ℕ) (y : List ℤ) (h h' : Keyed) (out : Rid) : Type 0 where
   pub search : (rest : List Rid) → IsRaising s scale slack y h (out ∷ rest) → IsRaising s scale slack y h' rest
   pub keeps : KeepsSettled (node_count s.net) h h'
+
+-- a residual arc that leaves the node that was settled last, whose label is the base, and those after it are still to come
+pub record IsFound (s : Pseudoflow) (scale slack : ℕ) (y : List ℤ) (h : Keyed) (w : ℕ) (base : ℤ) (out : Rid) (rest : List Rid) : Type 0 where
+  pub arc : IsArcNumber s.net out.arc
+  pub leaves : All (Leaves s.net w) rest
+  pub search : IsRaising s scale slack y h (out ∷ rest)
+  pub last : IsLastSettled (node_count s.net) h (tail s.net out)
+  pub base_is : base ≡ label y h (tail s.net out)
+
+-- the label of a settled node stays as it was
+pub base_kept : (y : List ℤ) (old h : Keyed) (nodes w : ℕ) (base : ℤ) → base ≡ label y old w → IsLastSettled nodes old w → KeepsSettled nodes old h
+    → base ≡ label y h w
+base_kept y old h nodes w base is last keeps = is ∙ ap (λ (z : ℤ). at_node y w +ℤ z) (sym (keeps.keys w last.is_node last.is_settled))
 
 module _ (s : Pseudoflow) (scale slack : ℕ) (y : List ℤ) (flow : IsPseudoflow s) (near : AreNearPrices s scale slack y) where
   head_node : (r : Rid) → HasRoom s r → IsNode (node_count s.net) (head s.net r)
@@ -213,6 +239,44 @@ module _ (s : Pseudoflow) (scale slack : ℕ) (y : List ℤ) (flow : IsPseudoflo
             | inr later ↦ inr later
           ]
         ];
+      }
+
+  -- the first residual arcs of a list are passed over
+  pub passed : (h : Keyed) (w : ℕ) (base : ℤ) (first rest : List Rid) → base ≡ label y h w → All (Leaves s.net w) (first ++ rest)
+      → All (λ r. OffersNone s scale slack base (record { arc = r.arc; back = not r.back })) first → IsRaising s scale slack y h (first ++ rest)
+      → IsRaising s scale slack y h rest
+  passed h w base [] rest is leaves none search = search
+  passed h w base (out ∷ first) rest is leaves none search =
+      let from = (All-head (Leaves s.net w) out (first ++ rest) leaves).from in
+      let here = ap (λ x. label y h x) (head_reversed s.net out.arc out.back ∙ from) in
+      let offer = All-head (λ (r : Rid). OffersNone s scale slack base (record { arc = r.arc; back = not r.back })) out first none in
+      let respects : RespectsLabel s scale slack y h (reverse out) = λ room.
+      let low = offer room in
+      let up = search.not_above (tail s.net (reverse out)) (tail_node (reverse out) room) in
+      omega (arith, ints, low, up, here, is) in
+      passed h w base first rest is (All-tail (Leaves s.net w) out (first ++ rest) leaves)
+      (All-tail (λ (r : Rid). OffersNone s scale slack base (record { arc = r.arc; back = not r.back })) out first none)
+      (kept h out (first ++ rest) respects search)
+
+  pub passed_list : (h : Keyed) (w : ℕ) (base : ℤ) (list rest : List Rid) → base ≡ label y h w → All (Leaves s.net w) list
+      → ArePassed s scale slack base list rest → IsRaising s scale slack y h list → IsRaising s scale slack y h rest
+  passed_list h w base list rest is leaves before search =
+      passed h w base before.first rest is (subst (λ (xs : List Rid). All (Leaves s.net w) xs) before.whole leaves) before.none
+      (subst (λ (xs : List Rid). IsRaising s scale slack y h xs) before.whole search)
+
+  pub found : (h : Keyed) (w : ℕ) (base : ℤ) (list rest : List Rid) (out : Rid) → base ≡ label y h w → IsLastSettled (node_count s.net) h w
+      → All (Leaves s.net w) list → ArePassed s scale slack base list (out ∷ rest) → IsRaising s scale slack y h list
+      → IsFound s scale slack y h w base out rest
+  found h w base list rest out is last leaves before search =
+      let here : All (Leaves s.net w) (out ∷ rest) = All-behind (Leaves s.net w) before.first (out ∷ rest)
+      (subst (λ (xs : List Rid). All (Leaves s.net w) xs) before.whole leaves) in
+      let first = All-head (Leaves s.net w) out rest here in
+      record {
+        arc = first.arc;
+        leaves = All-tail (Leaves s.net w) out rest here;
+        search = passed_list h w base list (out ∷ rest) is leaves before search;
+        last = subst (λ x. IsLastSettled (node_count s.net) h x) (sym first.from) last;
+        base_is = is ∙ ap (λ x. label y h x) (sym first.from);
       }
 
   -- ---- the key of the tail is lowered

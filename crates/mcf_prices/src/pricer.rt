@@ -1,5 +1,6 @@
 //! The greatest prices that show a state, from prices that nearly show it.
-ghost use Rattle.std.specs.Prelude.{◌≡◌, ◌+◌, ◌*◌, ◌^◌, ◌<◌, ◌≤◌, ◌+ℤ◌, ◌-ℤ◌, ◌*ℤ◌, ◌≤ℤ◌, ◌∷◌, ℕ, ℤ, List, [], IfOk, OnErr, length, neg_ℤ, pos};
+ghost use Rattle.std.specs.Prelude.{◌≡◌, ◌+◌, ◌*◌, ◌^◌, ◌<◌, ◌≤◌, ◌+ℤ◌, ◌-ℤ◌, ◌*ℤ◌, ◌≤ℤ◌, ◌∷◌, ℕ, ℤ, List, [], false, true, IfNone, IfOk, IfSome, OnErr};
+ghost use Rattle.std.specs.Prelude.{length, neg_ℤ, pos};
 ghost use Rattle.std.specs.List.{All};
 ghost use Rattle.mcf_instance.specs.Limits.{node_limit};
 ghost use Rattle.mcf_instance.specs.Network.{IsArcNumber, IsNode, at_node, node_count};
@@ -7,17 +8,17 @@ ghost use Rattle.mcf_instance.specs.WellFormed.{IsUpTo};
 ghost use Rattle.mcf_network.specs.declared.rid.Rid.{Rid};
 ghost use Rattle.mcf_network.specs.Residual.{tail};
 ghost use Rattle.mcf_network.specs.Stars.{ListsLeaving};
-ghost use Rattle.mcf_network.specs.States.{IsPseudoflow};
+ghost use Rattle.mcf_network.specs.States.{IsPseudoflow, amount_at};
 ghost use Rattle.mcf_prices.specs.Heaps.{NoneWaits};
 ghost use Rattle.mcf_prices.specs.Private.Labels.{cost_limit};
 ghost use Rattle.mcf_prices.specs.NearPrices.{AreNearPrices, OptimalPricesAreNear, ShownPricesAreNear, near_limit};
 ghost use Rattle.mcf_prices.specs.Outcomes.{AreStatePrices};
-ghost use Rattle.mcf_prices.specs.Private.Raisings.{AreRounded, IsLastSettled, IsRaising, IsReady, IsRoundedDown, KeepsSettled, label, label_limit};
-ghost use Rattle.mcf_prices.specs.Private.Raisings.{label_reach, quotient_reach, step};
+ghost use Rattle.mcf_prices.specs.Private.Raisings.{ArePassed, AreRounded, IsLastSettled, IsRaising, IsReady, IsRoundedDown, KeepsSettled, OffersNone};
+ghost use Rattle.mcf_prices.specs.Private.Raisings.{label, label_limit, label_reach, quotient_reach, step};
 
 use crate::heap::Heap;
-use mcf_network::{Net, Rid, State};
-use mcf_text::{NoMemory, NodeId};
+use mcf_network::{Leaving, Net, Rid, State};
+use mcf_text::{ArcId, NoMemory, NodeId};
 use std::alloc::Global;
 use std::marker::Model;
 
@@ -137,12 +138,67 @@ fn scan(heap: &mut Heap, state: &State<'_>, scale: u32, slack: u32, prices: &[i1
     ensures search { IsRaising state.now scale slack prices.now heap.new [] }
     ensures kept { KeepsSettled (node_count state.now.net) heap.old heap.new }
 {
-    let leaving = state.net().leaving(w);
+    let mut leaving = state.net().leaving(w);
     let base = label_of(heap, prices, w);
-    'entering: for out in leaving {
+    'entering: while let Some(out) = next_offer(&mut leaving, state, scale, slack, base) {
         let (arc, back) = (out.arc, out.back);
         relax(heap, state, scale, slack, prices, base, Rid { arc, back });
     }
+}
+
+// The next residual arc whose reverse may offer its tail a label below 0, where its head has the label `base`. Those
+// before it are passed over: no label is above 0, so that they lower none.
+fn next_offer(
+    leaving: &mut Leaving<'_>,
+    state: &State<'_>,
+    scale: u32,
+    slack: u32,
+    base: i128,
+) -> Option<Rid>
+    requires arcs { All (λ r. IsArcNumber state.now.net r.arc) leaving.old }
+    requires scale { scale ≤ node_limit + 1 }
+    requires base { IsUpTo label_reach base }
+    ensures some { IfSome result (λ out. ArePassed state.now scale slack base leaving.old (out ∷ leaving.new)) }
+    ensures none { IfNone result (ArePassed state.now scale slack base leaving.old []) }
+{
+    'arcs: while let Some(out) = leaving.next() {
+        let (arc, back) = (out.arc, out.back);
+        if may_offer(state, scale, slack, base, arc, !back) {
+            return Some(Rid { arc, back });
+        }
+    }
+    None
+}
+
+// Whether a residual arc may offer its tail a label below 0, where its head has the label `base`. Backward along an arc
+// that carries nothing it has no room.
+fn may_offer(state: &State<'_>, scale: u32, slack: u32, base: i128, arc: ArcId, back: bool) -> bool
+    requires arc { IsArcNumber state.now.net arc }
+    requires scale { scale ≤ node_limit + 1 }
+    requires base { IsUpTo label_reach base }
+    ensures { result ≡ false → OffersNone state.now scale slack base (record { arc = arc; back = back }) }
+{
+    if back && carries_nothing(state, arc) {
+        return false;
+    }
+    is_below_zero(base, step(state, scale, slack, Rid { arc, back }))
+}
+
+// Whether an arc carries nothing.
+fn carries_nothing(state: &State<'_>, arc: ArcId) -> bool
+    requires { IsArcNumber state.now.net arc }
+    ensures { result ≡ true → amount_at state.now arc ≤ℤ pos 0 }
+{
+    state.amount(arc) <= 0
+}
+
+// Whether a label and the length of an arc add up to less than 0.
+fn is_below_zero(base: i128, length: i128) -> bool
+    requires base { IsUpTo label_reach base }
+    requires length { IsUpTo label_reach length }
+    ensures { result ≡ false → pos 0 ≤ℤ (base +ℤ length) }
+{
+    base + length < 0
 }
 
 // Lowers the key of the tail of the reverse of a residual arc, if that offers less. The head was settled last, and
@@ -170,12 +226,12 @@ fn relax(
     if !heap.waits(from) {
         return;
     }
-    if state.room(Rid { arc, back }) <= 0 {
-        return;
-    }
     let length = step(state, scale, slack, Rid { arc, back });
     let key = offered(base, length, price_of(prices, from));
     if heap.key(from) <= key {
+        return;
+    }
+    if state.room(Rid { arc, back }) <= 0 {
         return;
     }
     heap.lower(from, key);

@@ -1,6 +1,6 @@
 -- What a run ends with.
 use Rattle.std.proofs.Common.{◌≡◌, ℕ, ◌*◌, ◌^◌, ◌-◌, List, [], ◌∷◌, ◌++◌, length, drop, take, replicate, refl, sym, ap, ◌∙◌, arith, subst}
-use Rattle.std.proofs.Common.{inl, Option, ℤ, pos, ◌≤ℤ◌}
+use Rattle.std.proofs.Common.{inl, inr, Option, Result, Ok, Err, IfOk, ℤ, pos, ◌≤ℤ◌}
 use Rattle.std.specs.List.{All}
 use Rattle.std.proofs.lemmas.Int.{ints}
 use Rattle.std.proofs.Math.Seq.{take-append_seam}
@@ -25,7 +25,7 @@ use Rattle.mcf_basis.specs.Structures.{TreeStructure, state_of}
 use Rattle.mcf_basis.specs.Violations.{HasNoEligible}
 use Rattle.mcf_basis.proofs.LastBases.{last_bases_are_shown_lem}
 use Rattle.mcf_simplex.specs.Private.Loops.{IsLoop}
-use Rattle.mcf_simplex.specs.Runs.{IsMadeByRun, IsRun}
+use Rattle.mcf_simplex.specs.Runs.{IsEmptyRun, IsMadeByRun, IsRun}
 
 -- an answer whose state was made in one way is one whose state was made in another
 pub outcome_wider : (Made Wide : Pseudoflow → Type 0) (g : Network) (answer : Outcome)
@@ -98,6 +98,18 @@ run_outcome Picks r g first t last answer starts loop ok net outcome =
     let of_net : last.net ≡ g = net ∙ starts.of_net in
     outcome_wider (λ s. s ≡ state_of last) (λ s. IsMadeByRun Picks r g s t) g answer (λ s e. made_by_run Picks r g first t last s starts loop ok e)
     (subst (λ n. IsOutcome (λ s. s ≡ state_of last) n answer) of_net outcome)
+
+-- what holds whatever was answered
+if_any : {A E : Type 0} (X : Type 0) (answer : Result A E) → X → IfOk answer (λ _. X)
+if_any X (Ok a) x = x
+if_any X (Err e) x = tt
+
+-- on a net without nodes the rule stays
+pub asked_nothing : {R E : Type 0} (Picks : R → TreeStructure → Option ℕ → R → Type 0) (r : R) (g : Network) (answer : Result Outcome E)
+    → node_count g ≡ 0 → IfOk answer (λ _. (s : Pseudoflow) × IsMadeByRun Picks r g s r)
+asked_nothing {R} Picks r g answer none =
+    let empty : IsEmptyRun r g (record { net = g; amounts = [] }) r = record { no_nodes = none; state = refl; unasked = refl } in
+    if_any ((s : Pseudoflow) × IsMadeByRun Picks r g s r) answer (record { net = g; amounts = [] }, inr empty)
 
 -- ---- a net without nodes
 

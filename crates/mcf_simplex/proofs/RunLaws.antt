@@ -29,7 +29,7 @@ run_is last g s net solution e =
 reached_net : {R : Type 0} (Picks : R → TreeStructure → Option ℕ → R → Type 0) (r : R) (b : TreeStructure) (s : R) (c : TreeStructure) (pivots : ℕ)
     → Reached Picks r b s c pivots → c.net ≡ b.net
 reached_net Picks r b _ _ _ start = refl
-reached_net Picks r b _ _ _ (next {s} {t} {c} {d} {pivots} before picks pivot falls) = pivot.net ∙ reached_net Picks r b s c pivots before
+reached_net Picks r b _ _ _ (next {s} {t} {c} {d} {pivots} before picks pivot falls ok) = pivot.net ∙ reached_net Picks r b s c pivots before
 
 pub runs_are_tree_solutions_lem : {R : Type 0} (Picks : R → TreeStructure → Option ℕ → R → Type 0) → RunsAreTreeSolutions Picks
 runs_are_tree_solutions_lem Picks r g s t ok (inl run) =

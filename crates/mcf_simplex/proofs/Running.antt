@@ -29,7 +29,7 @@ module _ {R : Type 0} (Picks : R → TreeStructure → Option ℕ → R → Type
       let within = w.within in
       record {
         pivots = w.pivots + 1;
-        reached = next w.reached picks pivot falls;
+        reached = next w.reached picks pivot falls ok;
         basis = ok;
         net = pivot.net ∙ w.net;
         within = omega (arith, ints, less, within);

@@ -8,11 +8,12 @@ use Rattle.mcf_basis.specs.Ranks.{IsBounded}
 use Rattle.mcf_basis.specs.Starts.{IsStart}
 use Rattle.mcf_basis.specs.Structures.{TreeStructure, state_of}
 
--- from the rule r and the basis b so many pivots lead to another rule and another basis: each lowers the pair
+-- from the rule r and the basis b so many pivots lead to another rule and another basis: each lowers the pair, and leads to a basis,
+-- which is strongly feasible
 pub data Reached {R : Type 0} (Picks : R → TreeStructure → Option ℕ → R → Type 0) (r : R) (b : TreeStructure) : R → TreeStructure → ℕ → Type 0 where
   start : Reached Picks r b r b 0
   next : {s t : R} {c d : TreeStructure} {pivots k : ℕ} {moved : ℤ} → Reached Picks r b s c pivots → Picks s c (Some k) t
-      → IsPivot c k moved d → PairFalls c d → Reached Picks r b t d (pivots + 1)
+      → IsPivot c k moved d → PairFalls c d → IsBasis d → Reached Picks r b t d (pivots + 1)
 
 -- A state was made by a run from the rule r to the rule t: from the start basis of the net so many pivots, within the bound, lead to a basis
 -- at which the rule finds no arc, and whose amounts are those of the state.

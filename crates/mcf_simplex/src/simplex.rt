@@ -1,11 +1,12 @@
 //! The engine.
-ghost use Rattle.std.specs.Prelude.{◌≡◌, ◌≤◌, [], IfOk, OnErr, length, pos};
+ghost use Rattle.std.specs.Prelude.{◌≡◌, ◌≢◌, ◌≤◌, [], IfOk, OnErr, length, pos};
 ghost use Rattle.mcf_basis.specs.Laws.{HasNoArtificial};
 ghost use Rattle.mcf_basis.specs.Starts.{IsStart};
 ghost use Rattle.mcf_basis.specs.Structures.{state_of};
 ghost use Rattle.mcf_basis.specs.Violations.{HasNoEligible};
 ghost use Rattle.mcf_feas.specs.Chosen.{supply_total};
 ghost use Rattle.mcf_instance.specs.Network.{node_count};
+ghost use Rattle.mcf_network.specs.States.{Pseudoflow};
 ghost use Rattle.mcf_prices.specs.Outcomes.{AreStatePrices, IsLeastState, IsOutcome};
 ghost use Rattle.mcf_simplex.specs.Runs.{IsMadeByRun};
 
@@ -70,10 +71,14 @@ impl<P: Pricing> Engine for Simplex<P> {
     /// # Errors
     ///
     /// Want of memory, where a growth was refused; a net without nodes wants none. The rule is then as it was, and was not asked.
+    ///
+    /// Nor is it asked where the supplies don't add up to 0. On any other net it becomes what one run makes of it, whatever the answer.
     fn solve<'n>(&mut self, alloc: Global, net: &'n Net) -> Result<Outcome<'n>, NoMemory>
         ensures outcome { IfOk result (IsOutcome (λ s. IsMadeByRun P.Picks self.old net.now s self.new) net.now) }
         ensures wants { OnErr result (1 ≤ node_count net.now) }
         ensures err { OnErr result (self.new ≡ self.old) }
+        ensures unasked { supply_total net.now ≢ pos 0 → self.new ≡ self.old }
+        ensures asked { supply_total net.now ≡ pos 0 → IfOk result (λ _. (s : Pseudoflow) × IsMadeByRun P.Picks self.old net.now s self.new) }
     {
         if net.node_count() == 0 {
             return without_nodes(alloc, net);

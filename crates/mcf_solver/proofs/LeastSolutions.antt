@@ -4,7 +4,8 @@ use Rattle.std.specs.List.{All, AllZip}
 use Rattle.std.proofs.lemmas.Int.{ints}
 use Rattle.mcf_answer.specs.Ranges.{IsAmount}
 use Rattle.mcf_checker.specs.Correct.{IsRightFlow}
-use Rattle.mcf_instance.specs.Flow.{AreGreatestPrices, CanCarry, cost}
+use Rattle.mcf_feas.specs.Feasible.{IsFeasibleState}
+use Rattle.mcf_instance.specs.Flow.{AreGreatestPrices, CanCarry, IsWithinBounds, cost}
 use Rattle.mcf_instance.specs.Limits.{limits}
 use Rattle.mcf_instance.specs.Network.{Network}
 use Rattle.mcf_instance.specs.WellFormed.{IsUpTo, IsWellFormed}
@@ -13,7 +14,7 @@ use Rattle.mcf_network.specs.Laws.{GreatestPricesCarryOver, RestoredLeastFlowsAr
 use Rattle.mcf_network.specs.Removal.{net_of}
 use Rattle.mcf_network.specs.Restoring.{restored}
 use Rattle.mcf_network.specs.States.{Pseudoflow}
-use Rattle.mcf_network.proofs.RestoringLaws.{net_of-arc_count}
+use Rattle.mcf_network.proofs.RestoringLaws.{net_of-arc_count, restored_all}
 use Rattle.mcf_prices.specs.Outcomes.{IsLeastState}
 use Rattle.mcf_prices.specs.Recovering.{price_limit}
 use Rattle.mcf_solver.specs.Answering.{IsLeastFlow}
@@ -23,6 +24,10 @@ use Rattle.mcf_solver.proofs.LoopFlows.{loops_settled}
 -- prices within their limit are amounts
 pub amounts_from_prices : (prices : List ℤ) → All (IsUpTo price_limit) prices → All IsAmount prices
 amounts_from_prices prices small k d h = let here = small k d h in (omega (arith, ints, here), omega (arith, ints, here))
+
+-- the flow that a feasible state stands for keeps the bounds of its arcs
+pub restored_bounds : (g : Network) (s : Pseudoflow) → IsWellFormed limits g → IsFeasibleState (net_of g) s → IsWithinBounds g.arcs (restored g.arcs s.amounts)
+restored_bounds g s ok state = (restored_all g s ok state.of_net state.flow state.no_surplus).feasible.within_bounds
 
 -- a flow of an instance with its cost and prices, made of a least state
 pub record IsMadeOf (g : Network) (s : Pseudoflow) (total : ℤ) (prices flow : List ℤ) : Type 0 where

@@ -1,6 +1,7 @@
 -- The arcs that don't carry their low, as a loop over the arcs lists them, and the flow that they give.
-use Rattle.std.proofs.Common.{◌≡◌, ℕ, zero, suc, ◌+◌, ◌≤◌, ◌<◌, Bool, true, false, cond, eqb, refl, ap, sym, subst, ◌∙◌, arith, List, [], ◌∷◌, ◌++◌}
+use Rattle.std.proofs.Common.{◌≡◌, ℕ, zero, suc, ◌+◌, ◌-◌, ◌≤◌, ◌<◌, Bool, true, false, cond, eqb, refl, ap, sym, subst, ◌∙◌, arith, List, [], ◌∷◌, ◌++◌}
 use Rattle.std.proofs.Common.{get_or, length, map, drop, take, Option, Some, None, ℤ, pos}
+use Rattle.std.specs.Prelude.{slice_get}
 use Rattle.std.specs.List.{All, enumerate_from, filter_map, find, zip, cons_option}
 use Rattle.std.specs.List.Sorted.{IsStrictlyIncreasing}
 use Rattle.std.specs.Ordering.{int_eq}
@@ -9,6 +10,7 @@ use Rattle.std.proofs.lemmas.Bool.Decides.{Decides-int_eq}
 use Rattle.std.proofs.lemmas.List.{append-nil, append_assoc, drop_all, drop_more}
 use Rattle.std.proofs.lemmas.List.Elements.{All-cons}
 use Rattle.std.proofs.lemmas.Int.{ints}
+use Rattle.std.proofs.lemmas.Option.{get_or_from_slice_get}
 use Rattle.mcf_answer.specs.Ranges.{IsAmount}
 use Rattle.mcf_answer.specs.SparseSolution.{arc_numbers}
 use Rattle.mcf_checker.specs.Correct.{spread, stated_or_low}
@@ -175,6 +177,12 @@ moved_done arcs flow i moved h so_far =
 pub record IsStatedUpTo (g : Network) (flow : List ℤ) (i : ℕ) (total : ℤ) (moved : List (ℕ × ℤ)) : Type 0 where
   pub cost_is : total ≡ cost (take i g.arcs) flow
   pub lines : IsMovedUpTo g.arcs flow i moved
+
+-- what is read of a flow at the place of an arc
+pub read_at : (flow : List ℤ) (i k : ℕ) (x : ℤ) → k ≡ i + 1 → slice_get flow (k - 1) ≡ Some x → x ≡ get_or flow i (pos 0)
+read_at flow i k x is read =
+    let back : k - 1 ≡ i = omega (arith, is) in
+    sym (get_or_from_slice_get flow i x (pos 0) (subst (λ j. slice_get flow j ≡ Some x) back read))
 
 -- one arc more, of this number
 pub line_more : (arcs : List Arc) (flow : List ℤ) (i number : ℕ) (a : Arc) (f : ℤ) (before after : List (ℕ × ℤ)) → i < length arcs → i < length flow

@@ -62,7 +62,8 @@ answer_kind (Sparse a) = WithFlow
 answer_kind (Blocked a) = WithSet
 answer_kind (Refused r) = WithRefusal
 
--- the text is what is written of the answer that is owed, and the checker accepts it
+-- the text is what is written of an answer that is owed: its flow was made as the choice means, and has the shape and the form
+-- that it means; the kind is the answer's; it is correct, and the checker accepts it
 pub record IsAnswerTo (choice : Choice) (input : List ℕ) (kind : Kind) (text : List ℕ) : Type 0 where
   pub answer : Answer
   pub in_range : IsAnswer answer
@@ -81,10 +82,12 @@ pub record AppendsAnswer (choice : Choice) (input : List ℕ) (kind : Kind) (old
   pub appended : new ≡ old ++ text
   pub answer : IsAnswerTo choice input kind text
 
--- the written text of the answer that is owed doesn't fit the room after the bytes that are there
-pub record LacksRoom (input : List ℕ) (capacity bytes : ℕ) : Type 0 where
+-- the written text of an answer that is owed, in the form that is chosen, doesn't fit the room after the bytes that are there
+pub record LacksRoom (choice : Choice) (input : List ℕ) (capacity bytes : ℕ) : Type 0 where
   pub answer : Answer
+  pub in_range : IsAnswer answer
   pub owed : IsOwed (reading limits input) answer
+  pub formed : HasForm choice.form (reading limits input) answer
   pub short : capacity < bytes + length (written answer)
 
 -- the text has a first fault

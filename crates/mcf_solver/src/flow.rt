@@ -4,7 +4,8 @@ ghost use Rattle.std.specs.List.{All};
 ghost use Rattle.mcf_answer.specs.Ranges.{IsAmount};
 ghost use Rattle.mcf_answer.specs.Solution.{IsSent};
 ghost use Rattle.mcf_checker.specs.Correct.{amounts, arc_ends, sent_ends};
-ghost use Rattle.mcf_instance.specs.Flow.{IsWithinBounds, cost};
+ghost use Rattle.mcf_feas.specs.Feasible.{IsFeasibleState};
+ghost use Rattle.mcf_instance.specs.Flow.{cost};
 ghost use Rattle.mcf_instance.specs.Limits.{limits};
 ghost use Rattle.mcf_instance.specs.WellFormed.{IsWellFormed};
 ghost use Rattle.mcf_network.specs.Removal.{net_of};
@@ -14,7 +15,9 @@ ghost use Rattle.mcf_solver.specs.Answering.{IsLeastSolution};
 
 use mcf_answer::{FlowAnswer, PriceList, Sent, SentList};
 use mcf_instance::Instance;
-use mcf_network::{State, greatest_prices_carry_over, restore, restored_least_flows_are_least};
+use mcf_network::{
+    State, greatest_prices_carry_over, restored_amount, restored_least_flows_are_least,
+};
 use mcf_prices::greatest_prices_are_small;
 use mcf_text::{ArcId, NoMemory};
 use std::alloc::Global;
@@ -40,8 +43,7 @@ pub(crate) fn flow_answer(
     restored_least_flows_are_least();
     greatest_prices_carry_over();
     greatest_prices_are_small();
-    let flow = restore(alloc, instance, state)?;
-    let carried = carried_along(alloc, instance, &flow)?;
+    let carried = carried_along(alloc, instance, state)?;
     Ok(FlowAnswer {
         cost: carried.cost,
         sent: SentList::new(carried.sent),
@@ -56,13 +58,13 @@ struct Carried {
     sent: Vec<Sent>,
 }
 
-// The cost of a flow and what it carries, in one pass over the arcs.
-fn carried_along(alloc: Global, instance: &Instance, flow: &[i128]) -> Result<Carried, NoMemory>
-    requires { IsWithinBounds instance.now.arcs flow.now }
-    ensures value { IfOk result (λ made. made.cost ≡ cost instance.now.arcs flow.now) }
+// The cost of the flow for which a state stands and what it carries, in one pass over the arcs.
+fn carried_along(alloc: Global, instance: &Instance, state: &State<'_>) -> Result<Carried, NoMemory>
+    requires { IsFeasibleState (net_of instance.now) state.now }
+    ensures value { IfOk result (λ made. made.cost ≡ cost instance.now.arcs (restored instance.now.arcs state.now.amounts)) }
     ensures small { IfOk result (λ made. IsAmount made.cost) }
     ensures ends { IfOk result (λ made. sent_ends made.sent.items ≡ arc_ends instance.now) }
-    ensures flow { IfOk result (λ made. amounts made.sent.items ≡ flow.now) }
+    ensures flow { IfOk result (λ made. amounts made.sent.items ≡ restored instance.now.arcs state.now.amounts) }
     ensures fit { IfOk result (λ made. All IsSent made.sent.items) }
     ensures well_formed { IsWellFormed limits instance.now }
     ensures wants { OnErr result (1 ≤ length instance.now.arcs) }
@@ -71,8 +73,9 @@ fn carried_along(alloc: Global, instance: &Instance, flow: &[i128]) -> Result<Ca
     let mut total = 0;
     let mut sent = Vec::with_capacity(alloc, count as usize)?;
     for i in 0..count {
-        let arc = instance.arc(ArcId::new(i + 1));
-        let amount = flow[i as usize];
+        let number = ArcId::at(i);
+        let arc = instance.arc(number);
+        let amount = restored_amount(instance, state, number);
         total += arc.cost * amount;
         sent.push(Sent {
             src: arc.src,

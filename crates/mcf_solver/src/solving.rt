@@ -54,7 +54,7 @@ pub fn solve_text(
     ensures refused { IfOk result (λ kind. (kind ≡ Kind.Refused) ↔ HasFault input.now) }
     ensures none { IfOk result (λ kind. kind ≡ Kind.Blocked → HasNoFlow input.now) }
     ensures err { OnErr result (out.new.items ≡ out.old.items) }
-    ensures wants { OnErr result ((1 ≤ (header (rows input.now)).nodes) ⊎ LacksRoom input.now (vec_capacity out.old) (vec_len out.old)) }
+    ensures wants { OnErr result ((1 ≤ (header (rows input.now)).nodes) ⊎ LacksRoom choice input.now (vec_capacity out.old) (vec_len out.old)) }
     ensures capacity { vec_capacity out.old ≤ vec_capacity out.new }
 {
     correct_answers_are_accepted();

@@ -4,7 +4,8 @@ ghost use Rattle.std.specs.List.{cons_option};
 ghost use Rattle.std.specs.Ordering.{int_eq};
 ghost use Rattle.mcf_answer.specs.Ranges.{IsAmount};
 ghost use Rattle.mcf_checker.specs.Correct.{spread};
-ghost use Rattle.mcf_instance.specs.Flow.{IsWithinBounds, cost};
+ghost use Rattle.mcf_feas.specs.Feasible.{IsFeasibleState};
+ghost use Rattle.mcf_instance.specs.Flow.{cost};
 ghost use Rattle.mcf_instance.specs.Limits.{limits};
 ghost use Rattle.mcf_instance.specs.WellFormed.{IsWellFormed};
 ghost use Rattle.mcf_network.specs.Removal.{net_of};
@@ -16,7 +17,9 @@ ghost use Rattle.mcf_solver.specs.Private.MovedArcs.{AreMovedOf};
 
 use mcf_answer::{MovedList, PriceList, SparseAnswer};
 use mcf_instance::{Arc, Instance};
-use mcf_network::{State, greatest_prices_carry_over, restore, restored_least_flows_are_least};
+use mcf_network::{
+    State, greatest_prices_carry_over, restored_amount, restored_least_flows_are_least,
+};
 use mcf_prices::greatest_prices_are_small;
 use mcf_text::{ArcId, NoMemory};
 use std::alloc::Global;
@@ -43,8 +46,7 @@ pub(crate) fn sparse_answer(
     restored_least_flows_are_least();
     greatest_prices_carry_over();
     greatest_prices_are_small();
-    let flow = restore(alloc, instance, state)?;
-    let stated = stated_along(alloc, instance, &flow)?;
+    let stated = stated_along(alloc, instance, state)?;
     Ok(SparseAnswer {
         cost: stated.cost,
         moved: MovedList::new(stated.moved),
@@ -59,12 +61,16 @@ struct StatedFlow {
     moved: Vec<(ArcId, i128)>,
 }
 
-// The cost of a flow and the arcs that don't carry their low, in one pass over the arcs.
-fn stated_along(alloc: Global, instance: &Instance, flow: &[i128]) -> Result<StatedFlow, NoMemory>
-    requires { IsWithinBounds instance.now.arcs flow.now }
-    ensures value { IfOk result (λ made. made.cost ≡ cost instance.now.arcs flow.now) }
+// The cost of the flow for which a state stands, and the arcs that don't carry their low, in one pass over the arcs.
+fn stated_along(
+    alloc: Global,
+    instance: &Instance,
+    state: &State<'_>,
+) -> Result<StatedFlow, NoMemory>
+    requires { IsFeasibleState (net_of instance.now) state.now }
+    ensures value { IfOk result (λ made. made.cost ≡ cost instance.now.arcs (restored instance.now.arcs state.now.amounts)) }
     ensures small { IfOk result (λ made. IsAmount made.cost) }
-    ensures moved { IfOk result (λ made. made.moved.items ≡ moved_of instance.now.arcs flow.now) }
+    ensures moved { IfOk result (λ made. made.moved.items ≡ moved_of instance.now.arcs (restored instance.now.arcs state.now.amounts)) }
     ensures are_moved { IfOk result (λ made. AreMovedOf instance.now made.moved.items) }
     ensures well_formed { IsWellFormed limits instance.now }
     ensures wants { OnErr result (1 ≤ length instance.now.arcs) }
@@ -75,7 +81,7 @@ fn stated_along(alloc: Global, instance: &Instance, flow: &[i128]) -> Result<Sta
     for i in 0..count {
         let number = ArcId::at(i);
         let arc = instance.arc(number);
-        let amount = flow[i as usize];
+        let amount = restored_amount(instance, state, number);
         total += arc.cost * amount;
         add_moved(&mut moved, number, &arc, amount)?;
     }

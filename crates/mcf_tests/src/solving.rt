@@ -2,7 +2,6 @@
 //!
 //! Rows stand in statics, and a row is judged by a function that answers whether it holds: a test of many
 //! assertions, or one that makes its rows, takes long to prove.
-use crate::instances::of_greatest_total;
 use mcf_checker::{Verdict, check};
 use mcf_solver::{BlockSize, Choice, EngineChoice, Form, Kind, PricingChoice, solve_text};
 use mcf_text::NoMemory;
@@ -479,6 +478,16 @@ fn one_of_several_least_flows(rt: HostRuntime) -> Result<(), Fail> {
     Ok(())
 }
 
+// An instance on two nodes: a thousand arcs of the greatest bound and cost, whose total is 10^36, and one that costs nothing.
+fn of_greatest_total(alloc: Global) -> Result<Vec<u8>, NoMemory> {
+    let mut text = b"p min 2 1001\n".to_vec(alloc)?;
+    for _ in 0..1_000 {
+        text.extend_from_slice(b"a 1 2 0 1000000000000000000 1000000000000000\n")?;
+    }
+    text.extend_from_slice(b"a 1 2 0 1 0\n")?;
+    Ok(text)
+}
+
 // What is written where 1,001 arcs between two nodes carry nothing.
 fn nothing_flows(alloc: Global) -> Result<Vec<u8>, NoMemory> {
     let mut text = b"s 0\n".to_vec(alloc)?;
@@ -501,7 +510,7 @@ fn writes(alloc: Global, instance: &[u8], way: &Way, answer: &[u8]) -> Result<bo
 // Arcs whose total is 10^36 and that carry nothing.
 #[test]
 fn the_greatest_total(rt: HostRuntime) -> Result<(), Fail> {
-    let instance = of_greatest_total(rt.alloc(), b"p min 2 1001\n", b"a 1 2 0 1 0\n")?;
+    let instance = of_greatest_total(rt.alloc())?;
     let answer = nothing_flows(rt.alloc())?;
     for way in &WAYS {
         assert!(rt; writes(rt.alloc(), &instance, way, &answer)?);

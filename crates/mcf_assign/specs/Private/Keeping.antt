@@ -6,8 +6,8 @@ use Rattle.mcf_instance.specs.Network.{Network, IsNode, at_node, node_count}
 use Rattle.mcf_instance.specs.WellFormed.{IsUpTo}
 use Rattle.mcf_network.specs.States.{Pseudoflow}
 use Rattle.mcf_assign.specs.declared.search.Tables.{Tables}
-use Rattle.mcf_assign.specs.Forests.{IsOrder}
-use Rattle.mcf_assign.specs.Matchings.{AreMatchingPrices, AreMates, IsMatchedRow, IsPartialMatching, IsRow}
+use Rattle.mcf_assign.specs.Private.Forests.{AreMates, IsOrder}
+use Rattle.mcf_assign.specs.Matchings.{AreMatchingPrices, IsMatchedRow, IsPartialMatching, IsRow}
 use Rattle.mcf_assign.specs.Private.Searches.{HasEntries, IsNear, IsOver, IsSearch, Search, Settled, reach_of, search_of}
 
 -- tables for so many nodes: what is settled is listed, and there is room to list every node

@@ -1,7 +1,7 @@
 -- A search for the greatest prices that show a state, from prices that nearly show it: the label of a node is the
 -- least cost, at costs times the scale and with the slack for each arc, of a walk with room that begins there.
-use Rattle.std.specs.Prelude.{◌≡◌, ℕ, ◌+◌, ◌*◌, ◌^◌, ◌≤◌, false, not, List, length, ℤ, pos, neg_ℤ, ◌+ℤ◌, ◌*ℤ◌, ◌≤ℤ◌, ◌<ℤ◌, ◌⊎◌}
-use Rattle.std.specs.List.{Contains}
+use Rattle.std.specs.Prelude.{◌≡◌, ℕ, ◌+◌, ◌*◌, ◌^◌, ◌≤◌, ◌++◌, false, not, List, length, ℤ, pos, neg_ℤ, ◌+ℤ◌, ◌*ℤ◌, ◌≤ℤ◌, ◌<ℤ◌, ◌⊎◌}
+use Rattle.std.specs.List.{All, Contains}
 use Rattle.mcf_instance.specs.Blocking.{in_table}
 use Rattle.mcf_instance.specs.Flow.{AreLowPrices}
 use Rattle.mcf_instance.specs.Network.{IsNode, at_node, node_count}
@@ -39,6 +39,16 @@ step s scale slack r = unit_cost s.net r *ℤ pos scale +ℤ pos slack
 abbrev pub RespectsLabel : Pseudoflow → ℕ → ℕ → List ℤ → Keyed → Rid → Type 0
 RespectsLabel s scale slack y h r =
     HasRoom s r → label y h (tail s.net r) ≤ℤ (label y h (head s.net r) +ℤ step s scale slack r)
+
+-- with room, a residual arc whose head has the label base offers its tail no label below 0
+abbrev pub OffersNone : Pseudoflow → ℕ → ℕ → ℤ → Rid → Type 0
+OffersNone s scale slack base r = HasRoom s r → pos 0 ≤ℤ (base +ℤ step s scale slack r)
+
+-- a list of residual arcs begins with some whose reverses offer no label below 0, and goes on with the rest
+pub record ArePassed (s : Pseudoflow) (scale slack : ℕ) (base : ℤ) (list rest : List Rid) : Type 0 where
+  pub first : List Rid
+  pub none : All (λ r. OffersNone s scale slack base (record { arc = r.arc; back = not r.back })) first
+  pub whole : list ≡ first ++ rest
 
 -- a number is the cost of so many arcs, at costs times the scale and with the slack for each; they are no more
 -- than the nodes less those that wait

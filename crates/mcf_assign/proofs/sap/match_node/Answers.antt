@@ -17,4 +17,4 @@ extend-requires-clause-free c =
 pub returns : goal.returns
 returns c =
     offered_next c.args.net.now c.args.v c.args.matching.now c.requires.node c.requires.run c.extend.result c.extend.new.self
-    (sym c.is_source.ensures ∙ c.if-not-is_source.false) c.extend.ensures.extended
+    (sym c.is_source.ensures ∙ c.if-not-is_source.false) c.extend.ensures.extended c.extend.ensures.shown

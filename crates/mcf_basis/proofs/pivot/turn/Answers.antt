@@ -1,10 +1,11 @@
 use Rattle.std.proofs.Common.{◌≡◌, ◌∙◌, ap, arith, get_or, rules, to_z, of_z}
 use mir.Syntax.{w128}
 use Rattle.std.proofs.lemmas.Int.{to_z-of_z}
-use Rattle.mcf_basis.specs.Private.Layouts.{Layout, no_offer, offer_at}
+use Rattle.mcf_tree.specs.SpanningTree.{SpanningTree}
+use Rattle.mcf_basis.specs.Private.Layouts.{Layout, Prices, no_offer, offer_at}
 use Rattle.mcf_basis.specs.declared.offer.Offer.{Offer}
-use Rattle.mcf_basis.proofs.Pivoted.{cost_small, from_in_table, from_in_tree, from_small, number, push_asked, reduced_is, replace_ready, rooms_sized}
-use Rattle.mcf_basis.proofs.Pivoted.{round_found, to_in_table, to_in_tree, to_small, turned}
+use Rattle.mcf_basis.proofs.Pivoted.{cost_small, counted_alike, from_in_table, from_in_tree, from_small, number, push_asked, reduced_is, replace_ready}
+use Rattle.mcf_basis.proofs.Pivoted.{rooms_sized, round_found, to_in_table, to_in_tree, to_small, turned}
 use Rattle.mcf_basis.proofs.pivot.turn.Goals as goal
 
 pub slice_copy_out-offer : goal.slice_copy_out-offer
@@ -225,4 +226,7 @@ returns c =
     c.replace.new.offers c.push.new.rooms c.replace.new.rooms c.push.new.artificial
     c.forget_count.new.self c.replace.new.table (to_z w128 (of_z w128 c.reduced_of-reduced.result)) c.round_of.result c.forget_counts.ensures.value
     c.forget_count.ensures reduced c.round_of.ensures c.push.ensures c.replace.ensures in
-    record { pivot = done.pivot; laid_out = done.laid_out; falls = done.falls }
+    let counted = counted_alike c.args.net.now c.forget_counts.new.self c.replace.new.tree c.args.offers.now c.replace.new.offers c.push.new.rooms
+    c.replace.new.rooms c.forget_count.new.self c.replace.new.table c.args.k (to_z w128 (of_z w128 c.reduced_of-reduced.result)) c.find_round-found.result
+    (ap (λ (t : SpanningTree). t.measured) c.forget_counts.ensures.value) (ap (λ (p : Prices). p.priced) c.forget_count.ensures) c.replace.ensures in
+    record { pivot = done.pivot; laid_out = done.laid_out; falls = done.falls; counted = counted }

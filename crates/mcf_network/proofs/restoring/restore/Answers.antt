@@ -1,51 +1,24 @@
-use Rattle.std.proofs.Common.{◌≡◌, ◌<◌, ◌+◌, ◌-◌, length, arith, rules, ap, sym, ◌∙◌, to_z, of_z}
+use Rattle.std.proofs.Common.{◌≡◌, ◌<◌, ◌+◌, ◌-◌, length, arith, rules, ap, ◌∙◌, to_z, of_z}
 use mir.Syntax.{w128}
-use Rattle.std.proofs.lemmas.Int.{ints, to_z-of_z}
+use Rattle.std.proofs.lemmas.Int.{to_z-of_z}
 use Rattle.mcf_instance.specs.Network.{Network}
-use Rattle.mcf_network.proofs.ArcLaws.{amount_count, amount_of}
-use Rattle.mcf_network.proofs.RemovalLaws.{arc_of}
+use Rattle.mcf_network.specs.Restoring.{restored}
+use Rattle.mcf_network.proofs.ArcLaws.{amount_count}
 use Rattle.mcf_network.proofs.RestoringLaws.{restored_all, restored_done, restored_next, net_of-arc_count}
 use Rattle.mcf_network.proofs.restoring.restore.Goals as goal
 
-pub amount-amount-requires : goal.amount-amount-requires
-amount-amount-requires c =
-    let g = c.args.instance.now in
-    let s = c.args.state.now in
-    let same : length s.net.arcs ≡ length g.arcs = ap (λ (n : Network). length n.arcs) c.requires.of_net ∙ net_of-arc_count g in
-    let h : c.loop-i.i < length g.arcs = omega (arith, c.loop-i-test.true, c.arc_count-count.ensures.value) in
-    omega (arith, c.at-k.ensures, h, same)
-
-pub restored_flow-requires-clause-arc : goal.restored_flow-requires-clause-arc
-restored_flow-requires-clause-arc c =
-    let g = c.args.instance.now in
-    let s = c.args.state.now in
-    let same : length s.net.arcs ≡ length g.arcs = ap (λ (n : Network). length n.arcs) c.requires.of_net ∙ net_of-arc_count g in
-    let h : c.loop-i.i < length g.arcs = omega (arith, c.loop-i-test.true, c.arc_count-count.ensures.value) in
-    (arc_of g c.loop-i.i c.arc.result c.arc.ensures.well_formed h (rw c.at-k.ensures at c.arc.ensures.value)).within
-
-pub restored_flow-requires-clause-high : goal.restored_flow-requires-clause-high
-restored_flow-requires-clause-high c =
-    let g = c.args.instance.now in
-    let s = c.args.state.now in
-    let same : length s.net.arcs ≡ length g.arcs = ap (λ (n : Network). length n.arcs) c.requires.of_net ∙ net_of-arc_count g in
-    let h : c.loop-i.i < length g.arcs = omega (arith, c.loop-i-test.true, c.arc_count-count.ensures.value) in
-    let amount = amount_of s c.at-k.result c.net-net.ensures.valid (omega (arith, c.at-k.ensures, h, same)) in
-    omega (arith, ints, c.amount-amount.ensures.low, c.amount-amount.ensures.high, amount.width)
+pub restored_amount-requires-clause-arc : goal.restored_amount-requires-clause-arc
+restored_amount-requires-clause-arc c =
+    let h : c.loop-i.i < length c.args.instance.now.arcs = omega (arith, c.loop-i-test.true, c.arc_count-count.ensures.value) in
+    omega (arith, c.at.ensures, h)
 
 pub loop-i-preserved : goal.loop-i-preserved
 loop-i-preserved c =
-    let g = c.args.instance.now in
-    let s = c.args.state.now in
-    let same : length s.net.arcs ≡ length g.arcs = ap (λ (n : Network). length n.arcs) c.requires.of_net ∙ net_of-arc_count g in
-    let h : c.loop-i.i < length g.arcs = omega (arith, c.loop-i-test.true, c.arc_count-count.ensures.value) in
-    let a = arc_of g c.loop-i.i c.arc.result c.arc.ensures.well_formed h (rw c.at-k.ensures at c.arc.ensures.value) in
     let back : c.loop-i.i + 1 - 1 ≡ c.loop-i.i = omega arith in
-    let read = rw (c.at-k.ensures, back) at c.amount-amount.ensures.value in
-    let given : to_z w128 (of_z w128 c.amount-amount.result) ≡ c.amount-amount.result = search (rules, to_z-of_z) in
-    let made : to_z w128 (of_z w128 c.restored_flow.result) ≡ c.restored_flow.result = search (rules, to_z-of_z) in
-    restored_next g.arcs s.amounts c.loop-i.i c.arc.result c.amount-amount.result (to_z w128 (of_z w128 c.restored_flow.result)) c.loop-i.flow.items
-    c.push.new.self.items (omega (arith, same, amount_count s c.net-net.ensures.valid)) h a.is (sym read)
-    (made ∙ (rw given at c.restored_flow.ensures)) c.loop-i.invariant (search rules)
+    let read = rw (c.at.ensures, back) at c.restored_amount.ensures.value in
+    let made : to_z w128 (of_z w128 c.restored_amount.result) ≡ c.restored_amount.result = search (rules, to_z-of_z) in
+    restored_next (restored c.args.instance.now.arcs c.args.state.now.amounts) c.loop-i.i c.restored_amount.result
+    (to_z w128 (of_z w128 c.restored_amount.result)) c.loop-i.flow.items c.push.new.self.items read made c.loop-i.invariant (search rules)
 
 pub returns-clause-value : goal.returns-clause-value
 returns-clause-value c =

@@ -7,6 +7,7 @@ use Rattle.mcf_instance.specs.Flow.{AreGreatestPrices, cost}
 use Rattle.mcf_instance.specs.Network.{Network}
 use Rattle.mcf_instance.proofs.Bounds.{read_back}
 use Rattle.mcf_network.specs.Removal.{net_of}
+use Rattle.mcf_network.specs.Restoring.{restored}
 use Rattle.mcf_solver.proofs.LeastSolutions.{IsMadeOf, amounts_from_prices, is_right_and_least}
 use Rattle.mcf_solver.proofs.flow.flow_answer.Goals as goal
 
@@ -24,13 +25,13 @@ returns-clause-solution c =
     let g = c.args.instance.now in
     let s = c.args.state.now in
     let total = to_z w128 (of_z w128 c.in_ok-carried.carried.cost) in
-    let carried : amounts c.new.result ≡ c.in_ok-flow.flow.items = ap amounts c.new.ensures ∙ c.in_ok-carried.ensures.flow ∙ c.deref.ensures.value in
+    let carried : amounts c.new.result ≡ restored g.arcs s.amounts = ap amounts c.new.ensures ∙ c.in_ok-carried.ensures.flow in
     let made : IsMadeOf g s total c.new-2.result (amounts c.new.result) = record {
-      restored_is = carried ∙ c.in_ok-flow.ensures.value;
+      restored_is = carried;
       greatest = subst (λ (prices : List ℤ). AreGreatestPrices (net_of g) prices s.amounts) (sym c.new-2.ensures) c.requires.shown.greatest;
       cost_is = read_back c.in_ok-carried.carried.cost amount_limit c.in_ok-carried.ensures.small (lit< tt)
           ∙ c.in_ok-carried.ensures.value
-          ∙ ap (cost g.arcs) (c.deref.ensures.value ∙ sym carried);
+          ∙ ap (cost g.arcs) (sym carried);
     } in
     let both = is_right_and_least g s total c.new-2.result (amounts c.new.result) c.requires.least made c.restored_least_flows_are_least.ensures
     c.greatest_prices_carry_over.ensures c.carried_along.ensures.well_formed in

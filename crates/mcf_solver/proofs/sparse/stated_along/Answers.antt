@@ -1,55 +1,74 @@
-use Rattle.std.proofs.Common.{◌≡◌, ◌<◌, ◌++◌, [], length, get_or, arith, pos, sym, to_z, of_z, subst}
+use Rattle.std.proofs.Common.{◌≡◌, ◌<◌, ◌∙◌, ◌++◌, [], length, get_or, arith, pos, rules, sym, to_z, of_z, subst}
 use Rattle.std.specs.List.{cons_option}
 use Rattle.std.specs.Int.{w128}
-use Rattle.std.proofs.lemmas.Int.{ints}
+use Rattle.std.proofs.lemmas.Int.{ints, to_z-of_z}
+use Rattle.mcf_network.specs.Restoring.{restored}
 use Rattle.mcf_solver.specs.Forms.{moved_arc}
 use Rattle.mcf_solver.specs.Private.MovedArcs.{AreMovedOf}
-use Rattle.mcf_solver.proofs.MovedLists.{are_moved, line_more, moved_done}
+use Rattle.mcf_solver.proofs.LeastSolutions.{restored_bounds}
+use Rattle.mcf_solver.proofs.MovedLists.{are_moved, line_more, moved_done, read_at}
 use Rattle.mcf_solver.proofs.SentLists.{arc_is, carried_small, cost_at, in_flow}
 use Rattle.mcf_solver.proofs.sparse.stated_along.Goals as goal
 
-pub bounds-flow-i : goal.bounds-flow-i
-bounds-flow-i c =
+pub restored_amount-amount-requires-clause-arc : goal.restored_amount-amount-requires-clause-arc
+restored_amount-amount-requires-clause-arc c =
     let h : c.loop-i.i < length c.args.instance.now.arcs = omega (arith, c.loop-i-test.true, c.arc_count-count.ensures.value) in
-    in_flow c.args.instance.now c.args.flow.now c.loop-i.i c.at-number.result c.arc-arc.result c.arc-arc.ensures.well_formed c.requires h c.at-number.ensures
-    c.arc-arc.ensures.value
+    omega (arith, h, c.at-number.ensures)
 
 pub overflow_mul-total : goal.overflow_mul-total
 overflow_mul-total c =
-    let h : c.loop-i.i < length c.args.instance.now.arcs = omega (arith, c.loop-i-test.true, c.arc_count-count.ensures.value) in
-    let s = cost_at c.args.instance.now c.args.flow.now c.loop-i.i c.at-number.result c.arc-arc.result c.arc-arc.ensures.well_formed c.requires h
+    let g = c.args.instance.now in
+    let flow = restored g.arcs c.args.state.now.amounts in
+    let ok = c.arc-arc.ensures.well_formed in
+    let h : c.loop-i.i < length g.arcs = omega (arith, c.loop-i-test.true, c.arc_count-count.ensures.value) in
+    let s = cost_at g flow c.loop-i.i c.at-number.result c.arc-arc.result ok (restored_bounds g c.args.state.now ok c.requires) h
     c.at-number.ensures c.arc-arc.ensures.value in
-    rw (s.cost_read, s.flow_read) (omega (arith, ints, s.term_small))
+    let t : to_z w128 (of_z w128 c.restored_amount-amount.result) ≡ c.restored_amount-amount.result = search (rules, to_z-of_z) in
+    let x : to_z w128 (of_z w128 c.restored_amount-amount.result) ≡ get_or flow c.loop-i.i (pos 0) =
+    t ∙ read_at flow c.loop-i.i c.at-number.result c.restored_amount-amount.result c.at-number.ensures c.restored_amount-amount.ensures.value in
+    rw (s.cost_read, x) (omega (arith, ints, s.term_small))
 
 pub overflow_add-total : goal.overflow_add-total
 overflow_add-total c =
-    let h : c.loop-i.i < length c.args.instance.now.arcs = omega (arith, c.loop-i-test.true, c.arc_count-count.ensures.value) in
-    let s = cost_at c.args.instance.now c.args.flow.now c.loop-i.i c.at-number.result c.arc-arc.result c.arc-arc.ensures.well_formed c.requires h
+    let g = c.args.instance.now in
+    let flow = restored g.arcs c.args.state.now.amounts in
+    let ok = c.arc-arc.ensures.well_formed in
+    let h : c.loop-i.i < length g.arcs = omega (arith, c.loop-i-test.true, c.arc_count-count.ensures.value) in
+    let s = cost_at g flow c.loop-i.i c.at-number.result c.arc-arc.result ok (restored_bounds g c.args.state.now ok c.requires) h
     c.at-number.ensures c.arc-arc.ensures.value in
-    rw (s.cost_read, s.flow_read) (omega (arith, ints, s.term_small, s.before_small, c.loop-i.invariant.cost_is))
+    let t : to_z w128 (of_z w128 c.restored_amount-amount.result) ≡ c.restored_amount-amount.result = search (rules, to_z-of_z) in
+    let x : to_z w128 (of_z w128 c.restored_amount-amount.result) ≡ get_or flow c.loop-i.i (pos 0) =
+    t ∙ read_at flow c.loop-i.i c.at-number.result c.restored_amount-amount.result c.at-number.ensures c.restored_amount-amount.ensures.value in
+    rw (s.cost_read, x) (omega (arith, ints, s.term_small, s.before_small, c.loop-i.invariant.cost_is))
 
 pub loop-i-preserved : goal.loop-i-preserved
 loop-i-preserved c =
     let g = c.args.instance.now in
-    let flow = c.args.flow.now in
+    let flow = restored g.arcs c.args.state.now.amounts in
     let i = c.loop-i.i in
     let number = c.at-number.result in
     let arc = c.arc-arc.result in
     let ok = c.arc-arc.ensures.well_formed in
+    let bounds = restored_bounds g c.args.state.now ok c.requires in
     let h : i < length g.arcs = omega (arith, c.loop-i-test.true, c.arc_count-count.ensures.value) in
-    let s = cost_at g flow i number arc ok c.requires h c.at-number.ensures c.arc-arc.ensures.value in
-    let arc-is = arc_is g flow i number arc ok c.requires h c.at-number.ensures c.arc-arc.ensures.value in
-    let k = in_flow g flow i number arc ok c.requires h c.at-number.ensures c.arc-arc.ensures.value in
-    let amount = to_z w128 (of_z w128 (get_or flow i (pos 0))) in
+    let s = cost_at g flow i number arc ok bounds h c.at-number.ensures c.arc-arc.ensures.value in
+    let arc-is = arc_is g flow i number arc ok bounds h c.at-number.ensures c.arc-arc.ensures.value in
+    let k = in_flow g flow i number arc ok bounds h c.at-number.ensures c.arc-arc.ensures.value in
+    let amount = to_z w128 (of_z w128 c.restored_amount-amount.result) in
+    let t : amount ≡ c.restored_amount-amount.result = search (rules, to_z-of_z) in
+    let x : amount ≡ get_or flow i (pos 0) = t ∙ read_at flow i number c.restored_amount-amount.result c.at-number.ensures
+    c.restored_amount-amount.ensures.value in
     let added : c.add_moved.new.moved.items ≡ c.loop-i.moved.items ++ cons_option (moved_arc (number, (arc, amount))) [] = c.in_ok-add_moved.ensures in
     record {
-      cost_is = simp (s.cost_read, s.flow_read) (omega (arith, ints, s.term_small, s.before_small, s.next, c.loop-i.invariant.cost_is));
-      lines = line_more g.arcs flow i number arc amount c.loop-i.moved.items c.add_moved.new.moved.items h k c.at-number.ensures arc-is (sym s.flow_read)
+      cost_is = simp (s.cost_read, x) (omega (arith, ints, s.term_small, s.before_small, s.next, c.loop-i.invariant.cost_is));
+      lines = line_more g.arcs flow i number arc amount c.loop-i.moved.items c.add_moved.new.moved.items h k c.at-number.ensures arc-is (sym x)
           c.loop-i.invariant.lines added;
     }
 
 pub returns-clause-small : goal.returns-clause-small
-returns-clause-small c = carried_small _ _ _ _ c.arc_count-count.ensures.well_formed c.requires c.loop-i.invariant.cost_is
+returns-clause-small c =
+    let ok = c.arc_count-count.ensures.well_formed in
+    carried_small _ _ _ _ ok (restored_bounds c.args.instance.now c.args.state.now ok c.requires) c.loop-i.invariant.cost_is
 
 pub returns-clause-moved : goal.returns-clause-moved
 returns-clause-moved c =
@@ -57,5 +76,7 @@ returns-clause-moved c =
 
 pub returns-clause-are_moved : goal.returns-clause-are_moved
 returns-clause-are_moved c =
+    let ok = c.arc_count-count.ensures.well_formed in
     let is = moved_done _ _ _ _ (omega (arith, c.loop-i-test.false, c.arc_count-count.ensures.value)) c.loop-i.invariant.lines in
-    subst (AreMovedOf c.args.instance.now) (sym is) (are_moved c.args.instance.now c.args.flow.now c.arc_count-count.ensures.well_formed c.requires)
+    subst (AreMovedOf c.args.instance.now) (sym is)
+    (are_moved c.args.instance.now _ ok (restored_bounds c.args.instance.now c.args.state.now ok c.requires))

@@ -68,7 +68,7 @@ returns-in-Some-clause-extended c =
     (grown_from i.state i.prices.items c.augment.new.prices (search_of c.search-found.new.self) c.args.row c.search-found.new.self.order.items t k.matching
     k.shown s.entries ended (sym c.in-Some.ensures.best) raised c.augment.new.state i.prices.items
     (take i.prices.len (c.augment.new.prices ++ drop (length c.augment.new.prices) i.prices.items)) i.tables.order.items c.augment.new.self.order.items
-    i.reached i.reached (e.extended c.args.row ended_mut) e.changed e.order)
+    i.reached (e.extended c.args.row ended_mut) e.changed e.order)
 
 pub returns-in-Some-clause-shown : goal.returns-in-Some-clause-shown
 returns-in-Some-clause-shown c =

@@ -3,7 +3,7 @@ use mir.Syntax.{w128}
 use Rattle.std.proofs.lemmas.Int.{ints, to_z-of_z}
 use Rattle.mcf_instance.specs.Network.{Network, IsArcNumber}
 use Rattle.mcf_network.specs.Residual.{arc_at}
-use Rattle.mcf_assign.specs.Forests.{IsChangedWithin, IsTightArc}
+use Rattle.mcf_assign.specs.Private.Forests.{IsChangedWithin, IsTightArc}
 use Rattle.mcf_assign.specs.Matchings.{IsMatchedColumn, column_of}
 use Rattle.mcf_assign.specs.Private.Searches.{AreRaised, search_of}
 use Rattle.mcf_assign.specs.Private.Turning.{IsExtended}

@@ -1,4 +1,4 @@
-use Rattle.mcf_assign.specs.Forests.{IsTurning, place}
+use Rattle.mcf_assign.specs.Private.Forests.{IsTurning, place}
 use Rattle.mcf_assign.specs.Matchings.{row_of}
 use Rattle.mcf_assign.specs.Private.Searches.{search_of}
 use Rattle.mcf_assign.proofs.search.Tables.turn.Given as goal

@@ -3,6 +3,7 @@ use Rattle.std.proofs.lemmas.List.{with_items_is}
 use Rattle.mcf_basis.specs.Private.Layouts.{Layout, basis_in}
 use Rattle.mcf_basis.specs.Steps.{moved_by}
 use Rattle.mcf_basis.proofs.Pivoted.{same_falls, same_pivot}
+use Rattle.mcf_basis.proofs.Views.{view_counted}
 use Rattle.mcf_basis.proofs.basis.Basis.pivot.Goals as goal
 
 pub returns-clause-step : goal.returns-clause-step
@@ -39,3 +40,9 @@ returns-clause-falls c =
     same_falls c.args.self.now l c.self.inside.net.now new.tree new.offers _ new.rooms _ new.artificial _ new.table
     view (with_items_is c.self.inside.offers new.offers (search rules)) (with_items_is c.self.inside.rooms new.rooms (search rules))
     (with_items_is c.self.inside.artificial new.artificial (search rules)) c.turn-amount.ensures.falls
+
+pub returns-clause-counted : goal.returns-clause-counted
+returns-clause-counted c =
+    let new = c.turn-amount.new in
+    view_counted (record { net = c.self.inside.net.now; tree = new.tree; offers = _; rooms = _; artificial = _; table = new.table })
+    c.turn-amount.ensures.counted

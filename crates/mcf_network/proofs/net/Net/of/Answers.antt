@@ -18,15 +18,15 @@ forward_star-requires-clause-ends c =
 pub invariant_of-result : goal.invariant_of-result
 invariant_of-result c =
     let g = c.args.instance.now in
-    let is = net_is g c.problem.result c.in_ok-arcs.arcs.items c.in_ok-supplies.supplies.items c.problem.ensures.value c.in_ok-arcs.ensures.value
-    c.in_ok-supplies.ensures.value in
-    let nodes : node_count (stored_net c.problem.result c.in_ok-arcs.arcs.items c.in_ok-supplies.supplies.items) ≡ c.node_count-nodes.result = ap node_count is
-    ∙ net_of-node_count g ∙ sym c.node_count-nodes.ensures.value in
+    let left = c.arcs_without_lows.new.left.items in
+    let is = net_is g c.problem.result c.in_ok-arcs.arcs.items left c.problem.ensures.value c.in_ok-arcs.ensures.value c.in_ok-arcs.ensures.left in
+    let nodes : node_count (stored_net c.problem.result c.in_ok-arcs.arcs.items left) ≡ c.node_count-nodes.result =
+    ap node_count is ∙ net_of-node_count g ∙ sym c.node_count-nodes.ensures.value in
     let of_net = subst IsNet (sym is) (net_of_ok g c.node_count-nodes.ensures.well_formed) in (
       of_net,
       λ some. record {
         of_net = of_net;
-        star = c.in_ok-firsts.ensures.value (stored_net c.problem.result c.in_ok-arcs.arcs.items c.in_ok-supplies.supplies.items)
+        star = c.in_ok-firsts.ensures.value (stored_net c.problem.result c.in_ok-arcs.arcs.items left)
             (ap (map stored_arc) (sym c.deref.ensures.value)) nodes (rw nodes at some);
       },
     )
@@ -34,15 +34,15 @@ invariant_of-result c =
 pub returns-clause-value : goal.returns-clause-value
 returns-clause-value c =
     let g = c.args.instance.now in
-    let is = net_is g c.problem.result c.in_ok-arcs.arcs.items c.in_ok-supplies.supplies.items c.problem.ensures.value c.in_ok-arcs.ensures.value
-    c.in_ok-supplies.ensures.value in
+    let left = c.arcs_without_lows.new.left.items in
+    let is = net_is g c.problem.result c.in_ok-arcs.arcs.items left c.problem.ensures.value c.in_ok-arcs.ensures.value c.in_ok-arcs.ensures.left in
     is
 
 pub returns-clause-of_net : goal.returns-clause-of_net
 returns-clause-of_net c =
     let g = c.args.instance.now in
-    let is = net_is g c.problem.result c.in_ok-arcs.arcs.items c.in_ok-supplies.supplies.items c.problem.ensures.value c.in_ok-arcs.ensures.value
-    c.in_ok-supplies.ensures.value in
+    let left = c.arcs_without_lows.new.left.items in
+    let is = net_is g c.problem.result c.in_ok-arcs.arcs.items left c.problem.ensures.value c.in_ok-arcs.ensures.value c.in_ok-arcs.ensures.left in
     subst IsNet (sym is) (net_of_ok g c.node_count-nodes.ensures.well_formed)
 
 pub returns-in_err-arcs-clause-wants : goal.returns-in_err-arcs-clause-wants

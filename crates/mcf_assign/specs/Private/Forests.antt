@@ -1,0 +1,84 @@
+-- The mates of a matching; the nodes that a search settled in their order, and the alternating paths of its links from its
+-- row to each of them.
+use Rattle.std.specs.Prelude.{◌≡◌, ◌≢◌, ℕ, ◌+◌, ◌-◌, ◌<◌, ◌==◌, List, [], ◌∷◌, length, ℤ, pos, ◌⊎◌, if◌then◌else◌, slice_index_or}
+use Rattle.std.specs.List.{All, AllPairs, Contains}
+use Rattle.mcf_instance.specs.Network.{IsArcNumber, IsNode, node_count}
+use Rattle.mcf_network.specs.NodeSets.{member_count}
+use Rattle.mcf_network.specs.States.{Pseudoflow, amount_at}
+use Rattle.mcf_assign.specs.Extending.{IsReachable}
+use Rattle.mcf_assign.specs.Matchings.{IsColumn, IsMatchedColumn, IsMatchedRow, IsPair, IsPartialMatching, IsRow, column_of, reduced, row_of}
+use Rattle.mcf_assign.specs.Private.Searches.{Search, Settled, link_at}
+use Rattle.mcf_assign.specs.Private.Turning.{IsPushedFrom, IsTurned}
+
+-- for each node the arc of amount 1 at it, or 0 where there is none
+pub record AreMates (s : Pseudoflow) (mates : List ℕ) : Type 0 where
+  pub count : length mates ≡ node_count s.net
+  pub column : (v : ℕ) → IsColumn s v → 0 < slice_index_or mates (v - 1) 0
+      → IsPair s (slice_index_or mates (v - 1) 0) × (column_of s (slice_index_or mates (v - 1) 0) ≡ v)
+  pub no_column : (v : ℕ) → IsColumn s v → slice_index_or mates (v - 1) 0 ≡ 0 → ¬ IsMatchedColumn s v
+  pub row : (v : ℕ) → IsRow s v → 0 < slice_index_or mates (v - 1) 0
+      → IsPair s (slice_index_or mates (v - 1) 0) × (row_of s (slice_index_or mates (v - 1) 0) ≡ v)
+  pub no_row : (v : ℕ) → IsRow s v → slice_index_or mates (v - 1) 0 ≡ 0 → ¬ IsMatchedRow s v
+
+-- where a node stands in a list, from 0; the length of the list if it doesn't
+abbrev pub place : List ℕ → ℕ → ℕ
+place [] v = 0
+place (x ∷ xs) v = if x == v then 0 else place xs v + 1
+
+-- the list has the settled nodes, each once, the row first, and each with the node before it on an alternating
+-- path earlier than it
+pub record IsOrder (s : Pseudoflow) (q : Search) (source : ℕ) (order : List ℕ) : Type 0 where
+  pub rest : List ℕ
+  pub first : order ≡ source ∷ rest
+  pub once : AllPairs (λ u v. u ≢ v) order
+  pub nodes : All (IsNode (node_count s.net)) order
+  pub listed : (v : ℕ) → IsNode (node_count s.net) v → Settled q v → Contains order v
+  pub members : (v : ℕ) → Contains order v → Settled q v
+  pub tally : length order ≡ member_count q.settled
+  pub reachable : (v : ℕ) → IsNode (node_count s.net) v → Settled q v → IsReachable s source v
+  pub rows : (v : ℕ) → IsRow s v → Settled q v → (v ≡ source) ⊎ IsMatchedRow s v
+  pub pairs : (k : ℕ) → IsPair s k → Settled q (row_of s k) → place order (column_of s k) < place order (row_of s k)
+  pub links : (v : ℕ) → IsColumn s v → Settled q v → place order (row_of s (link_at q v)) < place order v
+
+-- the list has the settled nodes, each once
+pub record IsListing (nodes : ℕ) (q : Search) (order : List ℕ) : Type 0 where
+  pub once : AllPairs (λ u v. u ≢ v) order
+  pub each : All (IsNode nodes) order
+  pub listed : (v : ℕ) → IsNode nodes v → Settled q v → Contains order v
+  pub members : (v : ℕ) → Contains order v → Settled q v
+
+-- an arc of reduced cost 0 from a settled row to a column
+pub record IsTightArc (s : Pseudoflow) (q : Search) (z : List ℤ) (k v : ℕ) : Type 0 where
+  pub arc : IsArcNumber s.net k
+  pub from : Settled q (row_of s k)
+  pub to : column_of s k ≡ v
+  pub tight : reduced s z k ≡ pos 0
+
+-- the alternating paths from a row that is not matched, whose arcs all have the reduced cost 0
+pub record IsForest (s : Pseudoflow) (q : Search) (source : ℕ) (order : List ℕ) (z : List ℤ) : Type 0 where
+  pub matching : IsPartialMatching s
+  pub not_matched : ¬ IsMatchedRow s source
+  pub tight : (k : ℕ) → IsPair s k → reduced s z k ≡ pos 0
+  pub rows : (v : ℕ) → IsRow s v → Settled q v → (v ≡ source) ⊎ IsMatchedRow s v
+  pub columns : (k : ℕ) → IsPair s k → Settled q (row_of s k) → Settled q (column_of s k)
+  pub pairs : (k : ℕ) → IsPair s k → Settled q (row_of s k) → place order (column_of s k) < place order (row_of s k)
+  pub links : (v : ℕ) → IsColumn s v → Settled q v → IsTightArc s q z (link_at q v) v
+  pub earlier : (v : ℕ) → IsColumn s v → Settled q v → place order (row_of s (link_at q v)) < place order v
+
+-- only arcs from settled rows to settled columns, or to column t, changed
+abbrev pub IsChangedWithin : Pseudoflow → Pseudoflow → Search → ℕ → Type 0
+IsChangedWithin old s q t =
+    (i : ℕ) → IsArcNumber old.net i → (amount_at s i ≡ amount_at old i) ⊎ (Settled q (row_of old i) × (Settled q (column_of old i) ⊎ (column_of old i ≡ t)))
+
+-- the path that ends with the target arc is turned from its end on as far as the column of arc k, which is free now
+pub record IsTurning (old s : Pseudoflow) (mates : List ℕ) (q : Search) (order : List ℕ) (target k : ℕ) : Type 0 where
+  pub net : s.net ≡ old.net
+  pub matching : IsPartialMatching s
+  pub mated : AreMates s mates
+  pub arc : IsArcNumber old.net k
+  pub from : Settled q (row_of old k)
+  pub to : Settled q (column_of old k) ⊎ (column_of old k ≡ column_of old target)
+  pub turned : (source : ℕ) (z : List ℤ) → IsForest old q source order z → IsTightArc old q z target (column_of old target)
+      → IsTightArc old q z k (column_of old k) × IsTurned old s z (place order) (place order (row_of old k) + 1) (column_of old target) (column_of old k)
+  pub changed : IsChangedWithin old s q (column_of old target)
+  pub path : IsPushedFrom old s (place order) (place order (row_of old k)) (column_of old k) (column_of old target)

@@ -1,0 +1,64 @@
+#!/usr/bin/env python3
+"""Counts the edits that the prover must refuse.
+
+    scripts/edits.py          prints, for each crate, how many stand in crates/NAME/must-fail and how many in planted/NAME
+    scripts/edits.py check    tells where the table in docs/EVIDENCE.md and must-fail/ disagree; status 1 if they do
+"""
+import pathlib
+import re
+import sys
+
+TOP = pathlib.Path(__file__).resolve().parent.parent
+HEAD = "## Edits that must fail"
+
+
+def names(folder):
+    """The edits of a folder."""
+    return sorted(path.stem for path in folder.glob("*.edit"))
+
+
+def crates():
+    """The crates that have edits, in the order of crates.txt."""
+    listed = [line.split(":")[0].strip() for line in (TOP / "crates.txt").read_text().splitlines() if ":" in line]
+    return [name for name in listed if standing(name) or names(TOP / "planted" / name)]
+
+
+def standing(crate):
+    """The edits of a crate that the gate tries."""
+    return names(TOP / "crates" / crate / "must-fail")
+
+
+def told():
+    """The edits that the table of docs/EVIDENCE.md has, by crate."""
+    found, is_there = {}, False
+    for line in (TOP / "docs" / "EVIDENCE.md").read_text().splitlines():
+        is_there = line == HEAD or is_there and not line.startswith("## ")
+        row = re.match(r"\| (mcf_\w+) \|(.*)\|$", line) if is_there else None
+        if row and row[1] not in found:
+            found[row[1]] = re.findall(r"`(\w+)`", row[2])
+    return found
+
+
+def differences():
+    """What the table lacks, names twice, or names in vain."""
+    table, said = told(), []
+    for crate in crates():
+        have, named = set(standing(crate)), table.get(crate, [])
+        said += [f"{crate}: the table lacks {name}" for name in sorted(have - set(named))]
+        said += [f"{crate}: the table names {name}, which isn't there" for name in sorted(set(named) - have)]
+        said += [f"{crate}: the table names {name} twice" for name in sorted({n for n in named if named.count(n) > 1})]
+    return said
+
+
+def main():
+    if sys.argv[1:] == ["check"]:
+        said = differences()
+        for line in said:
+            print(line)
+        sys.exit(1 if said else 0)
+    counts = [(crate, len(standing(crate)), len(names(TOP / "planted" / crate))) for crate in crates()]
+    for crate, stand, planted in [*counts, ("all", sum(c[1] for c in counts), sum(c[2] for c in counts))]:
+        print(f"{crate:14} {stand:4} {planted:4}")
+
+
+main()
