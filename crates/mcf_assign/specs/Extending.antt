@@ -40,15 +40,15 @@ IsClosed s set =
 abbrev pub IsReachable : Pseudoflow → ℕ → ℕ → Type 0
 IsReachable s row v = (set : ℕ → Bool) → IsClosed s set → set row ≡ true → set v ≡ true
 
--- nodes of the net, none twice, the row first
+-- nodes of the net, none twice, the row first; in which order the others stand is not said
 pub record IsSettledList (nodes row : ℕ) (list : List ℕ) : Type 0 where
   pub rest : List ℕ
   pub first : list ≡ row ∷ rest
   pub once : AllPairs (λ u v. u ≢ v) list
   pub each : All (IsNode nodes) list
 
--- one more along each residual arc of a path from the row to a column that wasn't matched, each of which had room, and
--- no other amount changed
+-- an augmentation: one more along each residual arc of a walk from the row to a column that wasn't matched, each of which had room and
+-- stands there once, and no other amount changed
 pub record IsAugmented (old : Pseudoflow) (row : ℕ) (new : Pseudoflow) : Type 0 where
   pub walk : List Rid
   pub column : ℕ

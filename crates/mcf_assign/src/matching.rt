@@ -116,7 +116,7 @@ impl<'n> Matching<'n> {
         self.mates[v.place()] > 0
     }
 
-    /// The nodes that the last search settled, in that order; none before the first.
+    /// The nodes that the last search settled, none before the first: the row, by distance each matched column with its row, last the column of the path.
     pub fn settled(&self) -> &[NodeId]
         ensures value { result.now ≡ self.now.settled }
         ensures shown { IsShownMatching self.now }

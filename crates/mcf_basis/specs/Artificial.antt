@@ -7,11 +7,11 @@ use Rattle.mcf_instance.specs.declared.arc.Arc.{Arc}
 use Rattle.mcf_instance.specs.Network.{Network, IsArcNumber, at_node, node_count}
 use Rattle.mcf_instance.specs.WellFormed.{weight}
 
--- the cost of an artificial arc: one more than all arcs of the net together can cost or earn
+-- the cost of an artificial arc: one more than all arcs of the net together can cost or earn, so that one artificial unit is dearer than all that they can save
 abbrev pub artificial_cost : Network → ℕ
 artificial_cost g = 1 + sum (map weight g.arcs)
 
--- whether a node has nothing to take
+-- whether a node has nothing to take: its supply is at least 0
 abbrev pub is_sender : Network → ℕ → Bool
 is_sender g v = int_le (pos 0) (at_node g.supplies v)
 

@@ -9,7 +9,7 @@ use Rattle.mcf_tree.specs.SpanningTree.{IsSpanning, depth_of, label_of, parent_o
 use Rattle.mcf_basis.specs.Artificial.{IsLabel, with_artificial}
 use Rattle.mcf_basis.specs.Structures.{TreeStructure, CanTake, IsInTree, Joins, carried, full_state, price_at, reduced_at, up_path}
 
--- at least 0, and, on an arc of the net, at most its cap
+-- an amount that the arc of this label can carry: at least 0, and, on an arc of the net, at most its cap
 pub record CanHold (g : Network) (label : ℕ) (x : ℤ) : Type 0 where
   pub low : pos 0 ≤ℤ x
   pub high : label ≤ length g.arcs → x ≤ℤ (arc_at g label).cap
@@ -26,7 +26,7 @@ abbrev pub IsAtBound : TreeStructure → ℕ → Type 0
 IsAtBound b label =
     (carried b label ≡ pos 0) ⊎ ((label ≤ length b.net.arcs) × (carried b label ≡ (arc_at b.net label).cap))
 
--- the arc between a node and its parent
+-- the label above node v is that of an arc, which joins v and its parent
 pub record HasTreeArc (b : TreeStructure) (v : ℕ) : Type 0 where
   pub label : IsLabel b.net (label_of b.tree v)
   pub joins : Joins b.net (label_of b.tree v) v (parent_of b.tree v)
@@ -37,7 +37,7 @@ pub record HasTreePrices (b : TreeStructure) : Type 0 where
   pub root : price_at b 0 ≡ pos 0
   pub balanced : (v : ℕ) → IsNode (node_count b.net) v → reduced_at b (label_of b.tree v) ≡ pos 0
 
--- from each node one more can go along the path of the tree to the root
+-- strongly feasible (Cunningham): from each node one more can go along the path of the tree to the root
 abbrev pub IsStronglyFeasible : TreeStructure → Type 0
 IsStronglyFeasible b =
     (v : ℕ) → IsNode (node_count b.net) v → All (λ r. CanTake b r (pos 1)) (up_path b (depth_of b.tree v) v)

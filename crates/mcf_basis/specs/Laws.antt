@@ -25,12 +25,12 @@ abbrev pub RanksFall : Type 0
 RanksFall =
     (old new : TreeStructure) → IsBasis old → IsBasis new → new.net ≡ old.net → PairFalls old new → rank_of new <ℤ rank_of old
 
--- counted from below all ranks, too
+-- where the pair falls, the rank counted from below all ranks falls, too
 abbrev pub RanksCountDown : Type 0
 RanksCountDown =
     (old new : TreeStructure) → IsBasis old → IsBasis new → new.net ≡ old.net → PairFalls old new → rank_above new < rank_above old
 
--- as many pivots as the rank fell by are within the bound
+-- no more pivots than the rank fell by, from one basis to another of its net, are within the bound
 abbrev pub RanksBoundPivots : Type 0
 RanksBoundPivots =
     (first last : TreeStructure) (pivots : ℕ) (floor : ℤ) → IsBasis first → IsBasis last → last.net ≡ first.net → (pos pivots +ℤ rank_of last) ≤ℤ rank_of first

@@ -26,7 +26,7 @@ pub record IsEligible (b : TreeStructure) (k : ℕ) : Type 0 where
 abbrev pub entering : TreeStructure → ℕ → Rid
 entering b k = record { arc = k; back = int_lt (pos 0) (reduced_at b k) }
 
--- x can go along each residual arc of the walk, and one more along each behind r, but not along r
+-- r is the last of the walk that blocks: x can go along each residual arc of the walk, and one more along each behind r, but not along r
 pub record IsLastBlocking (b : TreeStructure) (walk : List Rid) (x : ℤ) (r : Rid) : Type 0 where
   pub each : All (λ q. CanTake b q x) walk
   pub before : List Rid
@@ -35,14 +35,14 @@ pub record IsLastBlocking (b : TreeStructure) (walk : List Rid) (x : ℤ) (r : R
   pub full : ¬ CanTake b r (x +ℤ pos 1)
   pub free : All (λ q. CanTake b q (x +ℤ pos 1)) behind
 
--- the entering arc leaves at once: the tree and the prices stay, and no node is written
+-- the entering arc leaves at once: the tree and the prices stay, and no write is counted
 pub record IsKept (old new : TreeStructure) : Type 0 where
   pub tree : new.tree ≡ record old.tree { hung = 0; measured = 0 }
   pub prices : new.prices ≡ old.prices
   pub priced : new.priced ≡ 0
 
--- The entering arc r takes the place of the arc above the node out: the part cut off there hangs on the other end of r, the prices
--- in it change by the reduced cost of r, so that r has reduced cost 0, and all other prices stay. What is left is a tree again.
+-- The entering arc r takes the place of the arc above the node out: the part cut off there hangs on the other end of r, the prices in it
+-- change by one number, by which r gets reduced cost 0, and all other prices stay. What is left is a tree again, and each price of the part was written once.
 pub record IsExchanged (old : TreeStructure) (r : Rid) (out inner outer : ℕ) (new : TreeStructure) : Type 0 where
   pub is_node : IsNode (node_count old.net) out
   pub ends : ((inner ≡ tail (with_artificial old.net) r) × (outer ≡ head (with_artificial old.net) r)) ⊎
@@ -58,7 +58,7 @@ pub record IsExchanged (old : TreeStructure) (r : Rid) (out inner outer : ℕ) (
   pub priced : new.priced ≡ length (below_from old.tree out 0)
   pub written : IsLocal old.tree new.tree out inner outer
 
--- the tree and the prices afterwards, where r enters and the arc of q leaves
+-- the tree and the prices afterwards, where r enters and the arc of q leaves: they stay where r is q, and are exchanged where q lies in the tree
 pub data IsMended (old : TreeStructure) (r q : Rid) (new : TreeStructure) : Type 0 where
   kept : q ≡ r → IsKept old new → IsMended old r q new
   exchanged : (out inner outer : ℕ) → q.arc ≡ label_of old.tree out → IsExchanged old r out inner outer new → IsMended old r q new

@@ -14,15 +14,15 @@ abbrev pub greatest_cost : List Arc → ℕ
 greatest_cost [] = 0
 greatest_cost (a ∷ arcs) = max (unsigned_abs a.cost) (greatest_cost arcs)
 
--- how far from 0 a price can lie: a path of the tree has one artificial arc at most, and fewer others than there are nodes
+-- how far from 0 a price can lie: the path of the tree to the root has one artificial arc, and fewer others than there are nodes
 abbrev pub price_reach : Network → ℕ
 price_reach g = artificial_cost g + node_count g * greatest_cost g.arcs
 
--- how far apart two sums of prices can lie
+-- how far apart the sums of the prices of two bases can lie
 abbrev pub price_span : Network → ℕ
 price_span g = 2 * (node_count g * price_reach g)
 
--- the pair as one number
+-- the pair as one number: the cost times one more than the span, plus the sum of the prices; it falls where the pair does
 abbrev pub rank_of : TreeStructure → ℤ
 rank_of b = full_cost b *ℤ pos (price_span b.net + 1) +ℤ price_sum b
 
@@ -30,7 +30,7 @@ rank_of b = full_cost b *ℤ pos (price_span b.net + 1) +ℤ price_sum b
 abbrev pub IsFloor : Network → ℤ → Type 0
 IsFloor g floor = (s : Pseudoflow) → IsFullFlow s g → floor ≤ℤ cost s.net.arcs s.amounts
 
--- the most pivots from a basis that costs so much more than the least cost
+-- the most pivots from a basis that costs so much more than the least cost: one for each value of the rank on the way, at most
 abbrev pub pivot_bound : Network → ℤ → ℤ
 pivot_bound g excess = excess +ℤ (excess +ℤ pos 1) *ℤ pos (price_span g)
 

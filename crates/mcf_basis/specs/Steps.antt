@@ -1,4 +1,4 @@
--- What a pivot says that it moved.
+-- What a pivot says that it moved round its cycle, as a number: 0 where it says that nothing moved.
 use Rattle.std.specs.Prelude.{ℤ, pos}
 use Rattle.mcf_basis.specs.declared.pivot.Step.{Step}
 use Rattle.mcf_basis.specs.declared.pivot.Step.TheVariants.{Moved, Still}

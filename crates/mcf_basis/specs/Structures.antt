@@ -37,7 +37,7 @@ abbrev pub reduced_at : TreeStructure → ℕ → ℤ
 reduced_at b label =
     let a = arc_at (with_artificial b.net) label in a.cost -ℤ price_at b a.src +ℤ price_at b a.dst
 
--- x more can go along a residual arc: along an arc of the net up to its cap, along an artificial arc without a limit
+-- x more can go along a residual arc: forward up to the cap of an arc of the net, of an artificial arc without a limit; backward as much as it carries
 pub record CanTake (b : TreeStructure) (r : Rid) (x : ℤ) : Type 0 where
   pub forward : r.back ≡ false → r.arc ≤ length b.net.arcs → (carried b r.arc +ℤ x) ≤ℤ (arc_at b.net r.arc).cap
   pub backward : r.back ≡ true → x ≤ℤ carried b r.arc

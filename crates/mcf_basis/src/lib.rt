@@ -5,8 +5,8 @@
 //!
 //! It stands on `mcf_network` and `mcf_tree`. Definitions stand in `specs/`: `Artificial` adds the artificial arcs to a net,
 //! `Structures` has what a clause sees of a basis, its paths and its cycles, `Bases` says what every basis keeps, `Starts` with
-//! which one a run begins, `Pivots` what one pivot does, `Steps` what it answers, `Ranks` how many there can be, and `Layouts` how a
-//! basis is stored.
+//! which one a run begins, `Violations` how much an arc violates, `Pivots` what one pivot does, `Steps` what it answers, `Ranks` how many there
+//! can be, `Laws` what follows of all that, and `Private/` how a basis is stored and what the steps of a pivot do to it.
 
 mod basis;
 mod climb;

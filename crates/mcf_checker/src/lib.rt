@@ -2,9 +2,9 @@
 
 //! The judge of answers: what an answer text is worth, from the two texts alone.
 //!
-//! It stands on `mcf_text`, `mcf_instance` and `mcf_answer`, and shares no code with any solver. Definitions
-//! stand in `specs/`: `Correct` says when an answer is right, `Judging` which verdict applies first, and
-//! `Printed` what is printed of it.
+//! It stands on `mcf_text`, `mcf_instance` and `mcf_answer`, and shares no code with any solver but what reads texts. Definitions
+//! stand in `specs/`: `Correct` says when an answer is right, `Judging` which verdict applies first, `Laws` that these agree,
+//! `Printed` and `Lines` what is printed, and `Runs` what a run of the command does.
 
 mod checking;
 mod command;

@@ -2,7 +2,7 @@
 
 //! The tests of nets, trees, prices and engines: what no clause says, and each public call with ample memory.
 //!
-//! They stand in a crate of their own, since a crate with tests is proved twice, and apart from the others, so that both are proved
+//! They stand in a crate of their own, since a crate with tests is proved twice, and apart from the others, so that all are proved
 //! at the same time. It has no other function.
 
 #[cfg(test)]

@@ -18,7 +18,7 @@ supply_limit = 10 ^ 26
 abbrev pub net_total_limit : ℕ
 net_total_limit = 2 * 10 ^ 36
 
--- an arc without a low; a loop has no width
+-- an arc with low 0, a width from 0 to its limit, 0 of a loop, and a cost within the wide limit
 pub record IsNetArc (a : Arc) : Type 0 where
   pub no_low : a.low ≡ pos 0
   pub width_low : pos 0 ≤ℤ a.cap

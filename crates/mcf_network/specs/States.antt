@@ -11,7 +11,7 @@ pub record Pseudoflow : Type 0 where
   pub net : Network
   pub amounts : List ℤ
 
--- each amount is from 0 to the width of its arc
+-- the net keeps what every net does, and each of its arcs has an amount, from 0 to its width
 pub record IsPseudoflow (s : Pseudoflow) : Type 0 where
   pub of_net : IsNet s.net
   pub within_bounds : IsWithinBounds s.net.arcs s.amounts
@@ -44,7 +44,7 @@ abbrev pub MovesSurplus : Pseudoflow → Pseudoflow → ℕ → ℕ → ℤ → 
 MovesSurplus s s' from to x =
     (v : ℕ) → IsNode (node_count s.net) v → surplus_at s' v ≡ surplus_at s v -ℤ when (from == v) x +ℤ when (to == v) x
 
--- a list of the surpluses of the nodes of a state
+-- a state, and a list with the surplus of each of its nodes
 pub record KeepsSurplus (s : Pseudoflow) (surpluses : List ℤ) : Type 0 where
   pub flow : IsPseudoflow s
   pub count : length surpluses ≡ node_count s.net

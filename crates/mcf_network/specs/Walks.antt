@@ -31,7 +31,7 @@ abbrev pub pushed_along : Pseudoflow → List Rid → ℤ → Pseudoflow
 pushed_along s [] x = s
 pushed_along s (r ∷ rest) x = pushed_along (pushed s r x) rest x
 
--- each has room for x, and none stands twice
+-- x is at least 0, each of these residual arcs has room for it, and none stands twice
 pub record CanPushAlong (s : Pseudoflow) (walk : List Rid) (x : ℤ) : Type 0 where
   pub low : pos 0 ≤ℤ x
   pub room : All (HasRoomFor s x) walk

@@ -4,7 +4,7 @@
 //!
 //! It stands on `mcf_instance`, and speaks of a net as of an instance: a network whose lows are 0 and
 //! whose caps are the widths. Definitions stand in `specs/`: `Nets` says what every net keeps, `Residual`
-//! and `Stars` what leaves a node, `States` and `Walks` what a push does, `NodeSets` and `Stuck` what a
+//! and `Stars` what leaves a node, `Stored` how a net is kept, `States` and `Walks` what a push does, `NodeSets` and `Stuck` what a
 //! search reaches, `TreeSolutions` which flows have no cycle of free arcs, `Removal` and `Restoring` how the
 //! net of an instance is made and how its states stand for flows of the instance, and `Laws` what carries
 //! over from one to the other.

@@ -1,4 +1,4 @@
--- A heap of the nodes of a net: each node has a key, and some nodes wait, in the order of key and number.
+-- A priority queue of the nodes of a net (Cormen et al., Introduction to Algorithms, 6.5): each has a key, and some wait, by key and then by number.
 use Rattle.std.specs.Prelude.{◌≡◌, ℕ, ◌-◌, ◌≤◌, Bool, true, false, List, length, replicate, slice_set, ℤ, pos, ◌<ℤ◌, ◌⊎◌}
 use Rattle.mcf_instance.specs.Blocking.{in_table}
 use Rattle.mcf_instance.specs.Network.{IsNode, at_node}
@@ -9,7 +9,7 @@ pub record Keyed : Type 0 where
   pub keys : List ℤ
   pub waiting : List Bool
 
--- key x of number a comes before key y of number b: it is less, or they are equal and b is not less than a
+-- key x of number a comes before key y of number b, or is the same: x is less, or they are equal and a is at most b
 abbrev pub ComesFirst : ℤ → ℕ → ℤ → ℕ → Type 0
 ComesFirst x a y b = (x <ℤ y) ⊎ ((x ≡ y) × (a ≤ b))
 

@@ -19,8 +19,8 @@ near_limit = 10 ^ 37
 abbrev pub scaled_reduced : ℕ → Network → List ℤ → Rid → ℤ
 scaled_reduced scale g prices r = unit_cost g r *ℤ pos scale -ℤ at_node prices (tail g r) +ℤ at_node prices (head g r)
 
--- no residual arc with room has a reduced cost below minus the slack, at costs times the scale, which is greater
--- than the slack of a walk through all nodes
+-- a price for each node, within the limit; no residual arc with room has a reduced cost below minus the slack, at costs times the scale, which is
+-- greater than the slack of a walk through all nodes, and at most one more than a net can have nodes: the textbook's optimality within a slack
 pub record AreNearPrices (s : Pseudoflow) (scale slack : ℕ) (prices : List ℤ) : Type 0 where
   pub one_per_node : length prices ≡ node_count s.net
   pub small : All (IsUpTo near_limit) prices

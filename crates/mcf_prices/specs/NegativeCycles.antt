@@ -13,7 +13,7 @@ pub record IsNegativeCycle (s : Pseudoflow) (walk : List Rid) : Type 0 where
   pub distinct : AllPairs (λ r q. tail s.net r ≢ tail s.net q) walk
   pub negative : walk_cost s.net walk <ℤ pos 0
 
--- as much pushed round a cycle as there is room for
+-- as much was pushed round a cycle as there is room for: the least room along it
 pub record IsCancelled (s s' : Pseudoflow) (walk : List Rid) : Type 0 where
   pub amount : ℤ
   pub each : All (λ r. amount ≤ℤ room_of s r) walk

@@ -19,7 +19,7 @@ pub record AreStatePrices (g : Network) (s : Pseudoflow) (prices : List ℤ) : T
   pub greatest : AreGreatestPrices g prices s.amounts
   pub small : AreSmallPrices g prices
 
--- a least state, made as told, with its prices, or a node set that blocks
+-- a least state, made as told, with its prices; or a node set that blocks, of which it isn't told how it was found
 abbrev pub IsOutcome : (Pseudoflow → Type 0) → Network → Outcome → Type 0
 IsOutcome IsMade g (Least s prices) = IsLeastState g s × AreStatePrices g s prices.items × IsMade s
 IsOutcome IsMade g (Blocked table side) = IsChosenBlock g table side

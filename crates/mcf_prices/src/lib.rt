@@ -3,8 +3,8 @@
 //! The greatest prices that show a flow, or a negative cycle, and engines that answer nets.
 //!
 //! It stands on `mcf_network` and `mcf_feas`. Definitions stand in `specs/`: `NegativeCycles` and `Recovering`
-//! say what `recover` answers, `Outcomes` what an engine answers, `Heaps` what a heap of nodes holds, `Labels`,
-//! `Queues`, `Rounds` and `Trails` what the search for prices keeps, and `ItemHeaps` how a heap is laid out.
+//! say what `recover` answers, `NearPrices` from which prices `Pricer::raise` begins, `Outcomes` what an engine answers, `Heaps` what a heap of
+//! nodes holds, `Laws` what follows, and `Private/` what the two searches for prices keep and how a heap is laid out.
 
 mod cancel;
 mod engine;

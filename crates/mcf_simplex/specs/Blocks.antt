@@ -1,5 +1,5 @@
--- Block pricing (the candidate blocks of Ahuja, Magnanti and Orlin, Network Flows, section 11.5). The arcs are gone round once, from the
--- one with which the last pick ended, in blocks of a size: the first block that has an eligible arc gives the one of greatest violation.
+-- Block pricing (akin to the candidate list of Ahuja, Magnanti and Orlin, Network Flows, section 11.5). The arcs are gone round once, from the
+-- one behind the block that gave the last pick, in blocks of a size: the first block that has an eligible arc gives the one of greatest violation.
 use Rattle.std.specs.Prelude.{◌≡◌, ℕ, ◌+◌, ◌-◌, ◌*◌, ◌<◌, ◌≤◌, ◌⊎◌, nat_le, min, length, Option, Some, None, if◌then◌else◌}
 use Rattle.mcf_basis.specs.Pivots.{IsEligible}
 use Rattle.mcf_basis.specs.Structures.{TreeStructure}
@@ -40,7 +40,7 @@ pub record IsInBlock (b : TreeStructure) (start begin end k : ℕ) : Type 0 wher
 abbrev pub HasNoneInRound : TreeStructure → ℕ → ℕ → ℕ → Type 0
 HasNoneInRound b start begin end = (p : ℕ) → begin ≤ p → p < end → ¬ IsEligible b (round_arc b start p)
 
--- what a block gives
+-- what the arcs at these places give: the one of greatest violation, or none where none is eligible
 abbrev pub IsRoundPick : TreeStructure → ℕ → ℕ → ℕ → Option ℕ → Type 0
 IsRoundPick b start begin end (Some k) = IsInBlock b start begin end k
 IsRoundPick b start begin end None = HasNoneInRound b start begin end

@@ -4,7 +4,7 @@ use Rattle.mcf_basis.specs.Pivots.{IsEligible}
 use Rattle.mcf_basis.specs.Structures.{TreeStructure}
 use Rattle.mcf_basis.specs.Violations.{HasNoEligible, violation}
 
--- the eligible arc of least number
+-- the eligible arc of least number: each search begins with arc 1
 pub record IsFirst (b : TreeStructure) (k : ℕ) : Type 0 where
   pub eligible : IsEligible b k
   pub first_one : (j : ℕ) → j < k → ¬ IsEligible b j

@@ -82,7 +82,7 @@ pub record AppendsAnswer (choice : Choice) (input : List ℕ) (kind : Kind) (old
   pub appended : new ≡ old ++ text
   pub answer : IsAnswerTo choice input kind text
 
--- the written text of an answer that is owed, in the form that is chosen, doesn't fit the room after the bytes that are there
+-- the written text of some answer that is owed, in the form that is chosen, doesn't fit the room after the bytes that are there
 pub record LacksRoom (choice : Choice) (input : List ℕ) (capacity bytes : ℕ) : Type 0 where
   pub answer : Answer
   pub in_range : IsAnswer answer

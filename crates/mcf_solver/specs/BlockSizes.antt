@@ -9,6 +9,6 @@ block_limit = 10 ^ 6
 abbrev pub IsBlockSize : ℕ → Type 0
 IsBlockSize size = (1 ≤ size) × (size ≤ block_limit)
 
--- the size that nobody chose
+-- the size where none is chosen
 abbrev pub default_block : ℕ
 default_block = 256

@@ -45,11 +45,11 @@ pub record SendsBeginning (choice : Choice) (given : Option (List ℕ)) (old new
   pub answer : IsAnswerTo choice input kind text
   pub taken : TakesBeginning old new text
 
--- more bytes than are taken from a source
+-- more bytes than are taken from a source, where it names its bytes
 abbrev pub IsTooLong : Option (List ℕ) → Type 0
 IsTooLong given = IfSome given (λ bytes. text_limit < length bytes)
 
--- no more bytes than are taken from a source
+-- no more bytes than are taken from a source, where it names its bytes
 abbrev pub IsTakenWhole : Option (List ℕ) → Type 0
 IsTakenWhole given = IfSome given (λ bytes. length bytes ≤ text_limit)
 

@@ -2,9 +2,9 @@
 
 //! A DIMACS text is read, solved by an engine, and answered with its evidence; and so from a source to a sink.
 //!
-//! It stands on all the crates below, and of `mcf_checker` on its definitions alone. It doesn't speak of the
+//! It stands on all the crates below, and of `mcf_checker` on its definitions and one law. It doesn't speak of the
 //! command line, which `mcf_suite` adds. Definitions stand in `specs/`: `ChosenSolutions` says which of several right
-//! answers is given, `Making` by which engine, `Forms` in which form, `Answering` what is owed for a text, `Devices`
+//! answers is given, `Making` by which engine, `BlockSizes` with which blocks, `Forms` in which form, `Answering` what is owed for a text, `Devices`
 //! and `Running` what a run from a source to a sink does.
 
 mod block_size;

@@ -16,7 +16,7 @@ use std::alloc::{AllocError, Global};
 const PIECE: usize = 65_536;
 
 /// Reads an instance text to its end, solves it, and then writes the answer and finishes. It reads pieces of at
-/// most 65,536 bytes, and keeps no more of the text than the line at hand.
+/// most 65,536 bytes, and gives up the bytes of the lines that were read.
 ///
 /// Nothing is tried again: the first failure of the source or of the sink ends the run.
 ///

@@ -37,7 +37,7 @@ abbrev pub GivesBytes : {S : Type 0} → (S → Option (List ℕ)) → S → S �
 GivesBytes {S} remaining input input' Opens file given =
     (source after : S) × IsSource input input' Opens file source after × (given ≡ remaining source)
 
--- the source failed: it counts one failure more afterwards
+-- the source failed: the input counts one failure more as it is left; of a file's source, which nobody has afterwards, some state does
 abbrev pub FailsToGive : {S : Type 0} → (S → ℕ) → S → S → (Text → Option S → Type 0) → Option (Bor Text) → Type 0
 FailsToGive {S} failures input input' Opens file =
     (source after : S) × IsSource input input' Opens file source after × CountsOneFailure (failures source) (failures after)
