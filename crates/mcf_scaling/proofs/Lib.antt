@@ -11,5 +11,6 @@ pub mod RunLaws
 pub mod ScaleLaws
 pub mod Scans
 pub mod Settling
+pub mod SiteLaws
 pub mod Sizes
 pub mod StepLaws

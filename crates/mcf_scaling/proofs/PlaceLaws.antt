@@ -4,7 +4,7 @@ use Rattle.std.proofs.Common.{refl, sym, ap, ◌∙◌, arith, subst, ◌⊎◌,
 use Rattle.std.specs.List.{All}
 use Rattle.std.specs.Prelude.{Result, Ok, Err, OnErr}
 use Rattle.std.proofs.Math.Seq.{drop-append_seam, slice, slice-cons, take-append_seam, take-length}
-use Rattle.std.proofs.lemmas.Bool.{cases_eq, eq-eqb, ne_eqb}
+use Rattle.std.proofs.lemmas.Bool.{cases_eq, cases_lt, eq-eqb, ne_eqb}
 use Rattle.std.proofs.lemmas.List.{append-nil, append_assoc, drop_all, get_or_append_left, get_or_push, length-take, length-take-le, length_push, map_push}
 use Rattle.std.proofs.lemmas.List.{take-take}
 use Rattle.std.proofs.lemmas.List.Elements.{All-append, All-cons, All-get_or, All-head, All-nil, All-tail}
@@ -31,6 +31,12 @@ arcs_want g capacity ok e some =
       | inl none ↦ absurd (some (omega (arith, e, none)))
       | inr more ↦ omega (arith, more)
     ])
+
+-- a star with places has nodes
+pub places_want : (g : Network) (star : Star) (count : ℕ) → IsStarOf g star → count ≡ length star.places → 1 ≤ count → 1 ≤ node_count g
+places_want g star count ok e some =
+    let (v, node, low, high) = ok.covers 0 (omega (arith, e, some)) in
+    omega (arith, node)
 
 -- ---- numbers of residual arcs
 
@@ -116,7 +122,7 @@ listing_end g v old now first end so low high =
 
 -- ---- node by node
 
-pub star_start : (g : Network) → IsStarUpTo g (record { spans = []; places = [] }) 0
+pub star_start : (g : Network) → IsStarUpTo g (record { spans = []; places = []; sites = [] }) 0
 star_start g =
     record {
       count = refl;
@@ -124,6 +130,7 @@ star_start g =
       rises = λ v h. absurd (omega (arith, h));
       within = λ v h. absurd (omega (arith, h));
       lists = λ v h. absurd (omega (arith, h));
+      covers = λ i h. absurd (omega (arith, h));
     }
 
 -- places that come behind change none before
@@ -135,18 +142,18 @@ longer : (old new : List Place) → take (length old) new ≡ old → length old
 longer old new before = let short = length-take (length old) new in let same = ap (λ (xs : List Place). length xs) before in omega (arith, short, same)
 
 module _ (g : Network) (spans after : List Span) (old new : List Place) (n v : ℕ) (span : Span)
-    (ok : IsStarUpTo g (record { spans = spans; places = old }) n) (e : after ≡ spans ++ span ∷ []) (is : v ≡ n + 1)
+    (ok : IsStarUpTo g (record { spans = spans; places = old; sites = [] }) n) (e : after ≡ spans ++ span ∷ []) (is : v ≡ n + 1)
     (before : take (length old) new ≡ old) (each : All (IsPlace g) new) (first : span.first ≡ length old) (end : span.end ≡ length new)
     (lists : ListsLeaving g v (residuals new span.first span.end)) where
-  span_here : (u : ℕ) → u ≡ v → span ≡ span_of (record { spans = after; places = new }) u
+  span_here : (u : ℕ) → u ≡ v → span ≡ span_of (record { spans = after; places = new; sites = [] }) u
   span_here u same =
       sym (ap (λ (xs : List Span). get_or xs (u - 1) no_span) e ∙ get_or_push spans span no_span (u - 1) (omega (arith, same, is, ok.count)))
 
-  span_there : (u : ℕ) → IsNode n u → span_of (record { spans = spans; places = old }) u ≡ span_of (record { spans = after; places = new }) u
+  span_there : (u : ℕ) → IsNode n u → span_of (record { spans = spans; places = old; sites = [] }) u ≡ span_of (record { spans = after; places = new; sites = [] }) u
   span_there u h =
       sym (ap (λ (xs : List Span). get_or xs (u - 1) no_span) e ∙ get_or_append_left spans (span ∷ []) no_span (u - 1) (omega (arith, h, ok.count)))
 
-  pub star_next : IsStarUpTo g (record { spans = after; places = new }) (n + 1)
+  pub star_next : IsStarUpTo g (record { spans = after; places = new; sites = [] }) (n + 1)
   star_next =
       let long = longer old new before in
       record {
@@ -165,11 +172,38 @@ module _ (g : Network) (spans after : List Span) (old new : List Place) (n v : �
           | inl same ↦ subst (λ (s : Span). ListsLeaving g u (residuals new s.first s.end)) (span_here u same)
               (subst (λ (w : ℕ). ListsLeaving g w (residuals new span.first span.end)) (sym same) lists)
           | inr other ↦ (let inside : IsNode n u = (h.0, omega (arith, h, other, is)) in
-              let s = span_of (record { spans = spans; places = old }) u in
+              let s = span_of (record { spans = spans; places = old; sites = [] }) u in
               subst (λ (s : Span). ListsLeaving g u (residuals new s.first s.end)) (span_there u inside)
               (subst (ListsLeaving g u) (residuals_kept old new s.first s.end before (ok.within u inside)) (ok.lists u inside)))
         ];
+        covers = λ i below. elim (cases_lt i (length old)) [
+          | inl earlier ↦ (let (u, node, low, high) = ok.covers i earlier in (
+            u,
+            (node.0, omega (arith, node)),
+            subst (λ (s : Span). s.first ≤ i) (span_there u node) low,
+            subst (λ (s : Span). i < s.end) (span_there u node) high,
+          ))
+          | inr now ↦ (
+            v,
+            (omega (arith, is), omega (arith, is)),
+            subst (λ (s : Span). s.first ≤ i) (span_here v refl) (omega (arith, first, now)),
+            subst (λ (s : Span). i < s.end) (span_here v refl) (omega (arith, end, below)),
+          )
+        ];
       }
+
+-- a star without its sites is one with any
+pub star_with : (g : Network) (spans : List Span) (places : List Place) (some other : List ℕ) (n : ℕ)
+    → IsStarUpTo g (record { spans = spans; places = places; sites = some }) n → IsStarUpTo g (record { spans = spans; places = places; sites = other }) n
+star_with g spans places some other n ok =
+    record {
+      count = ok.count;
+      each = ok.each;
+      rises = ok.rises;
+      within = ok.within;
+      lists = ok.lists;
+      covers = ok.covers;
+    }
 
 -- ---- a scan of the places of a node, at place i
 

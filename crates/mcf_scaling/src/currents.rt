@@ -25,7 +25,7 @@ pub(crate) fn next_admissible(
     current: &mut usize,
 ) -> Option<Rid>
     requires star { IsStarOf state.now.net places.now }
-    requires rooms { AreRooms state.now rooms.now }
+    requires rooms { AreRooms state.now places.now rooms.now }
     requires prices { AreSmallPrices (node_count state.now.net) prices.now }
     requires node { IsNode (node_count state.now.net) v }
     requires within { current.old ≤ (span_of places.now v).end }
@@ -43,7 +43,7 @@ pub(crate) fn next_admissible(
     let mut i = *current;
     'looking: while i < end {
         let place = places.at(i);
-        if is_admissible(state, prices, rooms, price, factor, place) {
+        if is_admissible(state, prices, rooms[i], price, factor, place) {
             *current = i;
             return Some(residual_of(place.link));
         }

@@ -1,9 +1,9 @@
-//! The residual arcs that leave each node, side by side, as a scan reads them.
-ghost use Rattle.std.specs.Prelude.{◌≡◌, ◌-◌, ◌<◌, ◌≤◌, IfOk, OnErr, length, take};
+//! The residual arcs that leave each node, side by side, as a scan reads them, and the place of each.
+ghost use Rattle.std.specs.Prelude.{◌≡◌, ◌-◌, ◌*◌, ◌^◌, ◌<◌, ◌≤◌, [], IfOk, OnErr, length, take};
 ghost use Rattle.std.specs.List.{All};
 ghost use Rattle.mcf_instance.specs.Network.{IsArcNumber, IsNode, node_count};
 ghost use Rattle.mcf_network.specs.Stars.{ListsLeaving};
-ghost use Rattle.mcf_scaling.specs.Private.Places.{IsPlace, IsStarOf, place_at, residual_of, residuals, span_of};
+ghost use Rattle.mcf_scaling.specs.Private.Places.{AreSites, AreSitesUpTo, IsPlace, IsStarOf, place_at, residual_of, residuals, site_of, span_of};
 
 use mcf_network::{Net, Rid};
 use mcf_text::{ArcId, NoMemory, NodeId};
@@ -33,6 +33,8 @@ pub(crate) struct Span {
 pub(crate) struct Places {
     spans: Vec<Span>,
     places: Vec<Place>,
+    // for each number of a residual arc the place at which that stands
+    sites: Vec<u32>,
 }
 
 impl Model for Places {
@@ -40,13 +42,14 @@ impl Model for Places {
 
     ghost Value = { Star };
 
-    ghost view = { λ p. record { spans = p.spans.items; places = p.places.items } };
+    ghost view = { λ p. record { spans = p.spans.items; places = p.places.items; sites = p.sites.items } };
 }
 
 impl Places {
     /// The places of a net.
     pub(crate) fn new(alloc: Global, net: &Net) -> Result<Places, NoMemory>
         ensures value { IfOk result (IsStarOf net.now) }
+        ensures sites { IfOk result (AreSites net.now) }
         ensures wants { OnErr result (1 ≤ node_count net.now) }
     {
         let mut spans = Vec::with_capacity(alloc, net.node_count() as usize)?;
@@ -55,7 +58,20 @@ impl Places {
             let span = put_leaving(net, &mut places, NodeId::at(number))?;
             spans.push(span)?;
         }
-        Ok(Places { spans, places })
+        let mut sites = blank(alloc, 2 * net.arc_count() as usize)?;
+        write_sites(&places, &mut sites);
+        Ok(Places {
+            spans,
+            places,
+            sites,
+        })
+    }
+
+    /// How many places there are.
+    pub(crate) fn count(&self) -> usize
+        ensures { result ≡ length self.now.places }
+    {
+        self.places.len()
     }
 
     /// Where the places of a node are.
@@ -72,6 +88,37 @@ impl Places {
         ensures { result ≡ place_at self.now place }
     {
         self.places[place]
+    }
+
+    /// The place of the residual arc of a number.
+    pub(crate) fn site(&self, link: usize) -> usize
+        requires { link < length self.now.sites }
+        ensures { result ≡ site_of self.now.sites link }
+    {
+        self.sites[link] as usize
+    }
+}
+
+// So many numbers.
+fn blank(alloc: Global, count: usize) -> Result<Vec<u32>, NoMemory>
+    ensures count { IfOk result (λ made. length made.items ≡ count) }
+    ensures wants { OnErr result (1 ≤ count) }
+{
+    let mut made = Vec::new(alloc);
+    made.resize(count, 0)?;
+    Ok(made)
+}
+
+// Writes for each residual arc the place at which it stands.
+fn write_sites(places: &[Place], sites: &mut Vec<u32>)
+    requires few { length places.now ≤ 2 ^ 32 }
+    requires each { All (λ p. p.link < length sites.old.items) places.now }
+    ensures count { length sites.new.items ≡ length sites.old.items }
+    ensures sites { AreSitesUpTo (record { spans = []; places = places.now; sites = sites.new.items }) (length places.now) }
+{
+    'places: for i in 0..places.len() {
+        let link = places[i].link as usize;
+        sites[link] = i as u32;
     }
 }
 

@@ -47,7 +47,7 @@ pub struct Refine<'n> {
     scale: u32,
     // the residual arcs of the net, one node after another
     places: Places,
-    // for each residual arc whether it has room
+    // for each place whether what stands there has room
     rooms: Vec<bool>,
     // for each node the place of its current arc: none of those before it is admissible
     currents: Vec<usize>,
@@ -57,7 +57,7 @@ pub struct Refine<'n> {
 
 impl<'n> Model for Refine<'n> {
     ghost use Rattle.mcf_scaling.specs.Private.Currents.{AreCurrent};
-    ghost use Rattle.mcf_scaling.specs.Private.Places.{AreRooms, IsStarOf};
+    ghost use Rattle.mcf_scaling.specs.Private.Places.{AreRooms, AreSites, IsStarOf};
     ghost use Rattle.mcf_scaling.specs.Private.Queues.{IsQueueOf};
     ghost use Rattle.mcf_scaling.specs.Refinements.{IsRefinement, Refinement};
 
@@ -69,7 +69,8 @@ impl<'n> Model for Refine<'n> {
         × AreCurrent a.state a.prices.items a.places a.currents.items
         × IsQueueOf a.state a.queue
         × IsStarOf a.state.net a.places
-        × AreRooms a.state a.rooms.items };
+        × AreRooms a.state a.places a.rooms.items
+        × AreSites a.state.net a.places };
 }
 
 impl<'n> Refine<'n> {
@@ -91,7 +92,7 @@ impl<'n> Refine<'n> {
         let prices = copies(alloc, nodes, 0)?;
         let before = copies(alloc, nodes, 0)?;
         let places = Places::new(alloc, net)?;
-        let rooms = rooms_of(alloc, &state)?;
+        let rooms = rooms_of(alloc, &state, &places)?;
         let currents = all_firsts(alloc, net, &places)?;
         let queue = Queue::new(alloc, net)?;
         Ok(Refine {
@@ -182,7 +183,7 @@ impl<'n> Refine<'n> {
         let (arc, back) = (r.arc, r.back);
         let (_, to) = self.state.net().route(Rid { arc, back });
         let amount = push_share(&mut self.state, arc, back);
-        mark(&self.state, &mut self.rooms, arc);
+        mark(&self.state, &self.places, &mut self.rooms, arc);
         enqueue(&self.state, &mut self.queue, to);
         tidy(&self.state, &mut self.queue);
         amount
@@ -219,7 +220,7 @@ impl<'n> Refine<'n> {
         ensures valid { IsRefinement self.new }
     {
         fill(&mut self.state, &self.prices);
-        mark_all(&self.state, &mut self.rooms);
+        mark_all(&self.state, &self.places, &mut self.rooms);
         self.before.copy_from_slice(&self.prices);
         self.scale -= 1;
         enqueue_all(&self.state, &mut self.queue);
@@ -281,7 +282,7 @@ fn rise_of(
     scale: u32,
 ) -> i128
     requires star { IsStarOf state.now.net places.now }
-    requires rooms { AreRooms state.now rooms.now }
+    requires rooms { AreRooms state.now places.now rooms.now }
     requires flow { IsPseudoflow state.now }
     requires prices { AreSmallPrices (node_count state.now.net) prices.now }
     requires node { IsNode (node_count state.now.net) v }

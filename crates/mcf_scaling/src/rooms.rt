@@ -1,21 +1,28 @@
-//! A mark for each residual arc, which tells whether it has room.
-ghost use Rattle.std.specs.Prelude.{◌≡◌, ◌*◌, ◌≤◌, IfOk, OnErr, length};
+//! A mark for each place of a residual arc, which tells whether that has room.
+ghost use Rattle.std.specs.Prelude.{◌≡◌, ◌≤◌, IfOk, OnErr, length};
 ghost use Rattle.std.specs.Bool.{OnFalse, OnTrue};
 ghost use Rattle.mcf_instance.specs.Network.{IsArcNumber, node_count};
 ghost use Rattle.mcf_network.specs.Walks.{HasRoom};
-ghost use Rattle.mcf_scaling.specs.Private.Places.{AreRooms, IsMarked};
+ghost use Rattle.mcf_scaling.specs.Private.Places.{AreRooms, AreSites, IsMarked, IsStarOf};
 
+use crate::places::Places;
 use mcf_network::{Rid, State};
 use mcf_text::{ArcId, NoMemory};
 use std::alloc::Global;
 
 /// The marks of a state.
-pub(crate) fn rooms_of(alloc: Global, state: &State<'_>) -> Result<Vec<bool>, NoMemory>
-    ensures value { IfOk result (λ made. AreRooms state.now made.items) }
+pub(crate) fn rooms_of(
+    alloc: Global,
+    state: &State<'_>,
+    places: &Places,
+) -> Result<Vec<bool>, NoMemory>
+    requires star { IsStarOf state.now.net places.now }
+    requires sites { AreSites state.now.net places.now }
+    ensures value { IfOk result (λ made. AreRooms state.now places.now made.items) }
     ensures wants { OnErr result (1 ≤ node_count state.now.net) }
 {
-    let mut rooms = blank(alloc, 2 * state.net().arc_count() as usize)?;
-    mark_all(state, &mut rooms);
+    let mut rooms = blank(alloc, places.count())?;
+    mark_all(state, places, &mut rooms);
     Ok(rooms)
 }
 
@@ -30,24 +37,29 @@ fn blank(alloc: Global, count: usize) -> Result<Vec<bool>, NoMemory>
 }
 
 /// Writes the marks of all residual arcs.
-pub(crate) fn mark_all(state: &State<'_>, rooms: &mut Vec<bool>)
-    requires { length rooms.old.items ≡ 2 * length state.now.net.arcs }
-    ensures { AreRooms state.now rooms.new.items }
+pub(crate) fn mark_all(state: &State<'_>, places: &Places, rooms: &mut Vec<bool>)
+    requires star { IsStarOf state.now.net places.now }
+    requires sites { AreSites state.now.net places.now }
+    requires count { length rooms.old.items ≡ length places.now.places }
+    ensures { AreRooms state.now places.now rooms.new.items }
 {
     'arcs: for number in 0..state.net().arc_count() {
-        mark(state, rooms, ArcId::at(number));
+        mark(state, places, rooms, ArcId::at(number));
     }
 }
 
 /// Writes the marks of an arc, forward and backward.
-pub(crate) fn mark(state: &State<'_>, rooms: &mut Vec<bool>, arc: ArcId)
+pub(crate) fn mark(state: &State<'_>, places: &Places, rooms: &mut Vec<bool>, arc: ArcId)
     requires arc { IsArcNumber state.now.net arc }
-    requires count { length rooms.old.items ≡ 2 * length state.now.net.arcs }
-    ensures { IsMarked state.now rooms.old.items rooms.new.items arc }
+    requires sites { AreSites state.now.net places.now }
+    requires count { length rooms.old.items ≡ length places.now.places }
+    ensures { IsMarked state.now places.now rooms.old.items rooms.new.items arc }
 {
     let link = 2 * arc.place();
-    rooms[link] = has_room(state, arc, false);
-    rooms[link + 1] = has_room(state, arc, true);
+    let forward = places.site(link);
+    let backward = places.site(link + 1);
+    rooms[forward] = has_room(state, arc, false);
+    rooms[backward] = has_room(state, arc, true);
 }
 
 // Whether a residual arc has room.

@@ -1,4 +1,4 @@
--- The residual arcs that leave each node, side by side, as a scan reads them; and a mark for each that has room.
+-- The residual arcs that leave each node, side by side, as a scan reads them; the place of each; and a mark for each that has room.
 use Rattle.std.specs.Prelude.{◌≡◌, ◌≢◌, ℕ, ◌+◌, ◌-◌, ◌*◌, ◌/◌, ◌%◌, ◌==◌, ◌<◌, ◌≤◌, Bool, false, List, length, map, drop, take, slice_index_or, pos}
 use Rattle.std.specs.Bool.{OnFalse, OnTrue}
 use Rattle.std.specs.List.{All}
@@ -11,10 +11,11 @@ use Rattle.mcf_network.specs.Walks.{HasRoom}
 use Rattle.mcf_scaling.specs.declared.places.Place.{Place}
 use Rattle.mcf_scaling.specs.declared.places.Span.{Span}
 
--- for each node its places, and what stands there
+-- for each node its places, and what stands there; and for each number of a residual arc its place
 pub record Star : Type 0 where
   pub spans : List Span
   pub places : List Place
+  pub sites : List ℕ
 
 -- the residual arc of a number: two for each arc, forward and backward
 abbrev pub residual_of : ℕ → Rid
@@ -45,17 +46,34 @@ residual_at p = residual_of p.link
 abbrev pub residuals : List Place → ℕ → ℕ → List Rid
 residuals places i end = map residual_at (drop i (take end places))
 
--- those of the first n nodes: the places of each are those of the residual arcs that leave it
+-- those of the first n nodes: the places of each are those of the residual arcs that leave it, and each place is that of a node
 pub record IsStarUpTo (g : Network) (star : Star) (n : ℕ) : Type 0 where
   pub count : length star.spans ≡ n
   pub each : All (IsPlace g) star.places
   pub rises : (v : ℕ) → IsNode n v → (span_of star v).first ≤ (span_of star v).end
   pub within : (v : ℕ) → IsNode n v → (span_of star v).end ≤ length star.places
   pub lists : (v : ℕ) → IsNode n v → ListsLeaving g v (residuals star.places (span_of star v).first (span_of star v).end)
+  pub covers : (i : ℕ) → i < length star.places → (v : ℕ) × IsNode n v × ((span_of star v).first ≤ i) × (i < (span_of star v).end)
 
 -- the star of a net
 abbrev pub IsStarOf : Network → Star → Type 0
 IsStarOf g star = IsStarUpTo g star (node_count g)
+
+-- the place of a residual arc, by its number
+abbrev pub site_of : List ℕ → ℕ → ℕ
+site_of sites link = slice_index_or sites link 0
+
+-- of each residual arc at the first n places one of them is known at which it stands
+pub record AreSitesUpTo (star : Star) (n : ℕ) : Type 0 where
+  pub within : (i : ℕ) → i < n → site_of star.sites (place_at star i).link < n
+  pub same : (i : ℕ) → i < n → (place_at star (site_of star.sites (place_at star i).link)).link ≡ (place_at star i).link
+
+-- each residual arc has one place, which is known
+pub record AreSites (g : Network) (star : Star) : Type 0 where
+  pub count : length star.sites ≡ 2 * length g.arcs
+  pub within : (link : ℕ) → link < length star.sites → site_of star.sites link < length star.places
+  pub there : (link : ℕ) → link < length star.sites → (place_at star (site_of star.sites link)).link ≡ link
+  pub only : (i : ℕ) → i < length star.places → site_of star.sites (place_at star i).link ≡ i
 
 -- a mark tells whether a residual arc has room
 pub record Tells (s : Pseudoflow) (r : Rid) (mark : Bool) : Type 0 where
@@ -63,20 +81,24 @@ pub record Tells (s : Pseudoflow) (r : Rid) (mark : Bool) : Type 0 where
   pub no : OnFalse mark (¬ HasRoom s r)
 
 abbrev pub mark_of : List Bool → ℕ → Bool
-mark_of rooms link = slice_index_or rooms link false
+mark_of rooms i = slice_index_or rooms i false
 
--- a mark for each residual arc of the first n arcs, and one for each of the others that tells nothing
-pub record AreRoomsUpTo (s : Pseudoflow) (rooms : List Bool) (n : ℕ) : Type 0 where
-  pub count : length rooms ≡ 2 * length s.net.arcs
-  pub each : (link : ℕ) → link < length rooms → (residual_of link).arc ≤ n → Tells s (residual_of link) (mark_of rooms link)
+-- the residual arc at a place
+abbrev pub standing : Star → ℕ → Rid
+standing star i = residual_at (place_at star i)
 
--- a mark for each residual arc
-pub record AreRooms (s : Pseudoflow) (rooms : List Bool) : Type 0 where
-  pub count : length rooms ≡ 2 * length s.net.arcs
-  pub each : (link : ℕ) → link < length rooms → Tells s (residual_of link) (mark_of rooms link)
+-- a mark for each place of a residual arc of the first n arcs, and one for each of the others that tells nothing
+pub record AreRoomsUpTo (s : Pseudoflow) (star : Star) (rooms : List Bool) (n : ℕ) : Type 0 where
+  pub count : length rooms ≡ length star.places
+  pub each : (i : ℕ) → i < length rooms → (standing star i).arc ≤ n → Tells s (standing star i) (mark_of rooms i)
+
+-- a mark for each place
+pub record AreRooms (s : Pseudoflow) (star : Star) (rooms : List Bool) : Type 0 where
+  pub count : length rooms ≡ length star.places
+  pub each : (i : ℕ) → i < length rooms → Tells s (standing star i) (mark_of rooms i)
 
 -- the marks of an arc were written, and no other
-pub record IsMarked (s : Pseudoflow) (old new : List Bool) (k : ℕ) : Type 0 where
+pub record IsMarked (s : Pseudoflow) (star : Star) (old new : List Bool) (k : ℕ) : Type 0 where
   pub count : length new ≡ length old
-  pub here : (link : ℕ) → link < length new → (residual_of link).arc ≡ k → Tells s (residual_of link) (mark_of new link)
-  pub others : (link : ℕ) → (residual_of link).arc ≢ k → mark_of new link ≡ mark_of old link
+  pub here : (i : ℕ) → i < length new → (standing star i).arc ≡ k → Tells s (standing star i) (mark_of new i)
+  pub others : (i : ℕ) → i < length new → (standing star i).arc ≢ k → mark_of new i ≡ mark_of old i

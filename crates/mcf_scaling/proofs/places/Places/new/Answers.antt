@@ -1,7 +1,8 @@
-use Rattle.std.proofs.Common.{ℕ, ◌*◌, ◌≤◌, sym, ap}
+use Rattle.std.proofs.Common.{◌≡◌, ℕ, ◌*◌, ◌∙◌, ◌≤◌, length, rules, arith, sym, ap}
 use Rattle.std.proofs.lemmas.Bool.{true≢false}
 use Rattle.mcf_instance.specs.Network.{node_count}
 use Rattle.mcf_scaling.proofs.PlaceLaws.{arcs_want, on_err, star_next}
+use Rattle.mcf_scaling.proofs.SiteLaws.{whole_few, whole_sites, whole_star}
 use Rattle.mcf_scaling.proofs.places.Places.new.Goals as goal
 
 pub returns-in_err-places-clause-wants : goal.returns-in_err-places-clause-wants
@@ -14,3 +15,29 @@ nodes-preserved c =
     star_next c.args.net.now c.nodes.spans.items c.push.new.self.items c.nodes.places.items c.put_leaving.new.places.items c.nodes.number c.at.result
     c.in_ok-span.span c.nodes.invariant c.in_ok-push.ensures.items c.at.ensures c.in_ok-span.ensures.before c.in_ok-span.ensures.each
     c.in_ok-span.ensures.first c.in_ok-span.ensures.end c.in_ok-span.ensures.lists
+
+pub returns-in_err-sites-clause-wants : goal.returns-in_err-sites-clause-wants
+returns-in_err-sites-clause-wants c =
+    let some = c.in_err-sites.ensures.wants in
+    on_err c.from_residual-in_err-sites.result (1 ≤ node_count c.args.net.now) (arcs_want c.args.net.now (2 * c.arc_count-2.result)
+    c.arc_count-2.ensures.of_net (ap (λ (n : ℕ). 2 * n) c.arc_count-2.ensures.value) (λ none. omega (arith, none, some)))
+
+pub write_sites-requires-clause-few : goal.write_sites-requires-clause-few
+write_sites-requires-clause-few c =
+    let done : c.nodes.number ≡ node_count c.args.net.now = search rules in
+    whole_few c.args.net.now c.nodes.spans.items c.nodes.places.items c.deref.result.now c.nodes.number c.nodes.invariant done
+    c.arc_count-2.ensures.of_net c.deref.ensures.value
+
+pub returns-clause-value : goal.returns-clause-value
+returns-clause-value c =
+    let done : c.nodes.number ≡ node_count c.args.net.now = search rules in
+    whole_star c.args.net.now c.nodes.spans.items c.nodes.places.items c.deref.result.now c.nodes.number c.nodes.invariant done
+    c.arc_count-2.ensures.of_net c.deref.ensures.value c.write_sites.new.sites.items
+
+pub returns-clause-sites : goal.returns-clause-sites
+returns-clause-sites c =
+    let done : c.nodes.number ≡ node_count c.args.net.now = search rules in
+    let count : length c.write_sites.new.sites.items ≡ 2 * length c.args.net.now.arcs = c.write_sites.ensures.count ∙ c.in_ok-sites.ensures.count
+    ∙ ap (λ (n : ℕ). 2 * n) c.arc_count-2.ensures.value in
+    whole_sites c.args.net.now c.nodes.spans.items c.nodes.places.items c.deref.result.now c.nodes.number c.nodes.invariant done
+    c.arc_count-2.ensures.of_net c.deref.ensures.value c.write_sites.new.sites.items count c.write_sites.ensures.sites

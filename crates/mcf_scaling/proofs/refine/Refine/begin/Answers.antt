@@ -1,13 +1,21 @@
-use Rattle.std.proofs.Common.{◌≡◌, ◌*◌, ◌∙◌, length, rules, sym, ap, subst}
+use Rattle.std.proofs.Common.{◌≡◌, rules, sym, subst}
 use Rattle.mcf_instance.specs.Network.{Network}
-use Rattle.mcf_scaling.specs.Private.Places.{IsStarOf}
+use Rattle.mcf_scaling.specs.Private.Places.{AreSites, IsStarOf}
 use Rattle.mcf_scaling.proofs.CurrentLaws.{begin_current}
 use Rattle.mcf_scaling.proofs.Methods.{begun_made}
 use Rattle.mcf_scaling.specs.Refinements.{Refinement}
 use Rattle.mcf_scaling.proofs.refine.Refine.begin.Goals as goal
 
-pub mark_all-requires : goal.mark_all-requires
-mark_all-requires c = c.self.invariant.4.count ∙ ap (λ (g : Network). 2 * length g.arcs) (sym c.fill.ensures.net)
+pub mark_all-requires-clause-star : goal.mark_all-requires-clause-star
+mark_all-requires-clause-star c =
+    subst (λ (g : Network). IsStarOf g c.self.inside.places) (sym c.fill.ensures.net) c.self.invariant.3
+
+pub mark_all-requires-clause-sites : goal.mark_all-requires-clause-sites
+mark_all-requires-clause-sites c =
+    subst (λ (g : Network). AreSites g c.self.inside.places) (sym c.fill.ensures.net) c.self.invariant.5
+
+pub mark_all-requires-clause-count : goal.mark_all-requires-clause-count
+mark_all-requires-clause-count c = c.self.invariant.4.count
 
 pub invariant_of-self : goal.invariant_of-self
 invariant_of-self c =
@@ -26,6 +34,7 @@ invariant_of-self c =
       c.tidy.ensures,
       subst (λ (g : Network). IsStarOf g c.self.inside.places) (sym c.fill.ensures.net) c.self.invariant.3,
       c.mark_all.ensures,
+      subst (λ (g : Network). AreSites g c.self.inside.places) (sym c.fill.ensures.net) c.self.invariant.5,
     )
 
 pub returns-clause-valid : goal.returns-clause-valid

@@ -1,7 +1,7 @@
-use Rattle.std.proofs.Common.{◌*◌, ◌∙◌, length, sym, ap, subst}
+use Rattle.std.proofs.Common.{◌∙◌, sym, ap, subst}
 use Rattle.mcf_instance.specs.Network.{Network, IsArcNumber}
 use Rattle.mcf_network.specs.States.{Pseudoflow}
-use Rattle.mcf_scaling.specs.Private.Places.{IsStarOf}
+use Rattle.mcf_scaling.specs.Private.Places.{AreSites, IsStarOf}
 use Rattle.mcf_scaling.proofs.RoomLaws.{pushed_rooms}
 use Rattle.mcf_network.specs.Residual.{head}
 use Rattle.mcf_network.proofs.StateLaws.{rid}
@@ -35,8 +35,11 @@ mark-requires-clause-arc c =
     (arc_of a c.args.self.now c.args.r c.self.view_is c.requires.admissible)
 
 pub mark-requires-clause-count : goal.mark-requires-clause-count
-mark-requires-clause-count c =
-    c.self.invariant.4.count ∙ ap (λ (p : Pseudoflow). 2 * length p.net.arcs) (sym c.push_share-amount.ensures.value)
+mark-requires-clause-count c = c.self.invariant.4.count
+
+pub mark-requires-clause-sites : goal.mark-requires-clause-sites
+mark-requires-clause-sites c =
+    subst (λ (g : Network). AreSites g c.self.inside.places) (sym (ap (λ (p : Pseudoflow). p.net) c.push_share-amount.ensures.value)) c.self.invariant.5
 
 pub invariant_of-self : goal.invariant_of-self
 invariant_of-self c =
@@ -54,9 +57,11 @@ invariant_of-self c =
           c.requires.admissible c.requires.active c.push_share-amount.ensures.value c.push_share-amount.ensures.amount c.self.invariant.1,
       c.tidy.ensures,
       subst (λ (g : Network). IsStarOf g c.self.inside.places) (sym (ap (λ (p : Pseudoflow). p.net) c.push_share-amount.ensures.value)) c.self.invariant.3,
-      pushed_rooms a.flow c.push_share-amount.new.state c.args.r.arc c.args.r.back c.push_share-amount.result c.self.inside.rooms.items
-          c.mark.new.rooms.items c.self.invariant.0.flow (arc_of a c.args.self.now c.args.r c.self.view_is c.requires.admissible)
-          c.push_share-amount.ensures.value c.self.invariant.4 c.mark.ensures,
+      pushed_rooms a.flow c.push_share-amount.new.state c.args.r.arc c.args.r.back c.push_share-amount.result c.self.inside.places
+          c.self.inside.rooms.items c.mark.new.rooms.items c.self.invariant.0.flow
+          (arc_of a c.args.self.now c.args.r c.self.view_is c.requires.admissible) c.push_share-amount.ensures.value c.self.invariant.3
+          c.self.invariant.4 c.mark.ensures,
+      subst (λ (g : Network). AreSites g c.self.inside.places) (sym (ap (λ (p : Pseudoflow). p.net) c.push_share-amount.ensures.value)) c.self.invariant.5,
     )
 
 pub returns-clause-valid : goal.returns-clause-valid

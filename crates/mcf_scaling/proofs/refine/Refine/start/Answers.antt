@@ -3,7 +3,7 @@ use Rattle.mcf_instance.specs.Network.{Network, node_count}
 use Rattle.mcf_scaling.proofs.CurrentLaws.{all_current}
 use Rattle.mcf_scaling.proofs.QueueLaws.{start_queue}
 use Rattle.mcf_scaling.proofs.Methods.{start_made}
-use Rattle.mcf_scaling.specs.Private.Places.{IsStarOf}
+use Rattle.mcf_scaling.specs.Private.Places.{AreSites, IsStarOf}
 use Rattle.mcf_scaling.specs.Scales.{ArePhases}
 use Rattle.mcf_scaling.proofs.refine.Refine.start.Goals as goal
 
@@ -20,7 +20,16 @@ invariant_of-result c =
           c.requires.no_surplus c.net-net.ensures.value c.in_ok-queue.ensures.value,
       subst (λ (g : Network). IsStarOf g c.in_ok-places.places) c.net-net.ensures.value c.in_ok-places.ensures.value,
       c.in_ok-rooms.ensures.value,
+      subst (λ (g : Network). AreSites g c.in_ok-places.places) c.net-net.ensures.value c.in_ok-places.ensures.sites,
     )
+
+pub rooms_of-requires-clause-star : goal.rooms_of-requires-clause-star
+rooms_of-requires-clause-star c =
+    subst (λ (g : Network). IsStarOf g c.in_ok-places.places) c.net-net.ensures.value c.in_ok-places.ensures.value
+
+pub rooms_of-requires-clause-sites : goal.rooms_of-requires-clause-sites
+rooms_of-requires-clause-sites c =
+    subst (λ (g : Network). AreSites g c.in_ok-places.places) c.net-net.ensures.value c.in_ok-places.ensures.sites
 
 pub returns-clause-valid : goal.returns-clause-valid
 returns-clause-valid c =
