@@ -149,7 +149,8 @@ module _ (g : Network) (spans after : List Span) (old new : List Place) (n v : �
   span_here u same =
       sym (ap (λ (xs : List Span). get_or xs (u - 1) no_span) e ∙ get_or_push spans span no_span (u - 1) (omega (arith, same, is, ok.count)))
 
-  span_there : (u : ℕ) → IsNode n u → span_of (record { spans = spans; places = old; sites = [] }) u ≡ span_of (record { spans = after; places = new; sites = [] }) u
+  span_there : (u : ℕ) → IsNode n u
+      → span_of (record { spans = spans; places = old; sites = [] }) u ≡ span_of (record { spans = after; places = new; sites = [] }) u
   span_there u h =
       sym (ap (λ (xs : List Span). get_or xs (u - 1) no_span) e ∙ get_or_append_left spans (span ∷ []) no_span (u - 1) (omega (arith, h, ok.count)))
 

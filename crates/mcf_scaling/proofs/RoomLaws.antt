@@ -7,7 +7,8 @@ use Rattle.mcf_instance.specs.Network.{Network, IsArcNumber}
 use Rattle.mcf_network.specs.declared.rid.Rid.{Rid}
 use Rattle.mcf_network.specs.States.{Pseudoflow, IsPseudoflow, amount_at, pushed, room_of}
 use Rattle.mcf_network.proofs.StateLaws.{rid}
-use Rattle.mcf_scaling.specs.Private.Places.{Star, AreRooms, AreRoomsUpTo, AreSites, IsMarked, IsStarOf, Tells, mark_of, place_at, residual_at, site_of, standing}
+use Rattle.mcf_scaling.specs.Private.Places.{Star, AreRooms, AreRoomsUpTo, AreSites, IsMarked, IsStarOf}
+use Rattle.mcf_scaling.specs.Private.Places.{Tells, mark_of, place_at, residual_at, site_of, standing}
 use Rattle.mcf_scaling.specs.declared.places.Place.{Place}
 use Rattle.mcf_scaling.proofs.Fillings.{others_pushed, room_same}
 use Rattle.mcf_scaling.proofs.PlaceLaws.{link_arc, link_back, link_forward, links_of, place_of_net}

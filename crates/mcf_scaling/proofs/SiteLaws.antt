@@ -16,7 +16,8 @@ use Rattle.mcf_network.proofs.ArcLaws.{tail_is_node}
 use Rattle.mcf_network.proofs.StateLaws.{rid}
 use Rattle.mcf_scaling.specs.declared.places.Place.{Place}
 use Rattle.mcf_scaling.specs.declared.places.Span.{Span}
-use Rattle.mcf_scaling.specs.Private.Places.{Star, AreSites, AreSitesUpTo, IsStarOf, IsStarUpTo, no_place, place_at, residual_at, residual_of, residuals, site_of, span_of, standing}
+use Rattle.mcf_scaling.specs.Private.Places.{Star, AreSites, AreSitesUpTo, IsStarOf, IsStarUpTo, no_place}
+use Rattle.mcf_scaling.specs.Private.Places.{place_at, residual_at, residual_of, residuals, site_of, span_of, standing}
 use Rattle.mcf_scaling.proofs.PlaceLaws.{link_arc, place_of_net, star_with}
 
 -- ---- numbers
