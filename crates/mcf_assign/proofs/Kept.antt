@@ -106,10 +106,10 @@ module _ (s : Pseudoflow) (y z : List ℤ) (q : Search) (row : ℕ) (order : Lis
   listed_more : (v : ℕ) → IsNode (node_count s.net) v → Settled q v → Contains (order ++ c ∷ []) v
   listed_more v n h = Contains-append_left order (c ∷ []) v (ended.order_ok.listed v n h)
 
-  pub grown_from : (s' : Pseudoflow) (y0 y1 : List ℤ) (l0 l1 : List ℕ) (r : List Bool) → IsExtended s s' z row c → IsChangedWithin s s' q c
-      → l1 ≡ order ++ c ∷ []
-      → IsGrown (record { flow = s; prices = y0; settled = l0; reached = r }) row (record { flow = s'; prices = y1; settled = l1; reached = r })
-  grown_from s' y0 y1 l0 l1 r ext changed e =
+  pub grown_from : (s' : Pseudoflow) (z' : List ℤ) (l0 l1 : List ℕ) (r : List Bool) → IsExtended s s' z row c → IsChangedWithin s s' q c
+      → l1 ≡ order ++ c ∷ [] → z' ≡ z
+      → IsGrown (record { flow = s; prices = y; settled = l0; reached = r }) row (record { flow = s'; prices = z'; settled = l1; reached = r })
+  grown_from s' z' l0 l1 r ext changed e ez =
       record {
         net = ext.net;
         path = ext.path;
@@ -126,6 +126,8 @@ module _ (s : Pseudoflow) (y z : List ℤ) (q : Search) (row : ℕ) (order : Lis
             ],
           )
         ];
+        prices = λ v n none.
+            ap (λ (x : List ℤ). at_node x v) ez ∙ raised.others v n (λ h. none (subst (λ l. Contains l v) (sym e) (listed_more v n h)));
         reached = refl;
       }
     where

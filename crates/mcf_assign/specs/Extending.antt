@@ -3,7 +3,7 @@ use Rattle.std.specs.Prelude.{◌≡◌, ◌≢◌, ◌↔◌, ℕ, Bool, true, 
 use Rattle.std.specs.List.{All, AllPairs, Contains}
 use Rattle.mcf_instance.specs.declared.problem.Side.TheVariants.{Send}
 use Rattle.mcf_instance.specs.Blocking.{Blocks, in_table}
-use Rattle.mcf_instance.specs.Network.{IsArcNumber, IsNode, node_count}
+use Rattle.mcf_instance.specs.Network.{IsArcNumber, IsNode, at_node, node_count}
 use Rattle.mcf_network.specs.declared.rid.Rid.{Rid}
 use Rattle.mcf_network.specs.Residual.{head, tail}
 use Rattle.mcf_network.specs.States.{Pseudoflow, amount_at}
@@ -59,7 +59,8 @@ pub record IsAugmented (old : Pseudoflow) (row : ℕ) (new : Pseudoflow) : Type 
   pub turned : new ≡ pushed_along old walk (pos 1)
 
 -- a path from the row was turned: the rows that are matched are those before and the row asked, matched columns stay
--- matched, and the search settled both ends of each arc whose amount changed; the set that was reached before stays
+-- matched, the search settled both ends of each arc whose amount changed, and the prices of settled nodes alone
+-- changed; the set that was reached before stays
 pub record IsGrown (old : Assigned) (row : ℕ) (new : Assigned) : Type 0 where
   pub net : new.flow.net ≡ old.flow.net
   pub path : IsAugmented old.flow row new.flow
@@ -68,6 +69,7 @@ pub record IsGrown (old : Assigned) (row : ℕ) (new : Assigned) : Type 0 where
   pub settled : IsSettledList (node_count old.flow.net) row new.settled
   pub changed : (k : ℕ) → IsArcNumber old.flow.net k → amount_at new.flow k ≢ amount_at old.flow k
       → Contains new.settled (row_of old.flow k) × Contains new.settled (column_of old.flow k)
+  pub prices : (v : ℕ) → IsNode (node_count old.flow.net) v → ¬ Contains new.settled v → at_node new.prices v ≡ at_node old.prices v
   pub reached : new.reached ≡ old.reached
 
 -- no amount and no price changed; what was reached is what was settled, and that is the row and every node to which

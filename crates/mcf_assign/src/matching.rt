@@ -81,7 +81,7 @@ impl<'n> Matching<'n> {
     ///
     /// It searches for a shortest augmenting path from the row by reduced costs (Dijkstra; Ahuja, Magnanti and Orlin,
     /// Network Flows, sections 9.7 and 12.4), and ends at the first column that isn't matched. Costs may have either
-    /// sign.
+    /// sign. Prices change at the nodes that it settled alone, and at none where it found no path.
     pub fn extend(&mut self, row: NodeId) -> Extended
         requires row { IsRow self.old.flow row }
         requires free { ¬ IsMatchedRow self.old.flow row }

@@ -57,6 +57,9 @@ returns-in-Some-clause-extended c =
     (sym c.as_mut_slice-prices.ensures.value) ended in
     let raised = subst (λ (y : List ℤ). AreRaised i.state (search_of c.search-found.new.self) t.dist y c.augment.new.prices) c.as_mut_slice-prices.ensures.value
     e.raised in
+    let lp = c.augment.auto.prices in
+    let vp = ap (λ (l : List ℤ). length l) c.as_mut_slice-prices.ensures.value in
+    let wp = written i.prices.len c.augment.new.prices (drop (length c.augment.new.prices) i.prices.items) (omega (arith, i.prices.ok.0, lp, vp)) in
     subst (λ (m : Assigned). IsGrown m c.args.row
     (record {
       flow = c.augment.new.state;
@@ -66,9 +69,9 @@ returns-in-Some-clause-extended c =
       reached = i.reached;
     })) c.self.view_is
     (grown_from i.state i.prices.items c.augment.new.prices (search_of c.search-found.new.self) c.args.row c.search-found.new.self.order.items t k.matching
-    k.shown s.entries ended (sym c.in-Some.ensures.best) raised c.augment.new.state i.prices.items
+    k.shown s.entries ended (sym c.in-Some.ensures.best) raised c.augment.new.state
     (take i.prices.len (c.augment.new.prices ++ drop (length c.augment.new.prices) i.prices.items)) i.tables.order.items c.augment.new.self.order.items
-    i.reached (e.extended c.args.row ended_mut) e.changed e.order)
+    i.reached (e.extended c.args.row ended_mut) e.changed e.order wp)
 
 pub returns-in-Some-clause-shown : goal.returns-in-Some-clause-shown
 returns-in-Some-clause-shown c =
