@@ -1,7 +1,5 @@
 -- What the proofs of this crate alone need: no public clause names it.
 pub mod LineReader
-pub mod LinesRead
 pub mod ReaderSound
 pub mod ReaderState
-pub mod Stands
 pub mod Sums

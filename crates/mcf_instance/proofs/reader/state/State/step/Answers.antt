@@ -1,7 +1,7 @@
 use Rattle.std.proofs.Common.{◌∙◌, ◌++◌, ◌∷◌, [], ap, subst, sym}
 use Rattle.std.proofs.lemmas.Result.{on_err_weaker, on_ok_weaker}
 use Rattle.mcf_instance.specs.Limits.{limits}
-use Rattle.mcf_instance.specs.Private.Stands.{Stands}
+use Rattle.mcf_instance.specs.ReadOn.{Stands}
 use Rattle.mcf_instance.specs.Private.ReaderState.{item_of, outcome_grows}
 use Rattle.mcf_instance.proofs.NamedNodes.{step_names_nodes}
 use Rattle.mcf_text.specs.Fields.{fields_of}
