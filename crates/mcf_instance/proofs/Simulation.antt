@@ -118,7 +118,7 @@ after_refused : (s : StateData) (row : Row) (refusal : Fault) → s.refusal ≡ 
 unfolding after_row
 after_refused s row refusal e = ap (λ o. cond (is_some o) s (with_outcome s row.number (item_of limits s row.fields))) e
 
-after_judged : (s : StateData) (row : Row) (r : Result Item Code) → s.refusal ≡ None → item_of limits s row.fields ≡ r
+pub after_judged : (s : StateData) (row : Row) (r : Result Item Code) → s.refusal ≡ None → item_of limits s row.fields ≡ r
     → after_row limits s row ≡ with_outcome s row.number r
 unfolding after_row
 after_judged s row r e f = ap (λ o. cond (is_some o) s (with_outcome s row.number (item_of limits s row.fields))) e ∙ ap (with_outcome s row.number) f

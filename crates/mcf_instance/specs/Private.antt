@@ -1,5 +1,6 @@
 -- What the proofs of this crate alone need: no public clause names it.
 pub mod LineReader
+pub mod PlainLines
 pub mod ReaderSound
 pub mod ReaderState
 pub mod Sums

@@ -36,6 +36,10 @@ item_of allowed s fields =
     else (if bytes_eq (slice_index_or fields 0 []) (codes "a") then (arc_line allowed s.header (length s.arcs) s.total s.listed fields >>= λ a. Ok (Link a))
     else Err Kind))
 
+-- what an arc line says, as what a line says
+abbrev pub linked : Result PackedArc Code → Result Item Code
+linked arc = arc >>= λ a. Ok (Link a)
+
 -- the supply of a node without a node line
 abbrev pub default_supply : Format → ℤ
 default_supply Min = pos 0

@@ -337,8 +337,10 @@ fn within_total(problem: Problem, total: u128, arc: PackedArc) -> Result<PackedA
     Ok(arc)
 }
 
+/// What the numbers of an arc line say, or their fault.
 #[tactic(auto, unfolding(crate::specs::Private::LineReader::arc_tests))]
-fn arc_tests(
+#[inline(always)]
+pub(crate) fn arc_tests(
     header: Header,
     arcs: usize,
     total: u128,

@@ -1,11 +1,11 @@
 //! The reader's state: what the lines so far say.
-ghost use Rattle.std.specs.Prelude.{◌≡◌, ◌++◌, ◌∷◌, [], List, map, length, slice_get, None, OnOk, OnErr, ◌≤◌, IsTrue};
+ghost use Rattle.std.specs.Prelude.{◌≡◌, ◌++◌, ◌∷◌, [], List, map, length, slice_get, None, OnOk, OnErr, ◌≤◌, IfOk, IfSome, IsTrue};
 ghost use Rattle.mcf_instance.specs.Fault.{faults, header};
 ghost use Rattle.mcf_instance.specs.Limits.{limits, line_limit};
 ghost use Rattle.mcf_instance.specs.Private.ReaderSound.{ItemFits};
-ghost use Rattle.mcf_instance.specs.Private.ReaderState.{empty, item_of, with_item, item_grows, outcome_grows, after_row, refusal_after, finished};
+ghost use Rattle.mcf_instance.specs.Private.ReaderState.{empty, item_of, with_item, item_grows, outcome_grows, after_row, refusal_after, finished, linked, with_outcome};
 ghost use Rattle.mcf_instance.specs.ReadOn.{Stands};
-ghost use Rattle.mcf_text.specs.Fields.{is_kept};
+ghost use Rattle.mcf_text.specs.Fields.{fields_of, is_kept};
 ghost use Rattle.mcf_text.specs.Row.{Row, row_of};
 
 use crate::arc::PackedArc;
@@ -14,6 +14,7 @@ use crate::instances::Instance;
 use crate::problem::Problem;
 use crate::reader::fields::first_fields;
 use crate::reader::line::{Header, Item, arc_line, is_word, node_line, problem_line};
+use crate::reader::plain::{plain_link, plain_pair};
 use crate::refusal::Refusal;
 use crate::repeated::copies;
 use mcf_text::NoMemory;
@@ -111,6 +112,18 @@ impl State {
         Ok(())
     }
 
+    // Takes the arc of a good line in.
+    #[inline(always)]
+    fn link(&mut self, arc: PackedArc) -> Result<(), NoMemory>
+        requires { ItemFits limits self.old (Item.Link arc) }
+        ensures ok { OnOk result (self.new ≡ with_item self.old (Item.Link arc)) }
+        ensures err { OnErr result (self.new ≡ self.old) }
+    {
+        self.arcs.push(arc)?;
+        self.total += arc.weight();
+        Ok(())
+    }
+
     // Takes a good line in.
     fn take(&mut self, alloc: Global, item: Item) -> Result<(), NoMemory>
         requires { ItemFits limits self.old item }
@@ -125,17 +138,13 @@ impl State {
                 self.supplies[node as usize - 1] = supply;
                 Ok(())
             }
-            Item::Link(arc) => {
-                self.arcs.push(arc)?;
-                self.total += arc.weight();
-                Ok(())
-            }
+            Item::Link(arc) => self.link(arc),
         }
     }
 
     // Takes the next kept line in, by its fields.
     #[tactic(auto, unfolding(crate::specs::Private::ReaderState::after_row))]
-    fn advance(&mut self, alloc: Global, number: u128, fields: &[&[u8]]) -> Result<(), NoMemory>
+    fn take_fields(&mut self, alloc: Global, number: u128, fields: &[&[u8]]) -> Result<(), NoMemory>
         requires some_field { 1 ≤ length fields.now }
         requires numbered { (1 ≤ number) × (number ≤ line_limit) }
         ensures ok { OnOk result (self.new ≡ after_row limits self.old (record { number = number; fields = map (λ f. f.now) fields.now })) }
@@ -153,6 +162,67 @@ impl State {
             }
         }
     }
+
+    // Takes the next kept line in, of any form.
+    #[inline(never)]
+    fn take_any(&mut self, alloc: Global, number: u128, line: &[u8]) -> Result<(), NoMemory>
+        requires kept { IsTrue (is_kept line.now) }
+        requires numbered { (1 ≤ number) × (number ≤ line_limit) }
+        ensures ok { OnOk result (self.new ≡ after_row limits self.old (row_of (number, line.now))) }
+        ensures err { OnErr result (self.new ≡ self.old) }
+        ensures grows { OnErr result ((self.old.refusal ≡ None) × IsTrue (outcome_grows (item_of limits self.old (fields_of line.now)))) }
+    {
+        let first = first_fields(line);
+        self.take_fields(alloc, number, &first.fields[..first.count])
+    }
+
+    // What an arc line of the plain form says, or its fault; nothing of another line, after a fault and before the problem line.
+    #[inline(always)]
+    fn plain_arc(&self, line: &[u8]) -> Option<Result<PackedArc, Code>>
+        ensures { IfSome result (λ r. (self.now.refusal ≡ None) × (item_of limits self.now (fields_of line.now) ≡ linked r)) }
+    {
+        if self.refusal.is_some() {
+            return None;
+        }
+        let header = self.header?;
+        match header.problem {
+            Problem::Min => plain_link(header, self.arcs.len(), self.total, &self.listed, line),
+            Problem::Asn => plain_pair(header, self.arcs.len(), self.total, &self.listed, line),
+        }
+    }
+
+    // Takes in what an arc line says, or its fault.
+    #[inline(always)]
+    fn take_arc(&mut self, number: u128, outcome: Result<PackedArc, Code>) -> Result<(), NoMemory>
+        requires fits { IfOk outcome (λ a. ItemFits limits self.old (Item.Link a)) }
+        requires numbered { (1 ≤ number) × (number ≤ line_limit) }
+        ensures ok { OnOk result (self.new ≡ with_outcome self.old number (linked outcome)) }
+        ensures err { OnErr result (self.new ≡ self.old) }
+        ensures grows { OnErr result (IsTrue (outcome_grows (linked outcome))) }
+    {
+        match outcome {
+            Ok(arc) => self.link(arc),
+            Err(code) => {
+                self.refusal = Some(Refusal { line: number, code });
+                Ok(())
+            }
+        }
+    }
+
+    // Takes the next kept line in.
+    #[inline(always)]
+    fn advance(&mut self, alloc: Global, number: u128, line: &[u8]) -> Result<(), NoMemory>
+        requires kept { IsTrue (is_kept line.now) }
+        requires numbered { (1 ≤ number) × (number ≤ line_limit) }
+        ensures ok { OnOk result (self.new ≡ after_row limits self.old (row_of (number, line.now))) }
+        ensures err { OnErr result (self.new ≡ self.old) }
+        ensures grows { OnErr result ((self.old.refusal ≡ None) × IsTrue (outcome_grows (item_of limits self.old (fields_of line.now)))) }
+    {
+        match self.plain_arc(line) {
+            Some(outcome) => self.take_arc(number, outcome),
+            None => self.take_any(alloc, number, line),
+        }
+    }
 }
 
 impl State {
@@ -167,8 +237,7 @@ impl State {
             → (1 ≤ (header (lines ++ row_of (number, line.now) ∷ [])).nodes)
             × (slice_get (faults limits (lines ++ row_of (number, line.now) ∷ [])) 0 ≡ None)) }
     {
-        let first = first_fields(line);
-        self.advance(alloc, number, &first.fields[..first.count])
+        self.advance(alloc, number, line)
     }
 
     /// The first fault, if a line so far has one.
