@@ -10,10 +10,10 @@ use Rattle.mcf_instance.specs.Fault.{is_p, is_n, is_a, has_p, header, header_of,
 use Rattle.mcf_instance.specs.Fault.{has_field_count, has_numbers, is_counted, of_min}
 use Rattle.mcf_instance.specs.Limits.{Limits, limits}
 use Rattle.mcf_instance.specs.Reading.{arc_of}
-use Rattle.mcf_instance.specs.Private.Stands.{heading_of, Holds}
+use Rattle.mcf_instance.specs.ReadOn.{Holds, StateData}
 use Rattle.mcf_instance.specs.declared.reader.line.Item.{Item}
 use Rattle.mcf_instance.specs.declared.reader.line.Item.TheVariants.{Problem, Supply, Link}
-use Rattle.mcf_instance.specs.Private.ReaderState.{StateData, item_of, with_item}
+use Rattle.mcf_instance.specs.Private.ReaderState.{item_of, with_item}
 use Rattle.mcf_instance.proofs.NodeLines.{ok_unless}
 use Rattle.mcf_instance.proofs.Ranges.{natural_low}
 use Rattle.std.proofs.lemmas.Bool.{and_from, and_parts, not-false}
@@ -56,15 +56,15 @@ n_not_a : (row : Row) → is_n row ≡ true → is_a row ≡ false
 n_not_a row e = rw ((bytes_eq-Decides (field row 0) (codes "n")).0 e) refl
 
 -- a header is there exactly after a problem line
-no_header : (s : StateData) (lines : List Row) → Holds s lines → has_p lines ≡ false → s.heading ≡ None
-no_header s lines h e = h.heading_is ∙ ap (λ b. cond b (Some (heading_of (header lines))) None) e
+no_header : (s : StateData) (lines : List Row) → Holds s lines → has_p lines ≡ false → s.header ≡ None
+no_header s lines h e = h.header_is ∙ ap (λ b. cond b (Some (header lines)) None) e
 
-some_header : (s : StateData) (lines : List Row) → Holds s lines → has_p lines ≡ true → s.heading ≢ None
-some_header s lines h e none = absurd (cc (sym none ∙ (h.heading_is ∙ ap (λ b. cond b (Some (heading_of (header lines))) None) e)))
+some_header : (s : StateData) (lines : List Row) → Holds s lines → has_p lines ≡ true → s.header ≢ None
+some_header s lines h e none = absurd (cc (sym none ∙ (h.header_is ∙ ap (λ b. cond b (Some (header lines)) None) e)))
 
 -- past the kinds of lines
 after_problem : (s : StateData) (lines : List Row) (row : Row) → Holds s lines → fault_of_line limits lines row ≡ None → is_p row ≡ true
-    → Holds (with_item s (Problem (heading_of (header_of row)))) (lines ++ row ∷ [])
+    → Holds (with_item s (Problem (header_of row))) (lines ++ row ∷ [])
 after_problem s lines row h good p =
     let second : (is_p row && has_p lines) ≡ false = applies_not limits lines row 4 SecondP _ refl good in
     let seen : has_p lines ≡ false = sym (ap (λ b. b && has_p lines) p) ∙ second in
@@ -110,15 +110,15 @@ after_said : (s : StateData) (lines : List Row) (row : Row) → Holds s lines �
 after_said s lines row h good = go (is_p row) (is_n row) refl refl
   where
     go : (p n : Bool) → is_p row ≡ p → is_n row ≡ n → Holds (with_item s (item_said lines row)) (lines ++ row ∷ [])
-    go true n e f = subst (λ b. Holds (with_item s (cond b (Problem (heading_of (header_of row)))
+    go true n e f = subst (λ b. Holds (with_item s (cond b (Problem (header_of row))
         (cond (is_n row) (Supply (node row 1) (supply_said (header lines).problem row)) (Link (packed (arc_of (header lines).problem row))))))
         (lines ++ row ∷ [])) (sym e) (after_problem s lines row h good e)
-    go false true e f = subst (λ b. Holds (with_item s (cond b (Problem (heading_of (header_of row)))
+    go false true e f = subst (λ b. Holds (with_item s (cond b (Problem (header_of row))
         (cond (is_n row) (Supply (node row 1) (supply_said (header lines).problem row)) (Link (packed (arc_of (header lines).problem row))))))
         (lines ++ row ∷ [])) (sym e)
         (subst (λ b. Holds (with_item s (cond b (Supply (node row 1) (supply_said (header lines).problem row))
         (Link (packed (arc_of (header lines).problem row))))) (lines ++ row ∷ [])) (sym f) (after_node s lines row h good e f))
-    go false false e f = subst (λ b. Holds (with_item s (cond b (Problem (heading_of (header_of row)))
+    go false false e f = subst (λ b. Holds (with_item s (cond b (Problem (header_of row))
         (cond (is_n row) (Supply (node row 1) (supply_said (header lines).problem row)) (Link (packed (arc_of (header lines).problem row))))))
         (lines ++ row ∷ [])) (sym e)
         (subst (λ b. Holds (with_item s (cond b (Supply (node row 1) (supply_said (header lines).problem row))

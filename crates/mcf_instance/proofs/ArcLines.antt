@@ -5,7 +5,7 @@ use Rattle.std.specs.Prelude.{Option, ℤ, pos, slice_index_or, ◌==◌, int_lt
 use Rattle.mcf_instance.specs.declared.code.Code.{Code}
 use Rattle.mcf_instance.specs.declared.code.Code.TheVariants.{Node, Bound, Order, Cost, Extra, Side, Total}
 use Rattle.mcf_instance.specs.declared.problem.Problem.TheVariants.{Min, Asn}
-use Rattle.mcf_instance.specs.declared.reader.line.Heading.{Heading}
+use Rattle.mcf_instance.specs.declared.reader.line.Header.{Header}
 use Rattle.mcf_instance.specs.declared.arc.PackedArc.{PackedArc}
 use Rattle.mcf_text.specs.Row.{Row, natural}
 use Rattle.mcf_text.specs.Whole.{is_whole, is_within, whole_value}
@@ -15,7 +15,7 @@ use Rattle.mcf_instance.specs.Fault.{fault_of_line, has_p, header, is_up_to, arc
 use Rattle.mcf_instance.specs.Limits.{limits, node_limit}
 use Rattle.mcf_instance.specs.Reading.{arc_of}
 use Rattle.mcf_instance.specs.Private.LineReader.{clamped, arc_line, arc_tests, number_at}
-use Rattle.mcf_instance.specs.Private.Stands.{heading_seen}
+use Rattle.mcf_instance.specs.ReadOn.{header_seen}
 use Rattle.mcf_instance.proofs.NodeLines.{ok_unless, ok_unless_test, header_small}
 use Rattle.mcf_instance.proofs.Ranges.{clamped_count, clamped_up_to, is_up_to-clamped, is_within_count-clamped, natural_low, natural_high}
 use Rattle.std.proofs.lemmas.Bool.{and_parts, not-false}
@@ -27,7 +27,7 @@ abbrev pub packed : Arc → PackedArc
 packed a = record { src = a.src; dst = a.dst; low = a.low; cap = a.cap; cost = a.cost }
 
 -- the faults of an arc line of `min` past its numbers
-abbrev min_faults : Heading → ℕ → ℕ → ℤ → ℤ → ℤ → ℤ → ℤ → Option Code
+abbrev min_faults : Header → ℕ → ℕ → ℤ → ℤ → ℤ → ℤ → ℤ → Option Code
 min_faults h arcs total u v l c k =
     cond (not (is_within (pos 1) (pos h.nodes) u && (is_within (pos 1) (pos h.nodes) v && true))) (Some Node)
     (cond (not (is_up_to limits.bound l && is_up_to limits.bound c)) (Some Bound)
@@ -36,13 +36,13 @@ min_faults h arcs total u v l c k =
     (cond (nat_le h.arcs arcs) (Some Extra)
     (cond (passes limits.total total) (Some Total) None)))))
 
-abbrev MinReads : Heading → ℕ → ℕ → List Bool → ℤ → ℤ → ℤ → ℤ → ℤ → Type 0
+abbrev MinReads : Header → ℕ → ℕ → List Bool → ℤ → ℤ → ℤ → ℤ → ℤ → Type 0
 MinReads h arcs total listed u v l c k =
     arc_tests limits h arcs total listed (record { src = clamped u; dst = clamped v; low = clamped l; cap = clamped c; cost = clamped k })
     ≡ ok_unless (min_faults h arcs (total + unsigned_abs k * max (unsigned_abs l) (unsigned_abs c)) u v l c k)
     (record { src = natural u; dst = natural v; low = l; cap = c; cost = k })
 
-min_tests_read : (h : Heading) (arcs total : ℕ) (listed : List Bool) (u v l c k : ℤ) → h.nodes ≤ node_limit → h.problem ≡ Min
+min_tests_read : (h : Header) (arcs total : ℕ) (listed : List Bool) (u v l c k : ℤ) → h.nodes ≤ node_limit → h.problem ≡ Min
     → MinReads h arcs total listed u v l c k
 unfolding arc_tests
 min_tests_read h arcs total listed u v l c k small min = go (is_within (pos 1) (pos h.nodes) u) (is_within (pos 1) (pos h.nodes) v) refl refl
@@ -75,19 +75,19 @@ min_tests_read h arcs total listed u v l c k small min = go (is_within (pos 1) (
         ok_unless_test (passes limits.total (total + unsigned_abs k * max (unsigned_abs l) (unsigned_abs c))) Total _ _ _ (λ _. refl))))))))
 
 -- the faults of an arc line of `asn` past its numbers
-abbrev asn_faults : Heading → ℕ → (ℕ → Bool) → ℤ → ℤ → ℤ → Option Code
+abbrev asn_faults : Header → ℕ → (ℕ → Bool) → ℤ → ℤ → ℤ → Option Code
 asn_faults h arcs known u v k =
     cond (not (is_within (pos 1) (pos h.nodes) u && (is_within (pos 1) (pos h.nodes) v && true))) (Some Node)
     (cond (not (is_up_to limits.cost k)) (Some Cost)
     (cond (nat_le h.arcs arcs) (Some Extra)
     (cond (not (known (natural u)) || known (natural v)) (Some Side) None)))
 
-abbrev AsnReads : Heading → ℕ → ℕ → List Bool → (ℕ → Bool) → ℤ → ℤ → ℤ → Type 0
+abbrev AsnReads : Header → ℕ → ℕ → List Bool → (ℕ → Bool) → ℤ → ℤ → ℤ → Type 0
 AsnReads h arcs total listed known u v k =
     arc_tests limits h arcs total listed (record { src = clamped u; dst = clamped v; low = pos 0; cap = pos 1; cost = clamped k })
     ≡ ok_unless (asn_faults h arcs known u v k) (record { src = natural u; dst = natural v; low = pos 0; cap = pos 1; cost = k })
 
-asn_tests_read : (h : Heading) (arcs total : ℕ) (listed : List Bool) (known : ℕ → Bool) (u v k : ℤ) → h.nodes ≤ node_limit → h.problem ≡ Asn
+asn_tests_read : (h : Header) (arcs total : ℕ) (listed : List Bool) (known : ℕ → Bool) (u v k : ℤ) → h.nodes ≤ node_limit → h.problem ≡ Asn
     → ((v : ℕ) → 1 ≤ v → v ≤ h.nodes → in_table listed v ≡ known v) → AsnReads h arcs total listed known u v k
 unfolding arc_tests
 asn_tests_read h arcs total listed known u v k small asn flags = go (is_within (pos 1) (pos h.nodes) u) (is_within (pos 1) (pos h.nodes) v) refl refl
@@ -135,18 +135,18 @@ four (a ∷ b ∷ c ∷ d ∷ []) h = (a, b, c, d, refl)
 four (a ∷ b ∷ c ∷ d ∷ e ∷ xs) h = absurd (grind arith)
 
 -- a line with these fields is read as the table says
-abbrev pub ReadsArc : (lines : List Row) (o : Option Heading) (n total : ℕ) (listed : List Bool) → (Row → PackedArc) → List (List ℕ) → Type 0
+abbrev pub ReadsArc : (lines : List Row) (o : Option Header) (n total : ℕ) (listed : List Bool) → (Row → PackedArc) → List (List ℕ) → Type 0
 ReadsArc lines o n total listed said fields =
     arc_line limits o (length (arc_lines lines)) total listed fields
     ≡ ok_unless (fault_of_line limits lines (record { number = n; fields = fields })) (said (record { number = n; fields = fields }))
 
 pub arc_line_reads : (lines : List Row) (n : ℕ) (fields : List (List ℕ)) (listed : List Bool) → has_p lines ≡ true → slice_index_or fields 0 [] ≡ 97 ∷ []
-    → (header lines).problem ≡ Min → ReadsArc lines (heading_seen lines) n (total_of lines) listed (λ row. packed (arc_of Min row)) fields
-unfolding arc_line fault_of_line number_at
+    → (header lines).problem ≡ Min → ReadsArc lines (header_seen lines) n (total_of lines) listed (λ row. packed (arc_of Min row)) fields
+unfolding arc_line arc_tests fault_of_line number_at
 arc_line_reads lines n fields listed seen kind min = go (length fields == 6) refl
   where
     numbers : (a b c d e : List ℕ) (v w x y z : Bool) → is_whole a ≡ v → is_whole b ≡ w → is_whole c ≡ x → is_whole d ≡ y → is_whole e ≡ z
-        → ReadsArc lines (heading_seen lines) n (total_of lines) listed (λ row. packed (arc_of Min row)) ((97 ∷ []) ∷ a ∷ b ∷ c ∷ d ∷ e ∷ [])
+        → ReadsArc lines (header_seen lines) n (total_of lines) listed (λ row. packed (arc_of Min row)) ((97 ∷ []) ∷ a ∷ b ∷ c ∷ d ∷ e ∷ [])
     numbers a b c d e false w x y z f g h i j = rw (seen, min, f) refl
     numbers a b c d e true false x y z f g h i j = rw (seen, min, f, g) refl
     numbers a b c d e true true false y z f g h i j = rw (seen, min, f, g, h) refl
@@ -159,24 +159,24 @@ arc_line_reads lines n fields listed seen kind min = go (length fields == 6) ref
         (min_tests_read (record { problem = Min; nodes = (header lines).nodes; arcs = (header lines).arcs }) (length (arc_lines lines)) (total_of lines)
         listed (whole_value a) (whole_value b) (whole_value c) (whole_value d) (whole_value e) (header_small lines) refl)
 
-    go : (b : Bool) → (length fields == 6) ≡ b → ReadsArc lines (heading_seen lines) n (total_of lines) listed (λ row. packed (arc_of Min row)) fields
+    go : (b : Bool) → (length fields == 6) ≡ b → ReadsArc lines (header_seen lines) n (total_of lines) listed (λ row. packed (arc_of Min row)) fields
     go false e = rw (seen, kind, min, e) refl
     go true e =
         let t = six fields e in
         let first : t.0 ≡ 97 ∷ [] = sym (ap (λ fs. slice_index_or fs 0 []) t.6) ∙ kind in
-        subst (ReadsArc lines (heading_seen lines) n (total_of lines) listed (λ row. packed (arc_of Min row))) (sym t.6)
-        (subst (λ a. ReadsArc lines (heading_seen lines) n (total_of lines) listed (λ row. packed (arc_of Min row)) (a ∷ t.1 ∷ t.2 ∷ t.3 ∷ t.4 ∷ t.5 ∷ []))
+        subst (ReadsArc lines (header_seen lines) n (total_of lines) listed (λ row. packed (arc_of Min row))) (sym t.6)
+        (subst (λ a. ReadsArc lines (header_seen lines) n (total_of lines) listed (λ row. packed (arc_of Min row)) (a ∷ t.1 ∷ t.2 ∷ t.3 ∷ t.4 ∷ t.5 ∷ []))
         (sym first)
         (numbers t.1 t.2 t.3 t.4 t.5 (is_whole t.1) (is_whole t.2) (is_whole t.3) (is_whole t.4) (is_whole t.5) refl refl refl refl refl))
 
 pub arc_pair_reads : (lines : List Row) (n total : ℕ) (fields : List (List ℕ)) (listed : List Bool) → has_p lines ≡ true → slice_index_or fields 0 [] ≡ 97 ∷ []
     → ((v : ℕ) → 1 ≤ v → v ≤ (header lines).nodes → in_table listed v ≡ is_listed lines v)
-    → (header lines).problem ≡ Asn → ReadsArc lines (heading_seen lines) n total listed (λ row. packed (arc_of Asn row)) fields
-unfolding arc_line fault_of_line number_at
+    → (header lines).problem ≡ Asn → ReadsArc lines (header_seen lines) n total listed (λ row. packed (arc_of Asn row)) fields
+unfolding arc_line arc_tests fault_of_line number_at
 arc_pair_reads lines n total fields listed seen kind flags asn = go (length fields == 4) refl
   where
     numbers : (a b c : List ℕ) (v w x : Bool) → is_whole a ≡ v → is_whole b ≡ w → is_whole c ≡ x
-        → ReadsArc lines (heading_seen lines) n total listed (λ row. packed (arc_of Asn row)) ((97 ∷ []) ∷ a ∷ b ∷ c ∷ [])
+        → ReadsArc lines (header_seen lines) n total listed (λ row. packed (arc_of Asn row)) ((97 ∷ []) ∷ a ∷ b ∷ c ∷ [])
     numbers a b c false w x f g h = rw (seen, asn, f) refl
     numbers a b c true false x f g h = rw (seen, asn, f, g) refl
     numbers a b c true true false f g h = rw (seen, asn, f, g, h) refl
@@ -184,13 +184,13 @@ arc_pair_reads lines n total fields listed seen kind flags asn = go (length fiel
         (asn_tests_read (record { problem = Asn; nodes = (header lines).nodes; arcs = (header lines).arcs }) (length (arc_lines lines)) total listed
         (is_listed lines) (whole_value a) (whole_value b) (whole_value c) (header_small lines) refl flags)
 
-    go : (b : Bool) → (length fields == 4) ≡ b → ReadsArc lines (heading_seen lines) n total listed (λ row. packed (arc_of Asn row)) fields
+    go : (b : Bool) → (length fields == 4) ≡ b → ReadsArc lines (header_seen lines) n total listed (λ row. packed (arc_of Asn row)) fields
     go false e = rw (seen, kind, asn, e) refl
     go true e =
         let t = four fields e in
         let first : t.0 ≡ 97 ∷ [] = sym (ap (λ fs. slice_index_or fs 0 []) t.4) ∙ kind in
-        subst (ReadsArc lines (heading_seen lines) n total listed (λ row. packed (arc_of Asn row))) (sym t.4)
-        (subst (λ a. ReadsArc lines (heading_seen lines) n total listed (λ row. packed (arc_of Asn row)) (a ∷ t.1 ∷ t.2 ∷ t.3 ∷ [])) (sym first)
+        subst (ReadsArc lines (header_seen lines) n total listed (λ row. packed (arc_of Asn row))) (sym t.4)
+        (subst (λ a. ReadsArc lines (header_seen lines) n total listed (λ row. packed (arc_of Asn row)) (a ∷ t.1 ∷ t.2 ∷ t.3 ∷ [])) (sym first)
         (numbers t.1 t.2 t.3 (is_whole t.1) (is_whole t.2) (is_whole t.3) refl refl refl))
 
 pub arc_line_early : (lines : List Row) (n total : ℕ) (fields : List (List ℕ)) (listed : List Bool) (said : Row → PackedArc) → has_p lines ≡ false

@@ -5,12 +5,11 @@ use Rattle.std.proofs.lemmas.Slice.Eq.{bytes_eq-Decides}
 use Rattle.mcf_instance.specs.declared.code.Code.{Code}
 use Rattle.mcf_instance.specs.declared.code.Code.TheVariants.{Size}
 use Rattle.mcf_instance.specs.declared.problem.Problem.TheVariants.{Min, Asn}
-use Rattle.mcf_instance.specs.declared.reader.line.Heading.{Heading}
+use Rattle.mcf_instance.specs.declared.reader.line.Header.{Header}
 use Rattle.mcf_text.specs.Row.{Row, natural}
 use Rattle.mcf_text.specs.Whole.{is_whole, is_within, whole_value}
 use Rattle.mcf_instance.specs.Fault.{fault_of_line, has_p, header_of}
 use Rattle.mcf_instance.specs.Limits.{limits, node_limit, arc_limit}
-use Rattle.mcf_instance.specs.Private.Stands.{heading_of}
 use Rattle.mcf_instance.specs.declared.problem.Problem.{Problem as Format}
 use Rattle.mcf_instance.proofs.NodeLines.{ok_unless}
 use Rattle.mcf_instance.proofs.ArcLines.{four}
@@ -26,15 +25,15 @@ fault_of (Err e) = Some e
 -- a problem line with these fields is read as the table says
 abbrev pub ReadsProblem : (lines : List Row) (n : ℕ) → List (List ℕ) → Type 0
 ReadsProblem lines n fields = problem_line (has_p lines) fields ≡ ok_unless (fault_of_line limits lines (record { number = n; fields = fields }))
-    (heading_of (header_of (record { number = n; fields = fields })))
+    (header_of (record { number = n; fields = fields }))
 
 -- past all tests but that of the sizes
 sizes : (format : Format) (u v : ℤ) (b : Bool) → (is_within (pos 0) (pos node_limit) u && is_within (pos 0) (pos arc_limit) v) ≡ b
-    → cond {A = Result Heading Code} (not (is_within (pos 0) (pos node_limit) (clamped u) && is_within (pos 0) (pos arc_limit) (clamped v))) (Err Size)
+    → cond {A = Result Header Code} (not (is_within (pos 0) (pos node_limit) (clamped u) && is_within (pos 0) (pos arc_limit) (clamped v))) (Err Size)
     (Ok (record { problem = format; nodes = natural (clamped u); arcs = natural (clamped v) }))
     ≡ ok_unless (cond (not (is_within (pos 0) (pos node_limit) u && is_within (pos 0) (pos arc_limit) v)) (Some Size) None)
-    (heading_of (cond (is_within (pos 0) (pos node_limit) u && is_within (pos 0) (pos arc_limit) v)
-    (record { problem = format; nodes = natural u; arcs = natural v }) (record { problem = Min; nodes = 0; arcs = 0 })))
+    (cond (is_within (pos 0) (pos node_limit) u && is_within (pos 0) (pos arc_limit) v)
+    (record { problem = format; nodes = natural u; arcs = natural v }) (record { problem = Min; nodes = 0; arcs = 0 }))
 sizes format u v false e = rw (is_within_count-clamped 0 node_limit u (omega arith), is_within_count-clamped 0 arc_limit v (omega arith), e) refl
 sizes format u v true e =
     let both = and_parts (is_within (pos 0) (pos node_limit) u) (is_within (pos 0) (pos arc_limit) v) e in

@@ -10,7 +10,7 @@ use Rattle.mcf_instance.specs.Fault.{Fault, as_fault, fault_at_end, fault_of_lin
 use Rattle.mcf_instance.specs.Limits.{limits}
 use Rattle.mcf_text.specs.Fields.{is_kept}
 use Rattle.mcf_text.specs.Row.{Row, line_after, row_of, rows}
-use Rattle.mcf_instance.specs.Private.LinesRead.{kept_rows}
+use Rattle.mcf_instance.specs.ReadOn.{kept_rows}
 use Rattle.mcf_instance.proofs.Simulation.{first_fault_more}
 use Rattle.mcf_instance.proofs.WholeTexts.{first_fault_stays}
 

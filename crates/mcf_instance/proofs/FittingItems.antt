@@ -9,17 +9,18 @@ use Rattle.mcf_instance.specs.declared.code.Code.TheVariants.{Fields}
 use Rattle.mcf_instance.specs.declared.problem.Problem.{Problem as Format}
 use Rattle.mcf_instance.specs.declared.problem.Problem.TheVariants.{Min, Asn}
 use Rattle.mcf_instance.specs.declared.reader.line.ArcNumbers.{ArcNumbers}
-use Rattle.mcf_instance.specs.declared.reader.line.Heading.{Heading}
+use Rattle.mcf_instance.specs.declared.reader.line.Header.{Header}
 use Rattle.mcf_instance.specs.declared.reader.line.Item.{Item}
 use Rattle.mcf_instance.specs.Assignment.{OnAssignment}
 use Rattle.mcf_instance.specs.Blocking.{in_table}
 use Rattle.mcf_instance.specs.Fault.{is_up_to}
 use Rattle.mcf_instance.specs.Limits.{limits, node_limit, arc_limit, total_limit}
 use Rattle.mcf_instance.specs.Private.LineReader.{◌>>=◌, arc_count_fits, arc_line, arc_numbers, arc_tests, is_wrong_side, checked_node, node_count_fits}
-use Rattle.mcf_instance.specs.Private.LineReader.{node_line, node_numbers, node_tests, number_at, problem_at, problem_line, passes_total, with_heading}
+use Rattle.mcf_instance.specs.Private.LineReader.{node_line, node_numbers, node_tests, number_at, problem_at, problem_line, passes_total, with_header}
 use Rattle.mcf_instance.specs.Packed.{unpacked}
-use Rattle.mcf_instance.specs.Private.ReaderState.{StateData, item_of, problem_or_min}
-use Rattle.mcf_instance.specs.Private.ReaderSound.{IsFlaggedPair, ItemFits, OnMin, heading_arcs, heading_nodes}
+use Rattle.mcf_instance.specs.ReadOn.{StateData}
+use Rattle.mcf_instance.specs.Private.ReaderState.{item_of, problem_or_min}
+use Rattle.mcf_instance.specs.Private.ReaderSound.{IsFlaggedPair, ItemFits, OnMin, header_arcs, header_nodes}
 use Rattle.mcf_instance.specs.WellFormed.{HasEnds, IsArcWithinLimits, IsUpTo, weight}
 use Rattle.mcf_text.specs.Row.{natural}
 use Rattle.mcf_text.specs.Whole.{is_within}
@@ -46,7 +47,7 @@ if_ok_test : {A : Type 0} (b : Bool) (e : Code) (r : Result A Code) (P : A → T
 if_ok_test true e r P h = tt
 if_ok_test false e r P h = h refl
 
-if_ok_node : {B : Type 0} (h : Heading) (z : ℤ) (f : ℕ → Result B Code) (P : B → Type 0) → ((v : ℕ) → 1 ≤ v → v ≤ h.nodes → IfOk (f v) P)
+if_ok_node : {B : Type 0} (h : Header) (z : ℤ) (f : ℕ → Result B Code) (P : B → Type 0) → ((v : ℕ) → 1 ≤ v → v ≤ h.nodes → IfOk (f v) P)
     → IfOk (checked_node h z >>= f) P
 if_ok_node h z f P k = go (is_within (pos 1) (pos h.nodes) z) refl
   where
@@ -60,29 +61,29 @@ not_above x y h = grind (arith, ints)
 -- ---- problem lines
 
 -- what a problem line must say
-abbrev HeadingFound : Bool → Heading → Type 0
-HeadingFound seen h = (seen ≡ false) × (h.nodes ≤ node_limit) × (h.arcs ≤ arc_limit)
+abbrev HeaderFound : Bool → Header → Type 0
+HeaderFound seen h = (seen ≡ false) × (h.nodes ≤ node_limit) × (h.arcs ≤ arc_limit)
 
-problem_fits : (seen : Bool) (fields : List (List ℕ)) → IfOk (problem_line seen fields) (HeadingFound seen)
+problem_fits : (seen : Bool) (fields : List (List ℕ)) → IfOk (problem_line seen fields) (HeaderFound seen)
 unfolding problem_line
 problem_fits seen fields =
-    if_ok_test (not (length fields == 4)) _ _ (HeadingFound seen) (λ _.
-    if_ok_bind (problem_at (slice_index_or fields 1 [])) _ (HeadingFound seen) (λ problem.
-    if_ok_bind (number_at fields 2) _ (HeadingFound seen) (λ nodes.
-    if_ok_bind (number_at fields 3) _ (HeadingFound seen) (λ arcs.
-    if_ok_test seen _ _ (HeadingFound seen) (λ unseen.
+    if_ok_test (not (length fields == 4)) _ _ (HeaderFound seen) (λ _.
+    if_ok_bind (problem_at (slice_index_or fields 1 [])) _ (HeaderFound seen) (λ problem.
+    if_ok_bind (number_at fields 2) _ (HeaderFound seen) (λ nodes.
+    if_ok_bind (number_at fields 3) _ (HeaderFound seen) (λ arcs.
+    if_ok_test seen _ _ (HeaderFound seen) (λ unseen.
     if_ok_test (not (is_within (pos 0) (pos node_limit) nodes && is_within (pos 0) (pos arc_limit) arcs)) _
-    (Ok (record { problem = problem; nodes = natural nodes; arcs = natural arcs })) (HeadingFound seen) (λ sizes.
+    (Ok (record { problem = problem; nodes = natural nodes; arcs = natural arcs })) (HeaderFound seen) (λ sizes.
     let both = and_parts (is_within (pos 0) (pos node_limit) nodes) (is_within (pos 0) (pos arc_limit) arcs) (not-false _ sizes) in
     (unseen, natural_most node_limit nodes both.0, natural_most arc_limit arcs both.1)))))))
 
 -- ---- node lines
 
 -- what a node line must say
-abbrev NodeFits : Option Heading → ℕ → ℕ × ℤ → Type 0
-NodeFits o arcs n = (1 ≤ n.0) × (n.0 ≤ heading_nodes o) × (arcs ≡ 0) × IsUpTo limits.supply n.1 × OnAssignment (problem_or_min o) (n.1 ≡ pos 1)
+abbrev NodeFits : Option Header → ℕ → ℕ × ℤ → Type 0
+NodeFits o arcs n = (1 ≤ n.0) × (n.0 ≤ header_nodes o) × (arcs ≡ 0) × IsUpTo limits.supply n.1 × OnAssignment (problem_or_min o) (n.1 ≡ pos 1)
 
-node_tests_fit : (h : Heading) (arcs : ℕ) (listed : List Bool) (u z : ℤ) → OnAssignment h.problem (z ≡ pos 1)
+node_tests_fit : (h : Header) (arcs : ℕ) (listed : List Bool) (u z : ℤ) → OnAssignment h.problem (z ≡ pos 1)
     → IfOk (node_tests limits h arcs listed u z) (NodeFits (Some h) arcs)
 unfolding node_tests
 node_tests_fit h arcs listed u z one =
@@ -98,22 +99,22 @@ asn_node_numbers fields e = rw e (if_ok_bind (number_at fields 1) _ (λ n. n.1 �
 no_other_count : (n k m : ℕ) → (k ≡ m → ⊥) → (n == k) ≡ true → (n == m) ≡ false
 no_other_count n k m differ e = ne_eqb n m (λ is. differ (sym (eqb-true n k e) ∙ is))
 
-node_line_fits : (o : Option Heading) (arcs : ℕ) (listed : List Bool) (fields : List (List ℕ)) → IfOk (node_line limits o arcs listed fields) (NodeFits o arcs)
+node_line_fits : (o : Option Header) (arcs : ℕ) (listed : List Bool) (fields : List (List ℕ)) → IfOk (node_line limits o arcs listed fields) (NodeFits o arcs)
 unfolding node_line
 node_line_fits None arcs listed fields =
-    if_ok_test (not (node_count_fits None (length fields))) Fields (node_numbers fields >>= λ n. with_heading None
+    if_ok_test (not (node_count_fits None (length fields))) Fields (node_numbers fields >>= λ n. with_header None
     (λ h. node_tests limits h arcs listed n.0 n.1)) (NodeFits None arcs)
-    (λ _. if_ok_bind (node_numbers fields) (λ n. with_heading None (λ h. node_tests limits h arcs listed n.0 n.1)) (NodeFits None arcs) (λ _. tt))
+    (λ _. if_ok_bind (node_numbers fields) (λ n. with_header None (λ h. node_tests limits h arcs listed n.0 n.1)) (NodeFits None arcs) (λ _. tt))
 node_line_fits (Some h) arcs listed fields = go h.problem refl
   where
     at : (p : Format) → IfOk (node_line limits (Some (record { problem = p; nodes = h.nodes; arcs = h.arcs })) arcs listed fields)
         (NodeFits (Some (record { problem = p; nodes = h.nodes; arcs = h.arcs })) arcs)
     at Min =
-        let g : Heading = record { problem = Min; nodes = h.nodes; arcs = h.arcs } in
+        let g : Header = record { problem = Min; nodes = h.nodes; arcs = h.arcs } in
         if_ok_test _ _ _ (NodeFits (Some g) arcs) (λ _. if_ok_bind (node_numbers fields) _ (NodeFits (Some g) arcs)
         (λ n. node_tests_fit g arcs listed n.0 n.1 tt))
     at Asn =
-        let g : Heading = record { problem = Asn; nodes = h.nodes; arcs = h.arcs } in
+        let g : Header = record { problem = Asn; nodes = h.nodes; arcs = h.arcs } in
         if_ok_test (not (length fields == 2)) _ _ (NodeFits (Some g) arcs) (λ count.
         if_ok_then (node_numbers fields) _ (λ n. n.1 ≡ pos 1) (NodeFits (Some g) arcs)
         (asn_node_numbers fields (no_other_count (length fields) 2 3 (omega arith) (not-false _ count)))
@@ -125,9 +126,9 @@ node_line_fits (Some h) arcs listed fields = go h.problem refl
 -- ---- arc lines
 
 -- what an arc line must say
-pub record ArcFits (o : Option Heading) (arcs total : ℕ) (listed : List Bool) (a : PackedArc) : Type 0 where
-  pub room : arcs < heading_arcs o
-  pub ends : HasEnds (heading_nodes o) (unpacked a)
+pub record ArcFits (o : Option Header) (arcs total : ℕ) (listed : List Bool) (a : PackedArc) : Type 0 where
+  pub room : arcs < header_arcs o
+  pub ends : HasEnds (header_nodes o) (unpacked a)
   pub is_within : IsArcWithinLimits limits (unpacked a)
   pub total_small : OnMin (problem_or_min o) (total + weight (unpacked a) ≤ total_limit)
   pub assignment : OnAssignment (problem_or_min o) (IsFlaggedPair listed a)
@@ -135,7 +136,7 @@ pub record ArcFits (o : Option Heading) (arcs total : ℕ) (listed : List Bool) 
 abbrev UnitBounds : Format → ArcNumbers → Type 0
 UnitBounds p a = OnAssignment p ((a.low ≡ pos 0) × (a.cap ≡ pos 1))
 
-sides_fit : (h : Heading) (listed : List Bool) (a : PackedArc) → OnAssignment h.problem ((a.low ≡ pos 0) × (a.cap ≡ pos 1))
+sides_fit : (h : Header) (listed : List Bool) (a : PackedArc) → OnAssignment h.problem ((a.low ≡ pos 0) × (a.cap ≡ pos 1))
     → is_wrong_side h listed a.src a.dst ≡ false → OnAssignment h.problem (IsFlaggedPair listed a)
 sides_fit h listed a unit right = at h.problem unit right
   where
@@ -150,7 +151,7 @@ total_fits : (p : Format) (total : ℕ) (a : PackedArc) → passes_total limits 
 total_fits Min total a e = ltb-false total_limit (total + weight (unpacked a)) e
 total_fits Asn total a e = tt
 
-arc_tests_fit : (h : Heading) (arcs total : ℕ) (listed : List Bool) (a : ArcNumbers) → UnitBounds h.problem a
+arc_tests_fit : (h : Header) (arcs total : ℕ) (listed : List Bool) (a : ArcNumbers) → UnitBounds h.problem a
     → IfOk (arc_tests limits h arcs total listed a) (ArcFits (Some h) arcs total listed)
 unfolding arc_tests
 arc_tests_fit h arcs total listed a unit =
@@ -184,32 +185,32 @@ asn_arc_numbers fields e =
     let P : ArcNumbers → Type 0 = λ a. (a.low ≡ pos 0) × (a.cap ≡ pos 1) in
     rw e (if_ok_bind (number_at fields 1) _ P (λ _. if_ok_bind (number_at fields 2) _ P (λ _. if_ok_bind (number_at fields 3) _ P (λ _. (refl, refl)))))
 
-arc_line_fits : (o : Option Heading) (arcs total : ℕ) (listed : List Bool) (fields : List (List ℕ))
+arc_line_fits : (o : Option Header) (arcs total : ℕ) (listed : List Bool) (fields : List (List ℕ))
     → IfOk (arc_line limits o arcs total listed fields) (ArcFits o arcs total listed)
 unfolding arc_line
 arc_line_fits None arcs total listed fields =
-    if_ok_test (not (arc_count_fits None (length fields))) Fields (arc_numbers fields >>= λ a. with_heading None (λ h. arc_tests limits h arcs total listed a))
+    if_ok_test (not (arc_count_fits None (length fields))) Fields (arc_numbers fields >>= λ a. with_header None (λ h. arc_tests limits h arcs total listed a))
     (ArcFits None arcs total listed)
-    (λ _. if_ok_bind (arc_numbers fields) (λ a. with_heading None (λ h. arc_tests limits h arcs total listed a)) (ArcFits None arcs total listed) (λ _. tt))
+    (λ _. if_ok_bind (arc_numbers fields) (λ a. with_header None (λ h. arc_tests limits h arcs total listed a)) (ArcFits None arcs total listed) (λ _. tt))
 arc_line_fits (Some h) arcs total listed fields = at h.problem
   where
     at : (p : Format) → IfOk (arc_line limits (Some (record { problem = p; nodes = h.nodes; arcs = h.arcs })) arcs total listed fields)
         (ArcFits (Some (record { problem = p; nodes = h.nodes; arcs = h.arcs })) arcs total listed)
     at Min =
-        let g : Heading = record { problem = Min; nodes = h.nodes; arcs = h.arcs } in
+        let g : Header = record { problem = Min; nodes = h.nodes; arcs = h.arcs } in
         if_ok_test _ _ _ (ArcFits (Some g) arcs total listed) (λ _. if_ok_bind (arc_numbers fields) _ (ArcFits (Some g) arcs total listed)
         (λ a. arc_tests_fit g arcs total listed a tt))
     at Asn =
-        let g : Heading = record { problem = Asn; nodes = h.nodes; arcs = h.arcs } in
+        let g : Header = record { problem = Asn; nodes = h.nodes; arcs = h.arcs } in
         if_ok_test (not (length fields == 4)) _ _ (ArcFits (Some g) arcs total listed) (λ count.
         if_ok_then (arc_numbers fields) _ (λ a. (a.low ≡ pos 0) × (a.cap ≡ pos 1)) (ArcFits (Some g) arcs total listed)
         (asn_arc_numbers fields (no_other_count (length fields) 4 6 (omega arith) (not-false _ count))) (λ a unit. arc_tests_fit g arcs total listed a unit))
 
 -- ---- any line
 
-no_heading : (o : Option Heading) → is_some o ≡ false → o ≡ None
-no_heading None e = refl
-no_heading (Some h) e = cc
+no_header : (o : Option Header) → is_some o ≡ false → o ≡ None
+no_header None e = refl
+no_header (Some h) e = cc
 
 if_ok_item : (s : StateData) (fields : List (List ℕ)) → IfOk (item_of limits s fields) (ItemFits limits s)
 unfolding item_of
@@ -220,15 +221,15 @@ if_ok_item s fields = go (bytes_eq (slice_index_or fields 0 []) (codes "p")) (by
         → bytes_eq (slice_index_or fields 0 []) (codes "a") ≡ a
         → IfOk (item_of limits s fields) (ItemFits limits s)
     go true n a e f g =
-        rw e (if_ok_then (problem_line (is_some s.heading) fields) _ _ (ItemFits limits s) (problem_fits (is_some s.heading) fields)
-        (λ h fit. record { first = no_heading s.heading fit.0; nodes_small = fit.1; arcs_small = fit.2 }))
+        rw e (if_ok_then (problem_line (is_some s.header) fields) _ _ (ItemFits limits s) (problem_fits (is_some s.header) fields)
+        (λ h fit. record { first = no_header s.header fit.0; nodes_small = fit.1; arcs_small = fit.2 }))
     go false true a e f g =
-        rw (e, f) (if_ok_then (node_line limits s.heading (length s.arcs) s.listed fields) _ _ (ItemFits limits s)
-        (node_line_fits s.heading (length s.arcs) s.listed fields)
+        rw (e, f) (if_ok_then (node_line limits s.header (length s.arcs) s.listed fields) _ _ (ItemFits limits s)
+        (node_line_fits s.header (length s.arcs) s.listed fields)
         (λ n fit. record { low = fit.0; high = fit.1; before_arcs = nil_from_length s.arcs fit.2; small = fit.3; assignment = fit.4 }))
     go false false true e f g =
-        rw (e, f, g) (if_ok_then (arc_line limits s.heading (length s.arcs) s.total s.listed fields) _ _ (ItemFits limits s)
-        (arc_line_fits s.heading (length s.arcs) s.total s.listed fields)
+        rw (e, f, g) (if_ok_then (arc_line limits s.header (length s.arcs) s.total s.listed fields) _ _ (ItemFits limits s)
+        (arc_line_fits s.header (length s.arcs) s.total s.listed fields)
         (λ a fit. record { room = fit.room; ends = fit.ends; is_within = fit.is_within; total_small = fit.total_small; assignment = fit.assignment }))
     go false false false e f g = rw (e, f, g) tt
 

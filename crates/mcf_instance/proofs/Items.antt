@@ -13,11 +13,11 @@ use Rattle.mcf_instance.specs.Fault.{is_p, is_n, is_a, has_p, header, header_of,
 use Rattle.mcf_instance.specs.Limits.{limits}
 use Rattle.mcf_instance.specs.Packed.{unpacked}
 use Rattle.mcf_instance.specs.Reading.{arc_of}
-use Rattle.mcf_instance.specs.Private.Stands.{heading_of, heading_seen, Holds}
+use Rattle.mcf_instance.specs.ReadOn.{header_seen, Holds, StateData}
 use Rattle.mcf_instance.specs.declared.reader.line.Item.{Item}
 use Rattle.mcf_instance.specs.declared.reader.line.Item.TheVariants.{Problem, Supply, Link}
 use Rattle.mcf_instance.specs.Private.LineReader.{◌>>=◌, node_line, arc_line}
-use Rattle.mcf_instance.specs.Private.ReaderState.{StateData, item_of}
+use Rattle.mcf_instance.specs.Private.ReaderState.{item_of}
 use Rattle.mcf_instance.proofs.NodeLines.{ok_unless, node_line_reads, node_row_reads, node_line_early}
 use Rattle.mcf_instance.proofs.ArcLines.{packed, arc_line_reads, arc_pair_reads, arc_line_early}
 use Rattle.mcf_instance.proofs.Faults.{problem_line_reads}
@@ -33,17 +33,17 @@ flags_of s lines h v low high = ap (λ xs. get_or xs (v - 1) false) h.listed_is 
 pub arcs_of : (s : StateData) (lines : List Row) → Holds s lines → length s.arcs ≡ length (arc_lines lines)
 arcs_of s lines h = sym (length-map s.arcs unpacked) ∙ ap length h.arcs_are ∙ length-map (arc_lines lines) (arc_of (header lines).problem)
 
-seen_of : (s : StateData) (lines : List Row) → Holds s lines → is_some s.heading ≡ has_p lines
-seen_of s lines h = ap is_some h.heading_is ∙ go (has_p lines)
+seen_of : (s : StateData) (lines : List Row) → Holds s lines → is_some s.header ≡ has_p lines
+seen_of s lines h = ap is_some h.header_is ∙ go (has_p lines)
   where
-    go : (b : Bool) → is_some (cond b (Some (heading_of (header lines))) None) ≡ b
+    go : (b : Bool) → is_some (cond b (Some (header lines)) None) ≡ b
     go true = refl
     go false = refl
 
 -- ---- what a good line says
 
 abbrev pub item_said : List Row → Row → Item
-item_said lines row = cond (is_p row) (Problem (heading_of (header_of row))) (cond (is_n row) (Supply (node row 1) (supply_said (header lines).problem row))
+item_said lines row = cond (is_p row) (Problem (header_of row)) (cond (is_n row) (Supply (node row 1) (supply_said (header lines).problem row))
     (Link (packed (arc_of (header lines).problem row))))
 
 bind_ok : {A B : Type 0} (o : Option Code) (x : A) (f : A → B) → (ok_unless o x >>= λ y. Ok (f y)) ≡ ok_unless o (f x)
@@ -57,14 +57,14 @@ problem_item : (s : StateData) (lines : List Row) (row : Row) → Holds s lines 
 unfolding item_of
 problem_item s lines row h kind =
     let read = problem_line_reads lines row.number row.fields kind in
-    rw (kind, seen_of s lines h, read) (bind_ok (fault_of_line limits lines row) (heading_of (header_of row)) Problem)
+    rw (kind, seen_of s lines h, read) (bind_ok (fault_of_line limits lines row) (header_of row) Problem)
 
 node_read : (s : StateData) (lines : List Row) (row : Row) → Holds s lines → field row 0 ≡ codes "n"
-    → node_line limits s.heading (length s.arcs) s.listed row.fields ≡ ok_unless (fault_of_line limits lines row)
+    → node_line limits s.header (length s.arcs) s.listed row.fields ≡ ok_unless (fault_of_line limits lines row)
     (node row 1, supply_said (header lines).problem row)
-node_read s lines row h kind = rw (h.heading_is, arcs_of s lines h) (go (has_p lines) (header lines).problem refl refl)
+node_read s lines row h kind = rw (h.header_is, arcs_of s lines h) (go (has_p lines) (header lines).problem refl refl)
   where
-    go : (b : Bool) (f : Format) → has_p lines ≡ b → (header lines).problem ≡ f → node_line limits (heading_seen lines)
+    go : (b : Bool) (f : Format) → has_p lines ≡ b → (header lines).problem ≡ f → node_line limits (header_seen lines)
         (length (arc_lines lines)) s.listed row.fields ≡ ok_unless (fault_of_line limits lines row) (node row 1, supply_said (header lines).problem row)
     go false f e g = rw e (node_line_early lines row.number row.fields s.listed _ e kind)
     go true Min e g = node_line_reads lines row.number row.fields s.listed e kind (flags_of s lines h) g
@@ -78,15 +78,15 @@ node_item s lines row h kind = rw (node_read s lines row h kind, kind) (bind_ok 
     (node row 1, supply_said (header lines).problem row) (λ n. Supply n.0 n.1))
 
 arc_read : (s : StateData) (lines : List Row) (row : Row) → Holds s lines → field row 0 ≡ codes "a"
-    → arc_line limits s.heading (length s.arcs) s.total s.listed row.fields
+    → arc_line limits s.header (length s.arcs) s.total s.listed row.fields
     ≡ ok_unless (fault_of_line limits lines row) (packed (arc_of (header lines).problem row))
-arc_read s lines row h kind = rw (h.heading_is, arcs_of s lines h) (go (has_p lines) (header lines).problem refl refl)
+arc_read s lines row h kind = rw (h.header_is, arcs_of s lines h) (go (has_p lines) (header lines).problem refl refl)
   where
-    go : (b : Bool) (f : Format) → has_p lines ≡ b → (header lines).problem ≡ f → arc_line limits (heading_seen lines)
+    go : (b : Bool) (f : Format) → has_p lines ≡ b → (header lines).problem ≡ f → arc_line limits (header_seen lines)
         (length (arc_lines lines)) s.total s.listed row.fields ≡ ok_unless (fault_of_line limits lines row) (packed (arc_of (header lines).problem row))
     go false f e g = rw e (arc_line_early lines row.number s.total row.fields s.listed (λ row. packed (arc_of (header lines).problem row)) e kind)
     go true Min e g =
-        ap (λ t. arc_line limits (heading_seen lines) (length (arc_lines lines)) t s.listed row.fields) (h.total_is (ap is_min g))
+        ap (λ t. arc_line limits (header_seen lines) (length (arc_lines lines)) t s.listed row.fields) (h.total_is (ap is_min g))
         ∙ arc_line_reads lines row.number row.fields s.listed e kind g
         ∙ ap (λ p. ok_unless (fault_of_line limits lines row) (packed (arc_of p row))) (sym g)
     go true Asn e g = arc_pair_reads lines row.number s.total row.fields s.listed e kind (flags_of s lines h) g

@@ -22,6 +22,7 @@ pub mod NodeLines
 pub mod NodeSums
 pub mod PackedArcs
 pub mod Pieces
+pub mod PlainLines
 pub mod RangeEnds
 pub mod Ranges
 pub mod SameSets

@@ -7,7 +7,7 @@ use Rattle.mcf_text.specs.Whole.{is_whole, whole_of, whole_value}
 use Rattle.mcf_text.specs.declared.number.Whole.{Whole}
 use Rattle.mcf_text.specs.declared.number.Whole.TheVariants.{Value, NotWhole, OutOfRange}
 use Rattle.mcf_instance.specs.Fault.{is_up_to}
-use Rattle.mcf_instance.specs.declared.reader.line.Heading.{Heading}
+use Rattle.mcf_instance.specs.declared.reader.line.Header.{Header}
 use Rattle.mcf_instance.specs.declared.reader.line.ArcNumbers.{ArcNumbers}
 use Rattle.mcf_instance.specs.Limits.{limits}
 use Rattle.mcf_instance.specs.Private.LineReader.{clamped, kept_size, number_at, amount_fault, unless_fault, node_line, node_tests, node_count_fits}
@@ -30,12 +30,12 @@ number_at-whole_of fields k f e = rw e (go (is_whole f) (is_up_to kept_size (who
     go true true g h = rw (g, h) refl
     go true false g h = rw (g, h) refl
 
-pub node_line_at : (o : Option Heading) (h : Heading) (arcs : ℕ) (listed : List Bool) (fields : List (List ℕ)) (a b : ℤ) → o ≡ Some h
+pub node_line_at : (o : Option Header) (h : Header) (arcs : ℕ) (listed : List Bool) (fields : List (List ℕ)) (a b : ℤ) → o ≡ Some h
     → node_count_fits o (length fields) ≡ true → node_numbers fields ≡ Ok (a, b) → node_line limits o arcs listed fields ≡ node_tests limits h arcs listed a b
 unfolding node_line
 node_line_at o h arcs listed fields a b p q r = rw (q, r, p) refl
 
-pub arc_line_at : (o : Option Heading) (h : Heading) (arcs total : ℕ) (listed : List Bool) (fields : List (List ℕ)) (a : ArcNumbers) → o ≡ Some h
+pub arc_line_at : (o : Option Header) (h : Header) (arcs total : ℕ) (listed : List Bool) (fields : List (List ℕ)) (a : ArcNumbers) → o ≡ Some h
     → arc_count_fits o (length fields) ≡ true → arc_numbers fields ≡ Ok a
     → arc_line limits o arcs total listed fields ≡ arc_tests limits h arcs total listed a
 unfolding arc_line
@@ -57,8 +57,8 @@ unless_fault-amount_fault l c k r =
     unless_fault-cond (not (is_up_to limits.bound l && is_up_to limits.bound c)) Bound _ r
     ∙ ap (cond (not (is_up_to limits.bound l && is_up_to limits.bound c)) (Err Bound)) orders
 
--- an arc past the number that the heading says
-pub arc_tests_extra : (h : Heading) (arcs total : ℕ) (listed : List Bool) (a : ArcNumbers) (src dst : ℕ) → checked_node h a.src ≡ Ok src
+-- an arc past the number that the header says
+pub arc_tests_extra : (h : Header) (arcs total : ℕ) (listed : List Bool) (a : ArcNumbers) (src dst : ℕ) → checked_node h a.src ≡ Ok src
     → checked_node h a.dst ≡ Ok dst → amount_fault limits a.low a.cap a.cost ≡ None → nat_le h.arcs arcs ≡ true
     → arc_tests limits h arcs total listed a ≡ Err Extra
 unfolding arc_tests

@@ -14,9 +14,9 @@ use Rattle.mcf_instance.specs.declared.reader.line.Item.TheVariants.{Problem, Su
 use Rattle.mcf_instance.specs.Fault.{as_fault, fault_of_line, faults, first_fault, has_p, header, header_of, is_p, no_header}
 use Rattle.mcf_instance.specs.Limits.{limits}
 use Rattle.mcf_instance.specs.Memory.{NamesNodes}
-use Rattle.mcf_instance.specs.Private.ReaderSound.{LinkFits, heading_nodes}
-use Rattle.mcf_instance.specs.Private.ReaderState.{StateData, item_of, outcome_grows}
-use Rattle.mcf_instance.specs.Private.Stands.{Holds, Stands, heading_of, heading_seen}
+use Rattle.mcf_instance.specs.Private.ReaderSound.{LinkFits, header_nodes}
+use Rattle.mcf_instance.specs.ReadOn.{StateData, Holds, Stands, header_seen, kept_rows, HasRead}
+use Rattle.mcf_instance.specs.Private.ReaderState.{item_of, outcome_grows}
 use Rattle.mcf_text.specs.Fields.{is_kept}
 use Rattle.mcf_text.specs.Lines.{lines_of, numbered_lines}
 use Rattle.mcf_text.specs.Row.{Row, row_of, rows}
@@ -24,14 +24,13 @@ use Rattle.mcf_instance.proofs.After.{after_item}
 use Rattle.mcf_instance.proofs.Faults.{fault_of}
 use Rattle.mcf_instance.proofs.FirstFaults.{holds_of_found, kept_numbers, numbers_after, numbers_before, text_fault_after}
 use Rattle.mcf_instance.proofs.FittingItems.{item_fits}
-use Rattle.mcf_instance.specs.Private.LinesRead.{kept_rows, HasRead}
 use Rattle.mcf_instance.proofs.Simulation.{first_fault_more, same_fault}
 use Rattle.mcf_instance.proofs.WholeTexts.{kept_one, kept_rows-append, rows_joined}
 
-seen_nodes : (lines : List Row) → 1 ≤ heading_nodes (heading_seen lines) → 1 ≤ (header lines).nodes
+seen_nodes : (lines : List Row) → 1 ≤ header_nodes (header_seen lines) → 1 ≤ (header lines).nodes
 seen_nodes lines h = go (has_p lines) h
   where
-    go : (b : Bool) → 1 ≤ heading_nodes (cond b (Some (heading_of (header lines))) None) → 1 ≤ (header lines).nodes
+    go : (b : Bool) → 1 ≤ header_nodes (cond b (Some (header lines)) None) → 1 ≤ (header lines).nodes
     go true some = some
     go false some = absurd (omega arith)
 
@@ -73,12 +72,12 @@ step_names_nodes s lines row stands none grows = go (item_of limits s row.fields
     go (Ok (Supply v z)) is g = cc
     go (Ok (Problem h)) is g =
         let after = after_item s lines row (Problem h) held is in
-        (seen_nodes (lines ++ row ∷ []) (subst (λ o. 1 ≤ heading_nodes o) after.heading_is (ltb-true 0 h.nodes g)), faultless (Problem h) is)
+        (seen_nodes (lines ++ row ∷ []) (subst (λ o. 1 ≤ header_nodes o) after.header_is (ltb-true 0 h.nodes g)), faultless (Problem h) is)
     go (Ok (Link a)) is g =
         let after = after_item s lines row (Link a) held is in
-        let fits : LinkFits limits s.heading s.listed s.arcs s.total a = item_fits s row.fields (Link a) is in
-        let some : 1 ≤ heading_nodes s.heading = omega (arith, fits.ends.src_is_node.0, fits.ends.src_is_node.1) in
-        (seen_nodes (lines ++ row ∷ []) (subst (λ o. 1 ≤ heading_nodes o) after.heading_is some), faultless (Link a) is)
+        let fits : LinkFits limits s.header s.listed s.arcs s.total a = item_fits s row.fields (Link a) is in
+        let some : 1 ≤ header_nodes s.header = omega (arith, fits.ends.src_is_node.0, fits.ends.src_is_node.1) in
+        (seen_nodes (lines ++ row ∷ []) (subst (λ o. 1 ≤ header_nodes o) after.header_is some), faultless (Link a) is)
 
 -- the lines up to one by which the state grows have no fault, and their first problem line is that of the text
 pub text_names_nodes : (text : List ℕ) (s : StateData) (next : ℕ) (x : ℕ × List ℕ) (rest : List (ℕ × List ℕ)) → HasRead limits text s next (x ∷ rest)

@@ -5,7 +5,7 @@ use Rattle.std.specs.Prelude.{Option, Result, ℤ, pos, slice_index_or, find, �
 use Rattle.mcf_instance.specs.declared.code.Code.{Code}
 use Rattle.mcf_instance.specs.declared.code.Code.TheVariants.{Node, LateN, Twice, Supply}
 use Rattle.mcf_instance.specs.declared.problem.Problem.TheVariants.{Min, Asn}
-use Rattle.mcf_instance.specs.declared.reader.line.Heading.{Heading}
+use Rattle.mcf_instance.specs.declared.reader.line.Header.{Header}
 use Rattle.mcf_text.specs.Row.{Row, node, number, natural}
 use Rattle.mcf_text.specs.Whole.{is_whole, is_within, whole_value}
 use Rattle.mcf_instance.specs.Blocking.{in_table}
@@ -13,7 +13,7 @@ use Rattle.mcf_instance.specs.Fault.{fault_of_line, has_p, header, header_of, no
 use Rattle.mcf_instance.specs.Limits.{limits, node_limit}
 use Rattle.mcf_instance.specs.Private.LineReader.{clamped, node_line, node_tests, number_at}
 use Rattle.std.specs.Option.{option_map_or}
-use Rattle.mcf_instance.specs.Private.Stands.{heading_seen}
+use Rattle.mcf_instance.specs.ReadOn.{header_seen}
 use Rattle.std.proofs.lemmas.Bool.{and_parts, not-false}
 use Rattle.mcf_instance.proofs.Ranges.{clamped_count, clamped_up_to, is_up_to-clamped, is_within_count-clamped, natural_low, natural_high, natural_most}
 
@@ -40,8 +40,8 @@ three (a ∷ b ∷ []) h = cc
 three (a ∷ b ∷ c ∷ []) h = (a, b, c, refl)
 three (a ∷ b ∷ c ∷ d ∷ xs) h = absurd (grind arith)
 
--- the tests of a node line by a heading
-pub node_tests_read : (h : Heading) (arcs : ℕ) (listed : List Bool) (known : ℕ → Bool) (u w : ℤ) → h.nodes ≤ node_limit
+-- the tests of a node line by a header
+pub node_tests_read : (h : Header) (arcs : ℕ) (listed : List Bool) (known : ℕ → Bool) (u w : ℤ) → h.nodes ≤ node_limit
     → ((v : ℕ) → 1 ≤ v → v ≤ h.nodes → in_table listed v ≡ known v)
     → node_tests limits h arcs listed (clamped u) (clamped w)
     ≡ ok_unless (cond (not (is_within (pos 1) (pos h.nodes) u && true)) (Some Node)
@@ -83,7 +83,7 @@ header_small lines = found_header_small (find is_p lines)
 
 abbrev pub Reads : (lines : List Row) (n : ℕ) (listed : List Bool) → List (List ℕ) → Type 0
 Reads lines n listed fields =
-    node_line limits (heading_seen lines) (length (arc_lines lines)) listed fields
+    node_line limits (header_seen lines) (length (arc_lines lines)) listed fields
     ≡ ok_unless (fault_of_line limits lines (record { number = n; fields = fields }))
     (node (record { number = n; fields = fields }) 1, number (record { number = n; fields = fields }) 2)
 
@@ -92,7 +92,7 @@ pub node_line_reads : (lines : List Row) (n : ℕ) (fields : List (List ℕ)) (l
     → ((v : ℕ) → 1 ≤ v → v ≤ (header lines).nodes → in_table listed v ≡ is_listed lines v)
     → (header lines).problem ≡ Min
     → Reads lines n listed fields
-unfolding node_line fault_of_line number_at
+unfolding node_line fault_of_line node_tests number_at
 node_line_reads lines n fields listed seen kind flags min = go (length fields == 3) refl
   where
     numbers : (b c : List ℕ) (x y : Bool) → is_whole b ≡ x → is_whole c ≡ y → Reads lines n listed ((110 ∷ []) ∷ b ∷ c ∷ [])
@@ -113,7 +113,7 @@ node_line_reads lines n fields listed seen kind flags min = go (length fields ==
 -- one of `asn`
 abbrev pub ReadsRow : (lines : List Row) (n : ℕ) (listed : List Bool) → List (List ℕ) → Type 0
 ReadsRow lines n listed fields =
-    node_line limits (heading_seen lines) (length (arc_lines lines)) listed fields
+    node_line limits (header_seen lines) (length (arc_lines lines)) listed fields
     ≡ ok_unless (fault_of_line limits lines (record { number = n; fields = fields })) (node (record { number = n; fields = fields }) 1, pos 1)
 
 pub node_row_reads : (lines : List Row) (n : ℕ) (fields : List (List ℕ)) (listed : List Bool) → has_p lines ≡ true → slice_index_or fields 0 [] ≡ 110 ∷ []

@@ -7,8 +7,8 @@ use Rattle.mcf_instance.specs.Fault.{Fault}
 use Rattle.mcf_instance.specs.Limits.{limits}
 use Rattle.mcf_instance.specs.Memory.{NamesNodes}
 use Rattle.mcf_instance.specs.Reading.{reading}
-use Rattle.mcf_instance.specs.Private.LinesRead.{HasRead, HasReadOn, HasReadPieces}
-use Rattle.mcf_instance.specs.Private.ReaderState.{StateData, empty, finished}
+use Rattle.mcf_instance.specs.ReadOn.{HasRead, HasReadOn, HasReadPieces, StateData}
+use Rattle.mcf_instance.specs.Private.ReaderState.{empty, finished}
 use Rattle.mcf_text.specs.Feed.{Feed, after_piece, FinishesLine}
 use Rattle.mcf_text.specs.Lines.{numbered_lines}
 use Rattle.mcf_instance.proofs.WholeTexts.{read_all, read_nothing, read_refused}

@@ -2,29 +2,30 @@
 use Rattle.std.proofs.Common.{◌≡◌, ℕ, ◌<◌, ◌≤◌, Bool, true, false, cond, List, [], ◌∷◌, length, map, take, refl, sym, ◌∙◌, ap, Some, None, arith}
 use Rattle.std.specs.Prelude.{Option, slice_index_or, ◌==◌, IsTrue}
 use Rattle.std.proofs.lemmas.List.{length-map}
-use Rattle.mcf_instance.specs.declared.reader.line.Heading.{Heading}
+use Rattle.mcf_instance.specs.declared.reader.line.Header.{Header}
 use Rattle.mcf_instance.specs.Fault.{is_min}
 use Rattle.mcf_instance.specs.Limits.{limits}
 use Rattle.mcf_instance.specs.Private.LineReader.{problem_line, node_line, arc_line, node_count_fits, arc_count_fits}
 use Rattle.std.specs.Borrow.{Bor}
-use Rattle.mcf_instance.specs.Private.ReaderState.{StateData, after_row, item_of}
+use Rattle.mcf_instance.specs.ReadOn.{StateData}
+use Rattle.mcf_instance.specs.Private.ReaderState.{after_row, item_of}
 use Rattle.mcf_text.specs.Fields.{begins_kept, fields_of, is_kept}
 use Rattle.mcf_text.proofs.FieldsLemmas.{is_kept-fields_of}
 
 no_count : (n k : ℕ) → 7 ≤ n → k < 7 → (n == k) ≡ false
 no_count n k h l = grind arith
 
-node_count_long : (o : Option Heading) (n : ℕ) → 7 ≤ n → node_count_fits o n ≡ false
+node_count_long : (o : Option Header) (n : ℕ) → 7 ≤ n → node_count_fits o n ≡ false
 node_count_long None n h = rw (no_count n 3 h (omega arith), no_count n 2 h (omega arith)) refl
-node_count_long (Some heading) n h = rw (no_count n 3 h (omega arith), no_count n 2 h (omega arith)) (go (is_min heading.problem))
+node_count_long (Some header) n h = rw (no_count n 3 h (omega arith), no_count n 2 h (omega arith)) (go (is_min header.problem))
   where
     go : (b : Bool) → cond b false false ≡ false
     go true = refl
     go false = refl
 
-arc_count_long : (o : Option Heading) (n : ℕ) → 7 ≤ n → arc_count_fits o n ≡ false
+arc_count_long : (o : Option Header) (n : ℕ) → 7 ≤ n → arc_count_fits o n ≡ false
 arc_count_long None n h = rw (no_count n 6 h (omega arith), no_count n 4 h (omega arith)) refl
-arc_count_long (Some heading) n h = rw (no_count n 6 h (omega arith), no_count n 4 h (omega arith)) (go (is_min heading.problem))
+arc_count_long (Some header) n h = rw (no_count n 6 h (omega arith), no_count n 4 h (omega arith)) (go (is_min header.problem))
   where
     go : (b : Bool) → cond b false false ≡ false
     go true = refl
@@ -39,11 +40,11 @@ item_long s fs gs e h l =
       e,
       no_count (length fs) 4 h (omega arith),
       no_count (length gs) 4 l (omega arith),
-      node_count_long s.heading (length fs) h,
-      node_count_long s.heading
+      node_count_long s.header (length fs) h,
+      node_count_long s.header
           (length gs) l,
-      arc_count_long s.heading (length fs) h,
-      arc_count_long s.heading (length gs) l,
+      arc_count_long s.header (length fs) h,
+      arc_count_long s.header (length gs) l,
     ) refl
 
 pub item_of-take : (s : StateData) (fields : List (List ℕ)) → item_of limits s (take 7 fields) ≡ item_of limits s fields

@@ -9,9 +9,9 @@ use Rattle.mcf_text.specs.Row.{Row}
 use Rattle.mcf_instance.specs.Fault.{Fault, as_fault, fault_at_end, fault_of_line, faults, first_fault_of_lines, has_p, header, arc_lines, total_of}
 use Rattle.mcf_instance.specs.Limits.{Limits, limits}
 use Rattle.mcf_instance.specs.Reading.{instance_of_lines, reading_of}
-use Rattle.mcf_instance.specs.Private.Stands.{heading_of, heading_seen, Holds, Stands}
+use Rattle.mcf_instance.specs.ReadOn.{header_seen, Holds, Stands, StateData}
 use Rattle.mcf_instance.specs.declared.reader.line.Item.{Item}
-use Rattle.mcf_instance.specs.Private.ReaderState.{StateData, empty, item_of, with_item, with_outcome, after_row, refusal_after, end_fault, network_of}
+use Rattle.mcf_instance.specs.Private.ReaderState.{empty, item_of, with_item, with_outcome, after_row, refusal_after, end_fault, network_of}
 use Rattle.mcf_instance.specs.Private.ReaderState.{finished}
 use Rattle.mcf_instance.proofs.Faults.{fault_of}
 use Rattle.mcf_instance.proofs.NodeLines.{ok_unless}
@@ -63,10 +63,10 @@ refusal_at_end s lines line h = go s.refusal refl
     go (Some r) e = rw (sym h.refusal_is, e) refl
     go None e =
         let held = h.holds e in
-        rw (sym h.refusal_is, e, held.heading_is, arcs_of s lines held) (seen (has_p lines) refl)
+        rw (sym h.refusal_is, e, held.header_is, arcs_of s lines held) (seen (has_p lines) refl)
       where
         seen : (b : Bool) → has_p lines ≡ b → option_map {U = Fault} (λ code. record { line = line; code = code })
-            (end_fault (heading_seen lines) (length (arc_lines lines))) ≡ option_map {U = Fault} (λ code. record { line = line; code = code })
+            (end_fault (header_seen lines) (length (arc_lines lines))) ≡ option_map {U = Fault} (λ code. record { line = line; code = code })
             (fault_at_end lines)
         seen true f = rw f refl
         seen false f = rw f refl
@@ -74,7 +74,7 @@ refusal_at_end s lines line h = go s.refusal refl
 held_data : (s : StateData) (lines : List Row) → Holds s lines → has_p lines ≡ true → network_of s ≡ instance_of_lines lines
 unfolding instance_of_lines
 held_data s lines h seen =
-    let some : s.heading ≡ Some (heading_of (header lines)) = h.heading_is ∙ ap (λ b. cond b (Some (heading_of (header lines))) None) seen in
+    let some : s.header ≡ Some (header lines) = h.header_is ∙ ap (λ b. cond b (Some (header lines)) None) seen in
     rw (some, h.arcs_are, h.supplies_are) refl
 
 pub finished_reads : (s : StateData) (lines : List Row) (line : ℕ) → Stands limits s lines
@@ -105,8 +105,8 @@ unfolding faults total_of
 stands_empty = record {
   refusal_is = refl;
   holds = λ e. record {
-    first_is_heading = λ _. refl;
-    heading_is = refl;
+    first_is_header = λ _. refl;
+    header_is = refl;
     listed_is = refl;
     supplies_are = refl;
     arcs_are = refl;
@@ -118,7 +118,7 @@ after_refused : (s : StateData) (row : Row) (refusal : Fault) → s.refusal ≡ 
 unfolding after_row
 after_refused s row refusal e = ap (λ o. cond (is_some o) s (with_outcome s row.number (item_of limits s row.fields))) e
 
-after_judged : (s : StateData) (row : Row) (r : Result Item Code) → s.refusal ≡ None → item_of limits s row.fields ≡ r
+pub after_judged : (s : StateData) (row : Row) (r : Result Item Code) → s.refusal ≡ None → item_of limits s row.fields ≡ r
     → after_row limits s row ≡ with_outcome s row.number r
 unfolding after_row
 after_judged s row r e f = ap (λ o. cond (is_some o) s (with_outcome s row.number (item_of limits s row.fields))) e ∙ ap (with_outcome s row.number) f

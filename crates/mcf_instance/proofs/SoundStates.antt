@@ -13,15 +13,15 @@ use Rattle.mcf_instance.specs.declared.arc.Arc.{Arc}
 use Rattle.mcf_instance.specs.declared.arc.PackedArc.{PackedArc}
 use Rattle.mcf_instance.specs.declared.problem.Problem.{Problem as Format}
 use Rattle.mcf_instance.specs.declared.problem.Problem.TheVariants.{Min, Asn}
-use Rattle.mcf_instance.specs.declared.reader.line.Heading.{Heading}
+use Rattle.mcf_instance.specs.declared.reader.line.Header.{Header}
 use Rattle.mcf_instance.specs.Assignment.{OnAssignment, IsAssignment, IsPairing}
 use Rattle.mcf_instance.specs.Blocking.{in_table}
 use Rattle.mcf_instance.specs.Limits.{limits, wide_limits, total_limit, node_limit, arc_limit}
 use Rattle.mcf_instance.specs.Network.{at_node}
 use Rattle.mcf_instance.specs.Packed.{unpacked}
 use Rattle.mcf_instance.specs.Private.ReaderState.{default_supply, problem_or_min}
-use Rattle.mcf_instance.specs.Private.ReaderSound.{HeadingFits, IsFlaggedPair, IsSound, IsSoundAssignment, LinkFits, OnMin, SupplyFits, heading_arcs}
-use Rattle.mcf_instance.specs.Private.ReaderSound.{heading_nodes}
+use Rattle.mcf_instance.specs.Private.ReaderSound.{HeaderFits, IsFlaggedPair, IsSound, IsSoundAssignment, LinkFits, OnMin, SupplyFits, header_arcs}
+use Rattle.mcf_instance.specs.Private.ReaderSound.{header_nodes}
 use Rattle.mcf_instance.specs.Private.ReaderSound.{side_supply}
 use Rattle.mcf_instance.specs.WellFormed.{HasEnds, IsArcWithinLimits, IsUpTo, IsWellFormed, weight}
 use Rattle.mcf_instance.proofs.Bounds.{size_up_to}
@@ -41,9 +41,9 @@ sides_at_first : (p : Format) (n : ℕ) → OnAssignment p (IsSoundAssignment (r
 sides_at_first Min n = tt
 sides_at_first Asn n = record { supplies_are = sym (map-replicate side_supply n false); pairings = All-nil _ }
 
-first_heading : (h : Heading) (total : ℕ) → h.nodes ≤ node_limit → h.arcs ≤ arc_limit → total ≡ sum (map weight (map unpacked [])) → total ≤ total_limit
+first_header : (h : Header) (total : ℕ) → h.nodes ≤ node_limit → h.arcs ≤ arc_limit → total ≡ sum (map weight (map unpacked [])) → total ≤ total_limit
     → IsSound limits (Some h) (replicate h.nodes false) (replicate h.nodes (default_supply h.problem)) [] total
-first_heading h total nodes arcs none small =
+first_header h total nodes arcs none small =
     record {
       nodes_small = nodes;
       arcs_small = arcs;
@@ -58,15 +58,15 @@ first_heading h total nodes arcs none small =
       assignment = sides_at_first h.problem h.nodes;
     }
 
-pub sound_heading : (o : Option Heading) (listed : List Bool) (supplies : List ℤ) (arcs : List PackedArc) (total : ℕ) (h : Heading)
-    → IsSound limits o listed supplies arcs total → HeadingFits o h
+pub sound_header : (o : Option Header) (listed : List Bool) (supplies : List ℤ) (arcs : List PackedArc) (total : ℕ) (h : Header)
+    → IsSound limits o listed supplies arcs total → HeaderFits o h
     → IsSound limits (Some h) (replicate h.nodes false) (replicate h.nodes (default_supply h.problem)) arcs total
-sound_heading o listed supplies arcs total h sound fits =
-    let none : length arcs ≤ heading_arcs None = subst (λ p. length arcs ≤ heading_arcs p) fits.first sound.arc_room in
+sound_header o listed supplies arcs total h sound fits =
+    let none : length arcs ≤ header_arcs None = subst (λ p. length arcs ≤ header_arcs p) fits.first sound.arc_room in
     let empty : arcs ≡ [] = nil_from_length arcs (omega (arith, none)) in
     let start : total ≡ sum (map weight (map unpacked [])) = sound.total_is ∙ ap (λ xs. sum (map weight (map unpacked xs))) empty in
     subst (λ xs. IsSound limits (Some h) (replicate h.nodes false) (replicate h.nodes (default_supply h.problem)) xs total)
-    (sym empty) (first_heading h total fits.nodes_small fits.arcs_small start sound.total_small)
+    (sym empty) (first_header h total fits.nodes_small fits.arcs_small start sound.total_small)
 
 -- ---- a node line
 
@@ -80,7 +80,7 @@ sides_after Asn listed supplies k z h e =
       pairings = All-nil _;
     }
 
-pub sound_supply : (o : Option Heading) (listed : List Bool) (supplies : List ℤ) (arcs : List PackedArc) (total v : ℕ) (z : ℤ)
+pub sound_supply : (o : Option Header) (listed : List Bool) (supplies : List ℤ) (arcs : List PackedArc) (total v : ℕ) (z : ℤ)
     → IsSound limits o listed supplies arcs total → SupplyFits limits o arcs v z
     → IsSound limits o (set listed (v - 1) true) (set supplies (v - 1) z) arcs total
 sound_supply o listed supplies arcs total v z sound fits =
@@ -156,15 +156,15 @@ on_min : {P Q : Type 0} (p : Format) → (P → Q) → OnMin p P → OnMin p Q
 on_min Min f h = f h
 on_min Asn f h = tt
 
-pub sound_link : (o : Option Heading) (listed : List Bool) (supplies : List ℤ) (arcs : List PackedArc) (total : ℕ) (a : PackedArc)
+pub sound_link : (o : Option Header) (listed : List Bool) (supplies : List ℤ) (arcs : List PackedArc) (total : ℕ) (a : PackedArc)
     → IsSound limits o listed supplies arcs total → LinkFits limits o listed arcs total a
     → IsSound limits o listed supplies (arcs ++ a ∷ []) (total + weight (unpacked a))
 sound_link o listed supplies arcs total a sound fits =
     let more = length_push arcs a in
-    let room : length (arcs ++ a ∷ []) ≤ heading_arcs o = omega (arith, fits.room) in
+    let room : length (arcs ++ a ∷ []) ≤ header_arcs o = omega (arith, fits.room) in
     let few : length (map unpacked (arcs ++ a ∷ [])) ≤ arc_limit = rw (length-map (arcs ++ a ∷ []) unpacked) (omega (arith, room, sound.arcs_small)) in
     let within = push_arc (IsArcWithinLimits limits) arcs a sound.arcs_within fits.is_within in
-    let sides = sides_with_arc (problem_or_min o) listed supplies arcs a (heading_nodes o) sound.one_flag_a_node fits.ends sound.assignment fits.assignment in
+    let sides = sides_with_arc (problem_or_min o) listed supplies arcs a (header_nodes o) sound.one_flag_a_node fits.ends sound.assignment fits.assignment in
     let total_is : total + weight (unpacked a) ≡ sum (map weight (map unpacked (arcs ++ a ∷ []))) =
     ap (λ t. t + weight (unpacked a)) sound.total_is ∙ sym (weights_push arcs a) in
     let fitting = on_min (problem_or_min o) (subst (λ t. t ≤ total_limit) total_is) fits.total_small in
@@ -174,7 +174,7 @@ sound_link o listed supplies arcs total a sound fits =
       one_flag_a_node = sound.one_flag_a_node;
       one_supply_a_node = sound.one_supply_a_node;
       arc_room = room;
-      ends = push_arc (HasEnds (heading_nodes o)) arcs a sound.ends fits.ends;
+      ends = push_arc (HasEnds (header_nodes o)) arcs a sound.ends fits.ends;
       arcs_within = within;
       supplies_within = sound.supplies_within;
       total_is = total_is;
@@ -210,7 +210,7 @@ assignment_at_end Asn listed supplies arcs h =
       each_arc = h.pairings;
     }
 
-pub well_formed : (h : Heading) (listed : List Bool) (supplies : List ℤ) (arcs : List PackedArc) (total : ℕ)
+pub well_formed : (h : Header) (listed : List Bool) (supplies : List ℤ) (arcs : List PackedArc) (total : ℕ)
     → IsSound limits (Some h) listed supplies arcs total
     → IsWellFormed limits (record { problem = h.problem; arcs = map unpacked arcs; supplies = supplies })
 well_formed h listed supplies arcs total sound =

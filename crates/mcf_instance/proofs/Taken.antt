@@ -13,14 +13,15 @@ use Rattle.std.proofs.lemmas.List.Folds.{list_any-append, find-append}
 use Rattle.mcf_instance.specs.declared.problem.Problem.{Problem as Format}
 use Rattle.mcf_instance.specs.declared.problem.Problem.TheVariants.{Min, Asn}
 use Rattle.mcf_text.specs.Row.{Row, node, number}
-use Rattle.mcf_instance.specs.Fault.{Header, is_p, is_n, is_a, is_min, has_p, header, header_of, no_header, is_listed, of_min, has_field_count, has_numbers}
+use Rattle.mcf_instance.specs.declared.reader.line.Header.{Header}
+use Rattle.mcf_instance.specs.Fault.{is_p, is_n, is_a, is_min, has_p, header, header_of, no_header, is_listed, of_min, has_field_count, has_numbers}
 use Rattle.mcf_instance.specs.Fault.{is_counted, line_weight, total_of}
 use Rattle.mcf_instance.specs.Packed.{unpacked}
 use Rattle.mcf_instance.specs.Reading.{arc_of, supply_of}
-use Rattle.mcf_instance.specs.Private.Stands.{heading_of, heading_seen, Holds}
+use Rattle.mcf_instance.specs.ReadOn.{header_seen, Holds, StateData}
 use Rattle.mcf_instance.proofs.ArcLines.{packed}
 use Rattle.mcf_instance.specs.declared.reader.line.Item.TheVariants.{Problem, Supply, Link}
-use Rattle.mcf_instance.specs.Private.ReaderState.{StateData, with_item, default_supply}
+use Rattle.mcf_instance.specs.Private.ReaderState.{with_item, default_supply}
 use Rattle.mcf_instance.specs.WellFormed.{weight}
 use Rattle.mcf_instance.proofs.Totals.{total-append_counted, total-append_other}
 
@@ -38,8 +39,8 @@ header-append_other lines row e =
 pub has_p-append_other : (lines : List Row) (row : Row) → is_p row ≡ false → has_p (lines ++ row ∷ []) ≡ has_p lines
 has_p-append_other lines row e = list_any-append is_p lines (row ∷ []) ∙ ap (λ b. has_p lines || (b || false)) e ∙ or-false (has_p lines)
 
-heading_seen-append_other : (lines : List Row) (row : Row) → is_p row ≡ false → heading_seen (lines ++ row ∷ []) ≡ heading_seen lines
-heading_seen-append_other lines row e = rw (has_p-append_other lines row e, header-append_other lines row e) refl
+header_seen-append_other : (lines : List Row) (row : Row) → is_p row ≡ false → header_seen (lines ++ row ∷ []) ≡ header_seen lines
+header_seen-append_other lines row e = rw (has_p-append_other lines row e, header-append_other lines row e) refl
 
 -- what filters to nothing adds nothing
 filter-append_other : {X : Type 0} (p : X → Bool) (xs : List X) (x : X) → p x ≡ false → filter p (xs ++ x ∷ []) ≡ filter p xs
@@ -89,14 +90,14 @@ weight_of_min Asn row e = cc
 
 -- ---- an arc line
 
-pub holds_link : (s : StateData) (lines : List Row) (row : Row) → Holds s lines → s.heading ≢ None → is_p row ≡ false → is_n row ≡ false → is_a row ≡ true
+pub holds_link : (s : StateData) (lines : List Row) (row : Row) → Holds s lines → s.header ≢ None → is_p row ≡ false → is_n row ≡ false → is_a row ≡ true
     → (of_min lines ≡ true → is_counted lines row ≡ true)
     → Holds (with_item s (Link (packed (arc_of (header lines).problem row)))) (lines ++ row ∷ [])
 holds_link s lines row h some p n a counted =
     let nodes = filter-append_other is_n lines row n in
     record {
-      first_is_heading = λ none. absurd (some none);
-      heading_is = h.heading_is ∙ sym (heading_seen-append_other lines row p);
+      first_is_header = λ none. absurd (some none);
+      header_is = h.header_is ∙ sym (header_seen-append_other lines row p);
       listed_is = rw (header-append_other lines row p) (h.listed_is ∙ map_alike _ _ 1 _ (λ v _. sym (is_listed_alike lines (lines ++ row ∷ []) nodes v)));
       supplies_are = rw (header-append_other lines row p) (h.supplies_are ∙ map_alike _ _ 1 _ (λ v _. sym (supply_alike _ lines (lines ++ row ∷ []) nodes v)));
       arcs_are = rw (
@@ -171,14 +172,14 @@ supply_other Min lines row n w h =
     ∙ ap (λ o. option_map_or (λ r. number r 2) o (pos 0)) (option_or_none (find (λ r. node r 1 == w) (filter is_n lines))))
 supply_other Asn lines row n w h = ap (λ b. cond b (pos 1) (neg_ℤ (pos 1))) (listed_other lines row n w h)
 
-pub holds_supply : (s : StateData) (lines : List Row) (row : Row) → Holds s lines → s.heading ≢ None → is_p row ≡ false → is_n row ≡ true → is_a row ≡ false
+pub holds_supply : (s : StateData) (lines : List Row) (row : Row) → Holds s lines → s.header ≢ None → is_p row ≡ false → is_n row ≡ true → is_a row ≡ false
     → 1 ≤ node row 1 → is_listed lines (node row 1) ≡ false
     → Holds (with_item s (Supply (node row 1) (supply_said (header lines).problem row))) (lines ++ row ∷ [])
 holds_supply s lines row h some p n a low e =
     let place : 1 + (node row 1 - 1) ≡ node row 1 = omega arith in
     record {
-      first_is_heading = λ none. absurd (some none);
-      heading_is = h.heading_is ∙ sym (heading_seen-append_other lines row p);
+      first_is_header = λ none. absurd (some none);
+      header_is = h.header_is ∙ sym (header_seen-append_other lines row p);
       listed_is = rw (header-append_other lines row p, h.listed_is) (set_table (is_listed lines) (is_listed (lines ++ row ∷ [])) 1 _ (node row 1 - 1) true
           (ap (is_listed (lines ++ row ∷ [])) place ∙ listed_here lines row n) (λ w q. listed_other lines row n w (λ r. q (r ∙ sym place))));
       supplies_are = rw (header-append_other lines row p, h.supplies_are) (set_table (supply_of (header lines).problem lines)
@@ -200,12 +201,12 @@ supply_none Min row n w = ap (λ b. option_map_or (λ r. number r 2) (find (λ r
 supply_none Asn row n w = ap (λ c. cond (list_any (λ x. x == w) (map (λ r. node r 1) (cond c (row ∷ []) []))) (pos 1) (neg_ℤ (pos 1))) n
 
 holds_first : (s : StateData) (row : Row) → Holds s [] → is_p row ≡ true → is_n row ≡ false → is_a row ≡ false
-    → Holds (with_item s (Problem (heading_of (header_of row)))) (row ∷ [])
+    → Holds (with_item s (Problem (header_of row))) (row ∷ [])
 holds_first s row h p n a =
     let is : header (row ∷ []) ≡ header_of row = ap (λ b. option_map_or header_of (cond b (Some row) None) no_header) p in
     record {
-      first_is_heading = λ none. absurd cc;
-      heading_is = rw is (ap (λ b. cond (b || false) (Some (heading_of (header_of row))) None) (sym p));
+      first_is_header = λ none. absurd cc;
+      header_is = rw is (ap (λ b. cond (b || false) (Some (header_of row)) None) (sym p));
       listed_is = rw is (replicate_table (is_listed (row ∷ [])) false 1 _
           (λ w. ap (λ b. list_any (λ x. x == w) (map (λ r. node r 1) (cond b (row ∷ []) []))) n));
       supplies_are = rw is (replicate_table (supply_of (header_of row).problem (row ∷ [])) (default_supply (header_of row).problem) 1 _
@@ -214,8 +215,8 @@ holds_first s row h p n a =
       total_is = λ _. h.total_is refl ∙ sym (total-append_other [] row (not_counted [] row a));
     }
 
-pub holds_problem : (s : StateData) (lines : List Row) (row : Row) → Holds s lines → s.heading ≡ None → is_p row ≡ true → is_n row ≡ false → is_a row ≡ false
-    → Holds (with_item s (Problem (heading_of (header_of row)))) (lines ++ row ∷ [])
+pub holds_problem : (s : StateData) (lines : List Row) (row : Row) → Holds s lines → s.header ≡ None → is_p row ≡ true → is_n row ≡ false → is_a row ≡ false
+    → Holds (with_item s (Problem (header_of row))) (lines ++ row ∷ [])
 holds_problem s lines row h none p n a =
-    let empty : lines ≡ [] = h.first_is_heading none in
-    subst (λ ls. Holds (with_item s (Problem (heading_of (header_of row)))) (ls ++ row ∷ [])) (sym empty) (holds_first s row (subst (Holds s) empty h) p n a)
+    let empty : lines ≡ [] = h.first_is_header none in
+    subst (λ ls. Holds (with_item s (Problem (header_of row))) (ls ++ row ∷ [])) (sym empty) (holds_first s row (subst (Holds s) empty h) p n a)

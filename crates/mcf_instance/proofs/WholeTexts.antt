@@ -9,13 +9,12 @@ use Rattle.std.proofs.lemmas.List.Elements.{filter-append}
 use Rattle.mcf_instance.specs.Fault.{Fault, as_fault, faults, first_fault, first_fault_of_lines}
 use Rattle.mcf_instance.specs.Limits.{Limits, limits}
 use Rattle.mcf_instance.specs.Reading.{instance_of_lines, reading, reading_of}
-use Rattle.mcf_instance.specs.Private.ReaderState.{StateData, empty, finished}
-use Rattle.mcf_instance.specs.Private.Stands.{Stands}
+use Rattle.mcf_instance.specs.ReadOn.{StateData, Stands, kept_rows, HasRead}
+use Rattle.mcf_instance.specs.Private.ReaderState.{empty, finished}
 use Rattle.mcf_text.specs.Fields.{is_kept}
 use Rattle.mcf_text.specs.Lines.{lines_of, numbered_lines}
 use Rattle.mcf_text.specs.Row.{Row, line_after, row_of, rows}
 use Rattle.mcf_text.proofs.LinesLemmas.{length-numbered_lines}
-use Rattle.mcf_instance.specs.Private.LinesRead.{kept_rows, HasRead}
 use Rattle.mcf_instance.proofs.Simulation.{finished_reads, first_fault_more, stands_empty}
 
 -- ---- lists

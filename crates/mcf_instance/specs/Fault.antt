@@ -8,6 +8,7 @@ use Rattle.mcf_instance.specs.declared.code.Code.TheVariants.{Kind, Fields, Prob
 use Rattle.mcf_instance.specs.declared.code.Code.TheVariants.{Cost, Extra, Side, Total, NoP, Missing}
 use Rattle.mcf_instance.specs.declared.problem.Problem.{Problem as Format}
 use Rattle.mcf_instance.specs.declared.problem.Problem.TheVariants.{Min, Asn}
+use Rattle.mcf_instance.specs.declared.reader.line.Header.{Header}
 use Rattle.mcf_instance.specs.Limits.{Limits, node_limit, arc_limit}
 use Rattle.mcf_text.specs.Row.{Row, rows, field, begins, number, natural, node, with_earlier, line_after}
 use Rattle.mcf_text.specs.Whole.{is_whole, is_within}
@@ -29,12 +30,6 @@ abbrev pub is_a : Row → Bool
 is_a row = begins (codes "a") row
 
 -- ---- the problem line
-
--- what a problem line says
-pub record Header : Type 0 where
-  pub problem : Format
-  pub nodes : ℕ
-  pub arcs : ℕ
 
 abbrev pub has_problem_word : Row → Bool
 has_problem_word row = bytes_eq (field row 1) (codes "min") || bytes_eq (field row 1) (codes "asn")

@@ -2,8 +2,7 @@
 use Rattle.std.specs.Prelude.{◌≡◌, ◌⊎◌, ◌≤◌, ℕ, false, List, ◌++◌, length, Option, None}
 use Rattle.mcf_instance.specs.Limits.{Limits}
 use Rattle.mcf_instance.specs.Memory.{NamesNodes}
-use Rattle.mcf_instance.specs.Private.LinesRead.{HasReadOn}
-use Rattle.mcf_instance.specs.Private.ReaderState.{StateData}
+use Rattle.mcf_instance.specs.ReadOn.{HasReadOn, StateData}
 use Rattle.mcf_text.specs.Feed.{Feed}
 use Rattle.mcf_text.specs.declared.fault.FeedFault.{FeedFault}
 

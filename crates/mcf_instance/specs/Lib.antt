@@ -10,6 +10,7 @@ pub mod Limits
 pub mod Memory
 pub mod Network
 pub mod Packed
+pub mod ReadOn
 pub mod Reading
 pub mod WellFormed
 pub mod Private

@@ -1,7 +1,6 @@
 -- What the proofs of this crate alone need: no public clause names it.
 pub mod LineReader
-pub mod LinesRead
+pub mod PlainLines
 pub mod ReaderSound
 pub mod ReaderState
-pub mod Stands
 pub mod Sums

@@ -7,6 +7,7 @@ ghost use Rattle.mcf_instance.specs.Reading.{reading};
 mod fields;
 mod line;
 mod pieces;
+mod plain;
 mod state;
 
 use crate::instances::Instance;

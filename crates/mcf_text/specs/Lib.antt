@@ -1,6 +1,7 @@
 pub mod Feed
 pub mod FeedFault
 pub mod Fields
+pub mod Leading
 pub mod Line
 pub mod Lines
 pub mod Pop

@@ -7,7 +7,7 @@ use Rattle.mcf_instance.specs.declared.code.Code.TheVariants.{Fields, Problem, N
 use Rattle.mcf_instance.specs.declared.code.Code.TheVariants.{Extra, Side, Total}
 use Rattle.mcf_instance.specs.declared.problem.Problem.{Problem as Format}
 use Rattle.mcf_instance.specs.declared.problem.Problem.TheVariants.{Min, Asn}
-use Rattle.mcf_instance.specs.declared.reader.line.Heading.{Heading}
+use Rattle.mcf_instance.specs.declared.reader.line.Header.{Header}
 use Rattle.mcf_instance.specs.declared.reader.line.ArcNumbers.{ArcNumbers}
 use Rattle.mcf_instance.specs.Blocking.{in_table}
 use Rattle.mcf_instance.specs.Fault.{is_min, is_up_to, passes}
@@ -41,7 +41,7 @@ problem_at word = if bytes_eq word (codes "min") then Ok Min else (if bytes_eq w
 
 -- ---- problem lines
 
-unfoldable pub problem_line : Bool → List (List ℕ) → Result Heading Code
+unfoldable pub problem_line : Bool → List (List ℕ) → Result Header Code
 problem_line seen fields =
     if not (length fields == 4) then Err Fields
     else problem_at (slice_index_or fields 1 []) >>= λ problem.
@@ -53,7 +53,7 @@ problem_line seen fields =
 
 -- ---- node lines
 
-abbrev pub node_count_fits : Option Heading → ℕ → Bool
+abbrev pub node_count_fits : Option Header → ℕ → Bool
 node_count_fits None n = n == 3 || n == 2
 node_count_fits (Some h) n = if is_min h.problem then n == 3 else n == 2
 
@@ -64,10 +64,10 @@ node_numbers fields =
     (if length fields == 3 then (number_at fields 2 >>= λ supply. Ok (node, supply)) else Ok (node, pos 1))
 
 -- a number as a node
-abbrev pub checked_node : Heading → ℤ → Result ℕ Code
+abbrev pub checked_node : Header → ℤ → Result ℕ Code
 checked_node h z = if is_within (pos 1) (pos h.nodes) z then Ok (natural z) else Err Node
 
-unfoldable pub node_tests : Limits → Heading → ℕ → List Bool → ℤ → ℤ → Result (ℕ × ℤ) Code
+unfoldable pub node_tests : Limits → Header → ℕ → List Bool → ℤ → ℤ → Result (ℕ × ℤ) Code
 node_tests allowed h arcs listed node supply =
     checked_node h node >>= λ v.
     (if nat_lt 0 arcs then Err LateN
@@ -75,18 +75,18 @@ node_tests allowed h arcs listed node supply =
     else (if not (is_up_to allowed.supply supply) then Err Supply
     else Ok (v, supply))))
 
-abbrev pub with_heading : {X : Type 0} → Option Heading → (Heading → Result X Code) → Result X Code
-with_heading None f = Err BeforeP
-with_heading (Some h) f = f h
+abbrev pub with_header : {X : Type 0} → Option Header → (Header → Result X Code) → Result X Code
+with_header None f = Err BeforeP
+with_header (Some h) f = f h
 
-unfoldable pub node_line : Limits → Option Heading → ℕ → List Bool → List (List ℕ) → Result (ℕ × ℤ) Code
-node_line allowed heading arcs listed fields =
-    if not (node_count_fits heading (length fields)) then Err Fields
-    else (node_numbers fields >>= λ n. with_heading heading (λ h. node_tests allowed h arcs listed n.0 n.1))
+unfoldable pub node_line : Limits → Option Header → ℕ → List Bool → List (List ℕ) → Result (ℕ × ℤ) Code
+node_line allowed header arcs listed fields =
+    if not (node_count_fits header (length fields)) then Err Fields
+    else (node_numbers fields >>= λ n. with_header header (λ h. node_tests allowed h arcs listed n.0 n.1))
 
 -- ---- arc lines
 
-abbrev pub arc_count_fits : Option Heading → ℕ → Bool
+abbrev pub arc_count_fits : Option Header → ℕ → Bool
 arc_count_fits None n = n == 6 || n == 4
 arc_count_fits (Some h) n = if is_min h.problem then n == 6 else n == 4
 
@@ -102,7 +102,7 @@ arc_numbers fields =
     Ok (record { src = src; dst = dst; low = third; cap = cap; cost = cost }))
     else Ok (record { src = src; dst = dst; low = pos 0; cap = pos 1; cost = third }))
 
-abbrev pub is_wrong_side : Heading → List Bool → ℕ → ℕ → Bool
+abbrev pub is_wrong_side : Header → List Bool → ℕ → ℕ → Bool
 is_wrong_side h listed src dst = not (is_min h.problem) && (not (in_table listed src) || in_table listed dst)
 
 -- the first fault of the bounds and the cost of an arc
@@ -126,7 +126,7 @@ passes_total allowed problem total a = is_min problem && passes allowed.total (t
 abbrev pub within_total : Limits → Format → ℕ → PackedArc → Result PackedArc Code
 within_total allowed problem total a = if passes_total allowed problem total a then Err Total else Ok a
 
-unfoldable pub arc_tests : Limits → Heading → ℕ → ℕ → List Bool → ArcNumbers → Result PackedArc Code
+unfoldable pub arc_tests : Limits → Header → ℕ → ℕ → List Bool → ArcNumbers → Result PackedArc Code
 arc_tests allowed h arcs total listed a =
     checked_node h a.src >>= λ src.
     checked_node h a.dst >>= λ dst.
@@ -135,7 +135,7 @@ arc_tests allowed h arcs total listed a =
     else (if is_wrong_side h listed src dst then Err Side
     else within_total allowed h.problem total (record { src = src; dst = dst; low = a.low; cap = a.cap; cost = a.cost })))
 
-unfoldable pub arc_line : Limits → Option Heading → ℕ → ℕ → List Bool → List (List ℕ) → Result PackedArc Code
-arc_line allowed heading arcs total listed fields =
-    if not (arc_count_fits heading (length fields)) then Err Fields
-    else (arc_numbers fields >>= λ a. with_heading heading (λ h. arc_tests allowed h arcs total listed a))
+unfoldable pub arc_line : Limits → Option Header → ℕ → ℕ → List Bool → List (List ℕ) → Result PackedArc Code
+arc_line allowed header arcs total listed fields =
+    if not (arc_count_fits header (length fields)) then Err Fields
+    else (arc_numbers fields >>= λ a. with_header header (λ h. arc_tests allowed h arcs total listed a))

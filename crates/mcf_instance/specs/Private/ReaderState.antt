@@ -7,7 +7,7 @@ use Rattle.mcf_instance.specs.declared.code.Code.{Code}
 use Rattle.mcf_instance.specs.declared.code.Code.TheVariants.{Kind, NoP, Missing}
 use Rattle.mcf_instance.specs.declared.problem.Problem.{Problem as Format}
 use Rattle.mcf_instance.specs.declared.problem.Problem.TheVariants.{Min, Asn}
-use Rattle.mcf_instance.specs.declared.reader.line.Heading.{Heading}
+use Rattle.mcf_instance.specs.declared.reader.line.Header.{Header}
 use Rattle.mcf_instance.specs.declared.reader.line.Item.{Item}
 use Rattle.mcf_instance.specs.declared.reader.line.Item.TheVariants.{Problem, Supply, Link}
 use Rattle.mcf_instance.specs.Fault.{Fault}
@@ -15,21 +15,14 @@ use Rattle.mcf_instance.specs.Limits.{Limits}
 use Rattle.mcf_instance.specs.Private.LineReader.{◌>>=◌, problem_line, node_line, arc_line}
 use Rattle.mcf_instance.specs.Network.{Network}
 use Rattle.mcf_instance.specs.Packed.{unpacked}
+use Rattle.mcf_instance.specs.ReadOn.{StateData}
 use Rattle.mcf_instance.specs.Reading.{reading_of}
 use Rattle.mcf_instance.specs.WellFormed.{weight}
 use Rattle.mcf_text.specs.Row.{Row}
 
--- what the lines so far say, with the total of their arcs, or the first fault
-pub record StateData : Type 0 where
-  pub heading : Option Heading
-  pub listed : List Bool
-  pub supplies : List ℤ
-  pub arcs : List PackedArc
-  pub total : ℕ
-  pub refusal : Option Fault
-
+-- the state before the first line
 abbrev pub empty : StateData
-empty = record { heading = None; listed = []; supplies = []; arcs = []; total = 0; refusal = None }
+empty = record { header = None; listed = []; supplies = []; arcs = []; total = 0; refusal = None }
 
 -- how many fields of a line are looked at
 abbrev pub field_limit : ℕ
@@ -38,10 +31,14 @@ field_limit = 7
 -- what a line says, or its fault
 unfoldable pub item_of : Limits → StateData → List (List ℕ) → Result Item Code
 item_of allowed s fields =
-    if bytes_eq (slice_index_or fields 0 []) (codes "p") then (problem_line (is_some s.heading) fields >>= λ h. Ok (Problem h))
-    else (if bytes_eq (slice_index_or fields 0 []) (codes "n") then (node_line allowed s.heading (length s.arcs) s.listed fields >>= λ n. Ok (Supply n.0 n.1))
-    else (if bytes_eq (slice_index_or fields 0 []) (codes "a") then (arc_line allowed s.heading (length s.arcs) s.total s.listed fields >>= λ a. Ok (Link a))
+    if bytes_eq (slice_index_or fields 0 []) (codes "p") then (problem_line (is_some s.header) fields >>= λ h. Ok (Problem h))
+    else (if bytes_eq (slice_index_or fields 0 []) (codes "n") then (node_line allowed s.header (length s.arcs) s.listed fields >>= λ n. Ok (Supply n.0 n.1))
+    else (if bytes_eq (slice_index_or fields 0 []) (codes "a") then (arc_line allowed s.header (length s.arcs) s.total s.listed fields >>= λ a. Ok (Link a))
     else Err Kind))
+
+-- what an arc line says, as what a line says
+abbrev pub linked : Result PackedArc Code → Result Item Code
+linked arc = arc >>= λ a. Ok (Link a)
 
 -- the supply of a node without a node line
 abbrev pub default_supply : Format → ℤ
@@ -60,7 +57,7 @@ outcome_grows (Err fault) = false
 
 abbrev pub with_item : StateData → Item → StateData
 with_item s (Problem h) = record {
-  heading = Some h;
+  header = Some h;
   listed = replicate h.nodes false;
   supplies = replicate h.nodes (default_supply h.problem);
   arcs = s.arcs;
@@ -68,7 +65,7 @@ with_item s (Problem h) = record {
   refusal = s.refusal;
 }
 with_item s (Supply v z) = record {
-  heading = s.heading;
+  header = s.header;
   listed = slice_set s.listed (v - 1) true;
   supplies = slice_set s.supplies (v - 1) z;
   arcs = s.arcs;
@@ -76,7 +73,7 @@ with_item s (Supply v z) = record {
   refusal = s.refusal;
 }
 with_item s (Link a) = record {
-  heading = s.heading;
+  header = s.header;
   listed = s.listed;
   supplies = s.supplies;
   arcs = s.arcs ++ a ∷ [];
@@ -87,7 +84,7 @@ with_item s (Link a) = record {
 abbrev pub with_outcome : StateData → ℕ → Result Item Code → StateData
 with_outcome s number (Ok item) = with_item s item
 with_outcome s number (Err code) = record {
-  heading = s.heading;
+  header = s.header;
   listed = s.listed;
   supplies = s.supplies;
   arcs = s.arcs;
@@ -101,20 +98,20 @@ after_row allowed s row = if is_some s.refusal then s else with_outcome s row.nu
 
 -- ---- the end
 
-abbrev pub end_fault : Option Heading → ℕ → Option Code
+abbrev pub end_fault : Option Header → ℕ → Option Code
 end_fault None arcs = Some NoP
 end_fault (Some h) arcs = if nat_lt arcs h.arcs then Some Missing else None
 
 -- the refusal after the last line, whose number is one less
 abbrev pub refusal_after : StateData → ℕ → Option Fault
-refusal_after s line = option_or s.refusal (option_map (λ code. record { line = line; code = code }) (end_fault s.heading (length s.arcs)))
+refusal_after s line = option_or s.refusal (option_map (λ code. record { line = line; code = code }) (end_fault s.header (length s.arcs)))
 
-abbrev pub problem_or_min : Option Heading → Format
+abbrev pub problem_or_min : Option Header → Format
 problem_or_min None = Min
 problem_or_min (Some h) = h.problem
 
 abbrev pub network_of : StateData → Network
-network_of s = record { problem = problem_or_min s.heading; arcs = map unpacked s.arcs; supplies = s.supplies }
+network_of s = record { problem = problem_or_min s.header; arcs = map unpacked s.arcs; supplies = s.supplies }
 
 -- what the state gives at the end
 abbrev pub finished : StateData → ℕ → Result Network Fault

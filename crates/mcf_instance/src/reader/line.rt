@@ -36,7 +36,7 @@ const PAST_EVERY_RANGE: i64 = 1_000_000_000_000_000_001;
 
 /// What a problem line says.
 #[derive(Clone, Copy)]
-pub(crate) struct Heading {
+pub(crate) struct Header {
     pub(crate) problem: Problem,
     pub(crate) nodes: u32,
     pub(crate) arcs: u32,
@@ -55,7 +55,7 @@ pub(crate) struct ArcNumbers {
 /// What a good line says.
 #[derive(Clone, Copy)]
 pub(crate) enum Item {
-    Problem(Heading),
+    Problem(Header),
     Supply(u32, i64),
     Link(PackedArc),
 }
@@ -106,7 +106,7 @@ fn sizes_fit(nodes: i64, arcs: i64) -> bool
 }
 
 #[tactic(auto, unfolding(crate::specs::Private::LineReader::problem_line))]
-pub(crate) fn problem_line(is_seen: bool, fields: &[&[u8]]) -> Result<Heading, Code>
+pub(crate) fn problem_line(is_seen: bool, fields: &[&[u8]]) -> Result<Header, Code>
     ensures { result ≡ problem_line is_seen (map (λ f. f.now) fields.now) }
 {
     if fields.len() != 4 {
@@ -121,7 +121,7 @@ pub(crate) fn problem_line(is_seen: bool, fields: &[&[u8]]) -> Result<Heading, C
     if !sizes_fit(nodes, arcs) {
         return Err(Code::Size);
     }
-    Ok(Heading {
+    Ok(Header {
         problem,
         nodes: nodes as u32,
         arcs: arcs as u32,
@@ -150,30 +150,30 @@ fn is_flagged(flags: &[bool], node: u32) -> bool
 }
 
 // A number as a node of the instance.
-fn node_of(heading: Heading, value: i64) -> Result<u32, Code>
-    ensures exact { result ≡ checked_node heading value }
-    ensures in_range { IfOk result (λ v. (1 ≤ v) × (v ≤ heading.nodes)) }
+fn node_of(header: Header, value: i64) -> Result<u32, Code>
+    ensures exact { result ≡ checked_node header value }
+    ensures in_range { IfOk result (λ v. (1 ≤ v) × (v ≤ header.nodes)) }
 {
-    if is_within(1, i64::from(heading.nodes), value) {
+    if is_within(1, i64::from(header.nodes), value) {
         Ok(value as u32)
     } else {
         Err(Code::Node)
     }
 }
 
-fn node_count_fits(heading: Option<Heading>, count: usize) -> bool
-    ensures { result ≡ node_count_fits heading count }
+fn node_count_fits(header: Option<Header>, count: usize) -> bool
+    ensures { result ≡ node_count_fits header count }
 {
-    match heading {
+    match header {
         None => count == 3 || count == 2,
         Some(
-            Heading {
+            Header {
                 problem: Problem::Min,
                 ..
             },
         ) => count == 3,
         Some(
-            Heading {
+            Header {
                 problem: Problem::Asn,
                 ..
             },
@@ -196,16 +196,16 @@ fn node_numbers(fields: &[&[u8]]) -> Result<(i64, i64), Code>
 
 #[tactic(auto, unfolding(crate::specs::Private::LineReader::node_tests))]
 fn node_tests(
-    heading: Heading,
+    header: Header,
     arcs: usize,
     listed: &[bool],
     node: i64,
     supply: i64,
 ) -> Result<(u32, i64), Code>
-    requires { length listed.now ≡ heading.nodes }
-    ensures { result ≡ node_tests limits heading arcs listed.now node supply }
+    requires { length listed.now ≡ header.nodes }
+    ensures { result ≡ node_tests limits header arcs listed.now node supply }
 {
-    let node = node_of(heading, node)?;
+    let node = node_of(header, node)?;
     if 0 < arcs {
         return Err(Code::LateN);
     }
@@ -221,37 +221,37 @@ fn node_tests(
 /// What a node line says: its node and its supply.
 #[tactic(auto, unfolding(crate::specs::Private::LineReader::node_line))]
 pub(crate) fn node_line(
-    heading: Option<Heading>,
+    header: Option<Header>,
     arcs: usize,
     listed: &[bool],
     fields: &[&[u8]],
 ) -> Result<(u32, i64), Code>
-    requires { IfSome heading (λ h. length listed.now ≡ h.nodes) }
-    ensures { result ≡ node_line limits heading arcs listed.now (map (λ f. f.now) fields.now) }
+    requires { IfSome header (λ h. length listed.now ≡ h.nodes) }
+    ensures { result ≡ node_line limits header arcs listed.now (map (λ f. f.now) fields.now) }
 {
-    if !node_count_fits(heading, fields.len()) {
+    if !node_count_fits(header, fields.len()) {
         return Err(Code::Fields);
     }
     let (node, supply) = node_numbers(fields)?;
-    match heading {
+    match header {
         None => Err(Code::BeforeP),
-        Some(heading) => node_tests(heading, arcs, listed, node, supply),
+        Some(header) => node_tests(header, arcs, listed, node, supply),
     }
 }
 
-fn arc_count_fits(heading: Option<Heading>, count: usize) -> bool
-    ensures { result ≡ arc_count_fits heading count }
+fn arc_count_fits(header: Option<Header>, count: usize) -> bool
+    ensures { result ≡ arc_count_fits header count }
 {
-    match heading {
+    match header {
         None => count == 6 || count == 4,
         Some(
-            Heading {
+            Header {
                 problem: Problem::Min,
                 ..
             },
         ) => count == 6,
         Some(
-            Heading {
+            Header {
                 problem: Problem::Asn,
                 ..
             },
@@ -287,12 +287,12 @@ fn arc_numbers(fields: &[&[u8]]) -> Result<ArcNumbers, Code>
     }
 }
 
-fn is_wrong_side(heading: Heading, listed: &[bool], src: u32, dst: u32) -> bool
+fn is_wrong_side(header: Header, listed: &[bool], src: u32, dst: u32) -> bool
     requires src_in { (1 ≤ src) × (src ≤ length listed.now) }
     requires dst_in { (1 ≤ dst) × (dst ≤ length listed.now) }
-    ensures { result ≡ is_wrong_side heading listed.now src dst }
+    ensures { result ≡ is_wrong_side header listed.now src dst }
 {
-    match heading.problem {
+    match header.problem {
         Problem::Min => false,
         Problem::Asn => !is_flagged(listed, src) || is_flagged(listed, dst),
     }
@@ -337,9 +337,11 @@ fn within_total(problem: Problem, total: u128, arc: PackedArc) -> Result<PackedA
     Ok(arc)
 }
 
+/// What the numbers of an arc line say, or their fault.
 #[tactic(auto, unfolding(crate::specs::Private::LineReader::arc_tests))]
-fn arc_tests(
-    heading: Heading,
+#[inline(always)]
+pub(crate) fn arc_tests(
+    header: Header,
     arcs: usize,
     total: u128,
     listed: &[bool],
@@ -349,23 +351,23 @@ fn arc_tests(
     cap: i64,
     cost: i64,
 ) -> Result<PackedArc, Code>
-    requires tabled { length listed.now ≡ heading.nodes }
+    requires tabled { length listed.now ≡ header.nodes }
     requires total { total ≤ total_limit }
-    ensures { result ≡ arc_tests limits heading arcs total listed.now (record { src = src; dst = dst; low = low; cap = cap; cost = cost }) }
+    ensures { result ≡ arc_tests limits header arcs total listed.now (record { src = src; dst = dst; low = low; cap = cap; cost = cost }) }
 {
-    let src = node_of(heading, src)?;
-    let dst = node_of(heading, dst)?;
+    let src = node_of(header, src)?;
+    let dst = node_of(header, dst)?;
     if let Some(fault) = amount_fault(low, cap, cost) {
         return Err(fault);
     }
-    if heading.arcs as usize <= arcs {
+    if header.arcs as usize <= arcs {
         return Err(Code::Extra);
     }
-    if is_wrong_side(heading, listed, src, dst) {
+    if is_wrong_side(header, listed, src, dst) {
         return Err(Code::Side);
     }
     within_total(
-        heading.problem,
+        header.problem,
         total,
         PackedArc {
             src,
@@ -380,24 +382,24 @@ fn arc_tests(
 /// What an arc line says.
 #[tactic(auto, using(crate::proofs::Signed::signed), unfolding(crate::specs::Private::LineReader::arc_line))]
 pub(crate) fn arc_line(
-    heading: Option<Heading>,
+    header: Option<Header>,
     arcs: usize,
     total: u128,
     listed: &[bool],
     fields: &[&[u8]],
 ) -> Result<PackedArc, Code>
-    requires tabled { IfSome heading (λ h. length listed.now ≡ h.nodes) }
+    requires tabled { IfSome header (λ h. length listed.now ≡ h.nodes) }
     requires total { total ≤ total_limit }
-    ensures { result ≡ arc_line limits heading arcs total listed.now (map (λ f. f.now) fields.now) }
+    ensures { result ≡ arc_line limits header arcs total listed.now (map (λ f. f.now) fields.now) }
 {
-    if !arc_count_fits(heading, fields.len()) {
+    if !arc_count_fits(header, fields.len()) {
         return Err(Code::Fields);
     }
     let numbers = arc_numbers(fields)?;
-    match heading {
+    match header {
         None => Err(Code::BeforeP),
-        Some(heading) => arc_tests(
-            heading,
+        Some(header) => arc_tests(
+            header,
             arcs,
             total,
             listed,

@@ -3,7 +3,7 @@ ghost use Rattle.std.specs.Prelude.{◌≡◌, ◌+◌, ◌<◌, ◌≤◌, ◌+
 ghost use Rattle.mcf_instance.specs.Feeding.{StandsFor, WantsMemory};
 ghost use Rattle.mcf_instance.specs.Limits.{limits, line_limit};
 ghost use Rattle.mcf_instance.specs.Memory.{NamesNodes};
-ghost use Rattle.mcf_instance.specs.Private.LinesRead.{HasRead, HasReadOn};
+ghost use Rattle.mcf_instance.specs.ReadOn.{HasRead, HasReadOn};
 ghost use Rattle.mcf_text.specs.Feed.{byte_limit};
 
 use crate::instances::Instance;

@@ -1,11 +1,11 @@
 //! The reader's state: what the lines so far say.
-ghost use Rattle.std.specs.Prelude.{◌≡◌, ◌++◌, ◌∷◌, [], List, map, length, slice_get, None, OnOk, OnErr, ◌≤◌, IsTrue};
+ghost use Rattle.std.specs.Prelude.{◌≡◌, ◌++◌, ◌∷◌, [], List, map, length, slice_get, None, OnOk, OnErr, ◌≤◌, IfOk, IfSome, IsTrue};
 ghost use Rattle.mcf_instance.specs.Fault.{faults, header};
 ghost use Rattle.mcf_instance.specs.Limits.{limits, line_limit};
 ghost use Rattle.mcf_instance.specs.Private.ReaderSound.{ItemFits};
-ghost use Rattle.mcf_instance.specs.Private.ReaderState.{empty, item_of, with_item, item_grows, outcome_grows, after_row, refusal_after, finished};
-ghost use Rattle.mcf_instance.specs.Private.Stands.{Stands};
-ghost use Rattle.mcf_text.specs.Fields.{is_kept};
+ghost use Rattle.mcf_instance.specs.Private.ReaderState.{empty, item_of, with_item, item_grows, outcome_grows, after_row, refusal_after, finished, linked, with_outcome};
+ghost use Rattle.mcf_instance.specs.ReadOn.{Stands};
+ghost use Rattle.mcf_text.specs.Fields.{fields_of, is_kept};
 ghost use Rattle.mcf_text.specs.Row.{Row, row_of};
 
 use crate::arc::PackedArc;
@@ -13,7 +13,8 @@ use crate::code::Code;
 use crate::instances::Instance;
 use crate::problem::Problem;
 use crate::reader::fields::first_fields;
-use crate::reader::line::{Heading, Item, arc_line, is_word, node_line, problem_line};
+use crate::reader::line::{Header, Item, arc_line, is_word, node_line, problem_line};
+use crate::reader::plain::{plain_link, plain_pair};
 use crate::refusal::Refusal;
 use crate::repeated::copies;
 use mcf_text::NoMemory;
@@ -23,7 +24,7 @@ use std::marker::Model;
 /// What the lines so far say, with the total of their arcs, or the first fault.
 #[derive(Drop)]
 pub(crate) struct State {
-    heading: Option<Heading>,
+    header: Option<Header>,
     listed: Vec<bool>,
     supplies: Vec<i64>,
     arcs: Vec<PackedArc>,
@@ -34,12 +35,12 @@ pub(crate) struct State {
 impl Model for State {
     ghost use Rattle.mcf_instance.specs.Limits.{limits};
     ghost use Rattle.mcf_instance.specs.Private.ReaderSound.{IsSound};
-    ghost use Rattle.mcf_instance.specs.Private.ReaderState.{StateData};
+    ghost use Rattle.mcf_instance.specs.ReadOn.{StateData};
 
     ghost Value = { StateData };
 
     ghost view = { λ s. record {
-      heading = s.heading;
+      header = s.header;
       listed = s.listed.items;
       supplies = s.supplies.items;
       arcs = s.arcs.items;
@@ -47,7 +48,7 @@ impl Model for State {
       refusal = s.refusal;
     } };
 
-    ghost invariant = { λ s. IsSound limits s.heading s.listed.items s.supplies.items s.arcs.items s.total };
+    ghost invariant = { λ s. IsSound limits s.header s.listed.items s.supplies.items s.arcs.items s.total };
 }
 
 impl State {
@@ -56,7 +57,7 @@ impl State {
         ensures { result ≡ empty }
     {
         State {
-            heading: None,
+            header: None,
             listed: Vec::new(alloc),
             supplies: Vec::new(alloc),
             arcs: Vec::new(alloc),
@@ -73,14 +74,14 @@ impl State {
     {
         let word = fields[0];
         if is_word(word, b"p") {
-            let heading = problem_line(self.heading.is_some(), fields)?;
-            Ok(Item::Problem(heading))
+            let header = problem_line(self.header.is_some(), fields)?;
+            Ok(Item::Problem(header))
         } else if is_word(word, b"n") {
-            let (node, supply) = node_line(self.heading, self.arcs.len(), &self.listed, fields)?;
+            let (node, supply) = node_line(self.header, self.arcs.len(), &self.listed, fields)?;
             Ok(Item::Supply(node, supply))
         } else if is_word(word, b"a") {
             let arc = arc_line(
-                self.heading,
+                self.header,
                 self.arcs.len(),
                 self.total,
                 &self.listed,
@@ -93,21 +94,33 @@ impl State {
     }
 
     // Makes the tables of a problem line; those of no nodes want no memory.
-    fn start(&mut self, alloc: Global, heading: Heading) -> Result<(), NoMemory>
-        requires { ItemFits limits self.old (Item.Problem heading) }
-        ensures ok { OnOk result (self.new ≡ with_item self.old (Item.Problem heading)) }
+    fn start(&mut self, alloc: Global, header: Header) -> Result<(), NoMemory>
+        requires { ItemFits limits self.old (Item.Problem header) }
+        ensures ok { OnOk result (self.new ≡ with_item self.old (Item.Problem header)) }
         ensures err { OnErr result (self.new ≡ self.old) }
-        ensures grows { OnErr result (IsTrue (item_grows (Item.Problem heading))) }
+        ensures grows { OnErr result (IsTrue (item_grows (Item.Problem header))) }
     {
-        let supply = match heading.problem {
+        let supply = match header.problem {
             Problem::Min => 0i64,
             Problem::Asn => -1i64,
         };
-        let listed = copies(alloc, heading.nodes as usize, false)?;
-        let supplies = copies(alloc, heading.nodes as usize, supply)?;
-        self.heading = Some(heading);
+        let listed = copies(alloc, header.nodes as usize, false)?;
+        let supplies = copies(alloc, header.nodes as usize, supply)?;
+        self.header = Some(header);
         self.listed = listed;
         self.supplies = supplies;
+        Ok(())
+    }
+
+    // Takes the arc of a good line in.
+    #[inline(always)]
+    fn link(&mut self, arc: PackedArc) -> Result<(), NoMemory>
+        requires { ItemFits limits self.old (Item.Link arc) }
+        ensures ok { OnOk result (self.new ≡ with_item self.old (Item.Link arc)) }
+        ensures err { OnErr result (self.new ≡ self.old) }
+    {
+        self.arcs.push(arc)?;
+        self.total += arc.weight();
         Ok(())
     }
 
@@ -119,23 +132,19 @@ impl State {
         ensures grows { OnErr result (IsTrue (item_grows item)) }
     {
         match item {
-            Item::Problem(heading) => self.start(alloc, heading),
+            Item::Problem(header) => self.start(alloc, header),
             Item::Supply(node, supply) => {
                 self.listed[node as usize - 1] = true;
                 self.supplies[node as usize - 1] = supply;
                 Ok(())
             }
-            Item::Link(arc) => {
-                self.arcs.push(arc)?;
-                self.total += arc.weight();
-                Ok(())
-            }
+            Item::Link(arc) => self.link(arc),
         }
     }
 
     // Takes the next kept line in, by its fields.
     #[tactic(auto, unfolding(crate::specs::Private::ReaderState::after_row))]
-    fn advance(&mut self, alloc: Global, number: u128, fields: &[&[u8]]) -> Result<(), NoMemory>
+    fn take_fields(&mut self, alloc: Global, number: u128, fields: &[&[u8]]) -> Result<(), NoMemory>
         requires some_field { 1 ≤ length fields.now }
         requires numbered { (1 ≤ number) × (number ≤ line_limit) }
         ensures ok { OnOk result (self.new ≡ after_row limits self.old (record { number = number; fields = map (λ f. f.now) fields.now })) }
@@ -153,6 +162,67 @@ impl State {
             }
         }
     }
+
+    // Takes the next kept line in, of any form.
+    #[inline(never)]
+    fn take_any(&mut self, alloc: Global, number: u128, line: &[u8]) -> Result<(), NoMemory>
+        requires kept { IsTrue (is_kept line.now) }
+        requires numbered { (1 ≤ number) × (number ≤ line_limit) }
+        ensures ok { OnOk result (self.new ≡ after_row limits self.old (row_of (number, line.now))) }
+        ensures err { OnErr result (self.new ≡ self.old) }
+        ensures grows { OnErr result ((self.old.refusal ≡ None) × IsTrue (outcome_grows (item_of limits self.old (fields_of line.now)))) }
+    {
+        let first = first_fields(line);
+        self.take_fields(alloc, number, &first.fields[..first.count])
+    }
+
+    // What an arc line of the plain form says, or its fault; nothing of another line, after a fault and before the problem line.
+    #[inline(always)]
+    fn plain_arc(&self, line: &[u8]) -> Option<Result<PackedArc, Code>>
+        ensures { IfSome result (λ r. (self.now.refusal ≡ None) × (item_of limits self.now (fields_of line.now) ≡ linked r)) }
+    {
+        if self.refusal.is_some() {
+            return None;
+        }
+        let header = self.header?;
+        match header.problem {
+            Problem::Min => plain_link(header, self.arcs.len(), self.total, &self.listed, line),
+            Problem::Asn => plain_pair(header, self.arcs.len(), self.total, &self.listed, line),
+        }
+    }
+
+    // Takes in what an arc line says, or its fault.
+    #[inline(always)]
+    fn take_arc(&mut self, number: u128, outcome: Result<PackedArc, Code>) -> Result<(), NoMemory>
+        requires fits { IfOk outcome (λ a. ItemFits limits self.old (Item.Link a)) }
+        requires numbered { (1 ≤ number) × (number ≤ line_limit) }
+        ensures ok { OnOk result (self.new ≡ with_outcome self.old number (linked outcome)) }
+        ensures err { OnErr result (self.new ≡ self.old) }
+        ensures grows { OnErr result (IsTrue (outcome_grows (linked outcome))) }
+    {
+        match outcome {
+            Ok(arc) => self.link(arc),
+            Err(code) => {
+                self.refusal = Some(Refusal { line: number, code });
+                Ok(())
+            }
+        }
+    }
+
+    // Takes the next kept line in.
+    #[inline(always)]
+    fn advance(&mut self, alloc: Global, number: u128, line: &[u8]) -> Result<(), NoMemory>
+        requires kept { IsTrue (is_kept line.now) }
+        requires numbered { (1 ≤ number) × (number ≤ line_limit) }
+        ensures ok { OnOk result (self.new ≡ after_row limits self.old (row_of (number, line.now))) }
+        ensures err { OnErr result (self.new ≡ self.old) }
+        ensures grows { OnErr result ((self.old.refusal ≡ None) × IsTrue (outcome_grows (item_of limits self.old (fields_of line.now)))) }
+    {
+        match self.plain_arc(line) {
+            Some(outcome) => self.take_arc(number, outcome),
+            None => self.take_any(alloc, number, line),
+        }
+    }
 }
 
 impl State {
@@ -167,8 +237,7 @@ impl State {
             → (1 ≤ (header (lines ++ row_of (number, line.now) ∷ [])).nodes)
             × (slice_get (faults limits (lines ++ row_of (number, line.now) ∷ [])) 0 ≡ None)) }
     {
-        let first = first_fields(line);
-        self.advance(alloc, number, &first.fields[..first.count])
+        self.advance(alloc, number, line)
     }
 
     /// The first fault, if a line so far has one.
@@ -183,14 +252,14 @@ impl State {
         requires { (1 ≤ line) × (line ≤ line_limit) }
         ensures { result ≡ refusal_after self.now line }
     {
-        match (self.refusal, self.heading) {
+        match (self.refusal, self.header) {
             (Some(refusal), _) => Some(refusal),
             (None, None) => Some(Refusal {
                 line,
                 code: Code::NoP,
             }),
-            (None, Some(heading)) => {
-                if self.arcs.len() < heading.arcs as usize {
+            (None, Some(header)) => {
+                if self.arcs.len() < header.arcs as usize {
                     Some(Refusal {
                         line,
                         code: Code::Missing,
@@ -211,16 +280,16 @@ impl State {
             return Err(refusal);
         }
         let State {
-            heading,
+            header,
             listed: _,
             supplies,
             arcs,
             total: _,
             refusal: _,
         } = self;
-        match heading {
-            Some(heading) => Ok(Instance {
-                problem: heading.problem,
+        match header {
+            Some(header) => Ok(Instance {
+                problem: header.problem,
                 arcs,
                 supplies,
             }),

@@ -1,7 +1,7 @@
 use Rattle.std.proofs.Common.{◌≡◌, None}
 use Rattle.mcf_instance.specs.Limits.{limits}
 use Rattle.mcf_instance.proofs.reader.read.Given as goal
-use Rattle.mcf_instance.specs.Private.LinesRead.{HasRead}
+use Rattle.mcf_instance.specs.ReadOn.{HasRead}
 
 -- the state stands for the lines so far, none of which has a fault
 abbrev pub invariant-loop-line : goal.invariant-loop-line

@@ -16,5 +16,5 @@ returns-in-Some c =
     let f4 : SFits w64 a.cap = search rules in
     let f5 : SFits w64 a.cost = search rules in
     let k = simp to_z-of_z at c.arc_tests.ensures in
-    let q : arc_count_fits c.args.heading (length (map (λ f. f.now) c.args.fields.now)) ≡ true = rw length-map (sym c.arc_count_fits.ensures ∙ search rules) in
+    let q : arc_count_fits c.args.header (length (map (λ f. f.now) c.args.fields.now)) ≡ true = rw length-map (sym c.arc_count_fits.ensures ∙ search rules) in
     k ∙ sym (arc_line_at _ _ _ _ _ _ _ c.in-Some.is q (sym c.in_ok-numbers.ensures))

@@ -8,13 +8,13 @@ use Rattle.mcf_instance.specs.Private.LineReader.{amount_fault}
 use Rattle.mcf_instance.proofs.LineSteps.{arc_tests_extra}
 use Rattle.mcf_instance.proofs.reader.line.arc_tests.Goals as goal
 
-pub returns-then-heading-arcs : goal.returns-then-heading-arcs
-returns-then-heading-arcs c =
-    let room : nat_le c.args.heading.arcs c.args.arcs ≡ true = search rules in
+pub returns-then-header-arcs : goal.returns-then-header-arcs
+returns-then-header-arcs c =
+    let room : nat_le c.args.header.arcs c.args.arcs ≡ true = search rules in
     let none : amount_fault limits c.args.low c.args.cap c.args.cost ≡ None = search rules in
     let f1 : SFits w64 c.args.src = search rules in
     let f2 : SFits w64 c.args.dst = search rules in
     let src = simp to_z-of_z at c.in_ok-src.ensures.exact in
     let dst = simp to_z-of_z at c.in_ok-dst.ensures.exact in
-    sym (arc_tests_extra c.args.heading c.args.arcs c.args.total c.args.listed.now
+    sym (arc_tests_extra c.args.header c.args.arcs c.args.total c.args.listed.now
     (record { src = c.args.src; dst = c.args.dst; low = c.args.low; cap = c.args.cap; cost = c.args.cost }) _ _ (sym src) (sym dst) none room)

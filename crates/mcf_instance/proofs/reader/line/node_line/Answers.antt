@@ -12,6 +12,6 @@ returns-in-Some c =
     let f : SFits w64 c.in_ok-node.node = search rules in
     let g : SFits w64 c.in_ok-node.supply = search rules in
     let k = simp to_z-of_z at c.node_tests.ensures in
-    let q : node_count_fits c.args.heading (length (map (λ f. f.now) c.args.fields.now)) ≡ true = rw length-map
+    let q : node_count_fits c.args.header (length (map (λ f. f.now) c.args.fields.now)) ≡ true = rw length-map
     (sym c.node_count_fits.ensures ∙ search rules) in
     k ∙ sym (node_line_at _ _ _ _ _ _ _ c.in-Some.is q (sym (c.in_ok-node.ensures)))

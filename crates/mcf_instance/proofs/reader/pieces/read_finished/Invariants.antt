@@ -1,6 +1,6 @@
 use Rattle.std.proofs.Common.{◌≡◌, ℕ, List, None, length}
 use Rattle.mcf_instance.specs.Limits.{limits}
-use Rattle.mcf_instance.specs.Private.LinesRead.{HasReadOn, HasReadPieces}
+use Rattle.mcf_instance.specs.ReadOn.{HasReadOn, HasReadPieces}
 use Rattle.mcf_instance.proofs.reader.pieces.read_finished.Given as goal
 
 -- the state stands for the lines so far, none of which has a fault

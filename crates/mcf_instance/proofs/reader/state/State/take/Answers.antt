@@ -2,7 +2,7 @@ use Rattle.std.proofs.Common.{rules}
 use Rattle.std.proofs.lemmas.Int.{to_z-of_z}
 use mir.Syntax.{w64}
 use mir.Val.{SFits}
-use Rattle.mcf_instance.proofs.SoundStates.{sound_supply, sound_link}
+use Rattle.mcf_instance.proofs.SoundStates.{sound_supply}
 use Rattle.mcf_instance.proofs.reader.state.State.take.Goals as goal
 
 pub invariant_of-self : goal.invariant_of-self
@@ -10,8 +10,3 @@ invariant_of-self c =
     let fits = rw (← c.self.view_is, c.in-Supply.is) at c.requires in
     let f : SFits w64 c.in-Supply.supply = search rules in
     simp to_z-of_z (sound_supply _ _ _ _ _ _ _ c.self.invariant fits)
-
-pub invariant_of-self-in-Link : goal.invariant_of-self-in-Link
-invariant_of-self-in-Link c =
-    let fits = rw (← c.self-in-Link.view_is, c.in-Link.is) at c.requires in
-    rw (c.in_ok-push-in-Link.ensures.items, c.weight.ensures.value) (sound_link _ _ _ _ _ _ c.self-in-Link.invariant fits)
