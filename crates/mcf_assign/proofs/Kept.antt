@@ -1,6 +1,6 @@
 -- What a matching keeps, and what a search did to it.
 use Rattle.std.proofs.Common.{◌≡◌, ◌≢◌, ℕ, ◌-◌, ◌^◌, ◌<◌, ◌≤◌, Bool, true, ltb, List, [], ◌∷◌, ◌++◌, length, get_or, take, replicate, None, Some, ℤ, pos, refl}
-use Rattle.std.proofs.Common.{sym, ◌∙◌, ap, subst, arith, ◌⊎◌, inl, inr, vec_capacity}
+use Rattle.std.proofs.Common.{false, sym, ◌∙◌, ap, subst, arith, ◌⊎◌, inl, inr, vec_capacity}
 use Rattle.std.specs.List.{All, Contains}
 use Rattle.std.proofs.lemmas.Int.{ints}
 use Rattle.std.proofs.lemmas.Bool.{cases_eq, ltb-true, lt-ltb}
@@ -17,10 +17,11 @@ use Rattle.mcf_network.specs.States.{Pseudoflow, IsPseudoflow}
 use Rattle.mcf_network.specs.Stuck.{IsStuck}
 use Rattle.mcf_network.proofs.ArcLaws.{head_is_node, net_arc_at, tail_is_node}
 use Rattle.mcf_network.proofs.Marks.{count_small}
+use Rattle.mcf_network.proofs.StateLaws.{rid}
 use Rattle.mcf_network.proofs.StuckLaws.{stuck_sets_block_lem}
 use Rattle.mcf_assign.specs.declared.search.Tables.{Tables}
 use Rattle.mcf_assign.specs.declared.search.Target.{Target}
-use Rattle.mcf_assign.specs.Extending.{Assigned, IsGrown, IsMatched, IsSettledList, IsShownMatching, IsStopped}
+use Rattle.mcf_assign.specs.Extending.{Assigned, IsGrown, IsMatched, IsReachable, IsSettledList, IsShownMatching, IsStopped}
 use Rattle.mcf_assign.specs.Private.Forests.{AreMates, IsChangedWithin, IsOrder}
 use Rattle.mcf_assign.specs.Private.Keeping.{AreFirstPrices, AreNearZero, FreeRowsAreFirst, IsEnded, IsIdle, IsKept, first_price}
 use Rattle.mcf_assign.specs.Matchings.{AreMatchingPrices, IsColumn, IsMatchedRow, IsPair, IsPartialMatching, IsRow, column_of, row_of}
@@ -29,6 +30,7 @@ use Rattle.mcf_assign.specs.Private.Turning.{IsExtended}
 use Rattle.mcf_assign.proofs.Beginning.{over_stuck}
 use Rattle.mcf_assign.proofs.Found.{found_column, found_free, found_new, found_prices}
 use Rattle.mcf_assign.proofs.LeastMatchings.{least_matching}
+use Rattle.mcf_assign.proofs.Orders.{forth_room}
 use Rattle.mcf_assign.proofs.PairLaws.{column_is, row_is}
 use Rattle.mcf_assign.proofs.Raised.{settled_or_not}
 use Rattle.mcf_assign.proofs.Surpluses.{row_or_column}
@@ -106,6 +108,12 @@ module _ (s : Pseudoflow) (y z : List ℤ) (q : Search) (row : ℕ) (order : Lis
   listed_more : (v : ℕ) → IsNode (node_count s.net) v → Settled q v → Contains (order ++ c ∷ []) v
   listed_more v n h = Contains-append_left order (c ∷ []) v (ended.order_ok.listed v n h)
 
+  end_reachable : IsReachable s row c
+  end_reachable set closed has =
+      let l = (ended.search.best t best).0 in
+      closed (rid t.arc false) (forth_room s t.arc ok l.arc l.idle)
+      (ended.order_ok.reachable (row_of s t.arc) (row_is s t.arc ok l.arc).0 l.from set closed has)
+
   pub grown_from : (s' : Pseudoflow) (z' : List ℤ) (l0 l1 : List ℕ) (r : List Bool) → IsExtended s s' z row c → IsChangedWithin s s' q c
       → l1 ≡ order ++ c ∷ [] → z' ≡ z
       → IsGrown (record { flow = s; prices = y; settled = l0; reached = r }) row (record { flow = s'; prices = z'; settled = l1; reached = r })
@@ -125,6 +133,10 @@ module _ (s : Pseudoflow) (y z : List ℤ) (q : Search) (row : ℕ) (order : Lis
               | inr at ↦ subst (λ l. Contains l (column_of s k)) (sym e) (subst (λ v. Contains (order ++ c ∷ []) v) (sym at) (Contains-push order c))
             ],
           )
+        ];
+        reachable = λ v h. elim (Contains-push_cases order c v (subst (λ l. Contains l v) e h)) [
+          | inl was ↦ ended.order_ok.reachable v (All-contains (IsNode (node_count s.net)) order v ended.order_ok.nodes was) (ended.order_ok.members v was)
+          | inr at ↦ subst (λ u. IsReachable s row u) at end_reachable
         ];
         prices = λ v n none.
             ap (λ (x : List ℤ). at_node x v) ez ∙ raised.others v n (λ h. none (subst (λ l. Contains l v) (sym e) (listed_more v n h)));

@@ -65,7 +65,7 @@ place_new (x ∷ xs) v n =
 
 -- ---- reachability
 
-forth_room : (s : Pseudoflow) (k : ℕ) → IsPartialMatching s → IsArcNumber s.net k → amount_at s k ≡ pos 0 → HasRoom s (rid k false)
+pub forth_room : (s : Pseudoflow) (k : ℕ) → IsPartialMatching s → IsArcNumber s.net k → amount_at s k ≡ pos 0 → HasRoom s (rid k false)
 forth_room s k ok arc none =
     let cap = (pairing_at s k ok arc).cap_is in
     record { arc = arc; room = omega (arith, ints, none, cap) }

@@ -59,8 +59,8 @@ pub record IsAugmented (old : Pseudoflow) (row : ℕ) (new : Pseudoflow) : Type 
   pub turned : new ≡ pushed_along old walk (pos 1)
 
 -- a path from the row was turned: the rows that are matched are those before and the row asked, matched columns stay
--- matched, the search settled both ends of each arc whose amount changed, and the prices of settled nodes alone
--- changed; the set that was reached before stays
+-- matched, the search settled both ends of each arc whose amount changed, residual arcs with room led from the row to
+-- each settled node, and the prices of settled nodes alone changed; the set that was reached before stays
 pub record IsGrown (old : Assigned) (row : ℕ) (new : Assigned) : Type 0 where
   pub net : new.flow.net ≡ old.flow.net
   pub path : IsAugmented old.flow row new.flow
@@ -69,6 +69,7 @@ pub record IsGrown (old : Assigned) (row : ℕ) (new : Assigned) : Type 0 where
   pub settled : IsSettledList (node_count old.flow.net) row new.settled
   pub changed : (k : ℕ) → IsArcNumber old.flow.net k → amount_at new.flow k ≢ amount_at old.flow k
       → Contains new.settled (row_of old.flow k) × Contains new.settled (column_of old.flow k)
+  pub reachable : (v : ℕ) → Contains new.settled v → IsReachable old.flow row v
   pub prices : (v : ℕ) → IsNode (node_count old.flow.net) v → ¬ Contains new.settled v → at_node new.prices v ≡ at_node old.prices v
   pub reached : new.reached ≡ old.reached
 
