@@ -1,5 +1,6 @@
 -- Arc lines of the plain form.
-use Rattle.std.proofs.Common.{◌≡◌, ℕ, suc, ◌+◌, ◌-◌, ◌^◌, ◌<◌, ◌≤◌, true, false, List, [], ◌∷◌, length, get_or, take, drop, Ok, Err, Some, None, refl, sym, ap, subst, ◌∙◌, add-one, arith}
+use Rattle.std.proofs.Common.{◌≡◌, ℕ, suc, ◌+◌, ◌-◌, ◌^◌, ◌<◌, ◌≤◌, true, false, List, [], ◌∷◌, length, get_or, take, drop, Ok, Err, Some, None}
+use Rattle.std.proofs.Common.{refl, sym, ap, subst, ◌∙◌, add-one, arith}
 use Rattle.std.specs.Prelude.{codes, ℤ, pos, neg_ℤ, ◌-ℤ◌, ◌≤ℤ◌, slice_index_or, Bool, IfOk, IfSome, Option, Result}
 use Rattle.std.proofs.lemmas.Int.{ints, to_z-of_z, to_z_pos}
 use mir.Syntax.{w64}
@@ -94,7 +95,8 @@ begins_with_a (b ∷ []) long a blank = absurd (omega arith)
 begins_with_a (b ∷ c ∷ more) long a blank = record {
   inside = long;
   fields = ap (λ x. fields_of (x ∷ c ∷ more)) a
-      ∙ fields_of-run (97 ∷ []) (c ∷ more) (record { nonempty = omega arith; no_blank = All-cons (λ x. is_blank x ≡ false) 97 [] refl (All-nil (λ x. is_blank x ≡ false)) }) blank
+      ∙ fields_of-run (97 ∷ []) (c ∷ more)
+      (record { nonempty = omega arith; no_blank = All-cons (λ x. is_blank x ≡ false) 97 [] refl (All-nil (λ x. is_blank x ≡ false)) }) blank
       ∙ ap (λ fs. (97 ∷ []) ∷ fs) (fields_of-blank c more blank);
 }
 

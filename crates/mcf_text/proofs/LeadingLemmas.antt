@@ -85,7 +85,8 @@ begins_with_digits bytes count some inside all ends =
     let plain = unsigned_digits ds long (model.to ds all) in
     record {
       first = ds;
-      fields = ap fields_of (sym (take-append-drop count bytes)) ∙ fields_of-run ds (drop count bytes) (record { nonempty = long; no_blank = no_blank ds all }) ends;
+      fields = ap fields_of (sym (take-append-drop count bytes))
+          ∙ fields_of-run ds (drop count bytes) (record { nonempty = long; no_blank = no_blank ds all }) ends;
       whole = ap is_numeral plain.1 ∙ is_numeral-digits ds long all;
       value_is = ap (λ minus. signed_value minus (digits_sum (without_leading_sign ds))) plain.0 ∙ ap (λ bs. pos (digits_sum bs)) plain.1;
     }
@@ -98,7 +99,8 @@ begins_with_minus bytes count some inside all ends =
     record {
       first = 45 ∷ ds;
       fields = ap (λ bs. fields_of (45 ∷ bs)) (sym (take-append-drop count bytes))
-          ∙ fields_of-run (45 ∷ ds) (drop count bytes) (record { nonempty = omega arith; no_blank = All-cons (λ b. is_blank b ≡ false) 45 ds refl (no_blank ds all) }) ends;
+          ∙ fields_of-run (45 ∷ ds) (drop count bytes)
+          (record { nonempty = omega arith; no_blank = All-cons (λ b. is_blank b ≡ false) 45 ds refl (no_blank ds all) }) ends;
       whole = is_numeral-digits ds long all;
       value_is = refl;
     }

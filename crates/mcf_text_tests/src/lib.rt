@@ -8,6 +8,8 @@
 #[cfg(test)]
 mod answers;
 #[cfg(test)]
+mod arc_lines;
+#[cfg(test)]
 mod checking;
 #[cfg(test)]
 mod edited_texts;

@@ -43,6 +43,19 @@ fn past_field(line: &[u8], end: usize) -> usize
     if end == line.len() {
         return end;
     }
+    if line[end] == b' ' {
+        return end + 1;
+    }
+    past_other_blank(line, end)
+}
+
+// The same where no space stands there, as at the end of a line of another system.
+#[inline(never)]
+fn past_other_blank(line: &[u8], end: usize) -> usize
+    requires { end < length line.now }
+    ensures inside { result ≤ length line.now }
+    ensures ends { 0 < result → EndsField line.now end result }
+{
     if is_blank(line[end]) { end + 1 } else { 0 }
 }
 

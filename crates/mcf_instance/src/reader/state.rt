@@ -3,7 +3,8 @@ ghost use Rattle.std.specs.Prelude.{◌≡◌, ◌++◌, ◌∷◌, [], List, ma
 ghost use Rattle.mcf_instance.specs.Fault.{faults, header};
 ghost use Rattle.mcf_instance.specs.Limits.{limits, line_limit};
 ghost use Rattle.mcf_instance.specs.Private.ReaderSound.{ItemFits};
-ghost use Rattle.mcf_instance.specs.Private.ReaderState.{empty, item_of, with_item, item_grows, outcome_grows, after_row, refusal_after, finished, linked, with_outcome};
+ghost use Rattle.mcf_instance.specs.Private.ReaderState.{empty, item_of, with_item, item_grows, outcome_grows, after_row, refusal_after, finished};
+ghost use Rattle.mcf_instance.specs.Private.ReaderState.{linked, with_outcome};
 ghost use Rattle.mcf_instance.specs.ReadOn.{Stands};
 ghost use Rattle.mcf_text.specs.Fields.{fields_of, is_kept};
 ghost use Rattle.mcf_text.specs.Row.{Row, row_of};
@@ -151,7 +152,8 @@ impl State {
         ensures err { OnErr result (self.new ≡ self.old) }
         ensures grows { OnErr result ((self.old.refusal ≡ None) × IsTrue (outcome_grows (item_of limits self.old (map (λ f. f.now) fields.now)))) }
     {
-        if self.refusal.is_some() {
+        let is_refused = self.refusal.is_some();
+        if is_refused {
             return Ok(());
         }
         match self.item_of(fields) {
@@ -202,8 +204,11 @@ impl State {
     {
         match outcome {
             Ok(arc) => self.link(arc),
-            Err(code) => {
-                self.refusal = Some(Refusal { line: number, code });
+            Err(fault) => {
+                self.refusal = Some(Refusal {
+                    line: number,
+                    code: fault,
+                });
                 Ok(())
             }
         }
