@@ -17,7 +17,7 @@ use Rattle.mcf_text.specs.declared.fault.FeedFault.{FeedFault}
 use Rattle.mcf_text.specs.declared.fault.FeedFault.TheVariants.{TooLong}
 use Rattle.mcf_solver.specs.declared.choice.Choice.{Choice}
 use Rattle.mcf_solver.specs.declared.choice.Kind.{Kind}
-use Rattle.mcf_solver.specs.Answering.{AppendsAnswer, IsOwed, answer_kind}
+use Rattle.mcf_solver.specs.Answering.{AppendsAnswer, IsAnswerTo, IsOwed, answer_kind}
 use Rattle.mcf_solver.specs.Forms.{HasForm}
 use Rattle.mcf_solver.specs.Making.{HasMadeFlow, IsMadeBy}
 use Rattle.mcf_solver.specs.Private.Shaping.{MadeFlowsAreShaped}
@@ -71,29 +71,38 @@ right_of (Err fault) (Sparse a) owed = owed
 right_of (Err fault) (Blocked a) owed = owed
 right_of (Ok g) (Refused r) owed = owed
 
+-- the text that is written of an answer that is owed
+pub answers_to : (choice : Choice) (input : List ℕ) (answer : Answer) (kind : Kind) → CorrectAnswersAreAccepted → MadeFlowsAreShaped
+    → IsAnswer answer → Spells (written answer) answer → IsOwed (reading limits input) answer
+    → HasMadeFlow (IsMadeBy choice) (reading limits input) answer → HasForm choice.form (reading limits input) answer → kind ≡ answer_kind answer
+    → IsAnswerTo choice input kind (written answer)
+answers_to choice input answer kind accepted shaped in_range spells owed made formed is_kind =
+    let correct : IsCorrect input (written answer) = record { answer = answer; spelled = spells; right = right_of (reading limits input) answer owed } in
+    record {
+      answer = answer;
+      in_range = in_range;
+      written = refl;
+      owed = owed;
+      made = made;
+      shaped = shaped choice (reading limits input) answer made;
+      formed = formed;
+      is_kind = is_kind;
+      correct = correct;
+      accepted = (accepted input (written answer)).1 correct;
+    }
+
 -- what is written of the answer that is owed for what was read
 pub answered : (choice : Choice) (outcome : Result Network Fault) (input : List ℕ) (answer : Answer) (kind : Kind) (old new : List ℕ)
     → CorrectAnswersAreAccepted → MadeFlowsAreShaped → outcome ≡ reading limits input → IsAnswer answer → Spells (written answer) answer
     → IsOwed outcome answer → HasMadeFlow (IsMadeBy choice) outcome answer → HasForm choice.form outcome answer → kind ≡ answer_kind answer
     → new ≡ old ++ written answer
     → AppendsAnswer choice input kind old new
-answered choice outcome input answer kind old new accepted shaped is in_range spells owed made formed is_kind appended =
-    let owed_read : IsOwed (reading limits input) answer = subst (λ r. IsOwed r answer) is owed in
-    let made_read : HasMadeFlow (IsMadeBy choice) (reading limits input) answer = subst (λ r. HasMadeFlow (IsMadeBy choice) r answer) is made in
-    let correct : IsCorrect input (written answer) = record { answer = answer; spelled = spells; right = right_of (reading limits input) answer owed_read } in
-    record {
-      text = written answer;
-      appended = appended;
-      answer = record {
-        answer = answer;
-        in_range = in_range;
-        written = refl;
-        owed = owed_read;
-        made = made_read;
-        shaped = shaped choice (reading limits input) answer made_read;
-        formed = subst (λ r. HasForm choice.form r answer) is formed;
-        is_kind = is_kind;
-        correct = correct;
-        accepted = (accepted input (written answer)).1 correct;
-      };
-    }
+answered choice outcome input answer kind old new accepted shaped is in_range spells owed made formed is_kind appended = record {
+  text = written answer;
+  appended = appended;
+  answer = answers_to choice input answer kind accepted shaped in_range spells
+      (subst (λ r. IsOwed r answer) is owed)
+      (subst (λ r. HasMadeFlow (IsMadeBy choice) r answer) is made)
+      (subst (λ r. HasForm choice.form r answer) is formed)
+      is_kind;
+}

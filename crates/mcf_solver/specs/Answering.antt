@@ -82,13 +82,12 @@ pub record AppendsAnswer (choice : Choice) (input : List ℕ) (kind : Kind) (old
   pub appended : new ≡ old ++ text
   pub answer : IsAnswerTo choice input kind text
 
--- the written text of some answer that is owed, in the form that is chosen, doesn't fit the room after the bytes that are there
+-- such a text doesn't fit the room after the bytes that are there
 pub record LacksRoom (choice : Choice) (input : List ℕ) (capacity bytes : ℕ) : Type 0 where
-  pub answer : Answer
-  pub in_range : IsAnswer answer
-  pub owed : IsOwed (reading limits input) answer
-  pub formed : HasForm choice.form (reading limits input) answer
-  pub short : capacity < bytes + length (written answer)
+  pub kind : Kind
+  pub text : List ℕ
+  pub answer : IsAnswerTo choice input kind text
+  pub short : capacity < bytes + length text
 
 -- the text has a first fault
 pub record HasFault (input : List ℕ) : Type 0 where

@@ -1,9 +1,9 @@
-use Rattle.std.proofs.Common.{◌≡◌, ◌∙◌, ap, length, drop, refl, rules, true}
+use Rattle.std.proofs.Common.{◌≡◌, ◌∙◌, ap, length, drop, refl, rules, true, vec_capacity, vec_len}
 use Rattle.std.proofs.Math.Seq.{drop-append_seam}
 use Rattle.mcf_answer.specs.Written.{written}
-use Rattle.mcf_answer.specs.Spelling.{IsAnswer}
-use Rattle.mcf_checker.specs.Correct.{IsCorrect}
 use Rattle.mcf_checker.specs.Judging.{accepts, verdict}
+use Rattle.mcf_solver.specs.Answering.{LacksRoom, answer_kind}
+use Rattle.mcf_solver.proofs.ReadPieces.{answers_to}
 use Rattle.mcf_solver.proofs.solving.solve_text.Goals as goal
 
 pub returns-clause-accepted : goal.returns-clause-accepted
@@ -17,22 +17,23 @@ returns-clause-accepted c =
 pub returns-clause-answer : goal.returns-clause-answer
 returns-clause-answer c =
     let answer = c.in_ok-answer.answer in
-    let in_range : IsAnswer answer = c.write.ensures.in_range in
-    let correct : IsCorrect c.args.input.now (written answer) = search rules in
-    let accepted : accepts (verdict c.args.input.now (written answer)) ≡ true = search rules in
     record {
       text = written answer;
       appended = c.in_ok-write.ensures.ok;
-      answer = record {
-        answer = answer;
-        in_range = in_range;
-        written = refl;
-        owed = c.in_ok-answer.ensures.owed;
-        made = c.in_ok-answer.ensures.made;
-        shaped = c.made_flows_are_shaped.ensures c.args.choice _ answer c.in_ok-answer.ensures.made;
-        formed = c.in_ok-answer.ensures.formed;
-        is_kind = c.answer_kind.ensures;
-        correct = correct;
-        accepted = accepted;
-      };
+      answer = answers_to c.args.choice c.args.input.now answer _ c.correct_answers_are_accepted.ensures c.made_flows_are_shaped.ensures
+          c.write.ensures.in_range c.write.ensures.spells c.in_ok-answer.ensures.owed c.in_ok-answer.ensures.made c.in_ok-answer.ensures.formed
+          c.answer_kind.ensures;
     }
+
+pub returns-in_err-write-clause-wants : goal.returns-in_err-write-clause-wants
+returns-in_err-write-clause-wants c =
+    let answer = c.in_ok-answer.answer in
+    let lacks : LacksRoom c.args.choice c.args.input.now (vec_capacity c.args.out.now) (vec_len c.args.out.now) = record {
+      kind = answer_kind answer;
+      text = written answer;
+      answer = answers_to c.args.choice c.args.input.now answer (answer_kind answer) c.correct_answers_are_accepted.ensures
+          c.made_flows_are_shaped.ensures c.write.ensures.in_range c.write.ensures.spells c.in_ok-answer.ensures.owed c.in_ok-answer.ensures.made
+          c.in_ok-answer.ensures.formed refl;
+      short = c.in_err-write.ensures.refused;
+    } in
+    search rules
