@@ -47,7 +47,8 @@ pub on_more : (text piece : List ℕ) (feed : Feed) (s : StateData) (fault : Fau
     → HasReadOn limits text feed s → HasReadOn limits (text ++ piece) feed s
 on_more text piece feed s fault e is_open h = record {
   lines_read = λ good. cc;
-  refused = λ other is more _. ap (reading limits) (append_assoc text piece more) ∙ h.refused other is (piece ++ more) (λ ended. absurd (both_ways feed.has_ended is_open ended));
+  refused = λ other is more _. ap (reading limits) (append_assoc text piece more)
+      ∙ h.refused other is (piece ++ more) (λ ended. absurd (both_ways feed.has_ended is_open ended));
 }
 
 -- where a line was faulty it doesn't matter what is kept

@@ -1,5 +1,6 @@
 -- The digits at the front of some bytes.
-use Rattle.std.proofs.Common.{◌≡◌, ℕ, suc, ◌+◌, ◌^◌, ◌<◌, ◌≤◌, min, true, false, List, ◌∷◌, length, get_or, take, drop, ℤ, pos, neg_ℤ, refl, sym, ap, subst, ◌∙◌}
+use Rattle.std.proofs.Common.{◌≡◌, ℕ, suc, ◌+◌, ◌^◌, ◌<◌, ◌≤◌, min, true, false, List, ◌∷◌}
+use Rattle.std.proofs.Common.{length, get_or, take, drop, ℤ, pos, neg_ℤ, refl, sym, ap, subst, ◌∙◌}
 use Rattle.std.proofs.Common.{add-one, arith, length-take}
 use Rattle.std.specs.Char.{is_ascii_digit}
 use Rattle.std.specs.Prelude.{All, IsTrue}
