@@ -2,7 +2,8 @@
 """Counts the edits that the prover must refuse.
 
     scripts/edits.py          prints, for each crate, how many stand in crates/NAME/must-fail and how many in planted/NAME
-    scripts/edits.py check    tells where the table in docs/EVIDENCE.md and must-fail/ disagree; status 1 if they do
+    scripts/edits.py check    tells where the tables in docs/EVIDENCE.md and docs/GATE.md and the folders disagree; status 1 if they do
+    scripts/edits.py gate     writes the counts into the table in docs/GATE.md
 """
 import pathlib
 import re
@@ -10,6 +11,7 @@ import sys
 
 TOP = pathlib.Path(__file__).resolve().parent.parent
 HEAD = "## Edits that must fail"
+GATE = TOP / "docs" / "GATE.md"
 
 
 def names(folder):
@@ -50,14 +52,32 @@ def differences():
     return said
 
 
+def counts():
+    """For each crate how many edits the gate tries, and how many are planted."""
+    return [(crate, len(standing(crate)), len(names(TOP / "planted" / crate))) for crate in crates()]
+
+
+def counted():
+    """The text of docs/GATE.md with today's counts in the last column of the table of crates."""
+    text = GATE.read_text()
+    for crate, stand, planted in counts():
+        text = re.sub(rf"^(\| {crate} \|.*\|) \d+, \d+ \|$", rf"\1 {stand}, {planted} |", text, flags=re.MULTILINE)
+    return text
+
+
 def main():
+    if sys.argv[1:] == ["gate"]:
+        GATE.write_text(counted())
+        return
     if sys.argv[1:] == ["check"]:
         said = differences()
+        if counted() != GATE.read_text():
+            said.append("docs/GATE.md has other counts: scripts/edits.py gate writes those of today")
         for line in said:
             print(line)
         sys.exit(1 if said else 0)
-    counts = [(crate, len(standing(crate)), len(names(TOP / "planted" / crate))) for crate in crates()]
-    for crate, stand, planted in [*counts, ("all", sum(c[1] for c in counts), sum(c[2] for c in counts))]:
+    rows = counts()
+    for crate, stand, planted in [*rows, ("all", sum(row[1] for row in rows), sum(row[2] for row in rows))]:
         print(f"{crate:14} {stand:4} {planted:4}")
 
 
