@@ -2,7 +2,8 @@
 """Counts the edits that the prover must refuse.
 
     scripts/edits.py          prints, for each crate, how many stand in crates/NAME/must-fail and how many in planted/NAME
-    scripts/edits.py check    tells where the tables in docs/EVIDENCE.md and docs/GATE.md and the folders disagree; status 1 if they do
+    scripts/edits.py check    tells where the tables in docs/EVIDENCE.md and docs/GATE.md and the folders disagree, and which edits are
+                              the same; status 1 if there are any
     scripts/edits.py gate     writes the counts into the table in docs/GATE.md
 """
 import pathlib
@@ -52,6 +53,19 @@ def differences():
     return said
 
 
+def twins():
+    """The edits of a crate that turn the same text in the same way."""
+    said = []
+    for crate in crates():
+        first = {}
+        for folder in (TOP / "crates" / crate / "must-fail", TOP / "planted" / crate):
+            for path in sorted(folder.glob("*.edit")):
+                other = first.setdefault(path.read_text(), path)
+                if other != path:
+                    said.append(f"{path.relative_to(TOP)} is {other.relative_to(TOP)} again")
+    return said
+
+
 def counts():
     """For each crate how many edits the gate tries, and how many are planted."""
     return [(crate, len(standing(crate)), len(names(TOP / "planted" / crate))) for crate in crates()]
@@ -70,7 +84,7 @@ def main():
         GATE.write_text(counted())
         return
     if sys.argv[1:] == ["check"]:
-        said = differences()
+        said = differences() + twins()
         if counted() != GATE.read_text():
             said.append("docs/GATE.md has other counts: scripts/edits.py gate writes those of today")
         for line in said:
