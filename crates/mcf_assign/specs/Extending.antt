@@ -84,6 +84,12 @@ pub record IsStopped (old : Assigned) (row : ℕ) (new : Assigned) : Type 0 wher
   pub reachable : (v : ℕ) → IsNode (node_count old.flow.net) v → (in_table new.reached v ≡ true) ↔ IsReachable old.flow row v
   pub blocks : Blocks old.flow.net (in_table new.reached) Send
 
+-- prices alone changed
+pub record IsRepriced (old new : Assigned) : Type 0 where
+  pub flow : new.flow ≡ old.flow
+  pub settled : new.settled ≡ old.settled
+  pub reached : new.reached ≡ old.reached
+
 -- what one search from a row does
 abbrev pub IsExtension : Assigned → ℕ → Extended → Assigned → Type 0
 IsExtension old row Matched new = IsGrown old row new

@@ -5,3 +5,4 @@ pub mod Turning
 pub mod Forests
 pub mod Keeping
 pub mod Offering
+pub mod Updating

@@ -38,6 +38,7 @@ impl Tables {
             links,
             best: None,
             order: Vec::with_capacity(alloc, nodes)?,
+            looks: 0,
         })
     }
 

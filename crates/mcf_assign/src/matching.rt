@@ -5,7 +5,7 @@ ghost use Rattle.mcf_instance.specs.declared.problem.Problem.TheVariants.{Asn};
 ghost use Rattle.mcf_instance.specs.Network.{IsNode, at_node, node_count};
 ghost use Rattle.mcf_instance.specs.WellFormed.{IsUpTo};
 ghost use Rattle.mcf_network.specs.NodeSets.{no_nodes};
-ghost use Rattle.mcf_assign.specs.Extending.{IsExtension, IsMatched, IsShownMatching};
+ghost use Rattle.mcf_assign.specs.Extending.{IsExtension, IsMatched, IsRepriced, IsShownMatching};
 ghost use Rattle.mcf_assign.specs.Private.Keeping.{AreFirstPrices, first_price};
 ghost use Rattle.mcf_assign.specs.Matchings.{IsMatchedRow, IsRow};
 
@@ -13,11 +13,13 @@ use crate::augmenting::fill;
 use crate::extended::Extended;
 use crate::rows::Rows;
 use crate::search::Tables;
+use crate::update::Update;
 use mcf_instance::copies;
 use mcf_network::{Net, NodeSet, State};
 use mcf_text::{NoMemory, NodeId};
 use std::alloc::Global;
 use std::marker::Model;
+use std::mem::swap;
 
 /// A partial matching of the net of an assignment, with prices that show that no other matches the same rows for less.
 ///
@@ -31,6 +33,7 @@ pub struct Matching<'n> {
     mates: Vec<u32>,
     tables: Tables,
     reached: NodeSet,
+    update: Update,
 }
 
 impl<'n> Model for Matching<'n> {
@@ -42,9 +45,12 @@ impl<'n> Model for Matching<'n> {
 
     ghost view = { λ a. record { flow = a.state; prices = a.prices.items; settled = a.tables.order.items; reached = a.reached } };
 
+    ghost use Rattle.mcf_instance.specs.Network.{node_count};
     ghost use Rattle.mcf_assign.specs.Private.RowLists.{AreRows};
+    ghost use Rattle.mcf_assign.specs.Private.Updating.{HasTables};
 
-    ghost invariant = { λ a. IsKept a.state a.prices.items a.mates.items a.tables a.reached × AreRows a.state.net a.rows };
+    ghost invariant = { λ a. IsKept a.state a.prices.items a.mates.items a.tables a.reached × AreRows a.state.net a.rows
+        × HasTables (node_count a.state.net) a.update };
 }
 
 impl<'n> Matching<'n> {
@@ -74,6 +80,7 @@ impl<'n> Matching<'n> {
             mates,
             tables: Tables::new(alloc, net)?,
             reached: NodeSet::new(alloc, net)?,
+            update: Update::new(alloc, net)?,
         })
     }
 
@@ -104,6 +111,24 @@ impl<'n> Matching<'n> {
                 fill(&mut self.reached, self.tables.order.as_slice());
                 Extended::Blocked
             }
+        }
+    }
+
+    /// Changes the prices alone, and to others that show the matching, if the searches since the last time looked at so
+    /// many arcs that an update of all prices pays.
+    pub(crate) fn refresh(&mut self)
+        ensures repriced { IsRepriced self.old self.new }
+        ensures shown { IsShownMatching self.new }
+    {
+        let arcs = u64::from(self.state.net().arc_count());
+        if self.tables.looks <= LOOKS_PER_ARC * arcs {
+            return;
+        }
+        self.tables.looks = 0;
+        let prices = self.prices.as_slice();
+        let mates = self.mates.as_slice();
+        if self.update.run(&self.state, &self.rows, prices, mates) {
+            swap(&mut self.prices, &mut self.update.prices);
         }
     }
 
@@ -147,6 +172,7 @@ impl<'n> Matching<'n> {
             mates: _,
             tables: _,
             reached: _,
+            update: _,
         } = self;
         (state, prices)
     }
@@ -162,6 +188,7 @@ impl<'n> Matching<'n> {
             mates: _,
             tables: _,
             reached,
+            update: _,
         } = self;
         reached
     }
@@ -183,6 +210,9 @@ fn first_prices(alloc: Global, net: &Net) -> Result<Vec<i128>, NoMemory>
     }
     Ok(prices)
 }
+
+// How often the searches look at each arc, on the average, between two updates of all prices.
+const LOOKS_PER_ARC: u64 = 2;
 
 // The price with which a row begins: no cost is further below 0.
 const FIRST_PRICE: i128 = -1_000_000_000_000_000;

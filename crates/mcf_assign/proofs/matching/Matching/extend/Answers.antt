@@ -1,9 +1,10 @@
 use Rattle.std.proofs.Common.{◌++◌, ℕ, ℤ, List, length, drop, take, ap, sym, subst, ◌∙◌, arith, refl}
-use Rattle.mcf_instance.specs.Network.{Network, IsNode}
+use Rattle.mcf_instance.specs.Network.{Network, IsNode, node_count}
 use Rattle.mcf_assign.specs.Extending.{Assigned, IsGrown, IsStopped}
 use Rattle.mcf_assign.specs.Private.Keeping.{IsEnded, IsKept}
 use Rattle.mcf_assign.specs.Matchings.{IsRow}
 use Rattle.mcf_assign.specs.Private.RowLists.{AreRows}
+use Rattle.mcf_assign.specs.Private.Updating.{HasTables}
 use Rattle.mcf_assign.specs.Private.Searches.{AreRaised, search_of}
 use Rattle.mcf_assign.proofs.Kept.{grown_from, kept_grown, near_small, shown_kept, stopped_from, written}
 use Rattle.mcf_assign.proofs.matching.Matching.extend.Goals as goal
@@ -42,7 +43,11 @@ invariant_of-self c =
     let grown = subst (λ (y : List ℤ). IsKept c.augment.new.state y (take i.mates.len (c.augment.new.mates ++ drop (length c.augment.new.mates) i.mates.items))
     c.augment.new.self i.reached) (sym wp) (subst (λ (m : List ℕ). IsKept c.augment.new.state c.augment.new.prices m c.augment.new.self i.reached) (sym wm)
     kept) in
-    (grown, subst (λ (g : Network). AreRows g i.rows) (sym (e.extended c.args.row ended_mut).net) c.self.invariant.1)
+    let net = (e.extended c.args.row ended_mut).net in (
+      grown,
+      subst (λ (g : Network). AreRows g i.rows) (sym net) c.self.invariant.1,
+      subst (λ (g : Network). HasTables (node_count g) i.update) (sym net) c.self.invariant.2,
+    )
 
 pub returns-in-Some-clause-extended : goal.returns-in-Some-clause-extended
 returns-in-Some-clause-extended c =

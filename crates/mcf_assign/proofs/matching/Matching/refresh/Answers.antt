@@ -1,0 +1,49 @@
+use Rattle.std.proofs.Common.{◌≡◌, List, ℤ, ℕ, refl, subst, ap, sym, ◌∙◌, length}
+use Rattle.mcf_instance.specs.Network.{node_count}
+use Rattle.mcf_assign.specs.Extending.{Assigned, IsShownMatching}
+use Rattle.mcf_assign.specs.Private.Keeping.{IsKept}
+use Rattle.mcf_assign.specs.Private.Updating.{AreUpdated}
+use Rattle.mcf_assign.proofs.Kept.{shown_kept}
+use Rattle.mcf_assign.proofs.Updated.{kept_counted, kept_updated}
+use Rattle.mcf_assign.proofs.matching.Matching.refresh.Goals as goal
+
+pub returns-then-self-arcs-clause-shown : goal.returns-then-self-arcs-clause-shown
+returns-then-self-arcs-clause-shown c =
+    let i = c.self.inside in
+    subst (λ (m : Assigned). IsShownMatching m) c.self.view_is
+    (shown_kept i.state i.prices.items i.mates.items i.tables i.reached c.self.invariant.0
+    (record { flow = i.state; prices = i.prices.items; settled = i.tables.order.items; reached = i.reached }) refl refl)
+
+pub invariant_of-self : goal.invariant_of-self
+invariant_of-self c =
+    let i = c.self.inside in
+    let k = c.self.invariant.0 in
+    let new = subst (λ (y : List ℤ). AreUpdated i.state i.mates.items y c.run.new.self.prices.items) c.as_slice-prices.ensures.value
+    (subst (λ (l : List ℕ). AreUpdated i.state l c.as_slice-prices.result.now c.run.new.self.prices.items) c.as_slice-mates.ensures.value
+    (c.run.ensures.updated c.if-run.true)) in
+    let taken : c.swap.new.x.items ≡ c.run.new.self.prices.items = cc (c.swap.ensures.x_after) in
+    let left : c.swap.new.y.items ≡ i.prices.items = cc (c.swap.ensures.y_after) in
+    let kept = kept_counted i.state c.run.new.self.prices.items i.mates.items i.tables i.reached 0
+    (kept_updated i.state i.prices.items c.run.new.self.prices.items i.mates.items i.tables i.reached k new) in
+    let tables = c.run.ensures.tables in (
+      subst (λ (y : List ℤ). IsKept i.state y i.mates.items (record i.tables { looks = 0 }) i.reached) (sym taken) kept,
+      c.self.invariant.1,
+      record { keys = tables.keys; waiting = tables.waiting; marks = tables.marks; prices = ap (λ (l : List ℤ). length l) left ∙ k.shown.count },
+    )
+
+pub returns-then-run-clause-shown : goal.returns-then-run-clause-shown
+returns-then-run-clause-shown c =
+    let i = c.self.inside in
+    let new = subst (λ (y : List ℤ). AreUpdated i.state i.mates.items y c.run.new.self.prices.items) c.as_slice-prices.ensures.value
+    (subst (λ (l : List ℕ). AreUpdated i.state l c.as_slice-prices.result.now c.run.new.self.prices.items) c.as_slice-mates.ensures.value
+    (c.run.ensures.updated c.if-run.true)) in
+    let taken : c.swap.new.x.items ≡ c.run.new.self.prices.items = cc (c.swap.ensures.x_after) in
+    shown_kept i.state c.run.new.self.prices.items i.mates.items i.tables i.reached
+    (kept_updated i.state i.prices.items c.run.new.self.prices.items i.mates.items i.tables i.reached c.self.invariant.0 new)
+    (record { flow = i.state; prices = c.swap.new.x.items; settled = i.tables.order.items; reached = i.reached }) refl taken
+
+pub returns-else-run-clause-shown : goal.returns-else-run-clause-shown
+returns-else-run-clause-shown c =
+    let i = c.self.inside in
+    shown_kept i.state i.prices.items i.mates.items i.tables i.reached c.self.invariant.0
+    (record { flow = i.state; prices = i.prices.items; settled = i.tables.order.items; reached = i.reached }) refl refl
