@@ -120,8 +120,7 @@ impl<'n> Matching<'n> {
         ensures repriced { IsRepriced self.old self.new }
         ensures shown { IsShownMatching self.new }
     {
-        let arcs = u64::from(self.state.net().arc_count());
-        if self.tables.looks <= LOOKS_PER_ARC * arcs {
+        if !self.is_due() {
             return;
         }
         self.tables.looks = 0;
@@ -130,6 +129,12 @@ impl<'n> Matching<'n> {
         if self.update.run(&self.state, &self.rows, prices, mates) {
             swap(&mut self.prices, &mut self.update.prices);
         }
+    }
+
+    // Whether an update of all prices pays now.
+    fn is_due(&self) -> bool {
+        let arcs = u64::from(self.state.net().arc_count());
+        self.update.pays() && self.tables.looks > LOOKS_PER_ARC * arcs
     }
 
     /// Whether an arc of amount 1 has an end at a node.

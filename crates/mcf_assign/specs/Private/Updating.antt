@@ -7,14 +7,19 @@ use Rattle.mcf_instance.specs.WellFormed.{IsUpTo}
 use Rattle.mcf_network.specs.Residual.{arc_at}
 use Rattle.mcf_network.specs.States.{Pseudoflow}
 use Rattle.mcf_assign.specs.declared.rows.RowArc.{RowArc}
+use Rattle.mcf_assign.specs.declared.spread.Spread.{Spread}
 use Rattle.mcf_assign.specs.declared.update.Update.{Update}
 use Rattle.mcf_assign.specs.Private.Keeping.{reach_limit}
 
 -- tables for so many nodes
+pub record HasSpread (nodes : ℕ) (q : Spread) : Type 0 where
+  pub keys : length q.heap.keys ≡ nodes
+  pub waiting : length q.heap.waiting ≡ nodes
+  pub partners : length q.partners.items ≡ nodes
+  pub limits : length q.limits.items ≡ nodes
+
 pub record HasTables (nodes : ℕ) (u : Update) : Type 0 where
-  pub keys : length u.heap.keys ≡ nodes
-  pub waiting : length u.heap.waiting ≡ nodes
-  pub marks : length u.marks.items ≡ nodes
+  pub spread : HasSpread nodes u.spread
   pub prices : length u.prices.items ≡ nodes
 
 -- the arc with which a node is matched, or 0

@@ -1,4 +1,5 @@
 use Rattle.std.proofs.Common.{◌++◌, ℕ, ℤ, List, length, drop, take, ap, sym, subst, ◌∙◌, arith, refl}
+use Rattle.std.specs.List.{All}
 use Rattle.mcf_instance.specs.Network.{Network, IsNode, node_count}
 use Rattle.mcf_assign.specs.Extending.{Assigned, IsGrown, IsStopped}
 use Rattle.mcf_assign.specs.Private.Keeping.{IsEnded, IsKept}
@@ -16,6 +17,12 @@ search-found-requires-clause-small c =
 pub augment-requires-clause-small : goal.augment-requires-clause-small
 augment-requires-clause-small c =
     near_small c.self.inside.state c.self.inside.prices.items c.as_mut_slice-prices.result.now c.self.invariant.0.near c.as_mut_slice-prices.ensures.value
+
+pub fill-requires : goal.fill-requires
+fill-requires c =
+    let o = c.search-found.ensures.ended.order_ok in
+    subst (λ (l : List ℕ). All (IsNode (length c.self.inside.reached)) l) (sym c.as_slice.ensures.value)
+    (subst (λ n. All (IsNode n) c.search-found.new.self.order.items) (sym c.self.invariant.0.count) o.nodes)
 
 pub invariant_of-self : goal.invariant_of-self
 invariant_of-self c =

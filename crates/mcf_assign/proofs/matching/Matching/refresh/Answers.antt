@@ -7,8 +7,8 @@ use Rattle.mcf_assign.proofs.Kept.{shown_kept}
 use Rattle.mcf_assign.proofs.Updated.{kept_counted, kept_updated}
 use Rattle.mcf_assign.proofs.matching.Matching.refresh.Goals as goal
 
-pub returns-then-self-arcs-clause-shown : goal.returns-then-self-arcs-clause-shown
-returns-then-self-arcs-clause-shown c =
+pub returns-then-not-is_due-clause-shown : goal.returns-then-not-is_due-clause-shown
+returns-then-not-is_due-clause-shown c =
     let i = c.self.inside in
     subst (λ (m : Assigned). IsShownMatching m) c.self.view_is
     (shown_kept i.state i.prices.items i.mates.items i.tables i.reached c.self.invariant.0
@@ -28,7 +28,7 @@ invariant_of-self c =
     let tables = c.run.ensures.tables in (
       subst (λ (y : List ℤ). IsKept i.state y i.mates.items (record i.tables { looks = 0 }) i.reached) (sym taken) kept,
       c.self.invariant.1,
-      record { keys = tables.keys; waiting = tables.waiting; marks = tables.marks; prices = ap (λ (l : List ℤ). length l) left ∙ k.shown.count },
+      record { spread = tables.spread; prices = ap (λ (l : List ℤ). length l) left ∙ k.shown.count },
     )
 
 pub returns-then-run-clause-shown : goal.returns-then-run-clause-shown
