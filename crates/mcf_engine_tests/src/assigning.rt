@@ -5,7 +5,7 @@ ghost use Rattle.mcf_assign.specs.Runs.{is_source};
 
 use crate::feasibility::is_set_of;
 use crate::networks::net_of;
-use crate::scaling::{cost_of, multiples};
+use crate::scaling::{cost_of, multiples, short_rows};
 use mcf_assign::{Extended, Matching, Sap};
 use mcf_checker::{Verdict, check};
 use mcf_instance::{Problem, Side};
@@ -275,8 +275,8 @@ static ENGINES: [EngineChoice; 3] = [
     EngineChoice::Simplex,
 ];
 
-// Whether an engine answers a text with a flow of cost 198, which the checker accepts.
-fn costs_198(alloc: Global, text: &[u8], engine: EngineChoice) -> Result<bool, NoMemory> {
+// Whether an engine answers a text with a flow of a cost, which the checker accepts.
+fn costs(alloc: Global, text: &[u8], engine: EngineChoice, cost: i128) -> Result<bool, NoMemory> {
     let choice = Choice {
         engine,
         ..Choice::default()
@@ -284,14 +284,26 @@ fn costs_198(alloc: Global, text: &[u8], engine: EngineChoice) -> Result<bool, N
     let mut answer = Vec::new(alloc);
     let kind = solve_text(alloc, text, choice, &mut answer)?;
     let verdict = check(alloc, text, &answer)?;
-    Ok(kind == Kind::Flow && verdict == Verdict::Flow(198))
+    Ok(kind == Kind::Flow && verdict == Verdict::Flow(cost))
 }
 
 #[test]
 fn three_engines_answer_with_one_cost(rt: HostRuntime) -> Result<(), Fail> {
     let text = multiples(rt.alloc(), 200)?;
     for engine in &ENGINES {
-        assert!(rt; costs_198(rt.alloc(), &text, *engine)?);
+        assert!(rt; costs(rt.alloc(), &text, *engine, 198)?);
+    }
+    Ok(())
+}
+
+// Searches look at each arc so often that all prices are updated twice; the costs are those that LEMON's network simplex finds.
+#[test]
+fn three_engines_agree_where_rows_are_short(rt: HostRuntime) -> Result<(), Fail> {
+    for (size, cost) in [(60, 24_849), (200, 89_522)] {
+        let text = short_rows(rt.alloc(), size)?;
+        for engine in &ENGINES {
+            assert!(rt; costs(rt.alloc(), &text, *engine, cost)?);
+        }
     }
     Ok(())
 }

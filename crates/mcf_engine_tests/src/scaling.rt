@@ -234,27 +234,78 @@ fn put_word(text: &mut Vec<u8>, n: i128) -> Result<(), NoMemory> {
     put_number(text, n)
 }
 
+// The first lines of an assignment of so many rows and as many columns.
+fn begun(alloc: Global, size: i128, arcs: i128) -> Result<Vec<u8>, NoMemory> {
+    let mut text = Vec::new(alloc);
+    text.extend_from_slice(b"p asn")?;
+    put_word(&mut text, size.wrapping_mul(2))?;
+    put_word(&mut text, arcs)?;
+    text.push(b'\n')?;
+    for i in 1..size.wrapping_add(1) {
+        text.push(b'n')?;
+        put_word(&mut text, i)?;
+        text.push(b'\n')?;
+    }
+    Ok(text)
+}
+
+// Appends the line of an arc from a row to a column, by its number among all nodes.
+fn put_arc(text: &mut Vec<u8>, row: i128, column: i128, cost: i128) -> Result<(), NoMemory> {
+    text.push(b'a')?;
+    put_word(text, row)?;
+    put_word(text, column)?;
+    put_word(text, cost)?;
+    text.push(b'\n')?;
+    Ok(())
+}
+
 /// An assignment of so many rows and as many columns, in which row i may go to column j for (i * j) mod 101.
 pub fn multiples(alloc: Global, size: u32) -> Result<Vec<u8>, NoMemory> {
     let size = i128::from(size);
-    let mut text = Vec::new(alloc);
-    text.extend_from_slice(b"p asn")?;
-    put_word(&mut text, size * 2)?;
-    put_word(&mut text, size * size)?;
-    for i in 1..size + 1 {
-        text.extend_from_slice(b"\nn")?;
-        put_word(&mut text, i)?;
-    }
+    let mut text = begun(alloc, size, size * size)?;
     for i in 1..size + 1 {
         for j in 1..size + 1 {
-            text.extend_from_slice(b"\na")?;
-            put_word(&mut text, i)?;
-            put_word(&mut text, j + size)?;
-            put_word(&mut text, i.wrapping_mul(j) % 101)?;
+            put_arc(&mut text, i, j + size, i.wrapping_mul(j) % 101)?;
         }
     }
-    text.push(b'\n')?;
     Ok(text)
+}
+
+/// An assignment of so many rows and as many columns with four arcs a row: row i may go to the column k * (i * k + 17)
+/// further on than column i, for (37 * i * i * (k + 3) + 11 * k) mod 1009, with k from 0 to 3.
+pub fn short_rows(alloc: Global, size: u32) -> Result<Vec<u8>, NoMemory> {
+    let size = i128::from(size);
+    let mut text = begun(alloc, size, size * 4)?;
+    for i in 1..size + 1 {
+        put_short_row(&mut text, i, size)?;
+    }
+    Ok(text)
+}
+
+static STEPS: [i128; 4] = [0, 1, 2, 3];
+
+// Appends the lines of the arcs of a row.
+fn put_short_row(text: &mut Vec<u8>, i: i128, size: i128) -> Result<(), NoMemory> {
+    for k in STEPS {
+        let further = i.wrapping_mul(k).wrapping_add(17).wrapping_mul(k);
+        let column = modulo(i.wrapping_sub(1).wrapping_add(further), size);
+        let square = i.wrapping_mul(i).wrapping_mul(k.wrapping_add(3));
+        let cost = modulo(
+            square.wrapping_mul(37).wrapping_add(k.wrapping_mul(11)),
+            1009,
+        );
+        let to = column.wrapping_add(size).wrapping_add(1);
+        put_arc(text, i, to, cost)?;
+    }
+    Ok(())
+}
+
+// What is left over by a whole number above 0; 0 where it isn't.
+fn modulo(x: i128, by: i128) -> i128 {
+    if by <= 0 {
+        return 0;
+    }
+    x.wrapping_rem_euclid(by)
 }
 
 #[test]
