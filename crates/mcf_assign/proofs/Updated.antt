@@ -1,13 +1,12 @@
 -- New prices that were tested after an update show the matching as those before.
-use Rattle.std.proofs.Common.{◌≡◌, ℕ, ◌+◌, ◌-◌, ◌<◌, ◌≤◌, Bool, true, List, length, get_or, take, slice_range, map, ℤ, pos, neg_ℤ, ◌<ℤ◌, ◌≤ℤ◌, refl, sym, ◌∙◌, ap, subst, arith}
-use Rattle.std.proofs.Common.{false, ◌⊎◌, inl, inr}
-use Rattle.std.specs.List.{All, Contains}
+use Rattle.std.proofs.Common.{◌≡◌, ℕ, ◌-◌, ◌<◌, Bool, List, length, get_or, slice_range, ℤ, pos, ◌<ℤ◌, ◌≤ℤ◌, refl, sym, ◌∙◌, ap, subst, arith}
+use Rattle.std.proofs.Common.{false, inl, inr}
+use Rattle.std.specs.List.{All}
 use Rattle.std.proofs.lemmas.Int.{ints}
 use Rattle.std.proofs.lemmas.Bool.{cases_eq}
 use Rattle.std.proofs.lemmas.List.{get_or-map, length-map}
 use Rattle.mcf_instance.specs.Flow.{reduced_cost}
 use Rattle.mcf_instance.specs.Network.{Network, IsArcNumber, IsNode, at_node, node_count}
-use Rattle.mcf_instance.specs.WellFormed.{IsUpTo}
 use Rattle.mcf_network.specs.declared.rid.Rid.{Rid}
 use Rattle.mcf_network.specs.Residual.{arc_at}
 use Rattle.mcf_network.specs.States.{Pseudoflow}
@@ -15,12 +14,12 @@ use Rattle.mcf_assign.specs.declared.rows.RowArc.{RowArc}
 use Rattle.mcf_assign.specs.declared.rows.Rows.{Rows}
 use Rattle.mcf_assign.specs.declared.rows.Span.{Span}
 use Rattle.mcf_assign.specs.declared.search.Tables.{Tables}
-use Rattle.mcf_assign.specs.Matchings.{AreMatchingPrices, IsColumn, IsMatchedColumn, IsMatchedRow, IsPair, IsPartialMatching, IsRow, column_of, reduced, row_of}
+use Rattle.mcf_assign.specs.Matchings.{AreMatchingPrices, IsColumn, IsMatchedColumn, IsPair, IsPartialMatching, reduced, row_of}
 use Rattle.mcf_assign.specs.Private.Forests.{AreMates}
-use Rattle.mcf_assign.specs.Private.Keeping.{AreNearZero, FreeRowsAreFirst, IsKept, reach_limit}
-use Rattle.mcf_assign.specs.Private.RowLists.{AreRows, IsRowArc, IsRowSpan, ListsRow, forward_of, span_at}
-use Rattle.mcf_assign.specs.Private.Updating.{AreUpdated, FitsMate, FitsNode, IsFitArc, mate_at}
-use Rattle.mcf_assign.proofs.PairLaws.{column_is, row_is}
+use Rattle.mcf_assign.specs.Private.Keeping.{AreNearZero, FreeRowsAreFirst, IsKept}
+use Rattle.mcf_assign.specs.Private.RowLists.{AreRows, IsRowSpan, ListsRow, forward_of, span_at}
+use Rattle.mcf_assign.specs.Private.Updating.{AreUpdated, FitsMate, IsFitArc, mate_at}
+use Rattle.mcf_assign.proofs.PairLaws.{row_is}
 use Rattle.mcf_assign.proofs.RowLists.{no_arc}
 
 -- ---- a node and its mate

@@ -1,5 +1,5 @@
 -- What new prices are tested for after an update of all prices.
-use Rattle.std.specs.Prelude.{◌≡◌, ℕ, ◌<◌, ◌-◌, List, length, ℤ, pos, neg_ℤ, ◌≤ℤ◌, ◌<ℤ◌, ◌+ℤ◌, ◌-ℤ◌, slice_index_or}
+use Rattle.std.specs.Prelude.{◌≡◌, ℕ, ◌<◌, ◌-◌, List, length, ℤ, pos, ◌≤ℤ◌, ◌<ℤ◌, ◌+ℤ◌, ◌-ℤ◌, slice_index_or}
 use Rattle.std.specs.List.{All}
 use Rattle.mcf_instance.specs.Flow.{reduced_cost}
 use Rattle.mcf_instance.specs.Network.{Network, IsArcNumber, IsNode, at_node, node_count}

@@ -1,5 +1,4 @@
 use Rattle.std.proofs.Common.{◌≡◌, List, ℤ, ℕ, refl, subst, ap, sym, ◌∙◌, length}
-use Rattle.mcf_instance.specs.Network.{node_count}
 use Rattle.mcf_assign.specs.Extending.{Assigned, IsShownMatching}
 use Rattle.mcf_assign.specs.Private.Keeping.{IsKept}
 use Rattle.mcf_assign.specs.Private.Updating.{AreUpdated}
