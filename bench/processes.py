@@ -1,7 +1,7 @@
 """The second half of the part `simplex` of run.py: `mcf solve --engine simplex` beside a program by LEMON, as whole processes.
 
-Both read the same file, solve it and write a flow with its prices to a file. The simplex is run with each size of blocks that
-is named for the size of the net, and the best of them counts. Printed are the least seconds of a processor of several runs.
+Both read the same file, solve it and write a flow with its prices to a file. The simplex has its default, blocks of the size
+that suits the net. Printed are the least seconds of a processor of several runs.
 """
 import os
 import pathlib
@@ -16,16 +16,10 @@ PROGRAM = CRATE / "out" / "mcf"
 
 # the sizes of each family, as powers of 2
 SOLVED = {family: (12, 14, 16) for family in ("netgen", "gridgen", "road", "goto")}
-# the sizes of blocks that are tried with so many nodes and more
-BLOCKS = {0: (256,), 2 ** 16: (256, 1024)}
 # the greatest ratio
 LIMIT = 2.5
 # a case ends after so many seconds, but not before it was run so often
 SECONDS, FEWEST = 120, 3
-
-
-def blocks_of(nodes):
-    return BLOCKS[max(least for least in BLOCKS if least <= nodes)]
 
 
 def timed(command, written):
@@ -64,12 +58,8 @@ def measure(words, peer, instance_of):
         for nodes in (2 ** exponent for exponent in exponents):
             path = str(instance_of(family, nodes))
             ours, theirs = str(OUT / "simplex-ours.ans"), str(OUT / "simplex-peer.ans")
-            blocks = blocks_of(nodes)
-            solve = [str(PROGRAM), "solve", "--engine", "simplex", "--block"]
-            commands = [([*solve, str(block), path], ours) for block in blocks]
-            *seconds, peers = compare([*commands, ([str(peer), "ns", path, "-w", theirs], theirs)], runs)
-            best, block = min(zip(seconds, blocks))
-            shown = ", ".join(f"block {block} {taken:.4f} s" for block, taken in zip(blocks, seconds))
-            print(f"simplex {family} {nodes}, whole: {shown}, LEMON {peers:.4f} s, ratio {best / peers:.2f} (block {block})")
-            within = within and best / peers <= LIMIT
+            solve = [str(PROGRAM), "solve", "--engine", "simplex", path]
+            seconds, peers = compare([(solve, ours), ([str(peer), "ns", path, "-w", theirs], theirs)], runs)
+            print(f"simplex {family} {nodes}, whole: ours {seconds:.4f} s, LEMON {peers:.4f} s, ratio {seconds / peers:.2f}")
+            within = within and seconds / peers <= LIMIT
     return within

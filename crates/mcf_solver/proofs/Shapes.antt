@@ -1,6 +1,6 @@
 -- The flow of a run of the network simplex is a tree solution of the instance.
 use Rattle.std.proofs.Common.{◌≡◌, ◌∙◌, ℕ, List, ℤ, length, refl, subst, sym}
-use Rattle.std.specs.Prelude.{Ok, Err}
+use Rattle.std.specs.Prelude.{Option, Ok, Err}
 use Rattle.std.proofs.lemmas.Option.{IfSome_then}
 use Rattle.mcf_checker.specs.Correct.{flow_given}
 use Rattle.mcf_instance.specs.Flow.{CanCarry}
@@ -25,20 +25,21 @@ use Rattle.mcf_solver.specs.declared.choice.PricingChoice.TheVariants.{First, Be
 module _ (first : RunsAreTreeSolutions first_picks) (best : RunsAreTreeSolutions best_picks) (block : RunsAreTreeSolutions IsBlockPick)
     (stands : RestoredTreeSolutionsAreTreeSolutions) where
   -- of the net
-  net_tree : (pricing : PricingChoice) (size : ℕ) (g : Network) (s : Pseudoflow) → IsNet g → IsMadeBySimplex pricing size g s → IsTreeSolution g s.amounts
-  net_tree First size g s net made = first made.0 g s made.1 net made.2
-  net_tree Best size g s net made = best made.0 g s made.1 net made.2
-  net_tree Block size g s net made = block (new_block_rule size) g s made.0 net made.1
+  net_tree : (pricing : PricingChoice) (chosen : Option ℕ) (g : Network) (s : Pseudoflow) → IsNet g → IsMadeBySimplex pricing chosen g s →
+      IsTreeSolution g s.amounts
+  net_tree First chosen g s net made = first made.0 g s made.1 net made.2
+  net_tree Best chosen g s net made = best made.0 g s made.1 net made.2
+  net_tree Block chosen g s net made = block (new_block_rule made.0) g s made.1 net made.3
 
   -- and of the instance
-  tree_of : (pricing : PricingChoice) (size : ℕ) (g : Network) (flow : List ℤ) → StandsForMade (IsMadeBySimplex pricing size) g flow →
+  tree_of : (pricing : PricingChoice) (chosen : Option ℕ) (g : Network) (flow : List ℤ) → StandsForMade (IsMadeBySimplex pricing chosen) g flow →
       IsTreeSolution g flow
-  tree_of pricing size g flow h =
+  tree_of pricing chosen g flow h =
       let s = h.state in
       let net : IsNet (net_of g) = subst IsNet h.least.feasible.of_net h.least.feasible.flow.of_net in
       let count : length s.amounts ≡ length g.arcs =
       sym (sym (net_of-arc_count g) ∙ length-AllZip CanCarry (net_of g).arcs s.amounts h.least.least.feasible.within_bounds) in
-      subst (IsTreeSolution g) (sym h.restores) (stands g s.amounts count (net_tree pricing size (net_of g) s net h.made))
+      subst (IsTreeSolution g) (sym h.restores) (stands g s.amounts count (net_tree pricing chosen (net_of g) s net h.made))
 
   shaped_by : (m : Meant) (choice : Choice) (g : Network) (flow : List ℤ) → meant choice.engine g.problem ≡ m → StandsForMade (IsMadeBy choice) g flow
       → IsShapedBy m g flow

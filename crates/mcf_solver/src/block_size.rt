@@ -1,6 +1,6 @@
 //! Sizes of blocks.
 ghost use Rattle.std.specs.Prelude.{◌≡◌, SomeIff};
-ghost use Rattle.mcf_solver.specs.BlockSizes.{IsBlockSize, default_block};
+ghost use Rattle.mcf_solver.specs.BlockSizes.{IsBlockOf, IsBlockSize, IsSuitedSize};
 
 use std::marker::Model;
 
@@ -42,13 +42,24 @@ impl BlockSize {
     {
         self.size
     }
+
+    /// The size that suits a net of so many arcs: the square root of twice their number, rounded down, but 256 at least.
+    pub fn suited_to(arcs: u32) -> BlockSize
+        ensures { IsSuitedSize arcs result }
+    {
+        let root = (2 * u64::from(arcs)).isqrt() as u32;
+        BlockSize {
+            size: root.max(256),
+        }
+    }
 }
 
-impl Default for BlockSize {
-    ghost is_default = { λ b. b ≡ default_block };
-
-    /// Blocks of 256 arcs.
-    fn default() -> BlockSize {
-        BlockSize { size: 256 }
+// The size of the blocks on a net of so many arcs: the one that is chosen, and where none is the one that suits the net.
+pub(crate) fn block_of(chosen: Option<BlockSize>, arcs: u32) -> BlockSize
+    ensures { IsBlockOf chosen arcs result }
+{
+    match chosen {
+        Some(size) => size,
+        None => BlockSize::suited_to(arcs),
     }
 }

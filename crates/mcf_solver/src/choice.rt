@@ -46,7 +46,8 @@ pub enum Form {
 pub struct Choice {
     pub engine: EngineChoice,
     pub pricing: PricingChoice,
-    pub block: BlockSize,
+    /// How many arcs a block has; where no size is chosen, the one that suits the net.
+    pub block: Option<BlockSize>,
     pub form: Form,
 }
 

@@ -1,5 +1,5 @@
 -- What the words of a command line ask.
-use Rattle.std.specs.Prelude.{◌≡◌, ℕ, Bool, true, false, List, [], ◌∷◌, Option, Some, None, Result, IfOk, IfErr, codes, option_and_then, option_map, unwrap_or}
+use Rattle.std.specs.Prelude.{◌≡◌, ℕ, Bool, true, false, List, [], ◌∷◌, Option, Some, None, Result, IfOk, IfErr, codes, option_and_then, option_map}
 use Rattle.std.specs.Prelude.{find, map, if◌then◌else◌}
 use Rattle.std.specs.Borrow.{Bor}
 use Rattle.std.specs.Option.{option_map_or}
@@ -19,7 +19,7 @@ use Rattle.mcf_solver.specs.declared.choice.PricingChoice.{PricingChoice}
 use Rattle.mcf_solver.specs.declared.choice.PricingChoice.TheVariants.{First, Best, Block}
 use Rattle.mcf_solver.specs.declared.choice.Form.{Form}
 use Rattle.mcf_solver.specs.declared.choice.Form.TheVariants.{One, Two}
-use Rattle.mcf_solver.specs.BlockSizes.{block_limit, default_block}
+use Rattle.mcf_solver.specs.BlockSizes.{block_limit}
 
 -- the names of the engines, and what each asks for
 abbrev pub engine_words : List (Text × EngineChoice)
@@ -68,13 +68,12 @@ form_rule names = word_rule (codes "form") names (codes "1")
 abbrev pub block_parser : ValueParser
 block_parser = parser.Unsigned 1 block_limit
 
--- `--block N`, and 256 where it is left out
+-- `--block N`
 abbrev pub block_rule : Rule
 block_rule = record (new_rule (codes "block")) {
   long = Some (codes "block");
   value_names = 1;
   parser = Some block_parser;
-  defaults = codes "256" ∷ [];
 }
 
 -- `FILE`, which may be left out
@@ -145,9 +144,9 @@ form_by name = choice_by form_words One name
 abbrev pub block_in : Text → Option ℕ
 block_in word = if accepts false block_parser word then Some (digits_value 10 (without_leading_plus word)) else None
 
--- the size of blocks that a word asks for
-abbrev pub block_by : Option Text → ℕ
-block_by word = unwrap_or (option_and_then block_in word) default_block
+-- the size of blocks that a word asks for, if there is a word
+abbrev pub block_by : Option Text → Option ℕ
+block_by word = option_and_then block_in word
 
 -- what is asked is what the matches of the subcommand hold that the words name
 pub record Asks (app : App) (words : List Text) (asked : Asked) : Type 0 where

@@ -44,8 +44,7 @@ Pricing rules of the simplex:
   block    the same of one block of arcs, the blocks in turn: for large instances; the default
 
 Blocks of the simplex:
-  256      the default
-  N        once to twice the square root of the number of arcs suits large instances, but for road maps
+  N        so many arcs; the default is the square root of twice the number of arcs, but 256 at least
 
 Forms of a flow:
   1        a line for each arc, with its ends: the default
@@ -53,7 +52,7 @@ Forms of a flow:
 
 /// Reads what the words of a command line ask:
 /// `mcf solve [--engine auto|cancel|simplex|scaling|sap] [--pricing first|best|block] [--block N] [--form 1|2] [FILE]`,
-/// where N is 1 to 1,000,000. What is left out is `auto`, `block`, 256 and 1.
+/// where N is 1 to 1,000,000. What is left out is `auto`, `block`, the size of blocks that suits the net, and 1.
 ///
 /// The words begin with the name of the program, which isn't read.
 ///
@@ -162,7 +161,6 @@ fn block_option<'a>(alloc: Global) -> Arg<'a>
         .long("block")
         .value_name("N")
         .value_parser(ValueParser::unsigned(1, 1_000_000))
-        .default_value("256")
         .help("How many arcs a block has, for --pricing block: 1 to 1000000")
 }
 
@@ -214,15 +212,12 @@ fn form_of(name: Option<&str>) -> Form
 }
 
 // The size of blocks that a word asks for.
-fn block_of(word: Option<&str>) -> BlockSize
+fn block_of(word: Option<&str>) -> Option<BlockSize>
     ensures { result ≡ block_by (option_map (λ n. n.now) word.entry) }
 {
-    let Some(word) = word else {
-        return BlockSize::default();
-    };
-    match block_in(word) {
-        Some(size) => size,
-        None => BlockSize::default(),
+    match word {
+        Some(word) => block_in(word),
+        None => None,
     }
 }
 

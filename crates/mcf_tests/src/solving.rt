@@ -12,7 +12,7 @@ use std::test::Fail;
 struct Way {
     engine: EngineChoice,
     pricing: PricingChoice,
-    block: u32,
+    block: Option<u32>,
 }
 
 // Every engine, and the simplex with each rule and with blocks of several sizes.
@@ -20,58 +20,61 @@ static WAYS: [Way; 10] = [
     Way {
         engine: EngineChoice::Auto,
         pricing: PricingChoice::Block,
-        block: 256,
+        block: None,
     },
     Way {
         engine: EngineChoice::Cancel,
         pricing: PricingChoice::Block,
-        block: 256,
+        block: None,
     },
     Way {
         engine: EngineChoice::Scaling,
         pricing: PricingChoice::Block,
-        block: 256,
+        block: None,
     },
     Way {
         engine: EngineChoice::Sap,
         pricing: PricingChoice::Best,
-        block: 256,
+        block: None,
     },
     Way {
         engine: EngineChoice::Simplex,
         pricing: PricingChoice::First,
-        block: 256,
+        block: None,
     },
     Way {
         engine: EngineChoice::Simplex,
         pricing: PricingChoice::Best,
-        block: 256,
+        block: None,
     },
     Way {
         engine: EngineChoice::Simplex,
         pricing: PricingChoice::Block,
-        block: 1,
+        block: Some(1),
     },
     Way {
         engine: EngineChoice::Simplex,
         pricing: PricingChoice::Block,
-        block: 2,
+        block: Some(2),
     },
     Way {
         engine: EngineChoice::Simplex,
         pricing: PricingChoice::Block,
-        block: 256,
+        block: None,
     },
     Way {
         engine: EngineChoice::Simplex,
         pricing: PricingChoice::Block,
-        block: 1_000_000,
+        block: Some(1_000_000),
     },
 ];
 
-// The choice that a way names, if its block has a size that a block may have.
+// The choice that a way names, if its block has a size that a block may have, or none.
 fn choice_of(way: &Way) -> Option<Choice> {
-    let block = BlockSize::new(way.block)?;
+    let block = match way.block {
+        Some(size) => Some(BlockSize::new(size)?),
+        None => None,
+    };
     Some(Choice {
         engine: way.engine,
         pricing: way.pricing,
@@ -98,6 +101,29 @@ fn is_size(size: u32, may_be: bool) -> bool {
     }
 }
 
+// A number of arcs, and the size of blocks that suits a net of so many: the squares of the sizes are
+// 65,536, 66,049, 131,044, 1,046,529, 1,048,576, 19,998,784 and 8,589,767,761.
+static SUITED: [(u32, u32); 10] = [
+    (0, 256),
+    (1, 256),
+    (33_024, 256),
+    (33_025, 257),
+    (65_535, 362),
+    (65_536, 362),
+    (524_287, 1023),
+    (524_288, 1024),
+    (10_000_000, 4472),
+    (4_294_967_295, 92_681),
+];
+
+#[test]
+fn sizes_that_suit_a_net(rt: HostRuntime) -> Result<(), Fail> {
+    for (arcs, size) in &SUITED {
+        assert!(rt; BlockSize::suited_to(*arcs).get() == *size, "at {arcs}");
+    }
+    Ok(())
+}
+
 #[test]
 fn sizes_of_blocks(rt: HostRuntime) -> Result<(), Fail> {
     for (size, may_be) in &SIZES {
@@ -105,7 +131,7 @@ fn sizes_of_blocks(rt: HostRuntime) -> Result<(), Fail> {
     }
     let choice = Choice::default();
     assert!(rt; choice.engine == EngineChoice::Auto && choice.pricing == PricingChoice::Block);
-    assert!(rt; choice.block.get() == 256 && choice.form == Form::One);
+    assert!(rt; choice.block.is_none() && choice.form == Form::One);
     Ok(())
 }
 
