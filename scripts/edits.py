@@ -53,6 +53,11 @@ def differences():
     return said
 
 
+def turned(path):
+    """What an edit turns, but for the blanks before a text."""
+    return re.sub(r"^(\w+:) +", r"\1 ", path.read_text(), flags=re.MULTILINE)
+
+
 def twins():
     """The edits of a crate that turn the same text in the same way."""
     said = []
@@ -60,7 +65,7 @@ def twins():
         first = {}
         for folder in (TOP / "crates" / crate / "must-fail", TOP / "planted" / crate):
             for path in sorted(folder.glob("*.edit")):
-                other = first.setdefault(path.read_text(), path)
+                other = first.setdefault(turned(path), path)
                 if other != path:
                     said.append(f"{path.relative_to(TOP)} is {other.relative_to(TOP)} again")
     return said

@@ -46,7 +46,7 @@ impl<T: Drop> AnswerList<T> {
         &self.items
     }
 
-    /// The items, in the memory that held them.
+    /// The items.
     pub fn into_vec(self) -> Vec<T>
         ensures { result.items ≡ self }
     {
