@@ -2,13 +2,13 @@
 ghost use Rattle.std.specs.Prelude.{◌≡◌, ◌∷◌, [], List, IfNone, IfSome};
 ghost use Rattle.mcf_network.specs.declared.rid.Rid.{Rid};
 
-use crate::rid::Rid;
+use crate::rid::{PackedRid, Rid};
 use std::marker::Model;
 
 /// The residual arcs that are still to come. A clause sees their list.
 #[derive(Clone, Debug, Drop)]
 pub struct Leaving<'a> {
-    pub(crate) rest: &'a [Rid],
+    pub(crate) rest: &'a [PackedRid],
 }
 
 impl<'a> Model for Leaving<'a> {
@@ -27,7 +27,7 @@ impl<'a> Leaving<'a> {
         ensures none { IfNone result (self.now ≡ []) }
     {
         let (first, _) = self.rest.split_first()?;
-        Some(*first)
+        Some(first.get())
     }
 }
 
@@ -43,6 +43,6 @@ impl<'a> Iterator for Leaving<'a> {
     fn next(&mut self) -> Option<Rid> {
         let (first, others) = self.rest.split_first()?;
         self.rest = others;
-        Some(*first)
+        Some(first.get())
     }
 }

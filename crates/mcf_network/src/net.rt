@@ -6,7 +6,7 @@ ghost use Rattle.mcf_network.specs.Residual.{arc_at, head, tail, unit_cost};
 ghost use Rattle.mcf_network.specs.Stars.{ListsLeaving};
 
 use crate::leaving::Leaving;
-use crate::rid::Rid;
+use crate::rid::{PackedRid, Rid};
 use crate::stored::StoredArc;
 use mcf_instance::Problem;
 use mcf_text::{ArcId, NodeId};
@@ -22,7 +22,7 @@ pub struct Net {
     pub(crate) arcs: Vec<StoredArc>,
     pub(crate) supplies: Vec<i128>,
     pub(crate) firsts: Vec<u32>,
-    pub(crate) outs: Vec<Rid>,
+    pub(crate) outs: Vec<PackedRid>,
 }
 
 impl Model for Net {
