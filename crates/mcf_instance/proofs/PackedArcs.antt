@@ -1,8 +1,9 @@
 -- Arcs as they are stored, read one by one.
-use Rattle.std.proofs.Common.{◌≡◌, ℕ, ◌+◌, ◌≤◌, ◌<◌, Bool, subst, List, length, map, take, get_or, ap, ◌∙◌, arith, ℤ, pos, ◌+ℤ◌}
+use Rattle.std.proofs.Common.{◌≡◌, ℕ, ◌+◌, ◌≤◌, Bool, Some, subst, List, length, map, take, get_or, ap, ◌∙◌, arith, ℤ, ◌+ℤ◌}
+use Rattle.std.specs.Prelude.{option_map, slice_get}
 use Rattle.std.specs.List.{All}
-use Rattle.std.proofs.Math.ListN.{get_or-map}
 use Rattle.std.proofs.lemmas.List.{length-map}
+use Rattle.std.proofs.lemmas.Option.{get_or_from_slice_get, slice_get-map, slice_get_within}
 use Rattle.mcf_instance.specs.Private.Sums.{sum_limit}
 use Rattle.mcf_instance.specs.declared.arc.Arc.{Arc}
 use Rattle.mcf_instance.specs.declared.arc.PackedArc.{PackedArc}
@@ -13,21 +14,22 @@ use Rattle.mcf_instance.specs.WellFormed.{IsArcWithinLimits, IsUpTo}
 use Rattle.mcf_instance.proofs.ArcSums.{arc_sum_more}
 use Rattle.mcf_instance.proofs.Bounds.{caps_up_to, lows_up_to}
 
--- what a read past the end would give
-abbrev pub no_packed : PackedArc
-no_packed = record { src = 0; dst = 0; low = pos 0; cap = pos 0; cost = pos 0 }
+-- an arc, read among those that are stored
+read_packed : (arcs : List PackedArc) (i : ℕ) (a : PackedArc) → slice_get arcs i ≡ Some a → get_or (map unpacked arcs) i (unpacked a) ≡ unpacked a
+read_packed arcs i a is =
+    get_or_from_slice_get (map unpacked arcs) i (unpacked a) (unpacked a) (slice_get-map unpacked arcs i ∙ ap (option_map unpacked) is)
 
 -- a fact of each arc, at one that is stored
-pub packed_at : (P : Arc → Type 0) (arcs : List PackedArc) (i : ℕ) → All P (map unpacked arcs) → i < length arcs → P (unpacked (get_or arcs i no_packed))
-packed_at P arcs i all h =
-    subst P (get_or-map unpacked arcs i no_packed) (all i (unpacked no_packed) (omega (arith, length-map arcs unpacked)))
+pub packed_at : (P : Arc → Type 0) (arcs : List PackedArc) (i : ℕ) (a : PackedArc) → All P (map unpacked arcs) → slice_get arcs i ≡ Some a → P (unpacked a)
+packed_at P arcs i a all is =
+    subst P (read_packed arcs i a is) (all i (unpacked a) (omega (arith, length-map arcs unpacked, slice_get_within arcs i a is)))
 
 -- the sum over one arc more
-pub packed_sum_next : (t : Arc → ℤ) (arcs : List PackedArc) (i : ℕ) → i < length arcs → arc_sum t (take (i + 1) (map unpacked arcs)) ≡ arc_sum t
-    (take i (map unpacked arcs)) +ℤ t (unpacked (get_or arcs i no_packed))
-packed_sum_next t arcs i h =
-    arc_sum_more t (map unpacked arcs) i (unpacked no_packed) (omega (arith, length-map arcs unpacked))
-    ∙ ap (λ a. arc_sum t (take i (map unpacked arcs)) +ℤ t a) (get_or-map unpacked arcs i no_packed)
+pub packed_sum_next : (t : Arc → ℤ) (arcs : List PackedArc) (i : ℕ) (a : PackedArc) → slice_get arcs i ≡ Some a → arc_sum t
+    (take (i + 1) (map unpacked arcs)) ≡ arc_sum t (take i (map unpacked arcs)) +ℤ t (unpacked a)
+packed_sum_next t arcs i a is =
+    arc_sum_more t (map unpacked arcs) i (unpacked a) (omega (arith, length-map arcs unpacked, slice_get_within arcs i a is))
+    ∙ ap (λ b. arc_sum t (take i (map unpacked arcs)) +ℤ t b) (read_packed arcs i a is)
 
 -- the lows, or the caps, of the first arcs that pass a test
 pub packed_lows_up_to : (test : Arc → Bool) (arcs : List PackedArc) (i : ℕ) → All (IsArcWithinLimits wide_limits) (map unpacked arcs) → length arcs ≤ arc_limit

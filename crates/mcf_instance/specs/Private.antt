@@ -3,4 +3,5 @@ pub mod LineReader
 pub mod PlainLines
 pub mod ReaderSound
 pub mod ReaderState
+pub mod StoredArcs
 pub mod Sums

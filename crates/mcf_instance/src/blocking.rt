@@ -10,6 +10,7 @@ ghost use Rattle.mcf_instance.specs.WellFormed.{HasEnds, IsArcWithinLimits, IsUp
 ghost use Rattle.mcf_instance.specs.Private.Sums.{sum_limit};
 
 use crate::arc::PackedArc;
+use crate::arc_table::ArcTable;
 use crate::instances::Instance;
 use crate::problem::Side;
 use crate::repeated::copies;
@@ -87,7 +88,7 @@ fn supply_within(supplies: &[i64], table: &[bool]) -> i128
 }
 
 /// The sums over the arcs that cross the border of the set.
-fn border_of(arcs: &[PackedArc], table: &[bool]) -> Border
+fn border_of(arcs: &ArcTable, table: &[bool]) -> Border
     requires count { length arcs.now ≤ arc_limit }
     requires small { All (IsArcWithinLimits wide_limits) (map unpacked arcs.now) }
     requires ends { All (HasEnds (length table.now)) (map unpacked arcs.now) }
@@ -102,9 +103,10 @@ fn border_of(arcs: &[PackedArc], table: &[bool]) -> Border
     let mut cap_in = 0;
     let mut low_out = 0;
     let mut cap_out = 0;
-    for arc in arcs {
-        let entering = enters_set(arc, table);
-        let leaving = leaves_set(arc, table);
+    for place in 0..arcs.len() {
+        let arc = arcs.get(place);
+        let entering = enters_set(&arc, table);
+        let leaving = leaves_set(&arc, table);
         low_in = add_when(low_in, entering, arc.low);
         cap_in = add_when(cap_in, entering, arc.cap);
         low_out = add_when(low_out, leaving, arc.low);

@@ -5,7 +5,8 @@ ghost use Rattle.mcf_instance.specs.Limits.{limits};
 ghost use Rattle.mcf_instance.specs.Packed.{unpacked};
 ghost use Rattle.mcf_instance.specs.WellFormed.{IsWellFormed};
 
-use crate::arc::{Arc, PackedArc};
+use crate::arc::Arc;
+use crate::arc_table::ArcTable;
 use crate::problem::Problem;
 use mcf_text::{ArcId, NodeId};
 use std::marker::Model;
@@ -18,7 +19,7 @@ use std::marker::Model;
 #[derive(Drop)]
 pub struct Instance {
     pub(crate) problem: Problem,
-    pub(crate) arcs: Vec<PackedArc>,
+    pub(crate) arcs: ArcTable,
     pub(crate) supplies: Vec<i64>,
 }
 
@@ -31,9 +32,9 @@ impl Model for Instance {
 
     ghost Value = { Network };
 
-    ghost view = { λ i. record { problem = i.problem; arcs = map unpacked i.arcs.items; supplies = i.supplies.items } };
+    ghost view = { λ i. record { problem = i.problem; arcs = map unpacked i.arcs; supplies = i.supplies.items } };
 
-    ghost invariant = { λ i. IsWellFormed limits (record { problem = i.problem; arcs = map unpacked i.arcs.items; supplies = i.supplies.items }) };
+    ghost invariant = { λ i. IsWellFormed limits (record { problem = i.problem; arcs = map unpacked i.arcs; supplies = i.supplies.items }) };
 }
 
 impl Instance {
@@ -67,7 +68,7 @@ impl Instance {
         ensures value { slice_get self.now.arcs (k - 1) ≡ Some result }
         ensures well_formed { IsWellFormed limits self.now }
     {
-        self.arcs[k.get() as usize - 1].unpack()
+        self.arcs.get(k.get() as usize - 1).unpack()
     }
 
     /// The supply of the node of this number: what it sends, less what it takes.
@@ -80,7 +81,7 @@ impl Instance {
     }
 
     /// The arcs as they are stored, in order.
-    pub(crate) fn packed_arcs(&self) -> &[PackedArc]
+    pub(crate) fn packed_arcs(&self) -> &ArcTable
         ensures value { map unpacked result.now ≡ self.now.arcs }
         ensures well_formed { IsWellFormed limits self.now }
     {

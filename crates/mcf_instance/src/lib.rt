@@ -6,6 +6,7 @@
 //! text stands for, `Network`, `Flow`, `Blocking` and `Laws` what flows, prices and node sets are.
 
 mod arc;
+mod arc_table;
 mod blocking;
 mod code;
 mod instances;

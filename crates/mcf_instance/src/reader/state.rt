@@ -10,6 +10,7 @@ ghost use Rattle.mcf_text.specs.Fields.{fields_of, is_kept};
 ghost use Rattle.mcf_text.specs.Row.{Row, row_of};
 
 use crate::arc::PackedArc;
+use crate::arc_table::ArcTable;
 use crate::code::Code;
 use crate::instances::Instance;
 use crate::problem::Problem;
@@ -28,7 +29,7 @@ pub(crate) struct State {
     header: Option<Header>,
     listed: Vec<bool>,
     supplies: Vec<i64>,
-    arcs: Vec<PackedArc>,
+    arcs: ArcTable,
     total: u128,
     refusal: Option<Refusal>,
 }
@@ -44,12 +45,12 @@ impl Model for State {
       header = s.header;
       listed = s.listed.items;
       supplies = s.supplies.items;
-      arcs = s.arcs.items;
+      arcs = s.arcs;
       total = s.total;
       refusal = s.refusal;
     } };
 
-    ghost invariant = { λ s. IsSound limits s.header s.listed.items s.supplies.items s.arcs.items s.total };
+    ghost invariant = { λ s. IsSound limits s.header s.listed.items s.supplies.items s.arcs s.total };
 }
 
 impl State {
@@ -61,7 +62,7 @@ impl State {
             header: None,
             listed: Vec::new(alloc),
             supplies: Vec::new(alloc),
-            arcs: Vec::new(alloc),
+            arcs: ArcTable::new(alloc),
             total: 0,
             refusal: None,
         }

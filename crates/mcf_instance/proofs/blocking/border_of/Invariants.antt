@@ -3,11 +3,11 @@ use Rattle.mcf_instance.specs.Blocking.{in_table, low_entering, cap_entering, lo
 use Rattle.mcf_instance.specs.Packed.{unpacked}
 use Rattle.mcf_instance.proofs.blocking.border_of.Given as goal
 
-abbrev pub invariant-loop-arc : goal.invariant-loop-arc
-invariant-loop-arc l =
+abbrev pub invariant-loop-place : goal.invariant-loop-place
+invariant-loop-place l =
     record {
-      low_in : l.low_in ≡ low_entering (take l.arc-index (map unpacked l.arcs)) (in_table l.table);
-      cap_in : l.cap_in ≡ cap_entering (take l.arc-index (map unpacked l.arcs)) (in_table l.table);
-      low_out : l.low_out ≡ low_leaving (take l.arc-index (map unpacked l.arcs)) (in_table l.table);
-      cap_out : l.cap_out ≡ cap_leaving (take l.arc-index (map unpacked l.arcs)) (in_table l.table);
+      low_in : l.low_in ≡ low_entering (take l.place (map unpacked l.arcs)) (in_table l.table);
+      cap_in : l.cap_in ≡ cap_entering (take l.place (map unpacked l.arcs)) (in_table l.table);
+      low_out : l.low_out ≡ low_leaving (take l.place (map unpacked l.arcs)) (in_table l.table);
+      cap_out : l.cap_out ≡ cap_leaving (take l.place (map unpacked l.arcs)) (in_table l.table);
     }
