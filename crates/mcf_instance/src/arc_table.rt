@@ -116,7 +116,7 @@ impl UnitArc {
     }
 }
 
-// Appends an arc; one with bounds of its own gives every arc before it its bounds, too.
+// Appends an arc.
 #[inline(always)]
 fn push_arc(stored: &mut Stored, arc: PackedArc) -> Result<(), NoMemory>
     ensures ok { OnOk result (arcs_in stored.new ≡ arcs_in stored.old ++ arc ∷ []) }
@@ -125,18 +125,46 @@ fn push_arc(stored: &mut Stored, arc: PackedArc) -> Result<(), NoMemory>
     match stored {
         Stored::Unit(units) => match UnitArc::of(arc) {
             Some(unit) => units.push(unit)?,
-            None => {
-                let arcs = bounded(units, arc)?;
-                *stored = Stored::Bounded(arcs);
-            }
+            None => push_bounded(stored, arc.src, arc.dst, arc.low, arc.cap, arc.cost)?,
         },
         Stored::Bounded(arcs) => arcs.push(arc)?,
     }
     Ok(())
 }
 
-// These arcs with their bounds, and one more.
+// Appends an arc with bounds of its own, and gives all arcs before it theirs. Its fields come one by one: the place in memory
+// that a call with the arc itself asks for would be written at each arc of the others, too.
+#[cold]
 #[inline(never)]
+fn push_bounded(
+    stored: &mut Stored,
+    src: u32,
+    dst: u32,
+    low: i64,
+    cap: i64,
+    cost: i64,
+) -> Result<(), NoMemory>
+    ensures ok { OnOk result (arcs_in stored.new ≡ arcs_in stored.old ++ record { src = src; dst = dst; low = low; cap = cap; cost = cost } ∷ []) }
+    ensures err { OnErr result (arcs_in stored.new ≡ arcs_in stored.old) }
+{
+    let arc = PackedArc {
+        src,
+        dst,
+        low,
+        cap,
+        cost,
+    };
+    match stored {
+        Stored::Unit(units) => {
+            let arcs = bounded(units, arc)?;
+            *stored = Stored::Bounded(arcs);
+        }
+        Stored::Bounded(arcs) => arcs.push(arc)?,
+    }
+    Ok(())
+}
+
+// These arcs with their bounds, and one more.
 fn bounded(units: &Vec<UnitArc>, arc: PackedArc) -> Result<Vec<PackedArc>, NoMemory>
     ensures { IfOk result (λ arcs. arcs.items ≡ map of_unit units.now.items ++ arc ∷ []) }
 {
