@@ -200,6 +200,39 @@ fn assignments_have_two_sides(rt: HostRuntime) -> Result<(), Fail> {
     Ok(())
 }
 
+// Texts of arcs with low 0 and cap 1 that one with other bounds ends, or none, and the arcs of each.
+static UNIT_ARCS: [(&[u8], &[Row]); 4] = [
+    (
+        b"p min 2 3\na 1 2 0 1 9\na 2 1 0 1 -9\na 2 2 0 1 0\n",
+        &[(1, 2, 0, 1, 9), (2, 1, 0, 1, -9), (2, 2, 0, 1, 0)],
+    ),
+    (
+        b"p min 2 4\na 1 2 0 1 9\na 2 1 0 1 -9\na 2 2 0 2 0\na 1 2 0 1 8\n",
+        &[
+            (1, 2, 0, 1, 9),
+            (2, 1, 0, 1, -9),
+            (2, 2, 0, 2, 0),
+            (1, 2, 0, 1, 8),
+        ],
+    ),
+    (
+        b"p min 2 3\na 1 2 0 1 9\na 2 1 -1 1 -9\na 1 1 0 0 8\n",
+        &[(1, 2, 0, 1, 9), (2, 1, -1, 1, -9), (1, 1, 0, 0, 8)],
+    ),
+    (
+        b"p min 2 2\na 1 2 1 1 9\na 2 1 0 1 -9\n",
+        &[(1, 2, 1, 1, 9), (2, 1, 0, 1, -9)],
+    ),
+];
+
+#[test]
+fn unit_arcs_before_and_after_others(rt: HostRuntime) -> Result<(), Fail> {
+    for (text, arcs) in &UNIT_ARCS {
+        assert!(rt; is_instance(rt.alloc(), text, Problem::Min, &[0, 0], arcs)?);
+    }
+    Ok(())
+}
+
 static ONE_ARC: [Row; 1] = [(1, 2, 0, 4, 7)];
 
 #[test]
