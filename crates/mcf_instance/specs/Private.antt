@@ -4,3 +4,4 @@ pub mod PlainLines
 pub mod ReaderSound
 pub mod ReaderState
 pub mod Sums
+pub mod TakenArcs
