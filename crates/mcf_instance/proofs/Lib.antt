@@ -32,6 +32,7 @@ pub mod Simulation
 pub mod SoundStates
 pub mod Tables
 pub mod Taken
+pub mod TakenArcs
 pub mod Totals
 pub mod WiderLimits
 pub mod WholeTexts

@@ -1,33 +1,35 @@
--- Arc lines of the plain form.
-use Rattle.std.proofs.Common.{◌≡◌, ℕ, suc, ◌+◌, ◌-◌, ◌^◌, ◌<◌, ◌≤◌, true, false, List, [], ◌∷◌, length, get_or, take, drop, Ok, Err, Some, None}
+-- Arc lines of the plain form at the front of a text.
+use Rattle.std.proofs.Common.{◌≡◌, ◌≢◌, ℕ, zero, suc, ◌+◌, ◌-◌, ◌^◌, ◌<◌, ◌≤◌, min, true, false, inl, inr, List, [], ◌∷◌, ◌++◌, length, get_or, take, drop, Ok, Err, Some, None}
 use Rattle.std.proofs.Common.{refl, sym, ap, subst, ◌∙◌, add-one, arith}
 use Rattle.std.specs.Prelude.{codes, ℤ, pos, neg_ℤ, ◌-ℤ◌, ◌≤ℤ◌, slice_index_or, Bool, IfOk, IfSome, Option, Result}
 use Rattle.std.proofs.lemmas.Int.{ints, to_z-of_z, to_z_pos}
 use mir.Syntax.{w64}
 use mir.Val.{SFits, of_z, to_z}
+use Rattle.std.specs.Int.{IsInRange}
 use Rattle.std.proofs.lemmas.Bool.{and_from}
+use Rattle.std.proofs.lemmas.Bool.Decides.{leb_tells}
 use Rattle.std.specs.Char.{is_ascii_digit}
 use Rattle.std.specs.List.{list_all}
 use Rattle.std.proofs.Math.Seq.{drop-cons}
-use Rattle.std.proofs.lemmas.List.{drop-drop, drop_all, length-drop}
+use Rattle.std.proofs.lemmas.List.{drop-append-le, drop-drop, drop-take, drop_all, get_or_append_left, get_or-drop, get_or-take, length-append, length-drop, length-take, length-take-le, take-append-le}
 use Rattle.std.proofs.lemmas.List.Elements.{All-cons, All-nil}
-use Rattle.mcf_text.specs.Fields.{EndsRun, fields_of, is_blank}
+use Rattle.std.proofs.lemmas.Str.Parse.{digit_at}
+use Rattle.mcf_text.specs.Fields.{EndsRun, begins_kept, fields_of, is_blank, is_kept}
+use Rattle.mcf_text.specs.Lines.{line_feed, lines_of}
 use Rattle.mcf_text.specs.Whole.{digits_sum, is_whole, whole_value}
-use Rattle.mcf_text.proofs.FieldsLemmas.{fields_of-blank, fields_of-run}
+use Rattle.mcf_text.proofs.FieldsLemmas.{fields_of-blank, fields_of-run, is_kept-fields_of}
+use Rattle.mcf_text.proofs.LinesLemmas.{lines_of-at}
 use Rattle.mcf_text.proofs.LeadingLemmas.{BeginsWithNumber, begins_with_digits, begins_with_minus, ends_at_blank, ends_at_end}
+use Rattle.mcf_text.proofs.WholeLemmas.{model}
 use Rattle.mcf_instance.specs.declared.arc.PackedArc.{PackedArc}
 use Rattle.mcf_instance.specs.declared.code.Code.{Code}
 use Rattle.mcf_instance.specs.declared.problem.Problem.TheVariants.{Min, Asn}
 use Rattle.mcf_instance.specs.declared.reader.line.ArcNumbers.{ArcNumbers}
 use Rattle.mcf_instance.specs.declared.reader.line.Header.{Header}
-use Rattle.mcf_instance.specs.declared.reader.line.Item.TheVariants.{Link}
+use Rattle.mcf_instance.specs.declared.reader.plain.PlainArc.{PlainArc}
 use Rattle.mcf_instance.specs.Limits.{limits}
 use Rattle.mcf_instance.specs.Private.LineReader.{arc_line, arc_numbers, arc_tests, clamped, kept_size, number_at}
-use Rattle.mcf_instance.specs.Private.ReaderSound.{ItemFits}
-use Rattle.mcf_instance.specs.Private.ReaderState.{item_of, linked}
-use Rattle.mcf_instance.specs.ReadOn.{StateData}
-use Rattle.mcf_instance.specs.Private.PlainLines.{BeginsArc, EndsField, HasNumber}
-use Rattle.mcf_instance.proofs.FittingItems.{item_fits}
+use Rattle.mcf_instance.specs.Private.PlainLines.{BeginsArc, BlankAt, EndsField, EndsLine, HasDigits, HasField, HasLastField, HasLine, HasNumber, IsClear, SaysArc}
 use Rattle.mcf_instance.proofs.LineSteps.{arc_line_at}
 use Rattle.mcf_instance.proofs.Ranges.{at_most_passes, clamped_up_to}
 
@@ -42,14 +44,14 @@ clamped_pos n small = kept_within (pos n) (omega (arith, ints, small)) (omega (a
 clamped_neg : (n : ℕ) → n < 10 ^ 18 → clamped (neg_ℤ (pos n)) ≡ neg_ℤ (pos n)
 clamped_neg n small = kept_within (neg_ℤ (pos n)) (omega (arith, ints, small)) (omega (arith, ints, small))
 
-pub field_at_end : (line : List ℕ) (end : ℕ) → end ≡ length line → EndsField line end end
+field_at_end : (line : List ℕ) (end : ℕ) → end ≡ length line → EndsField line end end
 field_at_end line end e = record { run = ends_at_end line end e; fields = refl }
 
-pub field_at_blank : (line : List ℕ) (end : ℕ) → end < length line → is_blank (get_or line end 0) ≡ true → EndsField line end (end + 1)
+field_at_blank : (line : List ℕ) (end : ℕ) → end < length line → is_blank (get_or line end 0) ≡ true → EndsField line end (end + 1)
 field_at_blank line end inside blank = let e = ends_at_blank line end inside blank in record { run = e.0; fields = e.1 }
 
 -- the digits from a place on, up to the end of the field
-pub number_of_digits : (line : List ℕ) (start count next value : ℕ) → start ≤ length line → 0 < count → count ≤ length line - start
+number_of_digits : (line : List ℕ) (start count next value : ℕ) → start ≤ length line → 0 < count → count ≤ length line - start
     → list_all is_ascii_digit (take count (drop start line)) ≡ true → value ≡ digits_sum (take count (drop start line)) → value < 10 ^ 18
     → EndsField line (start + count) next → HasNumber line start next (pos value)
 number_of_digits line start count next value begins some inside all is small ends =
@@ -62,7 +64,7 @@ number_of_digits line start count next value begins some inside all is small end
       value_is = ap clamped (number.value_is ∙ ap pos (sym is)) ∙ clamped_pos value small;
     }
 
-pub number_of_minus : (line : List ℕ) (start count next value : ℕ) → start < length line → get_or line start 0 ≡ 45 → 0 < count
+number_of_minus : (line : List ℕ) (start count next value : ℕ) → start < length line → get_or line start 0 ≡ 45 → 0 < count
     → count ≤ length line - (start + 1)
     → list_all is_ascii_digit (take count (drop (start + 1) line)) ≡ true → value ≡ digits_sum (take count (drop (start + 1) line)) → value < 10 ^ 18
     → EndsField line (start + 1 + count) next → HasNumber line start next (neg_ℤ (pos value))
@@ -87,81 +89,254 @@ minus_value n small =
     let fits : SFits w64 (pos 0 -ℤ pos n) = omega (arith, ints, small) in
     ap (λ z. to_z w64 (of_z w64 (pos 0 -ℤ z))) (plain_value n small) ∙ to_z-of_z w64 (pos 0 -ℤ pos n) fits ∙ omega (arith, ints)
 
+-- ---- the part of a text up to a place
+
+take_short : (c m : ℕ) (xs : List ℕ) → c ≤ m → take c (take m xs) ≡ take c xs
+take_short zero m xs few = refl
+take_short (suc c) zero xs few = absurd (omega arith)
+take_short (suc c) (suc m) [] few = refl
+take_short (suc c) (suc m) (x ∷ xs) few = ap (λ ys. x ∷ ys) (take_short c m xs (omega arith))
+
+-- what stands before the place
+cut : (text : List ℕ) (start count end : ℕ) → start + count ≤ end → take count (drop start (take end text)) ≡ take count (drop start text)
+cut text start count end below =
+    let e : start + (end - start) ≡ end = omega arith in
+    ap (λ n. take count (drop start (take n text))) (sym e) ∙ ap (take count) (drop-take start (end - start) text)
+    ∙ take_short count (end - start) (drop start text) (omega arith)
+
+byte_before : (text : List ℕ) (i end : ℕ) (b : ℕ) → i < end → get_or text i 0 ≡ b → get_or (take end text) i 0 ≡ b
+byte_before text i end b below is = get_or-take end text i 0 below ∙ is
+
+-- no byte of a part ends a line
+clear_join : (text : List ℕ) (a b c : ℕ) → IsClear text a b → IsClear text b c → IsClear text a c
+clear_join text a b c first second i low high =
+    elim (leb_tells b i) [
+      | inl past ↦ second i past.1 high
+      | inr before ↦ first i low before.1
+    ]
+
+clear_digits : (text : List ℕ) (start count : ℕ) → start + count ≤ length text → list_all is_ascii_digit (take count (drop start text)) ≡ true
+    → IsClear text start (start + count)
+clear_digits text start count inside all i low high is =
+    let ds = take count (drop start text) in
+    let long : length ds ≡ min count (length (drop start text)) = length-take count (drop start text) in
+    let rest = length-drop start text in
+    let place : start + (i - start) ≡ i = omega arith in
+    let read : get_or ds (i - start) 0 ≡ get_or text i 0 =
+    get_or-take count (drop start text) (i - start) 0 (omega arith) ∙ get_or-drop start text (i - start) 0 ∙ ap (λ k. get_or text k 0) place in
+    let digit = digit_at ds (i - start) (model.to ds all) (omega (arith, long, rest)) in
+    let range = subst (IsInRange 48 57) (read ∙ is) digit in
+    omega (arith, range.0, range.1)
+
+clear_one : (text : List ℕ) (place byte : ℕ) → get_or text place 0 ≡ byte → byte ≢ line_feed → IsClear text place (place + 1)
+clear_one text place byte is other i low high e =
+    let here : i ≡ place = omega arith in
+    other (sym is ∙ ap (λ k. get_or text k 0) (sym here) ∙ e)
+
+blank_other : (b : ℕ) → is_blank b ≡ true → b ≢ line_feed
+blank_other b blank e = let no : is_blank line_feed ≡ true = ap is_blank (sym e) ∙ blank in cc no
+
+clear_blank : (text : List ℕ) (place : ℕ) → is_blank (get_or text place 0) ≡ true → IsClear text place (place + 1)
+clear_blank text place blank = clear_one text place (get_or text place 0) refl (blank_other (get_or text place 0) blank)
+
+-- ---- a field of any line of the text that ends later
+
+pub digits_from : (text : List ℕ) (start count value : ℕ) → start ≤ length text → 0 < count → count ≤ length text - start
+    → list_all is_ascii_digit (take count (drop start text)) ≡ true → value ≡ digits_sum (take count (drop start text)) → value < 10 ^ 18
+    → HasDigits text start (start + count) (pos value)
+digits_from text start count value begins some inside all is small = record {
+  moves = omega arith;
+  inside = omega arith;
+  clear = clear_digits text start count (omega arith) all;
+  number = λ end next past within ends.
+      let long = length-take-le end text within in
+      let same = cut text start count end past in
+      number_of_digits (take end text) start count next value (omega (arith, long)) some (omega (arith, long)) (ap (list_all is_ascii_digit) same ∙ all)
+      (is ∙ ap digits_sum (sym same)) small ends;
+}
+
+pub minus_from : (text : List ℕ) (start count value : ℕ) → start < length text → get_or text start 0 ≡ 45 → 0 < count → count ≤ length text - (start + 1)
+    → list_all is_ascii_digit (take count (drop (start + 1) text)) ≡ true → value ≡ digits_sum (take count (drop (start + 1) text)) → value < 10 ^ 18
+    → HasDigits text start (start + 1 + count) (neg_ℤ (pos value))
+minus_from text start count value begins minus some inside all is small = record {
+  moves = omega arith;
+  inside = omega arith;
+  clear = clear_join text start (start + 1) (start + 1 + count) (clear_one text start 45 minus (λ e. omega arith))
+      (clear_digits text (start + 1) count (omega arith) all);
+  number = λ end next past within ends.
+      let long = length-take-le end text within in
+      let same = cut text (start + 1) count end past in
+      number_of_minus (take end text) start count next value (omega (arith, long)) (byte_before text start end 45 (omega arith) minus) some
+      (omega (arith, long)) (ap (list_all is_ascii_digit) same ∙ all) (is ∙ ap digits_sum (sym same)) small ends;
+}
+
+pub field_from : (text : List ℕ) (start stop next : ℕ) (value : ℤ) → HasDigits text start stop value → BlankAt text stop next → HasField text start next value
+field_from text start stop next value digits at = record {
+  moves = omega (arith, digits.moves, at.next_is);
+  inside = omega (arith, at.next_is, at.inside);
+  clear = subst (IsClear text start) (sym at.next_is) (clear_join text start stop (stop + 1) digits.clear (clear_blank text stop at.blank));
+  number = λ end past within.
+      let long = length-take-le end text within in
+      let ends = field_at_blank (take end text) stop (omega (arith, at.next_is, long))
+      (ap is_blank (get_or-take end text stop 0 (omega (arith, at.next_is))) ∙ at.blank) in
+      digits.number end next (omega (arith, at.next_is)) within (subst (EndsField (take end text) stop) (sym at.next_is) ends);
+}
+
+pub line_ends_here : (text : List ℕ) (stop : ℕ) → stop < length text → get_or text stop 0 ≡ line_feed → EndsLine text stop stop
+line_ends_here text stop inside is = record {
+  inside = inside;
+  moves = omega arith;
+  feed = is;
+  clear = λ i low high. absurd (omega arith);
+  field = field_at_end (take stop text) stop (sym (length-take-le stop text (omega arith)));
+}
+
+pub line_ends_next : (text : List ℕ) (stop next : ℕ) → BlankAt text stop next → next < length text → get_or text next 0 ≡ line_feed → EndsLine text stop next
+line_ends_next text stop next at inside is =
+    let long = length-take-le next text (omega arith) in
+    record {
+      inside = inside;
+      moves = omega (arith, at.next_is);
+      feed = is;
+      clear = subst (IsClear text stop) (sym at.next_is) (clear_blank text stop at.blank);
+      field = subst (EndsField (take next text) stop) (sym at.next_is)
+          (field_at_blank (take next text) stop (omega (arith, at.next_is, long))
+          (ap is_blank (get_or-take next text stop 0 (omega (arith, at.next_is))) ∙ at.blank));
+    }
+
+pub last_field_from : (text : List ℕ) (start stop end : ℕ) (value : ℤ) → HasDigits text start stop value → EndsLine text stop end
+    → HasLastField text start end value
+last_field_from text start stop end value digits ends = record {
+  moves = omega (arith, digits.moves, ends.moves);
+  inside = ends.inside;
+  feed = ends.feed;
+  clear = clear_join text start stop end digits.clear ends.clear;
+  number = digits.number end end ends.moves (omega (arith, ends.inside)) ends.field;
+}
+
 -- ---- the line
 
-pub begins_with_a : (line : List ℕ) → 2 ≤ length line → get_or line 0 0 ≡ 97 → is_blank (get_or line 1 0) ≡ true → BeginsArc line
+-- the fields of a line that begins with `a` and a blank
+begins_with_a : (line : List ℕ) → 2 ≤ length line → get_or line 0 0 ≡ 97 → is_blank (get_or line 1 0) ≡ true
+    → fields_of line ≡ codes "a" ∷ fields_of (drop 2 line)
 begins_with_a [] long a blank = absurd (omega arith)
 begins_with_a (b ∷ []) long a blank = absurd (omega arith)
-begins_with_a (b ∷ c ∷ more) long a blank = record {
-  inside = long;
-  fields = ap (λ x. fields_of (x ∷ c ∷ more)) a
-      ∙ fields_of-run (97 ∷ []) (c ∷ more)
-      (record { nonempty = omega arith; no_blank = All-cons (λ x. is_blank x ≡ false) 97 [] refl (All-nil (λ x. is_blank x ≡ false)) }) blank
-      ∙ ap (λ fs. (97 ∷ []) ∷ fs) (fields_of-blank c more blank);
+begins_with_a (b ∷ c ∷ more) long a blank =
+    ap (λ x. fields_of (x ∷ c ∷ more)) a
+    ∙ fields_of-run (97 ∷ []) (c ∷ more)
+    (record { nonempty = omega arith; no_blank = All-cons (λ x. is_blank x ≡ false) 97 [] refl (All-nil (λ x. is_blank x ≡ false)) }) blank
+    ∙ ap (λ fs. (97 ∷ []) ∷ fs) (fields_of-blank c more blank)
+
+first_fields : (text : List ℕ) (end : ℕ) → BeginsArc text → 2 ≤ end → end ≤ length text
+    → fields_of (take end text) ≡ codes "a" ∷ fields_of (drop 2 (take end text))
+first_fields text end begins past within =
+    begins_with_a (take end text) (omega (arith, length-take-le end text within)) (byte_before text 0 end 97 (omega arith) begins.letter)
+    (ap is_blank (get_or-take end text 1 0 (omega arith)) ∙ begins.blank)
+
+clear_front : (text : List ℕ) → BeginsArc text → IsClear text 0 2
+clear_front text begins = clear_join text 0 1 2 (clear_one text 0 97 begins.letter (λ e. omega arith)) (clear_blank text 1 begins.blank)
+
+-- the first line of a text by the place of the first line feed
+line_to : (text : List ℕ) (end : ℕ) → end < length text → get_or text end 0 ≡ line_feed → IsClear text 0 end → HasLine text end
+line_to text end inside feed clear = record {
+  inside = inside;
+  joined = λ more.
+      let one = lines_of-at (text ++ more) end (omega (arith, length-append text more))
+      (λ j below is. clear j (omega arith) below (sym (get_or_append_left text more 0 j (omega arith)) ∙ is))
+      (get_or_append_left text more 0 end inside ∙ feed) in
+      one ∙ ap (λ line. line ∷ lines_of (drop (suc end) (text ++ more))) (take-append-le end text more (omega arith))
+      ∙ ap (λ k. take end text ∷ lines_of (drop k (text ++ more))) (sym (add-one end))
+      ∙ ap (λ rest. take end text ∷ lines_of rest) (drop-append-le (end + 1) text more (omega arith));
 }
 
 -- no field follows
-past_all : (line : List ℕ) (next : ℕ) → next ≡ length line → fields_of (drop next line) ≡ []
-past_all line next e = ap fields_of (drop_all next line (omega (arith, e)))
+past_all : (text : List ℕ) (end : ℕ) → end ≤ length text → fields_of (drop end (take end text)) ≡ []
+past_all text end within = ap fields_of (drop_all end (take end text) (omega (arith, length-take-le end text within)))
 
--- what an arc line with these numbers says
-abbrev pub SaysArc : Header → ℕ → ℕ → List Bool → List ℕ → ArcNumbers → Type 0
-SaysArc h arcs total listed line a =
-    (arc_line limits (Some h) arcs total listed (fields_of line) ≡ arc_tests limits h arcs total listed a)
-    × (slice_index_or (fields_of line) 0 [] ≡ codes "a")
+kept_arc : (line : List ℕ) (rest : List (List ℕ)) → fields_of line ≡ codes "a" ∷ rest → is_kept line ≡ true
+kept_arc line rest is = is_kept-fields_of line ∙ ap begins_kept is
 
-pub pair_said : (h : Header) (arcs total : ℕ) (listed : List Bool) (line : List ℕ) (n m k : ℕ) (u v w : ℤ) → h.problem ≡ Asn
-    → BeginsArc line → HasNumber line 2 n u → HasNumber line n m v → HasNumber line m k w → k ≡ length line
-    → SaysArc h arcs total listed line (record { src = u; dst = v; low = pos 0; cap = pos 1; cost = w })
+-- a line with these numbers, which the tests let through
+pub pair_said : (h : Header) (arcs total : ℕ) (listed : List Bool) (text : List ℕ) (n m k : ℕ) (u v w : ℤ) (arc : PackedArc) → h.problem ≡ Asn
+    → BeginsArc text → HasField text 2 n u → HasField text n m v → HasLastField text m k w
+    → arc_tests limits h arcs total listed (record { src = u; dst = v; low = pos 0; cap = pos 1; cost = w }) ≡ Ok arc
+    → SaysArc h arcs total listed text arc k
 unfolding number_at
-pair_said h arcs total listed line n m k u v w asn a src dst cost end =
-    let a3 = cost.fields ∙ ap (λ fs. cost.first ∷ fs) (past_all line k end) in
-    let fields : fields_of line ≡ codes "a" ∷ src.first ∷ dst.first ∷ cost.first ∷ [] =
-    a.fields ∙ ap (λ fs. codes "a" ∷ fs) (src.fields ∙ ap (λ fs. src.first ∷ fs) (dst.fields ∙ ap (λ fs. dst.first ∷ fs) a3)) in
-    let numbers : arc_numbers (codes "a" ∷ src.first ∷ dst.first ∷ cost.first ∷ []) ≡ Ok (record { src = u; dst = v; low = pos 0; cap = pos 1; cost = w }) =
-    rw (src.whole, dst.whole, cost.whole, src.value_is, dst.value_is, cost.value_is) refl in
-    rw fields (
-      arc_line_at (Some h) h arcs total listed (codes "a" ∷ src.first ∷ dst.first ∷ cost.first ∷ [])
-          (record { src = u; dst = v; low = pos 0; cap = pos 1; cost = w }) refl (rw asn refl) numbers,
-      refl,
-    )
+pair_said h arcs total listed text n m k u v w arc asn a src dst cost good =
+    let line = take k text in
+    let within : k ≤ length text = omega (arith, cost.inside) in
+    let one = src.number k (omega (arith, dst.moves, cost.moves)) within in
+    let two = dst.number k cost.moves within in
+    let three = cost.number in
+    let a3 = three.fields ∙ ap (λ fs. three.first ∷ fs) (past_all text k within) in
+    let fields : fields_of line ≡ codes "a" ∷ one.first ∷ two.first ∷ three.first ∷ [] =
+    first_fields text k a (omega (arith, src.moves, dst.moves, cost.moves)) within ∙ ap (λ fs. codes "a" ∷ fs) (one.fields ∙ ap (λ fs. one.first ∷ fs) (two.fields
+    ∙ ap (λ fs. two.first ∷ fs) a3)) in
+    let numbers : arc_numbers (codes "a" ∷ one.first ∷ two.first ∷ three.first ∷ []) ≡ Ok (record { src = u; dst = v; low = pos 0; cap = pos 1; cost = w }) =
+    rw (one.whole, two.whole, three.whole, one.value_is, two.value_is, three.value_is) refl in
+    let clear : IsClear text 0 k =
+    clear_join text 0 2 k (clear_front text a) (clear_join text 2 n k src.clear (clear_join text n m k dst.clear cost.clear)) in
+    let said = arc_line_at (Some h) h arcs total listed (codes "a" ∷ one.first ∷ two.first ∷ three.first ∷ [])
+    (record { src = u; dst = v; low = pos 0; cap = pos 1; cost = w }) refl (rw asn refl) numbers in
+    record {
+      line = line_to text k cost.inside cost.feed clear;
+      word = ap (λ fs. slice_index_or fs 0 []) fields;
+      kept = kept_arc line _ fields;
+      says = ap (λ fs. arc_line limits (Some h) arcs total listed fs) fields ∙ said ∙ good;
+    }
 
-pub link_said : (h : Header) (arcs total : ℕ) (listed : List Bool) (line : List ℕ) (n m i j k : ℕ) (u v x y w : ℤ) → h.problem ≡ Min
-    → BeginsArc line → HasNumber line 2 n u → HasNumber line n m v → HasNumber line m i x → HasNumber line i j y → HasNumber line j k w → k ≡ length line
-    → SaysArc h arcs total listed line (record { src = u; dst = v; low = x; cap = y; cost = w })
+pub link_said : (h : Header) (arcs total : ℕ) (listed : List Bool) (text : List ℕ) (n m i j k : ℕ) (u v x y w : ℤ) (arc : PackedArc) → h.problem ≡ Min
+    → BeginsArc text → HasField text 2 n u → HasField text n m v → HasField text m i x → HasField text i j y → HasLastField text j k w
+    → arc_tests limits h arcs total listed (record { src = u; dst = v; low = x; cap = y; cost = w }) ≡ Ok arc
+    → SaysArc h arcs total listed text arc k
 unfolding number_at
-link_said h arcs total listed line n m i j k u v x y w min a src dst low high cost end =
-    let a5 = cost.fields ∙ ap (λ fs. cost.first ∷ fs) (past_all line k end) in
-    let a4 = high.fields ∙ ap (λ fs. high.first ∷ fs) a5 in
-    let a3 = low.fields ∙ ap (λ fs. low.first ∷ fs) a4 in
-    let said = codes "a" ∷ src.first ∷ dst.first ∷ low.first ∷ high.first ∷ cost.first ∷ [] in
-    let fields : fields_of line ≡ codes "a" ∷ src.first ∷ dst.first ∷ low.first ∷ high.first ∷ cost.first ∷ [] =
-    a.fields ∙ ap (λ fs. codes "a" ∷ fs) (src.fields ∙ ap (λ fs. src.first ∷ fs) (dst.fields ∙ ap (λ fs. dst.first ∷ fs) a3)) in
-    let numbers : arc_numbers (codes "a" ∷ src.first ∷ dst.first ∷ low.first ∷ high.first ∷ cost.first ∷ [])
+link_said h arcs total listed text n m i j k u v x y w arc min a src dst low cap cost good =
+    let line = take k text in
+    let within : k ≤ length text = omega (arith, cost.inside) in
+    let one = src.number k (omega (arith, dst.moves, low.moves, cap.moves, cost.moves)) within in
+    let two = dst.number k (omega (arith, low.moves, cap.moves, cost.moves)) within in
+    let three = low.number k (omega (arith, cap.moves, cost.moves)) within in
+    let four = cap.number k cost.moves within in
+    let five = cost.number in
+    let a5 = five.fields ∙ ap (λ fs. five.first ∷ fs) (past_all text k within) in
+    let a4 = four.fields ∙ ap (λ fs. four.first ∷ fs) a5 in
+    let a3 = three.fields ∙ ap (λ fs. three.first ∷ fs) a4 in
+    let fields : fields_of line ≡ codes "a" ∷ one.first ∷ two.first ∷ three.first ∷ four.first ∷ five.first ∷ [] =
+    first_fields text k a (omega (arith, src.moves, dst.moves, low.moves, cap.moves, cost.moves)) within ∙ ap (λ fs. codes "a" ∷ fs) (one.fields ∙ ap (λ fs. one.first ∷ fs) (two.fields
+    ∙ ap (λ fs. two.first ∷ fs) a3)) in
+    let numbers : arc_numbers (codes "a" ∷ one.first ∷ two.first ∷ three.first ∷ four.first ∷ five.first ∷ [])
     ≡ Ok (record { src = u; dst = v; low = x; cap = y; cost = w }) =
-    rw (src.whole, dst.whole, low.whole, high.whole, cost.whole, src.value_is, dst.value_is, low.value_is, high.value_is, cost.value_is) refl in
-    rw fields (
-      arc_line_at (Some h) h arcs total listed (codes "a" ∷ src.first ∷ dst.first ∷ low.first ∷ high.first ∷ cost.first ∷ [])
-          (record { src = u; dst = v; low = x; cap = y; cost = w }) refl (rw min refl) numbers,
-      refl,
-    )
+    rw (one.whole, two.whole, three.whole, four.whole, five.whole, one.value_is, two.value_is, three.value_is, four.value_is, five.value_is) refl in
+    let clear : IsClear text 0 k =
+    clear_join text 0 2 k (clear_front text a) (clear_join text 2 n k src.clear (clear_join text n m k dst.clear
+    (clear_join text m i k low.clear (clear_join text i j k cap.clear cost.clear)))) in
+    let said = arc_line_at (Some h) h arcs total listed (codes "a" ∷ one.first ∷ two.first ∷ three.first ∷ four.first ∷ five.first ∷ [])
+    (record { src = u; dst = v; low = x; cap = y; cost = w }) refl (rw min refl) numbers in
+    record {
+      line = line_to text k cost.inside cost.feed clear;
+      word = ap (λ fs. slice_index_or fs 0 []) fields;
+      kept = kept_arc line _ fields;
+      says = ap (λ fs. arc_line limits (Some h) arcs total listed fs) fields ∙ said ∙ good;
+    }
 
--- ---- the state
+-- the same by what the code has of the tests
+abbrev pub IsArcSaid : Result PackedArc Code → ℕ → PlainArc → Type 0
+IsArcSaid said end p = (said ≡ Ok p.arc) × (p.end ≡ end)
 
--- a line that begins with `a` says what its arc says
-pub item_arc : (s : StateData) (h : Header) (fields : List (List ℕ)) (r : Result PackedArc Code) → s.header ≡ Some h → slice_index_or fields 0 [] ≡ codes "a"
-    → r ≡ arc_line limits (Some h) (length s.arcs) s.total s.listed fields → item_of limits s fields ≡ linked r
-unfolding item_of
-item_arc s h fields r some word is = rw (word, some, sym is) refl
+pub pair_found : (h : Header) (arcs total : ℕ) (listed : List Bool) (text : List ℕ) (n m k : ℕ) (u v w : ℤ) (said : Result PackedArc Code) (o : Option PlainArc)
+    → h.problem ≡ Asn → BeginsArc text → HasField text 2 n u → HasField text n m v → HasLastField text m k w
+    → said ≡ arc_tests limits h arcs total listed (record { src = u; dst = v; low = pos 0; cap = pos 1; cost = w }) → IfSome o (IsArcSaid said k)
+    → IfSome o (λ p. SaysArc h arcs total listed text p.arc p.end)
+pair_found h arcs total listed text n m k u v w said None asn a src dst cost told found = tt
+pair_found h arcs total listed text n m k u v w said (Some p) asn a src dst cost told found =
+    subst (SaysArc h arcs total listed text p.arc) (sym found.1) (pair_said h arcs total listed text n m k u v w p.arc asn a src dst cost (sym told ∙ found.0))
 
--- it fits the state
-pub arc_fits : (s : StateData) (fields : List (List ℕ)) (r : Result PackedArc Code) → item_of limits s fields ≡ linked r
-    → IfOk r (λ a. ItemFits limits s (Link a))
-arc_fits s fields (Ok a) is = item_fits s fields (Link a) is
-arc_fits s fields (Err e) is = tt
-
-pub if_arc : (s : StateData) (h : Header) (fields : List (List ℕ)) (o : Option (Result PackedArc Code)) → s.header ≡ Some h → s.refusal ≡ None
-    → IfSome o (λ r. (r ≡ arc_line limits (Some h) (length s.arcs) s.total s.listed fields) × (slice_index_or fields 0 [] ≡ codes "a"))
-    → IfSome o (λ r. (s.refusal ≡ None) × (item_of limits s fields ≡ linked r))
-if_arc s h fields None some none said = tt
-if_arc s h fields (Some r) some none said = (none, item_arc s h fields r some said.1 said.0)
+pub link_found : (h : Header) (arcs total : ℕ) (listed : List Bool) (text : List ℕ) (n m i j k : ℕ) (u v x y w : ℤ) (said : Result PackedArc Code)
+    (o : Option PlainArc) → h.problem ≡ Min → BeginsArc text → HasField text 2 n u → HasField text n m v → HasField text m i x → HasField text i j y
+    → HasLastField text j k w
+    → said ≡ arc_tests limits h arcs total listed (record { src = u; dst = v; low = x; cap = y; cost = w }) → IfSome o (IsArcSaid said k)
+    → IfSome o (λ p. SaysArc h arcs total listed text p.arc p.end)
+link_found h arcs total listed text n m i j k u v x y w said None min a src dst low cap cost told found = tt
+link_found h arcs total listed text n m i j k u v x y w said (Some p) min a src dst low cap cost told found =
+    subst (SaysArc h arcs total listed text p.arc) (sym found.1)
+    (link_said h arcs total listed text n m i j k u v x y w p.arc min a src dst low cap cost (sym told ∙ found.0))

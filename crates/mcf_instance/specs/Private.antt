@@ -5,3 +5,4 @@ pub mod ReaderSound
 pub mod ReaderState
 pub mod StoredArcs
 pub mod Sums
+pub mod TakenArcs

@@ -6,14 +6,16 @@ ghost use Rattle.mcf_instance.specs.Reading.{reading};
 
 mod fields;
 mod line;
+mod lines;
 mod pieces;
 mod plain;
 mod state;
 
 use crate::instances::Instance;
+use crate::reader::lines::{read_line, take_arcs};
 use crate::reader::state::State;
 use crate::refusal::Refusal;
-use mcf_text::{NoMemory, is_kept, lines};
+use mcf_text::{NoMemory, split_line};
 pub use pieces::Reader;
 use std::alloc::Global;
 
@@ -32,15 +34,16 @@ pub fn read(alloc: Global, text: &[u8]) -> Result<Result<Instance, Refusal>, NoM
     ensures wants { OnErr result (NamesNodes limits text.now) }
 {
     let mut state = State::new(alloc);
-    let mut next = 1;
-    for line in lines(text) {
-        if is_kept(line.bytes) {
-            state.step(alloc, line.number, line.bytes)?;
-            if let Some(refusal) = state.refusal() {
-                return Ok(Err(refusal));
-            }
+    let mut rest = text;
+    let mut next = 1u128;
+    'lines: while let Some(parts) = split_line(rest) {
+        read_line(alloc, &mut state, next, parts.0)?;
+        if let Some(refusal) = state.refusal() {
+            return Ok(Err(refusal));
         }
-        next = line.number + 1;
+        let run = take_arcs(&mut state, parts.1)?;
+        next += 1 + run.lines as u128;
+        rest = &parts.1[run.bytes..];
     }
     Ok(state.finish(next))
 }

@@ -44,7 +44,7 @@ impl LineFeed {
     ghost use Rattle.std.specs.Prelude.{◌≡◌, ◌+◌, ◌<◌, ◌≤◌, ◌↔◌, [], true, false, length, OnOk, OnErr, IsFalse, MatchOption};
     ghost use Rattle.std.specs.Borrow.{sem};
     ghost use Rattle.std.specs.Io.BufRead.{Rests};
-    ghost use Rattle.mcf_text.specs.Feed.{after_piece, byte_limit, FirstLineEnds, HasNoLine};
+    ghost use Rattle.mcf_text.specs.Feed.{after_lines, after_piece, byte_limit, BeginsWithLines, FirstLineEnds, HasNoLine};
     ghost use Rattle.mcf_text.specs.Pop.{PopsLine};
     ghost use Rattle.mcf_text.specs.contracts.feed.LineFeed.{the_row};
 
@@ -120,6 +120,32 @@ impl LineFeed {
             number: self.popped,
             bytes: &bytes[start..start + len],
         })
+    }
+
+    /// The bytes of the lines that weren't popped.
+    pub fn rest(&self) -> &[u8]
+        ensures { result.now ≡ self.now.rest }
+    {
+        &self.bytes[self.start..]
+    }
+
+    /// Pops so many lines at once, which the first bytes of `rest`, as many as `len`, are.
+    pub fn pop_lines(&mut self, lines: usize, len: usize)
+        requires { BeginsWithLines self.old.rest lines len }
+        ensures { self.new ≡ after_lines self.old lines len }
+    {
+        if len == 0 {
+            return;
+        }
+        let LineFeed {
+            start,
+            scanned,
+            popped,
+            ..
+        } = self;
+        *start += len;
+        *scanned = 0;
+        *popped += lines as u128;
     }
 
     // Gives up the bytes of popped lines, where they are as many as the others.

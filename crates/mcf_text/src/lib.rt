@@ -29,4 +29,4 @@ pub use leading::{LeadingDigits, leading_digits};
 pub use node::NodeId;
 pub use number::Whole;
 pub use parts::{Fields, Line, Lines};
-pub use split::{fields, is_kept, lines};
+pub use split::{fields, is_kept, lines, split_line};

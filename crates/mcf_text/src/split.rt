@@ -41,9 +41,9 @@ pub fn is_kept(line: &[u8]) -> bool
     }
 }
 
-// The first line of a text and the bytes after the line feed that ends it, or nothing where the
-// text is empty.
-pub(crate) fn split_line(text: &[u8]) -> Option<(&[u8], &[u8])>
+/// The first line of a text and the bytes after the line feed that ends it, or nothing where the
+/// text is empty.
+pub fn split_line(text: &[u8]) -> Option<(&[u8], &[u8])>
     ensures value { MatchOption result (text.now ≡ [])
         (λ parts. lines_of text.now ≡ parts.0.now ∷ lines_of parts.1.now) }
     ensures shorter { MatchOption result (text.now ≡ [])

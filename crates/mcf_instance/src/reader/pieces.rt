@@ -3,13 +3,14 @@ ghost use Rattle.std.specs.Prelude.{◌≡◌, ◌+◌, ◌<◌, ◌≤◌, ◌+
 ghost use Rattle.mcf_instance.specs.Feeding.{StandsFor, WantsMemory};
 ghost use Rattle.mcf_instance.specs.Limits.{limits, line_limit};
 ghost use Rattle.mcf_instance.specs.Memory.{NamesNodes};
-ghost use Rattle.mcf_instance.specs.ReadOn.{HasRead, HasReadOn};
+ghost use Rattle.mcf_instance.specs.ReadOn.{HasReadOn, HasReadPieces};
 ghost use Rattle.mcf_text.specs.Feed.{byte_limit};
 
 use crate::instances::Instance;
+use crate::reader::lines::{read_line, take_arcs};
 use crate::reader::state::State;
 use crate::refusal::Refusal;
-use mcf_text::{FeedFault, LineFeed, NoMemory, is_kept};
+use mcf_text::{FeedFault, LineFeed, NoMemory};
 use std::alloc::Global;
 use std::marker::Model;
 
@@ -165,26 +166,28 @@ fn read_finished(alloc: Global, lines: &mut LineFeed, state: &mut State) -> Resu
     ensures same_end { lines.new.has_ended ≡ lines.old.has_ended }
     ensures same_count { lines.new.fed ≡ lines.old.fed }
 {
+    pop_arcs(lines, state)?;
     'finished: while let Some(line) = lines.pop() {
         read_line(alloc, state, line.number, line.bytes)?;
         if state.refusal().is_some() {
             return Ok(());
         }
+        pop_arcs(lines, state)?;
     }
     Ok(())
 }
 
-// Takes a line in, of this number. One that isn't kept changes nothing.
-fn read_line(alloc: Global, state: &mut State, number: u128, line: &[u8]) -> Result<(), NoMemory>
-    requires { (1 ≤ number) × (number ≤ line_limit) }
-    ensures read { OnOk result ((text : List ℕ) (next : ℕ) (rest : List (ℕ × List ℕ)) → HasRead limits text state.old next ((number, line.now) ∷ rest)
-        → HasRead limits text state.new (number + 1) rest) }
-    ensures wants { OnErr result ((text : List ℕ) (next : ℕ) (rest : List (ℕ × List ℕ)) → HasRead limits text state.old next ((number, line.now) ∷ rest)
-        → NamesNodes limits text) }
+// Takes the arc lines in that come next, as far as they are good and plain.
+fn pop_arcs(lines: &mut LineFeed, state: &mut State) -> Result<(), NoMemory>
+    requires { state.old.refusal ≡ None }
+    ensures good { OnOk result (state.new.refusal ≡ None) }
+    ensures read { OnOk result ((text : List ℕ) → HasReadPieces limits text lines.old state.old → HasReadPieces limits text lines.new state.new) }
+    ensures wants { OnErr result ((text : List ℕ) → HasReadPieces limits text lines.old state.old → NamesNodes limits text) }
+    ensures shorter { length lines.new.rest ≤ length lines.old.rest }
+    ensures same_end { lines.new.has_ended ≡ lines.old.has_ended }
+    ensures same_count { lines.new.fed ≡ lines.old.fed }
 {
-    if !is_kept(line) {
-        return Ok(());
-    }
-    state.step(alloc, number, line)?;
+    let run = take_arcs(state, lines.rest())?;
+    lines.pop_lines(run.lines, run.bytes);
     Ok(())
 }

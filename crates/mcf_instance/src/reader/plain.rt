@@ -1,10 +1,10 @@
-//! Arc lines of the plain form, read in one pass: `a` and numbers of at most eighteen digits, each with one
-//! blank before it, and at most one at the end. Other lines go another way, and are read as these are.
-ghost use Rattle.std.specs.Prelude.{◌≡◌, ◌<◌, ◌≤◌, IfSome, IsTrue, Some, codes, length, slice_index_or, []};
-ghost use Rattle.mcf_instance.specs.Limits.{limits, total_limit};
-ghost use Rattle.mcf_instance.specs.Private.LineReader.{arc_line};
-ghost use Rattle.mcf_instance.specs.Private.PlainLines.{BeginsArc, EndsField, HasNumber};
-ghost use Rattle.mcf_text.specs.Fields.{fields_of, is_blank};
+//! Arc lines of the plain form at the front of a text, read in one pass up to the byte that ends them: `a` and
+//! numbers of at most eighteen digits, each with one blank before it, and at most one at the end. Other lines,
+//! and lines with a fault, go another way, and are read as these are.
+ghost use Rattle.std.specs.Prelude.{◌≡◌, ◌<◌, ◌≤◌, IfSome, IsTrue, Ok, length};
+ghost use Rattle.mcf_instance.specs.Limits.{total_limit};
+ghost use Rattle.mcf_instance.specs.Private.PlainLines.{BeginsArc, BlankAt, EndsLine, HasDigits, HasField, HasLastField, SaysArc};
+ghost use Rattle.mcf_text.specs.Fields.{is_blank};
 
 use crate::arc::PackedArc;
 use crate::code::Code;
@@ -12,164 +12,224 @@ use crate::problem::Problem;
 use crate::reader::line::{Header, arc_tests};
 use mcf_text::leading_digits;
 
-// A number of a line and the next place, past the blank that ends it; that place is 0 where the number isn't plain.
+// A number, and a place behind it.
 #[derive(Clone, Copy)]
 struct PlainNumber {
     value: i64,
-    next: usize,
+    place: usize,
 }
 
+/// The arc of a line, and the place of the byte that ends the line.
+#[derive(Clone, Copy)]
+pub(crate) struct PlainArc {
+    pub(crate) arc: PackedArc,
+    pub(crate) end: usize,
+}
+
+#[inline(always)]
 fn is_blank(byte: u8) -> bool
     ensures { result ≡ is_blank byte }
 {
     byte == b' ' || byte == b'\t' || byte == b'\r'
 }
 
-// Whether a line begins with `a` and a blank.
+// Whether a text begins with `a` and a blank.
 #[inline(always)]
-fn begins_arc(line: &[u8]) -> bool
-    ensures { IsTrue result → BeginsArc line.now }
+fn begins_arc(text: &[u8]) -> bool
+    ensures { IsTrue result → BeginsArc text.now }
 {
-    2 <= line.len() && line[0] == b'a' && is_blank(line[1])
+    2 <= text.len() && text[0] == b'a' && is_blank(text[1])
 }
 
-// The place past the blank at the end of a field, or the end of the line, where the field ends there; else 0.
-#[inline(always)]
-fn past_field(line: &[u8], end: usize) -> usize
-    requires { end ≤ length line.now }
-    ensures inside { result ≤ length line.now }
-    ensures ends { 0 < result → EndsField line.now end result }
-{
-    if end == line.len() {
-        return end;
-    }
-    if line[end] == b' ' {
-        return end + 1;
-    }
-    past_other_blank(line, end)
-}
-
-// The same where no space stands there, as at the end of a line of another system.
+// The minus sign and the digits that begin at this place, and the place behind them.
 #[inline(never)]
-fn past_other_blank(line: &[u8], end: usize) -> usize
-    requires { end < length line.now }
-    ensures inside { result ≤ length line.now }
-    ensures ends { 0 < result → EndsField line.now end result }
+fn minus_digits(text: &[u8], start: usize) -> Option<PlainNumber>
+    requires { start ≤ length text.now }
+    ensures { IfSome result (λ n. HasDigits text.now start n.place n.value) }
 {
-    if is_blank(line[end]) { end + 1 } else { 0 }
-}
-
-// The number of digits alone that begins at this place.
-#[inline(always)]
-fn plain_number(line: &[u8], start: usize) -> PlainNumber
-    requires { start ≤ length line.now }
-    ensures inside { result.next ≤ length line.now }
-    ensures reads { 0 < result.next → HasNumber line.now start result.next result.value }
-{
-    let digits = leading_digits(&line[start..]);
+    if start == text.len() || text[start] != b'-' {
+        return None;
+    }
+    let digits = leading_digits(&text[start + 1..]);
     if digits.count == 0 {
-        return negative_number(line, start);
+        return None;
     }
-    PlainNumber {
-        value: digits.value as i64,
-        next: past_field(line, start + digits.count),
-    }
-}
-
-// The number of a minus sign and digits that begins at this place.
-#[inline(never)]
-fn negative_number(line: &[u8], start: usize) -> PlainNumber
-    requires { start ≤ length line.now }
-    ensures inside { result.next ≤ length line.now }
-    ensures reads { 0 < result.next → HasNumber line.now start result.next result.value }
-{
-    if start == line.len() || line[start] != b'-' {
-        return PlainNumber { value: 0, next: 0 };
-    }
-    let digits = leading_digits(&line[start + 1..]);
-    if digits.count == 0 {
-        return PlainNumber { value: 0, next: 0 };
-    }
-    PlainNumber {
+    Some(PlainNumber {
         value: -(digits.value as i64),
-        next: past_field(line, start + 1 + digits.count),
-    }
+        place: start + 1 + digits.count,
+    })
 }
 
-/// What an arc line of an assignment says, or its fault, where it is plain.
+// The place past the blank that stands here.
+#[inline(always)]
+fn past_blank(text: &[u8], stop: usize) -> Option<usize>
+    requires { stop ≤ length text.now }
+    ensures { IfSome result (λ next. BlankAt text.now stop next) }
+{
+    if stop < text.len() && text[stop] == b' ' {
+        return Some(stop + 1);
+    }
+    past_any_blank(text, stop)
+}
+
+// The same for each blank.
+#[inline(never)]
+fn past_any_blank(text: &[u8], stop: usize) -> Option<usize>
+    requires { stop ≤ length text.now }
+    ensures { IfSome result (λ next. BlankAt text.now stop next) }
+{
+    if stop < text.len() && is_blank(text[stop]) {
+        return Some(stop + 1);
+    }
+    None
+}
+
+// The number that begins at this place, and the place past the blank behind it.
+#[inline(always)]
+fn number_at(text: &[u8], start: usize) -> Option<PlainNumber>
+    requires { start ≤ length text.now }
+    ensures { IfSome result (λ n. HasField text.now start n.place n.value) }
+{
+    let digits = leading_digits(&text[start..]);
+    if digits.count == 0 {
+        return minus_number_at(text, start);
+    }
+    let place = past_blank(text, start + digits.count)?;
+    Some(PlainNumber {
+        value: digits.value as i64,
+        place,
+    })
+}
+
+#[inline(never)]
+fn minus_number_at(text: &[u8], start: usize) -> Option<PlainNumber>
+    requires { start ≤ length text.now }
+    ensures { IfSome result (λ n. HasField text.now start n.place n.value) }
+{
+    let digits = minus_digits(text, start)?;
+    let place = past_blank(text, digits.place)?;
+    Some(PlainNumber {
+        value: digits.value,
+        place,
+    })
+}
+
+// The place of the byte that ends the line of which the last field ends here.
+#[inline(always)]
+fn line_end(text: &[u8], stop: usize) -> Option<usize>
+    requires { stop ≤ length text.now }
+    ensures { IfSome result (λ end. EndsLine text.now stop end) }
+{
+    if stop < text.len() && text[stop] == b'\n' {
+        return Some(stop);
+    }
+    line_end_past_blank(text, stop)
+}
+
+// The same where a blank stands behind that field, as at the end of a line of another system.
+#[inline(never)]
+fn line_end_past_blank(text: &[u8], stop: usize) -> Option<usize>
+    requires { stop ≤ length text.now }
+    ensures { IfSome result (λ end. EndsLine text.now stop end) }
+{
+    let next = past_any_blank(text, stop)?;
+    if next < text.len() && text[next] == b'\n' {
+        return Some(next);
+    }
+    None
+}
+
+// The number that begins at this place, and the place of the byte that ends the line right behind it.
+#[inline(always)]
+fn last_number_at(text: &[u8], start: usize) -> Option<PlainNumber>
+    requires { start ≤ length text.now }
+    ensures { IfSome result (λ n. HasLastField text.now start n.place n.value) }
+{
+    let digits = leading_digits(&text[start..]);
+    if digits.count == 0 {
+        return minus_last_number_at(text, start);
+    }
+    let place = line_end(text, start + digits.count)?;
+    Some(PlainNumber {
+        value: digits.value as i64,
+        place,
+    })
+}
+
+#[inline(never)]
+fn minus_last_number_at(text: &[u8], start: usize) -> Option<PlainNumber>
+    requires { start ≤ length text.now }
+    ensures { IfSome result (λ n. HasLastField text.now start n.place n.value) }
+{
+    let digits = minus_digits(text, start)?;
+    let place = line_end(text, digits.place)?;
+    Some(PlainNumber {
+        value: digits.value,
+        place,
+    })
+}
+
+/// The first line of a text, where it is a good arc line of an assignment and plain.
 #[inline(always)]
 pub(crate) fn plain_pair(
     header: Header,
     arcs: usize,
     total: u128,
     listed: &[bool],
-    line: &[u8],
-) -> Option<Result<PackedArc, Code>>
+    text: &[u8],
+) -> Option<PlainArc>
     requires problem { header.problem ≡ Problem.Asn }
     requires tabled { length listed.now ≡ header.nodes }
     requires total { total ≤ total_limit }
-    ensures { IfSome result (λ r. (r ≡ arc_line limits (Some header) arcs total listed.now (fields_of line.now))
-        × (slice_index_or (fields_of line.now) 0 [] ≡ codes "a")) }
+    ensures { IfSome result (λ p. SaysArc header arcs total listed.now text.now p.arc p.end) }
 {
-    if !begins_arc(line) {
+    if !begins_arc(text) {
         return None;
     }
-    let src = plain_number(line, 2);
-    if src.next == 0 {
-        return None;
-    }
-    let dst = plain_number(line, src.next);
-    if dst.next == 0 {
-        return None;
-    }
-    let cost = plain_number(line, dst.next);
-    if cost.next != line.len() {
-        return None;
-    }
-    Some(arc_tests(
+    let src = number_at(text, 2)?;
+    let dst = number_at(text, src.place)?;
+    let cost = last_number_at(text, dst.place)?;
+    let said = arc_tests(
         header, arcs, total, listed, src.value, dst.value, 0, 1, cost.value,
-    ))
+    );
+    plain_arc(said, cost.place)
 }
 
-/// What an arc line of the flow problem says, or its fault, where it is plain.
+/// The first line of a text, where it is a good arc line of the flow problem and plain.
 #[inline(always)]
 pub(crate) fn plain_link(
     header: Header,
     arcs: usize,
     total: u128,
     listed: &[bool],
-    line: &[u8],
-) -> Option<Result<PackedArc, Code>>
+    text: &[u8],
+) -> Option<PlainArc>
     requires problem { header.problem ≡ Problem.Min }
     requires tabled { length listed.now ≡ header.nodes }
     requires total { total ≤ total_limit }
-    ensures { IfSome result (λ r. (r ≡ arc_line limits (Some header) arcs total listed.now (fields_of line.now))
-        × (slice_index_or (fields_of line.now) 0 [] ≡ codes "a")) }
+    ensures { IfSome result (λ p. SaysArc header arcs total listed.now text.now p.arc p.end) }
 {
-    if !begins_arc(line) {
+    if !begins_arc(text) {
         return None;
     }
-    let src = plain_number(line, 2);
-    if src.next == 0 {
-        return None;
-    }
-    let dst = plain_number(line, src.next);
-    if dst.next == 0 {
-        return None;
-    }
-    let low = plain_number(line, dst.next);
-    if low.next == 0 {
-        return None;
-    }
-    let cap = plain_number(line, low.next);
-    if cap.next == 0 {
-        return None;
-    }
-    let cost = plain_number(line, cap.next);
-    if cost.next != line.len() {
-        return None;
-    }
-    Some(arc_tests(
+    let src = number_at(text, 2)?;
+    let dst = number_at(text, src.place)?;
+    let low = number_at(text, dst.place)?;
+    let cap = number_at(text, low.place)?;
+    let cost = last_number_at(text, cap.place)?;
+    let said = arc_tests(
         header, arcs, total, listed, src.value, dst.value, low.value, cap.value, cost.value,
-    ))
+    );
+    plain_arc(said, cost.place)
+}
+
+// The arc of a line that ends at this place, where it has no fault.
+#[inline(always)]
+fn plain_arc(said: Result<PackedArc, Code>, end: usize) -> Option<PlainArc>
+    ensures { IfSome result (λ p. (said ≡ Ok p.arc) × (p.end ≡ end)) }
+{
+    match said {
+        Ok(arc) => Some(PlainArc { arc, end }),
+        Err(_) => None,
+    }
 }

@@ -1,10 +1,10 @@
 //! The reader's state: what the lines so far say.
-ghost use Rattle.std.specs.Prelude.{◌≡◌, ◌++◌, ◌∷◌, [], List, map, length, slice_get, None, OnOk, OnErr, ◌≤◌, IfOk, IfSome, IsTrue};
+ghost use Rattle.std.specs.Prelude.{◌≡◌, ◌++◌, ◌∷◌, [], List, map, length, slice_get, None, Some, OnOk, OnErr, ◌≤◌, IfOk, IfSome, IsTrue};
 ghost use Rattle.mcf_instance.specs.Fault.{faults, header};
 ghost use Rattle.mcf_instance.specs.Limits.{limits, line_limit};
 ghost use Rattle.mcf_instance.specs.Private.ReaderSound.{ItemFits};
 ghost use Rattle.mcf_instance.specs.Private.ReaderState.{empty, item_of, with_item, item_grows, outcome_grows, after_row, refusal_after, finished};
-ghost use Rattle.mcf_instance.specs.Private.ReaderState.{linked, with_outcome};
+ghost use Rattle.mcf_instance.specs.Private.TakenArcs.{BeginsWithArc, TakesArc, WantsArc};
 ghost use Rattle.mcf_instance.specs.ReadOn.{Stands};
 ghost use Rattle.mcf_text.specs.Fields.{fields_of, is_kept};
 ghost use Rattle.mcf_text.specs.Row.{Row, row_of};
@@ -16,7 +16,7 @@ use crate::instances::Instance;
 use crate::problem::Problem;
 use crate::reader::fields::first_fields;
 use crate::reader::line::{Header, Item, arc_line, is_word, node_line, problem_line};
-use crate::reader::plain::{plain_link, plain_pair};
+use crate::reader::plain::{PlainArc, plain_link, plain_pair};
 use crate::refusal::Refusal;
 use crate::repeated::copies;
 use mcf_text::NoMemory;
@@ -166,8 +166,7 @@ impl State {
         }
     }
 
-    // Takes the next kept line in, of any form.
-    #[inline(never)]
+    // Takes the next kept line in.
     fn take_any(&mut self, alloc: Global, number: u128, line: &[u8]) -> Result<(), NoMemory>
         requires kept { IsTrue (is_kept line.now) }
         requires numbered { (1 ≤ number) × (number ≤ line_limit) }
@@ -178,61 +177,11 @@ impl State {
         let first = first_fields(line);
         self.take_fields(alloc, number, &first.fields[..first.count])
     }
-
-    // What an arc line of the plain form says, or its fault; nothing of another line, after a fault and before the problem line.
-    #[inline(always)]
-    fn plain_arc(&self, line: &[u8]) -> Option<Result<PackedArc, Code>>
-        ensures { IfSome result (λ r. (self.now.refusal ≡ None) × (item_of limits self.now (fields_of line.now) ≡ linked r)) }
-    {
-        if self.refusal.is_some() {
-            return None;
-        }
-        let header = self.header?;
-        match header.problem {
-            Problem::Min => plain_link(header, self.arcs.len(), self.total, &self.listed, line),
-            Problem::Asn => plain_pair(header, self.arcs.len(), self.total, &self.listed, line),
-        }
-    }
-
-    // Takes in what an arc line says, or its fault.
-    #[inline(always)]
-    fn take_arc(&mut self, number: u128, outcome: Result<PackedArc, Code>) -> Result<(), NoMemory>
-        requires fits { IfOk outcome (λ a. ItemFits limits self.old (Item.Link a)) }
-        requires numbered { (1 ≤ number) × (number ≤ line_limit) }
-        ensures ok { OnOk result (self.new ≡ with_outcome self.old number (linked outcome)) }
-        ensures err { OnErr result (self.new ≡ self.old) }
-        ensures grows { OnErr result (IsTrue (outcome_grows (linked outcome))) }
-    {
-        match outcome {
-            Ok(arc) => self.link(arc),
-            Err(fault) => {
-                self.refusal = Some(Refusal {
-                    line: number,
-                    code: fault,
-                });
-                Ok(())
-            }
-        }
-    }
-
-    // Takes the next kept line in.
-    #[inline(always)]
-    fn advance(&mut self, alloc: Global, number: u128, line: &[u8]) -> Result<(), NoMemory>
-        requires kept { IsTrue (is_kept line.now) }
-        requires numbered { (1 ≤ number) × (number ≤ line_limit) }
-        ensures ok { OnOk result (self.new ≡ after_row limits self.old (row_of (number, line.now))) }
-        ensures err { OnErr result (self.new ≡ self.old) }
-        ensures grows { OnErr result ((self.old.refusal ≡ None) × IsTrue (outcome_grows (item_of limits self.old (fields_of line.now)))) }
-    {
-        match self.plain_arc(line) {
-            Some(outcome) => self.take_arc(number, outcome),
-            None => self.take_any(alloc, number, line),
-        }
-    }
 }
 
 impl State {
     /// Takes the next kept line in, of this number. An `Err` changes nothing.
+    #[inline(never)]
     pub(crate) fn step(&mut self, alloc: Global, number: u128, line: &[u8]) -> Result<(), NoMemory>
         requires kept { IsTrue (is_kept line.now) }
         requires numbered { (1 ≤ number) × (number ≤ line_limit) }
@@ -243,7 +192,65 @@ impl State {
             → (1 ≤ (header (lines ++ row_of (number, line.now) ∷ [])).nodes)
             × (slice_get (faults limits (lines ++ row_of (number, line.now) ∷ [])) 0 ≡ None)) }
     {
-        self.advance(alloc, number, line)
+        self.take_any(alloc, number, line)
+    }
+
+    /// What the problem line said, if there was one.
+    pub(crate) fn header(&self) -> Option<Header>
+        ensures { result ≡ self.now.header }
+    {
+        self.header
+    }
+
+    // The first line of a text, where it is a good arc line of an assignment and plain.
+    #[inline(always)]
+    fn first_pair(&self, header: Header, text: &[u8]) -> Option<PlainArc>
+        requires header { self.now.header ≡ Some header }
+        requires problem { header.problem ≡ Problem.Asn }
+        ensures { IfSome result (λ p. BeginsWithArc self.now text.now p.arc p.end) }
+    {
+        plain_pair(header, self.arcs.len(), self.total, &self.listed, text)
+    }
+
+    // The first line of a text, where it is a good arc line of the flow problem and plain.
+    #[inline(always)]
+    fn first_link(&self, header: Header, text: &[u8]) -> Option<PlainArc>
+        requires header { self.now.header ≡ Some header }
+        requires problem { header.problem ≡ Problem.Min }
+        ensures { IfSome result (λ p. BeginsWithArc self.now text.now p.arc p.end) }
+    {
+        plain_link(header, self.arcs.len(), self.total, &self.listed, text)
+    }
+
+    /// Takes the first line of a text in, where it is a good arc line of an assignment and plain, and answers
+    /// how many bytes it has with the one that ends it; else nothing changes.
+    #[inline(always)]
+    pub(crate) fn take_pair(&mut self, header: Header, text: &[u8]) -> Result<Option<usize>, NoMemory>
+        requires header { self.old.header ≡ Some header }
+        requires problem { header.problem ≡ Problem.Asn }
+        ensures taken { IfOk result (λ len. TakesArc self.old text.now len self.new) }
+        ensures wants { OnErr result (WantsArc self.old text.now) }
+    {
+        let Some(plain) = self.first_pair(header, text) else {
+            return Ok(None);
+        };
+        self.link(plain.arc)?;
+        Ok(Some(plain.end + 1))
+    }
+
+    /// The same of the flow problem.
+    #[inline(always)]
+    pub(crate) fn take_link(&mut self, header: Header, text: &[u8]) -> Result<Option<usize>, NoMemory>
+        requires header { self.old.header ≡ Some header }
+        requires problem { header.problem ≡ Problem.Min }
+        ensures taken { IfOk result (λ len. TakesArc self.old text.now len self.new) }
+        ensures wants { OnErr result (WantsArc self.old text.now) }
+    {
+        let Some(plain) = self.first_link(header, text) else {
+            return Ok(None);
+        };
+        self.link(plain.arc)?;
+        Ok(Some(plain.end + 1))
     }
 
     /// The first fault, if a line so far has one.

@@ -7,9 +7,9 @@ use Rattle.mcf_instance.proofs.reader.pieces.read_finished.Given as goal
 abbrev pub invariant-finished : goal.invariant-finished
 invariant-finished l = record {
   good : l.state.refusal ≡ None;
-  read : (text : List ℕ) → HasReadOn limits text l.initial.lines l.initial.state → HasReadPieces limits text l.lines l.state;
-  same_end : l.lines.has_ended ≡ l.initial.lines.has_ended;
-  same_count : l.lines.fed ≡ l.initial.lines.fed;
+  read : (text : List ℕ) → HasReadOn limits text l.fn.lines l.fn.state → HasReadPieces limits text l.lines l.state;
+  same_end : l.lines.has_ended ≡ l.fn.lines.has_ended;
+  same_count : l.lines.fed ≡ l.fn.lines.fed;
 }
 
 abbrev pub decreases-finished : goal.decreases-finished

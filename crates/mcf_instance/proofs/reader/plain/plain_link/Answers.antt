@@ -1,24 +1,18 @@
-use Rattle.std.proofs.Common.{◌∙◌, arith, rules, sym}
+use Rattle.std.proofs.Common.{rules}
 use Rattle.std.proofs.lemmas.Int.{to_z-of_z}
 use mir.Syntax.{w64}
 use mir.Val.{SFits}
-use Rattle.mcf_instance.proofs.PlainLines.{link_said}
+use Rattle.mcf_instance.proofs.PlainLines.{link_found}
 use Rattle.mcf_instance.proofs.reader.plain.plain_link.Goals as goal
 
 pub returns : goal.returns
 returns c =
     let a = c.begins_arc.ensures c.if-not-begins_arc.false in
-    let src = c.plain_number-src.ensures.reads (omega (arith, c.if-src-eq0.false)) in
-    let dst = c.plain_number-dst.ensures.reads (omega (arith, c.if-dst-eq0.false)) in
-    let low = c.plain_number-low.ensures.reads (omega (arith, c.if-low-eq0.false)) in
-    let cap = c.plain_number-cap.ensures.reads (omega (arith, c.if-cap-eq0.false)) in
-    let cost = c.plain_number-cost.ensures.reads (omega (arith, c.if-cost-line.false, a.inside)) in
-    let said = link_said c.args.header c.args.arcs c.args.total c.args.listed.now c.args.line.now _ _ _ _ _ _ _ _ _ _ c.requires.problem
-    a src dst low cap cost (omega (arith, c.if-cost-line.false)) in
-    let f1 : SFits w64 c.plain_number-src.result.value = search rules in
-    let f2 : SFits w64 c.plain_number-dst.result.value = search rules in
-    let f3 : SFits w64 c.plain_number-low.result.value = search rules in
-    let f4 : SFits w64 c.plain_number-cap.result.value = search rules in
-    let f5 : SFits w64 c.plain_number-cost.result.value = search rules in
-    let told = simp to_z-of_z at c.arc_tests.ensures in
-    (told ∙ sym said.0, said.1)
+    let f1 : SFits w64 c.in_ok-src.src.value = search rules in
+    let f2 : SFits w64 c.in_ok-dst.dst.value = search rules in
+    let f3 : SFits w64 c.in_ok-low.low.value = search rules in
+    let f4 : SFits w64 c.in_ok-cap.cap.value = search rules in
+    let f5 : SFits w64 c.in_ok-cost.cost.value = search rules in
+    let told = simp to_z-of_z at c.arc_tests-said.ensures in
+    link_found c.args.header c.args.arcs c.args.total c.args.listed.now c.args.text.now _ _ _ _ _ _ _ _ _ _ c.arc_tests-said.result c.plain_arc.result
+    c.requires.problem a c.in_ok-src.ensures c.in_ok-dst.ensures c.in_ok-low.ensures c.in_ok-cap.ensures c.in_ok-cost.ensures told c.plain_arc.ensures

@@ -10,11 +10,11 @@ use Rattle.mcf_instance.proofs.reader.state.State.step.Goals as goal
 pub returns-clause-stands : goal.returns-clause-stands
 returns-clause-stands c =
     let row = row_of (c.args.number, c.args.line.now) in
-    on_ok_weaker c.advance.result
+    on_ok_weaker c.take_any.result
     (λ e lines h. subst (λ t. Stands limits t (lines ++ row ∷ [])) (sym e) (stands_after c.args.self.now lines row h))
-    c.advance.ensures.ok
+    c.take_any.ensures.ok
 
 pub returns-clause-wants : goal.returns-clause-wants
 returns-clause-wants c =
     let row = row_of (c.args.number, c.args.line.now) in
-    on_err_weaker c.advance.result (λ g lines h. step_names_nodes c.args.self.now lines row h g.0 g.1) c.advance.ensures.grows
+    on_err_weaker c.take_any.result (λ g lines h. step_names_nodes c.args.self.now lines row h g.0 g.1) c.take_any.ensures.grows

@@ -1,13 +1,13 @@
 use Rattle.std.proofs.Common.{◌<◌, ◌∙◌, arith, length, sym}
 use Rattle.mcf_text.proofs.LeadingLemmas.{are_leading, counted_all, counted_more, counted_other, value_before}
 use Rattle.mcf_text.proofs.WholeLemmas.{digits_longer, value_longer}
-use Rattle.mcf_text.proofs.leading.leading_digits.Goals as goal
+use Rattle.mcf_text.proofs.leading.digits_among.Goals as goal
 
-pub returns-then-not-is_ascii_digit : goal.returns-then-not-is_ascii_digit
-returns-then-not-is_ascii_digit c =
+pub returns-then-digit-gt9 : goal.returns-then-digit-gt9
+returns-then-digit-gt9 c =
     let l = c.digits.invariant in
     let bs = c.args.bytes.now in
-    let is = sym c.is_ascii_digit.ensures.value ∙ c.if-not-is_ascii_digit.true in
+    let is = c.digit_of-digit.ensures.other (omega (arith, c.if-digit-gt9.true)) in
     let other = counted_other bs c.digits.count (omega (arith, c.digits-test.true, l.most.0)) (omega (arith, c.digits-test.true, l.most.1)) is in
     let a = are_leading bs c.digits.count c.digits.value (omega (arith, l.inside, l.most.0), omega (arith, l.inside, l.most.1)) l.all l.value l.counted other in
     record { count = a.counted; value = a.valued; digits = a.digits; few = a.few; small = a.small }
@@ -26,14 +26,15 @@ pub digits-preserved : goal.digits-preserved
 digits-preserved c =
     let l = c.digits.invariant in
     let bs = c.args.bytes.now in
-    let is = sym c.is_ascii_digit.ensures.value ∙ c.if-not-is_ascii_digit.false in
+    let said = c.digit_of-digit.ensures.digit (omega (arith, c.if-digit-gt9.false)) in
+    let is = said.0 in
     let few : c.digits.count < 18 = omega (arith, c.digits-test.true, l.most.0) in
     let inside : c.digits.count < length bs = omega (arith, c.digits-test.true, l.most.1) in
     record {
       inside = omega (arith, c.digits-test.true);
       most = l.most;
       all = digits_longer bs c.digits.count inside l.all is;
-      value = omega (arith, l.value, value_longer bs c.digits.count inside is);
+      value = omega (arith, l.value, said.1, value_longer bs c.digits.count inside is);
       counted = omega (arith, l.counted, counted_more bs c.digits.count few inside is);
     }
 
@@ -41,6 +42,6 @@ pub returns : goal.returns
 returns c =
     let l = c.digits.invariant in
     let bs = c.args.bytes.now in
-    let all = counted_all bs c.digits.count (omega (arith, c.digits-test.false, c.min-most.ensures)) in
+    let all = counted_all bs c.digits.count (omega (arith, c.digits-test.false, c.requires)) in
     let a = are_leading bs c.digits.count c.digits.value (omega (arith, l.inside, l.most.0), omega (arith, l.inside, l.most.1)) l.all l.value l.counted all in
     record { count = a.counted; value = a.valued; digits = a.digits; few = a.few; small = a.small }

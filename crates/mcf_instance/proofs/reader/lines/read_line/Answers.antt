@@ -3,7 +3,7 @@ use Rattle.std.proofs.lemmas.Result.{err_from_is_err_and}
 use Rattle.mcf_text.specs.Fields.{is_kept}
 use Rattle.mcf_instance.proofs.NamedNodes.{text_names_nodes}
 use Rattle.mcf_instance.proofs.WholeTexts.{read_kept, read_unkept}
-use Rattle.mcf_instance.proofs.reader.pieces.read_line.Goals as goal
+use Rattle.mcf_instance.proofs.reader.lines.read_line.Goals as goal
 
 pub returns-then-not-is_kept-clause-read : goal.returns-then-not-is_kept-clause-read
 returns-then-not-is_kept-clause-read c = λ text next rest h.

@@ -3,7 +3,7 @@ use Rattle.std.specs.Char.{is_ascii_digit}
 use Rattle.std.specs.List.{prefix_len}
 use Rattle.std.specs.Str.Parse.{AllDigits, digits_value}
 use Rattle.mcf_text.specs.Leading.{digit_count}
-use Rattle.mcf_text.proofs.leading.leading_digits.Given as goal
+use Rattle.mcf_text.proofs.leading.digits_among.Given as goal
 
 abbrev pub invariant-digits : goal.invariant-digits
 invariant-digits l = record {

@@ -1,0 +1,101 @@
+//! Lines taken in one after another: arc lines in a row, as far as they are good and plain, and any line.
+ghost use Rattle.std.specs.Prelude.{◌≡◌, ◌+◌, ◌≤◌, ◌∷◌, ℕ, List, drop, None, Some, IfOk, OnErr, OnOk};
+ghost use Rattle.mcf_instance.specs.Limits.{limits, line_limit};
+ghost use Rattle.mcf_instance.specs.Memory.{NamesNodes};
+ghost use Rattle.mcf_instance.specs.Private.TakenArcs.{ReadsLines, WantsForLines};
+ghost use Rattle.mcf_instance.specs.ReadOn.{HasRead};
+ghost use Rattle.mcf_text.specs.Feed.{BeginsWithLines};
+
+use crate::problem::Problem;
+use crate::reader::line::Header;
+use crate::reader::state::State;
+use mcf_text::{NoMemory, is_kept};
+use std::alloc::Global;
+
+/// Lines that were taken in, and their bytes.
+#[derive(Clone, Copy)]
+pub(crate) struct Run {
+    pub(crate) lines: usize,
+    pub(crate) bytes: usize,
+}
+
+/// Takes the arc lines at the front of a text in, as far as they are good and plain; none before the problem line.
+pub(crate) fn take_arcs(state: &mut State, text: &[u8]) -> Result<Run, NoMemory>
+    requires { state.old.refusal ≡ None }
+    ensures good { OnOk result (state.new.refusal ≡ None) }
+    ensures lines { IfOk result (λ run. BeginsWithLines text.now run.lines run.bytes) }
+    ensures read { IfOk result (λ run. ReadsLines state.old text.now state.new run.lines (drop run.bytes text.now)) }
+    ensures wants { OnErr result (WantsForLines state.old text.now) }
+{
+    let Some(header) = state.header() else {
+        return Ok(Run { lines: 0, bytes: 0 });
+    };
+    match header.problem {
+        Problem::Min => take_links(state, header, text),
+        Problem::Asn => take_pairs(state, header, text),
+    }
+}
+
+// Takes the arc lines of an assignment in.
+fn take_pairs(state: &mut State, header: Header, text: &[u8]) -> Result<Run, NoMemory>
+    requires good { state.old.refusal ≡ None }
+    requires header { state.old.header ≡ Some header }
+    requires problem { header.problem ≡ Problem.Asn }
+    ensures good { OnOk result (state.new.refusal ≡ None) }
+    ensures lines { IfOk result (λ run. BeginsWithLines text.now run.lines run.bytes) }
+    ensures read { IfOk result (λ run. ReadsLines state.old text.now state.new run.lines (drop run.bytes text.now)) }
+    ensures wants { OnErr result (WantsForLines state.old text.now) }
+{
+    let mut lines = 0;
+    let mut bytes = 0;
+    'arcs: while bytes < text.len() {
+        let Some(len) = state.take_pair(header, &text[bytes..])? else {
+            return Ok(Run { lines, bytes });
+        };
+        lines += 1;
+        bytes += len;
+    }
+    Ok(Run { lines, bytes })
+}
+
+// Takes the arc lines of the flow problem in.
+fn take_links(state: &mut State, header: Header, text: &[u8]) -> Result<Run, NoMemory>
+    requires good { state.old.refusal ≡ None }
+    requires header { state.old.header ≡ Some header }
+    requires problem { header.problem ≡ Problem.Min }
+    ensures good { OnOk result (state.new.refusal ≡ None) }
+    ensures lines { IfOk result (λ run. BeginsWithLines text.now run.lines run.bytes) }
+    ensures read { IfOk result (λ run. ReadsLines state.old text.now state.new run.lines (drop run.bytes text.now)) }
+    ensures wants { OnErr result (WantsForLines state.old text.now) }
+{
+    let mut lines = 0;
+    let mut bytes = 0;
+    'arcs: while bytes < text.len() {
+        let Some(len) = state.take_link(header, &text[bytes..])? else {
+            return Ok(Run { lines, bytes });
+        };
+        lines += 1;
+        bytes += len;
+    }
+    Ok(Run { lines, bytes })
+}
+
+/// Takes a line in, of this number. One that isn't kept changes nothing.
+pub(crate) fn read_line(
+    alloc: Global,
+    state: &mut State,
+    number: u128,
+    line: &[u8],
+) -> Result<(), NoMemory>
+    requires { (1 ≤ number) × (number ≤ line_limit) }
+    ensures read { OnOk result ((text : List ℕ) (next : ℕ) (rest : List (ℕ × List ℕ)) → HasRead limits text state.old next ((number, line.now) ∷ rest)
+        → HasRead limits text state.new (number + 1) rest) }
+    ensures wants { OnErr result ((text : List ℕ) (next : ℕ) (rest : List (ℕ × List ℕ)) → HasRead limits text state.old next ((number, line.now) ∷ rest)
+        → NamesNodes limits text) }
+{
+    if !is_kept(line) {
+        return Ok(());
+    }
+    state.step(alloc, number, line)?;
+    Ok(())
+}
