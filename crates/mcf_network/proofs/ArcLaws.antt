@@ -1,20 +1,21 @@
 -- What is known of each arc of a net, and of its amount in a state.
-use Rattle.std.proofs.Common.{◌≡◌, ℕ, ◌-◌, ◌<◌, ◌≤◌, Bool, true, false, List, length, get_or, refl, ap, sym, ◌∙◌, arith, subst, ℤ, pos, ◌-ℤ◌, ◌≤ℤ◌}
+use Rattle.std.proofs.Common.{◌≡◌, ℕ, ◌-◌, ◌<◌, ◌≤◌, Bool, true, false, List, length, get_or, refl, ap, sym, arith, subst, ℤ, pos, ◌-ℤ◌, ◌≤ℤ◌}
 use Rattle.std.specs.List.{All}
 use Rattle.std.proofs.lemmas.Int.{ints}
-use Rattle.std.proofs.lemmas.List.{get_or-map, get_or_read, length-map}
+use Rattle.std.proofs.lemmas.List.{get_or_read}
 use Rattle.mcf_instance.specs.declared.arc.Arc.{Arc}
 use Rattle.mcf_instance.specs.Flow.{CanCarry}
 use Rattle.mcf_instance.specs.Network.{Network, IsArcNumber, IsNode, at_node, node_count}
 use Rattle.mcf_instance.specs.WellFormed.{IsUpTo, HasEnds}
 use Rattle.mcf_instance.specs.declared.problem.Problem.{Problem}
 use Rattle.mcf_network.specs.declared.rid.Rid.{Rid}
-use Rattle.mcf_network.specs.declared.stored.StoredArc.{StoredArc}
-use Rattle.mcf_network.specs.Stored.{stored_arc, stored_net}
+use Rattle.mcf_network.specs.declared.stored.Link.{Link}
+use Rattle.mcf_network.specs.Stored.{stored_arc, stored_net, width_at}
 use Rattle.mcf_network.specs.Nets.{IsNet, IsNetArc, width_limit, supply_limit}
 use Rattle.mcf_network.specs.Residual.{no_arc, arc_at, tail, head}
 use Rattle.mcf_network.specs.States.{Pseudoflow, IsPseudoflow, amount_at, room_of}
 use Rattle.mcf_instance.proofs.AllZips.{AllZip-at, length-AllZip}
+use Rattle.mcf_network.proofs.StoredLaws.{get_or-stored_arcs, length-stored_arcs, some_link}
 
 pub arcs_need_nodes : (nodes : ℕ) (arcs : List Arc) → All (HasEnds nodes) arcs → 1 ≤ length arcs → 1 ≤ nodes
 arcs_need_nodes nodes arcs ends some = let e = ends 0 no_arc (omega (arith, some)) in omega (arith, e)
@@ -74,29 +75,56 @@ room_small s k false ok h =
     let w = a.width in
     record { low = omega (arith, ints, u); high = omega (arith, ints, l, w) }
 
--- the arc that a net stores, as a read gives it
-pub stored_at : (problem : Problem) (arcs : List StoredArc) (supplies : List ℤ) (k : ℕ) (a : StoredArc) → IsArcNumber (stored_net problem arcs supplies) k
-    → a ≡ get_or arcs (k - 1) a → arc_at (stored_net problem arcs supplies) k ≡ stored_arc a
-stored_at problem arcs supplies k a h e =
-    let here : k - 1 < length arcs = omega (arith, h, length-map arcs stored_arc) in
-    get_or-map stored_arc arcs (k - 1) a no_arc here ∙ ap stored_arc (sym e)
+-- the arc that a net stores at a number, whatever its width
+pub stored_at : (problem : Problem) (links : List Link) (widths supplies : List ℤ) (k : ℕ) (link : Link)
+    → IsArcNumber (stored_net problem links widths supplies) k
+    → arc_at (stored_net problem links widths supplies) k ≡ stored_arc (get_or links (k - 1) link) (width_at widths (k - 1))
+stored_at problem links widths supplies k link h =
+    get_or-stored_arcs links widths (k - 1) link no_arc (omega (arith, h, length-stored_arcs links widths))
+
+pub link_in_range : (g : Network) (problem : Problem) (links : List Link) (widths supplies : List ℤ) (k : ℕ)
+    → stored_net problem links widths supplies ≡ g → IsArcNumber g k → k - 1 < length links
+link_in_range g problem links widths supplies k view h =
+    let here : IsArcNumber (stored_net problem links widths supplies) k = subst (λ n. IsArcNumber n k) (sym view) h in
+    omega (arith, here, length-stored_arcs links widths)
 
 -- what is known of it
-pub record IsStoredAt (g : Network) (k : ℕ) (a : StoredArc) : Type 0 where
-  pub is : arc_at g k ≡ stored_arc a
-  pub ends : HasEnds (node_count g) (stored_arc a)
-  pub arc : IsNetArc (stored_arc a)
+pub record IsStoredAt (g : Network) (k : ℕ) (a : Arc) : Type 0 where
+  pub is : arc_at g k ≡ a
+  pub ends : HasEnds (node_count g) a
+  pub arc : IsNetArc a
 
-pub stored_arc_at : (g : Network) (problem : Problem) (arcs : List StoredArc) (supplies : List ℤ) (k : ℕ) (a : StoredArc)
-    → stored_net problem arcs supplies ≡ g → IsNet (stored_net problem arcs supplies) → IsArcNumber g k → a ≡ get_or arcs (k - 1) a → IsStoredAt g k a
-stored_arc_at g problem arcs supplies k a view ok h e =
-    let here : IsArcNumber (stored_net problem arcs supplies) k = subst (λ n. IsArcNumber n k) (sym view) h in
-    let is = stored_at problem arcs supplies k a here e in
-    subst (λ n. IsStoredAt n k a) view (record {
+stored_arc_is : (g : Network) (problem : Problem) (links : List Link) (widths supplies : List ℤ) (k : ℕ) (link : Link)
+    → stored_net problem links widths supplies ≡ g → IsNet (stored_net problem links widths supplies) → IsArcNumber g k
+    → IsStoredAt g k (stored_arc (get_or links (k - 1) link) (width_at widths (k - 1)))
+stored_arc_is g problem links widths supplies k link view ok h =
+    let here : IsArcNumber (stored_net problem links widths supplies) k = subst (λ n. IsArcNumber n k) (sym view) h in
+    let is = stored_at problem links widths supplies k link here in
+    subst (λ n. IsStoredAt n k (stored_arc (get_or links (k - 1) link) (width_at widths (k - 1)))) view (record {
       is = is;
-      ends = subst (λ x. HasEnds (length supplies) x) is (ends_at (stored_net problem arcs supplies) k ok here);
-      arc = subst IsNetArc is (net_arc_at (stored_net problem arcs supplies) k ok here);
+      ends = subst (λ x. HasEnds (length supplies) x) is (ends_at (stored_net problem links widths supplies) k ok here);
+      arc = subst IsNetArc is (net_arc_at (stored_net problem links widths supplies) k ok here);
     })
+
+-- the arc of a link that is read
+pub stored_arc_at : (g : Network) (problem : Problem) (links : List Link) (widths supplies : List ℤ) (k : ℕ) (link : Link)
+    → stored_net problem links widths supplies ≡ g → IsNet (stored_net problem links widths supplies) → IsArcNumber g k
+    → link ≡ get_or links (k - 1) link → IsStoredAt g k (stored_arc link (width_at widths (k - 1)))
+stored_arc_at g problem links widths supplies k link view ok h e =
+    subst (λ (l : Link). IsStoredAt g k (stored_arc l (width_at widths (k - 1)))) (sym e) (stored_arc_is g problem links widths supplies k link view ok h)
+
+-- the width of the arc at a number
+pub record IsWidthAt (g : Network) (k : ℕ) (width : ℤ) : Type 0 where
+  pub is : (arc_at g k).cap ≡ width
+  pub low : pos 0 ≤ℤ width
+  pub high : width ≤ℤ pos width_limit
+
+pub stored_width_at : (g : Network) (problem : Problem) (links : List Link) (widths supplies : List ℤ) (k : ℕ)
+    → stored_net problem links widths supplies ≡ g → IsNet (stored_net problem links widths supplies) → IsArcNumber g k
+    → IsWidthAt g k (width_at widths (k - 1))
+stored_width_at g problem links widths supplies k view ok h =
+    let a = stored_arc_is g problem links widths supplies k some_link view ok h in
+    record { is = ap (λ (x : Arc). x.cap) a.is; low = a.arc.width_low; high = a.arc.width_high }
 
 -- an amount of a state, as a read gives it
 pub record IsReadAmount (s : Pseudoflow) (g : Network) (k : ℕ) (x : ℤ) : Type 0 where

@@ -6,6 +6,7 @@ pub mod RemovalLaws
 pub mod RestoringLaws
 pub mod StarLaws
 pub mod StateLaws
+pub mod StoredLaws
 pub mod StuckLaws
 pub mod TreeLaws
 pub mod WalkLaws

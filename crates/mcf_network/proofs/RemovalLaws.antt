@@ -6,7 +6,7 @@ use Rattle.std.specs.List.{All, range_with_len}
 use Rattle.std.proofs.Math.Seq.{take-length}
 use Rattle.std.proofs.lemmas.Int.{ints}
 use Rattle.std.proofs.lemmas.Bool.{cases_eq, eq-eqb, ne_eqb}
-use Rattle.std.proofs.lemmas.List.{ext_get_or, get_or-map, length-map, map-append, map_more}
+use Rattle.std.proofs.lemmas.List.{ext_get_or, get_or-map, length-map, length-take-le, map_more}
 use Rattle.std.proofs.lemmas.Option.{get_or_from_slice_get}
 use Rattle.std.proofs.lemmas.Simd.{map-map}
 use Rattle.std.proofs.lemmas.List.Elements.{All-head, All-tail, All-map}
@@ -23,11 +23,14 @@ use Rattle.mcf_instance.proofs.Bounds.{sum-weights-le, width_weight}
 use Rattle.mcf_instance.proofs.NetSteps.{net_more, net_up_to}
 use Rattle.mcf_network.specs.Nets.{IsNet, IsNetArc, net_total_limit, supply_limit}
 use Rattle.mcf_network.specs.Removal.{lows, net_of, supply_left, width_of, without_low}
-use Rattle.mcf_network.specs.declared.stored.StoredArc.{StoredArc}
+use Rattle.mcf_network.specs.declared.stored.Link.{Link}
 use Rattle.mcf_network.specs.Residual.{no_arc}
 use Rattle.mcf_network.specs.Private.Surpluses.{surplus_reach}
-use Rattle.mcf_network.specs.Stored.{stored_arc, stored_net}
+use Rattle.mcf_network.specs.Private.Counting.{JoinNodes}
+use Rattle.mcf_network.specs.Private.Widths.{GainsWidth}
+use Rattle.mcf_network.specs.Stored.{stored_arc, stored_arcs, stored_net, width_at}
 use Rattle.mcf_network.proofs.StateLaws.{when-zero}
+use Rattle.mcf_network.proofs.StoredLaws.{get_or-stored_arcs, length-stored_arcs, stored_arcs_more}
 
 -- ---- one arc
 
@@ -254,23 +257,48 @@ arc_of g i a ok h is =
     }
 
 pub stored_is : (a : Arc) (src dst : ℕ) (width cost : ℤ) → src ≡ a.src → dst ≡ a.dst → width ≡ width_of a → cost ≡ a.cost
-    → stored_arc (record { src = src; dst = dst; width = width; cost = cost }) ≡ without_low a
+    → stored_arc (record { src = src; dst = dst; cost = cost }) width ≡ without_low a
 stored_is a src dst width cost es ed ew ec = rw (es, ed, ew, ec) refl
 
-pub arcs_next : (g : Network) (i : ℕ) (a : Arc) (s : StoredArc) (arcs after : List StoredArc) → map stored_arc arcs ≡ map without_low (take i g.arcs)
-    → i < length g.arcs → get_or g.arcs i no_arc ≡ a → stored_arc s ≡ without_low a → after ≡ arcs ++ s ∷ []
-    → map stored_arc after ≡ map without_low (take (i + 1) g.arcs)
-arcs_next g i a s arcs after old h e is ea =
-    ap (map stored_arc) ea ∙ map-append stored_arc arcs (s ∷ []) ∙ ap (λ (xs : List Arc). xs ++ stored_arc s ∷ []) old
-    ∙ ap (λ (x : Arc). map without_low (take i g.arcs) ++ x ∷ []) (is ∙ ap without_low (sym e))
-    ∙ sym (map_more without_low g.arcs i no_arc h)
+-- what is stored is the first arcs without their lows
+pub record AreStored (g : Network) (i : ℕ) (links : List Link) (widths : List ℤ) : Type 0 where
+  pub arcs : stored_arcs links widths ≡ map without_low (take i g.arcs)
+  pub widths_fit : length widths ≤ i
+
+pub stored_next : (g : Network) (i : ℕ) (a : Arc) (link : Link) (width : ℤ) (links links' : List Link) (widths widths' : List ℤ) → AreStored g i links widths
+    → i < length g.arcs → get_or g.arcs i no_arc ≡ a → stored_arc link width ≡ without_low a → links' ≡ links ++ link ∷ [] → GainsWidth widths i width widths'
+    → AreStored g (i + 1) links' widths'
+stored_next g i a link width links links' widths widths' old h e is el gains =
+    let count : length links ≡ i = sym (length-stored_arcs links widths) ∙ ap length old.arcs ∙ length-map (take i g.arcs) without_low
+    ∙ length-take-le i g.arcs (omega (arith, h)) in
+    record {
+      arcs = ap (λ ls. stored_arcs ls widths') el ∙ stored_arcs_more links link widths widths' width
+          (subst (λ (n : ℕ). GainsWidth widths n width widths') (sym count) gains)
+          ∙ ap (λ (xs : List Arc). xs ++ stored_arc link width ∷ []) old.arcs
+          ∙ ap (λ (x : Arc). map without_low (take i g.arcs) ++ x ∷ []) (is ∙ ap without_low (sym e))
+          ∙ sym (map_more without_low g.arcs i no_arc h);
+      widths_fit = gains.fits;
+    }
 
 pub net_ends : (g : Network) → IsWellFormed limits g → All (HasEnds (node_count g)) (map without_low g.arcs)
 net_ends g ok =
     All-map (HasEnds (node_count g)) without_low g.arcs (λ k d l. let e = ok.ends k d l in record { src_is_node = e.src_is_node; dst_is_node = e.dst_is_node })
 
+pub links_count : (g : Network) (links : List Link) (widths : List ℤ) → stored_arcs links widths ≡ map without_low g.arcs → length links ≡ length g.arcs
+links_count g links widths e = sym (length-stored_arcs links widths) ∙ ap length e ∙ length-map g.arcs without_low
+
+pub links_join : (g : Network) (links : List Link) (widths : List ℤ) → IsWellFormed limits g → stored_arcs links widths ≡ map without_low g.arcs
+    → JoinNodes (node_count g) links
+links_join g links widths ok e i d h =
+    let count = links_count g links widths e in
+    let at : get_or (map without_low g.arcs) i no_arc ≡ stored_arc (get_or links i d) (width_at widths i) = ap (λ (xs : List Arc). get_or xs i no_arc) (sym e)
+    ∙ get_or-stored_arcs links widths i d no_arc h in
+    let ends = subst (HasEnds (node_count g)) at (net_ends g ok i no_arc (omega (arith, h, count, length-map g.arcs without_low))) in
+    (ends.src_is_node, ends.dst_is_node)
+
 -- what is stored is the net
-pub net_is : (g : Network) (problem : Problem) (arcs : List StoredArc) (supplies : List ℤ) → problem ≡ g.problem → map stored_arc arcs ≡ map without_low g.arcs
-    → supplies ≡ map (supply_left g) (range_with_len 1 (node_count g)) → stored_net problem arcs supplies ≡ net_of g
+pub net_is : (g : Network) (problem : Problem) (links : List Link) (widths supplies : List ℤ) → problem ≡ g.problem
+    → stored_arcs links widths ≡ map without_low g.arcs → supplies ≡ map (supply_left g) (range_with_len 1 (node_count g))
+    → stored_net problem links widths supplies ≡ net_of g
 unfolding net_of
-net_is g problem arcs supplies ep ea es = rw (ep, ea, es) refl
+net_is g problem links widths supplies ep ea es = rw (ep, ea, es) refl

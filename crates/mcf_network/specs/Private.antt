@@ -1,3 +1,4 @@
 -- What the proofs of this crate alone need: no public clause names it.
 pub mod Counting
 pub mod Surpluses
+pub mod Widths

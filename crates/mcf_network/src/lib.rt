@@ -21,6 +21,7 @@ mod state;
 mod stored;
 mod surplus;
 mod walk;
+mod widths;
 
 pub use laws::{
     feasible_flows_are_states, greatest_prices_carry_over, net_flows_cost_no_more,

@@ -7,7 +7,8 @@ ghost use Rattle.mcf_network.specs.Stars.{ListsLeaving};
 
 use crate::leaving::Leaving;
 use crate::rid::{PackedRid, Rid};
-use crate::stored::StoredArc;
+use crate::stored::Link;
+use crate::widths::width_at;
 use mcf_instance::Problem;
 use mcf_text::{ArcId, NodeId};
 use std::marker::Model;
@@ -19,7 +20,8 @@ use std::marker::Model;
 #[derive(Drop)]
 pub struct Net {
     pub(crate) problem: Problem,
-    pub(crate) arcs: Vec<StoredArc>,
+    pub(crate) links: Vec<Link>,
+    pub(crate) widths: Vec<i64>,
     pub(crate) supplies: Vec<i128>,
     pub(crate) firsts: Vec<u32>,
     pub(crate) outs: Vec<PackedRid>,
@@ -34,10 +36,10 @@ impl Model for Net {
     ghost use Rattle.mcf_network.specs.Nets.{IsNet};
     ghost use Rattle.mcf_network.specs.Stored.{IsStored, stored_net};
 
-    ghost view = { λ n. stored_net n.problem n.arcs.items n.supplies.items };
+    ghost view = { λ n. stored_net n.problem n.links.items n.widths.items n.supplies.items };
 
-    ghost invariant = { λ n. IsNet (stored_net n.problem n.arcs.items n.supplies.items)
-        × (1 ≤ length n.supplies.items → IsStored (stored_net n.problem n.arcs.items n.supplies.items) n.firsts.items n.outs.items) };
+    ghost invariant = { λ n. IsNet (stored_net n.problem n.links.items n.widths.items n.supplies.items)
+        × (1 ≤ length n.supplies.items → IsStored (stored_net n.problem n.links.items n.widths.items n.supplies.items) n.firsts.items n.outs.items) };
 }
 
 impl Net {
@@ -62,7 +64,7 @@ impl Net {
         ensures value { result ≡ length self.now.arcs }
         ensures of_net { IsNet self.now }
     {
-        self.arcs.len() as u32
+        self.links.len() as u32
     }
 
     /// The two ends of an arc: the node that it leaves, and the one that it enters.
@@ -73,8 +75,8 @@ impl Net {
         ensures src_is_node { IsNode (node_count self.now) result.0 }
         ensures dst_is_node { IsNode (node_count self.now) result.1 }
     {
-        let a = self.arcs[k.place()];
-        (NodeId::new(a.src), NodeId::new(a.dst))
+        let link = self.links[k.place()];
+        (NodeId::new(link.src), NodeId::new(link.dst))
     }
 
     /// The width of an arc, from 0 to 2 * 10^18: the most that it can carry.
@@ -83,7 +85,7 @@ impl Net {
         ensures value { result ≡ (arc_at self.now k).cap }
         ensures of_net { IsNet self.now }
     {
-        i128::from(self.arcs[k.place()].width)
+        i128::from(width_at(&self.widths, k.place()))
     }
 
     /// The cost of each unit on an arc, at most 10^15 from 0.
@@ -92,7 +94,7 @@ impl Net {
         ensures value { result ≡ (arc_at self.now k).cost }
         ensures of_net { IsNet self.now }
     {
-        i128::from(self.arcs[k.place()].cost)
+        i128::from(self.links[k.place()].cost)
     }
 
     /// The supply of a node, at most 10^26 from 0: what it sends, less what it takes.
@@ -122,7 +124,7 @@ impl Net {
         ensures value { result ≡ unit_cost self.now r }
         ensures of_net { IsNet self.now }
     {
-        let cost = i128::from(self.arcs[r.arc.place()].cost);
+        let cost = i128::from(self.links[r.arc.place()].cost);
         if r.back { -cost } else { cost }
     }
 

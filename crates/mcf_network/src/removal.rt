@@ -6,12 +6,13 @@ ghost use Rattle.mcf_instance.specs.Network.{node_count};
 ghost use Rattle.mcf_instance.specs.WellFormed.{IsArcWithinLimits};
 ghost use Rattle.mcf_network.specs.Nets.{IsNet};
 ghost use Rattle.mcf_network.specs.Removal.{net_of, supply_left, without_low};
-ghost use Rattle.mcf_network.specs.Stored.{stored_arc};
+ghost use Rattle.mcf_network.specs.Stored.{stored_arc, stored_arcs};
 
 use crate::net::Net;
 use crate::star::forward_star;
-use crate::stored::StoredArc;
+use crate::stored::Link;
 use crate::surplus::move_surplus;
+use crate::widths::put_width;
 use mcf_instance::{Arc, Instance};
 use mcf_text::{ArcId, NoMemory, NodeId};
 use std::alloc::Global;
@@ -31,11 +32,12 @@ impl Net {
     {
         let nodes = instance.node_count();
         let mut supplies = supplies_of(alloc, instance)?;
-        let arcs = arcs_without_lows(alloc, instance, &mut supplies)?;
-        let (firsts, outs) = forward_star(alloc, &arcs, nodes)?;
+        let (links, widths) = arcs_without_lows(alloc, instance, &mut supplies)?;
+        let (firsts, outs) = forward_star(alloc, &links, nodes)?;
         Ok(Net {
             problem: instance.problem(),
-            arcs,
+            links,
+            widths,
             supplies,
             firsts,
             outs,
@@ -43,44 +45,48 @@ impl Net {
     }
 }
 
-// The arcs with their lows taken away, which leaves of the supplies what each node still has to send, in one pass.
+// The links and the widths of the arcs without their lows, which leaves of the supplies what each node still has to send, in one pass.
 fn arcs_without_lows(
     alloc: Global,
     instance: &Instance,
     left: &mut Vec<i128>,
-) -> Result<Vec<StoredArc>, NoMemory>
+) -> Result<(Vec<Link>, Vec<i64>), NoMemory>
     requires { left.old.items ≡ instance.now.supplies }
-    ensures value { IfOk result (λ arcs. map stored_arc arcs.items ≡ map without_low instance.now.arcs) }
+    ensures value { IfOk result (λ made. stored_arcs made.0.items made.1.items ≡ map without_low instance.now.arcs) }
     ensures left { OnOk result (left.new.items ≡ map (supply_left instance.now) (range_with_len 1 (node_count instance.now))) }
     ensures wants { OnErr result (1 ≤ length instance.now.arcs) }
 {
     let count = instance.arc_count();
-    let mut arcs = Vec::with_capacity(alloc, count as usize)?;
+    let mut links = Vec::with_capacity(alloc, count as usize)?;
+    let mut widths = Vec::new(alloc);
     for i in 0..count {
         let a = instance.arc(ArcId::at(i));
         move_surplus(left, a.src, a.dst, a.low);
-        arcs.push(without_low(a))?;
+        let (link, width) = without_low(a);
+        links.push(link)?;
+        put_width(&mut widths, i as usize, width, count as usize)?;
     }
-    Ok(arcs)
+    Ok((links, widths))
 }
 
-// The arc with its low taken away.
-fn without_low(a: Arc) -> StoredArc
+// The arc with its low taken away, and its width.
+fn without_low(a: Arc) -> (Link, i64)
     requires { IsArcWithinLimits wide_limits a }
-    ensures { stored_arc result ≡ without_low a }
+    ensures { stored_arc result.0 result.1 ≡ without_low a }
 {
     let src = a.src.get();
     let dst = a.dst.get();
-    StoredArc {
+    let link = Link {
         src,
         dst,
-        width: if src == dst {
-            0
-        } else {
-            (a.cap - a.low) as i64
-        },
         cost: a.cost as i64,
-    }
+    };
+    let width = if src == dst {
+        0
+    } else {
+        (a.cap - a.low) as i64
+    };
+    (link, width)
 }
 
 // The supplies of the nodes.

@@ -46,7 +46,7 @@ impl<'n> State<'n> {
         ensures valid { IfOk result IsPseudoflow }
         ensures wants { OnErr result (1 ≤ node_count net.now) }
     {
-        let amounts = copies(alloc, net.arcs.len(), 0)?;
+        let amounts = copies(alloc, net.links.len(), 0)?;
         let surpluses = copy_of(alloc, &net.supplies)?;
         Ok(State {
             net,

@@ -1,10 +1,9 @@
-//! Arcs as a net stores them.
+//! Arcs as a net stores them: what engines read of each in one list, and the widths apart.
 
-/// An arc of a net: 24 bytes. Its flow goes from 0 to the width.
+/// An arc without its width: 16 bytes.
 #[derive(Clone, Copy, Debug)]
-pub(crate) struct StoredArc {
+pub(crate) struct Link {
     pub(crate) src: u32,
     pub(crate) dst: u32,
-    pub(crate) width: i64,
     pub(crate) cost: i64,
 }

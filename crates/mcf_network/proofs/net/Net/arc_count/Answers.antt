@@ -1,9 +1,13 @@
 use Rattle.std.proofs.Common.{arith}
-use Rattle.std.proofs.lemmas.List.{length-map}
-use Rattle.mcf_network.specs.Stored.{stored_arc}
+use Rattle.mcf_network.proofs.StoredLaws.{length-stored_arcs}
 use Rattle.mcf_network.proofs.net.Net.arc_count.Goals as goal
+
+pub overflow_cast-result : goal.overflow_cast-result
+overflow_cast-result c =
+    let count = length-stored_arcs c.self.inside.links.items c.self.inside.widths.items in
+    omega (arith, count, c.len.ensures, c.self.invariant.0.arcs)
 
 pub returns-clause-value : goal.returns-clause-value
 returns-clause-value c =
-    let count = length-map c.self.inside.arcs.items stored_arc in
+    let count = length-stored_arcs c.self.inside.links.items c.self.inside.widths.items in
     rw (← c.self.view_is) (omega (arith, count, c.len.ensures))

@@ -1,14 +1,28 @@
 use Rattle.std.proofs.Common.{arith, ap}
 use Rattle.std.proofs.lemmas.Int.{ints}
 use Rattle.mcf_instance.specs.declared.arc.Arc.{Arc}
-use Rattle.mcf_network.proofs.ArcLaws.{stored_arc_at}
+use Rattle.mcf_network.proofs.ArcLaws.{link_in_range, stored_arc_at}
 use Rattle.mcf_network.proofs.net.Net.unit_cost.Goals as goal
+
+pub index-requires : goal.index-requires
+index-requires c =
+    let n = c.self.inside in
+    omega (arith, c.place.ensures, link_in_range c.args.self.now n.problem n.links.items n.widths.items n.supplies.items c.args.r.arc c.self.view_is c.requires)
 
 pub returns-then-r-clause-value : goal.returns-then-r-clause-value
 returns-then-r-clause-value c =
     let n = c.self.inside in
-    let a = stored_arc_at c.args.self.now n.problem n.arcs.items n.supplies.items c.args.r.arc c.index.result.now c.self.view_is c.self.invariant.0 c.requires
+    let a = stored_arc_at c.args.self.now n.problem n.links.items n.widths.items n.supplies.items c.args.r.arc c.index.result.now c.self.view_is c.self.invariant.0 c.requires
     (rw (← c.place.ensures) c.index.ensures) in
     let e = ap (λ (x : Arc). x.cost) a.is in
     let small = a.arc.cost_small in
     rw c.if-r.true (omega (arith, ints, e, small, c.from-cost.ensures))
+
+pub returns-else-r-clause-value : goal.returns-else-r-clause-value
+returns-else-r-clause-value c =
+    let n = c.self.inside in
+    let a = stored_arc_at c.args.self.now n.problem n.links.items n.widths.items n.supplies.items c.args.r.arc c.index.result.now c.self.view_is c.self.invariant.0 c.requires
+    (rw (← c.place.ensures) c.index.ensures) in
+    let e = ap (λ (x : Arc). x.cost) a.is in
+    let small = a.arc.cost_small in
+    rw c.if-r.false (omega (arith, ints, e, small, c.from-cost.ensures))

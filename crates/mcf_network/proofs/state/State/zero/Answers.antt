@@ -1,30 +1,39 @@
-use Rattle.std.proofs.Common.{◌≡◌, ◌≤◌, arith, rules, map, pos, length, replicate, subst}
-use Rattle.std.proofs.lemmas.List.{length-map}
+use Rattle.std.proofs.Common.{◌≡◌, ◌≤◌, ◌∙◌, List, ap, arith, rules, ℤ, pos, length, replicate, subst, sym}
 use Rattle.mcf_instance.specs.Network.{Network, node_count}
-use Rattle.mcf_network.specs.States.{KeepsSurplus}
-use Rattle.mcf_network.specs.Stored.{stored_arc}
+use Rattle.mcf_network.specs.States.{KeepsSurplus, Pseudoflow}
+use Rattle.mcf_network.specs.Stored.{stored_arcs}
 use Rattle.mcf_network.proofs.ArcLaws.{arcs_need_nodes}
 use Rattle.mcf_network.proofs.StateLaws.{zero_keeps}
+use Rattle.mcf_network.proofs.StoredLaws.{length-stored_arcs}
 use Rattle.mcf_network.proofs.state.State.zero.Goals as goal
 
 pub invariant_of-result : goal.invariant_of-result
 invariant_of-result c =
-    let e : c.in_ok-amounts.amounts.items ≡ replicate (length c.net.inside.arcs.items) (pos 0) = search rules in
+    let e : c.in_ok-amounts.amounts.items ≡ replicate (length c.net.inside.links.items) (pos 0) = search rules in
     let f : c.in_ok-surpluses.surpluses.items ≡ c.net.inside.supplies.items = search rules in
-    rw (e, f, ← length-map c.net.inside.arcs.items stored_arc, ← c.net.view_is) (zero_keeps _ c.net.invariant.0)
+    rw (e, f, ← length-stored_arcs c.net.inside.links.items c.net.inside.widths.items, ← c.net.view_is) (zero_keeps _ c.net.invariant.0)
+
+pub returns-clause-value : goal.returns-clause-value
+returns-clause-value c =
+    let links = c.net.inside.links.items in
+    let e : c.in_ok-amounts.amounts.items ≡ replicate (length links) (pos 0) = search rules in
+    let count : length links ≡ length c.args.net.now.arcs = sym (length-stored_arcs links c.net.inside.widths.items)
+    ∙ ap (λ (g : Network). length g.arcs) c.net.view_is in
+    let state : List ℤ → Pseudoflow = λ amounts. record { net = c.args.net.now; amounts = amounts } in
+    ap state (e ∙ ap (λ n. replicate n (pos 0)) count)
 
 pub returns-clause-valid : goal.returns-clause-valid
 returns-clause-valid c =
-    let e : c.in_ok-amounts.amounts.items ≡ replicate (length c.net.inside.arcs.items) (pos 0) = search rules in
+    let e : c.in_ok-amounts.amounts.items ≡ replicate (length c.net.inside.links.items) (pos 0) = search rules in
     let f : c.in_ok-surpluses.surpluses.items ≡ c.net.inside.supplies.items = search rules in
     let kept : KeepsSurplus (record { net = c.args.net.now; amounts = c.in_ok-amounts.amounts.items }) c.in_ok-surpluses.surpluses.items =
-    rw (e, f, ← length-map c.net.inside.arcs.items stored_arc, ← c.net.view_is) (zero_keeps _ c.net.invariant.0) in
+    rw (e, f, ← length-stored_arcs c.net.inside.links.items c.net.inside.widths.items, ← c.net.view_is) (zero_keeps _ c.net.invariant.0) in
     kept.flow
 
 pub returns-in_err-amounts-clause-wants : goal.returns-in_err-amounts-clause-wants
 returns-in_err-amounts-clause-wants c =
     let n = c.net.inside in
-    let here : 1 ≤ length (map stored_arc n.arcs.items) = omega (arith, length-map n.arcs.items stored_arc, c.in_err-amounts.ensures.wants) in
+    let here : 1 ≤ length (stored_arcs n.links.items n.widths.items) = omega (arith, length-stored_arcs n.links.items n.widths.items, c.in_err-amounts.ensures.wants) in
     let some : 1 ≤ node_count c.args.net.now = subst (λ (g : Network). 1 ≤ node_count g) c.net.view_is
-    (arcs_need_nodes (length n.supplies.items) (map stored_arc n.arcs.items) c.net.invariant.0.ends here) in
+    (arcs_need_nodes (length n.supplies.items) (stored_arcs n.links.items n.widths.items) c.net.invariant.0.ends here) in
     search rules
