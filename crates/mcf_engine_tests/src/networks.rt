@@ -126,6 +126,16 @@ fn a_loop_has_no_width(rt: HostRuntime) -> Result<(), Fail> {
     Ok(())
 }
 
+#[test]
+fn widths_of_one_are_told_among_others(rt: HostRuntime) -> Result<(), Fail> {
+    let ones = b"p min 2 2\na 1 2 0 1 5\na 2 1 2 3 0\n";
+    assert!(rt; is_net(rt.alloc(), ones, &[1, 1], &[2, -2], 2)?);
+    let mixed =
+        b"p min 2 6\na 1 2 0 1 0\na 2 1 0 1 0\na 1 1 0 1 0\na 1 2 0 1 0\na 1 2 0 2 0\na 2 1 0 1 0\n";
+    assert!(rt; is_net(rt.alloc(), mixed, &[1, 1, 0, 1, 2, 1], &[0, 0], 7)?);
+    Ok(())
+}
+
 // Three units are to go over an arc that carries four.
 const WIDE_ARC: &[u8] = b"p min 2 1\nn 1 3\nn 2 -3\na 1 2 0 4 7\n";
 

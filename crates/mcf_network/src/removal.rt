@@ -45,7 +45,7 @@ impl Net {
     }
 }
 
-// The arcs with their lows taken away, which leaves of the supplies what each node still has to send, in one pass.
+// The links and the widths of the arcs without their lows, which leaves of the supplies what each node still has to send, in one pass.
 fn arcs_without_lows(
     alloc: Global,
     instance: &Instance,
