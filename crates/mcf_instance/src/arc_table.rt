@@ -10,7 +10,7 @@ use std::marker::Model;
 
 /// A list of arcs. A clause sees the arcs in order.
 ///
-/// The arcs of an assignment, and of any instance of the kind, take half of the memory that bounds of their own would take.
+/// While all have low 0 and cap 1, as those of an assignment do, they take half the memory.
 #[derive(Drop)]
 pub(crate) struct ArcTable {
     stored: Stored,
