@@ -224,7 +224,11 @@ impl State {
     /// Takes the first line of a text in, where it is a good arc line of an assignment and plain, and answers
     /// how many bytes it has with the one that ends it; else nothing changes.
     #[inline(always)]
-    pub(crate) fn take_pair(&mut self, header: Header, text: &[u8]) -> Result<Option<usize>, NoMemory>
+    pub(crate) fn take_pair(
+        &mut self,
+        header: Header,
+        text: &[u8],
+    ) -> Result<Option<usize>, NoMemory>
         requires header { self.old.header ≡ Some header }
         requires problem { header.problem ≡ Problem.Asn }
         ensures taken { IfOk result (λ len. TakesArc self.old text.now len self.new) }
@@ -239,7 +243,11 @@ impl State {
 
     /// The same of the flow problem.
     #[inline(always)]
-    pub(crate) fn take_link(&mut self, header: Header, text: &[u8]) -> Result<Option<usize>, NoMemory>
+    pub(crate) fn take_link(
+        &mut self,
+        header: Header,
+        text: &[u8],
+    ) -> Result<Option<usize>, NoMemory>
         requires header { self.old.header ≡ Some header }
         requires problem { header.problem ≡ Problem.Min }
         ensures taken { IfOk result (λ len. TakesArc self.old text.now len self.new) }
