@@ -1,7 +1,7 @@
 -- Arc lines of the plain form at the front of a text.
-use Rattle.std.proofs.Common.{◌≡◌, ◌≢◌, ℕ, zero, suc, ◌+◌, ◌-◌, ◌^◌, ◌<◌, ◌≤◌, min, true, false, inl, inr, List, [], ◌∷◌, ◌++◌, length, get_or, take, drop, Ok, Err, Some, None}
+use Rattle.std.proofs.Common.{◌≡◌, ◌≢◌, ℕ, zero, suc, ◌+◌, ◌-◌, ◌^◌, ◌<◌, ◌≤◌, min, true, false, inl, inr, List, [], ◌∷◌, ◌++◌, length, get_or, take, drop, Ok, Some, None}
 use Rattle.std.proofs.Common.{refl, sym, ap, subst, ◌∙◌, add-one, arith}
-use Rattle.std.specs.Prelude.{codes, ℤ, pos, neg_ℤ, ◌-ℤ◌, ◌≤ℤ◌, slice_index_or, Bool, IfOk, IfSome, Option, Result}
+use Rattle.std.specs.Prelude.{codes, ℤ, pos, neg_ℤ, ◌-ℤ◌, ◌≤ℤ◌, slice_index_or, Bool, IfSome, Option, Result}
 use Rattle.std.proofs.lemmas.Int.{ints, to_z-of_z, to_z_pos}
 use mir.Syntax.{w64}
 use mir.Val.{SFits, of_z, to_z}
@@ -16,15 +16,14 @@ use Rattle.std.proofs.lemmas.List.Elements.{All-cons, All-nil}
 use Rattle.std.proofs.lemmas.Str.Parse.{digit_at}
 use Rattle.mcf_text.specs.Fields.{EndsRun, begins_kept, fields_of, is_blank, is_kept}
 use Rattle.mcf_text.specs.Lines.{line_feed, lines_of}
-use Rattle.mcf_text.specs.Whole.{digits_sum, is_whole, whole_value}
+use Rattle.mcf_text.specs.Whole.{digits_sum}
 use Rattle.mcf_text.proofs.FieldsLemmas.{fields_of-blank, fields_of-run, is_kept-fields_of}
 use Rattle.mcf_text.proofs.LinesLemmas.{lines_of-at}
-use Rattle.mcf_text.proofs.LeadingLemmas.{BeginsWithNumber, begins_with_digits, begins_with_minus, ends_at_blank, ends_at_end}
+use Rattle.mcf_text.proofs.LeadingLemmas.{begins_with_digits, begins_with_minus, ends_at_blank, ends_at_end}
 use Rattle.mcf_text.proofs.WholeLemmas.{model}
 use Rattle.mcf_instance.specs.declared.arc.PackedArc.{PackedArc}
 use Rattle.mcf_instance.specs.declared.code.Code.{Code}
 use Rattle.mcf_instance.specs.declared.problem.Problem.TheVariants.{Min, Asn}
-use Rattle.mcf_instance.specs.declared.reader.line.ArcNumbers.{ArcNumbers}
 use Rattle.mcf_instance.specs.declared.reader.line.Header.{Header}
 use Rattle.mcf_instance.specs.declared.reader.plain.PlainArc.{PlainArc}
 use Rattle.mcf_instance.specs.Limits.{limits}

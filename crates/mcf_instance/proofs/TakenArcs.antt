@@ -1,10 +1,10 @@
 -- Arc lines taken in one after another.
-use Rattle.std.proofs.Common.{◌≡◌, ℕ, ◌+◌, ◌≤◌, true, List, [], ◌∷◌, ◌++◌, length, take, drop, Ok, Err, Some, None}
+use Rattle.std.proofs.Common.{◌≡◌, ℕ, ◌+◌, ◌≤◌, List, [], ◌∷◌, ◌++◌, length, take, drop, Ok, Some, None}
 use Rattle.std.proofs.Common.{refl, sym, ap, subst, ◌∙◌, arith, append_assoc, append-nil, length-append, drop-drop, length-drop}
-use Rattle.std.specs.Prelude.{codes, slice_index_or, IfOk, IfSome, Option, Result}
+use Rattle.std.specs.Prelude.{codes, slice_index_or, IfSome, Option}
 use Rattle.std.specs.List.{enumerate_from}
 use Rattle.mcf_text.specs.Feed.{BeginsWithLines, Feed, after_lines}
-use Rattle.mcf_text.specs.Fields.{fields_of, is_kept}
+use Rattle.mcf_text.specs.Fields.{fields_of}
 use Rattle.mcf_text.specs.Lines.{lines_of, numbered_lines}
 use Rattle.mcf_text.specs.Row.{row_of}
 use Rattle.mcf_text.proofs.LinesLemmas.{length-numbered_lines}

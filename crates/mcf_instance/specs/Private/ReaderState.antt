@@ -2,7 +2,6 @@
 use Rattle.std.specs.Prelude.{ℕ, ◌+◌, ◌-◌, Bool, true, false, if◌then◌else◌, List, [], ◌∷◌, ◌++◌, map, length, bytes_eq, codes, nat_lt, option_map, slice_set}
 use Rattle.std.specs.Prelude.{slice_index_or, replicate, ℤ, pos, neg_ℤ, Option, Some, None, is_some, Result, Ok, Err}
 use Rattle.std.specs.Option.{option_or}
-use Rattle.mcf_instance.specs.declared.arc.PackedArc.{PackedArc}
 use Rattle.mcf_instance.specs.declared.code.Code.{Code}
 use Rattle.mcf_instance.specs.declared.code.Code.TheVariants.{Kind, NoP, Missing}
 use Rattle.mcf_instance.specs.declared.problem.Problem.{Problem as Format}
@@ -35,10 +34,6 @@ item_of allowed s fields =
     else (if bytes_eq (slice_index_or fields 0 []) (codes "n") then (node_line allowed s.header (length s.arcs) s.listed fields >>= λ n. Ok (Supply n.0 n.1))
     else (if bytes_eq (slice_index_or fields 0 []) (codes "a") then (arc_line allowed s.header (length s.arcs) s.total s.listed fields >>= λ a. Ok (Link a))
     else Err Kind))
-
--- what an arc line says, as what a line says
-abbrev pub linked : Result PackedArc Code → Result Item Code
-linked arc = arc >>= λ a. Ok (Link a)
 
 -- the supply of a node without a node line
 abbrev pub default_supply : Format → ℤ

@@ -1,4 +1,4 @@
-use Rattle.std.proofs.Common.{◌≡◌, ◌+◌, ◌∙◌, ap, arith, drop, sym}
+use Rattle.std.proofs.Common.{◌+◌, ◌∙◌, ap, arith, drop, sym}
 use Rattle.std.proofs.lemmas.List.{take_rest}
 use Rattle.std.proofs.lemmas.Result.{err_from_is_err_and}
 use Rattle.mcf_text.specs.Lines.{numbered_lines}

@@ -1,4 +1,4 @@
-use Rattle.std.proofs.Common.{◌<◌, ◌∙◌, arith, length, sym}
+use Rattle.std.proofs.Common.{◌<◌, arith, length}
 use Rattle.mcf_text.proofs.LeadingLemmas.{are_leading, counted_all, counted_more, counted_other, value_before}
 use Rattle.mcf_text.proofs.WholeLemmas.{digits_longer, value_longer}
 use Rattle.mcf_text.proofs.leading.digits_among.Goals as goal
