@@ -157,11 +157,17 @@ fn pops(feed: &mut LineFeed, number: u128, bytes: &[u8]) -> bool {
     }
 }
 
+// Whether the lines of a feed that weren't popped have these bytes.
+fn keeps(feed: &LineFeed, bytes: &[u8]) -> bool {
+    feed.rest() == bytes
+}
+
 #[test]
 fn lines_of_two_pieces(rt: HostRuntime) -> Result<(), Fail> {
     let mut feed = LineFeed::new(rt.alloc());
     feed.feed(b"c one\n\n\rp m")?;
     assert!(rt; feed.popped() == 0);
+    assert!(rt; keeps(&feed, b"c one\n\n\rp m"));
     feed.feed(b"in 2 1\nlast")?;
     feed.end();
     assert!(rt; pops(&mut feed, 1, b"c one"));

@@ -2,7 +2,7 @@
 //! ample memory.
 use mcf_text::{
     ArcId, NoMemory, NodeId, Whole, fields, ids_are_ordered_by_number, is_kept, lines, put_number,
-    whole,
+    split_line, whole,
 };
 use std::test::Fail;
 
@@ -29,6 +29,24 @@ static NUMBERED: [(u128, &[u8]); 3] = [(1, b"c one"), (2, b""), (3, b"\rp min 2 
 fn lines_are_numbered(rt: HostRuntime) -> Result<(), Fail> {
     assert!(rt; has_lines(b"c one\n\n\rp min 2 1", &NUMBERED));
     Ok(())
+}
+
+// Whether a text is split into this first line and these bytes behind the end of it.
+fn splits(text: &[u8], line: &[u8], rest: &[u8]) -> bool {
+    let Some((first, behind)) = split_line(text) else {
+        return false;
+    };
+    let is_line = first == line;
+    let is_rest = behind == rest;
+    is_line && is_rest
+}
+
+#[test]
+fn the_first_line_is_split_off(rt: HostRuntime) {
+    assert!(rt; splits(b"c one\n\n\rp", b"c one", b"\n\rp"));
+    assert!(rt; splits(b"\nlast", b"", b"last"));
+    assert!(rt; splits(b"last", b"last", b""));
+    assert!(rt; split_line(b"").is_none());
 }
 
 static LINE_COUNTS: [(&[u8], usize); 8] = [
