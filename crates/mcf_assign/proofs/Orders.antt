@@ -9,6 +9,7 @@ use Rattle.std.proofs.lemmas.List.Elements.{All-contains, Contains-append_left, 
 use Rattle.std.proofs.lemmas.List.Quantifiers.{all_pairs_push}
 use Rattle.mcf_instance.specs.Blocking.{in_table}
 use Rattle.mcf_instance.specs.Network.{IsArcNumber, IsNode, node_count}
+use Rattle.mcf_network.specs.declared.rid.Rid.{Rid}
 use Rattle.mcf_network.specs.NodeSets.{member_count, with_node}
 use Rattle.mcf_network.specs.States.{Pseudoflow, amount_at}
 use Rattle.mcf_network.specs.Walks.{HasRoom}
@@ -131,7 +132,8 @@ ordered_kept s q q' source order order' same settled links was =
 
 -- ---- one pair more
 
-module _ (s : Pseudoflow) (y : List ℤ) (q q' : Search) (source c r k0 : ℕ) (order : List ℕ) (ok : IsPartialMatching s) (search : IsSearch s y q source [])
+module _ (s : Pseudoflow) (y : List ℤ) (q q' : Search) (source c r k0 : ℕ) (order : List ℕ) (rest0 : List Rid) (ok : IsPartialMatching s)
+    (search : IsSearch s y q source rest0)
     (was : IsOrder s q source order) (step : IsSettling s q q' c r) (pair : IsPair s k0) (at_column : column_of s k0 ≡ c) (at_row : row_of s k0 ≡ r)
     (waits : Waits q c) (more : member_count q'.settled ≡ member_count q.settled + 2) where
   abbrev longer : List ℕ
@@ -319,13 +321,12 @@ begun_order s q q' source i order ok row free count unsettled ei settled listed 
     subst (λ o. IsOrder s q' source o) (sym listed) (ordered_start s q' source ok row only here one free)
 
 -- a pair that is settled counts two more
-pub two_more : (s : Pseudoflow) (y : List ℤ) (q : Search) (source c r k0 : ℕ) → IsPartialMatching s → length q.settled ≡ node_count s.net
-    → IsSearch s y q source [] → IsPair s k0 → column_of s k0 ≡ c → row_of s k0 ≡ r → Waits q c
+pub two_more : (s : Pseudoflow) (y : List ℤ) (q : Search) (source c r k0 : ℕ) (rest : List Rid) → IsPartialMatching s → length q.settled ≡ node_count s.net
+    → IsSearch s y q source rest → IsPair s k0 → column_of s k0 ≡ c → row_of s k0 ≡ r → ¬ Settled q c
     → member_count (settled_pair q c r).settled ≡ member_count q.settled + 2
-two_more s y q source c r k0 ok count search pair at_column at_row waits =
+two_more s y q source c r k0 rest ok count search pair at_column at_row c_new =
     let c_is : IsColumn s c = subst (λ v. IsColumn s v) at_column (column_is s k0 ok pair.arc) in
     let r_is : IsRow s r = subst (λ v. IsRow s v) at_row (row_is s k0 ok pair.arc) in
-    let c_new : ¬ Settled q c = search.apart c c_is.0 waits in
     let r_new : ¬ Settled q r = λ (h : Settled q r). c_new
     (subst (λ v. Settled q v) at_column (search.pairs k0 pair (subst (λ v. Settled q v) (sym at_row) h)).0) in
     let nc : IsNode (length q.settled) c = (let n = c_is.0 in (n.0, omega (arith, n, count))) in

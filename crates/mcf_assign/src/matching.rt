@@ -217,7 +217,7 @@ fn first_prices(alloc: Global, net: &Net) -> Result<Vec<i128>, NoMemory>
 }
 
 // How often the searches look at each arc, on the average, between two updates of all prices.
-const LOOKS_PER_ARC: u64 = 2;
+const LOOKS_PER_ARC: u64 = 1;
 
 // The price with which a row begins: no cost is further below 0.
 const FIRST_PRICE: i128 = -1_000_000_000_000_000;

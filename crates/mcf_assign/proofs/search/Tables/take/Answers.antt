@@ -1,79 +1,100 @@
-use Rattle.std.proofs.Common.{◌≡◌, ◌<◌, arith, to_z, of_z, rules, ◌∙◌, ap, sym, subst, refl, ◌-◌, ◌≤ℤ◌, ℕ, false, List, ◌∷◌, get_or}
+use Rattle.std.proofs.Common.{◌≡◌, ◌<◌, arith, to_z, of_z, rules, ◌∙◌, ap, sym, subst, refl, ◌-◌, ◌≤ℤ◌, [], ◌∷◌, get_or}
 use mir.Syntax.{w128}
 use Rattle.std.proofs.lemmas.Bool.{true≢false}
-use Rattle.std.proofs.lemmas.Int.{to_z-of_z}
+use Rattle.std.proofs.lemmas.Int.{ints, to_z-of_z}
 use Rattle.mcf_instance.specs.Network.{IsNode, node_count}
-use Rattle.mcf_network.specs.declared.rid.Rid.{Rid}
-use Rattle.mcf_assign.specs.Matchings.{IsMatchedColumn, column_of, row_of}
-use Rattle.mcf_assign.specs.Private.Searches.{IsBestUpTo, IsLast, IsNear, IsSearch, Search, Settled, Waits, dist_at, link_at, offer, search_of}
-use Rattle.mcf_assign.proofs.Near.{near_best, near_lowered}
-use Rattle.mcf_assign.proofs.PairLaws.{column_is, row_is}
-use Rattle.mcf_assign.proofs.Relaxing.{last_lowered, lowered_is, read_mark, relaxed_best, relaxed_far, relaxed_lower, relaxed_settled, relaxed_worse}
+use Rattle.mcf_assign.specs.Matchings.{IsColumn, IsMatchedColumn, column_of, row_of}
+use Rattle.mcf_assign.specs.Private.RowLists.{forward_of}
+use Rattle.mcf_assign.specs.Private.Scans.{IsStep}
+use Rattle.mcf_assign.specs.Private.Searches.{IsBestUpTo, Search, Settled, Waits, dist_at, lowered, offer, search_of, settled_pair}
+use Rattle.mcf_assign.proofs.PairLaws.{column_is}
+use Rattle.mcf_assign.proofs.Relaxing.{lowered_is, read_mark, relaxed_best, relaxed_far, relaxed_lower, relaxed_settled, relaxed_worse}
+use Rattle.mcf_assign.proofs.Scans.{best_step, idle_step, lower_step, once_step, pair_room, rows_idle}
 use Rattle.mcf_assign.proofs.search.Tables.take.Goals as goal
 
-pub returns-then-not-is_better-clause-search : goal.returns-then-not-is_better-clause-search
-returns-then-not-is_better-clause-search c =
+pub returns-then-not-is_better-clause-step : goal.returns-then-not-is_better-clause-step
+returns-then-not-is_better-clause-step c =
     let s = c.args.state.now in
+    let y = c.args.prices.now in
     let q = search_of c.args.self.now in
     let k = c.args.a.arc in
     let d : to_z w128 (of_z w128 c.args.dist) ≡ c.args.dist = search (rules, to_z-of_z) in
     let worse = subst (λ x. IsBestUpTo c.args.self.now.best x) (d ∙ c.requires.dist) c.if-not-is_better.ensures in
-    relaxed_worse s c.args.prices.now q k c.requires.matching c.requires.prices c.requires.arc.arc c.requires.settled c.requires.last worse
+    idle_step s y q c.args.self.now.order.items (row_of s k) (forward_of c.args.a ∷ [])
+    (relaxed_worse s y q k c.requires.matching c.requires.prices c.requires.arc.arc c.requires.settled c.requires.last worse)
 
-pub returns-then-index-clause-search : goal.returns-then-index-clause-search
-returns-then-index-clause-search c =
+pub returns-then-index-clause-step : goal.returns-then-index-clause-step
+returns-then-index-clause-step c =
     let s = c.args.state.now in
+    let y = c.args.prices.now in
     let q = search_of c.args.self.now in
     let k = c.args.a.arc in
     let is = column_is s k c.requires.matching c.requires.arc.arc in
     let node = is.0 in
     let place : c.args.a.column - 1 ≡ column_of s k - 1 = ap (λ v. v - 1) (sym c.requires.arc.to) in
-    let count = c.requires.entries.settled_count in
+    let count = c.requires.sound.1.entries.settled_count in
     let mark = read_mark c.args.self.now.marks.items (c.args.a.column - 1) (column_of s k) c.index.result.now c.index.ensures place
     (omega (arith, node, place, count)) in
-    relaxed_settled s c.args.prices.now q k c.requires.matching c.requires.prices c.requires.arc.arc c.requires.settled c.requires.last (mark ∙ c.if-index.true)
+    idle_step s y q c.args.self.now.order.items (row_of s k) (forward_of c.args.a ∷ [])
+    (relaxed_settled s y q k c.requires.matching c.requires.prices c.requires.arc.arc c.requires.settled c.requires.last (mark ∙ c.if-index.true))
 
-pub returns-then-mates-c-eq0-clause-search : goal.returns-then-mates-c-eq0-clause-search
-returns-then-mates-c-eq0-clause-search c =
+pub returns-then-mates-c-eq0-clause-step : goal.returns-then-mates-c-eq0-clause-step
+returns-then-mates-c-eq0-clause-step c =
     let s = c.args.state.now in
+    let y = c.args.prices.now in
     let q = search_of c.args.self.now in
     let k = c.args.a.arc in
     let d : to_z w128 (of_z w128 c.args.dist) ≡ c.args.dist = search (rules, to_z-of_z) in
     let none : get_or c.args.mates.now (column_of s k - 1) 0 ≡ 0 = ap (λ v. get_or c.args.mates.now (v - 1) 0) c.requires.arc.to ∙ c.if-mates-c-eq0.true in
     let free = c.requires.mates.no_column (column_of s k) (column_is s k c.requires.matching c.requires.arc.arc) none in
-    relaxed_best s c.args.prices.now q k c.requires.matching c.requires.prices c.requires.arc.arc c.requires.settled c.requires.last k
-    (to_z w128 (of_z w128 c.args.dist)) refl (d ∙ c.requires.dist) free c.if-not-is_better.ensures
+    best_step s y q c.args.self.now.order.items k c.requires.matching c.requires.arc.arc c.requires.settled k (to_z w128 (of_z w128 c.args.dist)) refl
+    (d ∙ c.requires.dist)
+    (relaxed_best s y q k c.requires.matching c.requires.prices c.requires.arc.arc c.requires.settled c.requires.last k (to_z w128 (of_z w128 c.args.dist)) refl
+    (d ∙ c.requires.dist) free c.if-not-is_better.ensures)
 
-pub returns-then-mates-c-eq0-clause-near : goal.returns-then-mates-c-eq0-clause-near
-returns-then-mates-c-eq0-clause-near c source b near =
-    let d : to_z w128 (of_z w128 c.args.dist) ≡ c.args.dist = search (rules, to_z-of_z) in
-    near_best c.args.state.now c.args.prices.now (search_of c.args.self.now) source b c.args.a.arc c.args.a.arc (to_z w128 (of_z w128 c.args.dist))
-    c.requires.matching near c.requires.arc.arc c.requires.settled refl (d ∙ c.requires.dist)
+pub settle_at_once-requires-clause-waits : goal.settle_at_once-requires-clause-waits
+settle_at_once-requires-clause-waits c = (c.is_at_hand.ensures c.if-is_at_hand.true).0
 
-pub returns-then-not-is_nearer-clause-search : goal.returns-then-not-is_nearer-clause-search
-returns-then-not-is_nearer-clause-search c =
+pub settle_at_once-requires-clause-column : goal.settle_at_once-requires-clause-column
+settle_at_once-requires-clause-column c =
     let s = c.args.state.now in
+    let column : c.new-column.result ≡ column_of s c.args.a.arc = c.new-column.ensures ∙ sym c.requires.arc.to in
+    subst (λ v. IsColumn s v) (sym column) (column_is s c.args.a.arc c.requires.matching c.requires.arc.arc)
+
+pub settle_at_once-requires-clause-matched : goal.settle_at_once-requires-clause-matched
+settle_at_once-requires-clause-matched c =
+    let s = c.args.state.now in
+    let y = c.args.prices.now in
     let q = search_of c.args.self.now in
     let k = c.args.a.arc in
-    let d : to_z w128 (of_z w128 c.args.dist) ≡ c.args.dist = search (rules, to_z-of_z) in
-    let column : c.new-column.result ≡ column_of s k = c.new-column.ensures ∙ sym c.requires.arc.to in
-    let far = c.if-not-is_nearer.ensures in
-    let waits : Waits q (column_of s k) = subst (λ v. Waits q v) column far.0 in
-    let less = far.1 in
-    let less' : dist_at q (column_of s k) ≤ℤ offer s c.args.prices.now q k = subst (λ x. dist_at q (column_of s k) ≤ℤ x) (d ∙ c.requires.dist)
-    (subst (λ v. dist_at q v ≤ℤ to_z w128 (of_z w128 c.args.dist)) column less) in
-    relaxed_far s c.args.prices.now q k c.requires.matching c.requires.prices c.requires.arc.arc c.requires.settled c.requires.last waits less'
-
-pub returns-clause-search : goal.returns-clause-search
-returns-clause-search c =
-    let s = c.args.state.now in
-    let q = search_of c.args.self.now in
-    let k = c.args.a.arc in
-    let d : to_z w128 (of_z w128 c.args.dist) ≡ c.args.dist = search (rules, to_z-of_z) in
     let is = column_is s k c.requires.matching c.requires.arc.arc in
     let node = is.0 in
     let place : c.args.a.column - 1 ≡ column_of s k - 1 = ap (λ v. v - 1) (sym c.requires.arc.to) in
-    let count = c.requires.entries.settled_count in
+    let count = c.requires.sound.1.entries.settled_count in
+    let mark = read_mark c.args.self.now.marks.items (c.args.a.column - 1) (column_of s k) c.index.result.now c.index.ensures place
+    (omega (arith, node, place, count)) in
+    let mated = c.if-mates-c-eq0.false in
+    let some : 0 < get_or c.args.mates.now (column_of s k - 1) 0 = subst (λ i. 0 < get_or c.args.mates.now i 0) place (omega (arith, mated)) in
+    let pair = c.requires.mates.column (column_of s k) is some in
+    let matched : IsMatchedColumn s (column_of s k) = (get_or c.args.mates.now (column_of s k - 1) 0, pair.0, pair.1) in
+    let column : c.new-column.result ≡ column_of s k = c.new-column.ensures ∙ sym c.requires.arc.to in
+    subst (λ v. IsMatchedColumn s v) (sym column) matched
+
+pub settle_at_once-requires-clause-idle : goal.settle_at_once-requires-clause-idle
+settle_at_once-requires-clause-idle c =
+    let was = c.requires.sound in
+    rows_idle c.args.state.now c.args.prices.now (search_of c.args.self.now) was.0 c.args.self.now.order.items c.requires.matching was.1
+
+pub settle_at_once-requires-clause-room : goal.settle_at_once-requires-clause-room
+settle_at_once-requires-clause-room c =
+    let s = c.args.state.now in
+    let y = c.args.prices.now in
+    let q = search_of c.args.self.now in
+    let k = c.args.a.arc in
+    let is = column_is s k c.requires.matching c.requires.arc.arc in
+    let node = is.0 in
+    let place : c.args.a.column - 1 ≡ column_of s k - 1 = ap (λ v. v - 1) (sym c.requires.arc.to) in
+    let count = c.requires.sound.1.entries.settled_count in
     let mark = read_mark c.args.self.now.marks.items (c.args.a.column - 1) (column_of s k) c.index.result.now c.index.ensures place
     (omega (arith, node, place, count)) in
     let fresh : ¬ Settled q (column_of s k) = λ (h : Settled q (column_of s k)). absurd (true≢false (sym h ∙ mark ∙ c.if-index.false)) in
@@ -82,82 +103,91 @@ returns-clause-search c =
     let pair = c.requires.mates.column (column_of s k) is some in
     let matched : IsMatchedColumn s (column_of s k) = (get_or c.args.mates.now (column_of s k - 1) 0, pair.0, pair.1) in
     let column : c.new-column.result ≡ column_of s k = c.new-column.ensures ∙ sym c.requires.arc.to in
-    let step = lowered_is s c.args.prices.now q k c.new-column.result (to_z w128 (of_z w128 c.args.dist)) c.requires.entries
-    (subst (λ v. IsNode (node_count s.net) v) (sym column) node) column (d ∙ c.requires.dist) c.if-not-is_nearer.ensures in
-    subst (λ (x : Search). (source : ℕ) (rest : List Rid) → IsSearch s c.args.prices.now q source (record { arc = k; back = false } ∷ rest) → IsSearch s
-    c.args.prices.now x source rest) (sym c.lower.ensures.value)
-    (relaxed_lower s c.args.prices.now q k c.requires.matching c.requires.prices c.requires.arc.arc c.requires.settled c.requires.last _ matched fresh step)
+    let was = c.requires.sound in
+    let few = pair_room s y q was.0 (get_or c.args.mates.now (column_of s k - 1) 0) c.args.self.now.order.items c.requires.matching was.1 pair.0
+    (λ h. fresh (subst (λ v. Settled q v) pair.1 h)) in
+    let room = c.requires.room in
+    omega (arith, few, room)
 
-pub returns-clause-last : goal.returns-clause-last
-returns-clause-last c =
+pub returns-then-is_at_hand-clause-step : goal.returns-then-is_at_hand-clause-step
+returns-then-is_at_hand-clause-step c =
     let s = c.args.state.now in
+    let y = c.args.prices.now in
     let q = search_of c.args.self.now in
     let k = c.args.a.arc in
     let d : to_z w128 (of_z w128 c.args.dist) ≡ c.args.dist = search (rules, to_z-of_z) in
     let is = column_is s k c.requires.matching c.requires.arc.arc in
     let node = is.0 in
     let place : c.args.a.column - 1 ≡ column_of s k - 1 = ap (λ v. v - 1) (sym c.requires.arc.to) in
-    let count = c.requires.entries.settled_count in
+    let count = c.requires.sound.1.entries.settled_count in
     let mark = read_mark c.args.self.now.marks.items (c.args.a.column - 1) (column_of s k) c.index.result.now c.index.ensures place
     (omega (arith, node, place, count)) in
     let fresh : ¬ Settled q (column_of s k) = λ (h : Settled q (column_of s k)). absurd (true≢false (sym h ∙ mark ∙ c.if-index.false)) in
+    let mated = c.if-mates-c-eq0.false in
+    let some : 0 < get_or c.args.mates.now (column_of s k - 1) 0 = subst (λ i. 0 < get_or c.args.mates.now i 0) place (omega (arith, mated)) in
+    let pair = c.requires.mates.column (column_of s k) is some in
+    let matched : IsMatchedColumn s (column_of s k) = (get_or c.args.mates.now (column_of s k - 1) 0, pair.0, pair.1) in
     let column : c.new-column.result ≡ column_of s k = c.new-column.ensures ∙ sym c.requires.arc.to in
-    let step = lowered_is s c.args.prices.now q k c.new-column.result (to_z w128 (of_z w128 c.args.dist)) c.requires.entries
-    (subst (λ v. IsNode (node_count s.net) v) (sym column) node) column (d ∙ c.requires.dist) c.if-not-is_nearer.ensures in
-    subst (λ (x : Search). IsLast s x (row_of s k)) (sym c.lower.ensures.value)
-    (last_lowered s c.args.prices.now q _ k step fresh (row_is s k c.requires.matching c.requires.arc.arc).0 c.requires.settled c.requires.last)
+    let l : to_z w128 (of_z w128 c.args.level) ≡ c.args.level = search (rules, to_z-of_z) in
+    let x = to_z w128 (of_z w128 c.args.dist) in
+    let hand = c.is_at_hand.ensures c.if-is_at_hand.true in
+    let waits = hand.0 in
+    let near = hand.1 in
+    let gives = c.requires.dist in
+    let at = c.requires.level in
+    let level : offer s y q k ≤ℤ dist_at q (row_of s k) = omega (arith, ints, d, l, near, gives, at) in
+    let step = lowered_is s y q k c.new-column.result x c.requires.sound.1.entries (subst (λ v. IsNode (node_count s.net) v) (sym column) node) column
+    (d ∙ gives) (λ w. absurd (waits w)) in
+    let was = c.requires.sound in
+    let p = c.settle_at_once.ensures.pair in
+    let once = once_step s y q c.args.self.now.order.items k c.requires.matching c.requires.arc.arc c.requires.settled c.new-column.result x fresh step
+    c.settle_at_once.result p.0 c.requires.prices was.1.entries column level c.requires.last matched p.1 p.2 p.3 was.0 was.1 in
+    subst (λ (z : Search). IsStep s y q c.args.self.now.order.items z c.settle_at_once.new.self.order.items (row_of s k) (forward_of c.args.a ∷ []))
+    (sym c.settle_at_once.ensures.value)
+    (subst (λ o. IsStep s y q c.args.self.now.order.items (settled_pair (lowered q c.new-column.result k x) c.new-column.result c.settle_at_once.result) o
+    (row_of s k) (forward_of c.args.a ∷ [])) (sym c.settle_at_once.ensures.order) once)
 
-pub returns-clause-near : goal.returns-clause-near
-returns-clause-near c source b near =
+pub returns-then-not-is_nearer-clause-step : goal.returns-then-not-is_nearer-clause-step
+returns-then-not-is_nearer-clause-step c =
     let s = c.args.state.now in
+    let y = c.args.prices.now in
+    let q = search_of c.args.self.now in
+    let k = c.args.a.arc in
+    let d : to_z w128 (of_z w128 c.args.dist) ≡ c.args.dist = search (rules, to_z-of_z) in
+    let column : c.new-column.result ≡ column_of s k = c.new-column.ensures ∙ sym c.requires.arc.to in
+    let far = c.if-not-is_nearer.ensures in
+    let waits : Waits q (column_of s k) = subst (λ v. Waits q v) column far.0 in
+    let less = far.1 in
+    let less' : dist_at q (column_of s k) ≤ℤ offer s y q k = subst (λ x. dist_at q (column_of s k) ≤ℤ x) (d ∙ c.requires.dist)
+    (subst (λ v. dist_at q v ≤ℤ to_z w128 (of_z w128 c.args.dist)) column less) in
+    idle_step s y q c.args.self.now.order.items (row_of s k) (forward_of c.args.a ∷ [])
+    (relaxed_far s y q k c.requires.matching c.requires.prices c.requires.arc.arc c.requires.settled c.requires.last waits less')
+
+pub returns-clause-step : goal.returns-clause-step
+returns-clause-step c =
+    let s = c.args.state.now in
+    let y = c.args.prices.now in
     let q = search_of c.args.self.now in
     let k = c.args.a.arc in
     let d : to_z w128 (of_z w128 c.args.dist) ≡ c.args.dist = search (rules, to_z-of_z) in
     let is = column_is s k c.requires.matching c.requires.arc.arc in
     let node = is.0 in
     let place : c.args.a.column - 1 ≡ column_of s k - 1 = ap (λ v. v - 1) (sym c.requires.arc.to) in
-    let count = c.requires.entries.settled_count in
+    let count = c.requires.sound.1.entries.settled_count in
     let mark = read_mark c.args.self.now.marks.items (c.args.a.column - 1) (column_of s k) c.index.result.now c.index.ensures place
     (omega (arith, node, place, count)) in
     let fresh : ¬ Settled q (column_of s k) = λ (h : Settled q (column_of s k)). absurd (true≢false (sym h ∙ mark ∙ c.if-index.false)) in
+    let mated = c.if-mates-c-eq0.false in
+    let some : 0 < get_or c.args.mates.now (column_of s k - 1) 0 = subst (λ i. 0 < get_or c.args.mates.now i 0) place (omega (arith, mated)) in
+    let pair = c.requires.mates.column (column_of s k) is some in
+    let matched : IsMatchedColumn s (column_of s k) = (get_or c.args.mates.now (column_of s k - 1) 0, pair.0, pair.1) in
     let column : c.new-column.result ≡ column_of s k = c.new-column.ensures ∙ sym c.requires.arc.to in
-    let step = lowered_is s c.args.prices.now q k c.new-column.result (to_z w128 (of_z w128 c.args.dist)) c.requires.entries
-    (subst (λ v. IsNode (node_count s.net) v) (sym column) node) column (d ∙ c.requires.dist) c.if-not-is_nearer.ensures in
-    subst (λ (x : Search). IsNear s c.args.prices.now x source b) (sym c.lower.ensures.value)
-    (near_lowered s c.args.prices.now q _ source b k c.requires.matching near c.requires.arc.arc c.requires.settled fresh step)
-
-pub returns-clause-links : goal.returns-clause-links
-returns-clause-links c v n h =
-    let s = c.args.state.now in
-    let q = search_of c.args.self.now in
-    let k = c.args.a.arc in
-    let d : to_z w128 (of_z w128 c.args.dist) ≡ c.args.dist = search (rules, to_z-of_z) in
-    let is = column_is s k c.requires.matching c.requires.arc.arc in
-    let node = is.0 in
-    let place : c.args.a.column - 1 ≡ column_of s k - 1 = ap (λ v. v - 1) (sym c.requires.arc.to) in
-    let count = c.requires.entries.settled_count in
-    let mark = read_mark c.args.self.now.marks.items (c.args.a.column - 1) (column_of s k) c.index.result.now c.index.ensures place
-    (omega (arith, node, place, count)) in
-    let fresh : ¬ Settled q (column_of s k) = λ (h : Settled q (column_of s k)). absurd (true≢false (sym h ∙ mark ∙ c.if-index.false)) in
-    let column : c.new-column.result ≡ column_of s k = c.new-column.ensures ∙ sym c.requires.arc.to in
-    let step = lowered_is s c.args.prices.now q k c.new-column.result (to_z w128 (of_z w128 c.args.dist)) c.requires.entries
-    (subst (λ v. IsNode (node_count s.net) v) (sym column) node) column (d ∙ c.requires.dist) c.if-not-is_nearer.ensures in
-    ap (λ x. link_at x v) c.lower.ensures.value ∙ step.links v n (λ e. fresh (subst (λ u. Settled q u) e h))
-
-pub returns-clause-dists : goal.returns-clause-dists
-returns-clause-dists c v n h =
-    let s = c.args.state.now in
-    let q = search_of c.args.self.now in
-    let k = c.args.a.arc in
-    let d : to_z w128 (of_z w128 c.args.dist) ≡ c.args.dist = search (rules, to_z-of_z) in
-    let is = column_is s k c.requires.matching c.requires.arc.arc in
-    let node = is.0 in
-    let place : c.args.a.column - 1 ≡ column_of s k - 1 = ap (λ v. v - 1) (sym c.requires.arc.to) in
-    let count = c.requires.entries.settled_count in
-    let mark = read_mark c.args.self.now.marks.items (c.args.a.column - 1) (column_of s k) c.index.result.now c.index.ensures place
-    (omega (arith, node, place, count)) in
-    let fresh : ¬ Settled q (column_of s k) = λ (h : Settled q (column_of s k)). absurd (true≢false (sym h ∙ mark ∙ c.if-index.false)) in
-    let column : c.new-column.result ≡ column_of s k = c.new-column.ensures ∙ sym c.requires.arc.to in
-    let step = lowered_is s c.args.prices.now q k c.new-column.result (to_z w128 (of_z w128 c.args.dist)) c.requires.entries
-    (subst (λ v. IsNode (node_count s.net) v) (sym column) node) column (d ∙ c.requires.dist) c.if-not-is_nearer.ensures in
-    ap (λ x. dist_at x v) c.lower.ensures.value ∙ step.dist v n (λ e. fresh (subst (λ u. Settled q u) e h))
+    let x = to_z w128 (of_z w128 c.args.dist) in
+    let step = lowered_is s y q k c.new-column.result x c.requires.sound.1.entries (subst (λ v. IsNode (node_count s.net) v) (sym column) node) column
+    (d ∙ c.requires.dist) c.if-not-is_nearer.ensures in
+    let low = lower_step s y q c.args.self.now.order.items k c.requires.matching c.requires.arc.arc c.requires.settled c.new-column.result x fresh step
+    (relaxed_lower s y q k c.requires.matching c.requires.prices c.requires.arc.arc c.requires.settled c.requires.last _ matched fresh step) in
+    subst (λ (z : Search). IsStep s y q c.args.self.now.order.items z c.lower.new.self.order.items (row_of s k) (forward_of c.args.a ∷ []))
+    (sym c.lower.ensures.value)
+    (subst (λ o. IsStep s y q c.args.self.now.order.items (lowered q c.new-column.result k x) o (row_of s k) (forward_of c.args.a ∷ []))
+    (ap (λ o. o.items) (sym c.lower.ensures.order)) low)
