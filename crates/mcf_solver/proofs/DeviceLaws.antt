@@ -1,9 +1,9 @@
 -- Bytes given and taken by one call after another.
 use Rattle.std.proofs.Common.{◌≡◌, ◌++◌, ◌+◌, ◌<◌, ℕ, List, [], Option, None, Some, IfSome, Result, Ok, Err, IfErr, length, take, drop, sym, ap, ◌∙◌}
-use Rattle.std.proofs.Common.{append_assoc, length-append, arith, ◌-◌}
+use Rattle.std.proofs.Common.{append-nil, append_assoc, length-append, arith, ◌-◌}
 use Rattle.std.proofs.Math.Seq.{take-add}
 use Rattle.std.proofs.lemmas.List.{take-append-drop, take_rest}
-use Rattle.std.specs.Io.KnownBytes.{Appends, Consumes, Keeps}
+use Rattle.std.specs.Io.KnownBytes.{Appends, Consumes, IsAtEnd, Keeps}
 use Rattle.mcf_instance.specs.Fault.{Fault}
 use Rattle.mcf_instance.specs.Limits.{limits}
 use Rattle.mcf_instance.specs.Network.{Network}
@@ -28,6 +28,14 @@ pub consumes-within : (first last : Option (List ℕ)) (bytes : List ℕ) (limit
 consumes-within None last bytes limit p q = tt
 consumes-within (Some xs) None bytes limit p q = absurd p
 consumes-within (Some xs) (Some ys) bytes limit p q = omega (arith, simp length-append at (ap length p))
+
+-- some bytes, and then the end
+pub consumes-all : (first next last : Option (List ℕ)) (bytes : List ℕ) → Consumes first next bytes → Consumes next last [] → IsAtEnd last
+    → IfSome first (λ xs. xs ≡ bytes)
+consumes-all None next last bytes p q end = tt
+consumes-all (Some xs) None last bytes p q end = absurd p
+consumes-all (Some xs) (Some ys) None bytes p q end = absurd q
+consumes-all (Some xs) (Some ys) (Some zs) bytes p q end = p ∙ ap (λ t. bytes ++ t) (q ∙ end) ∙ append-nil bytes
 
 -- some bytes, and then some more
 pub appends-then : (first next last : Option (List ℕ)) (bytes more : List ℕ)
