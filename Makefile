@@ -1,5 +1,5 @@
 # make        proves and builds the programs into bin/ and runs them on examples/
-# make test   the gate: every proof from nothing, the must-fail edits, the tests, the programs
+# make test   the gate: every proof, the must-fail edits, the tests, the programs
 # make bench  the measurements of bench/
 # make tools-test   the tests of tools/, on the plans of examples/plans/ too: needs the programs of bin/ and Python 3
 # make install      puts the programs, the planner's tool and the manual pages under PREFIX (and DESTDIR before it); make uninstall removes just these
