@@ -2,7 +2,6 @@
 use Rattle.std.proofs.Common.{◌≡◌, ℕ, ◌-◌, ◌<◌, ◌≤◌, Bool, true, false, List, length, get_or, refl, ap, sym, arith, subst, ℤ, pos, ◌-ℤ◌, ◌≤ℤ◌}
 use Rattle.std.specs.List.{All}
 use Rattle.std.proofs.lemmas.Int.{ints}
-use Rattle.std.proofs.lemmas.List.{get_or_read}
 use Rattle.mcf_instance.specs.declared.arc.Arc.{Arc}
 use Rattle.mcf_instance.specs.Flow.{CanCarry}
 use Rattle.mcf_instance.specs.Network.{Network, IsArcNumber, IsNode, at_node, node_count}
@@ -140,15 +139,14 @@ amount_in_range s g amounts k view ok h =
     (amount_of (record { net = g; amounts = amounts }) k ok (subst (λ (t : Pseudoflow). IsArcNumber t.net k) (sym view) h)).in_range
 
 pub read_amount : (s : Pseudoflow) (g : Network) (amounts : List ℤ) (k : ℕ) (x : ℤ) → record { net = g; amounts = amounts } ≡ s
-    → IsPseudoflow (record { net = g; amounts = amounts }) → IsArcNumber s.net k → x ≡ get_or amounts (k - 1) x → IsReadAmount s g k x
+    → IsPseudoflow (record { net = g; amounts = amounts }) → IsArcNumber s.net k → x ≡ get_or amounts (k - 1) (pos 0) → IsReadAmount s g k x
 read_amount s g amounts k x view ok h e =
     let here : IsArcNumber g k = subst (λ (t : Pseudoflow). IsArcNumber t.net k) (sym view) h in
     let a = amount_of (record { net = g; amounts = amounts }) k ok here in
-    let is : x ≡ get_or amounts (k - 1) (pos 0) = get_or_read amounts (k - 1) x a.in_range e (pos 0) in
     subst (λ (t : Pseudoflow). IsReadAmount t g k x) view (record {
-      is = is;
-      low = rw is a.low;
-      high = rw is a.high;
+      is = e;
+      low = rw e a.low;
+      high = rw e a.high;
       width = a.width;
       same_width = refl;
     })

@@ -1,3 +1,4 @@
+pub mod AmountLaws
 pub mod ArcLaws
 pub mod Lists
 pub mod Marks

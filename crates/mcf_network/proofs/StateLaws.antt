@@ -19,6 +19,7 @@ use Rattle.mcf_instance.proofs.Bounds.{flow_sum_up_to, when_up_to}
 use Rattle.mcf_instance.proofs.NodeSums.{when-neg}
 use Rattle.mcf_network.specs.declared.rid.Rid.{Rid}
 use Rattle.mcf_network.specs.Nets.{IsNet, IsNetArc, width_limit}
+use Rattle.mcf_network.specs.Private.StoredAmounts.{HaveWidthsUpTo}
 use Rattle.mcf_network.specs.Residual.{no_arc, arc_at, tail, head}
 use Rattle.mcf_network.specs.States.{Pseudoflow, IsPseudoflow, KeepsSurplus, amount_at, pushed, room_of, surplus_at}
 use Rattle.mcf_network.proofs.ArcLaws.{amount_count, amount_of, net_arc_at, read_amount, read_room, supply_at}
@@ -181,13 +182,12 @@ pub record IsPushStep (s : Pseudoflow) (r : Rid) (x : ℤ) (after : Pseudoflow) 
 
 module _ (g : Network) (amounts kept kept' : List ℤ) (r : Rid) (x a y : ℤ) (i from to : ℕ) where
   push_step_at : KeepsSurplus (record { net = g; amounts = amounts }) kept → i ≡ r.arc - 1 → IsArcNumber g r.arc → pos 0 ≤ℤ x
-      → x ≤ℤ room_of (record { net = g; amounts = amounts }) r → a ≡ get_or amounts i a → y ≡ cond r.back (a -ℤ x) (a +ℤ x) → from ≡ tail g r
+      → x ≤ℤ room_of (record { net = g; amounts = amounts }) r → a ≡ get_or amounts i (pos 0) → y ≡ cond r.back (a -ℤ x) (a +ℤ x) → from ≡ tail g r
       → to ≡ head g r → length kept' ≡ length kept → ((v : ℕ) → IsNode (length kept) v → at_node kept' v ≡ at_node kept v -ℤ when (eqb from v) x +ℤ when
       (eqb to v) x) → IsPushStep (record { net = g; amounts = amounts }) r x (record { net = g; amounts = set amounts i y }) kept'
   push_step_at ok ei h low high ea ey ef et n each =
       let s : Pseudoflow = record { net = g; amounts = amounts } in
-      let here = (amount_of s r.arc ok.flow h).in_range in
-      let is_a : a ≡ amount_at s r.arc = get_or_read amounts (r.arc - 1) a here (rw (← ei) ea) (pos 0) in
+      let is_a : a ≡ amount_at s r.arc = rw (← ei) ea in
       let is : record { net = g; amounts = set amounts i y } ≡ pushed s r x = rw (ei, ey, is_a) refl in
       record {
         keeps = subst (λ (t : Pseudoflow). KeepsSurplus t kept') (sym is) (keeps_pushed s kept kept' r x from to ok h low high ef et n each);
@@ -196,7 +196,7 @@ module _ (g : Network) (amounts kept kept' : List ℤ) (r : Rid) (x a y : ℤ) (
       }
 
   pub push_step : (s : Pseudoflow) → record { net = g; amounts = amounts } ≡ s → KeepsSurplus (record { net = g; amounts = amounts }) kept → i ≡ r.arc - 1
-      → IsArcNumber s.net r.arc → pos 0 ≤ℤ x → x ≤ℤ room_of s r → a ≡ get_or amounts i a → y ≡ cond r.back (a -ℤ x) (a +ℤ x) → from ≡ tail g r
+      → IsArcNumber s.net r.arc → pos 0 ≤ℤ x → x ≤ℤ room_of s r → a ≡ get_or amounts i (pos 0) → y ≡ cond r.back (a -ℤ x) (a +ℤ x) → from ≡ tail g r
       → to ≡ head g r → length kept' ≡ length kept → ((v : ℕ) → IsNode (length kept) v → at_node kept' v ≡ at_node kept v -ℤ when (eqb from v) x +ℤ when
       (eqb to v) x) → IsPushStep s r x (record { net = g; amounts = set amounts i y }) kept'
   push_step s view ok ei h low high ea ey ef et n each =
@@ -205,21 +205,45 @@ module _ (g : Network) (amounts kept kept' : List ℤ) (r : Rid) (x a y : ℤ) (
       (subst (λ (t : Pseudoflow). x ≤ℤ room_of t r) (sym view) high) ea ey ef et n each)
 
 -- the step of a push, by what its calls read and wrote
-pub push_made : (s : Pseudoflow) (g : Network) (amounts kept kept' : List ℤ) (r : Rid) (x a w : ℤ) (i from to : ℕ)
+pub push_made : (s : Pseudoflow) (g : Network) (amounts amounts' kept kept' : List ℤ) (r : Rid) (x a w : ℤ) (i from to : ℕ)
     → record { net = g; amounts = amounts } ≡ s → KeepsSurplus (record { net = g; amounts = amounts }) kept → i ≡ r.arc - 1 → IsArcNumber s.net r.arc
-    → pos 0 ≤ℤ x → x ≤ℤ room_of s r → to_z w128 (of_z w128 x) ≡ x → a ≡ get_or amounts i a
+    → pos 0 ≤ℤ x → x ≤ℤ room_of s r → to_z w128 (of_z w128 x) ≡ x → a ≡ get_or amounts i (pos 0)
     → w ≡ cond r.back (to_z w64 (of_z w64 a) -ℤ to_z w128 (of_z w128 x)) (to_z w64 (of_z w64 a) +ℤ to_z w128 (of_z w128 x))
-    → from ≡ tail g r → to ≡ head g r → length kept' ≡ length kept
+    → amounts' ≡ set amounts i (to_z w64 (of_z w64 w)) → from ≡ tail g r → to ≡ head g r → length kept' ≡ length kept
     → ((v : ℕ) → IsNode (length kept) v → at_node kept' v ≡ at_node kept v -ℤ when (eqb from v) (to_z w128 (of_z w128 x))
     +ℤ when (eqb to v) (to_z w128 (of_z w128 x)))
-    → IsPushStep s r x (record { net = g; amounts = set amounts i (to_z w64 (of_z w64 w)) }) kept'
-push_made s g amounts kept kept' r x a w i from to view ok ei h low high same ea ew ef et n each =
+    → IsPushStep s r x (record { net = g; amounts = amounts' }) kept'
+push_made s g amounts amounts' kept kept' r x a w i from to view ok ei h low high same ea ew es ef et n each =
     let read = read_amount s g amounts r.arc a view ok.flow h (rw ei at ea) in
     let room = read_room s g amounts r view ok.flow h in
     let written : to_z w64 (of_z w64 w) ≡ cond r.back (a -ℤ x) (a +ℤ x) =
     changed_is r.back w a x read.low (omega (arith, ints, read.high, read.width)) low (omega (arith, ints, high, room.high)) ew in
-    push_step g amounts kept kept' r x a (to_z w64 (of_z w64 w)) i from to s view ok ei h low high ea written ef et n
-    (λ v q. rw same at (each v q))
+    subst (λ (after : List ℤ). IsPushStep s r x (record { net = g; amounts = after }) kept') (sym es)
+    (push_step g amounts kept kept' r x a (to_z w64 (of_z w64 w)) i from to s view ok ei h low high ea written ef et n (λ v q. rw same at (each v q)))
+
+-- the amount after a push is from 0 to the limit of the widths
+pub record IsUpToLimit (limit : ℕ) (w : ℤ) : Type 0 where
+  pub low : pos 0 ≤ℤ w
+  pub high : w ≤ℤ pos limit
+
+within_width : (b : Bool) (a x w cap : ℤ) (limit : ℕ) → pos 0 ≤ℤ a → a ≤ℤ cap → cap ≤ℤ pos limit → pos 0 ≤ℤ x → x ≤ℤ cond b a (cap -ℤ a)
+    → w ≡ cond b (a -ℤ x) (a +ℤ x) → IsUpToLimit limit w
+within_width true a x w cap limit al ah fits xl xh e = record { low = omega (arith, ints, xh, e); high = omega (arith, ints, ah, fits, xl, e) }
+within_width false a x w cap limit al ah fits xl xh e = record { low = omega (arith, ints, al, xl, e); high = omega (arith, ints, fits, xh, e) }
+
+pub push_fits : (s : Pseudoflow) (g : Network) (amounts : List ℤ) (limit : ℕ) (r : Rid) (x a w : ℤ) (i : ℕ) → record { net = g; amounts = amounts } ≡ s
+    → IsPseudoflow (record { net = g; amounts = amounts }) → HaveWidthsUpTo limit g.arcs → i ≡ r.arc - 1 → IsArcNumber s.net r.arc → pos 0 ≤ℤ x
+    → x ≤ℤ room_of s r → a ≡ get_or amounts i (pos 0)
+    → w ≡ cond r.back (to_z w64 (of_z w64 a) -ℤ to_z w128 (of_z w128 x)) (to_z w64 (of_z w64 a) +ℤ to_z w128 (of_z w128 x))
+    → IsUpToLimit limit (to_z w64 (of_z w64 w))
+push_fits s g amounts limit r x a w i view ok fit ei h low high ea ew =
+    let read = read_amount s g amounts r.arc a view ok h (rw ei at ea) in
+    let room = read_room s g amounts r view ok h in
+    let here : IsArcNumber g r.arc = subst (λ (t : Pseudoflow). IsArcNumber t.net r.arc) (sym view) h in
+    let fits : (arc_at g r.arc).cap ≤ℤ pos limit = fit (r.arc - 1) no_arc (omega (arith, here)) in
+    let written : to_z w64 (of_z w64 w) ≡ cond r.back (a -ℤ x) (a +ℤ x) =
+    changed_is r.back w a x read.low (omega (arith, ints, read.high, read.width)) low (omega (arith, ints, high, room.high)) ew in
+    within_width r.back a x (to_z w64 (of_z w64 w)) (arc_at s.net r.arc).cap limit read.low read.high (rw (← read.same_width) fits) low (rw read.is high) written
 
 -- a kept surplus, as a read gives it
 pub record IsReadSurplus (s : Pseudoflow) (v : ℕ) (x : ℤ) : Type 0 where

@@ -1,4 +1,5 @@
 -- What the proofs of this crate alone need: no public clause names it.
 pub mod Counting
+pub mod StoredAmounts
 pub mod Surpluses
 pub mod Widths

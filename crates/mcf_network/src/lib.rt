@@ -9,6 +9,7 @@
 //! net of an instance is made and how its states stand for flows of the instance, and `Laws` what carries
 //! over from one to the other.
 
+mod amounts;
 mod laws;
 mod leaving;
 mod net;

@@ -6,10 +6,10 @@ ghost use Rattle.mcf_network.specs.Nets.{width_limit};
 ghost use Rattle.mcf_network.specs.Residual.{arc_at, head, tail};
 ghost use Rattle.mcf_network.specs.States.{IsPseudoflow, MovesSurplus, amount_at, pushed, room_of, surplus_at};
 
+use crate::amounts::Amounts;
 use crate::net::Net;
 use crate::rid::Rid;
 use crate::surplus::move_surplus;
-use mcf_instance::copies;
 use mcf_text::{ArcId, NoMemory, NodeId};
 use std::alloc::Global;
 use std::marker::Model;
@@ -21,18 +21,20 @@ use std::marker::Model;
 #[derive(Drop)]
 pub struct State<'n> {
     net: &'n Net,
-    amounts: Vec<i64>,
+    amounts: Amounts,
     surpluses: Vec<i128>,
 }
 
 impl<'n> Model for State<'n> {
+    ghost use Rattle.mcf_network.specs.Private.StoredAmounts.{HaveWidthsUpTo, amounts_in, limit_of};
     ghost use Rattle.mcf_network.specs.States.{Pseudoflow, KeepsSurplus};
 
     ghost Value = { Pseudoflow };
 
-    ghost view = { λ s. record { net = s.net.now; amounts = s.amounts.items } };
+    ghost view = { λ s. record { net = s.net.now; amounts = amounts_in s.amounts } };
 
-    ghost invariant = { λ s. KeepsSurplus (record { net = s.net.now; amounts = s.amounts.items }) s.surpluses.items };
+    ghost invariant = { λ s. KeepsSurplus (record { net = s.net.now; amounts = amounts_in s.amounts }) s.surpluses.items
+        × HaveWidthsUpTo (limit_of s.amounts) s.net.now.arcs };
 }
 
 impl<'n> State<'n> {
@@ -46,7 +48,7 @@ impl<'n> State<'n> {
         ensures valid { IfOk result IsPseudoflow }
         ensures wants { OnErr result (1 ≤ node_count net.now) }
     {
-        let amounts = copies(alloc, net.links.len(), 0)?;
+        let amounts = Amounts::zero(alloc, net.links.len(), net.widths.is_empty())?;
         let surpluses = copy_of(alloc, &net.supplies)?;
         Ok(State {
             net,
@@ -71,7 +73,7 @@ impl<'n> State<'n> {
         ensures high { result ≤ℤ (arc_at self.now.net k).cap }
         ensures valid { IsPseudoflow self.now }
     {
-        i128::from(self.amounts[k.place()])
+        i128::from(self.amounts.get(k.place()))
     }
 
     /// The surplus of a node: its supply less the net of the amounts.
@@ -91,7 +93,7 @@ impl<'n> State<'n> {
         ensures low { pos 0 ≤ℤ result }
         ensures high { result ≤ℤ pos width_limit }
     {
-        let amount = i128::from(self.amounts[r.arc.place()]);
+        let amount = i128::from(self.amounts.get(r.arc.place()));
         if r.back {
             amount
         } else {
@@ -112,8 +114,8 @@ impl<'n> State<'n> {
         let k = r.arc.place();
         let net = self.net;
         let (from, to) = net.route(r);
-        let changed = changed_amount(self.amounts[k], back, amount);
-        self.amounts[k] = changed;
+        let changed = changed_amount(self.amounts.get(k), back, amount);
+        self.amounts.set(k, changed);
         move_surplus(&mut self.surpluses, from, to, amount);
     }
 }

@@ -1,31 +1,32 @@
 use Rattle.std.proofs.Common.{arith}
 use Rattle.std.proofs.lemmas.Int.{ints}
+use Rattle.mcf_network.specs.Private.StoredAmounts.{amounts_in}
 use Rattle.mcf_network.proofs.ArcLaws.{amount_in_range, read_amount}
 use Rattle.mcf_network.proofs.state.State.amount.Goals as goal
 
-pub index-requires : goal.index-requires
-index-requires c =
+pub get-requires : goal.get-requires
+get-requires c =
     omega (
       arith,
       c.place.ensures,
-      amount_in_range c.args.self.now c.self.inside.net.now c.self.inside.amounts.items c.args.k c.self.view_is
-          c.self.invariant.flow c.requires,
+      amount_in_range c.args.self.now c.self.inside.net.now (amounts_in c.self.inside.amounts) c.args.k c.self.view_is
+          c.self.invariant.0.flow c.requires,
     )
 
 pub returns-clause-value : goal.returns-clause-value
 returns-clause-value c =
-    let a = read_amount c.args.self.now c.self.inside.net.now c.self.inside.amounts.items c.args.k c.index.result.now c.self.view_is c.self.invariant.flow
-    c.requires (rw (← c.place.ensures) c.index.ensures) in
+    let a = read_amount c.args.self.now c.self.inside.net.now (amounts_in c.self.inside.amounts) c.args.k c.get.result c.self.view_is c.self.invariant.0.flow
+    c.requires (rw (← c.place.ensures) c.get.ensures) in
     omega (arith, ints, c.from.ensures, a.is, a.low, a.high, a.width)
 
 pub returns-clause-low : goal.returns-clause-low
 returns-clause-low c =
-    let a = read_amount c.args.self.now c.self.inside.net.now c.self.inside.amounts.items c.args.k c.index.result.now c.self.view_is c.self.invariant.flow
-    c.requires (rw (← c.place.ensures) c.index.ensures) in
+    let a = read_amount c.args.self.now c.self.inside.net.now (amounts_in c.self.inside.amounts) c.args.k c.get.result c.self.view_is c.self.invariant.0.flow
+    c.requires (rw (← c.place.ensures) c.get.ensures) in
     omega (arith, ints, c.from.ensures, a.low, a.high, a.width)
 
 pub returns-clause-high : goal.returns-clause-high
 returns-clause-high c =
-    let a = read_amount c.args.self.now c.self.inside.net.now c.self.inside.amounts.items c.args.k c.index.result.now c.self.view_is c.self.invariant.flow
-    c.requires (rw (← c.place.ensures) c.index.ensures) in
+    let a = read_amount c.args.self.now c.self.inside.net.now (amounts_in c.self.inside.amounts) c.args.k c.get.result c.self.view_is c.self.invariant.0.flow
+    c.requires (rw (← c.place.ensures) c.get.ensures) in
     omega (arith, ints, c.from.ensures, a.low, a.high, a.width)

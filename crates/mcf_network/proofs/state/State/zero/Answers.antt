@@ -1,7 +1,10 @@
-use Rattle.std.proofs.Common.{◌≡◌, ◌≤◌, ◌∙◌, List, ap, arith, rules, ℤ, pos, length, replicate, subst, sym}
+use Rattle.std.proofs.Common.{◌≡◌, ◌==◌, ◌≤◌, ◌∙◌, List, ap, arith, rules, if◌then◌else◌, ℤ, pos, length, replicate, subst, sym}
 use Rattle.mcf_instance.specs.Network.{Network, node_count}
+use Rattle.mcf_network.specs.Nets.{width_limit}
+use Rattle.mcf_network.specs.Private.StoredAmounts.{amounts_in, limit_of, small_limit}
 use Rattle.mcf_network.specs.States.{KeepsSurplus, Pseudoflow}
 use Rattle.mcf_network.specs.Stored.{stored_arcs}
+use Rattle.mcf_network.proofs.AmountLaws.{widths_fit}
 use Rattle.mcf_network.proofs.ArcLaws.{arcs_need_nodes}
 use Rattle.mcf_network.proofs.StateLaws.{zero_keeps}
 use Rattle.mcf_network.proofs.StoredLaws.{length-stored_arcs}
@@ -9,14 +12,18 @@ use Rattle.mcf_network.proofs.state.State.zero.Goals as goal
 
 pub invariant_of-result : goal.invariant_of-result
 invariant_of-result c =
-    let e : c.in_ok-amounts.amounts.items ≡ replicate (length c.net.inside.links.items) (pos 0) = search rules in
+    let e : amounts_in c.in_ok-amounts.amounts ≡ replicate (length c.net.inside.links.items) (pos 0) = search rules in
     let f : c.in_ok-surpluses.surpluses.items ≡ c.net.inside.supplies.items = search rules in
-    rw (e, f, ← length-stored_arcs c.net.inside.links.items c.net.inside.widths.items, ← c.net.view_is) (zero_keeps _ c.net.invariant.0)
+    let n = c.net.inside in
+    let limit : limit_of c.in_ok-amounts.amounts ≡ (if c.is_empty.result then small_limit else width_limit) = search rules in
+    let empty : c.is_empty.result ≡ (length n.widths.items == 0) = search rules in
+    let fit = widths_fit n.links.items n.widths.items c.is_empty.result (limit_of c.in_ok-amounts.amounts) c.net.invariant.0.each_arc empty limit in
+    (rw (e, f, ← length-stored_arcs n.links.items n.widths.items, ← c.net.view_is) (zero_keeps _ c.net.invariant.0), rw (← c.net.view_is) fit)
 
 pub returns-clause-value : goal.returns-clause-value
 returns-clause-value c =
     let links = c.net.inside.links.items in
-    let e : c.in_ok-amounts.amounts.items ≡ replicate (length links) (pos 0) = search rules in
+    let e : amounts_in c.in_ok-amounts.amounts ≡ replicate (length links) (pos 0) = search rules in
     let count : length links ≡ length c.args.net.now.arcs = sym (length-stored_arcs links c.net.inside.widths.items)
     ∙ ap (λ (g : Network). length g.arcs) c.net.view_is in
     let state : List ℤ → Pseudoflow = λ amounts. record { net = c.args.net.now; amounts = amounts } in
@@ -24,9 +31,9 @@ returns-clause-value c =
 
 pub returns-clause-valid : goal.returns-clause-valid
 returns-clause-valid c =
-    let e : c.in_ok-amounts.amounts.items ≡ replicate (length c.net.inside.links.items) (pos 0) = search rules in
+    let e : amounts_in c.in_ok-amounts.amounts ≡ replicate (length c.net.inside.links.items) (pos 0) = search rules in
     let f : c.in_ok-surpluses.surpluses.items ≡ c.net.inside.supplies.items = search rules in
-    let kept : KeepsSurplus (record { net = c.args.net.now; amounts = c.in_ok-amounts.amounts.items }) c.in_ok-surpluses.surpluses.items =
+    let kept : KeepsSurplus (record { net = c.args.net.now; amounts = amounts_in c.in_ok-amounts.amounts }) c.in_ok-surpluses.surpluses.items =
     rw (e, f, ← length-stored_arcs c.net.inside.links.items c.net.inside.widths.items, ← c.net.view_is) (zero_keeps _ c.net.invariant.0) in
     kept.flow
 
