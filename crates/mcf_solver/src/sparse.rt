@@ -1,5 +1,5 @@
 //! The answer of the second form for a least state.
-ghost use Rattle.std.specs.Prelude.{◌≡◌, ◌≤◌, ◌++◌, [], IfOk, OnErr, OnOk, length};
+ghost use Rattle.std.specs.Prelude.{◌≡◌, ◌≤◌, ◌++◌, ◌+ℤ◌, ◌*ℤ◌, [], IfOk, OnErr, OnOk, length};
 ghost use Rattle.std.specs.List.{cons_option};
 ghost use Rattle.std.specs.Ordering.{int_eq};
 ghost use Rattle.mcf_answer.specs.Ranges.{IsAmount};
@@ -82,10 +82,23 @@ fn stated_along(
         let number = ArcId::at(i);
         let arc = instance.arc(number);
         let amount = restored_amount(instance, state, number);
-        total += arc.cost * amount;
+        total = with_cost(total, arc.cost, amount);
         add_moved(&mut moved, number, &arc, amount)?;
     }
     Ok(StatedFlow { cost: total, moved })
+}
+
+// A sum with the cost of an amount, which most arcs don't have.
+#[inline(always)]
+fn with_cost(total: i128, cost: i128, amount: i128) -> i128
+    requires total { IsAmount total }
+    requires term { IsAmount (cost *ℤ amount) }
+    ensures { result ≡ total +ℤ cost *ℤ amount }
+{
+    if amount == 0 {
+        return total;
+    }
+    total + cost * amount
 }
 
 // Appends an arc by its number with what it carries, unless that is its low.

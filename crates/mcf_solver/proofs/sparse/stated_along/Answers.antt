@@ -1,7 +1,8 @@
-use Rattle.std.proofs.Common.{◌≡◌, ◌<◌, ◌∙◌, ◌++◌, [], length, get_or, arith, pos, rules, sym, to_z, of_z, subst}
+use Rattle.std.proofs.Common.{◌≡◌, ◌+◌, ◌<◌, ◌∙◌, ◌++◌, ◌+ℤ◌, ◌*ℤ◌, [], ap, length, take, get_or, arith, pos, rules, sym, to_z, of_z, subst}
 use Rattle.std.specs.List.{cons_option}
 use Rattle.std.specs.Int.{w128}
 use Rattle.std.proofs.lemmas.Int.{ints, to_z-of_z}
+use Rattle.mcf_instance.specs.Flow.{cost}
 use Rattle.mcf_network.specs.Restoring.{restored}
 use Rattle.mcf_solver.specs.Forms.{moved_arc}
 use Rattle.mcf_solver.specs.Private.MovedArcs.{AreMovedOf}
@@ -15,21 +16,18 @@ restored_amount-amount-requires-clause-arc c =
     let h : c.loop-i.i < length c.args.instance.now.arcs = omega (arith, c.loop-i-test.true, c.arc_count-count.ensures.value) in
     omega (arith, h, c.at-number.ensures)
 
-pub overflow_mul-total : goal.overflow_mul-total
-overflow_mul-total c =
+pub with_cost-total-requires-clause-total : goal.with_cost-total-requires-clause-total
+with_cost-total-requires-clause-total c =
     let g = c.args.instance.now in
     let flow = restored g.arcs c.args.state.now.amounts in
     let ok = c.arc-arc.ensures.well_formed in
     let h : c.loop-i.i < length g.arcs = omega (arith, c.loop-i-test.true, c.arc_count-count.ensures.value) in
     let s = cost_at g flow c.loop-i.i c.at-number.result c.arc-arc.result ok (restored_bounds g c.args.state.now ok c.requires) h
     c.at-number.ensures c.arc-arc.ensures.value in
-    let t : to_z w128 (of_z w128 c.restored_amount-amount.result) ≡ c.restored_amount-amount.result = search (rules, to_z-of_z) in
-    let x : to_z w128 (of_z w128 c.restored_amount-amount.result) ≡ get_or flow c.loop-i.i (pos 0) =
-    t ∙ read_at flow c.loop-i.i c.at-number.result c.restored_amount-amount.result c.at-number.ensures c.restored_amount-amount.ensures.value in
-    rw (s.cost_read, x) (omega (arith, ints, s.term_small))
+    (omega (arith, ints, s.before_small, c.loop-i.invariant.cost_is), omega (arith, ints, s.before_small, c.loop-i.invariant.cost_is))
 
-pub overflow_add-total : goal.overflow_add-total
-overflow_add-total c =
+pub with_cost-total-requires-clause-term : goal.with_cost-total-requires-clause-term
+with_cost-total-requires-clause-term c =
     let g = c.args.instance.now in
     let flow = restored g.arcs c.args.state.now.amounts in
     let ok = c.arc-arc.ensures.well_formed in
@@ -39,7 +37,7 @@ overflow_add-total c =
     let t : to_z w128 (of_z w128 c.restored_amount-amount.result) ≡ c.restored_amount-amount.result = search (rules, to_z-of_z) in
     let x : to_z w128 (of_z w128 c.restored_amount-amount.result) ≡ get_or flow c.loop-i.i (pos 0) =
     t ∙ read_at flow c.loop-i.i c.at-number.result c.restored_amount-amount.result c.at-number.ensures c.restored_amount-amount.ensures.value in
-    rw (s.cost_read, x) (omega (arith, ints, s.term_small, s.before_small, c.loop-i.invariant.cost_is))
+    rw (s.cost_read, x) (omega (arith, ints, s.term_small), omega (arith, ints, s.term_small))
 
 pub loop-i-preserved : goal.loop-i-preserved
 loop-i-preserved c =
@@ -58,9 +56,13 @@ loop-i-preserved c =
     let t : amount ≡ c.restored_amount-amount.result = search (rules, to_z-of_z) in
     let x : amount ≡ get_or flow i (pos 0) = t ∙ read_at flow i number c.restored_amount-amount.result c.at-number.ensures
     c.restored_amount-amount.ensures.value in
+    let total = c.with_cost-total.ensures in
+    let added_cost : to_z w128 (of_z w128 c.with_cost-total.result) ≡ c.with_cost-total.result = search (rules, to_z-of_z) in
+    let step = total ∙ ap (λ z. to_z w128 c.loop-i.total-bits +ℤ z *ℤ amount) s.cost_read ∙ ap (λ z. to_z w128 c.loop-i.total-bits +ℤ arc.cost *ℤ z) x in
+    let made : c.with_cost-total.result ≡ cost (take (i + 1) g.arcs) flow = omega (arith, ints, step, s.next, c.loop-i.invariant.cost_is) in
     let added : c.add_moved.new.moved.items ≡ c.loop-i.moved.items ++ cons_option (moved_arc (number, (arc, amount))) [] = c.in_ok-add_moved.ensures in
     record {
-      cost_is = simp (s.cost_read, x) (omega (arith, ints, s.term_small, s.before_small, s.next, c.loop-i.invariant.cost_is));
+      cost_is = added_cost ∙ made;
       lines = line_more g.arcs flow i number arc amount c.loop-i.moved.items c.add_moved.new.moved.items h k c.at-number.ensures arc-is (sym x)
           c.loop-i.invariant.lines added;
     }
