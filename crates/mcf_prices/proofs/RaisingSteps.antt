@@ -23,7 +23,7 @@ use Rattle.mcf_network.proofs.Lists.{All-behind, Contains-cons}
 use Rattle.mcf_network.proofs.Marks.{count_small}
 use Rattle.mcf_prices.specs.Heaps.{ComesFirst, IsFirst, Keyed, Waits, waiting_with, with_key, without}
 use Rattle.mcf_prices.specs.NearPrices.{AreNearPrices, near_limit}
-use Rattle.mcf_prices.specs.Private.Raisings.{ArePassed, IsLastSettled, IsLength, IsRaising, IsReady, KeepsSettled, OffersNone, RespectsLabel, Settled}
+use Rattle.mcf_prices.specs.Private.Raisings.{ArePassed, CostsAtLeast, IsLastSettled, IsLength, IsPassedFrom, IsRaising, IsReady, KeepsSettled, RespectsLabel, Settled}
 use Rattle.mcf_prices.specs.Private.Raisings.{label, label_reach, step}
 use Rattle.mcf_prices.proofs.HeapPlaces.{count_less}
 use Rattle.mcf_prices.proofs.LabelLengths.{length_fewer, length_next, length_zero}
@@ -84,13 +84,12 @@ settled_from false b e f = refl
 settled_from true b e f = absurd (true≢false (sym (e.1 refl) ∙ f))
 
 -- one residual arc more is passed over
-pub passed_more : (s : Pseudoflow) (scale slack : ℕ) (base : ℤ) (list rest : List Rid) (out : Rid)
-    → OffersNone s scale slack base (record { arc = out.arc; back = not out.back }) → ArePassed s scale slack base list (out ∷ rest)
-    → ArePassed s scale slack base list rest
-passed_more s scale slack base list rest out offer before =
+pub passed_more : (s : Pseudoflow) (passed : ℤ) (list rest : List Rid) (out : Rid) → CostsAtLeast s passed (record { arc = out.arc; back = not out.back })
+    → ArePassed s passed list (out ∷ rest) → ArePassed s passed list rest
+passed_more s passed list rest out costs before =
     record {
       first = before.first ++ out ∷ [];
-      none = All-push (λ (r : Rid). OffersNone s scale slack base (record { arc = r.arc; back = not r.back })) before.first out before.none offer;
+      costs = All-push (λ (r : Rid). CostsAtLeast s passed (record { arc = r.arc; back = not r.back })) before.first out before.costs costs;
       whole = before.whole ∙ sym (append_assoc before.first (out ∷ []) rest);
     }
 
@@ -241,40 +240,45 @@ module _ (s : Pseudoflow) (scale slack : ℕ) (y : List ℤ) (flow : IsPseudoflo
         ];
       }
 
+  -- a residual arc of a cost from which on none offers its tail a label below 0
+  costly_respects : (h : Keyed) (rest : List Rid) (base passed : ℤ) (r : Rid) → IsRaising s scale slack y h rest → base ≡ label y h (head s.net r)
+      → IsPassedFrom scale base passed → CostsAtLeast s passed r → RespectsLabel s scale slack y h r
+  costly_respects h rest base passed r search is from costs room =
+      let low = from (unit_cost s.net r) (costs room) in
+      let up = search.not_above (tail s.net r) (tail_node r room) in
+      omega (arith, ints, low, up, is)
+
   -- the first residual arcs of a list are passed over
-  pub passed : (h : Keyed) (w : ℕ) (base : ℤ) (first rest : List Rid) → base ≡ label y h w → All (Leaves s.net w) (first ++ rest)
-      → All (λ r. OffersNone s scale slack base (record { arc = r.arc; back = not r.back })) first → IsRaising s scale slack y h (first ++ rest)
-      → IsRaising s scale slack y h rest
-  passed h w base [] rest is leaves none search = search
-  passed h w base (out ∷ first) rest is leaves none search =
-      let from = (All-head (Leaves s.net w) out (first ++ rest) leaves).from in
-      let here = ap (λ x. label y h x) (head_reversed s.net out.arc out.back ∙ from) in
-      let offer = All-head (λ (r : Rid). OffersNone s scale slack base (record { arc = r.arc; back = not r.back })) out first none in
-      let respects : RespectsLabel s scale slack y h (reverse out) = λ room.
-      let low = offer room in
-      let up = search.not_above (tail s.net (reverse out)) (tail_node (reverse out) room) in
-      omega (arith, ints, low, up, here, is) in
-      passed h w base first rest is (All-tail (Leaves s.net w) out (first ++ rest) leaves)
-      (All-tail (λ (r : Rid). OffersNone s scale slack base (record { arc = r.arc; back = not r.back })) out first none)
+  pub pass : (h : Keyed) (w : ℕ) (base passed : ℤ) (first rest : List Rid) → base ≡ label y h w → IsPassedFrom scale base passed
+      → All (Leaves s.net w) (first ++ rest) → All (λ r. CostsAtLeast s passed (record { arc = r.arc; back = not r.back })) first
+      → IsRaising s scale slack y h (first ++ rest) → IsRaising s scale slack y h rest
+  pass h w base passed [] rest is from leaves costs search = search
+  pass h w base passed (out ∷ first) rest is from leaves costs search =
+      let leaves_w = (All-head (Leaves s.net w) out (first ++ rest) leaves).from in
+      let here = ap (λ x. label y h x) (head_reversed s.net out.arc out.back ∙ leaves_w) in
+      let cost = All-head (λ (r : Rid). CostsAtLeast s passed (record { arc = r.arc; back = not r.back })) out first costs in
+      let respects = costly_respects h (out ∷ first ++ rest) base passed (reverse out) search (is ∙ sym here) from cost in
+      pass h w base passed first rest is from (All-tail (Leaves s.net w) out (first ++ rest) leaves)
+      (All-tail (λ (r : Rid). CostsAtLeast s passed (record { arc = r.arc; back = not r.back })) out first costs)
       (kept h out (first ++ rest) respects search)
 
-  pub passed_list : (h : Keyed) (w : ℕ) (base : ℤ) (list rest : List Rid) → base ≡ label y h w → All (Leaves s.net w) list
-      → ArePassed s scale slack base list rest → IsRaising s scale slack y h list → IsRaising s scale slack y h rest
-  passed_list h w base list rest is leaves before search =
-      passed h w base before.first rest is (subst (λ (xs : List Rid). All (Leaves s.net w) xs) before.whole leaves) before.none
+  pub passed_list : (h : Keyed) (w : ℕ) (base passed : ℤ) (list rest : List Rid) → base ≡ label y h w → IsPassedFrom scale base passed
+      → All (Leaves s.net w) list → ArePassed s passed list rest → IsRaising s scale slack y h list → IsRaising s scale slack y h rest
+  passed_list h w base passed list rest is from leaves before search =
+      pass h w base passed before.first rest is from (subst (λ (xs : List Rid). All (Leaves s.net w) xs) before.whole leaves) before.costs
       (subst (λ (xs : List Rid). IsRaising s scale slack y h xs) before.whole search)
 
-  pub found : (h : Keyed) (w : ℕ) (base : ℤ) (list rest : List Rid) (out : Rid) → base ≡ label y h w → IsLastSettled (node_count s.net) h w
-      → All (Leaves s.net w) list → ArePassed s scale slack base list (out ∷ rest) → IsRaising s scale slack y h list
+  pub found : (h : Keyed) (w : ℕ) (base passed : ℤ) (list rest : List Rid) (out : Rid) → base ≡ label y h w → IsPassedFrom scale base passed
+      → IsLastSettled (node_count s.net) h w → All (Leaves s.net w) list → ArePassed s passed list (out ∷ rest) → IsRaising s scale slack y h list
       → IsFound s scale slack y h w base out rest
-  found h w base list rest out is last leaves before search =
+  found h w base passed list rest out is from last leaves before search =
       let here : All (Leaves s.net w) (out ∷ rest) = All-behind (Leaves s.net w) before.first (out ∷ rest)
       (subst (λ (xs : List Rid). All (Leaves s.net w) xs) before.whole leaves) in
       let first = All-head (Leaves s.net w) out rest here in
       record {
         arc = first.arc;
         leaves = All-tail (Leaves s.net w) out rest here;
-        search = passed_list h w base list (out ∷ rest) is leaves before search;
+        search = passed_list h w base passed list (out ∷ rest) is from leaves before search;
         last = subst (λ x. IsLastSettled (node_count s.net) h x) (sym first.from) last;
         base_is = is ∙ ap (λ x. label y h x) (sym first.from);
       }

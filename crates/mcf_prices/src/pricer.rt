@@ -13,7 +13,7 @@ ghost use Rattle.mcf_prices.specs.Heaps.{NoneWaits};
 ghost use Rattle.mcf_prices.specs.Private.Labels.{cost_limit};
 ghost use Rattle.mcf_prices.specs.NearPrices.{AreNearPrices, OptimalPricesAreNear, ShownPricesAreNear, near_limit};
 ghost use Rattle.mcf_prices.specs.Outcomes.{AreStatePrices};
-ghost use Rattle.mcf_prices.specs.Private.Raisings.{ArePassed, AreRounded, IsLastSettled, IsRaising, IsReady, IsRoundedDown, KeepsSettled, OffersNone};
+ghost use Rattle.mcf_prices.specs.Private.Raisings.{ArePassed, AreRounded, CostsAtLeast, IsLastSettled, IsPassedFrom, IsRaising, IsReady, IsRoundedDown, KeepsSettled};
 ghost use Rattle.mcf_prices.specs.Private.Raisings.{label, label_limit, label_reach, quotient_reach, step};
 
 use crate::heap::Heap;
@@ -140,65 +140,61 @@ fn scan(heap: &mut Heap, state: &State<'_>, scale: u32, slack: u32, prices: &[i1
 {
     let mut leaving = state.net().leaving(w);
     let base = label_of(heap, prices, w);
-    'entering: while let Some(out) = next_offer(&mut leaving, state, scale, slack, base) {
+    let passed = passing_cost(base, scale);
+    'entering: while let Some(out) = next_offer(&mut leaving, state, passed) {
         let (arc, back) = (out.arc, out.back);
         relax(heap, state, scale, slack, prices, base, Rid { arc, back });
     }
 }
 
-// The next residual arc whose reverse may offer its tail a label below 0, where its head has the label `base`. Those
-// before it are passed over: no label is above 0, so that they lower none.
-fn next_offer(
-    leaving: &mut Leaving<'_>,
-    state: &State<'_>,
-    scale: u32,
-    slack: u32,
-    base: i128,
-) -> Option<Rid>
-    requires arcs { All (λ r. IsArcNumber state.now.net r.arc) leaving.old }
-    requires scale { scale ≤ node_limit + 1 }
-    requires base { IsUpTo label_reach base }
-    ensures some { IfSome result (λ out. ArePassed state.now scale slack base leaving.old (out ∷ leaving.new)) }
-    ensures none { IfNone result (ArePassed state.now scale slack base leaving.old []) }
+// The cost from which on a residual arc offers its tail no label below 0, where its head has the label `base`. The slack
+// is left out, since it only adds to what is offered.
+fn passing_cost(base: i128, scale: u32) -> i128
+    requires scale { 1 ≤ scale }
+    requires low { neg_ℤ (pos label_reach) ≤ℤ base }
+    requires high { base ≤ℤ pos 0 }
+    ensures { IsPassedFrom scale base result }
+{
+    let depth = base.unsigned_abs();
+    quotient_above(depth, u128::from(scale)) as i128
+}
+
+// The next residual arc whose reverse may have room and cost less than `passed`. Those before it are passed over: they
+// offer no label below 0, and no label is above 0, so that they lower none.
+fn next_offer(leaving: &mut Leaving<'_>, state: &State<'_>, passed: i128) -> Option<Rid>
+    requires { All (λ r. IsArcNumber state.now.net r.arc) leaving.old }
+    ensures some { IfSome result (λ out. ArePassed state.now passed leaving.old (out ∷ leaving.new)) }
+    ensures none { IfNone result (ArePassed state.now passed leaving.old []) }
 {
     'arcs: while let Some(out) = leaving.next() {
         let (arc, back) = (out.arc, out.back);
-        if may_offer(state, scale, slack, base, arc, !back) {
+        if may_offer(state, passed, arc, !back) {
             return Some(Rid { arc, back });
         }
     }
     None
 }
 
-// Whether a residual arc may offer its tail a label below 0, where its head has the label `base`. Backward along an arc
-// that carries nothing it has no room.
-fn may_offer(state: &State<'_>, scale: u32, slack: u32, base: i128, arc: ArcId, back: bool) -> bool
-    requires arc { IsArcNumber state.now.net arc }
-    requires scale { scale ≤ node_limit + 1 }
-    requires base { IsUpTo label_reach base }
-    ensures { result ≡ false → OffersNone state.now scale slack base (record { arc = arc; back = back }) }
+// Whether a residual arc may have room and cost less than `passed`. Backward along an arc that carries nothing it has no
+// room.
+#[inline(always)]
+fn may_offer(state: &State<'_>, passed: i128, arc: ArcId, back: bool) -> bool
+    requires { IsArcNumber state.now.net arc }
+    ensures { result ≡ false → CostsAtLeast state.now passed (record { arc = arc; back = back }) }
 {
     if back && carries_nothing(state, arc) {
         return false;
     }
-    is_below_zero(base, step(state, scale, slack, Rid { arc, back }))
+    state.net().unit_cost(Rid { arc, back }) < passed
 }
 
 // Whether an arc carries nothing.
+#[inline(always)]
 fn carries_nothing(state: &State<'_>, arc: ArcId) -> bool
     requires { IsArcNumber state.now.net arc }
     ensures { result ≡ true → amount_at state.now arc ≤ℤ pos 0 }
 {
     state.amount(arc) <= 0
-}
-
-// Whether a label and the length of an arc add up to less than 0.
-fn is_below_zero(base: i128, length: i128) -> bool
-    requires base { IsUpTo label_reach base }
-    requires length { IsUpTo label_reach length }
-    ensures { result ≡ false → pos 0 ≤ℤ (base +ℤ length) }
-{
-    base + length < 0
 }
 
 // Lowers the key of the tail of the reverse of a residual arc, if that offers less. The head was settled last, and
@@ -315,7 +311,7 @@ fn rounded_down(label: i128, scale: u32) -> i128
     opposite(quotient_above(depth, u128::from(scale)))
 }
 
-// The quotient of a depth by the scale, rounded up.
+// The quotient of a depth by the scale, rounded up. The scale is often 1, and a division takes long.
 fn quotient_above(depth: u128, scale: u128) -> u128
     requires scale { 1 ≤ scale }
     requires scale_small { scale < 2 ^ 32 }
@@ -324,6 +320,9 @@ fn quotient_above(depth: u128, scale: u128) -> u128
     ensures least { result * scale < depth + scale }
     ensures small { result ≤ quotient_reach }
 {
+    if scale == 1 {
+        return depth;
+    }
     (depth + (scale - 1)) / scale
 }
 

@@ -40,14 +40,18 @@ abbrev pub RespectsLabel : Pseudoflow → ℕ → ℕ → List ℤ → Keyed →
 RespectsLabel s scale slack y h r =
     HasRoom s r → label y h (tail s.net r) ≤ℤ (label y h (head s.net r) +ℤ step s scale slack r)
 
--- with room, a residual arc whose head has the label base offers its tail no label below 0
-abbrev pub OffersNone : Pseudoflow → ℕ → ℕ → ℤ → Rid → Type 0
-OffersNone s scale slack base r = HasRoom s r → pos 0 ≤ℤ (base +ℤ step s scale slack r)
+-- from a cost on, a residual arc whose head has the label base offers its tail no label below 0, even without the slack
+abbrev pub IsPassedFrom : ℕ → ℤ → ℤ → Type 0
+IsPassedFrom scale base passed = (cost : ℤ) → passed ≤ℤ cost → pos 0 ≤ℤ (base +ℤ cost *ℤ pos scale)
 
--- a list of residual arcs begins with some whose reverses offer no label below 0, and goes on with the rest
-pub record ArePassed (s : Pseudoflow) (scale slack : ℕ) (base : ℤ) (list rest : List Rid) : Type 0 where
+-- with room, a residual arc costs so much or more
+abbrev pub CostsAtLeast : Pseudoflow → ℤ → Rid → Type 0
+CostsAtLeast s least r = HasRoom s r → least ≤ℤ unit_cost s.net r
+
+-- a list of residual arcs begins with some whose reverses, with room, cost so much or more, and goes on with the rest
+pub record ArePassed (s : Pseudoflow) (passed : ℤ) (list rest : List Rid) : Type 0 where
   pub first : List Rid
-  pub none : All (λ r. OffersNone s scale slack base (record { arc = r.arc; back = not r.back })) first
+  pub costs : All (λ r. CostsAtLeast s passed (record { arc = r.arc; back = not r.back })) first
   pub whole : list ≡ first ++ rest
 
 -- a number is the cost of so many arcs, at costs times the scale and with the slack for each; they are no more

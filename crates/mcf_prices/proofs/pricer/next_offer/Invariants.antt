@@ -9,7 +9,7 @@ abbrev pub invariant-arcs : goal.invariant-arcs
 invariant-arcs l =
     record {
       arcs : All (λ (r : Rid). IsArcNumber l.fn.state.net r.arc) l.leaving;
-      passed : ArePassed l.fn.state l.fn.scale l.fn.slack l.base l.fn.leaving l.leaving;
+      passed : ArePassed l.fn.state l.passed l.fn.leaving l.leaving;
     }
 
 abbrev pub decreases-arcs : goal.decreases-arcs

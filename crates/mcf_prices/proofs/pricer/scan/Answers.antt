@@ -1,8 +1,9 @@
-use Rattle.std.proofs.Common.{◌≡◌, ◌∙◌, [], refl, subst, arith, rules, to_z, of_z}
+use Rattle.std.proofs.Common.{◌≡◌, ◌∙◌, [], refl, sym, subst, arith, rules, to_z, of_z}
 use mir.Syntax.{w128}
 use Rattle.std.proofs.lemmas.Int.{ints, to_z-of_z}
 use Rattle.mcf_instance.specs.Network.{Network, node_count}
 use Rattle.mcf_network.specs.Stars.{ListsLeaving}
+use Rattle.mcf_prices.specs.Private.Raisings.{IsPassedFrom}
 use Rattle.mcf_prices.proofs.RaisingSteps.{IsFound, base_kept, found, keeps_join, label_small, last_kept, passed_list, price_small}
 use Rattle.mcf_prices.proofs.pricer.scan.Goals as goal
 
@@ -38,16 +39,25 @@ entering-init c =
       kept = record { waiting = refl; keys = λ v n e. refl };
     }
 
-pub next_offer-requires-clause-base : goal.next_offer-requires-clause-base
-next_offer-requires-clause-base c =
+pub passing_cost-passed-requires-clause-scale : goal.passing_cost-passed-requires-clause-scale
+passing_cost-passed-requires-clause-scale c = let fits = c.requires.near.slack_small in omega (arith, fits)
+
+pub passing_cost-passed-requires-clause-low : goal.passing_cost-passed-requires-clause-low
+passing_cost-passed-requires-clause-low c =
     let lists = subst (λ (g : Network). ListsLeaving g c.args.w c.leaving-leaving.result) c.net.ensures.value c.leaving-leaving.ensures in
-    let small = label_small c.args.state.now c.args.scale c.args.slack c.args.prices.now c.net.ensures.valid c.requires.near c.args.heap.now
-    c.leaving-leaving.result (c.requires.search c.leaving-leaving.result lists) c.args.w c.requires.last.is_node in
-    let low = small.0 in
-    let high = small.1 in
+    let low = (label_small c.args.state.now c.args.scale c.args.slack c.args.prices.now c.net.ensures.valid c.requires.near c.args.heap.now
+    c.leaving-leaving.result (c.requires.search c.leaving-leaving.result lists) c.args.w c.requires.last.is_node).0 in
     let is = c.label_of-base.ensures in
     let t : to_z w128 (of_z w128 c.label_of-base.result) ≡ c.label_of-base.result = search (rules, to_z-of_z) in
-    (omega (arith, ints, low, is, t), omega (arith, ints, high, is, t))
+    omega (arith, ints, low, is, t)
+
+pub passing_cost-passed-requires-clause-high : goal.passing_cost-passed-requires-clause-high
+passing_cost-passed-requires-clause-high c =
+    let lists = subst (λ (g : Network). ListsLeaving g c.args.w c.leaving-leaving.result) c.net.ensures.value c.leaving-leaving.ensures in
+    let high = (c.requires.search c.leaving-leaving.result lists).not_above c.args.w c.requires.last.is_node in
+    let is = c.label_of-base.ensures in
+    let t : to_z w128 (of_z w128 c.label_of-base.result) ≡ c.label_of-base.result = search (rules, to_z-of_z) in
+    omega (arith, ints, high, is, t)
 
 -- the residual arc that was found
 offer : (c : goal.After-relax-arg-1)
@@ -56,9 +66,11 @@ offer : (c : goal.After-relax-arg-1)
 offer c =
     let inv = c.entering.invariant in
     let t : to_z w128 (of_z w128 c.label_of-base.result) ≡ c.label_of-base.result = search (rules, to_z-of_z) in
-    found c.args.state.now c.args.scale c.args.slack c.args.prices.now c.net.ensures.valid c.requires.near c.entering.heap c.args.w _ c.entering.leaving
+    let p : to_z w128 (of_z w128 c.passing_cost-passed.result) ≡ c.passing_cost-passed.result = search (rules, to_z-of_z) in
+    let from = subst (λ x. IsPassedFrom c.args.scale (to_z w128 (of_z w128 c.label_of-base.result)) x) (sym p) c.passing_cost-passed.ensures in
+    found c.args.state.now c.args.scale c.args.slack c.args.prices.now c.net.ensures.valid c.requires.near c.entering.heap c.args.w _ _ c.entering.leaving
     c.next_offer.new.leaving c.in-Some.out (base_kept c.args.prices.now c.args.heap.now c.entering.heap (node_count c.args.state.now.net) c.args.w _
-    (t ∙ c.label_of-base.ensures) c.requires.last inv.kept) inv.last inv.leaves c.in-Some.ensures.some inv.search
+    (t ∙ c.label_of-base.ensures) c.requires.last inv.kept) from inv.last inv.leaves c.in-Some.ensures.some inv.search
 
 pub relax-requires-clause-arc : goal.relax-requires-clause-arc
 relax-requires-clause-arc c = (offer c).arc
@@ -80,9 +92,11 @@ entering-preserved c =
     let nodes = node_count c.args.state.now.net in
     let inv = c.entering.invariant in
     let t : to_z w128 (of_z w128 c.label_of-base.result) ≡ c.label_of-base.result = search (rules, to_z-of_z) in
-    let here = found c.args.state.now c.args.scale c.args.slack c.args.prices.now c.net.ensures.valid c.requires.near c.entering.heap c.args.w _
+    let p : to_z w128 (of_z w128 c.passing_cost-passed.result) ≡ c.passing_cost-passed.result = search (rules, to_z-of_z) in
+    let from = subst (λ x. IsPassedFrom c.args.scale (to_z w128 (of_z w128 c.label_of-base.result)) x) (sym p) c.passing_cost-passed.ensures in
+    let here = found c.args.state.now c.args.scale c.args.slack c.args.prices.now c.net.ensures.valid c.requires.near c.entering.heap c.args.w _ _
     c.entering.leaving c.next_offer.new.leaving c.in-Some.out (base_kept c.args.prices.now c.args.heap.now c.entering.heap nodes c.args.w _
-    (t ∙ c.label_of-base.ensures) c.requires.last inv.kept) inv.last inv.leaves c.in-Some.ensures.some inv.search in
+    (t ∙ c.label_of-base.ensures) c.requires.last inv.kept) from inv.last inv.leaves c.in-Some.ensures.some inv.search in
     record {
       leaves = here.leaves;
       search = c.relax.ensures.search c.next_offer.new.leaving here.search;
@@ -94,6 +108,8 @@ pub returns-clause-search : goal.returns-clause-search
 returns-clause-search c =
     let inv = c.entering.invariant in
     let t : to_z w128 (of_z w128 c.label_of-base.result) ≡ c.label_of-base.result = search (rules, to_z-of_z) in
-    passed_list c.args.state.now c.args.scale c.args.slack c.args.prices.now c.net.ensures.valid c.requires.near c.entering.heap c.args.w _
+    let p : to_z w128 (of_z w128 c.passing_cost-passed.result) ≡ c.passing_cost-passed.result = search (rules, to_z-of_z) in
+    let from = subst (λ x. IsPassedFrom c.args.scale (to_z w128 (of_z w128 c.label_of-base.result)) x) (sym p) c.passing_cost-passed.ensures in
+    passed_list c.args.state.now c.args.scale c.args.slack c.args.prices.now c.net.ensures.valid c.requires.near c.entering.heap c.args.w _ _
     c.entering.leaving [] (base_kept c.args.prices.now c.args.heap.now c.entering.heap (node_count c.args.state.now.net) c.args.w _
-    (t ∙ c.label_of-base.ensures) c.requires.last inv.kept) inv.leaves c.in_default.ensures.none inv.search
+    (t ∙ c.label_of-base.ensures) c.requires.last inv.kept) from inv.leaves c.in_default.ensures.none inv.search
