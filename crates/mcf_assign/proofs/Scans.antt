@@ -2,14 +2,15 @@
 use Rattle.std.proofs.Common.{◌≡◌, ◌≢◌, ℕ, ◌+◌, ◌-◌, ◌*◌, ◌<◌, ◌≤◌, true, false, List, [], ◌∷◌, ◌++◌, length, get_or, Some, ℤ, ◌≤ℤ◌, refl, sym}
 use Rattle.std.proofs.Common.{◌∙◌, ap, subst, arith, inl, inr, ◌^◌, set, length-set}
 use Rattle.std.specs.List.{Contains, range_with_len}
-use Rattle.std.proofs.lemmas.Bool.{cases_eq, cases_lt}
+use Rattle.std.proofs.lemmas.Bool.{cases_eq, cases_lt, true≢false}
 use Rattle.std.proofs.lemmas.Int.{ints}
 use Rattle.std.proofs.lemmas.List.{append-nil, append_assoc, get_or_append_left, get_or_default, get_or_push, length-append, length-map, length_push}
-use Rattle.std.proofs.lemmas.List.Elements.{Contains-append_left, Contains-append_right, Contains-get_or}
+use Rattle.std.proofs.lemmas.List.Elements.{Contains-append_left, Contains-append_right, Contains-get_or, Contains-push}
 use Rattle.std.proofs.lemmas.List.FromFn.{get_or-map-range_with_len, length-range_with_len}
 use Rattle.mcf_instance.specs.Network.{Network, IsArcNumber, IsNode, at_node, node_count}
 use Rattle.mcf_instance.specs.WellFormed.{IsUpTo}
 use Rattle.mcf_network.specs.declared.rid.Rid.{Rid}
+use Rattle.mcf_network.specs.Stars.{Leaves, ListsLeaving}
 use Rattle.mcf_network.specs.States.{Pseudoflow}
 use Rattle.mcf_network.proofs.Marks.{count_small}
 use Rattle.mcf_assign.specs.Matchings.{AreMatchingPrices, IsColumn, IsMatchedColumn, IsPair, IsPartialMatching, IsRow, column_of, row_of}
@@ -22,6 +23,7 @@ use Rattle.mcf_assign.proofs.Orders.{ordered_kept, ordered_more, two_more}
 use Rattle.mcf_assign.proofs.PairLaws.{column_is, row_column, row_is}
 use Rattle.mcf_assign.proofs.Relaxing.{relaxed_lower}
 use Rattle.mcf_assign.proofs.Settling.{none_contained}
+use Rattle.mcf_assign.proofs.RowLists.{IsPassing, pass_end, pass_leaves, pass_more, pass_start}
 use Rattle.mcf_assign.proofs.Scanning.{row_near}
 use Rattle.mcf_assign.proofs.Stepping.{IsStepped, reach_small, settled_pair_is, stepped_pair, waiting_is}
 
@@ -157,6 +159,58 @@ step_last s y q q' order order' row arcs step node settled last u n h =
       | inl was ↦ (let far = last u n was in let same = (step.kept u n was).1 in omega (arith, ints, far, same, here))
       | inr at ↦ omega (arith, ints, at, here)
     ]
+
+-- ---- all arcs of a row, one after another
+
+-- the arcs of a list were relaxed, and the other arcs that leave the row are still to come
+pub record IsScanned (s : Pseudoflow) (y : List ℤ) (old : Search) (before : List ℕ) (new : Search) (after : List ℕ) (row : ℕ) (rest : List Rid) : Type 0 where
+  pub list : List Rid
+  pub step : IsStep s y old before new after row list
+  pub passing : IsPassing s.net row (λ k. Contains list (record { arc = k; back = false })) rest
+
+pub scan_start : (s : Pseudoflow) (y : List ℤ) (q : Search) (order : List ℕ) (row : ℕ) (rest : List Rid) → ListsLeaving s.net row rest
+    → IsScanned s y q order q order row rest
+scan_start s y q order row rest lists =
+    record {
+      list = [];
+      step = idle_step s y q order row [] (λ source more search. search);
+      passing = pass_start s.net row (λ k. Contains [] (forward k)) rest lists;
+    }
+
+pub scan_leaves : (s : Pseudoflow) (y : List ℤ) (p q : Search) (a b : List ℕ) (row : ℕ) (r : Rid) (rest : List Rid) → IsScanned s y p a q b row (r ∷ rest)
+    → Leaves s.net row r
+scan_leaves s y p q a b row r rest scanned = pass_leaves s.net row (λ k. Contains scanned.list (forward k)) r rest scanned.passing
+
+-- a backward arc is passed over
+pub scan_none : (s : Pseudoflow) (y : List ℤ) (p q : Search) (a b : List ℕ) (row : ℕ) (r : Rid) (rest : List Rid) → IsScanned s y p a q b row (r ∷ rest)
+    → r.back ≡ true → IsScanned s y p a q b row rest
+scan_none s y p q a b row r rest scanned back =
+    record {
+      list = scanned.list;
+      step = scanned.step;
+      passing = pass_more s.net row (λ k. Contains scanned.list (forward k)) (λ k. Contains scanned.list (forward k)) r rest scanned.passing (λ k was. was)
+          (λ e. absurd (true≢false (sym back ∙ e)));
+    }
+
+-- a forward arc was relaxed
+pub scan_more : (s : Pseudoflow) (y : List ℤ) (p q q' : Search) (a b c : List ℕ) (row : ℕ) (r : Rid) (rest : List Rid) → IsPartialMatching s
+    → IsNode (node_count s.net) row → Settled p row → IsScanned s y p a q b row (r ∷ rest)
+    → IsStep s y q b q' c row (record { arc = r.arc; back = false } ∷ []) → IsScanned s y p a q' c row rest
+scan_more s y p q q' a b c row r rest ok node settled scanned step =
+    record {
+      list = scanned.list ++ forward r.arc ∷ [];
+      step = steps s y p q q' a b c row scanned.list (forward r.arc ∷ []) ok node settled scanned.step step;
+      passing = pass_more s.net row (λ k. Contains scanned.list (forward k)) (λ k. Contains (scanned.list ++ forward r.arc ∷ []) (forward k)) r rest
+          scanned.passing (λ k was. Contains-append_left scanned.list (forward r.arc ∷ []) (forward k) was)
+          (λ _. Contains-push scanned.list (forward r.arc));
+    }
+
+pub scan_end : (s : Pseudoflow) (y : List ℤ) (p q : Search) (a b : List ℕ) (row : ℕ) → IsScanned s y p a q b row []
+    → (list : List Rid) × HasForward s.net row list × IsStep s y p a q b row list
+scan_end s y p q a b row scanned =
+    (scanned.list, pass_end s.net row (λ k. Contains scanned.list (forward k)) scanned.passing, scanned.step)
+
+-- ---- one arc
 
 module _ (s : Pseudoflow) (y : List ℤ) (q : Search) (order : List ℕ) (k : ℕ) (ok : IsPartialMatching s) (arc : IsArcNumber s.net k)
     (settled : Settled q (row_of s k)) where

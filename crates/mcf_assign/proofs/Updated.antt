@@ -1,24 +1,24 @@
 -- New prices that were tested after an update show the matching as those before.
-use Rattle.std.proofs.Common.{◌≡◌, ℕ, ◌-◌, ◌<◌, Bool, List, length, get_or, slice_range, ℤ, pos, ◌<ℤ◌, ◌≤ℤ◌, refl, sym, ◌∙◌, ap, subst, arith}
+use Rattle.std.proofs.Common.{◌≡◌, ℕ, ◌-◌, ◌<◌, Bool, List, [], ◌++◌, map, length, get_or, Option, None, ℤ, pos, ◌<ℤ◌, ◌≤ℤ◌, refl, sym, ◌∙◌, ap, subst, arith}
 use Rattle.std.proofs.Common.{false, inl, inr}
 use Rattle.std.specs.List.{All}
 use Rattle.std.proofs.lemmas.Int.{ints}
 use Rattle.std.proofs.lemmas.Bool.{cases_eq}
-use Rattle.std.proofs.lemmas.List.{get_or-map, length-map}
+use Rattle.std.proofs.lemmas.List.{append-nil, get_or-map, length-map}
+use Rattle.std.proofs.lemmas.Option.{MatchOption-at_none}
 use Rattle.mcf_instance.specs.Flow.{reduced_cost}
-use Rattle.mcf_instance.specs.Network.{Network, IsArcNumber, IsNode, at_node, node_count}
+use Rattle.mcf_instance.specs.Network.{Network, IsArcNumber, at_node}
 use Rattle.mcf_network.specs.declared.rid.Rid.{Rid}
 use Rattle.mcf_network.specs.Residual.{arc_at}
 use Rattle.mcf_network.specs.States.{Pseudoflow}
 use Rattle.mcf_assign.specs.declared.rows.RowArc.{RowArc}
-use Rattle.mcf_assign.specs.declared.rows.Rows.{Rows}
-use Rattle.mcf_assign.specs.declared.rows.Span.{Span}
 use Rattle.mcf_assign.specs.declared.search.Tables.{Tables}
 use Rattle.mcf_assign.specs.Matchings.{AreMatchingPrices, IsColumn, IsMatchedColumn, IsPair, IsPartialMatching, reduced, row_of}
 use Rattle.mcf_assign.specs.Private.Forests.{AreMates}
 use Rattle.mcf_assign.specs.Private.Keeping.{AreNearZero, FreeRowsAreFirst, IsKept}
-use Rattle.mcf_assign.specs.Private.RowLists.{AreRows, IsRowSpan, ListsRow, forward_of, span_at}
-use Rattle.mcf_assign.specs.Private.Updating.{AreUpdated, FitsMate, IsFitArc, mate_at}
+use Rattle.mcf_assign.specs.Private.RowLists.{CostNoLess, IsKeptRow, forward_of}
+use Rattle.mcf_assign.specs.Private.Searches.{HasForward}
+use Rattle.mcf_assign.specs.Private.Updating.{AreUpdated, FitsLeaving, FitsMate, IsFitArc, mate_at}
 use Rattle.mcf_assign.proofs.PairLaws.{row_is}
 use Rattle.mcf_assign.proofs.RowLists.{no_arc}
 
@@ -55,23 +55,19 @@ module _ (g : Network) (mates : List ℕ) (y z : List ℤ) (v i : ℕ) (x price 
 
 -- ---- the arcs of a row
 
--- the arcs of a row, where its span says
-pub row_lists : (g : Network) (rows : Rows) (v : ℕ) (x : Span) (list : List RowArc) → AreRows g rows → IsNode (node_count g) v
-    → x ≡ span_at rows.spans.items v → list ≡ slice_range rows.arcs.items x.start x.end → ListsRow g v list
-row_lists g rows v x list are node at is =
-    let here : IsRowSpan g rows.arcs.items v x = subst (λ (y : Span). IsRowSpan g rows.arcs.items v y) (sym at) (are.each v node) in
-    subst (λ l. ListsRow g v l) (sym is) here.lists
-
-pub fits_low : (g : Network) (z : List ℤ) (v : ℕ) (list : List RowArc) → ListsRow g v list → All (IsFitArc z v) list → (k : ℕ)
-    → IsArcNumber g k → (arc_at g k).src ≡ v → pos 0 ≤ℤ reduced_cost z (arc_at g k)
-fits_low g z v list lists fit k arc from =
-    let here = lists.every k arc from in
+-- the arcs that are kept are all
+pub fits_low : (g : Network) (z : List ℤ) (v : ℕ) (list : List RowArc) (cost : Option ℤ) → cost ≡ None → IsKeptRow g v list cost → All (IsFitArc z v) list
+    → FitsLeaving g z v
+fits_low g z v list cost none row fit k arc from =
+    let all : map forward_of list ++ map forward_of row.others ≡ map forward_of list = ap (λ l. map forward_of list ++ map forward_of l)
+    (MatchOption-at_none (row.others ≡ []) (λ (bound : ℤ). CostNoLess bound row.others) none row.dearer) ∙ append-nil (map forward_of list) in
+    let here = subst (λ l. HasForward g v l) all row.every k arc from in
     let at = here.1 in
     let inside : here.0 < length list = (let e = length-map list forward_of in omega (arith, at, e)) in
     let is : forward_of (get_or list here.0 no_arc) ≡ record { arc = k; back = false } = sym
     (get_or-map forward_of list here.0 no_arc (record { arc = k; back = false }) inside) ∙ here.2 in
     let same : (get_or list here.0 no_arc).arc ≡ k = ap (λ (r : Rid). r.arc) is in
-    let a = lists.each here.0 no_arc inside in
+    let a = row.each here.0 no_arc inside in
     let low = fit here.0 no_arc inside in
     let cost = ap (λ j. (arc_at g j).cost) same in
     let src = ap (λ j. at_node z (arc_at g j).src) same in

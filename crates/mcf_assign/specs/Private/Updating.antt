@@ -38,10 +38,14 @@ pub record FitsMate (g : Network) (mates : List ℕ) (y z : List ℤ) (v : ℕ) 
 abbrev pub IsFitArc : List ℤ → ℕ → RowArc → Type 0
 IsFitArc z v a = pos 0 ≤ℤ (a.cost -ℤ at_node z v +ℤ at_node z a.column)
 
--- and no arc that leaves the node has a negative reduced cost
+-- no arc that leaves the node has a negative reduced cost
+abbrev pub FitsLeaving : Network → List ℤ → ℕ → Type 0
+FitsLeaving g z v = (k : ℕ) → IsArcNumber g k → (arc_at g k).src ≡ v → pos 0 ≤ℤ reduced_cost z (arc_at g k)
+
+-- new prices fit a node, its mate and the arcs that leave it
 pub record FitsNode (g : Network) (mates : List ℕ) (y z : List ℤ) (v : ℕ) : Type 0 where
   pub mate : FitsMate g mates y z v
-  pub low : (k : ℕ) → IsArcNumber g k → (arc_at g k).src ≡ v → pos 0 ≤ℤ reduced_cost z (arc_at g k)
+  pub low : FitsLeaving g z v
 
 -- new prices are near 0 and fit each node
 pub record AreUpdated (s : Pseudoflow) (mates : List ℕ) (y z : List ℤ) : Type 0 where

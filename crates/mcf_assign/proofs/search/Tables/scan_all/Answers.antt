@@ -1,0 +1,87 @@
+use Rattle.std.proofs.Common.{List, ◌∙◌, refl, subst}
+use Rattle.mcf_instance.specs.Network.{Network}
+use Rattle.mcf_network.specs.declared.rid.Rid.{Rid}
+use Rattle.mcf_network.specs.Stars.{ListsLeaving}
+use Rattle.mcf_assign.specs.Private.Searches.{search_of}
+use Rattle.mcf_assign.proofs.Scanning.{leaves_from}
+use Rattle.mcf_assign.proofs.Scans.{IsScanned, scan_end, scan_leaves, scan_more, scan_none, scan_start, step_last}
+use Rattle.mcf_assign.proofs.search.Tables.scan_all.Goals as goal
+
+pub arcs-init : goal.arcs-init
+arcs-init c =
+    let lists = rw (← c.into_iter-leaving-iterator.ensures.into_iter_gives) at c.leaving-leaving-items.ensures in
+    record {
+      can_next = tt;
+      is_finite = tt;
+      scanned = scan_start c.args.state.now c.args.prices.now (search_of c.args.self.now) c.args.self.now.order.items c.args.row
+          c.into_iter-leaving-iterator.result
+          (subst (λ (g : Network). ListsLeaving g c.args.row c.into_iter-leaving-iterator.result) c.net.ensures.value lists);
+      room = refl;
+    }
+
+pub arcs-preserved-then-back : goal.arcs-preserved-then-back
+arcs-preserved-then-back c =
+    let s = c.args.state.now in
+    let y = c.args.prices.now in
+    let p = search_of c.args.self.now in
+    let q = search_of c.arcs.self in
+    let scanned = subst (λ (xs : List Rid). IsScanned s y p c.args.self.now.order.items q c.arcs.self.order.items c.args.row xs) c.in-Some.ensures.steps
+    c.arcs.invariant.scanned in
+    record {
+      can_next = tt;
+      is_finite = tt;
+      scanned = scan_none s y p q c.args.self.now.order.items c.arcs.self.order.items c.args.row c.in-Some.leaving c.next.new.self scanned c.if-back.true;
+      room = c.arcs.invariant.room;
+    }
+
+pub scan_arc-requires-clause-arc : goal.scan_arc-requires-clause-arc
+scan_arc-requires-clause-arc c =
+    let s = c.args.state.now in
+    let y = c.args.prices.now in
+    let p = search_of c.args.self.now in
+    let q = search_of c.arcs.self in
+    let scanned = subst (λ (xs : List Rid). IsScanned s y p c.args.self.now.order.items q c.arcs.self.order.items c.args.row xs) c.in-Some.ensures.steps
+    c.arcs.invariant.scanned in
+    (scan_leaves s y p q c.args.self.now.order.items c.arcs.self.order.items c.args.row c.in-Some.leaving c.next.new.self scanned).arc
+
+pub scan_arc-requires-clause-from : goal.scan_arc-requires-clause-from
+scan_arc-requires-clause-from c =
+    let s = c.args.state.now in
+    let y = c.args.prices.now in
+    let p = search_of c.args.self.now in
+    let q = search_of c.arcs.self in
+    let scanned = subst (λ (xs : List Rid). IsScanned s y p c.args.self.now.order.items q c.arcs.self.order.items c.args.row xs) c.in-Some.ensures.steps
+    c.arcs.invariant.scanned in
+    leaves_from s.net c.args.row c.in-Some.leaving
+    (scan_leaves s y p q c.args.self.now.order.items c.arcs.self.order.items c.args.row c.in-Some.leaving c.next.new.self scanned) c.if-back.false
+
+pub scan_arc-requires-clause-last : goal.scan_arc-requires-clause-last
+scan_arc-requires-clause-last c =
+    step_last c.args.state.now c.args.prices.now (search_of c.args.self.now) (search_of c.arcs.self) c.args.self.now.order.items c.arcs.self.order.items
+    c.args.row _ c.arcs.invariant.scanned.step c.requires.row c.requires.settled c.requires.last
+
+pub arcs-preserved : goal.arcs-preserved
+arcs-preserved c =
+    let s = c.args.state.now in
+    let y = c.args.prices.now in
+    let p = search_of c.args.self.now in
+    let q = search_of c.arcs.self in
+    let scanned = subst (λ (xs : List Rid). IsScanned s y p c.args.self.now.order.items q c.arcs.self.order.items c.args.row xs) c.in-Some.ensures.steps
+    c.arcs.invariant.scanned in
+    record {
+      can_next = tt;
+      is_finite = tt;
+      scanned = scan_more s y p q (search_of c.scan_arc.new.self) c.args.self.now.order.items c.arcs.self.order.items c.scan_arc.new.self.order.items
+          c.args.row c.in-Some.leaving c.next.new.self c.requires.matching c.requires.row c.requires.settled scanned c.scan_arc.ensures.step;
+      room = c.scan_arc.ensures.room ∙ c.arcs.invariant.room;
+    }
+
+pub returns-clause-step : goal.returns-clause-step
+returns-clause-step c =
+    let s = c.args.state.now in
+    let y = c.args.prices.now in
+    let p = search_of c.args.self.now in
+    let q = search_of c.arcs.self in
+    scan_end s y p q c.args.self.now.order.items c.arcs.self.order.items c.args.row
+    (subst (λ (xs : List Rid). IsScanned s y p c.args.self.now.order.items q c.arcs.self.order.items c.args.row xs) c.in-None.ensures.steps.0
+    c.arcs.invariant.scanned)
