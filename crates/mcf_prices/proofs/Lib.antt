@@ -1,9 +1,9 @@
 pub mod Cancelling
 pub mod Cycles
+pub mod HeapGaps
 pub mod HeapLowered
 pub mod HeapOrder
 pub mod HeapPlaces
-pub mod HeapReads
 pub mod HeapViews
 pub mod LabelLengths
 pub mod LinkWalks

@@ -3,7 +3,7 @@ ghost use Rattle.std.specs.Prelude.{◌≡◌, ◌≢◌, ◌+◌, ◌*◌, ◌^
 ghost use Rattle.std.specs.Prelude.{slice_index_or, slice_set};
 ghost use Rattle.std.specs.Bool.{MatchBool};
 ghost use Rattle.mcf_prices.specs.Heaps.{ComesFirst};
-ghost use Rattle.mcf_prices.specs.Private.ItemHeaps.{IsChild, IsHeap, IsOrderedAbove, IsOrderedBelow, IsPlaced, IsSwapped, Precedes, PrecedesAll};
+ghost use Rattle.mcf_prices.specs.Private.ItemHeaps.{IsChild, IsHeap, IsOrdered, IsOrderedAbove, IsOrderedBelow, IsPlaced, IsPlacedBut, Precedes, PrecedesAll};
 ghost use Rattle.mcf_prices.specs.Private.ItemHeaps.{entry, key_at, table_of};
 
 use mcf_instance::copies;
@@ -18,6 +18,14 @@ pub(crate) struct ItemHeap {
     slots: Vec<u32>,
     places: Vec<u32>,
     count: u32,
+}
+
+// An item in its slot, with its key.
+#[derive(Clone, Copy)]
+struct Child {
+    slot: u32,
+    item: u32,
+    key: i128,
 }
 
 impl ItemHeap {
@@ -53,7 +61,7 @@ impl ItemHeap {
     {
         self.keys[v as usize] = key;
         let at = self.slot_for(v);
-        self.rise(at);
+        self.rise(at, v, key);
     }
 
     /// The key of an item, with which it waits or last waited.
@@ -112,7 +120,7 @@ impl ItemHeap {
             return None;
         }
         let first = self.slots[0];
-        self.take_first();
+        self.take_first(first);
         Some(first)
     }
 
@@ -129,46 +137,48 @@ impl ItemHeap {
         }
     }
 
-    // The slot of an item, which takes the one after the last if it has none.
+    // The slot of an item, or the one after the last if it has none, which is in use from then on. It is not written.
     fn slot_for(&mut self, v: u32) -> u32
         requires placed { IsPlaced self.old.count self.old.slots.items self.old.places.items }
         requires items { length self.old.places.items < 2 ^ 31 }
         requires item { v < length self.old.places.items }
-        ensures placed { IsPlaced self.new.count self.new.slots.items self.new.places.items }
-        ensures slot { entry self.new.places.items v ≡ result + 1 }
-        ensures kept { 0 < entry self.old.places.items v →
-            (self.new.count ≡ self.old.count) × (self.new.slots ≡ self.old.slots) × (entry self.old.places.items v ≡ result + 1) }
-        ensures fresh { entry self.old.places.items v ≡ 0 → (self.new.count ≡ self.old.count + 1)
-            × (self.new.slots.items ≡ slice_set self.old.slots.items self.old.count v) × (result ≡ self.old.count) }
-        ensures table { table_of self.new.places.items ≡ slice_set (table_of self.old.places.items) v true }
-        ensures items { length self.new.places.items ≡ length self.old.places.items }
+        ensures placed { IsPlacedBut self.new.count self.old.slots.items self.old.places.items result v }
+        ensures slot { result < self.new.count }
+        ensures kept { 0 < entry self.old.places.items v → (self.new.count ≡ self.old.count) × (entry self.old.places.items v ≡ result + 1) }
+        ensures fresh { entry self.old.places.items v ≡ 0 → (self.new.count ≡ self.old.count + 1) × (result ≡ self.old.count) }
+        ensures table { table_of (slice_set self.old.places.items v (result + 1)) ≡ slice_set (table_of self.old.places.items) v true }
+        ensures slots { self.new.slots ≡ self.old.slots }
+        ensures places { self.new.places ≡ self.old.places }
         ensures keys { self.new.keys ≡ self.old.keys }
     {
         let place = self.places[v as usize];
         if place > 0 {
             return place - 1;
         }
-        self.append(v);
-        self.count - 1
+        let count = self.count;
+        self.count = count + 1;
+        count
     }
 
-    // Takes out the first item, of which there is one.
-    fn take_first(&mut self)
+    // Takes out the first item. The last one is in hand then, and sinks from the first slot.
+    fn take_first(&mut self, first: u32)
         requires valid { IsHeap self.old }
         requires items { length self.old.places.items < 2 ^ 31 }
         requires some { 0 < self.old.count }
+        requires first { first ≡ entry self.old.slots.items 0 }
         ensures valid { IsHeap self.new }
-        ensures table { table_of self.new.places.items ≡ slice_set (table_of self.old.places.items) (entry self.old.slots.items 0) false }
+        ensures table { table_of self.new.places.items ≡ slice_set (table_of self.old.places.items) first false }
         ensures keys { self.new.keys ≡ self.old.keys }
     {
         let last = self.count - 1;
+        self.places[first as usize] = 0;
+        self.count = last;
         if last == 0 {
-            self.drop_last();
             return;
         }
-        self.exchange(0, last);
-        self.drop_last();
-        self.sink(0);
+        let v = self.slots[last as usize];
+        let key = self.keys[v as usize];
+        self.sink(0, v, key);
     }
 
     // Takes out the item in the last slot, of which there is one.
@@ -188,129 +198,236 @@ impl ItemHeap {
         self.count = last;
     }
 
-    // Puts an item that doesn't wait into the slot after the last.
-    fn append(&mut self, v: u32)
-        requires placed { IsPlaced self.old.count self.old.slots.items self.old.places.items }
+    // Writes an item, whose key is in hand, into a slot, and lets it rise from there until its parent precedes it.
+    fn rise(&mut self, from: u32, v: u32, key: i128)
+        requires placed { IsPlacedBut self.old.count self.old.slots.items self.old.places.items from v }
         requires items { length self.old.places.items < 2 ^ 31 }
-        requires item { v < length self.old.places.items }
-        requires fresh { entry self.old.places.items v ≡ 0 }
-        ensures placed { IsPlaced self.new.count self.new.slots.items self.new.places.items }
-        ensures count { self.new.count ≡ self.old.count + 1 }
-        ensures slots { self.new.slots.items ≡ slice_set self.old.slots.items self.old.count v }
-        ensures place { entry self.new.places.items v ≡ self.new.count }
-        ensures table { table_of self.new.places.items ≡ slice_set (table_of self.old.places.items) v true }
-        ensures items { length self.new.places.items ≡ length self.old.places.items }
+        requires counted { length self.old.keys.items ≡ length self.old.places.items }
+        requires slot { from < self.old.count }
+        requires key { key ≡ key_at self.old.keys.items v }
+        requires order { IsOrderedAbove self.old.keys.items self.old.count (slice_set self.old.slots.items from v) from }
+        ensures valid { IsHeap self.new }
+        ensures table { table_of self.new.places.items ≡ table_of (slice_set self.old.places.items v (from + 1)) }
         ensures keys { self.new.keys ≡ self.old.keys }
     {
         let count = self.count;
-        self.slots[count as usize] = v;
-        self.places[v as usize] = count + 1;
-        self.count = count + 1;
+        rise_from(
+            &self.keys,
+            &mut self.slots,
+            &mut self.places,
+            count,
+            from,
+            v,
+            key,
+        );
     }
 
-    // Lets the item of a slot rise until its parent precedes it.
-    fn rise(&mut self, from: u32)
-        requires placed { IsPlaced self.old.count self.old.slots.items self.old.places.items }
+    // Writes an item, whose key is in hand, into a slot, and lets it sink from there until it precedes its children.
+    fn sink(&mut self, from: u32, v: u32, key: i128)
+        requires placed { IsPlacedBut self.old.count self.old.slots.items self.old.places.items from v }
         requires items { length self.old.places.items < 2 ^ 31 }
         requires counted { length self.old.keys.items ≡ length self.old.places.items }
         requires slot { from < self.old.count }
-        requires order { IsOrderedAbove self.old.keys.items self.old.count self.old.slots.items from }
+        requires key { key ≡ key_at self.old.keys.items v }
+        requires order { IsOrderedBelow self.old.keys.items self.old.count (slice_set self.old.slots.items from v) from }
         ensures valid { IsHeap self.new }
-        ensures table { table_of self.new.places.items ≡ table_of self.old.places.items }
+        ensures table { table_of self.new.places.items ≡ table_of (slice_set self.old.places.items v (from + 1)) }
         ensures keys { self.new.keys ≡ self.old.keys }
     {
-        let mut at = from;
-        'up: while at > 0 {
-            let parent = (at - 1) / 2;
-            if self.precedes(parent, at) {
-                return;
-            }
-            self.exchange(parent, at);
-            at = parent;
-        }
-    }
-
-    // Lets the item of a slot sink until it precedes its children.
-    fn sink(&mut self, from: u32)
-        requires placed { IsPlaced self.old.count self.old.slots.items self.old.places.items }
-        requires items { length self.old.places.items < 2 ^ 31 }
-        requires counted { length self.old.keys.items ≡ length self.old.places.items }
-        requires slot { from < self.old.count }
-        requires order { IsOrderedBelow self.old.keys.items self.old.count self.old.slots.items from }
-        ensures valid { IsHeap self.new }
-        ensures table { table_of self.new.places.items ≡ table_of self.old.places.items }
-        ensures keys { self.new.keys ≡ self.old.keys }
-    {
-        let mut at = from;
-        'down: while let Some(child) = self.first_child(at) {
-            if self.precedes(at, child) {
-                return;
-            }
-            self.exchange(at, child);
-            at = child;
-        }
-    }
-
-    // The child of a slot that precedes the other, if there is one.
-    fn first_child(&self, at: u32) -> Option<u32>
-        requires placed { IsPlaced self.now.count self.now.slots.items self.now.places.items }
-        requires items { length self.now.places.items < 2 ^ 31 }
-        requires counted { length self.now.keys.items ≡ length self.now.places.items }
-        requires slot { at < self.now.count }
-        ensures child { IfSome result (λ c. IsChild at c × (c < self.now.count)) }
-        ensures least { IfSome result (λ c. (j : ℕ) → IsChild at j → j < self.now.count →
-            Precedes self.now.keys.items (entry self.now.slots.items c) (entry self.now.slots.items j)) }
-        ensures none { IfNone result (self.now.count ≤ 2 * at + 1) }
-    {
-        let left = 2 * at + 1;
-        let right = left + 1;
-        if left >= self.count {
-            return None;
-        }
-        if right < self.count && !self.precedes(left, right) {
-            return Some(right);
-        }
-        Some(left)
-    }
-
-    // Whether the item of a slot precedes that of another.
-    fn precedes(&self, i: u32, j: u32) -> bool
-        requires placed { IsPlaced self.now.count self.now.slots.items self.now.places.items }
-        requires counted { length self.now.keys.items ≡ length self.now.places.items }
-        requires i { i < self.now.count }
-        requires j { j < self.now.count }
-        ensures { MatchBool result
-            (Precedes self.now.keys.items (entry self.now.slots.items i) (entry self.now.slots.items j))
-            (Precedes self.now.keys.items (entry self.now.slots.items j) (entry self.now.slots.items i)) }
-    {
-        let a = self.slots[i as usize];
-        let b = self.slots[j as usize];
-        comes_first(self.keys[a as usize], a, self.keys[b as usize], b)
-    }
-
-    // Exchanges two slots.
-    fn exchange(&mut self, i: u32, j: u32)
-        requires placed { IsPlaced self.old.count self.old.slots.items self.old.places.items }
-        requires i { i < self.old.count }
-        requires j { j < self.old.count }
-        requires apart { i ≢ j }
-        ensures placed { IsPlaced self.new.count self.new.slots.items self.new.places.items }
-        ensures swapped { IsSwapped self.old.slots.items self.new.slots.items i j }
-        ensures table { table_of self.new.places.items ≡ table_of self.old.places.items }
-        ensures items { length self.new.places.items ≡ length self.old.places.items }
-        ensures keys { self.new.keys ≡ self.old.keys }
-        ensures count { self.new.count ≡ self.old.count }
-    {
-        let a = self.slots[i as usize];
-        let b = self.slots[j as usize];
-        self.slots[i as usize] = b;
-        self.slots[j as usize] = a;
-        self.places[b as usize] = i + 1;
-        self.places[a as usize] = j + 1;
+        let count = self.count;
+        sink_from(
+            &self.keys,
+            &mut self.slots,
+            &mut self.places,
+            count,
+            from,
+            v,
+            key,
+        );
     }
 }
 
+// Lets an item rise from a slot until its parent precedes it. It is kept in hand, and written once.
+fn rise_from(
+    keys: &[i128],
+    slots: &mut [u32],
+    places: &mut [u32],
+    count: u32,
+    from: u32,
+    v: u32,
+    key: i128,
+)
+    requires placed { IsPlacedBut count slots.old places.old from v }
+    requires items { length places.old < 2 ^ 31 }
+    requires counted { length keys.now ≡ length places.old }
+    requires slot { from < count }
+    requires key { key ≡ key_at keys.now v }
+    requires order { IsOrderedAbove keys.now count (slice_set slots.old from v) from }
+    ensures placed { IsPlaced count slots.new places.new }
+    ensures order { IsOrdered keys.now count slots.new }
+    ensures table { table_of places.new ≡ table_of (slice_set places.old v (from + 1)) }
+{
+    let at = raise_gap(keys, slots, places, count, from, v, key);
+    put(slots, places, at, v);
+}
+
+// Raises a gap, the slot of an item that is in hand, until its parent precedes that item, and says where it is then.
+// Of `count`, how many slots are in use, only the clauses speak.
+#[inline(always)]
+fn raise_gap(
+    keys: &[i128],
+    slots: &mut [u32],
+    places: &mut [u32],
+    count: u32,
+    from: u32,
+    v: u32,
+    key: i128,
+) -> u32
+    requires placed { IsPlacedBut count slots.old places.old from v }
+    requires items { length places.old < 2 ^ 31 }
+    requires counted { length keys.now ≡ length places.old }
+    requires slot { from < count }
+    requires key { key ≡ key_at keys.now v }
+    requires order { IsOrderedAbove keys.now count (slice_set slots.old from v) from }
+    ensures placed { IsPlacedBut count slots.new places.new result v }
+    ensures slot { result < count }
+    ensures order { IsOrdered keys.now count (slice_set slots.new result v) }
+    ensures table { table_of (slice_set places.new v (result + 1)) ≡ table_of (slice_set places.old v (from + 1)) }
+{
+    let mut at = from;
+    'up: while at > 0 {
+        let parent = (at - 1) / 2;
+        let w = slots[parent as usize];
+        if !precedes(keys, v, key, w, keys[w as usize]) {
+            return at;
+        }
+        put(slots, places, at, w);
+        at = parent;
+    }
+    at
+}
+
+// Lets an item sink from a slot until it precedes its children. It is kept in hand, and written once.
+fn sink_from(
+    keys: &[i128],
+    slots: &mut [u32],
+    places: &mut [u32],
+    count: u32,
+    from: u32,
+    v: u32,
+    key: i128,
+)
+    requires placed { IsPlacedBut count slots.old places.old from v }
+    requires items { length places.old < 2 ^ 31 }
+    requires counted { length keys.now ≡ length places.old }
+    requires slot { from < count }
+    requires key { key ≡ key_at keys.now v }
+    requires order { IsOrderedBelow keys.now count (slice_set slots.old from v) from }
+    ensures placed { IsPlaced count slots.new places.new }
+    ensures order { IsOrdered keys.now count slots.new }
+    ensures table { table_of places.new ≡ table_of (slice_set places.old v (from + 1)) }
+{
+    let at = lower_gap(keys, slots, places, count, from, v, key);
+    put(slots, places, at, v);
+}
+
+// Lowers a gap, the slot of an item that is in hand, until that item precedes its children, and says where it is then.
+#[inline(always)]
+fn lower_gap(
+    keys: &[i128],
+    slots: &mut [u32],
+    places: &mut [u32],
+    count: u32,
+    from: u32,
+    v: u32,
+    key: i128,
+) -> u32
+    requires placed { IsPlacedBut count slots.old places.old from v }
+    requires items { length places.old < 2 ^ 31 }
+    requires counted { length keys.now ≡ length places.old }
+    requires slot { from < count }
+    requires key { key ≡ key_at keys.now v }
+    requires order { IsOrderedBelow keys.now count (slice_set slots.old from v) from }
+    ensures placed { IsPlacedBut count slots.new places.new result v }
+    ensures slot { result < count }
+    ensures order { IsOrdered keys.now count (slice_set slots.new result v) }
+    ensures table { table_of (slice_set places.new v (result + 1)) ≡ table_of (slice_set places.old v (from + 1)) }
+{
+    let mut at = from;
+    'down: while 2 * at + 1 < count {
+        let child = first_child(keys, slots, count, at);
+        if !precedes(keys, child.item, child.key, v, key) {
+            return at;
+        }
+        put(slots, places, at, child.item);
+        at = child.slot;
+    }
+    at
+}
+
+// The child of a slot that precedes the other; there is one.
+#[inline(always)]
+fn first_child(keys: &[i128], slots: &[u32], count: u32, at: u32) -> Child
+    requires some { 2 * at + 1 < count }
+    requires slots { count ≤ length slots.now }
+    requires items { count < 2 ^ 31 }
+    requires children { (j : ℕ) → IsChild at j → j < count → entry slots.now j < length keys.now }
+    ensures child { IsChild at result.slot × (result.slot < count) }
+    ensures item { result.item ≡ entry slots.now result.slot }
+    ensures key { result.key ≡ key_at keys.now result.item }
+    ensures least { (j : ℕ) → IsChild at j → j < count → Precedes keys.now result.item (entry slots.now j) }
+{
+    let left = child_in(keys, slots, 2 * at + 1);
+    let place = left.slot + 1;
+    if place >= count {
+        return left;
+    }
+    let right = child_in(keys, slots, place);
+    if precedes(keys, left.item, left.key, right.item, right.key) {
+        return left;
+    }
+    right
+}
+
+// What a slot holds.
+#[inline(always)]
+fn child_in(keys: &[i128], slots: &[u32], slot: u32) -> Child
+    requires slot { slot < length slots.now }
+    requires item { entry slots.now slot < length keys.now }
+    ensures slot { result.slot ≡ slot }
+    ensures item { result.item ≡ entry slots.now slot }
+    ensures key { result.key ≡ key_at keys.now (entry slots.now slot) }
+{
+    let item = slots[slot as usize];
+    let key = keys[item as usize];
+    Child { slot, item, key }
+}
+
+// Puts an item into a slot.
+#[inline(always)]
+fn put(slots: &mut [u32], places: &mut [u32], at: u32, item: u32)
+    requires slot { at < length slots.old }
+    requires item { item < length places.old }
+    requires small { at + 1 < 2 ^ 32 }
+    ensures slots { slots.new ≡ slice_set slots.old at item }
+    ensures places { places.new ≡ slice_set places.old item (at + 1) }
+{
+    slots[at as usize] = item;
+    places[item as usize] = at + 1;
+}
+
+// Whether an item precedes another, with both keys in hand; only the clauses speak of all keys.
+#[inline(always)]
+fn precedes(keys: &[i128], a: u32, key_a: i128, b: u32, key_b: i128) -> bool
+    requires key_a { key_a ≡ key_at keys.now a }
+    requires key_b { key_b ≡ key_at keys.now b }
+    ensures { MatchBool result (Precedes keys.now a b) (Precedes keys.now b a) }
+{
+    comes_first(key_a, a, key_b, b)
+}
+
 // Whether item a with its key comes before item b with its.
+#[inline(always)]
 fn comes_first(key_a: i128, a: u32, key_b: i128, b: u32) -> bool
     ensures { MatchBool result (ComesFirst key_a a key_b b) (ComesFirst key_b b key_a a) }
 {

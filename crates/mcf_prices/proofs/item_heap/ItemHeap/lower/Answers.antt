@@ -3,18 +3,11 @@ use mir.Syntax.{w128}
 use Rattle.std.proofs.lemmas.Bool.{cases_eq}
 use Rattle.std.proofs.lemmas.Int.{to_z-of_z}
 use Rattle.mcf_prices.specs.Private.ItemHeaps.{entry, IsOrderedAbove}
+use Rattle.mcf_prices.proofs.HeapGaps.{gap_start}
 use Rattle.mcf_prices.proofs.HeapOrder.{above_at}
 use Rattle.mcf_prices.proofs.HeapPlaces.{room_for}
 use Rattle.mcf_prices.proofs.HeapLowered.{lowered_above, appended_above}
 use Rattle.mcf_prices.proofs.item_heap.ItemHeap.lower.Goals as goal
-
-pub rise-requires-clause-slot : goal.rise-requires-clause-slot
-rise-requires-clause-slot c =
-    let e = c.slot_for-at.ensures in
-    let items = e.items in
-    let item = c.requires.item in
-    let at = e.placed.forth c.args.v c.slot_for-at.result (omega (arith, items, item)) e.slot in
-    at.0
 
 pub rise-requires-clause-order : goal.rise-requires-clause-order
 rise-requires-clause-order c =
@@ -22,24 +15,30 @@ rise-requires-clause-order c =
     let e = c.slot_for-at.ensures in
     let counted = h.keys in
     let item = c.requires.item in
+    let v = c.args.v in
+    let at = c.slot_for-at.result in
+    let count = c.args.self.now.count in
+    let slots = c.args.self.now.slots.items in
+    let places = c.args.self.now.places.items in
     let key : to_z w128 (of_z w128 c.args.key) ≡ c.args.key = to_z-of_z w128 c.args.key c.ranges.key in
-    let keys : c.slot_for-at.new.self.keys.items ≡ set c.args.self.now.keys.items c.args.v c.args.key = ap (λ v. v.items) e.keys ∙ ap
-    (λ k. set c.args.self.now.keys.items c.args.v k) key in
-    elim (cases_eq (entry c.args.self.now.places.items c.args.v) 0) [
+    let keys : c.slot_for-at.new.self.keys.items ≡ set c.args.self.now.keys.items v c.args.key = ap (λ x. x.items) e.keys ∙ ap
+    (λ k. set c.args.self.now.keys.items v k) key in
+    let gap : IsOrderedAbove c.slot_for-at.new.self.keys.items c.slot_for-at.new.self.count (set slots at v) at =
+    elim (cases_eq (entry places v) 0) [
       | inl none ↦ (
           let f = e.fresh none in
-          let room = room_for c.args.self.now.count c.args.self.now.slots.items c.args.self.now.places.items c.args.v h.placed item none in
-          let above = appended_above c.args.self.now.keys.items c.args.self.now.count c.args.self.now.slots.items c.args.self.now.places.items c.args.v
-          c.args.key h.placed h.ordered none (omega (arith, room)) in
-          let here = above_at _ _ _ _ _ _ keys f.0 above in
-          subst (λ x. IsOrderedAbove c.slot_for-at.new.self.keys.items c.slot_for-at.new.self.count x c.slot_for-at.result) (sym f.1)
-          (subst (λ i. IsOrderedAbove c.slot_for-at.new.self.keys.items c.slot_for-at.new.self.count
-          (set c.args.self.now.slots.items c.args.self.now.count c.args.v) i) (sym f.2) here))
+          let room = room_for count slots places v h.placed item none in
+          let above = appended_above c.args.self.now.keys.items count slots places v c.args.key h.placed h.ordered none (omega (arith, room)) in
+          subst (λ i. IsOrderedAbove c.slot_for-at.new.self.keys.items c.slot_for-at.new.self.count (set slots i v) i) (sym f.1)
+          (above_at _ _ _ _ _ _ keys f.0 above))
       | inr some ↦ (
-          let positive : 0 < entry c.args.self.now.places.items c.args.v = omega (arith, some) in
+          let positive : 0 < entry places v = omega (arith, some) in
           let k = e.kept positive in
-          let above = lowered_above c.args.self.now.keys.items c.args.self.now.count c.args.self.now.slots.items c.args.self.now.places.items c.args.v
-          c.slot_for-at.result c.args.key h.placed h.ordered (omega (arith, counted, item)) k.2 (c.requires.low positive) in
-          subst (λ x. IsOrderedAbove c.slot_for-at.new.self.keys.items c.slot_for-at.new.self.count x c.slot_for-at.result) (sym (ap (λ v. v.items) k.1))
+          let there = h.placed.forth v at item k.1 in
+          let start = gap_start count slots places at v h.placed there.0 (sym there.1) in
+          let above = lowered_above c.args.self.now.keys.items count slots places v at c.args.key h.placed h.ordered (omega (arith, counted, item)) k.1
+          (c.requires.low positive) in
+          subst (λ x. IsOrderedAbove c.slot_for-at.new.self.keys.items c.slot_for-at.new.self.count x at) (sym start.0)
           (above_at _ _ _ _ _ _ keys k.0 above))
-    ]
+    ] in
+    subst (λ x. IsOrderedAbove c.slot_for-at.new.self.keys.items c.slot_for-at.new.self.count (set x at v) at) (sym (ap (λ x. x.items) e.slots)) gap

@@ -1,5 +1,4 @@
-use Rattle.std.proofs.Common.{ap, sym, ◌∙◌, arith, set, false}
-use Rattle.mcf_prices.specs.Private.ItemHeaps.{table_of}
+use Rattle.std.proofs.Common.{arith}
 use Rattle.mcf_prices.proofs.HeapPlaces.{read_is}
 use Rattle.mcf_prices.proofs.HeapViews.{precedes_all}
 use Rattle.mcf_prices.proofs.item_heap.ItemHeap.pop.Goals as goal
@@ -12,10 +11,8 @@ returns-clause-precedes c =
     precedes_all c.args.self.now _ h (omega (arith, some))
     (read_is c.args.self.now.slots.items 0 c.index-first.result.now c.index-first.ensures (omega (arith, some, within)))
 
-pub returns-clause-taken : goal.returns-clause-taken
-returns-clause-taken c =
-    let h = c.requires.valid in
+pub take_first-requires-clause-first : goal.take_first-requires-clause-first
+take_first-requires-clause-first c =
     let some = c.if-self-eq0.false in
-    let within = h.placed.within in
-    let is = read_is c.args.self.now.slots.items 0 c.index-first.result.now c.index-first.ensures (omega (arith, some, within)) in
-    c.take_first.ensures.table ∙ ap (λ x. set (table_of c.args.self.now.places.items) x false) (sym is)
+    let within = c.requires.valid.placed.within in
+    read_is c.args.self.now.slots.items 0 c.index-first.result.now c.index-first.ensures (omega (arith, some, within))

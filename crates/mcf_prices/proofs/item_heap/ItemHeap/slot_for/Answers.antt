@@ -1,10 +1,33 @@
-use Rattle.std.proofs.Common.{arith}
-use Rattle.mcf_prices.proofs.HeapLowered.{table_again}
-use Rattle.mcf_prices.proofs.HeapPlaces.{read_is}
+use Rattle.std.proofs.Common.{◌+◌, arith}
+use Rattle.mcf_prices.proofs.HeapGaps.{gap_of_item}
+use Rattle.mcf_prices.proofs.HeapPlaces.{appended_places, placed_at, read_is}
 use Rattle.mcf_prices.proofs.item_heap.ItemHeap.slot_for.Goals as goal
+
+pub returns-then-place-gt0-clause-placed : goal.returns-then-place-gt0-clause-placed
+returns-then-place-gt0-clause-placed c =
+    let is = read_is c.args.self.now.places.items c.args.v c.index-place.result.now c.index-place.ensures c.requires.item in
+    (gap_of_item c.args.self.now.count c.args.self.now.slots.items c.args.self.now.places.items c.args.v c.index-place.result.now c.requires.placed
+    c.requires.item is c.if-place-gt0.true).0
+
+pub returns-then-place-gt0-clause-slot : goal.returns-then-place-gt0-clause-slot
+returns-then-place-gt0-clause-slot c =
+    let is = read_is c.args.self.now.places.items c.args.v c.index-place.result.now c.index-place.ensures c.requires.item in
+    (gap_of_item c.args.self.now.count c.args.self.now.slots.items c.args.self.now.places.items c.args.v c.index-place.result.now c.requires.placed
+    c.requires.item is c.if-place-gt0.true).1
 
 pub returns-then-place-gt0-clause-table : goal.returns-then-place-gt0-clause-table
 returns-then-place-gt0-clause-table c =
     let is = read_is c.args.self.now.places.items c.args.v c.index-place.result.now c.index-place.ensures c.requires.item in
-    let some = c.if-place-gt0.true in
-    table_again c.args.self.now.places.items c.args.v c.requires.item (omega (arith, is, some))
+    (gap_of_item c.args.self.now.count c.args.self.now.slots.items c.args.self.now.places.items c.args.v c.index-place.result.now c.requires.placed
+    c.requires.item is c.if-place-gt0.true).2
+
+pub returns-clause-placed : goal.returns-clause-placed
+returns-clause-placed c =
+    let is = read_is c.args.self.now.places.items c.args.v c.index-place.result.now c.index-place.ensures c.requires.item in
+    let none = c.if-place-gt0.false in
+    appended_places c.args.self.now.count c.args.self.now.slots.items c.args.self.now.places.items c.args.v c.requires.placed c.requires.item
+    (omega (arith, is, none))
+
+pub returns-clause-table : goal.returns-clause-table
+returns-clause-table c =
+    placed_at c.args.self.now.places.items c.args.v (c.args.self.now.count + 1) (omega arith)

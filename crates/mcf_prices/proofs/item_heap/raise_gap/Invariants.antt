@@ -1,0 +1,16 @@
+use Rattle.std.proofs.Common.{◌≡◌, ◌+◌, ◌<◌, ◌≤◌, length, set}
+use Rattle.mcf_prices.specs.Private.ItemHeaps.{IsOrderedAbove, IsPlacedBut, table_of}
+use Rattle.mcf_prices.proofs.item_heap.raise_gap.Given as goal
+
+abbrev pub invariant-up : goal.invariant-up
+invariant-up l =
+    record {
+      placed : IsPlacedBut l.count l.slots l.places l.at l.v;
+      slot : l.at < l.count;
+      within : l.count ≤ length l.slots;
+      order : IsOrderedAbove l.keys l.count (set l.slots l.at l.v) l.at;
+      table : table_of (set l.places l.v (l.at + 1)) ≡ table_of (set l.initial.places l.v (l.from + 1));
+    }
+
+abbrev pub decreases-up : goal.decreases-up
+decreases-up l = l.at
