@@ -19,4 +19,5 @@ pub mod RaisingLoops
 pub mod RaisingSteps
 pub mod Relaxing
 pub mod Rounding
+pub mod Shortlists
 pub mod Showing

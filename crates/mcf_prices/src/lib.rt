@@ -15,6 +15,7 @@ mod price_search;
 mod pricer;
 mod queue;
 mod recovered;
+mod shortlist;
 
 pub use cancel::Cancel;
 pub use engine::{Engine, Outcome};
