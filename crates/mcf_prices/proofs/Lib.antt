@@ -20,4 +20,5 @@ pub mod RaisingSteps
 pub mod Relaxing
 pub mod Rounding
 pub mod Shortlists
+pub mod ChainScans
 pub mod Showing

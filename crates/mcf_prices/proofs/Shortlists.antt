@@ -1,5 +1,5 @@
 -- The list of residual arcs below the thresholds of their heads, as it is filled.
-use Rattle.std.proofs.Common.{◌≡◌, ◌≢◌, ℕ, ◌+◌, ◌-◌, ◌<◌, ◌≤◌, List, [], ◌∷◌, ◌++◌, length, map, set, get_or, ℤ, ◌<ℤ◌, ◌≤ℤ◌, refl, sym, ap, subst, ◌∙◌, arith, ◌⊎◌, Bool, true, false}
+use Rattle.std.proofs.Common.{◌≡◌, ◌≢◌, ℕ, ◌+◌, ◌-◌, ◌<◌, ◌≤◌, List, [], ◌∷◌, ◌++◌, length, map, set, get_or, ℤ, refl, sym, ap, subst, ◌∙◌, arith, Bool, true, false}
 use Rattle.std.proofs.Common.{inl, inr, length-set}
 use Rattle.std.specs.Prelude.{not}
 use Rattle.std.specs.List.{Contains}
@@ -9,12 +9,11 @@ use Rattle.std.proofs.lemmas.Grind.{get_or-set_at}
 use Rattle.std.proofs.lemmas.List.{get_or_append_left, get_or-append_right, get_or-map, get_or-set_other, length-map, length-append}
 use Rattle.mcf_instance.specs.Network.{Network, IsArcNumber, IsNode, at_node, node_count}
 use Rattle.mcf_network.specs.declared.rid.Rid.{Rid}
-use Rattle.mcf_network.specs.Residual.{tail, head, unit_cost}
+use Rattle.mcf_network.specs.Residual.{tail, head}
 use Rattle.mcf_network.specs.States.{Pseudoflow}
-use Rattle.mcf_network.specs.Walks.{HasRoom}
 use Rattle.mcf_prices.specs.declared.shortlist.Entry.{Entry}
 use Rattle.mcf_prices.specs.Private.Raisings.{CostsAtLeast}
-use Rattle.mcf_prices.specs.Private.Shortlists.{AreChains, IsLink, IsListed, IsPut, IsWhole, entry_at, no_entry, out_of}
+use Rattle.mcf_prices.specs.Private.Shortlists.{AreChains, IsLastEntry, IsListed, IsPut, IsWhole, entry_at, no_entry, out_of}
 
 -- ---- what stands in the list
 
@@ -47,8 +46,8 @@ new_entry entries e i is =
 pub one_more : (entries : List Entry) (e : Entry) → length (entries ++ e ∷ []) ≡ length entries + 1
 one_more entries e = length-append entries (e ∷ [])
 
-link_kept : (g : Network) (entries : List Entry) (e : Entry) (w c count : ℕ) → count ≤ length entries → IsLink g entries w c count
-    → IsLink g (entries ++ e ∷ []) w c count
+link_kept : (g : Network) (entries : List Entry) (e : Entry) (w c count : ℕ) → count ≤ length entries → IsLastEntry g entries w c count
+    → IsLastEntry g (entries ++ e ∷ []) w c count
 link_kept g entries e w c count few link =
     let low = link.low in
     record {
@@ -60,7 +59,7 @@ link_kept g entries e w c count few link =
 
 -- the node of the new entry links to it
 link_here : (g : Network) (entries : List Entry) (e : Entry) (w c : ℕ) → tail g (out_of e) ≡ w → c ≡ length entries + 1
-    → IsLink g (entries ++ e ∷ []) w c (length (entries ++ e ∷ []))
+    → IsLastEntry g (entries ++ e ∷ []) w c (length (entries ++ e ∷ []))
 link_here g entries e w c leaves is =
     let n = one_more entries e in
     record {
@@ -70,8 +69,8 @@ link_here g entries e w c leaves is =
     }
 
 -- another node links as before
-link_other : (g : Network) (entries : List Entry) (e : Entry) (w c : ℕ) → tail g (out_of e) ≢ w → IsLink g entries w c (length entries)
-    → IsLink g (entries ++ e ∷ []) w c (length (entries ++ e ∷ []))
+link_other : (g : Network) (entries : List Entry) (e : Entry) (w c : ℕ) → tail g (out_of e) ≢ w → IsLastEntry g entries w c (length entries)
+    → IsLastEntry g (entries ++ e ∷ []) w c (length (entries ++ e ∷ []))
 link_other g entries e w c other link =
     let n = one_more entries e in
     let low = link.low in
@@ -102,22 +101,22 @@ chains_more g heads entries e w ok node leaves arc next =
       first = λ v m. elim (cases_eq v w) [
         | inl is ↦ link_here g entries e v _ (leaves ∙ sym is)
             (get_or-set_at heads (w - 1) (v - 1) (length entries + 1) 0 (omega (arith, is)) (omega (arith, node, count)))
-        | inr other ↦ subst (λ c. IsLink g (entries ++ e ∷ []) v c (length (entries ++ e ∷ [])))
+        | inr other ↦ subst (λ c. IsLastEntry g (entries ++ e ∷ []) v c (length (entries ++ e ∷ [])))
             (sym (get_or-set_other heads (w - 1) (v - 1) (length entries + 1) 0 (omega (arith, other, m, node))))
             (link_other g entries e v (get_or heads (v - 1) 0) (λ there. other (sym there ∙ leaves)) (ok.first v m))
       ];
       next = λ i l. elim (cases_eq i (length entries)) [
         | inl is ↦ (
-            let here : IsLink g (entries ++ e ∷ []) w (get_or heads (w - 1) 0) (length entries) = link_kept g entries e w (get_or heads (w - 1) 0)
+            let here : IsLastEntry g (entries ++ e ∷ []) w (get_or heads (w - 1) 0) (length entries) = link_kept g entries e w (get_or heads (w - 1) 0)
             (length entries) (omega arith) (ok.first w node) in
-            let there : IsLink g (entries ++ e ∷ []) (tail g (out_of e)) e.next (length entries) = subst
-            (λ c. IsLink g (entries ++ e ∷ []) (tail g (out_of e)) c (length entries)) (sym next)
-            (subst (λ v. IsLink g (entries ++ e ∷ []) v (get_or heads (w - 1) 0) (length entries)) (sym leaves) here) in
-            subst (λ (x : Entry). IsLink g (entries ++ e ∷ []) (tail g (out_of x)) x.next i) (sym (new_entry entries e i is))
-            (subst (λ k. IsLink g (entries ++ e ∷ []) (tail g (out_of e)) e.next k) (sym is) there))
+            let there : IsLastEntry g (entries ++ e ∷ []) (tail g (out_of e)) e.next (length entries) = subst
+            (λ c. IsLastEntry g (entries ++ e ∷ []) (tail g (out_of e)) c (length entries)) (sym next)
+            (subst (λ v. IsLastEntry g (entries ++ e ∷ []) v (get_or heads (w - 1) 0) (length entries)) (sym leaves) here) in
+            subst (λ (x : Entry). IsLastEntry g (entries ++ e ∷ []) (tail g (out_of x)) x.next i) (sym (new_entry entries e i is))
+            (subst (λ k. IsLastEntry g (entries ++ e ∷ []) (tail g (out_of e)) e.next k) (sym is) there))
         | inr other ↦ (
             let inside : i < length entries = omega (arith, l, n, other) in
-            subst (λ (x : Entry). IsLink g (entries ++ e ∷ []) (tail g (out_of x)) x.next i) (sym (old_entry entries e i inside))
+            subst (λ (x : Entry). IsLastEntry g (entries ++ e ∷ []) (tail g (out_of x)) x.next i) (sym (old_entry entries e i inside))
             (link_kept g entries e _ _ i (omega (arith, inside)) (ok.next i inside)))
       ];
     }

@@ -15,8 +15,8 @@ use mcf_network::{Net, Rid, State};
 use mcf_text::{ArcId, NoMemory, NodeId};
 use std::alloc::Global;
 
-/// A residual arc that leaves a node, and where the one before it of the same node stands: one more than its place, or 0
-/// where there is none.
+/// A residual arc that leaves a node, and where the entry before it of the same node stands: one more than its place, or
+/// 0 where there is none.
 #[derive(Clone, Copy)]
 pub(crate) struct Entry {
     pub(crate) arc: u32,
@@ -30,13 +30,14 @@ const DENSE: u32 = 64;
 // How many entries a node there is room for.
 const SHORT: usize = 16;
 
-// There are fewer entries than this.
+// There are no more entries than this.
 const ENTRY_LIMIT: usize = 1 << 31;
 
 /// For each node of a dense net a threshold, and the reverses of the residual arcs with room that enter it and cost less.
 ///
-/// They are found by one walk over the arcs in their order, where the arcs that enter a node lie far apart in memory. Only
-/// `start` takes memory.
+/// They are found by one walk over all arcs in their order, since the arcs that enter a node lie far apart in memory.
+/// Those of a node are a chain: its head says where the last of them stands, and each entry where the one before it does.
+/// Only `start` takes memory.
 #[derive(Drop)]
 pub(crate) struct Shortlist {
     pub(crate) passed: Vec<i128>,
@@ -136,7 +137,8 @@ fn put_arcs(
     true
 }
 
-// Puts a residual arc into the list if it is below the threshold of its head and has room, and says whether there was a place for it.
+// Puts a residual arc into the list if it has room and costs less than the threshold of its head, and says whether there
+// was a place for it.
 #[inline(always)]
 fn put(
     passed: &[i128],
@@ -209,8 +211,8 @@ fn push(heads: &mut Vec<u32>, entries: &mut Vec<Entry>, place: usize, arc: ArcId
     heads[place] = count;
 }
 
-// Whether a residual arc may have room and cost less than the threshold of its head. Backward one read tells most often, and
-// forward the cost does.
+// Whether a residual arc may have room and cost less than the threshold of its head. Backward the room is looked at
+// first, as most arcs carry nothing, and forward the cost.
 #[inline(always)]
 fn is_below(passed: &[i128], state: &State<'_>, arc: ArcId, back: bool) -> bool
     requires passed { length passed.now ≡ node_count state.now.net }

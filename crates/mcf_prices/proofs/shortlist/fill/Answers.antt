@@ -1,4 +1,4 @@
-use Rattle.std.proofs.Common.{◌≡◌, ◌∙◌, ◌<◌, ℕ, arith, refl, sym}
+use Rattle.std.proofs.Common.{◌∙◌, arith}
 use Rattle.mcf_prices.proofs.Shortlists.{no_chains}
 use Rattle.mcf_prices.proofs.shortlist.fill.Goals as goal
 

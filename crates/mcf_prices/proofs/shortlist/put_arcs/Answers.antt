@@ -1,4 +1,4 @@
-use Rattle.std.proofs.Common.{◌≡◌, ◌∙◌, ap, arith, length}
+use Rattle.std.proofs.Common.{◌∙◌, ap, arith, length}
 use Rattle.mcf_instance.specs.Network.{Network}
 use Rattle.mcf_prices.proofs.Shortlists.{listed_all, listed_next, listed_none}
 use Rattle.mcf_prices.proofs.shortlist.put_arcs.Goals as goal
