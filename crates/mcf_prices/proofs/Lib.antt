@@ -19,4 +19,6 @@ pub mod RaisingLoops
 pub mod RaisingSteps
 pub mod Relaxing
 pub mod Rounding
+pub mod Shortlists
+pub mod ChainScans
 pub mod Showing

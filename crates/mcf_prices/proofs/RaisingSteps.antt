@@ -23,7 +23,7 @@ use Rattle.mcf_network.proofs.Lists.{All-behind, Contains-cons}
 use Rattle.mcf_network.proofs.Marks.{count_small}
 use Rattle.mcf_prices.specs.Heaps.{ComesFirst, IsFirst, Keyed, Waits, waiting_with, with_key, without}
 use Rattle.mcf_prices.specs.NearPrices.{AreNearPrices, near_limit}
-use Rattle.mcf_prices.specs.Private.Raisings.{ArePassed, CostsAtLeast, IsLastSettled, IsLength, IsPassedFrom, IsRaising, IsReady, KeepsSettled, RespectsLabel, Settled}
+use Rattle.mcf_prices.specs.Private.Raisings.{ArePassed, CostsAtLeast, IsLastSettled, IsLength, IsPassedFrom, IsPopped, IsRaising, IsReady, KeepsSettled, RespectsLabel, Settled}
 use Rattle.mcf_prices.specs.Private.Raisings.{label, label_reach, step}
 use Rattle.mcf_prices.proofs.HeapPlaces.{count_less}
 use Rattle.mcf_prices.proofs.LabelLengths.{length_fewer, length_next, length_zero}
@@ -183,8 +183,11 @@ module _ (s : Pseudoflow) (scale slack : ℕ) (y : List ℤ) (flow : IsPseudoflo
           ];
         }
 
-    pub popped : (list : List Rid) → ListsLeaving s.net w list → IsRaising s scale slack y (without h w) list
-    popped list lists =
+    -- whatever list has the reverses of the residual arcs that enter the node, but for those that are respected
+    pub popped_any : (rest : List Rid)
+        → ((r : Rid) → HasRoom s r → head s.net r ≡ w → RespectsLabel s scale slack y (without h w) r ⊎ Contains rest (reverse r))
+        → IsRaising s scale slack y (without h w) rest
+    popped_any rest entering =
         record {
           key_count = search.key_count;
           waiting_count = length-set h.waiting (w - 1) false ∙ search.waiting_count;
@@ -205,9 +208,23 @@ module _ (s : Pseudoflow) (scale slack : ℕ) (y : List ℤ) (flow : IsPseudoflo
             | inr was ↦ search.level u v m n was (waited_before v n.0 waits)
           ];
           respects = λ r room e. elim (settled_before (head s.net r) (head_node r room).0 e) [
-            | inl is ↦ inr (lists.every (reverse r) (record { arc = room.arc; from = tail_reversed s.net r.arc r.back ∙ is }))
+            | inl is ↦ elim (entering r room is) [ inl respects ↦ inl (respects room) | inr has ↦ inr has ]
             | inr was ↦ elim (search.respects r room was) [ inl a ↦ inl a | inr has ↦ absurd (none_contained (reverse r) has) ]
           ];
+        }
+
+    pub popped : (list : List Rid) → ListsLeaving s.net w list → IsRaising s scale slack y (without h w) list
+    popped list lists =
+        popped_any list (λ r room is. inr (lists.every (reverse r) (record { arc = room.arc; from = tail_reversed s.net r.arc r.back ∙ is })))
+
+    pub popped_is : IsPopped s scale slack y (without h w) w
+    popped_is =
+        record {
+          key_count = search.key_count;
+          low = (label_small h [] search w here).0;
+          not_above = search.not_above;
+          last = popped_last;
+          search = popped_any;
         }
 
   -- ---- a residual arc is respected

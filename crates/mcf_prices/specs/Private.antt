@@ -5,3 +5,4 @@ pub mod Rounds
 pub mod Trails
 pub mod Raisings
 pub mod ItemHeaps
+pub mod Shortlists

@@ -4,7 +4,8 @@
 //!
 //! It stands on `mcf_network` and `mcf_feas`. Definitions stand in `specs/`: `NegativeCycles` and `Recovering`
 //! say what `recover` answers, `NearPrices` from which prices `Pricer::raise` begins, `Outcomes` what an engine answers, `Heaps` what a heap of
-//! nodes holds, `Laws` what follows, and `Private/` what the two searches for prices keep and how a heap is laid out.
+//! nodes holds, `Laws` what follows, and `Private/` what the two searches for prices keep, how a heap is laid out and what a list of the arcs
+//! that may lower a price has.
 
 mod cancel;
 mod engine;
@@ -15,6 +16,7 @@ mod price_search;
 mod pricer;
 mod queue;
 mod recovered;
+mod shortlist;
 
 pub use cancel::Cancel;
 pub use engine::{Engine, Outcome};

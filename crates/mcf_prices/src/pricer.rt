@@ -13,23 +13,30 @@ ghost use Rattle.mcf_prices.specs.Heaps.{NoneWaits};
 ghost use Rattle.mcf_prices.specs.Private.Labels.{cost_limit};
 ghost use Rattle.mcf_prices.specs.NearPrices.{AreNearPrices, OptimalPricesAreNear, ShownPricesAreNear, near_limit};
 ghost use Rattle.mcf_prices.specs.Outcomes.{AreStatePrices};
-ghost use Rattle.mcf_prices.specs.Private.Raisings.{ArePassed, AreRounded, CostsAtLeast, IsLastSettled, IsPassedFrom, IsRaising, IsReady, IsRoundedDown, KeepsSettled};
+ghost use Rattle.mcf_prices.specs.Private.Raisings.{ArePassed, AreRounded, CostsAtLeast, IsLastSettled, IsPassedFrom, IsPopped, IsRaising, IsReady, IsRoundedDown, KeepsSettled};
+ghost use Rattle.mcf_prices.specs.Private.Shortlists.{HasChain, IsChain, IsWhole};
 ghost use Rattle.mcf_prices.specs.Private.Raisings.{label, label_limit, label_reach, quotient_reach, step};
 
 use crate::heap::Heap;
+use crate::shortlist::{Entry, Shortlist, entry_before, fill, last_of, threshold};
 use mcf_network::{Leaving, Net, Rid, State};
 use mcf_text::{ArcId, NoMemory, NodeId};
 use std::alloc::Global;
 use std::marker::Model;
 
+// No label is below this.
+const LEAST_LABEL: i128 = -1_000_000_000_000_000_000_000_000_000_000;
+
 /// Finds the greatest prices that show a state, from prices that nearly show it, by one search for shortest walks
 /// (Dijkstra's algorithm with a heap; Ahuja, Magnanti and Orlin, Network Flows, sections 4.5 and 4.7), which runs
-/// against the arcs and from all nodes at once.
+/// against the arcs and from all nodes at once. In a dense net few arcs can lower a key: one walk over all arcs in their
+/// order lists them beforehand.
 ///
 /// It is made for the nodes of a net, and only then takes memory. A clause sees how many nodes it has room for.
 #[derive(Drop)]
 pub struct Pricer {
     heap: Heap,
+    short: Shortlist,
 }
 
 impl Model for Pricer {
@@ -57,6 +64,7 @@ impl Pricer {
     {
         Ok(Pricer {
             heap: Heap::new(alloc, net)?,
+            short: Shortlist::start(alloc, net)?,
         })
     }
 
@@ -73,7 +81,7 @@ impl Pricer {
         ensures room { self.new ≡ self.old }
     {
         wait_all(&mut self.heap, state.net(), prices);
-        settle_all(&mut self.heap, state, scale, slack, prices);
+        settle_nodes(&mut self.heap, &mut self.short, state, scale, slack, prices);
         round_all(&self.heap, scale, prices);
     }
 }
@@ -115,6 +123,175 @@ fn opposite_price(prices: &[i128], v: NodeId) -> i128
     ensures { result ≡ neg_ℤ (at_node prices.now v) }
 {
     -price_of(prices, v)
+}
+
+// Settles the nodes: in a dense net by the list of the arcs that may lower a key, if it has room for them, and else by
+// all arcs.
+fn settle_nodes(
+    heap: &mut Heap,
+    short: &mut Shortlist,
+    state: &State<'_>,
+    scale: u32,
+    slack: u32,
+    prices: &[i128],
+)
+    requires flow { IsPseudoflow state.now }
+    requires near { AreNearPrices state.now scale slack prices.now }
+    requires ready { IsRaising state.now scale slack prices.now heap.old [] }
+    ensures search { IsRaising state.now scale slack prices.now heap.new [] }
+    ensures over { NoneWaits heap.new }
+{
+    let whole = fill_short(short, state, scale, prices);
+    if whole {
+        settle_listed(
+            heap,
+            short.passed.as_slice(),
+            short.heads.as_slice(),
+            short.entries.as_slice(),
+            state,
+            scale,
+            slack,
+            prices,
+        );
+        return;
+    }
+    settle_all(heap, state, scale, slack, prices);
+}
+
+// Lists the residual arcs that may lower a key in this search, and says whether all are listed. It does nothing where
+// the net has no list.
+fn fill_short(short: &mut Shortlist, state: &State<'_>, scale: u32, prices: &[i128]) -> bool
+    requires scale { 1 ≤ scale }
+    requires prices { length prices.now ≡ node_count state.now.net }
+    ensures count { result ≡ true → length short.new.passed.items ≡ node_count state.now.net }
+    ensures whole { result ≡ true → IsWhole state.now short.new.passed.items short.new.heads.items short.new.entries.items }
+{
+    if !short.is_for(state.net()) {
+        return false;
+    }
+    put_thresholds(&mut short.passed, scale, prices);
+    fill(
+        short.passed.as_slice(),
+        &mut short.heads,
+        &mut short.entries,
+        state,
+    )
+}
+
+// Makes the thresholds of all nodes. No key falls below the opposite of the greatest price, so that no label falls below
+// the price less that one. Nothing rests on it, since `scan_listed` compares a threshold with that of the label itself.
+fn put_thresholds(passed: &mut Vec<i128>, scale: u32, prices: &[i128])
+    requires scale { 1 ≤ scale }
+    requires count { length passed.old.items ≡ length prices.now }
+    ensures { length passed.new.items ≡ length passed.old.items }
+{
+    let top = greatest(prices);
+    'nodes: for i in 0..prices.len() {
+        passed[i] = least_passed(prices[i], top, scale);
+    }
+}
+
+// The greatest price.
+fn greatest(prices: &[i128]) -> i128 {
+    let mut top = i128::MIN;
+    'nodes: for price in prices {
+        top = top.max(*price);
+    }
+    top
+}
+
+// The threshold of a node of a price, where the greatest price is `top`.
+fn least_passed(price: i128, top: i128, scale: u32) -> i128
+    requires { 1 ≤ scale }
+{
+    let floor = price.saturating_sub(top);
+    passing_cost(floor.max(LEAST_LABEL).min(0), scale)
+}
+
+// Settles the nodes, one after another in the order of their keys, by a whole list.
+fn settle_listed(
+    heap: &mut Heap,
+    passed: &[i128],
+    heads: &[u32],
+    entries: &[Entry],
+    state: &State<'_>,
+    scale: u32,
+    slack: u32,
+    prices: &[i128],
+)
+    requires flow { IsPseudoflow state.now }
+    requires near { AreNearPrices state.now scale slack prices.now }
+    requires count { length passed.now ≡ node_count state.now.net }
+    requires whole { IsWhole state.now passed.now heads.now entries.now }
+    requires ready { IsRaising state.now scale slack prices.now heap.old [] }
+    ensures search { IsRaising state.now scale slack prices.now heap.new [] }
+    ensures over { NoneWaits heap.new }
+{
+    'nodes: while let Some(v) = heap.pop() {
+        scan_listed(heap, passed, heads, entries, state, scale, slack, prices, v);
+    }
+}
+
+// Relaxes the residual arcs that enter the node that was settled last, by its chain in a whole list. Where its threshold
+// is too low for its label, the list doesn't serve, and the star of the node does.
+fn scan_listed(
+    heap: &mut Heap,
+    passed: &[i128],
+    heads: &[u32],
+    entries: &[Entry],
+    state: &State<'_>,
+    scale: u32,
+    slack: u32,
+    prices: &[i128],
+    v: NodeId,
+)
+    requires flow { IsPseudoflow state.now }
+    requires near { AreNearPrices state.now scale slack prices.now }
+    requires count { length passed.now ≡ node_count state.now.net }
+    requires whole { IsWhole state.now passed.now heads.now entries.now }
+    requires popped { IsPopped state.now scale slack prices.now heap.old v }
+    ensures search { IsRaising state.now scale slack prices.now heap.new [] }
+    ensures kept { KeepsSettled (node_count state.now.net) heap.old heap.new }
+{
+    let base = label_of(heap, prices, v);
+    let least = passing_cost(base, scale);
+    let low = threshold(passed, v);
+    if low < least {
+        scan(heap, state, scale, slack, prices, v);
+        return;
+    }
+    let cursor = last_of(heads, v);
+    scan_chain(heap, entries, state, scale, slack, prices, v, base, cursor);
+}
+
+// Relaxes the reverses of the entries of a chain, whose last entry stands before a place. They enter the node that was
+// settled last, and `base` is its label.
+fn scan_chain(
+    heap: &mut Heap,
+    entries: &[Entry],
+    state: &State<'_>,
+    scale: u32,
+    slack: u32,
+    prices: &[i128],
+    v: NodeId,
+    base: i128,
+    start: u32,
+)
+    requires near { AreNearPrices state.now scale slack prices.now }
+    requires base { base ≡ label prices.now heap.old v }
+    requires last { IsLastSettled (node_count state.now.net) heap.old v }
+    requires chains { IsChain state.now.net entries.now v start }
+    requires search { (rest : List Rid) → HasChain state.now.net entries.now v start rest → IsRaising state.now scale slack prices.now heap.old rest }
+    ensures search { IsRaising state.now scale slack prices.now heap.new [] }
+    ensures kept { KeepsSettled (node_count state.now.net) heap.old heap.new }
+{
+    let mut cursor = start;
+    'entries: while cursor > 0 {
+        let entry = entry_before(entries, cursor);
+        let (arc, back) = (ArcId::new(entry.arc), entry.back);
+        relax(heap, state, scale, slack, prices, base, Rid { arc, back });
+        cursor = entry.next;
+    }
 }
 
 // Settles the nodes, one after another in the order of their keys.

@@ -83,6 +83,17 @@ pub record IsLastSettled (nodes : ℕ) (h : Keyed) (w : ℕ) : Type 0 where
   pub is_settled : Settled h w
   pub last : (u : ℕ) → IsNode nodes u → Settled h u → at_node h.keys u ≤ℤ at_node h.keys w
 
+-- node w was just settled: the search goes on with whatever list has the reverses of the residual arcs that enter it, but
+-- for those that are respected
+pub record IsPopped (s : Pseudoflow) (scale slack : ℕ) (y : List ℤ) (h : Keyed) (w : ℕ) : Type 0 where
+  pub key_count : length h.keys ≡ node_count s.net
+  pub low : neg_ℤ (pos label_reach) ≤ℤ label y h w
+  pub not_above : (v : ℕ) → IsNode (node_count s.net) v → label y h v ≤ℤ pos 0
+  pub last : IsLastSettled (node_count s.net) h w
+  pub search : (rest : List Rid)
+      → ((r : Rid) → HasRoom s r → head s.net r ≡ w → RespectsLabel s scale slack y h r ⊎ Contains rest (record r { back = not r.back }))
+      → IsRaising s scale slack y h rest
+
 -- the same nodes wait, and the keys of the others are as they were
 pub record KeepsSettled (nodes : ℕ) (old new : Keyed) : Type 0 where
   pub waiting : new.waiting ≡ old.waiting

@@ -1,0 +1,30 @@
+use Rattle.std.proofs.Common.{◌≡◌, [], ap, subst, sym, ◌∙◌, arith}
+use Rattle.mcf_network.specs.NodeSets.{member_count}
+use Rattle.mcf_prices.specs.Heaps.{Keyed, NoneWaits}
+use Rattle.mcf_prices.specs.Private.Raisings.{IsPopped, IsRaising}
+use Rattle.mcf_prices.proofs.RaisingSteps.{fewer, popped_is}
+use Rattle.mcf_prices.proofs.pricer.settle_listed.Goals as goal
+
+pub scan_listed-requires-clause-popped : goal.scan_listed-requires-clause-popped
+scan_listed-requires-clause-popped c =
+    subst (λ x. IsPopped c.args.state.now c.args.scale c.args.slack c.args.prices.now x c.in-Some.v) (sym c.in-Some.ensures.taken)
+    (popped_is c.args.state.now c.args.scale c.args.slack c.args.prices.now c.requires.flow c.requires.near c.nodes.heap c.in-Some.v c.nodes.invariant
+    c.in-Some.ensures.first)
+
+pub nodes-smaller : goal.nodes-smaller
+nodes-smaller c =
+    let less = fewer c.args.state.now c.args.scale c.args.slack c.args.prices.now c.requires.flow c.requires.near c.nodes.heap c.in-Some.v c.nodes.invariant
+    c.in-Some.ensures.first in
+    let same = ap member_count (c.scan_listed.ensures.kept.waiting ∙ ap (λ (x : Keyed). x.waiting) c.in-Some.ensures.taken) in
+    omega (arith, less, same)
+
+pub returns-clause-search : goal.returns-clause-search
+returns-clause-search c =
+    let same : c.pop.new.self ≡ c.nodes.heap = c.in_default.ensures.same in
+    subst (λ x. IsRaising c.args.state.now c.args.scale c.args.slack c.args.prices.now x []) (sym same) c.nodes.invariant
+
+pub returns-clause-over : goal.returns-clause-over
+returns-clause-over c =
+    let same : c.pop.new.self ≡ c.nodes.heap = c.in_default.ensures.same in
+    let none : NoneWaits c.nodes.heap = c.in_default.ensures.none in
+    subst (λ x. NoneWaits x) (sym same) none
