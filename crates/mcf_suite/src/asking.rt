@@ -34,7 +34,7 @@ static WHEN: &str = "\
 Engines:
   auto     sap for an assignment, simplex for a flow problem: the default
   cancel   cycle cancelling: slow and short, to compare with on small instances
-  simplex  the network simplex: for most flow problems, and for large assignments with few arcs a node
+  simplex  the network simplex: for most flow problems
   scaling  cost scaling: where the simplex takes too many pivots
   sap      shortest augmenting paths: for assignments; for a flow problem it means auto
 
