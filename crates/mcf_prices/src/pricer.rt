@@ -376,6 +376,7 @@ fn carries_nothing(state: &State<'_>, arc: ArcId) -> bool
 
 // Lowers the key of the tail of the reverse of a residual arc, if that offers less. The head was settled last, and
 // `base` is its label.
+#[inline(always)]
 fn relax(
     heap: &mut Heap,
     state: &State<'_>,

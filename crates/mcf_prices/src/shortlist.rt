@@ -25,7 +25,7 @@ pub(crate) struct Entry {
 }
 
 // A net with so many arcs a node is dense.
-const DENSE: u32 = 64;
+const DENSE: u32 = 192;
 
 // How many entries a node there is room for.
 const SHORT: usize = 16;
