@@ -10,3 +10,4 @@ pub mod SentLists
 pub mod Shapes
 pub mod SupplyTotals
 pub mod WantedMemory
+pub mod IdleArcs

@@ -152,7 +152,7 @@ option_joins : (o : Option (ℕ × ℤ)) (before rest : List (ℕ × ℤ)) → (
 option_joins None before rest = ap (λ (xs : List (ℕ × ℤ)). xs ++ rest) (append-nil before)
 option_joins (Some m) before rest = append_assoc before (m ∷ []) rest
 
-moved_more : (arcs : List Arc) (flow : List ℤ) (i : ℕ) (a : Arc) (f : ℤ) (before after : List (ℕ × ℤ)) → i < length arcs → i < length flow
+pub moved_more : (arcs : List Arc) (flow : List ℤ) (i : ℕ) (a : Arc) (f : ℤ) (before after : List (ℕ × ℤ)) → i < length arcs → i < length flow
     → get_or arcs i a ≡ a → get_or flow i (pos 0) ≡ f → IsMovedUpTo arcs flow i before → after ≡ before ++ cons_option (moved_arc (i + 1, (a, f))) []
     → IsMovedUpTo arcs flow (i + 1) after
 moved_more arcs flow i a f before after h k arc-is flow-is so_far e =

@@ -1,22 +1,25 @@
 //! The answer of the second form for a least state.
-ghost use Rattle.std.specs.Prelude.{◌≡◌, ◌≤◌, ◌++◌, ◌+ℤ◌, ◌*ℤ◌, [], IfOk, OnErr, OnOk, length};
+ghost use Rattle.std.specs.Prelude.{◌≡◌, ◌≤◌, ◌++◌, ◌+ℤ◌, ◌*ℤ◌, [], pos, true, IfOk, OnErr, OnOk, length};
 ghost use Rattle.std.specs.List.{cons_option};
 ghost use Rattle.std.specs.Ordering.{int_eq};
 ghost use Rattle.mcf_answer.specs.Ranges.{IsAmount};
 ghost use Rattle.mcf_checker.specs.Correct.{spread};
 ghost use Rattle.mcf_feas.specs.Feasible.{IsFeasibleState};
+ghost use Rattle.mcf_instance.specs.declared.problem.Problem.TheVariants.{Asn};
 ghost use Rattle.mcf_instance.specs.Flow.{cost};
 ghost use Rattle.mcf_instance.specs.Limits.{limits};
+ghost use Rattle.mcf_instance.specs.Network.{IsArcNumber};
 ghost use Rattle.mcf_instance.specs.WellFormed.{IsWellFormed};
 ghost use Rattle.mcf_network.specs.Removal.{net_of};
 ghost use Rattle.mcf_network.specs.Restoring.{restored};
+ghost use Rattle.mcf_network.specs.States.{amount_at};
 ghost use Rattle.mcf_prices.specs.Outcomes.{AreStatePrices, IsLeastState};
 ghost use Rattle.mcf_solver.specs.Answering.{IsLeastSparse};
 ghost use Rattle.mcf_solver.specs.Forms.{moved_arc, moved_of};
 ghost use Rattle.mcf_solver.specs.Private.MovedArcs.{AreMovedOf};
 
 use mcf_answer::{MovedList, PriceList, SparseAnswer};
-use mcf_instance::{Arc, Instance};
+use mcf_instance::{Arc, Instance, Problem};
 use mcf_network::{
     State, greatest_prices_carry_over, restored_amount, restored_least_flows_are_least,
 };
@@ -76,16 +79,42 @@ fn stated_along(
     ensures wants { OnErr result (1 ≤ length instance.now.arcs) }
 {
     let count = instance.arc_count();
+    let units = is_assignment(instance);
     let mut total = 0;
     let mut moved = Vec::new(alloc);
     for i in 0..count {
         let number = ArcId::at(i);
+        if is_idle(state, units, number) {
+            continue;
+        }
         let arc = instance.arc(number);
         let amount = restored_amount(instance, state, number);
         total = with_cost(total, arc.cost, amount);
         add_moved(&mut moved, number, &arc, amount)?;
     }
     Ok(StatedFlow { cost: total, moved })
+}
+
+// Whether an instance is an assignment, of which no arc has a low or is a loop.
+fn is_assignment(instance: &Instance) -> bool
+    ensures { result ≡ true → instance.now.problem ≡ Asn }
+{
+    match instance.problem() {
+        Problem::Min => false,
+        Problem::Asn => true,
+    }
+}
+
+// Whether an arc carries nothing, where that is its low: then nothing else of it is read.
+#[inline(always)]
+fn is_idle(state: &State<'_>, units: bool, k: ArcId) -> bool
+    requires { IsArcNumber state.now.net k }
+    ensures { result ≡ true → (units ≡ true) × (amount_at state.now k ≡ pos 0) }
+{
+    if !units {
+        return false;
+    }
+    state.amount(k) <= 0
 }
 
 // A sum with the cost of an amount, which most arcs don't have.

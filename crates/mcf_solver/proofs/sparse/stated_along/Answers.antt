@@ -1,15 +1,38 @@
-use Rattle.std.proofs.Common.{◌≡◌, ◌+◌, ◌<◌, ◌∙◌, ◌++◌, ◌+ℤ◌, ◌*ℤ◌, [], ap, length, take, get_or, arith, pos, rules, sym, to_z, of_z, subst}
+use Rattle.std.proofs.Common.{◌≡◌, ◌+◌, ◌-◌, ◌<◌, ◌∙◌, ◌++◌, ◌+ℤ◌, ◌*ℤ◌, [], ap, length, take, get_or, arith, pos, rules, sym, to_z, of_z, subst}
 use Rattle.std.specs.List.{cons_option}
 use Rattle.std.specs.Int.{w128}
 use Rattle.std.proofs.lemmas.Int.{ints, to_z-of_z}
 use Rattle.mcf_instance.specs.Flow.{cost}
+use Rattle.mcf_instance.specs.Network.{Network}
+use Rattle.mcf_network.proofs.ArcLaws.{amount_count}
+use Rattle.mcf_network.proofs.RestoringLaws.{net_of-arc_count}
 use Rattle.mcf_network.specs.Restoring.{restored}
 use Rattle.mcf_solver.specs.Forms.{moved_arc}
 use Rattle.mcf_solver.specs.Private.MovedArcs.{AreMovedOf}
+use Rattle.mcf_solver.proofs.IdleArcs.{idle_more}
 use Rattle.mcf_solver.proofs.LeastSolutions.{restored_bounds}
 use Rattle.mcf_solver.proofs.MovedLists.{are_moved, line_more, moved_done, read_at}
 use Rattle.mcf_solver.proofs.SentLists.{arc_is, carried_small, cost_at, in_flow}
 use Rattle.mcf_solver.proofs.sparse.stated_along.Goals as goal
+
+pub is_idle-requires : goal.is_idle-requires
+is_idle-requires c =
+    let same : length c.args.state.now.net.arcs ≡ length c.args.instance.now.arcs = ap (λ (n : Network). length n.arcs) c.requires.of_net
+    ∙ net_of-arc_count c.args.instance.now in
+    omega (arith, same, c.loop-i-test.true, c.arc_count-count.ensures.value, c.at-number.ensures)
+
+pub loop-i-preserved-then-is_idle : goal.loop-i-preserved-then-is_idle
+loop-i-preserved-then-is_idle c =
+    let g = c.args.instance.now in
+    let s = c.args.state.now in
+    let ok = c.arc_count-count.ensures.well_formed in
+    let h : c.loop-i.i < length g.arcs = omega (arith, c.loop-i-test.true, c.arc_count-count.ensures.value) in
+    let count : length g.arcs ≡ length s.amounts = sym (net_of-arc_count g) ∙ ap (λ (n : Network). length n.arcs) (sym c.requires.of_net)
+    ∙ amount_count s c.requires.flow in
+    let is = c.is_idle.ensures c.if-is_idle.true in
+    let place : c.at-number.result - 1 ≡ c.loop-i.i = omega (arith, c.at-number.ensures) in
+    idle_more g s.amounts c.loop-i.i ok (c.is_assignment-units.ensures is.0) count h (subst (λ j. get_or s.amounts j (pos 0) ≡ pos 0) place is.1) _ _
+    (restored_bounds g s ok c.requires) c.loop-i.invariant
 
 pub restored_amount-amount-requires-clause-arc : goal.restored_amount-amount-requires-clause-arc
 restored_amount-amount-requires-clause-arc c =
