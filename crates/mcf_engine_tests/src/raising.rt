@@ -8,7 +8,7 @@ use mcf_network::{Net, State};
 use mcf_prices::{
     Heap, Pricer, Recovered, greatest_prices_are_small, recover, shown_prices_are_near,
 };
-use mcf_text::NodeId;
+use mcf_text::{NoMemory, NodeId};
 use std::alloc::Global;
 use std::test::Fail;
 
@@ -65,5 +65,61 @@ fn takes_nodes_out_by_key_and_number(rt: HostRuntime) -> Result<(), Fail> {
     assert_eq!(rt; heap.pop().map(|v| v.get()), Some(1));
     heap.clear();
     assert_eq!(rt; heap.pop().map(|v| v.get()), None);
+    Ok(())
+}
+
+#[test]
+fn takes_nodes_out_by_keys_of_more_than_64_bits(rt: HostRuntime) -> Result<(), Fail> {
+    let alloc = rt.alloc();
+    let net = net_of(alloc, CHAIN)?;
+    assert_eq!(rt; net.node_count(), 3);
+    let far: i128 = 1_000_000_000_000_000_000_000_000_000_000;
+    let mut heap = Heap::new(alloc, &net)?;
+    heap.lower(NodeId::new(1), far + 1);
+    heap.lower(NodeId::new(2), far);
+    heap.lower(NodeId::new(3), far);
+    assert_eq!(rt; heap.pop().map(|v| v.get()), Some(2));
+    assert_eq!(rt; heap.pop().map(|v| v.get()), Some(3));
+    assert_eq!(rt; heap.pop().map(|v| v.get()), Some(1));
+    heap.clear();
+    heap.lower(NodeId::new(1), 0);
+    heap.lower(NodeId::new(2), -far);
+    heap.lower(NodeId::new(3), -far - 1);
+    assert_eq!(rt; heap.pop().map(|v| v.get()), Some(3));
+    assert_eq!(rt; heap.pop().map(|v| v.get()), Some(2));
+    assert_eq!(rt; heap.pop().map(|v| v.get()), Some(1));
+    Ok(())
+}
+
+// Two nodes with 400 arcs from the first to the second: one costs -9, and the others are this line.
+fn dense_text(alloc: Global, line: &[u8]) -> Result<Vec<u8>, NoMemory> {
+    let mut text = Vec::new(alloc);
+    text.extend_from_slice(b"p min 2 400\na 1 2 0 5 -9\n")?;
+    'arcs: for _ in 0..399 {
+        text.extend_from_slice(line)?;
+    }
+    Ok(text)
+}
+
+// Whether the greatest prices of such a net are -9 and 0.
+fn is_raised(alloc: Global, line: &[u8]) -> Result<bool, Fail> {
+    let text = dense_text(alloc, line)?;
+    let net = net_of(alloc, text.as_slice())?;
+    let state = State::zero(alloc, &net)?;
+    let mut pricer = Pricer::start(alloc, &net)?;
+    let mut prices = match recover(alloc, &state)? {
+        Recovered::Prices(prices) => prices,
+        Recovered::Cycle(_) => return Err("a cycle".into()),
+    };
+    raise_shown(&mut pricer, &state, &mut prices);
+    Ok(prices.as_slice() == [-9, 0].as_slice())
+}
+
+// In a net of so many arcs a node those that may lower a price are listed, if they are few: here one of all, and all.
+#[test]
+fn raises_in_a_dense_net(rt: HostRuntime) -> Result<(), Fail> {
+    let alloc = rt.alloc();
+    assert!(rt; is_raised(alloc, b"a 1 2 0 5 7\n")?);
+    assert!(rt; is_raised(alloc, b"a 1 2 0 5 -7\n")?);
     Ok(())
 }
