@@ -122,7 +122,9 @@ module _ (s : Pseudoflow) (mates : List ℕ) (y z : List ℤ) (ok : IsPartialMat
           ]
 
   pub updated_near : AreNearZero s z
-  updated_near v n = new.near (v - 1) (pos 0) (omega (arith, n, new.count))
+  updated_near v n =
+      let here = new.near (v - 1) (pos 0) (omega (arith, n, new.count)) in
+      (omega (arith, ints, here), omega (arith, ints, here))
 
   pub updated_first : FreeRowsAreFirst s y → FreeRowsAreFirst s z
   updated_first first v row free =

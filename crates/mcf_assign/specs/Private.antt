@@ -1,6 +1,7 @@
 -- What the proofs of this crate alone need: no public clause names it.
 pub mod RowLists
 pub mod Searches
+pub mod Lows
 pub mod Scans
 pub mod Turning
 pub mod Forests

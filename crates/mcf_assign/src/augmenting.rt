@@ -9,6 +9,7 @@ ghost use Rattle.mcf_prices.specs.Heaps.{NoneWaits};
 ghost use Rattle.mcf_assign.specs.Private.Forests.{AreMates, IsChangedWithin};
 ghost use Rattle.mcf_assign.specs.Private.Keeping.{IsEnded, IsIdle};
 ghost use Rattle.mcf_assign.specs.Matchings.{AreMatchingPrices, IsMatchedRow, IsPartialMatching, IsRow, column_of};
+ghost use Rattle.mcf_assign.specs.Private.Lows.{AreLows};
 ghost use Rattle.mcf_assign.specs.Private.RowLists.{AreRows};
 ghost use Rattle.mcf_assign.specs.Private.Searches.{AreRaised, HasEntries, Settled, search_of};
 ghost use Rattle.mcf_assign.specs.Private.Turning.{IsExtended};
@@ -48,12 +49,14 @@ impl Tables {
         state: &State<'_>,
         rows: &Rows,
         prices: &[i128],
+        lows: &[i64],
         mates: &[u32],
         source: NodeId,
     ) -> Option<Target>
         requires matching { IsPartialMatching state.now }
         requires rows { AreRows state.now.net rows.now }
         requires prices { AreMatchingPrices state.now prices.now }
+        requires lows { AreLows prices.now lows.now }
         requires mates { AreMates state.now mates.now }
         requires idle { IsIdle (node_count state.now.net) self.old }
         requires small { (v : ℕ) → IsNode (node_count state.now.net) v → IsUpTo (10 ^ 29) (at_node prices.now v) }
@@ -66,7 +69,7 @@ impl Tables {
     {
         self.reset();
         self.begin(state, source);
-        self.run(state, rows, prices, mates, source);
+        self.run(state, rows, prices, lows, mates, source);
         self.best
     }
 
@@ -76,11 +79,13 @@ impl Tables {
         &mut self,
         state: &mut State<'_>,
         prices: &mut [i128],
+        lows: &mut [i64],
         mates: &mut [u32],
         target: Target,
     )
         requires matching { IsPartialMatching state.old }
         requires prices { AreMatchingPrices state.old prices.old }
+        requires lows { AreLows prices.old lows.old }
         requires mates { AreMates state.old mates.old }
         requires entries { HasEntries (node_count state.old.net) (search_of self.old) }
         requires best { self.old.best ≡ Some target }
@@ -88,6 +93,7 @@ impl Tables {
         requires small { (v : ℕ) → IsNode (node_count state.old.net) v → IsUpTo (10 ^ 29) (at_node prices.old v) }
         requires room { node_count state.old.net ≤ vec_capacity self.old.order }
         ensures raised { AreRaised state.old (search_of self.old) target.dist prices.old prices.new }
+        ensures lows { AreLows prices.new lows.new }
         ensures extended { (source : ℕ) → IsEnded state.old prices.old (search_of self.old) source self.old.order.items
             → IsExtended state.old state.new prices.new source (column_of state.old target.arc) }
         ensures mates { AreMates state.new mates.new }
@@ -97,7 +103,7 @@ impl Tables {
         ensures tables { search_of self.new ≡ search_of self.old }
     {
         let arc = ArcId::new(target.arc);
-        self.raise(prices, target.dist);
+        self.raise(prices, lows, target.dist);
         self.turn(state, mates, arc);
         let (_, column) = state.net().ends(arc);
         self.order.push_reserved(column);

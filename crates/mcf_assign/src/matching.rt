@@ -7,12 +7,13 @@ ghost use Rattle.mcf_instance.specs.WellFormed.{IsUpTo};
 ghost use Rattle.mcf_network.specs.NodeSets.{no_nodes};
 ghost use Rattle.mcf_assign.specs.Extending.{IsExtension, IsMatched, IsRepriced, IsShownMatching};
 ghost use Rattle.mcf_assign.specs.Private.Keeping.{AreFirstPrices, first_price};
+ghost use Rattle.mcf_assign.specs.Private.Lows.{AreLows};
 ghost use Rattle.mcf_assign.specs.Matchings.{IsMatchedRow, IsRow};
 
 use crate::augmenting::fill;
 use crate::extended::Extended;
 use crate::rows::Rows;
-use crate::search::Tables;
+use crate::search::{Tables, low_of};
 use crate::update::Update;
 use mcf_instance::copies;
 use mcf_network::{Net, NodeSet, State};
@@ -30,6 +31,7 @@ pub struct Matching<'n> {
     state: State<'n>,
     rows: Rows,
     prices: Vec<i128>,
+    lows: Vec<i64>,
     mates: Vec<u32>,
     tables: Tables,
     reached: NodeSet,
@@ -46,11 +48,12 @@ impl<'n> Model for Matching<'n> {
     ghost view = { λ a. record { flow = a.state; prices = a.prices.items; settled = a.tables.order.items; reached = a.reached } };
 
     ghost use Rattle.mcf_instance.specs.Network.{node_count};
+    ghost use Rattle.mcf_assign.specs.Private.Lows.{AreLows};
     ghost use Rattle.mcf_assign.specs.Private.RowLists.{AreRows};
     ghost use Rattle.mcf_assign.specs.Private.Updating.{HasTables};
 
     ghost invariant = { λ a. IsKept a.state a.prices.items a.mates.items a.tables a.reached × AreRows a.state.net a.rows
-        × HasTables (node_count a.state.net) a.update };
+        × AreLows a.prices.items a.lows.items × HasTables (node_count a.state.net) a.update };
 }
 
 impl<'n> Matching<'n> {
@@ -72,11 +75,13 @@ impl<'n> Matching<'n> {
         let state = State::zero(alloc, net)?;
         let rows = Rows::new(alloc, net)?;
         let prices = first_prices(alloc, net)?;
+        let lows = cut_all(alloc, prices.as_slice())?;
         let mates = copies(alloc, net.node_count() as usize, 0)?;
         Ok(Matching {
             state,
             rows,
             prices,
+            lows,
             mates,
             tables: Tables::new(alloc, net)?,
             reached: NodeSet::new(alloc, net)?,
@@ -96,15 +101,18 @@ impl<'n> Matching<'n> {
         ensures shown { IsShownMatching self.new }
     {
         let prices = self.prices.as_slice();
+        let lows = self.lows.as_slice();
         let mates = self.mates.as_slice();
         let found = self
             .tables
-            .search(&self.state, &self.rows, prices, mates, row);
+            .search(&self.state, &self.rows, prices, lows, mates, row);
         match found {
             Some(target) => {
                 let prices = self.prices.as_mut_slice();
+                let lows = self.lows.as_mut_slice();
                 let mates = self.mates.as_mut_slice();
-                self.tables.augment(&mut self.state, prices, mates, target);
+                self.tables
+                    .augment(&mut self.state, prices, lows, mates, target);
                 Extended::Matched
             }
             None => {
@@ -125,9 +133,14 @@ impl<'n> Matching<'n> {
         }
         self.tables.looks = 0;
         let prices = self.prices.as_slice();
+        let lows = self.lows.as_slice();
         let mates = self.mates.as_slice();
-        if self.update.run(&self.state, &self.rows, prices, mates) {
-            swap(&mut self.prices, &mut self.update.prices);
+        if self
+            .update
+            .run(&self.state, &self.rows, prices, lows, mates)
+        {
+            swap(&mut self.lows, &mut self.update.lows);
+            widen_all(&mut self.prices, self.lows.as_slice());
         }
     }
 
@@ -174,6 +187,7 @@ impl<'n> Matching<'n> {
             state,
             rows: _,
             prices,
+            lows: _,
             mates: _,
             tables: _,
             reached: _,
@@ -190,6 +204,7 @@ impl<'n> Matching<'n> {
             state: _,
             rows: _,
             prices: _,
+            lows: _,
             mates: _,
             tables: _,
             reached,
@@ -214,6 +229,28 @@ fn first_prices(alloc: Global, net: &Net) -> Result<Vec<i128>, NoMemory>
         }
     }
     Ok(prices)
+}
+
+// Prices cut to 64 bits.
+fn cut_all(alloc: Global, prices: &[i128]) -> Result<Vec<i64>, NoMemory>
+    ensures lows { IfOk result (λ lows. AreLows prices.now lows.items) }
+    ensures wants { OnErr result (1 ≤ length prices.now) }
+{
+    let mut lows = copies(alloc, prices.len(), 0)?;
+    'nodes: for i in 0..prices.len() {
+        lows[i] = low_of(prices[i]);
+    }
+    Ok(lows)
+}
+
+// Makes each price the one of 64 bits.
+fn widen_all(prices: &mut Vec<i128>, lows: &[i64])
+    requires { length prices.old.items ≡ length lows.now }
+    ensures { prices.new.items ≡ lows.now }
+{
+    'nodes: for i in 0..prices.len() {
+        prices[i] = i128::from(lows[i]);
+    }
 }
 
 // How often the searches look at each arc, on the average, between two updates of all prices.

@@ -9,18 +9,16 @@ use Rattle.mcf_network.specs.States.{Pseudoflow}
 use Rattle.mcf_assign.specs.declared.rows.RowArc.{RowArc}
 use Rattle.mcf_assign.specs.declared.spread.Spread.{Spread}
 use Rattle.mcf_assign.specs.declared.update.Update.{Update}
-use Rattle.mcf_assign.specs.Private.Keeping.{reach_limit}
+use Rattle.mcf_assign.specs.Private.Lows.{low_reach}
 
 -- tables for so many nodes
 pub record HasSpread (nodes : ℕ) (q : Spread) : Type 0 where
-  pub keys : length q.heap.keys ≡ nodes
-  pub waiting : length q.heap.waiting ≡ nodes
   pub partners : length q.partners.items ≡ nodes
   pub limits : length q.limits.items ≡ nodes
 
 pub record HasTables (nodes : ℕ) (u : Update) : Type 0 where
   pub spread : HasSpread nodes u.spread
-  pub prices : length u.prices.items ≡ nodes
+  pub lows : length u.lows.items ≡ nodes
 
 -- the arc with which a node is matched, or 0
 abbrev pub mate_at : List ℕ → ℕ → ℕ
@@ -50,5 +48,5 @@ pub record FitsNode (g : Network) (mates : List ℕ) (y z : List ℤ) (v : ℕ) 
 -- new prices are near 0 and fit each node
 pub record AreUpdated (s : Pseudoflow) (mates : List ℕ) (y z : List ℤ) : Type 0 where
   pub count : length z ≡ node_count s.net
-  pub near : All (IsUpTo reach_limit) z
+  pub near : All (IsUpTo low_reach) z
   pub each : (v : ℕ) → IsNode (node_count s.net) v → FitsNode s.net mates y z v

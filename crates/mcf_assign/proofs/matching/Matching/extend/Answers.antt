@@ -4,6 +4,7 @@ use Rattle.mcf_instance.specs.Network.{Network, IsNode, node_count}
 use Rattle.mcf_assign.specs.Extending.{Assigned, IsGrown, IsStopped}
 use Rattle.mcf_assign.specs.Private.Keeping.{IsEnded, IsKept}
 use Rattle.mcf_assign.specs.Matchings.{IsRow}
+use Rattle.mcf_assign.specs.Private.Lows.{AreLows}
 use Rattle.mcf_assign.specs.Private.RowLists.{AreRows}
 use Rattle.mcf_assign.specs.Private.Updating.{HasTables}
 use Rattle.mcf_assign.specs.Private.Searches.{AreRaised, search_of}
@@ -17,6 +18,16 @@ search-found-requires-clause-small c =
 pub augment-requires-clause-small : goal.augment-requires-clause-small
 augment-requires-clause-small c =
     near_small c.self.inside.state c.self.inside.prices.items c.as_mut_slice-prices.result.now c.self.invariant.0.near c.as_mut_slice-prices.ensures.value
+
+pub search-found-requires-clause-lows : goal.search-found-requires-clause-lows
+search-found-requires-clause-lows c =
+    subst (λ (y : List ℤ). AreLows y c.as_slice-lows.result.now) (sym c.as_slice-prices.ensures.value)
+    (subst (λ (l : List ℤ). AreLows c.self.inside.prices.items l) (sym c.as_slice-lows.ensures.value) c.self.invariant.2)
+
+pub augment-requires-clause-lows : goal.augment-requires-clause-lows
+augment-requires-clause-lows c =
+    subst (λ (y : List ℤ). AreLows y c.as_mut_slice-lows.result.now) (sym c.as_mut_slice-prices.ensures.value)
+    (subst (λ (l : List ℤ). AreLows c.self.inside.prices.items l) (sym c.as_mut_slice-lows.ensures.value) c.self.invariant.2)
 
 pub fill-requires : goal.fill-requires
 fill-requires c =
@@ -46,6 +57,9 @@ invariant_of-self c =
     let vp = ap (λ (l : List ℤ). length l) c.as_mut_slice-prices.ensures.value in
     let vm = ap (λ (l : List ℕ). length l) c.as_mut_slice-mates.ensures.value in
     let wp = written i.prices.len c.augment.new.prices (drop (length c.augment.new.prices) i.prices.items) (omega (arith, i.prices.ok.0, lp, vp)) in
+    let ll = c.augment.auto.lows in
+    let vl = ap (λ (l : List ℤ). length l) c.as_mut_slice-lows.ensures.value in
+    let wl = written i.lows.len c.augment.new.lows (drop (length c.augment.new.lows) i.lows.items) (omega (arith, i.lows.ok.0, ll, vl)) in
     let wm = written i.mates.len c.augment.new.mates (drop (length c.augment.new.mates) i.mates.items) (omega (arith, i.mates.ok.0, lm, vm)) in
     let grown = subst (λ (y : List ℤ). IsKept c.augment.new.state y (take i.mates.len (c.augment.new.mates ++ drop (length c.augment.new.mates) i.mates.items))
     c.augment.new.self i.reached) (sym wp) (subst (λ (m : List ℕ). IsKept c.augment.new.state c.augment.new.prices m c.augment.new.self i.reached) (sym wm)
@@ -53,7 +67,9 @@ invariant_of-self c =
     let net = (e.extended c.args.row ended_mut).net in (
       grown,
       subst (λ (g : Network). AreRows g i.rows) (sym net) c.self.invariant.1,
-      subst (λ (g : Network). HasTables (node_count g) i.update) (sym net) c.self.invariant.2,
+      subst (λ (y : List ℤ). AreLows y (take i.lows.len (c.augment.new.lows ++ drop (length c.augment.new.lows) i.lows.items))) (sym wp)
+          (subst (λ (l : List ℤ). AreLows c.augment.new.prices l) (sym wl) e.lows),
+      subst (λ (g : Network). HasTables (node_count g) i.update) (sym net) c.self.invariant.3,
     )
 
 pub returns-in-Some-clause-extended : goal.returns-in-Some-clause-extended

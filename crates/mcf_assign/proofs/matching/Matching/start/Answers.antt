@@ -1,8 +1,9 @@
-use Rattle.std.proofs.Common.{◌≡◌, false, replicate, rules, Bool, List, ap, sym, subst, ◌∙◌, length, refl}
+use Rattle.std.proofs.Common.{◌≡◌, false, replicate, rules, Bool, List, ℤ, ap, sym, subst, ◌∙◌, length, refl}
 use Rattle.std.proofs.lemmas.List.{length-replicate}
 use Rattle.mcf_instance.specs.Network.{node_count}
 use Rattle.mcf_network.specs.States.{Pseudoflow, IsPseudoflow}
 use Rattle.mcf_assign.specs.Private.Keeping.{IsKept}
+use Rattle.mcf_assign.specs.Private.Lows.{AreLows}
 use Rattle.mcf_assign.specs.Private.RowLists.{AreRows}
 use Rattle.mcf_assign.specs.Private.Updating.{HasTables}
 use Rattle.mcf_assign.proofs.Kept.{kept_first, shown_kept}
@@ -19,7 +20,8 @@ invariant_of-result-2 c =
     (kept_first c.args.net.now c.in_ok-prices.prices.items c.in_ok-mates.mates.items c.in_ok-new.field-0 c.in_ok-new-2.field-0 valid c.requires
     c.in_ok-prices.ensures.prices mates c.in_ok-new.ensures.idle count) in
     let tables = subst (λ (s : Pseudoflow). HasTables (node_count s.net) c.in_ok-new-3.field-0) (sym inside) c.in_ok-new-3.ensures.tables in
-    (kept, subst (λ (s : Pseudoflow). AreRows s.net c.in_ok-rows.rows) (sym inside) c.in_ok-rows.ensures.rows, tables)
+    let lows = subst (λ (y : List ℤ). AreLows y c.in_ok-lows.lows.items) c.as_slice.ensures.value c.in_ok-lows.ensures.lows in
+    (kept, subst (λ (s : Pseudoflow). AreRows s.net c.in_ok-rows.rows) (sym inside) c.in_ok-rows.ensures.rows, lows, tables)
 
 pub returns-clause-shown : goal.returns-clause-shown
 returns-clause-shown c =

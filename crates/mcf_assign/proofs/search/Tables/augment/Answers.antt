@@ -42,7 +42,7 @@ turn-requires-clause-forest c =
     let e = c.requires.ended in
     let t : to_z w128 (of_z w128 c.args.target.dist) ≡ c.args.target.dist = search (rules, to_z-of_z) in
     let raised = subst (λ x. AreRaised c.args.state.now (search_of c.args.self.now) x c.args.prices.now c.raise.new.prices) t
-    (c.raise.ensures c.args.state.now (sym c.requires.prices.count)) in
+    (c.raise.ensures.raised c.args.state.now (sym c.requires.prices.count)) in
     let forest = found_forest c.args.state.now c.args.prices.now (search_of c.args.self.now) e.0 c.args.self.now.order.items c.args.target c.requires.matching
     c.requires.prices c.requires.entries e.1 c.requires.best c.raise.new.prices raised in
     let tight = found_tight c.args.state.now c.args.prices.now (search_of c.args.self.now) e.0 c.args.self.now.order.items c.args.target c.requires.matching
@@ -65,13 +65,13 @@ pub returns-clause-raised : goal.returns-clause-raised
 returns-clause-raised c =
     let t : to_z w128 (of_z w128 c.args.target.dist) ≡ c.args.target.dist = search (rules, to_z-of_z) in
     subst (λ x. AreRaised c.args.state.now (search_of c.args.self.now) x c.args.prices.now c.raise.new.prices) t
-    (c.raise.ensures c.args.state.now (sym c.requires.prices.count))
+    (c.raise.ensures.raised c.args.state.now (sym c.requires.prices.count))
 
 extended_at : goal.returns-clause-extended
 extended_at c source ended =
     let t : to_z w128 (of_z w128 c.args.target.dist) ≡ c.args.target.dist = search (rules, to_z-of_z) in
     let raised = subst (λ x. AreRaised c.args.state.now (search_of c.args.self.now) x c.args.prices.now c.raise.new.prices) t
-    (c.raise.ensures c.args.state.now (sym c.requires.prices.count)) in
+    (c.raise.ensures.raised c.args.state.now (sym c.requires.prices.count)) in
     let forest = found_forest c.args.state.now c.args.prices.now (search_of c.args.self.now) source c.args.self.now.order.items c.args.target
     c.requires.matching c.requires.prices c.requires.entries ended c.requires.best c.raise.new.prices raised in
     let tight = found_tight c.args.state.now c.args.prices.now (search_of c.args.self.now) source c.args.self.now.order.items c.args.target c.requires.matching
@@ -101,7 +101,7 @@ ends-column-requires c =
     let e = c.requires.ended in
     let t : to_z w128 (of_z w128 c.args.target.dist) ≡ c.args.target.dist = search (rules, to_z-of_z) in
     let raised = subst (λ x. AreRaised c.args.state.now (search_of c.args.self.now) x c.args.prices.now c.raise.new.prices) t
-    (c.raise.ensures c.args.state.now (sym c.requires.prices.count)) in
+    (c.raise.ensures.raised c.args.state.now (sym c.requires.prices.count)) in
     let forest = found_forest c.args.state.now c.args.prices.now (search_of c.args.self.now) e.0 c.args.self.now.order.items c.args.target c.requires.matching
     c.requires.prices c.requires.entries e.1 c.requires.best c.raise.new.prices raised in
     let tight = found_tight c.args.state.now c.args.prices.now (search_of c.args.self.now) e.0 c.args.self.now.order.items c.args.target c.requires.matching
@@ -118,7 +118,7 @@ returns-clause-order c =
     let e = c.requires.ended in
     let t : to_z w128 (of_z w128 c.args.target.dist) ≡ c.args.target.dist = search (rules, to_z-of_z) in
     let raised = subst (λ x. AreRaised c.args.state.now (search_of c.args.self.now) x c.args.prices.now c.raise.new.prices) t
-    (c.raise.ensures c.args.state.now (sym c.requires.prices.count)) in
+    (c.raise.ensures.raised c.args.state.now (sym c.requires.prices.count)) in
     let forest = found_forest c.args.state.now c.args.prices.now (search_of c.args.self.now) e.0 c.args.self.now.order.items c.args.target c.requires.matching
     c.requires.prices c.requires.entries e.1 c.requires.best c.raise.new.prices raised in
     let tight = found_tight c.args.state.now c.args.prices.now (search_of c.args.self.now) e.0 c.args.self.now.order.items c.args.target c.requires.matching

@@ -1,4 +1,5 @@
 use Rattle.std.proofs.Common.{◌≡◌, map, take, vec_capacity}
+use Rattle.mcf_assign.specs.Private.Lows.{IsGap}
 use Rattle.mcf_assign.specs.Private.RowLists.{forward_of}
 use Rattle.mcf_assign.specs.Private.Scans.{IsStep}
 use Rattle.mcf_assign.specs.Private.Searches.{search_of}
@@ -9,5 +10,6 @@ invariant-arcs l =
     record {
       step : IsStep l.fn.state l.fn.prices (search_of l.fn.self) l.fn.self.order.items (search_of l.self) l.self.order.items l.fn.row
           (map forward_of (take l.a-index l.list));
+      gap : IsGap l.self.best l.base l.gap;
       room : vec_capacity l.self.order ≡ vec_capacity l.fn.self.order;
     }

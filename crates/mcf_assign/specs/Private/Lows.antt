@@ -1,0 +1,23 @@
+-- Prices cut to 64 bits, and by what they tell that an arc is no news.
+use Rattle.std.specs.Prelude.{ℕ, ◌^◌, ◌<◌, List, Option, length, ℤ, pos, ◌≤ℤ◌, ◌+ℤ◌, ◌≡◌, slice_index_or}
+use Rattle.mcf_instance.specs.WellFormed.{IsUpTo}
+use Rattle.mcf_assign.specs.declared.search.Target.{Target}
+use Rattle.mcf_assign.specs.Private.Searches.{IsBestUpTo}
+
+-- how far from 0 a price lies at most that is cut
+abbrev pub low_reach : ℕ
+low_reach = 2 ^ 61
+
+-- near 0, and no greater than the price, unless that is below 0
+pub record IsLow (price low : ℤ) : Type 0 where
+  pub near : IsUpTo low_reach low
+  pub below : pos 0 ≤ℤ price → low ≤ℤ price
+
+-- such a number for each price
+pub record AreLows (y lows : List ℤ) : Type 0 where
+  pub count : length lows ≡ length y
+  pub each : (i : ℕ) → i < length y → IsLow (slice_index_or y i (pos 0)) (slice_index_or lows i (pos 0))
+
+-- what arcs offer from a row, less its base, is no news where it is no less than the gap
+abbrev pub IsGap : Option Target → ℤ → ℤ → Type 0
+IsGap best base gap = (x : ℤ) → IsUpTo (2 ^ 62) x → gap ≤ℤ x → IsBestUpTo best (base +ℤ x)
