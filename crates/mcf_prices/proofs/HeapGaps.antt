@@ -1,8 +1,10 @@
 -- An item in hand, and the gap that is left for it among the slots.
-use Rattle.std.proofs.Common.{◌≡◌, ◌≢◌, ℕ, ◌+◌, ◌-◌, ◌<◌, ◌≤◌, List, ℤ, false, true, length, set, refl, sym, ◌∙◌, ap, subst, arith, length-set}
+use Rattle.std.proofs.Common.{◌≡◌, ◌≢◌, ℕ, ◌+◌, ◌-◌, ◌<◌, ◌≤◌, List, ℤ, false, true, length, set, refl, sym, ◌∙◌, ap, subst, arith, inl, inr, length-set}
+use Rattle.std.proofs.lemmas.Bool.{cases_eq}
 use Rattle.std.proofs.lemmas.Grind.{get_or-set_at}
 use Rattle.std.proofs.lemmas.List.{get_or-set_other, set-get_or, set-set, set_comm}
-use Rattle.mcf_prices.specs.Private.ItemHeaps.{Precedes, entry, IsChild, IsOrdered, IsOrderedAbove, IsOrderedBelow, IsPlaced, IsPlacedBut, table_of}
+use Rattle.mcf_prices.specs.declared.item_heap.ItemHeap.{ItemHeap}
+use Rattle.mcf_prices.specs.Private.ItemHeaps.{AreShort, IsHeap, Precedes, entry, IsChild, IsOrdered, IsOrderedAbove, IsOrderedBelow, IsPlaced, IsPlacedBut, table_of}
 use Rattle.mcf_prices.proofs.HeapLowered.{table_again}
 use Rattle.mcf_prices.proofs.HeapOrder.{ordered_below, precedes_at, precedes_trans, rise_step, sink_step}
 use Rattle.mcf_prices.proofs.HeapPlaces.{IsExchange, dropped_places, exchange_ok, swapped_other_way, table_kept, unplaced}
@@ -88,6 +90,19 @@ gap_raised keys count slots places slots' places' i p v ok order l child less es
       table = moved.table;
     })
 
+-- the gap's parent precedes the item in hand
+pub gap_stays : (keys : List ℤ) (count : ℕ) (slots places : List ℕ) (i p v : ℕ) → IsPlacedBut count slots places i v
+    → IsOrderedAbove keys count (set slots i v) i → i < count → IsChild p i → Precedes keys (entry slots p) v → IsOrdered keys count (set slots i v)
+gap_stays keys count slots places i p v ok order l child less q j c k =
+    elim (cases_eq j i) [
+      | inl e ↦ (
+          let up : q ≡ p = omega (arith, c, child, e) in
+          let item = gap_item count slots places i v ok l in
+          let other : entry (set slots i v) q ≡ entry slots p = get_or-set_other slots i q v 0 (omega (arith, c, e)) ∙ ap (entry slots) up in
+          precedes_at keys (entry slots p) v _ _ less other (ap (entry (set slots i v)) e ∙ sym item.0))
+      | inr n ↦ order.others q j c k n
+    ]
+
 -- ---- down
 
 -- the gap is a slot lower
@@ -166,3 +181,17 @@ first_taken c slots places first v ok some is last =
           (subst (λ x. IsPlaced c (set (set slots 0 v) c first) x) p dropped) (omega arith),
       table_kept (set places first 0) v 1 (omega (arith, there)) (omega arith) ∙ unplaced places first,
     )
+
+-- ---- the heap, once its vectors were lent
+
+pub heap_is : (h : ItemHeap) (slots : List ℕ) (shorts : List ℤ) (places : List ℕ) → h.slots.items ≡ slots → h.shorts.items ≡ shorts
+    → h.places.items ≡ places → length h.keys.items ≡ length places → length shorts ≡ length slots → IsPlaced h.count slots places
+    → IsOrdered h.keys.items h.count slots → AreShort h.keys.items h.count slots shorts → IsHeap h
+heap_is h slots shorts places es er ep keys room placed ordered short =
+    record {
+      placed = rw (es, ep) placed;
+      ordered = rw es ordered;
+      keys = rw ep keys;
+      room = rw (es, er) room;
+      shorts = rw (es, er) short;
+    }

@@ -4,6 +4,7 @@ pub mod HeapGaps
 pub mod HeapLowered
 pub mod HeapOrder
 pub mod HeapPlaces
+pub mod HeapShorts
 pub mod HeapViews
 pub mod LabelLengths
 pub mod LinkWalks

@@ -3,7 +3,7 @@ ghost use Rattle.std.specs.Prelude.{◌≡◌, ◌≢◌, ◌+◌, ◌*◌, ◌^
 ghost use Rattle.std.specs.Prelude.{slice_index_or, slice_set};
 ghost use Rattle.std.specs.Bool.{MatchBool};
 ghost use Rattle.mcf_prices.specs.Heaps.{ComesFirst};
-ghost use Rattle.mcf_prices.specs.Private.ItemHeaps.{IsChild, IsHeap, IsOrdered, IsOrderedAbove, IsOrderedBelow, IsPlaced, IsPlacedBut, Precedes, PrecedesAll};
+ghost use Rattle.mcf_prices.specs.Private.ItemHeaps.{AreShort, AreShortBut, IsChild, IsHeap, IsOrdered, IsOrderedAbove, IsOrderedBelow, IsPlaced, IsPlacedBut, IsShort, Precedes, PrecedesAll};
 ghost use Rattle.mcf_prices.specs.Private.ItemHeaps.{entry, key_at, table_of};
 
 use mcf_instance::copies;
@@ -11,21 +11,15 @@ use mcf_text::NoMemory;
 use std::alloc::Global;
 
 /// Items numbered from 0, each with a key; those that wait stand in a heap by key and number, and each knows its
-/// place there.
+/// place there. Beside each slot stands the key of its item cut to 64 bits: items are compared by these, and by their
+/// keys only where these are equal.
 #[derive(Drop)]
 pub(crate) struct ItemHeap {
     keys: Vec<i128>,
     slots: Vec<u32>,
+    shorts: Vec<i64>,
     places: Vec<u32>,
     count: u32,
-}
-
-// An item in its slot, with its key.
-#[derive(Clone, Copy)]
-struct Child {
-    slot: u32,
-    item: u32,
-    key: i128,
 }
 
 impl ItemHeap {
@@ -40,10 +34,12 @@ impl ItemHeap {
     {
         let keys = copies(alloc, items, 0)?;
         let slots = copies(alloc, items, 0)?;
+        let shorts = copies(alloc, items, 0)?;
         let places = copies(alloc, items, 0)?;
         Ok(ItemHeap {
             keys,
             slots,
+            shorts,
             places,
             count: 0,
         })
@@ -61,7 +57,7 @@ impl ItemHeap {
     {
         self.keys[v as usize] = key;
         let at = self.slot_for(v);
-        self.rise(at, v, key);
+        self.rise(at, v, cut(key));
     }
 
     /// The key of an item, with which it waits or last waited.
@@ -148,6 +144,7 @@ impl ItemHeap {
         ensures fresh { entry self.old.places.items v ≡ 0 → (self.new.count ≡ self.old.count + 1) × (result ≡ self.old.count) }
         ensures table { table_of (slice_set self.old.places.items v (result + 1)) ≡ slice_set (table_of self.old.places.items) v true }
         ensures slots { self.new.slots ≡ self.old.slots }
+        ensures shorts { self.new.shorts ≡ self.old.shorts }
         ensures places { self.new.places ≡ self.old.places }
         ensures keys { self.new.keys ≡ self.old.keys }
     {
@@ -177,8 +174,8 @@ impl ItemHeap {
             return;
         }
         let v = self.slots[last as usize];
-        let key = self.keys[v as usize];
-        self.sink(0, v, key);
+        let short = self.shorts[last as usize];
+        self.sink(0, v, short);
     }
 
     // Takes out the item in the last slot, of which there is one.
@@ -188,6 +185,7 @@ impl ItemHeap {
         ensures placed { IsPlaced self.new.count self.new.slots.items self.new.places.items }
         ensures count { self.new.count + 1 ≡ self.old.count }
         ensures slots { self.new.slots ≡ self.old.slots }
+        ensures shorts { self.new.shorts ≡ self.old.shorts }
         ensures table { table_of self.new.places.items ≡ slice_set (table_of self.old.places.items) (entry self.old.slots.items self.new.count) false }
         ensures items { length self.new.places.items ≡ length self.old.places.items }
         ensures keys { self.new.keys ≡ self.old.keys }
@@ -198,13 +196,15 @@ impl ItemHeap {
         self.count = last;
     }
 
-    // Writes an item, whose key is in hand, into a slot, and lets it rise from there until its parent precedes it.
-    fn rise(&mut self, from: u32, v: u32, key: i128)
+    // Writes an item, whose cut key is in hand, into a slot, and lets it rise from there until its parent precedes it.
+    fn rise(&mut self, from: u32, v: u32, short: i64)
         requires placed { IsPlacedBut self.old.count self.old.slots.items self.old.places.items from v }
         requires items { length self.old.places.items < 2 ^ 31 }
         requires counted { length self.old.keys.items ≡ length self.old.places.items }
+        requires room { length self.old.shorts.items ≡ length self.old.slots.items }
         requires slot { from < self.old.count }
-        requires key { key ≡ key_at self.old.keys.items v }
+        requires short { IsShort (key_at self.old.keys.items v) short }
+        requires shorts { AreShortBut self.old.keys.items self.old.count self.old.slots.items self.old.shorts.items from }
         requires order { IsOrderedAbove self.old.keys.items self.old.count (slice_set self.old.slots.items from v) from }
         ensures valid { IsHeap self.new }
         ensures table { table_of self.new.places.items ≡ table_of (slice_set self.old.places.items v (from + 1)) }
@@ -214,21 +214,25 @@ impl ItemHeap {
         rise_from(
             &self.keys,
             &mut self.slots,
+            &mut self.shorts,
             &mut self.places,
             count,
             from,
             v,
-            key,
+            short,
         );
     }
 
-    // Writes an item, whose key is in hand, into a slot, and lets it sink from there until it precedes its children.
-    fn sink(&mut self, from: u32, v: u32, key: i128)
+    // Writes an item, whose cut key is in hand, into a slot, and lets it sink from there until it precedes its
+    // children.
+    fn sink(&mut self, from: u32, v: u32, short: i64)
         requires placed { IsPlacedBut self.old.count self.old.slots.items self.old.places.items from v }
         requires items { length self.old.places.items < 2 ^ 31 }
         requires counted { length self.old.keys.items ≡ length self.old.places.items }
+        requires room { length self.old.shorts.items ≡ length self.old.slots.items }
         requires slot { from < self.old.count }
-        requires key { key ≡ key_at self.old.keys.items v }
+        requires short { IsShort (key_at self.old.keys.items v) short }
+        requires shorts { AreShortBut self.old.keys.items self.old.count self.old.slots.items self.old.shorts.items from }
         requires order { IsOrderedBelow self.old.keys.items self.old.count (slice_set self.old.slots.items from v) from }
         ensures valid { IsHeap self.new }
         ensures table { table_of self.new.places.items ≡ table_of (slice_set self.old.places.items v (from + 1)) }
@@ -238,11 +242,12 @@ impl ItemHeap {
         sink_from(
             &self.keys,
             &mut self.slots,
+            &mut self.shorts,
             &mut self.places,
             count,
             from,
             v,
-            key,
+            short,
         );
     }
 }
@@ -251,24 +256,28 @@ impl ItemHeap {
 fn rise_from(
     keys: &[i128],
     slots: &mut [u32],
+    shorts: &mut [i64],
     places: &mut [u32],
     count: u32,
     from: u32,
     v: u32,
-    key: i128,
+    short: i64,
 )
     requires placed { IsPlacedBut count slots.old places.old from v }
     requires items { length places.old < 2 ^ 31 }
     requires counted { length keys.now ≡ length places.old }
+    requires room { length shorts.old ≡ length slots.old }
     requires slot { from < count }
-    requires key { key ≡ key_at keys.now v }
+    requires short { IsShort (key_at keys.now v) short }
+    requires shorts { AreShortBut keys.now count slots.old shorts.old from }
     requires order { IsOrderedAbove keys.now count (slice_set slots.old from v) from }
     ensures placed { IsPlaced count slots.new places.new }
     ensures order { IsOrdered keys.now count slots.new }
+    ensures shorts { AreShort keys.now count slots.new shorts.new }
     ensures table { table_of places.new ≡ table_of (slice_set places.old v (from + 1)) }
 {
-    let at = raise_gap(keys, slots, places, count, from, v, key);
-    put(slots, places, at, v);
+    let at = raise_gap(keys, slots, shorts, places, count, from, v, short);
+    put(slots, shorts, places, at, v, short);
 }
 
 // Raises a gap, the slot of an item that is in hand, until its parent precedes that item, and says where it is then.
@@ -277,31 +286,36 @@ fn rise_from(
 fn raise_gap(
     keys: &[i128],
     slots: &mut [u32],
+    shorts: &mut [i64],
     places: &mut [u32],
     count: u32,
     from: u32,
     v: u32,
-    key: i128,
+    short: i64,
 ) -> u32
     requires placed { IsPlacedBut count slots.old places.old from v }
     requires items { length places.old < 2 ^ 31 }
     requires counted { length keys.now ≡ length places.old }
+    requires room { length shorts.old ≡ length slots.old }
     requires slot { from < count }
-    requires key { key ≡ key_at keys.now v }
+    requires short { IsShort (key_at keys.now v) short }
+    requires shorts { AreShortBut keys.now count slots.old shorts.old from }
     requires order { IsOrderedAbove keys.now count (slice_set slots.old from v) from }
     ensures placed { IsPlacedBut count slots.new places.new result v }
     ensures slot { result < count }
     ensures order { IsOrdered keys.now count (slice_set slots.new result v) }
+    ensures shorts { AreShortBut keys.now count slots.new shorts.new result }
     ensures table { table_of (slice_set places.new v (result + 1)) ≡ table_of (slice_set places.old v (from + 1)) }
 {
     let mut at = from;
     'up: while at > 0 {
         let parent = (at - 1) / 2;
         let w = slots[parent as usize];
-        if !precedes(keys, v, key, w, keys[w as usize]) {
+        let other = shorts[parent as usize];
+        if !precedes(keys, v, short, w, other) {
             return at;
         }
-        put(slots, places, at, w);
+        put(slots, shorts, places, at, w, other);
         at = parent;
     }
     at
@@ -311,24 +325,28 @@ fn raise_gap(
 fn sink_from(
     keys: &[i128],
     slots: &mut [u32],
+    shorts: &mut [i64],
     places: &mut [u32],
     count: u32,
     from: u32,
     v: u32,
-    key: i128,
+    short: i64,
 )
     requires placed { IsPlacedBut count slots.old places.old from v }
     requires items { length places.old < 2 ^ 31 }
     requires counted { length keys.now ≡ length places.old }
+    requires room { length shorts.old ≡ length slots.old }
     requires slot { from < count }
-    requires key { key ≡ key_at keys.now v }
+    requires short { IsShort (key_at keys.now v) short }
+    requires shorts { AreShortBut keys.now count slots.old shorts.old from }
     requires order { IsOrderedBelow keys.now count (slice_set slots.old from v) from }
     ensures placed { IsPlaced count slots.new places.new }
     ensures order { IsOrdered keys.now count slots.new }
+    ensures shorts { AreShort keys.now count slots.new shorts.new }
     ensures table { table_of places.new ≡ table_of (slice_set places.old v (from + 1)) }
 {
-    let at = lower_gap(keys, slots, places, count, from, v, key);
-    put(slots, places, at, v);
+    let at = lower_gap(keys, slots, shorts, places, count, from, v, short);
+    put(slots, shorts, places, at, v, short);
 }
 
 // Lowers a gap, the slot of an item that is in hand, until that item precedes its children, and says where it is then.
@@ -336,94 +354,121 @@ fn sink_from(
 fn lower_gap(
     keys: &[i128],
     slots: &mut [u32],
+    shorts: &mut [i64],
     places: &mut [u32],
     count: u32,
     from: u32,
     v: u32,
-    key: i128,
+    short: i64,
 ) -> u32
     requires placed { IsPlacedBut count slots.old places.old from v }
     requires items { length places.old < 2 ^ 31 }
     requires counted { length keys.now ≡ length places.old }
+    requires room { length shorts.old ≡ length slots.old }
     requires slot { from < count }
-    requires key { key ≡ key_at keys.now v }
+    requires short { IsShort (key_at keys.now v) short }
+    requires shorts { AreShortBut keys.now count slots.old shorts.old from }
     requires order { IsOrderedBelow keys.now count (slice_set slots.old from v) from }
     ensures placed { IsPlacedBut count slots.new places.new result v }
     ensures slot { result < count }
     ensures order { IsOrdered keys.now count (slice_set slots.new result v) }
+    ensures shorts { AreShortBut keys.now count slots.new shorts.new result }
     ensures table { table_of (slice_set places.new v (result + 1)) ≡ table_of (slice_set places.old v (from + 1)) }
 {
     let mut at = from;
     'down: while 2 * at + 1 < count {
-        let child = first_child(keys, slots, count, at);
-        if !precedes(keys, child.item, child.key, v, key) {
+        let child = first_child(keys, slots, shorts, count, at);
+        let w = slots[child as usize];
+        let other = shorts[child as usize];
+        if !precedes(keys, w, other, v, short) {
             return at;
         }
-        put(slots, places, at, child.item);
-        at = child.slot;
+        put(slots, shorts, places, at, w, other);
+        at = child;
     }
     at
 }
 
-// The child of a slot that precedes the other; there is one.
+// The slot of the child that precedes the other; there is one. Whether it is the right one is added as a number, and
+// no branch depends on it.
 #[inline(always)]
-fn first_child(keys: &[i128], slots: &[u32], count: u32, at: u32) -> Child
+fn first_child(keys: &[i128], slots: &[u32], shorts: &[i64], count: u32, at: u32) -> u32
     requires some { 2 * at + 1 < count }
     requires slots { count ≤ length slots.now }
+    requires room { length shorts.now ≡ length slots.now }
     requires items { count < 2 ^ 31 }
     requires children { (j : ℕ) → IsChild at j → j < count → entry slots.now j < length keys.now }
-    ensures child { IsChild at result.slot × (result.slot < count) }
-    ensures item { result.item ≡ entry slots.now result.slot }
-    ensures key { result.key ≡ key_at keys.now result.item }
-    ensures least { (j : ℕ) → IsChild at j → j < count → Precedes keys.now result.item (entry slots.now j) }
+    requires shorts { (j : ℕ) → IsChild at j → j < count → IsShort (key_at keys.now (entry slots.now j)) (key_at shorts.now j) }
+    ensures child { IsChild at result × (result < count) }
+    ensures least { (j : ℕ) → IsChild at j → j < count → Precedes keys.now (entry slots.now result) (entry slots.now j) }
 {
-    let left = child_in(keys, slots, 2 * at + 1);
-    let place = left.slot + 1;
-    if place >= count {
+    let left = 2 * at + 1;
+    if left + 1 >= count {
         return left;
     }
-    let right = child_in(keys, slots, place);
-    if precedes(keys, left.item, left.key, right.item, right.key) {
-        return left;
-    }
-    right
+    left + u32::from(right_is_first(keys, slots, shorts, left))
 }
 
-// What a slot holds.
+// Whether what a slot holds comes after what the next one holds.
 #[inline(always)]
-fn child_in(keys: &[i128], slots: &[u32], slot: u32) -> Child
-    requires slot { slot < length slots.now }
-    requires item { entry slots.now slot < length keys.now }
-    ensures slot { result.slot ≡ slot }
-    ensures item { result.item ≡ entry slots.now slot }
-    ensures key { result.key ≡ key_at keys.now (entry slots.now slot) }
+fn right_is_first(keys: &[i128], slots: &[u32], shorts: &[i64], left: u32) -> bool
+    requires slots { left + 1 < length slots.now }
+    requires room { length shorts.now ≡ length slots.now }
+    requires small { left + 1 < 2 ^ 32 }
+    requires left { entry slots.now left < length keys.now }
+    requires right { entry slots.now (left + 1) < length keys.now }
+    requires short_left { IsShort (key_at keys.now (entry slots.now left)) (key_at shorts.now left) }
+    requires short_right { IsShort (key_at keys.now (entry slots.now (left + 1))) (key_at shorts.now (left + 1)) }
+    ensures { MatchBool result (Precedes keys.now (entry slots.now (left + 1)) (entry slots.now left)) (Precedes keys.now (entry slots.now left) (entry slots.now (left + 1))) }
 {
-    let item = slots[slot as usize];
-    let key = keys[item as usize];
-    Child { slot, item, key }
+    let right = left + 1;
+    let short_left = shorts[left as usize];
+    let short_right = shorts[right as usize];
+    if short_left == short_right {
+        return precedes_by_key(keys, slots[right as usize], slots[left as usize]);
+    }
+    short_right < short_left
 }
 
-// Puts an item into a slot.
+// Puts an item with its cut key into a slot.
 #[inline(always)]
-fn put(slots: &mut [u32], places: &mut [u32], at: u32, item: u32)
+fn put(slots: &mut [u32], shorts: &mut [i64], places: &mut [u32], at: u32, item: u32, short: i64)
     requires slot { at < length slots.old }
+    requires room { length shorts.old ≡ length slots.old }
     requires item { item < length places.old }
     requires small { at + 1 < 2 ^ 32 }
     ensures slots { slots.new ≡ slice_set slots.old at item }
+    ensures shorts { shorts.new ≡ slice_set shorts.old at short }
     ensures places { places.new ≡ slice_set places.old item (at + 1) }
 {
     slots[at as usize] = item;
+    shorts[at as usize] = short;
     places[item as usize] = at + 1;
 }
 
-// Whether an item precedes another, with both keys in hand; only the clauses speak of all keys.
+// Whether an item precedes another, with both cut keys in hand.
 #[inline(always)]
-fn precedes(keys: &[i128], a: u32, key_a: i128, b: u32, key_b: i128) -> bool
-    requires key_a { key_a ≡ key_at keys.now a }
-    requires key_b { key_b ≡ key_at keys.now b }
+fn precedes(keys: &[i128], a: u32, short_a: i64, b: u32, short_b: i64) -> bool
+    requires a { a < length keys.now }
+    requires b { b < length keys.now }
+    requires short_a { IsShort (key_at keys.now a) short_a }
+    requires short_b { IsShort (key_at keys.now b) short_b }
     ensures { MatchBool result (Precedes keys.now a b) (Precedes keys.now b a) }
 {
-    comes_first(key_a, a, key_b, b)
+    if short_a == short_b {
+        return precedes_by_key(keys, a, b);
+    }
+    short_a < short_b
+}
+
+// Whether an item precedes another, by their keys.
+#[inline(always)]
+fn precedes_by_key(keys: &[i128], a: u32, b: u32) -> bool
+    requires a { a < length keys.now }
+    requires b { b < length keys.now }
+    ensures { MatchBool result (Precedes keys.now a b) (Precedes keys.now b a) }
+{
+    comes_first(keys[a as usize], a, keys[b as usize], b)
 }
 
 // Whether item a with its key comes before item b with its.
@@ -432,4 +477,17 @@ fn comes_first(key_a: i128, a: u32, key_b: i128, b: u32) -> bool
     ensures { MatchBool result (ComesFirst key_a a key_b b) (ComesFirst key_b b key_a a) }
 {
     key_a < key_b || (key_a <= key_b && a <= b)
+}
+
+// A key cut to 64 bits: the key itself, or the end of their range that is nearer to it.
+fn cut(key: i128) -> i64
+    ensures { IsShort key result }
+{
+    if key < i64::MIN as i128 {
+        return i64::MIN;
+    }
+    if key > i64::MAX as i128 {
+        return i64::MAX;
+    }
+    key as i64
 }

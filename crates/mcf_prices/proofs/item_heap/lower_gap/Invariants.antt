@@ -1,5 +1,5 @@
 use Rattle.std.proofs.Common.{◌≡◌, ◌+◌, ◌-◌, ◌<◌, ◌≤◌, length, set}
-use Rattle.mcf_prices.specs.Private.ItemHeaps.{IsOrderedBelow, IsPlacedBut, table_of}
+use Rattle.mcf_prices.specs.Private.ItemHeaps.{AreShortBut, IsOrderedBelow, IsPlacedBut, table_of}
 use Rattle.mcf_prices.proofs.item_heap.lower_gap.Given as goal
 
 abbrev pub invariant-down : goal.invariant-down
@@ -8,6 +8,7 @@ invariant-down l =
       placed : IsPlacedBut l.count l.slots l.places l.at l.v;
       slot : l.at < l.count;
       within : l.count ≤ length l.slots;
+      shorts : AreShortBut l.keys l.count l.slots l.shorts l.at;
       order : IsOrderedBelow l.keys l.count (set l.slots l.at l.v) l.at;
       table : table_of (set l.places l.v (l.at + 1)) ≡ table_of (set l.initial.places l.v (l.from + 1));
     }

@@ -6,6 +6,7 @@ abbrev pub invariant-items : goal.invariant-items
 invariant-items l =
     record {
       placed : IsPlaced l.self.count l.self.slots.items l.self.places.items;
+      shorts : length l.self.shorts.items ≡ length l.self.slots.items;
       items : length l.self.places.items ≡ length l.initial.self.places.items;
       keys : l.self.keys ≡ l.initial.self.keys;
     }

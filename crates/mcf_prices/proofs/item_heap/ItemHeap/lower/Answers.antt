@@ -2,11 +2,12 @@ use Rattle.std.proofs.Common.{◌≡◌, ◌<◌, inl, inr, ap, sym, subst, ◌�
 use mir.Syntax.{w128}
 use Rattle.std.proofs.lemmas.Bool.{cases_eq}
 use Rattle.std.proofs.lemmas.Int.{to_z-of_z}
-use Rattle.mcf_prices.specs.Private.ItemHeaps.{entry, IsOrderedAbove}
+use Rattle.mcf_prices.specs.Private.ItemHeaps.{AreShortBut, entry, IsOrderedAbove}
 use Rattle.mcf_prices.proofs.HeapGaps.{gap_start}
 use Rattle.mcf_prices.proofs.HeapOrder.{above_at}
 use Rattle.mcf_prices.proofs.HeapPlaces.{room_for}
 use Rattle.mcf_prices.proofs.HeapLowered.{lowered_above, appended_above}
+use Rattle.mcf_prices.proofs.HeapShorts.{shorts_apart, shorts_keyed}
 use Rattle.mcf_prices.proofs.item_heap.ItemHeap.lower.Goals as goal
 
 pub rise-requires-clause-order : goal.rise-requires-clause-order
@@ -42,3 +43,28 @@ rise-requires-clause-order c =
           (above_at _ _ _ _ _ _ keys k.0 above))
     ] in
     subst (λ x. IsOrderedAbove c.slot_for-at.new.self.keys.items c.slot_for-at.new.self.count (set x at v) at) (sym (ap (λ x. x.items) e.slots)) gap
+
+pub rise-requires-clause-shorts : goal.rise-requires-clause-shorts
+rise-requires-clause-shorts c =
+    let h = c.requires.valid in
+    let e = c.slot_for-at.ensures in
+    let v = c.args.v in
+    let at = c.slot_for-at.result in
+    let slots = c.args.self.now.slots.items in
+    let shorts = c.args.self.now.shorts.items in
+    let places = c.args.self.now.places.items in
+    let key : to_z w128 (of_z w128 c.args.key) ≡ c.args.key = to_z-of_z w128 c.args.key c.ranges.key in
+    let keys : c.slot_for-at.new.self.keys.items ≡ set c.args.self.now.keys.items v c.args.key = ap (λ x. x.items) e.keys ∙ ap
+    (λ k. set c.args.self.now.keys.items v k) key in
+    let gap : AreShortBut (set c.args.self.now.keys.items v c.args.key) c.slot_for-at.new.self.count slots shorts at =
+    elim (cases_eq (entry places v) 0) [
+      | inl none ↦ (
+          let f = e.fresh none in
+          λ j l n. shorts_apart c.args.self.now.keys.items c.args.self.now.count slots places shorts v c.args.key h.placed h.shorts none j
+          (omega (arith, f, l, n)))
+      | inr some ↦ (
+          let k = e.kept (omega (arith, some)) in
+          λ j l n. shorts_keyed c.args.self.now.keys.items c.args.self.now.count slots places shorts v at c.args.key h.placed h.shorts k.1 j
+          (omega (arith, k, l)) n)
+    ] in
+    rw (keys, e.slots, e.shorts) gap

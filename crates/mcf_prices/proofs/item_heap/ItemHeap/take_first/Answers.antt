@@ -17,6 +17,8 @@ returns-then-last-eq0-clause-valid c =
           (subst (λ x. IsPlaced x c.args.self.now.slots.items c.args.self.now.places.items) back h.placed) is;
       ordered = λ p j d l. absurd (omega (arith, l, none));
       keys = h.keys ∙ sym (length-set c.args.self.now.places.items c.args.first 0);
+      room = h.room;
+      shorts = λ j l. absurd (omega (arith, l, none));
     }
 
 pub returns-then-last-eq0-clause-table : goal.returns-then-last-eq0-clause-table
