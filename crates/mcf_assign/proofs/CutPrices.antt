@@ -75,36 +75,10 @@ pub record AreCutTo (y lows : List ℤ) (i : ℕ) : Type 0 where
   pub count : length lows ≡ length y
   pub each : (j : ℕ) → j < length y → j < i → IsLow (get_or y j (pos 0)) (get_or lows j (pos 0))
 
-pub cut_more : (y lows : List ℤ) (i : ℕ) (z : ℤ) → AreCutTo y lows i → IsLow (get_or y i (pos 0)) z → AreCutTo y (set lows i z) (i + 1)
-cut_more y lows i z so is =
-    record {
-      count = length-set lows i z ∙ so.count;
-      each = λ j l k. elim (cases_eq j i) [
-        | inl e ↦ subst (λ (q : ℤ). IsLow (get_or y j (pos 0)) q) (sym (get_or-set_at lows i j z (pos 0) e (omega (arith, e, l, so.count))))
-            (subst (λ n. IsLow (get_or y n (pos 0)) z) (sym e) is)
-        | inr m ↦ subst (λ (q : ℤ). IsLow (get_or y j (pos 0)) q) (sym (get_or-set_other lows i j z (pos 0) m)) (so.each j l (omega (arith, k, m)))
-      ];
-    }
-
-pub cut_done : (y lows : List ℤ) (i : ℕ) → AreCutTo y lows i → length y ≤ i → AreLows y lows
-cut_done y lows i so past = record { count = so.count; each = λ j l. so.each j l (omega (arith, l, past)) }
-
 -- the prices before a place are those of 64 bits
 pub record AreWidenedTo (y lows : List ℤ) (i : ℕ) : Type 0 where
   pub count : length y ≡ length lows
   pub each : (j : ℕ) → j < length y → j < i → get_or y j (pos 0) ≡ get_or lows j (pos 0)
-
-pub widen_more : (y lows : List ℤ) (i : ℕ) (x : ℤ) → AreWidenedTo y lows i → x ≡ get_or lows i (pos 0) → AreWidenedTo (set y i x) lows (i + 1)
-widen_more y lows i x so is =
-    record {
-      count = length-set y i x ∙ so.count;
-      each = λ j l k.
-          let inside : j < length y = omega (arith, l, length-set y i x) in
-          elim (cases_eq j i) [
-            | inl e ↦ get_or-set_at y i j x (pos 0) e (omega (arith, e, inside)) ∙ is ∙ ap (λ n. get_or lows n (pos 0)) (sym e)
-            | inr m ↦ get_or-set_other y i j x (pos 0) m ∙ so.each j inside (omega (arith, k, m))
-          ];
-    }
 
 pub widened : (y lows : List ℤ) (i : ℕ) → AreWidenedTo y lows i → length lows ≤ i → y ≡ lows
 widened y lows i so past =

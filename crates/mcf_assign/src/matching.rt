@@ -147,7 +147,7 @@ impl<'n> Matching<'n> {
     // Whether an update of all prices pays now.
     fn is_due(&self) -> bool {
         let arcs = u64::from(self.state.net().arc_count());
-        self.update.pays() && self.tables.looks > LOOKS_PER_ARC * arcs
+        self.update.pays() && self.tables.looks > arcs / ARCS_PER_LOOK
     }
 
     /// Whether an arc of amount 1 has an end at a node.
@@ -253,8 +253,8 @@ fn widen_all(prices: &mut Vec<i128>, lows: &[i64])
     }
 }
 
-// How often the searches look at each arc, on the average, between two updates of all prices.
-const LOOKS_PER_ARC: u64 = 1;
+// The searches look at one in so many arcs, on the average, between two updates of all prices.
+const ARCS_PER_LOOK: u64 = 2;
 
 // The price with which a row begins: no cost is further below 0.
 const FIRST_PRICE: i128 = -1_000_000_000_000_000;

@@ -13,7 +13,6 @@ use Rattle.mcf_assign.specs.Private.Lows.{low_reach}
 
 -- tables for so many nodes
 pub record HasSpread (nodes : ℕ) (q : Spread) : Type 0 where
-  pub partners : length q.partners.items ≡ nodes
   pub limits : length q.limits.items ≡ nodes
 
 pub record HasTables (nodes : ℕ) (u : Update) : Type 0 where
