@@ -1,9 +1,10 @@
 -- Prices cut to 64 bits.
 use Rattle.std.specs.List.{All}
-use Rattle.std.proofs.Common.{◌≡◌, ℕ, ◌^◌, ◌+◌, ◌<◌, ◌≤◌, List, Option, set, length, get_or, ℤ, pos, ◌+ℤ◌, ◌-ℤ◌, ◌≤ℤ◌, sym, ◌∙◌, ap, subst, arith, inl, inr, length-set}
+use Rattle.std.proofs.Common.{◌≡◌, ℕ, ◌^◌, ◌+◌, ◌<◌, ◌≤◌, List, Option, set, length, get_or, ℤ, pos, neg_ℤ, ◌+ℤ◌, ◌-ℤ◌, ◌≤ℤ◌, sym, ◌∙◌, ap, subst, arith, inl, inr, length-set}
 use Rattle.std.proofs.lemmas.Bool.{cases_eq}
 use Rattle.std.proofs.lemmas.Grind.{get_or-set_at}
-use Rattle.std.proofs.lemmas.Int.{ints}
+use Rattle.std.proofs.lemmas.Int.{ints, clamps}
+use Rattle.std.specs.Int.{int_max, int_min}
 use Rattle.std.proofs.lemmas.List.{ext_get_or, get_or-set_other}
 use Rattle.mcf_instance.specs.Network.{at_node}
 use Rattle.mcf_instance.specs.WellFormed.{IsUpTo}
@@ -68,12 +69,34 @@ past_worse s y lows q a base gap ok shown are is eb none past =
         let cost = is.cost in
         omega (arith, ints, eb, below, same, cost)
 
+-- a price brought between two bounds
+pub cut_low : (price x floor top high mid low : ℤ) → x ≡ price → floor ≡ neg_ℤ (pos (2 ^ 61)) → top ≡ pos (2 ^ 61) → high ≡ int_max x floor → mid ≡ high
+    → low ≡ int_min mid top → IsLow price low
+cut_low price x floor top high mid low ex ef et eh em el =
+    record {
+      near = (omega (arith, ints, clamps, ex, ef, et, eh, em, el), omega (arith, ints, clamps, ex, ef, et, eh, em, el));
+      below = λ above. omega (arith, ints, clamps, ex, ef, et, eh, em, el, above);
+      exact = λ inside. omega (arith, ints, clamps, ex, ef, et, eh, em, el, inside);
+    }
+
 -- ---- loops
 
 -- the prices before a place are cut
 pub record AreCutTo (y lows : List ℤ) (i : ℕ) : Type 0 where
   pub count : length lows ≡ length y
   pub each : (j : ℕ) → j < length y → j < i → IsLow (get_or y j (pos 0)) (get_or lows j (pos 0))
+
+-- one more
+pub cut_more : (y lows : List ℤ) (i : ℕ) (z : ℤ) → AreCutTo y lows i → IsLow (get_or y i (pos 0)) z → AreCutTo y (set lows i z) (i + 1)
+cut_more y lows i z so is =
+    record {
+      count = length-set lows i z ∙ so.count;
+      each = λ j l k. elim (cases_eq j i) [
+        | inl e ↦ subst (λ (q : ℤ). IsLow (get_or y j (pos 0)) q) (sym (get_or-set_at lows i j z (pos 0) e (omega (arith, e, l, so.count))))
+            (subst (λ n. IsLow (get_or y n (pos 0)) z) (sym e) is)
+        | inr m ↦ subst (λ (q : ℤ). IsLow (get_or y j (pos 0)) q) (sym (get_or-set_other lows i j z (pos 0) m)) (so.each j l (omega (arith, k, m)))
+      ];
+    }
 
 -- the prices before a place are those of 64 bits
 pub record AreWidenedTo (y lows : List ℤ) (i : ℕ) : Type 0 where
@@ -92,5 +115,5 @@ lows_same y lows same near =
       each = λ j l.
           let here = ap (λ (l : List ℤ). get_or l j (pos 0)) same in
           let inside : j < length lows = (let c = ap (λ (l : List ℤ). length l) same in omega (arith, l, c)) in
-          record { near = near j (pos 0) inside; below = λ _. omega (arith, ints, here) };
+          record { near = near j (pos 0) inside; below = λ _. omega (arith, ints, here); exact = λ _. sym here };
     }

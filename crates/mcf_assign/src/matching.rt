@@ -53,7 +53,7 @@ impl<'n> Model for Matching<'n> {
     ghost use Rattle.mcf_assign.specs.Private.Updating.{HasTables};
 
     ghost invariant = { λ a. IsKept a.state a.prices.items a.mates.items a.tables a.reached × AreRows a.state.net a.rows
-        × AreLows a.prices.items a.lows.items × HasTables (node_count a.state.net) a.update };
+        × AreLows a.prices.items a.lows.items × HasTables a.state.net a.update };
 }
 
 impl<'n> Matching<'n> {
@@ -132,13 +132,9 @@ impl<'n> Matching<'n> {
             return;
         }
         self.tables.looks = 0;
-        let prices = self.prices.as_slice();
         let lows = self.lows.as_slice();
         let mates = self.mates.as_slice();
-        if self
-            .update
-            .run(&self.state, &self.rows, prices, lows, mates)
-        {
+        if self.update.run(&self.state, lows, mates) {
             swap(&mut self.lows, &mut self.update.lows);
             widen_all(&mut self.prices, self.lows.as_slice());
         }

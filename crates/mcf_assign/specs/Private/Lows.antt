@@ -1,5 +1,5 @@
 -- Prices cut to 64 bits, and by what they tell that an arc is no news.
-use Rattle.std.specs.Prelude.{ℕ, ◌^◌, ◌<◌, List, Option, length, ℤ, pos, ◌≤ℤ◌, ◌+ℤ◌, ◌≡◌, slice_index_or}
+use Rattle.std.specs.Prelude.{ℕ, ◌-◌, ◌^◌, ◌<◌, List, Option, length, ℤ, pos, ◌≤ℤ◌, ◌+ℤ◌, ◌≡◌, slice_index_or}
 use Rattle.mcf_instance.specs.WellFormed.{IsUpTo}
 use Rattle.mcf_assign.specs.declared.search.Target.{Target}
 use Rattle.mcf_assign.specs.Private.Searches.{IsBestUpTo}
@@ -8,10 +8,15 @@ use Rattle.mcf_assign.specs.Private.Searches.{IsBestUpTo}
 abbrev pub low_reach : ℕ
 low_reach = 2 ^ 61
 
--- near 0, and no greater than the price, unless that is below 0
+-- what is cut lies strictly inside, up to this
+abbrev pub low_inside : ℕ
+low_inside = 2 ^ 61 - 1
+
+-- near 0, and no greater than the price, unless that is below 0; the price itself, if it is well inside
 pub record IsLow (price low : ℤ) : Type 0 where
   pub near : IsUpTo low_reach low
   pub below : pos 0 ≤ℤ price → low ≤ℤ price
+  pub exact : IsUpTo low_inside low → low ≡ price
 
 -- such a number for each price
 pub record AreLows (y lows : List ℤ) : Type 0 where

@@ -69,7 +69,7 @@ invariant_of-self c =
       subst (λ (g : Network). AreRows g i.rows) (sym net) c.self.invariant.1,
       subst (λ (y : List ℤ). AreLows y (take i.lows.len (c.augment.new.lows ++ drop (length c.augment.new.lows) i.lows.items))) (sym wp)
           (subst (λ (l : List ℤ). AreLows c.augment.new.prices l) (sym wl) e.lows),
-      subst (λ (g : Network). HasTables (node_count g) i.update) (sym net) c.self.invariant.3,
+      subst (λ (g : Network). HasTables g i.update) (sym net) c.self.invariant.3,
     )
 
 pub returns-in-Some-clause-extended : goal.returns-in-Some-clause-extended

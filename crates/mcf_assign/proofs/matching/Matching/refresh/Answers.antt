@@ -1,6 +1,6 @@
 use Rattle.std.specs.List.{All}
 use Rattle.mcf_instance.specs.WellFormed.{IsUpTo}
-use Rattle.mcf_assign.specs.Private.Lows.{low_reach}
+use Rattle.mcf_assign.specs.Private.Lows.{AreLows, low_reach}
 use Rattle.mcf_assign.proofs.CutPrices.{lows_same}
 use Rattle.std.proofs.Common.{◌≡◌, List, ℤ, ℕ, refl, subst, ap, sym, ◌∙◌, length}
 use Rattle.mcf_assign.specs.Extending.{Assigned, IsShownMatching}
@@ -28,9 +28,9 @@ pub invariant_of-self : goal.invariant_of-self
 invariant_of-self c =
     let i = c.self.inside in
     let k = c.self.invariant.0 in
-    let new = subst (λ (y : List ℤ). AreUpdated i.state i.mates.items y c.run.new.self.lows.items) c.as_slice-prices.ensures.value
-    (subst (λ (l : List ℕ). AreUpdated i.state l c.as_slice-prices.result.now c.run.new.self.lows.items) c.as_slice-mates.ensures.value
-    (c.run.ensures.updated c.if-run.true)) in
+    let new = subst (λ (l : List ℕ). AreUpdated i.state l i.prices.items c.run.new.self.lows.items) c.as_slice-mates.ensures.value
+    (c.run.ensures.updated c.if-run.true i.prices.items c.self.invariant.0.shown
+    (subst (λ (l : List ℤ). AreLows i.prices.items l) (sym c.as_slice-lows.ensures.value) c.self.invariant.2)) in
     let taken : c.swap.new.x.items ≡ c.run.new.self.lows.items = cc (c.swap.ensures.x_after) in
     let left : c.swap.new.y.items ≡ i.lows.items = cc (c.swap.ensures.y_after) in
     let wide : c.widen_all.new.prices.items ≡ c.swap.new.x.items = c.widen_all.ensures ∙ c.as_slice.ensures.value in
@@ -41,15 +41,15 @@ invariant_of-self c =
       subst (λ (y : List ℤ). IsKept i.state y i.mates.items (record i.tables { looks = 0 }) i.reached) (sym (wide ∙ taken)) kept,
       c.self.invariant.1,
       lows_same c.widen_all.new.prices.items c.swap.new.x.items wide (subst (λ (l : List ℤ). All (IsUpTo low_reach) l) (sym taken) new.near),
-      record { spread = tables.spread; lows = ap (λ (l : List ℤ). length l) left ∙ lows.count ∙ k.shown.count },
+      record { columns = tables.columns; spread = tables.spread; lows = ap (λ (l : List ℤ). length l) left ∙ lows.count ∙ k.shown.count },
     )
 
 pub returns-then-run-clause-shown : goal.returns-then-run-clause-shown
 returns-then-run-clause-shown c =
     let i = c.self.inside in
-    let new = subst (λ (y : List ℤ). AreUpdated i.state i.mates.items y c.run.new.self.lows.items) c.as_slice-prices.ensures.value
-    (subst (λ (l : List ℕ). AreUpdated i.state l c.as_slice-prices.result.now c.run.new.self.lows.items) c.as_slice-mates.ensures.value
-    (c.run.ensures.updated c.if-run.true)) in
+    let new = subst (λ (l : List ℕ). AreUpdated i.state l i.prices.items c.run.new.self.lows.items) c.as_slice-mates.ensures.value
+    (c.run.ensures.updated c.if-run.true i.prices.items c.self.invariant.0.shown
+    (subst (λ (l : List ℤ). AreLows i.prices.items l) (sym c.as_slice-lows.ensures.value) c.self.invariant.2)) in
     let taken : c.swap.new.x.items ≡ c.run.new.self.lows.items = cc (c.swap.ensures.x_after) in
     let wide : c.widen_all.new.prices.items ≡ c.swap.new.x.items = c.widen_all.ensures ∙ c.as_slice.ensures.value in
     shown_kept i.state c.run.new.self.lows.items i.mates.items i.tables i.reached

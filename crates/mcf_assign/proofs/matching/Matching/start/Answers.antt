@@ -19,7 +19,7 @@ invariant_of-result-2 c =
     let kept = subst (λ (s : Pseudoflow). IsKept s c.in_ok-prices.prices.items c.in_ok-mates.mates.items c.in_ok-new.field-0 c.in_ok-new-2.field-0) (sym inside)
     (kept_first c.args.net.now c.in_ok-prices.prices.items c.in_ok-mates.mates.items c.in_ok-new.field-0 c.in_ok-new-2.field-0 valid c.requires
     c.in_ok-prices.ensures.prices mates c.in_ok-new.ensures.idle count) in
-    let tables = subst (λ (s : Pseudoflow). HasTables (node_count s.net) c.in_ok-new-3.field-0) (sym inside) c.in_ok-new-3.ensures.tables in
+    let tables = subst (λ (s : Pseudoflow). HasTables s.net c.in_ok-new-3.field-0) (sym inside) c.in_ok-new-3.ensures.tables in
     let lows = subst (λ (y : List ℤ). AreLows y c.in_ok-lows.lows.items) c.as_slice.ensures.value c.in_ok-lows.ensures.lows in
     (kept, subst (λ (s : Pseudoflow). AreRows s.net c.in_ok-rows.rows) (sym inside) c.in_ok-rows.ensures.rows, lows, tables)
 

@@ -1,6 +1,5 @@
 use Rattle.std.proofs.Common.{◌≡◌, ◌<◌, arith, to_z, of_z, rules, ◌∙◌, ap, sym, subst, refl, ◌-◌, ◌≤ℤ◌, [], ◌∷◌, get_or}
 use mir.Syntax.{w128}
-use Rattle.std.proofs.lemmas.Bool.{true≢false}
 use Rattle.std.proofs.lemmas.Int.{ints, to_z-of_z}
 use Rattle.mcf_instance.specs.Network.{IsNode, node_count}
 use Rattle.mcf_assign.specs.Matchings.{IsColumn, IsMatchedColumn, column_of, row_of}
@@ -8,7 +7,7 @@ use Rattle.mcf_assign.specs.Private.RowLists.{forward_of}
 use Rattle.mcf_assign.specs.Private.Scans.{IsStep}
 use Rattle.mcf_assign.specs.Private.Searches.{IsBestUpTo, Search, Settled, Waits, dist_at, lowered, offer, search_of, settled_pair}
 use Rattle.mcf_assign.proofs.PairLaws.{column_is}
-use Rattle.mcf_assign.proofs.Relaxing.{lowered_is, read_mark, relaxed_best, relaxed_far, relaxed_lower, relaxed_settled, relaxed_worse}
+use Rattle.mcf_assign.proofs.Relaxing.{lowered_is, relaxed_best, relaxed_far, relaxed_lower, relaxed_worse}
 use Rattle.mcf_assign.proofs.Scans.{best_step, idle_step, lower_step, once_step, pair_room, rows_idle}
 use Rattle.mcf_assign.proofs.search.Tables.take.Goals as goal
 
@@ -22,21 +21,6 @@ returns-then-not-is_better-clause-step c =
     let worse = subst (λ x. IsBestUpTo c.args.self.now.best x) (d ∙ c.requires.dist) c.if-not-is_better.ensures in
     idle_step s y q c.args.self.now.order.items (row_of s k) (forward_of c.args.a ∷ [])
     (relaxed_worse s y q k c.requires.matching c.requires.prices c.requires.arc.arc c.requires.settled c.requires.last worse)
-
-pub returns-then-index-clause-step : goal.returns-then-index-clause-step
-returns-then-index-clause-step c =
-    let s = c.args.state.now in
-    let y = c.args.prices.now in
-    let q = search_of c.args.self.now in
-    let k = c.args.a.arc in
-    let is = column_is s k c.requires.matching c.requires.arc.arc in
-    let node = is.0 in
-    let place : c.args.a.column - 1 ≡ column_of s k - 1 = ap (λ v. v - 1) (sym c.requires.arc.to) in
-    let count = c.requires.sound.1.entries.settled_count in
-    let mark = read_mark c.args.self.now.marks.items (c.args.a.column - 1) (column_of s k) c.index.result.now c.index.ensures place
-    (omega (arith, node, place, count)) in
-    idle_step s y q c.args.self.now.order.items (row_of s k) (forward_of c.args.a ∷ [])
-    (relaxed_settled s y q k c.requires.matching c.requires.prices c.requires.arc.arc c.requires.settled c.requires.last (mark ∙ c.if-index.true))
 
 pub returns-then-mates-c-eq0-clause-step : goal.returns-then-mates-c-eq0-clause-step
 returns-then-mates-c-eq0-clause-step c =
@@ -70,9 +54,6 @@ settle_at_once-requires-clause-matched c =
     let is = column_is s k c.requires.matching c.requires.arc.arc in
     let node = is.0 in
     let place : c.args.a.column - 1 ≡ column_of s k - 1 = ap (λ v. v - 1) (sym c.requires.arc.to) in
-    let count = c.requires.sound.1.entries.settled_count in
-    let mark = read_mark c.args.self.now.marks.items (c.args.a.column - 1) (column_of s k) c.index.result.now c.index.ensures place
-    (omega (arith, node, place, count)) in
     let mated = c.if-mates-c-eq0.false in
     let some : 0 < get_or c.args.mates.now (column_of s k - 1) 0 = subst (λ i. 0 < get_or c.args.mates.now i 0) place (omega (arith, mated)) in
     let pair = c.requires.mates.column (column_of s k) is some in
@@ -94,10 +75,7 @@ settle_at_once-requires-clause-room c =
     let is = column_is s k c.requires.matching c.requires.arc.arc in
     let node = is.0 in
     let place : c.args.a.column - 1 ≡ column_of s k - 1 = ap (λ v. v - 1) (sym c.requires.arc.to) in
-    let count = c.requires.sound.1.entries.settled_count in
-    let mark = read_mark c.args.self.now.marks.items (c.args.a.column - 1) (column_of s k) c.index.result.now c.index.ensures place
-    (omega (arith, node, place, count)) in
-    let fresh : ¬ Settled q (column_of s k) = λ (h : Settled q (column_of s k)). absurd (true≢false (sym h ∙ mark ∙ c.if-index.false)) in
+    let fresh = c.requires.fresh in
     let mated = c.if-mates-c-eq0.false in
     let some : 0 < get_or c.args.mates.now (column_of s k - 1) 0 = subst (λ i. 0 < get_or c.args.mates.now i 0) place (omega (arith, mated)) in
     let pair = c.requires.mates.column (column_of s k) is some in
@@ -119,10 +97,7 @@ returns-then-is_at_hand-clause-step c =
     let is = column_is s k c.requires.matching c.requires.arc.arc in
     let node = is.0 in
     let place : c.args.a.column - 1 ≡ column_of s k - 1 = ap (λ v. v - 1) (sym c.requires.arc.to) in
-    let count = c.requires.sound.1.entries.settled_count in
-    let mark = read_mark c.args.self.now.marks.items (c.args.a.column - 1) (column_of s k) c.index.result.now c.index.ensures place
-    (omega (arith, node, place, count)) in
-    let fresh : ¬ Settled q (column_of s k) = λ (h : Settled q (column_of s k)). absurd (true≢false (sym h ∙ mark ∙ c.if-index.false)) in
+    let fresh = c.requires.fresh in
     let mated = c.if-mates-c-eq0.false in
     let some : 0 < get_or c.args.mates.now (column_of s k - 1) 0 = subst (λ i. 0 < get_or c.args.mates.now i 0) place (omega (arith, mated)) in
     let pair = c.requires.mates.column (column_of s k) is some in
@@ -173,10 +148,7 @@ returns-clause-step c =
     let is = column_is s k c.requires.matching c.requires.arc.arc in
     let node = is.0 in
     let place : c.args.a.column - 1 ≡ column_of s k - 1 = ap (λ v. v - 1) (sym c.requires.arc.to) in
-    let count = c.requires.sound.1.entries.settled_count in
-    let mark = read_mark c.args.self.now.marks.items (c.args.a.column - 1) (column_of s k) c.index.result.now c.index.ensures place
-    (omega (arith, node, place, count)) in
-    let fresh : ¬ Settled q (column_of s k) = λ (h : Settled q (column_of s k)). absurd (true≢false (sym h ∙ mark ∙ c.if-index.false)) in
+    let fresh = c.requires.fresh in
     let mated = c.if-mates-c-eq0.false in
     let some : 0 < get_or c.args.mates.now (column_of s k - 1) 0 = subst (λ i. 0 < get_or c.args.mates.now i 0) place (omega (arith, mated)) in
     let pair = c.requires.mates.column (column_of s k) is some in
