@@ -1,5 +1,5 @@
 -- New prices that were made in an update show the matching as those before.
-use Rattle.std.proofs.Common.{◌≡◌, ℕ, ◌-◌, ◌<◌, Bool, List, ℤ, pos, ◌<ℤ◌, ◌≤ℤ◌, sym, ◌∙◌, ap, subst, arith, refl}
+use Rattle.std.proofs.Common.{◌≡◌, ℕ, ◌-◌, ◌<◌, Bool, List, ℤ, pos, ◌<ℤ◌, ◌≤ℤ◌, ◌∙◌, subst, arith, refl}
 use Rattle.std.proofs.Common.{inl, inr}
 use Rattle.std.proofs.lemmas.Int.{ints}
 use Rattle.std.proofs.lemmas.Bool.{cases_eq}

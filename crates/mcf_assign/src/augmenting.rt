@@ -14,7 +14,7 @@ ghost use Rattle.mcf_assign.specs.Private.RowLists.{AreRows};
 ghost use Rattle.mcf_assign.specs.Private.Searches.{AreRaised, HasEntries, Settled, search_of};
 ghost use Rattle.mcf_assign.specs.Private.Turning.{IsExtended};
 
-use crate::rows::Rows;
+use crate::rows::{RowArc, Rows};
 use crate::search::{Tables, Target};
 use mcf_network::{Net, NodeSet, State};
 use mcf_prices::Heap;
@@ -51,6 +51,7 @@ impl Tables {
         prices: &[i128],
         lows: &[i64],
         mates: &[u32],
+        picks: &mut [RowArc],
         source: NodeId,
     ) -> Option<Target>
         requires matching { IsPartialMatching state.now }
@@ -69,7 +70,7 @@ impl Tables {
     {
         self.reset();
         self.begin(state, source);
-        self.run(state, rows, prices, lows, mates, source);
+        self.run(state, rows, prices, lows, mates, picks, source);
         self.best
     }
 

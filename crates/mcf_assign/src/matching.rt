@@ -12,7 +12,7 @@ ghost use Rattle.mcf_assign.specs.Matchings.{IsMatchedRow, IsRow};
 
 use crate::augmenting::fill;
 use crate::extended::Extended;
-use crate::rows::Rows;
+use crate::rows::{MOST_PICKS, NO_ARC, RowArc, Rows};
 use crate::search::{Tables, low_of};
 use crate::update::Update;
 use mcf_instance::copies;
@@ -33,6 +33,7 @@ pub struct Matching<'n> {
     prices: Vec<i128>,
     lows: Vec<i64>,
     mates: Vec<u32>,
+    picks: Vec<RowArc>,
     tables: Tables,
     reached: NodeSet,
     update: Update,
@@ -77,12 +78,14 @@ impl<'n> Matching<'n> {
         let prices = first_prices(alloc, net)?;
         let lows = cut_all(alloc, prices.as_slice())?;
         let mates = copies(alloc, net.node_count() as usize, 0)?;
+        let most = if net.node_count() > 0 { MOST_PICKS } else { 0 };
         Ok(Matching {
             state,
             rows,
             prices,
             lows,
             mates,
+            picks: copies(alloc, most, NO_ARC)?,
             tables: Tables::new(alloc, net)?,
             reached: NodeSet::new(alloc, net)?,
             update: Update::new(alloc, net)?,
@@ -103,9 +106,10 @@ impl<'n> Matching<'n> {
         let prices = self.prices.as_slice();
         let lows = self.lows.as_slice();
         let mates = self.mates.as_slice();
+        let picks = self.picks.as_mut_slice();
         let found = self
             .tables
-            .search(&self.state, &self.rows, prices, lows, mates, row);
+            .search(&self.state, &self.rows, prices, lows, mates, picks, row);
         match found {
             Some(target) => {
                 let prices = self.prices.as_mut_slice();
@@ -185,6 +189,7 @@ impl<'n> Matching<'n> {
             prices,
             lows: _,
             mates: _,
+            picks: _,
             tables: _,
             reached: _,
             update: _,
@@ -202,6 +207,7 @@ impl<'n> Matching<'n> {
             prices: _,
             lows: _,
             mates: _,
+            picks: _,
             tables: _,
             reached,
             update: _,

@@ -1,6 +1,10 @@
 -- Prices cut to 64 bits, and by what they tell that an arc is no news.
-use Rattle.std.specs.Prelude.{ℕ, ◌-◌, ◌^◌, ◌<◌, List, Option, length, ℤ, pos, ◌≤ℤ◌, ◌+ℤ◌, ◌≡◌, slice_index_or}
+use Rattle.std.specs.Prelude.{Bool, true, ◌⊎◌, ℕ, ◌-◌, ◌^◌, ◌<◌, List, Option, length, ℤ, pos, ◌≤ℤ◌, ◌+ℤ◌, ◌≡◌, slice_index_or}
+use Rattle.std.specs.List.{Contains}
+use Rattle.mcf_instance.specs.Blocking.{in_table}
+use Rattle.mcf_instance.specs.Network.{at_node}
 use Rattle.mcf_instance.specs.WellFormed.{IsUpTo}
+use Rattle.mcf_assign.specs.declared.rows.RowArc.{RowArc}
 use Rattle.mcf_assign.specs.declared.search.Target.{Target}
 use Rattle.mcf_assign.specs.Private.Searches.{IsBestUpTo}
 
@@ -26,3 +30,12 @@ pub record AreLows (y lows : List ℤ) : Type 0 where
 -- what arcs offer from a row, less its base, is no news where it is no less than the gap
 abbrev pub IsGap : Option Target → ℤ → ℤ → Type 0
 IsGap best base gap = (x : ℤ) → IsUpTo (2 ^ 62) x → gap ≤ℤ x → IsBestUpTo best (base +ℤ x)
+
+-- an arc of a row that is no news: it offers no less than the gap, or its column is settled
+abbrev pub IsIdleArc : List ℤ → List Bool → ℤ → RowArc → Type 0
+IsIdleArc lows marks gap a = (gap ≤ℤ (a.cost +ℤ at_node lows a.column)) ⊎ (in_table marks a.column ≡ true)
+
+-- items of a list, and all of it but what is idle
+pub record IsPicked (Item : Type 0) (Idle : Item → Type 0) (list picked : List Item) : Type 0 where
+  pub some : (a : Item) → Contains picked a → Contains list a
+  pub all : (a : Item) → Contains list a → Contains picked a ⊎ Idle a

@@ -1,5 +1,5 @@
 -- Updates of all prices at once: what their tables hold, and what new prices are.
-use Rattle.std.specs.Prelude.{◌≡◌, ℕ, ◌+◌, ◌-◌, ◌^◌, ◌<◌, ◌≤◌, ◌⊎◌, List, length, slice_range, slice_index_or, ℤ, pos, ◌≤ℤ◌, ◌<ℤ◌, ◌+ℤ◌, ◌-ℤ◌}
+use Rattle.std.specs.Prelude.{◌≡◌, ℕ, ◌-◌, ◌^◌, ◌<◌, ◌≤◌, ◌⊎◌, List, length, slice_range, slice_index_or, ℤ, pos, ◌≤ℤ◌, ◌<ℤ◌, ◌+ℤ◌, ◌-ℤ◌}
 use Rattle.std.specs.List.{All, Contains}
 use Rattle.mcf_instance.specs.Flow.{reduced_cost}
 use Rattle.mcf_instance.specs.Limits.{wide_limits}
@@ -65,6 +65,10 @@ IsLimitedBy g limits v x = (k : ℕ) → IsArcNumber g k → (arc_at g k).dst �
 -- so does each node that was scanned, with the price that it was scanned with
 abbrev pub AreLimited : Network → List ℤ → List ℤ → Type 0
 AreLimited g limits scanned = (v : ℕ) → IsNode (node_count g) v → at_node scanned v ≤ℤ pos scan_reach → IsLimitedBy g limits v (at_node scanned v)
+
+-- the limit of the row of an arc is no more than x and the cost of the arc
+abbrev pub IsOffered : List ℤ → ℤ → ColumnArc → Type 0
+IsOffered limits x a = at_node limits a.row ≤ℤ (x +ℤ a.cost)
 
 -- tables of a search for a net
 pub record HasSpread (g : Network) (q : Spread) : Type 0 where

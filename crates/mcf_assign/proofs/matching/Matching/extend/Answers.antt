@@ -1,6 +1,6 @@
 use Rattle.std.proofs.Common.{◌++◌, ℕ, ℤ, List, length, drop, take, ap, sym, subst, ◌∙◌, arith, refl}
 use Rattle.std.specs.List.{All}
-use Rattle.mcf_instance.specs.Network.{Network, IsNode, node_count}
+use Rattle.mcf_instance.specs.Network.{Network, IsNode}
 use Rattle.mcf_assign.specs.Extending.{Assigned, IsGrown, IsStopped}
 use Rattle.mcf_assign.specs.Private.Keeping.{IsEnded, IsKept}
 use Rattle.mcf_assign.specs.Matchings.{IsRow}
