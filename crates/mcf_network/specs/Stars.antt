@@ -16,9 +16,10 @@ pub record ListsLeaving (g : Network) (v : ℕ) (list : List Rid) : Type 0 where
   pub every : (r : Rid) → Leaves g v r → Contains list r
   pub once : AllPairs (λ r q. r ≢ q) list
 
--- the forward star: residual arcs one node after another, those of node v from firsts (v - 1) up to firsts v
-pub record IsForwardStar (g : Network) (firsts : List ℕ) (outs : List Rid) : Type 0 where
+-- the forward star: residual arcs one node after another, and behind those of each node a gap, so many entries that mean nothing;
+-- those of node v stand from firsts (v - 1) up to the gap that ends at firsts v
+pub record IsForwardStar (g : Network) (gap : ℕ) (firsts : List ℕ) (outs : List Rid) : Type 0 where
   pub count : length firsts ≡ node_count g + 1
-  pub rises : (v : ℕ) → IsNode (node_count g) v → slice_index firsts (v - 1) ≤ slice_index firsts v
+  pub rises : (v : ℕ) → IsNode (node_count g) v → slice_index firsts (v - 1) + gap ≤ slice_index firsts v
   pub within : (v : ℕ) → IsNode (node_count g) v → slice_index firsts v ≤ length outs
-  pub lists : (v : ℕ) → IsNode (node_count g) v → ListsLeaving g v (slice_range outs (slice_index firsts (v - 1)) (slice_index firsts v))
+  pub lists : (v : ℕ) → IsNode (node_count g) v → ListsLeaving g v (slice_range outs (slice_index firsts (v - 1)) (slice_index firsts v - gap))

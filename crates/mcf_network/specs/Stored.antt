@@ -27,7 +27,7 @@ abbrev pub stored_net : Problem → List Link → List ℤ → List ℤ → Netw
 stored_net problem links widths supplies =
     record { problem = problem; arcs = stored_arcs links widths; supplies = supplies }
 
--- a net with its forward star
-pub record IsStored (g : Network) (firsts : List ℕ) (outs : List Rid) : Type 0 where
+-- a net with its forward star, which has such a gap behind the residual arcs of each node
+pub record IsStored (g : Network) (gap : ℕ) (firsts : List ℕ) (outs : List Rid) : Type 0 where
   pub of_net : IsNet g
-  pub star : IsForwardStar g firsts outs
+  pub star : IsForwardStar g gap firsts outs

@@ -23,6 +23,8 @@ pub struct Net {
     pub(crate) links: Vec<Link>,
     pub(crate) widths: Vec<i64>,
     pub(crate) supplies: Vec<i128>,
+    // How many unused entries stand in `outs` behind those of each node.
+    pub(crate) gap: u32,
     pub(crate) firsts: Vec<u32>,
     pub(crate) outs: Vec<PackedRid>,
 }
@@ -39,7 +41,7 @@ impl Model for Net {
     ghost view = { λ n. stored_net n.problem n.links.items n.widths.items n.supplies.items };
 
     ghost invariant = { λ n. IsNet (stored_net n.problem n.links.items n.widths.items n.supplies.items)
-        × (1 ≤ length n.supplies.items → IsStored (stored_net n.problem n.links.items n.widths.items n.supplies.items) n.firsts.items n.outs.items) };
+        × (1 ≤ length n.supplies.items → IsStored (stored_net n.problem n.links.items n.widths.items n.supplies.items) n.gap n.firsts.items n.outs.items) };
 }
 
 impl Net {
@@ -135,7 +137,7 @@ impl Net {
     {
         let i = v.get() as usize;
         let start = self.firsts[i - 1] as usize;
-        let end = self.firsts[i] as usize;
+        let end = (self.firsts[i] - self.gap) as usize;
         Leaving {
             rest: &self.outs[start..end],
         }

@@ -9,7 +9,7 @@ ghost use Rattle.mcf_network.specs.Removal.{net_of, supply_left, without_low};
 ghost use Rattle.mcf_network.specs.Stored.{stored_arc, stored_arcs};
 
 use crate::net::Net;
-use crate::star::forward_star;
+use crate::star::{forward_star, gap_for};
 use crate::stored::Link;
 use crate::surplus::move_surplus;
 use crate::widths::put_width;
@@ -33,12 +33,14 @@ impl Net {
         let nodes = instance.node_count();
         let mut supplies = supplies_of(alloc, instance)?;
         let (links, widths) = arcs_without_lows(alloc, instance, &mut supplies)?;
-        let (firsts, outs) = forward_star(alloc, &links, nodes)?;
+        let gap = gap_for(nodes, links.len());
+        let (firsts, outs) = forward_star(alloc, &links, nodes, gap)?;
         Ok(Net {
             problem: instance.problem(),
             links,
             widths,
             supplies,
+            gap,
             firsts,
             outs,
         })

@@ -16,6 +16,6 @@ returns c =
     (get_or_read a.firsts.items _ _ (omega (arith, node, star.count)) c.index.ensures 0) in
     let end : c.index-2.result.now ≡ get_or a.firsts.items c.args.v 0 = rw (← c.get-i.ensures)
     (get_or_read a.firsts.items _ _ (omega (arith, node, star.count)) c.index-2.ensures 0) in
-    let lists = subst (λ (n : Network). ListsLeaving n c.args.v (take (get_or a.firsts.items c.args.v 0 - get_or a.firsts.items (c.args.v - 1) 0)
+    let lists = subst (λ (n : Network). ListsLeaving n c.args.v (take (get_or a.firsts.items c.args.v 0 - a.gap - get_or a.firsts.items (c.args.v - 1) 0)
     (drop (get_or a.firsts.items (c.args.v - 1) 0) a.outs.items))) c.self.view_is (star.lists c.args.v node) in
     rw (c.deref.ensures.value, start, end) lists
