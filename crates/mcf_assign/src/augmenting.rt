@@ -16,6 +16,7 @@ ghost use Rattle.mcf_assign.specs.Private.Turning.{IsExtended};
 
 use crate::rows::{RowArc, Rows};
 use crate::search::{Tables, Target};
+use mcf_instance::copies;
 use mcf_network::{Net, NodeSet, State};
 use mcf_prices::Heap;
 use mcf_text::{ArcId, NoMemory, NodeId};
@@ -39,6 +40,7 @@ impl Tables {
             links,
             best: None,
             order: Vec::with_capacity(alloc, nodes)?,
+            partners: copies(alloc, nodes, 0)?,
             looks: 0,
         })
     }
