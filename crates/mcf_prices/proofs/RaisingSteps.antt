@@ -6,7 +6,7 @@ use Rattle.std.specs.List.{All, Contains}
 use Rattle.std.proofs.lemmas.Bool.{true≢false}
 use Rattle.std.proofs.lemmas.Int.{ints}
 use Rattle.std.proofs.lemmas.List.{append_assoc, set-get_or}
-use Rattle.std.proofs.lemmas.List.Elements.{All-head, All-push, All-tail}
+use Rattle.std.proofs.lemmas.List.Elements.{All-contains, All-head, All-push, All-tail, Contains-append_cases, Contains-append_left, Contains-append_right}
 use Rattle.mcf_instance.specs.Blocking.{in_table}
 use Rattle.mcf_instance.specs.Flow.{AreLowPrices}
 use Rattle.mcf_instance.specs.Network.{Network, IsArcNumber, IsNode, at_node, node_count}
@@ -23,7 +23,7 @@ use Rattle.mcf_network.proofs.Lists.{All-behind, Contains-cons}
 use Rattle.mcf_network.proofs.Marks.{count_small}
 use Rattle.mcf_prices.specs.Heaps.{ComesFirst, IsFirst, Keyed, Waits, waiting_with, with_key, without}
 use Rattle.mcf_prices.specs.NearPrices.{AreNearPrices, near_limit}
-use Rattle.mcf_prices.specs.Private.Raisings.{ArePassed, CostsAtLeast, IsLastSettled, IsLength, IsPassedFrom, IsPopped, IsRaising, IsReady, KeepsSettled, RespectsLabel, Settled}
+use Rattle.mcf_prices.specs.Private.Raisings.{ArePassed, ArePicked, CostsAtLeast, IsLastSettled, IsLength, IsPassedFrom, IsPopped, IsRaising, IsReady, KeepsSettled, RespectsLabel, Settled}
 use Rattle.mcf_prices.specs.Private.Raisings.{label, label_reach, step}
 use Rattle.mcf_prices.proofs.HeapPlaces.{count_less}
 use Rattle.mcf_prices.proofs.LabelLengths.{length_fewer, length_next, length_zero}
@@ -298,6 +298,35 @@ module _ (s : Pseudoflow) (scale slack : ℕ) (y : List ℤ) (flow : IsPseudoflo
         search = passed_list h w base passed list (out ∷ rest) is from leaves before search;
         last = subst (λ x. IsLastSettled (node_count s.net) h x) (sym first.from) last;
         base_is = is ∙ ap (λ x. label y h x) (sym first.from);
+      }
+
+  -- of the first residual arcs of a list those that were picked are still to come
+  pub picked_list : (h : Keyed) (w : ℕ) (base passed : ℤ) (list picked rest : List Rid) → base ≡ label y h w → IsPassedFrom scale base passed
+      → All (Leaves s.net w) list → ArePicked s passed list picked rest → IsRaising s scale slack y h list → IsRaising s scale slack y h (picked ++ rest)
+  picked_list h w base passed list picked rest is from leaves pick search =
+      record {
+        key_count = search.key_count;
+        waiting_count = search.waiting_count;
+        not_above = search.not_above;
+        lengths = search.lengths;
+        shorter = search.shorter;
+        above = search.above;
+        level = search.level;
+        respects = λ r room e. elim (search.respects r room e) [
+          | inl a ↦ inl a
+          | inr has ↦ elim (Contains-append_cases pick.first rest (reverse r) (subst (λ (xs : List Rid). Contains xs (reverse r)) pick.whole has)) [
+            | inr later ↦ inr (Contains-append_right picked rest (reverse r) later)
+            | inl first ↦ elim (pick.all (reverse r) first) [
+              | inl in_it ↦ inr (Contains-append_left picked rest (reverse r) in_it)
+              | inr costs ↦ inl (
+                  let leaves_w = (All-contains (Leaves s.net w) list (reverse r) leaves has).from in
+                  let there : head s.net r ≡ w = sym (tail_reversed s.net r.arc r.back) ∙ leaves_w in
+                  let same : reverse (reverse r) ≡ r = reversed (reverse r) r refl in
+                  costly_respects h list base passed r search (is ∙ ap (λ v. label y h v) (sym there)) from
+                  (subst (λ q. CostsAtLeast s passed q) same costs) room)
+            ]
+          ]
+        ];
       }
 
   -- ---- the key of the tail is lowered

@@ -1,24 +1,25 @@
 //! The greatest prices that show a state, from prices that nearly show it.
-ghost use Rattle.std.specs.Prelude.{◌≡◌, ◌+◌, ◌*◌, ◌^◌, ◌<◌, ◌≤◌, ◌+ℤ◌, ◌-ℤ◌, ◌*ℤ◌, ◌≤ℤ◌, ◌∷◌, ℕ, ℤ, List, [], false, true, IfNone, IfOk, IfSome, OnErr};
-ghost use Rattle.std.specs.Prelude.{length, neg_ℤ, pos};
+ghost use Rattle.std.specs.Prelude.{◌≡◌, ◌+◌, ◌*◌, ◌^◌, ◌<◌, ◌≤◌, ◌+ℤ◌, ◌-ℤ◌, ◌*ℤ◌, ◌≤ℤ◌, ◌∷◌, ◌++◌, ℕ, ℤ, List, [], false, true, IfNone, IfOk, IfSome, OnErr};
+ghost use Rattle.std.specs.Prelude.{length, neg_ℤ, pos, take};
 ghost use Rattle.std.specs.List.{All};
 ghost use Rattle.mcf_instance.specs.Limits.{node_limit};
 ghost use Rattle.mcf_instance.specs.Network.{IsArcNumber, IsNode, at_node, node_count};
 ghost use Rattle.mcf_instance.specs.WellFormed.{IsUpTo};
 ghost use Rattle.mcf_network.specs.declared.rid.Rid.{Rid};
 ghost use Rattle.mcf_network.specs.Residual.{tail};
-ghost use Rattle.mcf_network.specs.Stars.{ListsLeaving};
+ghost use Rattle.mcf_network.specs.Stars.{Leaves, ListsLeaving};
 ghost use Rattle.mcf_network.specs.States.{IsPseudoflow, amount_at};
 ghost use Rattle.mcf_prices.specs.Heaps.{NoneWaits};
 ghost use Rattle.mcf_prices.specs.Private.Labels.{cost_limit};
 ghost use Rattle.mcf_prices.specs.NearPrices.{AreNearPrices, OptimalPricesAreNear, ShownPricesAreNear, near_limit};
 ghost use Rattle.mcf_prices.specs.Outcomes.{AreStatePrices};
-ghost use Rattle.mcf_prices.specs.Private.Raisings.{ArePassed, AreRounded, CostsAtLeast, IsLastSettled, IsPassedFrom, IsPopped, IsRaising, IsReady, IsRoundedDown, KeepsSettled};
+ghost use Rattle.mcf_prices.specs.Private.Raisings.{ArePassed, ArePicked, AreRounded, CostsAtLeast, IsLastSettled, IsPassedFrom, IsPopped, IsRaising, IsReady, IsRoundedDown, KeepsSettled};
 ghost use Rattle.mcf_prices.specs.Private.Shortlists.{HasChain, IsChain, IsWhole};
 ghost use Rattle.mcf_prices.specs.Private.Raisings.{label, label_limit, label_reach, quotient_reach, step};
 
 use crate::heap::Heap;
 use crate::shortlist::{Entry, Shortlist, entry_before, fill, last_of, threshold};
+use mcf_instance::copies;
 use mcf_network::{Leaving, Net, Rid, State};
 use mcf_text::{ArcId, NoMemory, NodeId};
 use std::alloc::Global;
@@ -27,16 +28,20 @@ use std::marker::Model;
 // No label is below this.
 const LEAST_LABEL: i128 = -1_000_000_000_000_000_000_000_000_000_000;
 
+// How many residual arcs are picked at once.
+const MOST_PICKS: usize = 64;
+
 /// Finds the greatest prices that show a state, from prices that nearly show it, by one search for shortest walks
 /// (Dijkstra's algorithm with a heap; Ahuja, Magnanti and Orlin, Network Flows, sections 4.5 and 4.7), which runs
 /// against the arcs and from all nodes at once. In a dense net few arcs can lower a key: one walk over all arcs in their
-/// order lists them beforehand.
+/// order lists them beforehand. In another the arcs of a node that may lower one are picked before any of them does.
 ///
 /// It is made for the nodes of a net, and only then takes memory. A clause sees how many nodes it has room for.
 #[derive(Drop)]
 pub struct Pricer {
     heap: Heap,
     short: Shortlist,
+    picks: Vec<Rid>,
 }
 
 impl Model for Pricer {
@@ -65,6 +70,7 @@ impl Pricer {
         Ok(Pricer {
             heap: Heap::new(alloc, net)?,
             short: Shortlist::start(alloc, net)?,
+            picks: start_picks(alloc, net)?,
         })
     }
 
@@ -81,7 +87,9 @@ impl Pricer {
         ensures room { self.new ≡ self.old }
     {
         wait_all(&mut self.heap, state.net(), prices);
-        settle_nodes(&mut self.heap, &mut self.short, state, scale, slack, prices);
+        let short = &mut self.short;
+        let picks = self.picks.as_mut_slice();
+        settle_nodes(&mut self.heap, short, picks, state, scale, slack, prices);
         round_all(&self.heap, scale, prices);
     }
 }
@@ -100,6 +108,19 @@ pub fn shown_prices_are_near()
 pub fn optimal_prices_are_near()
     ensures { OptimalPricesAreNear }
 {}
+
+// Room for the residual arcs that are picked at once: for no more than there are nodes, so that a net without nodes wants
+// none.
+fn start_picks(alloc: Global, net: &Net) -> Result<Vec<Rid>, NoMemory>
+    ensures wants { OnErr result (1 ≤ node_count net.now) }
+{
+    let most = MOST_PICKS.min(net.node_count() as usize);
+    let none = Rid {
+        arc: ArcId::new(0),
+        back: false,
+    };
+    copies(alloc, most, none)
+}
 
 // Lets each node wait with the opposite of its price, so that its label is 0.
 fn wait_all(heap: &mut Heap, net: &Net, prices: &[i128])
@@ -130,6 +151,7 @@ fn opposite_price(prices: &[i128], v: NodeId) -> i128
 fn settle_nodes(
     heap: &mut Heap,
     short: &mut Shortlist,
+    picks: &mut [Rid],
     state: &State<'_>,
     scale: u32,
     slack: u32,
@@ -148,6 +170,7 @@ fn settle_nodes(
             short.passed.as_slice(),
             short.heads.as_slice(),
             short.entries.as_slice(),
+            picks,
             state,
             scale,
             slack,
@@ -155,7 +178,7 @@ fn settle_nodes(
         );
         return;
     }
-    settle_all(heap, state, scale, slack, prices);
+    settle_all(heap, picks, state, scale, slack, prices);
 }
 
 // Lists the residual arcs that may lower a key in this search, and says whether all are listed. It does nothing where
@@ -214,6 +237,7 @@ fn settle_listed(
     passed: &[i128],
     heads: &[u32],
     entries: &[Entry],
+    picks: &mut [Rid],
     state: &State<'_>,
     scale: u32,
     slack: u32,
@@ -228,7 +252,9 @@ fn settle_listed(
     ensures over { NoneWaits heap.new }
 {
     'nodes: while let Some(v) = heap.pop() {
-        scan_listed(heap, passed, heads, entries, state, scale, slack, prices, v);
+        scan_listed(
+            heap, passed, heads, entries, picks, state, scale, slack, prices, v,
+        );
     }
 }
 
@@ -239,6 +265,7 @@ fn scan_listed(
     passed: &[i128],
     heads: &[u32],
     entries: &[Entry],
+    picks: &mut [Rid],
     state: &State<'_>,
     scale: u32,
     slack: u32,
@@ -257,7 +284,7 @@ fn scan_listed(
     let least = passing_cost(base, scale);
     let low = threshold(passed, v);
     if low < least {
-        scan(heap, state, scale, slack, prices, v);
+        scan(heap, picks, state, scale, slack, prices, v);
         return;
     }
     let cursor = last_of(heads, v);
@@ -295,7 +322,14 @@ fn scan_chain(
 }
 
 // Settles the nodes, one after another in the order of their keys.
-fn settle_all(heap: &mut Heap, state: &State<'_>, scale: u32, slack: u32, prices: &[i128])
+fn settle_all(
+    heap: &mut Heap,
+    picks: &mut [Rid],
+    state: &State<'_>,
+    scale: u32,
+    slack: u32,
+    prices: &[i128],
+)
     requires flow { IsPseudoflow state.now }
     requires near { AreNearPrices state.now scale slack prices.now }
     requires ready { IsRaising state.now scale slack prices.now heap.old [] }
@@ -303,12 +337,21 @@ fn settle_all(heap: &mut Heap, state: &State<'_>, scale: u32, slack: u32, prices
     ensures over { NoneWaits heap.new }
 {
     'nodes: while let Some(w) = heap.pop() {
-        scan(heap, state, scale, slack, prices, w);
+        scan(heap, picks, state, scale, slack, prices, w);
     }
 }
 
-// Relaxes the residual arcs that enter the node that was settled last.
-fn scan(heap: &mut Heap, state: &State<'_>, scale: u32, slack: u32, prices: &[i128], w: NodeId)
+// Relaxes the residual arcs that enter the node that was settled last: first those that are picked, and then the rest, if
+// there is no place for more.
+fn scan(
+    heap: &mut Heap,
+    picks: &mut [Rid],
+    state: &State<'_>,
+    scale: u32,
+    slack: u32,
+    prices: &[i128],
+    w: NodeId,
+)
     requires near { AreNearPrices state.now scale slack prices.now }
     requires last { IsLastSettled (node_count state.now.net) heap.old w }
     requires search { (list : List Rid) → ListsLeaving state.now.net w list → IsRaising state.now scale slack prices.now heap.old list }
@@ -318,9 +361,57 @@ fn scan(heap: &mut Heap, state: &State<'_>, scale: u32, slack: u32, prices: &[i1
     let mut leaving = state.net().leaving(w);
     let base = label_of(heap, prices, w);
     let passed = passing_cost(base, scale);
+    let count = pick(state, picks, &mut leaving, passed);
+    relax_picks(heap, &picks[..count], state, scale, slack, prices, base, w);
     'entering: while let Some(out) = next_offer(&mut leaving, state, passed) {
         let (arc, back) = (out.arc, out.back);
         relax(heap, state, scale, slack, prices, base, Rid { arc, back });
+    }
+}
+
+// Picks the next residual arcs whose reverses may have room and cost less than `passed`, in their order, and counts them.
+// It ends where there is no place for one more. It doesn't branch at a cost, since costs can't be foretold.
+#[inline(always)]
+fn pick(state: &State<'_>, picks: &mut [Rid], leaving: &mut Leaving<'_>, passed: i128) -> usize
+    requires { All (λ r. IsArcNumber state.now.net r.arc) leaving.old }
+    ensures within { result ≤ length picks.new }
+    ensures picked { ArePicked state.now passed leaving.old (take result picks.new) leaving.new }
+{
+    let mut count = 0;
+    'arcs: while count < picks.len() {
+        let Some(out) = leaving.next() else {
+            return count;
+        };
+        let (arc, back) = (out.arc, out.back);
+        picks[count] = Rid { arc, back };
+        count += usize::from(may_offer(state, passed, arc, !back));
+    }
+    count
+}
+
+// Relaxes the reverses of residual arcs that were picked. They enter the node that was settled last, and `base` is its
+// label.
+fn relax_picks(
+    heap: &mut Heap,
+    picks: &[Rid],
+    state: &State<'_>,
+    scale: u32,
+    slack: u32,
+    prices: &[i128],
+    base: i128,
+    w: NodeId,
+)
+    requires near { AreNearPrices state.now scale slack prices.now }
+    requires leaves { All (Leaves state.now.net w) picks.now }
+    requires last { IsLastSettled (node_count state.now.net) heap.old w }
+    requires base { base ≡ label prices.now heap.old w }
+    requires search { (rest : List Rid) × IsRaising state.now scale slack prices.now heap.old (picks.now ++ rest) }
+    ensures search { (rest : List Rid) → IsRaising state.now scale slack prices.now heap.old (picks.now ++ rest) →
+        IsRaising state.now scale slack prices.now heap.new rest }
+    ensures kept { KeepsSettled (node_count state.now.net) heap.old heap.new }
+{
+    'picks: for out in picks {
+        relax(heap, state, scale, slack, prices, base, *out);
     }
 }
 
@@ -352,15 +443,15 @@ fn next_offer(leaving: &mut Leaving<'_>, state: &State<'_>, passed: i128) -> Opt
     None
 }
 
-// Whether a residual arc may have room and cost less than `passed`. Backward along an arc that carries nothing it has no
-// room.
+// Whether a residual arc may have room and cost less than `passed`. Backward its cost isn't read: along an arc that
+// carries nothing there is no room, and most carry nothing.
 #[inline(always)]
 fn may_offer(state: &State<'_>, passed: i128, arc: ArcId, back: bool) -> bool
     requires { IsArcNumber state.now.net arc }
     ensures { result ≡ false → CostsAtLeast state.now passed (record { arc = arc; back = back }) }
 {
-    if back && carries_nothing(state, arc) {
-        return false;
+    if back {
+        return !carries_nothing(state, arc);
     }
     state.net().unit_cost(Rid { arc, back }) < passed
 }

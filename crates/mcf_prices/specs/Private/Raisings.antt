@@ -54,6 +54,14 @@ pub record ArePassed (s : Pseudoflow) (passed : ℤ) (list rest : List Rid) : Ty
   pub costs : All (λ r. CostsAtLeast s passed (record { arc = r.arc; back = not r.back })) first
   pub whole : list ≡ first ++ rest
 
+-- a list of residual arcs begins with some, of which all were picked but those whose reverses, with room, cost so much or
+-- more, and goes on with the rest
+pub record ArePicked (s : Pseudoflow) (passed : ℤ) (list picked rest : List Rid) : Type 0 where
+  pub first : List Rid
+  pub some : (r : Rid) → Contains picked r → Contains first r
+  pub all : (r : Rid) → Contains first r → Contains picked r ⊎ CostsAtLeast s passed (record r { back = not r.back })
+  pub whole : list ≡ first ++ rest
+
 -- a number is the cost of so many arcs, at costs times the scale and with the slack for each; they are no more
 -- than the nodes less those that wait
 pub record IsLength (scale slack waiting nodes : ℕ) (z : ℤ) : Type 0 where

@@ -1,10 +1,11 @@
-use Rattle.std.proofs.Common.{◌≡◌, ◌∙◌, [], refl, sym, subst, arith, rules, to_z, of_z}
+use Rattle.std.proofs.Common.{◌≡◌, ◌∙◌, [], sym, subst, take, arith, rules, to_z, of_z}
 use mir.Syntax.{w128}
 use Rattle.std.proofs.lemmas.Int.{ints, to_z-of_z}
 use Rattle.mcf_instance.specs.Network.{Network, node_count}
 use Rattle.mcf_network.specs.Stars.{ListsLeaving}
 use Rattle.mcf_prices.specs.Private.Raisings.{IsPassedFrom}
 use Rattle.mcf_prices.proofs.RaisingSteps.{IsFound, base_kept, found, keeps_join, label_small, last_kept, passed_list, price_small}
+use Rattle.mcf_prices.proofs.Picks.{IsSplit, split}
 use Rattle.mcf_prices.proofs.pricer.scan.Goals as goal
 
 pub label_of-base-requires-clause-key : goal.label_of-base-requires-clause-key
@@ -29,16 +30,6 @@ label_of-base-requires-clause-high c =
     let lists = subst (λ (g : Network). ListsLeaving g c.args.w c.leaving-leaving.result) c.net.ensures.value c.leaving-leaving.ensures in
     (c.requires.search c.leaving-leaving.result lists).not_above c.args.w c.requires.last.is_node
 
-pub entering-init : goal.entering-init
-entering-init c =
-    let lists = subst (λ (g : Network). ListsLeaving g c.args.w c.leaving-leaving.result) c.net.ensures.value c.leaving-leaving.ensures in
-    record {
-      leaves = lists.each_leaves;
-      search = c.requires.search c.leaving-leaving.result lists;
-      last = c.requires.last;
-      kept = record { waiting = refl; keys = λ v n e. refl };
-    }
-
 pub passing_cost-passed-requires-clause-scale : goal.passing_cost-passed-requires-clause-scale
 passing_cost-passed-requires-clause-scale c = let fits = c.requires.near.slack_small in omega (arith, fits)
 
@@ -58,6 +49,41 @@ passing_cost-passed-requires-clause-high c =
     let is = c.label_of-base.ensures in
     let t : to_z w128 (of_z w128 c.label_of-base.result) ≡ c.label_of-base.result = search (rules, to_z-of_z) in
     omega (arith, ints, high, is, t)
+
+-- the residual arcs that were picked, and the rest
+picks_first : (c : goal.After-relax_picks-arg-1)
+    → IsSplit c.args.state.now c.args.scale c.args.slack c.args.prices.now c.args.heap.now c.args.w (take c.pick-count.result c.pick-count.new.picks)
+    c.pick-count.new.leaving
+picks_first c =
+    let lists = subst (λ (g : Network). ListsLeaving g c.args.w c.leaving-leaving.result) c.net.ensures.value c.leaving-leaving.ensures in
+    let t : to_z w128 (of_z w128 c.label_of-base.result) ≡ c.label_of-base.result = search (rules, to_z-of_z) in
+    let p : to_z w128 (of_z w128 c.passing_cost-passed.result) ≡ c.passing_cost-passed.result = search (rules, to_z-of_z) in
+    let from = subst (λ x. IsPassedFrom c.args.scale (to_z w128 (of_z w128 c.label_of-base.result)) x) (sym p) c.passing_cost-passed.ensures in
+    split c.args.state.now c.args.scale c.args.slack c.args.prices.now c.net.ensures.valid c.requires.near c.args.heap.now c.args.w _ _
+    c.leaving-leaving.result (take c.pick-count.result c.pick-count.new.picks) c.pick-count.new.leaving (t ∙ c.label_of-base.ensures) from lists.each_leaves
+    c.pick-count.ensures.picked (c.requires.search c.leaving-leaving.result lists)
+
+pub relax_picks-requires-clause-leaves : goal.relax_picks-requires-clause-leaves
+relax_picks-requires-clause-leaves c = (picks_first c).leaves
+
+pub relax_picks-requires-clause-search : goal.relax_picks-requires-clause-search
+relax_picks-requires-clause-search c = (c.pick-count.new.leaving, (picks_first c).search)
+
+pub entering-init : goal.entering-init
+entering-init c =
+    let lists = subst (λ (g : Network). ListsLeaving g c.args.w c.leaving-leaving.result) c.net.ensures.value c.leaving-leaving.ensures in
+    let t : to_z w128 (of_z w128 c.label_of-base.result) ≡ c.label_of-base.result = search (rules, to_z-of_z) in
+    let p : to_z w128 (of_z w128 c.passing_cost-passed.result) ≡ c.passing_cost-passed.result = search (rules, to_z-of_z) in
+    let from = subst (λ x. IsPassedFrom c.args.scale (to_z w128 (of_z w128 c.label_of-base.result)) x) (sym p) c.passing_cost-passed.ensures in
+    let first = split c.args.state.now c.args.scale c.args.slack c.args.prices.now c.net.ensures.valid c.requires.near c.args.heap.now c.args.w _ _
+    c.leaving-leaving.result (take c.pick-count.result c.pick-count.new.picks) c.pick-count.new.leaving (t ∙ c.label_of-base.ensures) from lists.each_leaves
+    c.pick-count.ensures.picked (c.requires.search c.leaving-leaving.result lists) in
+    record {
+      leaves = first.rest_leaves;
+      search = c.relax_picks.ensures.search c.pick-count.new.leaving first.search;
+      last = last_kept (node_count c.args.state.now.net) c.args.heap.now c.relax_picks.new.heap c.args.w c.relax_picks.ensures.kept c.requires.last;
+      kept = c.relax_picks.ensures.kept;
+    }
 
 -- the residual arc that was found
 offer : (c : goal.After-relax-arg-1)
