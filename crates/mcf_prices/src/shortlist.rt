@@ -10,7 +10,7 @@ ghost use Rattle.mcf_prices.specs.declared.shortlist.Entry.{Entry};
 ghost use Rattle.mcf_prices.specs.Private.Raisings.{CostsAtLeast};
 ghost use Rattle.mcf_prices.specs.Private.Shortlists.{AreChains, IsPut, IsWhole, entry_at};
 
-use mcf_instance::copies;
+use mcf_instance::{Problem, copies};
 use mcf_network::{Net, Rid, State};
 use mcf_text::{ArcId, NoMemory, NodeId};
 use std::alloc::Global;
@@ -26,6 +26,9 @@ pub(crate) struct Entry {
 
 // A net with so many arcs a node is dense.
 const DENSE: u32 = 192;
+
+// So is the net of an assignment with so many: the walk over its arcs reads one byte of each amount.
+const DENSE_ASSIGNMENT: u32 = 96;
 
 // How many entries a node there is room for.
 const SHORT: usize = 16;
@@ -80,10 +83,20 @@ fn listed_nodes(net: &Net) -> usize
     ensures small { result < 2 ^ 31 }
 {
     let nodes = net.node_count();
-    if net.arc_count() / DENSE < nodes {
+    if net.arc_count() / dense_from(net) < nodes {
         return 0;
     }
     nodes as usize
+}
+
+// How many arcs a node a dense net has at least.
+fn dense_from(net: &Net) -> u32
+    ensures { 1 ≤ result }
+{
+    match net.problem() {
+        Problem::Min => DENSE,
+        Problem::Asn => DENSE_ASSIGNMENT,
+    }
 }
 
 /// Lists the residual arcs below the thresholds, and says whether there was room for all.
