@@ -19,7 +19,7 @@ ghost use Rattle.mcf_prices.specs.Private.Raisings.{label, label_limit, label_re
 
 use crate::heap::Heap;
 use crate::shortlist::{Entry, Shortlist, entry_before, fill, last_of, threshold};
-use mcf_instance::copies;
+use mcf_instance::{Problem, copies};
 use mcf_network::{Leaving, Net, Rid, State};
 use mcf_text::{ArcId, NoMemory, NodeId};
 use std::alloc::Global;
@@ -109,17 +109,26 @@ pub fn optimal_prices_are_near()
     ensures { OptimalPricesAreNear }
 {}
 
-// Room for the residual arcs that are picked at once: for no more than there are nodes, so that a net without nodes wants
-// none.
+// Room for the residual arcs that are picked at once.
 fn start_picks(alloc: Global, net: &Net) -> Result<Vec<Rid>, NoMemory>
     ensures wants { OnErr result (1 ≤ node_count net.now) }
 {
-    let most = MOST_PICKS.min(net.node_count() as usize);
     let none = Rid {
         arc: ArcId::new(0),
         back: false,
     };
-    copies(alloc, most, none)
+    copies(alloc, picked_at_once(net), none)
+}
+
+// How many are: none but in the net of an assignment, since large nets of flow problems take longer with them; and no more than
+// there are nodes, so that a net without nodes wants no room.
+fn picked_at_once(net: &Net) -> usize
+    ensures { result ≤ node_count net.now }
+{
+    match net.problem() {
+        Problem::Min => 0,
+        Problem::Asn => MOST_PICKS.min(net.node_count() as usize),
+    }
 }
 
 // Lets each node wait with the opposite of its price, so that its label is 0.
