@@ -111,7 +111,7 @@ listed s y q source rest list has search =
       ];
     }
 
-contains_forward : (list : List RowArc) (a : RowArc) → Contains list a → Contains (map forward_of list) (forward_of a)
+pub contains_forward : (list : List RowArc) (a : RowArc) → Contains list a → Contains (map forward_of list) (forward_of a)
 contains_forward [] a has = absurd (let (i, h, x) = has in omega (arith, h))
 contains_forward (b ∷ list) a has =
     elim (Contains-cons b list a has) [
