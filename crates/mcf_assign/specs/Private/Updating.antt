@@ -1,5 +1,5 @@
 -- Updates of all prices at once: what their tables hold, and what new prices are.
-use Rattle.std.specs.Prelude.{◌≡◌, ℕ, ◌-◌, ◌^◌, ◌<◌, ◌≤◌, ◌⊎◌, List, length, slice_range, slice_index_or, ℤ, pos, ◌≤ℤ◌, ◌<ℤ◌, ◌+ℤ◌, ◌-ℤ◌}
+use Rattle.std.specs.Prelude.{◌≡◌, ℕ, ◌-◌, ◌^◌, ◌<◌, ◌≤◌, ◌⊎◌, List, ◌++◌, map, length, slice_range, slice_index_or, ℤ, pos, ◌≤ℤ◌, ◌<ℤ◌, ◌+ℤ◌, ◌-ℤ◌}
 use Rattle.std.specs.List.{All, Contains}
 use Rattle.mcf_instance.specs.Flow.{reduced_cost}
 use Rattle.mcf_instance.specs.Limits.{wide_limits}
@@ -9,7 +9,7 @@ use Rattle.mcf_network.specs.Residual.{arc_at}
 use Rattle.mcf_network.specs.States.{Pseudoflow}
 use Rattle.mcf_assign.specs.declared.spread.ColumnArc.{ColumnArc}
 use Rattle.mcf_assign.specs.declared.spread.Columns.{Columns}
-use Rattle.mcf_assign.specs.declared.spread.Part.{Part}
+use Rattle.mcf_assign.specs.declared.spread.ShortArc.{ShortArc}
 use Rattle.mcf_assign.specs.declared.spread.Spread.{Spread}
 use Rattle.mcf_assign.specs.declared.update.Update.{Update}
 use Rattle.mcf_assign.specs.Private.Lows.{low_inside, low_reach}
@@ -30,27 +30,31 @@ pub record IsEntering (g : Network) (v : ℕ) (list : List ColumnArc) : Type 0 w
   pub each : All (IsColumnArc g) list
   pub every : (k : ℕ) → IsArcNumber g k → (arc_at g k).dst ≡ v → Contains list (entry_of g k)
 
--- what a read of no node gives
-abbrev pub no_part : Part
-no_part = record { start = 0; end = 0 }
+-- a short arc, with its cost widened
+abbrev pub widened : ShortArc → ColumnArc
+widened a = record { row = a.row; cost = a.cost }
 
--- where the arcs of a node stand
-abbrev pub part_at : List Part → ℕ → Part
-part_at parts v = slice_index_or parts (v - 1) no_part
+-- how far from 0 the cost of a short arc lies at most
+abbrev pub short_reach : ℕ
+short_reach = 2 ^ 31 - 1
 
-pub record IsColumnPart (g : Network) (arcs : List ColumnArc) (v : ℕ) (x : Part) : Type 0 where
-  pub rises : x.start ≤ x.end
-  pub within : x.end ≤ length arcs
-  pub list : IsEntering g v (slice_range arcs x.start x.end)
+-- each cost has room in a short arc
+abbrev pub AreCostsShort : Network → Type 0
+AreCostsShort g = (k : ℕ) → IsArcNumber g k → IsUpTo short_reach (arc_at g k).cost
 
--- the parts of so many nodes
-pub record AreParts (g : Network) (n : ℕ) (parts : List Part) (arcs : List ColumnArc) : Type 0 where
-  pub count : length parts ≡ n
-  pub each : (v : ℕ) → IsNode n v → IsColumnPart g arcs v (part_at parts v)
+-- the arcs of a node stand from one place on, and before another
+pub record IsColumnPart (g : Network) (arcs : List ColumnArc) (v start end : ℕ) : Type 0 where
+  pub rises : start ≤ end
+  pub within : end ≤ length arcs
+  pub list : IsEntering g v (slice_range arcs start end)
 
--- the arcs of some nodes
+-- those of each node that has a start stand from there on, and before the start that comes next
+abbrev pub AreParts : Network → List ℕ → List ColumnArc → Type 0
+AreParts g starts arcs = (v : ℕ) → 1 ≤ v → v < length starts → IsColumnPart g arcs v (slice_index_or starts (v - 1) 0) (slice_index_or starts v 0)
+
+-- the arcs of some nodes, in the form that is there
 abbrev pub AreColumns : Network → Columns → Type 0
-AreColumns g c = AreParts g (length c.parts.items) c.parts.items c.arcs.items
+AreColumns g c = AreParts g c.starts.items (map widened c.short.items ++ c.arcs.items)
 
 -- ---- how far prices of rows may rise
 
@@ -69,6 +73,10 @@ AreLimited g limits scanned = (v : ℕ) → IsNode (node_count g) v → at_node 
 -- the limit of the row of an arc is no more than x and the cost of the arc
 abbrev pub IsOffered : List ℤ → ℤ → ColumnArc → Type 0
 IsOffered limits x a = at_node limits a.row ≤ℤ (x +ℤ a.cost)
+
+-- so it is for a short arc
+abbrev pub IsShortOffered : List ℤ → ℤ → ShortArc → Type 0
+IsShortOffered limits x a = IsOffered limits x (widened a)
 
 -- tables of a search for a net
 pub record HasSpread (g : Network) (q : Spread) : Type 0 where
