@@ -1,11 +1,11 @@
 -- Prices cut to 64 bits.
 use Rattle.std.specs.List.{All}
-use Rattle.std.proofs.Common.{◌≡◌, ℕ, ◌^◌, ◌+◌, ◌<◌, ◌≤◌, List, Option, set, length, get_or, ℤ, pos, neg_ℤ, ◌+ℤ◌, ◌-ℤ◌, ◌≤ℤ◌, sym, ◌∙◌, ap, subst, arith, inl, inr, length-set}
+use Rattle.std.proofs.Common.{◌≡◌, ℕ, ◌^◌, ◌<◌, List, Option, set, length, get_or, ℤ, pos, neg_ℤ, ◌+ℤ◌, ◌-ℤ◌, ◌≤ℤ◌, sym, ◌∙◌, ap, subst, arith, inl, inr, length-set}
 use Rattle.std.proofs.lemmas.Bool.{cases_eq}
 use Rattle.std.proofs.lemmas.Grind.{get_or-set_at}
 use Rattle.std.proofs.lemmas.Int.{ints, clamps}
 use Rattle.std.specs.Int.{int_max, int_min}
-use Rattle.std.proofs.lemmas.List.{ext_get_or, get_or-set_other}
+use Rattle.std.proofs.lemmas.List.{get_or-set_other}
 use Rattle.mcf_instance.specs.Network.{at_node}
 use Rattle.mcf_instance.specs.WellFormed.{IsUpTo}
 use Rattle.mcf_network.specs.States.{Pseudoflow}
@@ -78,34 +78,6 @@ cut_low price x floor top high mid low ex ef et eh em el =
       below = λ above. omega (arith, ints, clamps, ex, ef, et, eh, em, el, above);
       exact = λ inside. omega (arith, ints, clamps, ex, ef, et, eh, em, el, inside);
     }
-
--- ---- loops
-
--- the prices before a place are cut
-pub record AreCutTo (y lows : List ℤ) (i : ℕ) : Type 0 where
-  pub count : length lows ≡ length y
-  pub each : (j : ℕ) → j < length y → j < i → IsLow (get_or y j (pos 0)) (get_or lows j (pos 0))
-
--- one more
-pub cut_more : (y lows : List ℤ) (i : ℕ) (z : ℤ) → AreCutTo y lows i → IsLow (get_or y i (pos 0)) z → AreCutTo y (set lows i z) (i + 1)
-cut_more y lows i z so is =
-    record {
-      count = length-set lows i z ∙ so.count;
-      each = λ j l k. elim (cases_eq j i) [
-        | inl e ↦ subst (λ (q : ℤ). IsLow (get_or y j (pos 0)) q) (sym (get_or-set_at lows i j z (pos 0) e (omega (arith, e, l, so.count))))
-            (subst (λ n. IsLow (get_or y n (pos 0)) z) (sym e) is)
-        | inr m ↦ subst (λ (q : ℤ). IsLow (get_or y j (pos 0)) q) (sym (get_or-set_other lows i j z (pos 0) m)) (so.each j l (omega (arith, k, m)))
-      ];
-    }
-
--- the prices before a place are those of 64 bits
-pub record AreWidenedTo (y lows : List ℤ) (i : ℕ) : Type 0 where
-  pub count : length y ≡ length lows
-  pub each : (j : ℕ) → j < length y → j < i → get_or y j (pos 0) ≡ get_or lows j (pos 0)
-
-pub widened : (y lows : List ℤ) (i : ℕ) → AreWidenedTo y lows i → length lows ≤ i → y ≡ lows
-widened y lows i so past =
-    ext_get_or (pos 0) y lows so.count (λ j l. so.each j l (let c = so.count in omega (arith, l, past, c)))
 
 -- prices of 64 bits near 0 are what they are cut to
 pub lows_same : (y lows : List ℤ) → y ≡ lows → All (IsUpTo low_reach) lows → AreLows y lows

@@ -14,6 +14,7 @@ ghost use Rattle.mcf_assign.specs.Private.RowLists.{AreRows};
 ghost use Rattle.mcf_assign.specs.Private.Searches.{AreRaised, HasEntries, Settled, search_of};
 ghost use Rattle.mcf_assign.specs.Private.Turning.{IsExtended};
 
+use crate::prices::Prices;
 use crate::rows::{RowArc, Rows};
 use crate::search::{Tables, Target};
 use mcf_instance::copies;
@@ -50,7 +51,7 @@ impl Tables {
         &mut self,
         state: &State<'_>,
         rows: &Rows,
-        prices: &[i128],
+        prices: &Prices,
         lows: &[i64],
         mates: &[u32],
         picks: &mut [RowArc],
@@ -81,14 +82,12 @@ impl Tables {
     pub(crate) fn augment(
         &mut self,
         state: &mut State<'_>,
-        prices: &mut [i128],
-        lows: &mut [i64],
+        prices: &mut Prices,
         mates: &mut [u32],
         target: Target,
     )
         requires matching { IsPartialMatching state.old }
         requires prices { AreMatchingPrices state.old prices.old }
-        requires lows { AreLows prices.old lows.old }
         requires mates { AreMates state.old mates.old }
         requires entries { HasEntries (node_count state.old.net) (search_of self.old) }
         requires best { self.old.best ≡ Some target }
@@ -96,7 +95,6 @@ impl Tables {
         requires small { (v : ℕ) → IsNode (node_count state.old.net) v → IsUpTo (10 ^ 29) (at_node prices.old v) }
         requires room { node_count state.old.net ≤ vec_capacity self.old.order }
         ensures raised { AreRaised state.old (search_of self.old) target.dist prices.old prices.new }
-        ensures lows { AreLows prices.new lows.new }
         ensures extended { (source : ℕ) → IsEnded state.old prices.old (search_of self.old) source self.old.order.items
             → IsExtended state.old state.new prices.new source (column_of state.old target.arc) }
         ensures mates { AreMates state.new mates.new }
@@ -106,7 +104,7 @@ impl Tables {
         ensures tables { search_of self.new ≡ search_of self.old }
     {
         let arc = ArcId::new(target.arc);
-        self.raise(prices, lows, target.dist);
+        self.raise(prices, target.dist);
         self.turn(state, mates, arc);
         let (_, column) = state.net().ends(arc);
         self.order.push_reserved(column);

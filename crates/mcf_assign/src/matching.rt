@@ -6,21 +6,19 @@ ghost use Rattle.mcf_instance.specs.Network.{IsNode, at_node, node_count};
 ghost use Rattle.mcf_instance.specs.WellFormed.{IsUpTo};
 ghost use Rattle.mcf_network.specs.NodeSets.{no_nodes};
 ghost use Rattle.mcf_assign.specs.Extending.{IsExtension, IsMatched, IsRepriced, IsShownMatching};
-ghost use Rattle.mcf_assign.specs.Private.Keeping.{AreFirstPrices, first_price};
-ghost use Rattle.mcf_assign.specs.Private.Lows.{AreLows};
 ghost use Rattle.mcf_assign.specs.Matchings.{IsMatchedRow, IsRow};
 
 use crate::augmenting::fill;
 use crate::extended::Extended;
+use crate::prices::Prices;
 use crate::rows::{MOST_PICKS, NO_ARC, RowArc, Rows};
-use crate::search::{Tables, low_of};
+use crate::search::Tables;
 use crate::update::Update;
 use mcf_instance::copies;
 use mcf_network::{Net, NodeSet, State};
 use mcf_text::{NoMemory, NodeId};
 use std::alloc::Global;
 use std::marker::Model;
-use std::mem::swap;
 
 /// A partial matching of the net of an assignment, with prices that show that no other matches the same rows for less.
 ///
@@ -30,8 +28,7 @@ use std::mem::swap;
 pub struct Matching<'n> {
     state: State<'n>,
     rows: Rows,
-    prices: Vec<i128>,
-    lows: Vec<i64>,
+    prices: Prices,
     mates: Vec<u32>,
     picks: Vec<RowArc>,
     tables: Tables,
@@ -46,15 +43,14 @@ impl<'n> Model for Matching<'n> {
 
     ghost use Rattle.mcf_assign.specs.Private.Keeping.{IsKept};
 
-    ghost view = { λ a. record { flow = a.state; prices = a.prices.items; settled = a.tables.order.items; reached = a.reached } };
+    ghost view = { λ a. record { flow = a.state; prices = a.prices; settled = a.tables.order.items; reached = a.reached } };
 
     ghost use Rattle.mcf_instance.specs.Network.{node_count};
-    ghost use Rattle.mcf_assign.specs.Private.Lows.{AreLows};
     ghost use Rattle.mcf_assign.specs.Private.RowLists.{AreRows};
     ghost use Rattle.mcf_assign.specs.Private.Updating.{HasTables};
 
-    ghost invariant = { λ a. IsKept a.state a.prices.items a.mates.items a.tables a.reached × AreRows a.state.net a.rows
-        × AreLows a.prices.items a.lows.items × HasTables a.state.net a.update };
+    ghost invariant = { λ a. IsKept a.state a.prices a.mates.items a.tables a.reached × AreRows a.state.net a.rows
+        × HasTables a.state.net a.update };
 }
 
 impl<'n> Matching<'n> {
@@ -75,15 +71,13 @@ impl<'n> Matching<'n> {
     {
         let state = State::zero(alloc, net)?;
         let rows = Rows::new(alloc, net)?;
-        let prices = first_prices(alloc, net)?;
-        let lows = cut_all(alloc, prices.as_slice())?;
+        let prices = Prices::new(alloc, net)?;
         let mates = copies(alloc, net.node_count() as usize, 0)?;
         let most = if net.node_count() > 0 { MOST_PICKS } else { 0 };
         Ok(Matching {
             state,
             rows,
             prices,
-            lows,
             mates,
             picks: copies(alloc, most, NO_ARC)?,
             tables: Tables::new(alloc, net)?,
@@ -103,8 +97,8 @@ impl<'n> Matching<'n> {
         ensures extended { IsExtension self.old row result self.new }
         ensures shown { IsShownMatching self.new }
     {
-        let prices = self.prices.as_slice();
-        let lows = self.lows.as_slice();
+        let prices = &self.prices;
+        let lows = prices.lows();
         let mates = self.mates.as_slice();
         let picks = self.picks.as_mut_slice();
         let found = self
@@ -112,11 +106,9 @@ impl<'n> Matching<'n> {
             .search(&self.state, &self.rows, prices, lows, mates, picks, row);
         match found {
             Some(target) => {
-                let prices = self.prices.as_mut_slice();
-                let lows = self.lows.as_mut_slice();
                 let mates = self.mates.as_mut_slice();
                 self.tables
-                    .augment(&mut self.state, prices, lows, mates, target);
+                    .augment(&mut self.state, &mut self.prices, mates, target);
                 Extended::Matched
             }
             None => {
@@ -136,11 +128,10 @@ impl<'n> Matching<'n> {
             return;
         }
         self.tables.looks = 0;
-        let lows = self.lows.as_slice();
+        let lows = self.prices.lows();
         let mates = self.mates.as_slice();
         if self.update.run(&self.state, lows, mates) {
-            swap(&mut self.lows, &mut self.update.lows);
-            widen_all(&mut self.prices, self.lows.as_slice());
+            self.prices.take_lows(&mut self.update.lows);
         }
     }
 
@@ -187,14 +178,13 @@ impl<'n> Matching<'n> {
             state,
             rows: _,
             prices,
-            lows: _,
             mates: _,
             picks: _,
             tables: _,
             reached: _,
             update: _,
         } = self;
-        (state, prices)
+        (state, prices.into_wide())
     }
 
     /// The set that the last search reached that found no path.
@@ -205,7 +195,6 @@ impl<'n> Matching<'n> {
             state: _,
             rows: _,
             prices: _,
-            lows: _,
             mates: _,
             picks: _,
             tables: _,
@@ -216,47 +205,5 @@ impl<'n> Matching<'n> {
     }
 }
 
-// The prices before the first search: those of columns are 0, and those of rows so far below it that no arc has a
-// negative reduced cost.
-fn first_prices(alloc: Global, net: &Net) -> Result<Vec<i128>, NoMemory>
-    ensures prices { IfOk result (λ made. AreFirstPrices net.now made.items (node_count net.now)) }
-    ensures wants { OnErr result (1 ≤ node_count net.now) }
-{
-    let nodes = net.node_count();
-    let mut prices = Vec::new(alloc);
-    prices.resize(nodes as usize, 0)?;
-    'nodes: for number in 0..nodes {
-        if net.supply(NodeId::at(number)) > 0 {
-            prices[number as usize] = FIRST_PRICE;
-        }
-    }
-    Ok(prices)
-}
-
-// Prices cut to 64 bits.
-fn cut_all(alloc: Global, prices: &[i128]) -> Result<Vec<i64>, NoMemory>
-    ensures lows { IfOk result (λ lows. AreLows prices.now lows.items) }
-    ensures wants { OnErr result (1 ≤ length prices.now) }
-{
-    let mut lows = copies(alloc, prices.len(), 0)?;
-    'nodes: for i in 0..prices.len() {
-        lows[i] = low_of(prices[i]);
-    }
-    Ok(lows)
-}
-
-// Makes each price the one of 64 bits.
-fn widen_all(prices: &mut Vec<i128>, lows: &[i64])
-    requires { length prices.old.items ≡ length lows.now }
-    ensures { prices.new.items ≡ lows.now }
-{
-    'nodes: for i in 0..prices.len() {
-        prices[i] = i128::from(lows[i]);
-    }
-}
-
 // The searches look at one in so many arcs, on the average, between two updates of all prices.
 const ARCS_PER_LOOK: u64 = 2;
-
-// The price with which a row begins: no cost is further below 0.
-const FIRST_PRICE: i128 = -1_000_000_000_000_000;

@@ -1,6 +1,6 @@
 -- Prices cut to 64 bits, and by what they tell that an arc is no news.
-use Rattle.std.specs.Prelude.{Bool, true, ◌⊎◌, ℕ, ◌-◌, ◌^◌, ◌<◌, List, Option, length, ℤ, pos, ◌≤ℤ◌, ◌+ℤ◌, ◌≡◌, slice_index_or}
-use Rattle.std.specs.List.{Contains}
+use Rattle.std.specs.Prelude.{Bool, true, ◌&&◌, if◌then◌else◌, ◌⊎◌, ℕ, ◌-◌, ◌^◌, ◌<◌, List, Option, length, map, ℤ, pos, neg_ℤ, int_lt, ◌≤ℤ◌, ◌+ℤ◌, ◌≡◌, slice_index_or}
+use Rattle.std.specs.List.{Contains, range_with_len}
 use Rattle.mcf_instance.specs.Blocking.{in_table}
 use Rattle.mcf_instance.specs.Network.{at_node}
 use Rattle.mcf_instance.specs.WellFormed.{IsUpTo}
@@ -26,6 +26,18 @@ pub record IsLow (price low : ℤ) : Type 0 where
 pub record AreLows (y lows : List ℤ) : Type 0 where
   pub count : length lows ≡ length y
   pub each : (i : ℕ) → i < length y → IsLow (slice_index_or y i (pos 0)) (slice_index_or lows i (pos 0))
+
+-- whether a price wasn't cut: it lies strictly inside
+abbrev pub lies_inside : ℤ → Bool
+lies_inside low = int_lt (neg_ℤ (pos low_reach)) low && int_lt low (pos low_reach)
+
+-- the price that is cut to `low`: that one where it wasn't cut, else the one that stands whole beside it
+abbrev pub whole_price : ℤ → ℤ → ℤ
+whole_price low wide = if lies_inside low then low else wide
+
+-- such a price for each number
+unfoldable pub whole_prices : List ℤ → List ℤ → List ℤ
+whole_prices lows wide = map (λ i. whole_price (slice_index_or lows i (pos 0)) (slice_index_or wide i (pos 0))) (range_with_len 0 (length lows))
 
 -- what arcs offer from a row, less its base, is no news where it is no less than the gap
 abbrev pub IsGap : Option Target → ℤ → ℤ → Type 0

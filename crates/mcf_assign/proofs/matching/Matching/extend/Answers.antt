@@ -1,33 +1,20 @@
-use Rattle.std.proofs.Common.{◌++◌, ℕ, ℤ, List, length, drop, take, ap, sym, subst, ◌∙◌, arith, refl}
+use Rattle.std.proofs.Common.{ℕ, List, length, drop, ap, sym, subst, ◌∙◌, arith, refl}
 use Rattle.std.specs.List.{All}
 use Rattle.mcf_instance.specs.Network.{Network, IsNode}
 use Rattle.mcf_assign.specs.Extending.{Assigned, IsGrown, IsStopped}
-use Rattle.mcf_assign.specs.Private.Keeping.{IsEnded, IsKept}
+use Rattle.mcf_assign.specs.Private.Keeping.{IsKept}
 use Rattle.mcf_assign.specs.Matchings.{IsRow}
-use Rattle.mcf_assign.specs.Private.Lows.{AreLows}
 use Rattle.mcf_assign.specs.Private.RowLists.{AreRows}
 use Rattle.mcf_assign.specs.Private.Updating.{HasTables}
-use Rattle.mcf_assign.specs.Private.Searches.{AreRaised, search_of}
+use Rattle.mcf_assign.specs.Private.Searches.{search_of}
 use Rattle.mcf_assign.proofs.Kept.{grown_from, kept_grown, near_small, shown_kept, stopped_from, written}
 use Rattle.mcf_assign.proofs.matching.Matching.extend.Goals as goal
 
 pub search-found-requires-clause-small : goal.search-found-requires-clause-small
-search-found-requires-clause-small c =
-    near_small c.self.inside.state c.self.inside.prices.items c.as_slice-prices.result.now c.self.invariant.0.near c.as_slice-prices.ensures.value
+search-found-requires-clause-small c = near_small c.self.inside.state c.self.inside.prices c.self.inside.prices c.self.invariant.0.near refl
 
 pub augment-requires-clause-small : goal.augment-requires-clause-small
-augment-requires-clause-small c =
-    near_small c.self.inside.state c.self.inside.prices.items c.as_mut_slice-prices.result.now c.self.invariant.0.near c.as_mut_slice-prices.ensures.value
-
-pub search-found-requires-clause-lows : goal.search-found-requires-clause-lows
-search-found-requires-clause-lows c =
-    subst (λ (y : List ℤ). AreLows y c.as_slice-lows.result.now) (sym c.as_slice-prices.ensures.value)
-    (subst (λ (l : List ℤ). AreLows c.self.inside.prices.items l) (sym c.as_slice-lows.ensures.value) c.self.invariant.2)
-
-pub augment-requires-clause-lows : goal.augment-requires-clause-lows
-augment-requires-clause-lows c =
-    subst (λ (y : List ℤ). AreLows y c.as_mut_slice-lows.result.now) (sym c.as_mut_slice-prices.ensures.value)
-    (subst (λ (l : List ℤ). AreLows c.self.inside.prices.items l) (sym c.as_mut_slice-lows.ensures.value) c.self.invariant.2)
+augment-requires-clause-small c = near_small c.self.inside.state c.self.inside.prices c.self.inside.prices c.self.invariant.0.near refl
 
 pub fill-requires : goal.fill-requires
 fill-requires c =
@@ -43,33 +30,17 @@ invariant_of-self c =
     let t = c.in-Some.target in
     let s = c.search-found.ensures in
     let row = subst (λ (m : Assigned). IsRow m.flow c.args.row) (sym c.self.view_is) c.requires.row in
-    let ended = subst (λ (y : List ℤ). IsEnded i.state y (search_of c.search-found.new.self) c.args.row c.search-found.new.self.order.items)
-    c.as_slice-prices.ensures.value s.ended in
-    let ended_mut = subst (λ (y : List ℤ). IsEnded i.state y (search_of c.search-found.new.self) c.args.row c.search-found.new.self.order.items)
-    (sym c.as_mut_slice-prices.ensures.value) ended in
-    let raised = subst (λ (y : List ℤ). AreRaised i.state (search_of c.search-found.new.self) t.dist y c.augment.new.prices) c.as_mut_slice-prices.ensures.value
-    e.raised in
-    let kept = kept_grown i.state c.augment.new.state i.prices.items c.augment.new.prices c.augment.new.mates c.search-found.new.self c.augment.new.self
-    i.reached c.args.row t k.matching k.shown k.near k.free_rows k.count s.entries s.room row ended (sym c.in-Some.ensures.best) raised
-    (e.extended c.args.row ended_mut) e.mates e.tables e.order e.room in
-    let lp = c.augment.auto.prices in
+    let kept = kept_grown i.state c.augment.new.state i.prices c.augment.new.prices c.augment.new.mates c.search-found.new.self c.augment.new.self
+    i.reached c.args.row t k.matching k.shown k.near k.free_rows k.count s.entries s.room row s.ended (sym c.in-Some.ensures.best) e.raised
+    (e.extended c.args.row s.ended) e.mates e.tables e.order e.room in
     let lm = c.augment.auto.mates in
-    let vp = ap (λ (l : List ℤ). length l) c.as_mut_slice-prices.ensures.value in
     let vm = ap (λ (l : List ℕ). length l) c.as_mut_slice-mates.ensures.value in
-    let wp = written i.prices.len c.augment.new.prices (drop (length c.augment.new.prices) i.prices.items) (omega (arith, i.prices.ok.0, lp, vp)) in
-    let ll = c.augment.auto.lows in
-    let vl = ap (λ (l : List ℤ). length l) c.as_mut_slice-lows.ensures.value in
-    let wl = written i.lows.len c.augment.new.lows (drop (length c.augment.new.lows) i.lows.items) (omega (arith, i.lows.ok.0, ll, vl)) in
     let wm = written i.mates.len c.augment.new.mates (drop (length c.augment.new.mates) i.mates.items) (omega (arith, i.mates.ok.0, lm, vm)) in
-    let grown = subst (λ (y : List ℤ). IsKept c.augment.new.state y (take i.mates.len (c.augment.new.mates ++ drop (length c.augment.new.mates) i.mates.items))
-    c.augment.new.self i.reached) (sym wp) (subst (λ (m : List ℕ). IsKept c.augment.new.state c.augment.new.prices m c.augment.new.self i.reached) (sym wm)
-    kept) in
-    let net = (e.extended c.args.row ended_mut).net in (
+    let grown = subst (λ (m : List ℕ). IsKept c.augment.new.state c.augment.new.prices m c.augment.new.self i.reached) (sym wm) kept in
+    let net = (e.extended c.args.row s.ended).net in (
       grown,
       subst (λ (g : Network). AreRows g i.rows) (sym net) c.self.invariant.1,
-      subst (λ (y : List ℤ). AreLows y (take i.lows.len (c.augment.new.lows ++ drop (length c.augment.new.lows) i.lows.items))) (sym wp)
-          (subst (λ (l : List ℤ). AreLows c.augment.new.prices l) (sym wl) e.lows),
-      subst (λ (g : Network). HasTables g i.update) (sym net) c.self.invariant.3,
+      subst (λ (g : Network). HasTables g i.update) (sym net) c.self.invariant.2,
     )
 
 pub returns-in-Some-clause-extended : goal.returns-in-Some-clause-extended
@@ -79,27 +50,11 @@ returns-in-Some-clause-extended c =
     let e = c.augment.ensures in
     let t = c.in-Some.target in
     let s = c.search-found.ensures in
-    let ended = subst (λ (y : List ℤ). IsEnded i.state y (search_of c.search-found.new.self) c.args.row c.search-found.new.self.order.items)
-    c.as_slice-prices.ensures.value s.ended in
-    let ended_mut = subst (λ (y : List ℤ). IsEnded i.state y (search_of c.search-found.new.self) c.args.row c.search-found.new.self.order.items)
-    (sym c.as_mut_slice-prices.ensures.value) ended in
-    let raised = subst (λ (y : List ℤ). AreRaised i.state (search_of c.search-found.new.self) t.dist y c.augment.new.prices) c.as_mut_slice-prices.ensures.value
-    e.raised in
-    let lp = c.augment.auto.prices in
-    let vp = ap (λ (l : List ℤ). length l) c.as_mut_slice-prices.ensures.value in
-    let wp = written i.prices.len c.augment.new.prices (drop (length c.augment.new.prices) i.prices.items) (omega (arith, i.prices.ok.0, lp, vp)) in
     subst (λ (m : Assigned). IsGrown m c.args.row
-    (record {
-      flow = c.augment.new.state;
-      prices = take i.prices.len (c.augment.new.prices ++ drop (length c.augment.new.prices) i.prices.items);
-      settled =
-          c.augment.new.self.order.items;
-      reached = i.reached;
-    })) c.self.view_is
-    (grown_from i.state i.prices.items c.augment.new.prices (search_of c.search-found.new.self) c.args.row c.search-found.new.self.order.items t k.matching
-    k.shown s.entries ended (sym c.in-Some.ensures.best) raised c.augment.new.state
-    (take i.prices.len (c.augment.new.prices ++ drop (length c.augment.new.prices) i.prices.items)) i.tables.order.items c.augment.new.self.order.items
-    i.reached (e.extended c.args.row ended_mut) e.changed e.order wp)
+    (record { flow = c.augment.new.state; prices = c.augment.new.prices; settled = c.augment.new.self.order.items; reached = i.reached })) c.self.view_is
+    (grown_from i.state i.prices c.augment.new.prices (search_of c.search-found.new.self) c.args.row c.search-found.new.self.order.items t k.matching
+    k.shown s.entries s.ended (sym c.in-Some.ensures.best) e.raised c.augment.new.state c.augment.new.prices i.tables.order.items
+    c.augment.new.self.order.items i.reached (e.extended c.args.row s.ended) e.changed e.order refl)
 
 pub returns-in-Some-clause-shown : goal.returns-in-Some-clause-shown
 returns-in-Some-clause-shown c =
@@ -109,26 +64,11 @@ returns-in-Some-clause-shown c =
     let t = c.in-Some.target in
     let s = c.search-found.ensures in
     let row = subst (λ (m : Assigned). IsRow m.flow c.args.row) (sym c.self.view_is) c.requires.row in
-    let ended = subst (λ (y : List ℤ). IsEnded i.state y (search_of c.search-found.new.self) c.args.row c.search-found.new.self.order.items)
-    c.as_slice-prices.ensures.value s.ended in
-    let ended_mut = subst (λ (y : List ℤ). IsEnded i.state y (search_of c.search-found.new.self) c.args.row c.search-found.new.self.order.items)
-    (sym c.as_mut_slice-prices.ensures.value) ended in
-    let raised = subst (λ (y : List ℤ). AreRaised i.state (search_of c.search-found.new.self) t.dist y c.augment.new.prices) c.as_mut_slice-prices.ensures.value
-    e.raised in
-    let kept = kept_grown i.state c.augment.new.state i.prices.items c.augment.new.prices c.augment.new.mates c.search-found.new.self c.augment.new.self
-    i.reached c.args.row t k.matching k.shown k.near k.free_rows k.count s.entries s.room row ended (sym c.in-Some.ensures.best) raised
-    (e.extended c.args.row ended_mut) e.mates e.tables e.order e.room in
-    let lp = c.augment.auto.prices in
-    let vp = ap (λ (l : List ℤ). length l) c.as_mut_slice-prices.ensures.value in
-    let wp = written i.prices.len c.augment.new.prices (drop (length c.augment.new.prices) i.prices.items) (omega (arith, i.prices.ok.0, lp, vp)) in
+    let kept = kept_grown i.state c.augment.new.state i.prices c.augment.new.prices c.augment.new.mates c.search-found.new.self c.augment.new.self
+    i.reached c.args.row t k.matching k.shown k.near k.free_rows k.count s.entries s.room row s.ended (sym c.in-Some.ensures.best) e.raised
+    (e.extended c.args.row s.ended) e.mates e.tables e.order e.room in
     shown_kept c.augment.new.state c.augment.new.prices c.augment.new.mates c.augment.new.self i.reached kept
-    (record {
-      flow = c.augment.new.state;
-      prices = take i.prices.len (c.augment.new.prices ++ drop (length c.augment.new.prices) i.prices.items);
-      settled =
-          c.augment.new.self.order.items;
-      reached = i.reached;
-    }) refl wp
+    (record { flow = c.augment.new.state; prices = c.augment.new.prices; settled = c.augment.new.self.order.items; reached = i.reached }) refl refl
 
 pub returns-in-None-clause-extended : goal.returns-in-None-clause-extended
 returns-in-None-clause-extended c =
@@ -138,13 +78,13 @@ returns-in-None-clause-extended c =
     let list = c.as_slice.ensures.value in
     let members = rw list at c.fill.ensures.members in
     subst (λ (m : Assigned). IsStopped m c.args.row
-    (record { flow = i.state; prices = i.prices.items; settled = c.search-found.new.self.order.items; reached = c.fill.new.set })) c.self.view_is
-    (stopped_from i.state c.as_slice-prices.result.now i.prices.items i.prices.items (search_of c.search-found.new.self) c.args.row
+    (record { flow = i.state; prices = i.prices; settled = c.search-found.new.self.order.items; reached = c.fill.new.set })) c.self.view_is
+    (stopped_from i.state i.prices i.prices i.prices (search_of c.search-found.new.self) c.args.row
     c.search-found.new.self.order.items i.tables.order.items c.search-found.new.self.order.items i.reached c.fill.new.set k.matching s.ended
     (sym c.in-None.ensures.best) (c.fill.ensures.count ∙ k.count) (λ v n. members v (subst (λ m. IsNode m v) (sym k.count) n)) refl refl)
 
 pub returns-in-None-clause-shown : goal.returns-in-None-clause-shown
 returns-in-None-clause-shown c =
     let i = c.self.inside in
-    shown_kept i.state i.prices.items i.mates.items i.tables i.reached c.self.invariant.0
-    (record { flow = i.state; prices = i.prices.items; settled = c.search-found.new.self.order.items; reached = c.fill.new.set }) refl refl
+    shown_kept i.state i.prices i.mates.items i.tables i.reached c.self.invariant.0
+    (record { flow = i.state; prices = i.prices; settled = c.search-found.new.self.order.items; reached = c.fill.new.set }) refl refl

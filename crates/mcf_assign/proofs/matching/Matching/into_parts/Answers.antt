@@ -10,11 +10,11 @@ pub returns-clause-small : goal.returns-clause-small
 returns-clause-small c =
     let i = c.self.inside in
     let k = c.self.invariant.0 in
-    subst (λ (y : List ℤ). All (IsUpTo (10 ^ 22)) y) (ap (λ (m : Assigned). m.prices) c.self.view_is) (near_all i.state i.prices.items k.shown.count k.near)
+    subst (λ (y : List ℤ). All (IsUpTo (10 ^ 22)) y) (ap (λ (m : Assigned). m.prices) c.self.view_is) (near_all i.state i.prices k.shown.count k.near)
 
 pub returns-clause-shown : goal.returns-clause-shown
 returns-clause-shown c =
     let i = c.self.inside in
-    shown_kept i.state i.prices.items i.mates.items i.tables i.reached c.self.invariant.0 c.args.self
+    shown_kept i.state i.prices i.mates.items i.tables i.reached c.self.invariant.0 c.args.self
     (sym (ap (λ (m : Assigned). m.flow) c.self.view_is))
     (sym (ap (λ (m : Assigned). m.prices) c.self.view_is))

@@ -7,7 +7,7 @@ use Rattle.mcf_assign.proofs.matching.Matching.reached.Goals as goal
 pub returns-clause-shown : goal.returns-clause-shown
 returns-clause-shown c =
     let i = c.self.inside in
-    shown_kept i.state i.prices.items i.mates.items i.tables i.reached c.self.invariant.0 c.args.self.now (sym (ap (λ (m : Assigned). m.flow) c.self.view_is))
+    shown_kept i.state i.prices i.mates.items i.tables i.reached c.self.invariant.0 c.args.self.now (sym (ap (λ (m : Assigned). m.flow) c.self.view_is))
     (sym (ap (λ (m : Assigned). m.prices) c.self.view_is))
 
 pub returns-clause-one_per_node : goal.returns-clause-one_per_node

@@ -6,5 +6,5 @@ use Rattle.mcf_assign.proofs.matching.Matching.settled.Goals as goal
 pub returns-clause-shown : goal.returns-clause-shown
 returns-clause-shown c =
     let i = c.self.inside in
-    shown_kept i.state i.prices.items i.mates.items i.tables i.reached c.self.invariant.0 c.args.self.now (sym (ap (λ (m : Assigned). m.flow) c.self.view_is))
+    shown_kept i.state i.prices i.mates.items i.tables i.reached c.self.invariant.0 c.args.self.now (sym (ap (λ (m : Assigned). m.flow) c.self.view_is))
     (sym (ap (λ (m : Assigned). m.prices) c.self.view_is))

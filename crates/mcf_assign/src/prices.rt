@@ -1,0 +1,159 @@
+//! The prices of the nodes, cut to 64 bits where searches read them.
+ghost use Rattle.std.specs.Prelude.{◌≡◌, ◌-◌, ◌≤◌, ℤ, List, IfOk, OnErr, length, set};
+ghost use Rattle.std.specs.List.{All};
+ghost use Rattle.mcf_instance.specs.Network.{IsNode, at_node, node_count};
+ghost use Rattle.mcf_instance.specs.WellFormed.{IsUpTo};
+ghost use Rattle.mcf_assign.specs.Private.Keeping.{AreFirstPrices};
+ghost use Rattle.mcf_assign.specs.Private.Lows.{AreLows, lies_inside, low_reach, whole_prices};
+
+use crate::search::{LOW_REACH, low_of};
+use mcf_instance::copies;
+use mcf_network::Net;
+use mcf_text::{NoMemory, NodeId};
+use std::alloc::Global;
+use std::marker::Model;
+use std::mem::swap;
+
+/// The prices of the nodes: each cut to 64 bits, and beside it whole where that isn't the price itself.
+///
+/// A price that wasn't cut stands there alone: what stands beside it is of no account, and is neither read nor written.
+#[derive(Drop)]
+pub(crate) struct Prices {
+    lows: Vec<i64>,
+    wide: Vec<i128>,
+}
+
+impl Model for Prices {
+    ghost use Rattle.std.specs.Prelude.{◌≡◌, ℤ, List, length};
+    ghost use Rattle.mcf_assign.specs.Private.Lows.{AreLows, whole_prices};
+
+    ghost Value = { List ℤ };
+
+    ghost view = { λ a. whole_prices a.lows.items a.wide.items };
+
+    ghost invariant = { λ a. (length a.wide.items ≡ length a.lows.items) × AreLows (whole_prices a.lows.items a.wide.items) a.lows.items };
+}
+
+impl Prices {
+    /// The prices before the first search: those of columns are 0, and those of rows so far below it that no arc has a
+    /// negative reduced cost.
+    ///
+    /// All the room that prices need is made here.
+    pub(crate) fn new(alloc: Global, net: &Net) -> Result<Prices, NoMemory>
+        ensures prices { IfOk result (λ prices. AreFirstPrices net.now prices (node_count net.now)) }
+        ensures wants { OnErr result (1 ≤ node_count net.now) }
+    {
+        let lows = first_lows(alloc, net)?;
+        let wide = copies(alloc, net.node_count() as usize, 0)?;
+        Ok(Prices { lows, wide })
+    }
+
+    /// The prices cut to 64 bits.
+    #[inline(always)]
+    pub(crate) fn lows(&self) -> &[i64]
+        ensures { AreLows self.now result.now }
+    {
+        self.lows.as_slice()
+    }
+
+    /// The price of a node.
+    #[inline(always)]
+    pub(crate) fn get(&self, v: NodeId) -> i128
+        requires { IsNode (length self.now) v }
+        ensures { result ≡ at_node self.now v }
+    {
+        let low = self.lows[v.place()];
+        if is_whole(low) {
+            return i128::from(low);
+        }
+        self.wide[v.place()]
+    }
+
+    /// Writes the price of a node.
+    #[inline(always)]
+    pub(crate) fn set(&mut self, v: NodeId, price: i128)
+        requires { IsNode (length self.old) v }
+        ensures { self.new ≡ set self.old (v - 1) price }
+    {
+        let i = v.place();
+        let low = low_of(price);
+        self.lows[i] = low;
+        if !is_whole(low) {
+            self.wide[i] = price;
+        }
+    }
+
+    /// Takes the prices out of a table of 64 bits, as many and near 0, and leaves there the prices of before, cut.
+    pub(crate) fn take_lows(&mut self, lows: &mut Vec<i64>)
+        requires count { length lows.old.items ≡ length self.old }
+        requires near { All (IsUpTo low_reach) lows.old.items }
+        ensures prices { self.new ≡ lows.old.items }
+        ensures count { length lows.new.items ≡ length self.old }
+    {
+        swap(&mut self.lows, lows);
+        widen_cut(self.wide.as_mut_slice(), self.lows.as_slice());
+    }
+
+    /// The prices, each in 128 bits.
+    pub(crate) fn into_wide(self) -> Vec<i128>
+        ensures { result.items ≡ self }
+    {
+        let Prices { lows, mut wide } = self;
+        widen_whole(wide.as_mut_slice(), lows.as_slice());
+        wide
+    }
+}
+
+// The first prices.
+fn first_lows(alloc: Global, net: &Net) -> Result<Vec<i64>, NoMemory>
+    ensures prices { IfOk result (λ made. AreFirstPrices net.now made.items (node_count net.now)) }
+    ensures wants { OnErr result (1 ≤ node_count net.now) }
+{
+    let nodes = net.node_count();
+    let mut lows = Vec::new(alloc);
+    lows.resize(nodes as usize, 0)?;
+    'nodes: for number in 0..nodes {
+        if net.supply(NodeId::at(number)) > 0 {
+            lows[number as usize] = FIRST_PRICE;
+        }
+    }
+    Ok(lows)
+}
+
+// Whether a price was not cut.
+#[inline(always)]
+fn is_whole(low: i64) -> bool
+    ensures { result ≡ lies_inside low }
+{
+    -LOW_REACH < low && low < LOW_REACH
+}
+
+// Writes those of some prices of 64 bits whole that lie as far from 0 as what was cut. There are hardly any, and it goes over
+// the others without a write.
+fn widen_cut(wide: &mut [i128], lows: &[i64])
+    requires { length wide.old ≡ length lows.now }
+    ensures { whole_prices lows.now wide.new ≡ lows.now }
+{
+    'nodes: for i in 0..lows.len() {
+        let low = lows[i];
+        if !is_whole(low) {
+            wide[i] = i128::from(low);
+        }
+    }
+}
+
+// Writes whole the prices that weren't cut.
+fn widen_whole(wide: &mut [i128], lows: &[i64])
+    requires { length wide.old ≡ length lows.now }
+    ensures { wide.new ≡ whole_prices lows.now wide.old }
+{
+    'nodes: for i in 0..lows.len() {
+        let low = lows[i];
+        if is_whole(low) {
+            wide[i] = i128::from(low);
+        }
+    }
+}
+
+// The price with which a row begins: no cost is further below 0.
+const FIRST_PRICE: i64 = -1_000_000_000_000_000;
