@@ -143,7 +143,7 @@ gap_ends keys count slots places i v w ok order l least more =
     (λ j d k. precedes_at keys v (entry slots j) _ _ (precedes_trans keys v w (entry slots j) more (least j d k)) (sym item.0)
     (get_or-set_other slots i j v 0 (omega (arith, d))))
 
--- ---- the first item taken out
+-- ---- an item taken out
 
 -- slots beyond those in use don't matter
 slots_beyond : (count : ℕ) (slots places : List ℕ) (i a : ℕ) → IsPlaced count (set slots i a) places → count ≤ i → IsPlaced count slots places
@@ -163,30 +163,30 @@ slots_beyond count slots places i a ok h =
       tally = ok.tally;
     }
 
--- the last item is in hand then, and the first slot is the gap
-pub first_taken : (c : ℕ) (slots places : List ℕ) (first v : ℕ) → IsPlaced (c + 1) slots places → 0 < c → first ≡ entry slots 0 → v ≡ entry slots c
-    → IsPlacedBut c slots (set places first 0) 0 v × (table_of (set (set places first 0) v 1) ≡ set (table_of places) first false)
-first_taken c slots places first v ok some is last =
-    let a = ok.back 0 (omega arith) in
+-- the last item is in hand then, and the slot of the other is the gap
+pub item_taken : (c : ℕ) (slots places : List ℕ) (i gone v : ℕ) → IsPlaced (c + 1) slots places → i < c → gone ≡ entry slots i → v ≡ entry slots c
+    → IsPlacedBut c slots (set places gone 0) i v × (table_of (set (set places gone 0) v (i + 1)) ≡ set (table_of places) gone false)
+item_taken c slots places i gone v ok l is last =
+    let a = ok.back i (omega (arith, l)) in
     let b = ok.back c (omega arith) in
-    let pa : entry places first ≡ 1 = ap (entry places) is ∙ a.1 in
+    let pa : entry places gone ≡ i + 1 = ap (entry places) is ∙ a.1 in
     let pb : entry places v ≡ c + 1 = ap (entry places) last ∙ b.1 in
-    let m : v ≢ first = λ (e : v ≡ first). (let f = ap (entry places) e in omega (arith, f, pa, pb, some)) in
-    let e = exchange_ok (c + 1) slots places 0 c first v ok (omega arith) (omega arith) (omega (arith, some)) is last in
-    let dropped = dropped_places c _ _ first e.placed (is ∙ sym e.swapped.at_j) in
-    let p : set (set (set places v 1) first (c + 1)) first 0 ≡ set (set places first 0) v 1 =
-    set-set (set places v 1) first (c + 1) 0 ∙ set_comm places v first 1 0 m in
-    let there : entry (set places first 0) v ≡ c + 1 = get_or-set_other places first v 0 0 m ∙ pb in (
-      slots_beyond c (set slots 0 v) (set (set places first 0) v 1) c first
-          (subst (λ x. IsPlaced c (set (set slots 0 v) c first) x) p dropped) (omega arith),
-      table_kept (set places first 0) v 1 (omega (arith, there)) (omega arith) ∙ unplaced places first,
+    let m : v ≢ gone = λ (e : v ≡ gone). (let f = ap (entry places) e in omega (arith, f, pa, pb, l)) in
+    let e = exchange_ok (c + 1) slots places i c gone v ok (omega (arith, l)) (omega arith) (omega (arith, l)) is last in
+    let dropped = dropped_places c _ _ gone e.placed (is ∙ sym e.swapped.at_j) in
+    let p : set (set (set places v (i + 1)) gone (c + 1)) gone 0 ≡ set (set places gone 0) v (i + 1) =
+    set-set (set places v (i + 1)) gone (c + 1) 0 ∙ set_comm places v gone (i + 1) 0 m in
+    let there : entry (set places gone 0) v ≡ c + 1 = get_or-set_other places gone v 0 0 m ∙ pb in (
+      slots_beyond c (set slots i v) (set (set places gone 0) v (i + 1)) c gone
+          (subst (λ x. IsPlaced c (set (set slots i v) c gone) x) p dropped) (omega arith),
+      table_kept (set places gone 0) v (i + 1) (omega (arith, there)) (omega arith) ∙ unplaced places gone,
     )
 
 -- ---- the heap, once its vectors were lent
 
 pub heap_is : (h : ItemHeap) (slots : List ℕ) (shorts : List ℤ) (places : List ℕ) → h.slots.items ≡ slots → h.shorts.items ≡ shorts
-    → h.places.items ≡ places → length h.keys.items ≡ length places → length shorts ≡ length slots → IsPlaced h.count slots places
-    → IsOrdered h.keys.items h.count slots → AreShort h.keys.items h.count slots shorts → IsHeap h
+    → h.places.items ≡ places → length h.keys ≡ length places → length shorts ≡ length slots → IsPlaced h.count slots places
+    → IsOrdered h.keys h.count slots → AreShort h.keys h.count slots shorts → IsHeap h
 heap_is h slots shorts places es er ep keys room placed ordered short =
     record {
       placed = rw (es, ep) placed;

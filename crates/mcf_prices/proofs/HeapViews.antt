@@ -21,8 +21,8 @@ precedes_all h v valid some is =
       waits = omega (arith, place, b);
       first = λ w l waits.
           let s = slot_of h.count slots places w valid.placed l waits in
-          precedes_at h.keys.items (entry slots 0) (entry slots (entry places w - 1)) _ _
-          (first_precedes h.keys.items h.count slots valid.ordered (entry places w - 1) s.0) is (sym s.1);
+          precedes_at h.keys (entry slots 0) (entry slots (entry places w - 1)) _ _
+          (first_precedes h.keys h.count slots valid.ordered (entry places w - 1) s.0) is (sym s.1);
     }
 
 -- a table that marks none
@@ -49,5 +49,5 @@ pub cleared_view : (old new : ItemHeap) → IsHeap new → new.count ≡ 0 → l
 unfolding with_keys
 cleared_view old new valid none items keys =
     let same = table_length new.places.items ∙ items ∙ sym (table_length old.places.items) in
-    ap (λ t. with_keys t new.keys.items) (none_waits new valid none ∙ ap no_nodes same)
-    ∙ ap (λ k. with_keys (no_nodes (length (view_of old).waiting)) k.items) keys
+    ap (λ t. with_keys t new.keys) (none_waits new valid none ∙ ap no_nodes same)
+    ∙ ap (λ k. with_keys (no_nodes (length (view_of old).waiting)) k) keys

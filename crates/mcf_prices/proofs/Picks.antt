@@ -3,18 +3,18 @@ use Rattle.std.proofs.Common.{◌≡◌, ℕ, ◌+◌, ◌<◌, ◌≤◌, Bool,
 use Rattle.std.proofs.Common.{◌⊎◌, inl, inr}
 use Rattle.std.specs.List.{All, Contains}
 use Rattle.std.proofs.lemmas.List.{append_assoc, drop_more, take_more_set, take-set}
-use Rattle.std.proofs.lemmas.List.Elements.{All-contains, Contains-append_left, Contains-get_or, Contains-push, Contains-push_cases}
+use Rattle.std.proofs.lemmas.List.Elements.{All-contains, All-head, Contains-append_left, Contains-get_or, Contains-push, Contains-push_cases}
 use Rattle.std.proofs.Math.ListN.{drop_of_length-le}
 use mir.Val.{bool_byte}
-use Rattle.mcf_instance.specs.Network.{Network}
+use Rattle.mcf_instance.specs.Network.{Network, node_count}
 use Rattle.mcf_network.specs.declared.rid.Rid.{Rid}
 use Rattle.mcf_network.specs.Stars.{Leaves}
 use Rattle.mcf_network.specs.States.{Pseudoflow, IsPseudoflow}
 use Rattle.mcf_network.proofs.Lists.{All-behind}
 use Rattle.mcf_prices.specs.Heaps.{Keyed}
 use Rattle.mcf_prices.specs.NearPrices.{AreNearPrices}
-use Rattle.mcf_prices.specs.Private.Raisings.{ArePicked, CostsAtLeast, IsPassedFrom, IsRaising, label}
-use Rattle.mcf_prices.proofs.RaisingSteps.{picked_list}
+use Rattle.mcf_prices.specs.Private.Raisings.{ArePicked, CostsAtLeast, IsLastSettled, IsPassedFrom, IsRaising, label}
+use Rattle.mcf_prices.proofs.RaisingSteps.{IsFound, picked_list}
 use Rattle.mcf_prices.proofs.Relaxing.{reverse}
 
 -- one residual arc more, which is put behind those that were picked, or whose reverse costs so much or more
@@ -99,4 +99,26 @@ split s scale slack y flow near h w base passed list picked rest is from leaves 
           (Contains-append_left pick.first rest (get_or picked i d) (pick.some (get_or picked i d) (Contains-get_or picked i d l)));
       rest_leaves = All-behind (Leaves s.net w) pick.first rest whole;
       search = picked_list s scale slack y flow near h w base passed list picked rest is from leaves pick search;
+    }
+
+-- one pick of a table alone
+pub only_pick : (picks : List Rid) (count : ℕ) (out : Rid) → count ≡ 1 → count < length picks → out ≡ get_or picks 0 out → take count picks ≡ out ∷ []
+only_pick [] count out one inside is = absurd (omega (arith, inside))
+only_pick (first ∷ picks) count out one inside is =
+    ap (λ k. take k (first ∷ picks)) one ∙ ap (λ (r : Rid). r ∷ []) (sym is)
+
+-- it is the last residual arc that is to come, where there is no rest
+pub only_found : (s : Pseudoflow) (scale slack : ℕ) (y : List ℤ) (h : Keyed) (w : ℕ) (base : ℤ) (picks rest : List Rid) (count : ℕ) (out : Rid)
+    → IsSplit s scale slack y h w (take count picks) rest → count ≡ 1 → count < length picks → rest ≡ [] → out ≡ get_or picks 0 out
+    → IsLastSettled (node_count s.net) h w → base ≡ label y h w → IsFound s scale slack y h w base out []
+only_found s scale slack y h w base picks rest count out both one inside none is last base_is =
+    let only = only_pick picks count out one inside is in
+    let leaves = All-head (Leaves s.net w) out [] (subst (λ (l : List Rid). All (Leaves s.net w) l) only both.leaves) in
+    record {
+      arc = leaves.arc;
+      leaves = subst (λ (l : List Rid). All (Leaves s.net w) l) none both.rest_leaves;
+      search = subst (λ (l : List Rid). IsRaising s scale slack y h (l ++ [])) only
+          (subst (λ (l : List Rid). IsRaising s scale slack y h (take count picks ++ l)) none both.search);
+      last = subst (λ x. IsLastSettled (node_count s.net) h x) (sym leaves.from) last;
+      base_is = base_is ∙ ap (λ x. label y h x) (sym leaves.from);
     }

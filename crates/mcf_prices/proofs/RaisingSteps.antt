@@ -1,5 +1,5 @@
 -- What the steps of a search for the greatest prices keep.
-use Rattle.std.proofs.Common.{◌≡◌, ◌≢◌, ℕ, ◌+◌, ◌-◌, ◌≤◌, Bool, true, false, List, [], ◌∷◌, ◌++◌, length, set, ℤ, pos, ◌+ℤ◌, ◌-ℤ◌, ◌*ℤ◌, ◌≤ℤ◌, ◌<ℤ◌, refl, sym}
+use Rattle.std.proofs.Common.{◌≡◌, ◌≢◌, ℕ, ◌+◌, ◌-◌, ◌≤◌, Bool, true, false, List, [], ◌∷◌, ◌++◌, length, set, ℤ, pos, ◌+ℤ◌, ◌-ℤ◌, ◌*ℤ◌, ◌≤ℤ◌, refl, sym}
 use Rattle.std.proofs.Common.{ap, subst, ◌∙◌, arith, ◌⊎◌, inl, inr, length-set}
 use Rattle.std.specs.Prelude.{◌↔◌, not}
 use Rattle.std.specs.List.{All, Contains}
@@ -15,7 +15,7 @@ use Rattle.mcf_instance.proofs.IntLaws.{add-mul, mul-mono_left, zero-mul}
 use Rattle.mcf_network.specs.declared.rid.Rid.{Rid}
 use Rattle.mcf_network.specs.NodeSets.{member_count}
 use Rattle.mcf_network.specs.Residual.{tail, head, unit_cost}
-use Rattle.mcf_network.specs.Stars.{Leaves, ListsLeaving}
+use Rattle.mcf_network.specs.Stars.{Leaves}
 use Rattle.mcf_network.specs.States.{Pseudoflow, IsPseudoflow}
 use Rattle.mcf_network.specs.Walks.{HasRoom}
 use Rattle.mcf_network.proofs.ArcLaws.{head_is_node, tail_is_node}
@@ -23,7 +23,7 @@ use Rattle.mcf_network.proofs.Lists.{All-behind, Contains-cons}
 use Rattle.mcf_network.proofs.Marks.{count_small}
 use Rattle.mcf_prices.specs.Heaps.{ComesFirst, IsFirst, Keyed, Waits, waiting_with, with_key, without}
 use Rattle.mcf_prices.specs.NearPrices.{AreNearPrices, near_limit}
-use Rattle.mcf_prices.specs.Private.Raisings.{ArePassed, ArePicked, CostsAtLeast, IsLastSettled, IsLength, IsPassedFrom, IsPopped, IsRaising, IsReady, KeepsSettled, RespectsLabel, Settled}
+use Rattle.mcf_prices.specs.Private.Raisings.{ArePassed, ArePicked, CostsAtLeast, IsLastSettled, IsLength, IsPassedFrom, IsPopped, IsRaising, IsReady, IsScanned, IsSettledNext, KeepsSettled, RespectsLabel, Settled}
 use Rattle.mcf_prices.specs.Private.Raisings.{label, label_reach, step}
 use Rattle.mcf_prices.proofs.HeapPlaces.{count_less}
 use Rattle.mcf_prices.proofs.LabelLengths.{length_fewer, length_next, length_zero}
@@ -71,6 +71,16 @@ last_kept nodes h h' w keeps last =
           omega (arith, ints, low, a, b);
     }
 
+-- a node that waits, and none that waits has a less key
+pub record HasLeastKey (h : Keyed) (v : ℕ) : Type 0 where
+  pub is_node : IsNode (length h.waiting) v
+  pub waits : Waits h v
+  pub least : (w : ℕ) → IsNode (length h.waiting) w → Waits h w → at_node h.keys v ≤ℤ at_node h.keys w
+
+pub first_is_least : (h : Keyed) (v : ℕ) → IsFirst h v → HasLeastKey h v
+first_is_least h v first =
+    record { is_node = first.is_node; waits = first.waits; least = λ w n e. comes_first_low _ _ _ _ (first.precedes w n e) }
+
 -- one after the other
 pub keeps_join : (nodes : ℕ) (a b c : Keyed) → KeepsSettled nodes a b → KeepsSettled nodes b c → KeepsSettled nodes a c
 keeps_join nodes a b c first second =
@@ -97,6 +107,14 @@ passed_more s passed list rest out costs before =
 pub record IsRelaxed (s : Pseudoflow) (scale slack : ℕ) (y : List ℤ) (h h' : Keyed) (out : Rid) : Type 0 where
   pub search : (rest : List Rid) → IsRaising s scale slack y h (out ∷ rest) → IsRaising s scale slack y h' rest
   pub keeps : KeepsSettled (node_count s.net) h h'
+
+-- the last residual arc of all was respected, or relaxed
+pub scanned_kept : (s : Pseudoflow) (scale slack : ℕ) (y : List ℤ) (h : Keyed) → IsRaising s scale slack y h [] → IsScanned s scale slack y h h
+scanned_kept s scale slack y h search = record { search = search; waiting = refl }
+
+pub scanned_lowered : (s : Pseudoflow) (scale slack : ℕ) (y : List ℤ) (h h' : Keyed) (out : Rid) → IsRelaxed s scale slack y h h' out
+    → IsRaising s scale slack y h (out ∷ []) → IsScanned s scale slack y h h'
+scanned_lowered s scale slack y h h' out relaxed search = record { search = relaxed.search [] search; waiting = relaxed.keeps.waiting }
 
 -- a residual arc that leaves the node that was settled last, whose label is the base, and those after it are still to come
 pub record IsFound (s : Pseudoflow) (scale slack : ℕ) (y : List ℤ) (h : Keyed) (w : ℕ) (base : ℤ) (out : Rid) (rest : List Rid) : Type 0 where
@@ -152,9 +170,9 @@ module _ (s : Pseudoflow) (scale slack : ℕ) (y : List ℤ) (flow : IsPseudoflo
         respects = λ r room e. absurd (waits (head s.net r) (head_node r room) e);
       }
 
-  -- ---- the first node is taken out, and settled
+  -- ---- a node with the least key is taken out, and settled
 
-  module _ (h : Keyed) (w : ℕ) (search : IsRaising s scale slack y h []) (first : IsFirst h w) where
+  module _ (h : Keyed) (w : ℕ) (search : IsRaising s scale slack y h []) (first : HasLeastKey h w) where
     here : IsNode (node_count s.net) w
     here = let n = first.is_node in (n.0, omega (arith, n, search.waiting_count))
 
@@ -172,7 +190,7 @@ module _ (s : Pseudoflow) (scale slack : ℕ) (y : List ℤ) (flow : IsPseudoflo
     pub fewer : member_count (without h w).waiting + 1 ≡ member_count h.waiting
     fewer = let n = first.is_node in count_less h.waiting (w - 1) (omega (arith, n)) first.waits
 
-    pub popped_last : IsLastSettled (node_count s.net) (without h w) w
+    popped_last : IsLastSettled (node_count s.net) (without h w) w
     popped_last =
         record {
           is_node = here;
@@ -184,7 +202,7 @@ module _ (s : Pseudoflow) (scale slack : ℕ) (y : List ℤ) (flow : IsPseudoflo
         }
 
     -- whatever list has the reverses of the residual arcs that enter the node, but for those that are respected
-    pub popped_any : (rest : List Rid)
+    popped_any : (rest : List Rid)
         → ((r : Rid) → HasRoom s r → head s.net r ≡ w → RespectsLabel s scale slack y (without h w) r ⊎ Contains rest (reverse r))
         → IsRaising s scale slack y (without h w) rest
     popped_any rest entering =
@@ -202,7 +220,7 @@ module _ (s : Pseudoflow) (scale slack : ℕ) (y : List ℤ) (flow : IsPseudoflo
           above = search.above;
           level = λ u v m n e waits. elim (settled_before u m.0 e) [
             | inl is ↦ (
-                let low = comes_first_low _ _ _ _ (first.precedes v (n.0, omega (arith, n, search.waiting_count)) (waited_before v n.0 waits)) in
+                let low = first.least v (n.0, omega (arith, n, search.waiting_count)) (waited_before v n.0 waits) in
                 let same = ap (at_node h.keys) is in
                 omega (arith, ints, low, same))
             | inr was ↦ search.level u v m n was (waited_before v n.0 waits)
@@ -212,10 +230,6 @@ module _ (s : Pseudoflow) (scale slack : ℕ) (y : List ℤ) (flow : IsPseudoflo
             | inr was ↦ elim (search.respects r room was) [ inl a ↦ inl a | inr has ↦ absurd (none_contained (reverse r) has) ]
           ];
         }
-
-    pub popped : (list : List Rid) → ListsLeaving s.net w list → IsRaising s scale slack y (without h w) list
-    popped list lists =
-        popped_any list (λ r room is. inr (lists.every (reverse r) (record { arc = room.arc; from = tail_reversed s.net r.arc r.back ∙ is })))
 
     pub popped_is : IsPopped s scale slack y (without h w) w
     popped_is =
@@ -361,7 +375,7 @@ module _ (s : Pseudoflow) (scale slack : ℕ) (y : List ℤ) (flow : IsPseudoflo
     pub lowered_keeps : KeepsSettled (node_count s.net) h (with_key h (tail s.net r) key)
     lowered_keeps = record { waiting = refl; keys = λ v n e. settled_key v n.0 e }
 
-    module _ (less : key <ℤ at_node h.keys (tail s.net r)) (out : Rid) (back : reverse out ≡ r) (rest : List Rid)
+    module _ (less : key ≤ℤ at_node h.keys (tail s.net r)) (out : Rid) (back : reverse out ≡ r) (rest : List Rid)
         (search : IsRaising s scale slack y h (out ∷ rest)) where
       no_rise : (v : ℕ) → 1 ≤ v → label y (with_key h (tail s.net r) key) v ≤ℤ label y h v
       no_rise v low =
@@ -462,7 +476,7 @@ module _ (s : Pseudoflow) (scale slack : ℕ) (y : List ℤ) (flow : IsPseudoflo
 
     pub relax_lowered : (h' : Keyed) (from : ℕ) (base price key : ℤ) → HasRoom s (reverse out) → length h.keys ≡ node_count s.net
         → from ≡ tail s.net (reverse out) → Waits h from → base ≡ label y h (tail s.net out) → price ≡ at_node y from
-        → key ≡ base +ℤ step s scale slack (reverse out) -ℤ price → key <ℤ at_node h.keys from → h' ≡ waiting_with h from key
+        → key ≡ base +ℤ step s scale slack (reverse out) -ℤ price → key ≤ℤ at_node h.keys from → h' ≡ waiting_with h from key
         → IsRelaxed s scale slack y h h' out
     relax_lowered h' from base price key room count e waits base_is price_is key_is less new =
         let there : Waits h (tail s.net (reverse out)) = subst (λ x. Waits h x) e waits in
@@ -471,7 +485,7 @@ module _ (s : Pseudoflow) (scale slack : ℕ) (y : List ℤ) (flow : IsPseudoflo
         let c = ap (λ x. label y h x) (head_reversed s.net out.arc out.back) in
         let is : key ≡ label y h (head s.net (reverse out)) +ℤ step s scale slack (reverse out) -ℤ at_node y (tail s.net (reverse out)) = omega
         (arith, ints, a, c, base_is, price_is, key_is) in
-        let fewer : key <ℤ at_node h.keys (tail s.net (reverse out)) = omega (arith, ints, b, less) in
+        let fewer : key ≤ℤ at_node h.keys (tail s.net (reverse out)) = omega (arith, ints, b, less) in
         let same : h' ≡ with_key h (tail s.net (reverse out)) key = new ∙ ap (λ x. waiting_with h x key) e ∙ waiting_again h (tail s.net (reverse out)) key
         there in
         record {
@@ -479,3 +493,38 @@ module _ (s : Pseudoflow) (scale slack : ℕ) (y : List ℤ) (flow : IsPseudoflo
               (lowered h (reverse out) key room count last_head there is fewer out refl rest search);
           keeps = subst (λ x. KeepsSettled (node_count s.net) h x) (sym same) (lowered_keeps h (reverse out) key room count last_head there is);
         }
+
+    -- the tail is settled at once, with a key that is no greater than that of the node that was settled last
+    pub relax_settles : (h' : Keyed) (from : ℕ) (base price key : ℤ) → HasRoom s (reverse out) → IsRaising s scale slack y h (out ∷ [])
+        → from ≡ tail s.net (reverse out) → Waits h from → base ≡ label y h (tail s.net out) → price ≡ at_node y from
+        → key ≡ base +ℤ step s scale slack (reverse out) -ℤ price → key ≤ℤ at_node h.keys from → key ≤ℤ at_node h.keys (tail s.net out)
+        → h' ≡ without (with_key h from key) from → IsSettledNext s scale slack y h h' from
+    relax_settles h' from base price key room search e waits base_is price_is key_is less tied new =
+        let t = tail s.net (reverse out) in
+        let there : Waits h (tail s.net (reverse out)) = subst (λ x. Waits h x) e waits in
+        let a = ap (at_node y) e in
+        let b = ap (at_node h.keys) e in
+        let c = ap (λ x. label y h x) (head_reversed s.net out.arc out.back) in
+        let is : key ≡ label y h (head s.net (reverse out)) +ℤ step s scale slack (reverse out) -ℤ at_node y (tail s.net (reverse out)) = omega
+        (arith, ints, a, c, base_is, price_is, key_is) in
+        let lower : key ≤ℤ at_node h.keys (tail s.net (reverse out)) = omega (arith, ints, b, less) in
+        let node = tail_node (reverse out) room in
+        let read = lower_read h (reverse out) key room search.key_count last_head there is in
+        let here : at_node (with_key h t key).keys t ≡ key = elim (read t node.0) [ inl (_, k) ↦ k | inr (n, _) ↦ absurd (n refl) ] in
+        let raising = lowered h (reverse out) key room search.key_count last_head there is lower out refl [] search in
+        let least : HasLeastKey (with_key h t key) t = record {
+          is_node = (node.0, omega (arith, node, search.waiting_count));
+          waits = there;
+          least = λ v n waiting. elim (read v n.0) [
+            | inl (_, k) ↦ omega (arith, ints, here, k)
+            | inr (_, same) ↦ (
+                let up = search.level (tail s.net out) v last.is_node (n.0, omega (arith, n, search.waiting_count)) last.is_settled waiting in
+                omega (arith, ints, here, same, up, tied))
+          ];
+        } in
+        let made : IsSettledNext s scale slack y h (without (with_key h t key) t) t = record {
+          popped = popped_is (with_key h t key) t raising least;
+          fewer = fewer (with_key h t key) t raising least;
+        } in
+        subst (λ x. IsSettledNext s scale slack y h x from) (sym new)
+        (subst (λ v. IsSettledNext s scale slack y h (without (with_key h v key) v) v) (sym e) made)

@@ -5,4 +5,5 @@ pub mod Rounds
 pub mod Trails
 pub mod Raisings
 pub mod ItemHeaps
+pub mod KeyLists
 pub mod Shortlists

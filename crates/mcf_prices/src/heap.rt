@@ -104,6 +104,18 @@ impl Heap {
         Some(NodeId::at(item))
     }
 
+    /// Gives a node that waits a key, with which it waits no more: it is taken out wherever it stands. That takes time that
+    /// grows with the logarithm of how many wait, and mostly constant time, since most stand near the bottom.
+    pub fn settle(&mut self, v: NodeId, key: i128)
+        requires node { IsNode (length self.old.waiting) v }
+        requires waits { Waits self.old v }
+        ensures { self.new ≡ without (with_key self.old v key) v }
+    {
+        let item = v.get() - 1;
+        self.items.remove(item);
+        self.items.set_key(item, key);
+    }
+
     /// Takes all nodes out, in time that grows with how many wait and not with how many there are. They keep
     /// their keys.
     pub fn clear(&mut self)

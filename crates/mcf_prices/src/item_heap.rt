@@ -3,9 +3,10 @@ ghost use Rattle.std.specs.Prelude.{◌≡◌, ◌≢◌, ◌+◌, ◌*◌, ◌^
 ghost use Rattle.std.specs.Prelude.{slice_index_or, slice_set};
 ghost use Rattle.std.specs.Bool.{MatchBool};
 ghost use Rattle.mcf_prices.specs.Heaps.{ComesFirst};
-ghost use Rattle.mcf_prices.specs.Private.ItemHeaps.{AreShort, AreShortBut, IsChild, IsHeap, IsOrdered, IsOrderedAbove, IsOrderedBelow, IsPlaced, IsPlacedBut, IsShort, Precedes, PrecedesAll};
+ghost use Rattle.mcf_prices.specs.Private.ItemHeaps.{AreShort, AreShortBut, IsChild, IsHeap, IsOrdered, IsOrderedAbove, IsOrderedBelow, IsOrderedBut, IsPlaced, IsPlacedBut, IsShort, Precedes, PrecedesAll};
 ghost use Rattle.mcf_prices.specs.Private.ItemHeaps.{entry, key_at, table_of};
 
+use crate::keys::{Keys, cut, is_inside};
 use mcf_instance::copies;
 use mcf_text::NoMemory;
 use std::alloc::Global;
@@ -15,7 +16,7 @@ use std::alloc::Global;
 /// keys only where these are equal.
 #[derive(Drop)]
 pub(crate) struct ItemHeap {
-    keys: Vec<i128>,
+    keys: Keys,
     slots: Vec<u32>,
     shorts: Vec<i64>,
     places: Vec<u32>,
@@ -28,11 +29,11 @@ impl ItemHeap {
         requires { items < 2 ^ 31 }
         ensures valid { IfOk result IsHeap }
         ensures items { IfOk result (λ h. length h.places.items ≡ items) }
-        ensures keys { IfOk result (λ h. h.keys.items ≡ replicate items (pos 0)) }
+        ensures keys { IfOk result (λ h. h.keys ≡ replicate items (pos 0)) }
         ensures none { IfOk result (λ h. table_of h.places.items ≡ replicate items false) }
         ensures wants { OnErr result (1 ≤ items) }
     {
-        let keys = copies(alloc, items, 0)?;
+        let keys = Keys::new(alloc, items)?;
         let slots = copies(alloc, items, 0)?;
         let shorts = copies(alloc, items, 0)?;
         let places = copies(alloc, items, 0)?;
@@ -50,22 +51,22 @@ impl ItemHeap {
         requires valid { IsHeap self.old }
         requires items { length self.old.places.items < 2 ^ 31 }
         requires item { v < length self.old.places.items }
-        requires low { 0 < entry self.old.places.items v → key ≤ℤ key_at self.old.keys.items v }
+        requires low { 0 < entry self.old.places.items v → key ≤ℤ key_at self.old.keys v }
         ensures valid { IsHeap self.new }
         ensures table { table_of self.new.places.items ≡ slice_set (table_of self.old.places.items) v true }
-        ensures keys { self.new.keys.items ≡ slice_set self.old.keys.items v key }
+        ensures keys { self.new.keys ≡ slice_set self.old.keys v key }
     {
-        self.keys[v as usize] = key;
+        self.keys.set(v as usize, key);
         let at = self.slot_for(v);
         self.rise(at, v, cut(key));
     }
 
     /// The key of an item, with which it waits or last waited.
     pub(crate) fn key(&self, v: u32) -> i128
-        requires { v < length self.now.keys.items }
-        ensures { result ≡ key_at self.now.keys.items v }
+        requires { v < length self.now.keys }
+        ensures { result ≡ key_at self.now.keys v }
     {
-        self.keys[v as usize]
+        self.keys.get(v as usize)
     }
 
     /// Whether an item waits.
@@ -82,10 +83,10 @@ impl ItemHeap {
         requires item { v < length self.old.places.items }
         requires idle { slice_index_or (table_of self.old.places.items) v false ≡ false }
         ensures valid { IsHeap self.new }
-        ensures keys { self.new.keys.items ≡ slice_set self.old.keys.items v key }
+        ensures keys { self.new.keys ≡ slice_set self.old.keys v key }
         ensures places { self.new.places ≡ self.old.places }
     {
-        self.keys[v as usize] = key;
+        self.keys.set(v as usize, key);
     }
 
     /// The item that precedes all that wait, if one does.
@@ -118,6 +119,29 @@ impl ItemHeap {
         let first = self.slots[0];
         self.take_first(first);
         Some(first)
+    }
+
+    /// Takes an item that waits out of its slot. The last one is in hand then, and rises or sinks from there.
+    #[inline(never)]
+    pub(crate) fn remove(&mut self, gone: u32)
+        requires valid { IsHeap self.old }
+        requires items { length self.old.places.items < 2 ^ 31 }
+        requires item { gone < length self.old.places.items }
+        requires waits { slice_index_or (table_of self.old.places.items) gone false ≡ true }
+        ensures valid { IsHeap self.new }
+        ensures table { table_of self.new.places.items ≡ slice_set (table_of self.old.places.items) gone false }
+        ensures keys { self.new.keys ≡ self.old.keys }
+    {
+        let at = self.slot_of(gone);
+        let last = self.count - 1;
+        self.places[gone as usize] = 0;
+        self.count = last;
+        if at == last {
+            return;
+        }
+        let v = self.slots[last as usize];
+        let short = self.shorts[last as usize];
+        self.put_back(at, v, short);
     }
 
     /// Takes all items out, in time that grows with how many wait and not with how many there are.
@@ -155,6 +179,18 @@ impl ItemHeap {
         let count = self.count;
         self.count = count + 1;
         count
+    }
+
+    // The slot of an item that waits.
+    #[inline(always)]
+    fn slot_of(&self, v: u32) -> u32
+        requires placed { IsPlaced self.now.count self.now.slots.items self.now.places.items }
+        requires item { v < length self.now.places.items }
+        requires waits { slice_index_or (table_of self.now.places.items) v false ≡ true }
+        ensures within { result < self.now.count }
+        ensures item { entry self.now.slots.items result ≡ v }
+    {
+        self.places[v as usize] - 1
     }
 
     // Takes out the first item. The last one is in hand then, and sinks from the first slot.
@@ -196,16 +232,38 @@ impl ItemHeap {
         self.count = last;
     }
 
+    // Writes an item, whose cut key is in hand, into a slot anywhere, and lets it rise or sink from there.
+    fn put_back(&mut self, at: u32, v: u32, short: i64)
+        requires placed { IsPlacedBut self.old.count self.old.slots.items self.old.places.items at v }
+        requires items { length self.old.places.items < 2 ^ 31 }
+        requires counted { length self.old.keys ≡ length self.old.places.items }
+        requires room { length self.old.shorts.items ≡ length self.old.slots.items }
+        requires slot { at < self.old.count }
+        requires short { IsShort (key_at self.old.keys v) short }
+        requires shorts { AreShortBut self.old.keys self.old.count self.old.slots.items self.old.shorts.items at }
+        requires order { IsOrderedBut self.old.keys self.old.count (slice_set self.old.slots.items at v) at }
+        ensures valid { IsHeap self.new }
+        ensures table { table_of self.new.places.items ≡ table_of (slice_set self.old.places.items v (at + 1)) }
+        ensures keys { self.new.keys ≡ self.old.keys }
+    {
+        if precedes_parent(&self.keys, &self.slots, &self.shorts, at, v, short) {
+            self.rise(at, v, short);
+            return;
+        }
+        self.sink(at, v, short);
+    }
+
     // Writes an item, whose cut key is in hand, into a slot, and lets it rise from there until its parent precedes it.
+    #[inline(always)]
     fn rise(&mut self, from: u32, v: u32, short: i64)
         requires placed { IsPlacedBut self.old.count self.old.slots.items self.old.places.items from v }
         requires items { length self.old.places.items < 2 ^ 31 }
-        requires counted { length self.old.keys.items ≡ length self.old.places.items }
+        requires counted { length self.old.keys ≡ length self.old.places.items }
         requires room { length self.old.shorts.items ≡ length self.old.slots.items }
         requires slot { from < self.old.count }
-        requires short { IsShort (key_at self.old.keys.items v) short }
-        requires shorts { AreShortBut self.old.keys.items self.old.count self.old.slots.items self.old.shorts.items from }
-        requires order { IsOrderedAbove self.old.keys.items self.old.count (slice_set self.old.slots.items from v) from }
+        requires short { IsShort (key_at self.old.keys v) short }
+        requires shorts { AreShortBut self.old.keys self.old.count self.old.slots.items self.old.shorts.items from }
+        requires order { IsOrderedAbove self.old.keys self.old.count (slice_set self.old.slots.items from v) from }
         ensures valid { IsHeap self.new }
         ensures table { table_of self.new.places.items ≡ table_of (slice_set self.old.places.items v (from + 1)) }
         ensures keys { self.new.keys ≡ self.old.keys }
@@ -225,15 +283,16 @@ impl ItemHeap {
 
     // Writes an item, whose cut key is in hand, into a slot, and lets it sink from there until it precedes its
     // children.
+    #[inline(always)]
     fn sink(&mut self, from: u32, v: u32, short: i64)
         requires placed { IsPlacedBut self.old.count self.old.slots.items self.old.places.items from v }
         requires items { length self.old.places.items < 2 ^ 31 }
-        requires counted { length self.old.keys.items ≡ length self.old.places.items }
+        requires counted { length self.old.keys ≡ length self.old.places.items }
         requires room { length self.old.shorts.items ≡ length self.old.slots.items }
         requires slot { from < self.old.count }
-        requires short { IsShort (key_at self.old.keys.items v) short }
-        requires shorts { AreShortBut self.old.keys.items self.old.count self.old.slots.items self.old.shorts.items from }
-        requires order { IsOrderedBelow self.old.keys.items self.old.count (slice_set self.old.slots.items from v) from }
+        requires short { IsShort (key_at self.old.keys v) short }
+        requires shorts { AreShortBut self.old.keys self.old.count self.old.slots.items self.old.shorts.items from }
+        requires order { IsOrderedBelow self.old.keys self.old.count (slice_set self.old.slots.items from v) from }
         ensures valid { IsHeap self.new }
         ensures table { table_of self.new.places.items ≡ table_of (slice_set self.old.places.items v (from + 1)) }
         ensures keys { self.new.keys ≡ self.old.keys }
@@ -253,8 +312,9 @@ impl ItemHeap {
 }
 
 // Lets an item rise from a slot until its parent precedes it. It is kept in hand, and written once.
+#[inline(always)]
 fn rise_from(
-    keys: &[i128],
+    keys: &Keys,
     slots: &mut [u32],
     shorts: &mut [i64],
     places: &mut [u32],
@@ -284,7 +344,7 @@ fn rise_from(
 // Of `count`, how many slots are in use, only the clauses speak.
 #[inline(always)]
 fn raise_gap(
-    keys: &[i128],
+    keys: &Keys,
     slots: &mut [u32],
     shorts: &mut [i64],
     places: &mut [u32],
@@ -322,8 +382,9 @@ fn raise_gap(
 }
 
 // Lets an item sink from a slot until it precedes its children. It is kept in hand, and written once.
+#[inline(always)]
 fn sink_from(
-    keys: &[i128],
+    keys: &Keys,
     slots: &mut [u32],
     shorts: &mut [i64],
     places: &mut [u32],
@@ -352,7 +413,7 @@ fn sink_from(
 // Lowers a gap, the slot of an item that is in hand, until that item precedes its children, and says where it is then.
 #[inline(always)]
 fn lower_gap(
-    keys: &[i128],
+    keys: &Keys,
     slots: &mut [u32],
     shorts: &mut [i64],
     places: &mut [u32],
@@ -392,7 +453,7 @@ fn lower_gap(
 // The slot of the child that precedes the other; there is one. Whether it is the right one is added as a number, and
 // no branch depends on it.
 #[inline(always)]
-fn first_child(keys: &[i128], slots: &[u32], shorts: &[i64], count: u32, at: u32) -> u32
+fn first_child(keys: &Keys, slots: &[u32], shorts: &[i64], count: u32, at: u32) -> u32
     requires some { 2 * at + 1 < count }
     requires slots { count ≤ length slots.now }
     requires room { length shorts.now ≡ length slots.now }
@@ -411,7 +472,7 @@ fn first_child(keys: &[i128], slots: &[u32], shorts: &[i64], count: u32, at: u32
 
 // Whether what a slot holds comes after what the next one holds.
 #[inline(always)]
-fn right_is_first(keys: &[i128], slots: &[u32], shorts: &[i64], left: u32) -> bool
+fn right_is_first(keys: &Keys, slots: &[u32], shorts: &[i64], left: u32) -> bool
     requires slots { left + 1 < length slots.now }
     requires room { length shorts.now ≡ length slots.now }
     requires small { left + 1 < 2 ^ 32 }
@@ -425,9 +486,33 @@ fn right_is_first(keys: &[i128], slots: &[u32], shorts: &[i64], left: u32) -> bo
     let short_left = shorts[left as usize];
     let short_right = shorts[right as usize];
     if short_left == short_right {
-        return precedes_by_key(keys, slots[right as usize], slots[left as usize]);
+        let first = slots[left as usize];
+        let second = slots[right as usize];
+        return precedes_tied(keys, second, first, short_left);
     }
     short_right < short_left
+}
+
+// Whether an item in hand, for which a slot is left, precedes the item of the slot's parent. The first slot has none.
+#[inline(always)]
+fn precedes_parent(keys: &Keys, slots: &[u32], shorts: &[i64], at: u32, v: u32, short: i64) -> bool
+    requires slot { at < length slots.now }
+    requires room { length shorts.now ≡ length slots.now }
+    requires item { v < length keys.now }
+    requires short { IsShort (key_at keys.now v) short }
+    requires parent { (p : ℕ) → IsChild p at → entry slots.now p < length keys.now }
+    requires shorts { (p : ℕ) → IsChild p at → IsShort (key_at keys.now (entry slots.now p)) (key_at shorts.now p) }
+    ensures some { result ≡ true → 0 < at }
+    ensures before { result ≡ true → (p : ℕ) → IsChild p at → Precedes keys.now v (entry slots.now p) }
+    ensures behind { result ≡ false → (p : ℕ) → IsChild p at → Precedes keys.now (entry slots.now p) v }
+{
+    if at == 0 {
+        return false;
+    }
+    let above = (at - 1) / 2;
+    let w = slots[above as usize];
+    let other = shorts[above as usize];
+    precedes(keys, v, short, w, other)
 }
 
 // Puts an item with its cut key into a slot.
@@ -448,7 +533,7 @@ fn put(slots: &mut [u32], shorts: &mut [i64], places: &mut [u32], at: u32, item:
 
 // Whether an item precedes another, with both cut keys in hand.
 #[inline(always)]
-fn precedes(keys: &[i128], a: u32, short_a: i64, b: u32, short_b: i64) -> bool
+fn precedes(keys: &Keys, a: u32, short_a: i64, b: u32, short_b: i64) -> bool
     requires a { a < length keys.now }
     requires b { b < length keys.now }
     requires short_a { IsShort (key_at keys.now a) short_a }
@@ -456,19 +541,34 @@ fn precedes(keys: &[i128], a: u32, short_a: i64, b: u32, short_b: i64) -> bool
     ensures { MatchBool result (Precedes keys.now a b) (Precedes keys.now b a) }
 {
     if short_a == short_b {
-        return precedes_by_key(keys, a, b);
+        return precedes_tied(keys, a, b, short_a);
     }
     short_a < short_b
 }
 
-// Whether an item precedes another, by their keys.
+// Whether an item precedes another, where this is the cut key of both. Their keys are the same if neither was cut.
 #[inline(always)]
-fn precedes_by_key(keys: &[i128], a: u32, b: u32) -> bool
+fn precedes_tied(keys: &Keys, a: u32, b: u32, short: i64) -> bool
+    requires a { a < length keys.now }
+    requires b { b < length keys.now }
+    requires short_a { IsShort (key_at keys.now a) short }
+    requires short_b { IsShort (key_at keys.now b) short }
+    ensures { MatchBool result (Precedes keys.now a b) (Precedes keys.now b a) }
+{
+    if is_inside(short) {
+        return a <= b;
+    }
+    precedes_by_key(keys, a, b)
+}
+
+// Whether an item precedes another, by their keys.
+#[inline(never)]
+fn precedes_by_key(keys: &Keys, a: u32, b: u32) -> bool
     requires a { a < length keys.now }
     requires b { b < length keys.now }
     ensures { MatchBool result (Precedes keys.now a b) (Precedes keys.now b a) }
 {
-    comes_first(keys[a as usize], a, keys[b as usize], b)
+    comes_first(keys.get(a as usize), a, keys.get(b as usize), b)
 }
 
 // Whether item a with its key comes before item b with its.
@@ -477,17 +577,4 @@ fn comes_first(key_a: i128, a: u32, key_b: i128, b: u32) -> bool
     ensures { MatchBool result (ComesFirst key_a a key_b b) (ComesFirst key_b b key_a a) }
 {
     key_a < key_b || (key_a <= key_b && a <= b)
-}
-
-// A key cut to 64 bits: the key itself, or the end of their range that is nearer to it.
-fn cut(key: i128) -> i64
-    ensures { IsShort key result }
-{
-    if key < i64::MIN as i128 {
-        return i64::MIN;
-    }
-    if key > i64::MAX as i128 {
-        return i64::MAX;
-    }
-    key as i64
 }

@@ -6,6 +6,7 @@ ghost use Rattle.mcf_instance.specs.Limits.{node_limit};
 ghost use Rattle.mcf_instance.specs.Network.{IsArcNumber, IsNode, at_node, node_count};
 ghost use Rattle.mcf_instance.specs.WellFormed.{IsUpTo};
 ghost use Rattle.mcf_network.specs.declared.rid.Rid.{Rid};
+ghost use Rattle.mcf_network.specs.NodeSets.{member_count};
 ghost use Rattle.mcf_network.specs.Residual.{tail};
 ghost use Rattle.mcf_network.specs.Stars.{Leaves, ListsLeaving};
 ghost use Rattle.mcf_network.specs.States.{IsPseudoflow, amount_at};
@@ -13,7 +14,7 @@ ghost use Rattle.mcf_prices.specs.Heaps.{NoneWaits};
 ghost use Rattle.mcf_prices.specs.Private.Labels.{cost_limit};
 ghost use Rattle.mcf_prices.specs.NearPrices.{AreNearPrices, OptimalPricesAreNear, ShownPricesAreNear, near_limit};
 ghost use Rattle.mcf_prices.specs.Outcomes.{AreStatePrices};
-ghost use Rattle.mcf_prices.specs.Private.Raisings.{ArePassed, ArePicked, AreRounded, CostsAtLeast, IsLastSettled, IsPassedFrom, IsPopped, IsRaising, IsReady, IsRoundedDown, KeepsSettled};
+ghost use Rattle.mcf_prices.specs.Private.Raisings.{ArePassed, ArePicked, AreRounded, CostsAtLeast, IsLastSettled, IsPassedFrom, IsPopped, IsRaising, IsReady, IsRoundedDown, IsScanned, IsSettledNext, KeepsSettled};
 ghost use Rattle.mcf_prices.specs.Private.Shortlists.{HasChain, IsChain, IsWhole};
 ghost use Rattle.mcf_prices.specs.Private.Raisings.{label, label_limit, label_reach, quotient_reach, step};
 
@@ -91,6 +92,36 @@ impl Pricer {
         let picks = self.picks.as_mut_slice();
         settle_nodes(&mut self.heap, short, picks, state, scale, slack, prices);
         round_all(&self.heap, scale, prices);
+    }
+
+    /// Lends its heap to another search, so that both need room for one. No node waits in it.
+    pub fn lend(self) -> (Heap, HeaplessPricer)
+        ensures none { NoneWaits result.0 }
+        ensures nodes { length result.0.waiting ≡ self }
+        ensures keys { length result.0.keys ≡ self }
+    {
+        let Pricer { heap, short, picks } = self;
+        (heap, HeaplessPricer { short, picks })
+    }
+}
+
+/// A pricer that has lent its heap to another search.
+#[derive(Drop)]
+pub struct HeaplessPricer {
+    short: Shortlist,
+    picks: Vec<Rid>,
+}
+
+impl HeaplessPricer {
+    /// The pricer again, with a heap in which no node waits: the one that it lent, or another. It has room for as many nodes as
+    /// the heap.
+    pub fn resume(self, heap: Heap) -> Pricer
+        requires none { NoneWaits heap }
+        requires keys { length heap.keys ≡ length heap.waiting }
+        ensures { result ≡ length heap.waiting }
+    {
+        let HeaplessPricer { short, picks } = self;
+        Pricer { heap, short, picks }
     }
 }
 
@@ -261,15 +292,14 @@ fn settle_listed(
     ensures over { NoneWaits heap.new }
 {
     'nodes: while let Some(v) = heap.pop() {
-        scan_listed(
+        settle_listed_ties(
             heap, passed, heads, entries, picks, state, scale, slack, prices, v,
         );
     }
 }
 
-// Relaxes the residual arcs that enter the node that was settled last, by its chain in a whole list. Where its threshold
-// is too low for its label, the list doesn't serve, and the star of the node does.
-fn scan_listed(
+// Scans the node that was settled last, and each that is settled at once after it, by a whole list.
+fn settle_listed_ties(
     heap: &mut Heap,
     passed: &[i128],
     heads: &[u32],
@@ -287,21 +317,51 @@ fn scan_listed(
     requires whole { IsWhole state.now passed.now heads.now entries.now }
     requires popped { IsPopped state.now scale slack prices.now heap.old v }
     ensures search { IsRaising state.now scale slack prices.now heap.new [] }
-    ensures kept { KeepsSettled (node_count state.now.net) heap.old heap.new }
+    ensures fewer { member_count heap.new.waiting ≤ member_count heap.old.waiting }
+{
+    let mut last = v;
+    'ties: while let Some(u) = scan_listed(
+        heap, passed, heads, entries, picks, state, scale, slack, prices, last,
+    ) {
+        last = u;
+    }
+}
+
+// Relaxes the residual arcs that enter the node that was settled last, by its chain in a whole list. Where its threshold
+// is too low for its label, the list doesn't serve, and the star of the node does. It answers the node that was settled at
+// once, if one was.
+fn scan_listed(
+    heap: &mut Heap,
+    passed: &[i128],
+    heads: &[u32],
+    entries: &[Entry],
+    picks: &mut [Rid],
+    state: &State<'_>,
+    scale: u32,
+    slack: u32,
+    prices: &[i128],
+    v: NodeId,
+) -> Option<NodeId>
+    requires flow { IsPseudoflow state.now }
+    requires near { AreNearPrices state.now scale slack prices.now }
+    requires count { length passed.now ≡ node_count state.now.net }
+    requires whole { IsWhole state.now passed.now heads.now entries.now }
+    requires popped { IsPopped state.now scale slack prices.now heap.old v }
+    ensures some { IfSome result (IsSettledNext state.now scale slack prices.now heap.old heap.new) }
+    ensures none { IfNone result (IsScanned state.now scale slack prices.now heap.old heap.new) }
 {
     let base = label_of(heap, prices, v);
     let least = passing_cost(base, scale);
     let low = threshold(passed, v);
     if low < least {
-        scan(heap, picks, state, scale, slack, prices, v);
-        return;
+        return scan(heap, picks, state, scale, slack, prices, v);
     }
     let cursor = last_of(heads, v);
-    scan_chain(heap, entries, state, scale, slack, prices, v, base, cursor);
+    scan_chain(heap, entries, state, scale, slack, prices, v, base, cursor)
 }
 
 // Relaxes the reverses of the entries of a chain, whose last entry stands before a place. They enter the node that was
-// settled last, and `base` is its label.
+// settled last, and `base` is its label. It answers the node that was settled at once, if one was.
 fn scan_chain(
     heap: &mut Heap,
     entries: &[Entry],
@@ -312,22 +372,27 @@ fn scan_chain(
     v: NodeId,
     base: i128,
     start: u32,
-)
+) -> Option<NodeId>
     requires near { AreNearPrices state.now scale slack prices.now }
     requires base { base ≡ label prices.now heap.old v }
     requires last { IsLastSettled (node_count state.now.net) heap.old v }
     requires chains { IsChain state.now.net entries.now v start }
     requires search { (rest : List Rid) → HasChain state.now.net entries.now v start rest → IsRaising state.now scale slack prices.now heap.old rest }
-    ensures search { IsRaising state.now scale slack prices.now heap.new [] }
-    ensures kept { KeepsSettled (node_count state.now.net) heap.old heap.new }
+    ensures some { IfSome result (IsSettledNext state.now scale slack prices.now heap.old heap.new) }
+    ensures none { IfNone result (IsScanned state.now scale slack prices.now heap.old heap.new) }
 {
     let mut cursor = start;
     'entries: while cursor > 0 {
         let entry = entry_before(entries, cursor);
         let (arc, back) = (ArcId::new(entry.arc), entry.back);
-        relax(heap, state, scale, slack, prices, base, Rid { arc, back });
+        let out = Rid { arc, back };
+        if entry.next == 0 {
+            return relax_last(heap, state, scale, slack, prices, base, out);
+        }
+        relax(heap, state, scale, slack, prices, base, out);
         cursor = entry.next;
     }
+    None
 }
 
 // Settles the nodes, one after another in the order of their keys.
@@ -346,13 +411,12 @@ fn settle_all(
     ensures over { NoneWaits heap.new }
 {
     'nodes: while let Some(w) = heap.pop() {
-        scan(heap, picks, state, scale, slack, prices, w);
+        settle_ties(heap, picks, state, scale, slack, prices, w);
     }
 }
 
-// Relaxes the residual arcs that enter the node that was settled last: first those that are picked, and then the rest, if
-// there is no place for more.
-fn scan(
+// Scans the node that was settled last, and each that is settled at once after it.
+fn settle_ties(
     heap: &mut Heap,
     picks: &mut [Rid],
     state: &State<'_>,
@@ -362,20 +426,56 @@ fn scan(
     w: NodeId,
 )
     requires near { AreNearPrices state.now scale slack prices.now }
+    requires popped { IsPopped state.now scale slack prices.now heap.old w }
+    ensures search { IsRaising state.now scale slack prices.now heap.new [] }
+    ensures fewer { member_count heap.new.waiting ≤ member_count heap.old.waiting }
+{
+    let mut last = w;
+    'ties: while let Some(u) = scan(heap, picks, state, scale, slack, prices, last) {
+        last = u;
+    }
+}
+
+// Relaxes the residual arcs that enter the node that was settled last: first those that are picked, and then the rest, if
+// there is no place for more. It answers the node that was settled at once, if one was: where a single residual arc may
+// lower a key, as the one that enters a matched row from its column.
+fn scan(
+    heap: &mut Heap,
+    picks: &mut [Rid],
+    state: &State<'_>,
+    scale: u32,
+    slack: u32,
+    prices: &[i128],
+    w: NodeId,
+) -> Option<NodeId>
+    requires near { AreNearPrices state.now scale slack prices.now }
     requires last { IsLastSettled (node_count state.now.net) heap.old w }
     requires search { (list : List Rid) → ListsLeaving state.now.net w list → IsRaising state.now scale slack prices.now heap.old list }
-    ensures search { IsRaising state.now scale slack prices.now heap.new [] }
-    ensures kept { KeepsSettled (node_count state.now.net) heap.old heap.new }
+    ensures some { IfSome result (IsSettledNext state.now scale slack prices.now heap.old heap.new) }
+    ensures none { IfNone result (IsScanned state.now scale slack prices.now heap.old heap.new) }
 {
     let mut leaving = state.net().leaving(w);
     let base = label_of(heap, prices, w);
     let passed = passing_cost(base, scale);
     let count = pick(state, picks, &mut leaving, passed);
+    if is_only_pick(count, picks.len()) {
+        return relax_last(heap, state, scale, slack, prices, base, picks[0]);
+    }
     relax_picks(heap, &picks[..count], state, scale, slack, prices, base, w);
     'entering: while let Some(out) = next_offer(&mut leaving, state, passed) {
         let (arc, back) = (out.arc, out.back);
         relax(heap, state, scale, slack, prices, base, Rid { arc, back });
     }
+    None
+}
+
+// Whether one residual arc was picked and no other is left, since there was place for more.
+#[inline(always)]
+fn is_only_pick(count: usize, room: usize) -> bool
+    ensures one { result ≡ true → count ≡ 1 }
+    ensures more { result ≡ true → count < room }
+{
+    count == 1 && room > 1
 }
 
 // Picks the next residual arcs whose reverses may have room and cost less than `passed`, in their order, and counts them.
@@ -384,6 +484,7 @@ fn scan(
 fn pick(state: &State<'_>, picks: &mut [Rid], leaving: &mut Leaving<'_>, passed: i128) -> usize
     requires { All (λ r. IsArcNumber state.now.net r.arc) leaving.old }
     ensures within { result ≤ length picks.new }
+    ensures over { result < length picks.new → leaving.new ≡ [] }
     ensures picked { ArePicked state.now passed leaving.old (take result picks.new) leaving.new }
 {
     let mut count = 0;
@@ -509,6 +610,49 @@ fn relax(
         return;
     }
     heap.lower(from, key);
+}
+
+// Relaxes the reverse of the last residual arc that is to come, as `relax` does. If it offers its tail no more than the key
+// of its head, which was settled last, the tail is settled at once wherever it stands in the heap, since no key that
+// waits is less.
+fn relax_last(
+    heap: &mut Heap,
+    state: &State<'_>,
+    scale: u32,
+    slack: u32,
+    prices: &[i128],
+    base: i128,
+    out: Rid,
+) -> Option<NodeId>
+    requires near { AreNearPrices state.now scale slack prices.now }
+    requires arc { IsArcNumber state.now.net out.arc }
+    requires last { IsLastSettled (node_count state.now.net) heap.old (tail state.now.net out) }
+    requires base { base ≡ label prices.now heap.old (tail state.now.net out) }
+    requires search { IsRaising state.now scale slack prices.now heap.old (out ∷ []) }
+    ensures some { IfSome result (IsSettledNext state.now scale slack prices.now heap.old heap.new) }
+    ensures none { IfNone result (IsScanned state.now scale slack prices.now heap.old heap.new) }
+{
+    let arc = out.arc;
+    let back = !out.back;
+    let (from, to) = state.net().route(Rid { arc, back });
+    if !heap.waits(from) {
+        return None;
+    }
+    let longer = step(state, scale, slack, Rid { arc, back });
+    let key = offered(base, longer, price_of(prices, from));
+    if heap.key(from) < key {
+        return None;
+    }
+    let room = state.room(Rid { arc, back });
+    if room <= 0 {
+        return None;
+    }
+    if key <= heap.key(to) {
+        heap.settle(from, key);
+        return Some(from);
+    }
+    heap.lower(from, key);
+    None
 }
 
 // The price of a node.

@@ -1,6 +1,6 @@
 -- A search for the greatest prices that show a state, from prices that nearly show it: the label of a node is the
 -- least cost, at costs times the scale and with the slack for each arc, of a walk with room that begins there.
-use Rattle.std.specs.Prelude.{◌≡◌, ℕ, ◌+◌, ◌*◌, ◌^◌, ◌≤◌, ◌++◌, false, not, List, length, ℤ, pos, neg_ℤ, ◌+ℤ◌, ◌*ℤ◌, ◌≤ℤ◌, ◌<ℤ◌, ◌⊎◌}
+use Rattle.std.specs.Prelude.{◌≡◌, ℕ, ◌+◌, ◌*◌, ◌^◌, ◌≤◌, ◌++◌, false, not, List, [], length, ℤ, pos, neg_ℤ, ◌+ℤ◌, ◌*ℤ◌, ◌≤ℤ◌, ◌<ℤ◌, ◌⊎◌}
 use Rattle.std.specs.List.{All, Contains}
 use Rattle.mcf_instance.specs.Blocking.{in_table}
 use Rattle.mcf_instance.specs.Flow.{AreLowPrices}
@@ -106,6 +106,16 @@ pub record IsPopped (s : Pseudoflow) (scale slack : ℕ) (y : List ℤ) (h : Key
 pub record KeepsSettled (nodes : ℕ) (old new : Keyed) : Type 0 where
   pub waiting : new.waiting ≡ old.waiting
   pub keys : (v : ℕ) → IsNode nodes v → Settled old v → at_node new.keys v ≡ at_node old.keys v
+
+-- no residual arc is still to come, and the same nodes wait
+pub record IsScanned (s : Pseudoflow) (scale slack : ℕ) (y : List ℤ) (old new : Keyed) : Type 0 where
+  pub search : IsRaising s scale slack y new []
+  pub waiting : new.waiting ≡ old.waiting
+
+-- node u was settled besides, so that one node less waits
+pub record IsSettledNext (s : Pseudoflow) (scale slack : ℕ) (y : List ℤ) (old new : Keyed) (u : ℕ) : Type 0 where
+  pub popped : IsPopped s scale slack y new u
+  pub fewer : member_count new.waiting + 1 ≡ member_count old.waiting
 
 -- each node waits, and has the label 0
 pub record IsReady (y : List ℤ) (h : Keyed) : Type 0 where

@@ -1,4 +1,4 @@
-use Rattle.std.proofs.Common.{◌≡◌, ◌∙◌, ◌+ℤ◌, ◌-ℤ◌, ◌≤ℤ◌, ◌<ℤ◌, ap, subst, arith, rules, to_z, of_z}
+use Rattle.std.proofs.Common.{◌≡◌, ◌∙◌, ◌+ℤ◌, ◌-ℤ◌, ◌≤ℤ◌, ap, subst, arith, rules, to_z, of_z}
 use mir.Syntax.{w128}
 use Rattle.std.proofs.lemmas.Int.{ints, to_z-of_z}
 use Rattle.mcf_instance.specs.Network.{Network, IsNode, at_node, node_count}
@@ -80,7 +80,7 @@ lowered_is c =
     (arith, ints, a, b, d, value, sum) in
     let greater = c.if-key.false in
     let k = c.key.ensures in
-    let less : c.offered-key.result <ℤ at_node c.args.heap.now.keys c.route-from.result.0 = omega (arith, ints, greater, k, e, f) in
+    let less : c.offered-key.result ≤ℤ at_node c.args.heap.now.keys c.route-from.result.0 = omega (arith, ints, greater, k, e, f) in
     let room_is = c.room.ensures.value in
     let some = c.if-room-le0.false in
     let room : HasRoom c.args.state.now (reverse c.args.out) = record { arc = c.requires.arc; room = omega (arith, ints, room_is, some) } in

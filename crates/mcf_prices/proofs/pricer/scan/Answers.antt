@@ -5,7 +5,7 @@ use Rattle.mcf_instance.specs.Network.{Network, node_count}
 use Rattle.mcf_network.specs.Stars.{ListsLeaving}
 use Rattle.mcf_prices.specs.Private.Raisings.{IsPassedFrom}
 use Rattle.mcf_prices.proofs.RaisingSteps.{IsFound, base_kept, found, keeps_join, label_small, last_kept, passed_list, price_small}
-use Rattle.mcf_prices.proofs.Picks.{IsSplit, split}
+use Rattle.mcf_prices.proofs.Picks.{IsSplit, only_found, split}
 use Rattle.mcf_prices.proofs.pricer.scan.Goals as goal
 
 pub label_of-base-requires-clause-key : goal.label_of-base-requires-clause-key
@@ -49,6 +49,35 @@ passing_cost-passed-requires-clause-high c =
     let is = c.label_of-base.ensures in
     let t : to_z w128 (of_z w128 c.label_of-base.result) ≡ c.label_of-base.result = search (rules, to_z-of_z) in
     omega (arith, ints, high, is, t)
+
+-- the only residual arc that was picked, where no other is left
+only : (c : goal.After-index-picks-0)
+    → IsFound c.args.state.now c.args.scale c.args.slack c.args.prices.now c.args.heap.now c.args.w (to_z w128 (of_z w128 c.label_of-base.result))
+    c.index-picks-0.result []
+only c =
+    let t : to_z w128 (of_z w128 c.label_of-base.result) ≡ c.label_of-base.result = search (rules, to_z-of_z) in
+    let p : to_z w128 (of_z w128 c.passing_cost-passed.result) ≡ c.passing_cost-passed.result = search (rules, to_z-of_z) in
+    let lists = subst (λ (g : Network). ListsLeaving g c.args.w c.leaving-leaving.result) c.net.ensures.value c.leaving-leaving.ensures in
+    let from = subst (λ x. IsPassedFrom c.args.scale (to_z w128 (of_z w128 c.label_of-base.result)) x) (sym p) c.passing_cost-passed.ensures in
+    let both = split c.args.state.now c.args.scale c.args.slack c.args.prices.now c.net.ensures.valid c.requires.near c.args.heap.now c.args.w _ _
+    c.leaving-leaving.result (take c.pick-count.result c.pick-count.new.picks) c.pick-count.new.leaving (t ∙ c.label_of-base.ensures) from lists.each_leaves
+    c.pick-count.ensures.picked (c.requires.search c.leaving-leaving.result lists) in
+    let one = c.is_only_pick.ensures.one c.if-is_only_pick.true in
+    let more = c.is_only_pick.ensures.more c.if-is_only_pick.true in
+    only_found c.args.state.now c.args.scale c.args.slack c.args.prices.now c.args.heap.now c.args.w _ c.pick-count.new.picks c.pick-count.new.leaving
+    c.pick-count.result c.index-picks-0.result both one more (c.pick-count.ensures.over more) c.index-picks-0.is c.requires.last (t ∙ c.label_of-base.ensures)
+
+pub relax_last-requires-clause-arc : goal.relax_last-requires-clause-arc
+relax_last-requires-clause-arc c = (only c).arc
+
+pub relax_last-requires-clause-last : goal.relax_last-requires-clause-last
+relax_last-requires-clause-last c = (only c).last
+
+pub relax_last-requires-clause-base : goal.relax_last-requires-clause-base
+relax_last-requires-clause-base c = (only c).base_is
+
+pub relax_last-requires-clause-search : goal.relax_last-requires-clause-search
+relax_last-requires-clause-search c = (only c).search
 
 -- the residual arcs that were picked, and the rest
 picks_first : (c : goal.After-relax_picks-arg-1)
@@ -130,12 +159,13 @@ entering-preserved c =
       kept = keeps_join nodes c.args.heap.now c.entering.heap c.relax.new.heap inv.kept c.relax.ensures.kept;
     }
 
-pub returns-clause-search : goal.returns-clause-search
-returns-clause-search c =
+pub returns-clause-none : goal.returns-clause-none
+returns-clause-none c =
     let inv = c.entering.invariant in
     let t : to_z w128 (of_z w128 c.label_of-base.result) ≡ c.label_of-base.result = search (rules, to_z-of_z) in
     let p : to_z w128 (of_z w128 c.passing_cost-passed.result) ≡ c.passing_cost-passed.result = search (rules, to_z-of_z) in
     let from = subst (λ x. IsPassedFrom c.args.scale (to_z w128 (of_z w128 c.label_of-base.result)) x) (sym p) c.passing_cost-passed.ensures in
-    passed_list c.args.state.now c.args.scale c.args.slack c.args.prices.now c.net.ensures.valid c.requires.near c.entering.heap c.args.w _ _
+    let search = passed_list c.args.state.now c.args.scale c.args.slack c.args.prices.now c.net.ensures.valid c.requires.near c.entering.heap c.args.w _ _
     c.entering.leaving [] (base_kept c.args.prices.now c.args.heap.now c.entering.heap (node_count c.args.state.now.net) c.args.w _
-    (t ∙ c.label_of-base.ensures) c.requires.last inv.kept) from inv.leaves c.in_default.ensures.none inv.search
+    (t ∙ c.label_of-base.ensures) c.requires.last inv.kept) from inv.leaves c.in_default.ensures.none inv.search in
+    record { search = search; waiting = inv.kept.waiting }

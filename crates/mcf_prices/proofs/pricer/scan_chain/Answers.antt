@@ -81,7 +81,28 @@ entries-smaller c =
     let is = ap (λ (e : Entry). e.next) c.entry_before-entry.ensures in
     omega (arith, some, less, is)
 
-pub returns-clause-search : goal.returns-clause-search
-returns-clause-search c =
+-- the same before its last entry is relaxed
+entry_last : (c : goal.After-relax_last-arg-1)
+    → IsNext c.args.state.now c.args.scale c.args.slack c.args.prices.now c.entries.heap c.args.entries.now c.args.v c.entry_before-entry.result.next
+    (to_z w128 (of_z w128 c.args.base)) (record { arc = c.new-arc.result; back = c.entry_before-entry.result.back })
+entry_last c =
+    let inv = c.entries.invariant in
+    let b : to_z w128 (of_z w128 c.args.base) ≡ c.args.base = search (rules, to_z-of_z) in
+    let some = c.entries-test.true in
+    next_entry c.args.state.now c.args.scale c.args.slack c.args.prices.now c.entries.heap c.args.entries.now c.args.v c.entries.cursor
+    (to_z w128 (of_z w128 c.args.base)) c.entry_before-entry.result c.new-arc.result inv.chain (omega (arith, some)) inv.search inv.last
+    (base_kept c.args.prices.now c.args.heap.now c.entries.heap (node_count c.args.state.now.net) c.args.v _ (b ∙ c.requires.base) c.requires.last inv.kept)
+    c.entry_before-entry.ensures c.new-arc.ensures
+
+pub relax_last-requires-clause-search : goal.relax_last-requires-clause-search
+relax_last-requires-clause-search c =
+    (entry_last c).search [] (chain_end c.args.state.now.net c.args.entries.now c.args.v c.entry_before-entry.result.next [] c.if-entry-eq0.true)
+
+pub returns-clause-none : goal.returns-clause-none
+returns-clause-none c =
     let past = c.entries-test.false in
-    c.entries.invariant.search [] (chain_end c.args.state.now.net c.args.entries.now c.args.v c.entries.cursor [] (omega (arith, past)))
+    let inv = c.entries.invariant in
+    record {
+      search = inv.search [] (chain_end c.args.state.now.net c.args.entries.now c.args.v c.entries.cursor [] (omega (arith, past)));
+      waiting = inv.kept.waiting;
+    }

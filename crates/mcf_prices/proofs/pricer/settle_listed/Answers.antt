@@ -1,22 +1,23 @@
-use Rattle.std.proofs.Common.{◌≡◌, [], ap, subst, sym, ◌∙◌, arith}
+use Rattle.std.proofs.Common.{◌≡◌, [], ap, subst, sym, arith}
 use Rattle.mcf_network.specs.NodeSets.{member_count}
 use Rattle.mcf_prices.specs.Heaps.{Keyed, NoneWaits}
 use Rattle.mcf_prices.specs.Private.Raisings.{IsPopped, IsRaising}
-use Rattle.mcf_prices.proofs.RaisingSteps.{fewer, popped_is}
+use Rattle.mcf_prices.proofs.RaisingSteps.{fewer, first_is_least, popped_is}
 use Rattle.mcf_prices.proofs.pricer.settle_listed.Goals as goal
 
-pub scan_listed-requires-clause-popped : goal.scan_listed-requires-clause-popped
-scan_listed-requires-clause-popped c =
+pub settle_listed_ties-requires-clause-popped : goal.settle_listed_ties-requires-clause-popped
+settle_listed_ties-requires-clause-popped c =
     subst (λ x. IsPopped c.args.state.now c.args.scale c.args.slack c.args.prices.now x c.in-Some.v) (sym c.in-Some.ensures.taken)
     (popped_is c.args.state.now c.args.scale c.args.slack c.args.prices.now c.requires.flow c.requires.near c.nodes.heap c.in-Some.v c.nodes.invariant
-    c.in-Some.ensures.first)
+    (first_is_least c.nodes.heap c.in-Some.v c.in-Some.ensures.first))
 
 pub nodes-smaller : goal.nodes-smaller
 nodes-smaller c =
     let less = fewer c.args.state.now c.args.scale c.args.slack c.args.prices.now c.requires.flow c.requires.near c.nodes.heap c.in-Some.v c.nodes.invariant
-    c.in-Some.ensures.first in
-    let same = ap member_count (c.scan_listed.ensures.kept.waiting ∙ ap (λ (x : Keyed). x.waiting) c.in-Some.ensures.taken) in
-    omega (arith, less, same)
+    (first_is_least c.nodes.heap c.in-Some.v c.in-Some.ensures.first) in
+    let same = ap (λ (x : Keyed). member_count x.waiting) c.in-Some.ensures.taken in
+    let no_more = c.settle_listed_ties.ensures.fewer in
+    omega (arith, less, same, no_more)
 
 pub returns-clause-search : goal.returns-clause-search
 returns-clause-search c =

@@ -13,4 +13,4 @@ returns-clause-valid c =
     heap_is _ new.slots new.shorts new.places (with_items_is c.args.self.now.slots new.slots (search rules))
     (with_items_is c.args.self.now.shorts new.shorts (search rules)) (with_items_is c.args.self.now.places new.places (search rules))
     (omega (arith, items, c.requires.counted)) (omega (arith, slots, shorts, c.requires.room)) e.placed
-    (rw c.deref.ensures.value at e.order) (rw c.deref.ensures.value at e.shorts)
+    e.order e.shorts

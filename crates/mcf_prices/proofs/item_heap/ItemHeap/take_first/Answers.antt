@@ -1,6 +1,6 @@
 use Rattle.std.proofs.Common.{◌≡◌, ◌+◌, ◌-◌, ap, sym, subst, ◌∙◌, arith, length-set}
 use Rattle.mcf_prices.specs.Private.ItemHeaps.{IsPlaced, entry}
-use Rattle.mcf_prices.proofs.HeapGaps.{first_taken}
+use Rattle.mcf_prices.proofs.HeapGaps.{item_taken}
 use Rattle.mcf_prices.proofs.HeapPlaces.{dropped_places, read_is, unplaced}
 use Rattle.mcf_prices.proofs.item_heap.ItemHeap.take_first.Goals as goal
 
@@ -33,7 +33,7 @@ sink-requires-clause-placed c =
     let w = h.placed.within in
     let back : n ≡ n - 1 + 1 = omega (arith, some) in
     let last = read_is c.args.self.now.slots.items (n - 1) c.index-v.result.now c.index-v.ensures (omega (arith, w, some)) in
-    (first_taken (n - 1) c.args.self.now.slots.items c.args.self.now.places.items c.args.first c.index-v.result.now
+    (item_taken (n - 1) c.args.self.now.slots.items c.args.self.now.places.items 0 c.args.first c.index-v.result.now
     (subst (λ x. IsPlaced x c.args.self.now.slots.items c.args.self.now.places.items) back h.placed) (omega (arith, more)) c.requires.first last).0
 
 pub returns-clause-table : goal.returns-clause-table
@@ -46,5 +46,5 @@ returns-clause-table c =
     let back : n ≡ n - 1 + 1 = omega (arith, some) in
     let last = read_is c.args.self.now.slots.items (n - 1) c.index-v.result.now c.index-v.ensures (omega (arith, w, some)) in
     c.sink.ensures.table
-    ∙ (first_taken (n - 1) c.args.self.now.slots.items c.args.self.now.places.items c.args.first c.index-v.result.now
+    ∙ (item_taken (n - 1) c.args.self.now.slots.items c.args.self.now.places.items 0 c.args.first c.index-v.result.now
     (subst (λ x. IsPlaced x c.args.self.now.slots.items c.args.self.now.places.items) back h.placed) (omega (arith, more)) c.requires.first last).1
