@@ -24,8 +24,11 @@ use mcf_text::{ArcId, NoMemory, NodeId};
 use std::alloc::Global;
 
 impl Tables {
-    /// The tables for a net, with all the room that its searches need.
-    pub(crate) fn new(alloc: Global, net: &Net) -> Result<Tables, NoMemory>
+    /// The tables for a net, with all the room that its searches need but that of a heap for its nodes, which is given.
+    pub(crate) fn new(alloc: Global, net: &Net, heap: Heap) -> Result<Tables, NoMemory>
+        requires none { NoneWaits heap }
+        requires nodes { length heap.waiting ≡ node_count net.now }
+        requires keys { length heap.keys ≡ node_count net.now }
         ensures idle { IfOk result (IsIdle (node_count net.now)) }
         ensures order { IfOk result (λ tables. tables.order.items ≡ []) }
         ensures wants { OnErr result (1 ≤ node_count net.now) }
@@ -36,7 +39,7 @@ impl Tables {
         let mut links = Vec::new(alloc);
         links.resize(nodes, 0)?;
         Ok(Tables {
-            heap: Heap::new(alloc, net)?,
+            heap,
             marks,
             links,
             best: None,
@@ -108,6 +111,25 @@ impl Tables {
         self.turn(state, mates, arc);
         let (_, column) = state.net().ends(arc);
         self.order.push_reserved(column);
+    }
+
+    /// The heap, in which no node waits.
+    pub(crate) fn into_heap(self) -> Heap
+        ensures none { NoneWaits result }
+        ensures nodes { length result.waiting ≡ length self.heap.waiting }
+        ensures keys { length result.keys ≡ length self.heap.keys }
+    {
+        let Tables {
+            mut heap,
+            marks: _,
+            links: _,
+            best: _,
+            order: _,
+            partners: _,
+            looks: _,
+        } = self;
+        heap.clear();
+        heap
     }
 
     // Takes back what the search before left, in time of what it settled.

@@ -5,6 +5,7 @@ ghost use Rattle.mcf_instance.specs.declared.problem.Problem.TheVariants.{Asn};
 ghost use Rattle.mcf_instance.specs.Network.{IsNode, at_node, node_count};
 ghost use Rattle.mcf_instance.specs.WellFormed.{IsUpTo};
 ghost use Rattle.mcf_network.specs.NodeSets.{no_nodes};
+ghost use Rattle.mcf_prices.specs.Heaps.{NoneWaits};
 ghost use Rattle.mcf_assign.specs.Extending.{IsExtension, IsMatched, IsRepriced, IsShownMatching};
 ghost use Rattle.mcf_assign.specs.Matchings.{IsMatchedRow, IsRow};
 
@@ -16,6 +17,7 @@ use crate::search::Tables;
 use crate::update::Update;
 use mcf_instance::copies;
 use mcf_network::{Net, NodeSet, State};
+use mcf_prices::Heap;
 use mcf_text::{NoMemory, NodeId};
 use std::alloc::Global;
 use std::marker::Model;
@@ -69,6 +71,22 @@ impl<'n> Matching<'n> {
         ensures reached { IfOk result (λ m. m.reached ≡ no_nodes (node_count net.now)) }
         ensures wants { OnErr result (1 ≤ node_count net.now) }
     {
+        let heap = Heap::new(alloc, net)?;
+        Matching::over(alloc, net, heap)
+    }
+
+    /// The same over a heap for the nodes of the net, which another search may have had before.
+    pub(crate) fn over(alloc: Global, net: &'n Net, heap: Heap) -> Result<Matching<'n>, NoMemory>
+        requires assignment { net.now.problem ≡ Asn }
+        requires none { NoneWaits heap }
+        requires nodes { length heap.waiting ≡ node_count net.now }
+        requires keys { length heap.keys ≡ node_count net.now }
+        ensures value { IfOk result (λ m. m.flow ≡ record { net = net.now; amounts = replicate (length net.now.arcs) (pos 0) }) }
+        ensures shown { IfOk result IsShownMatching }
+        ensures settled { IfOk result (λ m. m.settled ≡ []) }
+        ensures reached { IfOk result (λ m. m.reached ≡ no_nodes (node_count net.now)) }
+        ensures wants { OnErr result (1 ≤ node_count net.now) }
+    {
         let state = State::zero(alloc, net)?;
         let rows = Rows::new(alloc, net)?;
         let prices = Prices::new(alloc, net)?;
@@ -80,7 +98,7 @@ impl<'n> Matching<'n> {
             prices,
             mates,
             picks: copies(alloc, most, NO_ARC)?,
-            tables: Tables::new(alloc, net)?,
+            tables: Tables::new(alloc, net, heap)?,
             reached: NodeSet::new(alloc, net)?,
             update: Update::new(alloc, net)?,
         })
@@ -185,6 +203,29 @@ impl<'n> Matching<'n> {
             update: _,
         } = self;
         (state, prices.into_wide())
+    }
+
+    /// The state and the prices, with the heap, in which no node waits any more.
+    pub(crate) fn into_parts_and_heap(self) -> (State<'n>, Vec<i128>, Heap)
+        ensures state { result.0 ≡ self.entry.flow }
+        ensures prices { result.1.items ≡ self.entry.prices }
+        ensures small { All (IsUpTo (10 ^ 22)) self.entry.prices }
+        ensures shown { IsShownMatching self.entry }
+        ensures none { NoneWaits result.2 }
+        ensures nodes { length result.2.waiting ≡ node_count self.entry.flow.net }
+        ensures keys { length result.2.keys ≡ node_count self.entry.flow.net }
+    {
+        let Matching {
+            state,
+            rows: _,
+            prices,
+            mates: _,
+            picks: _,
+            tables,
+            reached: _,
+            update: _,
+        } = self;
+        (state, prices.into_wide(), tables.into_heap())
     }
 
     /// The set that the last search reached that found no path.

@@ -13,7 +13,7 @@ use crate::matching::Matching;
 use mcf_feas::unbalanced;
 use mcf_instance::{Problem, Side};
 use mcf_network::{Net, State};
-use mcf_prices::{Engine, Outcome, Pricer};
+use mcf_prices::{Engine, HeaplessPricer, Outcome, Pricer};
 use mcf_text::{NoMemory, NodeId};
 use std::alloc::Global;
 
@@ -82,7 +82,8 @@ fn assign<'n>(alloc: Global, net: &'n Net) -> Result<Outcome<'n>, NoMemory>
     ensures wants { OnErr result (1 ≤ node_count net.now) }
 {
     let pricer = Pricer::start(alloc, net)?;
-    let mut matching = Matching::start(alloc, net)?;
+    let (heap, pricer) = pricer.lend();
+    let mut matching = Matching::over(alloc, net, heap)?;
     match match_rows(&mut matching, net) {
         Extended::Matched => {
             let (state, prices) = priced(pricer, matching);
@@ -127,14 +128,14 @@ fn is_source(net: &Net, v: NodeId) -> bool
     net.supply(v) == 1
 }
 
-// The state of a matching, and the greatest prices that show it.
-fn priced<'n>(mut pricer: Pricer, matching: Matching<'n>) -> (State<'n>, Vec<i128>)
-    requires { pricer ≡ node_count matching.flow.net }
+// The state of a matching, and the greatest prices that show it, found with the heap of its searches.
+fn priced<'n>(pricer: HeaplessPricer, matching: Matching<'n>) -> (State<'n>, Vec<i128>)
     ensures state { result.0 ≡ matching.entry.flow }
     ensures prices { AreStatePrices matching.entry.flow.net result.0 result.1.items }
     ensures shown { IsShownMatching matching.entry }
 {
-    let (state, mut prices) = matching.into_parts();
+    let (state, mut prices, heap) = matching.into_parts_and_heap();
+    let mut pricer = pricer.resume(heap);
     pricer.raise(&state, 1, 0, prices.as_mut_slice());
     (state, prices)
 }

@@ -47,6 +47,24 @@ fn raises_to_the_greatest_prices(rt: HostRuntime) -> Result<(), Fail> {
 }
 
 #[test]
+fn raises_with_a_heap_that_was_lent(rt: HostRuntime) -> Result<(), Fail> {
+    let alloc = rt.alloc();
+    let net = net_of(alloc, CHAIN)?;
+    let state = State::zero(alloc, &net)?;
+    let pricer = Pricer::start(alloc, &net)?;
+    let (heap, rest) = pricer.lend();
+    assert_eq!(rt; heap.first().map(|v| v.get()), None);
+    let mut pricer = rest.resume(heap);
+    let mut prices = match recover(alloc, &state)? {
+        Recovered::Prices(prices) => prices,
+        Recovered::Cycle(_) => return Err("a cycle".into()),
+    };
+    raise_shown(&mut pricer, &state, &mut prices);
+    assert_eq!(rt; prices.as_slice(), [-5, -3, 0].as_slice());
+    Ok(())
+}
+
+#[test]
 fn takes_nodes_out_by_key_and_number(rt: HostRuntime) -> Result<(), Fail> {
     let alloc = rt.alloc();
     let net = net_of(alloc, CHAIN)?;
@@ -64,6 +82,24 @@ fn takes_nodes_out_by_key_and_number(rt: HostRuntime) -> Result<(), Fail> {
     assert_eq!(rt; heap.key(NodeId::new(3)), 7);
     assert_eq!(rt; heap.pop().map(|v| v.get()), Some(1));
     heap.clear();
+    assert_eq!(rt; heap.pop().map(|v| v.get()), None);
+    Ok(())
+}
+
+#[test]
+fn settles_a_node_that_does_not_come_first(rt: HostRuntime) -> Result<(), Fail> {
+    let alloc = rt.alloc();
+    let net = net_of(alloc, CHAIN)?;
+    assert_eq!(rt; net.node_count(), 3);
+    let mut heap = Heap::new(alloc, &net)?;
+    heap.lower(NodeId::new(1), 9);
+    heap.lower(NodeId::new(2), 5);
+    heap.lower(NodeId::new(3), 7);
+    heap.settle(NodeId::new(1), 5);
+    assert!(rt; !heap.waits(NodeId::new(1)));
+    assert_eq!(rt; heap.key(NodeId::new(1)), 5);
+    assert_eq!(rt; heap.pop().map(|v| v.get()), Some(2));
+    assert_eq!(rt; heap.pop().map(|v| v.get()), Some(3));
     assert_eq!(rt; heap.pop().map(|v| v.get()), None);
     Ok(())
 }
