@@ -77,12 +77,23 @@ fn takes_nodes_out_by_key_and_number(rt: HostRuntime) -> Result<(), Fail> {
     assert_eq!(rt; heap.first().map(|v| v.get()), Some(1));
     heap.lower(NodeId::new(3), 4);
     assert_eq!(rt; heap.pop().map(|v| v.get()), Some(3));
-    assert_eq!(rt; heap.key(NodeId::new(3)), 4);
-    heap.set_key(NodeId::new(3), 7);
-    assert_eq!(rt; heap.key(NodeId::new(3)), 7);
     assert_eq!(rt; heap.pop().map(|v| v.get()), Some(1));
     heap.clear();
     assert_eq!(rt; heap.pop().map(|v| v.get()), None);
+    Ok(())
+}
+
+#[test]
+fn gives_a_key_to_a_node_that_waits_no_more(rt: HostRuntime) -> Result<(), Fail> {
+    let alloc = rt.alloc();
+    let net = net_of(alloc, CHAIN)?;
+    assert_eq!(rt; net.node_count(), 3);
+    let mut heap = Heap::new(alloc, &net)?;
+    heap.lower(NodeId::new(3), 4);
+    assert_eq!(rt; heap.pop().map(|v| v.get()), Some(3));
+    assert_eq!(rt; heap.key(NodeId::new(3)), 4);
+    heap.set_key(NodeId::new(3), 7);
+    assert_eq!(rt; heap.key(NodeId::new(3)), 7);
     Ok(())
 }
 
@@ -105,7 +116,7 @@ fn settles_a_node_that_does_not_come_first(rt: HostRuntime) -> Result<(), Fail> 
 }
 
 #[test]
-fn takes_nodes_out_by_keys_of_more_than_64_bits(rt: HostRuntime) -> Result<(), Fail> {
+fn takes_nodes_out_by_keys_above_those_of_64_bits(rt: HostRuntime) -> Result<(), Fail> {
     let alloc = rt.alloc();
     let net = net_of(alloc, CHAIN)?;
     assert_eq!(rt; net.node_count(), 3);
@@ -117,7 +128,16 @@ fn takes_nodes_out_by_keys_of_more_than_64_bits(rt: HostRuntime) -> Result<(), F
     assert_eq!(rt; heap.pop().map(|v| v.get()), Some(2));
     assert_eq!(rt; heap.pop().map(|v| v.get()), Some(3));
     assert_eq!(rt; heap.pop().map(|v| v.get()), Some(1));
-    heap.clear();
+    Ok(())
+}
+
+#[test]
+fn takes_nodes_out_by_keys_below_those_of_64_bits(rt: HostRuntime) -> Result<(), Fail> {
+    let alloc = rt.alloc();
+    let net = net_of(alloc, CHAIN)?;
+    assert_eq!(rt; net.node_count(), 3);
+    let far: i128 = 1_000_000_000_000_000_000_000_000_000_000;
+    let mut heap = Heap::new(alloc, &net)?;
     heap.lower(NodeId::new(1), 0);
     heap.lower(NodeId::new(2), -far);
     heap.lower(NodeId::new(3), -far - 1);
