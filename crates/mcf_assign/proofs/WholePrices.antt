@@ -1,4 +1,5 @@
 -- Prices that stand whole beside what they are cut to.
+use Rattle.std.specs.List.{All}
 use Rattle.std.proofs.Common.{◌≡◌, ◌≢◌, ℕ, ◌+◌, ◌-◌, ◌<◌, ◌≤◌, true, false, List, set, length, get_or, ℤ, pos, sym, ◌∙◌, ap, subst, arith, inl, inr, refl, length-set}
 use Rattle.std.proofs.lemmas.Bool.{cases_Bool, cases_eq}
 use Rattle.std.proofs.lemmas.Grind.{get_or-set_at}
@@ -176,40 +177,15 @@ first_cut g lows wide first =
     lows_same (whole_prices lows wide) lows (first_whole g lows wide first)
     (All-from_get_or (IsUpTo low_reach) lows (pos 0) (λ i l. let near = first_near g lows first i l in (omega (arith, ints, near), omega (arith, ints, near))))
 
--- ---- loops
+-- prices of 64 bits of which none is cut
+pub inside_whole : (lows wide : List ℤ) → All (IsUpTo low_inside) lows → whole_prices lows wide ≡ lows
+inside_whole lows wide near =
+    whole_list lows wide lows refl (λ i l. whole_low (get_or lows i (pos 0)) (get_or wide i (pos 0)) (near_inside (get_or lows i (pos 0)) (near i (pos 0) l)))
 
--- the prices of 64 bits before a place stand there whole
-pub record AreWholeTo (lows wide : List ℤ) (i : ℕ) : Type 0 where
-  pub count : length wide ≡ length lows
-  pub each : (j : ℕ) → j < length lows → j < i → whole_price (get_or lows j (pos 0)) (get_or wide j (pos 0)) ≡ get_or lows j (pos 0)
-
--- the price at the place is whole already
-pub whole_past : (lows wide : List ℤ) (i : ℕ) → AreWholeTo lows wide i → lies_inside (get_or lows i (pos 0)) ≡ true → AreWholeTo lows wide (i + 1)
-whole_past lows wide i so e =
-    record {
-      count = so.count;
-      each = λ j l k. elim (cases_eq j i) [
-        | inl same ↦ whole_low (get_or lows j (pos 0)) (get_or wide j (pos 0)) (ap (λ n. lies_inside (get_or lows n (pos 0))) same ∙ e)
-        | inr m ↦ so.each j l (omega (arith, k, m))
-      ];
-    }
-
--- it is written
-pub whole_more : (lows wide : List ℤ) (i : ℕ) (x : ℤ) → AreWholeTo lows wide i → i < length lows → x ≡ get_or lows i (pos 0)
-    → AreWholeTo lows (set wide i x) (i + 1)
-whole_more lows wide i x so inside is =
-    record {
-      count = length-set wide i x ∙ so.count;
-      each = λ j l k. elim (cases_eq j i) [
-        | inl same ↦ ap (λ z. whole_price (get_or lows j (pos 0)) z)
-            (get_or-set_at wide i j x (pos 0) same (omega (arith, inside, so.count)) ∙ is ∙ ap (λ n. get_or lows n (pos 0)) (sym same))
-            ∙ whole_same (get_or lows j (pos 0))
-        | inr m ↦ ap (λ z. whole_price (get_or lows j (pos 0)) z) (get_or-set_other wide i j x (pos 0) m) ∙ so.each j l (omega (arith, k, m))
-      ];
-    }
-
-pub whole_all : (lows wide : List ℤ) (i : ℕ) → AreWholeTo lows wide i → length lows ≤ i → whole_prices lows wide ≡ lows
-whole_all lows wide i so past = whole_list lows wide lows refl (λ j l. so.each j l (omega (arith, l, past)))
+pub inside_cut : (lows wide : List ℤ) → All (IsUpTo low_inside) lows → AreLows (whole_prices lows wide) lows
+inside_cut lows wide near =
+    lows_same (whole_prices lows wide) lows (inside_whole lows wide near)
+    (All-from_get_or (IsUpTo low_reach) lows (pos 0) (λ i l. let here = near i (pos 0) l in (omega (arith, ints, here), omega (arith, ints, here))))
 
 -- beside the prices of 64 bits before a place these stand whole, and from there on what stood there
 pub record AreWidenedTo (lows old new : List ℤ) (i : ℕ) : Type 0 where

@@ -1,10 +1,10 @@
 //! The prices of the nodes, cut to 64 bits where searches read them.
-ghost use Rattle.std.specs.Prelude.{◌≡◌, ◌-◌, ◌≤◌, ℤ, List, IfOk, OnErr, length, set};
+ghost use Rattle.std.specs.Prelude.{◌≡◌, ◌-◌, ◌≤◌, ℤ, List, IfOk, OnErr, length, set, true};
 ghost use Rattle.std.specs.List.{All};
 ghost use Rattle.mcf_instance.specs.Network.{IsNode, at_node, node_count};
 ghost use Rattle.mcf_instance.specs.WellFormed.{IsUpTo};
 ghost use Rattle.mcf_assign.specs.Private.Keeping.{AreFirstPrices};
-ghost use Rattle.mcf_assign.specs.Private.Lows.{AreLows, lies_inside, low_reach, whole_prices};
+ghost use Rattle.mcf_assign.specs.Private.Lows.{AreLows, lies_inside, low_inside, whole_prices};
 
 use crate::search::{LOW_REACH, low_of};
 use mcf_instance::copies;
@@ -63,7 +63,7 @@ impl Prices {
         ensures { result ≡ at_node self.now v }
     {
         let low = self.lows[v.place()];
-        if is_whole(low) {
+        if is_inside(low) {
             return i128::from(low);
         }
         self.wide[v.place()]
@@ -78,20 +78,19 @@ impl Prices {
         let i = v.place();
         let low = low_of(price);
         self.lows[i] = low;
-        if !is_whole(low) {
+        if !is_inside(low) {
             self.wide[i] = price;
         }
     }
 
-    /// Takes the prices out of a table of 64 bits, as many and near 0, and leaves there the prices of before, cut.
+    /// Takes the prices out of a table of 64 bits, as many and so near 0 that none is cut, and leaves there the prices of before, cut.
     pub(crate) fn take_lows(&mut self, lows: &mut Vec<i64>)
         requires count { length lows.old.items ≡ length self.old }
-        requires near { All (IsUpTo low_reach) lows.old.items }
+        requires near { All (IsUpTo low_inside) lows.old.items }
         ensures prices { self.new ≡ lows.old.items }
         ensures count { length lows.new.items ≡ length self.old }
     {
         swap(&mut self.lows, lows);
-        widen_cut(self.wide.as_mut_slice(), self.lows.as_slice());
     }
 
     /// The prices, each in 128 bits.
@@ -120,26 +119,13 @@ fn first_lows(alloc: Global, net: &Net) -> Result<Vec<i64>, NoMemory>
     Ok(lows)
 }
 
-// Whether a price was not cut.
+/// Whether a price was not cut.
 #[inline(always)]
-fn is_whole(low: i64) -> bool
-    ensures { result ≡ lies_inside low }
+pub(crate) fn is_inside(low: i64) -> bool
+    ensures value { result ≡ lies_inside low }
+    ensures near { result ≡ true → IsUpTo low_inside low }
 {
     -LOW_REACH < low && low < LOW_REACH
-}
-
-// Writes those of some prices of 64 bits whole that lie as far from 0 as what was cut. There are hardly any, and it goes over
-// the others without a write.
-fn widen_cut(wide: &mut [i128], lows: &[i64])
-    requires { length wide.old ≡ length lows.now }
-    ensures { whole_prices lows.now wide.new ≡ lows.now }
-{
-    'nodes: for i in 0..lows.len() {
-        let low = lows[i];
-        if !is_whole(low) {
-            wide[i] = i128::from(low);
-        }
-    }
 }
 
 // Writes whole the prices that weren't cut.
@@ -149,7 +135,7 @@ fn widen_whole(wide: &mut [i128], lows: &[i64])
 {
     'nodes: for i in 0..lows.len() {
         let low = lows[i];
-        if is_whole(low) {
+        if is_inside(low) {
             wide[i] = i128::from(low);
         }
     }

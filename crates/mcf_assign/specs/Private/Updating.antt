@@ -12,7 +12,7 @@ use Rattle.mcf_assign.specs.declared.spread.Columns.{Columns}
 use Rattle.mcf_assign.specs.declared.spread.ShortArc.{ShortArc}
 use Rattle.mcf_assign.specs.declared.spread.Spread.{Spread}
 use Rattle.mcf_assign.specs.declared.update.Update.{Update}
-use Rattle.mcf_assign.specs.Private.Lows.{low_inside, low_reach}
+use Rattle.mcf_assign.specs.Private.Lows.{low_inside}
 
 -- ---- the arcs that enter each node, side by side
 
@@ -102,8 +102,8 @@ IsEnough scanned far low x = (low ≤ℤ x) × ((scanned ≤ℤ x) ⊎ ((low +�
 
 -- new prices x of a row and y of the column with which arc k matches it
 pub record IsRaised (g : Network) (q : Spread) (far : ℤ) (lows : List ℤ) (k : ℕ) (x y : ℤ) : Type 0 where
-  pub near_row : IsUpTo low_reach x
-  pub near_column : IsUpTo low_reach y
+  pub near_row : IsUpTo low_inside x
+  pub near_column : IsUpTo low_inside y
   pub limit : x ≤ℤ at_node q.limits.items (arc_at g k).src
   pub rise : x ≤ℤ (at_node lows (arc_at g k).src +ℤ far)
   pub tight : y ≡ x -ℤ (arc_at g k).cost
@@ -139,5 +139,5 @@ pub record FitsNode (g : Network) (mates : List ℕ) (y z : List ℤ) (v : ℕ) 
 -- new prices are near 0 and fit each node
 pub record AreUpdated (s : Pseudoflow) (mates : List ℕ) (y z : List ℤ) : Type 0 where
   pub count : length z ≡ node_count s.net
-  pub near : All (IsUpTo low_reach) z
+  pub near : All (IsUpTo low_inside) z
   pub each : (v : ℕ) → IsNode (node_count s.net) v → FitsNode s.net mates y z v
