@@ -64,9 +64,9 @@ module _ (s : Pseudoflow) (mates : List ℕ) (y z : List ℤ) (ok : IsPartialMat
 
 -- ---- what a matching keeps
 
--- with another count of looks
+-- with another count of pairs
 pub kept_counted : (s : Pseudoflow) (y : List ℤ) (mates : List ℕ) (tables : Tables) (reached : List Bool) (n : ℕ)
-    → IsKept s y mates tables reached → IsKept s y mates (record tables { looks = n }) reached
+    → IsKept s y mates tables reached → IsKept s y mates (record tables { pairs = n }) reached
 kept_counted s y mates tables reached n kept =
     let idle = kept.idle in
     record {

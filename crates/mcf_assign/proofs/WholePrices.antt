@@ -1,6 +1,6 @@
 -- Prices that stand whole beside what they are cut to.
 use Rattle.std.specs.List.{All}
-use Rattle.std.proofs.Common.{◌≡◌, ◌≢◌, ℕ, ◌+◌, ◌-◌, ◌<◌, ◌≤◌, true, false, List, set, length, get_or, ℤ, pos, sym, ◌∙◌, ap, subst, arith, inl, inr, refl, length-set}
+use Rattle.std.proofs.Common.{◌≡◌, ◌≢◌, ℕ, ◌+◌, ◌-◌, ◌<◌, ◌≤◌, ◌+ℤ◌, true, false, List, set, length, get_or, ℤ, pos, sym, ◌∙◌, ap, subst, arith, inl, inr, refl, length-set}
 use Rattle.std.proofs.lemmas.Bool.{cases_Bool, cases_eq}
 use Rattle.std.proofs.lemmas.Grind.{get_or-set_at}
 use Rattle.std.proofs.lemmas.Int.{ints, by_lt_z}
@@ -151,6 +151,25 @@ low_set lows wide v i price low z node count are at is ez e =
       value = new ∙ ap (λ j. set (whole_prices lows wide) j price) at;
       cut = subst (λ (y : List ℤ). AreLows y (set lows i z)) (sym new) (lows_set (whole_prices lows wide) lows i price z are here);
     }
+
+-- a number that lies inside is what it is cut to
+inside_low : (low : ℤ) → lies_inside low ≡ true → IsLow low low
+inside_low low e =
+    let near = inside_near low e in
+    record {
+      near = (omega (arith, ints, near), omega (arith, ints, near));
+      below = λ h. omega (arith, ints);
+      exact = λ h. refl;
+    }
+
+-- a price that rises and is cut neither before nor after is written alone
+pub low_risen : (lows wide : List ℤ) (v i : ℕ) (was new more z : ℤ) → IsNode (length (whole_prices lows wide)) v → length wide ≡ length lows
+    → AreLows (whole_prices lows wide) lows → i ≡ v - 1 → was ≡ get_or lows i was → lies_inside was ≡ true → lies_inside new ≡ true → new ≡ was +ℤ more → z ≡ new
+    → AreSet (whole_prices lows wide) (set lows i z) wide (v - 1) (at_node (whole_prices lows wide) v +ℤ more)
+low_risen lows wide v i was new more z node count are at is inside inside' by ez =
+    let here = whole_get_low lows wide v i was node at is inside in
+    subst (λ (p : ℤ). AreSet (whole_prices lows wide) (set lows i z) wide (v - 1) p) (by ∙ ap (λ (x : ℤ). x +ℤ more) (sym here))
+    (low_set lows wide v i new new z node count are at (inside_low new inside') ez (ap lies_inside ez ∙ inside'))
 
 -- the first prices are near 0
 first_near : (g : Network) (lows : List ℤ) → AreFirstPrices g lows (node_count g) → (i : ℕ) → i < length lows

@@ -45,7 +45,7 @@ impl Tables {
             best: None,
             order: Vec::with_capacity(alloc, nodes)?,
             partners: copies(alloc, nodes, 0)?,
-            looks: 0,
+            pairs: 0,
         })
     }
 
@@ -77,6 +77,7 @@ impl Tables {
         self.reset();
         self.begin(state, source);
         self.run(state, rows, prices, lows, mates, picks, source);
+        self.pairs = self.pairs.saturating_add(self.order.len() as u64 / 2);
         self.best
     }
 
@@ -126,7 +127,7 @@ impl Tables {
             best: _,
             order: _,
             partners: _,
-            looks: _,
+            pairs: _,
         } = self;
         heap.clear();
         heap

@@ -136,8 +136,8 @@ impl<'n> Matching<'n> {
         }
     }
 
-    /// Changes the prices alone, and to others that show the matching, if the searches since the last time looked at so
-    /// many arcs that an update of all prices pays.
+    /// Changes the prices alone, and to others that show the matching, if the searches since the last time settled so
+    /// many pairs that an update of all prices pays.
     pub(crate) fn refresh(&mut self)
         ensures repriced { IsRepriced self.old self.new }
         ensures shown { IsShownMatching self.new }
@@ -145,7 +145,7 @@ impl<'n> Matching<'n> {
         if !self.is_due() {
             return;
         }
-        self.tables.looks = 0;
+        self.tables.pairs = 0;
         let lows = self.prices.lows();
         let mates = self.mates.as_slice();
         if self.update.run(&self.state, lows, mates) {
@@ -155,8 +155,8 @@ impl<'n> Matching<'n> {
 
     // Whether an update of all prices pays now.
     fn is_due(&self) -> bool {
-        let arcs = u64::from(self.state.net().arc_count());
-        self.update.pays() && self.tables.looks > arcs / ARCS_PER_LOOK
+        let nodes = u64::from(self.state.net().node_count());
+        self.update.pays() && self.tables.pairs > nodes / NODES_PER_PAIR
     }
 
     /// Whether an arc of amount 1 has an end at a node.
@@ -246,5 +246,6 @@ impl<'n> Matching<'n> {
     }
 }
 
-// The searches look at one in so many arcs, on the average, between two updates of all prices.
-const ARCS_PER_LOOK: u64 = 2;
+// The searches settle a pair for so many nodes, on the average, between two updates of all prices. The rows from which they begin
+// don't count, so that there is no update as long as they find a column that isn't matched at once.
+const NODES_PER_PAIR: u64 = 5;

@@ -1,12 +1,11 @@
 //! The prices of the nodes, cut to 64 bits where searches read them.
-ghost use Rattle.std.specs.Prelude.{◌≡◌, ◌-◌, ◌≤◌, ℤ, List, IfOk, OnErr, length, set, true};
+ghost use Rattle.std.specs.Prelude.{◌≡◌, ◌-◌, ◌^◌, ◌≤◌, ◌+ℤ◌, ℤ, List, IfOk, IfSome, OnErr, length, set, true};
 ghost use Rattle.std.specs.List.{All};
 ghost use Rattle.mcf_instance.specs.Network.{IsNode, at_node, node_count};
 ghost use Rattle.mcf_instance.specs.WellFormed.{IsUpTo};
 ghost use Rattle.mcf_assign.specs.Private.Keeping.{AreFirstPrices};
-ghost use Rattle.mcf_assign.specs.Private.Lows.{AreLows, lies_inside, low_inside, whole_prices};
+ghost use Rattle.mcf_assign.specs.Private.Lows.{AreLows, IsLow, lies_inside, low_inside, whole_prices};
 
-use crate::search::{LOW_REACH, low_of};
 use mcf_instance::copies;
 use mcf_network::Net;
 use mcf_text::{NoMemory, NodeId};
@@ -83,6 +82,23 @@ impl Prices {
         }
     }
 
+    /// Raises the price of a node by so much, or lowers it where that is below 0.
+    #[inline(always)]
+    pub(crate) fn rise(&mut self, v: NodeId, more: i128)
+        requires node { IsNode (length self.old) v }
+        requires price { IsUpTo (10 ^ 32) (at_node self.old v) }
+        requires more { IsUpTo (10 ^ 33) more }
+        ensures { self.new ≡ set self.old (v - 1) (at_node self.old v +ℤ more) }
+    {
+        let i = v.place();
+        if let Some(low) = risen(self.lows[i], more) {
+            self.lows[i] = low;
+            return;
+        }
+        let price = self.get(v) + more;
+        self.set(v, price);
+    }
+
     /// Takes the prices out of a table of 64 bits, as many and so near 0 that none is cut, and leaves there the prices of before, cut.
     pub(crate) fn take_lows(&mut self, lows: &mut Vec<i64>)
         requires count { length lows.old.items ≡ length self.old }
@@ -128,6 +144,21 @@ pub(crate) fn is_inside(low: i64) -> bool
     -LOW_REACH < low && low < LOW_REACH
 }
 
+// A price of 64 bits that rises by so much, if neither that nor what comes of it is cut.
+#[inline(always)]
+fn risen(low: i64, more: i128) -> Option<i64>
+    ensures { IfSome result (λ price. (lies_inside low ≡ true) × (lies_inside price ≡ true) × (price ≡ low +ℤ more)) }
+{
+    if !is_inside(low) || more < 0 || more > LOW_CUT {
+        return None;
+    }
+    let price = low + more as i64;
+    if !is_inside(price) {
+        return None;
+    }
+    Some(price)
+}
+
 // Writes whole the prices that weren't cut.
 fn widen_whole(wide: &mut [i128], lows: &[i64])
     requires { length wide.old ≡ length lows.now }
@@ -140,6 +171,19 @@ fn widen_whole(wide: &mut [i128], lows: &[i64])
         }
     }
 }
+
+// A price cut to 64 bits.
+fn low_of(price: i128) -> i64
+    ensures { IsLow price result }
+{
+    price.max(-LOW_CUT).min(LOW_CUT) as i64
+}
+
+/// How far from 0 a price of 64 bits may lie.
+pub(crate) const LOW_REACH: i64 = 1 << 61;
+
+// How far from 0 a price is cut.
+const LOW_CUT: i128 = LOW_REACH as i128;
 
 // The price with which a row begins: no cost is further below 0.
 const FIRST_PRICE: i64 = -1_000_000_000_000_000;

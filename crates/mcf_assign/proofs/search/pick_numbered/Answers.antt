@@ -8,12 +8,6 @@ use Rattle.mcf_assign.proofs.Numbering.{numbered_at, numbered_is, numbered_more}
 use Rattle.mcf_assign.proofs.Picks.{flag_few, picked_more}
 use Rattle.mcf_assign.proofs.search.pick_numbered.Goals as goal
 
-pub overflow_cast-number : goal.overflow_cast-number
-overflow_cast-number c =
-    let few = c.requires.few in
-    let inside = c.arcs-test.true in
-    omega (arith, few, inside)
-
 pub may_be_news-requires-clause-low : goal.may_be_news-requires-clause-low
 may_be_news-requires-clause-low c =
     let low = c.arcs.auto.number in

@@ -32,7 +32,7 @@ invariant_of-self c =
     let kept = kept_counted i.state c.run.new.self.lows.items i.mates.items i.tables i.reached 0
     (kept_updated i.state i.prices c.run.new.self.lows.items i.mates.items i.tables i.reached k new) in
     let tables = c.run.ensures.tables in (
-      subst (λ (y : List ℤ). IsKept i.state y i.mates.items (record i.tables { looks = 0 }) i.reached) (sym c.take_lows.ensures.prices) kept,
+      subst (λ (y : List ℤ). IsKept i.state y i.mates.items (record i.tables { pairs = 0 }) i.reached) (sym c.take_lows.ensures.prices) kept,
       c.self.invariant.1,
       record { columns = tables.columns; spread = tables.spread; lows = c.take_lows.ensures.count ∙ k.shown.count },
     )

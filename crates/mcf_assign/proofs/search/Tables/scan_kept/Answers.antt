@@ -25,6 +25,11 @@ scan_part-requires-clause-arcs c =
     picked_each RowArc _ (IsRowArc c.args.state.now.net c.args.row) c.args.list.now
     c.picked-picked.result.now c.requires.arcs c.picked-picked.ensures
 
+pub scan_part-requires-clause-gap : goal.scan_part-requires-clause-gap
+scan_part-requires-clause-gap c =
+    gap_is c.args.self.now.best (to_z w128 (of_z w128 c.args.base)) c.gap-gap.result (to_z w64 (of_z w64 c.gap-gap.result)) c.gap-gap.ensures
+    (search (rules, to_z-of_z))
+
 pub returns-clause-step : goal.returns-clause-step
 returns-clause-step c =
     let b : to_z w128 (of_z w128 c.args.base) ≡ c.args.base = search (rules, to_z-of_z) in

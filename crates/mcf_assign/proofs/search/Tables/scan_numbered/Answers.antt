@@ -34,6 +34,11 @@ scan_part-requires-clause-arcs c =
     (subst (λ (n : Network). IsPicked RowArc (IsIdleArc c.args.lows.now c.as_slice-marks.result.now gap) (numbered_arcs n c.args.first c.args.last) list)
     c.net.ensures.value c.picked_numbered-picked.ensures)
 
+pub scan_part-requires-clause-gap : goal.scan_part-requires-clause-gap
+scan_part-requires-clause-gap c =
+    gap_is c.args.self.now.best (to_z w128 (of_z w128 c.args.base)) c.gap-gap.result (to_z w64 (of_z w64 c.gap-gap.result)) c.gap-gap.ensures
+    (search (rules, to_z-of_z))
+
 pub returns-clause-step : goal.returns-clause-step
 returns-clause-step c =
     let g = c.args.state.now.net in

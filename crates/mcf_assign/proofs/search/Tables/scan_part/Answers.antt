@@ -17,9 +17,11 @@ use Rattle.mcf_assign.proofs.search.Tables.scan_part.Goals as goal
 
 pub arcs-init : goal.arcs-init
 arcs-init c =
+    let b : to_z w128 (of_z w128 c.args.base) ≡ c.args.base = search (rules, to_z-of_z) in
+    let gap = subst (λ x. IsGap c.args.self.now.best x c.args.first_gap) (sym b) c.requires.gap in
     record {
       step = idle_step c.args.state.now c.args.prices.now (search_of c.args.self.now) c.args.self.now.order.items c.args.row [] (λ source rest search. search);
-      gap = gap_is _ _ c.gap-gap.result _ c.gap-gap.ensures (search (rules, to_z-of_z));
+      gap = gap_is _ _ c.args.first_gap _ gap (search (rules, to_z-of_z));
       room = refl;
     }
 

@@ -3,7 +3,7 @@ use mir.Syntax.{w64, w128}
 use Rattle.std.proofs.lemmas.Int.{ints, to_z-of_z}
 use Rattle.mcf_assign.proofs.CutPrices.{cut_low}
 use Rattle.mcf_assign.specs.Private.Lows.{IsLow}
-use Rattle.mcf_assign.proofs.search.low_of.Goals as goal
+use Rattle.mcf_assign.proofs.prices.low_of.Goals as goal
 
 pub returns : goal.returns
 returns c =
