@@ -147,6 +147,40 @@ fn takes_nodes_out_by_keys_below_those_of_64_bits(rt: HostRuntime) -> Result<(),
     Ok(())
 }
 
+#[test]
+fn takes_an_offer_that_is_less(rt: HostRuntime) -> Result<(), Fail> {
+    let alloc = rt.alloc();
+    let net = net_of(alloc, CHAIN)?;
+    assert_eq!(rt; net.node_count(), 3);
+    let mut heap = Heap::new(alloc, &net)?;
+    assert!(rt; heap.offer(NodeId::new(2), 5));
+    assert!(rt; !heap.offer(NodeId::new(2), 6));
+    assert!(rt; !heap.offer(NodeId::new(2), 5));
+    assert_eq!(rt; heap.key(NodeId::new(2)), 5);
+    assert!(rt; heap.offer(NodeId::new(2), 4));
+    assert_eq!(rt; heap.key(NodeId::new(2)), 4);
+    assert_eq!(rt; heap.pop().map(|v| v.get()), Some(2));
+    Ok(())
+}
+
+#[test]
+fn takes_an_offer_above_those_of_64_bits(rt: HostRuntime) -> Result<(), Fail> {
+    let alloc = rt.alloc();
+    let net = net_of(alloc, CHAIN)?;
+    assert_eq!(rt; net.node_count(), 3);
+    let far: i128 = 1_000_000_000_000_000_000_000_000_000_000;
+    let mut heap = Heap::new(alloc, &net)?;
+    assert!(rt; heap.offer(NodeId::new(2), far));
+    assert!(rt; !heap.offer(NodeId::new(2), far + 1));
+    assert!(rt; !heap.offer(NodeId::new(2), far));
+    assert_eq!(rt; heap.key(NodeId::new(2)), far);
+    assert!(rt; heap.offer(NodeId::new(2), far - 1));
+    assert_eq!(rt; heap.key(NodeId::new(2)), far - 1);
+    assert!(rt; heap.offer(NodeId::new(2), 4));
+    assert_eq!(rt; heap.key(NodeId::new(2)), 4);
+    Ok(())
+}
+
 // Two nodes with 400 arcs from the first to the second: one costs -9, and the others are this line.
 fn dense_text(alloc: Global, line: &[u8]) -> Result<Vec<u8>, NoMemory> {
     let mut text = Vec::new(alloc);

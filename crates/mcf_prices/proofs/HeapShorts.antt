@@ -1,5 +1,6 @@
 -- The cut keys of a heap's items, beside their slots.
-use Rattle.std.proofs.Common.{◌≡◌, ◌≢◌, ℕ, ◌+◌, ◌<◌, List, ℤ, pos, length, set, sym, ap, subst, arith, inl, inr}
+use Rattle.std.proofs.Common.{◌≡◌, ◌≢◌, ℕ, ◌+◌, ◌-◌, ◌<◌, ◌<ℤ◌, ◌≤ℤ◌, Bool, true, false, List, ℤ, pos, length, set, sym, ap, subst, arith, inl, inr}
+use Rattle.std.specs.Bool.{MatchBool}
 use Rattle.std.proofs.lemmas.Bool.{cases_eq}
 use Rattle.std.proofs.lemmas.Grind.{get_or-set_at}
 use Rattle.std.proofs.lemmas.List.{get_or-set_other}
@@ -43,3 +44,15 @@ pub shorts_apart : (keys : List ℤ) (count : ℕ) (slots places : List ℕ) (sh
 shorts_apart keys count slots places shorts v d ok all none j l =
     let other : entry slots j ≢ v = λ (e : entry slots j ≡ v). (let b = ok.back j l in let f = ap (entry places) e in omega (arith, b, f, none)) in
     subst (λ x. IsShort x (key_at shorts j)) (sym (get_or-set_other keys v (entry slots j) d (pos 0) other)) (all j l)
+
+-- an item that waits has its cut key beside the slot that its place names
+pub short_beside : (keys : List ℤ) (count : ℕ) (slots places : List ℕ) (shorts : List ℤ) (v k : ℕ) → IsPlaced count slots places
+    → AreShort keys count slots shorts → v < length places → k ≡ entry places v → 0 < k → (k - 1 < count) × IsShort (key_at keys v) (key_at shorts (k - 1))
+short_beside keys count slots places shorts v k ok all l is some =
+    let at = ok.forth v (k - 1) l (omega (arith, is, some)) in
+    (at.0, subst (λ w. IsShort (key_at keys w) (key_at shorts (k - 1))) at.1 (all (k - 1) at.0))
+
+-- what that tells of its key tells whether it waits with one that is no greater
+pub told_beside : (t : Bool) (k : ℕ) (a z : ℤ) → 0 < k → MatchBool t (a ≤ℤ z) (z <ℤ a) → MatchBool t ((0 < k) × (a ≤ℤ z)) (0 < k → z <ℤ a)
+told_beside true k a z some low = (some, low)
+told_beside false k a z some less = λ h. less

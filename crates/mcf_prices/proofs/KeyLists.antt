@@ -1,6 +1,7 @@
 -- Keys in 64 bits, with those beside them that need more.
-use Rattle.std.proofs.Common.{◌≡◌, ◌≢◌, ℕ, ◌-◌, ◌^◌, ◌<◌, List, [], ℤ, pos, neg_ℤ, ◌<ℤ◌, true, false, length, set, get_or, replicate, refl, sym, subst, ◌∙◌, arith, inl, inr, length-set}
-use Rattle.std.specs.Prelude.{int_lt}
+use Rattle.std.proofs.Common.{◌≡◌, ◌≢◌, ℕ, ◌-◌, ◌^◌, ◌<◌, List, [], ℤ, pos, neg_ℤ, ◌<ℤ◌, ◌≤ℤ◌, Bool, true, false, length, set, get_or, replicate, refl, sym, subst, ◌∙◌, arith, inl, inr, length-set}
+use Rattle.std.specs.Prelude.{int_le, int_lt}
+use Rattle.std.specs.Bool.{MatchBool}
 use Rattle.std.proofs.lemmas.Bool.{and_parts, cases_eq}
 use Rattle.std.proofs.lemmas.Int.{ints}
 use Rattle.std.proofs.lemmas.Grind.{get_or-set_at}
@@ -57,21 +58,45 @@ key_wide s w i x y l e outside there =
     let here : key_in s w i ≡ y = rw (sym e, outside, sym there) refl in
     sym here ∙ sym (key_read s w i l)
 
+-- what it means to lie strictly inside the range of 64 bits
+inside_range : (z : ℤ) → is_inside z ≡ true → (neg_ℤ (pos (2 ^ 63)) <ℤ z) × (z <ℤ pos (2 ^ 63 - 1))
+inside_range z inside =
+    let parts = and_parts _ _ inside in
+    (above_low parts.0, below_high parts.1)
+  where
+    above_low : int_lt (neg_ℤ (pos (2 ^ 63))) z ≡ true → neg_ℤ (pos (2 ^ 63)) <ℤ z
+    above_low e = grind (arith, ints)
+
+    below_high : int_lt z (pos (2 ^ 63 - 1)) ≡ true → z <ℤ pos (2 ^ 63 - 1)
+    below_high e = grind (arith, ints)
+
 -- a number strictly inside the range of 64 bits is the key that was cut to it
 pub inside_is : (x z : ℤ) → IsShort x z → is_inside z ≡ true → z ≡ x
 inside_is x z short inside =
-    let parts = and_parts _ _ inside in
-    let low : neg_ℤ (pos (2 ^ 63)) <ℤ z = above_low z parts.0 in
-    let high : z <ℤ pos (2 ^ 63 - 1) = below_high z parts.1 in
-    let l = short.low low in
-    let h = short.high high in
+    let range = inside_range z inside in
+    let l = short.low range.0 in
+    let h = short.high range.1 in
     omega (arith, ints, l, h)
-  where
-    above_low : (z : ℤ) → int_lt (neg_ℤ (pos (2 ^ 63))) z ≡ true → neg_ℤ (pos (2 ^ 63)) <ℤ z
-    above_low z e = grind (arith, ints)
 
-    below_high : (z : ℤ) → int_lt z (pos (2 ^ 63 - 1)) ≡ true → z <ℤ pos (2 ^ 63 - 1)
-    below_high z e = grind (arith, ints)
+-- such a number is at least a key just where it is at least the cut one
+pub told_by_cut : (z a b : ℤ) → is_inside z ≡ true → IsShort a b → MatchBool (int_le b z) (a ≤ℤ z) (z <ℤ a)
+told_by_cut z a b inside short = by (int_le b z) refl
+  where
+    by : (t : Bool) → int_le b z ≡ t → MatchBool t (a ≤ℤ z) (z <ℤ a)
+    by true e =
+        let low : b ≤ℤ z = omega (arith, ints) in
+        let range = inside_range z inside in
+        let below = short.high (omega (arith, ints, range, low)) in
+        omega (arith, ints, low, below)
+    by false e =
+        let less : z <ℤ b = omega (arith, ints) in
+        let range = inside_range z inside in
+        let above = short.low (omega (arith, ints, range, less)) in
+        omega (arith, ints, less, above)
+
+-- a number of 64 bits is its own cut
+pub short_itself : (x : ℤ) → IsShort x x
+short_itself x = record { low = λ h. omega (arith, ints); high = λ h. omega (arith, ints) }
 
 -- a key written in 64 bits alone
 pub short_written : (s w : List ℤ) (i : ℕ) (x z : ℤ) → i < length s → IsShort x z → is_inside z ≡ true → keys_in (set s i z) w ≡ set (keys_in s w) i x

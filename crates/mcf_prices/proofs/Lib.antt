@@ -4,6 +4,7 @@ pub mod HeapGaps
 pub mod HeapLowered
 pub mod HeapOrder
 pub mod HeapPlaces
+pub mod HeapRising
 pub mod HeapShorts
 pub mod HeapTaken
 pub mod HeapViews

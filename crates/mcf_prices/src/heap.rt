@@ -1,5 +1,5 @@
 //! An indexed binary heap of the nodes of a net.
-ghost use Rattle.std.specs.Prelude.{◌≡◌, ◌≤◌, ◌≤ℤ◌, IfNone, IfOk, IfSome, IsTrue, OnErr, length, ◌↔◌};
+ghost use Rattle.std.specs.Prelude.{◌≡◌, ◌≤◌, ◌<ℤ◌, ◌≤ℤ◌, true, false, IfNone, IfOk, IfSome, IsTrue, OnErr, length, ◌↔◌};
 ghost use Rattle.mcf_instance.specs.Network.{IsNode, at_node, node_count};
 ghost use Rattle.mcf_network.specs.NodeSets.{no_nodes};
 ghost use Rattle.mcf_prices.specs.Heaps.{IsFirst, Keyed, NoneWaits, Waits, no_keys, waiting_with, with_key, without};
@@ -73,6 +73,18 @@ impl Heap {
         ensures { self.new ≡ waiting_with self.old v key }
     {
         self.items.lower(v.get() - 1, key);
+    }
+
+    /// Lets a node wait with a key, unless it waits with one that is no greater, and says whether it waits with this one from
+    /// now on.
+    pub fn offer(&mut self, v: NodeId, key: i128) -> bool
+        requires node { IsNode (length self.old.waiting) v }
+        ensures lowered { result ≡ true → self.new ≡ waiting_with self.old v key }
+        ensures less { result ≡ true → Waits self.old v → key <ℤ at_node self.old.keys v }
+        ensures same { result ≡ false → self.new ≡ self.old }
+        ensures waits { result ≡ false → Waits self.old v × (at_node self.old.keys v ≤ℤ key) }
+    {
+        self.items.offer(v.get() - 1, key)
     }
 
     /// Gives a key to a node that does not wait, and still does not.

@@ -1,12 +1,13 @@
 //! An indexed binary heap of items numbered from 0.
-ghost use Rattle.std.specs.Prelude.{◌≡◌, ◌≢◌, ◌+◌, ◌*◌, ◌^◌, ◌<◌, ◌≤◌, ◌≤ℤ◌, ℕ, true, false, IfOk, IfSome, IfNone, OnErr, length, replicate, pos};
+ghost use Rattle.std.specs.Prelude.{◌≡◌, ◌≢◌, ◌+◌, ◌*◌, ◌^◌, ◌<◌, ◌≤◌, ◌<ℤ◌, ◌≤ℤ◌, ℕ, true, false, IfOk, IfSome, IfNone, OnErr, length, replicate, pos};
 ghost use Rattle.std.specs.Prelude.{slice_index_or, slice_set};
 ghost use Rattle.std.specs.Bool.{MatchBool};
 ghost use Rattle.mcf_prices.specs.Heaps.{ComesFirst};
 ghost use Rattle.mcf_prices.specs.Private.ItemHeaps.{AreShort, AreShortBut, IsChild, IsHeap, IsOrdered, IsOrderedAbove, IsOrderedBelow, IsOrderedBut, IsPlaced, IsPlacedBut, IsShort, Precedes, PrecedesAll};
 ghost use Rattle.mcf_prices.specs.Private.ItemHeaps.{entry, key_at, table_of};
+ghost use Rattle.mcf_prices.specs.Private.KeyLists.{is_inside};
 
-use crate::keys::{Keys, cut, is_inside};
+use crate::keys::{Keys, cut, is_inside, is_short};
 use mcf_instance::copies;
 use mcf_text::NoMemory;
 use std::alloc::Global;
@@ -56,9 +57,36 @@ impl ItemHeap {
         ensures table { table_of self.new.places.items ≡ slice_set (table_of self.old.places.items) v true }
         ensures keys { self.new.keys ≡ slice_set self.old.keys v key }
     {
-        self.keys.set(v as usize, key);
-        let at = self.slot_for(v);
-        self.rise(at, v, cut(key));
+        if !is_short(key) {
+            self.lower_wide(v, key);
+            return;
+        }
+        self.lower_short(v, key as i64);
+    }
+
+    /// Lets an item wait with a key, unless it waits with one that is no greater, and says whether it waits with this
+    /// one from now on. Where the key lies inside the range of 64 bits, the cut key beside the item's slot tells.
+    pub(crate) fn offer(&mut self, v: u32, key: i128) -> bool
+        requires valid { IsHeap self.old }
+        requires items { length self.old.places.items < 2 ^ 31 }
+        requires item { v < length self.old.places.items }
+        ensures valid { IsHeap self.new }
+        ensures table { result ≡ true → table_of self.new.places.items ≡ slice_set (table_of self.old.places.items) v true }
+        ensures keys { result ≡ true → self.new.keys ≡ slice_set self.old.keys v key }
+        ensures less { result ≡ true → 0 < entry self.old.places.items v → key <ℤ key_at self.old.keys v }
+        ensures same { result ≡ false → self.new ≡ self.old }
+        ensures waits { result ≡ false → 0 < entry self.old.places.items v }
+        ensures least { result ≡ false → key_at self.old.keys v ≤ℤ key }
+    {
+        if !is_short(key) {
+            return self.offer_wide(v, key);
+        }
+        let short = key as i64;
+        if self.waits_within(v, short) {
+            return false;
+        }
+        self.lower_short(v, short);
+        true
     }
 
     /// The key of an item, with which it waits or last waited.
@@ -155,6 +183,80 @@ impl ItemHeap {
         'items: while self.count > 0 {
             self.drop_last();
         }
+    }
+
+    // The same as `offer`, by the whole keys, so that it takes any.
+    #[cold]
+    #[inline(never)]
+    fn offer_wide(&mut self, v: u32, key: i128) -> bool
+        requires valid { IsHeap self.old }
+        requires items { length self.old.places.items < 2 ^ 31 }
+        requires item { v < length self.old.places.items }
+        ensures valid { IsHeap self.new }
+        ensures table { result ≡ true → table_of self.new.places.items ≡ slice_set (table_of self.old.places.items) v true }
+        ensures keys { result ≡ true → self.new.keys ≡ slice_set self.old.keys v key }
+        ensures less { result ≡ true → 0 < entry self.old.places.items v → key <ℤ key_at self.old.keys v }
+        ensures same { result ≡ false → self.new ≡ self.old }
+        ensures waits { result ≡ false → 0 < entry self.old.places.items v }
+        ensures least { result ≡ false → key_at self.old.keys v ≤ℤ key }
+    {
+        let place = self.places[v as usize];
+        if place > 0 && self.keys.get(v as usize) <= key {
+            return false;
+        }
+        self.lower_wide(v, key);
+        true
+    }
+
+    // The same as `lower` with any key, which is written whole where it has to be.
+    #[cold]
+    #[inline(never)]
+    fn lower_wide(&mut self, v: u32, key: i128)
+        requires valid { IsHeap self.old }
+        requires items { length self.old.places.items < 2 ^ 31 }
+        requires item { v < length self.old.places.items }
+        requires low { 0 < entry self.old.places.items v → key ≤ℤ key_at self.old.keys v }
+        ensures valid { IsHeap self.new }
+        ensures table { table_of self.new.places.items ≡ slice_set (table_of self.old.places.items) v true }
+        ensures keys { self.new.keys ≡ slice_set self.old.keys v key }
+    {
+        let at = self.slot_for(v);
+        self.keys.set(v as usize, key);
+        self.rise(at, v, cut(key));
+    }
+
+    // The same as `lower` with a key that lies strictly inside the range of 64 bits. Where that was tested before, the
+    // compiler sees that no step of the rise looks at the whole keys, and that it calls nothing.
+    #[inline(always)]
+    fn lower_short(&mut self, v: u32, short: i64)
+        requires valid { IsHeap self.old }
+        requires items { length self.old.places.items < 2 ^ 31 }
+        requires item { v < length self.old.places.items }
+        requires inside { is_inside short ≡ true }
+        requires low { 0 < entry self.old.places.items v → short ≤ℤ key_at self.old.keys v }
+        ensures valid { IsHeap self.new }
+        ensures table { table_of self.new.places.items ≡ slice_set (table_of self.old.places.items) v true }
+        ensures keys { self.new.keys ≡ slice_set self.old.keys v short }
+    {
+        let at = self.slot_for(v);
+        self.keys.set_short(v as usize, short);
+        self.rise(at, v, short);
+    }
+
+    // Whether an item waits with a key that is no greater than one that lies strictly inside the range of 64 bits. The cut
+    // key beside its slot tells.
+    #[inline(always)]
+    fn waits_within(&self, v: u32, short: i64) -> bool
+        requires valid { IsHeap self.now }
+        requires item { v < length self.now.places.items }
+        requires inside { is_inside short ≡ true }
+        ensures { MatchBool result ((0 < entry self.now.places.items v) × (key_at self.now.keys v ≤ℤ short)) (0 < entry self.now.places.items v → short <ℤ key_at self.now.keys v) }
+    {
+        let place = self.places[v as usize];
+        if place == 0 {
+            return false;
+        }
+        self.shorts[place as usize - 1] <= short
     }
 
     // The slot of an item, or the one after the last if it has none, which is in use from then on. It is not written.

@@ -1,5 +1,5 @@
 //! Numbers of 128 bits, of which few need more than 64.
-ghost use Rattle.std.specs.Prelude.{◌≡◌, ◌≢◌, ◌<◌, ◌≤◌, ℕ, ℤ, List, IfOk, OnErr, length, pos, replicate, slice_index_or, slice_set, vec_capacity};
+ghost use Rattle.std.specs.Prelude.{◌≡◌, ◌≢◌, ◌<◌, ◌≤◌, ℕ, ℤ, List, true, IfOk, OnErr, length, pos, replicate, slice_index_or, slice_set, vec_capacity};
 ghost use Rattle.mcf_prices.specs.Private.KeyLists.{is_inside};
 ghost use Rattle.mcf_prices.specs.Private.ItemHeaps.{IsShort};
 
@@ -64,6 +64,16 @@ impl Keys {
             put_wide(&mut self.wide, place, key);
         }
     }
+
+    /// Writes a key that lies strictly inside the range of 64 bits at a place.
+    #[inline(always)]
+    pub(crate) fn set_short(&mut self, place: usize, short: i64)
+        requires place { place < length self.old }
+        requires inside { is_inside short ≡ true }
+        ensures { self.new ≡ slice_set self.old place short }
+    {
+        self.shorts[place] = short;
+    }
 }
 
 // What stands at a place of the second list, or 0 beyond its end.
@@ -97,6 +107,14 @@ pub(crate) fn is_inside(short: i64) -> bool
     ensures { result ≡ is_inside short }
 {
     short > i64::MIN && short < i64::MAX
+}
+
+/// Whether a key lies strictly inside the range of 64 bits.
+#[inline(always)]
+pub(crate) fn is_short(key: i128) -> bool
+    ensures { result ≡ is_inside key }
+{
+    key > i64::MIN as i128 && key < i64::MAX as i128
 }
 
 /// A key cut to 64 bits: the key itself, or the end of their range that is nearer to it.
