@@ -1,5 +1,5 @@
 //! A whole search, and the matching made greater by what it found.
-ghost use Rattle.std.specs.Prelude.{◌≡◌, ◌≢◌, ◌+◌, ◌-◌, ◌^◌, ◌<◌, ◌≤◌, ◌∷◌, ◌++◌, ◌↔◌, ℕ, ℤ, Bool, List, [], Some, false, true, IfOk, OnErr, length, pos};
+ghost use Rattle.std.specs.Prelude.{◌≡◌, ◌≢◌, ◌+◌, ◌-◌, ◌^◌, ◌<◌, ◌≤◌, ◌∷◌, ◌++◌, ◌↔◌, ℕ, ℤ, Bool, List, [], None, Some, false, true, IfOk, OnErr, length, pos};
 ghost use Rattle.std.specs.Prelude.{vec_capacity};
 ghost use Rattle.std.specs.List.{All, Contains};
 ghost use Rattle.mcf_instance.specs.Blocking.{in_table};
@@ -11,7 +11,7 @@ ghost use Rattle.mcf_assign.specs.Private.Keeping.{IsEnded, IsIdle};
 ghost use Rattle.mcf_assign.specs.Matchings.{AreMatchingPrices, IsMatchedRow, IsPartialMatching, IsRow, column_of};
 ghost use Rattle.mcf_assign.specs.Private.Lows.{AreLows};
 ghost use Rattle.mcf_assign.specs.Private.RowLists.{AreRows};
-ghost use Rattle.mcf_assign.specs.Private.Searches.{AreRaised, HasEntries, Settled, search_of};
+ghost use Rattle.mcf_assign.specs.Private.Searches.{AreRaised, HasEntries, IsReached, Settled, search_of};
 ghost use Rattle.mcf_assign.specs.Private.Turning.{IsExtended};
 
 use crate::prices::Prices;
@@ -43,8 +43,11 @@ impl Tables {
             marks,
             links,
             best: None,
+            horizon: None,
             order: Vec::with_capacity(alloc, nodes)?,
             partners: copies(alloc, nodes, 0)?,
+            nearest: 0,
+            looked: 0,
             pairs: 0,
         })
     }
@@ -74,11 +77,43 @@ impl Tables {
         ensures ended { IsEnded state.now prices.now (search_of self.new) source self.new.order.items }
         ensures best { result ≡ self.new.best }
     {
-        self.reset();
-        self.begin(state, source);
-        self.run(state, rows, prices, lows, mates, picks, source);
+        self.look(state, rows, prices, lows, mates, picks, source, true);
+        if !self.is_reached() {
+            self.look(state, rows, prices, lows, mates, picks, source, false);
+        }
+        self.learn();
         self.pairs = self.pairs.saturating_add(self.order.len() as u64 / 2);
         self.best
+    }
+
+    // Runs a search from a row that is not matched, with a horizon if that is asked.
+    fn look(
+        &mut self,
+        state: &State<'_>,
+        rows: &Rows,
+        prices: &Prices,
+        lows: &[i64],
+        mates: &[u32],
+        picks: &mut [RowArc],
+        source: NodeId,
+        bounded: bool,
+    )
+        requires matching { IsPartialMatching state.now }
+        requires rows { AreRows state.now.net rows.now }
+        requires prices { AreMatchingPrices state.now prices.now }
+        requires lows { AreLows prices.now lows.now }
+        requires mates { AreMates state.now mates.now }
+        requires idle { IsIdle (node_count state.now.net) self.old }
+        requires small { (v : ℕ) → IsNode (node_count state.now.net) v → IsUpTo (10 ^ 29) (at_node prices.now v) }
+        requires row { IsRow state.now source }
+        requires free { ¬ IsMatchedRow state.now source }
+        ensures idle { IsIdle (node_count state.now.net) self.new }
+        ensures ended { IsReached (search_of self.new) → IsEnded state.now prices.now (search_of self.new) source self.new.order.items }
+        ensures unbounded { bounded ≡ false → self.new.horizon ≡ None }
+    {
+        self.reset();
+        self.begin(state, source);
+        self.run(state, rows, prices, lows, mates, picks, source, bounded);
     }
 
     /// Matches the row of a search that found a path which ends with an arc: prices rise, the path is turned, and the
@@ -125,8 +160,11 @@ impl Tables {
             marks: _,
             links: _,
             best: _,
+            horizon: _,
             order: _,
             partners: _,
+            nearest: _,
+            looked: _,
             pairs: _,
         } = self;
         heap.clear();

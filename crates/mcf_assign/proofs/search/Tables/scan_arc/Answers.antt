@@ -1,5 +1,5 @@
 use Rattle.std.proofs.Common.{◌≡◌, ◌^◌, ◌-ℤ◌, ◌∷◌, [], false, ap, sym, subst, ◌∙◌, rules, to_z, of_z, ℕ}
-use mir.Syntax.{w128}
+use mir.Syntax.{w64, w128}
 use Rattle.std.proofs.lemmas.Int.{to_z-of_z}
 use Rattle.mcf_instance.specs.Network.{Network, at_node}
 use Rattle.mcf_instance.specs.WellFormed.{IsUpTo}
@@ -9,6 +9,8 @@ use Rattle.mcf_assign.specs.Matchings.{row_of}
 use Rattle.mcf_assign.specs.Private.RowLists.{IsRowArc}
 use Rattle.mcf_assign.specs.Private.Scans.{IsStep}
 use Rattle.mcf_assign.specs.Private.Searches.{IsLast, Settled, dist_at, search_of}
+use Rattle.mcf_assign.specs.Private.Lows.{IsGap}
+use Rattle.mcf_assign.proofs.CutPrices.{gap_is}
 use Rattle.mcf_assign.proofs.search.Tables.scan_arc.Goals as goal
 
 pub relax-requires-clause-arc : goal.relax-requires-clause-arc
@@ -51,3 +53,11 @@ returns-clause-step c =
     c.relax.new.self.order.items c.args.row (r ∷ [])) here
     (subst (λ v. IsStep c.args.state.now c.args.prices.now (search_of c.args.self.now) c.args.self.now.order.items (search_of c.relax.new.self)
     c.relax.new.self.order.items v ((record { arc = c.row_arc-a.result.arc; back = false }) ∷ [])) at c.relax.ensures.step)
+
+pub relax-requires-clause-gap : goal.relax-requires-clause-gap
+relax-requires-clause-gap c =
+    let best = c.args.self.now.best in
+    let far = c.args.self.now.horizon in
+    let b : to_z w128 (of_z w128 c.args.base) ≡ c.args.base = search (rules, to_z-of_z) in
+    gap_is best far (to_z w128 (of_z w128 c.args.base)) c.args.gap (to_z w64 (of_z w64 c.args.gap))
+    (subst (λ x. IsGap best far x c.args.gap) (sym b) c.requires.gap) (search (rules, to_z-of_z))
