@@ -1,4 +1,4 @@
-use Rattle.std.proofs.Common.{◌≡◌, ◌<◌, arith, to_z, of_z, rules, ◌∙◌, ap, sym, subst, refl, ◌-◌, ◌≤ℤ◌, [], ◌∷◌, get_or}
+use Rattle.std.proofs.Common.{◌≡◌, ◌<◌, inl, inr, arith, to_z, of_z, rules, ◌∙◌, ap, sym, subst, refl, ◌-◌, ◌≤ℤ◌, [], ◌∷◌, get_or}
 use mir.Syntax.{w128}
 use Rattle.std.proofs.lemmas.Int.{ints, to_z-of_z}
 use Rattle.mcf_instance.specs.Network.{IsNode, node_count}
@@ -122,28 +122,13 @@ returns-then-is_at_hand-clause-step c =
     (subst (λ o. IsStep s y q c.args.self.now.order.items (settled_pair (lowered q c.new-column.result k x) c.new-column.result c.settle_at_once.result) o
     (row_of s k) (forward_of c.args.a ∷ [])) (sym c.settle_at_once.ensures.order) once)
 
-pub returns-then-not-is_nearer-clause-step : goal.returns-then-not-is_nearer-clause-step
-returns-then-not-is_nearer-clause-step c =
-    let s = c.args.state.now in
-    let y = c.args.prices.now in
-    let q = search_of c.args.self.now in
-    let k = c.args.a.arc in
-    let d : to_z w128 (of_z w128 c.args.dist) ≡ c.args.dist = search (rules, to_z-of_z) in
-    let column : c.new-column.result ≡ column_of s k = c.new-column.ensures ∙ sym c.requires.arc.to in
-    let far = c.if-not-is_nearer.ensures in
-    let waits : Waits q (column_of s k) = subst (λ v. Waits q v) column far.0 in
-    let less = far.1 in
-    let less' : dist_at q (column_of s k) ≤ℤ offer s y q k = subst (λ x. dist_at q (column_of s k) ≤ℤ x) (d ∙ c.requires.dist)
-    (subst (λ v. dist_at q v ≤ℤ to_z w128 (of_z w128 c.args.dist)) column less) in
-    idle_step s y q c.args.self.now.order.items (row_of s k) (forward_of c.args.a ∷ [])
-    (relaxed_far s y q k c.requires.matching c.requires.prices c.requires.arc.arc c.requires.settled c.requires.last waits less')
-
 pub returns-clause-step : goal.returns-clause-step
 returns-clause-step c =
     let s = c.args.state.now in
     let y = c.args.prices.now in
     let q = search_of c.args.self.now in
     let k = c.args.a.arc in
+    let order = c.args.self.now.order.items in
     let d : to_z w128 (of_z w128 c.args.dist) ≡ c.args.dist = search (rules, to_z-of_z) in
     let is = column_is s k c.requires.matching c.requires.arc.arc in
     let node = is.0 in
@@ -155,11 +140,22 @@ returns-clause-step c =
     let matched : IsMatchedColumn s (column_of s k) = (get_or c.args.mates.now (column_of s k - 1) 0, pair.0, pair.1) in
     let column : c.new-column.result ≡ column_of s k = c.new-column.ensures ∙ sym c.requires.arc.to in
     let x = to_z w128 (of_z w128 c.args.dist) in
-    let step = lowered_is s y q k c.new-column.result x c.requires.sound.1.entries (subst (λ v. IsNode (node_count s.net) v) (sym column) node) column
-    (d ∙ c.requires.dist) c.if-not-is_nearer.ensures in
-    let low = lower_step s y q c.args.self.now.order.items k c.requires.matching c.requires.arc.arc c.requires.settled c.new-column.result x fresh step
-    (relaxed_lower s y q k c.requires.matching c.requires.prices c.requires.arc.arc c.requires.settled c.requires.last _ matched fresh step) in
-    subst (λ (z : Search). IsStep s y q c.args.self.now.order.items z c.lower.new.self.order.items (row_of s k) (forward_of c.args.a ∷ []))
-    (sym c.lower.ensures.value)
-    (subst (λ o. IsStep s y q c.args.self.now.order.items (lowered q c.new-column.result k x) o (row_of s k) (forward_of c.args.a ∷ []))
-    (ap (λ o. o.items) (sym c.lower.ensures.order)) low)
+    let listed : (new : Search) → search_of c.offer.new.self ≡ new → IsStep s y q order new order (row_of s k) (forward_of c.args.a ∷ [])
+        → IsStep s y q order (search_of c.offer.new.self) c.offer.new.self.order.items (row_of s k) (forward_of c.args.a ∷ []) = λ new value step.
+        subst (λ (z : Search). IsStep s y q order z c.offer.new.self.order.items (row_of s k) (forward_of c.args.a ∷ [])) (sym value)
+        (subst (λ o. IsStep s y q order new o (row_of s k) (forward_of c.args.a ∷ [])) (ap (λ o. o.items) (sym c.offer.ensures.order)) step) in
+    elim c.offer.ensures.news [
+      | inl (less, value) ↦ (
+          let step = lowered_is s y q k c.new-column.result x c.requires.sound.1.entries (subst (λ v. IsNode (node_count s.net) v) (sym column) node) column
+          (d ∙ c.requires.dist) less in
+          listed (lowered q c.new-column.result k x) value
+          (lower_step s y q order k c.requires.matching c.requires.arc.arc c.requires.settled c.new-column.result x fresh step
+          (relaxed_lower s y q k c.requires.matching c.requires.prices c.requires.arc.arc c.requires.settled c.requires.last _ matched fresh step)))
+      | inr (far, value) ↦ (
+          let waits : Waits q (column_of s k) = subst (λ v. Waits q v) column far.0 in
+          let less : dist_at q (column_of s k) ≤ℤ offer s y q k = subst (λ z. dist_at q (column_of s k) ≤ℤ z) (d ∙ c.requires.dist)
+          (subst (λ v. dist_at q v ≤ℤ x) column far.1) in
+          listed q value
+          (idle_step s y q order (row_of s k) (forward_of c.args.a ∷ [])
+          (relaxed_far s y q k c.requires.matching c.requires.prices c.requires.arc.arc c.requires.settled c.requires.last waits less)))
+    ]
