@@ -12,7 +12,7 @@ use Rattle.mcf_assign.specs.declared.spread.Columns.{Columns}
 use Rattle.mcf_assign.specs.declared.spread.ShortArc.{ShortArc}
 use Rattle.mcf_assign.specs.declared.spread.Spread.{Spread}
 use Rattle.mcf_assign.specs.declared.update.Update.{Update}
-use Rattle.mcf_assign.specs.Private.Lows.{low_inside}
+use Rattle.mcf_assign.specs.Private.Lows.{low_inside, low_reach}
 
 -- ---- the arcs that enter each node, side by side
 
@@ -109,12 +109,35 @@ pub record IsRaised (g : Network) (q : Spread) (far : ℤ) (lows : List ℤ) (k 
   pub tight : y ≡ x -ℤ (arc_at g k).cost
   pub column : IsEnough (at_node q.scanned.items (arc_at g k).dst) far (at_node lows (arc_at g k).dst) y
 
--- the prices of the pairs of the first n nodes are raised, and no price changed of a node without a mate
+-- how far prices may be lifted
+abbrev pub IsLift : ℤ → Type 0
+IsLift far = (pos 0 ≤ℤ far) × (far ≤ℤ pos low_reach)
+
+-- the price x of a node is its old one, lifted by `far` where the node has a mate; both are inside
+pub record IsLifted (mate : ℕ) (far low x : ℤ) : Type 0 where
+  pub before : IsUpTo low_inside low
+  pub near : IsUpTo low_inside x
+  pub matched : 0 < mate → x ≡ low +ℤ far
+  pub free : mate ≡ 0 → x ≡ low
+
+-- so are the prices of the first n nodes
+abbrev pub AreLifted : List ℕ → ℤ → List ℤ → List ℤ → ℕ → Type 0
+AreLifted mates far lows z n = (v : ℕ) → IsNode n v → IsLifted (mate_at mates v) far (at_node lows v) (at_node z v)
+
+-- both prices of a pair are lifted
+abbrev pub IsLiftedPair : Network → ℤ → List ℤ → ℕ → ℤ → ℤ → Type 0
+IsLiftedPair g far lows k x y = (x ≡ at_node lows (arc_at g k).src +ℤ far) × (y ≡ at_node lows (arc_at g k).dst +ℤ far)
+
+-- each pair is lifted or raised, and no price changed of a node without a mate; of the first n nodes no row is above its
+-- limit, and each column without a mate is enough
 pub record AreRaisedTo (s : Pseudoflow) (mates : List ℕ) (q : Spread) (far : ℤ) (lows z : List ℤ) (n : ℕ) : Type 0 where
   pub count : length z ≡ node_count s.net
-  pub inside : (v : ℕ) → IsNode n v → IsUpTo low_inside (at_node lows v)
-  pub pairs : (v : ℕ) → IsNode n v → pos 0 ≤ℤ at_node s.net.supplies v → 0 < mate_at mates v
-      → IsRaised s.net q far lows (mate_at mates v) (at_node z (arc_at s.net (mate_at mates v)).src) (at_node z (arc_at s.net (mate_at mates v)).dst)
+  pub inside : (v : ℕ) → IsNode (node_count s.net) v → IsUpTo low_inside (at_node lows v)
+  pub near : (v : ℕ) → IsNode (node_count s.net) v → IsUpTo low_inside (at_node z v)
+  pub pairs : (v : ℕ) → IsNode (node_count s.net) v → pos 0 ≤ℤ at_node s.net.supplies v → 0 < mate_at mates v
+      → IsLiftedPair s.net far lows (mate_at mates v) (at_node z (arc_at s.net (mate_at mates v)).src) (at_node z (arc_at s.net (mate_at mates v)).dst)
+      ⊎ IsRaised s.net q far lows (mate_at mates v) (at_node z (arc_at s.net (mate_at mates v)).src) (at_node z (arc_at s.net (mate_at mates v)).dst)
+  pub limits : (v : ℕ) → IsNode n v → pos 0 ≤ℤ at_node s.net.supplies v → 0 < mate_at mates v → at_node z v ≤ℤ at_node q.limits.items v
   pub free : (v : ℕ) → IsNode (node_count s.net) v → mate_at mates v ≡ 0 → at_node z v ≡ at_node lows v
   pub free_columns : (v : ℕ) → IsNode n v → at_node s.net.supplies v <ℤ pos 0 → mate_at mates v ≡ 0
       → IsEnough (at_node q.scanned.items v) far (at_node lows v) (at_node lows v)
