@@ -87,6 +87,7 @@ pub record HasSpread (g : Network) (q : Spread) : Type 0 where
 pub record HasTables (g : Network) (u : Update) : Type 0 where
   pub columns : AreColumns g u.columns
   pub spread : HasSpread g u.spread
+  pub free : All (IsNode (node_count g)) u.free.items
   pub lows : length u.lows.items ≡ node_count g
 
 -- ---- new prices

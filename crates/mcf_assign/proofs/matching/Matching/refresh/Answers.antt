@@ -34,7 +34,7 @@ invariant_of-self c =
     let tables = c.run.ensures.tables in (
       subst (λ (y : List ℤ). IsKept i.state y i.mates.items (record i.tables { pairs = 0 }) i.reached) (sym c.take_lows.ensures.prices) kept,
       c.self.invariant.1,
-      record { columns = tables.columns; spread = tables.spread; lows = c.take_lows.ensures.count ∙ k.shown.count },
+      record { columns = tables.columns; spread = tables.spread; free = tables.free; lows = c.take_lows.ensures.count ∙ k.shown.count },
     )
 
 pub returns-then-run-clause-shown : goal.returns-then-run-clause-shown
