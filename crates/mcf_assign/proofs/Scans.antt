@@ -15,11 +15,10 @@ use Rattle.mcf_network.specs.States.{Pseudoflow}
 use Rattle.mcf_network.proofs.Lists.{Contains-cons}
 use Rattle.mcf_network.proofs.Marks.{count_small}
 use Rattle.mcf_network.proofs.RestoringLaws.{sign_of}
-use Rattle.mcf_assign.specs.declared.search.Target.{Target}
 use Rattle.mcf_assign.specs.Matchings.{AreMatchingPrices, IsColumn, IsMatchedColumn, IsPair, IsPartialMatching, IsRow, column_of, reduced, row_of}
 use Rattle.mcf_assign.specs.Private.Forests.{IsOrder}
 use Rattle.mcf_assign.specs.Private.Scans.{AreTurns, HasFarArcs, HasNewArcs, HasPending, IsGoing, IsNextRow, IsSound, IsStep, all_forward}
-use Rattle.mcf_assign.specs.Private.Searches.{HasEntries, HasForward, IsBeyond, IsBestUpTo, IsLink, IsLast, IsOut, IsOver, IsPassed, IsReached, IsLowering, IsNear, IsNearest, IsReady, IsSearch, IsSettling, Search, Settled, Waits}
+use Rattle.mcf_assign.specs.Private.Searches.{HasEntries, HasForward, IsBeyond, IsLink, IsLast, IsOver, IsPassed, IsReached, IsLowering, IsNear, IsNearest, IsReady, IsSearch, IsSettling, Search, Settled, Waits}
 use Rattle.mcf_assign.specs.Private.Searches.{dist_at, link_at, lowered, offer, reach_of, settled_pair}
 use Rattle.mcf_assign.proofs.Near.{near_best, near_lowered}
 use Rattle.mcf_assign.proofs.Orders.{ordered_kept, ordered_more, two_more}

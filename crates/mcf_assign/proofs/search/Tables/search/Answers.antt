@@ -1,4 +1,4 @@
-use Rattle.std.proofs.Common.{◌≡◌, ℕ, ℤ, List, Option, ap, refl, subst, sym}
+use Rattle.std.proofs.Common.{ℕ, ℤ, List, Option, ap, refl, subst, sym}
 use Rattle.mcf_instance.specs.Network.{node_count}
 use Rattle.mcf_assign.specs.declared.search.Tables.{Tables}
 use Rattle.mcf_assign.specs.Private.Keeping.{IsEnded, IsIdle}

@@ -141,9 +141,9 @@ returns-clause-step c =
     let column : c.new-column.result ≡ column_of s k = c.new-column.ensures ∙ sym c.requires.arc.to in
     let x = to_z w128 (of_z w128 c.args.dist) in
     let listed : (new : Search) → search_of c.offer.new.self ≡ new → IsStep s y q order new order (row_of s k) (forward_of c.args.a ∷ [])
-        → IsStep s y q order (search_of c.offer.new.self) c.offer.new.self.order.items (row_of s k) (forward_of c.args.a ∷ []) = λ new value step.
-        subst (λ (z : Search). IsStep s y q order z c.offer.new.self.order.items (row_of s k) (forward_of c.args.a ∷ [])) (sym value)
-        (subst (λ o. IsStep s y q order new o (row_of s k) (forward_of c.args.a ∷ [])) (ap (λ o. o.items) (sym c.offer.ensures.order)) step) in
+    → IsStep s y q order (search_of c.offer.new.self) c.offer.new.self.order.items (row_of s k) (forward_of c.args.a ∷ []) = λ new value step.
+    subst (λ (z : Search). IsStep s y q order z c.offer.new.self.order.items (row_of s k) (forward_of c.args.a ∷ [])) (sym value)
+    (subst (λ o. IsStep s y q order new o (row_of s k) (forward_of c.args.a ∷ [])) (ap (λ o. o.items) (sym c.offer.ensures.order)) step) in
     elim c.offer.ensures.news [
       | inl (less, value) ↦ (
           let step = lowered_is s y q k c.new-column.result x c.requires.sound.1.entries (subst (λ v. IsNode (node_count s.net) v) (sym column) node) column
