@@ -1,4 +1,5 @@
 -- What a clause sees of a blocked answer.
+-- Source: own
 use Rattle.std.specs.Prelude.{ℕ, ◌≤◌, List, length, All}
 use Rattle.std.specs.List.Sorted.{IsStrictlyIncreasing}
 use Rattle.mcf_answer.specs.Ranges.{IsNodeInRange}

@@ -1,4 +1,5 @@
 -- The lines of a text that fit, and the first that doesn't.
+-- Source: own
 use Rattle.std.specs.Prelude.{ℕ, ◌+◌, ◌-◌, ◌==◌, nat_lt, Bool, true, false, ◌&&◌, ◌||◌, if◌then◌else◌, List, [], ◌∷◌, map, length, filter_map, ℤ, Option, Some}
 use Rattle.std.specs.Prelude.{None, is_some, slice_get}
 use Rattle.std.specs.Option.{option_or, option_map_or}

@@ -1,4 +1,5 @@
 -- Laws of answers and their texts.
+-- Source: own
 use Rattle.std.specs.Prelude.{◌≡◌, ◌↔◌, ℕ, List, Ok}
 use Rattle.mcf_answer.specs.Parsing.{parsing}
 use Rattle.mcf_answer.specs.Spelling.{IsAnswer, Spells}

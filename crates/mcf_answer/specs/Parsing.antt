@@ -1,4 +1,5 @@
 -- What a text stands for as an answer.
+-- Source: own
 use Rattle.std.specs.Prelude.{◌||◌, ℕ, Bool, List, [], ◌∷◌, map, ℤ, pos, Option, Some, None, Result, Ok, Err, is_some, unwrap_or}
 use Rattle.std.specs.List.{list_any}
 use Rattle.mcf_answer.specs.Fits.{misfit, sent_lines, moved_lines, price_lines, member_lines}

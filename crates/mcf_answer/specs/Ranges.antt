@@ -1,4 +1,5 @@
 -- The ranges of the numbers of answers.
+-- Source: own
 use Rattle.std.specs.Prelude.{ℕ, ◌≤◌, ◌^◌, ℤ}
 use Rattle.mcf_instance.specs.Limits.{arc_limit, node_limit}
 use Rattle.mcf_instance.specs.Network.{IsNode}

@@ -1,4 +1,5 @@
 -- What a line says, by its form: a first word, and so many words and numbers in range.
+-- Source: own
 use Rattle.std.specs.Prelude.{ℕ, if◌then◌else◌, List, [], ◌∷◌, codes, ℤ, pos, neg_ℤ, Option, Some, None, option_map, option_and_then}
 use Rattle.std.specs.Option.{option_or}
 use Rattle.mcf_answer.specs.Ranges.{amount_limit}
@@ -13,6 +14,7 @@ use Rattle.mcf_instance.specs.declared.problem.Side.TheVariants.{Send, Take}
 use Rattle.mcf_text.specs.Row.{natural}
 use Rattle.mcf_text.specs.Whole.{is_within}
 
+-- goes on with what the first step gives, if it gives anything
 infixl 10 ◌>>=◌
 abbrev pub ◌>>=◌ : {A B : Type 0} → Option A → (A → Option B) → Option B
 o >>= f = option_and_then f o
@@ -40,9 +42,11 @@ arc_of t = option_map natural (number_within (pos 1) (pos arc_limit) t)
 abbrev pub line_number_of : Token → Option ℕ
 line_number_of t = option_map natural (number_within (pos 1) (pos line_limit) t)
 
+-- the side that a token names
 abbrev pub side_of : Token → Option Side
 side_of t = if is_word (side_word Send) t then Some Send else (if is_word (side_word Take) t then Some Take else None)
 
+-- the code that a token names
 abbrev pub code_of : Token → Option Code
 code_of (Word bytes) = code_of_word bytes
 code_of (Number z) = None
@@ -107,6 +111,7 @@ pub data Opening : Type 0 where
   OpensSet : (side : Side) → (count : ℕ) → Opening
   OpensRefusal : (refusal : Fault) → Opening
 
+-- the opening of a set of this side and of so many nodes
 abbrev pub opens_set : Side × ℕ → Opening
 opens_set set = OpensSet set.0 set.1
 

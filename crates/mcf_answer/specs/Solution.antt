@@ -1,4 +1,5 @@
 -- What a clause sees of a flow answer.
+-- Source: DIMACS, prices own
 use Rattle.std.specs.Prelude.{◌≤◌, List, length, ℤ, All}
 use Rattle.mcf_answer.specs.Ranges.{IsAmount, IsNodeInRange}
 use Rattle.mcf_answer.specs.declared.answers.Sent.{Sent}
@@ -18,6 +19,7 @@ pub record IsSent (s : Sent) : Type 0 where
   pub flow_small : IsAmount s.flow
 
 -- the numbers are in range
+-- Source: own
 pub record IsSolution (a : Solution) : Type 0 where
   pub cost_small : IsAmount a.cost
   pub sent_fit : All IsSent a.sent

@@ -1,4 +1,5 @@
 -- What a clause sees of a flow answer that names some arcs alone.
+-- Source: own
 use Rattle.std.specs.Prelude.{ℕ, ◌≤◌, List, length, map, ℤ, All}
 use Rattle.std.specs.List.Sorted.{IsStrictlyIncreasing}
 use Rattle.mcf_answer.specs.Ranges.{IsAmount, IsArcInRange}

@@ -1,4 +1,5 @@
 -- The lines of an answer.
+-- Source: own
 use Rattle.std.specs.Prelude.{◌≡◌, ℕ, ◌≤◌, List, [], ◌∷◌, ◌++◌, map, length, codes, ℤ, pos}
 use Rattle.std.specs.List.{enumerate_from}
 use Rattle.mcf_answer.specs.BlockingSet.{BlockingSet, IsBlockingSet}
@@ -15,6 +16,7 @@ use Rattle.mcf_instance.specs.declared.problem.Side.TheVariants.{Send, Take}
 
 -- ---- the lines
 
+-- the word of a side
 abbrev pub side_word : Side → List ℕ
 side_word Send = codes "send"
 side_word Take = codes "take"
@@ -24,10 +26,12 @@ abbrev pub version_line : List Token
 version_line = Word (codes "v") ∷ Number (pos 2) ∷ []
 
 -- `s COST`
+-- Source: DIMACS
 abbrev pub cost_line : ℤ → List Token
 cost_line cost = Word (codes "s") ∷ Number cost ∷ []
 
 -- `f SRC DST FLOW`
+-- Source: DIMACS
 abbrev pub flow_line : Sent → List Token
 flow_line s = Word (codes "f") ∷ Number (pos s.src) ∷ Number (pos s.dst) ∷ Number s.flow ∷ []
 
@@ -61,6 +65,7 @@ solution_lines a = cost_line a.cost ∷ map flow_line a.sent ++ map price_line (
 abbrev pub sparse_lines : SparseSolution → List (List Token)
 sparse_lines a = version_line ∷ cost_line a.cost ∷ map moved_line a.moved ++ map price_line (enumerate_from 1 a.prices)
 
+-- those of a set that blocks
 abbrev pub set_lines : BlockingSet → List (List Token)
 set_lines a = set_line a.side (length a.nodes) ∷ map member_line a.nodes
 

@@ -1,4 +1,5 @@
 -- The fields of a line, as words and numbers.
+-- Source: own
 use Rattle.std.specs.Prelude.{ℕ, Bool, false, if◌then◌else◌, List, map, bytes_eq, ℤ}
 use Rattle.mcf_text.specs.Row.{Row, rows}
 use Rattle.mcf_text.specs.Whole.{is_whole, whole_value}

@@ -1,4 +1,5 @@
 -- What a matching is to its callers, and what one search does to it.
+-- Source: AMO 12.4
 use Rattle.std.specs.Prelude.{◌≡◌, ◌≢◌, ◌↔◌, ℕ, Bool, true, List, ◌∷◌, length, ℤ, pos, ◌⊎◌}
 use Rattle.std.specs.List.{All, AllPairs, Contains}
 use Rattle.mcf_instance.specs.declared.problem.Side.TheVariants.{Send}
@@ -85,6 +86,7 @@ pub record IsStopped (old : Assigned) (row : ℕ) (new : Assigned) : Type 0 wher
   pub blocks : Blocks old.flow.net (in_table new.reached) Send
 
 -- prices alone changed
+-- Source: Goldberg and Kennedy 1995
 pub record IsRepriced (old new : Assigned) : Type 0 where
   pub flow : new.flow ≡ old.flow
   pub settled : new.settled ≡ old.settled

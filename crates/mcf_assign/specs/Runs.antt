@@ -1,4 +1,5 @@
 -- How a matching comes about: one search for each row, ascending.
+-- Source: AMO 9.7, 12.4
 use Rattle.std.specs.Prelude.{◌≡◌, ◌≢◌, ℕ, Bool, List, [], ◌∷◌, ◌++◌, length, replicate, pos, ◌⊎◌}
 use Rattle.std.specs.List.{filter, range_with_len}
 use Rattle.std.specs.Ordering.{int_eq}

@@ -1,6 +1,7 @@
 -- A net with artificial arcs (Ahuja, Magnanti and Orlin, Network Flows, section 11.5). A root, node 0, is added, and for each
 -- node an arc between it and the root. The label of an arc of the net is its number, and that of the artificial arc of node v
 -- is m + v, where m is how many arcs the net has.
+-- Source: AMO 11.5
 use Rattle.std.specs.Prelude.{ℕ, ◌+◌, ◌++◌, Bool, map, sum, pos, int_le, if◌then◌else◌}
 use Rattle.std.specs.List.{range_with_len}
 use Rattle.mcf_instance.specs.declared.arc.Arc.{Arc}

@@ -1,4 +1,5 @@
 -- Bases (Ahuja, Magnanti and Orlin, Network Flows, sections 11.2 and 11.6).
+-- Source: AMO 11.2, 11.6
 use Rattle.std.specs.Prelude.{◌≡◌, ℕ, ◌+◌, ◌≤◌, ◌⊎◌, length, ℤ, pos, ◌≤ℤ◌}
 use Rattle.std.specs.List.{All}
 use Rattle.mcf_instance.specs.Network.{Network, IsNode, node_count}

@@ -1,4 +1,5 @@
 -- Laws of bases.
+-- Source: AMO 11
 use Rattle.std.specs.Prelude.{◌≡◌, ℕ, ◌+◌, ◌<◌, List, drop, length, ℤ, pos, ◌+ℤ◌, ◌-ℤ◌, ◌≤ℤ◌, ◌<ℤ◌}
 use Rattle.mcf_instance.specs.Flow.{IsFeasible, Shows}
 use Rattle.mcf_instance.specs.Network.{IsNode, node_count}
@@ -16,6 +17,7 @@ HasNoArtificial b =
     (v : ℕ) → IsNode (node_count b.net) v → carried b (length b.net.arcs + v) ≡ pos 0
 
 -- each pivot lowers the pair
+-- Source: AMO 11.5, 11.6
 abbrev pub PivotsLowerThePair : Type 0
 PivotsLowerThePair =
     (old new : TreeStructure) (k : ℕ) (moved : ℤ) → IsBasis old → IsPivot old k moved new → PairFalls old new
@@ -47,11 +49,13 @@ LastBasesAreShown =
     → IsFeasible b.net (state_of b).amounts × Shows b.net.arcs (drop 1 b.prices) (state_of b).amounts
 
 -- a pivot keeps a basis a basis
+-- Source: AMO 11.5, 11.6
 abbrev pub PivotsKeepBases : Type 0
 PivotsKeepBases =
     (old new : TreeStructure) (k : ℕ) (moved : ℤ) → IsBasis old → IsPivot old k moved new → IsBasis new
 
 -- where no arc is eligible and some flow is feasible, no artificial arc carries anything
+-- Source: AMO 11.5, 11.6
 abbrev pub LastBasesAreFeasible : Type 0
 LastBasesAreFeasible =
     (b : TreeStructure) (flow : List ℤ) → IsBasis b → HasNoEligible b → IsFeasible b.net flow → HasNoArtificial b

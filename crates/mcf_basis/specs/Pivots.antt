@@ -1,5 +1,6 @@
 -- One pivot of the network simplex, which keeps trees strongly feasible (Cunningham; Ahuja, Magnanti and Orlin, Network Flows,
 -- sections 11.5 and 11.6).
+-- Source: AMO 11.5, 11.6
 use Rattle.std.specs.Prelude.{◌≡◌, ℕ, ◌≤◌, ◌⊎◌, List, ◌∷◌, ◌++◌, length, ℤ, pos, ◌+ℤ◌, ◌<ℤ◌, int_lt}
 use Rattle.std.specs.List.{All}
 use Rattle.mcf_instance.specs.Flow.{cost}
@@ -82,6 +83,7 @@ pub record IsPivot (old : TreeStructure) (k : ℕ) (moved : ℤ) (new : TreeStru
 abbrev pub full_cost : TreeStructure → ℤ
 full_cost b = cost (with_artificial b.net).arcs b.amounts
 
+-- the sum of the prices of all nodes
 abbrev pub price_sum : TreeStructure → ℤ
 price_sum b = node_sum (price_at b) (node_count b.net)
 

@@ -1,4 +1,5 @@
 -- How many pivots there can be: the pair of the cost and the sum of the prices as one number, and its bounds.
+-- Source: AMO 11.6, constants own
 use Rattle.std.specs.Prelude.{ℕ, ◌+◌, ◌*◌, max, List, [], ◌∷◌, ℤ, pos, ◌+ℤ◌, ◌-ℤ◌, ◌*ℤ◌, ◌≤ℤ◌, unsigned_abs}
 use Rattle.mcf_instance.specs.declared.arc.Arc.{Arc}
 use Rattle.mcf_instance.specs.Flow.{cost}

@@ -1,5 +1,6 @@
 -- Spanning tree structures (Ahuja, Magnanti and Orlin, Network Flows, section 11.2): a spanning tree of a net with its artificial
 -- arcs, an amount for each arc and a price for each node; and the paths and cycles of the tree.
+-- Source: AMO 11.2
 use Rattle.std.specs.Prelude.{◌≡◌, ℕ, zero, suc, ◌-◌, ◌==◌, ◌≤◌, true, false, not, List, [], ◌∷◌, ◌++◌, length, take, ℤ, pos, ◌+ℤ◌, ◌-ℤ◌, ◌≤ℤ◌, slice_index_or}
 use Rattle.mcf_instance.specs.Network.{Network, IsNode, node_count}
 use Rattle.mcf_network.specs.declared.rid.Rid.{Rid}
@@ -29,6 +30,7 @@ state_of b = record { net = b.net; amounts = take (length b.net.arcs) b.amounts 
 abbrev pub carried : TreeStructure → ℕ → ℤ
 carried b label = amount_at (full_state b) label
 
+-- the price of a node
 abbrev pub price_at : TreeStructure → ℕ → ℤ
 price_at b v = slice_index_or b.prices v (pos 0)
 

@@ -1,4 +1,5 @@
 -- By how much an arc violates the optimality conditions (Ahuja, Magnanti and Orlin, Network Flows, section 11.5).
+-- Source: AMO 11.5
 use Rattle.std.specs.Prelude.{ℕ, ◌<◌, ◌≤◌, Option, Some, None, unsigned_abs}
 use Rattle.mcf_basis.specs.Pivots.{IsEligible}
 use Rattle.mcf_basis.specs.Structures.{TreeStructure, reduced_at}

@@ -1,4 +1,5 @@
 -- When an answer text is correct for an instance text.
+-- Source: own
 use Rattle.std.specs.Prelude.{◌≡◌, ℕ, ◌==◌, ◌≤◌, List, find, map, length, ℤ, Option, Some, None, Result, Ok, Err}
 use Rattle.std.specs.List.{All, enumerate_from}
 use Rattle.std.specs.Option.{option_map_or}

@@ -1,4 +1,5 @@
 -- What the checker says of an answer text: the first of the verdicts that applies.
+-- Source: own
 use Rattle.std.specs.Prelude.{ℕ, ◌-◌, ◌==◌, nat_le, nat_lt, max, Bool, true, false, not, ◌&&◌, ◌||◌, if◌then◌else◌, List, length, find, zip, ℤ, int_le, int_lt}
 use Rattle.std.specs.Prelude.{pos, Option, Some, None, option_map, slice_get, Result, Ok, Err, bytes_eq}
 use Rattle.std.specs.List.{list_all, range_with_len}
@@ -69,11 +70,14 @@ bad_node g prices flow =
 -- ---- prices
 
 -- a flow above the low of an arc of positive reduced cost, or below the cap of one of negative reduced cost
+-- Source: AMO 9.3
 abbrev pub is_loose : List ℤ → Arc × ℤ → Bool
 is_loose prices m =
     (int_lt (pos 0) (reduced_cost prices m.0) && int_lt m.0.low m.1)
     || (int_lt (reduced_cost prices m.0) (pos 0) && int_lt m.1 m.0.cap)
 
+-- such a flow, if there is one
+-- Source: AMO 9.3
 abbrev pub option_is_loose : List ℤ → Option (Arc × ℤ) → Bool
 option_is_loose prices None = false
 option_is_loose prices (Some m) = is_loose prices m
@@ -103,6 +107,7 @@ sparse_verdict g a =
     option_map_or BadArc (bad_moved g a.moved) (flow_verdict g a.cost a.prices (spread g.arcs a.moved))
 
 -- the set must send, or take, more than it can
+-- Source: AMO 6.7, Hoffman
 abbrev pub exceeds : Network → (ℕ → Bool) → Side → Bool
 exceeds g set Send = int_lt (can_send g set) (must_send g set)
 exceeds g set Take = int_lt (can_take g set) (must_take g set)
@@ -113,6 +118,7 @@ set_verdict g a =
     if list_all (λ v. nat_le v (node_count g)) a.nodes && exceeds g (in_list a.nodes) a.side
     then SetAccepted (length a.nodes) else BadSet
 
+-- both faults name one line and one code
 abbrev pub same_fault : Fault → Fault → Bool
 same_fault r s = r.line == s.line && bytes_eq (code_word r.code) (code_word s.code)
 

@@ -1,4 +1,5 @@
 -- A law of verdicts.
+-- Source: own
 use Rattle.std.specs.Prelude.{◌↔◌, ℕ, List}
 use Rattle.std.specs.Bool.{IsTrue}
 use Rattle.mcf_checker.specs.Correct.{IsCorrect}

@@ -1,4 +1,5 @@
 -- The lines that tell why there is no verdict, each with the byte that ends it.
+-- Source: own
 use Rattle.std.specs.Prelude.{ℕ, List, codes}
 use Rattle.mcf_checker.specs.declared.command.FileFault.{FileFault}
 use Rattle.mcf_checker.specs.declared.command.FileFault.TheVariants.{NoMemory, Unreadable}
@@ -7,10 +8,11 @@ use Rattle.mcf_checker.specs.declared.command.FileFault.TheVariants.{NoMemory, U
 abbrev pub usage_line : List ℕ
 usage_line = codes "usage: mcfcheck INSTANCE ANSWER\n"
 
--- the file of the instance, or that of the answer, can't be read
+-- the file of the instance can't be read
 abbrev pub instance_line : List ℕ
 instance_line = codes "mcfcheck: cannot read the instance\n"
 
+-- the file of the answer can't be read
 abbrev pub answer_line : List ℕ
 answer_line = codes "mcfcheck: cannot read the answer\n"
 

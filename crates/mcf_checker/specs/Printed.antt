@@ -1,4 +1,5 @@
 -- What is printed of a verdict.
+-- Source: own
 use Rattle.std.specs.Prelude.{ℕ, List, [], ◌∷◌, ◌++◌, codes}
 use Rattle.std.specs.Fmt.{decimal, signed_decimal}
 use Rattle.mcf_checker.specs.declared.verdict.Verdict.{Verdict}

@@ -1,5 +1,6 @@
 -- Runs of the command: which files are read, and what is given and printed. `calls` says what a call of the
 -- reader of files may give, and `words` are the texts of the words.
+-- Source: own
 use denote.Ref.{Bor}
 use Rattle.std.specs.Fn.{CalledAt, Mut}
 use Rattle.std.specs.Io.KnownBytes.{Appends}

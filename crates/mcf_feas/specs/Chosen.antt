@@ -1,4 +1,5 @@
 -- Which node set is named, and by which side, where no flow is feasible.
+-- Source: own
 use Rattle.std.specs.Prelude.{◌≡◌, ◌≢◌, ℕ, Bool, true, List, length, ℤ, pos, ◌<ℤ◌, ◌↔◌}
 use Rattle.mcf_instance.specs.declared.problem.Side.{Side}
 use Rattle.mcf_instance.specs.declared.problem.Side.TheVariants.{Take}

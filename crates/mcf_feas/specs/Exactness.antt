@@ -1,4 +1,5 @@
 -- What an answer says.
+-- Source: AMO 6.7, Hoffman
 use Rattle.std.specs.Prelude.{◌↔◌, ℕ, Bool, List, ℤ}
 use Rattle.mcf_instance.specs.declared.problem.Side.{Side}
 use Rattle.mcf_instance.specs.Blocking.{Blocks}

@@ -1,4 +1,5 @@
 -- What a net is answered with: a state without surplus, or a node set that blocks.
+-- Source: own
 use Rattle.std.specs.Prelude.{◌≡◌}
 use Rattle.mcf_instance.specs.Network.{Network}
 use Rattle.mcf_network.specs.States.{Pseudoflow, HasNoSurplus, IsPseudoflow}

@@ -1,4 +1,5 @@
 -- The faults of an instance text.
+-- Source: own
 use Rattle.std.specs.Prelude.{ℕ, ◌==◌, nat_le, nat_lt, Bool, true, false, not, ◌&&◌, ◌||◌, if◌then◌else◌, List, [], ◌∷◌, ◌++◌, map, length, filter, filter_map}
 use Rattle.std.specs.Prelude.{find, bytes_eq, codes, drop, ℤ, pos, neg_ℤ, int_lt, Option, Some, None, option_map, slice_get, ◌*◌, max, sum, unsigned_abs}
 use Rattle.std.specs.List.{list_all, list_any}
@@ -20,26 +21,38 @@ pub record Fault : Type 0 where
 
 -- ---- the kinds of lines
 
+-- a problem line
+-- Source: DIMACS
 abbrev pub is_p : Row → Bool
 is_p row = begins (codes "p") row
 
+-- a node line
+-- Source: DIMACS
 abbrev pub is_n : Row → Bool
 is_n row = begins (codes "n") row
 
+-- an arc line
+-- Source: DIMACS
 abbrev pub is_a : Row → Bool
 is_a row = begins (codes "a") row
 
 -- ---- the problem line
 
+-- the second field is `min` or `asn`
+-- Source: DIMACS
 abbrev pub has_problem_word : Row → Bool
 has_problem_word row = bytes_eq (field row 1) (codes "min") || bytes_eq (field row 1) (codes "asn")
 
+-- the problem that the second field names
+-- Source: DIMACS
 abbrev pub problem_of : Row → Format
 problem_of row = if bytes_eq (field row 1) (codes "asn") then Asn else Min
 
+-- the third field is a count of nodes within its limit, and the fourth one of arcs
 abbrev pub size_fits : Row → Bool
 size_fits row = is_within (pos 0) (pos node_limit) (number row 2) && is_within (pos 0) (pos arc_limit) (number row 3)
 
+-- four fields, a problem's word and two counts that fit; the first field isn't looked at
 abbrev pub is_good_header : Row → Bool
 is_good_header row = length row.fields == 4 && has_problem_word row && is_whole (field row 2) && is_whole (field row 3) && size_fits row
 
@@ -51,6 +64,7 @@ no_header = record { problem = Min; nodes = 0; arcs = 0 }
 abbrev pub count : Row → ℕ → ℕ
 count row k = natural (number row k)
 
+-- what a row says as a problem line
 abbrev pub header_of : Row → Header
 header_of row = if is_good_header row then record { problem = problem_of row; nodes = count row 2; arcs = count row 3 } else no_header
 
@@ -58,12 +72,14 @@ header_of row = if is_good_header row then record { problem = problem_of row; no
 abbrev pub header : List Row → Header
 header lines = option_map_or header_of (find is_p lines) no_header
 
+-- whether the problem is the flow problem
 abbrev pub is_min : Format → Bool
 is_min Min = true
 is_min Asn = false
 
 -- ---- what the lines before say
 
+-- a problem line is among the lines before
 abbrev pub has_p : List Row → Bool
 has_p earlier = list_any is_p earlier
 
@@ -71,18 +87,22 @@ has_p earlier = list_any is_p earlier
 abbrev pub listed : List Row → List ℕ
 listed earlier = map (λ row. node row 1) (filter is_n earlier)
 
+-- the node has a node line among them
 abbrev pub is_listed : List Row → ℕ → Bool
 is_listed earlier v = list_any (λ w. w == v) (listed earlier)
 
+-- the arc lines
 abbrev pub arc_lines : List Row → List Row
 arc_lines earlier = filter is_a earlier
 
+-- the lines before are of the flow problem
 abbrev pub of_min : List Row → Bool
 of_min earlier = is_min (header earlier).problem
 
 -- ---- the numbers of a line
 
 -- the fields that should be whole numbers
+-- Source: DIMACS
 abbrev pub number_fields : Row → List (List ℕ)
 number_fields row = if is_p row then drop 2 row.fields else drop 1 row.fields
 
@@ -103,10 +123,11 @@ abbrev pub has_numbers : Row → Bool
 has_numbers row = list_all is_whole (number_fields row)
 
 -- the places of the fields that name nodes
+-- Source: DIMACS
 abbrev pub node_places : Row → List ℕ
 node_places row = if is_n row then 1 ∷ [] else 1 ∷ 2 ∷ []
 
--- the number of a node of the instance
+-- a number from 1 to the count of nodes that the problem line says
 abbrev pub is_node_number : List Row → ℤ → Bool
 is_node_number earlier z = is_within (pos 1) (pos (header earlier).nodes) z
 
@@ -115,6 +136,7 @@ abbrev pub is_up_to : ℕ → ℤ → Bool
 is_up_to bound z = is_within (neg_ℤ (pos bound)) (pos bound) z
 
 -- the place of the cost of an arc line
+-- Source: DIMACS
 abbrev pub cost_place : List Row → ℕ
 cost_place earlier = if of_min earlier then 5 else 3
 
@@ -190,7 +212,7 @@ unfoldable pub first_fault_of_lines : Limits → ℕ → List Row → Option Fau
 first_fault_of_lines allowed after lines =
     option_or (slice_get (faults allowed lines) 0) (option_map (λ code. record { line = after; code = code }) (fault_at_end lines))
 
--- the first fault of a text
+-- the first fault of a text; that of the whole stands at the line after the last
 unfoldable pub first_fault : Limits → List ℕ → Option Fault
 first_fault allowed text = first_fault_of_lines allowed (line_after text) (rows text)
 
@@ -218,6 +240,7 @@ code_word Total = codes "total"
 code_word NoP = codes "no-p"
 code_word Missing = codes "missing"
 
+-- the nineteen codes
 abbrev pub all_codes : List Code
 all_codes = table ++ NoP ∷ Missing ∷ []
 

@@ -1,4 +1,5 @@
 -- Instance texts that come in pieces.
+-- Source: own
 use Rattle.std.specs.Prelude.{◌≡◌, ◌⊎◌, ◌≤◌, ℕ, false, List, ◌++◌, length, Option, None}
 use Rattle.mcf_instance.specs.Limits.{Limits}
 use Rattle.mcf_instance.specs.Memory.{NamesNodes}

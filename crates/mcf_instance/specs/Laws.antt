@@ -1,4 +1,5 @@
 -- The two laws on which a certificate rests, and that of the limits.
+-- Source: AMO 9.3, 9.4
 use Rattle.std.specs.Prelude.{◌≡◌, ℕ, Bool, List, ℤ, Ok}
 use Rattle.std.specs.List.{All}
 use Rattle.mcf_instance.specs.declared.problem.Side.{Side}
@@ -15,10 +16,12 @@ ShownFlowsAreLeast =
     (g : Network) (prices flow : List ℤ) → All (HasEnds (node_count g)) g.arcs → IsFeasible g flow → Shows g.arcs prices flow → IsLeast g flow
 
 -- where a set blocks, by either side, no flow is feasible (the easy half of Hoffman's theorem)
+-- Source: AMO 6.7, Hoffman
 abbrev pub BlockedHasNoFlow : Type 0
 BlockedHasNoFlow =
     (g : Network) (set : ℕ → Bool) (side : Side) (flow : List ℤ) → All (HasEnds (node_count g)) g.arcs → Blocks g set side → ¬ IsFeasible g flow
 
 -- a text without a fault under the former limits has none under those of today, and is the same instance
+-- Source: own
 abbrev pub FormerInstancesStay : Type 0
 FormerInstancesStay = (text : List ℕ) (g : Network) → reading former_limits text ≡ Ok g → reading limits text ≡ Ok g

@@ -1,4 +1,5 @@
 -- The limits of an instance.
+-- Source: own
 use Rattle.std.specs.Prelude.{ℕ, ◌^◌, Option, Some, None}
 
 -- how far from 0 the supply of a node, a bound of an arc and the cost of an arc may lie, and how great the
@@ -25,10 +26,11 @@ former_limits = record { supply = 10 ^ 15; bound = 10 ^ 15; cost = 10 ^ 12; tota
 abbrev pub wide_limits : Limits
 wide_limits = record { supply = 10 ^ 18; bound = 10 ^ 18; cost = 10 ^ 15; total = Some total_limit }
 
--- how many nodes and arcs there may be
+-- how many nodes there may be
 abbrev pub node_limit : ℕ
 node_limit = 1_000_000
 
+-- how many arcs there may be
 abbrev pub arc_limit : ℕ
 arc_limit = 10_000_000
 

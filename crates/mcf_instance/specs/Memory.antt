@@ -1,4 +1,5 @@
 -- Where reading a text takes memory.
+-- Source: own
 use Rattle.std.specs.Prelude.{◌≡◌, ℕ, ◌≤◌, ◌<◌, List, find, Some}
 use Rattle.mcf_instance.specs.Fault.{Fault, first_fault, header, is_p}
 use Rattle.mcf_instance.specs.Limits.{Limits}

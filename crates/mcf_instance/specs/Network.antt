@@ -1,26 +1,33 @@
 -- Networks: arcs with bounds and costs between nodes with supplies. An instance is one, and so is a net.
+-- Source: textbook
 use Rattle.std.specs.Prelude.{ℕ, zero, suc, ◌-◌, ◌≤◌, Bool, true, false, List, [], ◌∷◌, length, ℤ, pos, ◌+ℤ◌, slice_index_or}
 use Rattle.mcf_instance.specs.declared.arc.Arc.{Arc}
 use Rattle.mcf_instance.specs.declared.problem.Problem.{Problem}
 
 -- the problem, the arcs in order, and the supplies of the nodes in order; nodes and arcs count from 1
+-- Source: AMO 1.2
 pub record Network : Type 0 where
   pub problem : Problem
   pub arcs : List Arc
   pub supplies : List ℤ
 
+-- the count of nodes, which is that of supplies
+-- Source: AMO 1.2
 abbrev pub node_count : Network → ℕ
 node_count g = length g.supplies
 
 -- v is the number of one of so many nodes
+-- Source: own
 abbrev pub IsNode : ℕ → ℕ → Type 0
 IsNode nodes v = (1 ≤ v) × (v ≤ nodes)
 
 -- k is the number of an arc
+-- Source: own
 abbrev pub IsArcNumber : Network → ℕ → Type 0
 IsArcNumber g k = (1 ≤ k) × (k ≤ length g.arcs)
 
 -- the entry for node v of a list that has one for each node
+-- Source: own
 abbrev pub at_node : List ℤ → ℕ → ℤ
 at_node xs v = slice_index_or xs (v - 1) (pos 0)
 

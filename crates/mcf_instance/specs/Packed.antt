@@ -1,4 +1,5 @@
 -- Arcs as they are stored.
+-- Source: own
 use Rattle.mcf_instance.specs.declared.arc.Arc.{Arc}
 use Rattle.mcf_instance.specs.declared.arc.PackedArc.{PackedArc}
 

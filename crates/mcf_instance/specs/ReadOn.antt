@@ -1,4 +1,5 @@
 -- What a reader has read so far, and which lines of which texts it stands for.
+-- Source: own
 use Rattle.std.specs.Prelude.{◌≡◌, ℕ, ◌+◌, if◌then◌else◌, Bool, true, List, [], ◌++◌, map, length, filter, slice_get, IsTrue, ℤ, Option, Some, None, Err}
 use Rattle.std.specs.List.{range_with_len}
 use Rattle.mcf_instance.specs.declared.arc.PackedArc.{PackedArc}

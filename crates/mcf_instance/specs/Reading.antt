@@ -1,4 +1,5 @@
 -- What an instance text stands for.
+-- Source: DIMACS
 use Rattle.std.specs.Prelude.{ℕ, ◌==◌, if◌then◌else◌, List, map, filter, find, ℤ, pos, neg_ℤ, Option, Some, None, Result, Ok, Err}
 use Rattle.std.specs.List.{range_with_len}
 use Rattle.std.specs.Option.{option_map_or}
@@ -32,10 +33,12 @@ instance_of_lines lines =
     }
 
 -- the first fault, or the instance where there is none
+-- Source: own
 abbrev pub reading_of : Option Fault → Network → Result Network Fault
 reading_of (Some fault) g = Err fault
 reading_of None g = Ok g
 
 -- what a text stands for: an instance, or its first fault
+-- Source: own
 unfoldable pub reading : Limits → List ℕ → Result Network Fault
 reading allowed text = reading_of (first_fault allowed text) (instance_of_lines (rows text))

@@ -1,4 +1,5 @@
 -- What every instance keeps.
+-- Source: own
 use Rattle.std.specs.Prelude.{ℕ, ◌*◌, ◌≤◌, max, map, length, sum, ℤ, pos, neg_ℤ, ◌≤ℤ◌, unsigned_abs, Option, Some, None}
 use Rattle.std.specs.List.{All}
 use Rattle.mcf_instance.specs.declared.arc.Arc.{Arc}
@@ -11,6 +12,7 @@ abbrev pub IsUpTo : ℕ → ℤ → Type 0
 IsUpTo bound z = (neg_ℤ (pos bound) ≤ℤ z) × (z ≤ℤ pos bound)
 
 -- both ends are nodes
+-- Source: DIMACS
 pub record HasEnds (nodes : ℕ) (a : Arc) : Type 0 where
   pub src_is_node : IsNode nodes a.src
   pub dst_is_node : IsNode nodes a.dst

@@ -1,4 +1,5 @@
 -- What every net keeps: a network whose lows are 0, and whose caps are called widths.
+-- Source: own
 use Rattle.std.specs.Prelude.{◌≡◌, ℕ, ◌*◌, ◌^◌, ◌≤◌, map, length, sum, pos, ◌≤ℤ◌}
 use Rattle.std.specs.List.{All}
 use Rattle.mcf_instance.specs.declared.arc.Arc.{Arc}
@@ -7,14 +8,15 @@ use Rattle.mcf_instance.specs.Limits.{wide_limits, node_limit, arc_limit}
 use Rattle.mcf_instance.specs.Network.{Network, node_count}
 use Rattle.mcf_instance.specs.WellFormed.{IsUpTo, HasEnds, weight}
 
--- the greatest width, the greatest size of a supply, and the greatest total over the arcs of the size of
--- the cost times the width
+-- the greatest width
 abbrev pub width_limit : ℕ
 width_limit = 2 * 10 ^ 18
 
+-- the greatest size of a supply
 abbrev pub supply_limit : ℕ
 supply_limit = 10 ^ 26
 
+-- the greatest total over the arcs of the size of the cost times the width
 abbrev pub net_total_limit : ℕ
 net_total_limit = 2 * 10 ^ 36
 
@@ -26,6 +28,7 @@ pub record IsNetArc (a : Arc) : Type 0 where
   pub cost_small : IsUpTo wide_limits.cost a.cost
   pub no_loop_width : a.src ≡ a.dst → a.cap ≡ pos 0
 
+-- what a net keeps: counts, ends, such arcs, supplies and the total within limits, an assignment as before
 pub record IsNet (g : Network) : Type 0 where
   pub nodes : node_count g ≤ node_limit
   pub arcs : length g.arcs ≤ arc_limit

@@ -1,4 +1,5 @@
 -- Sets of the nodes of a net, as a table with one entry for each node.
+-- Source: own
 use Rattle.std.specs.Prelude.{ℕ, ◌-◌, Bool, true, false, List, count_by, replicate, slice_set}
 
 -- how many nodes a table marks

@@ -1,14 +1,18 @@
 -- A network without its lower bounds (Ahuja, Magnanti and Orlin, Network Flows, section 2.4).
+-- Source: AMO 2.4
 use Rattle.std.specs.Prelude.{ℕ, ◌==◌, Bool, List, map, ℤ, pos, ◌-ℤ◌, if◌then◌else◌}
 use Rattle.std.specs.List.{range_with_len}
 use Rattle.mcf_instance.specs.declared.arc.Arc.{Arc}
 use Rattle.mcf_instance.specs.Flow.{net}
 use Rattle.mcf_instance.specs.Network.{Network, at_node, node_count}
 
+-- both ends are one node
+-- Source: own
 abbrev pub is_loop : Arc → Bool
 is_loop a = a.src == a.dst
 
 -- how far the cap of an arc is above its low; 0 for a loop
+-- Source: own
 abbrev pub width_of : Arc → ℤ
 width_of a = if is_loop a then pos 0 else a.cap -ℤ a.low
 

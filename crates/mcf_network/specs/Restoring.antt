@@ -1,10 +1,12 @@
 -- The flow of a network for which a state of its net stands.
+-- Source: AMO 2.4, loops own
 use Rattle.std.specs.Prelude.{Bool, ◌&&◌, List, [], ◌∷◌, ℤ, pos, ◌+ℤ◌, ◌-ℤ◌, ◌*ℤ◌, int_lt, if◌then◌else◌}
 use Rattle.mcf_instance.specs.declared.arc.Arc.{Arc}
 use Rattle.mcf_instance.specs.Network.{arc_sum, when}
 use Rattle.mcf_network.specs.Removal.{is_loop}
 
 -- whether an arc is a loop that earns by what it carries
+-- Source: own
 abbrev pub is_earning_loop : Arc → Bool
 is_earning_loop a = is_loop a && int_lt a.cost (pos 0)
 
@@ -13,6 +15,7 @@ is_earning_loop a = is_loop a && int_lt a.cost (pos 0)
 abbrev pub restored_flow : Arc → ℤ → ℤ
 restored_flow a x = if is_loop a then (if int_lt a.cost (pos 0) then a.cap else a.low) else a.low +ℤ x
 
+-- the flow for which a state stands
 abbrev pub restored : List Arc → List ℤ → List ℤ
 restored [] amounts = []
 restored (a ∷ arcs) [] = []

@@ -1,4 +1,5 @@
 -- The residual arcs that leave a node, and how a net keeps them.
+-- Source: AMO 2.3
 use Rattle.std.specs.Prelude.{◌≡◌, ◌≢◌, ℕ, ◌+◌, ◌-◌, ◌≤◌, List, length, slice_index, slice_range}
 use Rattle.std.specs.List.{All, AllPairs, Contains}
 use Rattle.mcf_instance.specs.Network.{Network, IsArcNumber, IsNode, node_count}

@@ -1,4 +1,5 @@
 -- States: an amount for each arc of a net, and what each node has left to send.
+-- Source: AMO 9.7
 use Rattle.std.specs.Prelude.{◌≡◌, ℕ, ◌-◌, ◌==◌, List, length, ℤ, pos, ◌+ℤ◌, ◌-ℤ◌, if◌then◌else◌, slice_index_or, slice_set}
 use Rattle.mcf_instance.specs.Flow.{IsWithinBounds, net}
 use Rattle.mcf_instance.specs.Network.{Network, IsNode, at_node, node_count, when}
@@ -29,6 +30,7 @@ abbrev pub HasNoSurplus : Pseudoflow → Type 0
 HasNoSurplus s = (v : ℕ) → IsNode (node_count s.net) v → surplus_at s v ≡ pos 0
 
 -- how much more a residual arc can carry
+-- Source: AMO 2.4
 abbrev pub room_of : Pseudoflow → Rid → ℤ
 room_of s r = if r.back then amount_at s r.arc else (arc_at s.net r.arc).cap -ℤ amount_at s r.arc
 

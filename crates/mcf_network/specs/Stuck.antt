@@ -1,4 +1,5 @@
 -- Sets that no surplus can leave (Ahuja, Magnanti and Orlin, Network Flows, section 6.5).
+-- Source: AMO 6.5
 use Rattle.std.specs.Prelude.{◌≡◌, ℕ, Bool, true, pos, ◌≤ℤ◌, ◌<ℤ◌}
 use Rattle.mcf_instance.specs.Network.{IsNode, node_count}
 use Rattle.mcf_network.specs.declared.rid.Rid.{Rid}

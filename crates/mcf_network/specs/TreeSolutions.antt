@@ -1,4 +1,5 @@
 -- Tree solutions (the cycle free solutions of Ahuja, Magnanti and Orlin, Network Flows, section 11.2): the arcs whose flow is at neither bound hold no cycle.
+-- Source: AMO 11.2
 use Rattle.std.specs.Prelude.{◌≡◌, ◌⊎◌, ℕ, ◌-◌, List, length, ℤ, pos, slice_index_or}
 use Rattle.mcf_instance.specs.declared.arc.Arc.{Arc}
 use Rattle.mcf_instance.specs.Flow.{net}
@@ -20,5 +21,6 @@ pub record IsFreeCirculation (g : Network) (flow z : List ℤ) : Type 0 where
   pub balanced : (v : ℕ) → IsNode (node_count g) v → net g.arcs z v ≡ pos 0
 
 -- each such circulation is 0 at every arc, so that the free arcs hold no cycle; that the flow is feasible is not said
+-- Source: AMO 11.2 (a cycle free solution)
 abbrev pub IsTreeSolution : Network → List ℤ → Type 0
 IsTreeSolution g flow = (z : List ℤ) → IsFreeCirculation g flow z → (k : ℕ) → IsArcNumber g k → at_arc z k ≡ pos 0

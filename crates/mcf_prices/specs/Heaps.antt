@@ -1,4 +1,5 @@
 -- A priority queue of the nodes of a net (Cormen et al., Introduction to Algorithms, 6.5): each has a key, and some wait, by key and then by number.
+-- Source: own
 use Rattle.std.specs.Prelude.{◌≡◌, ℕ, ◌-◌, ◌≤◌, Bool, true, false, List, length, replicate, slice_set, ℤ, pos, ◌<ℤ◌, ◌⊎◌}
 use Rattle.mcf_instance.specs.Blocking.{in_table}
 use Rattle.mcf_instance.specs.Network.{IsNode, at_node}
@@ -10,16 +11,20 @@ pub record Keyed : Type 0 where
   pub waiting : List Bool
 
 -- key x of number a comes before key y of number b, or is the same: x is less, or they are equal and a is at most b
+-- Source: CLRS 6.5
 abbrev pub ComesFirst : ℤ → ℕ → ℤ → ℕ → Type 0
 ComesFirst x a y b = (x <ℤ y) ⊎ ((x ≡ y) × (a ≤ b))
 
+-- a node waits
 abbrev pub Waits : Keyed → ℕ → Type 0
 Waits h v = in_table h.waiting v ≡ true
 
+-- no node waits
 abbrev pub NoneWaits : Keyed → Type 0
 NoneWaits h = h.waiting ≡ no_nodes (length h.waiting)
 
 -- the node waits, and comes before each that waits
+-- Source: CLRS 6.5
 pub record IsFirst (h : Keyed) (v : ℕ) : Type 0 where
   pub is_node : IsNode (length h.waiting) v
   pub waits : Waits h v

@@ -1,4 +1,5 @@
 -- Laws of least states and of prices.
+-- Source: AMO 9.3
 use Rattle.std.specs.Prelude.{List, ℤ}
 use Rattle.std.specs.List.{All}
 use Rattle.mcf_instance.specs.Flow.{AreGreatestPrices}
@@ -15,6 +16,7 @@ abbrev pub LeastStatesHaveNoCycle : Type 0
 LeastStatesHaveNoCycle = (g : Network) (s : Pseudoflow) (walk : List Rid) → IsLeastState g s → ¬ IsNegativeCycle s walk
 
 -- the greatest prices not above 0 that show a state are small, and so within the limit of prices
+-- Source: own
 abbrev pub GreatestPricesAreSmall : Type 0
 GreatestPricesAreSmall =
     (s : Pseudoflow) (prices : List ℤ) → IsPseudoflow s → AreGreatestPrices s.net prices s.amounts

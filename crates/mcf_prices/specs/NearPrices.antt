@@ -1,5 +1,6 @@
 -- Prices that nearly show a flow, with all costs taken times a scale (Ahuja, Magnanti and Orlin, Network Flows,
 -- section 10.3).
+-- Source: AMO 10.3
 use Rattle.std.specs.Prelude.{◌≡◌, ℕ, ◌+◌, ◌*◌, ◌^◌, ◌<◌, ◌≤◌, List, length, ℤ, pos, neg_ℤ, ◌+ℤ◌, ◌-ℤ◌, ◌*ℤ◌, ◌≤ℤ◌}
 use Rattle.std.specs.List.{All}
 use Rattle.mcf_instance.specs.Flow.{Shows}
@@ -21,6 +22,7 @@ scaled_reduced scale g prices r = unit_cost g r *ℤ pos scale -ℤ at_node pric
 
 -- a price for each node, within the limit; no residual arc with room has a reduced cost below minus the slack, at costs times the scale, which is
 -- greater than the slack of a walk through all nodes, and at most one more than a net can have nodes: the textbook's optimality within a slack
+-- Source: AMO 10.3 (e-optimality); scale and slack own
 pub record AreNearPrices (s : Pseudoflow) (scale slack : ℕ) (prices : List ℤ) : Type 0 where
   pub one_per_node : length prices ≡ node_count s.net
   pub small : All (IsUpTo near_limit) prices

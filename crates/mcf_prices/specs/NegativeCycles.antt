@@ -1,4 +1,5 @@
 -- Negative cycles (Ahuja, Magnanti and Orlin, Network Flows, section 5.5).
+-- Source: AMO 5.5, 9.3
 use Rattle.std.specs.Prelude.{◌≡◌, ◌≢◌, ℕ, List, ℤ, pos, ◌≤ℤ◌, ◌<ℤ◌}
 use Rattle.std.specs.List.{All, AllPairs, Any}
 use Rattle.mcf_network.specs.declared.rid.Rid.{Rid}

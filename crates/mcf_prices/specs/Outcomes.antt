@@ -1,4 +1,5 @@
 -- What an engine answers.
+-- Source: own
 use Rattle.std.specs.Prelude.{ℤ, List}
 use Rattle.mcf_instance.specs.Flow.{AreGreatestPrices, IsLeast}
 use Rattle.mcf_instance.specs.Network.{Network}
@@ -10,6 +11,7 @@ use Rattle.mcf_prices.specs.declared.engine.Outcome.TheVariants.{Least, Blocked}
 use Rattle.mcf_prices.specs.Recovering.{AreSmallPrices}
 
 -- a state of the net without surplus, such that no feasible flow of the net costs less
+-- Source: AMO 9.3
 pub record IsLeastState (g : Network) (s : Pseudoflow) : Type 0 where
   pub feasible : IsFeasibleState g s
   pub least : IsLeast g s.amounts

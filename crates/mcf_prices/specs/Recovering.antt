@@ -1,4 +1,5 @@
 -- What is recovered from a state.
+-- Source: own
 use Rattle.std.specs.Prelude.{ℕ, ◌*◌, ◌-◌, ◌^◌, List, ℤ}
 use Rattle.std.specs.List.{All}
 use Rattle.mcf_instance.specs.Flow.{AreGreatestPrices}
@@ -10,6 +11,7 @@ use Rattle.mcf_prices.specs.declared.recovered.Recovered.TheVariants.{Prices, Cy
 use Rattle.mcf_prices.specs.NegativeCycles.{IsNegativeCycle}
 
 -- the greatest prices that show the amounts, or a negative cycle
+-- Source: AMO 9.3, greatest own
 abbrev pub IsRecovered : Pseudoflow → Recovered → Type 0
 IsRecovered s (Prices prices) = AreGreatestPrices s.net prices.items s.amounts
 IsRecovered s (Cycle walk) = IsNegativeCycle s walk.items

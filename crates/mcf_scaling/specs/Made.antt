@@ -1,4 +1,5 @@
 -- How cost scaling made a state.
+-- Source: AMO 10.3
 use Rattle.std.specs.Prelude.{◌≡◌, ℕ, List}
 use Rattle.mcf_feas.specs.Feasible.{IsFeasibleState}
 use Rattle.mcf_instance.specs.Network.{Network}

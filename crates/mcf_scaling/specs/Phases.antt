@@ -1,4 +1,5 @@
 -- The steps of a refinement, and runs of them.
+-- Source: AMO 10.3, Goldberg and Tarjan
 use Rattle.std.specs.Prelude.{◌≡◌, ℕ, suc, ◌-◌, ◌*◌, ◌==◌, ◌≤◌, ℤ, pos, ◌+ℤ◌, ◌-ℤ◌, ◌≤ℤ◌, if◌then◌else◌, slice_set}
 use Rattle.std.specs.Int.{int_min}
 use Rattle.mcf_instance.specs.Network.{at_node, node_count}
@@ -33,6 +34,7 @@ pub record IsRelabel (a b : Refinement) (v : ℕ) (rise : ℤ) : Type 0 where
   pub raises : b ≡ record a { prices = slice_set a.prices (v - 1) (at_node a.prices v +ℤ rise) }
 
 -- counted steps: of so many of them a phase began
+-- Source: own
 pub data Run (a : Refinement) : Refinement → ℕ → Type 0 where
   start : Run a a 0
   begin : {b c : Refinement} {k : ℕ} → Run a b k → IsBegun b c → Run a c (suc k)
@@ -40,6 +42,7 @@ pub data Run (a : Refinement) : Refinement → ℕ → Type 0 where
   relabel : {b c : Refinement} {k v : ℕ} {rise : ℤ} → Run a b k → IsRelabel b c v rise → Run a c k
 
 -- how many times a node was relabelled in the phase that was begun last
+-- Source: own
 abbrev pub relabels : {a b : Refinement} {k : ℕ} → Run a b k → ℕ → ℕ
 relabels start u = 0
 relabels (begin run step) u = 0
@@ -47,16 +50,19 @@ relabels (push run step) u = relabels run u
 relabels (relabel {v = v} run step) u = if v == u then suc (relabels run u) else relabels run u
 
 -- e is 1 and no node is active
+-- Source: AMO 10.3
 pub record IsDone (a : Refinement) : Type 0 where
   pub scale : a.scale ≡ 0
   pub rest : (v : ℕ) → ¬ IsActive a v
 
 -- a phase has ended: no node has a surplus, and the state is e-optimal
+-- Source: AMO 10.3
 pub record IsSettled (a : Refinement) : Type 0 where
   pub no_surplus : HasNoSurplus a.flow
   pub optimal : IsOptimalWithin (within a) a.flow a.prices
 
 -- each phase of a run had ended so when the next began
+-- Source: AMO 10.3
 abbrev pub EachPhaseSettles : {a b : Refinement} {k : ℕ} → Run a b k → Type 0
 EachPhaseSettles start = Unit {0}
 EachPhaseSettles (begin {b = b} run step) = EachPhaseSettles run × IsSettled b
@@ -65,12 +71,14 @@ EachPhaseSettles (relabel run step) = EachPhaseSettles run
 
 -- what was reached is e-optimal, and in the phase at hand no price has risen by more than 3ne and no node was relabelled
 -- more than 3n times
+-- Source: AMO lemma 10.4
 pub record IsBounded {a b : Refinement} {k : ℕ} (run : Run a b k) : Type 0 where
   pub optimal : IsOptimalWithin (within b) b.flow b.prices
   pub rises : (u : ℕ) → IsNodeOf b u → (at_node b.prices u -ℤ at_node b.before u) ≤ℤ pos (3 * within b * node_count b.flow.net)
   pub few : (u : ℕ) → IsNodeOf b u → relabels run u ≤ 3 * node_count b.flow.net
 
 -- so it was after each step of a run
+-- Source: AMO lemma 10.4
 abbrev pub IsBoundedThroughout : {a b : Refinement} {k : ℕ} → Run a b k → Type 0
 IsBoundedThroughout {a = a} start = IsBounded {a = a} {b = a} {k = 0} start
 IsBoundedThroughout (begin run step) = IsBoundedThroughout run × IsBounded (begin run step)

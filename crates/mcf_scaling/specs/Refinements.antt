@@ -1,4 +1,5 @@
 -- What a refinement holds, and what it keeps (Goldberg and Tarjan; Ahuja, Magnanti and Orlin, Network Flows, section 10.3).
+-- Source: AMO 10.3
 use Rattle.std.specs.Prelude.{◌≡◌, ℕ, ◌*◌, ◌^◌, ◌≤◌, List, length, ℤ, pos, ◌+ℤ◌, ◌-ℤ◌, ◌≤ℤ◌, ◌<ℤ◌}
 use Rattle.mcf_instance.specs.Network.{IsNode, at_node, node_count}
 use Rattle.mcf_network.specs.declared.rid.Rid.{Rid}
@@ -12,6 +13,7 @@ pub record Refinement : Type 0 where
   pub before : List ℤ
   pub scale : ℕ
 
+-- e, as a number
 abbrev pub within : Refinement → ℕ
 within a = 2 ^ a.scale
 
@@ -29,6 +31,7 @@ pub record IsActive (a : Refinement) (v : ℕ) : Type 0 where
   pub surplus : pos 0 <ℤ surplus_at a.flow v
 
 -- the greatest scale
+-- Source: own
 abbrev pub scale_limit : ℕ
 scale_limit = 70
 
@@ -39,6 +42,7 @@ pub record IsOrigin (a : Refinement) (first : List ℤ) : Type 0 where
   pub optimal : IsOptimalWithin (2 * within a) (record { net = a.flow.net; amounts = first }) a.before
 
 -- the price of a node has risen in the phase by at most 3ne, and not at all where the node takes
+-- Source: AMO lemma 10.4, own
 pub record IsRisen (a : Refinement) (u : ℕ) : Type 0 where
   pub floor : pos 0 ≤ℤ at_node a.before u
   pub low : at_node a.before u ≤ℤ at_node a.prices u

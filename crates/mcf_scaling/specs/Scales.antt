@@ -1,4 +1,5 @@
 -- The scale of the first phase.
+-- Source: AMO 10.3, constant own
 use Rattle.std.specs.Prelude.{◌≡◌, ℕ, ◌+◌, ◌*◌, ◌^◌, ◌≤◌, List, [], ◌∷◌, max, unsigned_abs, pos, replicate}
 use Rattle.mcf_instance.specs.declared.arc.Arc.{Arc}
 use Rattle.mcf_instance.specs.Network.{Network, node_count}
@@ -20,6 +21,7 @@ abbrev pub ArePhases : Network → ℕ → Type 0
 ArePhases g k = IsLeastScale ((node_count g + 1) * greatest_cost g.arcs) k
 
 -- prices 0, and the greatest e of a net
+-- Source: AMO 10.3
 pub record IsStart (s : Pseudoflow) (a : Refinement) : Type 0 where
   pub flow : a.flow ≡ s
   pub prices : a.prices ≡ replicate (node_count s.net) (pos 0)

@@ -1,5 +1,6 @@
 -- Block pricing (akin to the candidate list of Ahuja, Magnanti and Orlin, Network Flows, section 11.5). The arcs are gone round once, from the
 -- one behind the block that gave the last pick, in blocks of a size: the first block that has an eligible arc gives the one of greatest violation.
+-- Source: AMO 11.5 (candidate list), the round own
 use Rattle.std.specs.Prelude.{◌≡◌, ℕ, ◌+◌, ◌-◌, ◌*◌, ◌<◌, ◌≤◌, ◌⊎◌, nat_le, min, length, Option, Some, None, if◌then◌else◌}
 use Rattle.mcf_basis.specs.Pivots.{IsEligible}
 use Rattle.mcf_basis.specs.Structures.{TreeStructure}
@@ -18,6 +19,7 @@ start_arc arcs next = if nat_le next arcs then next else 1
 abbrev pub arc_in_round : ℕ → ℕ → ℕ → ℕ
 arc_in_round arcs start place = if nat_le (start + place) arcs then start + place else start + place - arcs
 
+-- that arc, of a basis
 abbrev pub round_arc : TreeStructure → ℕ → ℕ → ℕ
 round_arc b start place = arc_in_round (length b.net.arcs) start place
 
@@ -59,6 +61,7 @@ pub record IsNothing (b : TreeStructure) (old : BlockRule) (start : ℕ) (new : 
   pub size : new.size ≡ old.size
   pub next : new.next ≡ start
 
+-- what the rule of blocks picks, and where it begins next
 abbrev pub IsBlockPick : BlockRule → TreeStructure → Option ℕ → BlockRule → Type 0
 IsBlockPick old b (Some k) new = IsFound b old (start_arc (length b.net.arcs) old.next) k new
 IsBlockPick old b None new = IsNothing b old (start_arc (length b.net.arcs) old.next) new

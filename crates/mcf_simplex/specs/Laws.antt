@@ -1,4 +1,5 @@
 -- Laws of runs.
+-- Source: AMO 11.5
 use Rattle.std.specs.Prelude.{ℕ, Option}
 use Rattle.mcf_instance.specs.Network.{Network}
 use Rattle.mcf_network.specs.Nets.{IsNet}

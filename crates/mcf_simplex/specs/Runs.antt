@@ -1,4 +1,5 @@
 -- Runs of the network simplex: the rule is asked at each basis in turn, and the arc that it picks enters.
+-- Source: AMO 11.5
 use Rattle.std.specs.Prelude.{◌≡◌, ℕ, ◌+◌, ◌⊎◌, [], ℤ, Option, Some, None}
 use Rattle.mcf_instance.specs.Network.{Network, node_count}
 use Rattle.mcf_network.specs.States.{Pseudoflow}

@@ -1,5 +1,6 @@
 -- The answer that is owed for an instance text: the first fault; or a least flow with its cost and prices
 -- that show it; or a node set that blocks every flow.
+-- Source: own
 use Rattle.std.specs.Prelude.{◌≡◌, ◌++◌, ◌+◌, ◌<◌, ℕ, true, List, length, ℤ, Result, Ok, Err}
 use Rattle.mcf_answer.specs.BlockingSet.{BlockingSet}
 use Rattle.mcf_answer.specs.Solution.{Solution}
@@ -25,21 +26,25 @@ use Rattle.mcf_solver.specs.Making.{HasMadeFlow, HasShapedFlow, IsMadeBy}
 use Rattle.mcf_solver.specs.declared.choice.Choice.{Choice}
 
 -- a flow that no feasible flow undercuts, and the greatest prices not above 0 that show it
+-- Source: AMO 9
 pub record IsLeastFlow (g : Network) (prices flow : List ℤ) : Type 0 where
   pub least : IsLeast g flow
   pub chosen : IsChosenFlow g prices flow
 
 -- a right answer of such a flow
+-- Source: AMO 9
 pub record IsLeastSolution (g : Network) (a : Solution) : Type 0 where
   pub right : IsRightSolution g a
   pub least : IsLeastFlow g a.prices (amounts a.sent)
 
 -- and one of the second form
+-- Source: AMO 9
 pub record IsLeastSparse (g : Network) (a : SparseSolution) : Type 0 where
   pub right : IsRightSparse g a
   pub least : IsLeastFlow g a.prices (spread g.arcs a.moved)
 
 -- nodes that must send or take more than they can, so that no flow is feasible
+-- Source: AMO 6.7, Hoffman
 pub record IsNoFlowProof (g : Network) (a : BlockingSet) : Type 0 where
   pub right : IsRightSet g a
   pub none : (flow : List ℤ) → ¬ IsFeasible g flow
@@ -56,6 +61,7 @@ IsOwed (Err fault) (Sparse a) = ⊥
 IsOwed (Err fault) (Blocked a) = ⊥
 IsOwed (Ok g) (Refused r) = ⊥
 
+-- the kind of an answer
 abbrev pub answer_kind : Answer → Kind
 answer_kind (Flow a) = WithFlow
 answer_kind (Sparse a) = WithFlow

@@ -1,4 +1,5 @@
 -- Sizes of the blocks of block pricing.
+-- Source: own
 use Rattle.std.specs.Prelude.{◌≡◌, ℕ, ◌+◌, ◌*◌, ◌^◌, ◌<◌, ◌≤◌, max, Option, Some, None}
 
 -- the most arcs of a block

@@ -1,4 +1,5 @@
 -- Which of several right flows the suite gives.
+-- Source: own
 use Rattle.std.specs.Prelude.{◌≡◌, List, ℤ, pos, int_lt, if◌then◌else◌}
 use Rattle.std.specs.List.{AllZip}
 use Rattle.mcf_instance.specs.declared.arc.Arc.{Arc}

@@ -1,4 +1,5 @@
 -- Sources and sinks.
+-- Source: own
 use Rattle.std.specs.Prelude.{◌≡◌, ◌+◌, ◌-◌, ◌^◌, ◌≤◌, ◌⊎◌, ℕ}
 
 -- a device's count of its failures stops at this number

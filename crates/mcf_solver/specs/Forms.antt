@@ -1,4 +1,5 @@
 -- In which form a flow is written.
+-- Source: own
 use Rattle.std.specs.Prelude.{◌≡◌, ⊤, ℕ, List, ℤ, Option, Some, None, Result, Ok, Err, filter_map, if◌then◌else◌, zip}
 use Rattle.std.specs.List.{enumerate_from}
 use Rattle.std.specs.Ordering.{int_eq}

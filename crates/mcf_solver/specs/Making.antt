@@ -1,4 +1,5 @@
 -- How the state behind a flow was made: by a new engine, the one that the choice means.
+-- Source: own
 use Rattle.std.specs.Prelude.{◌≡◌, ⊤, ℕ, ℤ, List, length, Option, IfSome, Result, Ok, Err}
 use Rattle.mcf_answer.specs.declared.answers.Answer.{Answer}
 use Rattle.mcf_checker.specs.Correct.{flow_given}
@@ -41,10 +42,11 @@ meant Simplex problem = BySimplex
 meant Scaling problem = ByScaling
 meant Sap problem = suited problem
 
--- what the two rules pick that keep nothing
+-- what the rule of the first arc picks, which keeps nothing
 abbrev pub first_picks : FirstRule → TreeStructure → Option ℕ → FirstRule → Type 0
 first_picks old b answer new = IsFirstPick b answer
 
+-- what the rule of the most violated arc picks, which keeps nothing
 abbrev pub best_picks : BestRule → TreeStructure → Option ℕ → BestRule → Type 0
 best_picks old b answer new = IsBestPick b answer
 

@@ -1,4 +1,5 @@
 -- What a run from a source to a sink does.
+-- Source: own
 use Rattle.std.specs.Prelude.{◌≡◌, ◌++◌, ◌^◌, ◌<◌, ◌≤◌, ℕ, List, length, Option, Result, IfSome, codes}
 use Rattle.std.specs.Io.KnownBytes.{Appends}
 use Rattle.mcf_instance.specs.Fault.{Fault}

@@ -1,4 +1,5 @@
 -- What the words of a command line ask.
+-- Source: own
 use Rattle.std.specs.Prelude.{◌≡◌, ℕ, Bool, true, false, List, [], ◌∷◌, Option, Some, None, Result, IfOk, IfErr, codes, option_and_then, option_map}
 use Rattle.std.specs.Prelude.{find, map, if◌then◌else◌}
 use Rattle.std.specs.Borrow.{Bor}
@@ -26,6 +27,7 @@ abbrev pub engine_words : List (Text × EngineChoice)
 engine_words =
     (codes "auto", Auto) ∷ (codes "cancel", Cancel) ∷ (codes "simplex", Simplex) ∷ (codes "scaling", Scaling) ∷ (codes "sap", Sap) ∷ []
 
+-- the names of the engines
 abbrev pub engine_names : List Text
 engine_names = map (λ (row : Text × EngineChoice). row.0) engine_words
 
@@ -33,6 +35,7 @@ engine_names = map (λ (row : Text × EngineChoice). row.0) engine_words
 abbrev pub pricing_words : List (Text × PricingChoice)
 pricing_words = (codes "first", First) ∷ (codes "best", Best) ∷ (codes "block", Block) ∷ []
 
+-- the names of the pricing rules
 abbrev pub pricing_names : List Text
 pricing_names = map (λ (row : Text × PricingChoice). row.0) pricing_words
 
@@ -40,6 +43,7 @@ pricing_names = map (λ (row : Text × PricingChoice). row.0) pricing_words
 abbrev pub form_words : List (Text × Form)
 form_words = (codes "1", One) ∷ (codes "2", Two) ∷ []
 
+-- the names of the forms
 abbrev pub form_names : List Text
 form_names = map (λ (row : Text × Form). row.0) form_words
 

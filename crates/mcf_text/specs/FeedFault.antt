@@ -1,4 +1,5 @@
 -- Why a piece of a text is refused.
+-- Source: own
 use Rattle.std.specs.Prelude.{ℕ, List, codes}
 use Rattle.mcf_text.specs.declared.fault.FeedFault.{FeedFault}
 use Rattle.mcf_text.specs.declared.fault.FeedFault.TheVariants.{NoMemory, TooLong}

@@ -1,4 +1,5 @@
 -- The digits at the front of some bytes.
+-- Source: own
 use Rattle.std.specs.Prelude.{ℕ, List, take}
 use Rattle.std.specs.Char.{is_ascii_digit}
 use Rattle.std.specs.List.{prefix_len}

@@ -1,4 +1,5 @@
 -- What `pop` gives and leaves.
+-- Source: own
 use Rattle.std.specs.Prelude.{◌≡◌, ◌+◌, ◌<◌, ◌≤◌, length, Option, MatchOption}
 use Rattle.mcf_text.specs.declared.parts.Line.{Line}
 use Rattle.mcf_text.specs.Feed.{Feed, HasNoLine, FinishesLine, after_line, byte_limit}

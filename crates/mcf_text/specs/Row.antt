@@ -1,4 +1,5 @@
 -- The kept lines of a text, as numbered lists of fields.
+-- Source: own
 use Rattle.std.specs.Prelude.{ℕ, ◌+◌, Bool, List, [], ◌∷◌, map, length, filter, bytes_eq, slice_index_or, ℤ, pos, negsuc, if◌then◌else◌}
 use Rattle.mcf_text.specs.Lines.{lines_of, numbered_lines}
 use Rattle.mcf_text.specs.Fields.{fields_of, is_kept}

@@ -28,18 +28,23 @@ opened (OpensRefusal r) = Refused r
 abbrev pub costed : ℤ → Draft
 costed cost = Sparse (record { cost = cost; moved = []; prices = [] })
 
+-- a flow answer with one more flow
 abbrev pub with_sent : Solution → Sent → Solution
 with_sent a s = record { cost = a.cost; sent = a.sent ++ s ∷ []; prices = a.prices }
 
+-- a flow answer with one more price
 abbrev pub with_price : Solution → ℤ → Solution
 with_price a z = record { cost = a.cost; sent = a.sent; prices = a.prices ++ z ∷ [] }
 
+-- a sparse flow answer with one more arc
 abbrev pub with_moved : SparseSolution → ℕ × ℤ → SparseSolution
 with_moved a m = record { cost = a.cost; moved = a.moved ++ m ∷ []; prices = a.prices }
 
+-- a sparse flow answer with one more price
 abbrev pub with_sparse_price : SparseSolution → ℤ → SparseSolution
 with_sparse_price a z = record { cost = a.cost; moved = a.moved; prices = a.prices ++ z ∷ [] }
 
+-- a set with one more node
 abbrev pub with_member : PartialSet → ℕ → PartialSet
 with_member a v = record { side = a.side; count = a.count; nodes = a.nodes ++ v ∷ [] }
 
@@ -53,6 +58,7 @@ abbrev pub sent_or_priced : Solution → Option Sent → Option (ℕ × ℤ) →
 sent_or_priced a None y = priced a y
 sent_or_priced a (Some s) y = if length a.prices == 0 then Some (with_sent a s) else None
 
+-- a flow answer after a line, if it fits
 unfoldable pub solution_after : Solution → List Token → Option Solution
 solution_after a line = sent_or_priced a (sent_said line) (price_said line)
 
@@ -70,6 +76,7 @@ abbrev pub moved_or_priced : SparseSolution → Option (ℕ × ℤ) → Option (
 moved_or_priced a None y = sparse_priced a y
 moved_or_priced a (Some m) y = sparse_moved a m
 
+-- a sparse flow answer after a line, if it fits
 unfoldable pub sparse_after : SparseSolution → List Token → Option SparseSolution
 sparse_after a line = moved_or_priced a (moved_said line) (price_said line)
 
@@ -78,6 +85,7 @@ abbrev pub with_said : PartialSet → Option ℕ → Option PartialSet
 with_said a None = None
 with_said a (Some v) = if nat_lt (length a.nodes) a.count && is_above_last a.nodes v then Some (with_member a v) else None
 
+-- a set after a line, if it fits
 unfoldable pub set_after : PartialSet → List Token → Option PartialSet
 set_after a line = with_said a (member_said line)
 

@@ -28,6 +28,7 @@ pub record IsNextLine (moved : List (ℕ × ℤ)) (place next : ℕ) : Type 0 wh
   pub before : (i : ℕ) (m : ℕ × ℤ) → i < next → slice_get moved i ≡ Some m → m.0 ≤ place
   pub behind : (i : ℕ) (m : ℕ × ℤ) → next ≤ i → slice_get moved i ≡ Some m → place < m.0
 
+-- the same of the lines of either form
 abbrev pub IsNext : Stated → ℕ → ℕ → Type 0
 IsNext (Each sent) place next = ⊤
 IsNext (Moved moved) place next = IsNextLine moved.now place next

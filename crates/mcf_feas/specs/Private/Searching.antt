@@ -11,10 +11,11 @@ use Rattle.mcf_network.specs.Walks.{CanPushAlong, HasRoom, IsWalk, pushed_along}
 use Rattle.mcf_feas.specs.declared.path_search.Predecessor.{Predecessor}
 use Rattle.mcf_feas.specs.declared.path_search.Visit.{Visit}
 
--- the visit at a place, and its node
+-- the visit at a place, from 0
 abbrev pub visit_at : List Visit → ℕ → Visit
 visit_at visits i = slice_index_or visits i (record { node = 0; predecessor = None })
 
+-- the node of that visit
 abbrev pub node_at : List Visit → ℕ → ℕ
 node_at visits i = (visit_at visits i).node
 

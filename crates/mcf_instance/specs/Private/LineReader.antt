@@ -36,11 +36,13 @@ unfoldable pub number_at : List (List ℕ) → ℕ → Result ℤ Code
 number_at fields k =
     if is_whole (slice_index_or fields k []) then Ok (clamped (whole_value (slice_index_or fields k []))) else Err Number
 
+-- the problem that a word names, or `problem`
 unfoldable pub problem_at : List ℕ → Result Format Code
 problem_at word = if bytes_eq word (codes "min") then Ok Min else (if bytes_eq word (codes "asn") then Ok Asn else Err Problem)
 
 -- ---- problem lines
 
+-- what a problem line says, or its fault
 unfoldable pub problem_line : Bool → List (List ℕ) → Result Header Code
 problem_line seen fields =
     if not (length fields == 4) then Err Fields
@@ -53,6 +55,7 @@ problem_line seen fields =
 
 -- ---- node lines
 
+-- a node line has the right number of fields
 abbrev pub node_count_fits : Option Header → ℕ → Bool
 node_count_fits None n = n == 3 || n == 2
 node_count_fits (Some h) n = if is_min h.problem then n == 3 else n == 2
@@ -67,6 +70,7 @@ node_numbers fields =
 abbrev pub checked_node : Header → ℤ → Result ℕ Code
 checked_node h z = if is_within (pos 1) (pos h.nodes) z then Ok (natural z) else Err Node
 
+-- the tests of the numbers of a node line, in order
 unfoldable pub node_tests : Limits → Header → ℕ → List Bool → ℤ → ℤ → Result (ℕ × ℤ) Code
 node_tests allowed h arcs listed node supply =
     checked_node h node >>= λ v.
@@ -75,10 +79,12 @@ node_tests allowed h arcs listed node supply =
     else (if not (is_up_to allowed.supply supply) then Err Supply
     else Ok (v, supply))))
 
+-- goes on with what the problem line says, or `before-p`
 abbrev pub with_header : {X : Type 0} → Option Header → (Header → Result X Code) → Result X Code
 with_header None f = Err BeforeP
 with_header (Some h) f = f h
 
+-- what a node line says, or its fault
 unfoldable pub node_line : Limits → Option Header → ℕ → List Bool → List (List ℕ) → Result (ℕ × ℤ) Code
 node_line allowed header arcs listed fields =
     if not (node_count_fits header (length fields)) then Err Fields
@@ -86,6 +92,7 @@ node_line allowed header arcs listed fields =
 
 -- ---- arc lines
 
+-- an arc line has the right number of fields
 abbrev pub arc_count_fits : Option Header → ℕ → Bool
 arc_count_fits None n = n == 6 || n == 4
 arc_count_fits (Some h) n = if is_min h.problem then n == 6 else n == 4
@@ -102,6 +109,7 @@ arc_numbers fields =
     Ok (record { src = src; dst = dst; low = third; cap = cap; cost = cost }))
     else Ok (record { src = src; dst = dst; low = pos 0; cap = pos 1; cost = third }))
 
+-- the arc doesn't go from a node with a node line to one without
 abbrev pub is_wrong_side : Header → List Bool → ℕ → ℕ → Bool
 is_wrong_side h listed src dst = not (is_min h.problem) && (not (in_table listed src) || in_table listed dst)
 
@@ -126,6 +134,7 @@ passes_total allowed problem total a = is_min problem && passes allowed.total (t
 abbrev pub within_total : Limits → Format → ℕ → PackedArc → Result PackedArc Code
 within_total allowed problem total a = if passes_total allowed problem total a then Err Total else Ok a
 
+-- the tests of the numbers of an arc line, in order
 unfoldable pub arc_tests : Limits → Header → ℕ → ℕ → List Bool → ArcNumbers → Result PackedArc Code
 arc_tests allowed h arcs total listed a =
     checked_node h a.src >>= λ src.
@@ -135,6 +144,7 @@ arc_tests allowed h arcs total listed a =
     else (if is_wrong_side h listed src dst then Err Side
     else within_total allowed h.problem total (record { src = src; dst = dst; low = a.low; cap = a.cap; cost = a.cost })))
 
+-- what an arc line says, or its fault
 unfoldable pub arc_line : Limits → Option Header → ℕ → ℕ → List Bool → List (List ℕ) → Result PackedArc Code
 arc_line allowed header arcs total listed fields =
     if not (arc_count_fits header (length fields)) then Err Fields

@@ -15,11 +15,12 @@ use Rattle.mcf_instance.specs.ReadOn.{StateData}
 use Rattle.mcf_instance.specs.Private.ReaderState.{problem_or_min}
 use Rattle.mcf_instance.specs.WellFormed.{HasEnds, IsArcWithinLimits, IsUpTo, weight}
 
--- the nodes and the arcs of a header, none without one
+-- the count of nodes of a header, 0 without one
 abbrev pub header_nodes : Option Header → ℕ
 header_nodes None = 0
 header_nodes (Some h) = h.nodes
 
+-- the count of arcs of a header, 0 without one
 abbrev pub header_arcs : Option Header → ℕ
 header_arcs None = 0
 header_arcs (Some h) = h.arcs
@@ -28,10 +29,12 @@ header_arcs (Some h) = h.arcs
 abbrev pub side_supply : Bool → ℤ
 side_supply b = if b then pos 1 else neg_ℤ (pos 1)
 
+-- what a state keeps of an assignment
 pub record IsSoundAssignment (listed : List Bool) (supplies : List ℤ) (arcs : List PackedArc) : Type 0 where
   pub supplies_are : supplies ≡ map side_supply listed
   pub pairings : All (IsPairing supplies) (map unpacked arcs)
 
+-- what every state keeps
 pub record IsSound (allowed : Limits) (header : Option Header) (listed : List Bool) (supplies : List ℤ) (arcs : List PackedArc) (total : ℕ) : Type 0 where
   pub nodes_small : header_nodes header ≤ node_limit
   pub arcs_small : header_arcs header ≤ arc_limit
@@ -47,11 +50,13 @@ pub record IsSound (allowed : Limits) (header : Option Header) (listed : List Bo
 
 -- ---- what a line may say
 
+-- a header that keeps a state sound
 pub record HeaderFits (header : Option Header) (h : Header) : Type 0 where
   pub first : header ≡ None
   pub nodes_small : h.nodes ≤ node_limit
   pub arcs_small : h.arcs ≤ arc_limit
 
+-- a supply that keeps a state sound
 pub record SupplyFits (allowed : Limits) (header : Option Header) (arcs : List PackedArc) (v : ℕ) (z : ℤ) : Type 0 where
   pub low : 1 ≤ v
   pub high : v ≤ header_nodes header
@@ -71,6 +76,7 @@ abbrev pub OnMin : Format → Type 0 → Type 0
 OnMin Min P = P
 OnMin Asn P = Unit {0}
 
+-- an arc that keeps a state sound
 pub record LinkFits (allowed : Limits) (header : Option Header) (listed : List Bool) (arcs : List PackedArc) (total : ℕ) (a : PackedArc) : Type 0 where
   pub room : length arcs < header_arcs header
   pub ends : HasEnds (header_nodes header) (unpacked a)
@@ -78,6 +84,7 @@ pub record LinkFits (allowed : Limits) (header : Option Header) (listed : List B
   pub total_small : OnMin (problem_or_min header) (total + weight (unpacked a) ≤ total_limit)
   pub assignment : OnAssignment (problem_or_min header) (IsFlaggedPair listed a)
 
+-- what a line says keeps the state sound
 abbrev pub ItemFits : Limits → StateData → Item → Type 0
 ItemFits allowed s (Problem h) = HeaderFits s.header h
 ItemFits allowed s (Supply v z) = SupplyFits allowed s.header s.arcs v z

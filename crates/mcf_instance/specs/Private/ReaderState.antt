@@ -46,10 +46,12 @@ item_grows (Problem h) = nat_lt 0 h.nodes
 item_grows (Supply v z) = false
 item_grows (Link a) = true
 
+-- what a line says, or its fault, makes the state grow
 abbrev pub outcome_grows : Result Item Code → Bool
 outcome_grows (Ok item) = item_grows item
 outcome_grows (Err fault) = false
 
+-- the state with what a line says
 abbrev pub with_item : StateData → Item → StateData
 with_item s (Problem h) = record {
   header = Some h;
@@ -76,6 +78,7 @@ with_item s (Link a) = record {
   refusal = s.refusal;
 }
 
+-- the state with what a line says, or with its fault
 abbrev pub with_outcome : StateData → ℕ → Result Item Code → StateData
 with_outcome s number (Ok item) = with_item s item
 with_outcome s number (Err code) = record {
@@ -93,6 +96,7 @@ after_row allowed s row = if is_some s.refusal then s else with_outcome s row.nu
 
 -- ---- the end
 
+-- the fault at the end
 abbrev pub end_fault : Option Header → ℕ → Option Code
 end_fault None arcs = Some NoP
 end_fault (Some h) arcs = if nat_lt arcs h.arcs then Some Missing else None
@@ -101,10 +105,12 @@ end_fault (Some h) arcs = if nat_lt arcs h.arcs then Some Missing else None
 abbrev pub refusal_after : StateData → ℕ → Option Fault
 refusal_after s line = option_or s.refusal (option_map (λ code. record { line = line; code = code }) (end_fault s.header (length s.arcs)))
 
+-- the problem of a header, `min` without one
 abbrev pub problem_or_min : Option Header → Format
 problem_or_min None = Min
 problem_or_min (Some h) = h.problem
 
+-- the network of a state
 abbrev pub network_of : StateData → Network
 network_of s = record { problem = problem_or_min s.header; arcs = map unpacked s.arcs; supplies = s.supplies }
 

@@ -27,18 +27,23 @@ pub record IsPlace (g : Network) (p : Place) : Type 0 where
   pub cost : p.cost ≡ unit_cost g (residual_of p.link)
   pub head : p.head ≡ head g (residual_of p.link)
 
+-- no places
 abbrev pub no_span : Span
 no_span = record { first = 0; end = 0 }
 
+-- what is read past the last place
 abbrev pub no_place : Place
 no_place = record { cost = pos 0; head = 0; link = 0 }
 
+-- where the places of a node are
 abbrev pub span_of : Star → ℕ → Span
 span_of star v = slice_index_or star.spans (v - 1) no_span
 
+-- what stands at a place
 abbrev pub place_at : Star → ℕ → Place
 place_at star i = slice_index_or star.places i no_place
 
+-- the residual arc of a place
 abbrev pub residual_at : Place → Rid
 residual_at p = residual_of p.link
 
@@ -80,6 +85,7 @@ pub record Tells (s : Pseudoflow) (r : Rid) (mark : Bool) : Type 0 where
   pub yes : OnTrue mark (HasRoom s r)
   pub no : OnFalse mark (¬ HasRoom s r)
 
+-- the mark of a place
 abbrev pub mark_of : List Bool → ℕ → Bool
 mark_of rooms i = slice_index_or rooms i false
 

@@ -1,8 +1,9 @@
 #!/usr/bin/env python3
-"""Reads the definitions of crates/*/specs.
+"""The documents that are made from the code and the spec files.
 
-    scripts/definitions.py headline     writes docs/HEADLINE.md: the definitions behind `solve_text` and `check`, each with its text
-    scripts/definitions.py check        tells where docs/DEFINITIONS.md and the spec files disagree; status 1 if they do
+    scripts/documents.py write     writes docs/DEFINITIONS.md and docs/HEADLINE.md
+    scripts/documents.py check     tells which of them isn't what would be written today, and which public definition lacks a comment;
+                                   status 1 if there is one
 """
 import collections
 import pathlib
@@ -10,23 +11,31 @@ import re
 import sys
 
 TOP = pathlib.Path(__file__).resolve().parent.parent
-HEADLINE = TOP / "docs" / "HEADLINE.md"
+DOCS = TOP / "docs"
 WORD = r"[A-Za-z_][A-Za-z0-9_'-]*"
-SIGNATURE = re.compile(rf"(?:(?:abbrev|unfoldable|pub|record|data)\s+)*({WORD})\s*(?:[:({{]|$)")
+NAME = rf"(?:{WORD}|◌\S+◌)"
+SIGNATURE = re.compile(rf"(?:(?:abbrev|unfoldable|pub|record|data)\s+)*({NAME})\s*(?:[:({{]|$)")
 USE = re.compile(rf"^(?:pub )?use Rattle\.(\w+)\.specs\.([\w.]+?)\.\{{(.*)\}}$")
 
-Definition = collections.namedtuple("Definition", "crate module name note text is_public")
+Definition = collections.namedtuple("Definition", "crate module name note source text is_private")
+Module = collections.namedtuple("Module", "crate name note imports is_private")
 
 
 def split_file(crate, path):
-    """The definitions of a spec file in order, and what it imports: for each name the crate and the path it is from."""
-    found, imports, note, name, body = [], {}, [], None, []
+    """A spec file as a module and its definitions in order. A line `-- Source: ..` tells where a definition is from; the one at the head is that of
+    each definition without its own."""
+    is_private = path.parent.name == "Private"
+    found, imports, head, note, name, body = [], {}, None, [], None, []
+
+    def parted(lines):
+        sources = [line.removeprefix("Source: ") for line in lines if line.startswith("Source: ")]
+        return " ".join(line for line in lines if line and not line.startswith("Source: ")), sources[-1] if sources else ""
 
     def close():
         nonlocal name, body, note
         if name:
-            text = "\n".join(body).rstrip()
-            found.append(Definition(crate, path.stem, name, " ".join(note), text, " pub " in " " + body[0] + " " or body[0].startswith("pub ")))
+            words, source = parted(note)
+            found.append(Definition(crate, path.stem, name, words, source or head[1], "\n".join(body).rstrip(), is_private))
             note = []
         name, body = None, []
 
@@ -36,43 +45,49 @@ def split_file(crate, path):
             for part in use[3].split(","):
                 was, _, now = part.strip().partition(" as ")
                 imports[now.strip() or was] = (use[1], use[2], was)
+        if head is None and not line.startswith("--"):
+            head, note = parted(note), []
         elif line.startswith("--"):
             close()
-            note = (note if note and not note[-1] == "" else []) + [line.lstrip("- ").strip()]
+            note.append(line.lstrip("- ").strip())
         elif not line.strip():
             close()
             note = []
         elif line[0].isspace():
             body.append(line)
-        elif not line.startswith(("use ", "pub use ", "pub mod ", "mod ", "infix", "syntax")):
+        elif not line.startswith(("use ", "pub use ", "infix")):
             is_new = SIGNATURE.match(line)
             if is_new and is_new[1] != name and re.match(rf"(abbrev|unfoldable|pub|record|data)\b|{WORD} :", line):
                 close()
                 name = is_new[1]
             body.append(line)
     close()
-    return found, imports
+    return Module(crate, path.stem, head[0], imports, is_private), found
+
+
+def crates():
+    """The crates that have definitions, in the order of crates.txt."""
+    listed = (line.split(":")[0] for line in (TOP / "crates.txt").read_text().splitlines() if ":" in line)
+    return [name for name in listed if (TOP / "crates" / name / "specs").is_dir()]
 
 
 def read_specs():
-    """All definitions by crate, module and name, and the imports of each module."""
-    definitions, imports = {}, {}
-    for path in sorted(TOP.glob("crates/*/specs/**/*.antt")):
-        crate = path.relative_to(TOP / "crates").parts[0]
-        if path.stem == "Lib":
-            continue
-        found, taken = split_file(crate, path)
-        imports[crate, path.stem] = taken
-        for d in found:
-            definitions[crate, path.stem, d.name] = d
-    return definitions, imports
+    """All definitions by crate, module and name, and the modules by crate and name: of each crate the public ones first."""
+    definitions, modules = {}, {}
+    for crate in crates():
+        for path in sorted((TOP / "crates" / crate / "specs").glob("**/*.antt"), key=lambda path: (path.parent.name == "Private", path.stem)):
+            if path.stem not in ("Lib", "Private"):
+                module, found = split_file(crate, path)
+                modules[crate, path.stem] = module
+                definitions.update({(crate, path.stem, d.name): d for d in found})
+    return definitions, modules
 
 
 def words(text):
     return set(re.findall(WORD, text))
 
 
-def reached(start, leaves, definitions, imports):
+def reached(start, leaves, definitions, modules):
     """What the definitions named rest on, they among it; the types of the code among it as (crate, path). Leaves are named, and not gone into."""
     found, types, waiting = set(), set(), list(start)
     while waiting:
@@ -83,7 +98,7 @@ def reached(start, leaves, definitions, imports):
         if key in leaves:
             continue
         crate, module, _ = key
-        taken = imports[crate, module]
+        taken = modules[crate, module].imports
         for word in words(definitions[key].text):
             if (crate, module, word) in definitions:
                 waiting.append((crate, module, word))
@@ -168,16 +183,16 @@ def fence(language, text):
 
 def headline():
     """The page for a reader who wants to believe the theorem and nothing else."""
-    definitions, imports = read_specs()
+    definitions, modules = read_specs()
     start = list(cited(definitions))
-    found, types = reached(start, LEAVES, definitions, imports)
-    core = reached(start, LEAVES | MAKING, definitions, imports)[0] - LEAVES - MAKING
+    found, types = reached(start, LEAVES, definitions, modules)
+    core = reached(start, LEAVES | MAKING, definitions, modules)[0] - LEAVES - MAKING
     order = [tuple(m.split()) for _, _, modules in CHAPTERS for m in modules]
     rest = sorted({k[:2] for k in found} - set(order))
     chapters = CHAPTERS[:-1] + ([("More that these cite", "", [" ".join(m) for m in rest])] if rest else []) + CHAPTERS[-1:]
     parts, lines, core_lines = [], 0, 0
-    for title, note, modules in chapters:
-        here = [d for m in modules for k, d in definitions.items() if k in found and k not in LEAVES and k[:2] == tuple(m.split())]
+    for title, note, names in chapters:
+        here = [d for m in names for k, d in definitions.items() if k in found and k not in LEAVES and k[:2] == tuple(m.split())]
         if not here:
             continue
         parts.append(f"## {title}\n" + (f"\n{note}\n" if note else ""))
@@ -191,7 +206,7 @@ def headline():
     seen = "\n".join(views(kinds + both))
     head = f"""# The headline, from the ground up
 
-Made by `scripts/definitions.py headline` from the code and the spec files. Don't edit it by hand.
+Made by `scripts/documents.py write` from the code and the spec files. Don't edit it by hand.
 
 **For every input text whose solving isn't stopped for want of memory, the answer is a refusal naming the first bad line, or a feasible whole flow that no
 feasible flow undercuts, with prices whose reduced costs show it, or a node set that must send or take more than it can, so that no flow exists; the checker
@@ -219,45 +234,58 @@ What `run` and `judge` promise beyond this, on sources, sinks and files, is left
     return head + "\n".join(parts)
 
 
-def table_names(text):
-    """The names of DEFINITIONS.md's tables with their modules, by crate."""
-    found, crates = collections.defaultdict(set), []
-    modules = {p.stem for p in TOP.glob("crates/*/specs/**/*.antt")}
-    for line in text.splitlines():
-        if line.startswith("#"):
-            crates = re.findall(r"`crates/(\w+)/specs`", line)
-        cells = [c.strip() for c in re.split(r"(?<!\\)\|", line)]
-        if crates and len(cells) > 3 and cells[1].startswith("`") and words(cells[3]) & modules:
-            for name in re.findall(r"`([^`]+)`", cells[1]):
-                for crate in crates:
-                    found[crate].add((cells[3], name))
-    return found
+def cell(text):
+    """A text as one cell of a table."""
+    return text.replace("|", "\\|")
 
 
-def disagreements():
-    """What DEFINITIONS.md leaves out, and what it names that isn't there."""
-    definitions, _ = read_specs()
-    told = table_names((TOP / "docs" / "DEFINITIONS.md").read_text())
-    names = {c: {n for _, n in pairs} for c, pairs in told.items()}
-    public = collections.defaultdict(set)
-    for d in definitions.values():
-        if d.is_public:
-            public[d.crate].add((d.module, d.name))
-    here = {c: {n for _, n in pairs} for c, pairs in public.items()}
-    missing = [f"{c} {m}: {n} is in no table" for c, pairs in sorted(public.items()) for m, n in sorted(pairs) if n not in names.get(c, set())]
-    all_told = {n for ns in names.values() for n in ns}
-    everywhere = {n for ns in here.values() for n in ns} | {d.name for d in definitions.values()}
-    return missing + [f"{n} stands in a table, and in no spec file" for n in sorted(all_told - everywhere) if re.fullmatch(WORD, n)]
+
+def definitions_page():
+    """Each definition in words, with its source."""
+    definitions, modules = read_specs()
+    parts = ["""# Definitions
+
+Made by `scripts/documents.py write` from the comments of the spec files, `crates/*/specs/*.antt`. Don't edit it by hand.
+
+Nodes, arcs and lines count from 1. Numbers are whole and have no bound. The *source* is where a
+reader finds the notion: AMO is Ahuja, Magnanti and Orlin, *Network Flows* (1993), by section; CLRS is
+Cormen, Leiserson, Rivest and Stein, *Introduction to Algorithms*; Knuth is *The Art of Computer
+Programming*; DIMACS is the text format of the First DIMACS Implementation Challenge; "textbook" is what
+each textbook has; "own" is a choice of this project, and [DECISIONS.md](DECISIONS.md) has its reason.
+A module in `specs/Private/` says what a loop or a private type keeps; no public clause cites it, and it
+names no source.
+"""]
+    for crate in dict.fromkeys(module.crate for module in modules.values()):
+        parts.append(f"## {crate}\n")
+        for module in (m for m in modules.values() if m.crate == crate):
+            rows = [d for d in definitions.values() if (d.crate, d.module) == (crate, module.name)]
+            has_source = any(d.source for d in rows)
+            parts.append(f"### {'Private.' if module.is_private else ''}{module.name}\n\n{module.note}\n")
+            head = ["| Name | In words | Source |", "|---|---|---|"] if has_source else ["| Name | In words |", "|---|---|"]
+            parts.append("\n".join(head + [f"| `{cell(d.name)}` | {cell(d.note)} |" + (f" {d.source} |" if has_source else "") for d in rows]) + "\n")
+    return "\n".join(parts)
+
+
+PAGES = {"DEFINITIONS.md": definitions_page, "HEADLINE.md": headline}
+
+
+def faults():
+    """What isn't as it should be."""
+    for name, page in PAGES.items():
+        if (DOCS / name).read_text() != page():
+            yield f"docs/{name} isn't what `scripts/documents.py write` writes today"
+    for d in read_specs()[0].values():
+        if not d.is_private and not d.note:
+            yield f"crates/{d.crate}/specs/{d.module}.antt: {d.name} has no comment"
 
 
 def main():
-    if sys.argv[1:] == ["headline"]:
-        HEADLINE.write_text(headline())
+    if sys.argv[1:] == ["write"]:
+        for name, page in PAGES.items():
+            (DOCS / name).write_text(page())
     elif sys.argv[1:] == ["check"]:
-        found = disagreements()
-        if HEADLINE.exists() and HEADLINE.read_text() != headline():
-            found.append("docs/HEADLINE.md isn't what `scripts/definitions.py headline` writes today")
-        print("\n".join(found) or "definitions: documents and spec files agree")
+        found = list(faults())
+        print("\n".join(found) or "documents: as the code and the spec files say")
         sys.exit(1 if found else 0)
     else:
         sys.exit(__doc__)
