@@ -1,8 +1,8 @@
 #!/usr/bin/env python3
 """The documents that are made from the code and the spec files.
 
-    scripts/documents.py write     writes docs/DEFINITIONS.md and docs/HEADLINE.md
-    scripts/documents.py check     tells which of them isn't what would be written today, and which public definition lacks a comment;
+    scripts/documents.py write     writes docs/DEFINITIONS.md, docs/CONTRACTS.md and docs/HEADLINE.md
+    scripts/documents.py check     tells which of them isn't what would be written today, and which public name lacks a comment;
                                    status 1 if there is one
 """
 import collections
@@ -12,6 +12,17 @@ import sys
 
 TOP = pathlib.Path(__file__).resolve().parent.parent
 DOCS = TOP / "docs"
+BY_HAND = "## What is only tested"
+CONTRACTS_HEAD = """# Contracts
+
+Made by `scripts/documents.py write` from the comments and the clauses of the public functions. What
+is under the last heading is written by hand, and kept. Don't edit the rest by hand.
+
+What stands in a clause is proved: `requires` is what a caller must know, `ensures` what holds at the
+end. Each function is also proved safe (no index out of range, no sum that wraps, no cast that loses
+bits) and to return. The names in clauses are told in [DEFINITIONS.md](DEFINITIONS.md), and the
+symbols in [HEADLINE.md](HEADLINE.md). Crates that only test or measure aren't here.
+"""
 WORD = r"[A-Za-z_][A-Za-z0-9_'-]*"
 NAME = rf"(?:{WORD}|◌\S+◌)"
 SIGNATURE = re.compile(rf"(?:(?:abbrev|unfoldable|pub|record|data)\s+)*({NAME})\s*(?:[:({{]|$)")
@@ -266,7 +277,125 @@ names no source.
     return "\n".join(parts)
 
 
-PAGES = {"DEFINITIONS.md": definitions_page, "HEADLINE.md": headline}
+# ---- the public items of a crate
+
+Item = collections.namedtuple("Item", "owner name trait note text has_clauses is_public")
+IMPL = re.compile(r"(?:pub )?(impl|trait)(?:<[^{]*?>)? (?:([\w:<>, ']+) for )?(\w+)")
+
+
+def end_of(lines, first, indent):
+    """The line behind the head of a function, and whether its body follows: the head ends at a lone brace, at one that ends its line, or at a semicolon."""
+    for place in range(first, len(lines)):
+        line = lines[place]
+        if line in (indent + "{", indent + "{}"):
+            return place, []
+        if line.endswith(" {") and (place == first or line.startswith(indent + ")")):
+            return place, [line.removesuffix(" {")]
+        if line.endswith(";"):
+            return place, [line.removesuffix(";")]
+    sys.exit(f"a function without an end: {lines[first]}")
+
+
+def seen_of(lines):
+    """A type as callers see it: whole where it is an enum or all its fields are public, else nothing."""
+    fields = [line.strip() for line in lines[1:-1] if not line.strip().startswith(("//", "#["))]
+    is_open = lines[0].startswith(("pub enum", "pub type")) or fields and all(field.startswith("pub ") for field in fields)
+    return "\n".join(lines) if is_open else ""
+
+
+def items_of(path):
+    """The items of a source file in order: functions, methods and types, each with its comment and its text."""
+    lines = path.read_text().splitlines()
+    found, note, owner, trait, kind = [], [], None, None, None
+    place = 0
+    while place < len(lines):
+        line = lines[place]
+        indent = line[:len(line) - len(line.lstrip())]
+        text = line.strip()
+        if text.startswith("///"):
+            note.append(text.removeprefix("///").removeprefix(" "))
+        elif indent == "" and IMPL.match(text) and text.endswith("{"):
+            kind, trait, owner = IMPL.match(text).groups()
+            if kind == "trait":
+                found.append(Item(None, owner, None, note, "", False, text.startswith("pub ")))
+            note = []
+        elif line == "}":
+            owner, trait, note = None, None, []
+        elif re.match(r"(pub )?fn \w", text) and len(indent) == (4 if owner else 0):
+            last, tail = end_of(lines, place, indent)
+            head = [part[len(indent):] for part in lines[place:last] + tail]
+            has_clauses = any(re.match(r"\s+(requires|ensures)\b", part) for part in head)
+            is_public = text.startswith("pub ") or kind == "trait" or trait is not None and has_clauses
+            found.append(Item(owner, re.search(r"fn (\w+)", text)[1], trait, note, "\n".join(head), has_clauses, is_public))
+            place, note = last, []
+        elif owner and text.startswith("ghost ") and not text.startswith("ghost use") and (trait != "Model" or text.startswith("ghost Value")):
+            found.append(Item(owner, None, trait or kind, note, text, True, True))
+            note = []
+        elif indent == "" and re.match(r"pub (struct|enum|type|const) \w", text):
+            last = next(i for i in range(place, len(lines)) if lines[i].endswith(("}", ";")) and not lines[i].startswith(" "))
+            found.append(Item(None, re.match(r"pub \w+ (\w+)", text)[1], None, note, seen_of(lines[place:last + 1]), False, True))
+            place, note = last, []
+        elif not text.startswith("#["):
+            note = []
+        place += 1
+    return found
+
+
+def exported(crate):
+    """The names that a crate hands out of its own, in the order of its lib.rt, and what is said at the head of that."""
+    text = (TOP / "crates" / crate / "src" / "lib.rt").read_text()
+    head = "\n".join(line.removeprefix("//!").removeprefix(" ") for line in text.splitlines() if line.startswith("//!"))
+    names = []
+    for path, group in re.findall(r"^pub use ([\w:]+?)(?:::\{([^}]*)\})?;", text, re.M | re.S):
+        if not path.startswith("mcf_"):
+            names += [name.strip() for name in group.split(",") if name.strip()] if group else [path.split("::")[-1]]
+    return head, names + re.findall(r"^pub (?:struct|enum|fn) (\w+)", text, re.M)
+
+
+def libraries():
+    """The crates that have definitions and public calls."""
+    return [crate for crate in crates() if (TOP / "crates" / crate / "src" / "lib.rt").exists()]
+
+
+def public_items(crate):
+    """What is declared public in the files of a crate, in their order."""
+    return [item for path in sorted((TOP / "crates" / crate / "src").glob("**/*.rt")) for item in items_of(path) if item.is_public]
+
+
+def said(note):
+    """A comment of the code as a paragraph of a page: its headings are words in bold there."""
+    return "\n".join(re.sub(r"^#+ (.*)", r"**\1.**", line) for line in note).strip() + "\n" if note else ""
+
+
+def contracts_of(crate):
+    """A crate's public items, each with what its comment says and its clauses."""
+    head, names = exported(crate)
+    items = public_items(crate)
+    yield f"## {crate}\n\n{head}\n"
+    for name in names:
+        own = [item for item in items if item.owner is None and item.name == name]
+        methods = [item for item in items if item.owner == name]
+        for item in own[:1]:
+            yield f"### `{name}`\n"
+            yield from filter(None, [said(item.note), fence("rust", item.text) if item.text else ""])
+        for trait in dict.fromkeys(item.trait for item in methods if item.name is None):
+            facts = "\n".join("".join(f"// {line}\n" for line in item.note) + item.text for item in methods if item.name is None and item.trait == trait)
+            head = "" if trait in ("trait", "Model") else f"As `{trait}`:\n\n"
+            yield head + fence("rust", facts)
+        for item in methods:
+            if item.name:
+                yield f"#### `{name}::{item.name}`" + (f", of `{item.trait}`" if item.trait else "") + "\n"
+                yield from filter(None, [said(item.note), fence("rust", item.text)])
+
+
+def contracts_page():
+    """What is proved of each public function, in its own words and clauses. What is only tested is written by hand, and kept."""
+    path = DOCS / "CONTRACTS.md"
+    kept = path.read_text()[path.read_text().index(BY_HAND):]
+    return CONTRACTS_HEAD + "\n" + "\n".join(part for crate in libraries() for part in contracts_of(crate)) + "\n" + kept
+
+
+PAGES = {"DEFINITIONS.md": definitions_page, "CONTRACTS.md": contracts_page, "HEADLINE.md": headline}
 
 
 def faults():
@@ -277,6 +406,11 @@ def faults():
     for d in read_specs()[0].values():
         if not d.is_private and not d.note:
             yield f"crates/{d.crate}/specs/{d.module}.antt: {d.name} has no comment"
+    for crate in libraries():
+        names = exported(crate)[1]
+        for item in public_items(crate):
+            if item.name and not item.note and (item.owner or item.name) in names:
+                yield f"{crate}: {item.name} is public, and has no comment"
 
 
 def main():

@@ -16,7 +16,8 @@ use mcf_instance::{Refusal, Side};
 use mcf_text::{ArcId, NoMemory, NodeId, put_number};
 
 /// Appends the text of an answer: fields with one blank between them, numbers in decimal without a plus
-/// sign and without leading zeros, each line ended by byte 10.
+/// sign and without leading zeros, each line ended by byte 10. The text spells this answer and no other, and `parse`
+/// reads it back.
 ///
 /// Fails only where the vector has to grow and no memory is given; it then holds what it held. It never gives
 /// back room that was reserved.

@@ -66,7 +66,7 @@ impl<'n> Basis<'n> {
         self.net
     }
 
-    /// The price of a node; that of the root is 0.
+    /// The price of a node, at most 3 * 10^36 from 0; that of the root is 0.
     pub fn price(&self, v: NodeId) -> i128
         requires { IsNode (node_count self.now.net) v }
         ensures value { result ≡ price_at self.now v }
@@ -76,7 +76,8 @@ impl<'n> Basis<'n> {
         self.table.get(v.get())
     }
 
-    /// The reduced cost of an arc: its cost less the price of the node that it leaves, plus that of the node that it enters.
+    /// The reduced cost of an arc, at most 7 * 10^36 from 0: its cost less the price of the node that it leaves, plus
+    /// that of the node that it enters.
     pub fn reduced(&self, k: ArcId) -> i128
         requires { IsArcNumber self.now.net k }
         ensures value { result ≡ reduced_at self.now k }

@@ -47,7 +47,7 @@ impl<'n> Basis<'n> {
         all_zero(&self.artificial)
     }
 
-    /// Writes the prices of the nodes, without that of the root.
+    /// Writes the prices of the nodes, without that of the root; each is at most 3 * 10^36 from 0.
     pub fn write_prices(&self, prices: &mut [i128])
         requires { length prices.old ≡ node_count self.now.net }
         ensures value { prices.new ≡ drop 1 self.now.prices }

@@ -67,8 +67,8 @@ fn instance_verdict(
     }
 }
 
-/// The verdict on an answer text for an instance text: the first of the table in the documentation that
-/// applies.
+/// The verdict on an answer text for an instance text: the first of `Verdict` that applies. It accepts exactly where
+/// the answer text is correct, whoever made it.
 ///
 /// Any texts are judged, with prices of any size that an answer may have, and any node set that blocks. The
 /// time is about linear in the two texts.

@@ -1,8 +1,8 @@
 //! The verdicts.
 use mcf_instance::Refusal;
 
-/// What the checker says of an answer text: the first of these that applies, in the order of the table in
-/// the documentation. `Refused`, `Flow` and `Blocked` accept.
+/// What the checker says of an answer text: the first of these that applies, in this order. `Refused`, `Flow` and
+/// `Blocked` accept.
 #[derive(Clone, Copy, Debug, PartialEq, Eq)]
 pub enum Verdict {
     /// The answer text is no answer: the first line that doesn't fit.

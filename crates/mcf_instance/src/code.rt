@@ -48,7 +48,7 @@ impl Code {
     ghost use Rattle.std.specs.Prelude.{◌≡◌, ◌↔◌, Some, bytes_eq};
     ghost use Rattle.mcf_instance.specs.Fault.{code_of_word, code_word};
 
-    /// The word of the code in refusals.
+    /// The word of the code in refusals. No two codes share one.
     pub fn word(self) -> &'static str
         ensures value { result.now ≡ code_word self }
         ensures back { code_of_word (code_word self) ≡ Some self }

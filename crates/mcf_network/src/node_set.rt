@@ -44,7 +44,7 @@ impl NodeSet {
         Ok(NodeSet { marks, count: 0 })
     }
 
-    /// How many nodes are in the set.
+    /// How many nodes are in the set, at most 1,000,000.
     pub fn len(&self) -> u32
         ensures value { result ≡ member_count self.now }
         ensures small { length self.now ≤ node_limit }

@@ -17,6 +17,9 @@ use std::alloc::Global;
 /// The flow of an instance for which a state of its net without surplus stands: its low and the amount on
 /// each arc that is no loop; a loop of negative cost carries its cap, every other loop its low.
 ///
+/// It is feasible, prices show it exactly where they show the state, and it costs what the state costs and an amount
+/// that is the same for all states.
+///
 /// # Errors
 ///
 /// Want of memory; an instance without arcs wants none.

@@ -76,7 +76,7 @@ impl<'n> State<'n> {
         i128::from(self.amounts.get(k.place()))
     }
 
-    /// The surplus of a node: its supply less the net of the amounts.
+    /// The surplus of a node: its supply less the net of the amounts, at most 2 * 10^26 from 0.
     pub fn surplus(&self, v: NodeId) -> i128
         requires { IsNode (node_count self.now.net) v }
         ensures value { result ≡ surplus_at self.now v }
@@ -86,7 +86,8 @@ impl<'n> State<'n> {
         self.surpluses[v.place()]
     }
 
-    /// How much more a residual arc can carry: its amount backward, else its width less its amount.
+    /// How much more a residual arc can carry, from 0 to 2 * 10^18: its amount backward, else its width less its
+    /// amount.
     pub fn room(&self, r: Rid) -> i128
         requires { IsArcNumber self.now.net r.arc }
         ensures value { result ≡ room_of self.now r }
@@ -101,7 +102,8 @@ impl<'n> State<'n> {
         }
     }
 
-    /// Pushes an amount along a residual arc that has room for it.
+    /// Pushes an amount along a residual arc that has room for it: so much surplus moves from its tail to its head, and
+    /// nothing else changes.
     pub fn push(&mut self, r: Rid, amount: i128)
         requires arc { IsArcNumber self.old.net r.arc }
         requires low { pos 0 ≤ℤ amount }

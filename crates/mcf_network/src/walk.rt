@@ -24,7 +24,8 @@ pub fn room_along(state: &State<'_>, walk: &[Rid]) -> i128
 
 /// Pushes the same amount along each of some residual arcs that have room for it.
 ///
-/// Where they are a walk, the amount of the surplus moves from its beginning to its end.
+/// Where they are a walk, the amount of the surplus moves from its beginning to its end, and the cost of the state
+/// changes by the walk's cost for each unit.
 pub fn push_along(state: &mut State<'_>, walk: &[Rid], amount: i128)
     requires { CanPushAlong state.old walk.now amount }
     ensures value { state.new ≡ pushed_along state.old walk.now amount }

@@ -24,7 +24,7 @@ impl Model for BlockSize {
 }
 
 impl BlockSize {
-    /// This size, if it is one of a block.
+    /// This size, if it is one of a block: from 1 to 1,000,000.
     pub fn new(size: u32) -> Option<BlockSize>
         ensures { SomeIff result (IsBlockSize size) size }
     {

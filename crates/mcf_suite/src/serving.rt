@@ -93,12 +93,12 @@ fn status_of(kind: Kind) -> u8
 
 /// Does what the words of a command line ask, and gives the exit status.
 ///
-/// The words begin with the name of the program: `mcf solve [--engine ENGINE] [--pricing RULE] [--block N] [FILE]`, as
-/// `command` reads them. They are judged first; then `opener` opens FILE, or `input` is read where there is none. The
-/// answer goes to `out`. Status 0 tells of a flow, or of help that was asked for and printed on `out`; 1 of a blocking
-/// set; 2 of a refusal. Status 3 is given, with one line on `err` or the text of the usage fault, where the words
-/// aren't a command of `mcf`, the file can't be opened, reading or writing fails, memory is wanting or the input is too
-/// long. A text that can't be written on `err` changes nothing.
+/// The words begin with the name of the program: `mcf solve [--engine ENGINE] [--pricing RULE] [--block N]
+/// [--form FORM] [FILE]`, as `command` reads them. They are judged first; then `opener` opens FILE, or `input` is read
+/// where there is none. The answer goes to `out`. Status 0 tells of a flow, or of help that was asked for and printed on
+/// `out`; 1 of a blocking set; 2 of a refusal. Status 3 is given, with one line on `err` or the text of the usage fault,
+/// where the words aren't a command of `mcf`, the file can't be opened, reading or writing fails, memory is wanting or
+/// the input is too long. A text that can't be written on `err` changes nothing.
 ///
 /// Where the words have a fault, ask for help or name a file, `input` is as it was; where they have a fault, ask
 /// for help or name no file, `opener` is. It is called once at most.
