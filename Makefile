@@ -12,10 +12,9 @@ all:
 	@scripts/build.py
 	@scripts/examples.sh
 
-# First, whether docs/ says what the code and the spec files say, and which edits there are.
+# First, whether docs/ says what the code and the spec files say.
 test:
 	@scripts/documents.py check
-	@scripts/edits.py check
 	rt ci
 
 bench:
