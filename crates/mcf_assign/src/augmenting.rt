@@ -17,10 +17,9 @@ ghost use Rattle.mcf_assign.specs.Private.Turning.{IsExtended};
 use crate::prices::Prices;
 use crate::rows::{RowArc, Rows};
 use crate::search::{Tables, Target};
-use mcf_instance::copies;
 use mcf_network::{Net, NodeSet, State};
 use mcf_prices::Heap;
-use mcf_text::{ArcId, NoMemory, NodeId};
+use mcf_text::{ArcId, NoMemory, NodeId, copies};
 use std::alloc::Global;
 
 impl Tables {

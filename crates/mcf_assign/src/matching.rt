@@ -15,10 +15,9 @@ use crate::prices::Prices;
 use crate::rows::{MOST_PICKS, NO_ARC, RowArc, Rows};
 use crate::search::Tables;
 use crate::update::Update;
-use mcf_instance::copies;
 use mcf_network::{Net, NodeSet, State};
 use mcf_prices::Heap;
-use mcf_text::{NoMemory, NodeId};
+use mcf_text::{NoMemory, NodeId, copies};
 use std::alloc::Global;
 use std::marker::Model;
 

@@ -6,9 +6,8 @@ ghost use Rattle.mcf_instance.specs.WellFormed.{IsUpTo};
 ghost use Rattle.mcf_assign.specs.Private.Keeping.{AreFirstPrices};
 ghost use Rattle.mcf_assign.specs.Private.Lows.{AreLows, IsLow, lies_inside, low_inside, whole_prices};
 
-use mcf_instance::copies;
 use mcf_network::Net;
-use mcf_text::{NoMemory, NodeId};
+use mcf_text::{NoMemory, NodeId, copies};
 use std::alloc::Global;
 use std::marker::Model;
 use std::mem::swap;

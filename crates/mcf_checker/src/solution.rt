@@ -13,8 +13,8 @@ ghost use Rattle.mcf_instance.specs.WellFormed.{HasEnds, IsArcWithinLimits, IsWe
 use crate::stated::{Stated, flow_at};
 use crate::verdict::Verdict;
 use mcf_answer::{FlowAnswer, Sent};
-use mcf_instance::{Arc, Instance, copies};
-use mcf_text::{ArcId, NoMemory, NodeId};
+use mcf_instance::{Arc, Instance};
+use mcf_text::{ArcId, NoMemory, NodeId, copies};
 use std::alloc::Global;
 
 // The arc at a place, counted from 0.

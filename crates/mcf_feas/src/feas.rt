@@ -10,9 +10,9 @@ ghost use Rattle.mcf_feas.specs.Feasible.{IsFeas};
 use crate::path_search::PathSearch;
 use crate::preflow::round;
 use crate::supplies::unbalanced;
-use mcf_instance::{Side, copies};
+use mcf_instance::Side;
 use mcf_network::{Net, NodeSet, State};
-use mcf_text::{NoMemory, NodeId};
+use mcf_text::{NoMemory, NodeId, copies};
 use std::alloc::Global;
 use std::collections::VecDeque;
 

@@ -13,8 +13,7 @@ use crate::arc::PackedArc;
 use crate::arc_table::ArcTable;
 use crate::instances::Instance;
 use crate::problem::Side;
-use crate::repeated::copies;
-use mcf_text::{NoMemory, NodeId};
+use mcf_text::{NoMemory, NodeId, copies};
 use std::alloc::Global;
 
 /// The sums of the lower and of the upper bounds over the arcs that enter a set, and over those that leave it.

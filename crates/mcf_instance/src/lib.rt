@@ -14,7 +14,6 @@ mod laws;
 mod problem;
 mod reader;
 mod refusal;
-mod repeated;
 
 pub use arc::Arc;
 pub use blocking::{blocks, table_of};
@@ -24,4 +23,3 @@ pub use laws::{blocked_has_no_flow, former_instances_stay, shown_flows_are_least
 pub use problem::{Problem, Side};
 pub use reader::{Reader, read};
 pub use refusal::Refusal;
-pub use repeated::copies;

@@ -4,8 +4,7 @@ ghost use Rattle.std.specs.Prelude.{◌≡◌, ◌<◌, ◌≤◌, ◌≤ℤ◌,
 ghost use Rattle.mcf_network.specs.Nets.{width_limit};
 ghost use Rattle.mcf_network.specs.Private.StoredAmounts.{amounts_in, limit_of, small_limit};
 
-use mcf_instance::copies;
-use mcf_text::NoMemory;
+use mcf_text::{NoMemory, copies};
 use std::alloc::Global;
 
 /// Amounts in order, in one of two sizes.

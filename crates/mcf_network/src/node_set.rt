@@ -6,8 +6,7 @@ ghost use Rattle.mcf_instance.specs.Network.{IsNode, node_count};
 ghost use Rattle.mcf_network.specs.NodeSets.{member_count, no_nodes, with_node};
 
 use crate::net::Net;
-use mcf_instance::copies;
-use mcf_text::{NoMemory, NodeId};
+use mcf_text::{NoMemory, NodeId, copies};
 use std::alloc::Global;
 use std::marker::Model;
 

@@ -8,8 +8,7 @@ ghost use Rattle.mcf_prices.specs.Private.ItemHeaps.{entry, key_at, table_of};
 ghost use Rattle.mcf_prices.specs.Private.KeyLists.{is_inside};
 
 use crate::keys::{Keys, cut, is_inside, is_short};
-use mcf_instance::copies;
-use mcf_text::NoMemory;
+use mcf_text::{NoMemory, copies};
 use std::alloc::Global;
 
 /// Items numbered from 0, each with a key; those that wait stand in a heap by key and number, and each knows its

@@ -3,8 +3,7 @@ ghost use Rattle.std.specs.Prelude.{◌≡◌, ◌≢◌, ◌<◌, ◌≤◌, �
 ghost use Rattle.mcf_prices.specs.Private.KeyLists.{is_inside};
 ghost use Rattle.mcf_prices.specs.Private.ItemHeaps.{IsShort};
 
-use mcf_instance::copies;
-use mcf_text::NoMemory;
+use mcf_text::{NoMemory, copies};
 use std::alloc::Global;
 use std::marker::Model;
 

@@ -16,9 +16,8 @@ ghost use Rattle.mcf_prices.specs.Private.Rounds.{IsHandled, IsProgress};
 ghost use Rattle.mcf_prices.specs.Private.Trails.{IsDone, IsSettled, IsStep, IsTrail, HasTail};
 
 use crate::queue::Queue;
-use mcf_instance::copies;
 use mcf_network::{NodeSet, Rid, State};
-use mcf_text::{NoMemory, NodeId};
+use mcf_text::{NoMemory, NodeId, copies};
 use std::alloc::Global;
 use std::marker::Model;
 

@@ -20,9 +20,9 @@ ghost use Rattle.mcf_prices.specs.Private.Raisings.{label, label_limit, label_re
 
 use crate::heap::Heap;
 use crate::shortlist::{Entry, Shortlist, entry_before, fill, last_of, threshold};
-use mcf_instance::{Problem, copies};
+use mcf_instance::Problem;
 use mcf_network::{Leaving, Net, Rid, State};
-use mcf_text::{ArcId, NoMemory, NodeId};
+use mcf_text::{ArcId, NoMemory, NodeId, copies};
 use std::alloc::Global;
 use std::marker::Model;
 

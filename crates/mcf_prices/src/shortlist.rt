@@ -10,9 +10,9 @@ ghost use Rattle.mcf_prices.specs.declared.shortlist.Entry.{Entry};
 ghost use Rattle.mcf_prices.specs.Private.Raisings.{CostsAtLeast};
 ghost use Rattle.mcf_prices.specs.Private.Shortlists.{AreChains, IsPut, IsWhole, entry_at};
 
-use mcf_instance::{Problem, copies};
+use mcf_instance::Problem;
 use mcf_network::{Net, Rid, State};
-use mcf_text::{ArcId, NoMemory, NodeId};
+use mcf_text::{ArcId, NoMemory, NodeId, copies};
 use std::alloc::Global;
 
 /// A residual arc that leaves a node, and where the entry before it of the same node stands: one more than its place, or

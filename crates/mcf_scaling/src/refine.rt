@@ -22,9 +22,8 @@ use crate::pricing::{least_reduced, reduced_cost};
 use crate::queue::{Queue, enqueue, enqueue_all, tidy};
 use crate::rooms::{mark, mark_all, rooms_of};
 use crate::scale::{first_scale, power};
-use mcf_instance::copies;
 use mcf_network::{Rid, State};
-use mcf_text::{ArcId, NoMemory, NodeId};
+use mcf_text::{ArcId, NoMemory, NodeId, copies};
 use std::alloc::Global;
 use std::marker::Model;
 

@@ -14,10 +14,10 @@ use crate::pricing::Pricing;
 use crate::run::run;
 use mcf_basis::Basis;
 use mcf_feas::unbalanced;
-use mcf_instance::{Side, copies};
+use mcf_instance::Side;
 use mcf_network::{Net, NodeSet, State};
 use mcf_prices::{Engine, Outcome, Pricer};
-use mcf_text::NoMemory;
+use mcf_text::{NoMemory, copies};
 use std::alloc::Global;
 use std::marker::Model;
 

@@ -4,8 +4,8 @@
 //! numbers as text.
 //!
 //! A text is bytes, of no encoding. Byte 10 ends a line; spaces, tabs and carriage returns are blanks
-//! and part the fields of a line; no other byte does either. Nothing here but `put_number` and
-//! `LineFeed::feed` takes memory, and all of it takes time linear in the bytes that it is given.
+//! and part the fields of a line; no other byte does either. Nothing here but `put_number`,
+//! `copies` and `LineFeed::feed` takes memory, and all of it takes time linear in the bytes that it is given.
 
 mod arc;
 mod decimal;
@@ -17,6 +17,7 @@ mod leading;
 mod node;
 mod number;
 mod parts;
+mod repeated;
 mod split;
 
 pub use arc::ArcId;
@@ -29,4 +30,5 @@ pub use leading::{LeadingDigits, leading_digits};
 pub use node::NodeId;
 pub use number::Whole;
 pub use parts::{Fields, Line, Lines};
+pub use repeated::copies;
 pub use split::{fields, is_kept, lines, split_line};

@@ -1,6 +1,6 @@
 //! Texts, and what they stand for.
-use mcf_instance::{Arc, Code, Instance, Problem, copies, former_instances_stay, read};
-use mcf_text::{ArcId, NoMemory, NodeId};
+use mcf_instance::{Arc, Code, Instance, Problem, former_instances_stay, read};
+use mcf_text::{ArcId, NoMemory, NodeId, copies};
 use std::alloc::Global;
 use std::test::Fail;
 

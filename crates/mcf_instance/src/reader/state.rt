@@ -18,8 +18,7 @@ use crate::reader::fields::first_fields;
 use crate::reader::line::{Header, Item, arc_line, is_word, node_line, problem_line};
 use crate::reader::plain::{PlainArc, plain_link, plain_pair};
 use crate::refusal::Refusal;
-use crate::repeated::copies;
-use mcf_text::NoMemory;
+use mcf_text::{NoMemory, copies};
 use std::alloc::Global;
 use std::marker::Model;
 

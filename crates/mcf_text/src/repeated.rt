@@ -1,7 +1,7 @@
 //! Lists of one value.
 ghost use Rattle.std.specs.Prelude.{◌≡◌, ◌≤◌, IfOk, OnErr, replicate};
 
-use mcf_text::NoMemory;
+use crate::error::NoMemory;
 use std::alloc::Global;
 
 /// A list of so many copies of a value.
