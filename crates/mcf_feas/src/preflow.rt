@@ -1,5 +1,5 @@
 //! Pushes of surplus from node to node, down the levels.
-ghost use Rattle.std.specs.Prelude.{◌≡◌, ◌≤◌, ◌≤ℤ◌, ◌<ℤ◌, ◌⊎◌, length, pos};
+ghost use Rattle.std.specs.Prelude.{◌≡◌, ◌≤◌, ◌≤ℤ◌, ◌<ℤ◌, length, pos};
 ghost use Rattle.mcf_instance.specs.Network.{IsArcNumber, IsNode, node_count};
 ghost use Rattle.mcf_network.specs.Residual.{tail};
 ghost use Rattle.mcf_network.specs.States.{IsPseudoflow, room_of, surplus_at};
@@ -178,10 +178,10 @@ fn share(state: &State<'_>, arc: ArcId, back: bool) -> i128
     ensures room { result ≤ℤ room_of state.now (record { arc = arc; back = back }) }
 {
     let (from, to) = state.net().route(Rid { arc, back });
-    let most = lesser(state.surplus(from), state.room(Rid { arc, back }));
+    let most = state.surplus(from).min(state.room(Rid { arc, back }));
     let surplus = state.surplus(to);
     if surplus < 0 {
-        lesser(most, -surplus)
+        most.min(-surplus)
     } else {
         most
     }
@@ -229,13 +229,4 @@ fn wake(state: &State<'_>, queue: &mut VecDeque<NodeId>, node: NodeId)
     if state.surplus(node) > 0 {
         wait(queue, node);
     }
-}
-
-// The lesser of two numbers.
-fn lesser(a: i128, b: i128) -> i128
-    ensures first { result ≤ℤ a }
-    ensures second { result ≤ℤ b }
-    ensures either { (result ≡ a) ⊎ (result ≡ b) }
-{
-    if b < a { b } else { a }
 }

@@ -5,7 +5,8 @@ use Rattle.std.proofs.Math.IntN.{◌*ℤ◌}
 use Rattle.std.specs.List.{Any}
 use Rattle.std.proofs.lemmas.Bool.{cases_eq}
 use Rattle.std.proofs.lemmas.List.{at_drop_all, get_or_default}
-use Rattle.std.proofs.lemmas.Int.{ints}
+use Rattle.std.specs.Int.{int_min}
+use Rattle.std.proofs.lemmas.Int.{by_lt_z, clamps, ints}
 use Rattle.mcf_instance.specs.Flow.{cost}
 use Rattle.mcf_instance.specs.Network.{IsArcNumber, when}
 use Rattle.mcf_instance.proofs.ArcSums.{flow_sum-set}
@@ -124,8 +125,12 @@ least_room_start s walk r least h e is =
     record { each = λ k d l. absurd (omega arith); reached = (0, r, h, sym e, is) }
 
 pub least_room_next : (s : Pseudoflow) (walk : List Rid) (i : ℕ) (r : Rid) (least room next : ℤ) → IsLeastRoom s walk i least → i < length walk
-    → r ≡ get_or walk i r → room ≡ room_of s r → next ≤ℤ least → next ≤ℤ room → (next ≡ least) ⊎ (next ≡ room) → IsLeastRoom s walk (i + 1) next
-least_room_next s walk i r least room next old h e is first second either =
+    → r ≡ get_or walk i r → room ≡ room_of s r → next ≡ int_min least room → IsLeastRoom s walk (i + 1) next
+least_room_next s walk i r least room next old h e is lesser =
+    let first : next ≤ℤ least = omega (arith, ints, clamps, lesser) in
+    let second : next ≤ℤ room = omega (arith, ints, clamps, lesser) in
+    let either : (next ≡ least) ⊎ (next ≡ room) = by_lt_z least room (λ p. inl (omega (arith, ints, clamps, lesser, p)))
+    (λ p. inr (omega (arith, ints, clamps, lesser, p))) in
     record {
       each = λ k d l. elim (cases_eq k i) [
         | inl same ↦ (let at = ap (λ j. room_of s (get_or walk j d)) same in let other = ap (room_of s) (get_or_default walk i d r h) in

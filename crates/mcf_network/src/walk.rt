@@ -1,5 +1,5 @@
 //! Walks of residual arcs.
-ghost use Rattle.std.specs.Prelude.{◌≡◌, ◌<◌, ◌+ℤ◌, ◌*ℤ◌, ◌≤ℤ◌, ◌⊎◌, ℕ, All, Any, length};
+ghost use Rattle.std.specs.Prelude.{◌≡◌, ◌<◌, ◌+ℤ◌, ◌*ℤ◌, ◌≤ℤ◌, ℕ, All, Any, length};
 ghost use Rattle.mcf_instance.specs.Flow.{cost};
 ghost use Rattle.mcf_instance.specs.Network.{IsArcNumber};
 ghost use Rattle.mcf_network.specs.States.{IsPseudoflow, MovesSurplus, room_of};
@@ -17,7 +17,7 @@ pub fn room_along(state: &State<'_>, walk: &[Rid]) -> i128
 {
     let mut least = state.room(walk[0]);
     for r in walk {
-        least = lesser(least, state.room(*r));
+        least = least.min(state.room(*r));
     }
     least
 }
@@ -38,13 +38,4 @@ pub fn push_along(state: &mut State<'_>, walk: &[Rid], amount: i128)
     for r in walk {
         state.push(*r, amount);
     }
-}
-
-// The lesser of two numbers.
-fn lesser(a: i128, b: i128) -> i128
-    ensures first { result ≤ℤ a }
-    ensures second { result ≤ℤ b }
-    ensures either { (result ≡ a) ⊎ (result ≡ b) }
-{
-    if b < a { b } else { a }
 }

@@ -1,5 +1,5 @@
-use Rattle.std.proofs.Common.{◌≡◌, ap, arith, pos, ◌≤ℤ◌, ◌<ℤ◌, ◌∙◌, inl, inr}
-use Rattle.std.proofs.lemmas.Int.{ints}
+use Rattle.std.proofs.Common.{◌≡◌, ap, arith, pos, ◌≤ℤ◌, ◌<ℤ◌, ◌∙◌}
+use Rattle.std.proofs.lemmas.Int.{clamps, ints}
 use Rattle.mcf_instance.specs.Network.{Network}
 use Rattle.mcf_network.specs.Residual.{tail}
 use Rattle.mcf_network.specs.States.{surplus_at}
@@ -13,14 +13,8 @@ returns-then-surplus-lt0-clause-low c =
     let from : c.route-from.result.0 ≡ tail s.net r = c.route-from.ensures.tail ∙ ap (λ (g : Network). tail g r) c.net.ensures.value in
     let at = ap (surplus_at s) from in
     let some : pos 0 <ℤ surplus_at s (tail s.net r) = c.requires.some in
-    let most : pos 0 ≤ℤ c.lesser-most.result = elim c.lesser-most.ensures.either [
-      | inl e ↦ omega (arith, ints, e, c.surplus.ensures.value, at, some)
-      | inr e ↦ omega (arith, ints, e, c.room.ensures.low)
-    ] in
-    elim c.lesser.ensures.either [
-      | inl e ↦ omega (arith, ints, e, most)
-      | inr e ↦ omega (arith, ints, e, c.surplus-surplus.ensures.small, c.if-surplus-lt0.true)
-    ]
+    omega (arith, ints, clamps, c.min.ensures.value, c.min-most.ensures.value, c.surplus.ensures.value, at, some, c.room.ensures.low, c.surplus-surplus.ensures.small,
+    c.if-surplus-lt0.true)
 
 pub returns-then-surplus-lt0-clause-held : goal.returns-then-surplus-lt0-clause-held
 returns-then-surplus-lt0-clause-held c =
@@ -28,4 +22,4 @@ returns-then-surplus-lt0-clause-held c =
     let r = rid c.args.arc c.args.back in
     let from : c.route-from.result.0 ≡ tail s.net r = c.route-from.ensures.tail ∙ ap (λ (g : Network). tail g r) c.net.ensures.value in
     let at = ap (surplus_at s) from in
-    omega (arith, ints, c.lesser.ensures.first, c.lesser-most.ensures.first, c.surplus.ensures.value, at)
+    omega (arith, ints, clamps, c.min.ensures.self_bound, c.min-most.ensures.self_bound, c.surplus.ensures.value, at)

@@ -11,12 +11,11 @@ loop-r-init c =
 
 pub loop-r-preserved : goal.loop-r-preserved
 loop-r-preserved c =
-    let same : to_z w128 (of_z w128 c.lesser-least.result) ≡ c.lesser-least.result = search (rules, to_z-of_z) in
+    let same : to_z w128 (of_z w128 c.min-least.result) ≡ c.min-least.result = search (rules, to_z-of_z) in
     let given : to_z w128 (of_z w128 c.room.result) ≡ c.room.result = search (rules, to_z-of_z) in
-    let e = c.lesser-least.ensures in
     rw same (least_room_next c.args.state.now c.args.walk.now c.loop-r.r-index c.r-item.result
-    (to_z w128 c.loop-r.least-bits) c.room.result c.lesser-least.result c.loop-r.invariant c.loop-r-test.true c.r-item.is c.room.ensures.value e.first
-    (rw given at e.second) (rw given at e.either))
+    (to_z w128 c.loop-r.least-bits) c.room.result c.min-least.result c.loop-r.invariant c.loop-r-test.true c.r-item.is c.room.ensures.value
+    (rw given at c.min-least.ensures.value))
 
 pub returns : goal.returns
 returns c =
