@@ -7,7 +7,7 @@ use Rattle.std.proofs.lemmas.Int.{ints, by_lt_z}
 use Rattle.std.proofs.lemmas.List.{ext_get_or, get_or-set_other, get_or_default}
 use Rattle.std.proofs.lemmas.List.Elements.{All-from_get_or}
 use Rattle.std.proofs.lemmas.List.FromFn.{get_or-map-range_with_len, length-map-range_with_len}
-use Rattle.mcf_instance.specs.Limits.{wide_limits}
+use Rattle.mcf_instance.specs.Limits.{limits}
 use Rattle.mcf_instance.specs.Network.{Network, IsNode, at_node, node_count}
 use Rattle.mcf_instance.specs.WellFormed.{IsUpTo}
 use Rattle.mcf_assign.specs.Private.Keeping.{AreFirstPrices}
@@ -173,7 +173,7 @@ low_risen lows wide v i was new more z node count are at is inside inside' by ez
 
 -- the first prices are near 0
 first_near : (g : Network) (lows : List ℤ) → AreFirstPrices g lows (node_count g) → (i : ℕ) → i < length lows
-    → IsUpTo wide_limits.cost (get_or lows i (pos 0))
+    → IsUpTo limits.cost (get_or lows i (pos 0))
 first_near g lows first i l =
     let count = first.one_per_node in
     let back : i + 1 - 1 ≡ i = omega arith in

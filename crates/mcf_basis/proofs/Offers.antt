@@ -4,7 +4,7 @@ use Rattle.std.specs.Prelude.{unsigned_abs}
 use Rattle.std.proofs.lemmas.Int.{ints}
 use Rattle.std.proofs.lemmas.Bool.{cond-true, cond-false, ne_eqb, eq-eqb}
 use Rattle.std.proofs.lemmas.List.{get_or_read}
-use Rattle.mcf_instance.specs.Limits.{wide_limits}
+use Rattle.mcf_instance.specs.Limits.{limits}
 use Rattle.mcf_instance.specs.Network.{Network, IsArcNumber, node_count}
 use Rattle.mcf_instance.specs.WellFormed.{IsUpTo, HasEnds}
 use Rattle.mcf_network.specs.Nets.{IsNetArc}
@@ -37,7 +37,7 @@ not_in_tree b k ok ne t =
 pub record IsReadOffer (b : TreeStructure) (k : ℕ) (o : Offer) : Type 0 where
   pub from : o.from ≤ node_count b.net
   pub to : o.to ≤ node_count b.net
-  pub cost : IsUpTo wide_limits.cost o.cost
+  pub cost : IsUpTo limits.cost o.cost
   pub eligible : offered b o <ℤ pos 0 → IsEligible b k
   pub only : IsEligible b k → offered b o <ℤ pos 0
   pub size : offered b o <ℤ pos 0 → offered b o ≡ neg_ℤ (pos (violation b k))
@@ -153,7 +153,7 @@ offer_in_range l b k i e ok h same =
 
 -- an arc as the code reads it, and its reduced cost
 pub record IsReadReduced (b : TreeStructure) (k src dst : ℕ) (c : ℤ) : Type 0 where
-  pub cost : IsUpTo wide_limits.cost c
+  pub cost : IsUpTo limits.cost c
   pub value : reduced_at b k ≡ c -ℤ price_at b src +ℤ price_at b dst
 
 pub reduced_read : (b : TreeStructure) (g : Network) (k src dst : ℕ) (c : ℤ) → g ≡ b.net → IsBasis b → IsArcNumber b.net k → src ≡ (arc_at g k).src

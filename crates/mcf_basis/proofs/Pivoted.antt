@@ -2,7 +2,7 @@
 use Rattle.std.proofs.Common.{◌≡◌, ℕ, ◌+◌, ◌<◌, ◌≤◌, Bool, true, false, List, length, refl, sym, ap, ◌∙◌, arith, subst, ℤ, pos, ◌+ℤ◌, ◌-ℤ◌, ◌≤ℤ◌}
 use Rattle.std.specs.Prelude.{unsigned_abs}
 use Rattle.std.proofs.lemmas.Int.{ints}
-use Rattle.mcf_instance.specs.Limits.{wide_limits}
+use Rattle.mcf_instance.specs.Limits.{limits}
 use Rattle.mcf_instance.specs.WellFormed.{IsUpTo}
 use Rattle.mcf_instance.specs.Network.{Network, IsArcNumber, node_count}
 use Rattle.mcf_network.specs.declared.rid.Rid.{Rid}
@@ -128,7 +128,7 @@ module _ (l : Layout) (k : ℕ) (ok : IsLaidOut l) (el : IsEligible (basis_in l)
       sized : (x : ℤ) → pos 0 ≤ℤ x → pos (unsigned_abs x) ≡ x
       sized x low = grind (arith, ints)
 
-  keep_premises : (1 ≤ k) × (k ≤ length l.offers) × IsUpTo wide_limits.cost (offer_at l k).cost
+  keep_premises : (1 ≤ k) × (k ≤ length l.offers) × IsUpTo limits.cost (offer_at l k).cost
   keep_premises = (let n = number in let size = ok.offers_size in (n.0, omega (arith, n, size), read.cost))
 
   found_climb : (t : SpanningTree) (o : Offer) (c : Climb) → t ≡ fresh_tree l.tree → o ≡ offer_at l k → IsClimb t l.rooms o.from o.to c →
@@ -193,7 +193,7 @@ module _ (l : Layout) (k : ℕ) (ok : IsLaidOut l) (el : IsEligible (basis_in l)
         let count : length l.table.prices ≡ node_count l.net + 1 = ok.basis.prices.one_per_node in
         let h : (offer_at l k).to ≤ node_count l.net = read.to in rw (is, counted) (omega (arith, count, h))
 
-    pub cost_small : IsUpTo wide_limits.cost o.cost
+    pub cost_small : IsUpTo limits.cost o.cost
     cost_small = rw is read.cost
 
     pub from_small : IsUpTo wide_limit (price_of p o.from)

@@ -7,7 +7,7 @@ use Rattle.std.proofs.lemmas.Int.{ints}
 use Rattle.std.proofs.Math.Nat.{mul-le-mul, mul-le-mul_left}
 use Rattle.std.proofs.lemmas.Bool.{cases_eq}
 use Rattle.mcf_instance.specs.declared.arc.Arc.{Arc}
-use Rattle.mcf_instance.specs.Limits.{wide_limits, node_limit}
+use Rattle.mcf_instance.specs.Limits.{limits, node_limit}
 use Rattle.mcf_instance.specs.Network.{Network, IsArcNumber, node_count}
 use Rattle.mcf_instance.specs.WellFormed.{IsUpTo, weight}
 use Rattle.mcf_instance.proofs.Bounds.{size_up_to, up_to_size}
@@ -30,12 +30,12 @@ cost_within [] i d h = absurd (omega arith)
 cost_within (a ∷ arcs) zero d h = omega arith
 cost_within (a ∷ arcs) (suc i) d h = let ih : unsigned_abs (get_or arcs i d).cost ≤ greatest_cost arcs = cost_within arcs i d (omega arith) in omega arith
 
-pub greatest_small : (arcs : List Arc) → All IsNetArc arcs → greatest_cost arcs ≤ wide_limits.cost
+pub greatest_small : (arcs : List Arc) → All IsNetArc arcs → greatest_cost arcs ≤ limits.cost
 greatest_small [] each = omega arith
 greatest_small (a ∷ arcs) each =
     let h : IsNetArc a = each 0 no_arc (omega arith) in
-    let first : unsigned_abs a.cost ≤ wide_limits.cost = size_up_to wide_limits.cost a.cost h.cost_small in
-    let rest : greatest_cost arcs ≤ wide_limits.cost = greatest_small arcs (λ i d l. each (suc i) d (omega arith)) in
+    let first : unsigned_abs a.cost ≤ limits.cost = size_up_to limits.cost a.cost h.cost_small in
+    let rest : greatest_cost arcs ≤ limits.cost = greatest_small arcs (λ i d l. each (suc i) d (omega arith)) in
     omega arith
 
 le_refl_of : (n : ℕ) → n ≤ n
@@ -116,9 +116,9 @@ pub reach_small : (g : Network) → IsNet g → price_reach g ≤ wide_limit
 reach_small g ok =
     let total : sum (map weight g.arcs) ≤ net_total_limit = ok.total in
     let nodes : node_count g ≤ node_limit = ok.nodes in
-    let cost : greatest_cost g.arcs ≤ wide_limits.cost = greatest_small g.arcs ok.each_arc in
+    let cost : greatest_cost g.arcs ≤ limits.cost = greatest_small g.arcs ok.each_arc in
     let a : node_count g * greatest_cost g.arcs ≤ node_limit * greatest_cost g.arcs = mul-le-mul nodes (le_refl_of (greatest_cost g.arcs)) in
-    let b : node_limit * greatest_cost g.arcs ≤ node_limit * wide_limits.cost = mul-le-mul_left node_limit cost in
+    let b : node_limit * greatest_cost g.arcs ≤ node_limit * limits.cost = mul-le-mul_left node_limit cost in
     omega arith
 
 pub price_small : (b : TreeStructure) → IsBasis b → (v : ℕ) → v ≤ node_count b.net → IsUpTo wide_limit (price_at b v)

@@ -1,6 +1,6 @@
 //! One pivot of the network simplex.
 ghost use Rattle.std.specs.Prelude.{◌≡◌, ℕ, ◌-◌, ◌<◌, ◌≤◌, ◌<ℤ◌, ◌+ℤ◌, ◌-ℤ◌, ℤ, length, pos, unsigned_abs};
-ghost use Rattle.mcf_instance.specs.Limits.{wide_limits};
+ghost use Rattle.mcf_instance.specs.Limits.{limits};
 ghost use Rattle.mcf_instance.specs.Network.{IsArcNumber};
 ghost use Rattle.mcf_instance.specs.WellFormed.{IsUpTo};
 ghost use Rattle.mcf_network.specs.Residual.{arc_at};
@@ -151,7 +151,7 @@ fn round_of(found: Found) -> Round
 fn reduced_of(table: &PriceTable, offer: Offer) -> i128
     requires from { offer.from < length table.now.prices }
     requires to { offer.to < length table.now.prices }
-    requires cost { IsUpTo wide_limits.cost offer.cost }
+    requires cost { IsUpTo limits.cost offer.cost }
     requires from_small { IsUpTo wide_limit (price_of table.now offer.from) }
     requires to_small { IsUpTo wide_limit (price_of table.now offer.to) }
     ensures { result ≡ offer.cost -ℤ price_of table.now offer.from +ℤ price_of table.now offer.to }

@@ -9,7 +9,7 @@ use Rattle.std.proofs.lemmas.List.{get_or-replicate, length-replicate}
 use Rattle.std.proofs.lemmas.Option.{get_or_from_slice_get, none-some, slice_get_past, slice_get_within}
 use Rattle.mcf_instance.specs.declared.arc.Arc.{Arc}
 use Rattle.mcf_instance.specs.Flow.{IsWithinBounds, AreNets}
-use Rattle.mcf_instance.specs.Limits.{arc_limit, total_limit, wide_limits}
+use Rattle.mcf_instance.specs.Limits.{arc_limit, total_limit, limits}
 use Rattle.mcf_instance.specs.Network.{at_node}
 use Rattle.mcf_instance.specs.WellFormed.{HasEnds, IsArcWithinLimits, weight}
 use Rattle.mcf_instance.proofs.Bounds.{CostStep, cost_step}
@@ -42,13 +42,13 @@ module _ (arcs : List Arc) (flow : List ℤ) (i : ℕ) (a : Arc) (f : ℤ) (at :
   flow_is : get_or flow i f ≡ f
   flow_is = get_or_from_slice_get flow i f f carried
 
-  pub cost_at : All (IsArcWithinLimits wide_limits) arcs → sum (map weight arcs) ≤ total_limit → IsWithinBounds arcs flow → CostStep arcs flow i a f
+  pub cost_at : All (IsArcWithinLimits limits) arcs → sum (map weight arcs) ≤ total_limit → IsWithinBounds arcs flow → CostStep arcs flow i a f
   cost_at small total bounds =
       rw (arc_is, flow_is) at (cost_step arcs flow i a f small total bounds (slice_get_within arcs i a at))
 
   -- where the entries of the ends stand at these places
   module _ (nodes : ℕ) (nets : List ℤ) (p q : ℕ) (src : p ≡ a.src - 1) (dst : q ≡ a.dst - 1) (ends : All (HasEnds nodes) arcs)
-      (small : All (IsArcWithinLimits wide_limits) arcs) (count : length arcs ≤ arc_limit) (bounds : IsWithinBounds arcs flow)
+      (small : All (IsArcWithinLimits limits) arcs) (count : length arcs ≤ arc_limit) (bounds : IsWithinBounds arcs flow)
       (known : AreNets nodes (take i arcs) flow nets) where
     src_is : (get_or arcs i a).src - 1 ≡ p
     src_is = ap (λ (b : Arc). b.src - 1) arc_is ∙ sym src

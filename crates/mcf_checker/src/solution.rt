@@ -6,7 +6,7 @@ ghost use Rattle.mcf_answer.specs.Ranges.{IsAmount};
 ghost use Rattle.mcf_checker.specs.Judging.{arc_agrees, bad_arc, bad_node, bad_price, flow_verdict, is_loose, least_up_to, solution_verdict};
 ghost use Rattle.mcf_checker.specs.Private.StatedFlows.{IsInOrder, flow_stated};
 ghost use Rattle.mcf_instance.specs.Flow.{IsWithinBounds, cost, reduced_cost, AreNets};
-ghost use Rattle.mcf_instance.specs.Limits.{limits, wide_limits};
+ghost use Rattle.mcf_instance.specs.Limits.{limits};
 ghost use Rattle.mcf_instance.specs.Network.{at_node, node_count};
 ghost use Rattle.mcf_instance.specs.WellFormed.{HasEnds, IsArcWithinLimits, IsWellFormed};
 
@@ -133,7 +133,7 @@ fn first_bad_node(
 // The cost of the arc less the price of its first end plus that of its second.
 fn reduced_cost_of(arc: &Arc, prices: &[i128]) -> i128
     requires ends { HasEnds (length prices.now) arc.now }
-    requires limits { IsArcWithinLimits wide_limits arc.now }
+    requires limits { IsArcWithinLimits limits arc.now }
     requires prices { All IsAmount prices.now }
     ensures { result ≡ reduced_cost prices.now arc.now }
 {
@@ -143,7 +143,7 @@ fn reduced_cost_of(arc: &Arc, prices: &[i128]) -> i128
 // Whether the prices don't show the flow of the arc.
 fn is_loose(arc: &Arc, prices: &[i128], flow: i128) -> bool
     requires ends { HasEnds (length prices.now) arc.now }
-    requires limits { IsArcWithinLimits wide_limits arc.now }
+    requires limits { IsArcWithinLimits limits arc.now }
     requires prices { All IsAmount prices.now }
     ensures { result ≡ is_loose prices.now (arc.now, flow) }
 {

@@ -11,7 +11,7 @@ use Rattle.std.proofs.lemmas.Int.{ints, to_z-of_z}
 use Rattle.std.proofs.lemmas.List.Elements.{All-head, All-tail}
 use Rattle.std.proofs.lemmas.List.Sums.{sum_by-cons}
 use Rattle.mcf_instance.specs.declared.arc.Arc.{Arc}
-use Rattle.mcf_instance.specs.Limits.{arc_limit, node_limit, total_limit, wide_limits}
+use Rattle.mcf_instance.specs.Limits.{arc_limit, node_limit, total_limit, limits}
 use Rattle.mcf_instance.specs.Network.{IsNode, arc_sum, at_node, flow_sum, node_sum, when}
 use Rattle.mcf_instance.specs.Flow.{CanCarry, IsWithinBounds, cost}
 use Rattle.mcf_instance.specs.Private.Sums.{sum_limit, supply_sum_limit}
@@ -83,35 +83,35 @@ node_sum_up_to t m (suc n) e =
 -- ---- node sets
 
 -- the supplies of a set of the first nodes
-pub supply_up_to : (supplies : List ℤ) (set : ℕ → Bool) (i : ℕ) → All (IsUpTo wide_limits.supply) supplies → length supplies ≤ node_limit → i ≤ length supplies
+pub supply_up_to : (supplies : List ℤ) (set : ℕ → Bool) (i : ℕ) → All (IsUpTo limits.supply) supplies → length supplies ≤ node_limit → i ≤ length supplies
     → IsUpTo supply_sum_limit (node_sum (λ v. when (set v) (at_node supplies v)) i)
 supply_up_to supplies set i small n h =
-    let sum = node_sum_up_to (λ v. when (set v) (at_node supplies v)) wide_limits.supply i
-    (λ v q. when_up_to (set v) wide_limits.supply (at_node supplies v) (small (v - 1) (pos 0) (omega arith))) in
+    let sum = node_sum_up_to (λ v. when (set v) (at_node supplies v)) limits.supply i
+    (λ v q. when_up_to (set v) limits.supply (at_node supplies v) (small (v - 1) (pos 0) (omega arith))) in
     omega (arith, ints, sum)
 
 -- the lows, or the caps, of the first arcs that pass a test
-pub lows_up_to : (test : Arc → Bool) (arcs : List Arc) (i : ℕ) → All (IsArcWithinLimits wide_limits) arcs → length arcs ≤ arc_limit → i ≤ length arcs
+pub lows_up_to : (test : Arc → Bool) (arcs : List Arc) (i : ℕ) → All (IsArcWithinLimits limits) arcs → length arcs ≤ arc_limit → i ≤ length arcs
     → IsUpTo sum_limit (arc_sum (λ a. when (test a) a.low) (take i arcs))
 lows_up_to test arcs i small n h =
-    let sum = arc_sum_up_to (IsArcWithinLimits wide_limits) (λ a. when (test a) a.low) wide_limits.bound
-    (λ a q. when_up_to (test a) wide_limits.bound a.low q.low_small) arcs i small in
+    let sum = arc_sum_up_to (IsArcWithinLimits limits) (λ a. when (test a) a.low) limits.bound
+    (λ a q. when_up_to (test a) limits.bound a.low q.low_small) arcs i small in
     omega (arith, ints, sum)
 
-pub caps_up_to : (test : Arc → Bool) (arcs : List Arc) (i : ℕ) → All (IsArcWithinLimits wide_limits) arcs → length arcs ≤ arc_limit → i ≤ length arcs
+pub caps_up_to : (test : Arc → Bool) (arcs : List Arc) (i : ℕ) → All (IsArcWithinLimits limits) arcs → length arcs ≤ arc_limit → i ≤ length arcs
     → IsUpTo sum_limit (arc_sum (λ a. when (test a) a.cap) (take i arcs))
 caps_up_to test arcs i small n h =
-    let sum = arc_sum_up_to (IsArcWithinLimits wide_limits) (λ a. when (test a) a.cap) wide_limits.bound
-    (λ a q. when_up_to (test a) wide_limits.bound a.cap q.cap_small) arcs i small in
+    let sum = arc_sum_up_to (IsArcWithinLimits limits) (λ a. when (test a) a.cap) limits.bound
+    (λ a q. when_up_to (test a) limits.bound a.cap q.cap_small) arcs i small in
     omega (arith, ints, sum)
 
 -- the same, of all arcs
-pub low_all_up_to : (test : Arc → Bool) (arcs : List Arc) → All (IsArcWithinLimits wide_limits) arcs → length arcs ≤ arc_limit
+pub low_all_up_to : (test : Arc → Bool) (arcs : List Arc) → All (IsArcWithinLimits limits) arcs → length arcs ≤ arc_limit
     → IsUpTo sum_limit (arc_sum (λ a. when (test a) a.low) arcs)
 low_all_up_to test arcs small n =
     rw (take-length arcs) at (lows_up_to test arcs (length arcs) small n (omega arith))
 
-pub cap_all_up_to : (test : Arc → Bool) (arcs : List Arc) → All (IsArcWithinLimits wide_limits) arcs → length arcs ≤ arc_limit
+pub cap_all_up_to : (test : Arc → Bool) (arcs : List Arc) → All (IsArcWithinLimits limits) arcs → length arcs ≤ arc_limit
     → IsUpTo sum_limit (arc_sum (λ a. when (test a) a.cap) arcs)
 cap_all_up_to test arcs small n =
     rw (take-length arcs) at (caps_up_to test arcs (length arcs) small n (omega arith))
@@ -195,16 +195,16 @@ width_total arcs total h =
 
 -- ---- a flow within bounds, arc by arc
 
--- the wide limits of an arc, and a flow that it can carry
+-- the limits of an arc, and a flow that it can carry
 abbrev pub IsPlaced : Arc → ℤ → Type 0
-IsPlaced a f = IsArcWithinLimits wide_limits a × CanCarry a f
+IsPlaced a f = IsArcWithinLimits limits a × CanCarry a f
 
-pub each_placed : (arcs : List Arc) (flow : List ℤ) → All (IsArcWithinLimits wide_limits) arcs → IsWithinBounds arcs flow → AllZip IsPlaced arcs flow
+pub each_placed : (arcs : List Arc) (flow : List ℤ) → All (IsArcWithinLimits limits) arcs → IsWithinBounds arcs flow → AllZip IsPlaced arcs flow
 each_placed arcs flow small bounds =
-    AllZip-with CanCarry (IsArcWithinLimits wide_limits) arcs flow small bounds
+    AllZip-with CanCarry (IsArcWithinLimits limits) arcs flow small bounds
 
 -- a flow within the bounds is small
-pub flow_up_to : (a : Arc) (f : ℤ) → IsPlaced a f → IsUpTo wide_limits.bound f
+pub flow_up_to : (a : Arc) (f : ℤ) → IsPlaced a f → IsUpTo limits.bound f
 flow_up_to a f h = omega (arith, ints, h.0.low_small, h.0.cap_small, h.1)
 
 -- what a loop that adds up the cost needs at arc i
@@ -216,15 +216,15 @@ pub record CostStep (arcs : List Arc) (flow : List ℤ) (i : ℕ) (a : Arc) (f :
   pub before_small : IsUpTo total_limit (cost (take i arcs) flow)
   pub next : cost (take (i + 1) arcs) flow ≡ cost (take i arcs) flow +ℤ a.cost *ℤ f
 
-pub cost_step : (arcs : List Arc) (flow : List ℤ) (i : ℕ) (d : Arc) (e : ℤ) → All (IsArcWithinLimits wide_limits) arcs → sum (map weight arcs) ≤ total_limit
+pub cost_step : (arcs : List Arc) (flow : List ℤ) (i : ℕ) (d : Arc) (e : ℤ) → All (IsArcWithinLimits limits) arcs → sum (map weight arcs) ≤ total_limit
     → IsWithinBounds arcs flow → i < length arcs → CostStep arcs flow i (get_or arcs i d) (get_or flow i e)
 cost_step arcs flow i d e small total bounds h =
     let here = AllZip-at IsPlaced arcs flow i d e (each_placed arcs flow small bounds) h in
     let k : i < length flow = omega (arith, length-AllZip CanCarry arcs flow bounds) in
     record {
       in_range = k;
-      cost_read = read_back (get_or arcs i d).cost wide_limits.cost here.0.cost_small (lit< tt);
-      flow_read = read_back (get_or flow i e) wide_limits.bound (flow_up_to (get_or arcs i d) (get_or flow i e) here) (lit< tt);
+      cost_read = read_back (get_or arcs i d).cost limits.cost here.0.cost_small (lit< tt);
+      flow_read = read_back (get_or flow i e) limits.bound (flow_up_to (get_or arcs i d) (get_or flow i e) here) (lit< tt);
       term_small = term_up_to arcs flow i total_limit d e total bounds h;
       before_small = cost_part_up_to arcs flow i total_limit total bounds;
       next = flow_sum_more (λ a f. a.cost *ℤ f) arcs flow i d e h k;

@@ -8,7 +8,7 @@ use Rattle.std.proofs.lemmas.List.{get_or_read}
 use Rattle.std.specs.Int.{w128}
 use Rattle.mcf_instance.specs.Private.Sums.{sum_limit}
 use Rattle.mcf_instance.specs.declared.arc.Arc.{Arc}
-use Rattle.mcf_instance.specs.Limits.{arc_limit, wide_limits}
+use Rattle.mcf_instance.specs.Limits.{arc_limit, limits}
 use Rattle.mcf_instance.specs.Network.{IsNode, at_node, when}
 use Rattle.mcf_instance.specs.Flow.{CanCarry, IsWithinBounds, net, AreNets}
 use Rattle.mcf_instance.specs.WellFormed.{HasEnds, IsArcWithinLimits, IsUpTo}
@@ -39,15 +39,15 @@ net_more arcs flow i d e v h k =
     omega (arith, ints, flow_sum_more (λ a f. when (eqb a.src v) f) arcs flow i d e h k, flow_sum_more (λ a f. when (eqb a.dst v) f) arcs flow i d e h k)
 
 -- the net of a node over the first arcs is small
-pub net_up_to : (arcs : List Arc) (flow : List ℤ) (i v : ℕ) → All (IsArcWithinLimits wide_limits) arcs → length arcs ≤ arc_limit → IsWithinBounds arcs flow
+pub net_up_to : (arcs : List Arc) (flow : List ℤ) (i v : ℕ) → All (IsArcWithinLimits limits) arcs → length arcs ≤ arc_limit → IsWithinBounds arcs flow
     → i ≤ length arcs → IsUpTo (2 * sum_limit) (net (take i arcs) flow v)
 net_up_to arcs flow i v small count bounds h =
     let all = each_placed arcs flow small bounds in
-    let out = flow_sum_up_to IsPlaced (λ a f. when (eqb a.src v) f) wide_limits.bound
-    (λ a f q. when_up_to (eqb a.src v) wide_limits.bound f (flow_up_to a f q)) arcs flow i
+    let out = flow_sum_up_to IsPlaced (λ a f. when (eqb a.src v) f) limits.bound
+    (λ a f q. when_up_to (eqb a.src v) limits.bound f (flow_up_to a f q)) arcs flow i
     all in
-    let into = flow_sum_up_to IsPlaced (λ a f. when (eqb a.dst v) f) wide_limits.bound
-    (λ a f q. when_up_to (eqb a.dst v) wide_limits.bound f (flow_up_to a f q)) arcs flow i
+    let into = flow_sum_up_to IsPlaced (λ a f. when (eqb a.dst v) f) limits.bound
+    (λ a f q. when_up_to (eqb a.dst v) limits.bound f (flow_up_to a f q)) arcs flow i
     all in
     omega (arith, ints, out, into)
 
@@ -90,18 +90,18 @@ pub record NetStep (arcs : List Arc) (flow : List ℤ) (i : ℕ) (f x : ℤ) : T
   pub flow_read : to_z w128 (of_z w128 f) ≡ f
   pub entry_read : to_z w128 (of_z w128 x) ≡ x
   pub sum_read : to_z w128 (of_z w128 (x +ℤ f)) ≡ x +ℤ f
-  pub flow_small : IsUpTo wide_limits.bound f
+  pub flow_small : IsUpTo limits.bound f
   pub entry_small : IsUpTo (2 * sum_limit) x
 
 module _ (nodes : ℕ) (arcs : List Arc) (flow nets : List ℤ) (i : ℕ) (d : Arc) (e : ℤ) (ends : All (HasEnds nodes) arcs)
-    (limits : All (IsArcWithinLimits wide_limits) arcs) (count : length arcs ≤ arc_limit) (bounds : IsWithinBounds arcs flow)
+    (small : All (IsArcWithinLimits limits) arcs) (count : length arcs ≤ arc_limit) (bounds : IsWithinBounds arcs flow)
     (known : AreNets nodes (take i arcs) flow nets) (h : i < length arcs) where
   flow_in_range : i < length flow
   flow_in_range = omega (arith, length-AllZip CanCarry arcs flow bounds)
 
-  this_flow_small : IsUpTo wide_limits.bound (get_or flow i e)
+  this_flow_small : IsUpTo limits.bound (get_or flow i e)
   this_flow_small =
-      flow_up_to (get_or arcs i d) (get_or flow i e) (AllZip-at IsPlaced arcs flow i d e (each_placed arcs flow limits bounds) h)
+      flow_up_to (get_or arcs i d) (get_or flow i e) (AllZip-at IsPlaced arcs flow i d e (each_placed arcs flow small bounds) h)
 
   pub net_step : (x : ℤ) → x ≡ get_or nets ((get_or arcs i d).src - 1) x → NetStep arcs flow i (get_or flow i e) x
   net_step x is =
@@ -114,11 +114,11 @@ module _ (nodes : ℕ) (arcs : List Arc) (flow nets : List ℤ) (i : ℕ) (d : A
         at,
         known.each (get_or arcs i d).src s,
         net_up_to arcs flow i
-            (get_or arcs i d).src limits count bounds (omega arith),
+            (get_or arcs i d).src small count bounds (omega arith),
       ) in
       record {
         in_range = flow_in_range;
-        flow_read = read_back (get_or flow i e) wide_limits.bound this_flow_small (lit< tt);
+        flow_read = read_back (get_or flow i e) limits.bound this_flow_small (lit< tt);
         entry_read = read_back x (2 * sum_limit) small (lit< tt);
         sum_read = read_back (x +ℤ get_or flow i e) (3 * sum_limit) (omega (arith, ints, small, this_flow_small)) (lit< tt);
         flow_small = this_flow_small;
@@ -141,9 +141,9 @@ module _ (nodes : ℕ) (arcs : List Arc) (flow nets : List ℤ) (i : ℕ) (d : A
         arith,
         ints,
         y-is,
-        net_up_to arcs flow i a.dst limits count bounds (omega arith),
+        net_up_to arcs flow i a.dst small count bounds (omega arith),
         when_up_to
-            (eqb a.src a.dst) wide_limits.bound f this_flow_small,
+            (eqb a.src a.dst) limits.bound f this_flow_small,
       ) in
       record {
         entry_read = read_back y (3 * sum_limit) small (lit< tt);

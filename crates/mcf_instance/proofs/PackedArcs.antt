@@ -7,7 +7,7 @@ use Rattle.std.proofs.lemmas.Option.{get_or_from_slice_get, slice_get-map, slice
 use Rattle.mcf_instance.specs.Private.Sums.{sum_limit}
 use Rattle.mcf_instance.specs.declared.arc.Arc.{Arc}
 use Rattle.mcf_instance.specs.declared.arc.PackedArc.{PackedArc}
-use Rattle.mcf_instance.specs.Limits.{arc_limit, wide_limits}
+use Rattle.mcf_instance.specs.Limits.{arc_limit, limits}
 use Rattle.mcf_instance.specs.Network.{arc_sum, when}
 use Rattle.mcf_instance.specs.Packed.{unpacked}
 use Rattle.mcf_instance.specs.WellFormed.{IsArcWithinLimits, IsUpTo}
@@ -32,13 +32,13 @@ packed_sum_next t arcs i a is =
     ∙ ap (λ b. arc_sum t (take i (map unpacked arcs)) +ℤ t b) (read_packed arcs i a is)
 
 -- the lows, or the caps, of the first arcs that pass a test
-pub packed_lows_up_to : (test : Arc → Bool) (arcs : List PackedArc) (i : ℕ) → All (IsArcWithinLimits wide_limits) (map unpacked arcs) → length arcs ≤ arc_limit
+pub packed_lows_up_to : (test : Arc → Bool) (arcs : List PackedArc) (i : ℕ) → All (IsArcWithinLimits limits) (map unpacked arcs) → length arcs ≤ arc_limit
     → i ≤ length arcs → IsUpTo sum_limit (arc_sum (λ a. when (test a) a.low) (take i (map unpacked arcs)))
 packed_lows_up_to test arcs i small count h =
     let n = length-map arcs unpacked in
     lows_up_to test (map unpacked arcs) i small (omega (arith, n)) (omega (arith, n))
 
-pub packed_caps_up_to : (test : Arc → Bool) (arcs : List PackedArc) (i : ℕ) → All (IsArcWithinLimits wide_limits) (map unpacked arcs) → length arcs ≤ arc_limit
+pub packed_caps_up_to : (test : Arc → Bool) (arcs : List PackedArc) (i : ℕ) → All (IsArcWithinLimits limits) (map unpacked arcs) → length arcs ≤ arc_limit
     → i ≤ length arcs → IsUpTo sum_limit (arc_sum (λ a. when (test a) a.cap) (take i (map unpacked arcs)))
 packed_caps_up_to test arcs i small count h =
     let n = length-map arcs unpacked in

@@ -16,7 +16,7 @@ use Rattle.mcf_instance.specs.declared.problem.Problem.TheVariants.{Min, Asn}
 use Rattle.mcf_instance.specs.declared.reader.line.Header.{Header}
 use Rattle.mcf_instance.specs.Assignment.{OnAssignment, IsAssignment, IsPairing}
 use Rattle.mcf_instance.specs.Blocking.{in_table}
-use Rattle.mcf_instance.specs.Limits.{limits, wide_limits, total_limit, node_limit, arc_limit}
+use Rattle.mcf_instance.specs.Limits.{limits, total_limit, node_limit, arc_limit}
 use Rattle.mcf_instance.specs.Network.{at_node}
 use Rattle.mcf_instance.specs.Packed.{unpacked}
 use Rattle.mcf_instance.specs.Private.ReaderState.{default_supply, problem_or_min}
@@ -184,18 +184,6 @@ sound_link o listed supplies arcs total a sound fits =
 
 -- ---- the instance at the end
 
-up_to_wide : (b c : ℕ) (z : ℤ) → b ≤ c → IsUpTo b z → IsUpTo c z
-up_to_wide b c z h u = (omega (arith, ints, u.0), omega (arith, ints, u.1))
-
-arc_wide : (a : Arc) → IsArcWithinLimits limits a → IsArcWithinLimits wide_limits a
-arc_wide a h =
-    record {
-      ordered = h.ordered;
-      low_small = up_to_wide limits.bound wide_limits.bound a.low (omega arith) h.low_small;
-      cap_small = up_to_wide limits.bound wide_limits.bound a.cap (omega arith) h.cap_small;
-      cost_small = up_to_wide limits.cost wide_limits.cost a.cost (omega arith) h.cost_small;
-    }
-
 side_supply_is : (b : Bool) → (side_supply b ≡ pos 1) ⊎ (side_supply b ≡ neg_ℤ (pos 1))
 side_supply_is true = inl refl
 side_supply_is false = inr refl
@@ -222,12 +210,5 @@ well_formed h listed supplies arcs total sound =
       arcs = few;
       ends = subst (λ n. All (HasEnds n) (map unpacked arcs)) (sym nodes) sound.ends;
       within = record { arcs = sound.arcs_within; supplies = sound.supplies_within; total = total_small };
-      within_wide = record {
-        arcs = All-weaker (IsArcWithinLimits limits) (IsArcWithinLimits wide_limits) arc_wide (map unpacked arcs) sound.arcs_within;
-        supplies = All-weaker (IsUpTo limits.supply) (IsUpTo wide_limits.supply) (λ z u. up_to_wide limits.supply wide_limits.supply z (omega arith) u)
-            supplies sound.supplies_within;
-        total = total_small;
-      };
-      total = total_small;
       assignment = assignment_at_end h.problem listed supplies arcs sound.assignment;
     }

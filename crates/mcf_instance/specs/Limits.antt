@@ -22,10 +22,6 @@ limits = record { supply = 10 ^ 18; bound = 10 ^ 18; cost = 10 ^ 15; total = Som
 abbrev pub former_limits : Limits
 former_limits = record { supply = 10 ^ 15; bound = 10 ^ 15; cost = 10 ^ 12; total = None }
 
--- limits that every later change of these keeps, on which all above the reader stands
-abbrev pub wide_limits : Limits
-wide_limits = record { supply = 10 ^ 18; bound = 10 ^ 18; cost = 10 ^ 15; total = Some total_limit }
-
 -- how many nodes there may be
 abbrev pub node_limit : ℕ
 node_limit = 1_000_000

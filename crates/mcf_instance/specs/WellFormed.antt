@@ -4,7 +4,7 @@ use Rattle.std.specs.Prelude.{ℕ, ◌*◌, ◌≤◌, max, map, length, sum, �
 use Rattle.std.specs.List.{All}
 use Rattle.mcf_instance.specs.declared.arc.Arc.{Arc}
 use Rattle.mcf_instance.specs.Assignment.{OnAssignment, IsAssignment}
-use Rattle.mcf_instance.specs.Limits.{Limits, wide_limits, total_limit, node_limit, arc_limit}
+use Rattle.mcf_instance.specs.Limits.{Limits, node_limit, arc_limit}
 use Rattle.mcf_instance.specs.Network.{Network, IsNode, node_count}
 
 -- z is at most so far from 0
@@ -39,13 +39,10 @@ pub record IsWithinLimits (allowed : Limits) (g : Network) : Type 0 where
   pub supplies : All (IsUpTo allowed.supply) g.supplies
   pub total : IsWithinTotal allowed.total (sum (map weight g.arcs))
 
--- what an instance keeps under the limits of its reader; the wide limits and the total are what the
--- layers above stand on
+-- what an instance keeps under the limits of its reader
 pub record IsWellFormed (allowed : Limits) (g : Network) : Type 0 where
   pub nodes : node_count g ≤ node_limit
   pub arcs : length g.arcs ≤ arc_limit
   pub ends : All (HasEnds (node_count g)) g.arcs
   pub within : IsWithinLimits allowed g
-  pub within_wide : IsWithinLimits wide_limits g
-  pub total : sum (map weight g.arcs) ≤ total_limit
   pub assignment : OnAssignment g.problem (IsAssignment g)

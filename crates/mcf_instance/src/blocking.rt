@@ -3,7 +3,7 @@ ghost use Rattle.std.specs.Prelude.{◌≡◌, ◌≤◌, ◌+ℤ◌, ◌↔◌,
 ghost use Rattle.std.specs.List.{All};
 ghost use Rattle.mcf_instance.specs.Blocking.{Blocks, cap_entering, cap_leaving, enters, in_list, in_table, leaves, low_entering, low_leaving, supply_in};
 ghost use Rattle.mcf_instance.specs.Flow.{IsFeasible};
-ghost use Rattle.mcf_instance.specs.Limits.{arc_limit, limits, node_limit, wide_limits};
+ghost use Rattle.mcf_instance.specs.Limits.{arc_limit, limits, node_limit};
 ghost use Rattle.mcf_instance.specs.Network.{IsNode, node_count, when};
 ghost use Rattle.mcf_instance.specs.Packed.{unpacked};
 ghost use Rattle.mcf_instance.specs.WellFormed.{HasEnds, IsArcWithinLimits, IsUpTo, IsWellFormed};
@@ -45,7 +45,7 @@ pub fn table_of(alloc: Global, nodes: u32, members: &[NodeId]) -> Result<Vec<boo
 /// The total, with the amount added where it counts.
 fn add_when(total: i128, counts: bool, amount: i64) -> i128
     requires total { IsUpTo sum_limit total }
-    requires amount { IsUpTo wide_limits.bound amount }
+    requires amount { IsUpTo limits.bound amount }
     ensures { result ≡ total +ℤ when counts amount }
 {
     if counts {
@@ -74,7 +74,7 @@ fn leaves_set(arc: &PackedArc, table: &[bool]) -> bool
 /// The sum of the supplies in the set.
 fn supply_within(supplies: &[i64], table: &[bool]) -> i128
     requires count { length supplies.now ≤ node_limit }
-    requires small { All (IsUpTo wide_limits.supply) supplies.now }
+    requires small { All (IsUpTo limits.supply) supplies.now }
     requires one_per_node { length table.now ≡ length supplies.now }
     ensures sum { result ≡ supply_in supplies.now (in_table table.now) }
     ensures small { IsUpTo sum_limit result }
@@ -89,7 +89,7 @@ fn supply_within(supplies: &[i64], table: &[bool]) -> i128
 /// The sums over the arcs that cross the border of the set.
 fn border_of(arcs: &ArcTable, table: &[bool]) -> Border
     requires count { length arcs.now ≤ arc_limit }
-    requires small { All (IsArcWithinLimits wide_limits) (map unpacked arcs.now) }
+    requires small { All (IsArcWithinLimits limits) (map unpacked arcs.now) }
     requires ends { All (HasEnds (length table.now)) (map unpacked arcs.now) }
     ensures low_in { result.low_in ≡ low_entering (map unpacked arcs.now) (in_table table.now) }
     ensures cap_in { result.cap_in ≡ cap_entering (map unpacked arcs.now) (in_table table.now) }

@@ -16,7 +16,7 @@ use Rattle.mcf_instance.specs.declared.problem.Problem.{Problem}
 use Rattle.mcf_instance.specs.declared.problem.Problem.TheVariants.{Min, Asn}
 use Rattle.mcf_instance.specs.Assignment.{IsAssignment, IsPairing, OnAssignment}
 use Rattle.mcf_instance.specs.Flow.{IsWithinBounds, net}
-use Rattle.mcf_instance.specs.Limits.{limits, total_limit, wide_limits}
+use Rattle.mcf_instance.specs.Limits.{limits, total_limit}
 use Rattle.mcf_instance.specs.Network.{Network, IsNode, at_node, flow_sum, node_count, when}
 use Rattle.mcf_instance.specs.WellFormed.{HasEnds, IsArcWithinLimits, IsUpTo, IsWellFormed, weight}
 use Rattle.mcf_instance.proofs.Bounds.{sum-weights-le, width_weight}
@@ -40,7 +40,7 @@ width_loop a e = rw (eq-eqb a.src a.dst e) refl
 pub width_plain : (a : Arc) → a.src ≢ a.dst → width_of a ≡ a.cap -ℤ a.low
 width_plain a n = rw (ne_eqb a.src a.dst n) refl
 
-pub net_arc_ok : (a : Arc) → IsArcWithinLimits wide_limits a → IsNetArc (without_low a)
+pub net_arc_ok : (a : Arc) → IsArcWithinLimits limits a → IsNetArc (without_low a)
 net_arc_ok a h =
     elim (cases_eq a.src a.dst) [
       | inl e ↦
@@ -78,11 +78,11 @@ net_weight a =
 
 -- ---- the supplies that are left
 
-pub lows_within : (arcs : List Arc) → All (IsArcWithinLimits wide_limits) arcs → IsWithinBounds arcs (lows arcs)
+pub lows_within : (arcs : List Arc) → All (IsArcWithinLimits limits) arcs → IsWithinBounds arcs (lows arcs)
 lows_within [] h = tt
 lows_within (a ∷ arcs) h =
-    let ordered = (All-head (IsArcWithinLimits wide_limits) a arcs h).ordered in
-    ((omega (arith, ints), ordered), lows_within arcs (All-tail (IsArcWithinLimits wide_limits) a arcs h))
+    let ordered = (All-head (IsArcWithinLimits limits) a arcs h).ordered in
+    ((omega (arith, ints), ordered), lows_within arcs (All-tail (IsArcWithinLimits limits) a arcs h))
 
 -- what the lows of the first arcs leave of a supply
 abbrev pub left_after : Network → ℕ → ℕ → ℤ
@@ -90,8 +90,8 @@ left_after g i v = at_node g.supplies v -ℤ net (take i g.arcs) (lows g.arcs) v
 
 pub left_small : (g : Network) (i v : ℕ) → IsWellFormed limits g → IsNode (node_count g) v → i ≤ length g.arcs → IsUpTo supply_limit (left_after g i v)
 left_small g i v ok hv h =
-    let lows = net_up_to g.arcs (lows g.arcs) i v ok.within_wide.arcs ok.arcs (lows_within g.arcs ok.within_wide.arcs) h in
-    let supply : IsUpTo (10 ^ 18) (at_node g.supplies v) = ok.within_wide.supplies (v - 1) (pos 0) (omega arith) in
+    let lows = net_up_to g.arcs (lows g.arcs) i v ok.within.arcs ok.arcs (lows_within g.arcs ok.within.arcs) h in
+    let supply : IsUpTo (10 ^ 18) (at_node g.supplies v) = ok.within.supplies (v - 1) (pos 0) (omega arith) in
     omega (arith, ints, lows, supply)
 
 pub left_all : (g : Network) (v : ℕ) → left_after g (length g.arcs) v ≡ supply_left g v
@@ -198,9 +198,9 @@ net_of_ok g ok =
       arcs = omega (arith, m, ok.arcs);
       ends = rw n (All-map (HasEnds (node_count g)) without_low g.arcs (λ k d l. let e = ok.ends k d l in
           record { src_is_node = e.src_is_node; dst_is_node = e.dst_is_node }));
-      each_arc = All-map IsNetArc without_low g.arcs (λ k d l. net_arc_ok (get_or g.arcs k d) (ok.within_wide.arcs k d l));
+      each_arc = All-map IsNetArc without_low g.arcs (λ k d l. net_arc_ok (get_or g.arcs k d) (ok.within.arcs k d l));
       supplies = net_supplies_small g ok;
-      total = net_total g ok.total;
+      total = net_total g ok.within.total;
       assignment = on_assignment_kept g.problem g ok.assignment;
     }
 
@@ -244,7 +244,7 @@ left_entry_small g i v left ok old h hv =
 pub record IsArcOf (g : Network) (i : ℕ) (a : Arc) : Type 0 where
   pub is : get_or g.arcs i no_arc ≡ a
   pub ends : HasEnds (node_count g) a
-  pub within : IsArcWithinLimits wide_limits a
+  pub within : IsArcWithinLimits limits a
 
 pub arc_of : (g : Network) (i : ℕ) (a : Arc) → IsWellFormed limits g → i < length g.arcs → slice_get g.arcs (i + 1 - 1) ≡ Some a → IsArcOf g i a
 arc_of g i a ok h is =
@@ -253,7 +253,7 @@ arc_of g i a ok h is =
     record {
       is = e;
       ends = subst (HasEnds (node_count g)) e (ok.ends i no_arc h);
-      within = subst (IsArcWithinLimits wide_limits) e (ok.within_wide.arcs i no_arc h);
+      within = subst (IsArcWithinLimits limits) e (ok.within.arcs i no_arc h);
     }
 
 pub stored_is : (a : Arc) (src dst : ℕ) (width cost : ℤ) → src ≡ a.src → dst ≡ a.dst → width ≡ width_of a → cost ≡ a.cost

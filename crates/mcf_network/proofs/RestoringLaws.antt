@@ -356,7 +356,7 @@ restored_at g amounts ordered feasible =
 pub restored_all : (g : Network) (s : Pseudoflow) → IsWellFormed limits g → s.net ≡ net_of g → IsPseudoflow s → HasNoSurplus s → IsRestored g s
 restored_all g s ok of_net flow none =
     let feasible = subst (λ n. IsFeasible n s.amounts) of_net (feasible_of_state s flow none) in
-    let ordered : All Ordered g.arcs = λ k d l. (ok.within_wide.arcs k d l).ordered in
+    let ordered : All Ordered g.arcs = λ k d l. (ok.within.arcs k d l).ordered in
     subst (λ n. IsRestored g (record { net = n; amounts = s.amounts })) (sym of_net) (restored_at g s.amounts ordered feasible)
 
 pub length-restored : (arcs : List Arc) (amounts : List ℤ) → length arcs ≡ length amounts → length (restored arcs amounts) ≡ length arcs

@@ -4,7 +4,7 @@ use Rattle.std.specs.Prelude.{◌≡◌, ℕ, ◌*◌, ◌^◌, ◌≤◌, map, 
 use Rattle.std.specs.List.{All}
 use Rattle.mcf_instance.specs.declared.arc.Arc.{Arc}
 use Rattle.mcf_instance.specs.Assignment.{OnAssignment, IsAssignment}
-use Rattle.mcf_instance.specs.Limits.{wide_limits, node_limit, arc_limit}
+use Rattle.mcf_instance.specs.Limits.{limits, node_limit, arc_limit}
 use Rattle.mcf_instance.specs.Network.{Network, node_count}
 use Rattle.mcf_instance.specs.WellFormed.{IsUpTo, HasEnds, weight}
 
@@ -25,7 +25,7 @@ pub record IsNetArc (a : Arc) : Type 0 where
   pub no_low : a.low ≡ pos 0
   pub width_low : pos 0 ≤ℤ a.cap
   pub width_high : a.cap ≤ℤ pos width_limit
-  pub cost_small : IsUpTo wide_limits.cost a.cost
+  pub cost_small : IsUpTo limits.cost a.cost
   pub no_loop_width : a.src ≡ a.dst → a.cap ≡ pos 0
 
 -- what a net keeps: counts, ends, such arcs, supplies and the total within limits, an assignment as before

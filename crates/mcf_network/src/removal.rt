@@ -1,7 +1,7 @@
 //! Lower bounds taken away.
 ghost use Rattle.std.specs.Prelude.{◌≡◌, ◌≤◌, IfOk, OnErr, OnOk, length, map};
 ghost use Rattle.std.specs.List.{range_with_len};
-ghost use Rattle.mcf_instance.specs.Limits.{wide_limits};
+ghost use Rattle.mcf_instance.specs.Limits.{limits};
 ghost use Rattle.mcf_instance.specs.Network.{node_count};
 ghost use Rattle.mcf_instance.specs.WellFormed.{IsArcWithinLimits};
 ghost use Rattle.mcf_network.specs.Nets.{IsNet};
@@ -73,7 +73,7 @@ fn arcs_without_lows(
 
 // The arc with its low taken away, and its width.
 fn without_low(a: Arc) -> (Link, i64)
-    requires { IsArcWithinLimits wide_limits a }
+    requires { IsArcWithinLimits limits a }
     ensures { stored_arc result.0 result.1 ≡ without_low a }
 {
     let src = a.src.get();

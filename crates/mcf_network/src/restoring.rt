@@ -1,7 +1,7 @@
 //! Lower bounds put back.
 ghost use Rattle.std.specs.Prelude.{◌≡◌, ◌+ℤ◌, ◌≤◌, ◌≤ℤ◌, ◌↔◌, ◌-◌, ℤ, List, IfOk, OnErr, Some, length, pos, slice_get};
 ghost use Rattle.mcf_instance.specs.Flow.{IsFeasible, Shows, cost};
-ghost use Rattle.mcf_instance.specs.Limits.{wide_limits};
+ghost use Rattle.mcf_instance.specs.Limits.{limits};
 ghost use Rattle.mcf_instance.specs.Network.{IsArcNumber};
 ghost use Rattle.mcf_instance.specs.WellFormed.{IsArcWithinLimits};
 ghost use Rattle.mcf_network.specs.Nets.{width_limit};
@@ -54,7 +54,7 @@ pub fn restored_amount(instance: &Instance, state: &State<'_>, k: ArcId) -> i128
 
 // What an arc carries where the arc of the net carries an amount.
 fn restored_flow(a: Arc, amount: i128) -> i128
-    requires arc { IsArcWithinLimits wide_limits a }
+    requires arc { IsArcWithinLimits limits a }
     requires low { pos 0 ≤ℤ amount }
     requires high { amount ≤ℤ pos width_limit }
     ensures { result ≡ restored_flow a amount }

@@ -44,7 +44,7 @@ module _ (g : Network) (amounts : List ℤ) (i : ℕ) (ok : IsWellFormed limits 
       → IsStatedUpTo g (restored g.arcs amounts) i total moved → IsStatedUpTo g (restored g.arcs amounts) (i + 1) total moved
   idle_more total moved bounds so_far =
       let flow = restored g.arcs amounts in
-      let step = (cost_step g.arcs flow i no_arc (pos 0) ok.within_wide.arcs ok.total bounds h).next in
+      let step = (cost_step g.arcs flow i no_arc (pos 0) ok.within.arcs ok.within.total bounds h).next in
       let none = ap (λ (z : ℤ). arc.cost *ℤ z) carries in
       let same = so_far.cost_is in
       let within : i < length flow = omega (arith, h, length-restored g.arcs amounts count) in

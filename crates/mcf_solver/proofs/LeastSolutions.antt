@@ -51,7 +51,7 @@ module _ (g : Network) (s : Pseudoflow) (total : ℤ) (prices flow : List ℤ) (
 
   pub is_right_and_least : RestoredLeastFlowsAreLeast → GreatestPricesCarryOver → IsWellFormed limits g → IsRightAndLeast g total prices flow
   is_right_and_least stays_least carry_over ok =
-      let least = stays_least g s.amounts (λ k d l. (ok.within_wide.arcs k d l).ordered) state.least in
+      let least = stays_least g s.amounts (λ k d l. (ok.within.arcs k d l).ordered) state.least in
       let great = prices_of carry_over in
       record {
         right = record {

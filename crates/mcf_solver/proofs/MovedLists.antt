@@ -128,7 +128,7 @@ amounts_small : (g : Network) (flow : List ℤ) → IsWellFormed limits g → Is
 amounts_small g flow ok bounds k d h =
     let none : Arc = record { src = 0; dst = 0; low = pos 0; cap = pos 0; cost = pos 0 } in
     let inside : k < length g.arcs = omega (arith, h, length-AllZip CanCarry g.arcs flow bounds) in
-    let placed = AllZip-at IsPlaced g.arcs flow k none d (each_placed g.arcs flow ok.within_wide.arcs bounds) inside in
+    let placed = AllZip-at IsPlaced g.arcs flow k none d (each_placed g.arcs flow ok.within.arcs bounds) inside in
     let small = flow_up_to (get_or g.arcs k none) (get_or flow k d) placed in
     (omega (arith, ints, small), omega (arith, ints, small))
 

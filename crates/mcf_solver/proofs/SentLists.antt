@@ -38,7 +38,7 @@ lines_of g flow i total sent so_far = record { ends = so_far.ends; carried = so_
 pub carried_small : (g : Network) (flow : List ℤ) (i : ℕ) (total : ℤ) → IsWellFormed limits g → IsWithinBounds g.arcs flow → total ≡ cost (take i g.arcs) flow
     → IsAmount total
 carried_small g flow i total ok bounds is =
-    let small : IsUpTo total_limit (cost (take i g.arcs) flow) = cost_part_up_to g.arcs flow i total_limit ok.total bounds in
+    let small : IsUpTo total_limit (cost (take i g.arcs) flow) = cost_part_up_to g.arcs flow i total_limit ok.within.total bounds in
     omega (arith, ints, small, is)
 
 -- what is read of a list that grows by one, where it is the beginning of another
@@ -66,11 +66,11 @@ module _ (g : Network) (flow : List ℤ) (i k : ℕ) (a : Arc) (ok : IsWellForme
   -- what a loop that adds up the cost needs
   pub cost_at : CostStep g.arcs flow i a (get_or flow i (pos 0))
   cost_at =
-      subst (λ (b : Arc). CostStep g.arcs flow i b (get_or flow i (pos 0))) arc_is (cost_step g.arcs flow i a (pos 0) ok.within_wide.arcs ok.total bounds h)
+      subst (λ (b : Arc). CostStep g.arcs flow i b (get_or flow i (pos 0))) arc_is (cost_step g.arcs flow i a (pos 0) ok.within.arcs ok.within.total bounds h)
 
   flow_small : IsAmount (get_or flow i (pos 0))
   flow_small =
-      let placed = AllZip-at IsPlaced g.arcs flow i a (pos 0) (each_placed g.arcs flow ok.within_wide.arcs bounds) h in
+      let placed = AllZip-at IsPlaced g.arcs flow i a (pos 0) (each_placed g.arcs flow ok.within.arcs bounds) h in
       let small : IsUpTo (10 ^ 18) (get_or flow i (pos 0)) = flow_up_to (get_or g.arcs i a) (get_or flow i (pos 0)) placed in
       omega (arith, ints, small)
 

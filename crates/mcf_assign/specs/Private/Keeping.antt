@@ -1,7 +1,7 @@
 -- What a matching keeps between searches, and what a search that is over has shown.
 use Rattle.std.specs.Prelude.{◌≡◌, ℕ, ◌<◌, ◌≤◌, ◌^◌, Bool, List, [], length, ℤ, pos, neg_ℤ, ◌<ℤ◌, ◌≤ℤ◌, vec_capacity}
 use Rattle.std.specs.List.{All, Contains}
-use Rattle.mcf_instance.specs.Limits.{wide_limits}
+use Rattle.mcf_instance.specs.Limits.{limits}
 use Rattle.mcf_instance.specs.Network.{Network, IsNode, at_node, node_count}
 use Rattle.mcf_instance.specs.WellFormed.{IsUpTo}
 use Rattle.mcf_network.specs.States.{Pseudoflow}
@@ -33,7 +33,7 @@ AreNearZero s y = (v : ℕ) → IsNode (node_count s.net) v → IsUpTo reach_lim
 
 -- the price with which each row begins: so far below 0 that no arc has a negative reduced cost
 abbrev pub first_price : ℤ
-first_price = neg_ℤ (pos wide_limits.cost)
+first_price = neg_ℤ (pos limits.cost)
 
 -- the first prices of so many nodes: those of rows, and 0 for the others
 pub record AreFirstPrices (g : Network) (y : List ℤ) (nodes : ℕ) : Type 0 where

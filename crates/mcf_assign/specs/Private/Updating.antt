@@ -2,7 +2,7 @@
 use Rattle.std.specs.Prelude.{◌≡◌, ℕ, ◌-◌, ◌^◌, ◌<◌, ◌≤◌, ◌⊎◌, List, ◌++◌, map, length, slice_range, slice_index_or, ℤ, pos, ◌≤ℤ◌, ◌<ℤ◌, ◌+ℤ◌, ◌-ℤ◌}
 use Rattle.std.specs.List.{All, Contains}
 use Rattle.mcf_instance.specs.Flow.{reduced_cost}
-use Rattle.mcf_instance.specs.Limits.{wide_limits}
+use Rattle.mcf_instance.specs.Limits.{limits}
 use Rattle.mcf_instance.specs.Network.{Network, IsArcNumber, IsNode, at_node, node_count}
 use Rattle.mcf_instance.specs.WellFormed.{IsUpTo}
 use Rattle.mcf_network.specs.Residual.{arc_at}
@@ -23,7 +23,7 @@ entry_of g k = record { row = (arc_at g k).src; cost = (arc_at g k).cost }
 -- the row is a node, and the cost is small
 pub record IsColumnArc (g : Network) (a : ColumnArc) : Type 0 where
   pub tail : IsNode (node_count g) a.row
-  pub small : IsUpTo wide_limits.cost a.cost
+  pub small : IsUpTo limits.cost a.cost
 
 -- each arc that enters the node is in the list
 pub record IsEntering (g : Network) (v : ℕ) (list : List ColumnArc) : Type 0 where

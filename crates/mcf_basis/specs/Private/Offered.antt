@@ -1,6 +1,6 @@
 -- The least of some offers, by the prices of their ends: places of offers count from 0.
 use Rattle.std.specs.Prelude.{ℕ, ◌<◌, ◌≤◌, List, length, ℤ, pos, ◌+ℤ◌, ◌-ℤ◌, ◌<ℤ◌, ◌≤ℤ◌, Option, Some, None, slice_index_or}
-use Rattle.mcf_instance.specs.Limits.{wide_limits}
+use Rattle.mcf_instance.specs.Limits.{limits}
 use Rattle.mcf_instance.specs.WellFormed.{IsUpTo}
 use Rattle.mcf_basis.specs.declared.offer.Offer.{Offer}
 use Rattle.mcf_basis.specs.Private.Layouts.{no_offer}
@@ -17,7 +17,7 @@ reduced_of prices offers i = reduced_by prices (slice_index_or offers i no_offer
 pub record HasPricedEnds (nodes : ℕ) (o : Offer) : Type 0 where
   pub from : o.from < nodes
   pub to : o.to < nodes
-  pub cost : IsUpTo wide_limits.cost o.cost
+  pub cost : IsUpTo limits.cost o.cost
 
 -- the offers from place begin up to but not including end can be compared, by prices that lie no further from 0 than limit
 pub record CanCompare (prices : List ℤ) (limit : ℕ) (offers : List Offer) (begin end : ℕ) : Type 0 where

@@ -3,7 +3,7 @@ use Rattle.std.specs.Prelude.{◌≡◌, ℕ, ◌<◌, ◌≤◌, ◌-◌, ◌^�
 use Rattle.std.specs.Prelude.{slice_set}
 use Rattle.std.specs.Bool.{MatchBool}
 use Rattle.mcf_instance.specs.Flow.{AreLowPrices, AreNotAboveZero}
-use Rattle.mcf_instance.specs.Limits.{wide_limits}
+use Rattle.mcf_instance.specs.Limits.{limits}
 use Rattle.mcf_instance.specs.Network.{IsNode, at_node, node_count}
 use Rattle.mcf_network.specs.declared.rid.Rid.{Rid}
 use Rattle.mcf_network.specs.Residual.{tail, head, unit_cost}
@@ -17,7 +17,7 @@ pub record Labels : Type 0 where
 
 -- the greatest size of the cost of an arc
 abbrev pub cost_limit : ℕ
-cost_limit = wide_limits.cost
+cost_limit = limits.cost
 
 -- how far below 0 a price lies at most where a round begins, where a node relaxes in it, and where one arc does
 abbrev pub round_depth : ℕ

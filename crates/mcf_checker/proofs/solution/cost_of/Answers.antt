@@ -23,7 +23,7 @@ overflow_mul-total c =
     let carried = flow_read arcs c.args.stated c.loop-place.place c.arc_at-arc.result c.flow_at-flow.result c.arc_at-arc.ensures.value
     c.flow_at-flow.ensures.flow in
     let w = c.arc_at-arc.ensures.well_formed in
-    let s = cost_at arcs flow c.loop-place.place c.arc_at-arc.result c.flow_at-flow.result c.arc_at-arc.ensures.value carried w.within_wide.arcs w.total
+    let s = cost_at arcs flow c.loop-place.place c.arc_at-arc.result c.flow_at-flow.result c.arc_at-arc.ensures.value carried w.within.arcs w.within.total
     c.requires.bounds in
     rw (s.cost_read, s.flow_read) (omega (arith, ints, s.term_small))
 
@@ -34,7 +34,7 @@ overflow_add-total c =
     let carried = flow_read arcs c.args.stated c.loop-place.place c.arc_at-arc.result c.flow_at-flow.result c.arc_at-arc.ensures.value
     c.flow_at-flow.ensures.flow in
     let w = c.arc_at-arc.ensures.well_formed in
-    let s = cost_at arcs flow c.loop-place.place c.arc_at-arc.result c.flow_at-flow.result c.arc_at-arc.ensures.value carried w.within_wide.arcs w.total
+    let s = cost_at arcs flow c.loop-place.place c.arc_at-arc.result c.flow_at-flow.result c.arc_at-arc.ensures.value carried w.within.arcs w.within.total
     c.requires.bounds in
     rw (s.cost_read, s.flow_read) (omega (arith, ints, s.term_small, s.before_small, c.loop-place.invariant.0))
 
@@ -45,7 +45,7 @@ loop-place-preserved c =
     let carried = flow_read arcs c.args.stated c.loop-place.place c.arc_at-arc.result c.flow_at-flow.result c.arc_at-arc.ensures.value
     c.flow_at-flow.ensures.flow in
     let w = c.arc_at-arc.ensures.well_formed in
-    let s = cost_at arcs flow c.loop-place.place c.arc_at-arc.result c.flow_at-flow.result c.arc_at-arc.ensures.value carried w.within_wide.arcs w.total
+    let s = cost_at arcs flow c.loop-place.place c.arc_at-arc.result c.flow_at-flow.result c.arc_at-arc.ensures.value carried w.within.arcs w.within.total
     c.requires.bounds in
     (simp (s.cost_read, s.flow_read) (omega (arith, ints, s.term_small, s.before_small, s.next, c.loop-place.invariant.0)), c.flow_at-flow.ensures.next)
 

@@ -4,7 +4,7 @@ use Rattle.std.specs.Prelude.{FitsSigned}
 use Rattle.std.proofs.lemmas.Int.{to_z-of_z}
 use Rattle.std.proofs.lemmas.Option.{slice_get_within}
 use Rattle.mcf_checker.specs.Private.StatedFlows.{flow_stated}
-use Rattle.mcf_instance.specs.Limits.{wide_limits}
+use Rattle.mcf_instance.specs.Limits.{limits}
 use Rattle.mcf_instance.specs.WellFormed.{HasEnds, IsArcWithinLimits}
 use Rattle.mcf_checker.proofs.BadPrices.{looseness_read, bad_price-some, bad_price-none}
 use Rattle.mcf_checker.proofs.FlowLines.{arc_has}
@@ -26,8 +26,8 @@ is_loose-requires-clause-ends c =
 
 pub is_loose-requires-clause-limits : goal.is_loose-requires-clause-limits
 is_loose-requires-clause-limits c =
-    arc_has (IsArcWithinLimits wide_limits) c.args.instance.now.arcs c.loop-place.place c.arc_at-arc.result c.arc_at-arc.ensures.value
-    c.arc_at-arc.ensures.well_formed.within_wide.arcs
+    arc_has (IsArcWithinLimits limits) c.args.instance.now.arcs c.loop-place.place c.arc_at-arc.result c.arc_at-arc.ensures.value
+    c.arc_at-arc.ensures.well_formed.within.arcs
 
 pub loop-place-preserved : goal.loop-place-preserved
 loop-place-preserved c =

@@ -44,7 +44,7 @@ overflow_add-index_mut c =
     let w = c.arc_at-arc.ensures.well_formed in
     let s = net_at arcs flow c.loop-place.place c.arc_at-arc.result c.flow_at-flow.result c.arc_at-arc.ensures.value carried
     (node_count c.args.instance.now) c.loop-place.nets.items c.place.result (c.arc_at-arc.result.dst - 1) c.place.ensures refl w.ends
-    w.within_wide.arcs w.arcs c.requires.bounds c.loop-place.invariant.0 c.index_mut.result.now c.index_mut.ensures.value in
+    w.within.arcs w.arcs c.requires.bounds c.loop-place.invariant.0 c.index_mut.result.now c.index_mut.ensures.value in
     rw (s.flow_read, s.entry_read) (omega (arith, ints, s.flow_small, s.entry_small))
 
 pub place-requires-in-loop-place : goal.place-requires-in-loop-place
@@ -68,11 +68,11 @@ overflow_sub-index_mut c =
     let w = c.arc_at-arc.ensures.well_formed in
     let s = net_at arcs flow c.loop-place.place c.arc_at-arc.result c.flow_at-flow.result c.arc_at-arc.ensures.value carried
     (node_count c.args.instance.now) c.loop-place.nets.items c.place.result (c.arc_at-arc.result.dst - 1) c.place.ensures refl w.ends
-    w.within_wide.arcs w.arcs c.requires.bounds c.loop-place.invariant.0 c.index_mut.result.now c.index_mut.ensures.value in
+    w.within.arcs w.arcs c.requires.bounds c.loop-place.invariant.0 c.index_mut.result.now c.index_mut.ensures.value in
     let written = simp (s.flow_read, s.entry_read, s.sum_read) at c.index_mut-in-loop-place.ensures.value in
     let t = net_at_second arcs flow c.loop-place.place c.arc_at-arc.result c.flow_at-flow.result c.arc_at-arc.ensures.value carried
     (node_count c.args.instance.now) c.loop-place.nets.items c.place.result c.place-in-loop-place.result c.place.ensures c.place-in-loop-place.ensures w.ends
-    w.within_wide.arcs w.arcs c.requires.bounds c.loop-place.invariant.0 c.index_mut.result.now c.index_mut-in-loop-place.result.now
+    w.within.arcs w.arcs c.requires.bounds c.loop-place.invariant.0 c.index_mut.result.now c.index_mut-in-loop-place.result.now
     c.index_mut.ensures.value written in
     rw (s.flow_read, t.entry_read) (omega (arith, ints, s.flow_small, t.entry_small))
 
@@ -85,11 +85,11 @@ loop-place-preserved c =
     let w = c.arc_at-arc.ensures.well_formed in
     let s = net_at arcs flow c.loop-place.place c.arc_at-arc.result c.flow_at-flow.result c.arc_at-arc.ensures.value carried
     (node_count c.args.instance.now) c.loop-place.nets.items c.place.result (c.arc_at-arc.result.dst - 1) c.place.ensures refl w.ends
-    w.within_wide.arcs w.arcs c.requires.bounds c.loop-place.invariant.0 c.index_mut.result.now c.index_mut.ensures.value in
+    w.within.arcs w.arcs c.requires.bounds c.loop-place.invariant.0 c.index_mut.result.now c.index_mut.ensures.value in
     let written = simp (s.flow_read, s.entry_read, s.sum_read) at c.index_mut-in-loop-place.ensures.value in
     let t = net_at_second arcs flow c.loop-place.place c.arc_at-arc.result c.flow_at-flow.result c.arc_at-arc.ensures.value carried
     (node_count c.args.instance.now) c.loop-place.nets.items c.place.result c.place-in-loop-place.result c.place.ensures c.place-in-loop-place.ensures w.ends
-    w.within_wide.arcs w.arcs c.requires.bounds c.loop-place.invariant.0 c.index_mut.result.now c.index_mut-in-loop-place.result.now
+    w.within.arcs w.arcs c.requires.bounds c.loop-place.invariant.0 c.index_mut.result.now c.index_mut-in-loop-place.result.now
     c.index_mut.ensures.value written in
     (simp (s.flow_read, s.entry_read, s.sum_read, t.entry_read, t.difference_read) t.next, c.flow_at-flow.ensures.next)
 

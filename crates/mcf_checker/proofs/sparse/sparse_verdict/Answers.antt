@@ -21,7 +21,7 @@ returns-in-Some-clause-value c =
 pub flow_verdict-requires-clause-bounds : goal.flow_verdict-requires-clause-bounds
 flow_verdict-requires-clause-bounds c =
     let ok = c.first_bad_moved.ensures.well_formed in
-    within_bounds_of c.args.instance.now c.as_slice-moved.result.now (λ k d h. (ok.within_wide.arcs k d h).ordered)
+    within_bounds_of c.args.instance.now c.as_slice-moved.result.now (λ k d h. (ok.within.arcs k d h).ordered)
     (sym c.first_bad_moved.ensures.least ∙ c.in_default.is)
 
 pub returns-clause-value : goal.returns-clause-value

@@ -5,7 +5,7 @@ use Rattle.std.proofs.lemmas.Int.{to_z-of_z}
 use Rattle.std.proofs.lemmas.List.{length-map, take_all}
 use Rattle.mcf_instance.specs.Blocking.{in_table, leaves, enters}
 use Rattle.mcf_instance.specs.declared.arc.Arc.{Arc}
-use Rattle.mcf_instance.specs.Limits.{wide_limits}
+use Rattle.mcf_instance.specs.Limits.{limits}
 use Rattle.mcf_instance.specs.Network.{arc_sum}
 use Rattle.mcf_instance.specs.Packed.{unpacked}
 use Rattle.mcf_instance.specs.WellFormed.{HasEnds, IsArcWithinLimits}
@@ -42,25 +42,25 @@ add_when-cap_out-requires-clause-total c =
 
 pub add_when-low_in-requires-clause-amount : goal.add_when-low_in-requires-clause-amount
 add_when-low_in-requires-clause-amount c =
-    let a = packed_at (IsArcWithinLimits wide_limits) c.args.arcs.now c.loop-place.place c.get-arc.result c.requires.small c.get-arc.ensures in
+    let a = packed_at (IsArcWithinLimits limits) c.args.arcs.now c.loop-place.place c.get-arc.result c.requires.small c.get-arc.ensures in
     let low_fits : FitsSigned w64 c.get-arc.result.low = search rules in
     simp to_z-of_z a.low_small
 
 pub add_when-cap_in-requires-clause-amount : goal.add_when-cap_in-requires-clause-amount
 add_when-cap_in-requires-clause-amount c =
-    let a = packed_at (IsArcWithinLimits wide_limits) c.args.arcs.now c.loop-place.place c.get-arc.result c.requires.small c.get-arc.ensures in
+    let a = packed_at (IsArcWithinLimits limits) c.args.arcs.now c.loop-place.place c.get-arc.result c.requires.small c.get-arc.ensures in
     let cap_fits : FitsSigned w64 c.get-arc.result.cap = search rules in
     simp to_z-of_z a.cap_small
 
 pub add_when-low_out-requires-clause-amount : goal.add_when-low_out-requires-clause-amount
 add_when-low_out-requires-clause-amount c =
-    let a = packed_at (IsArcWithinLimits wide_limits) c.args.arcs.now c.loop-place.place c.get-arc.result c.requires.small c.get-arc.ensures in
+    let a = packed_at (IsArcWithinLimits limits) c.args.arcs.now c.loop-place.place c.get-arc.result c.requires.small c.get-arc.ensures in
     let low_fits : FitsSigned w64 c.get-arc.result.low = search rules in
     simp to_z-of_z a.low_small
 
 pub add_when-cap_out-requires-clause-amount : goal.add_when-cap_out-requires-clause-amount
 add_when-cap_out-requires-clause-amount c =
-    let a = packed_at (IsArcWithinLimits wide_limits) c.args.arcs.now c.loop-place.place c.get-arc.result c.requires.small c.get-arc.ensures in
+    let a = packed_at (IsArcWithinLimits limits) c.args.arcs.now c.loop-place.place c.get-arc.result c.requires.small c.get-arc.ensures in
     let cap_fits : FitsSigned w64 c.get-arc.result.cap = search rules in
     simp to_z-of_z a.cap_small
 
