@@ -53,6 +53,6 @@ parsing text = parsing_of (misfit text) (answer_of_lines (token_lines text))
 abbrev pub says_item : List Token → Bool
 says_item line = is_some (sent_said line) || (is_some (moved_said line) || (is_some (price_said line) || is_some (member_said line)))
 
--- a kept line of the text does
+-- a kept line of the text says what stands in a list
 abbrev pub has_item_line : List ℕ → Bool
 has_item_line text = list_any says_item (token_lines text)

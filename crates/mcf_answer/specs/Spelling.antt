@@ -61,11 +61,11 @@ refusal_line r = Word (codes "r") ∷ Number (pos r.line) ∷ Word (code_word r.
 abbrev pub solution_lines : Solution → List (List Token)
 solution_lines a = cost_line a.cost ∷ map flow_line a.sent ++ map price_line (enumerate_from 1 a.prices)
 
--- those of a sparse flow answer
+-- the lines of a sparse flow answer
 abbrev pub sparse_lines : SparseSolution → List (List Token)
 sparse_lines a = version_line ∷ cost_line a.cost ∷ map moved_line a.moved ++ map price_line (enumerate_from 1 a.prices)
 
--- those of a set that blocks
+-- the lines of a set that blocks
 abbrev pub set_lines : BlockingSet → List (List Token)
 set_lines a = set_line a.side (length a.nodes) ∷ map member_line a.nodes
 

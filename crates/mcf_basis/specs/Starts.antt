@@ -21,7 +21,7 @@ start_price g v = if is_sender g v then pos (artificial_cost g) else neg_ℤ (po
 abbrev pub start_prices : Network → List ℤ
 start_prices g = pos 0 ∷ map (start_price g) (range_with_len 1 (node_count g))
 
--- the star of artificial arcs, with these amounts and prices, and no price written
+-- the star of artificial arcs, with the amounts and prices of the start, and no price written
 pub record IsStart (g : Network) (b : TreeStructure) : Type 0 where
   pub of_net : b.net ≡ g
   pub star : IsStar b.tree (node_count g) (length g.arcs)

@@ -42,7 +42,7 @@ pub record AsksForFiles {F V E : Type 0} (calls : Mut F (Bor (List ℕ) × Unit 
   pub called : CalledAt calls read (slice_index_or words 1 []) given between
   pub outcome : MatchResult given (λ input. AsksForAnswer calls between words of_answer (of_both input)) of_input
 
--- the same, where one fact holds of each file that can't be read
+-- the files are asked for in this order, and one fact holds where one of them can't be read
 abbrev pub ReadsFiles : {F V E : Type 0} → Mut F (Bor (List ℕ) × Unit {0}) (Result V E) → F → List (List ℕ) → Type 0 → Type 0
 ReadsFiles calls read words unread = AsksForFiles calls read words (λ _. unread) (λ _. unread) (λ _ _. ⊤)
 

@@ -14,7 +14,7 @@ pub record IsPairing (supplies : List ℤ) (a : Arc) : Type 0 where
   pub low_is : a.low ≡ pos 0
   pub cap_is : a.cap ≡ pos 1
 
--- each supply is 1 or -1, and each arc is such a pairing; the sides may differ in size
+-- each supply is 1 or -1, and each arc is a pairing; the sides may differ in size
 pub record IsAssignment (g : Network) : Type 0 where
   pub each_supply : All (λ b. (b ≡ pos 1) ⊎ (b ≡ neg_ℤ (pos 1))) g.supplies
   pub each_arc : All (IsPairing g.supplies) g.arcs

@@ -40,7 +40,7 @@ cap_leaving arcs set = arc_sum (λ a. when (leaves set a) a.cap) arcs
 abbrev pub must_send : Network → (ℕ → Bool) → ℤ
 must_send g set = supply_in g.supplies set +ℤ low_entering g.arcs set
 
--- what it can send: the upper bounds that leave it
+-- what the set can send: the upper bounds that leave it
 abbrev pub can_send : Network → (ℕ → Bool) → ℤ
 can_send g set = cap_leaving g.arcs set
 
@@ -48,7 +48,7 @@ can_send g set = cap_leaving g.arcs set
 abbrev pub must_take : Network → (ℕ → Bool) → ℤ
 must_take g set = neg_ℤ (supply_in g.supplies set) +ℤ low_leaving g.arcs set
 
--- what it can take: the upper bounds that enter it
+-- what the set can take: the upper bounds that enter it
 abbrev pub can_take : Network → (ℕ → Bool) → ℤ
 can_take g set = cap_entering g.arcs set
 

@@ -87,7 +87,7 @@ has_p earlier = list_any is_p earlier
 abbrev pub listed : List Row → List ℕ
 listed earlier = map (λ row. node row 1) (filter is_n earlier)
 
--- the node has a node line among them
+-- the node has a node line among the lines before
 abbrev pub is_listed : List Row → ℕ → Bool
 is_listed earlier v = list_any (λ w. w == v) (listed earlier)
 

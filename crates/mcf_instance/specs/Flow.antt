@@ -76,7 +76,7 @@ pub record AreLowPrices (g : Network) (prices flow : List ℤ) : Type 0 where
   pub not_above_zero : AreNotAboveZero prices
   pub show_flow : Shows g.arcs prices flow
 
--- no such prices are greater at any node
+-- prices not above 0 that show the flow; no others are greater at any node
 -- Source: own
 pub record AreGreatestPrices (g : Network) (prices flow : List ℤ) : Type 0 where
   pub low : AreLowPrices g prices flow

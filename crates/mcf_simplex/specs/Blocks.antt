@@ -19,7 +19,7 @@ start_arc arcs next = if nat_le next arcs then next else 1
 abbrev pub arc_in_round : ℕ → ℕ → ℕ → ℕ
 arc_in_round arcs start place = if nat_le (start + place) arcs then start + place else start + place - arcs
 
--- that arc, of a basis
+-- the arc of a basis's net at a place of the round that begins with the arc start
 abbrev pub round_arc : TreeStructure → ℕ → ℕ → ℕ
 round_arc b start place = arc_in_round (length b.net.arcs) start place
 

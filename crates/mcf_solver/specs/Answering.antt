@@ -31,13 +31,13 @@ pub record IsLeastFlow (g : Network) (prices flow : List ℤ) : Type 0 where
   pub least : IsLeast g flow
   pub chosen : IsChosenFlow g prices flow
 
--- a right answer of such a flow
+-- a right answer whose flow no feasible flow undercuts
 -- Source: AMO 9
 pub record IsLeastSolution (g : Network) (a : Solution) : Type 0 where
   pub right : IsRightSolution g a
   pub least : IsLeastFlow g a.prices (amounts a.sent)
 
--- and one of the second form
+-- a right answer of the second form whose flow no feasible flow undercuts
 -- Source: AMO 9
 pub record IsLeastSparse (g : Network) (a : SparseSolution) : Type 0 where
   pub right : IsRightSparse g a
@@ -82,13 +82,13 @@ pub record IsAnswerTo (choice : Choice) (input : List ℕ) (kind : Kind) (text :
   pub correct : IsCorrect input text
   pub accepted : accepts (verdict input text) ≡ true
 
--- such a text comes after the bytes that were there
+-- the text of an answer to the input comes after the bytes that were there
 pub record AppendsAnswer (choice : Choice) (input : List ℕ) (kind : Kind) (old new : List ℕ) : Type 0 where
   pub text : List ℕ
   pub appended : new ≡ old ++ text
   pub answer : IsAnswerTo choice input kind text
 
--- such a text doesn't fit the room after the bytes that are there
+-- the text of an answer to the input doesn't fit the room after the bytes that are there
 pub record LacksRoom (choice : Choice) (input : List ℕ) (capacity bytes : ℕ) : Type 0 where
   pub kind : Kind
   pub text : List ℕ

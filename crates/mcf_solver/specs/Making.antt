@@ -70,7 +70,7 @@ IsMadeByEngine BySimplex choice g s = IsMadeBySimplex choice.pricing choice.bloc
 IsMadeByEngine ByScaling choice g s = IsScaled g s
 IsMadeByEngine BySap choice g s = IsMatchedByRows g s
 
--- by a new engine that the choice means for the problem of the net
+-- the net's state was made by a new engine that the choice means for the problem of the net
 abbrev pub IsMadeBy : Choice → Network → Pseudoflow → Type 0
 IsMadeBy choice g s = IsMadeByEngine (meant choice.engine g.problem) choice g s
 
@@ -81,7 +81,7 @@ pub record StandsForMade (IsMade : Network → Pseudoflow → Type 0) (g : Netwo
   pub made : IsMade (net_of g) state
   pub restores : flow ≡ restored g.arcs state.amounts
 
--- an answer's flow, where it gives one, was made so
+-- an answer's flow, where it gives one, is the one that a least state stands for which was made in this way
 abbrev pub HasMadeFlow : (Network → Pseudoflow → Type 0) → Result Network Fault → Answer → Type 0
 HasMadeFlow IsMade (Ok g) a = IfSome (flow_given g a) (StandsForMade IsMade g)
 HasMadeFlow IsMade (Err fault) a = ⊤

@@ -37,7 +37,7 @@ pub record TakesBeginning (old new : Option (List ℕ)) (text : List ℕ) : Type
   pub whole : text ≡ part ++ rest
   pub taken : Appends old new part
 
--- the sink took a beginning of such a text
+-- the sink took a beginning of the text of an answer to what the source gave
 pub record SendsBeginning (choice : Choice) (given : Option (List ℕ)) (old new : Option (List ℕ)) : Type 0 where
   pub input : List ℕ
   pub kind : Kind

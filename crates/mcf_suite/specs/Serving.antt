@@ -75,7 +75,7 @@ pub record Answers (choice : Choice) (given : Option (List ℕ)) (status : ℕ) 
   pub is_status : status ≡ status_of kind
   pub sent : SendsAnswer choice given kind old new
 
--- it took a beginning of such an answer
+-- the sink took a beginning of an answer to what a source gives, which isn't too long
 pub record AnswersInPart (choice : Choice) (given : Option (List ℕ)) (old new : Option (List ℕ)) : Type 0 where
   pub whole : IsTakenWhole given
   pub sent : SendsBeginning choice given old new
@@ -92,12 +92,12 @@ pub record ShowsHelp (words : List Text) (status : ℕ) (old new : Option (List 
   pub text : List ℕ
   pub taken : Appends old new text
 
--- one of the two
+-- the words ask to solve, and the sink took an answer; or they ask for help, and it took some text
 abbrev pub Serves : List Text → (Option (Bor Text) → Option (List ℕ) → Type 0) → ℕ → Option (List ℕ)
     → Option (List ℕ) → Type 0
 Serves words Gives status old new = Solves words Gives status old new ⊎ ShowsHelp words status old new
 
--- the words ask to solve, and the sink took a beginning of such an answer
+-- the words ask to solve, and the sink took a beginning of an answer, by what they choose, to what the source of their file gives
 abbrev pub SolvesInPart : List Text → (Option (Bor Text) → Option (List ℕ) → Type 0) → Option (List ℕ) → Option (List ℕ) → Type 0
 SolvesInPart words Gives old new =
     AsksToSolve words (λ a. (given : Option (List ℕ)) × Gives a.file given × AnswersInPart a.choice given old new)
@@ -108,7 +108,7 @@ pub record ShowsHelpInPart (words : List Text) (old new : Option (List ℕ)) : T
   pub text : List ℕ
   pub taken : TakesBeginning old new text
 
--- one of the two
+-- the words ask to solve or for help, and the sink took a beginning of what they ask for
 abbrev pub ServesInPart : List Text → (Option (Bor Text) → Option (List ℕ) → Type 0) → Option (List ℕ)
     → Option (List ℕ) → Type 0
 ServesInPart words Gives old new = SolvesInPart words Gives old new ⊎ ShowsHelpInPart words old new

@@ -47,7 +47,7 @@ natural (negsuc n) = 0
 abbrev pub node : Row → ℕ → ℕ
 node row k = natural (number row k)
 
--- each with those before it
+-- each item of a list with those before it
 abbrev pub with_earlier : {X : Type 0} → List X → List (List X × X)
 with_earlier [] = []
 with_earlier (x ∷ xs) = ([], x) ∷ map (λ p. (x ∷ p.0, p.1)) (with_earlier xs)
