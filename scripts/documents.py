@@ -25,7 +25,12 @@ def fence(language, text):
 
 
 def wrapped(text):
-    return textwrap.fill(text, 100, break_long_words=False, break_on_hyphens=False)
+    """Paragraphs in lines of at most 100 characters; a list or a block stays as it is."""
+    def filled(paragraph):
+        is_prose = not re.match(r"```|- |\d\. |\||#", paragraph)
+        return textwrap.fill(paragraph, 100, break_long_words=False, break_on_hyphens=False) if is_prose else paragraph
+
+    return "\n\n".join(map(filled, re.split(r"\n\n+", text.strip())))
 
 
 def words(text):
@@ -208,16 +213,16 @@ def public_items(crate):
 
 DEFINITIONS_HEAD = """# Definitions
 
-Made by `scripts/documents.py write` from the comments of the spec files, `crates/*/specs/*.antt`. Don't
-edit it by hand.
+Made by `scripts/documents.py write` from the comments of the spec files, `crates/*/specs/*.antt`.
+Don't edit it by hand.
 
 Nodes, arcs and lines count from 1. Numbers are whole and have no bound. The *source* is where a
-reader finds the notion: AMO is Ahuja, Magnanti and Orlin, *Network Flows* (1993), by section; CLRS is
-Cormen, Leiserson, Rivest and Stein, *Introduction to Algorithms*; Knuth is *The Art of Computer
-Programming*; DIMACS is the text format of the First DIMACS Implementation Challenge; "textbook" is what
-each textbook has; "own" is a choice of this project, and [DECISIONS.md](DECISIONS.md) has its reason.
-A module in `specs/Private/` says what a loop or a private type keeps; no public clause cites it, and it
-names no source.
+reader finds the notion: AMO is Ahuja, Magnanti and Orlin, *Network Flows* (1993), by section; CLRS
+is Cormen, Leiserson, Rivest and Stein, *Introduction to Algorithms*; Knuth is *The Art of Computer
+Programming*; DIMACS is the text format of the First DIMACS Implementation Challenge; "textbook" is
+what each textbook has; "own" is a choice of this project, and [DECISIONS.md](DECISIONS.md) has its
+reason. A module in `specs/Private/` says what a loop or a private type keeps; no public clause
+cites it, and it names no source.
 """
 
 
@@ -235,7 +240,7 @@ def definitions_page():
             here = [d for d in definitions.values() if (d.crate, d.module) == (crate, module.name)]
             columns = 3 if any(d.source for d in here) else 2
             table = [("Name", "In words", "Source"), ("---",) * 3] + [(f"`{d.name}`", d.note, d.source) for d in here]
-            parts.append(f"### {'Private.' if module.is_private else ''}{module.name}\n\n{module.note}\n")
+            parts.append(f"### {'Private.' if module.is_private else ''}{module.name}\n\n{wrapped(module.note)}\n")
             parts.append("\n".join(row(*cells[:columns]) for cells in table) + "\n")
     return "\n".join(parts)
 
@@ -248,16 +253,16 @@ CONTRACTS_HEAD = """# Contracts
 Made by `scripts/documents.py write` from the comments and the clauses of the public functions. What
 is under the last heading is written by hand, and kept. Don't edit the rest by hand.
 
-What stands in a clause is proved: `requires` is what a caller must know, `ensures` what holds at the
-end. Each function is also proved safe (no index out of range, no sum that wraps, no cast that loses
-bits) and to return. The names in clauses are told in [DEFINITIONS.md](DEFINITIONS.md), and the
-symbols in [HEADLINE.md](HEADLINE.md). Crates that only test or measure aren't here.
+What stands in a clause is proved: `requires` is what a caller must know, `ensures` what holds at
+the end. Each function is also proved safe (no index out of range, no sum that wraps, no cast that
+loses bits) and to return. The names in clauses are told in [DEFINITIONS.md](DEFINITIONS.md), and
+the symbols in [HEADLINE.md](HEADLINE.md). Crates that only test or measure aren't here.
 """
 
 
 def said(note):
     """A comment of the code as paragraphs of a page: its headings are words in bold there."""
-    return "\n".join(re.sub(r"^#+ (.*)", r"**\1.**", line) for line in note).strip() + "\n" if note else ""
+    return wrapped("\n".join(re.sub(r"^#+ (.*)", r"**\1.**\n", line) for line in note)) + "\n" if note else ""
 
 
 def facts_of(items):
@@ -272,7 +277,7 @@ def contracts_of(crate):
     """A crate's public items, each with what its comment says and its clauses."""
     head, names = exported(crate)
     items = public_items(crate)
-    yield f"## {crate}\n\n{head}\n"
+    yield f"## {crate}\n\n{wrapped(head)}\n"
     for name in names:
         methods = [item for item in items if item.owner == name]
         yield f"### `{name}`\n"
