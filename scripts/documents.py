@@ -155,15 +155,15 @@ def items_of(path):
         text = line.strip()
         indent = line[:len(line) - len(text)] if text else ""
         is_fact = text.startswith("ghost ") and not text.startswith("ghost use")
-        if text.startswith("///"):
-            note.append(text.removeprefix("///").removeprefix(" "))
+        if text.startswith("///") or kind == "trait" and text.startswith("// "):
+            note.append(text.lstrip("/").removeprefix(" "))
         elif indent == "" and IMPL.match(text) and text.endswith("{"):
             kind, trait, owner = IMPL.match(text).groups()
             if kind == "trait":
                 found.append(Item(None, owner, None, note, "", False, text.startswith("pub ")))
             note = []
         elif line == "}":
-            owner, trait, note = None, None, []
+            owner, trait, kind, note = None, None, None, []
         elif re.match(r"(pub )?fn \w", text) and len(indent) == (4 if owner else 0):
             last, tail = end_of(lines, place, indent)
             head = [part[len(indent):] for part in lines[place:last] + tail]
@@ -173,8 +173,10 @@ def items_of(path):
             found.append(Item(owner, name, trait, note, "\n".join(head), has_clauses, is_public))
             place, note = last, []
         elif owner and is_fact and (trait != "Model" or text.startswith("ghost Value")):
-            found.append(Item(owner, None, trait or kind, note, text, True, True))
-            note = []
+            last = next(i for i in range(place, len(lines)) if lines[i].endswith(";"))
+            body = "\n".join(part[len(indent):] for part in lines[place:last + 1])
+            found.append(Item(owner, None, trait or kind, note, body, True, True))
+            place, note = last, []
         elif indent == "" and re.match(r"pub (struct|enum|type|const) \w", text):
             ends = (i for i in range(place, len(lines)) if lines[i].endswith(("}", ";")) and lines[i][0] != " ")
             last = next(ends)
