@@ -10,8 +10,7 @@ memory, or with an error that speaks of want of memory; tests of what was lent c
 Printed is a line for each test: how many runs met a refusal, how many of those ended with the error, and how many went
 on to the end. The status is 1 where a run is wrong.
 
-`scripts/fail_alloc.sh` does the same by `rt try`, on the code as it stands and much more slowly. Needs `rt`, `cc`,
-Python 3 and a C library whose `malloc` can be put aside.
+Needs `rt`, `cc`, Python 3 and a C library whose `malloc` can be put aside.
 """
 import argparse
 import os
