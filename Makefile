@@ -1,21 +1,28 @@
 # make        proves and builds the programs into bin/ and runs them on examples/
 # make test   the gate: every proof, the must-fail edits, the tests, the programs
+# make clean  takes away what was proved and built: bin/, and out/ of each crate
 # make bench  the measurements of bench/
 # make tools-test   the tests of tools/, on the plans of examples/plans/ too: needs the programs of bin/ and Python 3
 # make install      puts the programs, the planner's tool and the manual pages under PREFIX (and DESTDIR before it); make uninstall removes just these
 
-.PHONY: all test bench tools-test install uninstall
+.PHONY: all kit test clean bench tools-test install uninstall
 .NOTPARALLEL:
 
 # The programs among the crates that crates.txt lists; the logs are bin/NAME.log.
-all:
+all: kit
 	@scripts/build.py
 	@scripts/examples.sh
 
+kit:
+	@command -v rt >/dev/null || { echo "make: rt isn't on the path; it comes with the Rattle kit, whose first page is START-HERE.md at the top of the kit's folder" >&2; exit 1; }
+
 # First, whether docs/ says what the code and the spec files say.
-test:
+test: kit
 	@scripts/documents.py check
 	rt ci
+
+clean:
+	rm -rf bin bench/out crates/*/out
 
 bench:
 	@python3 bench/run.py
