@@ -33,14 +33,10 @@ impl Tables {
         ensures wants { OnErr result (1 ≤ node_count net.now) }
     {
         let nodes = net.node_count() as usize;
-        let mut marks = Vec::new(alloc);
-        marks.resize(nodes, false)?;
-        let mut links = Vec::new(alloc);
-        links.resize(nodes, 0)?;
         Ok(Tables {
             heap,
-            marks,
-            links,
+            marks: copies(alloc, nodes, false)?,
+            links: copies(alloc, nodes, 0)?,
             best: None,
             horizon: None,
             order: Vec::with_capacity(alloc, nodes)?,

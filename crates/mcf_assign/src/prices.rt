@@ -124,8 +124,7 @@ fn first_lows(alloc: Global, net: &Net) -> Result<Vec<i64>, NoMemory>
     ensures wants { OnErr result (1 ≤ node_count net.now) }
 {
     let nodes = net.node_count();
-    let mut lows = Vec::new(alloc);
-    lows.resize(nodes as usize, 0)?;
+    let mut lows = copies(alloc, nodes as usize, 0)?;
     'nodes: for number in 0..nodes {
         if net.supply(NodeId::at(number)) > 0 {
             lows[number as usize] = FIRST_PRICE;

@@ -6,7 +6,7 @@ ghost use Rattle.mcf_network.specs.Stars.{ListsLeaving};
 ghost use Rattle.mcf_scaling.specs.Private.Places.{AreSites, AreSitesUpTo, IsPlace, IsStarOf, place_at, residual_of, residuals, site_of, span_of};
 
 use mcf_network::{Net, Rid};
-use mcf_text::{ArcId, NoMemory, NodeId};
+use mcf_text::{ArcId, NoMemory, NodeId, copies};
 use std::alloc::Global;
 use std::marker::Model;
 
@@ -58,7 +58,7 @@ impl Places {
             let span = put_leaving(net, &mut places, NodeId::at(number))?;
             spans.push(span)?;
         }
-        let mut sites = blank(alloc, 2 * net.arc_count() as usize)?;
+        let mut sites = copies(alloc, 2 * net.arc_count() as usize, 0)?;
         write_sites(&places, &mut sites);
         Ok(Places {
             spans,
@@ -97,16 +97,6 @@ impl Places {
     {
         self.sites[link] as usize
     }
-}
-
-// So many numbers.
-fn blank(alloc: Global, count: usize) -> Result<Vec<u32>, NoMemory>
-    ensures count { IfOk result (λ made. length made.items ≡ count) }
-    ensures wants { OnErr result (1 ≤ count) }
-{
-    let mut made = Vec::new(alloc);
-    made.resize(count, 0)?;
-    Ok(made)
 }
 
 // Writes for each residual arc the place at which it stands.

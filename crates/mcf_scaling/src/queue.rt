@@ -6,7 +6,7 @@ ghost use Rattle.mcf_network.specs.States.{surplus_at};
 ghost use Rattle.mcf_scaling.specs.Private.Queues.{HoldsActive, IsQueue, IsPopped, IsQueueOf, queued, no_queue};
 
 use mcf_network::{Net, State};
-use mcf_text::{NoMemory, NodeId};
+use mcf_text::{NoMemory, NodeId, copies};
 use std::alloc::Global;
 use std::collections::VecDeque;
 use std::marker::Model;
@@ -37,10 +37,8 @@ impl Queue {
         ensures wants { OnErr result (1 ≤ node_count net.now) }
     {
         let nodes = net.node_count() as usize;
-        let mut marks = Vec::new(alloc);
-        marks.resize(nodes, false)?;
         Ok(Queue {
-            marks,
+            marks: copies(alloc, nodes, false)?,
             nodes: VecDeque::with_capacity(alloc, nodes)?,
         })
     }

@@ -7,7 +7,7 @@ ghost use Rattle.mcf_scaling.specs.Private.Places.{AreRooms, AreSites, IsMarked,
 
 use crate::places::Places;
 use mcf_network::{Rid, State};
-use mcf_text::{ArcId, NoMemory};
+use mcf_text::{ArcId, NoMemory, copies};
 use std::alloc::Global;
 
 /// The marks of a state.
@@ -21,19 +21,9 @@ pub(crate) fn rooms_of(
     ensures value { IfOk result (λ made. AreRooms state.now places.now made.items) }
     ensures wants { OnErr result (1 ≤ node_count state.now.net) }
 {
-    let mut rooms = blank(alloc, places.count())?;
+    let mut rooms = copies(alloc, places.count(), false)?;
     mark_all(state, places, &mut rooms);
     Ok(rooms)
-}
-
-// So many marks.
-fn blank(alloc: Global, count: usize) -> Result<Vec<bool>, NoMemory>
-    ensures count { IfOk result (λ made. length made.items ≡ count) }
-    ensures wants { OnErr result (1 ≤ count) }
-{
-    let mut made = Vec::new(alloc);
-    made.resize(count, false)?;
-    Ok(made)
 }
 
 /// Writes the marks of all residual arcs.

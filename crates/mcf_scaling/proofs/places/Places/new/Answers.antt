@@ -1,5 +1,6 @@
 use Rattle.std.proofs.Common.{◌≡◌, ℕ, ◌*◌, ◌∙◌, ◌≤◌, length, rules, arith, sym, ap}
 use Rattle.std.proofs.lemmas.Bool.{true≢false}
+use Rattle.std.proofs.lemmas.List.{length-replicate}
 use Rattle.mcf_instance.specs.Network.{node_count}
 use Rattle.mcf_scaling.proofs.PlaceLaws.{arcs_want, on_err, star_next}
 use Rattle.mcf_scaling.proofs.SiteLaws.{whole_few, whole_sites, whole_star}
@@ -37,7 +38,8 @@ returns-clause-value c =
 pub returns-clause-sites : goal.returns-clause-sites
 returns-clause-sites c =
     let done : c.nodes.number ≡ node_count c.args.net.now = search rules in
-    let count : length c.write_sites.new.sites.items ≡ 2 * length c.args.net.now.arcs = c.write_sites.ensures.count ∙ c.in_ok-sites.ensures.count
+    let count : length c.write_sites.new.sites.items ≡ 2 * length c.args.net.now.arcs =
+    c.write_sites.ensures.count ∙ ap length c.in_ok-sites.ensures.value ∙ length-replicate (2 * c.arc_count-2.result) 0
     ∙ ap (λ (n : ℕ). 2 * n) c.arc_count-2.ensures.value in
     whole_sites c.args.net.now c.nodes.spans.items c.nodes.places.items c.deref.result.now c.nodes.number c.nodes.invariant done
     c.arc_count-2.ensures.of_net c.deref.ensures.value c.write_sites.new.sites.items count c.write_sites.ensures.sites
