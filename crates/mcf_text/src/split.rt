@@ -1,7 +1,7 @@
 //! The first line of a text, and the first field of a line.
-ghost use Rattle.std.specs.Prelude.{◌≡◌, ◌<◌, ◌≤◌, [], ◌∷◌, length, not, position, MatchOption};
+ghost use Rattle.std.specs.Prelude.{◌≡◌, ◌<◌, ◌≤◌, ◌⊎◌, [], ◌∷◌, ◌++◌, length, not, position, MatchOption};
 ghost use Rattle.mcf_text.specs.Fields.{AreTheFields, begins_kept, fields_of, is_blank, is_kept};
-ghost use Rattle.mcf_text.specs.Lines.{AreTheLines, lines_of, numbered_lines};
+ghost use Rattle.mcf_text.specs.Lines.{AreTheLines, line_feed, lines_of, numbered_lines};
 
 use crate::parts::{Fields, Lines};
 use memchr::memchr;
@@ -48,6 +48,8 @@ pub fn split_line(text: &[u8]) -> Option<(&[u8], &[u8])>
         (λ parts. lines_of text.now ≡ parts.0.now ∷ lines_of parts.1.now) }
     ensures shorter { MatchOption result (text.now ≡ [])
         (λ parts. length parts.1.now < length text.now) }
+    ensures ends { MatchOption result (text.now ≡ [])
+        (λ parts. (text.now ≡ parts.0.now ++ line_feed ∷ parts.1.now) ⊎ ((text.now ≡ parts.0.now) × (parts.1.now ≡ []))) }
 {
     if text.is_empty() {
         return None;
