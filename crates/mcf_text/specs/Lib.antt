@@ -1,5 +1,4 @@
 pub mod Feed
-pub mod FeedFault
 pub mod Fields
 pub mod Leading
 pub mod Line
