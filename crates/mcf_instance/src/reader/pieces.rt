@@ -1,5 +1,5 @@
 //! The reader of instance texts that come in pieces.
-ghost use Rattle.std.specs.Prelude.{◌≡◌, ◌+◌, ◌<◌, ◌≤◌, ◌++◌, ◌∷◌, [], ℕ, List, false, length, None, IfErr, IfOk, IfSome, IsTrue, OnErr, OnOk};
+ghost use Rattle.std.specs.Prelude.{◌≡◌, ◌≢◌, ◌+◌, ◌<◌, ◌≤◌, ◌++◌, ◌∷◌, [], ℕ, List, false, length, None, IfErr, IfOk, IfSome, IsTrue, OnErr, OnOk};
 ghost use Rattle.mcf_instance.specs.Feeding.{StandsFor, WantsMemory};
 ghost use Rattle.mcf_instance.specs.Limits.{limits, line_limit};
 ghost use Rattle.mcf_instance.specs.Memory.{NamesNodes};
@@ -62,13 +62,15 @@ impl Reader {
     /// # Errors
     ///
     /// `TooLong` exactly where the bytes taken so far and the piece are more than 10^18, whatever stands in them;
-    /// `NoMemory` where there is no memory to keep the piece, or for what its lines name. A reader that
+    /// `NoMemory` where there is no memory to keep the piece, or for what its lines name, and never once a line
+    /// was faulty: the refusal isn't lost for want of memory. A reader that
     /// has refused a piece takes no other: it answers that same fault to each.
     pub fn feed(&mut self, alloc: Global, piece: &[u8]) -> Result<(), FeedFault>
         ensures ok { OnOk result ((text : List ℕ) → StandsFor limits self.old text → StandsFor limits self.new (text ++ piece.now)) }
         ensures unrefused { OnOk result (self.new.fault ≡ None) }
         ensures too_long { (text : List ℕ) → StandsFor limits self.old text → (result ≡ Err FeedFault.TooLong) ↔ (byte_limit < length text + length piece.now) }
         ensures wants { (text : List ℕ) → StandsFor limits self.old text → result ≡ Err FeedFault.NoMemory → WantsMemory limits text piece.now }
+        ensures after_fault { (text : List ℕ) → StandsFor limits self.old text → self.old.state.refusal ≢ None → result ≢ Err FeedFault.NoMemory }
         ensures refused { IfErr result (λ fault. self.new.fault ≡ Some fault) }
         ensures stays { IfSome self.old.fault (λ fault. result ≡ Err fault) }
     {
@@ -129,6 +131,7 @@ fn take_piece(
     ensures read { OnOk result ((text : List ℕ) → HasReadOn limits text lines.old state.old → HasReadOn limits (text ++ piece.now) lines.new state.new) }
     ensures too_long { result ≡ Err FeedFault.TooLong → byte_limit < lines.old.fed + length piece.now }
     ensures wants { result ≡ Err FeedFault.NoMemory → (text : List ℕ) → HasReadOn limits text lines.old state.old → WantsMemory limits text piece.now }
+    ensures after_fault { state.old.refusal ≢ None → OnErr result ⊥ }
     ensures is_open { lines.new.has_ended ≡ false }
     ensures counted { OnOk result (lines.new.fed ≤ lines.old.fed + length piece.now) }
 {
