@@ -10,5 +10,6 @@ pub mod Simulation
 pub mod SmallAnswers
 pub mod SmallTexts
 pub mod Spelled
+pub mod Wants
 pub mod Words
 pub mod WrittenLemmas

@@ -1,16 +1,17 @@
 -- What a text stands for as an answer.
 -- Source: own
-use Rattle.std.specs.Prelude.{◌||◌, ℕ, Bool, List, [], ◌∷◌, map, ℤ, pos, Option, Some, None, Result, Ok, Err, is_some, unwrap_or}
+use Rattle.std.specs.Prelude.{◌||◌, ◌&&◌, ℕ, nat_lt, Bool, true, List, [], ◌∷◌, map, ℤ, pos, Option, Some, None, Result, Ok, Err, is_some, unwrap_or}
 use Rattle.std.specs.List.{list_any}
 use Rattle.mcf_answer.specs.Fits.{misfit, sent_lines, moved_lines, price_lines, member_lines}
 use Rattle.mcf_answer.specs.Said.{Opening, OpensFlow, OpensSparse, OpensSet, OpensRefusal, cost_said, member_said, moved_said, opening_said, price_said}
 use Rattle.mcf_answer.specs.Said.{sent_said}
-use Rattle.mcf_answer.specs.Token.{Token, token_lines}
+use Rattle.mcf_answer.specs.Token.{Token, token_lines, tokens}
 use Rattle.mcf_answer.specs.declared.answers.Answer.{Answer}
 use Rattle.mcf_answer.specs.declared.answers.Answer.TheVariants.{Flow, Sparse, Blocked, Refused}
 use Rattle.mcf_answer.specs.declared.shape.Shape.{Shape}
 use Rattle.mcf_instance.specs.Fault.{Fault}
 use Rattle.mcf_instance.specs.declared.code.Code.TheVariants.{Kind}
+use Rattle.mcf_text.specs.Row.{rows}
 
 -- what stands for a refusal where there is none
 abbrev pub no_refusal : Fault
@@ -53,6 +54,11 @@ parsing text = parsing_of (misfit text) (answer_of_lines (token_lines text))
 abbrev pub says_item : List Token → Bool
 says_item line = is_some (sent_said line) || (is_some (moved_said line) || (is_some (price_said line) || is_some (member_said line)))
 
--- a kept line of the text says what stands in a list
+-- the number comes before that of the line at which a text is seen to be no answer, if it is none
+abbrev pub comes_before : Option ℕ → ℕ → Bool
+comes_before None number = true
+comes_before (Some line) number = nat_lt number line
+
+-- a kept line of the text says what stands in a list, and like each line before it fits
 abbrev pub has_item_line : List ℕ → Bool
-has_item_line text = list_any says_item (token_lines text)
+has_item_line text = list_any (λ row. says_item (tokens row) && comes_before (misfit text) row.number) (rows text)

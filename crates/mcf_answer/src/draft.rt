@@ -45,7 +45,7 @@ pub(crate) enum Draft {
 }
 
 impl FlowAnswer {
-    ghost use Rattle.std.specs.Prelude.{◌≡◌, IfOk, IsTrue, OnErr, Some, None, if◌then◌else◌};
+    ghost use Rattle.std.specs.Prelude.{◌≡◌, IfOk, IsTrue, OnErr, Some, None, is_some, if◌then◌else◌};
     ghost use Rattle.mcf_answer.specs.Private.Draft.{priced, solution_after};
     ghost use Rattle.mcf_answer.specs.Parsing.{says_item};
     ghost use Rattle.mcf_answer.specs.Ranges.{IsAmount, IsNodeInRange};
@@ -56,7 +56,8 @@ impl FlowAnswer {
     fn take_price(&mut self, id: NodeId, price: i128) -> Result<bool, NoMemory>
         requires node { IsNodeInRange id }
         requires amount { IsAmount price }
-        ensures { IfOk result (λ fit. (if fit then Some self.new else None) ≡ priced self.old (Some (id, price))) }
+        ensures value { IfOk result (λ fit. (if fit then Some self.new else None) ≡ priced self.old (Some (id, price))) }
+        ensures fits { OnErr result (IsTrue (is_some (priced self.old (Some (id, price))))) }
     {
         if !self.prices.is_next(id) {
             return Ok(false);
@@ -70,6 +71,7 @@ impl FlowAnswer {
     fn take(&mut self, line: &[u8]) -> Result<bool, NoMemory>
         ensures value { IfOk result (λ fit. (if fit then Some self.new else None) ≡ solution_after self.old (tokens_of (fields_of line.now))) }
         ensures wants { OnErr result (IsTrue (says_item (tokens_of (fields_of line.now)))) }
+        ensures fits { OnErr result (IsTrue (is_some (solution_after self.old (tokens_of (fields_of line.now))))) }
     {
         if let Some(sent) = flow_line(line) {
             if !self.prices.is_empty() {
@@ -86,7 +88,7 @@ impl FlowAnswer {
 }
 
 impl SparseAnswer {
-    ghost use Rattle.std.specs.Prelude.{◌≡◌, IfOk, IsTrue, OnErr, Some, None, if◌then◌else◌};
+    ghost use Rattle.std.specs.Prelude.{◌≡◌, IfOk, IsTrue, OnErr, Some, None, is_some, if◌then◌else◌};
     ghost use Rattle.mcf_answer.specs.Private.Draft.{sparse_after, sparse_moved, sparse_priced};
     ghost use Rattle.mcf_answer.specs.SparseSolution.{IsMoved};
     ghost use Rattle.mcf_answer.specs.Parsing.{says_item};
@@ -98,7 +100,8 @@ impl SparseAnswer {
     fn take_price(&mut self, y: (NodeId, i128)) -> Result<bool, NoMemory>
         requires node { IsNodeInRange y.0 }
         requires amount { IsAmount y.1 }
-        ensures { IfOk result (λ fit. (if fit then Some self.new else None) ≡ sparse_priced self.old (Some y)) }
+        ensures value { IfOk result (λ fit. (if fit then Some self.new else None) ≡ sparse_priced self.old (Some y)) }
+        ensures fits { OnErr result (IsTrue (is_some (sparse_priced self.old (Some y)))) }
     {
         if self.prices.is_next(y.0) {
             self.prices.push(y.1)?;
@@ -111,7 +114,8 @@ impl SparseAnswer {
     // Takes what an arc carries in, if its number is above that of the last and there is no price yet.
     fn take_moved(&mut self, moved: (ArcId, i128)) -> Result<bool, NoMemory>
         requires in_range { IsMoved moved }
-        ensures { IfOk result (λ fit. (if fit then Some self.new else None) ≡ sparse_moved self.old moved) }
+        ensures value { IfOk result (λ fit. (if fit then Some self.new else None) ≡ sparse_moved self.old moved) }
+        ensures fits { OnErr result (IsTrue (is_some (sparse_moved self.old moved))) }
     {
         if self.moved.is_below(moved.0) && self.prices.is_empty() {
             self.moved.push(moved)?;
@@ -126,6 +130,7 @@ impl SparseAnswer {
     fn take(&mut self, line: &[u8]) -> Result<bool, NoMemory>
         ensures value { IfOk result (λ fit. (if fit then Some self.new else None) ≡ sparse_after self.old (tokens_of (fields_of line.now))) }
         ensures wants { OnErr result (IsTrue (says_item (tokens_of (fields_of line.now)))) }
+        ensures fits { OnErr result (IsTrue (is_some (sparse_after self.old (tokens_of (fields_of line.now))))) }
     {
         if let Some(moved) = moved_line(line) {
             return self.take_moved(moved);
@@ -138,7 +143,7 @@ impl SparseAnswer {
 }
 
 impl SetDraft {
-    ghost use Rattle.std.specs.Prelude.{◌≡◌, IfOk, IsTrue, OnErr, Some, None, if◌then◌else◌};
+    ghost use Rattle.std.specs.Prelude.{◌≡◌, IfOk, IsTrue, OnErr, Some, None, is_some, if◌then◌else◌};
     ghost use Rattle.mcf_answer.specs.Private.Draft.{set_after};
     ghost use Rattle.mcf_answer.specs.Parsing.{says_item};
     ghost use Rattle.mcf_answer.specs.Token.{tokens_of};
@@ -149,6 +154,7 @@ impl SetDraft {
     fn take(&mut self, line: &[u8]) -> Result<bool, NoMemory>
         ensures value { IfOk result (λ fit. (if fit then Some self.new else None) ≡ set_after self.old (tokens_of (fields_of line.now))) }
         ensures wants { OnErr result (IsTrue (says_item (tokens_of (fields_of line.now)))) }
+        ensures fits { OnErr result (IsTrue (is_some (set_after self.old (tokens_of (fields_of line.now))))) }
     {
         let Some(node) = member_line(line) else {
             return Ok(false);
@@ -163,7 +169,7 @@ impl SetDraft {
 }
 
 impl Draft {
-    ghost use Rattle.std.specs.Prelude.{◌≡◌, IfOk, IsTrue, OnErr, Some, None, if◌then◌else◌, option_map};
+    ghost use Rattle.std.specs.Prelude.{◌≡◌, IfOk, IsTrue, OnErr, Some, None, is_some, if◌then◌else◌, option_map};
     ghost use Rattle.mcf_answer.specs.Private.Draft.{after, answer_of_draft, costed, opened};
     ghost use Rattle.mcf_answer.specs.Parsing.{says_item};
     ghost use Rattle.mcf_answer.specs.Said.{cost_said, opening_said};
@@ -226,6 +232,7 @@ impl Draft {
     pub(crate) fn take(&mut self, alloc: Global, line: &[u8]) -> Result<bool, NoMemory>
         ensures value { IfOk result (λ fit. (if fit then Some self.new else None) ≡ after self.old (tokens_of (fields_of line.now))) }
         ensures wants { OnErr result (IsTrue (says_item (tokens_of (fields_of line.now)))) }
+        ensures fits { OnErr result (IsTrue (is_some (after self.old (tokens_of (fields_of line.now))))) }
     {
         match self {
             Draft::Empty => Ok(self.become_next(Draft::open(alloc, line))),

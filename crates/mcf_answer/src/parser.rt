@@ -22,7 +22,8 @@ use std::alloc::Global;
 ///
 /// # Errors
 ///
-/// Want of memory; a text without a line `f`, `g`, `y` or `x` that says something wants none.
+/// Want of memory; a text wants none in which no line `f`, `g`, `y` or `x` says something and fits after the
+/// lines before it.
 pub fn parse(alloc: Global, text: &[u8]) -> Result<Result<Answer, Shape>, NoMemory>
     ensures spelled { IfOk result (λ r. (a : Answer) → (r ≡ Ok a) ↔ Spells text.now a) }
     ensures misfit { IfOk result (λ r. IfErr r (λ shape. misfit text.now ≡ Some shape.line)) }
