@@ -5,7 +5,7 @@ use Rattle.mcf_network.specs.Nets.{IsNet}
 use Rattle.mcf_network.specs.States.{Pseudoflow, HasNoSurplus}
 use Rattle.mcf_network.specs.Walks.{pushed_along}
 use Rattle.mcf_network.proofs.WalkLaws.{along_net}
-use Rattle.mcf_tree.specs.SpanningTree.{SpanningTree, IsSpanning}
+use Rattle.mcf_tree.specs.SpanningTree.{IsSpanning}
 use Rattle.mcf_basis.specs.Artificial.{with_artificial}
 use Rattle.mcf_basis.specs.Bases.{IsBasis, IsFullFlow}
 use Rattle.mcf_basis.specs.Laws.{PivotsKeepBases}
@@ -49,13 +49,9 @@ module _ (old new : TreeStructure) (k : ℕ) (moved : ℤ) (ok : IsBasis old) (p
     no_surplus = subst HasNoSurplus round_state (round_surplus old k pivot.apex moved ok pivot.eligible is_around);
   }
 
-  -- where the entering arc leaves at once, the tree is as it was
-  same_spanning : (t : SpanningTree) → IsSpanning t → IsSpanning (record t { hung = 0; measured = 0 })
-  same_spanning t s = record { labels_size = s.labels_size; depths_size = s.depths_size; numbered = s.numbered; rooted = s.rooted }
-
   spans : IsSpanning new.tree
   spans = elim pivot.mended [
-    | kept e at_once ↦ subst IsSpanning (sym at_once.tree) (same_spanning old.tree ok.spanning)
+    | kept e at_once ↦ subst IsSpanning (sym at_once.tree) ok.spanning
     | exchanged out inner outer e x ↦ x.spanning
   ]
 

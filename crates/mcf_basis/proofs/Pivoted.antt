@@ -10,7 +10,7 @@ use Rattle.mcf_network.specs.Nets.{IsNetArc}
 use Rattle.mcf_network.specs.Residual.{arc_at}
 use Rattle.mcf_network.proofs.ArcLaws.{net_arc_at}
 use Rattle.mcf_tree.specs.Apex.{IsApex}
-use Rattle.mcf_tree.specs.SpanningTree.{SpanningTree, IsSpanning, depth_of, size_of}
+use Rattle.mcf_tree.specs.SpanningTree.{SpanningTree, depth_of, size_of}
 use Rattle.mcf_basis.specs.declared.climb.Climb.{Climb}
 use Rattle.mcf_basis.specs.declared.leaving_arc.Leaving.TheVariants.{Entering, Down, Up}
 use Rattle.mcf_basis.specs.declared.offer.Offer.{Offer}
@@ -19,7 +19,7 @@ use Rattle.mcf_basis.specs.declared.push.Round.{Round}
 use Rattle.mcf_basis.specs.declared.rooms.Rooms.{Rooms}
 use Rattle.mcf_basis.specs.Bases.{IsBasis}
 use Rattle.mcf_basis.specs.Pivots.{IsEligible, IsPivot, PairFalls, entering}
-use Rattle.mcf_basis.specs.Private.Climbs.{CanReplace, IsClimb, IsFound, IsReplaced}
+use Rattle.mcf_basis.specs.Private.Climbs.{CanReplace, IsClimb, IsFound, IsReplaced, laid}
 use Rattle.mcf_basis.specs.Private.Climbs.IsReplaced.{at_once, down, up}
 use Rattle.mcf_basis.specs.Private.Layouts.{Layout, IsLaidOut, Prices, basis_in, offer_at, wide_limit}
 use Rattle.mcf_basis.specs.Private.Turned.{CanExchange, CanPush, IsExchangedBy, IsPushedRound, price_of}
@@ -35,52 +35,8 @@ use Rattle.mcf_basis.proofs.PivotKeeps.{pivots_keep_bases_lem}
 use Rattle.mcf_basis.proofs.Pushed.{went_round}
 use Rattle.mcf_basis.proofs.TreePrices.{price_small}
 use Rattle.mcf_basis.proofs.TurnedLayout.IsOut.{left as out_left, right as out_right}
-use Rattle.mcf_basis.proofs.TurnedLayout.{IsOut, IsPivotedLayout, can_exchange, exchanged_layout, kept_layout}
+use Rattle.mcf_basis.proofs.TurnedLayout.{IsOut, IsPivotedLayout, can_exchange, exchanged_layout, kept_layout, next_layout}
 use Rattle.mcf_basis.proofs.TurnedStart.{can_push, offer_ends}
-
--- the tree and the prices once the counts are forgotten
-abbrev pub fresh_tree : SpanningTree → SpanningTree
-fresh_tree t = record t { hung = 0; measured = 0 }
-
-abbrev pub fresh_table : Prices → Prices
-fresh_table p = record p { priced = 0 }
-
--- nothing but the counts is forgotten
-same_spanning : (t : SpanningTree) → IsSpanning t → IsSpanning (fresh_tree t)
-same_spanning t h = record { labels_size = h.labels_size; depths_size = h.depths_size; numbered = h.numbered; rooted = h.rooted }
-
-same_climb : (t : SpanningTree) (rooms : List Rooms) (from to : ℕ) (c : Climb) → IsClimb (fresh_tree t) rooms from to c → IsClimb t rooms from to c
-same_climb t rooms from to c h = record { apex = h.apex; in_range = h.in_range; down = h.down; up = h.up }
-
-same_push : (l : Layout) (from to apex x : ℕ) → CanPush l.net l.tree l.rooms l.artificial from to apex x →
-    CanPush l.net (fresh_tree l.tree) l.rooms l.artificial from to apex x
-same_push l from to apex x h = record {
-  spanning = same_spanning l.tree h.spanning;
-  nodes = h.nodes;
-  rooms_size = h.rooms_size;
-  artificial_size = h.artificial_size;
-  from_in_range = h.from_in_range;
-  to_in_range = h.to_in_range;
-  apex_in_range = h.apex_in_range;
-  apex_above_from = h.apex_above_from;
-  apex_above_to = h.apex_above_to;
-  apart = h.apart;
-  left = h.left;
-  right = h.right;
-  added = h.added;
-}
-
-same_pushed : (l : Layout) (rooms : List Rooms) (artificial : List ℤ) (from to apex x : ℕ) →
-    IsPushedRound l.net (fresh_tree l.tree) l.rooms rooms l.artificial artificial from to apex x →
-    IsPushedRound l.net l.tree l.rooms rooms l.artificial artificial from to apex x
-same_pushed l rooms artificial from to apex x h = record {
-  rooms_size = h.rooms_size;
-  artificial_size = h.artificial_size;
-  left = h.left;
-  right = h.right;
-  off_rooms = h.off_rooms;
-  off_amounts = h.off_amounts;
-}
 
 -- what was found goes round the cycle of arc k
 pub record IsRoundOf (l : Layout) (k : ℕ) (f : Found) : Type 0 where
@@ -131,24 +87,21 @@ module _ (l : Layout) (k : ℕ) (ok : IsLaidOut l) (el : IsEligible (basis_in l)
   keep_premises : (1 ≤ k) × (k ≤ length l.offers) × IsUpTo limits.cost (offer_at l k).cost
   keep_premises = (let n = number in let size = ok.offers_size in (n.0, omega (arith, n, size), read.cost))
 
-  found_climb : (t : SpanningTree) (o : Offer) (c : Climb) → t ≡ fresh_tree l.tree → o ≡ offer_at l k → IsClimb t l.rooms o.from o.to c →
+  found_climb : (o : Offer) (c : Climb) → o ≡ offer_at l k → IsClimb l.tree l.rooms o.from o.to c →
       IsClimb l.tree l.rooms (from_of (basis_in l) k) (to_of (basis_in l) k) c
-  found_climb t o c fresh is h =
+  found_climb o c is h =
       let ends = offer_ends l k ok el in
       let near : o.from ≡ from_of (basis_in l) k = ap (λ x. x.from) is ∙ ends.0 in
       let far : o.to ≡ to_of (basis_in l) k = ap (λ x. x.to) is ∙ ends.1 in
-      same_climb l.tree l.rooms (from_of (basis_in l) k) (to_of (basis_in l) k) c
-      (subst (λ v. IsClimb (fresh_tree l.tree) l.rooms (from_of (basis_in l) k) v c) far
-      (subst (λ u. IsClimb (fresh_tree l.tree) l.rooms u o.to c) near
-      (subst (λ s. IsClimb s l.rooms o.from o.to c) fresh h)))
+      subst (λ v. IsClimb l.tree l.rooms (from_of (basis_in l) k) v c) far (subst (λ u. IsClimb l.tree l.rooms u o.to c) near h)
 
-  pub round_found : (t : SpanningTree) (o : Offer) (f : Found) → t ≡ fresh_tree l.tree → o ≡ offer_at l k →
-      IsFound t l.rooms o.from o.to (unsigned_abs (arc_at l.net k).cap) f → IsRoundOf l k f
+  pub round_found : (o : Offer) (f : Found) → o ≡ offer_at l k →
+      IsFound l.tree l.rooms o.from o.to (unsigned_abs (arc_at l.net k).cap) f → IsRoundOf l k f
   unfolding basis_in
-  round_found t o f fresh is h =
+  round_found o f is h =
       let ends = offer_ends l k ok el in
       let c : Climb = h.climb in
-      let climbed = found_climb t o c fresh is h.climbed in
+      let climbed = found_climb o c is h.climbed in
       let width = unsigned_abs (arc_at l.net k).cap in
       let turned : c.apex ≡ f.apex = sym h.same_apex in
       let is_apex : IsApex l.tree.parents (depth_of l.tree) (from_of (basis_in l) k) (to_of (basis_in l) k) f.apex =
@@ -167,69 +120,65 @@ module _ (l : Layout) (k : ℕ) (ok : IsLaidOut l) (el : IsEligible (basis_in l)
             (let out = chosen_up l k width c ok el wide climbed f.amount f.leaving f.out h.chosen e in out_right out.place out.short out.at refl out.full);
       }
 
+  pub rooms_sized : length l.rooms ≡ size_of l.tree
+  unfolding basis_in
+  rooms_sized = (let n = nodes in ok.rooms_size ∙ sym n)
+
   -- the offer and the prices that are read
-  module _ (t : SpanningTree) (o : Offer) (p : Prices) (fresh : t ≡ fresh_tree l.tree) (counted : p ≡ fresh_table l.table) (is : o ≡ offer_at l k) where
-    pub rooms_sized : length l.rooms ≡ size_of t
+  module _ (o : Offer) (is : o ≡ offer_at l k) where
+    pub from_in_tree : o.from < size_of l.tree
     unfolding basis_in
-    rooms_sized = (let n = nodes in ok.rooms_size ∙ (sym n ∙ ap size_of (sym fresh)))
+    from_in_tree = (let n = nodes in let h : (offer_at l k).from ≤ node_count l.net = read.from in rw is (omega (arith, n, h)))
 
-    pub from_in_tree : o.from < size_of t
+    pub to_in_tree : o.to < size_of l.tree
     unfolding basis_in
-    from_in_tree = (let n = nodes in let h : (offer_at l k).from ≤ node_count l.net = read.from in rw (is, fresh) (omega (arith, n, h)))
+    to_in_tree = (let n = nodes in let h : (offer_at l k).to ≤ node_count l.net = read.to in rw is (omega (arith, n, h)))
 
-    pub to_in_tree : o.to < size_of t
-    unfolding basis_in
-    to_in_tree = (let n = nodes in let h : (offer_at l k).to ≤ node_count l.net = read.to in rw (is, fresh) (omega (arith, n, h)))
-
-    pub from_in_table : o.from < length p.prices
+    pub from_in_table : o.from < length l.table.prices
     unfolding basis_in
     from_in_table =
         let count : length l.table.prices ≡ node_count l.net + 1 = ok.basis.prices.one_per_node in
-        let h : (offer_at l k).from ≤ node_count l.net = read.from in rw (is, counted) (omega (arith, count, h))
+        let h : (offer_at l k).from ≤ node_count l.net = read.from in rw is (omega (arith, count, h))
 
-    pub to_in_table : o.to < length p.prices
+    pub to_in_table : o.to < length l.table.prices
     unfolding basis_in
     to_in_table =
         let count : length l.table.prices ≡ node_count l.net + 1 = ok.basis.prices.one_per_node in
-        let h : (offer_at l k).to ≤ node_count l.net = read.to in rw (is, counted) (omega (arith, count, h))
+        let h : (offer_at l k).to ≤ node_count l.net = read.to in rw is (omega (arith, count, h))
 
     pub cost_small : IsUpTo limits.cost o.cost
     cost_small = rw is read.cost
 
-    pub from_small : IsUpTo wide_limit (price_of p o.from)
+    pub from_small : IsUpTo wide_limit (price_of l.table o.from)
     unfolding basis_in
-    from_small = rw (is, counted) (price_small (basis_in l) ok.basis (offer_at l k).from read.from)
+    from_small = rw is (price_small (basis_in l) ok.basis (offer_at l k).from read.from)
 
-    pub to_small : IsUpTo wide_limit (price_of p o.to)
+    pub to_small : IsUpTo wide_limit (price_of l.table o.to)
     unfolding basis_in
-    to_small = rw (is, counted) (price_small (basis_in l) ok.basis (offer_at l k).to read.to)
+    to_small = rw is (price_small (basis_in l) ok.basis (offer_at l k).to read.to)
 
-    pub reduced_is : o.cost -ℤ price_of p o.from +ℤ price_of p o.to ≡ offered (basis_in l) (offer_at l k)
+    pub reduced_is : o.cost -ℤ price_of l.table o.from +ℤ price_of l.table o.to ≡ offered (basis_in l) (offer_at l k)
     unfolding basis_in
-    reduced_is = rw (is, counted) refl
+    reduced_is = rw is refl
 
   module _ (f : Found) (round : IsRoundOf l k f) where
     -- what push asks for
-    pub push_ready : (t : SpanningTree) → t ≡ fresh_tree l.tree → CanPush l.net t l.rooms l.artificial f.from f.to f.apex f.amount
-    push_ready t fresh =
-        rw (fresh, round.same_from, round.same_to)
-        (same_push l (from_of (basis_in l) k) (to_of (basis_in l) k) f.apex f.amount
-        (can_push l k f.apex f.amount ok el round.is_apex round.is_around round.can))
+    push_ready : CanPush l.net l.tree l.rooms l.artificial f.from f.to f.apex f.amount
+    push_ready = rw (round.same_from, round.same_to) (can_push l k f.apex f.amount ok el round.is_apex round.is_around round.can)
 
-    pub push_asked : (t : SpanningTree) (r : Round) → t ≡ fresh_tree l.tree →
-        r ≡ record { from = f.from; to = f.to; apex = f.apex; amount = f.amount } → CanPush l.net t l.rooms l.artificial r.from r.to r.apex r.amount
-    push_asked t r fresh is = rw is (push_ready t fresh)
+    pub push_asked : (r : Round) → r ≡ record { from = f.from; to = f.to; apex = f.apex; amount = f.amount }
+        → CanPush l.net l.tree l.rooms l.artificial r.from r.to r.apex r.amount
+    push_asked r is = rw is push_ready
 
     exchange_ready : (rooms : List Rooms) (left : Bool) (r : Rid) → length rooms ≡ length l.rooms → IsOut (basis_in l) k f.apex (pos f.amount) r f.out left →
-        CanExchange l.net (fresh_tree l.tree) l.offers rooms (fresh_table l.table) k f.out f.from f.to left f.amount (offered (basis_in l) (offer_at l k))
+        CanExchange l.net l.tree l.offers rooms l.table k f.out f.from f.to left f.amount (offered (basis_in l) (offer_at l k))
     exchange_ready rooms left r size out =
         rw (round.same_from, round.same_to) (can_exchange l k f.apex f.amount f.out left r rooms ok el round.is_around round.can out size)
 
     -- what the exchange asks for
-    pub replace_ready : (t : SpanningTree) (table : Prices) (rooms : List Rooms) (reduced : ℤ) → t ≡ fresh_tree l.tree → table ≡ fresh_table l.table →
-        length rooms ≡ length l.rooms → reduced ≡ offered (basis_in l) (offer_at l k) →
-        CanReplace l.net t l.offers rooms table k reduced f
-    replace_ready t table rooms reduced fresh counted size is = rw (fresh, counted, is) (record {
+    pub replace_ready : (rooms : List Rooms) (reduced : ℤ) → length rooms ≡ length l.rooms → reduced ≡ offered (basis_in l) (offer_at l k) →
+        CanReplace l.net l.tree l.offers rooms l.table k reduced f
+    replace_ready rooms reduced size is = rw is (record {
       at_once = λ e. keep_premises;
       down = λ e. exchange_ready rooms true (down_arc (basis_in l) f.out) size (round.left_out e);
       up = λ e. exchange_ready rooms false (up_arc (basis_in l) f.out) size (round.right_out e);
@@ -239,53 +188,46 @@ module _ (l : Layout) (k : ℕ) (ok : IsLaidOut l) (el : IsEligible (basis_in l)
     went = went_round (basis_in l) k f.apex (pos f.amount) is_basis el round.is_around (omega (arith, ints))
 
     -- what the parts leave
-    pub replaced : (t t' : SpanningTree) (offers : List Offer) (rooms rooms' : List Rooms) (artificial : List ℤ) (table table' : Prices)
-        (reduced : ℤ) → t ≡ fresh_tree l.tree → table ≡ fresh_table l.table → reduced ≡ offered (basis_in l) (offer_at l k) →
-        IsPushedRound l.net t l.rooms rooms l.artificial artificial f.from f.to f.apex f.amount →
-        IsReplaced l.net t t' l.offers offers rooms rooms' table table' k reduced f →
-        IsPivotedLayout l (record { net = l.net; tree = t'; offers = offers; rooms = rooms'; artificial = artificial; table = table' }) k f.apex
-        (pos f.amount) (leaves_by (basis_in l) k f.leaving f.out)
-    replaced t t' offers rooms rooms' artificial table table' reduced fresh counted is pushed done =
+    replaced : (t' : SpanningTree) (offers : List Offer) (rooms rooms' : List Rooms) (artificial : List ℤ) (table' : Prices)
+        (reduced : ℤ) → reduced ≡ offered (basis_in l) (offer_at l k) →
+        IsPushedRound l.net l.tree l.rooms rooms l.artificial artificial f.from f.to f.apex f.amount →
+        IsReplaced l.net l.tree t' l.offers offers rooms rooms' l.table table' k reduced f →
+        IsPivotedLayout l (next_layout l t' offers rooms' artificial table') k f.apex (pos f.amount) (leaves_by (basis_in l) k f.leaving f.out)
+    replaced t' offers rooms rooms' artificial table' reduced is pushed done =
         by_case done
       where
-        pushed_fresh : IsPushedRound l.net l.tree l.rooms rooms l.artificial artificial (from_of (basis_in l) k) (to_of (basis_in l) k) f.apex f.amount
-        pushed_fresh = same_pushed l rooms artificial (from_of (basis_in l) k) (to_of (basis_in l) k) f.apex f.amount
-            (subst (λ v. IsPushedRound l.net (fresh_tree l.tree) l.rooms rooms l.artificial artificial (from_of (basis_in l) k) v f.apex f.amount) round.same_to
-            (subst (λ u. IsPushedRound l.net (fresh_tree l.tree) l.rooms rooms l.artificial artificial u f.to f.apex f.amount) round.same_from
-            (subst (λ s. IsPushedRound l.net s l.rooms rooms l.artificial artificial f.from f.to f.apex f.amount) fresh pushed)))
+        pushed_round : IsPushedRound l.net l.tree l.rooms rooms l.artificial artificial (from_of (basis_in l) k) (to_of (basis_in l) k) f.apex f.amount
+        pushed_round =
+            subst (λ v. IsPushedRound l.net l.tree l.rooms rooms l.artificial artificial (from_of (basis_in l) k) v f.apex f.amount) round.same_to
+            (subst (λ u. IsPushedRound l.net l.tree l.rooms rooms l.artificial artificial u f.to f.apex f.amount) round.same_from pushed)
 
-        exchanged_fresh : (left : Bool) → IsExchangedBy l.net t t' l.offers offers rooms rooms' table table' k f.out f.from f.to left f.amount reduced →
-            IsExchangedBy l.net (fresh_tree l.tree) t' l.offers offers rooms rooms' (fresh_table l.table) table' k f.out (from_of (basis_in l) k)
+        exchanged_ends : (left : Bool) → IsExchangedBy l.net l.tree t' l.offers offers rooms rooms' l.table table' k f.out f.from f.to left f.amount reduced →
+            IsExchangedBy l.net l.tree t' l.offers offers rooms rooms' l.table table' k f.out (from_of (basis_in l) k)
             (to_of (basis_in l) k) left f.amount (offered (basis_in l) (offer_at l k))
-        exchanged_fresh left h =
-            subst (λ v. IsExchangedBy l.net (fresh_tree l.tree) t' l.offers offers rooms rooms' (fresh_table l.table) table' k f.out
+        exchanged_ends left h =
+            subst (λ v. IsExchangedBy l.net l.tree t' l.offers offers rooms rooms' l.table table' k f.out
             (from_of (basis_in l) k) v left f.amount (offered (basis_in l) (offer_at l k))) round.same_to
-            (subst (λ u. IsExchangedBy l.net (fresh_tree l.tree) t' l.offers offers rooms rooms' (fresh_table l.table) table' k f.out u f.to left
+            (subst (λ u. IsExchangedBy l.net l.tree t' l.offers offers rooms rooms' l.table table' k f.out u f.to left
             f.amount (offered (basis_in l) (offer_at l k))) round.same_from
-            (subst (λ z. IsExchangedBy l.net (fresh_tree l.tree) t' l.offers offers rooms rooms' (fresh_table l.table) table' k f.out f.from f.to left
-            f.amount z) is
-            (subst (λ p. IsExchangedBy l.net (fresh_tree l.tree) t' l.offers offers rooms rooms' p table' k f.out f.from f.to left f.amount reduced) counted
-            (subst (λ s. IsExchangedBy l.net s t' l.offers offers rooms rooms' table table' k f.out f.from f.to left f.amount reduced) fresh h))))
+            (subst (λ z. IsExchangedBy l.net l.tree t' l.offers offers rooms rooms' l.table table' k f.out f.from f.to left f.amount z) is h))
 
         by_exchange : (left : Bool) (r : Rid) → IsOut (basis_in l) k f.apex (pos f.amount) r f.out left →
-            IsExchangedBy l.net t t' l.offers offers rooms rooms' table table' k f.out f.from f.to left f.amount reduced →
-            IsPivotedLayout l (record { net = l.net; tree = t'; offers = offers; rooms = rooms'; artificial = artificial; table = table' }) k f.apex
-            (pos f.amount) r
+            IsExchangedBy l.net l.tree t' l.offers offers rooms rooms' l.table table' k f.out f.from f.to left f.amount reduced →
+            IsPivotedLayout l (next_layout l t' offers rooms' artificial table') k f.apex (pos f.amount) r
         by_exchange left r out h =
             exchanged_layout l k f.apex f.amount f.out left r t' offers rooms rooms' artificial table' ok el round.is_apex round.is_around round.can
-            out went pushed_fresh (exchanged_fresh left h)
+            out went pushed_round (exchanged_ends left h)
 
         blocks_at_once : f.leaving ≡ Entering → ¬ CanTake (basis_in l) (entering (basis_in l) k) (pos f.amount +ℤ pos 1)
         blocks_at_once e = leaving_blocks (basis_in l) k f.apex (pos f.amount) (entering (basis_in l) k)
             (subst (λ w. IsLeaving (basis_in l) k f.apex (pos f.amount) (leaves_by (basis_in l) k w f.out)) e round.leaves)
 
-        by_case : IsReplaced l.net t t' l.offers offers rooms rooms' table table' k reduced f →
-            IsPivotedLayout l (record { net = l.net; tree = t'; offers = offers; rooms = rooms'; artificial = artificial; table = table' }) k f.apex
-            (pos f.amount) (leaves_by (basis_in l) k f.leaving f.out)
+        by_case : IsReplaced l.net l.tree t' l.offers offers rooms rooms' l.table table' k reduced f →
+            IsPivotedLayout l (next_layout l t' offers rooms' artificial table') k f.apex (pos f.amount) (leaves_by (basis_in l) k f.leaving f.out)
         by_case (at_once e tree turned same prices) =
-            rw (e, tree ∙ fresh, same, prices ∙ counted)
+            rw (e, tree, same, prices)
             (kept_layout l k f.apex f.amount offers rooms artificial ok el round.is_apex round.is_around round.can (blocks_at_once e) went
-            pushed_fresh turned)
+            pushed_round turned)
         by_case (down e h) = rw e (by_exchange true (down_arc (basis_in l) f.out) (round.left_out e) h)
         by_case (up e h) = rw e (by_exchange false (up_arc (basis_in l) f.out) (round.right_out e) h)
 
@@ -301,6 +243,7 @@ module _ (l : Layout) (k : ℕ) (ok : IsLaidOut l) (el : IsEligible (basis_in l)
           net = h.net;
           amounts = h.amounts;
           mended = h.mended;
+          pivots = h.pivots;
         } in
         let basis : IsBasis (basis_in l') = pivots_keep_bases_lem (basis_in l) (basis_in l') k (pos f.amount) is_basis pivot in
         record {
@@ -309,46 +252,33 @@ module _ (l : Layout) (k : ℕ) (ok : IsLaidOut l) (el : IsEligible (basis_in l)
           falls = pivots_lower_the_pair_lem (basis_in l) (basis_in l') k (pos f.amount) is_basis pivot;
         }
 
-    pub turned : (t t' : SpanningTree) (offers : List Offer) (rooms rooms' : List Rooms) (artificial : List ℤ) (table table' : Prices) (reduced : ℤ)
-        (r : Round) → t ≡ fresh_tree l.tree → table ≡ fresh_table l.table → reduced ≡ offered (basis_in l) (offer_at l k) →
+    pub turned : (t' : SpanningTree) (offers : List Offer) (rooms rooms' : List Rooms) (artificial : List ℤ) (table' : Prices) (pivots : ℕ)
+        (reduced : ℤ) (r : Round) → pivots ≡ l.pivots + 1 → reduced ≡ offered (basis_in l) (offer_at l k) →
         r ≡ record { from = f.from; to = f.to; apex = f.apex; amount = f.amount } →
-        IsPushedRound l.net t l.rooms rooms l.artificial artificial r.from r.to r.apex r.amount →
-        IsReplaced l.net t t' l.offers offers rooms rooms' table table' k reduced f →
-        IsTurnedTo l (record { net = l.net; tree = t'; offers = offers; rooms = rooms'; artificial = artificial; table = table' }) k f.amount
-    turned t t' offers rooms rooms' artificial table table' reduced r fresh counted is same pushed done =
-        pivoted (record { net = l.net; tree = t'; offers = offers; rooms = rooms'; artificial = artificial; table = table' })
-        (replaced t t' offers rooms rooms' artificial table table' reduced fresh counted is
-        (subst (λ (q : Round). IsPushedRound l.net t l.rooms rooms l.artificial artificial q.from q.to q.apex q.amount) same pushed) done)
-
--- a depth is written for each price that is
-pub counted_alike : (g : Network) (t t' : SpanningTree) (offers offers' : List Offer) (rooms rooms' : List Rooms) (table table' : Prices) (k : ℕ) (r : ℤ)
-    (f : Found) → t.measured ≡ 0 → table.priced ≡ 0 → IsReplaced g t t' offers offers' rooms rooms' table table' k r f → t'.measured ≡ table'.priced
-counted_alike g t t' offers offers' rooms rooms' table table' k r f none fresh (at_once e tree turned same prices) =
-    ap (λ (s : SpanningTree). s.measured) tree ∙ (none ∙ sym (ap (λ (p : Prices). p.priced) prices ∙ fresh))
-counted_alike g t t' offers offers' rooms rooms' table table' k r f none fresh (down e h) =
-    let depths = h.measured in
-    let prices = h.prices_moved.priced in
-    omega (arith, depths, prices, fresh)
-counted_alike g t t' offers offers' rooms rooms' table table' k r f none fresh (up e h) =
-    let depths = h.measured in
-    let prices = h.prices_moved.priced in
-    omega (arith, depths, prices, fresh)
+        IsPushedRound l.net l.tree l.rooms rooms l.artificial artificial r.from r.to r.apex r.amount →
+        IsReplaced l.net l.tree t' l.offers offers rooms rooms' l.table table' k reduced f →
+        IsTurnedTo l (laid l.net t' offers rooms' artificial table' pivots) k f.amount
+    turned t' offers rooms rooms' artificial table' pivots reduced r one_more is same pushed done =
+        subst (λ n. IsTurnedTo l (laid l.net t' offers rooms' artificial table' n) k f.amount) (sym one_more)
+        (pivoted (next_layout l t' offers rooms' artificial table')
+        (replaced t' offers rooms rooms' artificial table' reduced is
+        (subst (λ (q : Round). IsPushedRound l.net l.tree l.rooms rooms l.artificial artificial q.from q.to q.apex q.amount) same pushed) done))
 
 -- the same of lists and numbers that are equal
 pub same_pivot : (b : TreeStructure) (l : Layout) (g : Network) (t : SpanningTree) (offers offers' : List Offer) (rooms rooms' : List Rooms)
-    (artificial artificial' : List ℤ) (table : Prices) (k x : ℕ) (moved : ℤ) → basis_in l ≡ b → offers' ≡ offers → rooms' ≡ rooms →
+    (artificial artificial' : List ℤ) (table : Prices) (pivots k x : ℕ) (moved : ℤ) → basis_in l ≡ b → offers' ≡ offers → rooms' ≡ rooms →
     artificial' ≡ artificial → moved ≡ pos x →
-    IsPivot (basis_in l) k (pos x) (basis_in (record { net = g; tree = t; offers = offers; rooms = rooms; artificial = artificial; table = table })) →
-    IsPivot b k moved (basis_in (record { net = g; tree = t; offers = offers'; rooms = rooms'; artificial = artificial'; table = table }))
-same_pivot b l g t offers offers' rooms rooms' artificial artificial' table k x moved view same_offers same_rooms same_artificial same_amount h =
+    IsPivot (basis_in l) k (pos x) (basis_in (laid g t offers rooms artificial table pivots)) →
+    IsPivot b k moved (basis_in (laid g t offers' rooms' artificial' table pivots))
+same_pivot b l g t offers offers' rooms rooms' artificial artificial' table pivots k x moved view same_offers same_rooms same_artificial same_amount h =
     rw (← view, same_offers, same_rooms, same_artificial, same_amount) h
 
 pub same_falls : (b : TreeStructure) (l : Layout) (g : Network) (t : SpanningTree) (offers offers' : List Offer) (rooms rooms' : List Rooms)
-    (artificial artificial' : List ℤ) (table : Prices) → basis_in l ≡ b → offers' ≡ offers → rooms' ≡ rooms → artificial' ≡ artificial →
-    PairFalls (basis_in l) (basis_in (record { net = g; tree = t; offers = offers; rooms = rooms; artificial = artificial; table = table })) →
-    PairFalls b (basis_in (record { net = g; tree = t; offers = offers'; rooms = rooms'; artificial = artificial'; table = table }))
-same_falls b l g t offers offers' rooms rooms' artificial artificial' table view same_offers same_rooms same_artificial h =
-    subst (λ o. PairFalls b (basis_in (record { net = g; tree = t; offers = o; rooms = rooms'; artificial = artificial'; table = table }))) (sym same_offers)
-    (subst (λ r. PairFalls b (basis_in (record { net = g; tree = t; offers = offers; rooms = r; artificial = artificial'; table = table }))) (sym same_rooms)
-    (subst (λ a. PairFalls b (basis_in (record { net = g; tree = t; offers = offers; rooms = rooms; artificial = a; table = table }))) (sym same_artificial)
-    (subst (λ old. PairFalls old (basis_in (record { net = g; tree = t; offers = offers; rooms = rooms; artificial = artificial; table = table }))) view h)))
+    (artificial artificial' : List ℤ) (table : Prices) (pivots : ℕ) → basis_in l ≡ b → offers' ≡ offers → rooms' ≡ rooms → artificial' ≡ artificial →
+    PairFalls (basis_in l) (basis_in (laid g t offers rooms artificial table pivots)) →
+    PairFalls b (basis_in (laid g t offers' rooms' artificial' table pivots))
+same_falls b l g t offers offers' rooms rooms' artificial artificial' table pivots view same_offers same_rooms same_artificial h =
+    subst (λ o. PairFalls b (basis_in (laid g t o rooms' artificial' table pivots))) (sym same_offers)
+    (subst (λ r. PairFalls b (basis_in (laid g t offers r artificial' table pivots))) (sym same_rooms)
+    (subst (λ a. PairFalls b (basis_in (laid g t offers rooms a table pivots))) (sym same_artificial)
+    (subst (λ old. PairFalls old (basis_in (laid g t offers rooms artificial table pivots))) view h)))

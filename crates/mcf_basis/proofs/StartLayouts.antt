@@ -112,6 +112,7 @@ pub record IsStarStored (l : Layout) : Type 0 where
   pub rooms : l.rooms ≡ no_rooms ∷ map (star_rooms l.net) (range_with_len 1 (node_count l.net))
   pub artificial : l.artificial ≡ pos 0 ∷ map (star_amount l.net) (range_with_len 1 (node_count l.net))
   pub table : IsStarTable l.net l.table
+  pub no_pivots : l.pivots ≡ 0
 
 -- a read behind the entry of the root
 behind : {X : Type 0} (y d : X) (f : ℕ → X) (n v : ℕ) → IsNode n v → get_or (y ∷ map f (range_with_len 1 n)) v d ≡ f v
@@ -227,4 +228,4 @@ module _ (l : Layout) (s : IsStarStored l) where
 
   pub star_starts : IsStart l.net (basis_in l)
   unfolding basis_in
-  star_starts = record { of_net = refl; star = s.star; amounts = amounts_are; prices = s.table.prices; priced = s.table.priced; basis = star_basis }
+  star_starts = record { of_net = refl; star = s.star; amounts = amounts_are; prices = s.table.prices; priced = s.table.priced; pivots = s.no_pivots; basis = star_basis }

@@ -17,10 +17,6 @@ pub view_net : (l : Layout) (b : TreeStructure) → basis_in l ≡ b → l.net �
 unfolding basis_in
 view_net l b e = ap (λ x. x.net) e
 
-pub view_counted : (l : Layout) → l.tree.measured ≡ l.table.priced → (basis_in l).tree.measured ≡ (basis_in l).priced
-unfolding basis_in
-view_counted l e = e
-
 pub view_basis : (l : Layout) (b : TreeStructure) → basis_in l ≡ b → IsLaidOut l → IsBasis b
 view_basis l b e ok = subst IsBasis e ok.basis
 

@@ -1,7 +1,7 @@
 -- One pivot of the network simplex, which keeps trees strongly feasible (Cunningham; Ahuja, Magnanti and Orlin, Network Flows,
 -- sections 11.5 and 11.6).
 -- Source: AMO 11.5, 11.6
-use Rattle.std.specs.Prelude.{◌≡◌, ℕ, ◌≤◌, ◌⊎◌, List, ◌∷◌, ◌++◌, length, ℤ, pos, ◌+ℤ◌, ◌<ℤ◌, int_lt}
+use Rattle.std.specs.Prelude.{◌≡◌, ℕ, ◌+◌, ◌≤◌, ◌⊎◌, List, ◌∷◌, ◌++◌, length, ℤ, pos, ◌+ℤ◌, ◌<ℤ◌, int_lt}
 use Rattle.std.specs.List.{All}
 use Rattle.mcf_instance.specs.Flow.{cost}
 use Rattle.mcf_instance.specs.Network.{IsArcNumber, IsNode, node_count, node_sum, when}
@@ -36,14 +36,14 @@ pub record IsLastBlocking (b : TreeStructure) (walk : List Rid) (x : ℤ) (r : R
   pub full : ¬ CanTake b r (x +ℤ pos 1)
   pub free : All (λ q. CanTake b q (x +ℤ pos 1)) behind
 
--- the entering arc leaves at once: the tree and the prices stay, and no write is counted
+-- the entering arc leaves at once: the tree and the prices stay, and nothing of them is written
 pub record IsKept (old new : TreeStructure) : Type 0 where
-  pub tree : new.tree ≡ record old.tree { hung = 0; measured = 0 }
+  pub tree : new.tree ≡ old.tree
   pub prices : new.prices ≡ old.prices
-  pub priced : new.priced ≡ 0
+  pub priced : new.priced ≡ old.priced
 
 -- The entering arc r takes the place of the arc above the node out: the part cut off there hangs on the other end of r, the prices in it
--- change by one number, by which r gets reduced cost 0, and all other prices stay. What is left is a tree again, and each price of the part was written once.
+-- change by one number, by which r gets reduced cost 0, and all other prices stay. What is left is a tree again, and each price and each depth of the part was written once.
 pub record IsExchanged (old : TreeStructure) (r : Rid) (out inner outer : ℕ) (new : TreeStructure) : Type 0 where
   pub is_node : IsNode (node_count old.net) out
   pub ends : ((inner ≡ tail (with_artificial old.net) r) × (outer ≡ head (with_artificial old.net) r)) ⊎
@@ -56,7 +56,8 @@ pub record IsExchanged (old : TreeStructure) (r : Rid) (out inner outer : ℕ) (
   pub change : ℤ
   pub prices : (v : ℕ) → v ≤ node_count old.net → price_at new v ≡ price_at old v +ℤ when (is_above old.tree out v) change
   pub balanced : reduced_at new r.arc ≡ pos 0
-  pub priced : new.priced ≡ length (below_from old.tree out 0)
+  pub priced : new.priced ≡ old.priced + length (below_from old.tree out 0)
+  pub measured : new.tree.measured ≡ old.tree.measured + length (below_from old.tree out 0)
   pub written : IsLocal old.tree new.tree out inner outer
 
 -- the tree and the prices afterwards, where r enters and the arc of q leaves: they stay where r is q, and are exchanged where q lies in the tree
@@ -76,6 +77,7 @@ pub record IsPivot (old : TreeStructure) (k : ℕ) (moved : ℤ) (new : TreeStru
   pub net : new.net ≡ old.net
   pub amounts : new.amounts ≡ (pushed_along (full_state old) (cycle_of old (entering old k) apex) moved).amounts
   pub mended : IsMended old (entering old k) leaves new
+  pub pivots : new.pivots ≡ old.pivots + 1
 
 -- ---- the pair that every pivot lowers
 

@@ -28,4 +28,5 @@ pub record IsStart (g : Network) (b : TreeStructure) : Type 0 where
   pub amounts : b.amounts ≡ start_amounts g
   pub prices : b.prices ≡ start_prices g
   pub priced : b.priced ≡ 0
+  pub pivots : b.pivots ≡ 0
   pub basis : IsBasis b

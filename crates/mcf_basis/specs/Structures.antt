@@ -10,13 +10,14 @@ use Rattle.mcf_tree.specs.SpanningTree.{SpanningTree, depth_of, label_of, parent
 use Rattle.mcf_basis.specs.Artificial.{with_artificial}
 
 -- the amounts are those of the arcs of the net, and then those of the artificial arcs; the prices are those of the nodes from
--- the root, node 0, on; priced counts the prices that were written since the last pivot began
+-- the root, node 0, on; priced counts the writes of a price, and pivots the pivots that led here
 pub record TreeStructure : Type 0 where
   pub net : Network
   pub tree : SpanningTree
   pub amounts : List ℤ
   pub prices : List ℤ
   pub priced : ℕ
+  pub pivots : ℕ
 
 -- the amounts as a state of the net with its artificial arcs
 abbrev pub full_state : TreeStructure → Pseudoflow

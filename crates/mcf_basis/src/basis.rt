@@ -11,6 +11,7 @@ ghost use Rattle.mcf_basis.specs.Private.Layouts.{reduced_limit};
 use crate::offer::Offer;
 use crate::price_table::PriceTable;
 use crate::rooms::Rooms;
+use mcf_counts::Count;
 use mcf_network::Net;
 use mcf_text::{ArcId, NodeId};
 use mcf_tree::Tree;
@@ -30,6 +31,7 @@ pub struct Basis<'n> {
     pub(crate) rooms: Vec<Rooms>,
     pub(crate) artificial: Vec<i128>,
     pub(crate) table: PriceTable,
+    pub(crate) pivots: Count,
 }
 
 impl<'n> Model for Basis<'n> {
@@ -45,6 +47,7 @@ impl<'n> Model for Basis<'n> {
       rooms = b.rooms.items;
       artificial = b.artificial.items;
       table = b.table;
+      pivots = b.pivots.number;
     }) };
 
     ghost invariant = { λ b. IsLaidOut (record {
@@ -54,6 +57,7 @@ impl<'n> Model for Basis<'n> {
       rooms = b.rooms.items;
       artificial = b.artificial.items;
       table = b.table;
+      pivots = b.pivots.number;
     }) };
 }
 

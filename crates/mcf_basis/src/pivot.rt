@@ -21,6 +21,7 @@ use crate::offer::Offer;
 use crate::price_table::PriceTable;
 use crate::push::{Round, push};
 use crate::rooms::Rooms;
+use mcf_counts::Count;
 use mcf_network::Net;
 use mcf_text::{ArcId, NodeId};
 use mcf_tree::Tree;
@@ -40,14 +41,13 @@ impl<'n> Basis<'n> {
     ///
     /// So the tree stays strongly feasible, and the pair of the cost and the sum of the prices falls (Cunningham; Ahuja, Magnanti and
     /// Orlin, Network Flows, sections 11.5 and 11.6). Time goes with the cycle and with the part of the tree that is moved: as many
-    /// depths are written as prices.
+    /// depths are written as prices, each once.
     pub fn pivot(&mut self, k: ArcId) -> Step
         requires { IsEligible self.old k }
         ensures step { IsPivot self.old k (moved_by result) self.new }
         ensures above { (x : ℤ) → result ≡ Moved x → pos 0 <ℤ x }
         ensures basis { IsBasis self.new }
         ensures falls { PairFalls self.old self.new }
-        ensures counted { self.new.tree.measured ≡ self.new.priced }
     {
         let amount = turn(
             self.net,
@@ -56,6 +56,7 @@ impl<'n> Basis<'n> {
             &mut self.rooms,
             &mut self.artificial,
             &mut self.table,
+            &mut self.pivots,
             k,
         );
         step_of(amount)
@@ -82,19 +83,18 @@ fn turn(
     rooms: &mut [Rooms],
     artificial: &mut [i128],
     table: &mut PriceTable,
+    pivots: &mut Count,
     k: ArcId,
 ) -> u64
-    requires laid_out { IsLaidOut (laid net.now tree.old offers.old rooms.old artificial.old table.old) }
-    requires eligible { IsEligible (basis_in (laid net.now tree.old offers.old rooms.old artificial.old table.old)) k }
-    ensures pivot { IsPivot (basis_in (laid net.now tree.old offers.old rooms.old artificial.old table.old)) k (pos result)
-        (basis_in (laid net.now tree.new offers.new rooms.new artificial.new table.new)) }
-    ensures laid_out { IsLaidOut (laid net.now tree.new offers.new rooms.new artificial.new table.new) }
-    ensures falls { PairFalls (basis_in (laid net.now tree.old offers.old rooms.old artificial.old table.old))
-        (basis_in (laid net.now tree.new offers.new rooms.new artificial.new table.new)) }
-    ensures counted { tree.new.measured ≡ table.new.priced }
+    requires laid_out { IsLaidOut (laid net.now tree.old offers.old rooms.old artificial.old table.old pivots.old.number) }
+    requires eligible { IsEligible (basis_in (laid net.now tree.old offers.old rooms.old artificial.old table.old pivots.old.number)) k }
+    ensures pivot { IsPivot (basis_in (laid net.now tree.old offers.old rooms.old artificial.old table.old pivots.old.number)) k (pos result)
+        (basis_in (laid net.now tree.new offers.new rooms.new artificial.new table.new pivots.new.number)) }
+    ensures laid_out { IsLaidOut (laid net.now tree.new offers.new rooms.new artificial.new table.new pivots.new.number) }
+    ensures falls { PairFalls (basis_in (laid net.now tree.old offers.old rooms.old artificial.old table.old pivots.old.number))
+        (basis_in (laid net.now tree.new offers.new rooms.new artificial.new table.new pivots.new.number)) }
 {
-    tree.forget_counts();
-    table.forget_count();
+    pivots.add_one();
     let offer = offers[k.place()];
     let found = find_round(net, tree, rooms, offer, k);
     push(net, tree, rooms, artificial, round_of(found));

@@ -1,7 +1,7 @@
 //! A price for each node, in 64 bits where every price of every basis of the net fits them, else in 128.
 
 ghost use Rattle.std.specs.Prelude.{◌≡◌, ℕ, ◌+◌, ◌^◌, ◌<◌, ◌≤◌, List, drop, length, get_or, pos};
-ghost use Rattle.mcf_basis.specs.Private.Columns.{limit_of, prices_in};
+ghost use Rattle.mcf_basis.specs.Private.Columns.{limit_of, priced_in, prices_in};
 ghost use Rattle.mcf_basis.specs.Private.Layouts.{narrow_limit, wide_limit};
 ghost use Rattle.mcf_basis.specs.Private.Offered.{CanCompare, IsLeastOffer};
 ghost use Rattle.mcf_basis.specs.Private.Turned.{AreRaised, CanRaise};
@@ -9,23 +9,23 @@ ghost use Rattle.mcf_basis.specs.Private.Turned.{AreRaised, CanRaise};
 use crate::least_offer::{least_narrow, least_wide};
 use crate::offer::Offer;
 use crate::reprice::{reprice_narrow, reprice_wide};
+use mcf_counts::Column;
 use mcf_text::NodeId;
 use std::marker::Model;
 
-/// The prices, and how many of them were written.
+/// The prices, and how often one was written.
 ///
 /// A loop over them asks once in which form they are kept, and then runs over numbers of one size.
 #[derive(Drop)]
 pub struct PriceTable {
-    column: Column,
-    priced: u64,
+    column: PriceColumn,
 }
 
 // The same prices, in one of two sizes.
 #[derive(Drop)]
-enum Column {
-    Narrow(Vec<i64>),
-    Wide(Vec<i128>),
+enum PriceColumn {
+    Narrow(Column<i64>),
+    Wide(Column<i128>),
 }
 
 impl Model for PriceTable {
@@ -33,9 +33,9 @@ impl Model for PriceTable {
 
     ghost Value = { Prices };
 
-    ghost use Rattle.mcf_basis.specs.Private.Columns.{limit_of, prices_in};
+    ghost use Rattle.mcf_basis.specs.Private.Columns.{limit_of, priced_in, prices_in};
 
-    ghost view = { λ t. record { prices = prices_in t.column; priced = t.priced; limit = limit_of t.column } };
+    ghost view = { λ t. record { prices = prices_in t.column; priced = priced_in t.column; limit = limit_of t.column } };
 }
 
 impl PriceTable {
@@ -44,8 +44,7 @@ impl PriceTable {
         ensures { result ≡ record { prices = prices.items; priced = 0; limit = narrow_limit } }
     {
         PriceTable {
-            column: Column::Narrow(prices),
-            priced: 0,
+            column: PriceColumn::Narrow(Column::new(prices)),
         }
     }
 
@@ -54,8 +53,7 @@ impl PriceTable {
         ensures { result ≡ record { prices = prices.items; priced = 0; limit = wide_limit } }
     {
         PriceTable {
-            column: Column::Wide(prices),
-            priced: 0,
+            column: PriceColumn::Wide(Column::new(prices)),
         }
     }
 
@@ -65,8 +63,8 @@ impl PriceTable {
         ensures { result ≡ get_or self.now.prices v (pos 0) }
     {
         match &self.column {
-            Column::Narrow(prices) => i128::from(prices[v as usize]),
-            Column::Wide(prices) => prices[v as usize],
+            PriceColumn::Narrow(prices) => i128::from(prices.entries()[v as usize]),
+            PriceColumn::Wide(prices) => prices.entries()[v as usize],
         }
     }
 
@@ -76,8 +74,8 @@ impl PriceTable {
         ensures { IsLeastOffer self.now.prices offers.now begin end result }
     {
         match &self.column {
-            Column::Narrow(prices) => least_narrow(offers, prices, begin, end),
-            Column::Wide(prices) => least_wide(offers, prices, begin, end),
+            PriceColumn::Narrow(prices) => least_narrow(offers, prices.entries(), begin, end),
+            PriceColumn::Wide(prices) => least_wide(offers, prices.entries(), begin, end),
         }
     }
 
@@ -87,40 +85,32 @@ impl PriceTable {
         ensures { prices.new ≡ drop 1 self.now.prices }
     {
         match &self.column {
-            Column::Narrow(narrow) => widen(&narrow[1..], prices),
-            Column::Wide(wide) => prices.copy_from_slice(&wide[1..]),
+            PriceColumn::Narrow(narrow) => widen(&narrow.entries()[1..], prices),
+            PriceColumn::Wide(wide) => prices.copy_from_slice(&wide.entries()[1..]),
         }
     }
 
     /// Adds a change to the prices of listed nodes, none of which is listed twice.
     pub fn reprice(&mut self, part: &[NodeId], change: i128)
-        requires raises { CanRaise part.now change self.old.limit self.old.prices }
-        requires countable { self.old.priced + length part.now < 2 ^ 64 }
+        requires { CanRaise part.now change self.old.limit self.old.prices }
         ensures prices { AreRaised part.now change self.old.prices self.new.prices }
         ensures priced { self.new.priced ≡ self.old.priced + length part.now }
         ensures limit { self.new.limit ≡ self.old.limit }
     {
-        self.priced = reprice_column(&mut self.column, part, change, self.priced);
-    }
-
-    pub fn forget_count(&mut self)
-        ensures { self.new ≡ record self.old { priced = 0 } }
-    {
-        self.priced = 0;
+        reprice_column(&mut self.column, part, change);
     }
 }
 
-// Adds a change to the prices of listed nodes, and answers how many prices were written then, where so many were before.
-fn reprice_column(column: &mut Column, part: &[NodeId], change: i128, before: u64) -> u64
-    requires raises { CanRaise part.now change (limit_of column.old) (prices_in column.old) }
-    requires countable { before + length part.now < 2 ^ 64 }
+// Adds a change to the prices of listed nodes.
+fn reprice_column(column: &mut PriceColumn, part: &[NodeId], change: i128)
+    requires { CanRaise part.now change (limit_of column.old) (prices_in column.old) }
     ensures prices { AreRaised part.now change (prices_in column.old) (prices_in column.new) }
     ensures limit { limit_of column.new ≡ limit_of column.old }
-    ensures counted { result ≡ before + length part.now }
+    ensures counted { priced_in column.new ≡ priced_in column.old + length part.now }
 {
     match column {
-        Column::Narrow(prices) => reprice_narrow(prices, part, change as i64, before),
-        Column::Wide(prices) => reprice_wide(prices, part, change, before),
+        PriceColumn::Narrow(prices) => reprice_narrow(prices, part, change as i64),
+        PriceColumn::Wide(prices) => reprice_wide(prices, part, change),
     }
 }
 

@@ -14,6 +14,7 @@ use crate::basis::Basis;
 use crate::offer::Offer;
 use crate::price_table::PriceTable;
 use crate::rooms::Rooms;
+use mcf_counts::Count;
 use mcf_network::Net;
 use mcf_text::{ArcId, NoMemory, NodeId};
 use mcf_tree::Tree;
@@ -46,6 +47,7 @@ impl<'n> Basis<'n> {
             rooms,
             artificial,
             table,
+            pivots: Count::zero(),
         })
     }
 }

@@ -2,9 +2,9 @@ use Rattle.std.proofs.Common.{◌≡◌, ◌+◌}
 use Rattle.mcf_basis.proofs.Repricing.{IsRepricing}
 use Rattle.mcf_basis.proofs.reprice.reprice_wide.Given as goal
 
--- each price that was written was counted
+-- each price was written once
 abbrev pub invariant-part : goal.invariant-part
 invariant-part l = record {
-  raised : IsRepricing l.fn.part l.fn.change l.fn.prices l.prices l.v-index;
-  counted : l.written ≡ l.fn.before + l.v-index;
+  raised : IsRepricing l.fn.part l.fn.change l.fn.prices.entries l.prices.entries l.v-index;
+  counted : l.prices.written ≡ l.fn.prices.written + l.v-index;
 }

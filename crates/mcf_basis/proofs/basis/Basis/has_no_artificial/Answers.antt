@@ -11,5 +11,6 @@ returns-clause-value c =
       rooms = c.self.inside.rooms.items;
       artificial = c.self.inside.artificial.items;
       table = c.self.inside.table;
+      pivots = c.self.inside.pivots.number;
     } in
     none_left l c.args.self.now c.all_zero.result c.self.view_is c.self.invariant (rw c.deref.ensures.value at c.all_zero.ensures)

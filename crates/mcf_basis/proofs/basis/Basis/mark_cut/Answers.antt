@@ -25,6 +25,7 @@ price-requires c =
       rooms = c.self.inside.rooms.items;
       artificial = c.self.inside.artificial.items;
       table = c.self.inside.table;
+      pivots = c.self.inside.pivots.number;
     } in
     let count : c.node_count-i-end.result ≡ node_count c.args.self.now.net =
     c.node_count-i-end.ensures.value ∙ ap node_count (view_net l c.args.self.now c.self.view_is) in
@@ -40,6 +41,7 @@ mark-requires c =
       rooms = c.self.inside.rooms.items;
       artificial = c.self.inside.artificial.items;
       table = c.self.inside.table;
+      pivots = c.self.inside.pivots.number;
     } in
     let count : c.node_count-i-end.result ≡ node_count c.args.self.now.net =
     c.node_count-i-end.ensures.value ∙ ap node_count (view_net l c.args.self.now c.self.view_is) in
@@ -56,6 +58,7 @@ loop-i-preserved c =
       rooms = c.self.inside.rooms.items;
       artificial = c.self.inside.artificial.items;
       table = c.self.inside.table;
+      pivots = c.self.inside.pivots.number;
     } in
     let b = c.args.self.now in
     let count : c.node_count-i-end.result ≡ node_count b.net = c.node_count-i-end.ensures.value ∙ ap node_count (view_net l b c.self.view_is) in
@@ -76,6 +79,7 @@ returns-clause-marks c v h =
       rooms = c.self.inside.rooms.items;
       artificial = c.self.inside.artificial.items;
       table = c.self.inside.table;
+      pivots = c.self.inside.pivots.number;
     } in
     let count : c.node_count-i-end.result ≡ node_count c.args.self.now.net =
     c.node_count-i-end.ensures.value ∙ ap node_count (view_net l c.args.self.now c.self.view_is) in
@@ -90,6 +94,7 @@ returns-clause-blocks c =
       rooms = c.self.inside.rooms.items;
       artificial = c.self.inside.artificial.items;
       table = c.self.inside.table;
+      pivots = c.self.inside.pivots.number;
     } in
     let count : c.node_count-i-end.result ≡ node_count c.args.self.now.net =
     c.node_count-i-end.ensures.value ∙ ap node_count (view_net l c.args.self.now c.self.view_is) in
@@ -105,5 +110,6 @@ returns-clause-basis c =
       rooms = c.self.inside.rooms.items;
       artificial = c.self.inside.artificial.items;
       table = c.self.inside.table;
+      pivots = c.self.inside.pivots.number;
     } in
     view_basis l c.args.self.now c.self.view_is c.self.invariant

@@ -15,6 +15,7 @@ least_offer-requires c =
       rooms = c.self.inside.rooms.items;
       artificial = c.self.inside.artificial.items;
       table = c.self.inside.table;
+      pivots = c.self.inside.pivots.number;
     } in
     let arcs : length l.net.arcs ≡ length c.args.self.now.net.arcs =
     ap (λ (g : Network). length g.arcs) (view_net l c.args.self.now c.self.view_is) in
@@ -30,6 +31,7 @@ returns-in_err-place-clause-value c =
       rooms = c.self.inside.rooms.items;
       artificial = c.self.inside.artificial.items;
       table = c.self.inside.table;
+      pivots = c.self.inside.pivots.number;
     } in
     let arcs : length l.net.arcs ≡ length c.args.self.now.net.arcs =
     ap (λ (g : Network). length g.arcs) (view_net l c.args.self.now c.self.view_is) in
@@ -47,6 +49,7 @@ returns-clause-value c =
       rooms = c.self.inside.rooms.items;
       artificial = c.self.inside.artificial.items;
       table = c.self.inside.table;
+      pivots = c.self.inside.pivots.number;
     } in
     let arcs : length l.net.arcs ≡ length c.args.self.now.net.arcs =
     ap (λ (g : Network). length g.arcs) (view_net l c.args.self.now c.self.view_is) in

@@ -11,5 +11,6 @@ returns-clause-value c =
       rooms = c.self.inside.rooms.items;
       artificial = c.self.inside.artificial.items;
       table = c.self.inside.table;
+      pivots = c.self.inside.pivots.number;
     } in
     view_net l c.args.self.now c.self.view_is

@@ -15,6 +15,7 @@ index-offer-requires c =
       rooms = c.self.inside.rooms.items;
       artificial = c.self.inside.artificial.items;
       table = c.self.inside.table;
+      pivots = c.self.inside.pivots.number;
     } in
     let h : c.place.result < length c.self.inside.offers.items =
     offer_in_range l c.args.self.now c.args.k c.place.result c.self.view_is c.self.invariant c.requires c.place.ensures in
@@ -30,6 +31,7 @@ get-requires c =
       rooms = c.self.inside.rooms.items;
       artificial = c.self.inside.artificial.items;
       table = c.self.inside.table;
+      pivots = c.self.inside.pivots.number;
     } in
     let o = offer_read l c.args.self.now c.args.k c.place.result c.index-offer.result.now c.self.view_is c.self.invariant c.requires
     c.place.ensures c.index-offer.ensures in
@@ -44,6 +46,7 @@ get-requires-2 c =
       rooms = c.self.inside.rooms.items;
       artificial = c.self.inside.artificial.items;
       table = c.self.inside.table;
+      pivots = c.self.inside.pivots.number;
     } in
     let o = offer_read l c.args.self.now c.args.k c.place.result c.index-offer.result.now c.self.view_is c.self.invariant c.requires
     c.place.ensures c.index-offer.ensures in
@@ -58,6 +61,7 @@ overflow_sub-result c =
       rooms = c.self.inside.rooms.items;
       artificial = c.self.inside.artificial.items;
       table = c.self.inside.table;
+      pivots = c.self.inside.pivots.number;
     } in
     let o = offer_read l c.args.self.now c.args.k c.place.result c.index-offer.result.now c.self.view_is c.self.invariant c.requires
     c.place.ensures c.index-offer.ensures in
@@ -76,6 +80,7 @@ overflow_add-result c =
       rooms = c.self.inside.rooms.items;
       artificial = c.self.inside.artificial.items;
       table = c.self.inside.table;
+      pivots = c.self.inside.pivots.number;
     } in
     let o = offer_read l c.args.self.now c.args.k c.place.result c.index-offer.result.now c.self.view_is c.self.invariant c.requires
     c.place.ensures c.index-offer.ensures in
@@ -99,6 +104,7 @@ returns-clause-small c =
       rooms = c.self.inside.rooms.items;
       artificial = c.self.inside.artificial.items;
       table = c.self.inside.table;
+      pivots = c.self.inside.pivots.number;
     } in
     let o = offer_read l c.args.self.now c.args.k c.place.result c.index-offer.result.now c.self.view_is c.self.invariant c.requires
     c.place.ensures c.index-offer.ensures in
@@ -122,6 +128,7 @@ returns-clause-violation c =
       rooms = c.self.inside.rooms.items;
       artificial = c.self.inside.artificial.items;
       table = c.self.inside.table;
+      pivots = c.self.inside.pivots.number;
     } in
     let o = offer_read l c.args.self.now c.args.k c.place.result c.index-offer.result.now c.self.view_is c.self.invariant c.requires
     c.place.ensures c.index-offer.ensures in
@@ -147,6 +154,7 @@ returns-clause-eligible c =
       rooms = c.self.inside.rooms.items;
       artificial = c.self.inside.artificial.items;
       table = c.self.inside.table;
+      pivots = c.self.inside.pivots.number;
     } in
     let o = offer_read l c.args.self.now c.args.k c.place.result c.index-offer.result.now c.self.view_is c.self.invariant c.requires
     c.place.ensures c.index-offer.ensures in

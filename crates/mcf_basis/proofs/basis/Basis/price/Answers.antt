@@ -13,6 +13,7 @@ get-requires-2 c =
       rooms = c.self.inside.rooms.items;
       artificial = c.self.inside.artificial.items;
       table = c.self.inside.table;
+      pivots = c.self.inside.pivots.number;
     } in
     let p = read_price l c.args.self.now c.args.v c.self.view_is c.self.invariant c.requires.1 in
     rw c.get.ensures p.in_range
@@ -26,6 +27,7 @@ returns-clause-value c =
       rooms = c.self.inside.rooms.items;
       artificial = c.self.inside.artificial.items;
       table = c.self.inside.table;
+      pivots = c.self.inside.pivots.number;
     } in
     let p = read_price l c.args.self.now c.args.v c.self.view_is c.self.invariant c.requires.1 in
     let e : c.get-2.result ≡ get_or c.self.inside.table.prices c.args.v (pos 0) =
@@ -43,6 +45,7 @@ returns-clause-small c =
       rooms = c.self.inside.rooms.items;
       artificial = c.self.inside.artificial.items;
       table = c.self.inside.table;
+      pivots = c.self.inside.pivots.number;
     } in
     let p = read_price l c.args.self.now c.args.v c.self.view_is c.self.invariant c.requires.1 in
     let e : c.get-2.result ≡ get_or c.self.inside.table.prices c.args.v (pos 0) =

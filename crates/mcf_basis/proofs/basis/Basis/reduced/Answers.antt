@@ -15,6 +15,7 @@ ends-src-requires c =
       rooms = c.self.inside.rooms.items;
       artificial = c.self.inside.artificial.items;
       table = c.self.inside.table;
+      pivots = c.self.inside.pivots.number;
     } in
     let net = view_net l c.args.self.now c.self.view_is in
     subst (λ (g : Network). IsArcNumber g c.args.k) (sym net) c.requires
@@ -28,6 +29,7 @@ price-requires c =
       rooms = c.self.inside.rooms.items;
       artificial = c.self.inside.artificial.items;
       table = c.self.inside.table;
+      pivots = c.self.inside.pivots.number;
     } in
     let net = view_net l c.args.self.now c.self.view_is in
     subst (λ (g : Network). IsNode (node_count g) c.ends-src.result.0) net c.ends-src.ensures.src_is_node
@@ -41,6 +43,7 @@ price-requires-2 c =
       rooms = c.self.inside.rooms.items;
       artificial = c.self.inside.artificial.items;
       table = c.self.inside.table;
+      pivots = c.self.inside.pivots.number;
     } in
     let net = view_net l c.args.self.now c.self.view_is in
     subst (λ (g : Network). IsNode (node_count g) c.ends-src.result.1) net c.ends-src.ensures.dst_is_node
@@ -54,6 +57,7 @@ overflow_sub-result c =
       rooms = c.self.inside.rooms.items;
       artificial = c.self.inside.artificial.items;
       table = c.self.inside.table;
+      pivots = c.self.inside.pivots.number;
     } in
     let net = view_net l c.args.self.now c.self.view_is in
     let r = reduced_read c.args.self.now c.self.inside.net.now c.args.k c.ends-src.result.0 c.ends-src.result.1 c.cost.result net
@@ -71,6 +75,7 @@ overflow_add-result c =
       rooms = c.self.inside.rooms.items;
       artificial = c.self.inside.artificial.items;
       table = c.self.inside.table;
+      pivots = c.self.inside.pivots.number;
     } in
     let net = view_net l c.args.self.now c.self.view_is in
     let r = reduced_read c.args.self.now c.self.inside.net.now c.args.k c.ends-src.result.0 c.ends-src.result.1 c.cost.result net
@@ -89,6 +94,7 @@ returns-clause-value c =
       rooms = c.self.inside.rooms.items;
       artificial = c.self.inside.artificial.items;
       table = c.self.inside.table;
+      pivots = c.self.inside.pivots.number;
     } in
     let net = view_net l c.args.self.now c.self.view_is in
     let r = reduced_read c.args.self.now c.self.inside.net.now c.args.k c.ends-src.result.0 c.ends-src.result.1 c.cost.result net
@@ -110,6 +116,7 @@ returns-clause-small c =
       rooms = c.self.inside.rooms.items;
       artificial = c.self.inside.artificial.items;
       table = c.self.inside.table;
+      pivots = c.self.inside.pivots.number;
     } in
     let net = view_net l c.args.self.now c.self.view_is in
     let r = reduced_read c.args.self.now c.self.inside.net.now c.args.k c.ends-src.result.0 c.ends-src.result.1 c.cost.result net

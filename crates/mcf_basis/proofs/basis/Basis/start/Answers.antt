@@ -15,6 +15,7 @@ invariant_of-result c =
       rooms = c.in_ok-rooms.rooms.items;
       artificial = c.in_ok-artificial.artificial.items;
       table = c.in_ok-table.table;
+      pivots = c.zero.result.number;
     } in
     let tree = rw (c.node_count.ensures.value, c.arc_count.ensures.value) at c.in_ok-tree.ensures in
     let offers : c.in_ok-offers.offers.items ≡ map (star_offer g) (range_with_len 1 (length g.arcs)) = c.in_ok-offers.ensures in
@@ -28,6 +29,7 @@ invariant_of-result c =
       rooms = rooms;
       artificial = artificial;
       table = c.in_ok-table.ensures;
+      no_pivots = c.zero.ensures;
     } in
     star_laid_out l stored
 
@@ -41,6 +43,7 @@ returns c =
       rooms = c.in_ok-rooms.rooms.items;
       artificial = c.in_ok-artificial.artificial.items;
       table = c.in_ok-table.table;
+      pivots = c.zero.result.number;
     } in
     let tree = rw (c.node_count.ensures.value, c.arc_count.ensures.value) at c.in_ok-tree.ensures in
     let offers : c.in_ok-offers.offers.items ≡ map (star_offer g) (range_with_len 1 (length g.arcs)) = c.in_ok-offers.ensures in
@@ -54,5 +57,6 @@ returns c =
       rooms = rooms;
       artificial = artificial;
       table = c.in_ok-table.ensures;
+      no_pivots = c.zero.ensures;
     } in
     star_starts l stored

@@ -13,6 +13,7 @@ write_outside-requires-clause-net c =
       rooms = c.self.inside.rooms.items;
       artificial = c.self.inside.artificial.items;
       table = c.self.inside.table;
+      pivots = c.self.inside.pivots.number;
     } in
     c.requires ∙ sym (view_net l c.args.self.now c.self.view_is)
 
@@ -25,6 +26,7 @@ write_tree-requires-clause-size c =
       rooms = c.self.inside.rooms.items;
       artificial = c.self.inside.artificial.items;
       table = c.self.inside.table;
+      pivots = c.self.inside.pivots.number;
     } in
     (can_be_written l c.self.invariant).size
 
@@ -37,6 +39,7 @@ write_tree-requires-clause-low c =
       rooms = c.self.inside.rooms.items;
       artificial = c.self.inside.artificial.items;
       table = c.self.inside.table;
+      pivots = c.self.inside.pivots.number;
     } in
     (can_be_written l c.self.invariant).low
 
@@ -49,6 +52,7 @@ write_tree-requires-clause-apart c =
       rooms = c.self.inside.rooms.items;
       artificial = c.self.inside.artificial.items;
       table = c.self.inside.table;
+      pivots = c.self.inside.pivots.number;
     } in
     (can_be_written l c.self.invariant).apart
 
@@ -61,6 +65,7 @@ returns-clause-value c =
       rooms = c.self.inside.rooms.items;
       artificial = c.self.inside.artificial.items;
       table = c.self.inside.table;
+      pivots = c.self.inside.pivots.number;
     } in
     let outside = rw c.deref.ensures.value at c.write_outside.ensures.each in
     let inside = rw c.deref-2.ensures.value at c.write_tree.ensures.inside in

@@ -14,6 +14,7 @@ write_nodes-requires c =
       rooms = c.self.inside.rooms.items;
       artificial = c.self.inside.artificial.items;
       table = c.self.inside.table;
+      pivots = c.self.inside.pivots.number;
     } in
     let p = read_prices l c.args.self.now c.self.view_is c.self.invariant in
     let some = p.some in
@@ -30,6 +31,7 @@ returns-clause-value c =
       rooms = c.self.inside.rooms.items;
       artificial = c.self.inside.artificial.items;
       table = c.self.inside.table;
+      pivots = c.self.inside.pivots.number;
     } in
     let p = read_prices l c.args.self.now c.self.view_is c.self.invariant in
     c.write_nodes.ensures ∙ p.value
@@ -43,6 +45,7 @@ returns-clause-small c =
       rooms = c.self.inside.rooms.items;
       artificial = c.self.inside.artificial.items;
       table = c.self.inside.table;
+      pivots = c.self.inside.pivots.number;
     } in
     let p = read_prices l c.args.self.now c.self.view_is c.self.invariant in
     subst (All (IsUpTo (3 * 10 ^ 36))) (sym (c.write_nodes.ensures ∙ p.value)) p.small
