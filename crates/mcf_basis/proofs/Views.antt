@@ -17,6 +17,10 @@ pub view_net : (l : Layout) (b : TreeStructure) → basis_in l ≡ b → l.net �
 unfolding basis_in
 view_net l b e = ap (λ x. x.net) e
 
+pub view_pivots : (l : Layout) (b : TreeStructure) → basis_in l ≡ b → l.pivots ≡ b.pivots
+unfolding basis_in
+view_pivots l b e = ap (λ x. x.pivots) e
+
 pub view_basis : (l : Layout) (b : TreeStructure) → basis_in l ≡ b → IsLaidOut l → IsBasis b
 view_basis l b e ok = subst IsBasis e ok.basis
 

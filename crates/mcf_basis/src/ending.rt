@@ -19,11 +19,19 @@ ghost use Rattle.mcf_basis.specs.Violations.{HasNoEligible};
 use crate::basis::Basis;
 use crate::offer::Offer;
 use crate::rooms::Rooms;
+use mcf_counts::Count;
 use mcf_network::{Net, NodeSet, Rid, State};
 use mcf_text::{ArcId, NodeId};
 use mcf_tree::Tree;
 
 impl<'n> Basis<'n> {
+    /// How many pivots led here.
+    pub fn into_pivots(self) -> Count
+        ensures { result.number ≡ self.entry.pivots }
+    {
+        self.pivots
+    }
+
     /// Writes the amounts of the arcs of the net into a state of this net, in time linear in the arcs and the nodes.
     pub fn write_flow(&self, state: &mut State<'_>)
         requires { state.old.net ≡ self.now.net }

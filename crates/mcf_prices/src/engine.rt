@@ -27,6 +27,9 @@ pub trait Engine {
     // How a state was made: the engine when it was asked, the net, the state, and the engine afterwards.
     ghost Made: { Self → Network → Pseudoflow → Self → Type 0 };
 
+    // On which nets the engine may want memory.
+    ghost Wants: { Network → Type 0 } = { λ g. 1 ≤ node_count g };
+
     /// Whether the engine takes a net.
     fn takes(&self, net: &Net) -> bool
         ensures { IsTrue result ↔ Takes net.now };
@@ -35,10 +38,10 @@ pub trait Engine {
     ///
     /// # Errors
     ///
-    /// Want of memory, where a growth was refused; a net without nodes wants none. The engine is then as it was.
+    /// Want of memory, where a growth was refused. The engine is then as it was.
     fn solve<'n>(&mut self, alloc: Global, net: &'n Net) -> Result<Outcome<'n>, NoMemory>
         requires { Takes net.now }
         ensures outcome { IfOk result (IsOutcome (λ s. Made self.old net.now s self.new) net.now) }
-        ensures wants { OnErr result (1 ≤ node_count net.now) }
+        ensures wants { OnErr result (Wants net.now) }
         ensures err { OnErr result (self.new ≡ self.old) };
 }

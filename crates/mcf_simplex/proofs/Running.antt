@@ -14,22 +14,26 @@ use Rattle.mcf_simplex.specs.Runs.Reached.{start, next}
 pub record IsUnderWay {R : Type 0} (Picks : R → TreeStructure → Option ℕ → R → Type 0) (r : R) (b : TreeStructure) (s : R) (c : TreeStructure) : Type 0 where
   pub pivots : ℕ
   pub reached : Reached Picks r b s c pivots
+  pub counted : c.pivots ≡ b.pivots + pivots
   pub basis : IsBasis c
   pub net : c.net ≡ b.net
   pub within : (pos pivots +ℤ rank_of c) ≤ℤ rank_of b
 
 module _ {R : Type 0} (Picks : R → TreeStructure → Option ℕ → R → Type 0) (r : R) (b : TreeStructure) where
   pub under_way_start : IsBasis b → IsUnderWay Picks r b r b
-  under_way_start ok = record { pivots = 0; reached = start; basis = ok; net = refl; within = omega (arith, ints) }
+  under_way_start ok = record { pivots = 0; reached = start; counted = omega arith; basis = ok; net = refl; within = omega (arith, ints) }
 
   pub under_way_next : (s t : R) (c d : TreeStructure) (k : ℕ) (moved : ℤ) → IsUnderWay Picks r b s c → Picks s c (Some k) t
       → IsPivot c k moved d → PairFalls c d → IsBasis d → IsUnderWay Picks r b t d
   under_way_next s t c d k moved w picks pivot falls ok =
       let less = ranks_fall_lem c d w.basis ok pivot.net falls in
       let within = w.within in
+      let before = w.counted in
+      let one_more = pivot.pivots in
       record {
         pivots = w.pivots + 1;
         reached = next w.reached picks pivot falls ok;
+        counted = omega (arith, before, one_more);
         basis = ok;
         net = pivot.net ∙ w.net;
         within = omega (arith, ints, less, within);
@@ -41,6 +45,7 @@ module _ {R : Type 0} (Picks : R → TreeStructure → Option ℕ → R → Type
         rule = s;
         pivots = w.pivots;
         reached = w.reached;
+        counted = w.counted;
         bounded = λ floor least. ranks_bound_pivots_lem b c w.pivots floor ok w.basis w.net w.within least;
         found_none = picks;
       }

@@ -6,9 +6,9 @@ use Rattle.mcf_network.specs.Nets.{IsNet}
 use Rattle.mcf_network.specs.States.{Pseudoflow}
 use Rattle.mcf_network.specs.TreeSolutions.{IsTreeSolution}
 use Rattle.mcf_basis.specs.Structures.{TreeStructure}
-use Rattle.mcf_simplex.specs.Runs.{IsMadeByRun}
+use Rattle.mcf_simplex.specs.Runs.{IsMadeByRun, RuleState}
 
 -- the amounts of a state that was made by a run are a tree solution
 abbrev pub RunsAreTreeSolutions : {R : Type 0} (Picks : R → TreeStructure → Option ℕ → R → Type 0) → Type 0
 RunsAreTreeSolutions {R} Picks =
-    (r : R) (g : Network) (s : Pseudoflow) (t : R) → IsNet g → IsMadeByRun Picks r g s t → IsTreeSolution g s.amounts
+    (old : RuleState R) (g : Network) (s : Pseudoflow) (new : RuleState R) → IsNet g → IsMadeByRun Picks old g s new → IsTreeSolution g s.amounts

@@ -1,7 +1,7 @@
 -- Runs of the network simplex: the rule is asked at each basis in turn, and the arc that it picks enters.
 -- Source: AMO 11.5
-use Rattle.std.specs.Prelude.{◌≡◌, ℕ, ◌+◌, ◌⊎◌, [], ℤ, Option, Some, None}
-use Rattle.mcf_instance.specs.Network.{Network, node_count}
+use Rattle.std.specs.Prelude.{◌≡◌, ℕ, ◌+◌, ℤ, Option, Some, None}
+use Rattle.mcf_instance.specs.Network.{Network}
 use Rattle.mcf_network.specs.States.{Pseudoflow}
 use Rattle.mcf_basis.specs.Bases.{IsBasis}
 use Rattle.mcf_basis.specs.Pivots.{IsPivot, PairFalls}
@@ -16,26 +16,24 @@ pub data Reached {R : Type 0} (Picks : R → TreeStructure → Option ℕ → R 
   next : {s t : R} {c d : TreeStructure} {pivots k : ℕ} {moved : ℤ} → Reached Picks r b s c pivots → Picks s c (Some k) t
       → IsPivot c k moved d → PairFalls c d → IsBasis d → Reached Picks r b t d (pivots + 1)
 
--- A state was made by a run from the rule r to the rule t: from the start basis of the net so many pivots, within the bound, lead to a basis
--- at which the rule finds no arc, and whose amounts are those of the state.
-pub record IsRun {R : Type 0} (Picks : R → TreeStructure → Option ℕ → R → Type 0) (r : R) (g : Network) (s : Pseudoflow) (t : R) : Type 0 where
+-- A state was made by a run from the rule r to the rule t, of so many pivots: they are within the bound, and lead from the start basis of the net
+-- to a basis at which the rule finds no arc, and whose amounts are those of the state.
+pub record IsRun {R : Type 0} (Picks : R → TreeStructure → Option ℕ → R → Type 0) (r : R) (g : Network) (s : Pseudoflow) (t : R) (pivots : ℕ) : Type 0 where
   pub first : TreeStructure
   pub starts : IsStart g first
   pub last : TreeStructure
   pub rule : R
-  pub pivots : ℕ
   pub reached : Reached Picks r first rule last pivots
   pub bounded : IsBounded first pivots
   pub found_none : Picks rule last None t
   pub basis : IsBasis last
   pub state : s ≡ state_of last
 
--- The net has no nodes and the state no amounts: the rule r is not asked, and stays.
-pub record IsEmptyRun {R : Type 0} (r : R) (g : Network) (s : Pseudoflow) (t : R) : Type 0 where
-  pub no_nodes : node_count g ≡ 0
-  pub state : s ≡ record { net = g; amounts = [] }
-  pub unasked : t ≡ r
+-- the engine: its rule, and how many pivots its last solve made
+pub record RuleState (R : Type 0) : Type 0 where
+  pub rule : R
+  pub pivots : ℕ
 
--- A state was made by a run, or, as the net has no nodes, without one.
-abbrev pub IsMadeByRun : {R : Type 0} (Picks : R → TreeStructure → Option ℕ → R → Type 0) → R → Network → Pseudoflow → R → Type 0
-IsMadeByRun Picks r g s t = IsRun Picks r g s t ⊎ IsEmptyRun r g s t
+-- the engine made a state by a run, and has counted its pivots
+abbrev pub IsMadeByRun : {R : Type 0} (Picks : R → TreeStructure → Option ℕ → R → Type 0) → RuleState R → Network → Pseudoflow → RuleState R → Type 0
+IsMadeByRun Picks old g s new = IsRun Picks old.rule g s new.rule new.pivots

@@ -1,5 +1,5 @@
 //! The engine.
-ghost use Rattle.std.specs.Prelude.{◌≡◌, ◌≢◌, ◌≤◌, [], IfOk, OnErr, length, pos};
+ghost use Rattle.std.specs.Prelude.{◌≡◌, ◌≢◌, IfOk, OnErr, length, pos};
 ghost use Rattle.mcf_basis.specs.Laws.{HasNoArtificial};
 ghost use Rattle.mcf_basis.specs.Starts.{IsStart};
 ghost use Rattle.mcf_basis.specs.Structures.{state_of};
@@ -13,6 +13,7 @@ ghost use Rattle.mcf_simplex.specs.Runs.{IsMadeByRun};
 use crate::pricing::Pricing;
 use crate::run::run;
 use mcf_basis::Basis;
+use mcf_counts::Count;
 use mcf_feas::unbalanced;
 use mcf_instance::Side;
 use mcf_network::{Net, NodeSet, State};
@@ -25,30 +26,36 @@ use std::marker::Model;
 /// Network Flows, sections 11.5 and 11.6).
 ///
 /// It takes every net. How it made a state is a relation of its contract, `IsMadeByRun`: from the start basis counted pivots, no
-/// more than a bound, with the rule asked at each basis in turn. All memory is taken before the rule is asked for the first time.
-/// A clause sees the rule, which is what it became when it was asked last.
+/// more than a bound, with the rule asked at each basis in turn. A clause sees the rule, which is what it became when it was asked
+/// last, and how many pivots the last solve made that answered.
 #[derive(Drop)]
 pub struct Simplex<P> {
     rule: P,
+    pivots: Count,
 }
 
 impl<P> Model for Simplex<P> {
-    ghost Value = { P };
+    ghost use Rattle.mcf_simplex.specs.Runs.{RuleState};
 
-    ghost view = { λ s. s.rule };
+    ghost Value = { RuleState P };
+
+    ghost view = { λ s. record { rule = s.rule; pivots = s.pivots.number } };
 }
 
 impl<P: Pricing> Simplex<P> {
-    /// The engine with a rule.
+    /// The engine with a rule, which has made no pivot.
     pub fn new(rule: P) -> Simplex<P>
-        ensures { result ≡ rule }
+        ensures { result ≡ record { rule = rule; pivots = 0 } }
     {
-        Simplex { rule }
+        Simplex {
+            rule,
+            pivots: Count::zero(),
+        }
     }
 
     /// The rule.
     pub fn rule(&self) -> &P
-        ensures { result.now ≡ self.now }
+        ensures { result.now ≡ self.now.rule }
     {
         &self.rule
     }
@@ -60,7 +67,9 @@ impl<P: Pricing> Engine for Simplex<P> {
 
     ghost Takes = { λ _. ⊤ };
 
-    ghost Made = { λ r g s t. IsMadeByRun P.Picks r g s t };
+    ghost Made = { λ old g s new. IsMadeByRun P.Picks old g s new };
+
+    ghost Wants = { λ _. ⊤ };
 
     fn takes(&self, _net: &Net) -> bool {
         true
@@ -68,38 +77,31 @@ impl<P: Pricing> Engine for Simplex<P> {
 
     /// A least state of the net, with its prices, or a node set that shows that there is none.
     ///
+    /// All room is taken by one call, before the rule is asked for the first time; by the form of `solve`, what runs then has no
+    /// allocator, and nothing to refuse.
+    ///
     /// # Errors
     ///
-    /// Want of memory, where a growth was refused; a net without nodes wants none. The rule is then as it was, and was not asked.
+    /// Want of memory, where a growth was refused. The engine is then as it was, and its rule was not asked.
     ///
-    /// Nor is it asked where the supplies don't add up to 0. On any other net it becomes what one run makes of it, whatever the answer.
+    /// Nor is it asked where the supplies don't add up to 0: such a net is answered without a pivot. On any other net it becomes what
+    /// one run makes of it, whatever the answer.
     fn solve<'n>(&mut self, alloc: Global, net: &'n Net) -> Result<Outcome<'n>, NoMemory>
         ensures outcome { IfOk result (IsOutcome (λ s. IsMadeByRun P.Picks self.old net.now s self.new) net.now) }
-        ensures wants { OnErr result (1 ≤ node_count net.now) }
         ensures err { OnErr result (self.new ≡ self.old) }
-        ensures unasked { supply_total net.now ≢ pos 0 → self.new ≡ self.old }
+        ensures unasked { supply_total net.now ≢ pos 0 → IfOk result (λ _. self.new ≡ record { rule = self.old.rule; pivots = 0 }) }
         ensures asked { supply_total net.now ≡ pos 0 → IfOk result (λ _. (s : Pseudoflow) × IsMadeByRun P.Picks self.old net.now s self.new) }
     {
-        if net.node_count() == 0 {
-            return without_nodes(alloc, net);
-        }
         if let Some((set, side)) = unbalanced(alloc, net)? {
+            self.pivots = Count::zero();
             return Ok(Outcome::Blocked(set, side));
         }
         let mut room = Workspace::start(alloc, net)?;
         run(&mut self.rule, &mut room.basis);
-        Ok(finish(room))
+        let ended = finish(room);
+        self.pivots = ended.pivots;
+        Ok(ended.outcome)
     }
-}
-
-// What a net without nodes is answered with: nothing flows, and there are no prices.
-fn without_nodes<'n>(alloc: Global, net: &'n Net) -> Result<Outcome<'n>, NoMemory>
-    requires { node_count net.now ≡ 0 }
-    ensures outcome { IfOk result (IsOutcome (λ s. s ≡ record { net = net.now; amounts = [] }) net.now) }
-    ensures wants { OnErr result (1 ≤ node_count net.now) }
-{
-    let state = State::zero(alloc, net)?;
-    Ok(Outcome::Least(state, Vec::new(alloc)))
 }
 
 // What a run works on, and the room for what it ends with.
@@ -137,15 +139,23 @@ impl<'n> Workspace<'n> {
     }
 }
 
+// What a run ends with.
+#[derive(Drop)]
+struct Ended<'n> {
+    outcome: Outcome<'n>,
+    pivots: Count,
+}
+
 // What the last basis shows: its flow is least, with its prices, or, where an artificial arc still carries something, a node set blocks.
-fn finish<'n>(room: Workspace<'n>) -> Outcome<'n>
+fn finish<'n>(room: Workspace<'n>) -> Ended<'n>
     requires over { HasNoEligible room.basis }
     requires balanced { supply_total room.basis.net ≡ pos 0 }
     requires state { room.state.net ≡ room.basis.net }
     requires cut { length room.cut ≡ node_count room.basis.net }
     requires pricer { room.pricer ≡ node_count room.basis.net }
     requires prices { length room.prices.items ≡ node_count room.basis.net }
-    ensures { IsOutcome (λ s. s ≡ state_of room.entry.basis) room.entry.basis.net result }
+    ensures outcome { IsOutcome (λ s. s ≡ state_of room.entry.basis) room.entry.basis.net result.outcome }
+    ensures pivots { result.pivots.number ≡ room.entry.basis.pivots }
 {
     let Workspace {
         basis,
@@ -154,13 +164,18 @@ fn finish<'n>(room: Workspace<'n>) -> Outcome<'n>
         mut pricer,
         mut prices,
     } = room;
-    if !basis.has_no_artificial() {
+    if basis.has_no_artificial() {
+        basis.write_flow(&mut state);
+        show(&basis, &state, &mut pricer, prices.as_mut_slice());
+        let outcome = Outcome::Least(state, prices);
+        let pivots = basis.into_pivots();
+        Ended { outcome, pivots }
+    } else {
         basis.mark_cut(&mut cut);
-        return Outcome::Blocked(cut, Side::Send);
+        let outcome = Outcome::Blocked(cut, Side::Send);
+        let pivots = basis.into_pivots();
+        Ended { outcome, pivots }
     }
-    basis.write_flow(&mut state);
-    show(&basis, &state, &mut pricer, prices.as_mut_slice());
-    Outcome::Least(state, prices)
 }
 
 // The greatest prices that show the flow of the last basis.

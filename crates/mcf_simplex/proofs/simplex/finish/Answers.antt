@@ -3,8 +3,8 @@ use Rattle.mcf_prices.specs.Outcomes.{AreStatePrices}
 use Rattle.mcf_simplex.proofs.Ending.{written}
 use Rattle.mcf_simplex.proofs.simplex.finish.Goals as goal
 
-pub returns : goal.returns
-returns c =
+pub returns-then-has_no_artificial-clause-outcome : goal.returns-then-has_no_artificial-clause-outcome
+returns-then-has_no_artificial-clause-outcome c =
     let b = c.args.room.basis in
     let room = c.args.room.prices in
     let count = c.show.ensures.count in
