@@ -26,6 +26,31 @@ fn misfit(alloc: Global, text: &[u8]) -> Result<u128, NoMemory> {
     }
 }
 
+// Texts of the first form, as they are written: the answers of worked instances, and then others.
+static ANSWERS: [&[u8]; 21] = [
+    b"s 14\nf 1 2 2\nf 1 3 2\nf 2 3 2\nf 2 4 0\nf 3 4 4\ny 1 0\ny 2 -2\ny 3 -3\ny 4 -4\n",
+    b"s 0\n",
+    b"i 1 take\nx 1\n",
+    b"i 1 send\nx 1\n",
+    b"i 1 send\nx 2\n",
+    b"s 3\nf 1 3 0\nf 1 4 1\nf 2 3 1\nf 2 4 0\ny 1 0\ny 2 0\ny 3 -2\ny 4 -1\n",
+    b"s -4\nf 1 3 1\nf 1 4 0\nf 2 3 0\nf 2 4 1\ny 1 0\ny 2 -3\ny 3 -5\ny 4 0\n",
+    b"i 3 send\nx 1\nx 2\nx 3\n",
+    b"i 2 send\nx 1\nx 2\n",
+    b"s -21\nf 1 1 7\ny 1 0\n",
+    b"s 1000000000000000000000000000\nf 1 2 1000000000000000\ny 1 0\ny 2 -1000000000000\n",
+    b"s -7\nf 1000000 1 -5\ny 1 -1\n",
+    b"s 10000000000000000000000000000000000000\n",
+    b"s -10000000000000000000000000000000000000\nf 1 1 0\n",
+    b"s 3\ny 1 0\ny 2 10000000000000000000000000000000000000\n",
+    b"i 1 take\nx 1000000\n",
+    b"i 3 take\nx 2\nx 3\nx 20\n",
+    b"r 1 kind\n",
+    b"r 3 late-n\n",
+    b"r 1002 total\n",
+    b"r 10000000000000000000000000000000000000 missing\n",
+];
+
 // Texts of the second form, as they are written.
 static SPARSE_ANSWERS: [&[u8]; 8] = [
     b"v 2\ns 14\ng 1 2\ng 2 2\ng 3 2\ng 5 4\ny 1 0\ny 2 -2\ny 3 -3\ny 4 -4\n",
@@ -73,22 +98,7 @@ static NO_SPARSE_ANSWERS: [(&[u8], u128); 26] = [
 
 #[test]
 fn answers_are_written_as_they_were_read(rt: HostRuntime) -> Result<(), Fail> {
-    for text in [
-        b"s 14\nf 1 2 2\nf 1 3 2\nf 2 3 2\nf 2 4 0\nf 3 4 4\ny 1 0\ny 2 -2\ny 3 -3\ny 4 -4\n".as_slice(),
-        b"s 0\n".as_slice(),
-        b"s -7\nf 1000000 1 -5\ny 1 -1\n".as_slice(),
-        b"s 10000000000000000000000000000000000000\n".as_slice(),
-        b"s -10000000000000000000000000000000000000\nf 1 1 0\n".as_slice(),
-        b"s 3\ny 1 0\ny 2 10000000000000000000000000000000000000\n".as_slice(),
-        b"i 1 send\nx 1\n".as_slice(),
-        b"i 1 take\nx 1000000\n".as_slice(),
-        b"i 3 take\nx 2\nx 3\nx 20\n".as_slice(),
-        b"r 1 kind\n".as_slice(),
-        b"r 3 late-n\n".as_slice(),
-        b"r 2 no-p\n".as_slice(),
-        b"r 1002 total\n".as_slice(),
-        b"r 10000000000000000000000000000000000000 missing\n".as_slice(),
-    ] {
+    for text in ANSWERS {
         assert_eq!(rt; rewritten(rt.alloc(), text)?.as_slice(), text);
     }
     Ok(())
