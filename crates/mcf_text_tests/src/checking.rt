@@ -6,10 +6,12 @@ use std::fmt;
 use std::io::{self, ErrorKind, Write};
 use std::test::Fail;
 
-const FOUR_NODES: &str =
+/// Five arcs between four nodes.
+pub const FOUR_NODES: &str =
     "p min 4 5\nn 1 4\nn 4 -4\na 1 2 0 4 2\na 1 3 0 2 2\na 2 3 0 2 1\na 2 4 0 3 3\na 3 4 0 5 1\n";
 
-const LEAST: &str =
+/// Its answer.
+pub const LEAST: &str =
     "s 14\nf 1 2 2\nf 1 3 2\nf 2 3 2\nf 2 4 0\nf 3 4 4\ny 1 0\ny 2 -2\ny 3 -3\ny 4 -4\n";
 
 const TOO_NARROW: &str = "p min 2 1\nn 1 3\nn 2 -3\na 1 2 0 2 1\n";
@@ -18,11 +20,26 @@ const LATE_NODE: &str = "p min 2 1\na 1 2 -3 -3 1\nn 1 -3\n";
 
 const TWO_ROWS_ONE_COLUMN: &str = "p asn 4 2\nn 1\nn 2\na 1 3 1\na 2 3 1\n";
 
-// Whether this is printed of the verdict on an answer.
-fn is_printed(alloc: Global, instance: &str, answer: &str, want: &str) -> Result<bool, NoMemory> {
-    let verdict = check(alloc, instance.as_bytes(), answer.as_bytes())?;
+/// Whether this is printed of the verdict on an answer.
+pub fn is_printed_of(
+    alloc: Global,
+    instance: &[u8],
+    answer: &[u8],
+    want: &[u8],
+) -> Result<bool, NoMemory> {
+    let verdict = check(alloc, instance, answer)?;
     let printed = format!(in alloc; "{verdict}")?;
-    Ok(printed.as_str() == want)
+    Ok(printed.as_bytes() == want)
+}
+
+// Whether it is printed of the verdict on an answer that is text.
+fn is_printed(alloc: Global, instance: &str, answer: &str, want: &str) -> Result<bool, NoMemory> {
+    is_printed_of(
+        alloc,
+        instance.as_bytes(),
+        answer.as_bytes(),
+        want.as_bytes(),
+    )
 }
 
 static FLOWS: [(&str, &str); 16] = [

@@ -12,6 +12,8 @@ mod arc_lines;
 #[cfg(test)]
 mod checking;
 #[cfg(test)]
+mod cut_answers;
+#[cfg(test)]
 mod edited_texts;
 #[cfg(test)]
 mod feeding;
