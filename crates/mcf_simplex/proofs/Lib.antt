@@ -3,3 +3,4 @@ pub mod Firsts
 pub mod Rounds
 pub mod RunLaws
 pub mod Running
+pub mod Turns

@@ -10,6 +10,7 @@ pub use Rattle.mcf_network.specs.TreeSolutions
 pub use Rattle.mcf_prices.specs.Outcomes
 pub mod Picking
 pub mod Blocks
+pub mod Stretches
 pub mod Runs
 pub mod Laws
 pub mod Private

@@ -5,7 +5,7 @@ ghost use Rattle.mcf_basis.specs.Pivots.{IsEligible};
 ghost use Rattle.mcf_basis.specs.Violations.{HasNoEligible};
 ghost use Rattle.mcf_simplex.specs.Blocks.{IsBlockPick, IsMoreViolated, IsRoundPick, arc_in_round, block_end, start_arc};
 
-use crate::pricing::Pricing;
+use crate::pricing::{Picked, Pricing};
 use mcf_basis::Basis;
 use mcf_text::ArcId;
 use std::marker::Model;
@@ -54,13 +54,6 @@ impl Pricing for Block {
         self.next = picked.next;
         picked.arc
     }
-}
-
-// What a pick gives, and with which arc the next one begins.
-#[derive(Clone, Copy)]
-struct Picked {
-    arc: Option<ArcId>,
-    next: u32,
 }
 
 // The most violated arc of the first block that has an eligible one.

@@ -2,7 +2,7 @@
 
 //! The network simplex, over any lawful pricing rule.
 //!
-//! It stands on `mcf_basis`, `mcf_feas` and `mcf_prices`. Definitions stand in `specs/`: `Picking` and `Blocks` say which arc a rule picks, `Runs` how a state
+//! It stands on `mcf_basis`, `mcf_feas` and `mcf_prices`. Definitions stand in `specs/`: `Picking`, `Blocks` and `Stretches` say which arc a rule picks, `Runs` how a state
 //! was made, and `Laws` what holds of such states.
 
 mod best;
@@ -12,6 +12,7 @@ mod laws;
 mod pricing;
 mod run;
 mod simplex;
+mod wide;
 
 pub use best::Best;
 pub use block::Block;
@@ -20,3 +21,4 @@ pub use laws::runs_are_tree_solutions;
 pub use mcf_basis::{Basis, Step};
 pub use pricing::Pricing;
 pub use simplex::Simplex;
+pub use wide::Wide;

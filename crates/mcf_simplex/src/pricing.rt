@@ -20,3 +20,10 @@ pub trait Pricing {
         ensures none { IfNone result (HasNoEligible basis.now) }
         ensures picks { Picks self.old basis.now result self.new };
 }
+
+// What a pick of a rule of blocks gives, and where the next one begins.
+#[derive(Clone, Copy)]
+pub(crate) struct Picked {
+    pub(crate) arc: Option<ArcId>,
+    pub(crate) next: u32,
+}
