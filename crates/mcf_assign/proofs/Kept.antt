@@ -1,5 +1,5 @@
 -- What a matching keeps, and what a search did to it.
-use Rattle.std.proofs.Common.{◌≡◌, ◌≢◌, ℕ, ◌-◌, ◌^◌, ◌<◌, ◌≤◌, Bool, true, ltb, List, [], ◌∷◌, ◌++◌, length, get_or, take, replicate, None, Some, ℤ, pos, refl}
+use Rattle.std.proofs.Common.{◌≡◌, ◌+◌, ◌≢◌, ℕ, ◌-◌, ◌^◌, ◌<◌, ◌≤◌, Bool, true, ltb, List, [], ◌∷◌, ◌++◌, length, get_or, take, replicate, None, Some, ℤ, pos, refl}
 use Rattle.std.proofs.Common.{false, sym, ◌∙◌, ap, subst, arith, ◌⊎◌, inl, inr, vec_capacity}
 use Rattle.std.specs.List.{All, Contains}
 use Rattle.std.proofs.lemmas.Int.{ints}
@@ -114,10 +114,12 @@ module _ (s : Pseudoflow) (y z : List ℤ) (q : Search) (row : ℕ) (order : Lis
       closed (rid t.arc false) (forth_room s t.arc ok l.arc l.idle)
       (ended.order_ok.reachable (row_of s t.arc) (row_is s t.arc ok l.arc).0 l.from set closed has)
 
-  pub grown_from : (s' : Pseudoflow) (z' : List ℤ) (l0 l1 : List ℕ) (r : List Bool) → IsExtended s s' z row c → IsChangedWithin s s' q c
+  pub grown_from : (s' : Pseudoflow) (z' : List ℤ) (l0 l1 : List ℕ) (r : List Bool) (n0 n1 : ℕ) → IsExtended s s' z row c → IsChangedWithin s s' q c
       → l1 ≡ order ++ c ∷ [] → z' ≡ z
-      → IsGrown (record { flow = s; prices = y; settled = l0; reached = r }) row (record { flow = s'; prices = z'; settled = l1; reached = r })
-  grown_from s' z' l0 l1 r ext changed e ez =
+      → n1 ≡ n0 + 1
+      → IsGrown (record { flow = s; prices = y; settled = l0; reached = r; searches = n0 }) row
+      (record { flow = s'; prices = z'; settled = l1; reached = r; searches = n1 })
+  grown_from s' z' l0 l1 r n0 n1 ext changed e ez counted =
       record {
         net = ext.net;
         path = ext.path;
@@ -141,6 +143,7 @@ module _ (s : Pseudoflow) (y z : List ℤ) (q : Search) (row : ℕ) (order : Lis
         prices = λ v n none.
             ap (λ (x : List ℤ). at_node x v) ez ∙ raised.others v n (λ h. none (subst (λ l. Contains l v) (sym e) (listed_more v n h)));
         reached = refl;
+        searches = counted;
       }
     where
       row_now : (v : ℕ) → IsMatchedRow s v ⊎ (v ≡ row) → IsMatchedRow s' v
@@ -225,11 +228,12 @@ kept_grown s s' y z mates' tables tables' reached row t ok shown near first coun
 
 -- ---- none more
 
-pub stopped_from : (s : Pseudoflow) (y y' y0 : List ℤ) (q : Search) (row : ℕ) (order l0 list : List ℕ) (r0 set : List Bool) → IsPartialMatching s
+pub stopped_from : (s : Pseudoflow) (y y' y0 : List ℤ) (q : Search) (row : ℕ) (order l0 list : List ℕ) (r0 set : List Bool) (n0 n1 : ℕ) → IsPartialMatching s
     → IsEnded s y q row order → q.best ≡ None → length set ≡ node_count s.net
-    → ((v : ℕ) → IsNode (node_count s.net) v → (in_table set v ≡ true → Contains order v) × (Contains order v → in_table set v ≡ true)) → y' ≡ y0 → list ≡ order
-    → IsStopped (record { flow = s; prices = y0; settled = l0; reached = r0 }) row (record { flow = s; prices = y'; settled = list; reached = set })
-stopped_from s y y' y0 q row order l0 list r0 set ok ended none count members ep el =
+    → ((v : ℕ) → IsNode (node_count s.net) v → (in_table set v ≡ true → Contains order v) × (Contains order v → in_table set v ≡ true)) → y' ≡ y0 → list ≡ order → n1 ≡ n0 + 1
+    → IsStopped (record { flow = s; prices = y0; settled = l0; reached = r0; searches = n0 }) row
+    (record { flow = s; prices = y'; settled = list; reached = set; searches = n1 })
+stopped_from s y y' y0 q row order l0 list r0 set n0 n1 ok ended none count members ep el counted =
     record {
       flow = refl;
       prices = ep;
@@ -238,6 +242,7 @@ stopped_from s y y' y0 q row order l0 list r0 set ok ended none count members ep
       all = λ v n. subst (λ l. (in_table set v ≡ true → Contains l v) × (Contains l v → in_table set v ≡ true)) (sym el) (members v n);
       reachable = λ v n. (λ h. o.reachable v n (out v n h), λ r. into v n (r (in_table q.settled) stuck.closed ended.search.source_settled));
       blocks = stuck_sets_block_lem s (in_table set) ok.flow now;
+      searches = counted;
     }
   where
     o : IsOrder s q row order

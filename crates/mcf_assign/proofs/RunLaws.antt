@@ -5,7 +5,7 @@ use Rattle.std.specs.List.{All, Contains, filter, range_with_len}
 use Rattle.std.proofs.lemmas.Bool.{cases_eq}
 use Rattle.std.proofs.lemmas.Bool.Decides.{Decides-int_eq}
 use Rattle.std.proofs.lemmas.Int.{ints}
-use Rattle.std.proofs.lemmas.List.{append-nil}
+use Rattle.std.proofs.lemmas.List.{append-nil, length-append}
 use Rattle.std.proofs.lemmas.List.Elements.{All-from_get_or, All-weaker, Contains-append_cases, Contains-append_left, Contains-push, Contains-push_cases}
 use Rattle.std.proofs.lemmas.List.Elements.{filter-append}
 use Rattle.mcf_instance.specs.declared.problem.Side.TheVariants.{Send}
@@ -135,6 +135,16 @@ run_matched g rows n v (more {rows = before} {row = row} {m = m} run is_row free
 run_matched g rows n v (priced {m = m} run same shown) listed =
     subst (λ (s : Pseudoflow). IsMatchedRow s v) (sym same.flow) (run_matched g rows m v run listed)
 
+-- one search for each row
+run_searches : (g : Network) (rows : List ℕ) (m : Assigned) → Run g rows m → m.searches ≡ length rows
+run_searches g rows m (start first) = first.searches
+run_searches g rows n (more {rows = before} {row = row} {m = m} run is_row free grown shown) =
+    let counted : n.searches ≡ m.searches + 1 = grown.searches in
+    let was = run_searches g before m run in
+    let longer = length-append before (row ∷ []) in
+    omega (arith, counted, was, longer)
+run_searches g rows n (priced {m = m} run same shown) = same.searches ∙ run_searches g rows m run
+
 -- ---- one node more
 
 module _ (g : Network) (v : ℕ) (m : Assigned) (node : IsNode (node_count g) v) (run : Run g (sources_to g (v - 1)) m) where
@@ -173,6 +183,9 @@ module _ (g : Network) (v : ℕ) (m : Assigned) (node : IsNode (node_count g) v)
         blocked = n;
         stopped = stopped;
         reached = refl;
+        counted = refl;
+        once = let counted : n.searches ≡ m.searches + 1 = stopped.searches in
+            let was = run_searches g (sources_to g (v - 1)) m run in omega (arith, counted, was);
       }
 
 -- ---- the end
@@ -218,11 +231,17 @@ module _ (g : Network) (m : Assigned) (s : Pseudoflow) (prices : List ℤ) (run 
       let P : Pseudoflow → Type 0 = λ (t : Pseudoflow). AreStatePrices m.flow.net t prices → IsLeastState g t in
       subst P (sym same) (λ p. least_from_prices g m.flow prices feasible_end p.greatest) shown
 
-  pub end_made : IsMatchedByRows g s
-  end_made = record { last = m; run = run; ends = sym same }
+  pub end_made : (searches : ℕ) → searches ≡ m.searches → IsMatchedByRows g s searches
+  end_made searches counted = record {
+    last = m;
+    run = run;
+    ends = sym same;
+    counted = sym counted;
+    once = counted ∙ run_searches g (sources g) m run;
+  }
 
-pub end_blocked : (g : Network) (table : List Bool) → IsBlockedAtRow g table → supply_total g ≡ pos 0 → IsChosenBlock g table Send
-end_blocked g table at balanced =
+pub end_blocked : (g : Network) (table : List Bool) (searches : ℕ) → IsBlockedAtRow g table searches → supply_total g ≡ pos 0 → IsChosenBlock g table Send
+end_blocked g table searches at balanced =
     let net = run_net g at.before at.last at.run in
     let stopped = at.stopped in
     let one_per_node = stopped.one_per_node in

@@ -1,6 +1,6 @@
 -- What a matching is to its callers, and what one search does to it.
 -- Source: AMO 12.4
-use Rattle.std.specs.Prelude.{◌≡◌, ◌≢◌, ◌↔◌, ℕ, Bool, true, List, ◌∷◌, length, ℤ, pos, ◌⊎◌}
+use Rattle.std.specs.Prelude.{◌≡◌, ◌≢◌, ◌↔◌, ℕ, ◌+◌, Bool, true, List, ◌∷◌, length, ℤ, pos, ◌⊎◌}
 use Rattle.std.specs.List.{All, AllPairs, Contains}
 use Rattle.mcf_instance.specs.declared.problem.Side.TheVariants.{Send}
 use Rattle.mcf_instance.specs.Blocking.{Blocks, in_table}
@@ -15,12 +15,13 @@ use Rattle.mcf_assign.specs.Matchings.{AreMatchingPrices, IsColumn, IsLeastMatch
 use Rattle.mcf_assign.specs.Matchings.{column_of, row_of}
 
 -- the amounts, the prices, the nodes that the last search settled in their order, and the table of the set that the
--- last search reached that found no path
+-- last search reached that found no path, and how many searches there were
 pub record Assigned : Type 0 where
   pub flow : Pseudoflow
   pub prices : List ℤ
   pub settled : List ℕ
   pub reached : List Bool
+  pub searches : ℕ
 
 -- an arc of amount 1 has an end there
 abbrev pub IsMatched : Pseudoflow → ℕ → Type 0
@@ -73,6 +74,7 @@ pub record IsGrown (old : Assigned) (row : ℕ) (new : Assigned) : Type 0 where
   pub reachable : (v : ℕ) → Contains new.settled v → IsReachable old.flow row v
   pub prices : (v : ℕ) → IsNode (node_count old.flow.net) v → ¬ Contains new.settled v → at_node new.prices v ≡ at_node old.prices v
   pub reached : new.reached ≡ old.reached
+  pub searches : new.searches ≡ old.searches + 1
 
 -- no amount and no price changed; what was reached is what was settled, and that is the row and every node to which
 -- residual arcs with room lead from it; it must send more than it can
@@ -84,6 +86,7 @@ pub record IsStopped (old : Assigned) (row : ℕ) (new : Assigned) : Type 0 wher
   pub all : (v : ℕ) → IsNode (node_count old.flow.net) v → (in_table new.reached v ≡ true) ↔ Contains new.settled v
   pub reachable : (v : ℕ) → IsNode (node_count old.flow.net) v → (in_table new.reached v ≡ true) ↔ IsReachable old.flow row v
   pub blocks : Blocks old.flow.net (in_table new.reached) Send
+  pub searches : new.searches ≡ old.searches + 1
 
 -- prices alone changed
 -- Source: Goldberg and Kennedy 1995
@@ -91,6 +94,7 @@ pub record IsRepriced (old new : Assigned) : Type 0 where
   pub flow : new.flow ≡ old.flow
   pub settled : new.settled ≡ old.settled
   pub reached : new.reached ≡ old.reached
+  pub searches : new.searches ≡ old.searches
 
 -- what one search from a row does
 abbrev pub IsExtension : Assigned → ℕ → Extended → Assigned → Type 0

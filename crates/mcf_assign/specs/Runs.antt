@@ -1,6 +1,6 @@
 -- How a matching comes about: one search for each row, ascending.
 -- Source: AMO 9.7, 12.4
-use Rattle.std.specs.Prelude.{◌≡◌, ◌≢◌, ℕ, Bool, List, [], ◌∷◌, ◌++◌, length, replicate, pos, ◌⊎◌}
+use Rattle.std.specs.Prelude.{◌≡◌, ◌≢◌, ℕ, ◌+◌, Bool, List, [], ◌∷◌, ◌++◌, length, replicate, pos, ◌⊎◌}
 use Rattle.std.specs.List.{filter, range_with_len}
 use Rattle.std.specs.Ordering.{int_eq}
 use Rattle.mcf_instance.specs.Network.{Network, at_node, node_count}
@@ -30,6 +30,7 @@ pub record IsStart (g : Network) (m : Assigned) : Type 0 where
   pub flow : m.flow ≡ record { net = g; amounts = replicate (length g.arcs) (pos 0) }
   pub settled : m.settled ≡ []
   pub reached : m.reached ≡ no_nodes (node_count g)
+  pub searches : m.searches ≡ 0
   pub shown : IsShownMatching m
 
 -- reached from the matching without pairs by one search from each row of a list, in that order, each of which matched
@@ -41,15 +42,17 @@ pub data Run (g : Network) : List ℕ → Assigned → Type 0 where
       → IsExtension m row Matched n → IsShownMatching n → Run g (rows ++ row ∷ []) n
   priced : {rows : List ℕ} {m n : Assigned} → Run g rows m → IsRepriced m n → IsShownMatching n → Run g rows n
 
--- one search from each source node, ascending, matched its row, and the last left this state
-pub record IsMatchedByRows (g : Network) (s : Pseudoflow) : Type 0 where
+-- one search from each source node, ascending, matched its row, and the last left this state; there were so many searches
+pub record IsMatchedByRows (g : Network) (s : Pseudoflow) (searches : ℕ) : Type 0 where
   pub last : Assigned
   pub run : Run g (sources g) last
   pub ends : last.flow ≡ s
+  pub counted : last.searches ≡ searches
+  pub once : searches ≡ length (sources g)
 
 -- one search from each source node before a row, ascending, matched its row; that from the row found no path, and
--- reached this set
-pub record IsBlockedAtRow (g : Network) (table : List Bool) : Type 0 where
+-- reached this set; there were so many searches
+pub record IsBlockedAtRow (g : Network) (table : List Bool) (searches : ℕ) : Type 0 where
   pub before : List ℕ
   pub row : ℕ
   pub rest : List ℕ
@@ -61,8 +64,10 @@ pub record IsBlockedAtRow (g : Network) (table : List Bool) : Type 0 where
   pub blocked : Assigned
   pub stopped : IsExtension last row Blocked blocked
   pub reached : blocked.reached ≡ table
+  pub counted : blocked.searches ≡ searches
+  pub once : searches ≡ length before + 1
 
--- a blocked answer comes from supplies that don't add up to 0, or is what the last search reached
-abbrev pub IsReachedSet : Network → Outcome → Type 0
-IsReachedSet g (Least s prices) = Unit {0}
-IsReachedSet g (NoFlow table side) = (supply_total g ≢ pos 0) ⊎ IsBlockedAtRow g table
+-- a blocked answer comes from supplies that don't add up to 0, without a search, or is what the last of so many searches reached
+abbrev pub IsReachedSet : Network → ℕ → Outcome → Type 0
+IsReachedSet g searches (Least s prices) = Unit {0}
+IsReachedSet g searches (NoFlow table side) = ((supply_total g ≢ pos 0) × (searches ≡ 0)) ⊎ IsBlockedAtRow g table searches

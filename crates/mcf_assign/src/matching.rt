@@ -15,6 +15,7 @@ use crate::prices::Prices;
 use crate::rows::{MOST_PICKS, NO_ARC, RowArc, Rows};
 use crate::search::Tables;
 use crate::update::Update;
+use mcf_counts::Count;
 use mcf_network::{Net, NodeSet, State};
 use mcf_prices::Heap;
 use mcf_text::{NoMemory, NodeId, copies};
@@ -24,7 +25,8 @@ use std::marker::Model;
 /// A partial matching of the net of an assignment, with prices that show that no other matches the same rows for less.
 ///
 /// Rows are the nodes of supply 1, columns those of supply -1. A clause sees the amounts, the prices, the nodes that
-/// the last search settled, and the table of the set that the last search reached that found no path.
+/// the last search settled, the table of the set that the last search reached that found no path, and how many
+/// searches there were.
 #[derive(Drop)]
 pub struct Matching<'n> {
     state: State<'n>,
@@ -35,6 +37,7 @@ pub struct Matching<'n> {
     tables: Tables,
     reached: NodeSet,
     update: Update,
+    searches: Count,
 }
 
 impl<'n> Model for Matching<'n> {
@@ -44,7 +47,7 @@ impl<'n> Model for Matching<'n> {
 
     ghost use Rattle.mcf_assign.specs.Private.Keeping.{IsKept};
 
-    ghost view = { λ a. record { flow = a.state; prices = a.prices; settled = a.tables.order.items; reached = a.reached } };
+    ghost view = { λ a. record { flow = a.state; prices = a.prices; settled = a.tables.order.items; reached = a.reached; searches = a.searches.number } };
 
     ghost use Rattle.mcf_instance.specs.Network.{node_count};
     ghost use Rattle.mcf_assign.specs.Private.RowLists.{AreRows};
@@ -68,6 +71,7 @@ impl<'n> Matching<'n> {
         ensures shown { IfOk result IsShownMatching }
         ensures settled { IfOk result (λ m. m.settled ≡ []) }
         ensures reached { IfOk result (λ m. m.reached ≡ no_nodes (node_count net.now)) }
+        ensures searches { IfOk result (λ m. m.searches ≡ 0) }
         ensures wants { OnErr result (1 ≤ node_count net.now) }
     {
         let heap = Heap::new(alloc, net)?;
@@ -84,6 +88,7 @@ impl<'n> Matching<'n> {
         ensures shown { IfOk result IsShownMatching }
         ensures settled { IfOk result (λ m. m.settled ≡ []) }
         ensures reached { IfOk result (λ m. m.reached ≡ no_nodes (node_count net.now)) }
+        ensures searches { IfOk result (λ m. m.searches ≡ 0) }
         ensures wants { OnErr result (1 ≤ node_count net.now) }
     {
         let state = State::zero(alloc, net)?;
@@ -100,6 +105,7 @@ impl<'n> Matching<'n> {
             tables: Tables::new(alloc, net, heap)?,
             reached: NodeSet::new(alloc, net)?,
             update: Update::new(alloc, net)?,
+            searches: Count::zero(),
         })
     }
 
@@ -121,6 +127,7 @@ impl<'n> Matching<'n> {
         let found = self
             .tables
             .search(&self.state, &self.rows, prices, lows, mates, picks, row);
+        self.searches.add_one();
         match found {
             Some(target) => {
                 let mates = self.mates.as_mut_slice();
@@ -200,12 +207,13 @@ impl<'n> Matching<'n> {
             tables: _,
             reached: _,
             update: _,
+            searches: _,
         } = self;
         (state, prices.into_wide())
     }
 
-    /// The state and the prices, with the heap, in which no node waits any more.
-    pub(crate) fn into_parts_and_heap(self) -> (State<'n>, Vec<i128>, Heap)
+    /// The state and the prices, with the heap, in which no node waits any more, and the count of the searches.
+    pub(crate) fn into_all_parts(self) -> (State<'n>, Vec<i128>, Heap, Count)
         ensures state { result.0 ≡ self.entry.flow }
         ensures prices { result.1.items ≡ self.entry.prices }
         ensures small { All (IsUpTo (10 ^ 22)) self.entry.prices }
@@ -213,6 +221,7 @@ impl<'n> Matching<'n> {
         ensures none { NoneWaits result.2 }
         ensures nodes { length result.2.waiting ≡ node_count self.entry.flow.net }
         ensures keys { length result.2.keys ≡ node_count self.entry.flow.net }
+        ensures searches { result.3.number ≡ self.entry.searches }
     {
         let Matching {
             state,
@@ -223,13 +232,15 @@ impl<'n> Matching<'n> {
             tables,
             reached: _,
             update: _,
+            searches,
         } = self;
-        (state, prices.into_wide(), tables.into_heap())
+        (state, prices.into_wide(), tables.into_heap(), searches)
     }
 
-    /// The set that the last search reached that found no path.
-    pub(crate) fn into_reached(self) -> NodeSet
-        ensures { result ≡ self.entry.reached }
+    /// The set that the last search reached that found no path, and the count of the searches.
+    pub(crate) fn into_reached(self) -> (NodeSet, Count)
+        ensures reached { result.0 ≡ self.entry.reached }
+        ensures searches { result.1.number ≡ self.entry.searches }
     {
         let Matching {
             state: _,
@@ -240,8 +251,9 @@ impl<'n> Matching<'n> {
             tables: _,
             reached,
             update: _,
+            searches,
         } = self;
-        reached
+        (reached, searches)
     }
 }
 

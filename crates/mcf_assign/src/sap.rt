@@ -10,12 +10,14 @@ ghost use Rattle.mcf_assign.specs.Runs.{IsMatchedByRows, IsReachedSet, IsStart, 
 
 use crate::extended::Extended;
 use crate::matching::Matching;
+use mcf_counts::Count;
 use mcf_feas::unbalanced;
 use mcf_instance::{Problem, Side};
 use mcf_network::{Net, State};
 use mcf_prices::{Engine, HeaplessPricer, Outcome, Pricer};
 use mcf_text::{NoMemory, NodeId};
 use std::alloc::Global;
+use std::marker::Model;
 
 /// Successive shortest paths for assignments: one search from each row, ascending (Ahuja, Magnanti and Orlin, Network
 /// Flows, sections 9.7 and 12.4).
@@ -24,13 +26,28 @@ use std::alloc::Global;
 /// search from each source node, each of which matched it. That is as many searches as there are source nodes. Between two
 /// searches all prices may be updated (Goldberg and Kennedy, An efficient cost scaling algorithm for the assignment
 /// problem, 1995), so that searches stay short where a row has few arcs.
-#[derive(Clone, Copy, Debug, Default)]
-pub struct Sap;
+/// A clause sees how many searches the last solve made that was answered.
+#[derive(Drop)]
+pub struct Sap {
+    searches: Count,
+}
+
+impl Model for Sap {
+    ghost use Rattle.std.specs.Prelude.{ℕ};
+
+    ghost Value = { ℕ };
+
+    ghost view = { λ s. s.searches.number };
+}
 
 impl Sap {
-    /// The engine, which keeps nothing.
-    pub fn new() -> Sap {
-        Sap
+    /// The engine, which has made no search.
+    pub fn new() -> Sap
+        ensures { result ≡ 0 }
+    {
+        Sap {
+            searches: Count::zero(),
+        }
     }
 }
 
@@ -41,7 +58,7 @@ impl Engine for Sap {
 
     ghost Takes = { λ g. g.problem ≡ Asn };
 
-    ghost Made = { λ _ g s _. IsMatchedByRows g s };
+    ghost Made = { λ _ g s t. IsMatchedByRows g s t };
 
     fn takes(&self, net: &Net) -> bool {
         match net.problem() {
@@ -61,24 +78,27 @@ impl Engine for Sap {
     /// search. The engine is as it was.
     fn solve<'n>(&mut self, alloc: Global, net: &'n Net) -> Result<Outcome<'n>, NoMemory>
         requires { net.now.problem ≡ Asn }
-        ensures outcome { IfOk result (IsOutcome (IsMatchedByRows net.now) net.now) }
-        ensures blocked { IfOk result (IsReachedSet net.now) }
+        ensures outcome { IfOk result (IsOutcome (λ s. IsMatchedByRows net.now s self.new) net.now) }
+        ensures blocked { IfOk result (IsReachedSet net.now self.new) }
         ensures wants { OnErr result (1 ≤ node_count net.now) }
         ensures err { OnErr result (self.new ≡ self.old) }
     {
         if let Some((set, side)) = unbalanced(alloc, net)? {
+            self.searches = Count::zero();
             return Ok(Outcome::Blocked(set, side));
         }
-        assign(alloc, net)
+        let (outcome, searches) = assign(alloc, net)?;
+        self.searches = searches;
+        Ok(outcome)
     }
 }
 
-// The answer to a net whose supplies add up to 0: a search from each row.
-fn assign<'n>(alloc: Global, net: &'n Net) -> Result<Outcome<'n>, NoMemory>
+// The answer to a net whose supplies add up to 0, by a search from each row, and the count of the searches.
+fn assign<'n>(alloc: Global, net: &'n Net) -> Result<(Outcome<'n>, Count), NoMemory>
     requires assignment { net.now.problem ≡ Asn }
     requires balanced { supply_total net.now ≡ pos 0 }
-    ensures outcome { IfOk result (IsOutcome (IsMatchedByRows net.now) net.now) }
-    ensures blocked { IfOk result (IsReachedSet net.now) }
+    ensures outcome { IfOk result (λ found. IsOutcome (λ s. IsMatchedByRows net.now s found.1.number) net.now found.0) }
+    ensures blocked { IfOk result (λ found. IsReachedSet net.now found.1.number found.0) }
     ensures wants { OnErr result (1 ≤ node_count net.now) }
 {
     let pricer = Pricer::start(alloc, net)?;
@@ -86,10 +106,13 @@ fn assign<'n>(alloc: Global, net: &'n Net) -> Result<Outcome<'n>, NoMemory>
     let mut matching = Matching::over(alloc, net, heap)?;
     match match_rows(&mut matching, net) {
         Extended::Matched => {
-            let (state, prices) = priced(pricer, matching);
-            Ok(Outcome::Least(state, prices))
+            let (state, prices, searches) = priced(pricer, matching);
+            Ok((Outcome::Least(state, prices), searches))
         }
-        Extended::Blocked => Ok(Outcome::Blocked(matching.into_reached(), Side::Send)),
+        Extended::Blocked => {
+            let (reached, searches) = matching.into_reached();
+            Ok((Outcome::Blocked(reached, Side::Send), searches))
+        }
     }
 }
 
@@ -128,14 +151,15 @@ fn is_source(net: &Net, v: NodeId) -> bool
     net.supply(v) == 1
 }
 
-// The state of a matching, and the greatest prices that show it, found with the heap of its searches.
-fn priced<'n>(pricer: HeaplessPricer, matching: Matching<'n>) -> (State<'n>, Vec<i128>)
+// The state of a matching, the greatest prices that show it, found with the heap of its searches, and the count of these.
+fn priced<'n>(pricer: HeaplessPricer, matching: Matching<'n>) -> (State<'n>, Vec<i128>, Count)
     ensures state { result.0 ≡ matching.entry.flow }
     ensures prices { AreStatePrices matching.entry.flow.net result.0 result.1.items }
     ensures shown { IsShownMatching matching.entry }
+    ensures searches { result.2.number ≡ matching.entry.searches }
 {
-    let (state, mut prices, heap) = matching.into_parts_and_heap();
+    let (state, mut prices, heap, searches) = matching.into_all_parts();
     let mut pricer = pricer.resume(heap);
     pricer.raise(&state, 1, 0, prices.as_mut_slice());
-    (state, prices)
+    (state, prices, searches)
 }

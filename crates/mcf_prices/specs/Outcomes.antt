@@ -1,6 +1,6 @@
 -- What an engine answers.
 -- Source: own
-use Rattle.std.specs.Prelude.{ℤ, List}
+use Rattle.std.specs.Prelude.{⊤, ℤ, List}
 use Rattle.mcf_instance.specs.Flow.{AreGreatestPrices, IsLeast}
 use Rattle.mcf_instance.specs.Network.{Network}
 use Rattle.mcf_network.specs.States.{Pseudoflow}
@@ -25,3 +25,9 @@ pub record AreStatePrices (g : Network) (s : Pseudoflow) (prices : List ℤ) : T
 abbrev pub IsOutcome : (Pseudoflow → Type 0) → Network → Outcome → Type 0
 IsOutcome IsMade g (Least s prices) = IsLeastState g s × AreStatePrices g s prices.items × IsMade s
 IsOutcome IsMade g (Blocked table side) = IsChosenBlock g table side
+
+-- what holds where the answer is a node set
+-- Source: own
+abbrev pub IfBlocked : Type 0 → Outcome → Type 0
+IfBlocked Holds (Least s prices) = ⊤
+IfBlocked Holds (Blocked table side) = Holds

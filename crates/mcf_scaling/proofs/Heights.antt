@@ -189,8 +189,8 @@ pub push_falls : (a b : Refinement) (r : Rid) → IsRefinement a → IsPush a b 
 push_falls a b r ok step =
     let part = share (surplus_at a.flow (tail a.flow.net r)) (room_of a.flow r) step.active.surplus step.admissible.room.room in
     let x = int_min (surplus_at a.flow (tail a.flow.net r)) (room_of a.flow r) in
-    let c : Refinement = record a { flow = pushed a.flow r x } in
-    let after = pushed_keeps a r x ok step.admissible part.low part.first part.second in
+    let c : Refinement = record a { flow = pushed a.flow r x; steps = record a.steps { pushes = suc a.steps.pushes } } in
+    let after = pushed_keeps a r x c.steps ok step.admissible part.low part.first part.second in
     let change = pushed_potential a.flow a.prices r.arc r.back x ok.flow step.admissible.room.arc part.low part.second in
     let less = mul_below_zero (reduced a r) x step.admissible.negative part.some in
     let floor = potential_floor c after in
@@ -199,12 +199,12 @@ push_falls a b r ok step =
 
 pub relabel_falls : (a b : Refinement) (v : ℕ) (rise : ℤ) → IsRefinement a → IsRelabel a b v rise → height b < height a
 relabel_falls a b v rise ok step =
-    let c : Refinement = record a { prices = set a.prices (v - 1) (at_node a.prices v +ℤ rise) } in
+    let c : Refinement = record a { prices = set a.prices (v - 1) (at_node a.prices v +ℤ rise); steps = record a.steps { relabels = suc a.steps.relabels } } in
     let most = rise_high a b v rise step in
     let some = within_some a in
     let node = step.active.node in
     let small = surplus_small a.flow v ok.flow node in
-    let after = raised_keeps a v rise ok step.active (omega (arith, ints, most)) step.least in
+    let after = raised_keeps a v rise c.steps ok step.active (omega (arith, ints, most)) step.least in
     let change = raised_weighed a.flow a.prices v rise ok.count node in
     let more = mul_above_zero (pos weight_limit -ℤ surplus_at a.flow v) rise (omega (arith, ints, small)) (omega (arith, ints, most, some)) in
     let floor = potential_floor c after in

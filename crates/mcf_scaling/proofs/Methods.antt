@@ -1,5 +1,5 @@
 -- What the methods of a refinement leave, by the fields that they write.
-use Rattle.std.proofs.Common.{◌≡◌, ℕ, ◌+◌, ◌-◌, ◌*◌, ◌^◌, ◌≤◌, List, length, set, replicate, refl, sym, ap, ◌∙◌, arith, subst, ℤ, pos, ◌+ℤ◌, ◌≤ℤ◌, Bool, true}
+use Rattle.std.proofs.Common.{◌≡◌, ℕ, suc, ◌+◌, ◌-◌, ◌*◌, ◌^◌, ◌≤◌, List, length, set, replicate, refl, sym, ap, ◌∙◌, arith, subst, ℤ, pos, ◌+ℤ◌, ◌≤ℤ◌, Bool, true}
 use Rattle.std.proofs.Common.{false, eqb, inl, inr}
 use Rattle.std.specs.Int.{int_min}
 use Rattle.std.proofs.lemmas.Int.{by_lt_z, ints}
@@ -18,7 +18,7 @@ use Rattle.mcf_network.proofs.ArcLaws.{amount_of, head_is_node, tail_is_node}
 use Rattle.mcf_network.proofs.StateLaws.{rid}
 use Rattle.mcf_scaling.specs.Optimality.{IsAdmissible, IsFilled, IsLeastReduced, IsOptimalWithin}
 use Rattle.mcf_scaling.specs.Phases.{IsBegun, IsRelabel}
-use Rattle.mcf_scaling.specs.Refinements.{Refinement, IsActive, IsRefinement, within}
+use Rattle.mcf_scaling.specs.Refinements.{Refinement, StepCounts, IsActive, IsRefinement, no_steps, within}
 use Rattle.mcf_scaling.specs.Scales.{ArePhases, greatest_cost}
 use Rattle.mcf_scaling.proofs.ScaleLaws.{cost_within, power_small}
 use Rattle.mcf_scaling.proofs.Rises.{IsClosedToward, closed_none}
@@ -32,21 +32,23 @@ push_low a b r same active =
     let some = here.surplus in
     omega (arith, ints, some)
 
-pub push_made : (a b : Refinement) (r : Rid) (x : ℤ) (t : Pseudoflow) → a ≡ b → IsRefinement a → IsAdmissible b.flow b.prices r
+pub push_made : (a b : Refinement) (r : Rid) (x : ℤ) (t : Pseudoflow) (steps : StepCounts) → a ≡ b → IsRefinement a → IsAdmissible b.flow b.prices r
     → IsActive b (tail b.flow.net r) → t ≡ pushed a.flow r x → x ≡ int_min (surplus_at a.flow (tail a.flow.net r)) (room_of a.flow r)
-    → IsRefinement (record a { flow = t })
-push_made a b r x t same ok admissible active is amount =
-    push_keeps a (record a { flow = t }) r ok (record {
+    → steps ≡ record a.steps { pushes = suc a.steps.pushes } → IsRefinement (record a { flow = t; steps = steps })
+push_made a b r x t steps same ok admissible active is amount counted =
+    push_keeps a (record a { flow = t; steps = steps }) r ok (record {
       admissible = subst (λ (z : Refinement). IsAdmissible z.flow z.prices r) (sym same) admissible;
       active = subst (λ (z : Refinement). IsActive z (tail z.flow.net r)) (sym same) active;
-      pushes = ap (λ (p : Pseudoflow). record a { flow = p }) (is ∙ ap (pushed a.flow r) amount);
+      pushes = ap (λ (p : Pseudoflow). record a { flow = p; steps = steps }) (is ∙ ap (pushed a.flow r) amount)
+          ∙ ap (λ (n : StepCounts). record a { flow = pushed a.flow r (int_min (surplus_at a.flow (tail a.flow.net r)) (room_of a.flow r)); steps = n }) counted;
     })
 
 -- ---- a phase begins
 
-pub begun_step : (a b : Refinement) (t : Pseudoflow) (ps before : List ℤ) → a ≡ b → 1 ≤ b.scale → ((v : ℕ) → ¬ IsActive b v) → IsFilled a.flow t ps
-    → ps ≡ a.prices → before ≡ a.prices → IsBegun a (record { flow = t; prices = a.prices; before = before; scale = a.scale - 1 })
-begun_step a b t ps before same some rest filled is copied =
+pub begun_step : (a b : Refinement) (t : Pseudoflow) (ps before : List ℤ) (steps : StepCounts) → a ≡ b → 1 ≤ b.scale → ((v : ℕ) → ¬ IsActive b v) → IsFilled a.flow t ps
+    → ps ≡ a.prices → before ≡ a.prices → steps ≡ record a.steps { phases = suc a.steps.phases }
+    → IsBegun a (record { flow = t; prices = a.prices; before = before; scale = a.scale - 1; steps = steps })
+begun_step a b t ps before steps same some rest filled is copied counted =
     let scale = ap (λ (z : Refinement). z.scale) same in
     record {
       rest = subst (λ (z : Refinement). (v : ℕ) → ¬ IsActive z v) (sym same) rest;
@@ -54,12 +56,15 @@ begun_step a b t ps before same some rest filled is copied =
       filled = subst (λ (ys : List ℤ). IsFilled a.flow t ys) is filled;
       prices = refl;
       before = copied;
+      steps = counted;
     }
 
-pub begun_made : (a b : Refinement) (t : Pseudoflow) (ps before : List ℤ) → a ≡ b → IsRefinement a → 1 ≤ b.scale → ((v : ℕ) → ¬ IsActive b v)
-    → IsFilled a.flow t ps → ps ≡ a.prices → before ≡ a.prices → IsRefinement (record { flow = t; prices = a.prices; before = before; scale = a.scale - 1 })
-begun_made a b t ps before same ok some rest filled is copied =
-    begun_keeps a (record { flow = t; prices = a.prices; before = before; scale = a.scale - 1 }) ok (begun_step a b t ps before same some rest filled is copied)
+pub begun_made : (a b : Refinement) (t : Pseudoflow) (ps before : List ℤ) (steps : StepCounts) → a ≡ b → IsRefinement a → 1 ≤ b.scale → ((v : ℕ) → ¬ IsActive b v)
+    → IsFilled a.flow t ps → ps ≡ a.prices → before ≡ a.prices → steps ≡ record a.steps { phases = suc a.steps.phases }
+    → IsRefinement (record { flow = t; prices = a.prices; before = before; scale = a.scale - 1; steps = steps })
+begun_made a b t ps before steps same ok some rest filled is copied counted =
+    begun_keeps a (record { flow = t; prices = a.prices; before = before; scale = a.scale - 1; steps = steps }) ok
+    (begun_step a b t ps before steps same some rest filled is copied counted)
 
 -- ---- a relabel
 
@@ -88,43 +93,48 @@ active_has_room a v ok active none =
     (λ u h inside. let same = ap (surplus_at s) (eqb-eq v u inside) in omega (arith, ints, surplus, same)) v active.node (eq-eqb v v refl) in
     omega (arith, ints, stuck, surplus)
 
-pub relabel_step : (a b : Refinement) (v : ℕ) (least rise : ℤ) (ys : List ℤ) → a ≡ b → IsActive b v
+pub relabel_step : (a b : Refinement) (v : ℕ) (least rise : ℤ) (ys : List ℤ) (steps : StepCounts) → a ≡ b → IsActive b v
     → ((r : Rid) → tail b.flow.net r ≡ v → ¬ IsAdmissible b.flow b.prices r) → IsLeastReduced a.flow a.prices v least → rise ≡ least +ℤ pos (within a)
-    → ys ≡ set a.prices (v - 1) (at_node a.prices v +ℤ rise) → IsRelabel a (record a { prices = ys }) v rise
-relabel_step a b v least rise ys same active stuck is e raised =
+    → ys ≡ set a.prices (v - 1) (at_node a.prices v +ℤ rise) → steps ≡ record a.steps { relabels = suc a.steps.relabels }
+    → IsRelabel a (record a { prices = ys; steps = steps }) v rise
+relabel_step a b v least rise ys steps same active stuck is e raised counted =
     let (r, room, from, at) = is.reached in
     record {
       active = subst (λ (z : Refinement). IsActive z v) (sym same) active;
       stuck = subst (λ (z : Refinement). (r : Rid) → tail z.flow.net r ≡ v → ¬ IsAdmissible z.flow z.prices r) (sym same) stuck;
       least = λ q some to. let low = is.each q some to in omega (arith, ints, low, e);
       reached = (r, room, from, e ∙ ap (λ z. z +ℤ pos (within a)) at);
-      raises = ap (λ (zs : List ℤ). record a { prices = zs }) raised;
+      raises = ap (λ (zs : List ℤ). record a { prices = zs; steps = steps }) raised
+          ∙ ap (λ (n : StepCounts). record a { prices = set a.prices (v - 1) (at_node a.prices v +ℤ rise); steps = n }) counted;
     }
 
-pub relabel_made : (a b : Refinement) (v : ℕ) (least rise : ℤ) (ys : List ℤ) → a ≡ b → IsRefinement a → IsActive b v
+pub relabel_made : (a b : Refinement) (v : ℕ) (least rise : ℤ) (ys : List ℤ) (steps : StepCounts) → a ≡ b → IsRefinement a → IsActive b v
     → ((r : Rid) → tail b.flow.net r ≡ v → ¬ IsAdmissible b.flow b.prices r) → IsLeastReduced a.flow a.prices v least → rise ≡ least +ℤ pos (within a)
-    → ys ≡ set a.prices (v - 1) (at_node a.prices v +ℤ rise) → IsRefinement (record a { prices = ys })
-relabel_made a b v least rise ys same ok active stuck is e raised =
-    relabel_keeps a (record a { prices = ys }) v rise ok (relabel_step a b v least rise ys same active stuck is e raised)
+    → ys ≡ set a.prices (v - 1) (at_node a.prices v +ℤ rise) → steps ≡ record a.steps { relabels = suc a.steps.relabels }
+    → IsRefinement (record a { prices = ys; steps = steps })
+relabel_made a b v least rise ys steps same ok active stuck is e raised counted =
+    relabel_keeps a (record a { prices = ys; steps = steps }) v rise ok (relabel_step a b v least rise ys steps same active stuck is e raised counted)
 
 -- the same, by what is known of the rise
-pub relabel_raised : (a b : Refinement) (v : ℕ) (rise : ℤ) (ps ys : List ℤ) → a ≡ b → IsRefinement a → IsActive b v
+pub relabel_raised : (a b : Refinement) (v : ℕ) (rise : ℤ) (ps ys : List ℤ) (steps : StepCounts) → a ≡ b → IsRefinement a → IsActive b v
     → ((r : Rid) → tail b.flow.net r ≡ v → ¬ IsAdmissible b.flow b.prices r) → ps ≡ a.prices
     → ((least : ℤ) × IsLeastReduced a.flow ps v least × (rise ≡ least +ℤ pos (within a))) → ys ≡ set a.prices (v - 1) (at_node a.prices v +ℤ rise)
-    → IsRefinement (record a { prices = ys })
-relabel_raised a b v rise ps ys same ok active stuck is made raised =
+    → steps ≡ record a.steps { relabels = suc a.steps.relabels }
+    → IsRefinement (record a { prices = ys; steps = steps })
+relabel_raised a b v rise ps ys steps same ok active stuck is made raised counted =
     let (least, lowest, e) = made in
-    relabel_made a b v least rise ys same ok active stuck (subst (λ (zs : List ℤ). IsLeastReduced a.flow zs v least) is lowest) e raised
+    relabel_made a b v least rise ys steps same ok active stuck (subst (λ (zs : List ℤ). IsLeastReduced a.flow zs v least) is lowest) e raised counted
 
-pub relabel_stepped : (a b c : Refinement) (v : ℕ) (rise z : ℤ) (ps ys : List ℤ) → a ≡ b → IsActive b v
+pub relabel_stepped : (a b c : Refinement) (v : ℕ) (rise z : ℤ) (ps ys : List ℤ) (steps : StepCounts) → a ≡ b → IsActive b v
     → ((r : Rid) → tail b.flow.net r ≡ v → ¬ IsAdmissible b.flow b.prices r) → ps ≡ a.prices
     → ((least : ℤ) × IsLeastReduced a.flow ps v least × (rise ≡ least +ℤ pos (within a))) → ys ≡ set a.prices (v - 1) (at_node a.prices v +ℤ rise)
-    → c ≡ record a { prices = ys } → z ≡ rise → IsRelabel b c v z
-relabel_stepped a b c v rise z ps ys same active stuck is made raised after read =
+    → steps ≡ record a.steps { relabels = suc a.steps.relabels }
+    → c ≡ record a { prices = ys; steps = steps } → z ≡ rise → IsRelabel b c v z
+relabel_stepped a b c v rise z ps ys steps same active stuck is made raised counted after read =
     let (least, lowest, e) = made in
-    let step = relabel_step a b v least rise ys same active stuck (subst (λ (zs : List ℤ). IsLeastReduced a.flow zs v least) is lowest) e raised in
+    let step = relabel_step a b v least rise ys steps same active stuck (subst (λ (zs : List ℤ). IsLeastReduced a.flow zs v least) is lowest) e raised counted in
     subst (λ (y : ℤ). IsRelabel b c v y) (sym read) (subst (λ (w : Refinement). IsRelabel b w v rise) (sym after)
-    (subst (λ (w : Refinement). IsRelabel w (record a { prices = ys }) v rise) same step))
+    (subst (λ (w : Refinement). IsRelabel w (record a { prices = ys; steps = steps }) v rise) same step))
 
 pub relabel_rises : (b c : Refinement) (v : ℕ) (z : ℤ) → IsRelabel b c v z → pos (within b) ≤ℤ z
 relabel_rises b c v z step = rise_high b c v z step
@@ -167,9 +177,10 @@ top_within e n h k =
     let product = mul-le-mul_left (6 * e) k in
     omega (arith, product, h)
 
-pub start_made : (s : Pseudoflow) (k : ℕ) (ys before : List ℤ) → IsFeasibleState s.net s → ys ≡ replicate (node_count s.net) (pos 0)
-    → before ≡ replicate (node_count s.net) (pos 0) → ArePhases s.net k → k ≤ 70 → IsRefinement (record { flow = s; prices = ys; before = before; scale = k })
-start_made s k ys before ok zero zero' phases small =
+pub start_made : (s : Pseudoflow) (k : ℕ) (ys before : List ℤ) (steps : StepCounts) → IsFeasibleState s.net s → ys ≡ replicate (node_count s.net) (pos 0)
+    → before ≡ replicate (node_count s.net) (pos 0) → ArePhases s.net k → k ≤ 70
+    → IsRefinement (record { flow = s; prices = ys; before = before; scale = k; steps = steps })
+start_made s k ys before steps ok zero zero' phases small =
     let n = node_count s.net in
     let nodes = ok.flow.of_net.nodes in
     let power = power_small k small in

@@ -16,7 +16,7 @@ use Rattle.mcf_scaling.specs.Laws.{RunsKeepBounds}
 use Rattle.mcf_scaling.specs.Optimality.{IsAdmissible, IsFilled, ceiling, IsOptimalWithin}
 use Rattle.mcf_scaling.specs.Phases.{IsBegun, IsPush, IsRelabel, Run, relabels}
 use Rattle.mcf_scaling.specs.Phases.Run.{start, begin, push, relabel}
-use Rattle.mcf_scaling.specs.Refinements.{Refinement, IsActive, IsNodeOf, IsRefinement, reduced, within}
+use Rattle.mcf_scaling.specs.Refinements.{Refinement, StepCounts, IsActive, IsNodeOf, IsRefinement, reduced, within}
 use Rattle.mcf_scaling.proofs.Rises.{rise_small}
 use Rattle.mcf_scaling.proofs.StepLaws.{filled_optimal, pushed_optimal, pushed_taker, raised_at, raised_optimal, rest_has_none}
 
@@ -41,12 +41,12 @@ begun_risen y z e n floor low high top =
     let six : 6 * e * n ≡ 6 * m = omega arith in
     omega (arith, ints, high, top, three, twelve, six)
 
-begun_from : (s : Pseudoflow) (ys prices before : List ℤ) (k : ℕ)
-    → IsRefinement (record { flow = s; prices = prices; before = before; scale = suc k })
-    → ((v : ℕ) → ¬ IsActive (record { flow = s; prices = prices; before = before; scale = suc k }) v) → IsFilled s (record s { amounts = ys }) prices
-    → IsRefinement (record { flow = record s { amounts = ys }; prices = prices; before = prices; scale = k })
-begun_from s ys prices before k ok rest filled =
-    let a : Refinement = record { flow = s; prices = prices; before = before; scale = suc k } in
+begun_from : (s : Pseudoflow) (ys prices before : List ℤ) (k : ℕ) (m n : StepCounts)
+    → IsRefinement (record { flow = s; prices = prices; before = before; scale = suc k; steps = m })
+    → ((v : ℕ) → ¬ IsActive (record { flow = s; prices = prices; before = before; scale = suc k; steps = m }) v) → IsFilled s (record s { amounts = ys }) prices
+    → IsRefinement (record { flow = record s { amounts = ys }; prices = prices; before = prices; scale = k; steps = n })
+begun_from s ys prices before k m n ok rest filled =
+    let a : Refinement = record { flow = s; prices = prices; before = before; scale = suc k; steps = m } in
     let none = no_surplus_of_rest a ok rest in
     let small = ok.small in
     record {
@@ -83,11 +83,11 @@ begun_keeps a b ok step =
     let scaled : IsRefinement (record a { scale = suc b.scale }) = subst (λ (z : ℕ). IsRefinement (record a { scale = z })) step.scale ok in
     let net = ap (λ (g : Network). record { net = g; amounts = b.flow.amounts }) step.filled.net in
     let filled = subst (λ (t : Pseudoflow). IsFilled a.flow t a.prices) net step.filled in
-    let made = begun_from a.flow b.flow.amounts a.prices a.before b.scale scaled
+    let made = begun_from a.flow b.flow.amounts a.prices a.before b.scale a.steps b.steps scaled
     (λ v active. step.rest v (record { node = active.node; surplus = active.surplus })) filled in
-    let flow = subst (λ (t : Pseudoflow). IsRefinement (record { flow = t; prices = a.prices; before = a.prices; scale = b.scale })) (sym net) made in
-    let before = subst (λ (ys : List ℤ). IsRefinement (record { flow = b.flow; prices = a.prices; before = ys; scale = b.scale })) (sym step.before) flow in
-    subst (λ (ys : List ℤ). IsRefinement (record { flow = b.flow; prices = ys; before = b.before; scale = b.scale })) (sym step.prices) before
+    let flow = subst (λ (t : Pseudoflow). IsRefinement (record { flow = t; prices = a.prices; before = a.prices; scale = b.scale; steps = b.steps })) (sym net) made in
+    let before = subst (λ (ys : List ℤ). IsRefinement (record { flow = b.flow; prices = a.prices; before = ys; scale = b.scale; steps = b.steps })) (sym step.before) flow in
+    subst (λ (ys : List ℤ). IsRefinement (record { flow = b.flow; prices = ys; before = b.before; scale = b.scale; steps = b.steps })) (sym step.prices) before
 
 -- ---- a push
 
@@ -106,9 +106,9 @@ share x y px py =
       some = omega (arith, ints, clamps, px, py);
     }
 
-pub pushed_keeps : (a : Refinement) (r : Rid) (x : ℤ) → IsRefinement a → IsAdmissible a.flow a.prices r → pos 0 ≤ℤ x
-    → x ≤ℤ surplus_at a.flow (tail a.flow.net r) → x ≤ℤ room_of a.flow r → IsRefinement (record a { flow = pushed a.flow r x })
-pushed_keeps a r x ok admissible low high room =
+pub pushed_keeps : (a : Refinement) (r : Rid) (x : ℤ) (steps : StepCounts) → IsRefinement a → IsAdmissible a.flow a.prices r → pos 0 ≤ℤ x
+    → x ≤ℤ surplus_at a.flow (tail a.flow.net r) → x ≤ℤ room_of a.flow r → IsRefinement (record a { flow = pushed a.flow r x; steps = steps })
+pushed_keeps a r x steps ok admissible low high room =
     let arc = admissible.room.arc in
     record {
       flow = pushed_ok a.flow r.arc r.back x ok.flow arc low room;
@@ -136,7 +136,7 @@ pushed_keeps a r x ok admissible low high room =
 pub push_keeps : (a b : Refinement) (r : Rid) → IsRefinement a → IsPush a b r → IsRefinement b
 push_keeps a b r ok step =
     let part = share (surplus_at a.flow (tail a.flow.net r)) (room_of a.flow r) step.active.surplus step.admissible.room.room in
-    subst IsRefinement (sym step.pushes) (pushed_keeps a r _ ok step.admissible part.low part.first part.second)
+    subst IsRefinement (sym step.pushes) (pushed_keeps a r _ _ ok step.admissible part.low part.first part.second)
 
 -- ---- a relabel
 
@@ -147,10 +147,10 @@ rise_high a b v rise step =
     (λ less. absurd (step.stuck r from (record { room = room; negative = less })))
     (λ p. omega (arith, ints, p, is))
 
-pub raised_keeps : (a : Refinement) (v : ℕ) (rise : ℤ) → IsRefinement a → IsActive a v → pos 0 ≤ℤ rise
+pub raised_keeps : (a : Refinement) (v : ℕ) (rise : ℤ) (steps : StepCounts) → IsRefinement a → IsActive a v → pos 0 ≤ℤ rise
     → ((r : Rid) → HasRoom a.flow r → tail a.flow.net r ≡ v → rise ≤ℤ (reduced a r +ℤ pos (within a)))
-    → IsRefinement (record a { prices = set a.prices (v - 1) (at_node a.prices v +ℤ rise) })
-raised_keeps a v rise ok active low least =
+    → IsRefinement (record a { prices = set a.prices (v - 1) (at_node a.prices v +ℤ rise); steps = steps })
+raised_keeps a v rise steps ok active low least =
     let node = active.node in
     let surplus = active.surplus in
     let inside : IsNode (length a.prices) v = (node.0, omega (arith, node, ok.count)) in
@@ -209,7 +209,7 @@ raised_keeps a v rise ok active low least =
 pub relabel_keeps : (a b : Refinement) (v : ℕ) (rise : ℤ) → IsRefinement a → IsRelabel a b v rise → IsRefinement b
 relabel_keeps a b v rise ok step =
     let more = rise_high a b v rise step in
-    subst IsRefinement (sym step.raises) (raised_keeps a v rise ok step.active (omega (arith, ints, more)) step.least)
+    subst IsRefinement (sym step.raises) (raised_keeps a v rise _ ok step.active (omega (arith, ints, more)) step.least)
 
 -- ---- runs
 

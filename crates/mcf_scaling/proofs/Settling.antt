@@ -1,5 +1,5 @@
 -- The steps of the engine, and what it ends with.
-use Rattle.std.proofs.Common.{◌≡◌, ℕ, zero, suc, ◌^◌, ◌<◌, ◌≤◌, List, refl, sym, ap, ◌∙◌, arith, subst, ℤ, pos, ◌⊎◌, inl, inr}
+use Rattle.std.proofs.Common.{◌≡◌, ℕ, zero, suc, ◌+◌, ◌^◌, ◌<◌, ◌≤◌, List, refl, sym, ap, ◌∙◌, arith, subst, ℤ, pos, ◌⊎◌, inl, inr}
 use Rattle.std.specs.Prelude.{◌<ℤ◌}
 use Rattle.std.proofs.lemmas.Int.{ints}
 use Rattle.mcf_instance.specs.Network.{Network, IsNode, node_count}
@@ -12,7 +12,7 @@ use Rattle.mcf_scaling.specs.Made.{IsScaled}
 use Rattle.mcf_scaling.specs.Optimality.{IsOptimalWithin}
 use Rattle.mcf_scaling.specs.Phases.{EachPhaseSettles, IsBegun, IsBounded, IsBoundedThroughout, IsDone, IsPush, IsRelabel, IsSettled, Run}
 use Rattle.mcf_scaling.specs.Phases.Run.{start, begin, push, relabel}
-use Rattle.mcf_scaling.specs.Refinements.{Refinement, IsActive, IsRefinement}
+use Rattle.mcf_scaling.specs.Refinements.{Refinement, StepCounts, IsActive, IsRefinement}
 use Rattle.mcf_scaling.specs.Scales.{ArePhases, IsStart}
 use Rattle.mcf_scaling.proofs.Heights.{height, push_falls, relabel_falls}
 use Rattle.mcf_scaling.proofs.NoCycles.{nearly_least_have_no_cycle_lem}
@@ -132,8 +132,22 @@ end_feasible s b at =
 pub end_optimal : (b : Refinement) → IsRefinement b → IsDone b → IsOptimalWithin 1 b.flow b.prices
 end_optimal b ok done = subst (λ (k : ℕ). IsOptimalWithin (2 ^ k) b.flow b.prices) done.scale ok.optimal
 
-pub end_scaled : (s : Pseudoflow) (b : Refinement) (t : Pseudoflow) → IsFeasibleState s.net s → IsUnderWay s b → IsDone b → t ≡ b.flow → IsScaled s.net t
-end_scaled s b t feasible at done e =
+-- each phase that was begun counts once
+run_begins : (a b : Refinement) (k : ℕ) (run : Run a b k) → b.steps.phases ≡ a.steps.phases + k
+run_begins a b k start = omega arith
+run_begins a c k (begin {b = b} {k = j} run step) =
+    let counted : c.steps.phases ≡ suc b.steps.phases = ap (λ (n : StepCounts). n.phases) step.steps in
+    let before = run_begins a b j run in
+    omega (arith, counted, before)
+run_begins a c k (push {b = b} run step) = ap (λ (z : Refinement). z.steps.phases) step.pushes ∙ run_begins a b k run
+run_begins a c k (relabel {b = b} run step) = ap (λ (z : Refinement). z.steps.phases) step.raises ∙ run_begins a b k run
+
+pub end_scaled : (s : Pseudoflow) (b : Refinement) (t : Pseudoflow) (steps : StepCounts) → IsFeasibleState s.net s → IsUnderWay s b → IsDone b → t ≡ b.flow
+    → steps ≡ b.steps → IsScaled s.net t steps
+end_scaled s b t steps feasible at done e e' =
+    let made : steps.phases ≡ b.steps.phases = ap (λ (n : StepCounts). n.phases) e' in
+    let none : at.first.steps.phases ≡ 0 = ap (λ (n : StepCounts). n.phases) at.start.steps in
+    let begins = run_begins at.first b at.begins at.run in
     let reached = run_reaches at.first b at.begins at.run at.valid in
     let scale = reached.phases in
     let zero = done.scale in
@@ -153,6 +167,8 @@ end_scaled s b t feasible at done e =
       last_settled = settled_of b at.now at.rest;
       no_cycle = λ walk. nearly_least_have_no_cycle_lem b.flow b.prices walk at.now.flow (end_optimal b at.now done);
       ends = sym e;
+      counted = sym e';
+      begun = omega (arith, made, none, begins);
     }
 
 pub end_least : (s : Pseudoflow) (b : Refinement) (t : Pseudoflow) (ys : List ℤ) → IsUnderWay s b → t ≡ b.flow → AreStatePrices b.flow.net b.flow ys

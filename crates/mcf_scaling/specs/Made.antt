@@ -7,13 +7,13 @@ use Rattle.mcf_network.specs.declared.rid.Rid.{Rid}
 use Rattle.mcf_network.specs.States.{Pseudoflow}
 use Rattle.mcf_prices.specs.NegativeCycles.{IsNegativeCycle}
 use Rattle.mcf_scaling.specs.Phases.{EachPhaseSettles, IsBoundedThroughout, IsDone, IsSettled, Run}
-use Rattle.mcf_scaling.specs.Refinements.{Refinement}
+use Rattle.mcf_scaling.specs.Refinements.{Refinement, StepCounts}
 use Rattle.mcf_scaling.specs.Scales.{ArePhases, IsStart}
 
--- a feasible state was refined by counted steps, as many of them beginnings of phases as the net takes; each phase ended
+-- a feasible state was refined by so many steps of each kind, as many of them beginnings of phases as the net takes; each phase ended
 -- without surplus and e-optimal, and no price rose in it by more than 3ne and no node was relabelled in it more than 3n
 -- times; after the last e is 1, no node is active, and there is no negative cycle
-pub record IsScaled (g : Network) (s : Pseudoflow) : Type 0 where
+pub record IsScaled (g : Network) (s : Pseudoflow) (steps : StepCounts) : Type 0 where
   pub given : Pseudoflow
   pub feasible : IsFeasibleState g given
   pub first : Refinement
@@ -28,3 +28,5 @@ pub record IsScaled (g : Network) (s : Pseudoflow) : Type 0 where
   pub last_settled : IsSettled last
   pub no_cycle : (walk : List Rid) → ¬ IsNegativeCycle last.flow walk
   pub ends : last.flow ≡ s
+  pub counted : last.steps ≡ steps
+  pub begun : steps.phases ≡ begins

@@ -17,12 +17,13 @@ pub record IsBegun (a b : Refinement) : Type 0 where
   pub filled : IsFilled a.flow b.flow a.prices
   pub prices : b.prices ≡ a.prices
   pub before : b.before ≡ a.prices
+  pub steps : b.steps ≡ record a.steps { phases = suc a.steps.phases }
 
 -- the lesser of the surplus of its tail and its room is pushed along an admissible residual arc
 pub record IsPush (a b : Refinement) (r : Rid) : Type 0 where
   pub admissible : IsAdmissible a.flow a.prices r
   pub active : IsActive a (tail a.flow.net r)
-  pub pushes : b ≡ record a { flow = pushed a.flow r (int_min (surplus_at a.flow (tail a.flow.net r)) (room_of a.flow r)) }
+  pub pushes : b ≡ record a { flow = pushed a.flow r (int_min (surplus_at a.flow (tail a.flow.net r)) (room_of a.flow r)); steps = record a.steps { pushes = suc a.steps.pushes } }
 
 -- an active node that no admissible residual arc leaves is raised by e and the least reduced cost of the residual arcs
 -- with room that leave it
@@ -31,7 +32,7 @@ pub record IsRelabel (a b : Refinement) (v : ℕ) (rise : ℤ) : Type 0 where
   pub stuck : (r : Rid) → tail a.flow.net r ≡ v → ¬ IsAdmissible a.flow a.prices r
   pub least : (r : Rid) → HasRoom a.flow r → tail a.flow.net r ≡ v → rise ≤ℤ (reduced a r +ℤ pos (within a))
   pub reached : (r : Rid) × HasRoom a.flow r × (tail a.flow.net r ≡ v) × (rise ≡ reduced a r +ℤ pos (within a))
-  pub raises : b ≡ record a { prices = slice_set a.prices (v - 1) (at_node a.prices v +ℤ rise) }
+  pub raises : b ≡ record a { prices = slice_set a.prices (v - 1) (at_node a.prices v +ℤ rise); steps = record a.steps { relabels = suc a.steps.relabels } }
 
 -- counted steps: of so many of them a phase began
 -- Source: own

@@ -6,12 +6,23 @@ use Rattle.mcf_network.specs.declared.rid.Rid.{Rid}
 use Rattle.mcf_network.specs.States.{Pseudoflow, IsPseudoflow, HasNoSurplus, surplus_at}
 use Rattle.mcf_scaling.specs.Optimality.{IsOptimalWithin, ceiling, scaled_reduced}
 
--- a state, the prices of its nodes, those prices at the beginning of the phase, and the scale: e is 2 to this power
+-- how many phases were begun, and how many pushes and relabels were made
+pub record StepCounts : Type 0 where
+  pub phases : ℕ
+  pub pushes : ℕ
+  pub relabels : ℕ
+
+-- before the first step
+abbrev pub no_steps : StepCounts
+no_steps = record { phases = 0; pushes = 0; relabels = 0 }
+
+-- a state, the prices of its nodes, those prices at the beginning of the phase, the scale: e is 2 to this power, and the steps since the start
 pub record Refinement : Type 0 where
   pub flow : Pseudoflow
   pub prices : List ℤ
   pub before : List ℤ
   pub scale : ℕ
+  pub steps : StepCounts
 
 -- e, as a number
 abbrev pub within : Refinement → ℕ

@@ -4,7 +4,7 @@ use Rattle.std.specs.Prelude.{◌≡◌, ℕ, ◌+◌, ◌*◌, ◌^◌, ◌≤�
 use Rattle.mcf_instance.specs.declared.arc.Arc.{Arc}
 use Rattle.mcf_instance.specs.Network.{Network, node_count}
 use Rattle.mcf_network.specs.States.{Pseudoflow}
-use Rattle.mcf_scaling.specs.Refinements.{Refinement}
+use Rattle.mcf_scaling.specs.Refinements.{Refinement, no_steps}
 
 -- the greatest size of the cost of an arc, 0 without arcs
 abbrev pub greatest_cost : List Arc → ℕ
@@ -20,10 +20,11 @@ pub record IsLeastScale (need scale : ℕ) : Type 0 where
 abbrev pub ArePhases : Network → ℕ → Type 0
 ArePhases g k = IsLeastScale ((node_count g + 1) * greatest_cost g.arcs) k
 
--- prices 0, and the greatest e of a net
+-- prices 0, the greatest e of a net, and no step yet
 -- Source: AMO 10.3
 pub record IsStart (s : Pseudoflow) (a : Refinement) : Type 0 where
   pub flow : a.flow ≡ s
   pub prices : a.prices ≡ replicate (node_count s.net) (pos 0)
   pub before : a.before ≡ replicate (node_count s.net) (pos 0)
   pub scale : ArePhases s.net a.scale
+  pub steps : a.steps ≡ no_steps

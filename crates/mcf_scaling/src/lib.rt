@@ -17,6 +17,7 @@ mod refine;
 mod rooms;
 mod scale;
 mod scaling;
+mod steps;
 
 pub use laws::{nearly_least_have_no_cycle, phases_end, prices_rise_little, runs_keep_bounds};
 pub use refine::Refine;

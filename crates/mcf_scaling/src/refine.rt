@@ -22,6 +22,7 @@ use crate::pricing::{least_reduced, reduced_cost};
 use crate::queue::{Queue, enqueue, enqueue_all, tidy};
 use crate::rooms::{mark, mark_all, rooms_of};
 use crate::scale::{first_scale, power};
+use crate::steps::Steps;
 use mcf_network::{Rid, State};
 use mcf_text::{ArcId, NoMemory, NodeId, copies};
 use std::alloc::Global;
@@ -34,8 +35,8 @@ use std::marker::Model;
 /// has a reduced cost below -e, where e is a power of 2 that each phase halves. In a phase no price rises by more than
 /// 3ne, where n is the count of nodes, so no node is relabelled more than 3n times.
 ///
-/// Only `start` takes memory. A clause sees the state, the prices, those at the beginning of the phase, and the
-/// power of 2.
+/// Only `start` takes memory. A clause sees the state, the prices, those at the beginning of the phase, the power
+/// of 2, and how many steps of each kind were made.
 #[derive(Drop)]
 pub struct Refine<'n> {
     state: State<'n>,
@@ -52,6 +53,8 @@ pub struct Refine<'n> {
     currents: Vec<usize>,
     // each active node, and the first is active
     queue: Queue,
+    // the steps since the start
+    steps: Steps,
 }
 
 impl<'n> Model for Refine<'n> {
@@ -62,9 +65,9 @@ impl<'n> Model for Refine<'n> {
 
     ghost Value = { Refinement };
 
-    ghost view = { λ a. record { flow = a.state; prices = a.prices.items; before = a.before.items; scale = a.scale } };
+    ghost view = { λ a. record { flow = a.state; prices = a.prices.items; before = a.before.items; scale = a.scale; steps = a.steps } };
 
-    ghost invariant = { λ a. IsRefinement (record { flow = a.state; prices = a.prices.items; before = a.before.items; scale = a.scale })
+    ghost invariant = { λ a. IsRefinement (record { flow = a.state; prices = a.prices.items; before = a.before.items; scale = a.scale; steps = a.steps })
         × AreCurrent a.state a.prices.items a.places a.currents.items
         × IsQueueOf a.state a.queue
         × IsStarOf a.state.net a.places
@@ -103,6 +106,7 @@ impl<'n> Refine<'n> {
             rooms,
             currents,
             queue,
+            steps: Steps::none(),
         })
     }
 
@@ -185,6 +189,7 @@ impl<'n> Refine<'n> {
         mark(&self.state, &self.places, &mut self.rooms, arc);
         enqueue(&self.state, &mut self.queue, to);
         tidy(&self.state, &mut self.queue);
+        self.steps.push();
         amount
     }
 
@@ -208,6 +213,7 @@ impl<'n> Refine<'n> {
         raise(&mut self.prices, v, rise);
         let span = self.places.span(v);
         self.currents[v.place()] = span.first;
+        self.steps.relabel();
         rise
     }
 
@@ -224,12 +230,24 @@ impl<'n> Refine<'n> {
         self.scale -= 1;
         enqueue_all(&self.state, &mut self.queue);
         tidy(&self.state, &mut self.queue);
+        self.steps.begin();
     }
 
     /// The state and the prices of its nodes, without what refines them.
     pub fn into_parts(self) -> (State<'n>, Vec<i128>)
         ensures state { result.0 ≡ self.entry.flow }
         ensures prices { result.1.items ≡ self.entry.prices }
+        ensures valid { IsRefinement self.entry }
+    {
+        let (state, prices, _) = self.into_counted_parts();
+        (state, prices)
+    }
+
+    /// The same, with the steps since the start.
+    pub(crate) fn into_counted_parts(self) -> (State<'n>, Vec<i128>, Steps)
+        ensures state { result.0 ≡ self.entry.flow }
+        ensures prices { result.1.items ≡ self.entry.prices }
+        ensures steps { result.2 ≡ self.entry.steps }
         ensures valid { IsRefinement self.entry }
     {
         let Refine {
@@ -241,8 +259,9 @@ impl<'n> Refine<'n> {
             rooms: _,
             currents: _,
             queue: _,
+            steps,
         } = self;
-        (state, prices)
+        (state, prices, steps)
     }
 
     /// The state, without what refines it.

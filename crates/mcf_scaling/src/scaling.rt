@@ -3,33 +3,50 @@ ghost use Rattle.std.specs.Prelude.{◌≡◌, ◌≤◌, ◌⊎◌, ℕ, ℤ, I
 ghost use Rattle.mcf_feas.specs.Feasible.{IsFeasibleState};
 ghost use Rattle.mcf_instance.specs.Network.{node_count};
 ghost use Rattle.mcf_network.specs.declared.rid.Rid.{Rid};
-ghost use Rattle.mcf_prices.specs.Outcomes.{AreStatePrices, IsLeastState, IsOutcome};
+ghost use Rattle.mcf_prices.specs.Outcomes.{AreStatePrices, IfBlocked, IsLeastState, IsOutcome};
 ghost use Rattle.mcf_scaling.specs.Made.{IsScaled};
 ghost use Rattle.mcf_network.specs.States.{IsPseudoflow};
 ghost use Rattle.mcf_scaling.specs.Optimality.{AreSmallPrices, IsOptimalWithin};
 ghost use Rattle.mcf_scaling.specs.Phases.{IsDone, IsPush, IsRelabel, Run};
-ghost use Rattle.mcf_scaling.specs.Refinements.{Refinement, IsActive, IsNodeOf, IsRefinement};
+ghost use Rattle.mcf_scaling.specs.Refinements.{Refinement, IsActive, IsNodeOf, IsRefinement, no_steps};
 ghost use Rattle.mcf_scaling.specs.Scales.{IsStart};
 
 use crate::refine::Refine;
+use crate::steps::Steps;
 use mcf_feas::{Feas, feasible};
 use mcf_network::{Net, Rid, State};
 use mcf_prices::{Engine, Outcome, Pricer, optimal_prices_are_near};
 use mcf_text::{NoMemory, NodeId};
 use std::alloc::Global;
+use std::marker::Model;
 
 /// Cost scaling: a feasible flow, refined by phases until it is least (Goldberg and Tarjan; Ahuja, Magnanti and Orlin,
 /// Network Flows, section 10.3).
 ///
 /// It takes every net. How it made a state is a relation of its contract, `IsScaled`: counted steps, as many phases as
 /// the costs and the count of nodes ask, and in none of them a price that rises by more than 3ne.
-#[derive(Clone, Copy, Debug, Default)]
-pub struct Scaling;
+/// A clause sees how many steps of each kind the last solve made that was answered.
+#[derive(Drop)]
+pub struct Scaling {
+    steps: Steps,
+}
+
+impl Model for Scaling {
+    ghost use Rattle.mcf_scaling.specs.Refinements.{StepCounts};
+
+    ghost Value = { StepCounts };
+
+    ghost view = { λ s. s.steps };
+}
 
 impl Scaling {
-    /// The engine, which keeps nothing.
-    pub fn new() -> Scaling {
-        Scaling
+    /// The engine, which has made no step.
+    pub fn new() -> Scaling
+        ensures { result ≡ no_steps }
+    {
+        Scaling {
+            steps: Steps::none(),
+        }
     }
 }
 
@@ -39,7 +56,7 @@ impl Engine for Scaling {
 
     ghost Takes = { λ _. ⊤ };
 
-    ghost Made = { λ _ g s _. IsScaled g s };
+    ghost Made = { λ _ g s t. IsScaled g s t };
 
     fn takes(&self, _net: &Net) -> bool {
         true
@@ -50,27 +67,33 @@ impl Engine for Scaling {
     /// # Errors
     ///
     /// Want of memory, where a growth was refused; a net without nodes wants none. The engine is as it was.
+    /// All memory is taken before the first phase: what runs then has no allocator.
     fn solve<'n>(&mut self, alloc: Global, net: &'n Net) -> Result<Outcome<'n>, NoMemory>
-        ensures outcome { IfOk result (IsOutcome (IsScaled net.now) net.now) }
+        ensures outcome { IfOk result (IsOutcome (λ s. IsScaled net.now s self.new) net.now) }
         ensures wants { OnErr result (1 ≤ node_count net.now) }
+        ensures unstepped { IfOk result (IfBlocked (self.new ≡ no_steps)) }
         ensures err { OnErr result (self.new ≡ self.old) }
     {
         match feasible(alloc, net)? {
             Feas::Flow(state) => {
-                let (least, prices) = refine(alloc, state)?;
+                let (least, prices, steps) = refine(alloc, state)?;
+                self.steps = steps;
                 Ok(Outcome::Least(least, prices))
             }
-            Feas::Blocked(set, side) => Ok(Outcome::Blocked(set, side)),
+            Feas::Blocked(set, side) => {
+                self.steps = Steps::none();
+                Ok(Outcome::Blocked(set, side))
+            }
         }
     }
 }
 
 // Refines a state without surplus: it is then least, and has prices. All memory is taken before the first phase.
-fn refine<'n>(alloc: Global, state: State<'n>) -> Result<(State<'n>, Vec<i128>), NoMemory>
+fn refine<'n>(alloc: Global, state: State<'n>) -> Result<(State<'n>, Vec<i128>, Steps), NoMemory>
     requires { IsFeasibleState state.net state }
     ensures least { IfOk result (λ found. IsLeastState state.entry.net found.0) }
     ensures shown { IfOk result (λ found. AreStatePrices state.entry.net found.0 found.1.items) }
-    ensures made { IfOk result (λ found. IsScaled state.entry.net found.0) }
+    ensures made { IfOk result (λ found. IsScaled state.entry.net found.0 found.2) }
     ensures wants { OnErr result (1 ≤ node_count state.entry.net) }
 {
     let pricer = Pricer::start(alloc, state.net())?;
@@ -79,14 +102,14 @@ fn refine<'n>(alloc: Global, state: State<'n>) -> Result<(State<'n>, Vec<i128>),
 }
 
 // Takes phase by phase until e is 1, and then raises the prices to the greatest. It takes no memory.
-fn run_phases<'n>(mut refine: Refine<'n>, pricer: Pricer) -> (State<'n>, Vec<i128>)
+fn run_phases<'n>(mut refine: Refine<'n>, pricer: Pricer) -> (State<'n>, Vec<i128>, Steps)
     requires feasible { IsFeasibleState refine.flow.net refine.flow }
     requires start { IsStart refine.flow refine }
     requires valid { IsRefinement refine }
     requires room { pricer ≡ node_count refine.flow.net }
     ensures least { IsLeastState refine.entry.flow.net result.0 }
     ensures shown { AreStatePrices refine.entry.flow.net result.0 result.1.items }
-    ensures made { IsScaled refine.entry.flow.net result.0 }
+    ensures made { IsScaled refine.entry.flow.net result.0 result.2 }
 {
     'phases: while !refine.done() {
         refine.begin();
@@ -96,15 +119,16 @@ fn run_phases<'n>(mut refine: Refine<'n>, pricer: Pricer) -> (State<'n>, Vec<i12
 }
 
 // The state of a refinement that is done, with its greatest prices.
-fn priced<'n>(refine: Refine<'n>, mut pricer: Pricer) -> (State<'n>, Vec<i128>)
+fn priced<'n>(refine: Refine<'n>, mut pricer: Pricer) -> (State<'n>, Vec<i128>, Steps)
     requires done { IsDone refine }
     requires room { pricer ≡ node_count refine.flow.net }
     ensures state { result.0 ≡ refine.entry.flow }
     ensures prices { AreStatePrices refine.entry.flow.net refine.entry.flow result.1.items }
+    ensures steps { result.2 ≡ refine.entry.steps }
 {
-    let (state, mut prices) = refine.into_parts();
+    let (state, mut prices, steps) = refine.into_counted_parts();
     raise_all(&mut pricer, &state, &mut prices);
-    (state, prices)
+    (state, prices, steps)
 }
 
 // Raises prices by which a state is 1-optimal to the greatest that show it.

@@ -23,6 +23,7 @@ use Rattle.mcf_solver.specs.BlockSizes.{IsBlockOf}
 use Rattle.mcf_solver.specs.declared.choice.Choice.{Choice}
 use Rattle.mcf_solver.specs.declared.choice.EngineChoice.{EngineChoice}
 use Rattle.mcf_scaling.specs.Made.{IsScaled}
+use Rattle.mcf_scaling.specs.Refinements.{StepCounts}
 use Rattle.mcf_solver.specs.declared.choice.EngineChoice.TheVariants.{Auto, Cancel, Simplex, Scaling, Sap}
 use Rattle.mcf_solver.specs.declared.choice.PricingChoice.{PricingChoice}
 use Rattle.mcf_solver.specs.declared.choice.PricingChoice.TheVariants.{First, Best, Block}
@@ -67,8 +68,8 @@ IsMadeBySimplex Block block g s =
 abbrev pub IsMadeByEngine : Meant → Choice → Network → Pseudoflow → Type 0
 IsMadeByEngine ByCancel choice g s = ⊤
 IsMadeByEngine BySimplex choice g s = IsMadeBySimplex choice.pricing choice.block g s
-IsMadeByEngine ByScaling choice g s = IsScaled g s
-IsMadeByEngine BySap choice g s = IsMatchedByRows g s
+IsMadeByEngine ByScaling choice g s = (steps : StepCounts) × IsScaled g s steps
+IsMadeByEngine BySap choice g s = (searches : ℕ) × IsMatchedByRows g s searches
 
 -- the net's state was made by a new engine that the choice means for the problem of the net
 abbrev pub IsMadeBy : Choice → Network → Pseudoflow → Type 0

@@ -9,4 +9,4 @@ use Rattle.mcf_assign.specs.Runs.{IsBlockedAtRow, Run, sources_to}
 -- the rows up to a number were offered: all were matched, or the last one was blocked
 abbrev pub AreOffered : Network → ℕ → Extended → Assigned → Type 0
 AreOffered g n Matched m = Run g (sources_to g n) m
-AreOffered g n Blocked m = IsBlockedAtRow g m.reached
+AreOffered g n Blocked m = IsBlockedAtRow g m.reached m.searches

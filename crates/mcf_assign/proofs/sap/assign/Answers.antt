@@ -11,11 +11,11 @@ returns-in-Matched-clause-outcome c =
     let run = rw c.in-Matched.is at c.match_rows.ensures in (
       end_least g m s prices run e.shown.matching c.requires.balanced e.state e.prices,
       end_prices g m s prices run e.shown.matching c.requires.balanced e.state e.prices,
-      end_made g m s prices run e.shown.matching c.requires.balanced e.state e.prices,
+      end_made g m s prices run e.shown.matching c.requires.balanced e.state e.prices c.priced-state.result.2.number e.searches,
     )
 
 pub returns-in-Blocked-clause-outcome : goal.returns-in-Blocked-clause-outcome
 returns-in-Blocked-clause-outcome c =
     let g = c.args.net.now in
     let at = rw c.in-Blocked.is at c.match_rows.ensures in
-    rw c.into_reached.ensures (end_blocked g c.match_rows.new.matching.reached at c.requires.balanced)
+    rw c.into_reached-reached.ensures.reached (end_blocked g c.match_rows.new.matching.reached c.match_rows.new.matching.searches at c.requires.balanced)

@@ -3,5 +3,5 @@ use Rattle.mcf_scaling.proofs.scaling.priced.Goals as goal
 
 pub raise_all-requires-clause-small : goal.raise_all-requires-clause-small
 raise_all-requires-clause-small c =
-    let parts = c.into_parts-state.ensures in
+    let parts = c.into_counted_parts-state.ensures in
     rw (parts.state, parts.prices) (small_prices c.args.refine parts.valid)

@@ -26,4 +26,5 @@ returns-clause-shown c =
 
 pub returns-clause-made : goal.returns-clause-made
 returns-clause-made c =
-    end_scaled c.args.refine.flow c.phases.refine c.priced.result.0 c.requires.feasible c.phases.invariant c.phases-test.ensures.yes c.priced.ensures.state
+    end_scaled c.args.refine.flow c.phases.refine c.priced.result.0 c.priced.result.2 c.requires.feasible c.phases.invariant c.phases-test.ensures.yes
+    c.priced.ensures.state c.priced.ensures.steps

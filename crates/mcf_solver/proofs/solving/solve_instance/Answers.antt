@@ -23,7 +23,7 @@ returns-in-ByScaling-clause-made c =
     let choice = c.args.choice in
     let is : ByScaling ≡ meant choice.engine c.args.instance.now.problem =
     sym c.in-ByScaling.is ∙ c.engine_meant.ensures ∙ ap (meant choice.engine) c.problem.ensures.value in
-    made_as_meant ByScaling choice c.args.instance.now _ c.solve_by-in-ByScaling.result is (λ s made. made) c.solve_by-in-ByScaling.ensures.made
+    made_as_meant ByScaling choice c.args.instance.now _ c.solve_by-in-ByScaling.result is (λ s made. (_, made)) c.solve_by-in-ByScaling.ensures.made
 
 pub solve_by-requires-in-BySap : goal.solve_by-requires-in-BySap
 solve_by-requires-in-BySap c =
@@ -35,4 +35,4 @@ returns-in-BySap-clause-made c =
     let choice = c.args.choice in
     let is : BySap ≡ meant choice.engine c.args.instance.now.problem =
     sym c.in-BySap.is ∙ c.engine_meant.ensures ∙ ap (meant choice.engine) c.problem.ensures.value in
-    made_as_meant BySap choice c.args.instance.now _ c.solve_by-in-BySap.result is (λ s made. made) c.solve_by-in-BySap.ensures.made
+    made_as_meant BySap choice c.args.instance.now _ c.solve_by-in-BySap.result is (λ s made. (_, made)) c.solve_by-in-BySap.ensures.made

@@ -51,10 +51,11 @@ returns-in-Some-clause-extended c =
     let t = c.in-Some.target in
     let s = c.search-found.ensures in
     subst (λ (m : Assigned). IsGrown m c.args.row
-    (record { flow = c.augment.new.state; prices = c.augment.new.prices; settled = c.augment.new.self.order.items; reached = i.reached })) c.self.view_is
+    (record { flow = c.augment.new.state; prices = c.augment.new.prices; settled = c.augment.new.self.order.items; reached = i.reached; searches = c.add_one.new.self.number })) c.self.view_is
     (grown_from i.state i.prices c.augment.new.prices (search_of c.search-found.new.self) c.args.row c.search-found.new.self.order.items t k.matching
     k.shown s.entries s.ended (sym c.in-Some.ensures.best) e.raised c.augment.new.state c.augment.new.prices i.tables.order.items
-    c.augment.new.self.order.items i.reached (e.extended c.args.row s.ended) e.changed e.order refl)
+    c.augment.new.self.order.items i.reached i.searches.number c.add_one.new.self.number (e.extended c.args.row s.ended) e.changed e.order refl
+    c.add_one.ensures)
 
 pub returns-in-Some-clause-shown : goal.returns-in-Some-clause-shown
 returns-in-Some-clause-shown c =
@@ -68,7 +69,7 @@ returns-in-Some-clause-shown c =
     i.reached c.args.row t k.matching k.shown k.near k.free_rows k.count s.entries s.room row s.ended (sym c.in-Some.ensures.best) e.raised
     (e.extended c.args.row s.ended) e.mates e.tables e.order e.room in
     shown_kept c.augment.new.state c.augment.new.prices c.augment.new.mates c.augment.new.self i.reached kept
-    (record { flow = c.augment.new.state; prices = c.augment.new.prices; settled = c.augment.new.self.order.items; reached = i.reached }) refl refl
+    (record { flow = c.augment.new.state; prices = c.augment.new.prices; settled = c.augment.new.self.order.items; reached = i.reached; searches = c.add_one.new.self.number }) refl refl
 
 pub returns-in-None-clause-extended : goal.returns-in-None-clause-extended
 returns-in-None-clause-extended c =
@@ -78,13 +79,13 @@ returns-in-None-clause-extended c =
     let list = c.as_slice.ensures.value in
     let members = rw list at c.fill.ensures.members in
     subst (λ (m : Assigned). IsStopped m c.args.row
-    (record { flow = i.state; prices = i.prices; settled = c.search-found.new.self.order.items; reached = c.fill.new.set })) c.self.view_is
+    (record { flow = i.state; prices = i.prices; settled = c.search-found.new.self.order.items; reached = c.fill.new.set; searches = c.add_one.new.self.number })) c.self.view_is
     (stopped_from i.state i.prices i.prices i.prices (search_of c.search-found.new.self) c.args.row
-    c.search-found.new.self.order.items i.tables.order.items c.search-found.new.self.order.items i.reached c.fill.new.set k.matching s.ended
-    (sym c.in-None.ensures.best) (c.fill.ensures.count ∙ k.count) (λ v n. members v (subst (λ m. IsNode m v) (sym k.count) n)) refl refl)
+    c.search-found.new.self.order.items i.tables.order.items c.search-found.new.self.order.items i.reached c.fill.new.set i.searches.number c.add_one.new.self.number k.matching s.ended
+    (sym c.in-None.ensures.best) (c.fill.ensures.count ∙ k.count) (λ v n. members v (subst (λ m. IsNode m v) (sym k.count) n)) refl refl c.add_one.ensures)
 
 pub returns-in-None-clause-shown : goal.returns-in-None-clause-shown
 returns-in-None-clause-shown c =
     let i = c.self.inside in
     shown_kept i.state i.prices i.mates.items i.tables i.reached c.self.invariant.0
-    (record { flow = i.state; prices = i.prices; settled = c.search-found.new.self.order.items; reached = c.fill.new.set }) refl refl
+    (record { flow = i.state; prices = i.prices; settled = c.search-found.new.self.order.items; reached = c.fill.new.set; searches = c.add_one.new.self.number }) refl refl

@@ -8,7 +8,7 @@ returns-clause-some c =
       flow = c.self.inside.state;
       prices = c.self.inside.prices.items;
       before = c.self.inside.before.items;
-      scale =
-          c.self.inside.scale;
+      scale = c.self.inside.scale;
+      steps = c.self.inside.steps;
     } in
     front_active a c.args.self.now c.self.inside.queue c.front.result c.self.view_is c.self.invariant.2 c.front.ensures.some

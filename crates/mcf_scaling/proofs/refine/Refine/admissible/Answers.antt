@@ -12,8 +12,8 @@ next_admissible-requires-clause-prices c =
       flow = c.self.inside.state;
       prices = c.self.inside.prices.items;
       before = c.self.inside.before.items;
-      scale =
-          c.self.inside.scale;
+      scale = c.self.inside.scale;
+      steps = c.self.inside.steps;
     } in
     subst (λ (ys : List ℤ). AreSmallPrices (node_count a.flow.net) ys) (sym c.deref.ensures.value) (small_prices a c.self.invariant.0)
 
@@ -23,8 +23,8 @@ next_admissible-requires-clause-within c =
       flow = c.self.inside.state;
       prices = c.self.inside.prices.items;
       before = c.self.inside.before.items;
-      scale =
-          c.self.inside.scale;
+      scale = c.self.inside.scale;
+      steps = c.self.inside.steps;
     } in
     entry_within a c.args.self.now c.self.inside.places c.self.inside.currents.items c.args.v c.place-i.result c.index_mut.result.now c.self.view_is
     c.requires c.place-i.ensures c.self.invariant.1 c.index_mut.ensures.value
@@ -35,8 +35,8 @@ next_admissible-requires-clause-leaves c =
       flow = c.self.inside.state;
       prices = c.self.inside.prices.items;
       before = c.self.inside.before.items;
-      scale =
-          c.self.inside.scale;
+      scale = c.self.inside.scale;
+      steps = c.self.inside.steps;
     } in
     entry_leaves a c.args.self.now c.self.inside.places c.self.inside.currents.items c.args.v c.place-i.result c.index_mut.result.now c.self.view_is
     c.requires c.place-i.ensures c.self.invariant.1 c.index_mut.ensures.value
@@ -47,8 +47,8 @@ invariant_of-self c =
       flow = c.self.inside.state;
       prices = c.self.inside.prices.items;
       before = c.self.inside.before.items;
-      scale =
-          c.self.inside.scale;
+      scale = c.self.inside.scale;
+      steps = c.self.inside.steps;
     } in (
       c.self.invariant.0,
       entry_current a c.args.self.now c.self.inside.places c.self.inside.currents.items c.args.v c.place-i.result c.index_mut.result.now c.self.view_is
@@ -66,8 +66,8 @@ returns-clause-none c =
       flow = c.self.inside.state;
       prices = c.self.inside.prices.items;
       before = c.self.inside.before.items;
-      scale =
-          c.self.inside.scale;
+      scale = c.self.inside.scale;
+      steps = c.self.inside.steps;
     } in
     entry_none a c.args.self.now c.self.inside.places c.self.inside.currents.items c.args.v c.place-i.result c.index_mut.result.now c.self.view_is
     c.requires c.place-i.ensures c.self.invariant.1 c.index_mut.ensures.value c.next_admissible.result c.next_admissible.new.current

@@ -23,12 +23,12 @@ invariant_of-self c =
       flow = c.self.inside.state;
       prices = c.self.inside.prices.items;
       before = c.self.inside.before.items;
-      scale =
-          c.self.inside.scale;
+      scale = c.self.inside.scale;
+      steps = c.self.inside.steps;
     } in
     let copied : c.copy_from_slice.new.self.items ≡ a.prices = search rules in (
-      begun_made a c.args.self.now c.fill.new.state c.deref.result.now c.copy_from_slice.new.self.items c.self.view_is c.self.invariant.0
-          c.requires.scale c.requires.rest c.fill.ensures c.deref.ensures.value copied,
+      begun_made a c.args.self.now c.fill.new.state c.deref.result.now c.copy_from_slice.new.self.items c.begin.new.self c.self.view_is c.self.invariant.0
+          c.requires.scale c.requires.rest c.fill.ensures c.deref.ensures.value copied c.begin.ensures,
       begin_current a c.fill.new.state c.deref.result.now c.self.inside.places
           c.self.inside.currents.items c.fill.ensures c.deref.ensures.value c.self.invariant.1,
       c.tidy.ensures,
@@ -43,9 +43,9 @@ returns-clause-valid c =
       flow = c.self.inside.state;
       prices = c.self.inside.prices.items;
       before = c.self.inside.before.items;
-      scale =
-          c.self.inside.scale;
+      scale = c.self.inside.scale;
+      steps = c.self.inside.steps;
     } in
     let copied : c.copy_from_slice.new.self.items ≡ a.prices = search rules in
-    begun_made a c.args.self.now c.fill.new.state c.deref.result.now c.copy_from_slice.new.self.items c.self.view_is c.self.invariant.0
-    c.requires.scale c.requires.rest c.fill.ensures c.deref.ensures.value copied
+    begun_made a c.args.self.now c.fill.new.state c.deref.result.now c.copy_from_slice.new.self.items c.begin.new.self c.self.view_is c.self.invariant.0
+    c.requires.scale c.requires.rest c.fill.ensures c.deref.ensures.value copied c.begin.ensures

@@ -17,8 +17,8 @@ push_share-amount-requires-clause-active c =
       flow = c.self.inside.state;
       prices = c.self.inside.prices.items;
       before = c.self.inside.before.items;
-      scale =
-          c.self.inside.scale;
+      scale = c.self.inside.scale;
+      steps = c.self.inside.steps;
     } in
     push_low a c.args.self.now c.args.r c.self.view_is c.requires.active
 
@@ -28,8 +28,8 @@ mark-requires-clause-arc c =
       flow = c.self.inside.state;
       prices = c.self.inside.prices.items;
       before = c.self.inside.before.items;
-      scale =
-          c.self.inside.scale;
+      scale = c.self.inside.scale;
+      steps = c.self.inside.steps;
     } in
     subst (λ (g : Network). IsArcNumber g c.args.r.arc) (sym (ap (λ (p : Pseudoflow). p.net) c.push_share-amount.ensures.value))
     (arc_of a c.args.self.now c.args.r c.self.view_is c.requires.admissible)
@@ -47,11 +47,11 @@ invariant_of-self c =
       flow = c.self.inside.state;
       prices = c.self.inside.prices.items;
       before = c.self.inside.before.items;
-      scale =
-          c.self.inside.scale;
+      scale = c.self.inside.scale;
+      steps = c.self.inside.steps;
     } in (
-      push_made a c.args.self.now c.args.r c.push_share-amount.result c.push_share-amount.new.state c.self.view_is c.self.invariant.0
-          c.requires.admissible c.requires.active c.push_share-amount.ensures.value c.push_share-amount.ensures.amount,
+      push_made a c.args.self.now c.args.r c.push_share-amount.result c.push_share-amount.new.state c.push.new.self c.self.view_is c.self.invariant.0
+          c.requires.admissible c.requires.active c.push_share-amount.ensures.value c.push_share-amount.ensures.amount c.push.ensures,
       push_current a c.args.self.now
           c.args.r c.push_share-amount.result c.push_share-amount.new.state c.self.inside.places c.self.inside.currents.items c.self.view_is c.self.invariant.0
           c.requires.admissible c.requires.active c.push_share-amount.ensures.value c.push_share-amount.ensures.amount c.self.invariant.1,
@@ -70,11 +70,11 @@ returns-clause-valid c =
       flow = c.self.inside.state;
       prices = c.self.inside.prices.items;
       before = c.self.inside.before.items;
-      scale =
-          c.self.inside.scale;
+      scale = c.self.inside.scale;
+      steps = c.self.inside.steps;
     } in
-    push_made a c.args.self.now c.args.r c.push_share-amount.result c.push_share-amount.new.state c.self.view_is c.self.invariant.0
-    c.requires.admissible c.requires.active c.push_share-amount.ensures.value c.push_share-amount.ensures.amount
+    push_made a c.args.self.now c.args.r c.push_share-amount.result c.push_share-amount.new.state c.push.new.self c.self.view_is c.self.invariant.0
+    c.requires.admissible c.requires.active c.push_share-amount.ensures.value c.push_share-amount.ensures.amount c.push.ensures
 
 pub tidy-requires : goal.tidy-requires
 tidy-requires c =
@@ -82,8 +82,8 @@ tidy-requires c =
       flow = c.self.inside.state;
       prices = c.self.inside.prices.items;
       before = c.self.inside.before.items;
-      scale =
-          c.self.inside.scale;
+      scale = c.self.inside.scale;
+      steps = c.self.inside.steps;
     } in
     push_holds a.flow c.push_share-amount.new.state c.self.inside.queue c.enqueue.new.queue c.args.r.arc c.args.r.back c.push_share-amount.result
     c.route-to.result.1 c.self.invariant.0.flow (arc_of a c.args.self.now c.args.r c.self.view_is c.requires.admissible)

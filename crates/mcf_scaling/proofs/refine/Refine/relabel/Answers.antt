@@ -17,8 +17,8 @@ rise_of-rise-requires-clause-some c =
       flow = c.self.inside.state;
       prices = c.self.inside.prices.items;
       before = c.self.inside.before.items;
-      scale =
-          c.self.inside.scale;
+      scale = c.self.inside.scale;
+      steps = c.self.inside.steps;
     } in
     active_not_shut a c.args.self.now c.args.v c.self.view_is c.self.invariant.0 c.requires.active
 
@@ -28,8 +28,8 @@ raise-requires-clause-prices c =
       flow = c.self.inside.state;
       prices = c.self.inside.prices.items;
       before = c.self.inside.before.items;
-      scale =
-          c.self.inside.scale;
+      scale = c.self.inside.scale;
+      steps = c.self.inside.steps;
     } in
     let small = small_prices a c.self.invariant.0 in
     subst (λ n. AreSmallPrices n a.prices) (sym small.count) small
@@ -40,21 +40,21 @@ invariant_of-self c =
       flow = c.self.inside.state;
       prices = c.self.inside.prices.items;
       before = c.self.inside.before.items;
-      scale =
-          c.self.inside.scale;
+      scale = c.self.inside.scale;
+      steps = c.self.inside.steps;
     } in
     let same : to_z w128 (of_z w128 c.rise_of-rise.result) ≡ c.rise_of-rise.result = search (rules, to_z-of_z) in
     let raised : c.raise.new.prices.items ≡ set a.prices (c.args.v - 1) (at_node a.prices c.args.v +ℤ c.rise_of-rise.result) = c.raise.ensures ∙ ap
     (λ (z : ℤ). set a.prices (c.args.v - 1) (at_node a.prices c.args.v +ℤ z)) same in
-    let step = relabel_stepped a c.args.self.now (record a { prices = c.raise.new.prices.items }) c.args.v c.rise_of-rise.result c.rise_of-rise.result
-    c.deref.result.now c.raise.new.prices.items c.self.view_is c.requires.active c.requires.stuck c.deref.ensures.value
-    c.rise_of-rise.ensures.value raised refl refl in (
-      relabel_raised a c.args.self.now c.args.v c.rise_of-rise.result c.deref.result.now c.raise.new.prices.items c.self.view_is c.self.invariant.0
-          c.requires.active c.requires.stuck c.deref.ensures.value c.rise_of-rise.ensures.value raised,
+    let step = relabel_stepped a c.args.self.now (record a { prices = c.raise.new.prices.items; steps = c.relabel.new.self }) c.args.v c.rise_of-rise.result c.rise_of-rise.result
+    c.deref.result.now c.raise.new.prices.items c.relabel.new.self c.self.view_is c.requires.active c.requires.stuck c.deref.ensures.value
+    c.rise_of-rise.ensures.value raised c.relabel.ensures refl refl in (
+      relabel_raised a c.args.self.now c.args.v c.rise_of-rise.result c.deref.result.now c.raise.new.prices.items c.relabel.new.self c.self.view_is c.self.invariant.0
+          c.requires.active c.requires.stuck c.deref.ensures.value c.rise_of-rise.ensures.value raised c.relabel.ensures,
       subst
           (λ (n : ℕ). AreCurrent a.flow c.raise.new.prices.items c.self.inside.places (set c.self.inside.currents.items n c.span-span.result.first))
           (sym c.place.ensures)
-          (relabel_current a c.args.self.now (record a { prices = c.raise.new.prices.items }) c.args.v c.rise_of-rise.result c.raise.new.prices.items
+          (relabel_current a c.args.self.now (record a { prices = c.raise.new.prices.items; steps = c.relabel.new.self }) c.args.v c.rise_of-rise.result c.raise.new.prices.items
           c.self.inside.places c.self.inside.currents.items c.span-span.result.first c.self.invariant.0 c.self.view_is step raised c.self.invariant.3
           (ap (λ (s : Span). s.first) c.span-span.ensures) c.self.invariant.1),
       c.self.invariant.2,
@@ -69,14 +69,14 @@ returns-clause-valid c =
       flow = c.self.inside.state;
       prices = c.self.inside.prices.items;
       before = c.self.inside.before.items;
-      scale =
-          c.self.inside.scale;
+      scale = c.self.inside.scale;
+      steps = c.self.inside.steps;
     } in
     let same : to_z w128 (of_z w128 c.rise_of-rise.result) ≡ c.rise_of-rise.result = search (rules, to_z-of_z) in
     let raised : c.raise.new.prices.items ≡ set a.prices (c.args.v - 1) (at_node a.prices c.args.v +ℤ c.rise_of-rise.result) = c.raise.ensures ∙ ap
     (λ (z : ℤ). set a.prices (c.args.v - 1) (at_node a.prices c.args.v +ℤ z)) same in
-    relabel_raised a c.args.self.now c.args.v c.rise_of-rise.result c.deref.result.now c.raise.new.prices.items c.self.view_is c.self.invariant.0
-    c.requires.active c.requires.stuck c.deref.ensures.value c.rise_of-rise.ensures.value raised
+    relabel_raised a c.args.self.now c.args.v c.rise_of-rise.result c.deref.result.now c.raise.new.prices.items c.relabel.new.self c.self.view_is c.self.invariant.0
+    c.requires.active c.requires.stuck c.deref.ensures.value c.rise_of-rise.ensures.value raised c.relabel.ensures
 
 pub returns-clause-step : goal.returns-clause-step
 returns-clause-step c =
@@ -84,14 +84,14 @@ returns-clause-step c =
       flow = c.self.inside.state;
       prices = c.self.inside.prices.items;
       before = c.self.inside.before.items;
-      scale =
-          c.self.inside.scale;
+      scale = c.self.inside.scale;
+      steps = c.self.inside.steps;
     } in
     let same : to_z w128 (of_z w128 c.rise_of-rise.result) ≡ c.rise_of-rise.result = search (rules, to_z-of_z) in
     let raised : c.raise.new.prices.items ≡ set a.prices (c.args.v - 1) (at_node a.prices c.args.v +ℤ c.rise_of-rise.result) = c.raise.ensures ∙ ap
     (λ (z : ℤ). set a.prices (c.args.v - 1) (at_node a.prices c.args.v +ℤ z)) same in
-    relabel_stepped a c.args.self.now (record a { prices = c.raise.new.prices.items }) c.args.v c.rise_of-rise.result _ c.deref.result.now
-    c.raise.new.prices.items c.self.view_is c.requires.active c.requires.stuck c.deref.ensures.value c.rise_of-rise.ensures.value raised refl same
+    relabel_stepped a c.args.self.now (record a { prices = c.raise.new.prices.items; steps = c.relabel.new.self }) c.args.v c.rise_of-rise.result _ c.deref.result.now
+    c.raise.new.prices.items c.relabel.new.self c.self.view_is c.requires.active c.requires.stuck c.deref.ensures.value c.rise_of-rise.ensures.value raised c.relabel.ensures refl same
 
 pub returns-clause-high : goal.returns-clause-high
 returns-clause-high c =
@@ -99,13 +99,13 @@ returns-clause-high c =
       flow = c.self.inside.state;
       prices = c.self.inside.prices.items;
       before = c.self.inside.before.items;
-      scale =
-          c.self.inside.scale;
+      scale = c.self.inside.scale;
+      steps = c.self.inside.steps;
     } in
     let same : to_z w128 (of_z w128 c.rise_of-rise.result) ≡ c.rise_of-rise.result = search (rules, to_z-of_z) in
     let raised : c.raise.new.prices.items ≡ set a.prices (c.args.v - 1) (at_node a.prices c.args.v +ℤ c.rise_of-rise.result) = c.raise.ensures ∙ ap
     (λ (z : ℤ). set a.prices (c.args.v - 1) (at_node a.prices c.args.v +ℤ z)) same in
-    let step = relabel_stepped a c.args.self.now (record a { prices = c.raise.new.prices.items }) c.args.v c.rise_of-rise.result c.rise_of-rise.result
-    c.deref.result.now c.raise.new.prices.items c.self.view_is c.requires.active c.requires.stuck c.deref.ensures.value
-    c.rise_of-rise.ensures.value raised refl refl in
-    rw same (relabel_rises c.args.self.now (record a { prices = c.raise.new.prices.items }) c.args.v c.rise_of-rise.result step)
+    let step = relabel_stepped a c.args.self.now (record a { prices = c.raise.new.prices.items; steps = c.relabel.new.self }) c.args.v c.rise_of-rise.result c.rise_of-rise.result
+    c.deref.result.now c.raise.new.prices.items c.relabel.new.self c.self.view_is c.requires.active c.requires.stuck c.deref.ensures.value
+    c.rise_of-rise.ensures.value raised c.relabel.ensures refl refl in
+    rw same (relabel_rises c.args.self.now (record a { prices = c.raise.new.prices.items; steps = c.relabel.new.self }) c.args.v c.rise_of-rise.result step)

@@ -12,7 +12,7 @@ invariant_of-result c =
     let phases = subst (λ (g : Network). ArePhases g c.first_scale-scale.result) c.net-net.ensures.value c.first_scale-scale.ensures.value in
     let prices : c.in_ok-prices.prices.items ≡ replicate (node_count c.args.state.net) (pos 0) = search rules in
     let before : c.in_ok-before.before.items ≡ replicate (node_count c.args.state.net) (pos 0) = search rules in (
-      start_made c.args.state c.first_scale-scale.result c.in_ok-prices.prices.items c.in_ok-before.before.items c.requires prices before phases
+      start_made c.args.state c.first_scale-scale.result c.in_ok-prices.prices.items c.in_ok-before.before.items c.none.result c.requires prices before phases
           c.first_scale-scale.ensures.small,
       all_current c.args.state c.net-net.result.now c.in_ok-prices.prices.items c.in_ok-places.places c.in_ok-currents.currents.items
           (sym c.net-net.ensures.value) c.in_ok-places.ensures.value c.in_ok-currents.ensures.value,
@@ -36,5 +36,5 @@ returns-clause-valid c =
     let phases = subst (λ (g : Network). ArePhases g c.first_scale-scale.result) c.net-net.ensures.value c.first_scale-scale.ensures.value in
     let prices : c.in_ok-prices.prices.items ≡ replicate (node_count c.args.state.net) (pos 0) = search rules in
     let before : c.in_ok-before.before.items ≡ replicate (node_count c.args.state.net) (pos 0) = search rules in
-    start_made c.args.state c.first_scale-scale.result c.in_ok-prices.prices.items c.in_ok-before.before.items c.requires prices before phases
+    start_made c.args.state c.first_scale-scale.result c.in_ok-prices.prices.items c.in_ok-before.before.items c.none.result c.requires prices before phases
     c.first_scale-scale.ensures.small

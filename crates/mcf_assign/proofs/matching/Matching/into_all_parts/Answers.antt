@@ -4,7 +4,7 @@ use Rattle.mcf_instance.specs.WellFormed.{IsUpTo}
 use Rattle.mcf_assign.specs.Extending.{Assigned}
 use Rattle.mcf_assign.proofs.Kept.{shown_kept}
 use Rattle.mcf_assign.proofs.RunLaws.{near_all}
-use Rattle.mcf_assign.proofs.matching.Matching.into_parts_and_heap.Goals as goal
+use Rattle.mcf_assign.proofs.matching.Matching.into_all_parts.Goals as goal
 
 pub returns-clause-small : goal.returns-clause-small
 returns-clause-small c =

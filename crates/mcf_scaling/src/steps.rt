@@ -1,0 +1,56 @@
+//! Counts of the steps of a refinement.
+ghost use Rattle.std.specs.Prelude.{◌≡◌, suc};
+ghost use Rattle.mcf_scaling.specs.Refinements.{no_steps};
+
+use mcf_counts::Count;
+use std::marker::Model;
+
+/// How many phases were begun, and how many pushes and relabels were made: for clauses alone, in no bytes.
+#[derive(Drop)]
+pub(crate) struct Steps {
+    phases: Count,
+    pushes: Count,
+    relabels: Count,
+}
+
+impl Model for Steps {
+    ghost use Rattle.mcf_scaling.specs.Refinements.{StepCounts};
+
+    ghost Value = { StepCounts };
+
+    ghost view = { λ s. record { phases = s.phases.number; pushes = s.pushes.number; relabels = s.relabels.number } };
+}
+
+impl Steps {
+    /// Before the first step.
+    pub(crate) fn none() -> Steps
+        ensures { result ≡ no_steps }
+    {
+        Steps {
+            phases: Count::zero(),
+            pushes: Count::zero(),
+            relabels: Count::zero(),
+        }
+    }
+
+    /// A phase more was begun.
+    pub(crate) fn begin(&mut self)
+        ensures { self.new ≡ record self.old { phases = suc self.old.phases } }
+    {
+        self.phases.add_one();
+    }
+
+    /// A push more was made.
+    pub(crate) fn push(&mut self)
+        ensures { self.new ≡ record self.old { pushes = suc self.old.pushes } }
+    {
+        self.pushes.add_one();
+    }
+
+    /// A relabel more was made.
+    pub(crate) fn relabel(&mut self)
+        ensures { self.new ≡ record self.old { relabels = suc self.old.relabels } }
+    {
+        self.relabels.add_one();
+    }
+}
