@@ -8,7 +8,7 @@ ghost use Rattle.mcf_instance.specs.WellFormed.{IsUpTo};
 ghost use Rattle.mcf_network.specs.declared.rid.Rid.{Rid};
 ghost use Rattle.mcf_network.specs.Residual.{tail};
 ghost use Rattle.mcf_network.specs.States.{IsPseudoflow, pushed, room_of, surplus_at};
-ghost use Rattle.mcf_scaling.specs.Optimality.{AreSmallPrices, IsAdmissible, IsLeastReduced};
+ghost use Rattle.mcf_scaling.specs.Optimality.{AreSmallPrices, IsAdmissible, IsLeastReduced, rise_reach};
 ghost use Rattle.mcf_network.specs.Walks.{HasRoom};
 ghost use Rattle.mcf_scaling.specs.Private.Places.{AreRooms, IsStarOf};
 ghost use Rattle.mcf_scaling.specs.Phases.{IsBegun, IsDone, IsPush, IsRelabel};
@@ -307,7 +307,7 @@ fn rise_of(
     requires scale { scale ≤ 70 }
     requires some { ((r : Rid) → tail state.now.net r ≡ v → ¬ HasRoom state.now r) → ⊥ }
     ensures value { (least : ℤ) × IsLeastReduced state.now prices.now v least × (result ≡ least +ℤ pos (2 ^ scale)) }
-    ensures small { IsUpTo (10 ^ 31) result }
+    ensures small { IsUpTo rise_reach result }
 {
     let Some(least) = least_reduced(state, prices, places, rooms, v) else {
         unreachable!()
@@ -317,8 +317,8 @@ fn rise_of(
 
 // The sum of two numbers.
 fn sum(a: i128, b: i128) -> i128
-    requires a { IsUpTo (10 ^ 31) a }
-    requires b { IsUpTo (10 ^ 31) b }
+    requires a { IsUpTo rise_reach a }
+    requires b { IsUpTo rise_reach b }
     ensures { result ≡ a +ℤ b }
 {
     a + b
@@ -328,7 +328,7 @@ fn sum(a: i128, b: i128) -> i128
 fn raise(prices: &mut Vec<i128>, v: NodeId, rise: i128)
     requires prices { AreSmallPrices (length prices.old.items) prices.old.items }
     requires node { IsNode (length prices.old.items) v }
-    requires rise { IsUpTo (10 ^ 31) rise }
+    requires rise { IsUpTo rise_reach rise }
     ensures { prices.new.items ≡ slice_set prices.old.items (v - 1) (at_node prices.old.items v +ℤ rise) }
 {
     let i = v.place();
