@@ -1,5 +1,5 @@
 -- Where the parser may want memory: at a line that says an item and fits.
-use Rattle.std.proofs.Common.{◌≡◌, ℕ, suc, ◌+◌, ◌≤◌, ◌<◌, Bool, true, false, cond, List, [], ◌∷◌, length, Some, None, Ok, Err, refl, sym, ap, ◌∙◌, arith, subst}
+use Rattle.std.proofs.Common.{◌≡◌, ℕ, ◌+◌, ◌≤◌, ◌<◌, Bool, true, false, cond, List, [], ◌∷◌, length, Some, None, Ok, Err, refl, sym, ap, ◌∙◌, arith}
 use Rattle.std.specs.Prelude.{◌&&◌, ◌||◌, OnErr, Option, Result, filter, is_some, map, nat_lt}
 use Rattle.std.specs.List.{enumerate_from, list_any}
 use Rattle.std.proofs.lemmas.Bool.{lt-ltb}

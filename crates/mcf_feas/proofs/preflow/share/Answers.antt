@@ -1,4 +1,4 @@
-use Rattle.std.proofs.Common.{◌≡◌, ap, arith, pos, ◌≤ℤ◌, ◌<ℤ◌, ◌∙◌}
+use Rattle.std.proofs.Common.{◌≡◌, ap, arith, pos, ◌<ℤ◌, ◌∙◌}
 use Rattle.std.proofs.lemmas.Int.{clamps, ints}
 use Rattle.mcf_instance.specs.Network.{Network}
 use Rattle.mcf_network.specs.Residual.{tail}
