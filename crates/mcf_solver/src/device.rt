@@ -4,6 +4,7 @@ ghost use Rattle.std.specs.Io.{ReadsAtMost};
 ghost use Rattle.std.specs.Io.KnownBytes.{Keeps, ReadConsumes, WriteAppends};
 ghost use Rattle.mcf_solver.specs.Devices.{CountsOneFailure};
 
+use mcf_counts::Count;
 use std::io;
 
 /// A source failed to give bytes.
@@ -76,7 +77,7 @@ pub trait Sink {
 #[derive(Drop)]
 pub struct FromReader<R> {
     reader: R,
-    failed_reads: u64,
+    failed_reads: Count,
 }
 
 impl<R: io::Read> FromReader<R> {
@@ -87,7 +88,7 @@ impl<R: io::Read> FromReader<R> {
     {
         FromReader {
             reader,
-            failed_reads: 0,
+            failed_reads: Count::zero(),
         }
     }
 }
@@ -95,13 +96,13 @@ impl<R: io::Read> FromReader<R> {
 impl<R: io::Read> Source for FromReader<R> {
     ghost remaining = { λ source. R.remaining source.reader };
 
-    ghost failures = { λ source. source.failed_reads };
+    ghost failures = { λ source. source.failed_reads.number };
 
     fn read(&mut self, piece: &mut [u8]) -> Result<usize, SourceFault> {
         match self.reader.read(piece) {
             Ok(count) => Ok(count),
             Err(_) => {
-                self.failed_reads = self.failed_reads.saturating_add(1);
+                self.failed_reads.add_one();
                 Err(SourceFault)
             }
         }
@@ -116,7 +117,7 @@ impl<R: io::Read> Source for FromReader<R> {
 #[derive(Drop)]
 pub struct IntoWriter<W> {
     writer: W,
-    failures: u64,
+    failures: Count,
 }
 
 impl<W: io::Write> IntoWriter<W> {
@@ -127,16 +128,16 @@ impl<W: io::Write> IntoWriter<W> {
     {
         IntoWriter {
             writer,
-            failures: 0,
+            failures: Count::zero(),
         }
     }
 
     // The fault of a call of the writer, which is counted.
     fn fault(&mut self) -> SinkFault
-        ensures counted { CountsOneFailure self.old.failures self.new.failures }
+        ensures counted { CountsOneFailure self.old.failures.number self.new.failures.number }
         ensures kept { self.new.writer ≡ self.old.writer }
     {
-        self.failures = self.failures.saturating_add(1);
+        self.failures.add_one();
         SinkFault
     }
 }
@@ -144,7 +145,7 @@ impl<W: io::Write> IntoWriter<W> {
 impl<W: io::Write> Sink for IntoWriter<W> {
     ghost contents = { λ sink. W.contents sink.writer };
 
-    ghost failures = { λ sink. sink.failures };
+    ghost failures = { λ sink. sink.failures.number };
 
     ghost IsFinished = { λ _. Unit };
 

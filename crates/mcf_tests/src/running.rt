@@ -1,6 +1,7 @@
 //! Runs from a source to a sink, of which one fails at a chosen call.
 ghost use Rattle.std.specs.Prelude.{IsTrue};
 
+use mcf_counts::Count;
 use mcf_solver::{
     Choice, FromReader, IntoWriter, Kind, RunFault, Sink, SinkFault, Source, SourceFault, run, send,
 };
@@ -28,6 +29,8 @@ struct Giver<'a> {
     fails_at: u64,
     calls: u64,
     failures: u64,
+    // The same count, as clauses see it.
+    counted: Count,
 }
 
 impl Giver<'_> {
@@ -38,17 +41,19 @@ impl Giver<'_> {
             fails_at,
             calls: 0,
             failures: 0,
+            counted: Count::zero(),
         }
     }
 }
 
 impl Source for Giver<'_> {
-    ghost failures = { λ source. source.failures };
+    ghost failures = { λ source. source.counted.number };
 
     fn read(&mut self, piece: &mut [u8]) -> Result<usize, SourceFault> {
         self.calls = self.calls.saturating_add(1);
         if self.calls == self.fails_at {
             self.failures = self.failures.saturating_add(1);
+            self.counted.add_one();
             return Err(SourceFault);
         }
         let count = self.size.min(piece.len()).min(self.rest.len());
@@ -68,6 +73,8 @@ struct Taker {
     fails_at: u64,
     calls: u64,
     failures: u64,
+    // The same count, as clauses see it.
+    counted: Count,
     is_finished: bool,
 }
 
@@ -80,13 +87,14 @@ impl Taker {
             fails_at,
             calls: 0,
             failures: 0,
+            counted: Count::zero(),
             is_finished: false,
         })
     }
 }
 
 impl Sink for Taker {
-    ghost failures = { λ sink. sink.failures };
+    ghost failures = { λ sink. sink.counted.number };
 
     ghost IsFinished = { λ sink. IsTrue sink.is_finished };
 
@@ -100,6 +108,7 @@ impl Sink for Taker {
             return Ok(count);
         }
         self.failures = self.failures.saturating_add(1);
+        self.counted.add_one();
         Err(SinkFault)
     }
 
@@ -107,6 +116,7 @@ impl Sink for Taker {
         self.calls = self.calls.saturating_add(1);
         if self.calls == self.fails_at {
             self.failures = self.failures.saturating_add(1);
+            self.counted.add_one();
             return Err(SinkFault);
         }
         self.is_finished = true;
