@@ -1,6 +1,6 @@
 -- Where the flow of an answer comes from.
-use Rattle.std.proofs.Common.{◌≡◌, ◌∙◌, ℕ, length, refl, subst, sym}
-use Rattle.std.specs.Prelude.{Option, Result, Ok, Err, IfOk}
+use Rattle.std.proofs.Common.{◌≡◌, ℕ, refl, subst, sym}
+use Rattle.std.specs.Prelude.{Result, Ok, Err, IfOk}
 use Rattle.std.proofs.lemmas.Option.{IfSome_then}
 use Rattle.mcf_answer.specs.declared.answers.Answer.{Answer}
 use Rattle.mcf_checker.specs.Correct.{flow_given}
@@ -9,8 +9,6 @@ use Rattle.mcf_instance.specs.declared.problem.Problem.{Problem}
 use Rattle.mcf_instance.specs.declared.problem.Problem.TheVariants.{Min, Asn}
 use Rattle.mcf_network.specs.Removal.{net_of}
 use Rattle.mcf_network.specs.States.{Pseudoflow}
-use Rattle.mcf_network.proofs.RestoringLaws.{net_of-arc_count}
-use Rattle.mcf_solver.specs.BlockSizes.{IsBlockOf}
 use Rattle.mcf_solver.specs.Making.{HasMadeFlow, IsMadeBy, IsMadeByEngine, IsMadeBySimplex, meant, new_block_rule, suited}
 use Rattle.mcf_solver.specs.declared.choice.Choice.{Choice}
 use Rattle.mcf_solver.specs.declared.choice.EngineChoice.{EngineChoice}
@@ -63,19 +61,14 @@ unfolding net_of
 net_for_assignments e g h = meant_for_assignments e g.problem h
 
 -- what a rule made that is chosen is made by the chosen rule
-pub made_by_rule : {E : Type 0} (pricing chosen : PricingChoice) (block : Option ℕ) (g : Network) (P : Network → Pseudoflow → Type 0) (r : Result Answer E)
+pub made_by_rule : {E : Type 0} (pricing chosen : PricingChoice) (block : ℕ) (g : Network) (P : Network → Pseudoflow → Type 0) (r : Result Answer E)
     → chosen ≡ pricing → ((s : Pseudoflow) → P (net_of g) s → IsMadeBySimplex pricing block (net_of g) s)
     → IfOk r (HasMadeFlow P (Ok g)) → IfOk r (HasMadeFlow (IsMadeBySimplex chosen block) (Ok g))
 made_by_rule pricing chosen block g P r is step h =
     made_otherwise_if_ok P (IsMadeBySimplex chosen block) g (λ (s : Pseudoflow) made.
     subst (λ (rule : PricingChoice). IsMadeBySimplex rule block (net_of g) s) (sym is) (step s made)) r h
 
--- the size for the arcs of the instance is the one for those of its net
-pub size_on_net : (block : Option ℕ) (g : Network) (arcs size : ℕ) → arcs ≡ length g.arcs → IsBlockOf block arcs size
-    → IsBlockOf block (length (net_of g).arcs) size
-size_on_net block g arcs size is h = subst (λ (n : ℕ). IsBlockOf block n size) (is ∙ sym (net_of-arc_count g)) h
-
 -- a run of blocks from a rule that is the new one
-pub made_by_blocks : (block : Option ℕ) (size : ℕ) (old : BlockRule) (g : Network) (s : Pseudoflow) (new : BlockRule)
-    → IsBlockOf block (length g.arcs) size → old ≡ new_block_rule size → IsMadeByRun IsBlockPick old g s new → IsMadeBySimplex Block block g s
-made_by_blocks block size old g s new on_net is made = (size, new, on_net, subst (λ (rule : BlockRule). IsMadeByRun IsBlockPick rule g s new) is made)
+pub made_by_blocks : (block : ℕ) (old : BlockRule) (g : Network) (s : Pseudoflow) (new : BlockRule)
+    → old ≡ new_block_rule block → IsMadeByRun IsBlockPick old g s new → IsMadeBySimplex Block block g s
+made_by_blocks block old g s new is made = (new, subst (λ (rule : BlockRule). IsMadeByRun IsBlockPick rule g s new) is made)

@@ -25,14 +25,14 @@ use Rattle.mcf_solver.specs.declared.choice.PricingChoice.TheVariants.{First, Be
 module _ (first : RunsAreTreeSolutions first_picks) (best : RunsAreTreeSolutions best_picks) (block : RunsAreTreeSolutions IsBlockPick)
     (stands : RestoredTreeSolutionsAreTreeSolutions) where
   -- of the net
-  net_tree : (pricing : PricingChoice) (chosen : Option ℕ) (g : Network) (s : Pseudoflow) → IsNet g → IsMadeBySimplex pricing chosen g s →
+  net_tree : (pricing : PricingChoice) (chosen : ℕ) (g : Network) (s : Pseudoflow) → IsNet g → IsMadeBySimplex pricing chosen g s →
       IsTreeSolution g s.amounts
   net_tree First chosen g s net made = first made.0 g s made.1 net made.2
   net_tree Best chosen g s net made = best made.0 g s made.1 net made.2
-  net_tree Block chosen g s net made = block (new_block_rule made.0) g s made.1 net made.3
+  net_tree Block chosen g s net made = block (new_block_rule chosen) g s made.0 net made.1
 
   -- and of the instance
-  tree_of : (pricing : PricingChoice) (chosen : Option ℕ) (g : Network) (flow : List ℤ) → StandsForMade (IsMadeBySimplex pricing chosen) g flow →
+  tree_of : (pricing : PricingChoice) (chosen : ℕ) (g : Network) (flow : List ℤ) → StandsForMade (IsMadeBySimplex pricing chosen) g flow →
       IsTreeSolution g flow
   tree_of pricing chosen g flow h =
       let s = h.state in

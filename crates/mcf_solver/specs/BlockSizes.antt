@@ -1,6 +1,6 @@
 -- Sizes of the blocks of block pricing.
 -- Source: own
-use Rattle.std.specs.Prelude.{◌≡◌, ℕ, ◌+◌, ◌*◌, ◌^◌, ◌<◌, ◌≤◌, max, Option, Some, None}
+use Rattle.std.specs.Prelude.{◌≡◌, ℕ, ◌+◌, ◌*◌, ◌^◌, ◌<◌, ◌≤◌, max}
 
 -- the most arcs of a block
 abbrev pub block_limit : ℕ
@@ -14,17 +14,12 @@ IsBlockSize size = (1 ≤ size) × (size ≤ block_limit)
 abbrev pub IsRoot : ℕ → ℕ → Type 0
 IsRoot n root = (root * root ≤ n) × (n < (root + 1) * (root + 1))
 
--- the fewest arcs of a block where no size is chosen
-abbrev pub least_block : ℕ
-least_block = 256
+-- the size of a block where no other is chosen
+abbrev pub standard_block : ℕ
+standard_block = 256
 
--- the size that suits a net of so many arcs: the root of twice their number, but not less than the fewest
+-- the size that suits a net of so many arcs: the root of twice their number, but not less than the standard one
 pub record IsSuitedSize (arcs size : ℕ) : Type 0 where
   pub root : ℕ
   pub is_root : IsRoot (2 * arcs) root
-  pub is : size ≡ max least_block root
-
--- the size of the blocks on a net of so many arcs: the one that is chosen, and where none is the one that suits the net
-abbrev pub IsBlockOf : Option ℕ → ℕ → ℕ → Type 0
-IsBlockOf (Some chosen) arcs size = size ≡ chosen
-IsBlockOf None arcs size = IsSuitedSize arcs size
+  pub is : size ≡ max standard_block root

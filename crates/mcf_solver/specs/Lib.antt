@@ -20,6 +20,7 @@ pub use Rattle.mcf_simplex.specs.Runs as SimplexRuns
 pub use Rattle.mcf_text.specs.Row
 pub mod Answering
 pub mod BlockSizes
+pub mod Choices
 pub mod ChosenSolutions
 pub mod Devices
 pub mod Forms

@@ -1,6 +1,6 @@
 -- How the state behind a flow was made: by a new engine, the one that the choice means.
 -- Source: own
-use Rattle.std.specs.Prelude.{◌≡◌, ⊤, ℕ, ℤ, List, length, Option, IfSome, Result, Ok, Err}
+use Rattle.std.specs.Prelude.{◌≡◌, ⊤, ℕ, ℤ, List, IfSome, Result, Ok, Err}
 use Rattle.mcf_answer.specs.declared.answers.Answer.{Answer}
 use Rattle.mcf_checker.specs.Correct.{flow_given}
 use Rattle.mcf_assign.specs.Runs.{IsMatchedByRows}
@@ -19,7 +19,6 @@ use Rattle.mcf_simplex.specs.Picking.{IsBestPick, IsFirstPick}
 use Rattle.mcf_simplex.specs.Runs.{IsMadeByRun}
 use Rattle.mcf_simplex.specs.declared.best.Best.{Best as BestRule}
 use Rattle.mcf_simplex.specs.declared.first.First.{First as FirstRule}
-use Rattle.mcf_solver.specs.BlockSizes.{IsBlockOf}
 use Rattle.mcf_solver.specs.declared.choice.Choice.{Choice}
 use Rattle.mcf_solver.specs.declared.choice.EngineChoice.{EngineChoice}
 use Rattle.mcf_scaling.specs.Made.{IsScaled}
@@ -55,13 +54,11 @@ best_picks old b answer new = IsBestPick b answer
 abbrev pub new_block_rule : ℕ → BlockRule
 new_block_rule size = record { size = size; next = 1 }
 
--- the net's state was made by a run of the network simplex, with a new rule: the one that is chosen, and its blocks have the size that
--- is chosen, or the one that suits the net
-abbrev pub IsMadeBySimplex : PricingChoice → Option ℕ → Network → Pseudoflow → Type 0
+-- the net's state was made by a run of the network simplex, with a new rule: the one that is chosen, and its blocks have this size
+abbrev pub IsMadeBySimplex : PricingChoice → ℕ → Network → Pseudoflow → Type 0
 IsMadeBySimplex First block g s = (old new : FirstRule) × IsMadeByRun first_picks old g s new
 IsMadeBySimplex Best block g s = (old new : BestRule) × IsMadeByRun best_picks old g s new
-IsMadeBySimplex Block block g s =
-    (size : ℕ) × (new : BlockRule) × IsBlockOf block (length g.arcs) size × IsMadeByRun IsBlockPick (new_block_rule size) g s new
+IsMadeBySimplex Block block g s = (new : BlockRule) × IsMadeByRun IsBlockPick (new_block_rule block) g s new
 
 -- the net's state was made by a new engine of this name; the plain engine asks nothing of how, cost scaling counts its steps, and the
 -- engine for assignments its searches

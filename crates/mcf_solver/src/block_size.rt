@@ -1,6 +1,6 @@
 //! Sizes of blocks.
 ghost use Rattle.std.specs.Prelude.{◌≡◌, SomeIff};
-ghost use Rattle.mcf_solver.specs.BlockSizes.{IsBlockOf, IsBlockSize, IsSuitedSize};
+ghost use Rattle.mcf_solver.specs.BlockSizes.{IsBlockSize, IsSuitedSize, standard_block};
 
 use std::marker::Model;
 
@@ -35,6 +35,13 @@ impl BlockSize {
         }
     }
 
+    /// 256 arcs.
+    pub fn standard() -> BlockSize
+        ensures { result ≡ standard_block }
+    {
+        BlockSize { size: 256 }
+    }
+
     /// How many arcs that are.
     pub fn get(self) -> u32
         ensures value { result ≡ self }
@@ -51,15 +58,5 @@ impl BlockSize {
         BlockSize {
             size: root.max(256),
         }
-    }
-}
-
-// The size of the blocks on a net of so many arcs: the one that is chosen, and where none is the one that suits the net.
-pub(crate) fn block_of(chosen: Option<BlockSize>, arcs: u32) -> BlockSize
-    ensures { IsBlockOf chosen arcs result }
-{
-    match chosen {
-        Some(size) => size,
-        None => BlockSize::suited_to(arcs),
     }
 }

@@ -42,13 +42,30 @@ pub enum Form {
 }
 
 /// How an instance is solved and answered. The pricing rule and the size of its blocks matter to the network simplex alone.
-#[derive(Clone, Copy, Debug, Default, PartialEq, Eq)]
+#[derive(Clone, Copy, Debug, PartialEq, Eq)]
 pub struct Choice {
     pub engine: EngineChoice,
     pub pricing: PricingChoice,
-    /// How many arcs a block has; where no size is chosen, the one that suits the net.
-    pub block: Option<BlockSize>,
+    /// How many arcs a block has.
+    pub block: BlockSize,
     pub form: Form,
+}
+
+impl Default for Choice {
+    ghost use Rattle.std.specs.Prelude.{◌≡◌};
+    ghost use Rattle.mcf_solver.specs.Choices.{standard_choice};
+
+    ghost is_default = { λ choice. choice ≡ standard_choice };
+
+    /// `Auto`, `Block` with blocks of 256 arcs, and the first form.
+    fn default() -> Choice {
+        Choice {
+            engine: EngineChoice::Auto,
+            pricing: PricingChoice::Block,
+            block: BlockSize::standard(),
+            form: Form::One,
+        }
+    }
 }
 
 /// What an answer holds.

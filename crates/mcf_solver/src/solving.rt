@@ -14,7 +14,6 @@ ghost use Rattle.mcf_instance.specs.Reading.{reading};
 ghost use Rattle.mcf_text.specs.Row.{rows};
 ghost use Rattle.std.specs.Prelude.{Ok};
 
-use crate::block_size::block_of;
 use crate::choice::{Choice, EngineChoice, Form, Kind, Meant, PricingChoice};
 use crate::flow::flow_answer;
 use crate::set::set_answer;
@@ -167,8 +166,7 @@ fn solve_by_simplex(alloc: Global, instance: &Instance, choice: Choice) -> Resul
         PricingChoice::First => solve_by(alloc, instance, choice.form, &mut Simplex::new(First)),
         PricingChoice::Best => solve_by(alloc, instance, choice.form, &mut Simplex::new(Best)),
         PricingChoice::Block => {
-            let size = block_of(choice.block, instance.arc_count());
-            let rule = Block::new(size.get());
+            let rule = Block::new(choice.block.get());
             solve_by(alloc, instance, choice.form, &mut Simplex::new(rule))
         }
     }

@@ -20,7 +20,7 @@ asked_by words = option_map (λ p. (p.0, engine_by (first_of (codes "engine") p.
     (subcommand_of some_app words)
 
 -- the pricing rule and the size of its blocks
-rule_asked_by : List Text → Option (PricingChoice × Option ℕ)
+rule_asked_by : List Text → Option (PricingChoice × ℕ)
 unfolding some_app
 rule_asked_by words = option_map (λ p. (pricing_by (first_of (codes "pricing") p.1), block_by (first_of (codes "block") p.1)))
     (subcommand_of some_app words)
@@ -52,11 +52,11 @@ with_sap : asked_by (codes "mcf" ∷ codes "solve" ∷ codes "--engine=sap" ∷ 
 unfolding clap_on_literals asked_by some_app
 with_sap = refl
 
-without_rule : rule_asked_by (codes "mcf" ∷ codes "solve" ∷ codes "--engine=simplex" ∷ []) ≡ Some (Block, None)
+without_rule : rule_asked_by (codes "mcf" ∷ codes "solve" ∷ codes "--engine=simplex" ∷ []) ≡ Some (Block, 256)
 unfolding clap_on_literals rule_asked_by some_app
 without_rule = refl
 
-with_rule : rule_asked_by (codes "mcf" ∷ codes "solve" ∷ codes "--block" ∷ codes "1000000" ∷ codes "--pricing=best" ∷ []) ≡ Some (Best, Some 1000000)
+with_rule : rule_asked_by (codes "mcf" ∷ codes "solve" ∷ codes "--block" ∷ codes "1000000" ∷ codes "--pricing=best" ∷ []) ≡ Some (Best, 1000000)
 unfolding clap_on_literals rule_asked_by some_app
 with_rule = refl
 

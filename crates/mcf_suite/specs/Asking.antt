@@ -1,6 +1,6 @@
 -- What the words of a command line ask.
 -- Source: own
-use Rattle.std.specs.Prelude.{◌≡◌, ℕ, Bool, true, false, List, [], ◌∷◌, Option, Some, None, Result, IfOk, IfErr, codes, option_and_then, option_map}
+use Rattle.std.specs.Prelude.{◌≡◌, ℕ, Bool, true, false, List, [], ◌∷◌, Option, Some, None, Result, IfOk, IfErr, codes, option_and_then, option_map, unwrap_or}
 use Rattle.std.specs.Prelude.{find, map, if◌then◌else◌}
 use Rattle.std.specs.Borrow.{Bor}
 use Rattle.std.specs.Option.{option_map_or}
@@ -20,7 +20,7 @@ use Rattle.mcf_solver.specs.declared.choice.PricingChoice.{PricingChoice}
 use Rattle.mcf_solver.specs.declared.choice.PricingChoice.TheVariants.{First, Best, Block}
 use Rattle.mcf_solver.specs.declared.choice.Form.{Form}
 use Rattle.mcf_solver.specs.declared.choice.Form.TheVariants.{One, Two}
-use Rattle.mcf_solver.specs.BlockSizes.{block_limit}
+use Rattle.mcf_solver.specs.BlockSizes.{block_limit, standard_block}
 
 -- the names of the engines, and what each asks for
 abbrev pub engine_words : List (Text × EngineChoice)
@@ -72,12 +72,13 @@ form_rule names = word_rule (codes "form") names (codes "1")
 abbrev pub block_parser : ValueParser
 block_parser = parser.Unsigned 1 block_limit
 
--- `--block N`
+-- `--block N`, and 256 where it is left out
 abbrev pub block_rule : Rule
 block_rule = record (new_rule (codes "block")) {
   long = Some (codes "block");
   value_names = 1;
   parser = Some block_parser;
+  defaults = codes "256" ∷ [];
 }
 
 -- `FILE`, which may be left out
@@ -148,9 +149,9 @@ form_by name = choice_by form_words One name
 abbrev pub block_in : Text → Option ℕ
 block_in word = if accepts false block_parser word then Some (digits_value 10 (without_leading_plus word)) else None
 
--- the size of blocks that a word asks for, if there is a word
-abbrev pub block_by : Option Text → Option ℕ
-block_by word = option_and_then block_in word
+-- the size of blocks that a word asks for
+abbrev pub block_by : Option Text → ℕ
+block_by word = unwrap_or (option_and_then block_in word) standard_block
 
 -- what is asked is what the matches of the subcommand hold that the words name
 pub record Asks (app : App) (words : List Text) (asked : Asked) : Type 0 where

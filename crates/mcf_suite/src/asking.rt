@@ -43,16 +43,13 @@ Pricing rules of the simplex:
   best     the eligible arc of greatest violation: few pivots, all arcs looked at for each; for small instances
   block    the same of one block of arcs, the blocks in turn: for large instances; the default
 
-Blocks of the simplex:
-  N        so many arcs; the default is the square root of twice the number of arcs, but 256 at least
-
 Forms of a flow:
   1        a line for each arc, with its ends: the default
   2        a line for each arc that doesn't carry its LOW, with its number: for instances of many arcs";
 
 /// Reads what the words of a command line ask:
 /// `mcf solve [--engine auto|cancel|simplex|scaling|sap] [--pricing first|best|block] [--block N] [--form 1|2] [FILE]`,
-/// where N is 1 to 1,000,000. What is left out is `auto`, `block`, the size of blocks that suits the net, and 1.
+/// where N is 1 to 1,000,000. What is left out is `auto`, `block`, 256 and 1.
 ///
 /// The words begin with the name of the program, which isn't read.
 ///
@@ -162,6 +159,7 @@ fn block_option<'a>(alloc: Global) -> Arg<'a>
         .value_name("N")
         .value_parser(ValueParser::unsigned(1, 1_000_000))
         .help("How many arcs a block has, for --pricing block: 1 to 1000000")
+        .default_value("256")
 }
 
 // The argument FILE.
@@ -212,13 +210,14 @@ fn form_of(name: Option<&str>) -> Form
 }
 
 // The size of blocks that a word asks for.
-fn block_of(word: Option<&str>) -> Option<BlockSize>
+fn block_of(word: Option<&str>) -> BlockSize
     ensures { result ≡ block_by (option_map (λ n. n.now) word.entry) }
 {
-    match word {
+    let size = match word {
         Some(word) => block_in(word),
         None => None,
-    }
+    };
+    size.unwrap_or(BlockSize::standard())
 }
 
 // The size of blocks that a word writes.

@@ -12,7 +12,7 @@ use std::test::Fail;
 struct Way {
     engine: EngineChoice,
     pricing: PricingChoice,
-    block: Option<u32>,
+    block: u32,
 }
 
 // Every engine, and the simplex with each rule and with blocks of several sizes.
@@ -20,65 +20,61 @@ static WAYS: [Way; 10] = [
     Way {
         engine: EngineChoice::Auto,
         pricing: PricingChoice::Block,
-        block: None,
+        block: 256,
     },
     Way {
         engine: EngineChoice::Cancel,
         pricing: PricingChoice::Block,
-        block: None,
+        block: 256,
     },
     Way {
         engine: EngineChoice::Scaling,
         pricing: PricingChoice::Block,
-        block: None,
+        block: 256,
     },
     Way {
         engine: EngineChoice::Sap,
         pricing: PricingChoice::Best,
-        block: None,
+        block: 256,
     },
     Way {
         engine: EngineChoice::Simplex,
         pricing: PricingChoice::First,
-        block: None,
+        block: 256,
     },
     Way {
         engine: EngineChoice::Simplex,
         pricing: PricingChoice::Best,
-        block: None,
+        block: 256,
     },
     Way {
         engine: EngineChoice::Simplex,
         pricing: PricingChoice::Block,
-        block: Some(1),
+        block: 1,
     },
     Way {
         engine: EngineChoice::Simplex,
         pricing: PricingChoice::Block,
-        block: Some(2),
+        block: 2,
     },
     Way {
         engine: EngineChoice::Simplex,
         pricing: PricingChoice::Block,
-        block: None,
+        block: 256,
     },
     Way {
         engine: EngineChoice::Simplex,
         pricing: PricingChoice::Block,
-        block: Some(1_000_000),
+        block: 1_000_000,
     },
 ];
 
 // The choice that a way names, if its block has a size that a block may have, or none.
 fn choice_of(way: &Way) -> Option<Choice> {
-    let block = match way.block {
-        Some(size) => Some(BlockSize::new(size)?),
-        None => None,
-    };
     Some(Choice {
         engine: way.engine,
         pricing: way.pricing,
-        block,
+        block: BlockSize::new(way.block)?,
         form: Form::One,
     })
 }
@@ -131,7 +127,7 @@ fn sizes_of_blocks(rt: HostRuntime) -> Result<(), Fail> {
     }
     let choice = Choice::default();
     assert!(rt; choice.engine == EngineChoice::Auto && choice.pricing == PricingChoice::Block);
-    assert!(rt; choice.block.is_none() && choice.form == Form::One);
+    assert!(rt; choice.block == BlockSize::standard() && choice.form == Form::One);
     Ok(())
 }
 
