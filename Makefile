@@ -19,6 +19,7 @@ kit:
 # First, whether docs/ says what the code and the spec files say.
 test: kit
 	@scripts/documents.py check
+	@grep -qF "$$(rt version)" crates/mcf_suite/src/version.rt || { echo "make test: crates/mcf_suite/src/version.rt names another prover than: $$(rt version)" >&2; exit 1; }
 	rt ci
 
 clean:

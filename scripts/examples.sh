@@ -124,6 +124,7 @@ if [ -x bin/mcf ]; then
     answers $pair.ans /dev/null solve --engine=sap $pair.min
     tells 'mcf: cannot open the file' bin/mcf solve examples/none.min
     tells "error: unexpected argument '$pair.min' found
+    [ "$(bin/mcf --version | head -n 1)" = 'mcf 1.0.0' ] || report 'mcf --version: another version'
 
 Usage: mcf solve [OPTIONS] [FILE]
 

@@ -4,7 +4,8 @@ use Rattle.std.specs.Io.KnownBytes.{Appends}
 use Rattle.std.specs.Result.{IsErrAnd}
 use Rattle.clap.specs.Words.{App, HasKind, IsAmong, Kinds, Text, fault_of, kind_of}
 use Rattle.clap.specs.declared.error.Error.{Error}
-use Rattle.clap.specs.declared.error.kind.ErrorKind.TheVariants.{DisplayHelp, OutOfMemory}
+use Rattle.clap.specs.declared.error.kind.ErrorKind.{ErrorKind}
+use Rattle.clap.specs.declared.error.kind.ErrorKind.TheVariants.{DisplayHelp, DisplayVersion, OutOfMemory}
 use Rattle.mcf_suite.specs.Asking.{Asks, IsMcf}
 use Rattle.mcf_suite.specs.declared.asking.Asked.{Asked}
 use Rattle.mcf_solver.specs.declared.fault.RunFault.{RunFault}
@@ -13,27 +14,44 @@ use Rattle.mcf_solver.specs.Devices.{CountsOneFailure}
 use Rattle.mcf_solver.specs.Running.{IsTooLong, TakesBeginning}
 use Rattle.mcf_suite.specs.declared.serving.Failure.{Failure}
 use Rattle.mcf_suite.specs.declared.serving.Failure.TheVariants.{Usage, Open, Run}
-use Rattle.mcf_suite.specs.Private.Failing.{IsFailure, IsHelpFailure, IsRunFailure, failure_text}
+use Rattle.mcf_suite.specs.Private.Failing.{IsFailure, IsHelpFailure, IsRunFailure, IsShown, IsShownInPart, failure_text}
 use Rattle.mcf_suite.specs.Serving.{Answers, AnswersInPart, AsksToSolve, GivesBytes, IsAskedFor, IsReason, IsSource, IsUnopened, Serves, ServesInPart, Tells}
 use Rattle.mcf_suite.specs.Serving.{fault_line}
 
 -- a kind that an error has, where it isn't want of memory
-kind_among : (kinds : Kinds) (e : Error) → kind_of e ≡ DisplayHelp → HasKind kinds e → IsAmong DisplayHelp kinds
-kind_among kinds e help (inl memory) = let bad : DisplayHelp ≡ OutOfMemory = sym help ∙ memory in cc
-kind_among kinds e help (inr among) = subst (λ k. IsAmong k kinds) help among
+kind_among : (kind : ErrorKind) (kinds : Kinds) (e : Error) → kind ≢ OutOfMemory → kind_of e ≡ kind → HasKind kinds e → IsAmong kind kinds
+kind_among kind kinds e other is (inl memory) = absurd (other (sym is ∙ memory))
+kind_among kind kinds e other is (inr among) = subst (λ k. IsAmong k kinds) is among
 
--- words that ask for help
+-- words that ask for help or for the version
 pub help_is_served : {E : Type 0} (words : List Text) (Gives : Option (Bor Text) → Option (List ℕ) → Type 0) (app : App) (e : Error)
     (r : Result ℕ E) (old new : Option (List ℕ)) → IsMcf app → HasKind (fault_of app words) e
-    → IfOk r (λ status. status ≡ 0) → OnOk r (kind_of e ≡ DisplayHelp) → OnOk r ((text : List ℕ) × Appends old new text)
-    → IfOk r (λ status. Serves words Gives status old new)
-help_is_served words Gives app e (Ok status) old new is_mcf has is_zero help taken = inr (record {
-  asked = record { app = app; is_mcf = is_mcf; among = kind_among (fault_of app words) e help has };
+    → IfOk r (λ status. status ≡ 0) → OnOk r (IsShown (kind_of e) old new) → IfOk r (λ status. Serves words Gives status old new)
+help_is_served words Gives app e (Ok status) old new is_mcf has is_zero (inl help) = inr (inl (record {
+  asked = record { app = app; is_mcf = is_mcf; among = kind_among DisplayHelp (fault_of app words) e (λ bad. cc) help.0 has };
   is_status = is_zero;
-  text = taken.0;
-  taken = taken.1;
-})
-help_is_served words Gives app e (Err f) old new is_mcf has is_zero help taken = tt
+  text = help.1.0;
+  taken = help.1.1;
+}))
+help_is_served words Gives app e (Ok status) old new is_mcf has is_zero (inr version) = inr (inr (record {
+  asked = record { app = app; is_mcf = is_mcf; among = kind_among DisplayVersion (fault_of app words) e (λ bad. cc) version.0 has };
+  is_status = is_zero;
+  taken = version.1;
+}))
+help_is_served words Gives app e (Err f) old new is_mcf has is_zero shown = tt
+
+-- words that ask for help or for the version, where writing failed
+shown_in_part : (words : List Text) (Gives : Option (Bor Text) → Option (List ℕ) → Type 0) (app : App) (e : Error) (old new : Option (List ℕ)) → IsMcf app
+    → HasKind (fault_of app words) e → IsShownInPart (kind_of e) old new → ServesInPart words Gives old new
+shown_in_part words Gives app e old new is_mcf has (inl help) = inr (inl (record {
+  asked = record { app = app; is_mcf = is_mcf; among = kind_among DisplayHelp (fault_of app words) e (λ bad. cc) help.0 has };
+  text = help.1.0;
+  taken = help.1.1;
+}))
+shown_in_part words Gives app e old new is_mcf has (inr version) = inr (inr (record {
+  asked = record { app = app; is_mcf = is_mcf; among = kind_among DisplayVersion (fault_of app words) e (λ bad. cc) version.0 has };
+  taken = version.1;
+}))
 
 -- words without a fault that ask for this
 pub asks_to_solve : {words : List Text} {of_asked : Asked → Type 0} (app : App) (asked : Asked) → IsMcf app → fault_of app words ≡ []
@@ -63,29 +81,23 @@ pub unopened : {S : Type 0} (Opens : Text → Option S → Type 0) (file : Optio
     → file ≡ Some name → Opens name.now None → IsUnopened Opens file
 unopened Opens file name named opened = subst (λ (f : Option (Bor Text)). IsUnopened Opens f) (sym named) opened
 
--- words that aren't taken: they ask for help that can't be written, or have another fault
+-- words that aren't taken: they ask for help or for the version, which can't be written, or have another fault
 pub help_failed : {S : Type 0} (remaining : S → Option (List ℕ)) (failures : S → ℕ) (input input' : S) (Opens : Text → Option S → Type 0) (words : List Text)
     (Gives : Option (Bor Text) → Option (List ℕ) → Type 0) (app : App) (e : Error) (r : Result ℕ Failure) (old new : Option (List ℕ))
     (untouched failed : Type 0) → IsMcf app → HasKind (fault_of app words) e
-    → IfErr r (IsHelpFailure (kind_of e) untouched (failed × ((text : List ℕ) × TakesBeginning old new text)))
+    → IfErr r (IsHelpFailure (kind_of e) untouched (failed × IsShownInPart (kind_of e) old new))
     → IfErr r (IsFailure remaining failures input input' Opens words untouched (failed × ServesInPart words Gives old new))
 help_failed remaining failures input input' Opens words Gives app e (Ok status) old new untouched failed is_mcf has h = tt
 help_failed remaining failures input input' Opens words Gives app e (Err (Usage text)) old new untouched failed is_mcf has h =
-    (h.0, record { kind = kind_of e; no_help = h.1.1; fault = record { app = app; is_mcf = is_mcf; among = other has } })
+    (h.0, record { kind = kind_of e; no_help = h.1.1; no_version = h.1.2; fault = record { app = app; is_mcf = is_mcf; among = other has } })
   where
     other : HasKind (fault_of app words) e → IsAmong (kind_of e) (fault_of app words)
     other (inl memory) = absurd (h.1.0 memory)
     other (inr among) = among
 help_failed remaining failures input input' Opens words Gives app e (Err Open) old new untouched failed is_mcf has h = absurd h
 help_failed remaining failures input input' Opens words Gives app e (Err (Run Read)) old new untouched failed is_mcf has h = absurd h
-help_failed remaining failures input input' Opens words Gives app e (Err (Run Write)) old new untouched failed is_mcf has h = (
-  h.1.0,
-  inr (record {
-    asked = record { app = app; is_mcf = is_mcf; among = kind_among (fault_of app words) e h.0 has };
-    text = h.1.1.0;
-    taken = h.1.1.1;
-  }),
-)
+help_failed remaining failures input input' Opens words Gives app e (Err (Run Write)) old new untouched failed is_mcf has h =
+    (h.0, shown_in_part words Gives app e old new is_mcf has h.1)
 help_failed remaining failures input input' Opens words Gives app e (Err (Run NoMemory)) old new untouched failed is_mcf has h = h
 help_failed remaining failures input input' Opens words Gives app e (Err (Run TooLong)) old new untouched failed is_mcf has h = absurd h
 

@@ -97,9 +97,9 @@ solve_rules engines pricings forms = engine_rule engines ∷ pricing_rule pricin
 abbrev pub solve_shape : Bor (List (Bor Text)) → Bor (List (Bor Text)) → Bor (List (Bor Text)) → Shape
 solve_shape engines pricings forms = record (new_app (codes "solve")).top { rules = solve_rules engines pricings forms }
 
--- `mcf`, which wants a subcommand
+-- `mcf`, which wants a subcommand, and has a version
 abbrev pub mcf_top : App
-mcf_top = record { top = record (new_app (codes "mcf")).top { subcommand_required = true }; subs = [] }
+mcf_top = record { top = record (new_app (codes "mcf")).top { has_version = true; subcommand_required = true }; subs = [] }
 
 -- `mcf` with its one subcommand
 abbrev pub mcf_app : Bor (List (Bor Text)) → Bor (List (Bor Text)) → Bor (List (Bor Text)) → App

@@ -6,7 +6,8 @@ use Rattle.std.specs.Fn.{CalledAt, Mut}
 use Rattle.std.specs.Io.KnownBytes.{Appends}
 use Rattle.clap.specs.Words.{App, IsAmong, Text, fault_of}
 use Rattle.clap.specs.declared.error.kind.ErrorKind.{ErrorKind}
-use Rattle.clap.specs.declared.error.kind.ErrorKind.TheVariants.{DisplayHelp}
+use Rattle.clap.specs.declared.error.kind.ErrorKind.TheVariants.{DisplayHelp, DisplayVersion}
+use Rattle.mcf_suite.specs.declared.TheConstants.{VERSION}
 use Rattle.mcf_suite.specs.declared.asking.Asked.{Asked}
 use Rattle.mcf_solver.specs.declared.choice.Choice.{Choice}
 use Rattle.mcf_solver.specs.declared.choice.Kind.{Kind}
@@ -62,7 +63,7 @@ pub record AsksToSolve (words : List Text) (of_asked : Asked → Type 0) : Type 
   pub asks : Asks app words asked
   pub holds : of_asked asked
 
--- the words have a fault of this kind; to ask for help is one of the kinds
+-- the words have a fault of this kind; to ask for help, or for the version, is one of the kinds
 pub record HaveFault (words : List Text) (kind : ErrorKind) : Type 0 where
   pub app : App
   pub is_mcf : IsMcf app
@@ -92,10 +93,16 @@ pub record ShowsHelp (words : List Text) (status : ℕ) (old new : Option (List 
   pub text : List ℕ
   pub taken : Appends old new text
 
--- the words ask to solve, and the sink took an answer; or they ask for help, and it took some text
+-- the words ask for the version, and the sink took it
+pub record ShowsVersion (words : List Text) (status : ℕ) (old new : Option (List ℕ)) : Type 0 where
+  pub asked : HaveFault words DisplayVersion
+  pub is_status : status ≡ 0
+  pub taken : Appends old new VERSION.now
+
+-- the words ask to solve, and the sink took an answer; or they ask for help, and it took some text; or for the version, and it took that
 abbrev pub Serves : List Text → (Option (Bor Text) → Option (List ℕ) → Type 0) → ℕ → Option (List ℕ)
     → Option (List ℕ) → Type 0
-Serves words Gives status old new = Solves words Gives status old new ⊎ ShowsHelp words status old new
+Serves words Gives status old new = Solves words Gives status old new ⊎ (ShowsHelp words status old new ⊎ ShowsVersion words status old new)
 
 -- the words ask to solve, and the sink took a beginning of an answer, by what they choose, to what the source of their file gives
 abbrev pub SolvesInPart : List Text → (Option (Bor Text) → Option (List ℕ) → Type 0) → Option (List ℕ) → Option (List ℕ) → Type 0
@@ -108,10 +115,15 @@ pub record ShowsHelpInPart (words : List Text) (old new : Option (List ℕ)) : T
   pub text : List ℕ
   pub taken : TakesBeginning old new text
 
--- the words ask to solve or for help, and the sink took a beginning of what they ask for
+-- the words ask for the version, and the sink took a beginning of it
+pub record ShowsVersionInPart (words : List Text) (old new : Option (List ℕ)) : Type 0 where
+  pub asked : HaveFault words DisplayVersion
+  pub taken : TakesBeginning old new VERSION.now
+
+-- the words ask to solve, for help or for the version, and the sink took a beginning of what they ask for
 abbrev pub ServesInPart : List Text → (Option (Bor Text) → Option (List ℕ) → Type 0) → Option (List ℕ)
     → Option (List ℕ) → Type 0
-ServesInPart words Gives old new = SolvesInPart words Gives old new ⊎ ShowsHelpInPart words old new
+ServesInPart words Gives old new = SolvesInPart words Gives old new ⊎ (ShowsHelpInPart words old new ⊎ ShowsVersionInPart words old new)
 
 -- the line that a fault is told by
 abbrev pub fault_line : RunFault → List ℕ
@@ -126,10 +138,11 @@ abbrev pub IsUnopened : {S : Type 0} → (Text → Option S → Type 0) → Opti
 IsUnopened Opens None = ⊥
 IsUnopened Opens (Some name) = Opens name.now None
 
--- the words have a fault, and don't ask for help
+-- the words have a fault, and ask neither for help nor for the version
 pub record HaveUsageFault (words : List Text) : Type 0 where
   pub kind : ErrorKind
   pub no_help : kind ≢ DisplayHelp
+  pub no_version : kind ≢ DisplayVersion
   pub fault : HaveFault words kind
 
 -- why nothing is answered, though nothing was written: the words have a fault, of which the text says something; or their

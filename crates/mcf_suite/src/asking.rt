@@ -82,6 +82,7 @@ fn mcf<'a>(alloc: Global) -> Result<Command<'a>, AllocError>
     let solve = solve(alloc)?;
     Command::new(alloc, "mcf")
         .about("Solves minimum-cost flow problems, with evidence for each answer")
+        .version("1.0.0")
         .subcommand_required(true)
         .subcommand(solve)
 }

@@ -10,6 +10,7 @@ mod asking;
 mod serving;
 #[cfg(test)]
 mod tests_serving;
+mod version;
 
 pub use asking::{Asked, command};
 pub use mcf_solver::{
@@ -17,3 +18,4 @@ pub use mcf_solver::{
     Sink, SinkFault, Source, SourceFault, run, solve_text,
 };
 pub use serving::serve;
+pub use version::VERSION;

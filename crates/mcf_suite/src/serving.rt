@@ -1,14 +1,13 @@
 //! The command `mcf`, over two sources and two sinks.
-ghost use Rattle.std.specs.Prelude.{◌≡◌, ◌≢◌, ◌≤◌, ◌⊎◌, ℕ, List, None, IfErr, IfOk, OnOk, map};
-ghost use Rattle.std.specs.Io.KnownBytes.{Appends};
+ghost use Rattle.std.specs.Prelude.{◌≡◌, ◌≢◌, ◌≤◌, ◌⊎◌, None, IfErr, IfOk, OnOk, map};
 ghost use Rattle.clap.specs.Words.{kind_of};
 ghost use Rattle.mcf_solver.specs.Devices.{CountsOneFailure};
-ghost use Rattle.mcf_solver.specs.Running.{TakesBeginning};
-ghost use Rattle.mcf_suite.specs.Private.Failing.{IsFailure, IsHelpFailure, IsRunFailure, failure_text};
+ghost use Rattle.mcf_suite.specs.Private.Failing.{IsFailure, IsHelpFailure, IsRunFailure, IsShown, IsShownInPart, failure_text};
 ghost use Rattle.mcf_suite.specs.Serving.{Answers, AnswersInPart, AsksToSolve, GivesBytes, IsAskedFor, IsReason, OpensBy, Serves, ServesInPart, Tells};
 ghost use Rattle.mcf_suite.specs.Serving.{fault_line, status_of};
 
 use crate::asking::command;
+use crate::version::VERSION;
 use clap::Error;
 use clap::error::ErrorKind;
 use mcf_solver::{Choice, Kind, RunFault, Sink, Source, run, send};
@@ -94,14 +93,14 @@ fn status_of(kind: Kind) -> u8
 /// Does what the words of a command line ask, and gives the exit status.
 ///
 /// The words begin with the name of the program: `mcf solve [--engine ENGINE] [--pricing RULE] [--block N]
-/// [--form FORM] [FILE]`, as `command` reads them. They are judged first; then `opener` opens FILE, or `input` is read
-/// where there is none. The answer goes to `out`. Status 0 tells of a flow, or of help that was asked for and printed on
-/// `out`; 1 of a blocking set; 2 of a refusal. Status 3 is given, with one line on `err` or the text of the usage fault,
-/// where the words aren't a command of `mcf`, the file can't be opened, reading or writing fails, memory is wanting or
-/// the input is too long. A text that can't be written on `err` changes nothing.
+/// [--form FORM] [FILE]`, as `command` reads them, or `mcf --version`. They are judged first; then `opener` opens FILE,
+/// or `input` is read where there is none. The answer goes to `out`. Status 0 tells of a flow, or of help or the version
+/// that was asked for and printed on `out`; 1 of a blocking set; 2 of a refusal. Status 3 is given, with one line on
+/// `err` or the text of the usage fault, where the words aren't a command of `mcf`, the file can't be opened, reading or
+/// writing fails, memory is wanting or the input is too long. A text that can't be written on `err` changes nothing.
 ///
-/// Where the words have a fault, ask for help or name a file, `input` is as it was; where they have a fault, ask
-/// for help or name no file, `opener` is. It is called once at most.
+/// Where the words have a fault, ask for help or the version or name a file, `input` is as it was; where they have a
+/// fault, ask for help or the version or name no file, `opener` is. It is called once at most.
 pub fn serve<W: AsStr, S: Source + Drop, P: FnMut(&str) -> Option<S>, O: Sink, E: Sink>(
     alloc: Global,
     words: &[W],
@@ -144,7 +143,7 @@ pub fn serve<W: AsStr, S: Source + Drop, P: FnMut(&str) -> Option<S>, O: Sink, E
     }
 }
 
-// Writes the answer that the words ask for, or the help, and gives the status.
+// Writes the answer that the words ask for, the help or the version, and gives the status.
 fn answer<W: AsStr, S: Source + Drop, P: FnMut(&str) -> Option<S>, O: Sink>(
     alloc: Global,
     words: &[W],
@@ -173,7 +172,7 @@ fn answer<W: AsStr, S: Source + Drop, P: FnMut(&str) -> Option<S>, O: Sink>(
 {
     let asked = match command(alloc, words) {
         Ok(asked) => asked,
-        Err(error) => return print_help(alloc, &error, out),
+        Err(error) => return show(alloc, &error, out),
     };
     match asked.file {
         Some(name) => {
@@ -218,22 +217,25 @@ fn answer_from<S: Source, O: Sink>(
     Ok(status_of(kind))
 }
 
-// Prints the help where the words ask for it, and gives the status.
-fn print_help<O: Sink>(alloc: Global, error: &Error, out: &mut O) -> Result<u8, Failure>
+// Prints the help, or the version, where the words ask for it, and gives the status.
+fn show<O: Sink>(alloc: Global, error: &Error, out: &mut O) -> Result<u8, Failure>
     ensures status { IfOk result (λ status. status ≡ 0) }
-    ensures asked { OnOk result (kind_of error.now ≡ ErrorKind.DisplayHelp) }
-    ensures taken { OnOk result ((text : List ℕ) × Appends (O.contents out.old) (O.contents out.new) text) }
+    ensures shown { OnOk result (IsShown (kind_of error.now) (O.contents out.old) (O.contents out.new)) }
     ensures finished { OnOk result (O.IsFinished out.new) }
     ensures worked { OnOk result (O.failures out.new ≡ O.failures out.old) }
     ensures failed { IfErr result (IsHelpFailure (kind_of error.now) (out.new ≡ out.old)
         (CountsOneFailure (O.failures out.old) (O.failures out.new)
-        × ((text : List ℕ) × TakesBeginning (O.contents out.old) (O.contents out.new) text))) }
+        × IsShownInPart (kind_of error.now) (O.contents out.old) (O.contents out.new))) }
 {
     match error.kind() {
         ErrorKind::OutOfMemory => Err(Failure::Run(RunFault::NoMemory)),
         ErrorKind::DisplayHelp => {
             let text = format!(in alloc; "{error}")?;
             send(out, text.as_bytes())?;
+            Ok(0)
+        }
+        ErrorKind::DisplayVersion => {
+            send(out, VERSION.as_bytes())?;
             Ok(0)
         }
         _ => {

@@ -1,5 +1,5 @@
 //! Runs of the command `mcf`: its words, its statuses and its lines.
-use crate::{EngineChoice, Form, FromReader, IntoWriter, PricingChoice, command, serve};
+use crate::{EngineChoice, Form, FromReader, IntoWriter, PricingChoice, VERSION, command, serve};
 use clap::Error;
 use mcf_text::NoMemory;
 use std::alloc::Global;
@@ -347,7 +347,7 @@ fn words_that_ask_for_an_answer(rt: HostRuntime) -> Result<(), Fail> {
 }
 
 // Words that aren't a command, and what the text that says so names.
-static NO_COMMAND: [(Words, &str); 20] = [
+static NO_COMMAND: [(Words, &str); 21] = [
     (&[], ""),
     (&["mcf"], "subcommand"),
     (&["mcf", "dance"], "dance"),
@@ -413,10 +413,7 @@ static HELP: [(Words, &str); 28] = [
     (&["mcf", "solve", "--help"], "\n  first    "),
     (&["mcf", "solve", "--help"], "\n  best     "),
     (&["mcf", "solve", "--help"], "\n  block    "),
-    (
-        &["mcf", "solve", "--help"],
-        "the square root of twice the number of arcs",
-    ),
+    (&["mcf", "--help"], "--version"),
     (&["mcf", "solve", "-h"], "--form <FORM>"),
     (&["mcf", "solve", "--help"], "[default: 1]"),
     (&["mcf", "solve", "--help"], "\n  1        "),
@@ -457,6 +454,7 @@ impl Read for Broken {
     }
 }
 
+    (&["mcf", "solve", "--version"], "--version"),
 impl Write for Broken {
     fn write(&mut self, _piece: &[u8]) -> io::Result<usize> {
         Err(io::Error::from(ErrorKind::BrokenPipe))
@@ -544,4 +542,18 @@ fn faults_that_cannot_be_told(rt: HostRuntime) -> Result<(), Fail> {
         assert!(rt; status == 3);
     }
     Ok(())
+// Words that ask for the version.
+static VERSION_ASKED: [Words; 2] = [&["mcf", "--version"], &["mcf", "-V"]];
+
+#[test]
+fn the_version_that_is_asked_for(rt: HostRuntime) -> Result<(), Fail> {
+    for words in &VERSION_ASKED {
+        let run = served(rt.alloc(), *words, FOUR_NODES, Some(FOUR_NODES))?;
+        assert!(rt; run.is(0, VERSION) && !run.opened);
+    }
+    assert!(rt; VERSION.starts_with("mcf 1.0.0\n"));
+    Ok(())
 }
+
+}
+    &["mcf", "--version"],

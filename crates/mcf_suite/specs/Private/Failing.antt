@@ -1,12 +1,14 @@
 -- Why a run of the command gives no answer, and what is then told.
-use Rattle.std.specs.Prelude.{◌≡◌, ◌≢◌, ℕ, List, Option}
+use Rattle.std.specs.Prelude.{◌≡◌, ◌≢◌, ◌⊎◌, ℕ, List, Option}
+use Rattle.std.specs.Io.KnownBytes.{Appends}
 use Rattle.std.specs.String.{string_bytes}
 use Rattle.clap.specs.Words.{Text}
 use Rattle.clap.specs.declared.error.kind.ErrorKind.{ErrorKind}
-use Rattle.clap.specs.declared.error.kind.ErrorKind.TheVariants.{DisplayHelp, OutOfMemory}
+use Rattle.clap.specs.declared.error.kind.ErrorKind.TheVariants.{DisplayHelp, DisplayVersion, OutOfMemory}
 use Rattle.mcf_solver.specs.Devices.{CountsOneFailure}
-use Rattle.mcf_solver.specs.Running.{IsTooLong}
+use Rattle.mcf_solver.specs.Running.{IsTooLong, TakesBeginning}
 use Rattle.mcf_solver.specs.declared.fault.RunFault.TheVariants.{Read, Write, NoMemory, TooLong}
+use Rattle.mcf_suite.specs.declared.TheConstants.{VERSION}
 use Rattle.mcf_suite.specs.declared.serving.Failure.{Failure}
 use Rattle.mcf_suite.specs.declared.serving.Failure.TheVariants.{Usage, Open, Run}
 use Rattle.mcf_suite.specs.Serving.{AsksToSolve, FailsToGive, GivesTooMuch, HaveUsageFault, IsUnopened, fault_line, open_line}
@@ -40,11 +42,22 @@ IsFailure remaining failures input input' Opens words untouched failed (Run NoMe
 IsFailure remaining failures input input' Opens words untouched failed (Run TooLong) =
     untouched × AsksToSolve words (λ a. GivesTooMuch remaining input input' Opens a.file)
 
+-- the sink took what is shown where the words ask for it, by the kind of their fault: some help, or the version
+abbrev pub IsShown : ErrorKind → Option (List ℕ) → Option (List ℕ) → Type 0
+IsShown kind old new =
+    ((kind ≡ DisplayHelp) × ((text : List ℕ) × Appends old new text)) ⊎ ((kind ≡ DisplayVersion) × Appends old new VERSION.now)
+
+-- it took a beginning of that
+abbrev pub IsShownInPart : ErrorKind → Option (List ℕ) → Option (List ℕ) → Type 0
+IsShownInPart kind old new =
+    ((kind ≡ DisplayHelp) × ((text : List ℕ) × TakesBeginning old new text)) ⊎ ((kind ≡ DisplayVersion) × TakesBeginning old new VERSION.now)
+
 -- the same where the words aren't taken, by the kind of their fault
 abbrev pub IsHelpFailure : ErrorKind → Type 0 → Type 0 → Failure → Type 0
-IsHelpFailure kind untouched failed (Usage text) = untouched × ((kind ≢ OutOfMemory) × (kind ≢ DisplayHelp))
+IsHelpFailure kind untouched failed (Usage text) =
+    untouched × ((kind ≢ OutOfMemory) × (kind ≢ DisplayHelp) × (kind ≢ DisplayVersion))
 IsHelpFailure kind untouched failed Open = ⊥
 IsHelpFailure kind untouched failed (Run Read) = ⊥
-IsHelpFailure kind untouched failed (Run Write) = (kind ≡ DisplayHelp) × failed
+IsHelpFailure kind untouched failed (Run Write) = failed
 IsHelpFailure kind untouched failed (Run NoMemory) = untouched
 IsHelpFailure kind untouched failed (Run TooLong) = ⊥

@@ -5,15 +5,15 @@ use Rattle.mcf_suite.proofs.serving.answer.Goals as goal
 
 pub returns-in-Err-clause-served : goal.returns-in-Err-clause-served
 returns-in-Err-clause-served g c =
-    help_is_served _ _ c.in-Err.ensures.app c.in-Err.error c.print_help.result _ _ c.in-Err.ensures.is_mcf c.in-Err.ensures.faults
-    c.print_help.ensures.status c.print_help.ensures.asked c.print_help.ensures.taken
+    help_is_served _ _ c.in-Err.ensures.app c.in-Err.error c.show.result _ _ c.in-Err.ensures.is_mcf c.in-Err.ensures.faults
+    c.show.ensures.status c.show.ensures.shown
 
 pub returns-in-Err-clause-failed : goal.returns-in-Err-clause-failed
 returns-in-Err-clause-failed g c =
     let Opens = OpensBy g.P.FnMut c.args.opener.now c.args.opener.now in
     help_failed g.S.Source.remaining g.S.Source.failures c.args.input.now c.args.input.now Opens
     (map g.W.AsStr.text c.args.words.now) (GivesBytes g.S.Source.remaining c.args.input.now c.args.input.now Opens)
-    c.in-Err.ensures.app c.in-Err.error c.print_help.result _ _ _ _ c.in-Err.ensures.is_mcf c.in-Err.ensures.faults c.print_help.ensures.failed
+    c.in-Err.ensures.app c.in-Err.error c.show.result _ _ _ _ c.in-Err.ensures.is_mcf c.in-Err.ensures.faults c.show.ensures.failed
 
 pub returns-in_default-clause-failed : goal.returns-in_default-clause-failed
 returns-in_default-clause-failed g c =
