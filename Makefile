@@ -16,11 +16,12 @@ all: kit
 kit:
 	@command -v rt >/dev/null || { echo "make: rt isn't on the path; it comes with the Rattle kit, whose first page is START-HERE.md at the top of the kit's folder" >&2; exit 1; }
 
-# First, whether docs/ says what the code and the spec files say.
+# First, whether docs/ says what the code and the spec files say, and whether `mcf --version` names the prover that is used.
 test: kit
 	@scripts/documents.py check
 	@grep -qF "$$(rt version)" crates/mcf_suite/src/version.rt || { echo "make test: crates/mcf_suite/src/version.rt names another prover than: $$(rt version)" >&2; exit 1; }
 	rt ci
+	@python3 scripts/refuse_memory.py --only six_rows --minutes 4 mcf_text_tests mcf_tests mcf_engine_tests mcf_suite
 
 clean:
 	rm -rf bin bench/out crates/*/out

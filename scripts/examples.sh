@@ -107,6 +107,8 @@ pair=examples/transport
 
 if [ -x bin/mcfcheck ]; then
     accepts "$long.min" "$long.ans"
+    sed '1s/14/15/' $pair.ans > "$written.two"
+    [ "$(bin/mcfcheck $pair.min "$written.two")" = 'rejected cost' ] || report "mcfcheck: another cost isn't rejected"
     tells 'mcfcheck: cannot read the instance' bin/mcfcheck examples/none.min $pair.ans
     tells 'mcfcheck: cannot read the answer' bin/mcfcheck $pair.min examples/none.ans
     tells 'usage: mcfcheck INSTANCE ANSWER' bin/mcfcheck $pair.min
@@ -122,9 +124,9 @@ if [ -x bin/mcf ]; then
     answers $pair.ans /dev/null solve --engine simplex --pricing best $pair.min
     answers $pair.ans /dev/null solve --pricing=block --block 1 $pair.min
     answers $pair.ans /dev/null solve --engine=sap $pair.min
+    [ "$(bin/mcf --version | head -n 1)" = 'mcf 1.0.0' ] || report 'mcf --version: another version'
     tells 'mcf: cannot open the file' bin/mcf solve examples/none.min
     tells "error: unexpected argument '$pair.min' found
-    [ "$(bin/mcf --version | head -n 1)" = 'mcf 1.0.0' ] || report 'mcf --version: another version'
 
 Usage: mcf solve [OPTIONS] [FILE]
 

@@ -1,11 +1,12 @@
 #!/usr/bin/env python3
 """Refuses each allocation of each test in turn.
 
-    python3 scripts/refuse_memory.py [NAME ...] [--most N] [--built]
+    python3 scripts/refuse_memory.py [NAME ...] [--only WORD] [--most N] [--minutes N] [--built]
 
 NAME is a crate with tests; without one, all of them. Each is proved, built and tested by `rt test` (`--built` takes
-the tests as they were built last). Then each test is run with its first allocation refused, then with its second, and
-so on, until a run meets no refusal, or up to the Nth (5,000 if left out). A run is right where it ends as with ample
+the tests as they were built last). Then each test, or with `--only` each whose name has WORD in it, is run with its
+first allocation refused, then with its second, and so on, until a run meets no refusal, or up to the Nth (5,000 if
+left out), or until so many minutes have gone by since the first run. A run is right where it ends as with ample
 memory, or with an error that speaks of want of memory; tests of what was lent compare it themselves after the error.
 Printed is a line for each test: how many runs met a refusal, how many of those ended with the error, and how many went
 on to the end. The status is 1 where a run is wrong.
@@ -19,6 +20,7 @@ import re
 import subprocess
 import sys
 import tempfile
+import time
 
 HERE = pathlib.Path(__file__).resolve().parent
 CRATES = HERE.parent / "crates"
@@ -43,10 +45,13 @@ def run(program, test, refused, shim):
     return MET in ran.stdout, "without memory" if failed_so else "wrong", ran.stdout
 
 
-def judge(program, test, most, shim):
+def judge(program, test, most, until, shim):
     """Refuses each allocation of a test; whether no run was wrong."""
     ends = {"well": 0, "without memory": 0, "wrong": 0}
     for refused in range(1, most + 1):
+        if time.monotonic() > until:
+            print(f"  {test}: stopped at allocation {refused}, since its time is over")
+            break
         met, end, said = run(program, test, refused, shim)
         if not met and end == "well":
             break
@@ -62,10 +67,13 @@ def judge(program, test, most, shim):
 def main():
     parser = argparse.ArgumentParser(description=__doc__, formatter_class=argparse.RawDescriptionHelpFormatter)
     parser.add_argument("names", nargs="*", metavar="NAME")
+    parser.add_argument("--only", default="", metavar="WORD")
     parser.add_argument("--most", type=int, default=5000)
+    parser.add_argument("--minutes", type=float, default=float("inf"))
     parser.add_argument("--built", action="store_true")
     words = parser.parse_args()
     right = True
+    until = float("inf")
     with tempfile.TemporaryDirectory() as room:
         shim = pathlib.Path(room) / "refuse_memory.so"
         subprocess.run(["cc", "-O1", "-shared", "-fPIC", "-o", shim, HERE / "refuse_memory.c", "-ldl"], check=True)
@@ -76,8 +84,10 @@ def main():
             program = folder / "out" / f"{name}_tests"
             listed = subprocess.run([program, "--list"], check=True, capture_output=True, text=True).stdout
             print(name, flush=True)
+            until = min(until, time.monotonic() + 60 * words.minutes)
             for test in re.findall(r"^(.*): test$", listed, re.M):
-                right &= judge(program, test, words.most, shim)
+                if words.only in test:
+                    right &= judge(program, test, words.most, until, shim)
     return 0 if right else 1
 
 

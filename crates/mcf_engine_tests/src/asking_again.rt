@@ -20,11 +20,15 @@ struct Row {
     cost: Option<i128>,
 }
 
-// A flow, a set of all nodes, and a set that must send more than it can.
-static FLOW_PROBLEMS: [Row; 3] = [
+// A flow, sets of all nodes, a set that must send more than it can, and a cycle that earns.
+static FLOW_PROBLEMS: [Row; 5] = [
     Row {
         text: b"p min 4 5\nn 1 4\nn 4 -4\na 1 2 0 4 2\na 1 3 0 2 2\na 2 3 0 2 1\na 2 4 0 3 3\na 3 4 0 5 1\n",
         cost: Some(14),
+    },
+    Row {
+        text: b"p min 1 0\nn 1 -1\n",
+        cost: None,
     },
     Row {
         text: b"p min 2 1\nn 1 4\na 1 2 0 4 2\n",
@@ -34,12 +38,16 @@ static FLOW_PROBLEMS: [Row; 3] = [
         text: b"p min 2 1\nn 1 4\nn 2 -4\na 1 2 0 3 2\n",
         cost: None,
     },
+    Row {
+        text: b"p min 3 4\na 1 2 0 5 0\na 2 3 0 5 0\na 3 1 0 5 0\na 1 3 0 5 -1\n",
+        cost: Some(-5),
+    },
 ];
 
 // A matching, a set of all nodes, and two rows with one column between them.
 static ASSIGNMENTS: [Row; 3] = [
     Row {
-        text: b"p asn 4 4\nn 1\nn 2\na 1 3 1\na 1 4 5\na 2 3 2\na 2 4 2\n",
+        text: b"p asn 4 4\nn 1\nn 2\na 1 3 5\na 1 4 1\na 2 3 2\na 2 4 1\n",
         cost: Some(3),
     },
     Row {
@@ -47,7 +55,7 @@ static ASSIGNMENTS: [Row; 3] = [
         cost: None,
     },
     Row {
-        text: b"p asn 4 2\nn 1\nn 2\na 1 3 1\na 2 3 2\n",
+        text: b"p asn 4 2\nn 1\nn 2\na 1 3 1\na 2 3 1\n",
         cost: None,
     },
 ];
@@ -88,28 +96,33 @@ fn finds_all<E: Engine>(alloc: Global, engine: &mut E, rows: &[Row]) -> Result<b
     Ok(true)
 }
 
+// Whether it does so for flow problems and for assignments.
+fn finds_both<E: Engine>(alloc: Global, engine: &mut E) -> Result<bool, NoMemory> {
+    Ok(finds_all(alloc, engine, &FLOW_PROBLEMS)? && finds_all(alloc, engine, &ASSIGNMENTS)?)
+}
+
 #[test]
-fn cycle_cancelling_asked_again(rt: HostRuntime) -> Result<(), Fail> {
-    assert!(rt; finds_all(rt.alloc(), &mut Cancel::new(), &FLOW_PROBLEMS)?);
+fn six_rows_by_cycle_cancelling(rt: HostRuntime) -> Result<(), Fail> {
+    assert!(rt; finds_both(rt.alloc(), &mut Cancel::new())?);
     Ok(())
 }
 
 #[test]
-fn scaling_asked_again(rt: HostRuntime) -> Result<(), Fail> {
-    assert!(rt; finds_all(rt.alloc(), &mut Scaling::new(), &FLOW_PROBLEMS)?);
+fn six_rows_by_scaling(rt: HostRuntime) -> Result<(), Fail> {
+    assert!(rt; finds_both(rt.alloc(), &mut Scaling::new())?);
     Ok(())
 }
 
 #[test]
-fn simplex_asked_again(rt: HostRuntime) -> Result<(), Fail> {
-    assert!(rt; finds_all(rt.alloc(), &mut Simplex::new(First), &FLOW_PROBLEMS)?);
-    assert!(rt; finds_all(rt.alloc(), &mut Simplex::new(Best), &FLOW_PROBLEMS)?);
-    assert!(rt; finds_all(rt.alloc(), &mut Simplex::new(Block::new(2)), &FLOW_PROBLEMS)?);
+fn six_rows_by_the_simplex(rt: HostRuntime) -> Result<(), Fail> {
+    assert!(rt; finds_both(rt.alloc(), &mut Simplex::new(First))?);
+    assert!(rt; finds_both(rt.alloc(), &mut Simplex::new(Best))?);
+    assert!(rt; finds_both(rt.alloc(), &mut Simplex::new(Block::new(2)))?);
     Ok(())
 }
 
 #[test]
-fn assignments_asked_again(rt: HostRuntime) -> Result<(), Fail> {
+fn six_rows_by_augmenting_paths(rt: HostRuntime) -> Result<(), Fail> {
     assert!(rt; finds_all(rt.alloc(), &mut Sap::new(), &ASSIGNMENTS)?);
     Ok(())
 }

@@ -159,8 +159,8 @@ fn block_option<'a>(alloc: Global) -> Arg<'a>
         .long("block")
         .value_name("N")
         .value_parser(ValueParser::unsigned(1, 1_000_000))
-        .help("How many arcs a block has, for --pricing block: 1 to 1000000")
         .default_value("256")
+        .help("How many arcs a block has, for --pricing block: 1 to 1000000")
 }
 
 // The argument FILE.

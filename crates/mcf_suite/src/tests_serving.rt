@@ -216,23 +216,82 @@ fn what_is_asked(rt: HostRuntime) -> Result<(), Fail> {
 }
 
 // A text, and the status and the answer of its run.
-static ANSWERED: [(&str, u8, &str); 8] = [
+static ANSWERED: [(&str, u8, &str); 23] = [
     (FOUR_NODES, 0, LEAST),
-    (TOO_NARROW, 1, BLOCKED),
-    (LATE_NODE, 2, "r 3 late-n\n"),
-    ("", 2, "r 1 no-p\n"),
     ("p min 0 0\n", 0, "s 0\n"),
-    ("p min 1 0\nn 1 -1\n", 1, "i 1 take\nx 1\n"),
+    ("p asn 0 0\n", 0, "s 0\n"),
+    ("p min 1 1\na 1 1 0 7 -3\n", 0, "s -21\nf 1 1 7\ny 1 0\n"),
+    (
+        "p min 2 2\nn 1 3\nn 2 -3\na 1 2 0 2 1\na 1 2 0 2 5\n",
+        0,
+        "s 7\nf 1 2 2\nf 1 2 1\ny 1 0\ny 2 -5\n",
+    ),
+    (
+        "p min 2 1\nn 1 4\nn 2 -4\na 1 2 4 4 -2\n",
+        0,
+        "s -8\nf 1 2 4\ny 1 0\ny 2 0\n",
+    ),
+    (
+        "p min 2 1\nn 1 -3\nn 2 3\na 1 2 -3 -3 1\n",
+        0,
+        "s -3\nf 1 2 -3\ny 1 0\ny 2 0\n",
+    ),
     (
         "p asn 4 4\nn 1\nn 2\na 1 3 5\na 1 4 1\na 2 3 2\na 2 4 1\n",
         0,
         "s 3\nf 1 3 0\nf 1 4 1\nf 2 3 1\nf 2 4 0\ny 1 0\ny 2 0\ny 3 -2\ny 4 -1\n",
     ),
     (
+        "p asn 4 4\nn 1\nn 2\na 1 3 5\na 1 4 1\na 2 3 2\na 2 4 -9\n",
+        0,
+        "s -4\nf 1 3 1\nf 1 4 0\nf 2 3 0\nf 2 4 1\ny 1 0\ny 2 -3\ny 3 -5\ny 4 0\n",
+    ),
+    (
+        "p min 2 1\nn 1 1000000000000000\nn 2 -1000000000000000\na 1 2 0 1000000000000000 1000000000000\n",
+        0,
+        "s 1000000000000000000000000000\nf 1 2 1000000000000000\ny 1 0\ny 2 -1000000000000\n",
+    ),
+    (
+        "p min 2 2\na 1 2 0 1000000000000000 -1\na 2 1 0 1000000000000000 0\n",
+        0,
+        "s -1000000000000000\nf 1 2 1000000000000000\nf 2 1 1000000000000000\ny 1 0\ny 2 0\n",
+    ),
+    (
+        "p min 3 4\na 1 2 0 5 0\na 2 3 0 5 0\na 3 1 0 5 0\na 1 3 0 5 -1\n",
+        0,
+        "s -5\nf 1 2 0\nf 2 3 0\nf 3 1 5\nf 1 3 5\ny 1 0\ny 2 0\ny 3 0\n",
+    ),
+    (
+        "p min 3 3\nn 1 5\nn 3 -5\na 1 2 2 10 3\na 2 3 0 10 1\na 1 3 0 10 2\n",
+        0,
+        "s 14\nf 1 2 2\nf 2 3 2\nf 1 3 3\ny 1 0\ny 2 -1\ny 3 -2\n",
+    ),
+    (
         "c sample\r\n\r\n\tp min 2 1\r\nn 01 +3\nn 2 -003\na 1 2 0 4 7",
         0,
         "s 21\nf 1 2 3\ny 1 0\ny 2 -7\n",
     ),
+    ("p min 1 0\nn 1 -1\n", 1, "i 1 take\nx 1\n"),
+    (TOO_NARROW, 1, BLOCKED),
+    (
+        "p min 2 2\na 1 2 2 5 1\na 2 1 0 1 0\n",
+        1,
+        "i 1 send\nx 2\n",
+    ),
+    (
+        "p asn 4 2\nn 1\nn 2\na 1 3 1\na 2 3 1\n",
+        1,
+        "i 3 send\nx 1\nx 2\nx 3\n",
+    ),
+    (
+        "p asn 3 2\nn 1\nn 2\na 1 3 4\na 2 3 4\n",
+        1,
+        "i 3 send\nx 1\nx 2\nx 3\n",
+    ),
+    ("p min 2 1\nn 1 2\na 1 2 0 5 1\n", 1, "i 2 send\nx 1\nx 2\n"),
+    ("", 2, "r 1 no-p\n"),
+    (LATE_NODE, 2, "r 3 late-n\n"),
+    ("p min 2 2\na 1 2 0 1 1\n", 2, "r 3 missing\n"),
 ];
 
 // Whether a text is answered so, from standard input and from a file.
@@ -258,8 +317,51 @@ fn answers_from_both_sources(rt: HostRuntime) -> Result<(), Fail> {
     Ok(())
 }
 
+// Rows of which each allocation is refused in turn, by `scripts/refuse_memory.py`.
+static SIX_ROWS: [(&str, u8, &str); 6] = [
+    (FOUR_NODES, 0, LEAST),
+    ("p min 1 0\nn 1 -1\n", 1, "i 1 take\nx 1\n"),
+    (
+        "p asn 4 4\nn 1\nn 2\na 1 3 5\na 1 4 1\na 2 3 2\na 2 4 1\n",
+        0,
+        "s 3\nf 1 3 0\nf 1 4 1\nf 2 3 1\nf 2 4 0\ny 1 0\ny 2 0\ny 3 -2\ny 4 -1\n",
+    ),
+    (
+        "p asn 4 2\nn 1\nn 2\na 1 3 1\na 2 3 1\n",
+        1,
+        "i 3 send\nx 1\nx 2\nx 3\n",
+    ),
+    (
+        "p min 3 4\na 1 2 0 5 0\na 2 3 0 5 0\na 3 1 0 5 0\na 1 3 0 5 -1\n",
+        0,
+        "s -5\nf 1 2 0\nf 2 3 0\nf 3 1 5\nf 1 3 5\ny 1 0\ny 2 0\ny 3 0\n",
+    ),
+    ("p min 2 0\nn 1 5\nn +01 5\n", 2, "r 3 twice\n"),
+];
+
+#[test]
+fn six_rows_served(rt: HostRuntime) -> Result<(), Fail> {
+    for (text, status, answer) in &SIX_ROWS {
+        let run = served(rt.alloc(), &["mcf", "solve"], *text, None)?;
+        assert!(rt; run.is(*status, *answer), "at {text}");
+    }
+    Ok(())
+}
+
+// Two arcs of one cost, of which either may carry all.
+const TWO_ALIKE: &str = "p min 2 2\nn 1 3\nn 2 -3\na 1 2 0 3 4\na 1 2 0 3 4\n";
+
+#[test]
+fn one_of_two_least_flows(rt: HostRuntime) -> Result<(), Fail> {
+    let run = served(rt.alloc(), &["mcf", "solve"], TWO_ALIKE, None)?;
+    let first = run.is(0, "s 12\nf 1 2 3\nf 1 2 0\ny 1 0\ny 2 -4\n");
+    let second = run.is(0, "s 12\nf 1 2 0\nf 1 2 3\ny 1 0\ny 2 -4\n");
+    assert!(rt; first || second);
+    Ok(())
+}
+
 // A text, and the line that refuses it.
-static REFUSED: [(&str, &str); 27] = [
+static REFUSED: [(&str, &str); 31] = [
     ("c hello\n", "r 2 no-p\n"),
     ("x 1\n", "r 1 kind\n"),
     ("p max 2 1 9\n", "r 1 fields\n"),
@@ -290,13 +392,16 @@ static REFUSED: [(&str, &str); 27] = [
     ("p asn 2 1\nn 1\na 1 1 5\n", "r 3 side\n"),
     ("p min 2 1\na 1 2 0 1 0\nc\na 1 2 0 1 0\n", "r 4 extra\n"),
     ("p min 2 2\na 1 2 0 1 1\n", "r 3 missing\n"),
+    ("p asn 2 0\nn 1 5\n", "r 2 fields\n"),
+    ("p asn 2 1\nn 1\nn 1\n", "r 3 twice\n"),
+    ("p asn 2 1\na 1 2 5\n", "r 2 side\n"),
+    ("p asn 2 1\nn 1\na 1 2 1000000000000001\n", "r 3 cost\n"),
 ];
 
 #[test]
 fn refusals(rt: HostRuntime) -> Result<(), Fail> {
     for (text, line) in &REFUSED {
-        let run = served(rt.alloc(), &["mcf", "solve"], *text, None)?;
-        assert!(rt; run.is(2, *line), "at {text}");
+        assert!(rt; is_answered(rt.alloc(), *text, 2, *line)?, "at {text}");
     }
     Ok(())
 }
@@ -352,6 +457,7 @@ static NO_COMMAND: [(Words, &str); 21] = [
     (&["mcf"], "subcommand"),
     (&["mcf", "dance"], "dance"),
     (&["mcf", "--engine", "auto"], "--engine"),
+    (&["mcf", "solve", "--version"], "--version"),
     (&["mcf", "solve", "a", "b"], "'b'"),
     (&["mcf", "solve", "--engine"], "--engine"),
     (&["mcf", "solve", "--engine", "none"], "none"),
@@ -436,6 +542,19 @@ fn help_that_is_asked_for(rt: HostRuntime) -> Result<(), Fail> {
     Ok(())
 }
 
+// Words that ask for the version.
+static VERSION_ASKED: [Words; 2] = [&["mcf", "--version"], &["mcf", "-V"]];
+
+#[test]
+fn the_version_that_is_asked_for(rt: HostRuntime) -> Result<(), Fail> {
+    for words in &VERSION_ASKED {
+        let run = served(rt.alloc(), *words, FOUR_NODES, Some(FOUR_NODES))?;
+        assert!(rt; run.is(0, VERSION) && !run.opened);
+    }
+    assert!(rt; VERSION.starts_with("mcf 1.0.0\n"));
+    Ok(())
+}
+
 #[test]
 fn a_file_that_cannot_be_opened(rt: HostRuntime) -> Result<(), Fail> {
     let run = served(rt.alloc(), &["mcf", "solve", "a.min"], FOUR_NODES, None)?;
@@ -454,7 +573,6 @@ impl Read for Broken {
     }
 }
 
-    (&["mcf", "solve", "--version"], "--version"),
 impl Write for Broken {
     fn write(&mut self, _piece: &[u8]) -> io::Result<usize> {
         Err(io::Error::from(ErrorKind::BrokenPipe))
@@ -513,8 +631,9 @@ fn input_that_fails(rt: HostRuntime) -> Result<(), Fail> {
 }
 
 // Words whose run writes.
-static WRITING: [Words; 3] = [
+static WRITING: [Words; 4] = [
     &["mcf", "solve"],
+    &["mcf", "--version"],
     &["mcf", "--help"],
     &["mcf", "solve", "--help"],
 ];
@@ -542,18 +661,4 @@ fn faults_that_cannot_be_told(rt: HostRuntime) -> Result<(), Fail> {
         assert!(rt; status == 3);
     }
     Ok(())
-// Words that ask for the version.
-static VERSION_ASKED: [Words; 2] = [&["mcf", "--version"], &["mcf", "-V"]];
-
-#[test]
-fn the_version_that_is_asked_for(rt: HostRuntime) -> Result<(), Fail> {
-    for words in &VERSION_ASKED {
-        let run = served(rt.alloc(), *words, FOUR_NODES, Some(FOUR_NODES))?;
-        assert!(rt; run.is(0, VERSION) && !run.opened);
-    }
-    assert!(rt; VERSION.starts_with("mcf 1.0.0\n"));
-    Ok(())
 }
-
-}
-    &["mcf", "--version"],

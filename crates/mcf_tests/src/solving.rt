@@ -480,6 +480,72 @@ fn the_greatest_numbers_in_the_second_form(rt: HostRuntime) -> Result<(), Fail> 
     Ok(())
 }
 
+// Rows of which each allocation is refused in turn, by `scripts/refuse_memory.py`: a flow, a set that must take, a matching,
+// two rows with one column, a cycle that earns, and a second line of one node.
+static SIX_ROWS: [Worked; 6] = [
+    Worked {
+        kind: Kind::Flow,
+        instance: "p min 4 5\nn 1 4\nn 4 -4\na 1 2 0 4 2\na 1 3 0 2 2\na 2 3 0 2 1\na 2 4 0 3 3\na 3 4 0 5 1\n",
+        answer: "s 14\nf 1 2 2\nf 1 3 2\nf 2 3 2\nf 2 4 0\nf 3 4 4\ny 1 0\ny 2 -2\ny 3 -3\ny 4 -4\n",
+    },
+    Worked {
+        kind: Kind::Blocked,
+        instance: "p min 1 0\nn 1 -1\n",
+        answer: "i 1 take\nx 1\n",
+    },
+    Worked {
+        kind: Kind::Flow,
+        instance: "p asn 4 4\nn 1\nn 2\na 1 3 5\na 1 4 1\na 2 3 2\na 2 4 1\n",
+        answer: "s 3\nf 1 3 0\nf 1 4 1\nf 2 3 1\nf 2 4 0\ny 1 0\ny 2 0\ny 3 -2\ny 4 -1\n",
+    },
+    Worked {
+        kind: Kind::Blocked,
+        instance: "p asn 4 2\nn 1\nn 2\na 1 3 1\na 2 3 1\n",
+        answer: "i 3 send\nx 1\nx 2\nx 3\n",
+    },
+    Worked {
+        kind: Kind::Flow,
+        instance: "p min 3 4\na 1 2 0 5 0\na 2 3 0 5 0\na 3 1 0 5 0\na 1 3 0 5 -1\n",
+        answer: "s -5\nf 1 2 0\nf 2 3 0\nf 3 1 5\nf 1 3 5\ny 1 0\ny 2 0\ny 3 0\n",
+    },
+    Worked {
+        kind: Kind::Refused,
+        instance: "p min 2 0\nn 1 5\nn +01 5\n",
+        answer: "r 3 twice\n",
+    },
+];
+
+// Whether an instance is answered so by a way, after bytes that were there; where memory is wanting these alone are left.
+fn keeps_or_answers(alloc: Global, worked: &Worked, way: &Way) -> Result<bool, NoMemory> {
+    let Some(choice) = choice_of(way) else {
+        return Ok(false);
+    };
+    let mut out = b"keep".to_vec(alloc)?;
+    let outcome = solve_text(alloc, worked.instance.as_bytes(), choice, &mut out);
+    match outcome {
+        Ok(kind) => {
+            let answer = out.strip_prefix(b"keep".as_slice());
+            Ok(kind == worked.kind && answer == Some(worked.answer.as_bytes()))
+        }
+        Err(NoMemory) if out.as_slice() == b"keep".as_slice() => Err(NoMemory),
+        Err(NoMemory) => Ok(false),
+    }
+}
+
+#[test]
+fn six_rows_solved(rt: HostRuntime) -> Result<(), Fail> {
+    for worked in &SIX_ROWS {
+        for way in &WAYS {
+            assert!(rt;
+                keeps_or_answers(rt.alloc(), worked, way)?,
+                "at {}",
+                worked.instance
+            );
+        }
+    }
+    Ok(())
+}
+
 // Whether an instance is answered by a choice with a flow of a cost that the checker accepts.
 fn costs(alloc: Global, instance: &[u8], way: &Way, cost: i128) -> Result<bool, NoMemory> {
     let Some(choice) = choice_of(way) else {

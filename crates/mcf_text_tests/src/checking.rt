@@ -244,6 +244,22 @@ fn first_bytes_of_the_answer(rt: HostRuntime) -> Result<(), Fail> {
     Ok(())
 }
 
+// Two arcs of one cost: each split of what is sent between them is least.
+static SPLITS: [&str; 3] = [
+    "s 12\nf 1 2 3\nf 1 2 0\ny 1 0\ny 2 -4\n",
+    "s 12\nf 1 2 2\nf 1 2 1\ny 1 0\ny 2 -4\n",
+    "s 12\nf 1 2 0\nf 1 2 3\ny 1 0\ny 2 -4\n",
+];
+
+#[test]
+fn each_split_between_two_arcs(rt: HostRuntime) -> Result<(), Fail> {
+    let instance = "p min 2 2\nn 1 3\nn 2 -3\na 1 2 0 3 4\na 1 2 0 3 4\n";
+    for answer in &SPLITS {
+        assert!(rt; is_printed(rt.alloc(), instance, answer, "accepted flow 12")?);
+    }
+    Ok(())
+}
+
 // A writer that takes nothing.
 #[derive(Drop)]
 struct Closed;
@@ -278,6 +294,8 @@ fn file(alloc: Global, name: &str) -> Result<Vec<u8>, FileFault> {
         "instance" => FOUR_NODES,
         "answer" => LEAST,
         "wrong" => "s 14\n",
+        "dear" =>
+            "s 15\nf 1 2 2\nf 1 3 2\nf 2 3 2\nf 2 4 0\nf 3 4 4\ny 1 0\ny 2 -2\ny 3 -3\ny 4 -4\n",
         "large" => return Err(FileFault::NoMemory),
         _ => return Err(FileFault::Unreadable),
     };
@@ -316,7 +334,7 @@ fn is_run(alloc: Global, row: &Run) -> Result<bool, NoMemory> {
     Ok(given == status && is_printed && is_said)
 }
 
-static RUNS: [Run; 8] = [
+static RUNS: [Run; 10] = [
     (
         &["mcfcheck", "instance", "answer"],
         0,
@@ -328,6 +346,13 @@ static RUNS: [Run; 8] = [
         1,
         "rejected arc 1\n",
         "",
+    ),
+    (&["mcfcheck", "instance", "dear"], 1, "rejected cost\n", ""),
+    (
+        &["mcfcheck", "--version"],
+        3,
+        "",
+        "usage: mcfcheck INSTANCE ANSWER\n",
     ),
     (
         &["mcfcheck", "none", "large"],
@@ -364,6 +389,45 @@ fn runs_of_the_command(rt: HostRuntime) -> Result<(), Fail> {
     }
     Ok(())
 }
+
+// A run of which each allocation is refused in turn, by `scripts/refuse_memory.py`.
+#[test]
+fn six_rows_judged(rt: HostRuntime) -> Result<(), Fail> {
+    assert!(rt; is_run(rt.alloc(), &RUNS[0])?);
+    for (instance, answer, want) in &SIX_ROWS {
+        assert!(rt; is_printed(rt.alloc(), instance, answer, want)?);
+    }
+    Ok(())
+}
+
+static SIX_ROWS: [(&str, &str, &str); 6] = [
+    (FOUR_NODES, LEAST, "accepted flow 14"),
+    (
+        "p min 1 0\nn 1 -1\n",
+        "i 1 take\nx 1\n",
+        "accepted blocked 1",
+    ),
+    (
+        "p asn 4 4\nn 1\nn 2\na 1 3 5\na 1 4 1\na 2 3 2\na 2 4 1\n",
+        "s 3\nf 1 3 0\nf 1 4 1\nf 2 3 1\nf 2 4 0\ny 1 0\ny 2 0\ny 3 -2\ny 4 -1\n",
+        "accepted flow 3",
+    ),
+    (
+        TWO_ROWS_ONE_COLUMN,
+        "i 3 send\nx 1\nx 2\nx 3\n",
+        "accepted blocked 3",
+    ),
+    (
+        "p min 3 4\na 1 2 0 5 0\na 2 3 0 5 0\na 3 1 0 5 0\na 1 3 0 5 -1\n",
+        "v 2\ns -5\ng 3 5\ng 4 5\ny 1 0\ny 2 0\ny 3 0\n",
+        "accepted flow -5",
+    ),
+    (
+        "p min 2 0\nn 1 5\nn +01 5\n",
+        "r 3 twice\n",
+        "accepted refusal 3 twice",
+    ),
+];
 
 // The words of a run that judges the least flow.
 const WORDS: &[&str] = &["mcfcheck", "instance", "answer"];

@@ -1,7 +1,7 @@
 //! Texts that come in pieces, cut anywhere: their lines, and what the reader gives for them beside what `read` gives for the whole.
 use crate::instances::FAULTY_TEXTS;
 use mcf_instance::{Instance, Reader, Refusal, read};
-use mcf_text::{ArcId, FeedFault, LineFeed, NodeId};
+use mcf_text::{ArcId, FeedFault, LineFeed, NodeId, copies};
 use std::alloc::Global;
 use std::test::Fail;
 
@@ -146,6 +146,25 @@ fn reads_long_comment(alloc: Global) -> Result<bool, Fail> {
 #[test]
 fn a_comment_of_a_million_bytes(rt: HostRuntime) -> Result<(), Fail> {
     assert!(rt; reads_long_comment(rt.alloc())?);
+    Ok(())
+}
+
+// Whether a text whose first piece has 65,536 bytes, the size in which a run reads, is an instance.
+fn reads_full_piece(alloc: Global) -> Result<bool, Fail> {
+    let mut piece = copies(alloc, 65_536, b'c')?;
+    if let Some(last) = piece.last_mut() {
+        *last = b'\n';
+    }
+    let mut reader = Reader::new(alloc);
+    reader.feed(alloc, &piece)?;
+    reader.feed(alloc, b"p min 2 0\n")?;
+    let outcome = reader.end(alloc)?;
+    Ok(outcome.is_ok_and(|instance| instance.node_count() == 2))
+}
+
+#[test]
+fn a_piece_as_large_as_is_read(rt: HostRuntime) -> Result<(), Fail> {
+    assert!(rt; reads_full_piece(rt.alloc())?);
     Ok(())
 }
 

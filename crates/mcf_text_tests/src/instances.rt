@@ -1,4 +1,5 @@
 //! Texts, and what they stand for.
+use mcf_checker::{Verdict, check};
 use mcf_instance::{Arc, Code, Instance, Problem, former_instances_stay, read};
 use mcf_text::{ArcId, NoMemory, NodeId, copies};
 use std::alloc::Global;
@@ -140,6 +141,26 @@ fn faulty_texts_are_refused(rt: HostRuntime) -> Result<(), Fail> {
     assert!(rt; Code::of(b"bounds").is_none());
     for (text, line, word) in FAULTY_TEXTS.iter() {
         assert!(rt; is_refused(rt.alloc(), text, *line, word)?);
+    }
+    Ok(())
+}
+
+// Whether the checker accepts the refusal of a text that names this line and this word.
+fn is_refusal_accepted(
+    alloc: Global,
+    text: &[u8],
+    line: u128,
+    word: &str,
+) -> Result<bool, NoMemory> {
+    let answer = format!(in alloc; "r {line} {word}\n")?;
+    let verdict = check(alloc, text, answer.as_bytes())?;
+    Ok(matches!(verdict, Verdict::Refused(_)))
+}
+
+#[test]
+fn refusals_of_faulty_texts_are_accepted(rt: HostRuntime) -> Result<(), Fail> {
+    for (text, line, word) in FAULTY_TEXTS.iter() {
+        assert!(rt; is_refusal_accepted(rt.alloc(), text, *line, word)?);
     }
     Ok(())
 }
