@@ -14,7 +14,7 @@ use Rattle.mcf_solver.specs.declared.choice.Choice.{Choice}
 use Rattle.mcf_solver.specs.declared.choice.EngineChoice.{EngineChoice}
 use Rattle.mcf_solver.specs.declared.choice.EngineChoice.TheVariants.{Auto, Cancel, Simplex, Scaling, Sap}
 use Rattle.mcf_simplex.specs.Blocks.{BlockRule, IsBlockPick}
-use Rattle.mcf_simplex.specs.Runs.{IsMadeByRun}
+use Rattle.mcf_simplex.specs.Runs.{IsMadeByRun, RuleState}
 use Rattle.mcf_solver.specs.declared.choice.PricingChoice.{PricingChoice}
 use Rattle.mcf_solver.specs.declared.choice.PricingChoice.TheVariants.{Block}
 use Rattle.mcf_solver.specs.declared.choice.Meant.{Meant}
@@ -69,6 +69,6 @@ made_by_rule pricing chosen block g P r is step h =
     subst (λ (rule : PricingChoice). IsMadeBySimplex rule block (net_of g) s) (sym is) (step s made)) r h
 
 -- a run of blocks from a rule that is the new one
-pub made_by_blocks : (block : ℕ) (old : BlockRule) (g : Network) (s : Pseudoflow) (new : BlockRule)
+pub made_by_blocks : (block : ℕ) (old : RuleState BlockRule) (g : Network) (s : Pseudoflow) (new : RuleState BlockRule)
     → old ≡ new_block_rule block → IsMadeByRun IsBlockPick old g s new → IsMadeBySimplex Block block g s
-made_by_blocks block old g s new is made = (new, subst (λ (rule : BlockRule). IsMadeByRun IsBlockPick rule g s new) is made)
+made_by_blocks block old g s new is made = (new, subst (λ (e : RuleState BlockRule). IsMadeByRun IsBlockPick e g s new) is made)

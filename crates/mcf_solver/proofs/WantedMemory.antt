@@ -1,5 +1,6 @@
 -- Where memory can be wanting: an instance with arcs has nodes.
-use Rattle.std.proofs.Common.{◌≡◌, ◌≤◌, ◌∙◌, length, ap, subst, arith}
+use Rattle.std.proofs.Common.{◌≡◌, ◌≤◌, ◌∙◌, ◌⊎◌, inl, inr, length, refl, ap, subst, arith, Result, Ok, Err}
+use Rattle.std.specs.Prelude.{OnErr}
 use Rattle.mcf_instance.specs.Network.{Network, node_count}
 use Rattle.mcf_network.specs.Nets.{IsNet}
 use Rattle.mcf_network.specs.Removal.{net_of}
@@ -16,3 +17,13 @@ pub arcs_have_nodes : (g n : Network) → n ≡ net_of g → IsNet n → 1 ≤ l
 arcs_have_nodes g n same ok some =
     let arcs : length n.arcs ≡ length g.arcs = ap (λ (h : Network). length h.arcs) same ∙ net_of-arc_count g in
     net_nodes g n same (arcs_need_nodes (node_count n) n.arcs ok.ends (omega (arith, arcs, some)))
+
+-- an engine that wants none on nets without nodes
+pub nodes_wanted : (g : Network) → (1 ≤ node_count g) ⊎ (1 ≤ node_count (net_of g)) → 1 ≤ node_count g
+nodes_wanted g (inl some) = some
+nodes_wanted g (inr some) = net_nodes g (net_of g) refl some
+
+-- what holds whatever was answered
+pub on_err_any : {A E : Type 0} (X : Type 0) (r : Result A E) → X → OnErr r X
+on_err_any X (Ok a) x = tt
+on_err_any X (Err e) x = x

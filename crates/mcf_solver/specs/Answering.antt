@@ -1,7 +1,7 @@
 -- The answer that is owed for an instance text: the first fault; or a least flow with its cost and prices
 -- that show it; or a node set that blocks every flow.
 -- Source: own
-use Rattle.std.specs.Prelude.{◌≡◌, ◌++◌, ◌+◌, ◌<◌, ℕ, true, List, length, ℤ, Result, Ok, Err}
+use Rattle.std.specs.Prelude.{◌≡◌, ◌++◌, ◌+◌, ◌<◌, ◌≤◌, ◌⊎◌, ℕ, true, List, length, ℤ, Result, Ok, Err}
 use Rattle.mcf_answer.specs.BlockingSet.{BlockingSet}
 use Rattle.mcf_answer.specs.Solution.{Solution}
 use Rattle.mcf_answer.specs.SparseSolution.{SparseSolution}
@@ -13,16 +13,18 @@ use Rattle.mcf_checker.specs.Correct.{IsCorrect, IsRightSet, IsRightSolution, Is
 use Rattle.mcf_checker.specs.Judging.{accepts, verdict}
 use Rattle.mcf_feas.specs.Chosen.{IsChosen}
 use Rattle.mcf_instance.specs.Blocking.{in_list}
-use Rattle.mcf_instance.specs.Fault.{Fault}
+use Rattle.mcf_instance.specs.Fault.{Fault, header}
 use Rattle.mcf_instance.specs.Flow.{IsFeasible, IsLeast}
 use Rattle.mcf_instance.specs.Limits.{limits}
 use Rattle.mcf_instance.specs.Network.{Network}
 use Rattle.mcf_instance.specs.Reading.{reading}
+use Rattle.mcf_text.specs.Row.{rows}
+use Rattle.mcf_solver.specs.declared.choice.Meant.TheVariants.{BySimplex}
 use Rattle.mcf_solver.specs.declared.choice.Kind.{Kind}
 use Rattle.mcf_solver.specs.declared.choice.Kind.TheVariants.{Flow as WithFlow, Blocked as WithSet, Refused as WithRefusal}
 use Rattle.mcf_solver.specs.ChosenSolutions.{IsChosenFlow}
 use Rattle.mcf_solver.specs.Forms.{HasForm}
-use Rattle.mcf_solver.specs.Making.{HasMadeFlow, HasShapedFlow, IsMadeBy}
+use Rattle.mcf_solver.specs.Making.{HasMadeFlow, HasShapedFlow, IsMadeBy, meant}
 use Rattle.mcf_solver.specs.declared.choice.Choice.{Choice}
 
 -- a flow that no feasible flow undercuts, and the greatest prices not above 0 that show it
@@ -87,6 +89,16 @@ pub record AppendsAnswer (choice : Choice) (input : List ℕ) (kind : Kind) (old
   pub text : List ℕ
   pub appended : new ≡ old ++ text
   pub answer : IsAnswerTo choice input kind text
+
+-- the text has an instance for which the simplex is meant, whose start basis has a root where there are no nodes
+pub record IsBySimplex (choice : Choice) (input : List ℕ) : Type 0 where
+  pub net : Network
+  pub read : reading limits input ≡ Ok net
+  pub simplex : meant choice.engine net.problem ≡ BySimplex
+
+-- there are nodes, or a root, to take memory for
+abbrev pub MayWant : Choice → List ℕ → Type 0
+MayWant choice input = (1 ≤ (header (rows input)).nodes) ⊎ IsBySimplex choice input
 
 -- the text of an answer to the input doesn't fit the room after the bytes that are there
 pub record LacksRoom (choice : Choice) (input : List ℕ) (capacity bytes : ℕ) : Type 0 where

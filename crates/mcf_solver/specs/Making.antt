@@ -16,7 +16,7 @@ use Rattle.mcf_network.specs.TreeSolutions.{IsTreeSolution}
 use Rattle.mcf_prices.specs.Outcomes.{IsLeastState}
 use Rattle.mcf_simplex.specs.Blocks.{BlockRule, IsBlockPick}
 use Rattle.mcf_simplex.specs.Picking.{IsBestPick, IsFirstPick}
-use Rattle.mcf_simplex.specs.Runs.{IsMadeByRun}
+use Rattle.mcf_simplex.specs.Runs.{IsMadeByRun, RuleState}
 use Rattle.mcf_simplex.specs.declared.best.Best.{Best as BestRule}
 use Rattle.mcf_simplex.specs.declared.first.First.{First as FirstRule}
 use Rattle.mcf_solver.specs.declared.choice.Choice.{Choice}
@@ -50,15 +50,15 @@ first_picks old b answer new = IsFirstPick b answer
 abbrev pub best_picks : BestRule → TreeStructure → Option ℕ → BestRule → Type 0
 best_picks old b answer new = IsBestPick b answer
 
--- the rule with blocks of this size that has picked nothing: its first block begins with arc 1
-abbrev pub new_block_rule : ℕ → BlockRule
-new_block_rule size = record { size = size; next = 1 }
+-- the simplex over blocks of this size that has picked nothing: its first block begins with arc 1
+abbrev pub new_block_rule : ℕ → RuleState BlockRule
+new_block_rule size = record { rule = record { size = size; next = 1 }; pivots = 0 }
 
 -- the net's state was made by a run of the network simplex, with a new rule: the one that is chosen, and its blocks have this size
 abbrev pub IsMadeBySimplex : PricingChoice → ℕ → Network → Pseudoflow → Type 0
-IsMadeBySimplex First block g s = (old new : FirstRule) × IsMadeByRun first_picks old g s new
-IsMadeBySimplex Best block g s = (old new : BestRule) × IsMadeByRun best_picks old g s new
-IsMadeBySimplex Block block g s = (new : BlockRule) × IsMadeByRun IsBlockPick (new_block_rule block) g s new
+IsMadeBySimplex First block g s = (old new : RuleState FirstRule) × IsMadeByRun first_picks old g s new
+IsMadeBySimplex Best block g s = (old new : RuleState BestRule) × IsMadeByRun best_picks old g s new
+IsMadeBySimplex Block block g s = (new : RuleState BlockRule) × IsMadeByRun IsBlockPick (new_block_rule block) g s new
 
 -- the net's state was made by a new engine of this name; the plain engine asks nothing of how, cost scaling counts its steps, and the
 -- engine for assignments its searches

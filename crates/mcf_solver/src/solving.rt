@@ -3,15 +3,14 @@ ghost use Rattle.std.specs.Prelude.{◌≡◌, ◌↔◌, ◌≤◌, ◌⊎◌, 
 ghost use Rattle.mcf_checker.specs.Correct.{HasNoFlow};
 ghost use Rattle.mcf_network.specs.Removal.{net_of};
 ghost use Rattle.mcf_checker.specs.Judging.{accepts, verdict};
-ghost use Rattle.mcf_solver.specs.Answering.{AppendsAnswer, HasFault, IsOwed, LacksRoom, answer_kind};
+ghost use Rattle.mcf_solver.specs.Answering.{AppendsAnswer, HasFault, IsOwed, LacksRoom, MayWant, answer_kind};
 ghost use Rattle.mcf_solver.specs.Forms.{HasForm};
 ghost use Rattle.mcf_solver.specs.Making.{HasMadeFlow, IsMadeBy, IsMadeBySimplex, meant, suited};
+ghost use Rattle.mcf_solver.specs.declared.choice.Meant.TheVariants.{BySimplex};
 ghost use Rattle.mcf_solver.specs.Private.Shaping.{MadeFlowsAreShaped};
-ghost use Rattle.mcf_instance.specs.Fault.{header};
 ghost use Rattle.mcf_instance.specs.Limits.{limits};
 ghost use Rattle.mcf_instance.specs.Network.{node_count};
 ghost use Rattle.mcf_instance.specs.Reading.{reading};
-ghost use Rattle.mcf_text.specs.Row.{rows};
 ghost use Rattle.std.specs.Prelude.{Ok};
 
 use crate::choice::{Choice, EngineChoice, Form, Kind, Meant, PricingChoice};
@@ -41,8 +40,8 @@ use std::alloc::Global;
 ///
 /// # Errors
 ///
-/// Want of memory, only where the problem line names nodes or the answer's text doesn't fit the capacity that
-/// `out` has. The bytes of `out` are then those that it had. Its capacity never shrinks.
+/// Want of memory, only where the problem line names nodes, the network simplex is meant or the answer's text
+/// doesn't fit the capacity that `out` has. The bytes of `out` are then those that it had. Its capacity never shrinks.
 pub fn solve_text(
     alloc: Global,
     input: &[u8],
@@ -54,7 +53,7 @@ pub fn solve_text(
     ensures refused { IfOk result (λ kind. (kind ≡ Kind.Refused) ↔ HasFault input.now) }
     ensures none { IfOk result (λ kind. kind ≡ Kind.Blocked → HasNoFlow input.now) }
     ensures err { OnErr result (out.new.items ≡ out.old.items) }
-    ensures wants { OnErr result ((1 ≤ (header (rows input.now)).nodes) ⊎ LacksRoom choice input.now (vec_capacity out.old) (vec_len out.old)) }
+    ensures wants { OnErr result (MayWant choice input.now ⊎ LacksRoom choice input.now (vec_capacity out.old) (vec_len out.old)) }
     ensures capacity { vec_capacity out.old ≤ vec_capacity out.new }
 {
     correct_answers_are_accepted();
@@ -79,7 +78,7 @@ fn answer_to(alloc: Global, input: &[u8], choice: Choice) -> Result<Answer, NoMe
     ensures owed { IfOk result (IsOwed (reading limits input.now)) }
     ensures made { IfOk result (HasMadeFlow (IsMadeBy choice) (reading limits input.now)) }
     ensures formed { IfOk result (HasForm choice.form (reading limits input.now)) }
-    ensures wants { OnErr result (1 ≤ (header (rows input.now)).nodes) }
+    ensures wants { OnErr result (MayWant choice input.now) }
 {
     let outcome = read(alloc, input)?;
     answer_for(alloc, outcome, choice)
@@ -110,7 +109,7 @@ fn answer_for(
     ensures owed { IfOk result (IsOwed outcome) }
     ensures made { IfOk result (HasMadeFlow (IsMadeBy choice) outcome) }
     ensures formed { IfOk result (HasForm choice.form outcome) }
-    ensures wants { (input : List ℕ) → outcome ≡ reading limits input → OnErr result (1 ≤ (header (rows input)).nodes) }
+    ensures wants { (input : List ℕ) → outcome ≡ reading limits input → OnErr result (MayWant choice input) }
 {
     match outcome {
         Ok(instance) => solve_instance(alloc, &instance, choice),
@@ -123,7 +122,7 @@ fn solve_instance(alloc: Global, instance: &Instance, choice: Choice) -> Result<
     ensures owed { IfOk result (IsOwed (Ok instance.now)) }
     ensures made { IfOk result (HasMadeFlow (IsMadeBy choice) (Ok instance.now)) }
     ensures formed { IfOk result (HasForm choice.form (Ok instance.now)) }
-    ensures wants { OnErr result (1 ≤ node_count instance.now) }
+    ensures wants { OnErr result ((1 ≤ node_count instance.now) ⊎ (meant choice.engine instance.now.problem ≡ BySimplex)) }
 {
     match engine_meant(choice.engine, instance.problem()) {
         Meant::ByCancel => solve_by(alloc, instance, choice.form, &mut Cancel::new()),
@@ -160,7 +159,6 @@ fn solve_by_simplex(alloc: Global, instance: &Instance, choice: Choice) -> Resul
     ensures owed { IfOk result (IsOwed (Ok instance.now)) }
     ensures made { IfOk result (HasMadeFlow (IsMadeBySimplex choice.pricing choice.block) (Ok instance.now)) }
     ensures formed { IfOk result (HasForm choice.form (Ok instance.now)) }
-    ensures wants { OnErr result (1 ≤ node_count instance.now) }
 {
     match choice.pricing {
         PricingChoice::First => solve_by(alloc, instance, choice.form, &mut Simplex::new(First)),
@@ -183,7 +181,7 @@ fn solve_by<E: Engine>(
     ensures owed { IfOk result (IsOwed (Ok instance.now)) }
     ensures made { IfOk result (HasMadeFlow (λ g s. E.Made engine.old g s engine.new) (Ok instance.now)) }
     ensures formed { IfOk result (HasForm form (Ok instance.now)) }
-    ensures wants { OnErr result (1 ≤ node_count instance.now) }
+    ensures wants { OnErr result ((1 ≤ node_count instance.now) ⊎ E.Wants (net_of instance.now)) }
 {
     let net = Net::of(alloc, instance)?;
     match engine.solve(alloc, &net)? {

@@ -1,5 +1,6 @@
 use Rattle.std.proofs.Common.{◌∙◌, ap}
 use Rattle.mcf_network.specs.Removal.{net_of}
+use Rattle.mcf_simplex.specs.Blocks.{BlockRule}
 use Rattle.mcf_solver.specs.Making.{new_block_rule}
 use Rattle.mcf_solver.specs.declared.choice.PricingChoice.TheVariants.{First, Best, Block}
 use Rattle.mcf_solver.proofs.Making.{made_by_blocks, made_by_rule}
@@ -17,6 +18,6 @@ returns-in-Best-clause-made c =
 
 pub returns-in-Block-clause-made : goal.returns-in-Block-clause-made
 returns-in-Block-clause-made c =
-    let is = c.new-in-Block.ensures ∙ c.new-rule.ensures ∙ ap new_block_rule c.get.ensures.value in
+    let is = c.new-in-Block.ensures ∙ (ap (λ (r : BlockRule). record { rule = r; pivots = 0 }) c.new-rule.ensures ∙ ap new_block_rule c.get.ensures.value) in
     made_by_rule Block c.args.choice.pricing c.args.choice.block c.args.instance.now _ c.solve_by-in-Block.result c.in-Block.is
     (λ s made. made_by_blocks c.args.choice.block _ (net_of c.args.instance.now) s _ is made) c.solve_by-in-Block.ensures.made
