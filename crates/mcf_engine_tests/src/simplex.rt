@@ -395,7 +395,7 @@ fn asks_once_more_than_it_pivots(rt: HostRuntime) -> Result<(), Fail> {
     let block = asked_and_taken(alloc, text, Block::new(2), Block::new(2))?.ok_or("no net")?;
     assert!(rt; block.1 > 0 && block.0 == block.1.wrapping_add(1));
     let none = asked_and_taken(alloc, b"p min 0 0\n", First, First)?.ok_or("no net")?;
-    assert!(rt; none.0 == 0 && none.1 == 0);
+    assert!(rt; none.0 == 1 && none.1 == 0);
     Ok(())
 }
 
