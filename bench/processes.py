@@ -1,7 +1,7 @@
 """The second half of the part `simplex` of run.py: `mcf solve --engine simplex` beside a program by LEMON, as whole processes.
 
-Both read the same file, solve it and write a flow with its prices to a file. The simplex has its default, blocks of the size
-that suits the net. Printed are the least seconds of a processor of several runs.
+All read the same file, solve it and write a flow with its prices to a file. The simplex is run by both rules for large nets, `wide` and
+`block`. Printed are the least seconds of a processor of several runs, and their ratios; those of `wide` are judged.
 """
 import os
 import pathlib
@@ -14,10 +14,10 @@ OUT = BENCH / "out"
 CRATE = BENCH.parent / "crates" / "mcf"
 PROGRAM = CRATE / "out" / "mcf"
 
-# the sizes of each family, as powers of 2
-SOLVED = {family: (12, 14, 16) for family in ("netgen", "gridgen", "road", "goto")}
-# the greatest ratio
-LIMIT = 2.5
+# the sizes, as powers of 2
+SIZES = (14, 16, 17)
+# the greatest ratio of `wide` at 2^16 nodes, by family
+LIMITS = {"netgen": 0.9, "gridgen": 1.1, "road": 1.0, "goto": 0.7}
 # a case ends after so many seconds, but not before it was run so often
 SECONDS, FEWEST = 120, 3
 
@@ -54,12 +54,14 @@ def measure(words, peer, instance_of):
     runs = max(5, words.runs)
     print(f"simplex: {runs} runs of each, whole processes")
     within = True
-    for family, exponents in SOLVED.items():
-        for nodes in (2 ** exponent for exponent in exponents):
-            path = str(instance_of(family, nodes))
+    for family, limit in LIMITS.items():
+        for exponent in SIZES:
+            path = str(instance_of(family, 2 ** exponent))
             ours, theirs = str(OUT / "simplex-ours.ans"), str(OUT / "simplex-peer.ans")
-            solve = [str(PROGRAM), "solve", "--engine", "simplex", path]
-            seconds, peers = compare([(solve, ours), ([str(peer), "ns", path, "-w", theirs], theirs)], runs)
-            print(f"simplex {family} {nodes}, whole: ours {seconds:.4f} s, LEMON {peers:.4f} s, ratio {seconds / peers:.2f}")
-            within = within and seconds / peers <= LIMIT
+            solve = [str(PROGRAM), "solve", "--engine", "simplex", "--form", "2", "--pricing"]
+            wide, block, peers = compare(
+                [(solve + ["wide", path], ours), (solve + ["block", path], ours), ([str(peer), "ns", path, "-w", theirs], theirs)], runs)
+            print(f"simplex {family} 2^{exponent}, whole: wide {wide:.3f} s, block {block:.3f} s, LEMON {peers:.3f} s, "
+                  f"ratios {wide / peers:.2f} and {block / peers:.2f}")
+            within = within and (exponent != 16 or wide / peers <= limit)
     return within

@@ -1,5 +1,5 @@
 -- Where the flow of an answer comes from.
-use Rattle.std.proofs.Common.{◌≡◌, ℕ, refl, subst, sym}
+use Rattle.std.proofs.Common.{◌≡◌, ◌∙◌, ℕ, length, refl, subst, sym}
 use Rattle.std.specs.Prelude.{Result, Ok, Err, IfOk}
 use Rattle.std.proofs.lemmas.Option.{IfSome_then}
 use Rattle.mcf_answer.specs.declared.answers.Answer.{Answer}
@@ -9,12 +9,14 @@ use Rattle.mcf_instance.specs.declared.problem.Problem.{Problem}
 use Rattle.mcf_instance.specs.declared.problem.Problem.TheVariants.{Min, Asn}
 use Rattle.mcf_network.specs.Removal.{net_of}
 use Rattle.mcf_network.specs.States.{Pseudoflow}
+use Rattle.mcf_network.proofs.RestoringLaws.{net_of-arc_count}
 use Rattle.mcf_solver.specs.Making.{HasMadeFlow, IsMadeBy, IsMadeByEngine, IsMadeBySimplex, meant, new_block_rule, suited}
 use Rattle.mcf_solver.specs.declared.choice.Choice.{Choice}
 use Rattle.mcf_solver.specs.declared.choice.EngineChoice.{EngineChoice}
 use Rattle.mcf_solver.specs.declared.choice.EngineChoice.TheVariants.{Auto, Cancel, Simplex, Scaling, Sap}
 use Rattle.mcf_simplex.specs.Blocks.{BlockRule, IsBlockPick}
 use Rattle.mcf_simplex.specs.Runs.{IsMadeByRun, RuleState}
+use Rattle.mcf_simplex.specs.Stretches.{IsWideFor, WideRule}
 use Rattle.mcf_solver.specs.declared.choice.PricingChoice.{PricingChoice}
 use Rattle.mcf_solver.specs.declared.choice.PricingChoice.TheVariants.{Block}
 use Rattle.mcf_solver.specs.declared.choice.Meant.{Meant}
@@ -72,3 +74,7 @@ made_by_rule pricing chosen block g P r is step h =
 pub made_by_blocks : (block : ℕ) (old : RuleState BlockRule) (g : Network) (s : Pseudoflow) (new : RuleState BlockRule)
     → old ≡ new_block_rule block → IsMadeByRun IsBlockPick old g s new → IsMadeBySimplex Block block g s
 made_by_blocks block old g s new is made = (new, subst (λ (e : RuleState BlockRule). IsMadeByRun IsBlockPick e g s new) is made)
+
+-- the rule of wide blocks for the arcs of an instance is the one for those of its net
+pub wide_on_net : (g : Network) (arcs : ℕ) (rule : WideRule) → arcs ≡ length g.arcs → IsWideFor arcs rule → IsWideFor (length (net_of g).arcs) rule
+wide_on_net g arcs rule is h = subst (λ (n : ℕ). IsWideFor n rule) (is ∙ sym (net_of-arc_count g)) h

@@ -14,22 +14,24 @@ use Rattle.mcf_network.specs.TreeSolutions.{IsTreeSolution}
 use Rattle.mcf_network.proofs.RestoringLaws.{net_of-arc_count}
 use Rattle.mcf_simplex.specs.Blocks.{IsBlockPick}
 use Rattle.mcf_simplex.specs.Laws.{RunsAreTreeSolutions}
+use Rattle.mcf_simplex.specs.Stretches.{IsWidePick}
 use Rattle.mcf_solver.specs.Making.{IsMadeBy, IsMadeByEngine, IsMadeBySimplex, IsShapedBy, StandsForMade, best_picks, first_picks, meant, new_block_rule}
 use Rattle.mcf_solver.specs.Private.Shaping.{MadeFlowsAreShaped}
 use Rattle.mcf_solver.specs.declared.choice.Choice.{Choice}
 use Rattle.mcf_solver.specs.declared.choice.Meant.{Meant}
 use Rattle.mcf_solver.specs.declared.choice.Meant.TheVariants.{ByCancel, BySimplex, ByScaling, BySap}
 use Rattle.mcf_solver.specs.declared.choice.PricingChoice.{PricingChoice}
-use Rattle.mcf_solver.specs.declared.choice.PricingChoice.TheVariants.{First, Best, Block}
+use Rattle.mcf_solver.specs.declared.choice.PricingChoice.TheVariants.{First, Best, Block, Wide}
 
 module _ (first : RunsAreTreeSolutions first_picks) (best : RunsAreTreeSolutions best_picks) (block : RunsAreTreeSolutions IsBlockPick)
-    (stands : RestoredTreeSolutionsAreTreeSolutions) where
+    (wide : RunsAreTreeSolutions IsWidePick) (stands : RestoredTreeSolutionsAreTreeSolutions) where
   -- of the net
   net_tree : (pricing : PricingChoice) (chosen : ℕ) (g : Network) (s : Pseudoflow) → IsNet g → IsMadeBySimplex pricing chosen g s →
       IsTreeSolution g s.amounts
   net_tree First chosen g s net made = first made.0 g s made.1 net made.2
   net_tree Best chosen g s net made = best made.0 g s made.1 net made.2
   net_tree Block chosen g s net made = block (new_block_rule chosen) g s made.0 net made.1
+  net_tree Wide chosen g s net made = wide made.0 g s made.1 net made.3
 
   -- and of the instance
   tree_of : (pricing : PricingChoice) (chosen : ℕ) (g : Network) (flow : List ℤ) → StandsForMade (IsMadeBySimplex pricing chosen) g flow →

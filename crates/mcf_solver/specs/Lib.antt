@@ -17,6 +17,7 @@ pub use Rattle.mcf_scaling.specs.Made
 pub use Rattle.mcf_simplex.specs.Blocks as BlockPicks
 pub use Rattle.mcf_simplex.specs.Picking
 pub use Rattle.mcf_simplex.specs.Runs as SimplexRuns
+pub use Rattle.mcf_simplex.specs.Stretches
 pub use Rattle.mcf_text.specs.Row
 pub mod Answering
 pub mod BlockSizes

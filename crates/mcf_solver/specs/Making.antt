@@ -1,6 +1,6 @@
 -- How the state behind a flow was made: by a new engine, the one that the choice means.
 -- Source: own
-use Rattle.std.specs.Prelude.{◌≡◌, ⊤, ℕ, ℤ, List, IfSome, Result, Ok, Err}
+use Rattle.std.specs.Prelude.{◌≡◌, ⊤, ℕ, ℤ, List, length, Option, IfSome, Result, Ok, Err}
 use Rattle.mcf_answer.specs.declared.answers.Answer.{Answer}
 use Rattle.mcf_checker.specs.Correct.{flow_given}
 use Rattle.mcf_assign.specs.Runs.{IsMatchedByRows}
@@ -17,6 +17,7 @@ use Rattle.mcf_prices.specs.Outcomes.{IsLeastState}
 use Rattle.mcf_simplex.specs.Blocks.{BlockRule, IsBlockPick}
 use Rattle.mcf_simplex.specs.Picking.{IsBestPick, IsFirstPick}
 use Rattle.mcf_simplex.specs.Runs.{IsMadeByRun, RuleState}
+use Rattle.mcf_simplex.specs.Stretches.{IsWideFor, IsWidePick, WideRule}
 use Rattle.mcf_simplex.specs.declared.best.Best.{Best as BestRule}
 use Rattle.mcf_simplex.specs.declared.first.First.{First as FirstRule}
 use Rattle.mcf_solver.specs.declared.choice.Choice.{Choice}
@@ -25,7 +26,7 @@ use Rattle.mcf_scaling.specs.Made.{IsScaled}
 use Rattle.mcf_scaling.specs.Refinements.{StepCounts}
 use Rattle.mcf_solver.specs.declared.choice.EngineChoice.TheVariants.{Auto, Cancel, Simplex, Scaling, Sap}
 use Rattle.mcf_solver.specs.declared.choice.PricingChoice.{PricingChoice}
-use Rattle.mcf_solver.specs.declared.choice.PricingChoice.TheVariants.{First, Best, Block}
+use Rattle.mcf_solver.specs.declared.choice.PricingChoice.TheVariants.{First, Best, Block, Wide}
 use Rattle.mcf_solver.specs.declared.choice.Meant.{Meant}
 use Rattle.mcf_solver.specs.declared.choice.Meant.TheVariants.{ByCancel, BySimplex, ByScaling, BySap}
 
@@ -54,11 +55,13 @@ best_picks old b answer new = IsBestPick b answer
 abbrev pub new_block_rule : ℕ → RuleState BlockRule
 new_block_rule size = record { rule = record { size = size; next = 1 }; pivots = 0 }
 
--- the net's state was made by a run of the network simplex, with a new rule: the one that is chosen, and its blocks have this size
+-- the net's state was made by a run of the network simplex, with a new rule: the one that is chosen, and its blocks have this size, or, if they are
+-- wide, the one that suits the net
 abbrev pub IsMadeBySimplex : PricingChoice → ℕ → Network → Pseudoflow → Type 0
 IsMadeBySimplex First block g s = (old new : RuleState FirstRule) × IsMadeByRun first_picks old g s new
 IsMadeBySimplex Best block g s = (old new : RuleState BestRule) × IsMadeByRun best_picks old g s new
 IsMadeBySimplex Block block g s = (new : RuleState BlockRule) × IsMadeByRun IsBlockPick (new_block_rule block) g s new
+IsMadeBySimplex Wide block g s = (old new : RuleState WideRule) × IsWideFor (length g.arcs) old.rule × IsMadeByRun IsWidePick old g s new
 
 -- the net's state was made by a new engine of this name; the plain engine asks nothing of how, cost scaling counts its steps, and the
 -- engine for assignments its searches

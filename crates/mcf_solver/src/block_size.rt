@@ -1,6 +1,6 @@
 //! Sizes of blocks.
 ghost use Rattle.std.specs.Prelude.{◌≡◌, SomeIff};
-ghost use Rattle.mcf_solver.specs.BlockSizes.{IsBlockSize, IsSuitedSize, standard_block};
+ghost use Rattle.mcf_solver.specs.BlockSizes.{IsBlockSize, standard_block};
 
 use std::marker::Model;
 
@@ -48,15 +48,5 @@ impl BlockSize {
         ensures range { IsBlockSize result }
     {
         self.size
-    }
-
-    /// The size that suits a net of so many arcs: the square root of twice their number, rounded down, but 256 at least.
-    pub fn suited_to(arcs: u32) -> BlockSize
-        ensures { IsSuitedSize arcs result }
-    {
-        let root = (2 * u64::from(arcs)).isqrt() as u32;
-        BlockSize {
-            size: root.max(256),
-        }
     }
 }

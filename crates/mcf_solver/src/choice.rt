@@ -29,6 +29,8 @@ pub enum PricingChoice {
     /// The eligible arc of greatest violation of the first block that has one, of the blocks in turn.
     #[default]
     Block,
+    /// The same with blocks that suit the net, taken in turn from four stretches of the arcs.
+    Wide,
 }
 
 /// In which form a flow is written. Blocked and refused answers have one form.
@@ -46,7 +48,7 @@ pub enum Form {
 pub struct Choice {
     pub engine: EngineChoice,
     pub pricing: PricingChoice,
-    /// How many arcs a block has.
+    /// How many arcs a block of `Block` has.
     pub block: BlockSize,
     pub form: Form,
 }

@@ -24,7 +24,7 @@ use mcf_instance::{Instance, Problem, Refusal, read};
 use mcf_network::{Net, restored_tree_solutions_are_tree_solutions};
 use mcf_prices::{Cancel, Engine, Outcome};
 use mcf_scaling::Scaling;
-use mcf_simplex::{Best, Block, First, Simplex, runs_are_tree_solutions};
+use mcf_simplex::{Best, Block, First, Simplex, Wide, runs_are_tree_solutions};
 use mcf_text::NoMemory;
 use std::alloc::Global;
 
@@ -70,6 +70,7 @@ fn made_flows_are_shaped()
     runs_are_tree_solutions::<First>();
     runs_are_tree_solutions::<Best>();
     runs_are_tree_solutions::<Block>();
+    runs_are_tree_solutions::<Wide>();
     restored_tree_solutions_are_tree_solutions();
 }
 
@@ -166,6 +167,10 @@ fn solve_by_simplex(alloc: Global, instance: &Instance, choice: Choice) -> Resul
         PricingChoice::Block => {
             let rule = Block::new(choice.block.get());
             solve_by(alloc, instance, choice.form, &mut Simplex::new(rule))
+        }
+        PricingChoice::Wide => {
+            let wide = Wide::suited_to(instance.arc_count());
+            solve_by(alloc, instance, choice.form, &mut Simplex::new(wide))
         }
     }
 }

@@ -17,7 +17,7 @@ use Rattle.mcf_suite.specs.declared.asking.Asked.{Asked}
 use Rattle.mcf_solver.specs.declared.choice.EngineChoice.{EngineChoice}
 use Rattle.mcf_solver.specs.declared.choice.EngineChoice.TheVariants.{Auto, Cancel, Simplex, Scaling, Sap}
 use Rattle.mcf_solver.specs.declared.choice.PricingChoice.{PricingChoice}
-use Rattle.mcf_solver.specs.declared.choice.PricingChoice.TheVariants.{First, Best, Block}
+use Rattle.mcf_solver.specs.declared.choice.PricingChoice.TheVariants.{First, Best, Block, Wide}
 use Rattle.mcf_solver.specs.declared.choice.Form.{Form}
 use Rattle.mcf_solver.specs.declared.choice.Form.TheVariants.{One, Two}
 use Rattle.mcf_solver.specs.BlockSizes.{block_limit, standard_block}
@@ -33,7 +33,7 @@ engine_names = map (λ (row : Text × EngineChoice). row.0) engine_words
 
 -- the names of the pricing rules, and what each asks for
 abbrev pub pricing_words : List (Text × PricingChoice)
-pricing_words = (codes "first", First) ∷ (codes "best", Best) ∷ (codes "block", Block) ∷ []
+pricing_words = (codes "first", First) ∷ (codes "best", Best) ∷ (codes "block", Block) ∷ (codes "wide", Wide) ∷ []
 
 -- the names of the pricing rules
 abbrev pub pricing_names : List Text

@@ -24,7 +24,7 @@ pub struct Asked<'a> {
 static ENGINES: [&str; 5] = ["auto", "cancel", "simplex", "scaling", "sap"];
 
 // The names of the pricing rules.
-static RULES: [&str; 3] = ["first", "best", "block"];
+static RULES: [&str; 4] = ["first", "best", "block", "wide"];
 
 // The names of the forms of an answer.
 static FORMS: [&str; 2] = ["1", "2"];
@@ -42,13 +42,14 @@ Pricing rules of the simplex:
   first    the first eligible arc: cheap picks and many pivots, to compare with
   best     the eligible arc of greatest violation: few pivots, all arcs looked at for each; for small instances
   block    the same of one block of arcs, the blocks in turn: for large instances; the default
+  wide     the same of blocks that grow with the instance, from four stretches of the arcs: from some 16,000 nodes on
 
 Forms of a flow:
   1        a line for each arc, with its ends: the default
   2        a line for each arc that doesn't carry its LOW, with its number: for instances of many arcs";
 
 /// Reads what the words of a command line ask:
-/// `mcf solve [--engine auto|cancel|simplex|scaling|sap] [--pricing first|best|block] [--block N] [--form 1|2] [FILE]`,
+/// `mcf solve [--engine auto|cancel|simplex|scaling|sap] [--pricing first|best|block|wide] [--block N] [--form 1|2] [FILE]`,
 /// where N is 1 to 1,000,000. What is left out is `auto`, `block`, 256 and 1.
 ///
 /// The words begin with the name of the program, which isn't read.
@@ -195,6 +196,7 @@ fn pricing_of(name: Option<&str>) -> PricingChoice
         Some("first") => PricingChoice::First,
         Some("best") => PricingChoice::Best,
         Some("block") => PricingChoice::Block,
+        Some("wide") => PricingChoice::Wide,
         _ => PricingChoice::Block,
     }
 }

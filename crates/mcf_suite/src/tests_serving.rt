@@ -507,7 +507,7 @@ static HELP: [(Words, &str); 28] = [
         "auto, cancel, simplex, scaling, sap",
     ),
     (&["mcf", "solve", "--help"], "[default: auto]"),
-    (&["mcf", "solve", "--help"], "first, best, block"),
+    (&["mcf", "solve", "--help"], "first, best, block, wide"),
     (&["mcf", "solve", "--help"], "[default: block]"),
     (&["mcf", "solve", "--help"], "1 to 1000000"),
     (&["mcf", "solve", "--help"], "[default: 256]"),

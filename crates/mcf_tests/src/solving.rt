@@ -16,7 +16,7 @@ struct Way {
 }
 
 // Every engine, and the simplex with each rule and with blocks of several sizes.
-static WAYS: [Way; 10] = [
+static WAYS: [Way; 11] = [
     Way {
         engine: EngineChoice::Auto,
         pricing: PricingChoice::Block,
@@ -45,6 +45,11 @@ static WAYS: [Way; 10] = [
     Way {
         engine: EngineChoice::Simplex,
         pricing: PricingChoice::Best,
+        block: 256,
+    },
+    Way {
+        engine: EngineChoice::Simplex,
+        pricing: PricingChoice::Wide,
         block: 256,
     },
     Way {
@@ -95,29 +100,6 @@ fn is_size(size: u32, may_be: bool) -> bool {
         Some(block) => may_be && block.get() == size,
         None => !may_be,
     }
-}
-
-// A number of arcs, and the size of blocks that suits a net of so many: the squares of the sizes are
-// 65,536, 66,049, 131,044, 1,046,529, 1,048,576, 19,998,784 and 8,589,767,761.
-static SUITED: [(u32, u32); 10] = [
-    (0, 256),
-    (1, 256),
-    (33_024, 256),
-    (33_025, 257),
-    (65_535, 362),
-    (65_536, 362),
-    (524_287, 1023),
-    (524_288, 1024),
-    (10_000_000, 4472),
-    (4_294_967_295, 92_681),
-];
-
-#[test]
-fn sizes_that_suit_a_net(rt: HostRuntime) -> Result<(), Fail> {
-    for (arcs, size) in &SUITED {
-        assert!(rt; BlockSize::suited_to(*arcs).get() == *size, "at {arcs}");
-    }
-    Ok(())
 }
 
 #[test]

@@ -13,8 +13,19 @@ returns-then-surplus-lt0-clause-low c =
     let from : c.route-from.result.0 ≡ tail s.net r = c.route-from.ensures.tail ∙ ap (λ (g : Network). tail g r) c.net.ensures.value in
     let at = ap (surplus_at s) from in
     let some : pos 0 <ℤ surplus_at s (tail s.net r) = c.requires.some in
-    omega (arith, ints, clamps, c.min.ensures.value, c.min-most.ensures.value, c.surplus.ensures.value, at, some, c.room.ensures.low, c.surplus-surplus.ensures.small,
-    c.if-surplus-lt0.true)
+    omega (
+      arith,
+      ints,
+      clamps,
+      c.min.ensures.value,
+      c.min-most.ensures.value,
+      c.surplus.ensures.value,
+      at,
+      some,
+      c.room.ensures.low,
+      c.surplus-surplus.ensures.small,
+      c.if-surplus-lt0.true,
+    )
 
 pub returns-then-surplus-lt0-clause-held : goal.returns-then-surplus-lt0-clause-held
 returns-then-surplus-lt0-clause-held c =
