@@ -1,11 +1,12 @@
 # make        proves and builds the programs into bin/ and runs them on examples/
 # make test   the gate: every proof, the must-fail edits, the tests, the programs
+# make memory-test   refuses each allocation of the tests of six worked rows in turn, with ALL=1 of every test
 # make clean  takes away what was proved and built: bin/, and out/ of each crate
 # make bench  the measurements of bench/
 # make tools-test   the tests of tools/, on the plans of examples/plans/ too: needs the programs of bin/ and Python 3
 # make install      puts the programs, the planner's tool and the manual pages under PREFIX (and DESTDIR before it); make uninstall removes just these
 
-.PHONY: all kit test clean bench tools-test install uninstall
+.PHONY: all kit test memory-test clean bench tools-test install uninstall
 .NOTPARALLEL:
 
 # The programs among the crates that crates.txt lists; the logs are bin/NAME.log.
@@ -21,7 +22,12 @@ test: kit
 	@scripts/documents.py check
 	@grep -qF "$$(rt version)" crates/mcf_suite/src/version.rt || { echo "make test: crates/mcf_suite/src/version.rt names another prover than: $$(rt version)" >&2; exit 1; }
 	rt ci
-	@python3 scripts/refuse_memory.py --only six_rows --minutes 4 mcf_text_tests mcf_tests mcf_engine_tests mcf_suite
+	@python3 scripts/refuse_memory.py --built --only six_rows --minutes 4 $(WITH_TESTS)
+
+# Each allocation refused in turn on six worked rows, and with ALL=1 in every test: the tests are proved and built first, which takes as long as make.
+WITH_TESTS = mcf_text_tests mcf_tests mcf_engine_tests mcf_suite
+memory-test: kit
+	@python3 scripts/refuse_memory.py $(if $(ALL),,--only six_rows) $(WITH_TESTS)
 
 clean:
 	rm -rf bin bench/out crates/*/out

@@ -4,7 +4,7 @@
     python3 scripts/refuse_memory.py [NAME ...] [--only WORD] [--most N] [--minutes N] [--built]
 
 NAME is a crate with tests; without one, all of them. Each is proved, built and tested by `rt test` (`--built` takes
-the tests as they were built last). Then each test, or with `--only` each whose name has WORD in it, is run with its
+the tests as they were built last, and leaves out with a word those that never were). Then each test, or with `--only` each whose name has WORD in it, is run with its
 first allocation refused, then with its second, and so on, until a run meets no refusal, or up to the Nth (5,000 if
 left out), or until so many minutes have gone by since the first run. A run is right where it ends as with ample
 memory, or with an error that speaks of want of memory; tests of what was lent compare it themselves after the error.
@@ -82,6 +82,9 @@ def main():
             if not words.built:
                 subprocess.run(["rt", "test"], cwd=folder, check=True, stdout=subprocess.DEVNULL)
             program = folder / "out" / f"{name}_tests"
+            if not program.exists():
+                print(f"{name}: left out, since its tests aren't built; `rt test` in crates/{name} builds them")
+                continue
             listed = subprocess.run([program, "--list"], check=True, capture_output=True, text=True).stdout
             print(name, flush=True)
             until = min(until, time.monotonic() + 60 * words.minutes)
