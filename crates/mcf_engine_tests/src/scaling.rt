@@ -4,7 +4,7 @@ ghost use Rattle.mcf_feas.specs.Feasible.{IsFeasibleState};
 use crate::networks::net_of;
 use mcf_feas::{Feas, feasible};
 use mcf_network::{Net, Rid, State};
-use mcf_prices::{Engine, Outcome};
+use mcf_prices::{Engine, Outcome, Recovered, recover};
 use mcf_scaling::{
     Refine, Scaling, nearly_least_have_no_cycle, phases_end, prices_rise_little, runs_keep_bounds,
 };
@@ -12,13 +12,15 @@ use mcf_text::{ArcId, NoMemory, NodeId, put_number};
 use std::alloc::Global;
 use std::test::Fail;
 
-// What a text is solved in: how many phases, how many relabels of a node in one of them at most, and for what cost.
+// What a text is solved in: how many phases, how many relabels of a node in one of them at most, for what cost, and the
+// greatest prices that show it.
 #[derive(Clone, Copy)]
 struct Row {
     text: &'static [u8],
     phases: u32,
     relabels: u32,
     cost: i128,
+    prices: &'static [i128],
 }
 
 // Each phase relabels a node at most three times as often as there are nodes.
@@ -28,36 +30,42 @@ static ROWS: [Row; 6] = [
         phases: 4,
         relabels: 12,
         cost: 14,
+        prices: &[0, -2, -3, -4],
     },
     Row {
         text: b"p min 0 0\n",
         phases: 0,
         relabels: 0,
         cost: 0,
+        prices: &[],
     },
     Row {
         text: b"p min 1 1\na 1 1 0 7 -3\n",
         phases: 3,
         relabels: 3,
         cost: 0,
+        prices: &[0],
     },
     Row {
         text: b"p min 2 2\nn 1 3\nn 2 -3\na 1 2 0 2 1\na 1 2 0 2 5\n",
         phases: 4,
         relabels: 6,
         cost: 7,
+        prices: &[0, -5],
     },
     Row {
         text: b"p min 2 1\nn 1 1000000000000000\nn 2 -1000000000000000\na 1 2 0 1000000000000000 1000000000000\n",
         phases: 42,
         relabels: 6,
         cost: 1_000_000_000_000_000_000_000_000_000,
+        prices: &[0, -1_000_000_000_000],
     },
     Row {
         text: b"p min 3 4\na 1 2 0 5 0\na 2 3 0 5 0\na 3 1 0 5 0\na 1 3 0 5 -1\n",
         phases: 2,
         relabels: 9,
         cost: -5,
+        prices: &[0, 0, 0],
     },
 ];
 
@@ -94,6 +102,15 @@ fn take_step(refine: &mut Refine<'_>) -> Step {
         None => {
             refine.relabel(v);
             Step::Relabel(v)
+        }
+    }
+}
+
+// Takes steps until a refinement is done.
+fn refine_on(refine: &mut Refine<'_>) {
+    for _ in 0..10_000u32 {
+        if let Step::Done = take_step(refine) {
+            break;
         }
     }
 }
@@ -347,6 +364,31 @@ fn starts_with_prices_zero(rt: HostRuntime) -> Result<(), Fail> {
     Ok(())
 }
 
+// The prices that are recovered from the last state of the refinement of a text's net, if there are any.
+fn recovered_at_the_end(alloc: Global, text: &[u8]) -> Result<Option<Vec<i128>>, NoMemory> {
+    let Some(net) = net_of(alloc, text)? else {
+        return Ok(None);
+    };
+    let Feas::Flow(state) = feasible(alloc, &net)? else {
+        return Ok(None);
+    };
+    let mut refine = Refine::start(alloc, state)?;
+    refine_on(&mut refine);
+    match recover(alloc, &refine.into_state())? {
+        Recovered::Prices(prices) => Ok(Some(prices)),
+        Recovered::Cycle(_) => Ok(None),
+    }
+}
+
+#[test]
+fn the_last_state_has_prices(rt: HostRuntime) -> Result<(), Fail> {
+    for row in ROWS {
+        let prices = recovered_at_the_end(rt.alloc(), row.text)?.ok_or("no prices")?;
+        assert!(rt; prices.as_slice() == row.prices);
+    }
+    Ok(())
+}
+
 // What the state costs that is handed over where the refinement of a text's net is done, if the prices are handed over
 // that were told before.
 fn handed_over(alloc: Global, text: &[u8]) -> Result<Option<i128>, NoMemory> {
@@ -357,11 +399,7 @@ fn handed_over(alloc: Global, text: &[u8]) -> Result<Option<i128>, NoMemory> {
         return Ok(None);
     };
     let mut refine = Refine::start(alloc, state)?;
-    for _ in 0..10_000u32 {
-        if let Step::Done = take_step(&mut refine) {
-            break;
-        }
-    }
+    refine_on(&mut refine);
     if refine.state().net().node_count() < 1 {
         return Ok(None);
     }
