@@ -27,7 +27,13 @@ struct Searches {
     reached: Option<&'static [u32]>,
 }
 
-static SEARCHES: [Searches; 6] = [
+// Two rows, the first of which has no arc, and one column.
+const IDLE_ROW: &[u8] = b"p asn 3 1\nn 1\nn 2\na 2 3 4\n";
+
+// One row, and two columns to which it may go.
+const ONE_ROW: &[u8] = b"p asn 3 2\nn 1\na 1 2 4\na 1 3 1\n";
+
+static SEARCHES: [Searches; 8] = [
     Searches {
         text: b"p asn 0 0\n",
         count: 0,
@@ -63,6 +69,18 @@ static SEARCHES: [Searches; 6] = [
         count: 1,
         settled: &[2],
         reached: Some(&[2]),
+    },
+    Searches {
+        text: IDLE_ROW,
+        count: 1,
+        settled: &[1],
+        reached: Some(&[1]),
+    },
+    Searches {
+        text: ONE_ROW,
+        count: 1,
+        settled: &[1, 3],
+        reached: None,
     },
 ];
 
@@ -228,6 +246,37 @@ fn other_engines_answer_so(rt: HostRuntime) -> Result<(), Fail> {
     for row in ROWS {
         assert!(rt; is_answered(rt.alloc(), &mut Cancel::new(), row)?);
         assert!(rt; is_answered(rt.alloc(), &mut Scaling::new(), row)?);
+    }
+    Ok(())
+}
+
+// Texts whose supplies don't add up to 0, and the side by which all nodes block.
+static UNBALANCED: [(&[u8], Side); 3] = [
+    (b"p asn 3 2\nn 1\nn 2\na 1 3 4\na 2 3 4\n", Side::Send),
+    (IDLE_ROW, Side::Send),
+    (ONE_ROW, Side::Take),
+];
+
+// Whether all nodes block the net of a text by this side.
+fn is_blocked_by_all(alloc: Global, text: &[u8], side: Side) -> Result<bool, NoMemory> {
+    let Some(net) = net_of(alloc, text)? else {
+        return Ok(false);
+    };
+    let mut engine = Sap::new();
+    if !engine.takes(&net) {
+        return Ok(false);
+    }
+    match engine.solve(alloc, &net)? {
+        Outcome::Least(..) => Ok(false),
+        Outcome::Blocked(set, by) => Ok(set.len() == net.node_count() && by == side),
+    }
+}
+
+// Nothing is searched: the searches from the rows of the second text end with another set, and those of the third with none.
+#[test]
+fn supplies_out_of_balance_are_not_searched(rt: HostRuntime) -> Result<(), Fail> {
+    for (text, side) in &UNBALANCED {
+        assert!(rt; is_blocked_by_all(rt.alloc(), text, *side)?);
     }
     Ok(())
 }
