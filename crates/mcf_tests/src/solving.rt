@@ -4,7 +4,7 @@
 //! assertions, or one that makes its rows, takes long to prove.
 use mcf_checker::{Verdict, check};
 use mcf_solver::{BlockSize, Choice, EngineChoice, Form, Kind, PricingChoice, solve_text};
-use mcf_text::NoMemory;
+use mcf_text::{NoMemory, put_number};
 use std::alloc::Global;
 use std::test::Fail;
 
@@ -586,6 +586,34 @@ fn the_greatest_total(rt: HostRuntime) -> Result<(), Fail> {
         assert!(rt; writes(rt.alloc(), &instance, way, &answer)?);
     }
     assert!(rt; check(rt.alloc(), &instance, &answer)? == Verdict::Flow(0));
+    Ok(())
+}
+
+// Puts the price of a node on which nothing hangs.
+fn put_idle(out: &mut Vec<u8>, node: u32) -> Result<(), NoMemory> {
+    out.extend_from_slice(b"y ")?;
+    put_number(out, i128::from(node))?;
+    out.extend_from_slice(b" 0\n")?;
+    Ok(())
+}
+
+// The answer to two arcs between the first two of a thousand nodes, over which three units go.
+fn among_many(alloc: Global) -> Result<Vec<u8>, NoMemory> {
+    let mut text = b"s 7\nf 1 2 2\nf 1 2 1\ny 1 0\ny 2 -5\n".to_vec(alloc)?;
+    for node in 3..1_001 {
+        put_idle(&mut text, node)?;
+    }
+    Ok(text)
+}
+
+#[test]
+fn two_arcs_among_a_thousand_nodes(rt: HostRuntime) -> Result<(), Fail> {
+    let instance = b"p min 1000 2\nn 1 3\nn 2 -3\na 1 2 0 2 1\na 1 2 0 2 5\n";
+    let answer = among_many(rt.alloc())?;
+    for way in &WAYS {
+        assert!(rt; writes(rt.alloc(), instance, way, &answer)?);
+    }
+    assert!(rt; check(rt.alloc(), instance, &answer)? == Verdict::Flow(7));
     Ok(())
 }
 
