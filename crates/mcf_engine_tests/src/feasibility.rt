@@ -157,6 +157,91 @@ fn restored_flow(alloc: Global, instance: &Instance) -> Result<Option<Vec<i128>>
     }
 }
 
+// What a flow has on an arc.
+fn amount_on(flow: &[i128], place: u32) -> i128 {
+    flow.get(place as usize).copied().unwrap_or(0)
+}
+
+// What a node sends less what it gets, by a plain sum over the arcs of an instance.
+fn sent_by(instance: &Instance, flow: &[i128], node: NodeId) -> i128 {
+    let mut sent = 0i128;
+    for place in 0..instance.arc_count() {
+        let arc = instance.arc(ArcId::new(place + 1));
+        if arc.src == node {
+            sent = sent.wrapping_add(amount_on(flow, place));
+        }
+        if arc.dst == node {
+            sent = sent.wrapping_sub(amount_on(flow, place));
+        }
+    }
+    sent
+}
+
+// Whether each arc of an instance has an amount within its bounds.
+fn is_within_bounds(instance: &Instance, flow: &[i128]) -> bool {
+    for place in 0..instance.arc_count() {
+        let arc = instance.arc(ArcId::new(place + 1));
+        let amount = amount_on(flow, place);
+        if amount < arc.low || arc.cap < amount {
+            return false;
+        }
+    }
+    flow.len() == instance.arc_count() as usize
+}
+
+// Whether each node of an instance sends its supply.
+fn sends_supplies(instance: &Instance, flow: &[i128]) -> bool {
+    for place in 0..instance.node_count() {
+        let node = NodeId::new(place + 1);
+        if sent_by(instance, flow, node) != instance.supply(node) {
+            return false;
+        }
+    }
+    true
+}
+
+// Whether the flow for which the state of a text stands is feasible.
+fn is_restored_feasible(alloc: Global, text: &[u8]) -> Result<bool, NoMemory> {
+    let Some(instance) = instance_of(alloc, text)? else {
+        return Ok(false);
+    };
+    let Some(flow) = restored_flow(alloc, &instance)? else {
+        return Ok(false);
+    };
+    let is_within = is_within_bounds(&instance, &flow);
+    Ok(is_within && sends_supplies(&instance, &flow))
+}
+
+// Worked instances with a flow.
+static WORKED: [&[u8]; 18] = [
+    b"p min 4 5\nn 1 4\nn 4 -4\na 1 2 0 4 2\na 1 3 0 2 2\na 2 3 0 2 1\na 2 4 0 3 3\na 3 4 0 5 1",
+    b"p min 0 0",
+    b"p asn 0 0",
+    b"p min 1 1\na 1 1 0 7 -3",
+    b"p min 2 2\nn 1 3\nn 2 -3\na 1 2 0 2 1\na 1 2 0 2 5",
+    b"p min 2 1\nn 1 4\nn 2 -4\na 1 2 4 4 -2",
+    b"p min 2 1\nn 1 -3\nn 2 3\na 1 2 -3 -3 1",
+    b"p asn 4 4\nn 1\nn 2\na 1 3 5\na 1 4 1\na 2 3 2\na 2 4 1",
+    b"p asn 4 4\nn 1\nn 2\na 1 3 5\na 1 4 1\na 2 3 2\na 2 4 -9",
+    b"p min 2 1\nn 1 1000000000000000\nn 2 -1000000000000000\na 1 2 0 1000000000000000 1000000000000",
+    b"p min 2 2\na 1 2 0 1000000000000000 -1\na 2 1 0 1000000000000000 0",
+    b"p min 3 4\na 1 2 0 5 0\na 2 3 0 5 0\na 3 1 0 5 0\na 1 3 0 5 -1",
+    b"p min 3 3\nn 1 5\nn 3 -5\na 1 2 2 10 3\na 2 3 0 10 1\na 1 3 0 10 2",
+    b"p min 2 2\nn 1 3\nn 2 -3\na 1 2 0 3 4\na 1 2 0 3 4",
+    b"c sample\r\n\r\n\tp min 2 1\r\nn 01 +3\nn 2 -003\na 1 2 0 4 7",
+    b"p min 1000 2\nn 1 3\nn 2 -3\na 1 2 0 2 1\na 1 2 0 2 5",
+    b"p min 2 1\na 1 2 -1 5 1",
+    b"p min 2 1\nn 1 -1000000000000000000\nn 2 1000000000000000000\na 1 2 -1000000000000000000 -1000000000000000000 -1000000000000000",
+];
+
+#[test]
+fn restored_flows_are_feasible(rt: HostRuntime) -> Result<(), Fail> {
+    for text in &WORKED {
+        assert!(rt; is_restored_feasible(rt.alloc(), text)?);
+    }
+    Ok(())
+}
+
 // Whether this is the flow for which the state of a text stands.
 fn is_restored(alloc: Global, text: &[u8], want: &[i128]) -> Result<bool, NoMemory> {
     let Some(instance) = instance_of(alloc, text)? else {
