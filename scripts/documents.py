@@ -451,7 +451,7 @@ class Page:
         """The types of the code that a part's definitions name, and these, but for the codes of faults and for constants."""
         earlier = list(PARTS)[:list(PARTS).index(part)]
         known = {kind for other in earlier for kind in self.specs.types(other)} | {("mcf_instance", "code.Code")}
-        kinds = [kind for kind in self.specs.types(part) if kind not in known and kind[0] in crates() and "." in kind[1]]
+        kinds = [kind for kind in self.specs.types(part) if kind not in known and kind[0] in crates() and not kind[1].endswith("TheConstants")]
         return fence("rust", "\n\n".join(type_text(*kind) for kind in kinds + [tuple(m.split("/")) for m in more]))
 
     def models(self, *names):

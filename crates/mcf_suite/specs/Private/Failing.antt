@@ -8,7 +8,7 @@ use Rattle.clap.specs.declared.error.kind.ErrorKind.TheVariants.{DisplayHelp, Di
 use Rattle.mcf_solver.specs.Devices.{CountsOneFailure}
 use Rattle.mcf_solver.specs.Running.{IsTooLong, TakesBeginning}
 use Rattle.mcf_solver.specs.declared.fault.RunFault.TheVariants.{Read, Write, NoMemory, TooLong}
-use Rattle.mcf_suite.specs.declared.TheConstants.{VERSION}
+use Rattle.mcf_suite.specs.declared.version.TheConstants.{VERSION}
 use Rattle.mcf_suite.specs.declared.serving.Failure.{Failure}
 use Rattle.mcf_suite.specs.declared.serving.Failure.TheVariants.{Usage, Open, Run}
 use Rattle.mcf_suite.specs.Serving.{AsksToSolve, FailsToGive, GivesTooMuch, HaveUsageFault, IsUnopened, fault_line, open_line}

@@ -1,7 +1,10 @@
-use Rattle.std.proofs.Common.{map}
+use Rattle.std.proofs.Common.{inr, map}
 use Rattle.mcf_suite.specs.Serving.{OpensBy}
 use Rattle.mcf_suite.proofs.ServedLemmas.{kept_or_begun, told_of}
 use Rattle.mcf_suite.proofs.serving.serve.Goals as goal
+
+pub returns-in-Ok-clause-served : goal.returns-in-Ok-clause-served
+returns-in-Ok-clause-served g c = inr c.in-Ok.ensures.served
 
 pub returns-in-Err-clause-beginning : goal.returns-in-Err-clause-beginning
 returns-in-Err-clause-beginning g c three = kept_or_begun g.S.Source.remaining g.S.Source.failures c.args.input.now c.answer.new.input
