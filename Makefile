@@ -3,7 +3,7 @@
 # make memory-test   refuses each allocation of the tests of six worked rows in turn, with ALL=1 of every test
 # make clean  takes away what was proved and built: bin/, and out/ of each crate
 # make bench  the measurements of bench/
-# make tools-test   the tests of tools/, on the plans of examples/plans/ too: needs the programs of bin/ and Python 3
+# make tools-test   the tests of python/ and tools/, on the plans of examples/plans/ too: needs the programs of bin/ and Python 3.8; a part of make test
 # make install      puts the programs, the planner's tool and the manual pages under PREFIX (and DESTDIR before it); make uninstall removes just these
 
 .PHONY: all kit test memory-test clean bench tools-test install uninstall
@@ -23,6 +23,7 @@ test: kit
 	@grep -qF "$$(rt version)" crates/mcf_suite/src/version.rt || { echo "make test: crates/mcf_suite/src/version.rt names another prover than: $$(rt version)" >&2; exit 1; }
 	rt ci
 	@python3 scripts/refuse_memory.py --built --only six_rows --minutes 4 $(WITH_TESTS)
+	@$(MAKE) --no-print-directory tools-test
 
 # Each allocation refused in turn on six worked rows, and with ALL=1 in every test: the tests are proved and built first, which takes as long as make.
 WITH_TESTS = mcf_text_tests mcf_tests mcf_engine_tests mcf_suite
@@ -36,20 +37,23 @@ bench:
 	@python3 bench/run.py
 
 tools-test:
-	@python3 tools/test_mcf_plan.py
+	@scripts/tools_test.sh
 
 PREFIX = /usr/local
 BIN = $(DESTDIR)$(PREFIX)/bin
 MAN = $(DESTDIR)$(PREFIX)/share/man/man1
+PYTHON = $(DESTDIR)$(PREFIX)/share/mcf/python
 
 # Nothing is built here, so that what was proved by one user can be installed by another.
 install:
 	@test -x bin/mcf && test -x bin/mcfcheck || { echo "make install: bin/mcf and bin/mcfcheck aren't there; run make first" >&2; exit 1; }
-	install -d "$(BIN)" "$(MAN)"
-	install -m 755 bin/mcf bin/mcfcheck "$(BIN)"
-	install -m 755 tools/mcf_plan.py "$(BIN)/mcf_plan"
+	install -d "$(BIN)" "$(MAN)" "$(PYTHON)/mcf_plan"
+	install -m 755 bin/mcf bin/mcfcheck tools/mcf_plan "$(BIN)"
+	install -m 644 python/mcf_plan/* "$(PYTHON)/mcf_plan"
 	install -m 644 man/mcf.1 man/mcfcheck.1 man/mcf_plan.1 "$(MAN)"
 
 uninstall:
 	rm -f "$(BIN)/mcf" "$(BIN)/mcfcheck" "$(BIN)/mcf_plan"
 	rm -f "$(MAN)/mcf.1" "$(MAN)/mcfcheck.1" "$(MAN)/mcf_plan.1"
+	rm -rf "$(PYTHON)/mcf_plan"
+	-rmdir -p "$(PYTHON)" 2> /dev/null

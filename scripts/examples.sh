@@ -140,14 +140,6 @@ For more information, try '--help'." bin/mcf solve "$unreadable"
     tells_with_little 'mcf: out of memory' bin/mcf solve "$written.large"
 fi
 
-# The planner's tool on the tables of examples/plans/, where there is something to run it with.
-plans=
-if [ -x bin/mcfcheck ] && [ -x bin/mcf ] && python3 -c 'import sys; sys.exit(sys.version_info < (3, 8))' 2> /dev/null; then
-    plans=$(find examples/plans -mindepth 1 -maxdepth 1 -type d | wc -l)
-    python3 tools/test_mcf_plan.py > "$written" 2>&1 || report "tools/test_mcf_plan.py: $(cat "$written")"
-fi
-
 [ "$wrong" -eq 0 ] || { echo "examples: $wrong wrong of $pairs pairs"; exit 1; }
 [ ! -x bin/mcf ] || echo "examples: mcf writes the answers of all $pairs instances"
 [ ! -x bin/mcfcheck ] || echo "examples: mcfcheck accepts the answers of all $pairs instances"
-[ -z "$plans" ] || echo "examples: mcf_plan gives the stored results of all $plans plans"

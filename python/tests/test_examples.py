@@ -1,0 +1,120 @@
+"""The plans of examples/plans/, compared with what is stored there; `test_examples.py --store` writes what they give now."""
+import copy
+import os
+import pathlib
+import re
+import shutil
+import sys
+import tempfile
+import unittest
+
+from mcf_plan import model, report, solve
+from support import COMPARED, PLANS, TOP, WithFolder, rows_of, run
+
+# Examples that are solved again with one unit more and one less.
+SOLVED_AGAIN = ("transport", "network", "degenerate")
+
+
+class Examples(WithFolder):
+    """The plans of examples/plans/."""
+
+    def test_stored_results(self):
+        for folder in example_folders():
+            with self.subTest(folder=folder.name):
+                results, stored = results_of(folder, self.folder / folder.name), folder / "expected"
+                self.assertEqual(sorted(results), sorted(path.name for path in stored.iterdir()))
+                for name, text in results.items():
+                    self.assertEqual(text, (stored / name).read_text(encoding="utf-8"), name)
+
+    @staticmethod
+    def read(name):
+        """The problem of an example."""
+        return model.Problem.read(PLANS / name / "places.csv", PLANS / name / "routes.csv")
+
+    def solved(self, problem, **changes):
+        """The plan of a problem, perhaps with other places or routes, or None."""
+        changed = copy.copy(problem)
+        vars(changed).update(changes)
+        return solve.solve(solve.Programs(None), self.folder, changed.instance())
+
+    def test_one_more_unit_of_room(self):
+        for name in SOLVED_AGAIN:
+            problem = self.read(name)
+            plan = self.solved(problem)
+            groups = report.groups_of(problem, plan)
+            for number, route in enumerate(problem.routes):
+                if plan.flows[number] < route.most:
+                    continue
+                saves, exact = report.room_saves(route, plan.prices), report.is_exact(route, plan.prices, groups)
+                wider = problem.routes[:number] + [route._replace(most=route.most + 1)] + problem.routes[number + 1:]
+                again = self.solved(problem, routes=wider)
+                with self.subTest(name=name, route=route):
+                    self.assertLessEqual(plan.cost - again.cost, saves)
+                    self.assertTrue(plan.cost - again.cost == saves or not exact)
+
+    def test_one_more_unit_at_a_place(self):
+        for name in SOLVED_AGAIN:
+            problem = self.read(name)
+            plan = self.solved(problem)
+            count = len(problem.places)
+            begin = max(range(count), key=lambda number: plan.prices[number])
+            for end in range(0, count, 1 if count < 20 else 6):
+                for units in (1, -1):
+                    with self.subTest(name=name, end=end, units=units):
+                        self.check_units(problem, plan, begin, end, units)
+
+    def check_units(self, problem, plan, begin, end, units):
+        """Whether the figures hold of units more from one place to another."""
+        figure, groups = plan.prices[begin] - plan.prices[end], report.groups_of(problem, plan)
+        changed = list(problem.places)
+        changed[begin] = changed[begin]._replace(supply=changed[begin].supply + units)
+        changed[end] = changed[end]._replace(supply=changed[end].supply - units)
+        again = self.solved(problem, places=changed)
+        self.assertTrue(again is None or again.cost - plan.cost >= units * figure)
+        self.assertTrue(groups[begin + 1] != groups[end + 1] or again.cost - plan.cost == units * figure)
+
+    def test_the_degenerate_example_is_degenerate(self):
+        rows = rows_of(PLANS / "degenerate" / "expected" / "flows.csv", ";")
+        self.assertTrue(any(row["exact"] == "no" for row in rows))
+
+    def test_functions_are_short(self):
+        for file in (TOP / "python").rglob("*.py"):
+            for name, body in re.findall(r"^ *def (\w+)(.*(?:\n(?:(?! *def |\S).*)?)*)", file.read_text(encoding="utf-8"), re.M):
+                self.assertLess(len(body.rstrip().splitlines()), 40, name)
+
+
+def example_folders():
+    """The folders of examples/plans/ that have tables."""
+    return sorted(path for path in PLANS.iterdir() if path.is_dir())
+
+
+def results_of(folder, out):
+    """What the tool writes and says on an example."""
+    is_flow = (folder / "places.csv").exists()
+    tables = ("places.csv", "routes.csv") if is_flow else ("costs.csv",)
+    here = os.getcwd()
+    os.chdir(folder)
+    try:
+        status, said, told = run("flow" if is_flow else "pairs", *tables, "-o", out)
+    finally:
+        os.chdir(here)
+    results = {"said.txt": f"{said}{told}status {status}\n"}
+    results.update({name: (out / name).read_text(encoding="utf-8") for name in COMPARED if (out / name).exists()})
+    return results
+
+
+def store():
+    """Writes what the examples give now."""
+    for folder in example_folders():
+        shutil.rmtree(folder / "expected", ignore_errors=True)
+        (folder / "expected").mkdir()
+        with tempfile.TemporaryDirectory() as scratch:
+            for name, text in results_of(folder, pathlib.Path(scratch)).items():
+                (folder / "expected" / name).write_text(text, encoding="utf-8")
+
+
+if __name__ == "__main__":
+    if sys.argv[1:] == ["--store"]:
+        store()
+    else:
+        unittest.main(verbosity=0)

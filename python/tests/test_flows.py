@@ -1,0 +1,113 @@
+"""Plans of flows, and why there are none."""
+from support import PLACES, ROUTES, WithFolder, rows_of
+
+# What `mcf` refuses, and the table's line that it came from.
+REFUSED_FLOWS = [
+    ("name,supply\n\nA,1000000000000000001\nB,-1000000000000000001\n", "from,to,least,most,cost\n", "places.csv, line 3, column supply: a supply beyond"),
+    (PLACES, "from,to,least,most,cost\n\nMill,Wien,0,1000000000000000001,1\n", "routes.csv, line 3, column most: an amount beyond"),
+    (PLACES, "from,to,least,most,cost\nMill,Wien,-" + "9" * 40 + ",1,1\n", "routes.csv, line 2, column least: an amount beyond"),
+    (PLACES, ROUTES + "Mill,Wien,5,4,1\n", "routes.csv, line 5, column least: least is greater than most"),
+    (PLACES, "cost,from,to,least,most\n" + "9" * 30 + ",Mill,Wien,0,1\n", "routes.csv, line 2, column cost: a cost beyond"),
+    (PLACES, "from,to,least,most,cost\n" + "Mill,Wien,0,1000000000000000000,1000000000000000\n" * 1001,
+     "routes.csv, line 1002, column cost: with this route, costs"),
+]
+# The same two tables as PLACES and ROUTES, written in other ways that mean the same.
+SAME_PLACES = [
+    "\ufeffname,supply\nMill,30\nWien,-18\nGraz,-12\n",
+    "Name;Supply\r\nMill;30\r\nWien;-18\r\nGraz;-12\r\n",
+    "supply\tname\n30\tMill\n-18\tWien\n-12\tGraz",
+    "\nname , supply ,note\n\n\"Mill\",\"+30\",\"a \"\"big\"\" one,\nby the river\"\n Wien , -018\n,,\nGraz,-12,",
+    "name,supply\rMill,30\rWien,-18\rGraz,-12\r",
+]
+
+
+class Flows(WithFolder):
+    """Plans, and why there are none."""
+
+    def test_a_plan(self):
+        status, said, told = self.flow(PLACES, ROUTES)
+        self.assertEqual((status, told), (0, ""))
+        self.assertIn("cost 171", said)
+        self.assertEqual((self.out / "flows.csv").read_text(), "from,to,carries,cost,full,one_more_saves,exact\n"
+                         "Mill,Wien,15,60,yes,5,yes\nMill,Graz,15,105,no,0,yes\nGraz,Wien,3,6,no,0,yes\n")
+        self.assertEqual((self.out / "prices.csv").read_text(), "name,supply,one_more_costs,group\nMill,30,0,1\nWien,-18,9,1\nGraz,-12,7,1\n")
+
+    def test_tables_that_mean_the_same(self):
+        for places in SAME_PLACES:
+            with self.subTest(places=places):
+                status, said, told = self.flow(places, ROUTES)
+                self.assertEqual((status, told), (0, ""))
+                self.assertIn("cost 171", said)
+
+    def test_results_are_written_as_the_tables_are(self):
+        self.flow(SAME_PLACES[0], ROUTES.replace(",", ";"))
+        self.assertTrue((self.out / "prices.csv").read_bytes().startswith(b"\xef\xbb\xbfname,supply"))
+        self.assertTrue((self.out / "flows.csv").read_bytes().startswith(b"from;to;"))
+
+    def test_columns_that_nobody_looked_at(self):
+        self.assertIn("weren't looked at: remark", self.flow(PLACES.replace("supply\n", "supply,remark\n"), ROUTES)[1])
+
+    def test_what_mcf_refuses(self):
+        for places, routes, begins in REFUSED_FLOWS:
+            with self.subTest(begins=begins):
+                status, said, told = self.flow(places, routes)
+                self.assertEqual((status, said), (2, ""))
+                self.assertIn(begins, told)
+
+    def test_supply_exceeds_demand(self):
+        status, said, _ = self.flow("name,supply\nA,9\nB,-7\n", "from,to,least,most,cost\nA,B,0,9,1\n")
+        self.assertEqual(status, 1)
+        self.assertIn("supply exceeds demand by 2: the supplies add to 9, the demands to 7", said)
+        self.assertEqual([row["must"] for row in rows_of(self.out / "bottleneck.csv")], ["9", "-7"])
+
+    def test_demand_exceeds_supply(self):
+        status, said, _ = self.flow("name,supply\nA,4\nB,-7\n", "from,to,least,most,cost\nA,B,0,9,1\n")
+        self.assertEqual(status, 1)
+        self.assertIn("demand exceeds supply by 3: the supplies add to 4, the demands to 7", said)
+
+    def test_places_that_must_send(self):
+        status, said, _ = self.flow("name,supply\nA,5\nB,0\nC,-5\n", "from,to,least,most,cost\nA,B,0,4,1\nB,C,0,9,1\n")
+        self.assertEqual(status, 1)
+        self.assertIn("A must send 5, and can send only 4, over A -> B (4).", said)
+
+    def test_places_that_must_take(self):
+        routes = "from,to,least,most,cost\nA,B,0,9,1\nB,C,0,9,1\nC,D,0,3,1\nB,D,0,1,1\n"
+        status, said, _ = self.flow("name,supply\nA,5\nB,0\nC,0\nD,-5\n", routes)
+        self.assertEqual(status, 1)
+        self.assertIn("D must take 5, and can take only 4, over C -> D (3), B -> D (1).", said)
+
+    def test_places_that_nothing_leads_to(self):
+        self.assertIn("C must take 2, and no route leads there.", self.flow("name,supply\nA,2\nB,0\nC,-2\n", "from,to,least,most,cost\nA,B,0,4,1\n")[1])
+
+    def test_a_least_amount_that_is_too_much(self):
+        routes = "from,to,least,most,cost\nB,A,2,3,1\nA,B,0,1,1\n"
+        status, said, _ = self.flow("name,supply\nA,0\nB,0\n", routes)
+        self.assertEqual(status, 1)
+        self.assertIn("A must send 2 (with the least of B -> A (2)), and can send only 1, over A -> B (1).", said)
+        rows = rows_of(self.out / "bottleneck.csv")
+        self.assertEqual([(row["kind"], row["must"], row["can"]) for row in rows], [("place", "0", ""), ("route", "2", ""), ("route", "", "1")])
+
+    def test_two_bottlenecks(self):
+        places = "name,supply\nA,5\nB,-5\nC,6\nD,-6\n"
+        said = self.flow(places, "from,to,least,most,cost\nA,B,0,4,1\nC,D,0,4,1\n")[1]
+        self.assertIn("A must send 5, and can send only 4", said)
+        self.assertIn("C must send 6, and can send only 4", said)
+        self.assertEqual({row["bottleneck"] for row in rows_of(self.out / "bottleneck.csv")}, {"1", "2"})
+
+    def test_results_of_an_earlier_run_are_removed(self):
+        self.flow(PLACES, ROUTES)
+        self.flow(PLACES, ROUTES.replace("20", "2"))
+        self.assertFalse((self.out / "flows.csv").exists())
+        self.assertTrue((self.out / "bottleneck.csv").exists())
+
+    def test_loops_and_parallel_routes(self):
+        routes = ROUTES + "Mill,Wien,0,2,5\nGraz,Graz,0,3,-7\nGraz,Graz,1,3,7\n"
+        self.assertEqual(self.flow(PLACES, routes)[0], 0)
+        rows = rows_of(self.out / "flows.csv")
+        self.assertEqual([row["carries"] for row in rows], ["15", "13", "1", "2", "3", "1"])
+        self.assertEqual(rows[4]["one_more_saves"], "7")
+
+    def test_tables_without_rows(self):
+        status, said, _ = self.flow("name,supply\n", "from,to,least,most,cost\n")
+        self.assertEqual(status, 0)
+        self.assertIn("cost 0", said)

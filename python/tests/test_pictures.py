@@ -1,0 +1,36 @@
+"""The picture, with Graphviz where it is there, and without it."""
+import os
+import xml.etree.ElementTree
+
+from support import ROUTES, WithFolder
+
+
+class Pictures(WithFolder):
+    """The picture, with Graphviz where it is there, and without it."""
+
+    def drawn(self, places, routes):
+        """The texts of the picture."""
+        self.flow(places, routes)
+        root = xml.etree.ElementTree.parse(self.out / "plan.svg").getroot()
+        return [element.text for element in root.iter("{http://www.w3.org/2000/svg}text")]
+
+    def test_with_and_without_graphviz(self):
+        routes = ROUTES + "Mill,Wien,0,2,5\nGraz,Graz,0,3,-7\nWien,Graz,0,3,1\nR & D <x>,Mill,0,1,1\n"
+        spots = "name,supply,x,y\nMill,30,0,0\nWien,-18,5.5,-2\nGraz,-12,5.5,-2\nR & D <x>,0,1,1\n"
+        path = os.environ["PATH"]
+        self.addCleanup(os.environ.__setitem__, "PATH", path)
+        for place, table in ((path, spots.replace(",x,y", ",a,b")), ("", spots.replace(",x,y", ",a,b")), ("", spots)):
+            os.environ["PATH"] = place
+            with self.subTest(path=place, table=table):
+                texts = self.drawn(table, routes)
+                for text in ("Mill", "Wien", "Graz", "R & D <x>", "sends 30", "takes 18", "15"):
+                    self.assertIn(text, texts)
+
+    def test_without_places_and_at_one_spot(self):
+        self.drawn("name,supply\n", "from,to,least,most,cost\n")
+        self.assertIn("A", self.drawn("name,supply,x,y\nA,0,3,3\n", "from,to,least,most,cost\nA,A,0,1,-1\n"))
+
+    def test_what_blocks(self):
+        texts = self.drawn("name,supply\nA,5\nB,-5\n", "from,to,least,most,cost\nA,B,0,4,1\n")
+        self.assertIn("\u2264 4", texts)
+        self.assertIn("No plan exists", texts)

@@ -1,0 +1,57 @@
+"""Programs that are missing, that fail, or that say what isn't so."""
+import shutil
+import stat
+
+from mcf_plan.solve import Programs as Found
+from support import COMPARED, PLACES, ROUTES, WithFolder
+
+
+class Programs(WithFolder):
+    """Programs that are missing, that fail, or that say what isn't so."""
+
+    def script(self, name, text):
+        """Writes a program of the shell."""
+        path = self.put(name, "#!/bin/sh\n" + text)
+        path.chmod(path.stat().st_mode | stat.S_IXUSR)
+
+    def judged(self, solver, checker):
+        """What the tool does with these two programs."""
+        self.script("mcf", solver)
+        self.script("mcfcheck", checker)
+        status, said, told = self.flow(PLACES, ROUTES, "--programs", self.folder)
+        self.assertEqual((status, said), (3, ""))
+        self.assertEqual([path for path in COMPARED if (self.out / path).exists()], [])
+        return told
+
+    def test_missing(self):
+        status, _, told = self.flow(PLACES, ROUTES, "--programs", self.folder)
+        self.assertEqual(status, 3)
+        self.assertIn("the program mcf isn't in", told)
+
+    def test_no_answer(self):
+        self.assertIn("mcf: out of memory", self.judged("echo 'mcf: out of memory' >&2; exit 3", "exit 0"))
+        self.assertIn("status -9", self.judged("kill -9 $$", "exit 0"))
+
+    def test_no_verdict(self):
+        self.assertIn("no verdict (status 3): why", self.judged("echo s 0", "echo why >&2; exit 3"))
+        self.assertIn("no verdict", self.judged("echo s 0", "exit 0"))
+
+    def test_a_rejected_answer(self):
+        self.assertIn("MCFCHECK SAYS NO: rejected cost", self.judged("echo s 0", "echo rejected cost; exit 1"))
+
+    def test_programs_that_disagree(self):
+        self.assertIn("accepted a blocked", self.judged("echo s 0", "echo accepted blocked 1"))
+
+    def test_a_refused_total(self):
+        self.script("mcf", "echo r 8 total; exit 2")
+        self.script("mcfcheck", "echo accepted refusal 8 total")
+        status, _, told = self.flow(PLACES, ROUTES, "--programs", self.folder)
+        self.assertEqual(status, 2)
+        self.assertIn("routes.csv, line 4, column cost: with this route, costs times amounts add to more than mcf takes (mcf: total)", told)
+
+    def test_a_wrong_answer_is_found_by_the_true_checker(self):
+        shutil.copy(Found(None).checker, self.folder / "mcfcheck")
+        self.script("mcf", "echo s 171; echo f 1 2 15; echo f 1 3 15; echo f 3 2 2")
+        status, said, told = self.flow(PLACES, ROUTES, "--programs", self.folder)
+        self.assertEqual((status, said), (3, ""))
+        self.assertIn("MCFCHECK SAYS NO: rejected node", told)

@@ -1,0 +1,14 @@
+#!/bin/sh
+# The tests of python/ and tools/, where Python 3.8 is there and the programs are built; they may take two minutes. MCF_BIN names the folder of the
+# programs, if that isn't bin/. It says what is skipped.
+set -u
+cd "$(dirname "$0")/.." || exit 1
+export MCF_BIN="${MCF_BIN:-$PWD/bin}"
+
+if [ ! -x "$MCF_BIN/mcf" ] || [ ! -x "$MCF_BIN/mcfcheck" ]; then
+    echo "tools-test: skipped: mcf and mcfcheck aren't built (make builds them)"
+elif ! python3 -c 'import sys; sys.exit(sys.version_info < (3, 8))' 2> /dev/null; then
+    echo "tools-test: skipped: there is no Python 3.8 or newer"
+else
+    timeout 120 python3 python/tests/run.py || { echo "tools-test: failed (status $?; 124 is two minutes)"; exit 1; }
+fi
