@@ -1,14 +1,16 @@
 """The command line."""
 import argparse
+import os
+import signal
 import sys
 
-from . import pairs, picture, report
-from .faults import Stop
-from .folder import made_folder
+from . import life, pairs, picture, report
+from .faults import Stop, trouble
+from .folder import results_in
 from .model import Problem
 from .solve import Programs, bottlenecks_of, solve
 
-STATUSES = "Status 0: a plan, accepted. 1: no plan exists, accepted. 2: a bad table or a wrong call. 3: anything else."
+STATUSES = "Status 0: a plan, accepted. 1: no plan exists, accepted. 2: a bad table or a wrong call. 3: anything else. 130: interrupted."
 
 
 class Parser(argparse.ArgumentParser):
@@ -32,6 +34,7 @@ def options_of(words):
         command.add_argument("-o", "--output", dest="folder", metavar="FOLDER", required=True, help="where the results are written")
         command.add_argument("--programs", metavar="FOLDER", help="where mcf and mcfcheck are, if not beside this tool, in bin/ or on the path")
         command.set_defaults(act=act)
+    flow.add_argument("--no-picture", action="store_true", help="draw no picture")
     options = parser.parse_args(words)
     if not options.command:
         parser.error("say what is planned: flow or pairs")
@@ -40,34 +43,79 @@ def options_of(words):
 
 def flow_command(options):
     """Does `flow`: gives the lines of the summary and the status."""
-    problem = Problem.read(options.places, options.routes)
-    programs, folder = Programs(options.programs), made_folder(options.folder, [options.places, options.routes])
-    plan, bottlenecks = solve(programs, folder, problem.instance()), []
-    if plan:
-        groups = report.groups_of(problem, plan)
-        report.write_flows(folder / "flows.csv", problem, plan, groups)
-        report.write_prices(folder / "prices.csv", problem, plan, groups)
-        lines = report.flow_summary(problem, plan, groups)
-    else:
-        bottlenecks = bottlenecks_of(programs, folder / "instance.min", problem.network())
-        report.write_bottlenecks(folder / "bottleneck.csv", problem, bottlenecks)
-        lines = report.blocked_summary(problem, bottlenecks)
-    (folder / "plan.svg").write_text(picture.svg_of(picture.scene_of(problem, plan, bottlenecks)), encoding="utf-8")
+    with life.doing("reads the tables"):
+        problem = Problem.read(options.places, options.routes)
+    programs, bottlenecks = Programs(options.programs), []
+    with results_in(options.folder) as folder:
+        plan = solve(programs, folder, problem.instance())
+        if plan:
+            groups = report.groups_of(problem, plan)
+            report.write_flows(folder / "flows.csv", problem, plan, groups)
+            report.write_prices(folder / "prices.csv", problem, plan, groups)
+            lines = report.flow_summary(problem, plan, groups)
+        else:
+            bottlenecks = bottlenecks_of(programs, folder / "instance.min", problem.network())
+            report.write_bottlenecks(folder / "bottleneck.csv", problem, bottlenecks)
+            lines = report.blocked_summary(problem, bottlenecks)
+        if not options.no_picture:
+            with life.doing("draws the picture"):
+                drawn = picture.svg_of(picture.scene_of(problem, plan, bottlenecks))
+            (folder / "plan.svg").write_text(drawn, encoding="utf-8")
     return lines + problem.unused(), 0 if plan else 1
+
+
+def prepare():
+    """Opens streams that were closed, lets any text be printed, and lets a signal end the run with its status, after all is tidied up."""
+    for number in range(3):
+        try:
+            os.fstat(number)
+        except OSError:
+            os.open(os.devnull, os.O_RDWR)
+    for stream in (sys.stdout, sys.stderr):
+        if stream:
+            stream.reconfigure(errors="backslashreplace")
+    for number in (signal.SIGTERM, signal.SIGHUP):
+        signal.signal(number, ended_by)
+
+
+def ended_by(number, _):
+    """Ends the run by a signal."""
+    raise Stop(f"ended by {signal.Signals(number).name}", 128 + number)
+
+
+def told(text, status):
+    """Says on standard error why there is no plan, and gives the status."""
+    try:
+        print("\n".join(f"mcf_plan: {line}" for line in text.split("\n")), file=sys.stderr, flush=True)
+    except (OSError, MemoryError):
+        sys.stderr = None
+    return status
+
+
+def said(lines):
+    """Says the summary on standard output."""
+    try:
+        print("\n".join(lines), flush=True)
+    except OSError as error:
+        sys.stdout = None
+        raise trouble(f"the plan is in its folder, and the summary can't be written: {error.strerror}")
 
 
 def main(words):
     """Does what the words ask, and gives the exit status."""
-    for stream in (sys.stdout, sys.stderr):
-        stream.reconfigure(errors="backslashreplace")
     try:
+        prepare()
         options = options_of(words)
         lines, status = options.act(options)
-        print("\n".join(lines))
+        said(lines)
         return status
     except Stop as stop:
-        print("\n".join(f"mcf_plan: {line}" for line in str(stop).split("\n")), file=sys.stderr)
-        return stop.status
+        return told(str(stop), stop.status)
+    except KeyboardInterrupt:
+        return told("interrupted", 130)
+    except MemoryError:
+        return told("out of memory", 3)
     except OSError as error:
-        print(f"mcf_plan: {error.filename or 'a file'}: {error.strerror}", file=sys.stderr)
-        return 3
+        return told(f"{error.filename or 'a file'}: {error.strerror}", 3)
+    except Exception as error:  # Status 1 would say that no plan exists.
+        return told(f"a fault of this tool, which please report: {type(error).__name__}: {' '.join(str(error).split())}", 3)

@@ -12,6 +12,10 @@ class Stop(Exception):
         self.status = status
 
 
+class Rejected(Exception):
+    """An answer that isn't to be believed: it is kept apart, so that it can be reported."""
+
+
 def bad_table(text):
     """A `Stop` for a table that can't be read as meant."""
     return Stop(text, 2)

@@ -1,25 +1,70 @@
-"""The folder of the results."""
+"""The folder of the results, which is written whole or not at all."""
+import contextlib
 import os
 import pathlib
+import shutil
+import signal
 
-from .faults import Stop, trouble
+from .faults import Rejected, Stop, trouble
 
-# What a plan is written into, and what is taken away before.
+# What a plan is written into; a folder with anything else in it isn't touched.
 RESULTS = ("flows.csv", "prices.csv", "pairs.csv", "bottleneck.csv", "plan.svg", "instance.min", "instance.asn", "answer.ans")
 
 
-def made_folder(name, tables):
-    """The folder of the results, without those of an earlier run."""
-    folder = pathlib.Path(name)
+@contextlib.contextmanager
+def results_in(name):
+    """A new folder beside the one that is named, which takes its place at the end; where the run ends otherwise, nothing is left of it."""
+    target = pathlib.Path(os.path.realpath(name))
+    check_target(name, target)
+    part = target.with_name(f".{target.name}.part-{os.getpid()}")
     try:
-        folder.mkdir(parents=True, exist_ok=True)
+        target.parent.mkdir(parents=True, exist_ok=True)
+        part.mkdir()
     except OSError as error:
         raise trouble(f"the folder {name} can't be made: {error.strerror}")
-    for result in (folder / name for name in RESULTS):
-        for table in tables:
-            if result.exists() and os.path.samefile(result, table):
-                raise Stop(f"{table} would be written over: choose another folder", 2)
-    for result in RESULTS:
-        if (folder / result).exists():
-            (folder / result).unlink()
-    return folder
+    try:
+        yield part
+        swap(part, target)
+    except Rejected as stop:
+        raise trouble(f"{stop}; please report the instance and the answer in {kept(part, target)}")
+    finally:
+        shutil.rmtree(part, ignore_errors=True)
+
+
+def check_target(name, target):
+    """Ends the run where the folder has anything that isn't a result, which might be lost."""
+    if target.exists() and not target.is_dir():
+        raise trouble(f"the folder {name} can't be made: there is a file of this name")
+    foreign = sorted(path.name for path in target.iterdir() if path.name not in RESULTS) if target.exists() else []
+    if foreign:
+        raise Stop(f"the folder {name} has files that are no results, such as {foreign[0]}: name a folder of its own with -o", 2)
+    if target == pathlib.Path.cwd() or target.name == "":
+        raise Stop(f"the folder {name} can't be replaced: name another with -o", 2)
+
+
+def swap(part, target):
+    """Puts the new folder where it belongs, and takes an earlier one away; no signal comes between."""
+    old = part.with_name(part.name + ".old")
+    held = signal.pthread_sigmask(signal.SIG_BLOCK, {signal.SIGINT, signal.SIGTERM, signal.SIGHUP})
+    try:
+        if target.exists():
+            os.rename(target, old)
+        try:
+            os.rename(part, target)
+        except OSError:
+            if old.exists():
+                os.rename(old, target)
+            raise
+        shutil.rmtree(old, ignore_errors=True)
+    finally:
+        signal.pthread_sigmask(signal.SIG_SETMASK, held)
+
+
+def kept(part, target):
+    """Keeps what was rejected, under another name: gives the folder."""
+    number = 1
+    while target.with_name(f"{target.name}.rejected{number}").exists():
+        number += 1
+    found = target.with_name(f"{target.name}.rejected{number}")
+    os.rename(part, found)
+    return found

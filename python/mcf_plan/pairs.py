@@ -3,7 +3,7 @@ import collections
 
 from .amounts import whole_in
 from .faults import Faults
-from .folder import made_folder
+from .folder import results_in
 from .network import Arc, Network, parts_of
 from .solve import Instance, Programs, blocking_set, check_set, solve
 from .tables import Table, cell_at, key_of, name_in, once, shown, write_table
@@ -163,17 +163,16 @@ def pairs_command(options):
     is_list = table.has(PAIR_HEADS)
     sides, pairs = listed_pairs(table, faults) if is_list else matrix_pairs(table, faults)
     faults.end()
-    programs, folder = Programs(options.programs), made_folder(options.folder, [options.costs])
-    instance = pairs_instance(sides, pairs, table)
-    plan = solve(programs, folder, instance)
+    programs, instance = Programs(options.programs), pairs_instance(sides, pairs, table)
     unused = table.unused(PAIR_HEADS) if is_list else []
-    if plan:
-        chosen = sorted(pair for pair, flow in zip(pairs, plan.flows) if flow)
-        rows = [[sides.persons[pair.who - 1], sides.things[pair.what - 1], pair.cost] for pair in chosen]
-        write_table(folder / "pairs.csv", table, PAIR_HEADS, rows)
-        return pairs_summary(sides, chosen, plan) + unused, 0
-    groups = competing(programs, folder / f"instance.{instance.suffix}", sides, pairs)
-    write_groups(folder / "bottleneck.csv", table, groups, sides)
+    with results_in(options.folder) as folder:
+        plan = solve(programs, folder, instance)
+        if plan:
+            chosen = sorted(pair for pair, flow in zip(pairs, plan.flows) if flow)
+            rows = [[sides.persons[pair.who - 1], sides.things[pair.what - 1], pair.cost] for pair in chosen]
+            write_table(folder / "pairs.csv", table, PAIR_HEADS, rows)
+            return pairs_summary(sides, chosen, plan) + unused, 0
+        groups = competing(programs, folder / f"instance.{instance.suffix}", sides, pairs)
+        write_groups(folder / "bottleneck.csv", table, groups, sides)
     sentences = ["  " + competing_sentence(group, things, sides) for group, things in groups[:TOLD_NAMES]]
     return ["No such pairs exist, as mcf found and mcfcheck accepted:"] + sentences + unused, 1
-

@@ -7,7 +7,8 @@ import subprocess
 import sys
 import tempfile
 
-from .faults import bad_table, trouble
+from . import life
+from .faults import Rejected, bad_table, trouble
 
 # A least cost, what each arc carries, and the price of each node.
 Plan = collections.namedtuple("Plan", "cost flows prices")
@@ -72,7 +73,7 @@ class Programs:
 
     def solve(self, instance, answer, *options):
         """Has `mcf` answer the instance of one file into another. Gives its status: 0 a flow, 1 a set that blocks, 2 a refusal."""
-        with open(answer, "wb") as output:
+        with open(answer, "wb") as output, life.doing("mcf solves"):
             status, said = self.run([self.solver, "solve", *options, str(instance)], output)
         if status not in KINDS:
             raise trouble(f"mcf solve gave no answer (status {status}): {said}")
@@ -80,13 +81,12 @@ class Programs:
 
     def verdict(self, instance, answer):
         """The words of `mcfcheck` on an answer that it accepts; it ends the run where it doesn't."""
-        with tempfile.TemporaryFile() as output:
+        with tempfile.TemporaryFile() as output, life.doing("mcfcheck judges the answer"):
             status, said = self.run([self.checker, str(instance), str(answer)], output)
             output.seek(0)
             words = output.read().decode("utf-8", "replace").split()
         if status == 1:
-            raise trouble(f"MCFCHECK SAYS NO: {' '.join(words)}. The answer {answer} is wrong for {instance}, and nothing of it is shown; "
-                          "please report both files")
+            raise Rejected(f"MCFCHECK SAYS NO: {' '.join(words)}. The answer is wrong, and nothing of it is shown")
         if status != 0 or words[:1] != ["accepted"]:
             raise trouble(f"mcfcheck gave no verdict (status {status}): {said}")
         return words[1:]
@@ -103,7 +103,7 @@ def refused(answer, instance):
     line, code = answer_lines(answer, "r")[0]
     origin = instance.origins[int(line) - 1] if int(line) <= len(instance.origins) else None
     if not origin or code not in origin[2]:
-        return trouble(f"mcf refuses line {line} of its instance ({code}), which is no fault of the tables: please report it")
+        return Rejected(f"mcf refuses line {line} of its instance ({code}), which is no fault of the tables")
     table, table_line, columns = origin
     return bad_table(f"{table.name}, line {table_line}, column {columns[code]}: {REFUSALS[code]} (mcf: {code}); "
                      "LIMITS in `man mcf` has what it takes")
@@ -116,7 +116,7 @@ def solve(programs, folder, instance):
     status = programs.solve(instance_path, answer_path)
     kind = programs.verdict(instance_path, answer_path)[0]
     if kind != KINDS[status]:
-        raise trouble(f"mcf ended with status {status}, and mcfcheck accepted a {kind}: please report {instance_path} and {answer_path}")
+        raise Rejected(f"mcf ended with status {status}, and mcfcheck accepted a {kind}")
     if status == 2:
         raise refused(answer_path, instance)
     if status == 1:
@@ -136,7 +136,7 @@ def blocking_set(programs, network):
         instance.write_text("\n".join(network.lines()) + "\n")
         status = programs.solve(instance, answer, "--engine", "scaling")
         if status != 1 or answer_lines(answer, "i")[0][1] != "send":
-            raise trouble(f"mcf found that no plan exists, and by another engine it answers otherwise (status {status}): please report it")
+            raise Rejected(f"mcf found that no plan exists, and by another engine it answers otherwise (status {status})")
         return {int(fields[0]) for fields in answer_lines(answer, "x")}
 
 

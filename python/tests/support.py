@@ -4,6 +4,7 @@ import csv
 import io
 import os
 import pathlib
+import stat
 import tempfile
 import unittest
 
@@ -33,6 +34,12 @@ def rows_of(path, separator=","):
     """The rows of a table, by their heads."""
     with open(path, newline="", encoding="utf-8-sig") as table:
         return list(csv.DictReader(table, delimiter=separator))
+
+
+def script(path, text):
+    """Writes a program of the shell."""
+    path.write_text("#!/bin/sh\n" + text)
+    path.chmod(path.stat().st_mode | stat.S_IXUSR)
 
 
 class WithFolder(unittest.TestCase):

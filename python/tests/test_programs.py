@@ -1,23 +1,17 @@
 """Programs that are missing, that fail, or that say what isn't so."""
 import shutil
-import stat
 
 from mcf_plan.solve import Programs as Found
-from support import COMPARED, PLACES, ROUTES, WithFolder
+from support import COMPARED, PLACES, ROUTES, WithFolder, script
 
 
 class Programs(WithFolder):
     """Programs that are missing, that fail, or that say what isn't so."""
 
-    def script(self, name, text):
-        """Writes a program of the shell."""
-        path = self.put(name, "#!/bin/sh\n" + text)
-        path.chmod(path.stat().st_mode | stat.S_IXUSR)
-
     def judged(self, solver, checker):
         """What the tool does with these two programs."""
-        self.script("mcf", solver)
-        self.script("mcfcheck", checker)
+        script(self.folder / "mcf", solver)
+        script(self.folder / "mcfcheck", checker)
         status, said, told = self.flow(PLACES, ROUTES, "--programs", self.folder)
         self.assertEqual((status, said), (3, ""))
         self.assertEqual([path for path in COMPARED if (self.out / path).exists()], [])
@@ -43,15 +37,15 @@ class Programs(WithFolder):
         self.assertIn("accepted a blocked", self.judged("echo s 0", "echo accepted blocked 1"))
 
     def test_a_refused_total(self):
-        self.script("mcf", "echo r 8 total; exit 2")
-        self.script("mcfcheck", "echo accepted refusal 8 total")
+        script(self.folder / "mcf", "echo r 8 total; exit 2")
+        script(self.folder / "mcfcheck", "echo accepted refusal 8 total")
         status, _, told = self.flow(PLACES, ROUTES, "--programs", self.folder)
         self.assertEqual(status, 2)
         self.assertIn("routes.csv, line 4, column cost: with this route, costs times amounts add to more than mcf takes (mcf: total)", told)
 
     def test_a_wrong_answer_is_found_by_the_true_checker(self):
         shutil.copy(Found(None).checker, self.folder / "mcfcheck")
-        self.script("mcf", "echo s 171; echo f 1 2 15; echo f 1 3 15; echo f 3 2 2")
+        script(self.folder / "mcf", "echo s 171; echo f 1 2 15; echo f 1 3 15; echo f 3 2 2")
         status, said, told = self.flow(PLACES, ROUTES, "--programs", self.folder)
         self.assertEqual((status, said), (3, ""))
         self.assertIn("MCFCHECK SAYS NO: rejected node", told)

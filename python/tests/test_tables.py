@@ -82,5 +82,5 @@ class BadTables(WithFolder):
         places, routes = self.put("places.csv", PLACES), self.put("flows.csv", ROUTES)
         status, _, told = run("flow", places, routes, "-o", self.folder)
         self.assertEqual(status, 2)
-        self.assertIn("would be written over", told)
+        self.assertIn("has files that are no results", told)
         self.assertEqual(routes.read_text(), ROUTES)

@@ -1,0 +1,30 @@
+"""A sign of life on standard error, where it is a terminal."""
+import contextlib
+import sys
+import threading
+import time
+
+
+@contextlib.contextmanager
+def doing(what):
+    """While it is done, says what is done and for how many seconds, from the first second on."""
+    if not sys.stderr or not sys.stderr.isatty():
+        yield
+        return
+    done, begun = threading.Event(), time.monotonic()
+    teller = threading.Thread(target=tell, args=(what, done, begun), daemon=True)
+    teller.start()
+    try:
+        yield
+    finally:
+        done.set()
+        teller.join()
+
+
+def tell(what, done, begun):
+    """Says each second what is done, and takes it back at the end."""
+    while not done.wait(1):
+        sys.stderr.write(f"\rmcf_plan: {what} .. {time.monotonic() - begun:.0f} s\033[K")
+        sys.stderr.flush()
+    sys.stderr.write("\r\033[K")
+    sys.stderr.flush()
