@@ -2,7 +2,7 @@
 import math
 import re
 
-from .tables import shown
+from .faults import shown
 
 WHOLE = re.compile(r"[+-]?[0-9]{1,1000}")
 DECIMAL = re.compile(r"[+-]?[0-9]*[.,]([0-9]+)")
@@ -11,28 +11,28 @@ GROUPED = re.compile(r"[+-]?[0-9]{1,3}(?:[\s'’_.,][0-9]{3})+")
 
 
 def number_fault(cell, head):
-    """What is wrong with a cell that should be a whole number."""
+    """What is wrong with a cell that should be a whole number: its kind, and a text."""
     decimal = DECIMAL.fullmatch(cell)
     if not cell:
-        return "the number is empty; write 0 for none"
+        return "empty", "the number is empty; write 0 for none"
     if decimal:
         factor = 10 ** len(decimal[1])
         what = "every cost" if head == "cost" else "every supply, least and most, of both tables,"
         thousand = "; if a thousand is meant, write it without a mark" if GROUPED.fullmatch(cell) else ""
-        return (f"{shown(cell)} has decimals, and numbers are whole here: multiply {what} by {factor}; "
+        return "decimals", (f"{shown(cell)} has decimals, and numbers are whole here: multiply {what} by {factor}; "
                 f"the plan's cost is then {factor} times as great{thousand}")
     if EXPONENT.fullmatch(cell):
-        return f"{shown(cell)} is written with an exponent; write all its digits"
+        return "exponent", f"{shown(cell)} is written with an exponent; write all its digits"
     if GROUPED.fullmatch(cell):
-        return f"{shown(cell)} has marks or blanks between digits; write the digits alone"
-    return f"{shown(cell)} is no whole number"
+        return "marks", f"{shown(cell)} has marks or blanks between digits; write the digits alone"
+    return "no number", f"{shown(cell)} is no whole number"
 
 
 def whole_in(table, line, head, cell, faults):
     """The whole number that a cell has."""
     if WHOLE.fullmatch(cell):
         return int(cell)
-    faults.add(table, line, head, number_fault(cell, head))
+    faults.add(table, line, head, *number_fault(cell, head), cell)
     return 0
 
 
@@ -43,5 +43,5 @@ def coordinate_in(table, line, head, cell, faults):
     except ValueError:
         number = math.nan
     if not math.isfinite(number):
-        faults.add(table, line, head, f"{shown(cell)} is no number (either all places have x and y, or leave the columns out)")
+        faults.add(table, line, head, "no spot", f"{shown(cell)} is no number (either all places have x and y, or leave the columns out)", cell)
     return number

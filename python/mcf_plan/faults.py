@@ -1,7 +1,7 @@
-"""What ends a run without a plan, and the faults of tables."""
+"""What ends a run without a plan, and the faults of tables by their kinds."""
 
-# How many faults of tables are told at once.
-TOLD_FAULTS = 20
+# How many cells of one kind are named beside the first.
+TOLD_CELLS = 4
 
 
 class Stop(Exception):
@@ -26,18 +26,48 @@ def trouble(text):
     return Stop(text, 3)
 
 
+def shown(cell):
+    """A cell between quotes, short, with what can't be printed spelt out."""
+    cell = cell if len(cell) <= 40 else cell[:37] + "..."
+    return "'" + "".join(c if c.isprintable() else f"\\x{ord(c) & 0xFF:02x}" for c in cell) + "'"
+
+
+class Kind:
+    """The faults of one kind: the first, how many there are, and the cells and the lines of some more."""
+
+    def __init__(self, text):
+        self.text, self.count, self.more = text, 0, {}
+
+    def add(self, line, cell):
+        """Counts one."""
+        self.count += 1
+        if self.count > 1 and len(self.more) < TOLD_CELLS:
+            self.more.setdefault(cell, line)
+
+    def told(self):
+        """One line."""
+        if self.count == 1:
+            return self.text
+        cells = ", ".join(f"{shown(cell) + ' ' if cell else ''}in line {line}" for cell, line in self.more.items())
+        return f"{self.text} ({self.count} such cells; also {cells})"
+
+
 class Faults:
-    """The faults of tables, which are told together before anything is run."""
+    """The faults of tables, which are told together before anything is run: one line for each kind."""
 
     def __init__(self):
-        self.texts = []
+        self.kinds = {}
 
-    def add(self, table, line, column, text):
+    def add(self, table, line, column, kind, text, cell=""):
         """Notes what is wrong in a line and a column (a head, or a number from 1) of a table."""
-        self.texts.append(f"{table.name}, line {line}, column {column}: {text}")
+        key = table.name, kind, column if isinstance(column, str) else None
+        self.kinds.setdefault(key, Kind(f"{table.name}, line {line}, column {column}: {text}")).add(line, cell)
+
+    def has(self, table, kind):
+        """Whether there was such a fault in a table."""
+        return any(key[:2] == (table.name, kind) for key in self.kinds)
 
     def end(self):
         """Ends the run if there was a fault."""
-        if self.texts:
-            more = len(self.texts) - TOLD_FAULTS
-            raise bad_table("\n".join(self.texts[:TOLD_FAULTS] + ([f"and {more} more"] if more > 0 else [])))
+        if self.kinds:
+            raise bad_table("\n".join(kind.told() for kind in self.kinds.values()))

@@ -3,10 +3,10 @@ import collections
 import difflib
 
 from .amounts import coordinate_in, whole_in
-from .faults import TOLD_FAULTS, Faults
+from .faults import Faults, shown
 from .network import Arc, Network
 from .solve import Instance
-from .tables import Table, cell_at, key_of, name_in, once, shown
+from .tables import Table, cell_at, key_of, name_in, once
 
 PLACE_HEADS = ("name", "supply")
 ROUTE_HEADS = ("from", "to", "least", "most", "cost")
@@ -84,8 +84,8 @@ def end_of(table, line, head, cell, numbers, faults):
     name = name_in(table, line, head, cell, faults)
     number = numbers.get(key_of(name), 0)
     if name and not number:
-        near = difflib.get_close_matches(key_of(name), list(numbers)[:10_000], 1) if len(faults.texts) < TOLD_FAULTS else []
-        faults.add(table, line, head, f"there is no place {shown(name)}" + (f"; is {shown(near[0])} meant?" if near else ""))
+        near = [] if faults.has(table, "no place") else difflib.get_close_matches(key_of(name), list(numbers)[:10_000], 1)
+        faults.add(table, line, head, "no place", f"there is no place {shown(name)}" + (f"; is {shown(near[0])} meant?" if near else ""), name)
     return number
 
 

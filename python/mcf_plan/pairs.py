@@ -2,11 +2,11 @@
 import collections
 
 from .amounts import whole_in
-from .faults import Faults
+from .faults import Faults, shown
 from .folder import results_in
 from .network import Arc, Network, parts_of
 from .solve import Instance, Programs, blocking_set, check_set, solve
-from .tables import Table, cell_at, key_of, name_in, once, shown, write_table
+from .tables import Table, cell_at, key_of, name_in, once, write_table
 from .words import TOLD_NAMES, count_of, listed
 
 PAIR_HEADS = ("who", "what", "cost")

@@ -5,7 +5,7 @@ import pathlib
 import re
 import unicodedata
 
-from .faults import Faults, bad_table
+from .faults import Faults, bad_table, shown
 
 NO_TEXT, CONTROL = re.compile("[\udc80-\udcff]"), re.compile("[\x00-\x1f\x7f-\x9f]")
 csv.field_size_limit(1 << 30)
@@ -65,10 +65,10 @@ class Table:
         faults = Faults()
         for head in wanted:
             if self.heads.count(head) == 0:
-                faults.add(self, self.head_line, head,
+                faults.add(self, self.head_line, head, "no column",
                            f"there is no such column among {', '.join(map(shown, self.titles))} (split at {shown(self.separator)})")
             if self.heads.count(head) > 1:
-                faults.add(self, self.head_line, head, "there are two such columns")
+                faults.add(self, self.head_line, head, "two columns", "there are two such columns")
         faults.end()
         return [self.heads.index(head) for head in wanted]
 
@@ -81,7 +81,7 @@ class Table:
         for line, cells in self.rows:
             for place in range(len(self.titles), len(cells)):
                 if cells[place]:
-                    faults.add(self, line, place + 1, f"a cell beyond the last head: {shown(cells[place])}")
+                    faults.add(self, line, place + 1, "beyond", f"a cell beyond the last head: {shown(cells[place])}", cells[place])
 
     def unused(self, known):
         """A line on the columns that nobody looked at, where there are some."""
@@ -94,20 +94,14 @@ def cell_at(cells, place):
     return cells[place] if place < len(cells) else ""
 
 
-def shown(cell):
-    """A cell between quotes, short, with what can't be printed spelt out."""
-    cell = cell if len(cell) <= 40 else cell[:37] + "..."
-    return "'" + "".join(c if c.isprintable() else f"\\x{ord(c) & 0xFF:02x}" for c in cell) + "'"
-
-
 def name_in(table, line, head, cell, faults):
     """The name that a cell has: any text of one line that isn't empty."""
     if not cell:
-        faults.add(table, line, head, "the name is empty")
+        faults.add(table, line, head, "empty name", "the name is empty")
     elif NO_TEXT.search(cell):
-        faults.add(table, line, head, f"the name {shown(cell)} isn't in UTF-8; save the table as CSV in UTF-8")
+        faults.add(table, line, head, "encoding", f"the name {shown(cell)} isn't in UTF-8; save the table as CSV in UTF-8", cell)
     elif CONTROL.search(cell):
-        faults.add(table, line, head, f"the name {shown(cell)} has a line break or another control character")
+        faults.add(table, line, head, "control", f"the name {shown(cell)} has a line break or another control character", cell)
     return cell
 
 
@@ -119,7 +113,7 @@ def key_of(name):
 def once(table, line, head, key, text, seen, faults):
     """Notes a fault where the key was seen on an earlier line; else remembers it."""
     if key in seen:
-        faults.add(table, line, head, f"{text} stands on line {seen[key]} already")
+        faults.add(table, line, head, "twice", f"{text} stands on line {seen[key]} already", key if isinstance(key, str) else "")
     else:
         seen[key] = line
 
