@@ -1,47 +1,168 @@
-"""Numbers as tables have them."""
+"""Numbers as tables have them: whole or with decimals, after a point or a comma, with or without marks between thousands. All are exact."""
 import math
 import re
+from fractions import Fraction
 
 from .faults import shown
 
 WHOLE = re.compile(r"[+-]?[0-9]{1,1000}")
-DECIMAL = re.compile(r"[+-]?[0-9]*[.,]([0-9]+)")
+# A number with blanks or apostrophes between thousands.
+SPACED = re.compile(r"([+-]?[0-9]{1,3}(?:[ \u00a0\u2009\u202f'’_][0-9]{3})+)([.,][0-9]{1,1000})?")
+# One mark with three digits after it, which may stand between thousands or before decimals.
+EITHER = re.compile(r"[+-]?[1-9][0-9]{0,2}[.,][0-9]{3}")
+ONE_MARK = re.compile(r"[+-]?[0-9]*([.,])[0-9]+")
 EXPONENT = re.compile(r"[+-]?[0-9]+(?:[.,][0-9]*)?[eE][+-]?[0-9]+")
-GROUPED = re.compile(r"[+-]?[0-9]{1,3}(?:[\s'’_.,][0-9]{3})+")
+OTHER = {",": ".", ".": ","}
+NO_LIMIT = ("", "inf", "∞")
 
 
-def number_fault(cell, head):
-    """What is wrong with a cell that should be a whole number: its kind, and a text."""
-    decimal = DECIMAL.fullmatch(cell)
-    if not cell:
-        return "empty", "the number is empty; write 0 for none"
-    if decimal:
-        factor = 10 ** len(decimal[1])
-        what = "every cost" if head == "cost" else "every supply, least and most, of both tables,"
-        thousand = "; if a thousand is meant, write it without a mark" if GROUPED.fullmatch(cell) else ""
-        return "decimals", (f"{shown(cell)} has decimals, and numbers are whole here: multiply {what} by {factor}; "
-                f"the plan's cost is then {factor} times as great{thousand}")
-    if EXPONENT.fullmatch(cell):
-        return "exponent", f"{shown(cell)} is written with an exponent; write all its digits"
-    if GROUPED.fullmatch(cell):
-        return "marks", f"{shown(cell)} has marks or blanks between digits; write the digits alone"
-    return "no number", f"{shown(cell)} is no whole number"
+class Figure(str):
+    """A number as text, with a point before its decimals: from a workbook, or of a result."""
 
 
-def whole_in(table, line, head, cell, faults):
-    """The whole number that a cell has."""
-    if WHOLE.fullmatch(cell):
-        return int(cell)
-    faults.add(table, line, head, *number_fault(cell, head), cell)
-    return 0
+def without_blanks(cell):
+    """A number without the blanks between its thousands."""
+    return re.sub("[ \u00a0\u2009\u202f'’_]", "", cell) if SPACED.fullmatch(cell) else cell
+
+
+def mark_in(cell):
+    """The mark before decimals, if a cell settles it; blanks between thousands leave a mark no other meaning."""
+    if isinstance(cell, Figure) or WHOLE.fullmatch(cell):
+        return None
+    spaced = SPACED.fullmatch(cell)
+    if spaced:
+        return spaced[2][0] if spaced[2] else None
+    if EITHER.fullmatch(cell):
+        return None
+    found = ONE_MARK.fullmatch(cell)
+    if found:
+        return found[1]
+    for mark, other in OTHER.items():
+        if re.fullmatch(rf"[+-]?[0-9]{{1,3}}(?:\{other}[0-9]{{3}})+\{mark}[0-9]+|[+-]?[0-9]{{1,3}}(?:\{other}[0-9]{{3}}){{2,}}", cell):
+            return mark
+    return None
+
+
+def value_of(cell, mark):
+    """The value of a cell whose decimals stand after a mark; None where it is no such number."""
+    cell = without_blanks(cell)
+    other = OTHER[mark]
+    if not re.fullmatch(rf"[+-]?(?:[0-9]{{1,1000}}|[0-9]{{1,3}}(?:\{other}[0-9]{{3}})+|(?=\{mark}))(?:\{mark}[0-9]{{1,1000}})?", cell):
+        return None
+    whole, _, decimals = cell.replace(other, "").partition(mark)
+    value = Fraction(int(whole + decimals), 10 ** len(decimals))
+    return value.numerator if value.denominator == 1 else value
+
+
+class Numbers:
+    """How the numbers of some tables are written: which mark stands before decimals, as was said or as cells show."""
+
+    def __init__(self, mark=None):
+        self.mark, self.shown_by, self.settled = mark, {}, None
+
+    def look(self, table, columns):
+        """Looks which mark the cells of some columns show."""
+        for line, cells in table.rows:
+            for column in columns:
+                mark = mark_in(cells[column]) if column < len(cells) else None
+                if mark:
+                    self.shown_by.setdefault(mark, (table, line, cells[column]))
+
+    def settle(self, faults):
+        """Settles the mark, where cells show one and nothing else was said."""
+        if not self.mark and len(self.shown_by) == 2:
+            (table, line, cell), (other, other_line, other_cell) = self.shown_by.values()
+            faults.add(other, other_line, "", "both marks", f"decimals stand after a point and after a comma: {shown(cell)} ({table.name}, line {line}) and "
+                       f"{shown(other_cell)}; write them in one way, or say --decimal")
+        self.mark = self.mark or next(iter(self.shown_by), None)
+
+    def read(self, table, line, head, cell, faults):
+        """The number that a cell has."""
+        if WHOLE.fullmatch(cell):
+            return int(cell)
+        if not self.mark and EITHER.fullmatch(without_blanks(cell)):
+            faults.add(table, line, head, "either", f"{shown(cell)} may be {cell.replace(',', '').replace('.', '')} or a number with three decimals: "
+                       "say --decimal , or --decimal . (what stands before decimals)", cell)
+            return 0
+        value = value_of(cell, "." if isinstance(cell, Figure) else self.mark or ".")
+        if value is None:
+            faults.add(table, line, head, *self.fault(cell), cell)
+            return 0
+        if EITHER.fullmatch(cell) and not isinstance(cell, Figure) and not self.settled:
+            self.settled = f"{shown(cell)} ({table.name}, line {line}) is read as {value if value.__class__ is int else float(value)}"
+        return value
+
+    def fault(self, cell):
+        """What is wrong with a cell that should be a number: its kind, and a text."""
+        if not cell:
+            return "empty", "the number is empty; write 0 for none"
+        if EXPONENT.fullmatch(cell):
+            return "exponent", f"{shown(cell)} is written with an exponent; write all its digits"
+        mark = self.mark or "."
+        if value_of(cell, OTHER[mark]) is not None and mark in self.shown_by:
+            table, line, other = self.shown_by[mark]
+            return "other mark", f"{shown(cell)} isn't written as other numbers are, such as {shown(other)} ({table.name}, line {line})"
+        if value_of(cell, OTHER[mark]) is not None:
+            return "other mark", f"{shown(cell)} isn't written with {shown(mark)} before decimals, as --decimal says"
+        return "no number", f"{shown(cell)} is no number"
+
+    def told(self):
+        """A line on how a number was read that could be read otherwise, where there is one."""
+        if not self.settled:
+            return []
+        if self.mark not in self.shown_by:
+            return [f"{self.settled}, as --decimal says."]
+        table, line, cell = self.shown_by[self.mark]
+        return [f"{self.settled}, since {shown(cell)} ({table.name}, line {line}) has decimals after {shown(self.mark)}."]
 
 
 def coordinate_in(table, line, head, cell, faults):
     """Where a place stands: a number that may have decimals."""
     try:
-        number = float(cell)
+        number = float(cell if "." in cell else cell.replace(",", "."))
     except ValueError:
         number = math.nan
     if not math.isfinite(number):
         faults.add(table, line, head, "no spot", f"{shown(cell)} is no number (either all places have x and y, or leave the columns out)", cell)
     return number
+
+
+def scale_of(values):
+    """The least power of ten that makes whole numbers of all of them."""
+    scale = 1
+    for denominator in {value.denominator for value in values}:
+        while scale % denominator:
+            scale *= 10
+    return scale
+
+
+def decimal_text(number, scale):
+    """A number of parts of a unit, in units: without zeros at its end."""
+    if scale == 1:
+        return Figure(number)
+    whole, part = divmod(abs(number), scale)
+    decimals = str(part).zfill(len(str(scale)) - 1).rstrip("0")
+    return Figure(("-" if number < 0 else "") + str(whole) + ("." + decimals if decimals else ""))
+
+
+class Units:
+    """What whole numbers of an instance are in the units of the tables. Costs may be told with another sign than they have there."""
+
+    def __init__(self, amounts=1, costs=1, sign=1):
+        self.amounts, self.costs, self.sign = amounts, costs, sign
+
+    def amount(self, number):
+        """An amount, as text; no limit is empty."""
+        return "" if number is None else decimal_text(number, self.amounts)
+
+    def rate(self, number):
+        """A cost of one unit, as text."""
+        return decimal_text(self.sign * number, self.costs)
+
+    def total(self, number):
+        """A cost of amounts, as text."""
+        return decimal_text(self.sign * number, self.amounts * self.costs)
+
+    def comment(self):
+        """The comment of the instance."""
+        return f"c amounts here are {self.amounts} times those of the tables, costs of a unit {self.sign * self.costs} times"

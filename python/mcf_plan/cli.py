@@ -8,8 +8,11 @@ from . import life, pairs, picture, report
 from .faults import Stop, trouble
 from .folder import results_in
 from .model import Problem
+from .results import Results
 from .solve import Programs, bottlenecks_of, solve
+from .tables import Reading
 
+HEADS = ("name", "supply", "x", "y", "from", "to", "least", "most", "cost", "who", "what")
 STATUSES = "Status 0: a plan, accepted. 1: no plan exists, accepted. 2: a bad table or a wrong call. 3: anything else. 130: interrupted."
 
 
@@ -26,42 +29,66 @@ def options_of(words):
     parser = Parser(prog="mcf_plan", description="Plans from tables, as mcf solves them and mcfcheck accepts them.", epilog=STATUSES)
     commands = parser.add_subparsers(dest="command", metavar="flow|pairs")
     flow = commands.add_parser("flow", help="the least-cost flow over routes between places")
-    flow.add_argument("places", metavar="PLACES", help="a table with the columns name and supply, perhaps x and y")
-    flow.add_argument("routes", metavar="ROUTES", help="a table with the columns from, to, least, most and cost")
+    flow.add_argument("tables", metavar="PLACES [ROUTES]", nargs="+", help="a table with the columns name and supply, perhaps x and y; and one with the "
+                      "columns from, to, most and cost, perhaps least; or a workbook with both as sheets")
     paired = commands.add_parser("pairs", help="the least-cost pairs of persons and things")
     paired.add_argument("costs", metavar="COSTS", help="a table with the columns who, what and cost, or a matrix of persons by things")
     for command, act in ((flow, flow_command), (paired, pairs.pairs_command)):
         command.add_argument("-o", "--output", dest="folder", metavar="FOLDER", required=True, help="where the results are written")
         command.add_argument("--programs", metavar="FOLDER", help="where mcf and mcfcheck are, if not beside this tool, in bin/ or on the path")
+        add_reading(command)
         command.set_defaults(act=act)
     flow.add_argument("--no-picture", action="store_true", help="draw no picture")
     options = parser.parse_args(words)
     if not options.command:
         parser.error("say what is planned: flow or pairs")
+    if options.command == "flow" and len(options.tables) > 2:
+        parser.error("flow takes two tables, or a workbook")
+    if options.xlsx:
+        Results.check("--xlsx")
     return options
 
 
-def flow_command(options):
+def add_reading(command):
+    """Adds the options on how tables are read and written."""
+    command.add_argument("--decimal", choices=(",", "."), help="what stands before decimals, where the tables don't show it")
+    command.add_argument("--encoding", help="the encoding of the tables, such as windows-1252, if it isn't UTF-8")
+    command.add_argument("--map", action="append", default=[], metavar="HEAD=NAME", help="the column that is wanted as HEAD is called NAME in the tables")
+    command.add_argument("--xlsx", action="store_true", help="write the tables as a workbook, too, as is done where a workbook was read")
+    command.add_argument("--guard-formulas", action="store_true", help="write ' before cells that a spreadsheet would take for a formula")
+
+
+def reading_of(options):
+    """How tables are read."""
+    wrong = [word for word in options.map if word.split("=")[0] not in HEADS or "=" not in word]
+    if wrong:
+        raise Stop(f"--map {wrong[0]}: say --map HEAD=NAME, where HEAD is one of {', '.join(HEADS)}", 2)
+    return Reading(options.decimal, options.encoding, dict(word.split("=", 1) for word in options.map))
+
+
+def flow_command(options, reading):
     """Does `flow`: gives the lines of the summary and the status."""
     with life.doing("reads the tables"):
-        problem = Problem.read(options.places, options.routes)
+        problem = Problem.read(options.tables, reading)
     programs, bottlenecks = Programs(options.programs), []
     with results_in(options.folder) as folder:
+        results = Results(folder, options, problem.numbers.mark, [problem.place_table, problem.route_table])
         plan = solve(programs, folder, problem.instance())
         if plan:
             groups = report.groups_of(problem, plan)
-            report.write_flows(folder / "flows.csv", problem, plan, groups)
-            report.write_prices(folder / "prices.csv", problem, plan, groups)
+            report.write_flows(results, problem, plan, groups)
+            report.write_prices(results, problem, plan, groups)
             lines = report.flow_summary(problem, plan, groups)
         else:
             bottlenecks = bottlenecks_of(programs, folder / "instance.min", problem.network())
-            report.write_bottlenecks(folder / "bottleneck.csv", problem, bottlenecks)
+            report.write_bottlenecks(results, problem, bottlenecks)
             lines = report.blocked_summary(problem, bottlenecks)
+        results.finish()
         if not options.no_picture:
             with life.doing("draws the picture"):
                 drawn = picture.svg_of(picture.scene_of(problem, plan, bottlenecks))
             (folder / "plan.svg").write_text(drawn, encoding="utf-8")
-    return lines + problem.unused(), 0 if plan else 1
+    return lines + problem.numbers.told(), 0 if plan else 1
 
 
 def prepare():
@@ -106,7 +133,7 @@ def main(words):
     try:
         prepare()
         options = options_of(words)
-        lines, status = options.act(options)
+        lines, status = options.act(options, reading_of(options))
         said(lines)
         return status
     except Stop as stop:

@@ -59,9 +59,10 @@ class Faults:
         self.kinds = {}
 
     def add(self, table, line, column, kind, text, cell=""):
-        """Notes what is wrong in a line and a column (a head, or a number from 1) of a table."""
+        """Notes what is wrong in a line of a table and a column, if it is one (a head, or a number from 1)."""
         key = table.name, kind, column if isinstance(column, str) else None
-        self.kinds.setdefault(key, Kind(f"{table.name}, line {line}, column {column}: {text}")).add(line, cell)
+        where = f"{table.name}, line {line}" + (f", column {column}" if column else "")
+        self.kinds.setdefault(key, Kind(f"{where}: {text}")).add(line, cell)
 
     def has(self, table, kind):
         """Whether there was such a fault in a table."""

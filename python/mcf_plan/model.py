@@ -2,48 +2,73 @@
 import collections
 import difflib
 
-from .amounts import coordinate_in, whole_in
+from .amounts import NO_LIMIT, Numbers, Units, coordinate_in, scale_of
 from .faults import Faults, shown
 from .network import Arc, Network
 from .solve import Instance
-from .tables import Table, cell_at, key_of, name_in, once
+from .tables import cell_at, key_of, name_in, once
+from .workbook import tables_of
 
 PLACE_HEADS = ("name", "supply")
-ROUTE_HEADS = ("from", "to", "least", "most", "cost")
+ROUTE_HEADS = ("from", "to", "most", "cost")
 SPOT_HEADS = ("x", "y")
 
-# A place, or a route between two places by their numbers from 1, with the line of its table.
-Place = collections.namedtuple("Place", "name supply line spot")
-Route = collections.namedtuple("Route", "tail head least most cost line")
+# A place, or a route between two places by their numbers from 1, with the line and the cells of its table. A most of None is no limit.
+Place = collections.namedtuple("Place", "name supply spot line cells")
+Route = collections.namedtuple("Route", "tail head least most cost line cells")
 
 
 class Problem:
-    """The places and the routes of two tables."""
+    """The places and the routes of two tables, in whole numbers; `units` says what these are in the tables."""
 
-    def __init__(self, place_table, route_table, places, routes):
-        self.place_table, self.route_table, self.places, self.routes = place_table, route_table, places, routes
+    def __init__(self, tables, places, routes, numbers):
+        self.place_table, self.route_table = tables
+        self.numbers = numbers
+        amounts = [place.supply for place in places] + [route.least for route in routes] + [route.most for route in routes if route.most is not None]
+        self.units = Units(scale_of(amounts), scale_of([route.cost for route in routes]))
+        self.places = [place._replace(supply=self.whole(place.supply)) for place in places]
+        self.routes = [route._replace(least=self.whole(route.least), most=self.whole(route.most), cost=int(route.cost * self.units.costs))
+                       for route in routes]
 
     @classmethod
-    def read(cls, places_path, routes_path):
-        """The problem of two files."""
-        faults = Faults()
-        place_table, route_table = Table(places_path, PLACE_HEADS), Table(routes_path, ROUTE_HEADS)
-        place_table.check_widths(faults)
-        route_table.check_widths(faults)
-        places = places_of(place_table, faults)
-        routes = routes_of(route_table, places, faults)
+    def read(cls, paths, reading):
+        """The problem of two files, or of a workbook with two sheets."""
+        faults, numbers = Faults(), Numbers(reading.decimal)
+        tables = tables_of(paths, (PLACE_HEADS, ROUTE_HEADS), reading, faults)
+        check_heads(*tables)
+        for table, heads in zip(tables, (("supply",), ("least", "most", "cost"))):
+            table.check_widths(faults)
+            numbers.look(table, [place for place in map(table.perhaps, heads) if place is not None])
+        numbers.settle(faults)
+        places = places_of(tables[0], numbers, faults)
+        routes = routes_of(tables[1], places, numbers, faults)
+        check_limits(tables[1], routes, faults)
         faults.end()
-        return cls(place_table, route_table, places, routes)
+        return cls(tables, places, routes, numbers)
+
+    def whole(self, amount):
+        """An amount in whole numbers."""
+        return None if amount is None else int(amount * self.units.amounts)
+
+    def reach(self):
+        """What no route without a limit carries beyond its least, in some plan that costs least where no cost is below 0.
+
+        Beyond the leasts such a plan has no round trip, so each route carries a part of what all places and leasts send on.
+        """
+        return 1 + sum(max(0, place.supply) for place in self.places) + sum(abs(route.least) for route in self.routes)
 
     def network(self):
         """The network: node k is the k-th place, arc k the k-th route."""
-        return Network([place.supply for place in self.places], [Arc(*route[:5]) for route in self.routes])
+        reach = self.reach()
+        return Network([place.supply for place in self.places],
+                       [Arc(route.tail, route.head, route.least, route.least + reach if route.most is None else route.most, route.cost)
+                        for route in self.routes])
 
     def instance(self):
         """The network as text, with where its lines come from."""
         made = Instance("min")
         places, routes = self.place_table, self.route_table
-        made.add(["c node k is the k-th place, arc k the k-th route"])
+        made.add(["c node k is the k-th place, arc k the k-th route", self.units.comment()])
         made.add(self.network().lines(), [(routes, routes.head_line, {"size": "from"})] +
                  [(places, place.line, {"supply": "supply"}) for place in self.places] +
                  [(routes, route.line, columns_of(route)) for route in self.routes])
@@ -53,18 +78,22 @@ class Problem:
         """The names of a route's ends."""
         return self.places[route.tail - 1].name, self.places[route.head - 1].name
 
-    def unused(self):
-        """Lines on the columns that nobody looked at."""
-        return self.place_table.unused(PLACE_HEADS + SPOT_HEADS) + self.route_table.unused(ROUTE_HEADS)
-
 
 def columns_of(route):
     """The columns of a route that the words of a refusal mean."""
-    farther = "least" if abs(route.least) > abs(route.most) else "most"
+    farther = "least" if route.most is not None and abs(route.least) > abs(route.most) else "most"
     return {"bound": farther, "order": "least", "cost": "cost", "total": "cost"}
 
 
-def places_of(table, faults):
+def check_heads(place_table, route_table):
+    """Ends the run where heads are missing; tables that were exchanged are told."""
+    if route_table.has(PLACE_HEADS) and place_table.has(ROUTE_HEADS[:2]):
+        place_table.columns(PLACE_HEADS, "this looks like the table of routes, which comes second; of places wanted are")
+    place_table.columns(PLACE_HEADS)
+    route_table.columns(ROUTE_HEADS)
+
+
+def places_of(table, numbers, faults):
     """The places of a table."""
     name_column, supply_column = table.columns(PLACE_HEADS)
     spots = table.columns(SPOT_HEADS) if table.has(SPOT_HEADS) else None
@@ -73,9 +102,9 @@ def places_of(table, faults):
         name = name_in(table, line, "name", cell_at(cells, name_column), faults)
         if name:
             once(table, line, "name", key_of(name), f"a place {shown(name)}", seen, faults)
-        supply = whole_in(table, line, "supply", cell_at(cells, supply_column), faults)
+        supply = numbers.read(table, line, "supply", cell_at(cells, supply_column), faults)
         spot = tuple(coordinate_in(table, line, head, cell_at(cells, column), faults) for head, column in zip(SPOT_HEADS, spots)) if spots else None
-        found.append(Place(name, supply, line, spot))
+        found.append(Place(name, supply, spot, line, cells))
     return found
 
 
@@ -84,18 +113,35 @@ def end_of(table, line, head, cell, numbers, faults):
     name = name_in(table, line, head, cell, faults)
     number = numbers.get(key_of(name), 0)
     if name and not number:
-        near = [] if faults.has(table, "no place") else difflib.get_close_matches(key_of(name), list(numbers)[:10_000], 1)
+        near = [] if faults.has(table, "no place") else near_to(key_of(name), list(numbers))
         faults.add(table, line, head, "no place", f"there is no place {shown(name)}" + (f"; is {shown(near[0])} meant?" if near else ""), name)
     return number
 
 
-def routes_of(table, places, faults):
+def near_to(name, names):
+    """The names, of some thousands, that are nearly a name."""
+    return ([other for other in names if other.casefold() == name.casefold()] or difflib.get_close_matches(name, names[:10_000], 1))
+
+
+def routes_of(table, places, numbers, faults):
     """The routes of a table, between places."""
-    columns = dict(zip(ROUTE_HEADS, table.columns(ROUTE_HEADS)))
-    numbers = {key_of(place.name): number for number, place in enumerate(places, 1)}
+    tails, heads, mosts, costs = table.columns(ROUTE_HEADS)
+    leasts = table.perhaps("least")
+    known = {key_of(place.name): number for number, place in enumerate(places, 1)}
     found = []
     for line, cells in table.rows:
-        ends = [end_of(table, line, head, cell_at(cells, columns[head]), numbers, faults) for head in ROUTE_HEADS[:2]]
-        amounts = [whole_in(table, line, head, cell_at(cells, columns[head]), faults) for head in ROUTE_HEADS[2:]]
-        found.append(Route(*ends, *amounts, line))
+        ends = [end_of(table, line, head, cell_at(cells, column), known, faults) for head, column in (("from", tails), ("to", heads))]
+        least, most = cell_at(cells, leasts), cell_at(cells, mosts)
+        found.append(Route(*ends, numbers.read(table, line, "least", least, faults) if least else 0,
+                           None if most.casefold() in NO_LIMIT else numbers.read(table, line, "most", most, faults),
+                           numbers.read(table, line, "cost", cell_at(cells, costs), faults), line, cells))
     return found
+
+
+def check_limits(table, routes, faults):
+    """Notes routes without a limit where a cost is below 0: a round trip could earn without end."""
+    below = next((route for route in routes if route.cost < 0), None)
+    for route in routes if below else []:
+        if route.most is None:
+            faults.add(table, route.line, "most", "no limit", f"this is empty, so without a limit, and a cost is below 0 (line {below.line}): a round trip "
+                       "could earn without end; give a most")

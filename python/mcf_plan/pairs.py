@@ -1,17 +1,21 @@
 """Pairs of persons and things, and who competes."""
 import collections
 
-from .amounts import whole_in
+from .amounts import Figure, Numbers, Units, scale_of
 from .faults import Faults, shown
 from .folder import results_in
 from .network import Arc, Network, parts_of
+from .results import Results
 from .solve import Instance, Programs, blocking_set, check_set, solve
-from .tables import Table, cell_at, key_of, name_in, once, write_table
+from .tables import cell_at, key_of, name_in, once
+from .workbook import tables_of
 from .words import TOLD_NAMES, count_of, listed
 
 PAIR_HEADS = ("who", "what", "cost")
-# A person and a thing by their numbers from 1, with the line and the column of the cost.
-Pair = collections.namedtuple("Pair", "who what cost line column")
+# What stands in place of a cost where a pair is forbidden.
+FORBIDDEN = ("", "x", "-", "–", "—")
+# A person and a thing by their numbers from 1, with the line and the column of the cost and the cells of the line.
+Pair = collections.namedtuple("Pair", "who what cost line column cells")
 
 
 class Sides:
@@ -42,18 +46,21 @@ class Sides:
         return self.number(name, self.things, self.thing_numbers)
 
 
-def listed_pairs(table, faults):
+def listed_pairs(table, numbers, faults):
     """The pairs of a table with the columns who, what and cost."""
     columns = table.columns(PAIR_HEADS)
+    numbers.look(table, columns[2:])
+    numbers.settle(faults)
     sides, pairs, seen = Sides(), [], {}
     for line, cells in table.rows:
         who, what, cost = (cell_at(cells, column) for column in columns)
         name_in(table, line, "who", who, faults)
         name_in(table, line, "what", what, faults)
-        pair = Pair(sides.person(who), sides.thing(what), whole_in(table, line, "cost", cost, faults), line, "cost")
+        ends = sides.person(who), sides.thing(what)
         if who and what:
-            once(table, line, "what", pair[:2], f"the pair of {shown(who)} and {shown(what)}", seen, faults)
-        pairs.append(pair)
+            once(table, line, "what", ends, f"the pair of {shown(who)} and {shown(what)}", seen, faults)
+        if cost.casefold() not in FORBIDDEN:
+            pairs.append(Pair(*ends, numbers.read(table, line, "cost", cost, faults), line, "cost", cells))
     return sides, pairs
 
 
@@ -68,28 +75,30 @@ def matrix_things(table, sides, faults):
     return found
 
 
-def matrix_pairs(table, faults):
-    """The pairs of a matrix: a person each row, a thing each column; an empty cell is no pair."""
+def matrix_pairs(table, numbers, faults):
+    """The pairs of a matrix: a person each row, a thing each column."""
     sides, pairs, seen = Sides(), [], {}
     things = matrix_things(table, sides, faults)
+    numbers.look(table, [place for place, _ in things])
+    numbers.settle(faults)
     for line, cells in table.rows:
         name = name_in(table, line, 1, cells[0], faults)
         once(table, line, 1, key_of(name), f"a person {shown(name)}", seen, faults)
         who = sides.person(name)
         for place, what in things:
-            if cell_at(cells, place):
-                pairs.append(Pair(who, what, whole_in(table, line, place + 1, cells[place], faults), line, place + 1))
+            if cell_at(cells, place).casefold() not in FORBIDDEN:
+                pairs.append(Pair(who, what, numbers.read(table, line, place + 1, cells[place], faults), line, place + 1, None))
     return sides, pairs
 
 
-def pairs_instance(sides, pairs, table):
+def pairs_instance(sides, pairs, table, units):
     """The instance of persons, things and pairs: the k-th arc is the k-th pair.
 
     It is an assignment where there are as many persons as things. Else things may be left over: each sends on what it gets to one node more, which takes
     one unit for each person.
     """
     instance, network = Instance("asn" if sides.are_even() else "min"), pairs_network(sides, pairs)
-    instance.add(["c nodes are the persons, then the things; the k-th arc is the k-th pair"])
+    instance.add(["c nodes are the persons, then the things; the k-th arc is the k-th pair", units.comment()])
     arcs = [(table, pair.line, {"cost": pair.column}) for pair in pairs]
     size = [(table, table.head_line, {"size": 1})]
     if sides.are_even():
@@ -137,42 +146,53 @@ def competing_sentence(group, things, sides):
     return f"{len(group)} persons compete for {count_of(len(goods), 'thing', 'things')}: {names} can only get {listed(goods)}."
 
 
-def write_groups(path, table, groups, sides):
+def write_groups(results, table, groups, sides):
     """Writes bottleneck.csv: the persons of each group and the things for which they compete."""
     rows = []
     for count, (group, things) in enumerate(groups, 1):
-        rows += [[count, "person", sides.persons[person - 1]] for person in group]
-        rows += [[count, "thing", sides.things[thing - len(sides.persons) - 1]] for thing in things]
-    write_table(path, table, ["bottleneck", "kind", "name"], rows)
+        rows += [[Figure(count), "person", sides.persons[person - 1]] for person in group]
+        rows += [[Figure(count), "thing", sides.things[thing - len(sides.persons) - 1]] for thing in things]
+    results.table("bottleneck", table, ["bottleneck", "kind", "name"], rows)
 
 
-def pairs_summary(sides, chosen, plan):
+def write_pairs(results, table, chosen, sides, units):
+    """Writes pairs.csv: of a list the lines of the pairs, by the persons."""
+    if table.has(PAIR_HEADS):
+        results.table("pairs", table, table.titles, [pair.cells for pair in chosen])
+    else:
+        results.table("pairs", table, PAIR_HEADS, [[sides.persons[pair.who - 1], sides.things[pair.what - 1], units.rate(pair.cost)] for pair in chosen])
+
+
+def pairs_summary(sides, chosen, plan, units):
     """What a person wants to know of pairs first."""
     taken = {pair.what for pair in chosen}
     left = [thing for number, thing in enumerate(sides.things, 1) if number not in taken]
-    lines = [f"Least-cost pairs, written by mcf and accepted by mcfcheck: cost {plan.cost}.",
+    lines = [f"Least-cost pairs, written by mcf and accepted by mcfcheck: cost {units.total(plan.cost)}.",
              f"{count_of(len(sides.persons), 'person', 'persons')}, {count_of(len(sides.things), 'thing', 'things')}: each person gets one."]
     return lines + ([f"Left over: {listed(left)}."] if left else [])
 
 
-def pairs_command(options):
+def pairs_command(options, reading):
     """Does `pairs`: gives the lines of the summary and the status."""
-    faults = Faults()
-    table = Table(options.costs, PAIR_HEADS)
+    faults, numbers = Faults(), Numbers(reading.decimal)
+    table, = tables_of([options.costs], [PAIR_HEADS], reading, faults)
     table.check_widths(faults)
-    is_list = table.has(PAIR_HEADS)
-    sides, pairs = listed_pairs(table, faults) if is_list else matrix_pairs(table, faults)
+    sides, pairs = (listed_pairs if table.has(PAIR_HEADS) else matrix_pairs)(table, numbers, faults)
     faults.end()
-    programs, instance = Programs(options.programs), pairs_instance(sides, pairs, table)
-    unused = table.unused(PAIR_HEADS) if is_list else []
+    units = Units(1, scale_of([pair.cost for pair in pairs]))
+    pairs = [pair._replace(cost=int(pair.cost * units.costs)) for pair in pairs]
+    programs, instance = Programs(options.programs), pairs_instance(sides, pairs, table, units)
     with results_in(options.folder) as folder:
+        results = Results(folder, options, numbers.mark, [table])
         plan = solve(programs, folder, instance)
         if plan:
-            chosen = sorted(pair for pair, flow in zip(pairs, plan.flows) if flow)
-            rows = [[sides.persons[pair.who - 1], sides.things[pair.what - 1], pair.cost] for pair in chosen]
-            write_table(folder / "pairs.csv", table, PAIR_HEADS, rows)
-            return pairs_summary(sides, chosen, plan) + unused, 0
-        groups = competing(programs, folder / f"instance.{instance.suffix}", sides, pairs)
-        write_groups(folder / "bottleneck.csv", table, groups, sides)
-    sentences = ["  " + competing_sentence(group, things, sides) for group, things in groups[:TOLD_NAMES]]
-    return ["No such pairs exist, as mcf found and mcfcheck accepted:"] + sentences + unused, 1
+            chosen = sorted((pair for pair, flow in zip(pairs, plan.flows) if flow), key=lambda pair: pair[:2])
+            write_pairs(results, table, chosen, sides, units)
+            lines = pairs_summary(sides, chosen, plan, units)
+        else:
+            groups = competing(programs, folder / f"instance.{instance.suffix}", sides, pairs)
+            write_groups(results, table, groups, sides)
+            lines = ["No such pairs exist, as mcf found and mcfcheck accepted:"]
+            lines += ["  " + competing_sentence(group, things, sides) for group, things in groups[:TOLD_NAMES]]
+        results.finish()
+    return lines + numbers.told(), 0 if plan else 1

@@ -25,13 +25,13 @@ Scene = collections.namedtuple("Scene", "heading nodes links groups notes")
 
 def scene_of(problem, plan, bottlenecks):
     """What is drawn of a plan, or of what blocks one."""
-    nodes = [Node(place.name, supply_text(place), kind_of(place), place.spot) for place in problem.places]
+    nodes = [Node(place.name, supply_text(problem, place), kind_of(place), place.spot) for place in problem.places]
     links = plan_links(problem, plan) if plan else blocked_links(problem, bottlenecks)
     if plan:
         left_out = len(problem.routes) - len(links)
-        heading = f"A least-cost plan: cost {plan.cost}" + (f" ({left_out} idle routes aren't drawn)" if left_out else "")
+        heading = f"A least-cost plan: cost {problem.units.total(plan.cost)}" + (f" ({left_out} idle routes aren't drawn)" if left_out else "")
         widest = max(map(abs, plan.flows), default=0)
-        return Scene(heading, nodes, links, [], {"flowing": f"as wide as it carries (widest {widest})", "full": "full"})
+        return Scene(heading, nodes, links, [], {"flowing": f"as wide as it carries (widest {problem.units.amount(widest)})", "full": "full"})
     if sum(place.supply for place in problem.places):
         return Scene("No plan exists: supply and demand aren't equal", nodes, links, [], {})
     groups = [{node - 1 for node in bottleneck.nodes} for bottleneck in bottlenecks]
@@ -43,9 +43,16 @@ def kind_of(place):
     return "sends" if place.supply > 0 else "takes" if place.supply < 0 else "passes"
 
 
-def supply_text(place):
+def supply_text(problem, place):
     """What a place sends or takes."""
-    return f"sends {place.supply}" if place.supply > 0 else f"takes {-place.supply}" if place.supply else ""
+    amount = problem.units.amount(abs(place.supply))
+    return f"sends {amount}" if place.supply > 0 else f"takes {amount}" if place.supply else ""
+
+
+def limits_text(problem, route):
+    """What a route carries at least and at most."""
+    least, most = problem.units.amount(route.least), problem.units.amount(route.most)
+    return f"{least} to {most}" if most else f"{least} or more"
 
 
 def plan_links(problem, plan):
@@ -54,9 +61,10 @@ def plan_links(problem, plan):
     for route, flow in zip(problem.routes, plan.flows):
         if len(problem.routes) <= ALL_ROUTES or flow or route.most == 0:
             kind = "full" if flow and flow == route.most else "flowing" if flow else "idle"
-            title = f"{' -> '.join(problem.ends(route))}: {flow} of {route.least} to {route.most}, cost {route.cost * flow}"
+            carries = problem.units.amount(flow)
+            title = f"{' -> '.join(problem.ends(route))}: {carries} of {limits_text(problem, route)}, cost {problem.units.total(route.cost * flow)}"
             width = 1.4 + 7.6 * abs(flow) / widest if flow else 1
-            found.append(Link(route.tail - 1, route.head - 1, width, kind, str(flow) if flow else "", title))
+            found.append(Link(route.tail - 1, route.head - 1, width, kind, carries if flow else "", title))
     return found
 
 
@@ -67,8 +75,8 @@ def blocked_links(problem, bottlenecks):
     found = []
     for number, route in enumerate(problem.routes):
         kind = "limits" if number in limiting else "forces" if number in forcing else "other"
-        label = f"≤ {route.most}" if kind == "limits" else f"≥ {route.least}" if kind == "forces" else ""
-        title = f"{' -> '.join(problem.ends(route))}: {route.least} to {route.most}"
+        label = f"≤ {problem.units.amount(route.most)}" if kind == "limits" else f"≥ {problem.units.amount(route.least)}" if kind == "forces" else ""
+        title = f"{' -> '.join(problem.ends(route))}: {limits_text(problem, route)}"
         found.append(Link(route.tail - 1, route.head - 1, 1.2 if kind == "other" else 2.6, kind, label, title))
     return found
 

@@ -1,6 +1,6 @@
 """What is written and said of a flow: tables, and a summary."""
+from .amounts import Figure
 from .network import parts_of
-from .tables import write_table
 from .words import TOLD_NAMES, count_of, listed
 
 
@@ -14,7 +14,7 @@ def groups_of(problem, plan):
 
     Such routes carry amounts between their least and their most; their reduced cost is 0. So within a group the figures for one unit are exact.
     """
-    loose = [(route.tail, route.head) for route, flow in zip(problem.routes, plan.flows) if route.least < flow < route.most]
+    loose = [(route.tail, route.head) for route, flow in zip(problem.routes, plan.flows) if route.least < flow and (route.most is None or flow < route.most)]
     parts = parts_of(range(1, len(problem.places) + 1), loose)
     return {node: count for count, part in enumerate(parts, 1) for node in part}
 
@@ -29,42 +29,45 @@ def is_exact(route, prices, groups):
     return room_saves(route, prices) == 0 or groups[route.tail] == groups[route.head]
 
 
-def write_flows(path, problem, plan, groups):
-    """Writes flows.csv: the routes in their order."""
-    rows = []
+def write_flows(results, problem, plan, groups):
+    """Writes flows.csv: the routes in their order, with the columns that they had."""
+    units, rows = problem.units, []
     for route, flow in zip(problem.routes, plan.flows):
-        full, exact = ("yes" if holds else "no" for holds in (flow == route.most, is_exact(route, plan.prices, groups)))
-        rows.append([*problem.ends(route), flow, route.cost * flow, full, room_saves(route, plan.prices), exact])
-    write_table(path, problem.route_table, ["from", "to", "carries", "cost", "full", "one_more_saves", "exact"], rows)
+        free = None if route.most is None else route.most - flow
+        exact = "yes" if is_exact(route, plan.prices, groups) else "no"
+        rows.append((route.cells, [units.amount(flow), units.total(route.cost * flow), units.amount(free), units.rate(room_saves(route, plan.prices)), exact]))
+    results.after("flows", problem.route_table, ["carries", "total", "free", "one_more_saves", "exact"], rows)
 
 
-def write_prices(path, problem, plan, groups):
-    """Writes prices.csv: the places in their order. What a unit costs at a place is minus its price."""
-    rows = [[place.name, place.supply, -price, groups[number]] for number, (place, price) in enumerate(zip(problem.places, plan.prices), 1)]
-    write_table(path, problem.place_table, ["name", "supply", "one_more_costs", "group"], rows)
+def write_prices(results, problem, plan, groups):
+    """Writes prices.csv: the places in their order, with the columns that they had. What a unit costs at a place is minus its price."""
+    rows = [(place.cells, [problem.units.rate(-price), Figure(groups[number])])
+            for number, (place, price) in enumerate(zip(problem.places, plan.prices), 1)]
+    results.after("prices", problem.place_table, ["one_more_costs", "group"], rows)
 
 
-def write_bottlenecks(path, problem, bottlenecks):
+def write_bottlenecks(results, problem, bottlenecks):
     """Writes bottleneck.csv: of each bottleneck the column must adds up to what must be sent (or taken), the column can to what can be."""
-    rows = []
+    amount, rows = problem.units.amount, []
     for count, bottleneck in enumerate(bottlenecks, 1):
         sign = 1 if bottleneck.side == "send" else -1
         for node in bottleneck.nodes:
             place = problem.places[node - 1]
-            rows.append([count, bottleneck.side, "place", place.name, "", "", sign * place.supply, ""])
+            rows.append([Figure(count), bottleneck.side, "place", place.name, "", "", amount(sign * place.supply), ""])
         for routes, is_least in ((bottleneck.forcing, True), (bottleneck.limiting, False)):
             for route in (problem.routes[k] for k in routes):
-                amounts = [route.least, ""] if is_least else ["", route.most]
-                rows.append([count, bottleneck.side, "route", "", *problem.ends(route), *amounts])
-    write_table(path, problem.route_table, ["bottleneck", "side", "kind", "name", "from", "to", "must", "can"], rows)
+                amounts = [amount(route.least), ""] if is_least else ["", amount(route.most)]
+                rows.append([Figure(count), bottleneck.side, "route", "", *problem.ends(route), *amounts])
+    results.table("bottleneck", problem.route_table, ["bottleneck", "side", "kind", "name", "from", "to", "must", "can"], rows)
 
 
-def balance_sentence(places):
+def balance_sentence(problem):
     """What is wrong where supplies and demands don't agree."""
-    supply = sum(place.supply for place in places if place.supply > 0)
-    demand = -sum(place.supply for place in places if place.supply < 0)
+    amount = problem.units.amount
+    supply = sum(place.supply for place in problem.places if place.supply > 0)
+    demand = -sum(place.supply for place in problem.places if place.supply < 0)
     more, less = ("supply", "demand") if supply > demand else ("demand", "supply")
-    return (f"{more} exceeds {less} by {abs(supply - demand)}: the supplies add to {supply}, the demands to {demand}, and they must be equal. "
+    return (f"{more} exceeds {less} by {amount(abs(supply - demand))}: the supplies add to {amount(supply)}, the demands to {amount(demand)}, and they must be equal. "
             f"(Where amounts may stay or stay away, add a place for them, with routes of cost 0.)")
 
 
@@ -73,24 +76,25 @@ def bottleneck_sentence(problem, bottleneck):
     names = listed([problem.places[node - 1].name for node in bottleneck.nodes])
     named = f"{names} together" if len(bottleneck.nodes) > 1 else names
 
-    def route_text(route, amount):
-        return f"{' -> '.join(problem.ends(route))} ({amount})"
+    def route_text(route, number):
+        return f"{' -> '.join(problem.ends(route))} ({amount(number)})"
 
-    must = f"{named} must {bottleneck.side} {bottleneck.must}"
+    amount = problem.units.amount
+    must = f"{named} must {bottleneck.side} {amount(bottleneck.must)}"
     if bottleneck.forcing:
         forcing = [problem.routes[k] for k in bottleneck.forcing]
         must += f" (with the least of {listed([route_text(route, route.least) for route in forcing])})"
     if not bottleneck.limiting:
         return f"{must}, and no route {'leads away' if bottleneck.side == 'send' else 'leads there'}."
     over = listed([route_text(route, route.most) for route in (problem.routes[k] for k in bottleneck.limiting)])
-    return f"{must}, and can {bottleneck.side} only {bottleneck.can}, over {over}."
+    return f"{must}, and can {bottleneck.side} only {amount(bottleneck.can)}, over {over}."
 
 
 def blocked_summary(problem, bottlenecks):
     """Why there is no plan."""
     lines = ["No plan exists, as mcf found and mcfcheck accepted:"]
     if sum(place.supply for place in problem.places):
-        return lines + ["  " + balance_sentence(problem.places)]
+        return lines + ["  " + balance_sentence(problem)]
     return lines + ["  " + bottleneck_sentence(problem, bottleneck) for bottleneck in bottlenecks[:TOLD_NAMES]]
 
 
@@ -98,7 +102,7 @@ def flow_summary(problem, plan, groups):
     """What a person wants to know of a plan first."""
     carrying = sum(1 for flow in plan.flows if flow)
     full = sum(1 for route, flow in zip(problem.routes, plan.flows) if flow == route.most)
-    lines = [f"A least-cost plan, written by mcf and accepted by mcfcheck: cost {plan.cost}.",
+    lines = [f"A least-cost plan, written by mcf and accepted by mcfcheck: cost {problem.units.total(plan.cost)}.",
              f"{count_of(len(problem.places), 'place', 'places')}, {count_of(len(problem.routes), 'route', 'routes')}: "
              f"{carrying} {'carries' if carrying == 1 else 'carry'} something, {full} {'is' if full == 1 else 'are'} full."]
     saving = sorted((-room_saves(route, plan.prices), number) for number, route in enumerate(problem.routes) if room_saves(route, plan.prices))
@@ -107,5 +111,5 @@ def flow_summary(problem, plan, groups):
     for saves, number in saving[:5]:
         route = problem.routes[number]
         at_most = "" if is_exact(route, plan.prices, groups) else "at most "
-        lines.append(f"  {' -> '.join(problem.ends(route))}: {at_most}{-saves}")
+        lines.append(f"  {' -> '.join(problem.ends(route))}: {at_most}{problem.units.rate(-saves)}")
     return lines

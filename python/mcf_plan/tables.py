@@ -1,4 +1,5 @@
-"""Tables: read from files, found by the heads of their columns, and written as they were read."""
+"""Tables: read from files, and found by the heads of their columns."""
+import collections
 import csv
 import io
 import pathlib
@@ -7,21 +8,53 @@ import unicodedata
 
 from .faults import Faults, bad_table, shown
 
+# How tables are read: the mark before decimals, the encoding, and own heads by those that are wanted.
+Reading = collections.namedtuple("Reading", "decimal encoding heads", defaults=(None, None, {}))
+
 NO_TEXT, CONTROL = re.compile("[\udc80-\udcff]"), re.compile("[\x00-\x1f\x7f-\x9f]")
+SEPARATOR_LINE = re.compile(r'"?sep=(.)"?\s*', re.IGNORECASE)
+# What other files begin with.
+OTHER_FILES = {
+    b"\x1f\x8b": "this is compressed (gzip): unpack it first",
+    b"\xd0\xcf\x11\xe0": "this is an old Excel workbook: save it as .xlsx, or as CSV UTF-8",
+    b"%PDF": "this is a PDF; a table is a workbook or CSV",
+}
 csv.field_size_limit(1 << 30)
 
 
-def text_of(path):
-    """The text of a file, and whether it begins with a byte-order mark. A byte that isn't UTF-8 stays as a surrogate."""
+def is_workbook(data):
+    """Whether bytes are those of an Excel workbook, or of another zip archive."""
+    return data[:4] == b"PK\x03\x04"
+
+
+def bytes_of(path):
+    """The bytes of a file that may be a table."""
     try:
         data = pathlib.Path(path).read_bytes()
     except OSError as error:
         raise bad_table(f"{path}: cannot be read: {error.strerror}")
-    if data[:2] in (b"\xff\xfe", b"\xfe\xff") or b"\0" in data:
-        raise bad_table(f"{path}, line 1, column 1: this isn't text in UTF-8; save the table as CSV in UTF-8")
-    mark = data.startswith(b"\xef\xbb\xbf")
-    text = data.decode("utf-8-sig", "surrogateescape")
-    return text.replace("\r\n", "\n").replace("\r", "\n"), mark
+    for begin, text in OTHER_FILES.items():
+        if data.startswith(begin):
+            raise bad_table(f"{path}: {text}")
+    return data
+
+
+def text_of(path, data, encoding):
+    """The text of a file. What isn't UTF-8, and hasn't its encoding named, is read as Windows-1252 with a fault: that it isn't."""
+    if data[:2] in (b"\xff\xfe", b"\xfe\xff"):
+        encoding = "utf-16"
+    try:
+        return data.decode(encoding or "utf-8-sig"), None
+    except LookupError:
+        raise bad_table(f"there is no encoding {shown(encoding)}")
+    except UnicodeDecodeError as error:
+        if encoding or b"\0" in data:
+            raise bad_table(f"{path}: this isn't text in {encoding or 'UTF-8'}; save the table as CSV in UTF-8")
+        text = data.decode("windows-1252", "replace")
+        line = data.count(b"\n", 0, error.start) + 1
+        part = text.split("\n")[line - 1].strip()
+        return text, (line, f"this isn't in UTF-8, but perhaps in Windows-1252 (ANSI), which reads {shown(part)}: in Excel, save as CSV UTF-8; "
+                            "or say --encoding windows-1252")
 
 
 def records_of(text, separator, name):
@@ -41,36 +74,54 @@ def records_of(text, separator, name):
 
 
 class Table:
-    """A table of a file: its heads, and its rows as lines and cells. The separator is the one that gives most of the heads."""
+    """A table: its heads, and its rows as lines and cells. It is written as it was read."""
 
-    def __init__(self, path, wanted):
-        self.name = str(path)
-        text, self.mark = text_of(path)
-        head_line = next((line for line in text.split("\n") if line.strip()), None)
-        if head_line is None:
-            raise bad_table(f"{self.name}, line 1, column 1: the table is empty; its first line has the heads of the columns")
-        self.separator = max(",;\t", key=lambda separator: self.rank(head_line, separator, wanted))
-        records = records_of(text, self.separator, self.name)
+    def __init__(self, name, records, reading, separator=",", mark=True):
+        self.name, self.separator, self.mark, self.book = name, separator, mark, None
+        if not records:
+            raise bad_table(f"{name}, line 1: the table is empty; its first line has the heads of the columns")
         (self.head_line, self.titles), self.rows = records[0], records[1:]
         self.heads = [title.casefold() for title in self.titles]
+        for wanted, own in reading.heads.items():
+            if own.casefold() in self.heads:
+                place = self.heads.index(own.casefold())
+                self.heads = ["" if head == wanted else head for head in self.heads]
+                self.heads[place] = wanted
 
-    @staticmethod
-    def rank(head_line, separator, wanted):
-        """How well a separator suits the line of the heads."""
-        heads = [head.strip().strip('"').casefold() for head in head_line.split(separator)]
-        return len(set(heads) & set(wanted)), len(heads)
+    @classmethod
+    def of_text(cls, path, data, wanted, reading, faults):
+        """The table of a file of text. The separator is the one that the file names, or that gives most of the heads."""
+        text, wrong = text_of(path, data, reading.encoding)
+        text = text.replace("\r\n", "\n").replace("\r", "\n")
+        first = next((line for line in text.split("\n") if line.strip()), "")
+        named = SEPARATOR_LINE.fullmatch(first)
+        if named:
+            text = text.replace(first, "", 1)
+            first = next((line for line in text.split("\n") if line.strip()), "")
+        known = set(wanted) | {own.casefold() for own in reading.heads.values()}
+        separator = named[1] if named else max(",;\t", key=lambda mark: rank_of(first, mark, known))
+        table = cls(str(path), records_of(text, separator, str(path)), reading, separator, data.startswith((b"\xef\xbb\xbf", b"\xff\xfe", b"\xfe\xff")))
+        if wrong:
+            faults.add(table, wrong[0], "", "encoding", wrong[1])
+        return table
 
-    def columns(self, wanted):
+    def columns(self, wanted, hint=""):
         """The places of the columns with these heads, each of which has to be there once."""
         faults = Faults()
+        lacking = [head for head in wanted if head not in self.heads]
+        if lacking:
+            faults.add(self, self.head_line, lacking[0], "no column",
+                       f"there is no such column among {', '.join(map(shown, self.titles))} (split at {shown(self.separator)}); {hint or 'wanted are'} "
+                       f"{', '.join(wanted)}; where a head has another name, say so: --map {lacking[0]}=NAME")
         for head in wanted:
-            if self.heads.count(head) == 0:
-                faults.add(self, self.head_line, head, "no column",
-                           f"there is no such column among {', '.join(map(shown, self.titles))} (split at {shown(self.separator)})")
             if self.heads.count(head) > 1:
                 faults.add(self, self.head_line, head, "two columns", "there are two such columns")
         faults.end()
         return [self.heads.index(head) for head in wanted]
+
+    def perhaps(self, head):
+        """The place of a column that may be there, or None."""
+        return self.columns([head])[0] if head in self.heads else None
 
     def has(self, wanted):
         """Whether there are columns with all these heads."""
@@ -83,24 +134,27 @@ class Table:
                 if cells[place]:
                     faults.add(self, line, place + 1, "beyond", f"a cell beyond the last head: {shown(cells[place])}", cells[place])
 
-    def unused(self, known):
-        """A line on the columns that nobody looked at, where there are some."""
-        titles = [title for title in self.titles if title and title.casefold() not in known]
-        return [f"Columns of {self.name} that weren't looked at: {', '.join(titles)}."] if titles else []
+    def kept(self, results):
+        """The places of the columns that results are written after: all but those of earlier results."""
+        return [place for place, title in enumerate(self.titles) if title.casefold() not in results]
+
+
+def rank_of(line, separator, known):
+    """How well a separator suits the line of the heads."""
+    heads = [head.strip().strip('"').casefold() for head in line.split(separator)]
+    return len(set(heads) & known), len(heads)
 
 
 def cell_at(cells, place):
-    """The cell at a place of a row, empty where the row is shorter."""
-    return cells[place] if place < len(cells) else ""
+    """The cell at a place of a row, empty where the row is shorter or there is no such place."""
+    return cells[place] if place is not None and place < len(cells) else ""
 
 
 def name_in(table, line, head, cell, faults):
     """The name that a cell has: any text of one line that isn't empty."""
     if not cell:
         faults.add(table, line, head, "empty name", "the name is empty")
-    elif NO_TEXT.search(cell):
-        faults.add(table, line, head, "encoding", f"the name {shown(cell)} isn't in UTF-8; save the table as CSV in UTF-8", cell)
-    elif CONTROL.search(cell):
+    elif CONTROL.search(cell) or NO_TEXT.search(cell):
         faults.add(table, line, head, "control", f"the name {shown(cell)} has a line break or another control character", cell)
     return cell
 
@@ -116,11 +170,3 @@ def once(table, line, head, key, text, seen, faults):
         faults.add(table, line, head, "twice", f"{text} stands on line {seen[key]} already", key if isinstance(key, str) else "")
     else:
         seen[key] = line
-
-
-def write_table(path, like, heads, rows):
-    """Writes a table with the separator, and with or without the byte-order mark, of another."""
-    with open(path, "w", newline="", encoding="utf-8-sig" if like.mark else "utf-8") as output:
-        writer = csv.writer(output, delimiter=like.separator, lineterminator="\n")
-        writer.writerow(heads)
-        writer.writerows(rows)

@@ -1,14 +1,12 @@
-"""The plans of examples/plans/, compared with what is stored there; `test_examples.py --store` writes what they give now."""
+"""The plans of examples/plans/, compared with what is stored there; `store_examples.py` writes what they give now.
+
+A folder has its tables, the words of the call in call.txt where they aren't the usual ones, and `expected/` with the results and what is said.
+"""
 import copy
 import os
-import pathlib
 import re
-import shutil
-import sys
-import tempfile
-import unittest
 
-from mcf_plan import model, report, solve
+from mcf_plan import model, report, solve, tables
 from support import COMPARED, PLANS, TOP, WithFolder, rows_of, run
 
 # Examples that are solved again with one unit more and one less.
@@ -29,7 +27,7 @@ class Examples(WithFolder):
     @staticmethod
     def read(name):
         """The problem of an example."""
-        return model.Problem.read(PLANS / name / "places.csv", PLANS / name / "routes.csv")
+        return model.Problem.read([PLANS / name / "places.csv", PLANS / name / "routes.csv"], tables.Reading())
 
     def solved(self, problem, **changes):
         """The plan of a problem, perhaps with other places or routes, or None."""
@@ -90,31 +88,16 @@ def example_folders():
 
 def results_of(folder, out):
     """What the tool writes and says on an example."""
-    is_flow = (folder / "places.csv").exists()
-    tables = ("places.csv", "routes.csv") if is_flow else ("costs.csv",)
+    if (folder / "call.txt").exists():
+        words = (folder / "call.txt").read_text(encoding="utf-8").split()
+    else:
+        words = ["flow", "places.csv", "routes.csv"] if (folder / "places.csv").exists() else ["pairs", "costs.csv"]
     here = os.getcwd()
     os.chdir(folder)
     try:
-        status, said, told = run("flow" if is_flow else "pairs", *tables, "-o", out)
+        status, said, told = run(*words, "-o", out)
     finally:
         os.chdir(here)
     results = {"said.txt": f"{said}{told}status {status}\n"}
-    results.update({name: (out / name).read_text(encoding="utf-8") for name in COMPARED if (out / name).exists()})
+    results.update({name: (out / name).read_text(encoding="utf-8-sig") for name in COMPARED if (out / name).exists()})
     return results
-
-
-def store():
-    """Writes what the examples give now."""
-    for folder in example_folders():
-        shutil.rmtree(folder / "expected", ignore_errors=True)
-        (folder / "expected").mkdir()
-        with tempfile.TemporaryDirectory() as scratch:
-            for name, text in results_of(folder, pathlib.Path(scratch)).items():
-                (folder / "expected" / name).write_text(text, encoding="utf-8")
-
-
-if __name__ == "__main__":
-    if sys.argv[1:] == ["--store"]:
-        store()
-    else:
-        unittest.main(verbosity=0)

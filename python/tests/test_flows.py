@@ -28,8 +28,8 @@ class Flows(WithFolder):
         status, said, told = self.flow(PLACES, ROUTES)
         self.assertEqual((status, told), (0, ""))
         self.assertIn("cost 171", said)
-        self.assertEqual((self.out / "flows.csv").read_text(), "from,to,carries,cost,full,one_more_saves,exact\n"
-                         "Mill,Wien,15,60,yes,5,yes\nMill,Graz,15,105,no,0,yes\nGraz,Wien,3,6,no,0,yes\n")
+        self.assertEqual((self.out / "flows.csv").read_text(), "from,to,least,most,cost,carries,total,free,one_more_saves,exact\n"
+                         "Mill,Wien,0,15,4,15,60,0,5,yes\nMill,Graz,0,20,7,15,105,5,0,yes\nGraz,Wien,0,10,2,3,6,7,0,yes\n")
         self.assertEqual((self.out / "prices.csv").read_text(), "name,supply,one_more_costs,group\nMill,30,0,1\nWien,-18,9,1\nGraz,-12,7,1\n")
 
     def test_tables_that_mean_the_same(self):
@@ -43,9 +43,6 @@ class Flows(WithFolder):
         self.flow(SAME_PLACES[0], ROUTES.replace(",", ";"))
         self.assertTrue((self.out / "prices.csv").read_bytes().startswith(b"\xef\xbb\xbfname,supply"))
         self.assertTrue((self.out / "flows.csv").read_bytes().startswith(b"from;to;"))
-
-    def test_columns_that_nobody_looked_at(self):
-        self.assertIn("weren't looked at: remark", self.flow(PLACES.replace("supply\n", "supply,remark\n"), ROUTES)[1])
 
     def test_what_mcf_refuses(self):
         for places, routes, begins in REFUSED_FLOWS:

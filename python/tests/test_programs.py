@@ -37,8 +37,8 @@ class Programs(WithFolder):
         self.assertIn("accepted a blocked", self.judged("echo s 0", "echo accepted blocked 1"))
 
     def test_a_refused_total(self):
-        script(self.folder / "mcf", "echo r 8 total; exit 2")
-        script(self.folder / "mcfcheck", "echo accepted refusal 8 total")
+        script(self.folder / "mcf", "echo r 9 total; exit 2")
+        script(self.folder / "mcfcheck", "echo accepted refusal 9 total")
         status, _, told = self.flow(PLACES, ROUTES, "--programs", self.folder)
         self.assertEqual(status, 2)
         self.assertIn("routes.csv, line 4, column cost: with this route, costs times amounts add to more than mcf takes (mcf: total)", told)
