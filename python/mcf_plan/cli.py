@@ -5,11 +5,14 @@ import signal
 import sys
 
 from . import life, pairs, picture, report
+from .amounts import value_of
+from .blocked import Blocked
 from .faults import Stop, trouble
+from .flownet import FlowNet, FlowPlan, Policy
 from .folder import results_in
 from .model import Problem
 from .results import Results
-from .solve import Programs, bottlenecks_of, solve
+from .solve import Programs, solve
 from .tables import Reading
 
 HEADS = ("name", "supply", "x", "y", "from", "to", "least", "most", "cost", "who", "what")
@@ -38,6 +41,9 @@ def options_of(words):
         command.add_argument("--programs", metavar="FOLDER", help="where mcf and mcfcheck are, if not beside this tool, in bin/ or on the path")
         add_reading(command)
         command.set_defaults(act=act)
+    for word, text in (("--unused", "supplies may stay where they are"), ("--short", "demands may be short, as little as can be or by --penalty")):
+        flow.add_argument(word, choices=("allow", "refuse"), default="refuse", help=text)
+    flow.add_argument("--penalty", metavar="N", help="what each unit costs that is missing")
     flow.add_argument("--no-picture", action="store_true", help="draw no picture")
     options = parser.parse_args(words)
     if not options.command:
@@ -66,29 +72,41 @@ def reading_of(options):
     return Reading(options.decimal, options.encoding, dict(word.split("=", 1) for word in options.map))
 
 
+def policy_of(options, problem):
+    """What may stay and what may be short."""
+    return Policy(options.unused == "allow", options.short == "allow", problem.penalty if options.penalty else None)
+
+
+def penalty_of(options):
+    """The penalty of a unit that is missing."""
+    value = value_of(options.penalty, options.decimal or ".") if options.penalty else 0
+    if value is None or value < 0 or (options.penalty and options.short != "allow"):
+        raise Stop(f"--penalty {options.penalty}: it is a cost, and comes with --short allow", 2)
+    return value
+
+
 def flow_command(options, reading):
     """Does `flow`: gives the lines of the summary and the status."""
     with life.doing("reads the tables"):
-        problem = Problem.read(options.tables, reading)
-    programs, bottlenecks = Programs(options.programs), []
+        problem = Problem.read(options.tables, reading, penalty_of(options))
+    programs, net = Programs(options.programs), FlowNet(problem, policy_of(options, problem))
     with results_in(options.folder) as folder:
         results = Results(folder, options, problem.numbers.mark, [problem.place_table, problem.route_table])
-        plan = solve(programs, folder, problem.instance())
-        if plan:
-            groups = report.groups_of(problem, plan)
-            report.write_flows(results, problem, plan, groups)
-            report.write_prices(results, problem, plan, groups)
-            lines = report.flow_summary(problem, plan, groups)
+        answer = solve(programs, folder, net.instance())
+        if answer:
+            plan = FlowPlan(net, answer)
+            report.write_flows(results, plan)
+            report.write_prices(results, plan)
+            lines, scene = report.flow_summary(plan), picture.plan_scene(plan)
         else:
-            bottlenecks = bottlenecks_of(programs, folder / "instance.min", problem.network())
-            report.write_bottlenecks(results, problem, bottlenecks)
-            lines = report.blocked_summary(problem, bottlenecks)
+            blocked = Blocked(programs, folder, net)
+            report.write_bottlenecks(results, blocked.eased, blocked.all())
+            lines, scene = report.blocked_summary(blocked), picture.blocked_scene(blocked)
         results.finish()
         if not options.no_picture:
             with life.doing("draws the picture"):
-                drawn = picture.svg_of(picture.scene_of(problem, plan, bottlenecks))
-            (folder / "plan.svg").write_text(drawn, encoding="utf-8")
-    return lines + problem.numbers.told(), 0 if plan else 1
+                (folder / "plan.svg").write_text(picture.svg_of(scene), encoding="utf-8")
+    return lines + problem.numbers.told(), 0 if answer else 1
 
 
 def prepare():

@@ -4,8 +4,6 @@ import difflib
 
 from .amounts import NO_LIMIT, Numbers, Units, coordinate_in, scale_of
 from .faults import Faults, shown
-from .network import Arc, Network
-from .solve import Instance
 from .tables import cell_at, key_of, name_in, once
 from .workbook import tables_of
 
@@ -21,18 +19,19 @@ Route = collections.namedtuple("Route", "tail head least most cost line cells")
 class Problem:
     """The places and the routes of two tables, in whole numbers; `units` says what these are in the tables."""
 
-    def __init__(self, tables, places, routes, numbers):
+    def __init__(self, tables, places, routes, numbers, penalty=0):
         self.place_table, self.route_table = tables
         self.numbers = numbers
         amounts = [place.supply for place in places] + [route.least for route in routes] + [route.most for route in routes if route.most is not None]
-        self.units = Units(scale_of(amounts), scale_of([route.cost for route in routes]))
+        self.units = Units(scale_of(amounts), scale_of([route.cost for route in routes] + [penalty]))
+        self.penalty = int(penalty * self.units.costs)
         self.places = [place._replace(supply=self.whole(place.supply)) for place in places]
         self.routes = [route._replace(least=self.whole(route.least), most=self.whole(route.most), cost=int(route.cost * self.units.costs))
                        for route in routes]
 
     @classmethod
-    def read(cls, paths, reading):
-        """The problem of two files, or of a workbook with two sheets."""
+    def read(cls, paths, reading, penalty=0):
+        """The problem of two files, or of a workbook with two sheets. The penalty is a cost that comes with them."""
         faults, numbers = Faults(), Numbers(reading.decimal)
         tables = tables_of(paths, (PLACE_HEADS, ROUTE_HEADS), reading, faults)
         check_heads(*tables)
@@ -44,7 +43,7 @@ class Problem:
         routes = routes_of(tables[1], places, numbers, faults)
         check_limits(tables[1], routes, faults)
         faults.end()
-        return cls(tables, places, routes, numbers)
+        return cls(tables, places, routes, numbers, penalty)
 
     def whole(self, amount):
         """An amount in whole numbers."""
@@ -57,32 +56,9 @@ class Problem:
         """
         return 1 + sum(max(0, place.supply) for place in self.places) + sum(abs(route.least) for route in self.routes)
 
-    def network(self):
-        """The network: node k is the k-th place, arc k the k-th route."""
-        reach = self.reach()
-        return Network([place.supply for place in self.places],
-                       [Arc(route.tail, route.head, route.least, route.least + reach if route.most is None else route.most, route.cost)
-                        for route in self.routes])
-
-    def instance(self):
-        """The network as text, with where its lines come from."""
-        made = Instance("min")
-        places, routes = self.place_table, self.route_table
-        made.add(["c node k is the k-th place, arc k the k-th route", self.units.comment()])
-        made.add(self.network().lines(), [(routes, routes.head_line, {"size": "from"})] +
-                 [(places, place.line, {"supply": "supply"}) for place in self.places] +
-                 [(routes, route.line, columns_of(route)) for route in self.routes])
-        return made
-
     def ends(self, route):
         """The names of a route's ends."""
         return self.places[route.tail - 1].name, self.places[route.head - 1].name
-
-
-def columns_of(route):
-    """The columns of a route that the words of a refusal mean."""
-    farther = "least" if route.most is not None and abs(route.least) > abs(route.most) else "most"
-    return {"bound": farther, "order": "least", "cost": "cost", "total": "cost"}
 
 
 def check_heads(place_table, route_table):

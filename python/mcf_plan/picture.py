@@ -8,6 +8,8 @@ from . import layout
 
 # Of more places or routes than these no boxes are drawn but dots; of more routes than the last, those that carry nothing are left out.
 BOXES, CURVES, ALL_ROUTES = 300, 1500, 90
+# Where no plan exists, of more places than this those that block are drawn, and those next to them.
+NEAR = 60
 FONT = 'font-family="DejaVu Sans, Verdana, Helvetica, sans-serif"'
 INK, SHADE = "#1f2933", "#f9d5cd"
 COLOURS = {"full": "#c2410c", "limits": "#c2410c", "forces": "#c2410c", "flowing": "#3d6d94", "idle": "#b8c0c8", "other": "#8a949e"}
@@ -23,62 +25,65 @@ Link = collections.namedtuple("Link", "tail head width kind label title")
 Scene = collections.namedtuple("Scene", "heading nodes links groups notes")
 
 
-def scene_of(problem, plan, bottlenecks):
-    """What is drawn of a plan, or of what blocks one."""
-    nodes = [Node(place.name, supply_text(problem, place), kind_of(place), place.spot) for place in problem.places]
-    links = plan_links(problem, plan) if plan else blocked_links(problem, bottlenecks)
-    if plan:
-        left_out = len(problem.routes) - len(links)
-        heading = f"A least-cost plan: cost {problem.units.total(plan.cost)}" + (f" ({left_out} idle routes aren't drawn)" if left_out else "")
-        widest = max(map(abs, plan.flows), default=0)
-        return Scene(heading, nodes, links, [], {"flowing": f"as wide as it carries (widest {problem.units.amount(widest)})", "full": "full"})
-    if sum(place.supply for place in problem.places):
-        return Scene("No plan exists: supply and demand aren't equal", nodes, links, [], {})
-    groups = [{node - 1 for node in bottleneck.nodes} for bottleneck in bottlenecks]
-    return Scene("No plan exists", nodes, links, groups, {"limits": "limits them"})
+def plan_scene(plan):
+    """What is drawn of a plan: all routes if they aren't many, else those that carry something or are shut."""
+    problem, amount, total = plan.problem, plan.problem.units.amount, plan.problem.units.total
+    widest, links = max((abs(result.carries) for result in plan.routes), default=0), []
+    for number, (route, result) in enumerate(zip(problem.routes, plan.routes)):
+        if len(problem.routes) <= ALL_ROUTES or result.carries or route.most == 0:
+            kind = "full" if plan.is_full(number) else "flowing" if result.carries else "idle"
+            title = f"{' -> '.join(problem.ends(route))}: {amount(result.carries)} of {limits_text(problem, route)}, cost {total(result.cost)}"
+            width = 1.4 + 7.6 * abs(result.carries) / widest if result.carries else 1
+            links.append(Link(route.tail - 1, route.head - 1, width, kind, amount(result.carries) if result.carries else "", title))
+    left_out = len(problem.routes) - len(links)
+    heading = f"A least-cost plan: cost {total(plan.cost)}" + (f" ({left_out} idle routes aren't drawn)" if left_out else "")
+    nodes = [node_of(problem, place, result.unmet) for place, result in zip(problem.places, plan.places)]
+    return Scene(heading, nodes, links, [], {"flowing": f"as wide as it carries (widest {amount(widest)})", "full": "full"})
 
 
-def kind_of(place):
-    """Whether a place sends, takes or passes on."""
-    return "sends" if place.supply > 0 else "takes" if place.supply < 0 else "passes"
+def blocked_scene(blocked):
+    """What is drawn where no plan exists: the bottlenecks, and of many places just those and what is next to them."""
+    net, problem, amount = blocked.eased, blocked.net.problem, blocked.net.problem.units.amount
+    marked = {k: kind for bottleneck in blocked.bottlenecks for kind, arcs in (("forces", bottleneck.forcing), ("limits", bottleneck.limiting)) for k in arcs}
+    groups = [{node - 1 for node in bottleneck.nodes if node <= len(problem.places)} for bottleneck in blocked.bottlenecks]
+    links = []
+    for k, route in enumerate(problem.routes):
+        kind = marked.get(k, "other")
+        label = {"limits": f"≤ {amount(net.arcs[k].most)}", "forces": f"≥ {amount(route.least)}", "other": ""}[kind]
+        title = f"{' -> '.join(problem.ends(route))}: {limits_text(problem, route)}"
+        links.append(Link(route.tail - 1, route.head - 1, 1.2 if kind == "other" else 2.6, kind, label, title))
+    heading = "No plan exists: " + "; ".join(f"short by {amount(bottleneck.must - bottleneck.can)}" for bottleneck in blocked.all()[:3])
+    if blocked.is_unbalanced:
+        supply, demand = (sum(max(0, sign * place.supply) for place in problem.places) for sign in (1, -1))
+        heading = f"No plan exists: supply {amount(supply)}, demand {amount(demand)}"
+    scene = Scene(heading, [node_of(problem, place) for place in problem.places], links, groups, {"limits": "limits them"} if marked else {})
+    return near_scene(scene) if len(scene.nodes) > NEAR and any(groups) else scene
 
 
-def supply_text(problem, place):
-    """What a place sends or takes."""
-    amount = problem.units.amount(abs(place.supply))
-    return f"sends {amount}" if place.supply > 0 else f"takes {amount}" if place.supply else ""
+def near_scene(scene):
+    """The places of a scene that block, and those that a route joins with them."""
+    blocking = set().union(*scene.groups)
+    near = sorted(blocking.union(*({link.tail, link.head} for link in scene.links if {link.tail, link.head} & blocking)))
+    numbers = {node: number for number, node in enumerate(near)}
+    links = [link._replace(tail=numbers[link.tail], head=numbers[link.head]) for link in scene.links if link.tail in numbers and link.head in numbers]
+    left_out = len(scene.nodes) - len(near)
+    heading = scene.heading + (f" ({left_out} places farther off aren't drawn)" if left_out else "")
+    return scene._replace(heading=heading, nodes=[scene.nodes[node] for node in near], links=links,
+                          groups=[{numbers[node] for node in group} for group in scene.groups])
+
+
+def node_of(problem, place, unmet=0):
+    """A place as it is drawn."""
+    kind = "sends" if place.supply > 0 else "takes" if place.supply < 0 else "passes"
+    note = f"{kind} {problem.units.amount(abs(place.supply))}" if place.supply else ""
+    word = "stays" if place.supply > 0 else "missing"
+    return Node(place.name, note + (f", {problem.units.amount(unmet)} {word}" if unmet else ""), kind, place.spot)
 
 
 def limits_text(problem, route):
     """What a route carries at least and at most."""
     least, most = problem.units.amount(route.least), problem.units.amount(route.most)
     return f"{least} to {most}" if most else f"{least} or more"
-
-
-def plan_links(problem, plan):
-    """The routes of a plan: all if they aren't many, else those that carry something or are shut."""
-    widest, found = max(map(abs, plan.flows), default=0), []
-    for route, flow in zip(problem.routes, plan.flows):
-        if len(problem.routes) <= ALL_ROUTES or flow or route.most == 0:
-            kind = "full" if flow and flow == route.most else "flowing" if flow else "idle"
-            carries = problem.units.amount(flow)
-            title = f"{' -> '.join(problem.ends(route))}: {carries} of {limits_text(problem, route)}, cost {problem.units.total(route.cost * flow)}"
-            width = 1.4 + 7.6 * abs(flow) / widest if flow else 1
-            found.append(Link(route.tail - 1, route.head - 1, width, kind, carries if flow else "", title))
-    return found
-
-
-def blocked_links(problem, bottlenecks):
-    """The routes where no plan exists, with those that limit or force a bottleneck."""
-    limiting = {number for bottleneck in bottlenecks for number in bottleneck.limiting}
-    forcing = {number for bottleneck in bottlenecks for number in bottleneck.forcing}
-    found = []
-    for number, route in enumerate(problem.routes):
-        kind = "limits" if number in limiting else "forces" if number in forcing else "other"
-        label = f"≤ {problem.units.amount(route.most)}" if kind == "limits" else f"≥ {problem.units.amount(route.least)}" if kind == "forces" else ""
-        title = f"{' -> '.join(problem.ends(route))}: {limits_text(problem, route)}"
-        found.append(Link(route.tail - 1, route.head - 1, 1.2 if kind == "other" else 2.6, kind, label, title))
-    return found
 
 
 def svg_of(scene):

@@ -21,6 +21,7 @@ REFUSALS = {
     "total": "with this route, costs times amounts add to more than mcf takes",
     "size": "more places or routes (persons, things or pairs) than mcf takes",
 }
+OTHER_SIDE = {"send": "take", "take": "send"}
 TOP = pathlib.Path(__file__).resolve().parents[2]
 
 
@@ -148,18 +149,18 @@ def check_set(programs, instance_path, side, nodes):
         programs.verdict(instance_path, answer)
 
 
-def bottlenecks_of(programs, instance_path, network):
-    """The bottlenecks of a network without a plan, each accepted by `mcfcheck`.
+def bottlenecks_of(programs, instance_path, network, hub=None):
+    """The bottlenecks of a balanced network without a plan, each accepted by `mcfcheck`.
 
-    Where supplies and demands agree they are told from the side, of those that send and those that take, that has fewer nodes. Else all nodes are one.
+    They are told from the side, of those that send and those that take, that has fewer nodes; and from the side of the cut on which no hub is.
     """
-    total = sum(network.supplies)
-    if total:
-        found = [network.bottleneck("send" if total > 0 else "take", set(range(1, len(network.supplies) + 1)))]
-    else:
-        choices = [network.blocking_parts(side, blocking_set(programs, turned))
-                   for side, turned in (("send", network), ("take", network.turned()))]
-        found = min(choices, key=lambda choice: sum(len(bottleneck.nodes) for bottleneck in choice))
+    choices = []
+    for side, turned in (("send", network), ("take", network.turned())):
+        nodes = blocking_set(programs, turned)
+        if hub in nodes:
+            nodes, side = set(range(1, len(network.supplies) + 1)) - nodes, OTHER_SIDE[side]
+        choices.append(network.blocking_parts(side, nodes))
+    found = min(choices, key=lambda choice: sum(len(bottleneck.nodes) for bottleneck in choice))
     for bottleneck in found:
         check_set(programs, instance_path, bottleneck.side, bottleneck.nodes)
     return found

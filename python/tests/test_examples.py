@@ -6,7 +6,7 @@ import copy
 import os
 import re
 
-from mcf_plan import model, report, solve, tables
+from mcf_plan import flownet, model, solve, tables
 from support import COMPARED, PLANS, TOP, WithFolder, rows_of, run
 
 # Examples that are solved again with one unit more and one less.
@@ -33,29 +33,29 @@ class Examples(WithFolder):
         """The plan of a problem, perhaps with other places or routes, or None."""
         changed = copy.copy(problem)
         vars(changed).update(changes)
-        return solve.solve(solve.Programs(None), self.folder, changed.instance())
+        net = flownet.FlowNet(changed)
+        plan = solve.solve(solve.Programs(None), self.folder, net.instance())
+        return plan and flownet.FlowPlan(net, plan)
 
     def test_one_more_unit_of_room(self):
         for name in SOLVED_AGAIN:
             problem = self.read(name)
             plan = self.solved(problem)
-            groups = report.groups_of(problem, plan)
-            for number, route in enumerate(problem.routes):
-                if plan.flows[number] < route.most:
+            for number, (route, result) in enumerate(zip(problem.routes, plan.routes)):
+                if result.free:
                     continue
-                saves, exact = report.room_saves(route, plan.prices), report.is_exact(route, plan.prices, groups)
                 wider = problem.routes[:number] + [route._replace(most=route.most + 1)] + problem.routes[number + 1:]
                 again = self.solved(problem, routes=wider)
                 with self.subTest(name=name, route=route):
-                    self.assertLessEqual(plan.cost - again.cost, saves)
-                    self.assertTrue(plan.cost - again.cost == saves or not exact)
+                    self.assertLessEqual(plan.cost - again.cost, result.saves)
+                    self.assertTrue(plan.cost - again.cost == result.saves or not result.is_exact)
 
     def test_one_more_unit_at_a_place(self):
         for name in SOLVED_AGAIN:
             problem = self.read(name)
             plan = self.solved(problem)
             count = len(problem.places)
-            begin = max(range(count), key=lambda number: plan.prices[number])
+            begin = min(range(count), key=lambda number: plan.places[number].price)
             for end in range(0, count, 1 if count < 20 else 6):
                 for units in (1, -1):
                     with self.subTest(name=name, end=end, units=units):
@@ -63,13 +63,13 @@ class Examples(WithFolder):
 
     def check_units(self, problem, plan, begin, end, units):
         """Whether the figures hold of units more from one place to another."""
-        figure, groups = plan.prices[begin] - plan.prices[end], report.groups_of(problem, plan)
+        figure = plan.places[end].price - plan.places[begin].price
         changed = list(problem.places)
         changed[begin] = changed[begin]._replace(supply=changed[begin].supply + units)
         changed[end] = changed[end]._replace(supply=changed[end].supply - units)
         again = self.solved(problem, places=changed)
         self.assertTrue(again is None or again.cost - plan.cost >= units * figure)
-        self.assertTrue(groups[begin + 1] != groups[end + 1] or again.cost - plan.cost == units * figure)
+        self.assertTrue(plan.places[begin].group != plan.places[end].group or again.cost - plan.cost == units * figure)
 
     def test_the_degenerate_example_is_degenerate(self):
         rows = rows_of(PLANS / "degenerate" / "expected" / "flows.csv", ";")

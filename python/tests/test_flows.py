@@ -108,3 +108,68 @@ class Flows(WithFolder):
         status, said, _ = self.flow("name,supply\n", "from,to,least,most,cost\n")
         self.assertEqual(status, 0)
         self.assertIn("cost 0", said)
+
+
+class Unbalanced(WithFolder):
+    """Supplies and demands that don't agree."""
+
+    PLACES = "name,supply\nA,9\nB,4\nC,-7\nD,-3\n"
+    ROUTES = "from,to,most,cost\nA,C,9,2\nA,D,9,5\nB,C,9,1\nB,D,2,1\n"
+
+    def test_what_stays(self):
+        status, said, told = self.flow(self.PLACES, self.ROUTES, "--unused", "allow")
+        self.assertEqual((status, told), (0, ""))
+        self.assertIn("cost 19.", said)
+        self.assertIn("3 stay at: A 3.", said)
+        self.assertEqual((self.out / "flows.csv").read_text().splitlines()[-1], "A,(stays),,,3,0,,,")
+        self.assertIn("c node 5 takes what stays and gives what is missing\n", (self.out / "instance.min").read_text())
+
+    def test_what_is_missing(self):
+        places = self.PLACES.replace("A,9", "A,1")
+        status, said, told = self.flow(places, self.ROUTES, "--short", "allow")
+        self.assertEqual((status, told), (0, ""))
+        self.assertIn("cost 6.", said)
+        self.assertIn("5 are missing at: ", said)
+        self.assertEqual(sum(int(row["carries"]) for row in rows_of(self.out / "flows.csv") if row["from"] == "(missing)"), 5)
+        self.assertEqual([row["one_more_costs"] for row in rows_of(self.out / "prices.csv")][2:], ["less is missing"] * 2)
+
+    def test_a_penalty(self):
+        places = self.PLACES.replace("A,9", "A,1")
+        for penalty, cost in (("10", "56"), ("0,5", "8.5"), ("0", "6")):
+            with self.subTest(penalty=penalty):
+                status, said, _ = self.flow(places, self.ROUTES, "--short", "allow", "--penalty", penalty, "--decimal", ",")
+                self.assertEqual(status, 0)
+                self.assertIn(f"cost {cost}.", said)
+
+    def test_a_penalty_that_is_none(self):
+        for words in (["--penalty", "3"], ["--short", "allow", "--penalty", "much"], ["--short", "allow", "--penalty", "-1"]):
+            self.assertEqual(self.flow(self.PLACES, self.ROUTES, *words)[0], 2)
+
+    def test_as_much_as_can_be(self):
+        status, said, _ = self.flow("name,supply\nA,9\nB,-5\nC,-9\n", "from,to,most,cost\nA,B,9,1\nA,C,3,8\n", "--unused", "allow", "--short", "allow")
+        self.assertEqual(status, 0)
+        for text in ("cost 29.", "1 stay at: A 1.", "6 are missing at: C 6."):
+            self.assertIn(text, said)
+
+    def test_a_bottleneck_beside_the_balance(self):
+        places, routes = "name,supply\nA,9\nB,-5\nC,-9\n", "from,to,most,cost\nA,B,4,1\nA,C,9,1\n"
+        status, said, _ = self.flow(places, routes)
+        self.assertEqual(status, 1)
+        self.assertIn("  demand exceeds supply by 5: the supplies add to 9, the demands to 14, and they must be equal (--short allow lets it be short).", said)
+        self.assertNotIn("Even if", said)
+        status, said, _ = self.flow(places.replace("A,9", "A,19"), routes)
+        self.assertEqual(status, 1)
+        self.assertIn("  supply exceeds demand by 5", said)
+        self.assertIn("Even if that stays, no plan exists, as mcf found and mcfcheck accepted:\n"
+                      "  B must take 5, and can take only 4, over A -> B (4). Short by 1.", said)
+        self.assertEqual({row["bottleneck"] for row in rows_of(self.out / "bottleneck.csv")}, {"1", "2"})
+
+    def test_what_may_stay_and_is_lacking(self):
+        status, said, _ = self.flow(self.PLACES.replace("A,9", "A,1"), self.ROUTES, "--unused", "allow")
+        self.assertEqual(status, 1)
+        self.assertIn("demand exceeds supply by 5", said)
+
+    def test_what_stays_with_least_amounts(self):
+        status, said, _ = self.flow("name,supply\nA,2\nB,0\nC,-1\n", "from,to,least,most,cost\nA,B,1,4,1\nB,C,0,1,1\nA,C,3,4,1\n", "--unused", "allow")
+        self.assertEqual(status, 1)
+        self.assertIn("must", said)

@@ -33,4 +33,22 @@ class Pictures(WithFolder):
     def test_what_blocks(self):
         texts = self.drawn("name,supply\nA,5\nB,-5\n", "from,to,least,most,cost\nA,B,0,4,1\n")
         self.assertIn("\u2264 4", texts)
-        self.assertIn("No plan exists", texts)
+        self.assertIn("No plan exists: short by 1", texts)
+
+    def test_what_is_drawn_of_a_balance(self):
+        texts = self.drawn("name,supply\nA,5\nB,-3\n", "from,to,most,cost\nA,B,4,1\n")
+        self.assertIn("No plan exists: supply 5, demand 3", texts)
+        self.assertNotIn("limits them", texts)
+
+    def test_many_places_are_dots(self):
+        places = "name,supply\n" + "".join(f"A{k},1\nB{k},-1\n" for k in range(200))
+        self.flow(places, "from,to,most,cost\n" + "".join(f"A{k},B{k},1,1\n" for k in range(200)))
+        text = (self.out / "plan.svg").read_text()
+        self.assertEqual(text.count("<title>A1: sends 1</title>"), 1)
+        self.assertGreater(text.count("<circle"), 400)
+
+    def test_of_many_places_those_near_what_blocks_are_drawn(self):
+        places = "name,supply\nA,5\nB,0\nC,-5\n" + "".join(f"P{k},0\n" for k in range(100))
+        texts = self.drawn(places, "from,to,most,cost\nA,B,4,1\nB,C,5,1\n" + "".join(f"B,P{k},9,1\n" for k in range(100)))
+        self.assertIn("No plan exists: short by 1 (101 places farther off aren't drawn)", texts)
+        self.assertEqual([text for text in texts if text in ("A", "B", "C", "P1")], ["A", "B"])

@@ -8,7 +8,7 @@ import sys
 import time
 from unittest import mock
 
-from mcf_plan import model
+from mcf_plan import flownet
 from support import PLACES, ROUTES, TOP, WithFolder, script
 
 TOOL = [sys.executable, str(TOP / "tools" / "mcf_plan")]
@@ -59,7 +59,7 @@ class Statuses(WithFolder):
                 self.assertEqual((process.wait(20), len(told.splitlines()), self.left()), (status, 1, []))
 
     def test_any_other_fault_is_told_in_one_line(self):
-        with mock.patch.object(model.Problem, "instance", side_effect=TypeError("one\ntwo")):
+        with mock.patch.object(flownet.FlowNet, "instance", side_effect=TypeError("one\ntwo")):
             status, said, told = self.flow(PLACES, ROUTES)
         self.assertEqual((status, said, told), (3, "", "mcf_plan: a fault of this tool, which please report: TypeError: one two\n"))
         self.assertEqual(self.left(), [])
