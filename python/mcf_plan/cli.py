@@ -15,7 +15,7 @@ from .results import Results
 from .solve import Programs, solve
 from .tables import Reading
 
-HEADS = ("name", "supply", "x", "y", "from", "to", "least", "most", "cost", "who", "what")
+HEADS = ("name", "supply", "x", "y", "from", "to", "least", "most", "cost", "who", "what", "takes", "needs")
 STATUSES = "Status 0: a plan, accepted. 1: no plan exists, accepted. 2: a bad table or a wrong call. 3: anything else. 130: interrupted."
 
 
@@ -36,6 +36,8 @@ def options_of(words):
                       "columns from, to, most and cost, perhaps least; or a workbook with both as sheets")
     paired = commands.add_parser("pairs", help="the least-cost pairs of persons and things")
     paired.add_argument("costs", metavar="COSTS", help="a table with the columns who, what and cost, or a matrix of persons by things")
+    paired.add_argument("--each", choices=("who", "what", "both"), help="who gets one: each person (the usual), each thing (where takes or needs are said), or both")
+    paired.add_argument("--maximise", "--maximize", action="store_true", help="costs are values: the greatest sum")
     for command, act in ((flow, flow_command), (paired, pairs.pairs_command)):
         command.add_argument("-o", "--output", dest="folder", metavar="FOLDER", required=True, help="where the results are written")
         command.add_argument("--programs", metavar="FOLDER", help="where mcf and mcfcheck are, if not beside this tool, in bin/ or on the path")

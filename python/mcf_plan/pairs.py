@@ -1,198 +1,142 @@
-"""Pairs of persons and things, and who competes."""
-import collections
-
-from .amounts import Figure, Numbers, Units, scale_of
-from .faults import Faults, shown
+"""The network of persons and things, its plan, and who competes."""
+from .amounts import Figure
 from .folder import results_in
-from .network import Arc, Network, parts_of
+from .network import Arc, Network
 from .results import Results
-from .solve import Instance, Programs, blocking_set, check_set, solve
-from .tables import cell_at, key_of, name_in, once
-from .workbook import tables_of
+from .roster import PAIR_HEADS, Roster
+from .solve import Instance, Programs, bottlenecks_of, solve
 from .words import TOLD_NAMES, count_of, listed
 
-PAIR_HEADS = ("who", "what", "cost")
-# What stands in place of a cost where a pair is forbidden.
-FORBIDDEN = ("", "x", "-", "–", "—")
-# A person and a thing by their numbers from 1, with the line and the column of the cost and the cells of the line.
-Pair = collections.namedtuple("Pair", "who what cost line column cells")
 
+class RosterNet(Network):
+    """The network of a roster: nodes are the persons, then the things; arc k is the k-th pair.
 
-class Sides:
-    """The persons and the things of pairs, each numbered from 1 in the order in which they come."""
-
-    def __init__(self):
-        self.persons, self.things = [], []
-        self.person_numbers, self.thing_numbers = {}, {}
-
-    def are_even(self):
-        """Whether there are as many persons as things."""
-        return len(self.persons) == len(self.things)
-
-    @staticmethod
-    def number(name, names, numbers):
-        """The number of a name, which is new or was there."""
-        if key_of(name) not in numbers:
-            names.append(name)
-            numbers[key_of(name)] = len(names)
-        return numbers[key_of(name)]
-
-    def person(self, name):
-        """The number of a person."""
-        return self.number(name, self.persons, self.person_numbers)
-
-    def thing(self, name):
-        """The number of a thing."""
-        return self.number(name, self.things, self.thing_numbers)
-
-
-def listed_pairs(table, numbers, faults):
-    """The pairs of a table with the columns who, what and cost."""
-    columns = table.columns(PAIR_HEADS)
-    numbers.look(table, columns[2:])
-    numbers.settle(faults)
-    sides, pairs, seen = Sides(), [], {}
-    for line, cells in table.rows:
-        who, what, cost = (cell_at(cells, column) for column in columns)
-        name_in(table, line, "who", who, faults)
-        name_in(table, line, "what", what, faults)
-        ends = sides.person(who), sides.thing(what)
-        if who and what:
-            once(table, line, "what", ends, f"the pair of {shown(who)} and {shown(what)}", seen, faults)
-        if cost.casefold() not in FORBIDDEN:
-            pairs.append(Pair(*ends, numbers.read(table, line, "cost", cost, faults), line, "cost", cells))
-    return sides, pairs
-
-
-def matrix_things(table, sides, faults):
-    """The columns of a matrix that have a thing, each with its number."""
-    found, seen = [], {}
-    for place, title in enumerate(table.titles[1:], 1):
-        if title or any(cell_at(cells, place) for _, cells in table.rows):
-            name_in(table, table.head_line, place + 1, title, faults)
-            once(table, table.head_line, place + 1, key_of(title), f"a thing {shown(title)}", seen, faults)
-            found.append((place, sides.thing(title)))
-    return found
-
-
-def matrix_pairs(table, numbers, faults):
-    """The pairs of a matrix: a person each row, a thing each column."""
-    sides, pairs, seen = Sides(), [], {}
-    things = matrix_things(table, sides, faults)
-    numbers.look(table, [place for place, _ in things])
-    numbers.settle(faults)
-    for line, cells in table.rows:
-        name = name_in(table, line, 1, cells[0], faults)
-        once(table, line, 1, key_of(name), f"a person {shown(name)}", seen, faults)
-        who = sides.person(name)
-        for place, what in things:
-            if cell_at(cells, place).casefold() not in FORBIDDEN:
-                pairs.append(Pair(who, what, numbers.read(table, line, place + 1, cells[place], faults), line, place + 1, None))
-    return sides, pairs
-
-
-def pairs_instance(sides, pairs, table, units):
-    """The instance of persons, things and pairs: the k-th arc is the k-th pair.
-
-    It is an assignment where there are as many persons as things. Else things may be left over: each sends on what it gets to one node more, which takes
-    one unit for each person.
+    After them, one node more: from it an arc leads to each person, which carries how many it takes, and one from each thing, which carries how many it needs.
     """
-    instance, network = Instance("asn" if sides.are_even() else "min"), pairs_network(sides, pairs)
-    instance.add(["c nodes are the persons, then the things; the k-th arc is the k-th pair", units.comment()])
-    arcs = [(table, pair.line, {"cost": pair.column}) for pair in pairs]
-    size = [(table, table.head_line, {"size": 1})]
-    if sides.are_even():
-        instance.add([f"p asn {len(network.supplies)} {len(pairs)}"], size)
-        instance.add([f"n {person}" for person in range(1, len(sides.persons) + 1)])
-        instance.add([f"a {arc.tail} {arc.head} {arc.cost}" for arc in network.arcs], arcs)
-    else:
-        instance.add(network.lines(), size + [None] * len(network.supplies) + arcs)
-    return instance
+
+    def __init__(self, roster):
+        takes, needs = roster.takes, roster.needs
+        # As many persons as things, none has more than one, and all of one side have to have one: so have all of the other.
+        self.is_assignment = (len(takes) == len(needs) and all(most == 1 for _, most in takes + needs) and
+                              any(all(least == 1 for least, _ in side) for side in (takes, needs)))
+        if self.is_assignment:
+            takes = needs = [(1, 1)] * len(takes)
+        self.roster, self.persons, self.hub = roster, len(takes), len(takes) + len(needs) + 1
+        arcs = [Arc(pair.who, self.persons + pair.what, 0, 1, pair.cost) for pair in roster.pairs]
+        arcs += [Arc(self.hub, number, least, most, 0) for number, (least, most) in enumerate(takes, 1)]
+        arcs += [Arc(number, self.hub, least, most, 0) for number, (least, most) in enumerate(needs, self.persons + 1)]
+        super().__init__([0] * self.hub, arcs)
+
+    def instance(self):
+        """The network as text, with where its lines come from; an assignment in its own form, which has no such node more."""
+        table, persons = self.roster.table, self.persons
+        arcs = [(table, pair.line, {"cost": pair.column}) for pair in self.roster.pairs]
+        size = [(table, table.head_line, {"size": 1})]
+        made = Instance("asn" if self.is_assignment else "min")
+        made.add(["c nodes are the persons, then the things; the k-th arc is the k-th pair", self.roster.units.comment()])
+        if self.is_assignment:
+            made.add([f"p asn {2 * persons} {len(arcs)}"], size)
+            made.add([f"n {person}" for person in range(1, persons + 1)])
+            made.add([f"a {arc.tail} {arc.head} {arc.cost}" for arc in self.arcs[:len(arcs)]], arcs)
+        else:
+            ranges = [(table, table.head_line, {"bound": "takes" if arc.tail == self.hub else "needs"}) for arc in self.arcs[len(arcs):]]
+            made.add(self.lines(), size + [None] * len(self.supplies) + arcs + ranges)
+        return made
+
+    def name(self, node):
+        """The name of a node."""
+        return self.roster.persons.names[node - 1] if node <= self.persons else self.roster.things.names[node - 1 - self.persons]
+
+    def whole(self, bottleneck):
+        """A bottleneck with the things (or persons) beside it that limit it no less than the pairs that lead to them do."""
+        outside = [self.arcs[k].head if bottleneck.side == "send" else self.arcs[k].tail for k in bottleneck.limiting if k < len(self.roster.pairs)]
+        most = {arc.tail if arc.head == self.hub else arc.head: arc.most for arc in self.arcs[len(self.roster.pairs):]}
+        more = {node for node in outside if most[node] <= outside.count(node)}
+        return self.bottleneck(bottleneck.side, set(bottleneck.nodes) | more)
+
+    def sides(self, bottleneck):
+        """Those who must, with how many at least; and those by whom they can, with how many at most: persons and things, or things and persons."""
+        mine = {k: arc for k, arc in enumerate(self.arcs) if k >= len(self.roster.pairs)}
+        node = {k: arc.head if arc.tail == self.hub else arc.tail for k, arc in mine.items()}
+        must = [(node[k], mine[k].least) for k in bottleneck.forcing if k in mine]
+        return must, [(node[k], mine[k].most) for k in bottleneck.limiting if k in mine], [k for k in bottleneck.limiting if k not in mine]
 
 
-def pairs_network(sides, pairs):
-    """The network of persons, things and pairs; where things may be left over, with a node that takes one unit for each person."""
-    persons, things = len(sides.persons), len(sides.things)
-    arcs = [Arc(pair.who, persons + pair.what, 0, 1, pair.cost) for pair in pairs]
-    if sides.are_even():
-        return Network([1] * persons + [-1] * things, arcs)
-    last = persons + things + 1
-    return Network([1] * persons + [0] * things + [-persons], arcs + [Arc(persons + thing, last, 0, 1, 0) for thing in range(1, things + 1)])
+def blocked_sentence(net, bottleneck):
+    """These persons compete for too few things, or these things want too few persons."""
+    must, can, pairs = net.sides(bottleneck)
+    names, others = [net.name(node) for node, _ in must], [net.name(node) for node, _ in can]
+    is_send = bottleneck.side == "send"
+    if not can and not pairs:
+        return f"{listed(names)} can get nothing." if is_send else f"Nobody may do {listed(names)}."
+    if not pairs and all(number == 1 for _, number in must + can):
+        if is_send:
+            return f"{len(must)} persons compete for {count_of(len(can), 'thing', 'things')}: {listed(names)} can only get {listed(others)}."
+        return f"{len(must)} things want for {count_of(len(can), 'person', 'persons')}: only {listed(others)} may do {listed(names)}."
+    parts = [f"{net.name(node)} ({number})" for node, number in can]
+    parts += [f"{net.name(net.arcs[k].tail)} with {net.name(net.arcs[k].head)}" for k in pairs]
+    verb = ("must take", "can take") if is_send else ("need" if len(must) > 1 else "needs", "can get")
+    return (f"{listed(names)} {verb[0]} {bottleneck.must}{' together' if len(must) > 1 else ''}, and {verb[1]} only {bottleneck.can}: "
+            f"{listed(parts)}. Short by {bottleneck.must - bottleneck.can}.")
 
 
-def competing(programs, instance_path, sides, pairs):
-    """The groups of persons who compete for too few things, each as persons and the things that they can get, each accepted by `mcfcheck`."""
-    persons = len(sides.persons)
-    arcs = [(pair.who, persons + pair.what) for pair in pairs]
-    things_of = collections.defaultdict(set)
-    for person, thing in arcs:
-        things_of[person].add(thing)
-    groups = []
-    for part in parts_of(blocking_set(programs, pairs_network(sides, pairs)), arcs):
-        group = [node for node in sorted(part) if node <= persons]
-        things = sorted(set().union(*(things_of[person] for person in group)))
-        if group:
-            check_set(programs, instance_path, "send", group + things)
-            groups.append((group, things))
-    return groups
-
-
-def competing_sentence(group, things, sides):
-    """These persons compete for too few things."""
-    names = listed([sides.persons[person - 1] for person in group])
-    goods = [sides.things[thing - len(sides.persons) - 1] for thing in things]
-    if not goods:
-        return f"{names} can get nothing."
-    return f"{len(group)} persons compete for {count_of(len(goods), 'thing', 'things')}: {names} can only get {listed(goods)}."
-
-
-def write_groups(results, table, groups, sides):
-    """Writes bottleneck.csv: the persons of each group and the things for which they compete."""
+def write_bottlenecks(results, net, bottlenecks):
+    """Writes bottleneck.csv: of each bottleneck the column must adds up to what persons must take (things need), the column can to what can be."""
     rows = []
-    for count, (group, things) in enumerate(groups, 1):
-        rows += [[Figure(count), "person", sides.persons[person - 1]] for person in group]
-        rows += [[Figure(count), "thing", sides.things[thing - len(sides.persons) - 1]] for thing in things]
-    results.table("bottleneck", table, ["bottleneck", "kind", "name"], rows)
+    for count, bottleneck in enumerate(bottlenecks, 1):
+        must, can, pairs = net.sides(bottleneck)
+        kinds = ("person", "thing") if bottleneck.side == "send" else ("thing", "person")
+        rows += [[Figure(count), kinds[0], net.name(node), Figure(number), ""] for node, number in must]
+        rows += [[Figure(count), kinds[1], net.name(node), "", Figure(number)] for node, number in can]
+        rows += [[Figure(count), "pair", f"{net.name(net.arcs[k].tail)}, {net.name(net.arcs[k].head)}", "", Figure(1)] for k in pairs]
+    results.table("bottleneck", net.roster.table, ["bottleneck", "kind", "name", "must", "can"], rows)
 
 
-def write_pairs(results, table, chosen, sides, units):
+def write_pairs(results, roster, chosen):
     """Writes pairs.csv: of a list the lines of the pairs, by the persons."""
-    if table.has(PAIR_HEADS):
-        results.table("pairs", table, table.titles, [pair.cells for pair in chosen])
+    if roster.is_list:
+        rows = [pair.cells for pair in chosen]
+        results.table("pairs", roster.table, roster.table.titles, rows)
     else:
-        results.table("pairs", table, PAIR_HEADS, [[sides.persons[pair.who - 1], sides.things[pair.what - 1], units.rate(pair.cost)] for pair in chosen])
+        rows = [[roster.persons.names[pair.who - 1], roster.things.names[pair.what - 1], roster.units.rate(pair.cost)] for pair in chosen]
+        results.table("pairs", roster.table, PAIR_HEADS, rows)
 
 
-def pairs_summary(sides, chosen, plan, units):
+def summary(roster, chosen, cost):
     """What a person wants to know of pairs first."""
-    taken = {pair.what for pair in chosen}
-    left = [thing for number, thing in enumerate(sides.things, 1) if number not in taken]
-    lines = [f"Least-cost pairs, written by mcf and accepted by mcfcheck: cost {units.total(plan.cost)}.",
-             f"{count_of(len(sides.persons), 'person', 'persons')}, {count_of(len(sides.things), 'thing', 'things')}: each person gets one."]
-    return lines + ([f"Left over: {listed(left)}."] if left else [])
+    which = "Pairs of the greatest value" if roster.units.sign < 0 else "Least-cost pairs"
+    word = "value" if roster.units.sign < 0 else "cost"
+    lines = [f"{which}, written by mcf and accepted by mcfcheck: {word} {roster.units.total(cost)}.",
+             f"{count_of(len(roster.persons.names), 'person', 'persons')}, {count_of(len(roster.things.names), 'thing', 'things')}: "
+             f"{count_of(len(chosen), 'pair', 'pairs')}."]
+    for text, names, taken in (("Without a thing", roster.persons.names, {pair.who for pair in chosen}),
+                               ("Left over", roster.things.names, {pair.what for pair in chosen})):
+        left = [name for number, name in enumerate(names, 1) if number not in taken]
+        lines += [f"{text}: {listed(left)}."] if left else []
+    return lines
+
+
+def each_hint(roster):
+    """Whether there are more persons than things, and each person has to get one."""
+    return len(roster.takes) > len(roster.needs) and all(least == 1 for least, _ in roster.takes) and all(most == 1 for _, most in roster.needs)
 
 
 def pairs_command(options, reading):
     """Does `pairs`: gives the lines of the summary and the status."""
-    faults, numbers = Faults(), Numbers(reading.decimal)
-    table, = tables_of([options.costs], [PAIR_HEADS], reading, faults)
-    table.check_widths(faults)
-    sides, pairs = (listed_pairs if table.has(PAIR_HEADS) else matrix_pairs)(table, numbers, faults)
-    faults.end()
-    units = Units(1, scale_of([pair.cost for pair in pairs]))
-    pairs = [pair._replace(cost=int(pair.cost * units.costs)) for pair in pairs]
-    programs, instance = Programs(options.programs), pairs_instance(sides, pairs, table, units)
+    roster = Roster(options.costs, reading, options.each, options.maximise)
+    programs, net = Programs(options.programs), RosterNet(roster)
     with results_in(options.folder) as folder:
-        results = Results(folder, options, numbers.mark, [table])
+        results, instance = Results(folder, options, roster.numbers.mark, [roster.table]), net.instance()
         plan = solve(programs, folder, instance)
         if plan:
-            chosen = sorted((pair for pair, flow in zip(pairs, plan.flows) if flow), key=lambda pair: pair[:2])
-            write_pairs(results, table, chosen, sides, units)
-            lines = pairs_summary(sides, chosen, plan, units)
+            chosen = sorted((pair for pair, flow in zip(roster.pairs, plan.flows) if flow), key=lambda pair: pair[:2])
+            write_pairs(results, roster, chosen)
+            lines = summary(roster, chosen, plan.cost)
         else:
-            groups = competing(programs, folder / f"instance.{instance.suffix}", sides, pairs)
-            write_groups(results, table, groups, sides)
+            found = bottlenecks_of(programs, folder / f"instance.{instance.suffix}", net, net.hub, net.whole)
+            write_bottlenecks(results, net, found)
             lines = ["No such pairs exist, as mcf found and mcfcheck accepted:"]
-            lines += ["  " + competing_sentence(group, things, sides) for group, things in groups[:TOLD_NAMES]]
+            lines += ["  " + blocked_sentence(net, bottleneck) for bottleneck in found[:TOLD_NAMES]]
+            lines += ["With --each what each thing would get a person, and persons may be left over."] * each_hint(roster)
         results.finish()
-    return lines + numbers.told(), 0 if plan else 1
+    return lines + roster.numbers.told(), 0 if plan else 1

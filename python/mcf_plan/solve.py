@@ -149,10 +149,11 @@ def check_set(programs, instance_path, side, nodes):
         programs.verdict(instance_path, answer)
 
 
-def bottlenecks_of(programs, instance_path, network, hub=None):
+def bottlenecks_of(programs, instance_path, network, hub=None, whole=None):
     """The bottlenecks of a balanced network without a plan, each accepted by `mcfcheck`.
 
-    They are told from the side, of those that send and those that take, that has fewer nodes; and from the side of the cut on which no hub is.
+    They are told from the side, of those that send and those that take, that has fewer nodes; and from the side of the cut on which no hub is. `whole`
+    adds to one what belongs to it.
     """
     choices = []
     for side, turned in (("send", network), ("take", network.turned())):
@@ -161,6 +162,7 @@ def bottlenecks_of(programs, instance_path, network, hub=None):
             nodes, side = set(range(1, len(network.supplies) + 1)) - nodes, OTHER_SIDE[side]
         choices.append(network.blocking_parts(side, nodes))
     found = min(choices, key=lambda choice: sum(len(bottleneck.nodes) for bottleneck in choice))
+    found = list(map(whole, found)) if whole else found
     for bottleneck in found:
         check_set(programs, instance_path, bottleneck.side, bottleneck.nodes)
     return found
