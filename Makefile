@@ -49,7 +49,7 @@ install:
 	@test -x bin/mcf && test -x bin/mcfcheck || { echo "make install: bin/mcf and bin/mcfcheck aren't there; run make first" >&2; exit 1; }
 	install -d "$(BIN)" "$(MAN)" "$(PYTHON)/mcf_plan"
 	install -m 755 bin/mcf bin/mcfcheck tools/mcf_plan "$(BIN)"
-	install -m 644 python/mcf_plan/* "$(PYTHON)/mcf_plan"
+	install -m 644 python/mcf_plan/*.* "$(PYTHON)/mcf_plan"
 	install -m 644 man/mcf.1 man/mcfcheck.1 man/mcf_plan.1 "$(MAN)"
 
 uninstall:

@@ -166,3 +166,26 @@ class Units:
     def comment(self):
         """The comment of the instance."""
         return f"c amounts here are {self.amounts} times those of the tables, costs of a unit {self.sign * self.costs} times"
+
+
+class Said:
+    """The same in sentences: with the tables' mark before decimals."""
+
+    def __init__(self, units, mark):
+        self.units, self.mark = units, mark or "."
+
+    def text(self, figure):
+        """A number of a table in a sentence."""
+        return figure.replace(".", self.mark) if isinstance(figure, Figure) else figure
+
+    def amount(self, number):
+        """An amount; no limit is empty."""
+        return self.text(self.units.amount(number))
+
+    def rate(self, number):
+        """A cost of one unit."""
+        return self.text(self.units.rate(number))
+
+    def total(self, number):
+        """A cost of amounts."""
+        return self.text(self.units.total(number))

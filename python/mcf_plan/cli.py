@@ -4,13 +4,16 @@ import os
 import signal
 import sys
 
-from . import life, pairs, picture, report
+from . import flowpage, life, pairs, picture, report
 from .amounts import value_of
 from .blocked import Blocked
+from .diff import diff_command
 from .faults import Stop, trouble
 from .flownet import FlowNet, FlowPlan, Policy
 from .folder import results_in
 from .model import Problem
+from .page import Writer
+from .record import write_record
 from .results import Results
 from .solve import Programs, solve
 from .tables import Reading
@@ -30,7 +33,7 @@ class Parser(argparse.ArgumentParser):
 def options_of(words):
     """What the words of the command line ask."""
     parser = Parser(prog="mcf_plan", description="Plans from tables, as mcf solves them and mcfcheck accepts them.", epilog=STATUSES)
-    commands = parser.add_subparsers(dest="command", metavar="flow|pairs")
+    commands = parser.add_subparsers(dest="command", metavar="flow|pairs|diff")
     flow = commands.add_parser("flow", help="the least-cost flow over routes between places")
     flow.add_argument("tables", metavar="PLACES [ROUTES]", nargs="+", help="a table with the columns name and supply, perhaps x and y; and one with the "
                       "columns from, to, most and cost, perhaps least; or a workbook with both as sheets")
@@ -47,9 +50,15 @@ def options_of(words):
         flow.add_argument(word, choices=("allow", "refuse"), default="refuse", help=text)
     flow.add_argument("--penalty", metavar="N", help="what each unit costs that is missing")
     flow.add_argument("--no-picture", action="store_true", help="draw no picture")
+    compared = commands.add_parser("diff", help="two plans compared")
+    compared.add_argument("old", metavar="OLD", help="the folder of one plan")
+    compared.add_argument("new", metavar="NEW", help="the folder of another")
+    compared.add_argument("--all", action="store_true", help="tell all that differs")
+    compared.add_argument("--programs", metavar="FOLDER", help="where mcf and mcfcheck are")
+    compared.set_defaults(act=diff_command, map=[], decimal=None, encoding=None, xlsx=False)
     options = parser.parse_args(words)
     if not options.command:
-        parser.error("say what is planned: flow or pairs")
+        parser.error("say what is planned: flow or pairs, or diff")
     if options.command == "flow" and len(options.tables) > 2:
         parser.error("flow takes two tables, or a workbook")
     if options.xlsx:
@@ -63,6 +72,9 @@ def add_reading(command):
     command.add_argument("--encoding", help="the encoding of the tables, such as windows-1252, if it isn't UTF-8")
     command.add_argument("--map", action="append", default=[], metavar="HEAD=NAME", help="the column that is wanted as HEAD is called NAME in the tables")
     command.add_argument("--xlsx", action="store_true", help="write the tables as a workbook, too, as is done where a workbook was read")
+    command.add_argument("--title", help="what the page is called")
+    command.add_argument("--currency", default="", help="what costs are in, for the page")
+    command.add_argument("--unit", default="", help="what amounts are in, for the page")
     command.add_argument("--guard-formulas", action="store_true", help="write ' before cells that a spreadsheet would take for a formula")
 
 
@@ -94,21 +106,34 @@ def flow_command(options, reading):
     programs, net = Programs(options.programs), FlowNet(problem, policy_of(options, problem))
     with results_in(options.folder) as folder:
         results = Results(folder, options, problem.numbers.mark, [problem.place_table, problem.route_table])
-        answer = solve(programs, folder, net.instance())
+        answer, cost, parts = solve(programs, folder, net.instance()), None, []
         if answer:
             plan = FlowPlan(net, answer)
             report.write_flows(results, plan)
             report.write_prices(results, plan)
             lines, scene = report.flow_summary(plan), picture.plan_scene(plan)
+            cost = problem.units.total(plan.cost)
+            parts = [(*problem.ends(route), problem.units.amount(result.carries)) for route, result in zip(problem.routes, plan.routes)]
         else:
             blocked = Blocked(programs, folder, net)
             report.write_bottlenecks(results, blocked.eased, blocked.all())
             lines, scene = report.blocked_summary(blocked), picture.blocked_scene(blocked)
         results.finish()
-        if not options.no_picture:
-            with life.doing("draws the picture"):
-                (folder / "plan.svg").write_text(picture.svg_of(scene), encoding="utf-8")
+        drawn = drawn_in(folder, scene, options)
+        page = flowpage.plan_page(plan, options, drawn) if answer else flowpage.blocked_page(blocked, options, drawn)
+        (folder / "report.html").write_text(Writer(folder, "instance.min", problem.numbers.mark).html(page), encoding="utf-8")
+        write_record(folder, "instance.min", "flow", lines, cost, parts)
     return lines + problem.numbers.told(), 0 if answer else 1
+
+
+def drawn_in(folder, scene, options):
+    """The picture, which is written, unless none is wanted."""
+    if options.no_picture:
+        return None
+    with life.doing("draws the picture"):
+        drawn = picture.svg_of(scene)
+    (folder / "plan.svg").write_text(drawn, encoding="utf-8")
+    return drawn
 
 
 def prepare():

@@ -8,7 +8,8 @@ import signal
 from .faults import Rejected, Stop, trouble
 
 # What a plan is written into; a folder with anything else in it isn't touched.
-RESULTS = ("flows.csv", "prices.csv", "pairs.csv", "bottleneck.csv", "plan.xlsx", "plan.svg", "instance.min", "instance.asn", "answer.ans")
+RESULTS = ("flows.csv", "prices.csv", "pairs.csv", "bottleneck.csv", "plan.xlsx", "plan.svg", "plan.json", "report.html",
+           "instance.min", "instance.asn", "answer.ans")
 
 
 @contextlib.contextmanager

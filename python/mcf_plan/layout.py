@@ -52,8 +52,11 @@ def graphviz(program, words, task, boxes, until):
 
 def graph_text(task, boxes):
     """The graph as Graphviz reads it: lengths are in inches, y goes up."""
-    lines = ["digraph plan { rankdir=LR; nodesep=0.22; ranksep=1.1; overlap=prism; splines=true; sep=\"+12\"; esep=\"+4\";",
-             "node [shape=box, fixedsize=true, label=\"\"]; edge [arrowhead=none, len=2, fontsize=11];"]
+    # Few ranks of many places stand farther apart, so that the picture isn't a tower.
+    ranks = 1 + max(levels_of(len(task.sizes), task.links, task.starts), default=0)
+    apart = min(4, max(1.1, len(task.sizes) / ranks / 4))
+    lines = [f"digraph plan {{ rankdir=LR; nodesep=0.22; ranksep={apart:.1f}; overlap=prism; splines=true; sep=\"+26\"; esep=\"+6\";",
+             "node [shape=box, fixedsize=true, label=\"\"]; edge [arrowhead=none, len=2.3, fontsize=11];"]
     for node, (width, height) in enumerate(task.sizes):
         spot = f', pos="{boxes[node].x:.1f},{-boxes[node].y:.1f}"' if boxes else ""
         lines.append(f"n{node} [width={width / 72:.3f}, height={height / 72:.3f}{spot}];")

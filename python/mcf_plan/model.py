@@ -2,7 +2,7 @@
 import collections
 import difflib
 
-from .amounts import NO_LIMIT, Numbers, Units, coordinate_in, scale_of
+from .amounts import NO_LIMIT, Numbers, Said, Units, coordinate_in, scale_of
 from .faults import Faults, shown
 from .tables import cell_at, key_of, name_in, once
 from .workbook import tables_of
@@ -24,6 +24,7 @@ class Problem:
         self.numbers = numbers
         amounts = [place.supply for place in places] + [route.least for route in routes] + [route.most for route in routes if route.most is not None]
         self.units = Units(scale_of(amounts), scale_of([route.cost for route in routes] + [penalty]))
+        self.said = Said(self.units, numbers.mark)
         self.penalty = int(penalty * self.units.costs)
         self.places = [place._replace(supply=self.whole(place.supply)) for place in places]
         self.routes = [route._replace(least=self.whole(route.least), most=self.whole(route.most), cost=int(route.cost * self.units.costs))

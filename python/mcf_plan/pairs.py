@@ -1,7 +1,10 @@
 """The network of persons and things, its plan, and who competes."""
+from . import pairspage
 from .amounts import Figure
 from .folder import results_in
 from .network import Arc, Network
+from .page import Writer
+from .record import write_record
 from .results import Results
 from .roster import PAIR_HEADS, Roster
 from .solve import Instance, Programs, bottlenecks_of, solve
@@ -106,7 +109,7 @@ def summary(roster, chosen, cost):
     """What a person wants to know of pairs first."""
     which = "Pairs of the greatest value" if roster.units.sign < 0 else "Least-cost pairs"
     word = "value" if roster.units.sign < 0 else "cost"
-    lines = [f"{which}, written by mcf and accepted by mcfcheck: {word} {roster.units.total(cost)}.",
+    lines = [f"{which}, written by mcf and accepted by mcfcheck: {word} {roster.said.total(cost)}.",
              f"{count_of(len(roster.persons.names), 'person', 'persons')}, {count_of(len(roster.things.names), 'thing', 'things')}: "
              f"{count_of(len(chosen), 'pair', 'pairs')}."]
     for text, names, taken in (("Without a thing", roster.persons.names, {pair.who for pair in chosen}),
@@ -116,9 +119,18 @@ def summary(roster, chosen, cost):
     return lines
 
 
+def blocked_lines(net, bottlenecks):
+    """Why there are no such pairs."""
+    lines = ["No such pairs exist, as mcf found and mcfcheck accepted:"]
+    lines += ["  " + blocked_sentence(net, bottleneck) for bottleneck in bottlenecks[:TOLD_NAMES]]
+    return lines + each_hint(net.roster)
+
+
 def each_hint(roster):
-    """Whether there are more persons than things, and each person has to get one."""
-    return len(roster.takes) > len(roster.needs) and all(least == 1 for least, _ in roster.takes) and all(most == 1 for _, most in roster.needs)
+    """A line where there are more persons than things, and each person has to get one."""
+    if len(roster.takes) > len(roster.needs) and all(least == 1 for least, _ in roster.takes) and all(most == 1 for _, most in roster.needs):
+        return ["With --each what each thing would get a person, and persons may be left over."]
+    return []
 
 
 def pairs_command(options, reading):
@@ -127,16 +139,19 @@ def pairs_command(options, reading):
     programs, net = Programs(options.programs), RosterNet(roster)
     with results_in(options.folder) as folder:
         results, instance = Results(folder, options, roster.numbers.mark, [roster.table]), net.instance()
-        plan = solve(programs, folder, instance)
+        plan, chosen, cost = solve(programs, folder, instance), [], None
         if plan:
             chosen = sorted((pair for pair, flow in zip(roster.pairs, plan.flows) if flow), key=lambda pair: pair[:2])
+            cost = roster.units.total(plan.cost)
             write_pairs(results, roster, chosen)
             lines = summary(roster, chosen, plan.cost)
+            page = pairspage.plan_page(roster, chosen, plan.cost, lines, options)
         else:
-            found = bottlenecks_of(programs, folder / f"instance.{instance.suffix}", net, net.hub, net.whole)
+            found = bottlenecks_of(programs, folder / instance.name, net, net.hub, net.whole)
             write_bottlenecks(results, net, found)
-            lines = ["No such pairs exist, as mcf found and mcfcheck accepted:"]
-            lines += ["  " + blocked_sentence(net, bottleneck) for bottleneck in found[:TOLD_NAMES]]
-            lines += ["With --each what each thing would get a person, and persons may be left over."] * each_hint(roster)
+            lines = blocked_lines(net, found)
+            page = pairspage.blocked_page(net, found, options)
         results.finish()
+        write_record(folder, instance.name, "pairs", lines, cost, [(*map(net.name, (pair.who, net.persons + pair.what)), "1") for pair in chosen])
+        (folder / "report.html").write_text(Writer(folder, instance.name, roster.numbers.mark).html(page), encoding="utf-8")
     return lines + roster.numbers.told(), 0 if plan else 1

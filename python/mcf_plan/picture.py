@@ -27,7 +27,7 @@ Scene = collections.namedtuple("Scene", "heading nodes links groups notes")
 
 def plan_scene(plan):
     """What is drawn of a plan: all routes if they aren't many, else those that carry something or are shut."""
-    problem, amount, total = plan.problem, plan.problem.units.amount, plan.problem.units.total
+    problem, amount, total = plan.problem, plan.problem.said.amount, plan.problem.said.total
     widest, links = max((abs(result.carries) for result in plan.routes), default=0), []
     for number, (route, result) in enumerate(zip(problem.routes, plan.routes)):
         if len(problem.routes) <= ALL_ROUTES or result.carries or route.most == 0:
@@ -43,7 +43,7 @@ def plan_scene(plan):
 
 def blocked_scene(blocked):
     """What is drawn where no plan exists: the bottlenecks, and of many places just those and what is next to them."""
-    net, problem, amount = blocked.eased, blocked.net.problem, blocked.net.problem.units.amount
+    net, problem, amount = blocked.eased, blocked.net.problem, blocked.net.problem.said.amount
     marked = {k: kind for bottleneck in blocked.bottlenecks for kind, arcs in (("forces", bottleneck.forcing), ("limits", bottleneck.limiting)) for k in arcs}
     groups = [{node - 1 for node in bottleneck.nodes if node <= len(problem.places)} for bottleneck in blocked.bottlenecks]
     links = []
@@ -75,14 +75,14 @@ def near_scene(scene):
 def node_of(problem, place, unmet=0):
     """A place as it is drawn."""
     kind = "sends" if place.supply > 0 else "takes" if place.supply < 0 else "passes"
-    note = f"{kind} {problem.units.amount(abs(place.supply))}" if place.supply else ""
+    note = f"{kind} {problem.said.amount(abs(place.supply))}" if place.supply else ""
     word = "stays" if place.supply > 0 else "missing"
-    return Node(place.name, note + (f", {problem.units.amount(unmet)} {word}" if unmet else ""), kind, place.spot)
+    return Node(place.name, note + (f", {problem.said.amount(unmet)} {word}" if unmet else ""), kind, place.spot)
 
 
 def limits_text(problem, route):
     """What a route carries at least and at most."""
-    least, most = problem.units.amount(route.least), problem.units.amount(route.most)
+    least, most = problem.said.amount(route.least), problem.said.amount(route.most)
     return f"{least} to {most}" if most else f"{least} or more"
 
 

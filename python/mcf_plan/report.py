@@ -46,7 +46,7 @@ def balance_of(problem):
 
 def balance_sentence(problem):
     """What is wrong where supplies and demands don't agree."""
-    amount = problem.units.amount
+    amount = problem.said.amount
     supply, demand = balance_of(problem)
     more, less, cure = ("supply", "demand", "--unused allow lets it stay") if supply > demand else ("demand", "supply", "--short allow lets it be short")
     return (f"{more} exceeds {less} by {amount(abs(supply - demand))}: the supplies add to {amount(supply)}, the demands to {amount(demand)}, "
@@ -55,7 +55,7 @@ def balance_sentence(problem):
 
 def bottleneck_sentence(net, bottleneck):
     """These places must send (or take) N, and can only M, over these routes: short by N - M."""
-    amount = net.problem.units.amount
+    amount = net.problem.said.amount
     names = listed([net.node_name(node) for node in bottleneck.nodes])
     named = f"{names} together" if len(bottleneck.nodes) > 1 else names
     must = f"{named} must {bottleneck.side} {amount(bottleneck.must)}"
@@ -70,7 +70,7 @@ def bottleneck_sentence(net, bottleneck):
 
 def route_text(net, k, number):
     """A route with an amount."""
-    return f"{' -> '.join(net.ends(k))} ({net.problem.units.amount(number)})"
+    return f"{' -> '.join(net.ends(k))} ({net.problem.said.amount(number)})"
 
 
 def blocked_summary(blocked):
@@ -88,7 +88,7 @@ def flow_summary(plan):
     problem = plan.problem
     carrying = sum(1 for result in plan.routes if result.carries)
     full = sum(1 for result in plan.routes if result.free == 0)
-    lines = [f"A least-cost plan, written by mcf and accepted by mcfcheck: cost {problem.units.total(plan.cost)}.",
+    lines = [f"A least-cost plan, written by mcf and accepted by mcfcheck: cost {problem.said.total(plan.cost)}.",
              f"{count_of(len(problem.places), 'place', 'places')}, {count_of(len(problem.routes), 'route', 'routes')}: "
              f"{carrying} {'carries' if carrying == 1 else 'carry'} something, {full} {'is' if full == 1 else 'are'} full."]
     lines += unmet_lines(plan)
@@ -97,13 +97,13 @@ def flow_summary(plan):
         lines.append("One more unit of room would save most on:")
     for saves, number in saving[:5]:
         at_most = "" if plan.routes[number].is_exact else "at most "
-        lines.append(f"  {' -> '.join(problem.ends(problem.routes[number]))}: {at_most}{plan.rate(-saves)}")
+        lines.append(f"  {' -> '.join(problem.ends(problem.routes[number]))}: {at_most}{problem.said.text(plan.rate(-saves))}")
     return lines
 
 
 def unmet_lines(plan):
     """What stays and what is missing."""
-    amount, policy, lines = plan.problem.units.amount, plan.net.policy, []
+    amount, policy, lines = plan.problem.said.amount, plan.net.policy, []
     for is_supply, allowed in ((True, policy.unused), (False, policy.short)):
         found = plan.unmet(is_supply)
         total = amount(sum(unmet for _, unmet in found))
@@ -111,6 +111,6 @@ def unmet_lines(plan):
         if allowed and is_supply:
             lines.append(f"{total} stay at: {where}." if found else "Nothing stays.")
         elif allowed:
-            cost = f", which costs {plan.problem.units.total(plan.penalties)} of that" if policy.penalty else ""
+            cost = f", which costs {plan.problem.said.total(plan.penalties)} of that" if policy.penalty else ""
             lines.append(f"{total} are missing at: {where}{cost}." if found else "Nothing is missing.")
     return lines

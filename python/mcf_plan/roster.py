@@ -2,7 +2,7 @@
 import collections
 import re
 
-from .amounts import Numbers, Units, scale_of
+from .amounts import Numbers, Said, Units, scale_of
 from .faults import Faults, shown
 from .tables import cell_at, key_of, name_in, once
 from .workbook import tables_of
@@ -57,6 +57,7 @@ class Roster:
         found = (self.listed if self.is_list else self.matrix)(faults)
         faults.end()
         self.units = Units(1, scale_of([pair.cost for pair in found]), -1 if maximise else 1)
+        self.said = Said(self.units, self.numbers.mark)
         self.pairs = [pair._replace(cost=int(pair.cost * self.units.costs) * self.units.sign) for pair in found]
         each = each or ("what" if self.persons.said or self.things.said else "who")
         self.takes = [self.persons.range_of(number + 1, each != "what") for number in range(len(self.persons.names))]

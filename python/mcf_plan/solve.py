@@ -29,7 +29,7 @@ class Instance:
     """An instance as text, and for each of its lines the table, its line and its columns by the word of a refusal."""
 
     def __init__(self, suffix):
-        self.suffix, self.lines, self.origins = suffix, [], []
+        self.name, self.lines, self.origins = f"instance.{suffix}", [], []
 
     def add(self, lines, origins=()):
         """Adds lines, and where they came from, as far as that is known."""
@@ -112,7 +112,7 @@ def refused(answer, instance):
 
 def solve(programs, folder, instance):
     """The accepted plan of an instance, or None where no plan exists, which was accepted, too."""
-    instance_path, answer_path = folder / f"instance.{instance.suffix}", folder / "answer.ans"
+    instance_path, answer_path = folder / instance.name, folder / "answer.ans"
     instance_path.write_text(instance.text())
     status = programs.solve(instance_path, answer_path)
     kind = programs.verdict(instance_path, answer_path)[0]

@@ -135,7 +135,7 @@ class Unbalanced(WithFolder):
 
     def test_a_penalty(self):
         places = self.PLACES.replace("A,9", "A,1")
-        for penalty, cost in (("10", "56"), ("0,5", "8.5"), ("0", "6")):
+        for penalty, cost in (("10", "56"), ("0,5", "8,5"), ("0", "6")):
             with self.subTest(penalty=penalty):
                 status, said, _ = self.flow(places, self.ROUTES, "--short", "allow", "--penalty", penalty, "--decimal", ",")
                 self.assertEqual(status, 0)

@@ -107,7 +107,7 @@ class Reading(WithFolder):
         """The cost of a plan over one route of this cost."""
         status, said, told = self.flow(places, f"from;to;most;cost\nA;B;;{costs}\n", *more)
         self.assertEqual((status, told), (0, ""))
-        return said.split(": cost ")[1].split(".\n")[0]
+        return said.split(": cost ")[1].split(".\n")[0].replace(",", ".")
 
     def test_decimals_are_exact(self):
         for cost, total in (("12,50", "31.25"), ("0,1", "0.25"), ("1.234,56", "3086.4"), ("7", "17.5"), ("1 234,5", "3086.25"), ("1'000", "2500"),
@@ -174,7 +174,7 @@ class Reading(WithFolder):
                 self.assertEqual((self.out / "pairs.csv").read_text(), "who,what,cost,note\nA,Y,5,q\nB,X,1,r\n")
 
     def test_costs_with_decimals_of_pairs(self):
-        self.assertIn("cost 0.3.", self.pairs(";X;Y\nA;0,1;0,7\nB;0,3;0,2\n")[1])
+        self.assertIn("cost 0,3.", self.pairs(";X;Y\nA;0,1;0,7\nB;0,3;0,2\n")[1])
         self.assertEqual((self.out / "pairs.csv").read_text(), "who;what;cost\nA;X;0,1\nB;Y;0,2\n")
 
 

@@ -1,0 +1,123 @@
+"""The page of a flow."""
+from . import report
+from .amounts import Figure
+from .page import Page, Share, Sheet, finding, grouped, listed_rows
+from .tables import cell_at
+from .words import listed
+
+ROUTE_COLUMNS = [("from", "where the route begins"), ("to", "where it ends"), ("least", "it carries no less"), ("most", "it carries no more; empty: no limit"),
+                 ("cost", "of each unit"), ("carries", "in this plan"), ("total", "cost of what it carries"), ("of its room", "what it carries of its most"),
+                 ("one more saves", "what one more unit of room saves"), ("exact", "whether it saves just that")]
+PLACE_COLUMNS = [("name", ""), ("supply", "above 0 it sends, below 0 it takes"), ("unmet", "what stays, or is missing"),
+                 ("one more costs", "what one more unit costs there"), ("group", "among places of one group that is exact")]
+
+
+def plan_page(plan, options, picture):
+    """The page of a plan."""
+    problem, total = plan.problem, plan.problem.units.total(plan.cost)
+    carrying = sum(1 for result in plan.routes if result.carries)
+    full = sum(1 for number in range(len(plan.routes)) if plan.is_full(number))
+    facts = [(Figure(len(problem.places)), "places"), (Figure(len(problem.routes)), "routes"), (Figure(carrying), "carry something"), (Figure(full), "are full")]
+    facts += [(told(problem.units.amount(sum(unmet for _, unmet in plan.unmet(is_supply))), problem.numbers.mark, options.unit), words)
+              for is_supply, words in ((True, "stay"), (False, "are missing")) if plan.unmet(is_supply)]
+    lead = ["No plan for these tables costs less."] + report.unmet_lines(plan)
+    return Page(options.title or "A least-cost plan", f"Least cost: {told(total, problem.numbers.mark, options.currency)}", True, lead, facts, [], picture,
+                savings(plan) + [routes_sheet(plan), places_sheet(plan)])
+
+# Heads of columns that the page shows anyway.
+USED = ("from", "to", "least", "most", "cost", "name", "supply", "x", "y")
+RESULTS = ("carries", "total", "free", "one_more_saves", "exact", "one_more_costs", "group")
+
+
+def own_columns(table):
+    """The columns of a table that are the planner's own."""
+    return [place for place, head in enumerate(table.heads) if head not in USED and table.titles[place].casefold() not in RESULTS]
+
+
+def told(number, mark, unit):
+    """A number as sentences have it, with its unit, if that was said."""
+    return grouped(number, mark or ".") + (f" {unit}" if unit else "")
+
+
+def savings(plan):
+    """The table of what one more unit of room saves."""
+    found = sorted(((-result.saves, number) for number, result in enumerate(plan.routes) if result.saves))[:50]
+    rows = []
+    for saves, number in found:
+        exact = "exactly" if plan.routes[number].is_exact else "at most"
+        rows.append(("full", [*plan.problem.ends(plan.problem.routes[number]), exact, plan.rate(-saves)]))
+    columns = [("from", ""), ("to", ""), ("exact", "whether it saves just that"), ("one more unit saves", "")]
+    return [Sheet("What one more unit of room saves", columns, rows)] if rows else []
+
+
+def routes_sheet(plan):
+    """The table of the routes."""
+    problem, units, rows = plan.problem, plan.problem.units, []
+    table = problem.route_table
+    own = own_columns(table)
+    for number, (route, result) in enumerate(zip(problem.routes, plan.routes)):
+        share = "" if not route.most else Share(100 * abs(result.carries) / abs(route.most))
+        kind = "full" if plan.is_full(number) else "" if result.carries else "idle"
+        exact = "" if not result.saves else "exactly" if result.is_exact else "at most"
+        rows.append((kind, [*problem.ends(route), units.amount(route.least), units.amount(route.most), units.rate(route.cost), units.amount(result.carries),
+                            units.total(result.cost), share, plan.rate(result.saves) if result.saves else "", exact,
+                            *(cell_at(route.cells, place) for place in own)]))
+    rows, note = listed_rows(rows)
+    totals = ["", "", "", "", "", "", units.total(sum(result.cost for result in plan.routes)), "", ""] + [""] * (1 + len(own))
+    return Sheet("Routes", ROUTE_COLUMNS + [(table.titles[place], "") for place in own], rows, totals, note)
+
+
+def places_sheet(plan):
+    """The table of the places."""
+    problem, units, rows = plan.problem, plan.problem.units, []
+    table = problem.place_table
+    own = own_columns(table)
+    for place, result in zip(problem.places, plan.places):
+        rows.append(("", [place.name, units.amount(place.supply), units.amount(result.unmet) if result.unmet else "", plan.rate(result.price),
+                          Figure(result.group), *(cell_at(place.cells, column) for column in own)]))
+    rows, note = listed_rows(rows)
+    return Sheet("Places", PLACE_COLUMNS + [(table.titles[place], "") for place in own], rows, (), note)
+
+
+def blocked_page(blocked, options, picture):
+    """The page where no plan exists."""
+    problem, amount = blocked.net.problem, blocked.net.problem.said.amount
+    findings = [balance_finding(problem)] if blocked.is_unbalanced else []
+    findings += [bottleneck_finding(blocked.eased, bottleneck) for bottleneck in blocked.bottlenecks]
+    if blocked.is_unbalanced:
+        supply, demand = report.balance_of(problem)
+        headline = f"No plan exists: supply {amount(supply)}, demand {amount(demand)}"
+    else:
+        headline = "No plan exists: " + ", ".join(f"short by {amount(bottleneck.must - bottleneck.can)}" for bottleneck in blocked.bottlenecks[:3])
+    lead = ["Whatever way amounts go, these places must send or take more than the routes around them carry."]
+    return Page(options.title or "No plan exists", headline, False, lead, [], findings, picture, limiting_sheet(blocked))
+
+
+def balance_finding(problem):
+    """That supplies and demands don't agree."""
+    supply, demand = report.balance_of(problem)
+    amount = problem.said.amount
+    figures = [("supply", amount(supply)), ("demand", amount(demand)), ("short by", amount(abs(supply - demand)))]
+    cure = f"Make them equal; or let what is too much {'stay: --unused' if supply > demand else 'be short: --short'} allow."
+    return finding("Supplies and demands must be equal.", figures, cure)
+
+
+def bottleneck_finding(net, bottleneck):
+    """A bottleneck, and what would help."""
+    amount = net.problem.said.amount
+    short = amount(bottleneck.must - bottleneck.can)
+    figures = [("must", amount(bottleneck.must)), ("can", amount(bottleneck.can)), ("short by", short)]
+    what = "demand" if bottleneck.side == "take" else "supply"
+    routes = listed([" -> ".join(net.ends(k)) for k in bottleneck.limiting])
+    raise_them = f"Give {routes} {short} more room{' together' if len(bottleneck.limiting) > 1 else ''}, or move" if routes else "Give them a route, or move"
+    return finding(report.bottleneck_sentence(net, bottleneck), figures, f"{raise_them} {short} of {what} elsewhere.")
+
+
+def limiting_sheet(blocked):
+    """The routes that limit the bottlenecks."""
+    net, amount, rows = blocked.eased, blocked.net.problem.units.amount, []
+    for count, bottleneck in enumerate(blocked.bottlenecks, 1):
+        rows += [("full", [f"{count}.", *net.ends(k), amount(net.arcs[k].most), ""]) for k in bottleneck.limiting]
+        rows += [("", [f"{count}.", *net.ends(k), "", amount(net.arcs[k].least)]) for k in bottleneck.forcing]
+    columns = [("bottleneck", ""), ("from", ""), ("to", ""), ("most", "so the route limits the places"), ("least", "so it forces that upon them")]
+    return [Sheet("Routes that limit them", columns, rows)] if rows else []

@@ -1,0 +1,72 @@
+"use strict";
+// Pictures: the wheel zooms at the pointer, dragging moves, buttons do the same.
+document.querySelectorAll(".picture").forEach(function (frame) {
+  const svg = frame.querySelector("svg"), whole = svg.viewBox.baseVal;
+  const home = [whole.x, whole.y, whole.width, whole.height];
+  let view = home.slice(), from = null;
+  const show = function () { svg.setAttribute("viewBox", view.join(" ")); };
+  const zoom = function (factor, x, y) {
+    factor = Math.max(home[2] / 60, Math.min(home[2] * 2, view[2] * factor)) / view[2];
+    view = [x - (x - view[0]) * factor, y - (y - view[1]) * factor, view[2] * factor, view[3] * factor];
+    show();
+  };
+  const spot = function (event) {
+    const point = new DOMPoint(event.clientX, event.clientY).matrixTransform(svg.getScreenCTM().inverse());
+    return [point.x, point.y];
+  };
+  svg.addEventListener("wheel", function (event) {
+    event.preventDefault();
+    zoom(event.deltaY < 0 ? 0.85 : 1 / 0.85, ...spot(event));
+  }, { passive: false });
+  svg.addEventListener("pointerdown", function (event) { from = spot(event); svg.setPointerCapture(event.pointerId); });
+  svg.addEventListener("pointermove", function (event) {
+    if (!from) { return; }
+    const to = spot(event);
+    view[0] += from[0] - to[0];
+    view[1] += from[1] - to[1];
+    show();
+  });
+  svg.addEventListener("pointerup", function () { from = null; });
+  frame.querySelectorAll("button").forEach(function (button) {
+    button.addEventListener("click", function () {
+      const factor = Number(button.dataset.zoom);
+      if (factor) { zoom(factor, view[0] + view[2] / 2, view[1] + view[3] / 2); } else { view = home.slice(); show(); }
+    });
+  });
+});
+// Tables: a click on a head sorts, the field above filters by what a row says, the box leaves out what carries nothing.
+document.querySelectorAll(".sheet table").forEach(function (table) {
+  const body = table.tBodies[0], rows = Array.from(body.rows), tools = table.closest("section").querySelector(".tools");
+  const value = function (row, column) {
+    const cell = row.cells[column];
+    return cell.dataset.value === undefined ? cell.textContent : cell.dataset.value === "" ? Infinity : Number(cell.dataset.value);
+  };
+  table.querySelectorAll("thead th").forEach(function (head, column) {
+    head.addEventListener("click", function () {
+      const down = head.getAttribute("aria-sort") === (head.classList.contains("number") ? "descending" : "ascending");
+      const sign = head.classList.contains("number") === down ? 1 : -1;
+      table.querySelectorAll("thead th").forEach(function (other) { other.removeAttribute("aria-sort"); });
+      head.setAttribute("aria-sort", sign > 0 ? "ascending" : "descending");
+      rows.sort(function (one, two) {
+        const a = value(one, column), b = value(two, column);
+        return sign * (typeof a === "number" ? (a === b ? 0 : a < b ? -1 : 1) : a.localeCompare(b));
+      });
+      body.append(...rows);
+    });
+  });
+  if (!tools) { return; }
+  const field = tools.querySelector("input[type=search]"), box = tools.querySelector("input[type=checkbox]"), count = tools.querySelector(".count");
+  const filter = function () {
+    const words = field.value.toLowerCase().split(/\s+/);
+    let left = 0;
+    rows.forEach(function (row) {
+      const text = row.textContent.toLowerCase();
+      row.hidden = !words.every(function (word) { return text.includes(word); }) || Boolean(box && box.checked && row.classList.contains("idle"));
+      left += row.hidden ? 0 : 1;
+    });
+    count.textContent = left === rows.length ? rows.length + " lines" : left + " of " + rows.length + " lines";
+  };
+  field.addEventListener("input", filter);
+  if (box) { box.addEventListener("change", filter); }
+  filter();
+});

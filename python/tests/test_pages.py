@@ -1,0 +1,150 @@
+"""The page of a plan, in Chromium where it is there; and two plans compared."""
+import hashlib
+import html.parser
+import json
+import re
+import shutil
+import subprocess
+import unittest
+
+from support import PLACES, ROUTES, WithFolder, run
+
+CHROMIUM = shutil.which("chromium") or shutil.which("chromium-browser") or shutil.which("google-chrome")
+# What is done with a page in the browser, and what is told of it.
+TRIED = """
+const said = {}, table = document.querySelectorAll("section table")[1], seen = () => Array.from(table.tBodies[0].rows).filter(row => !row.hidden);
+const column = number => seen().map(row => row.cells[number].textContent);
+const heads = table.querySelectorAll("thead th"), tools = table.closest("section").querySelector(".tools"), svg = document.querySelector(".picture svg");
+heads[5].click();
+said.down = column(5);
+heads[5].click();
+said.up = column(5);
+heads[0].click();
+said.names = column(0);
+tools.querySelector("input[type=search]").value = "mill wien";
+tools.querySelector("input[type=search]").dispatchEvent(new Event("input"));
+said.filtered = column(0).concat(column(1));
+tools.querySelector("input[type=search]").value = "";
+tools.querySelector("input[type=checkbox]").click();
+said.carrying = column(5);
+said.count = tools.querySelector(".count").textContent;
+const wide = () => Number(svg.getAttribute("viewBox").split(" ")[2]), before = wide();
+document.querySelector(".zoom button").click();
+said.nearer = wide() / before;
+document.querySelectorAll(".zoom button")[2].click();
+said.whole = wide() / before;
+document.title = "said " + JSON.stringify(said);
+"""
+
+
+class Balanced(html.parser.HTMLParser):
+    """Notes tags that aren't closed in their order, and what a page would fetch."""
+
+    def __init__(self):
+        super().__init__()
+        self.open, self.wrong, self.fetched = [], [], []
+
+    def handle_starttag(self, tag, attributes):
+        self.fetched += [value for name, value in attributes if name in ("src", "href") and not value.startswith("#")]
+        if tag not in ("meta", "input", "br"):
+            self.open.append(tag)
+
+    def handle_endtag(self, tag):
+        if not self.open or self.open.pop() != tag:
+            self.wrong.append(tag)
+
+
+class Pages(WithFolder):
+    """report.html."""
+
+    def page(self):
+        """The text of the page, which is well formed and fetches nothing."""
+        text = (self.out / "report.html").read_text(encoding="utf-8")
+        parser = Balanced()
+        parser.feed(text)
+        self.assertEqual((parser.open, parser.wrong, parser.fetched), ([], [], []))
+        self.assertEqual(re.findall("https?://[^\"]*", text), ["http://www.w3.org/2000/svg"] * text.count("<svg"))
+        return text
+
+    def test_a_plan(self):
+        self.flow(PLACES.replace("Mill", "M & <b>"), ROUTES.replace("Mill", "M & <b>").replace("cost", "cost,carrier").replace(",4\n", ",4,Ann\u00e9\n"),
+                  "--currency", "EUR", "--title", "Week 7")
+        text = self.page()
+        for part in ("<title>Week 7</title>", "<h1>Least cost: 171 EUR</h1>", "M &amp; &lt;b&gt;", "Ann\u00e9", "No plan for these tables costs less.",
+                     '<tr class=full><td>M &amp; &lt;b&gt;</td><td>Wien</td><td>exactly</td><td class="number" data-value="5">5</td></tr>'):
+            self.assertIn(part, text)
+        for name in ("instance.min", "answer.ans"):
+            self.assertIn(hashlib.sha256((self.out / name).read_bytes()).hexdigest(), text)
+
+    def test_numbers_as_the_tables_have_them(self):
+        self.flow("name;supply\nA;12500\nB;-12500\n", "from;to;most;cost\nA;B;;1,25\n")
+        self.assertIn("<h1>Least cost: 15\u202f625</h1>", self.page())
+        self.assertIn('<td class="number" data-value="1.25">1,25</td>', self.page())
+
+    def test_what_blocks(self):
+        self.flow("name,supply\nA,5\nB,-5\n", "from,to,most,cost\nA,B,4,1\n")
+        text = self.page()
+        for part in ("<h1 class=none>No plan exists: short by 1</h1>", "<b>must 5</b> &middot; <b>can 4</b> &middot; <b class=short>short by 1</b>",
+                     "Give A -&gt; B 1 more room, or move 1 of supply elsewhere."):
+            self.assertIn(part, text)
+
+    def test_pairs(self):
+        self.pairs(",X,Y\nA,1,2\nB,,2\n")
+        self.assertIn("<h1>Least cost: 3</h1>", self.page())
+        self.pairs(",X,Y\nA,,2\nB,,2\n")
+        self.assertIn("No such pairs exist: short by 1", self.page())
+
+    def test_no_picture(self):
+        self.flow(PLACES, ROUTES, "--no-picture")
+        self.assertNotIn("<svg", self.page())
+
+    @unittest.skipUnless(CHROMIUM, "Chromium isn't there: what the page does")
+    def test_in_chromium(self):
+        self.flow(PLACES, ROUTES + "Wien,Graz,0,9,9\nMill,Mill,0,9,9\nGraz,Mill,0,9,9\n")
+        tried = self.put("tried.html", self.page().replace("</script>\n</html>", TRIED + "</script>\n</html>"))
+        done = subprocess.run([CHROMIUM, "--headless=new", "--no-sandbox", "--disable-gpu", f"--user-data-dir={self.folder / 'profile'}", "--dump-dom",
+                               tried.as_uri()], stdout=subprocess.PIPE, stderr=subprocess.DEVNULL, timeout=60, check=True)
+        said = json.loads(html.unescape(re.search("<title>said (.*)</title>", done.stdout.decode())[1]))
+        self.assertEqual(said["down"], ["15", "15", "3", "0", "0", "0"])
+        self.assertEqual(said["up"], ["0", "0", "0", "3", "15", "15"])
+        self.assertEqual(said["names"], ["Graz", "Graz", "Mill", "Mill", "Mill", "Wien"])
+        self.assertEqual(said["filtered"], ["Mill", "Wien"])
+        self.assertEqual((sorted(said["carrying"]), said["count"]), (["15", "15", "3"], "3 of 6 lines"))
+        self.assertAlmostEqual(said["nearer"], 0.7)
+        self.assertAlmostEqual(said["whole"], 1)
+
+
+class Diff(WithFolder):
+    """`mcf_plan diff`."""
+
+    def made(self, name, places, routes):
+        """A plan in a folder of this name."""
+        self.out = self.folder / name
+        self.flow(places, routes)
+        return self.out
+
+    def test_two_plans(self):
+        old, new = self.made("old", PLACES, ROUTES), self.made("new", PLACES, ROUTES.replace("15,4", "18.5,4") + "Mill,Wien,0,1,1\n")
+        status, said, told = run("diff", old, new)
+        self.assertEqual((status, told), (0, ""))
+        self.assertEqual(said, "old: cost 171 (accepted again by mcfcheck)\nnew: cost 153 (accepted again by mcfcheck)\nThe cost falls by 18.\n4 of 4 differ:\n"
+                         "  Graz -> Wien: 3, now 0 (-3)\n  Mill -> Graz: 15, now 12 (-3)\n  Mill -> Wien: 15, now 17 (+2)\n"
+                         "  Mill -> Wien (2): not there, now 1 (+1)\n")
+        self.assertIn("The cost stays.\n0 of 3 differ.", run("diff", old, old)[1])
+
+    def test_a_plan_that_cannot_be(self):
+        old, new = self.made("old", PLACES, ROUTES), self.made("new", PLACES, ROUTES.replace("20", "2"))
+        status, said, _ = run("diff", old, new)
+        self.assertEqual(status, 0)
+        self.assertIn("new: No plan exists, as mcf found and mcfcheck accepted: (accepted again by mcfcheck)\n  Mill must send 30", said)
+
+    def test_folders_that_are_none_or_were_changed(self):
+        old = self.made("old", PLACES, ROUTES)
+        self.assertEqual(run("diff", old, self.folder)[0], 2)
+        (old / "plan.json").write_text("{}")
+        self.assertIn("its plan.json can't be read", run("diff", old, old)[2])
+        new = self.made("new", PLACES, ROUTES)
+        (new / "answer.ans").write_text("s 170\n")
+        status, _, told = run("diff", new, new)
+        self.assertEqual(status, 3)
+        self.assertIn("isn't what it was when the plan was made", told)
