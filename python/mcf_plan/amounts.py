@@ -3,7 +3,7 @@ import math
 import re
 from fractions import Fraction
 
-from .faults import shown
+from .faults import At, shown
 
 WHOLE = re.compile(r"[+-]?[0-9]{1,1000}")
 # A number with blanks or apostrophes between thousands.
@@ -72,7 +72,7 @@ class Numbers:
         """Settles the mark, where cells show one and nothing else was said."""
         if not self.mark and len(self.shown_by) == 2:
             (table, line, cell), (other, other_line, other_cell) = self.shown_by.values()
-            faults.add(other, other_line, "", "both marks", f"decimals stand after a point and after a comma: {shown(cell)} ({table.name}, line {line}) and "
+            faults.add(At(other, other_line, ""), "both marks", f"decimals stand after a point and after a comma: {shown(cell)} ({table.name}, line {line}) and "
                        f"{shown(other_cell)}; write them in one way, or say --decimal")
         self.mark = self.mark or next(iter(self.shown_by), None)
 
@@ -81,12 +81,12 @@ class Numbers:
         if WHOLE.fullmatch(cell):
             return int(cell)
         if not self.mark and EITHER.fullmatch(without_blanks(cell)):
-            faults.add(table, line, head, "either", f"{shown(cell)} may be {cell.replace(',', '').replace('.', '')} or a number with three decimals: "
+            faults.add(At(table, line, head), "either", f"{shown(cell)} may be {cell.replace(',', '').replace('.', '')} or a number with three decimals: "
                        "say --decimal , or --decimal . (what stands before decimals)", cell)
             return 0
         value = value_of(cell, "." if isinstance(cell, Figure) else self.mark or ".")
         if value is None:
-            faults.add(table, line, head, *self.fault(cell), cell)
+            faults.add(At(table, line, head), *self.fault(cell), cell)
             return 0
         if EITHER.fullmatch(cell) and not isinstance(cell, Figure) and not self.settled:
             self.settled = f"{shown(cell)} ({table.name}, line {line}) is read as {value if value.__class__ is int else float(value)}"
@@ -123,7 +123,7 @@ def coordinate_in(table, line, head, cell, faults):
     except ValueError:
         number = math.nan
     if not math.isfinite(number):
-        faults.add(table, line, head, "no spot", f"{shown(cell)} is no number (either all places have x and y, or leave the columns out)", cell)
+        faults.add(At(table, line, head), "no spot", f"{shown(cell)} is no number (either all places have x and y, or leave the columns out)", cell)
     return number
 
 

@@ -1,5 +1,8 @@
 """What ends a run without a plan, and the faults of tables by their kinds."""
+import collections
 
+# Where a cell stands: its table, its line, and its column by its head or by its number from 1; or a whole line.
+At = collections.namedtuple("At", "table line column", defaults=("",))
 # How many cells of one kind are named beside the first.
 TOLD_CELLS = 4
 
@@ -58,11 +61,11 @@ class Faults:
     def __init__(self):
         self.kinds = {}
 
-    def add(self, table, line, column, kind, text, cell=""):
-        """Notes what is wrong in a line of a table and a column, if it is one (a head, or a number from 1)."""
-        key = table.name, kind, column if isinstance(column, str) else None
-        where = f"{table.name}, line {line}" + (f", column {column}" if column else "")
-        self.kinds.setdefault(key, Kind(f"{where}: {text}")).add(line, cell)
+    def add(self, at, kind, text, cell=""):
+        """Notes what is wrong somewhere in a table."""
+        key = at.table.name, kind, at.column if isinstance(at.column, str) else None
+        where = f"{at.table.name}, line {at.line}" + (f", column {at.column}" if at.column else "")
+        self.kinds.setdefault(key, Kind(f"{where}: {text}")).add(at.line, cell)
 
     def has(self, table, kind):
         """Whether there was such a fault in a table."""

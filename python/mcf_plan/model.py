@@ -3,7 +3,7 @@ import collections
 import difflib
 
 from .amounts import NO_LIMIT, Numbers, Said, Units, coordinate_in, scale_of
-from .faults import Faults, shown
+from .faults import At, Faults, shown
 from .tables import cell_at, key_of, name_in, once
 from .workbook import tables_of
 
@@ -78,7 +78,7 @@ def places_of(table, numbers, faults):
     for line, cells in table.rows:
         name = name_in(table, line, "name", cell_at(cells, name_column), faults)
         if name:
-            once(table, line, "name", key_of(name), f"a place {shown(name)}", seen, faults)
+            once(At(table, line, "name"), key_of(name), f"a place {shown(name)}", seen, faults)
         supply = numbers.read(table, line, "supply", cell_at(cells, supply_column), faults)
         spot = tuple(coordinate_in(table, line, head, cell_at(cells, column), faults) for head, column in zip(SPOT_HEADS, spots)) if spots else None
         found.append(Place(name, supply, spot, line, cells))
@@ -91,7 +91,7 @@ def end_of(table, line, head, cell, numbers, faults):
     number = numbers.get(key_of(name), 0)
     if name and not number:
         near = [] if faults.has(table, "no place") else near_to(key_of(name), list(numbers))
-        faults.add(table, line, head, "no place", f"there is no place {shown(name)}" + (f"; is {shown(near[0])} meant?" if near else ""), name)
+        faults.add(At(table, line, head), "no place", f"there is no place {shown(name)}" + (f"; is {shown(near[0])} meant?" if near else ""), name)
     return number
 
 
@@ -120,5 +120,5 @@ def check_limits(table, routes, faults):
     below = next((route for route in routes if route.cost < 0), None)
     for route in routes if below else []:
         if route.most is None:
-            faults.add(table, route.line, "most", "no limit", f"this is empty, so without a limit, and a cost is below 0 (line {below.line}): a round trip "
+            faults.add(At(table, route.line, "most"), "no limit", f"this is empty, so without a limit, and a cost is below 0 (line {below.line}): a round trip "
                        "could earn without end; give a most")

@@ -3,7 +3,7 @@ import collections
 import re
 
 from .amounts import Numbers, Said, Units, scale_of
-from .faults import Faults, shown
+from .faults import At, Faults, shown
 from .tables import cell_at, key_of, name_in, once
 from .workbook import tables_of
 
@@ -28,14 +28,14 @@ class Side:
             self.numbers[key_of(name)] = len(self.names)
         return self.numbers[key_of(name)]
 
-    def say(self, table, line, column, number, cell, faults):
+    def say(self, at, number, cell, faults):
         """Notes how many one may have, in a cell that isn't empty; what was said before must be the same."""
         found = RANGE.fullmatch(cell)
         if cell and (not found or int(found[1]) > int(found[2] or found[1])):
-            faults.add(table, line, column, "range", f"{shown(cell)} is no number, and no range such as 2..3" +
+            faults.add(at, "range", f"{shown(cell)} is no number, and no range such as 2..3" +
                        ("; was it taken for a date?" if re.search(r"[0-9]{4}-|\.\s?\w{3}", cell) else ""), cell)
         elif cell and self.said.setdefault(number, found.groups()) != found.groups():
-            faults.add(table, line, column, "two ranges", f"{shown(self.names[number - 1])} has two different numbers: this is {shown(cell)}", cell)
+            faults.add(at, "two ranges", f"{shown(self.names[number - 1])} has two different numbers: this is {shown(cell)}", cell)
 
     def range_of(self, number, is_each):
         """How many one gets, at least and at most: just one of those that each have to, else at most one; or what was said."""
@@ -75,9 +75,9 @@ class Roster:
             name_in(table, line, "what", what, faults)
             ends = self.persons.number(who), self.things.number(what)
             if who and what:
-                once(table, line, "what", ends, f"the pair of {shown(who)} and {shown(what)}", seen, faults)
-            self.persons.say(table, line, "takes", ends[0], cell_at(cells, takes), faults)
-            self.things.say(table, line, "needs", ends[1], cell_at(cells, needs), faults)
+                once(At(table, line, "what"), ends, f"the pair of {shown(who)} and {shown(what)}", seen, faults)
+            self.persons.say(At(table, line, "takes"), ends[0], cell_at(cells, takes), faults)
+            self.things.say(At(table, line, "needs"), ends[1], cell_at(cells, needs), faults)
             if cost.casefold() not in FORBIDDEN:
                 pairs.append(Pair(*ends, self.numbers.read(table, line, "cost", cost, faults), line, "cost", cells))
         return pairs
@@ -91,12 +91,12 @@ class Roster:
         for line, cells in table.rows:
             if cells[0].casefold() == "needs":
                 for place, what in things:
-                    self.things.say(table, line, place + 1, what, cell_at(cells, place), faults)
+                    self.things.say(At(table, line, place + 1), what, cell_at(cells, place), faults)
                 continue
             name = name_in(table, line, 1, cells[0], faults)
-            once(table, line, 1, key_of(name), f"a person {shown(name)}", seen, faults)
+            once(At(table, line, 1), key_of(name), f"a person {shown(name)}", seen, faults)
             who = self.persons.number(name)
-            self.persons.say(table, line, "takes", who, cell_at(cells, takes), faults)
+            self.persons.say(At(table, line, "takes"), who, cell_at(cells, takes), faults)
             pairs += [Pair(who, what, self.numbers.read(table, line, place + 1, cells[place], faults), line, place + 1, None)
                       for place, what in things if cell_at(cells, place).casefold() not in FORBIDDEN]
         return pairs
@@ -107,6 +107,6 @@ class Roster:
         for place, title in enumerate(table.titles[1:], 1):
             if table.heads[place] != "takes" and (title or any(cell_at(cells, place) for _, cells in table.rows)):
                 name_in(table, table.head_line, place + 1, title, faults)
-                once(table, table.head_line, place + 1, key_of(title), f"a thing {shown(title)}", seen, faults)
+                once(At(table, table.head_line, place + 1), key_of(title), f"a thing {shown(title)}", seen, faults)
                 found.append((place, self.things.number(title)))
         return found

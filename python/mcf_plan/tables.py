@@ -6,7 +6,7 @@ import pathlib
 import re
 import unicodedata
 
-from .faults import Faults, bad_table, shown
+from .faults import At, Faults, bad_table, shown
 
 # How tables are read: the mark before decimals, the encoding, and own heads by those that are wanted.
 Reading = collections.namedtuple("Reading", "decimal encoding heads", defaults=(None, None, {}))
@@ -102,7 +102,7 @@ class Table:
         separator = named[1] if named else max(",;\t", key=lambda mark: rank_of(first, mark, known))
         table = cls(str(path), records_of(text, separator, str(path)), reading, separator, data.startswith((b"\xef\xbb\xbf", b"\xff\xfe", b"\xfe\xff")))
         if wrong:
-            faults.add(table, wrong[0], "", "encoding", wrong[1])
+            faults.add(At(table, wrong[0], ""), "encoding", wrong[1])
         return table
 
     def columns(self, wanted, hint=""):
@@ -110,12 +110,12 @@ class Table:
         faults = Faults()
         lacking = [head for head in wanted if head not in self.heads]
         if lacking:
-            faults.add(self, self.head_line, lacking[0], "no column",
+            faults.add(At(self, self.head_line, lacking[0]), "no column",
                        f"there is no such column among {', '.join(map(shown, self.titles))} (split at {shown(self.separator)}); {hint or 'wanted are'} "
                        f"{', '.join(wanted)}; where a head has another name, say so: --map {lacking[0]}=NAME")
         for head in wanted:
             if self.heads.count(head) > 1:
-                faults.add(self, self.head_line, head, "two columns", "there are two such columns")
+                faults.add(At(self, self.head_line, head), "two columns", "there are two such columns")
         faults.end()
         return [self.heads.index(head) for head in wanted]
 
@@ -132,7 +132,7 @@ class Table:
         for line, cells in self.rows:
             for place in range(len(self.titles), len(cells)):
                 if cells[place]:
-                    faults.add(self, line, place + 1, "beyond", f"a cell beyond the last head: {shown(cells[place])}", cells[place])
+                    faults.add(At(self, line, place + 1), "beyond", f"a cell beyond the last head: {shown(cells[place])}", cells[place])
 
     def kept(self, results):
         """The places of the columns that results are written after: all but those of earlier results."""
@@ -153,9 +153,9 @@ def cell_at(cells, place):
 def name_in(table, line, head, cell, faults):
     """The name that a cell has: any text of one line that isn't empty."""
     if not cell:
-        faults.add(table, line, head, "empty name", "the name is empty")
+        faults.add(At(table, line, head), "empty name", "the name is empty")
     elif CONTROL.search(cell) or NO_TEXT.search(cell):
-        faults.add(table, line, head, "control", f"the name {shown(cell)} has a line break or another control character", cell)
+        faults.add(At(table, line, head), "control", f"the name {shown(cell)} has a line break or another control character", cell)
     return cell
 
 
@@ -164,9 +164,9 @@ def key_of(name):
     return name if name.isascii() else unicodedata.normalize("NFC", name)
 
 
-def once(table, line, head, key, text, seen, faults):
+def once(at, key, text, seen, faults):
     """Notes a fault where the key was seen on an earlier line; else remembers it."""
     if key in seen:
-        faults.add(table, line, head, "twice", f"{text} stands on line {seen[key]} already", key if isinstance(key, str) else "")
+        faults.add(at, "twice", f"{text} stands on line {seen[key]} already", key if isinstance(key, str) else "")
     else:
-        seen[key] = line
+        seen[key] = at.line
