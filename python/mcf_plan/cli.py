@@ -1,6 +1,7 @@
 """The command line."""
 import argparse
 import os
+import re
 import signal
 import sys
 
@@ -18,7 +19,7 @@ from .results import Results
 from .solve import Programs, solve
 from .tables import Reading
 
-HEADS = ("name", "supply", "x", "y", "from", "to", "least", "most", "cost", "who", "what", "takes", "needs")
+HEADS = ("name", "supply", "x", "y", "from", "to", "least", "most", "cost", "both", "who", "what", "takes", "needs")
 STATUSES = "Status 0: a plan, accepted. 1: no plan exists, accepted. 2: a bad table or a wrong call. 3: anything else. 130: interrupted."
 
 
@@ -48,6 +49,7 @@ def options_of(words):
         command.set_defaults(act=act)
     for word, text in (("--unused", "supplies may stay where they are"), ("--short", "demands may be short, as little as can be or by --penalty")):
         flow.add_argument(word, choices=("allow", "refuse"), default="refuse", help=text)
+    flow.add_argument("--most-flow", action="store_true", help="as much as can be sent, at the least cost: --unused allow --short allow")
     flow.add_argument("--penalty", metavar="N", help="what each unit costs that is missing")
     flow.add_argument("--no-picture", action="store_true", help="draw no picture")
     compared = commands.add_parser("diff", help="two plans compared")
@@ -80,7 +82,7 @@ def add_reading(command):
 
 def reading_of(options):
     """How tables are read."""
-    wrong = [word for word in options.map if word.split("=")[0] not in HEADS or "=" not in word]
+    wrong = [word for word in options.map if re.sub("^(most|cost) [2-9]$", r"\1", word.split("=")[0]) not in HEADS or "=" not in word]
     if wrong:
         raise Stop(f"--map {wrong[0]}: say --map HEAD=NAME, where HEAD is one of {', '.join(HEADS)}", 2)
     return Reading(options.decimal, options.encoding, dict(word.split("=", 1) for word in options.map))
@@ -88,7 +90,7 @@ def reading_of(options):
 
 def policy_of(options, problem):
     """What may stay and what may be short."""
-    return Policy(options.unused == "allow", options.short == "allow", problem.penalty if options.penalty else None)
+    return Policy(options.unused == "allow" or options.most_flow, options.short == "allow" or options.most_flow, problem.penalty if options.penalty else None)
 
 
 def penalty_of(options):

@@ -4,38 +4,73 @@ import collections
 from .network import Arc, Network, parts_of
 from .solve import Instance
 
-STAYS, MISSING = "(stays)", "(missing)"
+STAYS, MISSING, THROUGH = "(stays)", "(missing)", "(through)"
 # Whether supplies may stay where they are, whether demands may be short, and what each unit short costs: None is so much that as little is short as can be.
 Policy = collections.namedtuple("Policy", "unused short penalty", defaults=(False, False, None))
-# What a plan says of a route: what it carries and what that costs; the room that is left (None: without a limit), what one more unit of room saves, and
-# whether just that. Of a place: minus its price, in which group that is exact, and how much stays there or is missing.
+# What a plan says of a route, or of what passes through a place: how much, and what that costs; the room that is left (None: without a limit), what one
+# more unit of room saves, and whether just that. Of a place: minus its price, in which group that is exact, how much stays there or is missing, and what
+# passes through it, where that has bounds.
 RouteResult = collections.namedtuple("RouteResult", "carries cost free saves is_exact")
-PlaceResult = collections.namedtuple("PlaceResult", "price group unmet")
+PlaceResult = collections.namedtuple("PlaceResult", "price group unmet through")
+# What an arc is for: its kind, the number from 0 of its route or place, and 1, or -1 where it leads a route's other way.
+Use = collections.namedtuple("Use", "kind number sign", defaults=(1,))
 
 
 class FlowNet(Network):
-    """The network of a problem: node k is the k-th place, arc k the k-th route; what a policy adds comes after them.
+    """The network of a problem: node k is the k-th place, and arc k the k-th route, or its first step; all that is more comes after them.
 
-    Each arc has a use: its kind, a word, and the number from 0 of its route or place. Where amounts may stay or be short there is one node more, the hub,
-    which takes what stays, gives what is missing, and has what lacks for a balance as its supply.
+    A place with bounds is two nodes with an arc between them: node k has what comes in and what is sent there, the other what goes out and what is taken.
+    Where amounts may stay or be short there is one node more, the hub, which takes what stays, gives what is missing, and has what lacks for a balance as
+    its supply.
     """
 
     def __init__(self, problem, policy=Policy()):
         super().__init__([place.supply for place in problem.places], [])
         self.problem, self.policy, self.uses, self.hub = problem, policy, [], None
-        for number, route in enumerate(problem.routes):
-            most = route.least + problem.reach() if route.most is None else route.most
-            self.add("route", number, Arc(route.tail, route.head, route.least, most, route.cost))
+        self.outs = list(range(1, len(problem.places) + 1))
+        self.place_of = list(range(len(problem.places)))
+        for number, place in enumerate(problem.places):
+            if place.bounds:
+                self.split(number, place)
+        self.add_routes()
+        for number, place in enumerate(problem.places):
+            if place.bounds:
+                most = problem.throughput() if place.bounds.most is None else place.bounds.most
+                self.add(Use("through", number), Arc(number + 1, self.outs[number], place.bounds.least, most, place.bounds.cost))
         # No sum of costs along a way without repetition is beyond this.
         self.bound = sum(abs(arc.cost) for arc in self.arcs)
         total = sum(self.supplies)
         if (policy.unused and total >= 0) or (policy.short and total <= 0) or (policy.unused and policy.short):
             self.add_hub(-total)
 
-    def add(self, kind, number, arc):
+    def add(self, use, arc):
         """Adds an arc."""
         self.arcs.append(arc)
-        self.uses.append((kind, number))
+        self.uses.append(use)
+
+    def split(self, number, place):
+        """Makes a place two nodes."""
+        self.supplies.append(min(0, place.supply))
+        self.supplies[number] = max(0, place.supply)
+        self.outs[number] = len(self.supplies)
+        self.place_of.append(number)
+
+    def add_routes(self):
+        """Adds the routes, each with its first step, then further steps and other ways."""
+        reach, more = self.problem.reach(), []
+        for number, route in enumerate(self.problem.routes):
+            tail, head, rest, arcs = self.outs[route.tail - 1], route.head, route.least, []
+            for step in route.steps:
+                # Costs rise, so that what has to be carried fills one step after the other.
+                least = rest if step is route.steps[-1] else min(rest, step.most)
+                arcs.append(Arc(tail, head, least, rest + reach if step.most is None else step.most, step.cost))
+                rest = max(0, rest - least)
+            self.add(Use("route", number), arcs[0])
+            more += [(Use("route", number), arc) for arc in arcs[1:]]
+            if route.both:
+                more += [(Use("route", number, -1), arc._replace(tail=self.outs[route.head - 1], head=route.tail)) for arc in arcs]
+        for use, arc in more:
+            self.add(use, arc)
 
     def add_hub(self, supply):
         """Adds the hub."""
@@ -45,9 +80,9 @@ class FlowNet(Network):
         penalty = 1 + 2 * self.bound if self.policy.penalty is None else self.policy.penalty
         for number, place in enumerate(self.problem.places):
             if place.supply > 0 and self.policy.unused:
-                self.add("stays", number, Arc(number + 1, self.hub, 0, place.supply, 0))
+                self.add(Use("stays", number), Arc(number + 1, self.hub, 0, place.supply, 0))
             if place.supply < 0 and self.policy.short:
-                self.add("missing", number, Arc(self.hub, number + 1, 0, -place.supply, penalty))
+                self.add(Use("missing", number), Arc(self.hub, self.outs[number], 0, -place.supply, penalty))
 
     def instance(self):
         """The network as text, with where its lines come from."""
@@ -57,70 +92,78 @@ class FlowNet(Network):
         size = [(problem.route_table, problem.route_table.head_line, {"size": "from"})]
         places = [(problem.place_table, place.line, {"supply": "supply"}) for place in problem.places]
         places += [None] * (len(self.supplies) - len(places))
-        made.add(self.lines(), size + places + [self.origin(*use) for use in self.uses])
+        made.add(self.lines(), size + places + [self.origin(use) for use in self.uses])
         return made
 
-    def origin(self, kind, number):
+    def origin(self, use):
         """Where an arc comes from."""
-        if kind == "route":
-            route = self.problem.routes[number]
-            return self.problem.route_table, route.line, columns_of(route)
-        return self.problem.place_table, self.problem.places[number].line, {"bound": "supply", "cost": "supply", "total": "supply"}
+        table, rows = (self.problem.route_table, self.problem.routes) if use.kind == "route" else (self.problem.place_table, self.problem.places)
+        if use.kind == "route":
+            return table, rows[use.number].line, columns_of(rows[use.number])
+        if use.kind == "through":
+            return table, rows[use.number].line, columns_of(rows[use.number].bounds)
+        return table, rows[use.number].line, {"bound": "supply", "cost": "supply", "total": "supply"}
 
     def node_name(self, node):
         """What a node is called."""
-        return self.problem.places[node - 1].name
+        return self.problem.places[self.place_of[node - 1]].name
 
     def ends(self, k):
         """The names of an arc's ends."""
-        kind, number = self.uses[k]
-        if kind == "route":
-            return self.problem.ends(self.problem.routes[number])
-        name = self.problem.places[number].name
-        return (name, STAYS) if kind == "stays" else (MISSING, name)
+        use = self.uses[k]
+        if use.kind == "route":
+            return self.problem.ends(self.problem.routes[use.number])[::use.sign]
+        name = self.problem.places[use.number].name
+        return {"stays": (name, STAYS), "missing": (MISSING, name), "through": (name, THROUGH)}[use.kind]
 
-    def results(self, plan):
-        """What an accepted plan says."""
-        return FlowPlan(self, plan)
+    def home(self, number):
+        """The node of a place where one unit more is sent, or is taken."""
+        return number + 1 if self.problem.places[number].supply > 0 else self.outs[number]
 
 
 class FlowPlan:
     """What a plan says of each route and each place."""
 
     def __init__(self, net, plan):
-        self.net, self.problem, self.prices = net, net.problem, plan.prices
-        self.flows = plan.flows
+        self.net, self.problem, self.prices, self.flows = net, net.problem, plan.prices, plan.flows
         loose = [arc for arc, flow in zip(net.arcs, plan.flows) if arc.least < flow < arc.most]
         parts = parts_of(range(1, len(net.supplies) + 1), loose)
         self.group = {node: count for count, part in enumerate(parts, 1) for node in part}
-        self.routes = [self.route(number) for number in range(len(self.problem.routes))]
-        unmet = collections.Counter()
-        for (kind, number), flow in zip(net.uses, plan.flows):
-            unmet[number] += flow if kind in ("stays", "missing") else 0
-        self.places = [PlaceResult(-plan.prices[number], self.group[number + 1], unmet[number]) for number in range(len(self.problem.places))]
-        self.penalties = sum(flow * arc.cost for (kind, _), flow, arc in zip(net.uses, plan.flows, net.arcs) if kind == "missing")
+        arcs_of = collections.defaultdict(list)
+        for k, use in enumerate(net.uses):
+            arcs_of[use.kind, use.number].append(k)
+        self.routes = [self.result(arcs_of["route", number], route.most, route.both) for number, route in enumerate(self.problem.routes)]
+        self.places = [self.place(number, arcs_of) for number in range(len(self.problem.places))]
+        self.penalties = sum(flow * arc.cost for use, flow, arc in zip(net.uses, plan.flows, net.arcs) if use.kind == "missing")
         # The default penalty is there to have little missing: it's no cost.
         self.cost = plan.cost - (self.penalties if net.policy.penalty is None else 0)
+
+    def place(self, number, arcs_of):
+        """What the plan says of a place."""
+        place, home = self.problem.places[number], self.net.home(number)
+        unmet = sum(self.flows[k] for kind in ("stays", "missing") for k in arcs_of.get((kind, number), ()))
+        through = self.result(arcs_of["through", number], place.bounds.most, False) if place.bounds else None
+        return PlaceResult(-self.prices[home - 1], self.group[home], unmet, through)
 
     def saves(self, k):
         """What one more unit of room on an arc would save at most: by so much the prices undercut its cost."""
         arc = self.net.arcs[k]
         return max(0, self.prices[arc.tail - 1] - self.prices[arc.head - 1] - arc.cost)
 
-    def is_exact(self, k):
-        """Whether one more unit of room would save just so much: where it saves, a unit can go on from the arc's end to its beginning within a group.
+    def result(self, arcs, most, both):
+        """What the plan says of the arcs of a route, or of a place: the room that could be more is that of the last step, either way.
 
-        Nodes of one group are joined by arcs that can carry one unit more, and one less, at no change of cost beyond the prices: they carry amounts
-        between their least and their most, and their reduced cost is 0.
+        One more unit of room saves just so much where, if it saves, a unit can go on from the arc's end to its beginning within a group. Nodes of one group
+        are joined by arcs that can carry one unit more, and one less, at no change of cost beyond the prices: they carry amounts between their least and
+        their most, and their reduced cost is 0.
         """
-        arc = self.net.arcs[k]
-        return self.saves(k) == 0 or self.group[arc.tail] == self.group[arc.head]
-
-    def route(self, number):
-        """What the plan says of a route."""
-        route, flow = self.problem.routes[number], self.flows[number]
-        free = None if route.most is None else route.most - flow
-        return RouteResult(flow, route.cost * flow, free, self.saves(number), self.is_exact(number))
+        carries = sum(self.net.uses[k].sign * self.flows[k] for k in arcs)
+        cost = sum(self.net.arcs[k].cost * self.flows[k] for k in arcs)
+        widest = [[k for k in arcs if self.net.uses[k].sign == sign][-1] for sign in ((1, -1) if both else (1,))]
+        last = max(widest, key=self.saves)
+        arc = self.net.arcs[last]
+        is_exact = self.saves(last) == 0 or self.group[arc.tail] == self.group[arc.head]
+        return RouteResult(carries, cost, None if most is None else most - (abs(carries) if both else carries), self.saves(last), is_exact)
 
     def rate(self, number):
         """What one more unit saves or costs, as text: where it is but the default penalty, in words."""
@@ -137,7 +180,7 @@ class FlowPlan:
         return [(place, result.unmet) for place, result in zip(self.problem.places, self.places) if result.unmet and (place.supply > 0) == is_supply]
 
 
-def columns_of(route):
-    """The columns of a route that the words of a refusal mean."""
-    farther = "least" if route.most is not None and abs(route.least) > abs(route.most) else "most"
+def columns_of(bounds):
+    """The columns of a route, or of a place, that the words of a refusal mean."""
+    farther = "least" if bounds.most is not None and abs(bounds.least) > abs(bounds.most) else "most"
     return {"bound": farther, "order": "least", "cost": "cost", "total": "cost"}

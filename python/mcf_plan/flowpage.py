@@ -41,11 +41,7 @@ def told(number, mark, unit):
 
 def savings(plan):
     """The table of what one more unit of room saves."""
-    found = sorted(((-result.saves, number) for number, result in enumerate(plan.routes) if result.saves))[:50]
-    rows = []
-    for saves, number in found:
-        exact = "exactly" if plan.routes[number].is_exact else "at most"
-        rows.append(("full", [*plan.problem.ends(plan.problem.routes[number]), exact, plan.rate(-saves)]))
+    rows = [("full", [*ends, "exactly" if result.is_exact else "at most", plan.rate(result.saves)]) for ends, result in report.savings_of(plan)[:50]]
     columns = [("from", ""), ("to", ""), ("exact", "whether it saves just that"), ("one more unit saves", "")]
     return [Sheet("What one more unit of room saves", columns, rows)] if rows else []
 
@@ -59,12 +55,17 @@ def routes_sheet(plan):
         share = "" if not route.most else Share(100 * abs(result.carries) / abs(route.most))
         kind = "full" if plan.is_full(number) else "" if result.carries else "idle"
         exact = "" if not result.saves else "exactly" if result.is_exact else "at most"
-        rows.append((kind, [*problem.ends(route), units.amount(route.least), units.amount(route.most), units.rate(route.cost), units.amount(result.carries),
+        rows.append((kind, [*problem.ends(route), units.amount(route.least), units.amount(route.most), costs_cell(units, route), units.amount(result.carries),
                             units.total(result.cost), share, plan.rate(result.saves) if result.saves else "", exact,
                             *(cell_at(route.cells, place) for place in own)]))
     rows, note = listed_rows(rows)
     totals = ["", "", "", "", "", "", units.total(sum(result.cost for result in plan.routes)), "", ""] + [""] * (1 + len(own))
     return Sheet("Routes", ROUTE_COLUMNS + [(table.titles[place], "") for place in own], rows, totals, note)
+
+
+def costs_cell(units, route):
+    """The cost of each unit of a route; where it rises by steps, all of them."""
+    return units.rate(route.cost) if len(route.steps) == 1 else ", ".join(map(units.rate, route.costs()))
 
 
 def places_sheet(plan):

@@ -15,8 +15,8 @@ Task = collections.namedtuple("Task", "sizes spots links labels starts")
 
 # What Graphviz may take, in seconds; and a picture in ranks that is wider than this is laid out by springs, as are nets of many routes both ways.
 PATIENCE, WIDEST = 10, 2400
-# How far the places of a map stand apart.
-SPREAD = 235
+# How far the places of a map stand apart: boxes, and dots.
+SPREAD, DOTS_SPREAD = 235, 26
 
 
 def laid_out(task):
@@ -99,10 +99,10 @@ def forward(points, tail):
 # ---- Without it
 
 
-def map_boxes(task):
-    """Boxes on a map, y going up: as far apart as all need to be, if that isn't too far."""
+def map_boxes(task, spread=SPREAD):
+    """Boxes on a map, y going up."""
     xs, ys = [x for x, _ in task.spots], [y for _, y in task.spots]
-    wide = SPREAD * math.sqrt(len(xs)) + 200
+    wide = spread * math.sqrt(len(xs)) + 200
     scale = min(wide / ((max(xs) - min(xs)) or 1e-9), wide * 0.72 / ((max(ys) - min(ys)) or 1e-9))
     if max(xs) == min(xs) and max(ys) == min(ys):
         scale = 1

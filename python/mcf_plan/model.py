@@ -10,10 +10,33 @@ from .workbook import tables_of
 PLACE_HEADS = ("name", "supply")
 ROUTE_HEADS = ("from", "to", "most", "cost")
 SPOT_HEADS = ("x", "y")
+BOUND_HEADS = ("least", "most", "cost")
+YES, NO = ("yes", "y", "x", "1", "true", "ja", "j"), ("", "no", "n", "0", "false", "nein")
 
-# A place, or a route between two places by their numbers from 1, with the line and the cells of its table. A most of None is no limit.
-Place = collections.namedtuple("Place", "name supply spot line cells")
-Route = collections.namedtuple("Route", "tail head least most cost line cells")
+# A place: what passes through it, which comes in or is sent there, has bounds and a cost of its own if they are said (else None); its line and its cells.
+Place = collections.namedtuple("Place", "name supply spot bounds line cells")
+# How much may pass through a place, and what each unit costs there; a most of None is no limit.
+Bounds = collections.namedtuple("Bounds", "least most cost")
+# A part of what a route carries: so much at most, each unit at this cost. Costs rise from step to step.
+Step = collections.namedtuple("Step", "most cost")
+
+
+class Route(collections.namedtuple("Route", "tail head least steps both line cells")):
+    """A route between two places by their numbers from 1, perhaps to be used both ways, with the line and the cells of its table."""
+
+    @property
+    def most(self):
+        """What it carries at most; None is no limit."""
+        return None if self.steps[-1].most is None else sum(step.most for step in self.steps)
+
+    @property
+    def cost(self):
+        """What each of its first units costs."""
+        return self.steps[0].cost
+
+    def costs(self):
+        """What all its units cost, for the tables of people: a cost for each step."""
+        return [step.cost for step in self.steps]
 
 
 class Problem:
@@ -22,13 +45,16 @@ class Problem:
     def __init__(self, tables, places, routes, numbers, penalty=0):
         self.place_table, self.route_table = tables
         self.numbers = numbers
-        amounts = [place.supply for place in places] + [route.least for route in routes] + [route.most for route in routes if route.most is not None]
-        self.units = Units(scale_of(amounts), scale_of([route.cost for route in routes] + [penalty]))
+        bounds = [place.bounds for place in places if place.bounds]
+        steps = [step for route in routes for step in route.steps]
+        amounts = [place.supply for place in places] + [route.least for route in routes] + [part.least for part in bounds]
+        amounts += [part.most for part in steps + bounds if part.most is not None]
+        self.units = Units(scale_of(amounts), scale_of([part.cost for part in steps + bounds] + [penalty]))
         self.said = Said(self.units, numbers.mark)
-        self.penalty = int(penalty * self.units.costs)
-        self.places = [place._replace(supply=self.whole(place.supply)) for place in places]
-        self.routes = [route._replace(least=self.whole(route.least), most=self.whole(route.most), cost=int(route.cost * self.units.costs))
-                       for route in routes]
+        self.penalty = self.whole_cost(penalty)
+        self.places = [place._replace(supply=self.whole(place.supply), bounds=self.whole_bounds(place.bounds)) for place in places]
+        self.routes = [route._replace(least=self.whole(route.least),
+                                      steps=tuple(Step(self.whole(step.most), self.whole_cost(step.cost)) for step in route.steps)) for route in routes]
 
     @classmethod
     def read(cls, paths, reading, penalty=0):
@@ -36,13 +62,13 @@ class Problem:
         faults, numbers = Faults(), Numbers(reading.decimal)
         tables = tables_of(paths, (PLACE_HEADS, ROUTE_HEADS), reading, faults)
         check_heads(*tables)
-        for table, heads in zip(tables, (("supply",), ("least", "most", "cost"))):
+        for table in tables:
             table.check_widths(faults)
-            numbers.look(table, [place for place in map(table.perhaps, heads) if place is not None])
+            numbers.look(table, [place for place, head in enumerate(table.heads) if head.split(" ")[0] in ("supply", *BOUND_HEADS)])
         numbers.settle(faults)
         places = places_of(tables[0], numbers, faults)
         routes = routes_of(tables[1], places, numbers, faults)
-        check_limits(tables[1], routes, faults)
+        check_limits(tables, places, routes, faults)
         faults.end()
         return cls(tables, places, routes, numbers, penalty)
 
@@ -50,12 +76,25 @@ class Problem:
         """An amount in whole numbers."""
         return None if amount is None else int(amount * self.units.amounts)
 
+    def whole_cost(self, cost):
+        """A cost of a unit in whole numbers."""
+        return int(cost * self.units.costs)
+
+    def whole_bounds(self, bounds):
+        """Bounds in whole numbers."""
+        return bounds and Bounds(self.whole(bounds.least), self.whole(bounds.most), self.whole_cost(bounds.cost))
+
     def reach(self):
         """What no route without a limit carries beyond its least, in some plan that costs least where no cost is below 0.
 
         Beyond the leasts such a plan has no round trip, so each route carries a part of what all places and leasts send on.
         """
-        return 1 + sum(max(0, place.supply) for place in self.places) + sum(abs(route.least) for route in self.routes)
+        leasts = [route.least for route in self.routes] + [place.bounds.least for place in self.places if place.bounds]
+        return 1 + sum(max(0, place.supply) for place in self.places) + sum(map(abs, leasts))
+
+    def throughput(self):
+        """What passes through no place, whatever the plan, where no route is without a limit; and beyond the reach where one is."""
+        return self.reach() + sum(abs(route.least) + abs(route.most) for route in self.routes if route.most is not None)
 
     def ends(self, route):
         """The names of a route's ends."""
@@ -81,8 +120,18 @@ def places_of(table, numbers, faults):
             once(At(table, line, "name"), key_of(name), f"a place {shown(name)}", seen, faults)
         supply = numbers.read(table, line, "supply", cell_at(cells, supply_column), faults)
         spot = tuple(coordinate_in(table, line, head, cell_at(cells, column), faults) for head, column in zip(SPOT_HEADS, spots)) if spots else None
-        found.append(Place(name, supply, spot, line, cells))
+        found.append(Place(name, supply, spot, bounds_of(table, line, cells, numbers, faults), line, cells))
     return found
+
+
+def bounds_of(table, line, cells, numbers, faults):
+    """The bounds of what passes through a place, where any is said."""
+    least, most, cost = (cell_at(cells, table.perhaps(head)) for head in BOUND_HEADS)
+    if not (least or most or cost):
+        return None
+    return Bounds(numbers.read(table, line, "least", least or "0", faults),
+                  None if most.casefold() in NO_LIMIT else numbers.read(table, line, "most", most, faults),
+                  numbers.read(table, line, "cost", cost or "0", faults))
 
 
 def end_of(table, line, head, cell, numbers, faults):
@@ -102,23 +151,56 @@ def near_to(name, names):
 
 def routes_of(table, places, numbers, faults):
     """The routes of a table, between places."""
-    tails, heads, mosts, costs = table.columns(ROUTE_HEADS)
-    leasts = table.perhaps("least")
+    tails, heads, _, _ = table.columns(ROUTE_HEADS)
+    leasts, ways, steps = table.perhaps("least"), table.perhaps("both"), step_columns(table)
     known = {key_of(place.name): number for number, place in enumerate(places, 1)}
     found = []
     for line, cells in table.rows:
         ends = [end_of(table, line, head, cell_at(cells, column), known, faults) for head, column in (("from", tails), ("to", heads))]
-        least, most = cell_at(cells, leasts), cell_at(cells, mosts)
-        found.append(Route(*ends, numbers.read(table, line, "least", least, faults) if least else 0,
-                           None if most.casefold() in NO_LIMIT else numbers.read(table, line, "most", most, faults),
-                           numbers.read(table, line, "cost", cell_at(cells, costs), faults), line, cells))
+        least = cell_at(cells, leasts)
+        route = Route(*ends, numbers.read(table, line, "least", least, faults) if least else 0,
+                      steps_of(table, (line, cells), steps, numbers, faults), cell_at(cells, ways).casefold() in YES, line, cells)
+        if cell_at(cells, ways).casefold() not in YES + NO:
+            faults.add(At(table, line, "both"), "both", f"{shown(cell_at(cells, ways))} is neither yes nor no", cell_at(cells, ways))
+        if route.both and (route.least != 0 or route.cost < 0):
+            faults.add(At(table, line, "both"), "both bounds", "a route that is used both ways has no least, and no cost below 0")
+        found.append(route)
     return found
 
 
-def check_limits(table, routes, faults):
+def step_columns(table):
+    """The columns of the steps: most and cost, then most 2 and cost 2, and so on."""
+    found = [(("most", "cost"), table.columns(("most", "cost")))]
+    while f"most {len(found) + 1}" in table.heads:
+        heads = (f"most {len(found) + 1}", f"cost {len(found) + 1}")
+        found.append((heads, table.columns(heads)))
+    return found
+
+
+def steps_of(table, row, columns, numbers, faults):
+    """The steps of a route: the first, and those that are filled."""
+    (line, cells), found = row, []
+    for heads, places in columns:
+        most, cost = (cell_at(cells, place) for place in places)
+        if found and not (most or cost):
+            break
+        if found and found[-1].most is None:
+            faults.add(At(table, line, heads[0]), "after no limit", "the step before is without a limit")
+        found.append(Step(None if most.casefold() in NO_LIMIT else numbers.read(table, line, heads[0], most, faults),
+                          numbers.read(table, line, heads[1], cost, faults)))
+        if len(found) > 1 and cost and found[-1].cost < found[-2].cost:
+            faults.add(At(table, line, heads[1]), "falling cost", f"{shown(cost)} is below the cost of the step before: units that get cheaper with more of them "
+                       "make no minimum-cost flow", cost)
+        if len(found) > 1 and (found[-1].most or 0) < 0:
+            faults.add(At(table, line, heads[0]), "step below 0", f"{shown(most)} is below 0, and this step adds to the one before", most)
+    return tuple(found)
+
+
+def check_limits(tables, places, routes, faults):
     """Notes routes without a limit where a cost is below 0: a round trip could earn without end."""
-    below = next((route for route in routes if route.cost < 0), None)
+    below = [f"line {route.line}" for route in routes if route.cost < 0]
+    below += [f"{tables[0].name}, line {place.line}" for place in places if place.bounds and place.bounds.cost < 0]
     for route in routes if below else []:
         if route.most is None:
-            faults.add(At(table, route.line, "most"), "no limit", f"this is empty, so without a limit, and a cost is below 0 (line {below.line}): a round trip "
-                       "could earn without end; give a most")
+            faults.add(At(tables[1], route.line, "most"), "no limit", f"this is empty, so without a limit, and a cost is below 0 ({below[0]}): a "
+                       "round trip could earn without end; give a most")

@@ -5,6 +5,7 @@ import math
 import unicodedata
 
 from . import layout
+from .flownet import Use
 
 # Of more places or routes than these no boxes are drawn but dots; of more routes than the last, those that carry nothing are left out.
 BOXES, CURVES, ALL_ROUTES = 300, 1500, 90
@@ -44,20 +45,27 @@ def plan_scene(plan):
 def blocked_scene(blocked):
     """What is drawn where no plan exists: the bottlenecks, and of many places just those and what is next to them."""
     net, problem, amount = blocked.eased, blocked.net.problem, blocked.net.problem.said.amount
-    marked = {k: kind for bottleneck in blocked.bottlenecks for kind, arcs in (("forces", bottleneck.forcing), ("limits", bottleneck.limiting)) for k in arcs}
-    groups = [{node - 1 for node in bottleneck.nodes if node <= len(problem.places)} for bottleneck in blocked.bottlenecks]
+    marked = {net.uses[k]: kind for bottleneck in blocked.bottlenecks
+              for kind, arcs in (("forces", bottleneck.forcing), ("limits", bottleneck.limiting)) for k in arcs}
+    groups = [{net.place_of[node - 1] for node in bottleneck.nodes} for bottleneck in blocked.bottlenecks]
     links = []
     for k, route in enumerate(problem.routes):
-        kind = marked.get(k, "other")
-        label = {"limits": f"≤ {amount(net.arcs[k].most)}", "forces": f"≥ {amount(route.least)}", "other": ""}[kind]
+        kind = marked.get(Use("route", k)) or marked.get(Use("route", k, -1), "other")
+        label = {"limits": f"≤ {amount(route.most)}", "forces": f"≥ {amount(route.least)}", "other": ""}[kind]
         title = f"{' -> '.join(problem.ends(route))}: {limits_text(problem, route)}"
         links.append(Link(route.tail - 1, route.head - 1, 1.2 if kind == "other" else 2.6, kind, label, title))
     heading = "No plan exists: " + "; ".join(f"short by {amount(bottleneck.must - bottleneck.can)}" for bottleneck in blocked.all()[:3])
     if blocked.is_unbalanced:
         supply, demand = (sum(max(0, sign * place.supply) for place in problem.places) for sign in (1, -1))
         heading = f"No plan exists: supply {amount(supply)}, demand {amount(demand)}"
-    scene = Scene(heading, [node_of(problem, place) for place in problem.places], links, groups, {"limits": "limits them"} if marked else {})
+    nodes = [limited(node_of(problem, place), Use("through", number) in marked, place, amount) for number, place in enumerate(problem.places)]
+    scene = Scene(heading, nodes, links, groups, {"limits": "limits them"} if marked else {})
     return near_scene(scene) if len(scene.nodes) > NEAR and any(groups) else scene
+
+
+def limited(node, is_limited, place, amount):
+    """A place as it is drawn, with what may pass through it where that limits a bottleneck."""
+    return node._replace(note=", ".join(filter(None, [node.note, f"≤ {amount(place.bounds.most)} pass"]))) if is_limited else node
 
 
 def near_scene(scene):
@@ -83,6 +91,8 @@ def node_of(problem, place, unmet=0):
 def limits_text(problem, route):
     """What a route carries at least and at most."""
     least, most = problem.said.amount(route.least), problem.said.amount(route.most)
+    if route.both:
+        return f"{most or 'any amount'}, either way"
     return f"{least} to {most}" if most else f"{least} or more"
 
 
@@ -272,7 +282,7 @@ def dot_spots(scene):
     """Where the dots stand."""
     task = task_of(scene)
     if task.spots:
-        return [(box.x, box.y) for box in layout.map_boxes(task._replace(sizes=[(0, 0)] * len(scene.nodes)))]
+        return [(box.x, box.y) for box in layout.map_boxes(task._replace(sizes=[(0, 0)] * len(scene.nodes)), layout.DOTS_SPREAD)]
     levels = layout.levels_of(len(scene.nodes), task.links, task.starts)
     across, spots = 0, [None] * len(levels)
     high = max(8, math.ceil(math.sqrt(len(levels))))

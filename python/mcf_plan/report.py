@@ -1,6 +1,6 @@
 """What is written and said of a flow: tables, and a summary."""
 from .amounts import Figure
-from .flownet import MISSING, STAYS
+from .flownet import MISSING, STAYS, THROUGH
 from .words import TOLD_NAMES, count_of, listed
 
 
@@ -21,8 +21,19 @@ def write_flows(results, plan):
 
 def write_prices(results, plan):
     """Writes prices.csv: the places in their order, with the columns that they had. What a unit costs at a place is minus its price."""
-    rows = [(place.cells, [plan.rate(result.price), Figure(result.group)]) for place, result in zip(plan.problem.places, plan.places)]
-    results.after("prices", plan.problem.place_table, ["one_more_costs", "group"], rows)
+    has_bounds = any(place.bounds for place in plan.problem.places)
+    rows = [(place.cells, [plan.rate(result.price), Figure(result.group)] + (through_cells(plan, result.through) if has_bounds else []))
+            for place, result in zip(plan.problem.places, plan.places)]
+    more = ["passes", "passing_costs", "free", "one_more_saves", "exact"] if has_bounds else []
+    results.after("prices", plan.problem.place_table, ["one_more_costs", "group"] + more, rows)
+
+
+def through_cells(plan, through):
+    """What passes through a place, as a route has it."""
+    units = plan.problem.units
+    if not through:
+        return [""] * 5
+    return [units.amount(through.carries), units.total(through.cost), units.amount(through.free), plan.rate(through.saves), "yes" if through.is_exact else "no"]
 
 
 def write_bottlenecks(results, net, bottlenecks):
@@ -30,13 +41,20 @@ def write_bottlenecks(results, net, bottlenecks):
     amount, rows = net.problem.units.amount, []
     for count, bottleneck in enumerate(bottlenecks, 1):
         sign = 1 if bottleneck.side == "send" else -1
+        supplies = {}
         for node in bottleneck.nodes:
-            rows.append([Figure(count), bottleneck.side, "place", net.node_name(node), "", "", amount(sign * net.supplies[node - 1]), ""])
+            supplies[net.node_name(node)] = supplies.get(net.node_name(node), 0) + sign * net.supplies[node - 1]
+        rows += [[Figure(count), bottleneck.side, "place", name, "", "", amount(supply), ""] for name, supply in supplies.items()]
         for k in bottleneck.forcing:
-            rows.append([Figure(count), bottleneck.side, "route", "", *net.ends(k), amount(net.arcs[k].least), ""])
+            rows.append([Figure(count), bottleneck.side, *arc_cells(net, k), amount(net.arcs[k].least), ""])
         for k in bottleneck.limiting:
-            rows.append([Figure(count), bottleneck.side, "route", "", *net.ends(k), "", amount(net.arcs[k].most)])
+            rows.append([Figure(count), bottleneck.side, *arc_cells(net, k), "", amount(net.arcs[k].most)])
     results.table("bottleneck", net.problem.route_table, ["bottleneck", "side", "kind", "name", "from", "to", "must", "can"], rows)
+
+
+def arc_cells(net, k):
+    """What an arc is, as cells."""
+    return ["through", net.ends(k)[0], "", ""] if net.uses[k].kind == "through" else ["route", "", *net.ends(k)]
 
 
 def balance_of(problem):
@@ -56,8 +74,8 @@ def balance_sentence(problem):
 def bottleneck_sentence(net, bottleneck):
     """These places must send (or take) N, and can only M, over these routes: short by N - M."""
     amount = net.problem.said.amount
-    names = listed([net.node_name(node) for node in bottleneck.nodes])
-    named = f"{names} together" if len(bottleneck.nodes) > 1 else names
+    places = list(dict.fromkeys(net.node_name(node) for node in bottleneck.nodes))
+    named = listed(places) + (" together" if len(places) > 1 else "")
     must = f"{named} must {bottleneck.side} {amount(bottleneck.must)}"
     if bottleneck.forcing:
         must += f" (with the least of {listed([route_text(net, k, net.arcs[k].least) for k in bottleneck.forcing])})"
@@ -69,8 +87,9 @@ def bottleneck_sentence(net, bottleneck):
 
 
 def route_text(net, k, number):
-    """A route with an amount."""
-    return f"{' -> '.join(net.ends(k))} ({net.problem.said.amount(number)})"
+    """A route, or what passes through a place, with an amount."""
+    name = f"through {net.ends(k)[0]}" if net.uses[k].kind == "through" else " -> ".join(net.ends(k))
+    return f"{name} ({net.problem.said.amount(number)})"
 
 
 def blocked_summary(blocked):
@@ -88,17 +107,26 @@ def flow_summary(plan):
     problem = plan.problem
     carrying = sum(1 for result in plan.routes if result.carries)
     full = sum(1 for result in plan.routes if result.free == 0)
+    passing = sum(result.through.cost for result in plan.places if result.through)
     lines = [f"A least-cost plan, written by mcf and accepted by mcfcheck: cost {problem.said.total(plan.cost)}.",
              f"{count_of(len(problem.places), 'place', 'places')}, {count_of(len(problem.routes), 'route', 'routes')}: "
              f"{carrying} {'carries' if carrying == 1 else 'carry'} something, {full} {'is' if full == 1 else 'are'} full."]
-    lines += unmet_lines(plan)
-    saving = sorted((-result.saves, number) for number, result in enumerate(plan.routes) if result.saves)
+    lines += unmet_lines(plan) + ([f"Passing through places costs {problem.said.total(passing)} of that."] if passing else [])
+    saving = savings_of(plan)
     if saving:
         lines.append("One more unit of room would save most on:")
-    for saves, number in saving[:5]:
-        at_most = "" if plan.routes[number].is_exact else "at most "
-        lines.append(f"  {' -> '.join(problem.ends(problem.routes[number]))}: {at_most}{problem.said.text(plan.rate(-saves))}")
+    for ends, result in saving[:5]:
+        at_most = "" if result.is_exact else "at most "
+        lines.append(f"  {' -> '.join(ends)}: {at_most}{problem.said.text(plan.rate(result.saves))}")
     return lines
+
+
+def savings_of(plan):
+    """The routes and the places where more room would save, the greatest savings first."""
+    problem = plan.problem
+    found = [(problem.ends(route), result) for route, result in zip(problem.routes, plan.routes)]
+    found += [((place.name, THROUGH), result.through) for place, result in zip(problem.places, plan.places) if result.through]
+    return sorted(((ends, result) for ends, result in found if result.saves), key=lambda pair: -pair[1].saves)
 
 
 def unmet_lines(plan):

@@ -44,7 +44,7 @@ class Examples(WithFolder):
             for number, (route, result) in enumerate(zip(problem.routes, plan.routes)):
                 if result.free:
                     continue
-                wider = problem.routes[:number] + [route._replace(most=route.most + 1)] + problem.routes[number + 1:]
+                wider = problem.routes[:number] + [route._replace(steps=route.steps[:-1] + (model.Step(route.steps[-1].most + 1, route.steps[-1].cost),))] + problem.routes[number + 1:]
                 again = self.solved(problem, routes=wider)
                 with self.subTest(name=name, route=route):
                     self.assertLessEqual(plan.cost - again.cost, result.saves)

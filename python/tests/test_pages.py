@@ -2,9 +2,11 @@
 import hashlib
 import html.parser
 import json
+import random
 import re
 import shutil
 import subprocess
+import time
 import unittest
 
 from support import PLACES, ROUTES, WithFolder, run
@@ -93,6 +95,21 @@ class Pages(WithFolder):
         self.assertIn("<h1>Least cost: 3</h1>", self.page())
         self.pairs(",X,Y\nA,,2\nB,,2\n")
         self.assertIn("No such pairs exist: short by 1", self.page())
+
+    def test_three_thousand_places(self):
+        draw = random.Random(3)
+        amounts = [draw.randint(1, 40) for _ in range(3000)]
+        places = ["name,supply,x,y"] + [f"Ort {k},{-amounts[k] if k % 10 else sum(amounts[k + 1:k + 10])},{draw.random():.4f},{draw.random():.4f}" for k in range(3000)]
+        routes = ["from,to,most,cost"] + [f"Ort {k - k % 10},Ort {k},,{draw.randint(1, 99)}.5" for k in range(3000) if k % 10]
+        routes += [f"Ort {draw.randrange(3000)},Ort {draw.randrange(3000)},{draw.randint(1, 60)},{draw.randint(1, 40)}.25" for _ in range(17300)]
+        begun = time.monotonic()
+        status, said, told = self.flow("\n".join(places), "\n".join(routes))
+        self.assertEqual((status, told), (0, ""))
+        self.assertIn("3000 places, 20000 routes", said)
+        self.assertLess(time.monotonic() - begun, 40)
+        text = self.page()
+        self.assertEqual(text.count("<circle"), 3003)
+        self.assertIn("of 20000 lines: of so many, only such as carry something.", text)
 
     def test_no_picture(self):
         self.flow(PLACES, ROUTES, "--no-picture")
