@@ -4,7 +4,7 @@
 # make clean  takes away what was proved and built: bin/, and out/ of each crate
 # make bench  the measurements of bench/
 # make tools-test   the tests of python/ and tools/, on the plans of examples/plans/ too: needs the programs of bin/ and Python 3.8; a part of make test
-# make install      puts the programs, the planner's tool and the manual pages under PREFIX (and DESTDIR before it); make uninstall removes just these
+# make install      puts the programs, the tools and the manual pages under PREFIX (and DESTDIR before it); make uninstall removes just these
 
 .PHONY: all kit test memory-test clean bench tools-test install uninstall
 .NOTPARALLEL:
@@ -42,18 +42,20 @@ tools-test:
 PREFIX = /usr/local
 BIN = $(DESTDIR)$(PREFIX)/bin
 MAN = $(DESTDIR)$(PREFIX)/share/man/man1
+TOOLS = mcf_plan mcf_explain
+PACKAGES = mcf_plan mcf_explain
 PYTHON = $(DESTDIR)$(PREFIX)/share/mcf/python
 
 # Nothing is built here, so that what was proved by one user can be installed by another.
 install:
 	@test -x bin/mcf && test -x bin/mcfcheck || { echo "make install: bin/mcf and bin/mcfcheck aren't there; run make first" >&2; exit 1; }
-	install -d "$(BIN)" "$(MAN)" "$(PYTHON)/mcf_plan"
-	install -m 755 bin/mcf bin/mcfcheck tools/mcf_plan "$(BIN)"
-	install -m 644 python/mcf_plan/*.* "$(PYTHON)/mcf_plan"
-	install -m 644 man/mcf.1 man/mcfcheck.1 man/mcf_plan.1 "$(MAN)"
+	install -d "$(BIN)" "$(MAN)" $(PACKAGES:%="$(PYTHON)/%")
+	install -m 755 bin/mcf bin/mcfcheck $(TOOLS:%=tools/%) "$(BIN)"
+	for package in $(PACKAGES); do install -m 644 python/$$package/*.* "$(PYTHON)/$$package" || exit 1; done
+	install -m 644 man/mcf.1 man/mcfcheck.1 $(TOOLS:%=man/%.1) "$(MAN)"
 
 uninstall:
-	rm -f "$(BIN)/mcf" "$(BIN)/mcfcheck" "$(BIN)/mcf_plan"
-	rm -f "$(MAN)/mcf.1" "$(MAN)/mcfcheck.1" "$(MAN)/mcf_plan.1"
-	rm -rf "$(PYTHON)/mcf_plan"
+	rm -f "$(BIN)/mcf" "$(BIN)/mcfcheck" $(TOOLS:%="$(BIN)/%")
+	rm -f "$(MAN)/mcf.1" "$(MAN)/mcfcheck.1" $(TOOLS:%="$(MAN)/%.1")
+	rm -rf $(PACKAGES:%="$(PYTHON)/%")
 	-rmdir -p "$(PYTHON)" 2> /dev/null

@@ -1,0 +1,120 @@
+"""The command line of mcf_explain."""
+import pathlib
+import sys
+import tempfile
+
+from mcf_plan import life
+from mcf_plan.cli import Parser, prepare
+from mcf_plan.faults import Rejected, Stop, trouble
+from mcf_plan.solve import Programs
+
+from .reading import faults_of
+from .words import magic_of, said_of
+
+# How many further faults of a kind are told, and how much of a line is shown.
+TOLD, SHOWN = 3, 100
+
+
+def shown_line(fault):
+    """The line of a fault with a caret below it; of a long line the part around."""
+    if not fault.row:
+        return []
+    start = fault.row.starts[fault.field] if fault.field < len(fault.row.starts) else len(fault.row.line)
+    before, after = (part.decode("utf-8", "backslashreplace") for part in (fault.row.line[:start], fault.row.line[start:]))
+    before, after = ("".join(c if c.isprintable() else " " if c == "\t" else f"\\x{ord(c):02x}" for c in part.rstrip("\r")) for part in (before, after))
+    before = before if len(before) <= SHOWN else "..." + before[-SHOWN + 3:]
+    after = after if len(after) <= SHOWN else after[:SHOWN - 3] + "..."
+    return ["    " + before + after, "    " + " " * len(before) + "^"]
+
+
+def first_lines(name, fault, data):
+    """All that is said of the first fault."""
+    sentence, cause = said_of(fault)
+    lines = [f"{name}: line {fault.number}: {sentence} (mcf: r {fault.number} {fault.code})"] + shown_line(fault)
+    magic = magic_of(data) if fault.number == 1 or b"\n" not in data else None
+    return lines + ([f"Usual cause: {magic or cause}."] if magic or cause else [])
+
+
+def further_lines(faults):
+    """What is said of the faults after the first: some of each kind, and how many more."""
+    kinds = {}
+    for fault in faults:
+        lines, _ = kinds.setdefault(fault.code, ([], [0, 0]))
+        if len(lines) < TOLD:
+            lines.append(f"line {fault.number}: {said_of(fault)[0]} ({fault.code})")
+        kinds[fault.code][1][:] = kinds[fault.code][1][0] + 1, fault.number
+    told = []
+    for code, (lines, (count, last)) in kinds.items():
+        told += lines + ([f"and {count - len(lines)} more of {code}, the last in line {last}"] if count > len(lines) else [])
+    return (["Further on, where mcf doesn't look any more:"] if told else []) + told
+
+
+def agreement(programs, data, fault):
+    """A line where what was found first isn't the refusal of the instance, as `mcfcheck` judges it."""
+    with tempfile.TemporaryDirectory() as scratch:
+        instance, answer = pathlib.Path(scratch, "instance"), pathlib.Path(scratch, "answer")
+        instance.write_bytes(data)
+        answer.write_text(f"r {fault.number} {fault.code}\n" if fault else "r 1 kind\n")
+        try:
+            programs.verdict(instance, answer)
+            is_right = fault is not None
+        except Rejected as rejected:
+            is_right = fault is None and "rejected kind" in str(rejected)
+    return [] if is_right else ["MCF SEES IT OTHERWISE: mcfcheck doesn't accept what is said here. Believe mcf; please report the instance."]
+
+
+def explained(name, data, programs):
+    """The lines that are said, and the status."""
+    faults = faults_of(data)
+    with life.doing("reads the instance"):
+        first = next(faults, None)
+        lines = [f"{name}: mcf refuses nothing here."] if first is None else first_lines(name, first, data)
+        rest = [] if first is None or (magic_of(data) and first.number == 1) else further_lines(faults)
+    against = agreement(programs, data, first) if programs else []
+    unsure = [] if programs else ["(mcfcheck isn't there, so this wasn't compared with what mcf says.)"]
+    return lines + rest + unsure + against, 3 if against else 0 if first is None else 2
+
+
+def programs_in(folder):
+    """The programs, or None where they aren't there and weren't named."""
+    try:
+        return Programs(folder)
+    except Stop:
+        if folder:
+            raise
+        return None
+
+
+def data_of(file):
+    """The bytes of a file, or of standard input."""
+    try:
+        return sys.stdin.buffer.read() if file is None else pathlib.Path(file).read_bytes()
+    except OSError as error:
+        raise trouble(f"{file}: {error.strerror}")
+
+
+def main(words):
+    """Does what the words ask, and gives the exit status: 0 where there is no fault, 2 where there is one, 3 for anything else."""
+    parser = Parser(prog="mcf_explain", description="Why mcf refuses an instance: the first fault in words, and all further ones.")
+    parser.add_argument("file", nargs="?", metavar="FILE", help="the instance; without it, standard input")
+    parser.add_argument("--programs", metavar="FOLDER", help="where mcf and mcfcheck are")
+    try:
+        prepare()
+        if hasattr(sys, "set_int_max_str_digits"):
+            sys.set_int_max_str_digits(0)
+        options = parser.parse_args(words)
+        lines, status = explained(options.file or "standard input", data_of(options.file), programs_in(options.programs))
+        print("\n".join(lines), flush=True)
+        return status
+    except Stop as stop:
+        # 2 is the status of an instance that has a fault.
+        text, status = str(stop), max(stop.status, 3)
+    except KeyboardInterrupt:
+        text, status = "interrupted", 130
+    except MemoryError:
+        text, status = "out of memory", 3
+    except OSError as error:
+        sys.stdout = None
+        text, status = f"{error.filename or 'the output'}: {error.strerror}", 3
+    print(f"mcf_explain: {text}", file=sys.stderr)
+    return status
