@@ -42,7 +42,7 @@ tools-test:
 PREFIX = /usr/local
 BIN = $(DESTDIR)$(PREFIX)/bin
 MAN = $(DESTDIR)$(PREFIX)/share/man/man1
-TOOLS = mcf_plan mcf_explain
+TOOLS = mcf_plan mcf_explain mcf_one
 PACKAGES = mcf_plan mcf_explain
 PYTHON = $(DESTDIR)$(PREFIX)/share/mcf/python
 
