@@ -3,7 +3,7 @@ import math
 import re
 from fractions import Fraction
 
-from .faults import At, shown
+from .faults import At, Stop, shown
 
 WHOLE = re.compile(r"[+-]?[0-9]{1,1000}")
 # A number with blanks or apostrophes between thousands.
@@ -90,6 +90,13 @@ class Numbers:
             return 0
         if EITHER.fullmatch(cell) and not isinstance(cell, Figure) and not self.settled:
             self.settled = f"{shown(cell)} ({table.name}, line {line}) is read as {value if value.__class__ is int else float(value)}"
+        return value
+
+    def penalty(self, text):
+        """A cost that isn't below 0, of the command line, written as the tables are."""
+        value = None if not self.mark and EITHER.fullmatch(without_blanks(text)) else value_of(text, self.mark or mark_in(text) or ".")
+        if value is None or value < 0:
+            raise Stop(f"--penalty {text}: this is no cost, written as in the tables", 2)
         return value
 
     def fault(self, cell):

@@ -5,18 +5,10 @@ import re
 import signal
 import sys
 
-from . import flowpage, life, pairs, picture, report
-from .amounts import value_of
-from .blocked import Blocked
+from .commands import flow_command, pairs_command
 from .diff import diff_command
 from .faults import Stop, trouble
-from .flownet import FlowNet, FlowPlan, Policy
-from .folder import results_in
-from .model import Problem
-from .page import Writer
-from .record import write_record
 from .results import Results
-from .solve import Programs, solve
 from .tables import Reading
 
 HEADS = ("name", "supply", "x", "y", "from", "to", "least", "most", "cost", "both", "who", "what", "takes", "needs")
@@ -42,7 +34,7 @@ def options_of(words):
     paired.add_argument("costs", metavar="COSTS", help="a table with the columns who, what and cost, or a matrix of persons by things")
     paired.add_argument("--each", choices=("who", "what", "both"), help="who gets one: each person (the usual), each thing (where takes or needs are said), or both")
     paired.add_argument("--maximise", "--maximize", action="store_true", help="costs are values: the greatest sum")
-    for command, act in ((flow, flow_command), (paired, pairs.pairs_command)):
+    for command, act in ((flow, flow_command), (paired, pairs_command)):
         command.add_argument("-o", "--output", dest="folder", metavar="FOLDER", required=True, help="where the results are written")
         command.add_argument("--programs", metavar="FOLDER", help="where mcf and mcfcheck are, if not beside this tool, in bin/ or on the path")
         add_reading(command)
@@ -86,56 +78,6 @@ def reading_of(options):
     if wrong:
         raise Stop(f"--map {wrong[0]}: say --map HEAD=NAME, where HEAD is one of {', '.join(HEADS)}", 2)
     return Reading(options.decimal, options.encoding, dict(word.split("=", 1) for word in options.map))
-
-
-def policy_of(options, problem):
-    """What may stay and what may be short."""
-    return Policy(options.unused == "allow" or options.most_flow, options.short == "allow" or options.most_flow, problem.penalty if options.penalty else None)
-
-
-def penalty_of(options):
-    """The penalty of a unit that is missing."""
-    value = value_of(options.penalty, options.decimal or ".") if options.penalty else 0
-    if value is None or value < 0 or (options.penalty and options.short != "allow"):
-        raise Stop(f"--penalty {options.penalty}: it is a cost, and comes with --short allow", 2)
-    return value
-
-
-def flow_command(options, reading):
-    """Does `flow`: gives the lines of the summary and the status."""
-    with life.doing("reads the tables"):
-        problem = Problem.read(options.tables, reading, penalty_of(options))
-    programs, net = Programs(options.programs), FlowNet(problem, policy_of(options, problem))
-    with results_in(options.folder) as folder:
-        results = Results(folder, options, problem.numbers.mark, [problem.place_table, problem.route_table])
-        answer, cost, parts = solve(programs, folder, net.instance()), None, []
-        if answer:
-            plan = FlowPlan(net, answer)
-            report.write_flows(results, plan)
-            report.write_prices(results, plan)
-            lines, scene = report.flow_summary(plan), picture.plan_scene(plan)
-            cost = problem.units.total(plan.cost)
-            parts = [(*problem.ends(route), problem.units.amount(result.carries)) for route, result in zip(problem.routes, plan.routes)]
-        else:
-            blocked = Blocked(programs, folder, net)
-            report.write_bottlenecks(results, blocked.eased, blocked.all())
-            lines, scene = report.blocked_summary(blocked), picture.blocked_scene(blocked)
-        results.finish()
-        drawn = drawn_in(folder, scene, options)
-        page = flowpage.plan_page(plan, options, drawn) if answer else flowpage.blocked_page(blocked, options, drawn)
-        (folder / "report.html").write_text(Writer(folder, "instance.min", problem.numbers.mark).html(page), encoding="utf-8")
-        write_record(folder, "instance.min", "flow", lines, cost, parts)
-    return lines + problem.numbers.told(), 0 if answer else 1
-
-
-def drawn_in(folder, scene, options):
-    """The picture, which is written, unless none is wanted."""
-    if options.no_picture:
-        return None
-    with life.doing("draws the picture"):
-        drawn = picture.svg_of(scene)
-    (folder / "plan.svg").write_text(drawn, encoding="utf-8")
-    return drawn
 
 
 def prepare():

@@ -42,26 +42,26 @@ class Route(collections.namedtuple("Route", "tail head least steps both line cel
 class Problem:
     """The places and the routes of two tables, in whole numbers; `units` says what these are in the tables."""
 
-    def __init__(self, tables, places, routes, numbers, penalty=0):
+    def __init__(self, tables, places, routes, numbers, penalty=None):
         self.place_table, self.route_table = tables
         self.numbers = numbers
         bounds = [place.bounds for place in places if place.bounds]
         steps = [step for route in routes for step in route.steps]
         amounts = [place.supply for place in places] + [route.least for route in routes] + [part.least for part in bounds]
         amounts += [part.most for part in steps + bounds if part.most is not None]
-        self.units = Units(scale_of(amounts), scale_of([part.cost for part in steps + bounds] + [penalty]))
+        self.units = Units(scale_of(amounts), scale_of([part.cost for part in steps + bounds] + [penalty or 0]))
         self.said = Said(self.units, numbers.mark)
-        self.penalty = self.whole_cost(penalty)
+        self.penalty = None if penalty is None else self.whole_cost(penalty)
         self.places = [place._replace(supply=self.whole(place.supply), bounds=self.whole_bounds(place.bounds)) for place in places]
         self.routes = [route._replace(least=self.whole(route.least),
                                       steps=tuple(Step(self.whole(step.most), self.whole_cost(step.cost)) for step in route.steps)) for route in routes]
 
     @classmethod
-    def read(cls, paths, reading, penalty=0):
-        """The problem of two files, or of a workbook with two sheets. The penalty is a cost that comes with them."""
+    def read(cls, paths, reading, penalty=None):
+        """The problem of two files, or of a workbook with two sheets. The penalty is a cost, as text, that comes with them."""
         faults, numbers = Faults(), Numbers(reading.decimal)
         tables = tables_of(paths, (PLACE_HEADS, ROUTE_HEADS), reading, faults)
-        check_heads(*tables)
+        check_heads(*tables, faults)
         for table in tables:
             table.check_widths(faults)
             numbers.look(table, [place for place, head in enumerate(table.heads) if head.split(" ")[0] in ("supply", *BOUND_HEADS)])
@@ -70,7 +70,7 @@ class Problem:
         routes = routes_of(tables[1], places, numbers, faults)
         check_limits(tables, places, routes, faults)
         faults.end()
-        return cls(tables, places, routes, numbers, penalty)
+        return cls(tables, places, routes, numbers, numbers.penalty(penalty) if penalty else None)
 
     def whole(self, amount):
         """An amount in whole numbers."""
@@ -101,12 +101,13 @@ class Problem:
         return self.places[route.tail - 1].name, self.places[route.head - 1].name
 
 
-def check_heads(place_table, route_table):
+def check_heads(place_table, route_table, faults):
     """Ends the run where heads are missing; tables that were exchanged are told."""
-    if route_table.has(PLACE_HEADS) and place_table.has(ROUTE_HEADS[:2]):
-        place_table.columns(PLACE_HEADS, "this looks like the table of routes, which comes second; of places wanted are")
-    place_table.columns(PLACE_HEADS)
-    route_table.columns(ROUTE_HEADS)
+    exchanged = route_table.has(PLACE_HEADS) and place_table.has(ROUTE_HEADS[:2])
+    place_table.need(PLACE_HEADS, faults, "this looks like the table of routes, which comes second; of places wanted are" if exchanged else "wanted are")
+    route_table.need(ROUTE_HEADS, faults)
+    if not place_table.has(PLACE_HEADS) or not route_table.has(ROUTE_HEADS):
+        faults.end()
 
 
 def places_of(table, numbers, faults):

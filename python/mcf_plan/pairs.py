@@ -1,13 +1,8 @@
 """The network of persons and things, its plan, and who competes."""
-from . import pairspage
 from .amounts import Figure
-from .folder import results_in
 from .network import Arc, Network
-from .page import Writer
-from .record import write_record
-from .results import Results
-from .roster import PAIR_HEADS, Roster
-from .solve import Instance, Programs, bottlenecks_of, solve
+from .roster import PAIR_HEADS
+from .solve import Instance
 from .words import TOLD_NAMES, count_of, listed
 
 
@@ -131,27 +126,3 @@ def each_hint(roster):
     if len(roster.takes) > len(roster.needs) and all(least == 1 for least, _ in roster.takes) and all(most == 1 for _, most in roster.needs):
         return ["With --each what each thing would get a person, and persons may be left over."]
     return []
-
-
-def pairs_command(options, reading):
-    """Does `pairs`: gives the lines of the summary and the status."""
-    roster = Roster(options.costs, reading, options.each, options.maximise)
-    programs, net = Programs(options.programs), RosterNet(roster)
-    with results_in(options.folder) as folder:
-        results, instance = Results(folder, options, roster.numbers.mark, [roster.table]), net.instance()
-        plan, chosen, cost = solve(programs, folder, instance), [], None
-        if plan:
-            chosen = sorted((pair for pair, flow in zip(roster.pairs, plan.flows) if flow), key=lambda pair: pair[:2])
-            cost = roster.units.total(plan.cost)
-            write_pairs(results, roster, chosen)
-            lines = summary(roster, chosen, plan.cost)
-            page = pairspage.plan_page(roster, chosen, plan.cost, lines, options)
-        else:
-            found = bottlenecks_of(programs, folder / instance.name, net, net.hub, net.whole)
-            write_bottlenecks(results, net, found)
-            lines = blocked_lines(net, found)
-            page = pairspage.blocked_page(net, found, options)
-        results.finish()
-        write_record(folder, instance.name, "pairs", lines, cost, [(*map(net.name, (pair.who, net.persons + pair.what)), "1") for pair in chosen])
-        (folder / "report.html").write_text(Writer(folder, instance.name, roster.numbers.mark).html(page), encoding="utf-8")
-    return lines + roster.numbers.told(), 0 if plan else 1

@@ -33,13 +33,21 @@ def plan_scene(plan):
     for number, (route, result) in enumerate(zip(problem.routes, plan.routes)):
         if len(problem.routes) <= ALL_ROUTES or result.carries or route.most == 0:
             kind = "full" if plan.is_full(number) else "flowing" if result.carries else "idle"
-            title = f"{' -> '.join(problem.ends(route))}: {amount(result.carries)} of {limits_text(problem, route)}, cost {total(result.cost)}"
-            width = 1.4 + 7.6 * abs(result.carries) / widest if result.carries else 1
-            links.append(Link(route.tail - 1, route.head - 1, width, kind, amount(result.carries) if result.carries else "", title))
+            links.append(plan_link(problem, route, result, kind, widest))
     left_out = len(problem.routes) - len(links)
     heading = f"A least-cost plan: cost {total(plan.cost)}" + (f" ({left_out} idle routes aren't drawn)" if left_out else "")
     nodes = [node_of(problem, place, result.unmet) for place, result in zip(problem.places, plan.places)]
     return Scene(heading, nodes, links, [], {"flowing": f"as wide as it carries (widest {amount(widest)})", "full": "full"})
+
+
+def plan_link(problem, route, result, kind, widest):
+    """A route as it is drawn in a plan: one that is used its other way leads there."""
+    turned, amount = route.both and result.carries < 0, problem.said.amount
+    carries = abs(result.carries) if turned else result.carries
+    (tail, head), names = (route.tail, route.head)[::-1 if turned else 1], problem.ends(route)[::-1 if turned else 1]
+    title = f"{' -> '.join(names)}: {amount(carries)} of {limits_text(problem, route)}, cost {problem.said.total(result.cost)}"
+    width = 1.4 + 7.6 * abs(carries) / widest if carries else 1
+    return Link(tail - 1, head - 1, width, kind, amount(carries) if carries else "", title)
 
 
 def blocked_scene(blocked):

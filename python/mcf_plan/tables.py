@@ -11,7 +11,7 @@ from .faults import At, Faults, bad_table, shown
 # How tables are read: the mark before decimals, the encoding, and own heads by those that are wanted.
 Reading = collections.namedtuple("Reading", "decimal encoding heads", defaults=(None, None, {}))
 
-NO_TEXT, CONTROL = re.compile("[\udc80-\udcff]"), re.compile("[\x00-\x1f\x7f-\x9f]")
+CONTROL = re.compile("[\x00-\x1f\x7f-\x9f]")
 SEPARATOR_LINE = re.compile(r'"?sep=(.)"?\s*', re.IGNORECASE)
 # What other files begin with.
 OTHER_FILES = {
@@ -105,17 +105,21 @@ class Table:
             faults.add(At(table, wrong[0], ""), "encoding", wrong[1])
         return table
 
-    def columns(self, wanted, hint=""):
-        """The places of the columns with these heads, each of which has to be there once."""
-        faults = Faults()
+    def need(self, wanted, faults, hint="wanted are"):
+        """Notes the columns that are wanted and aren't there, or are there twice."""
         lacking = [head for head in wanted if head not in self.heads]
         if lacking:
             faults.add(At(self, self.head_line, lacking[0]), "no column",
-                       f"there is no such column among {', '.join(map(shown, self.titles))} (split at {shown(self.separator)}); {hint or 'wanted are'} "
+                       f"there is no such column among {', '.join(map(shown, self.titles))} (split at {shown(self.separator)}); {hint} "
                        f"{', '.join(wanted)}; where a head has another name, say so: --map {lacking[0]}=NAME")
         for head in wanted:
             if self.heads.count(head) > 1:
                 faults.add(At(self, self.head_line, head), "two columns", "there are two such columns")
+
+    def columns(self, wanted):
+        """The places of the columns with these heads, each of which has to be there once."""
+        faults = Faults()
+        self.need(wanted, faults)
         faults.end()
         return [self.heads.index(head) for head in wanted]
 
@@ -154,7 +158,7 @@ def name_in(table, line, head, cell, faults):
     """The name that a cell has: any text of one line that isn't empty."""
     if not cell:
         faults.add(At(table, line, head), "empty name", "the name is empty")
-    elif CONTROL.search(cell) or NO_TEXT.search(cell):
+    elif CONTROL.search(cell):
         faults.add(At(table, line, head), "control", f"the name {shown(cell)} has a line break or another control character", cell)
     return cell
 

@@ -4,7 +4,7 @@ import decimal
 import io
 
 from .amounts import Figure
-from .faults import bad_table, shown
+from .faults import At, bad_table, shown
 from .tables import Table, bytes_of, is_workbook
 
 
@@ -21,6 +21,10 @@ def tables_of(paths, wanted, reading, faults):
             raise bad_table(f"{path}: this is no workbook with two sheets: name the table of routes, too")
         else:
             found.append(Table.of_text(path, data, heads, reading, faults))
+    titles = {title.casefold() for table in found for title in table.titles}
+    for head, own in reading.heads.items():
+        if own.casefold() not in titles:
+            faults.add(At(found[-1], found[-1].head_line, own), "map", f"there is no such column, which --map {head}={own} names", own)
     return found
 
 

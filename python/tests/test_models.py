@@ -184,6 +184,7 @@ class Columns(WithFolder):
         status, said, _ = self.flow("name,supply\nA,5\nB,-4\nC,-1\n", routes)
         self.assertEqual(status, 0)
         self.assertEqual([row["carries"] for row in rows_of(self.out / "flows.csv")], ["4", "0", "-1"])
+        self.assertIn("<title>A -&gt; C: 1 of 9, either way, cost 1</title>", (self.out / "plan.svg").read_text())
         self.assertIn("cost 13.", said)
         for cells, text in (("A,B,4,3,perhaps", "'perhaps' is neither yes nor no"), ("A,B,4,-3,yes", "has no least, and no cost below 0")):
             self.assertIn(text, self.flow("name,supply\nA,0\nB,0\n", f"from,to,most,cost,both\n{cells}\n")[2])

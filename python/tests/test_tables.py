@@ -56,6 +56,11 @@ class BadTables(WithFolder):
                 self.assertIn(holds, told)
                 self.assertFalse(self.out.exists())
 
+    def test_heads_of_both_tables_are_told_at_once(self):
+        told = self.flow("Ort;Menge\nA;1\n", "Von;Nach\nA;B\n")[2]
+        for text in ("places.csv, line 1, column name: there is no such column among 'Ort', 'Menge'", "routes.csv, line 1, column from: there is no such"):
+            self.assertIn(text, told)
+
     def test_each_kind_of_fault_is_told_once(self):
         places = "name,supply\n" + "".join(f"A{k},x{k}\n" for k in range(300)) + "A1,1\n"
         routes = ROUTES + "".join(f"A1,B{k},0,1,1e{k}\n" for k in range(300))
@@ -148,6 +153,8 @@ class Reading(WithFolder):
         words = [word for pair in ("name=Ort", "supply=Angebot", "from=von", "to=Nach", "most=Max", "cost=Preis") for word in ("--map", pair)]
         self.assertEqual(self.flow(places, routes, *words)[0], 0)
         self.assertEqual((self.out / "flows.csv").read_text().splitlines()[0], "Von;Nach;Max;Preis;carries;total;free;one_more_saves;exact")
+        told = self.flow(places, routes, *words, "--map", "least=Mindest")[2]
+        self.assertIn("column Mindest: there is no such column, which --map least=Mindest names", told)
         for wrong in ("name", "nome=Ort"):
             self.assertIn(f"--map {wrong}: say --map HEAD=NAME", self.flow(places, routes, "--map", wrong)[2])
 
