@@ -87,10 +87,10 @@ class Problem:
     def reach(self):
         """What no route without a limit carries beyond its least, in some plan that costs least where no cost is below 0.
 
-        Beyond the leasts such a plan has no round trip, so each route carries a part of what all places and leasts send on.
+        Beyond the leasts such a plan has no round trip, so each route carries a part of what places, leasts and a hub, which gives what is missing, send on.
         """
         leasts = [route.least for route in self.routes] + [place.bounds.least for place in self.places if place.bounds]
-        return 1 + sum(max(0, place.supply) for place in self.places) + sum(map(abs, leasts))
+        return 1 + sum(abs(place.supply) for place in self.places) + sum(map(abs, leasts))
 
     def throughput(self):
         """What passes through no place, whatever the plan, where no route is without a limit; and beyond the reach where one is."""
