@@ -8,8 +8,19 @@ from .words import listed
 ROUTE_COLUMNS = [("from", "where the route begins"), ("to", "where it ends"), ("least", "it carries no less"), ("most", "it carries no more; empty: no limit"),
                  ("cost", "of each unit"), ("carries", "in this plan"), ("total", "cost of what it carries"), ("of its room", "what it carries of its most"),
                  ("one more saves", "what one more unit of room saves"), ("exact", "whether it saves just that")]
-PLACE_COLUMNS = [("name", ""), ("supply", "above 0 it sends, below 0 it takes"), ("unmet", "what stays, or is missing"),
-                 ("one more costs", "what one more unit costs there"), ("group", "among places of one group that is exact")]
+PLACE_COLUMNS = [("name", ""), ("supply", "above 0 it sends, below 0 it takes"), ("one more costs", "what one more unit costs there"),
+                 ("group", "among places of one group that is exact")]
+UNMET_COLUMNS = [("unmet", "what stays, or is missing")]
+THROUGH_COLUMNS = [("passes", "what comes in and what is sent there"), ("passes at most", "empty: no limit"), ("passing costs", "in this plan"),
+                   ("one more saves", "what one more unit of room saves")]
+# Heads of columns that the page shows anyway.
+USED = ("from", "to", "least", "most", "cost", "name", "supply", "x", "y")
+RESULTS = ("carries", "total", "free", "one_more_saves", "exact", "one_more_costs", "group")
+
+
+def own_columns(table):
+    """The columns of a table that are the planner's own."""
+    return [place for place, head in enumerate(table.heads) if head not in USED and table.titles[place].casefold() not in RESULTS]
 
 
 def plan_page(plan, options, picture):
@@ -23,15 +34,6 @@ def plan_page(plan, options, picture):
     lead = ["No plan for these tables costs less."] + report.unmet_lines(plan)
     return Page(options.title or "A least-cost plan", f"Least cost: {told(total, problem.numbers.mark, options.currency)}", True, lead, facts, [], picture,
                 savings(plan) + [routes_sheet(plan), places_sheet(plan)])
-
-# Heads of columns that the page shows anyway.
-USED = ("from", "to", "least", "most", "cost", "name", "supply", "x", "y")
-RESULTS = ("carries", "total", "free", "one_more_saves", "exact", "one_more_costs", "group")
-
-
-def own_columns(table):
-    """The columns of a table that are the planner's own."""
-    return [place for place, head in enumerate(table.heads) if head not in USED and table.titles[place].casefold() not in RESULTS]
 
 
 def told(number, mark, unit):
@@ -71,13 +73,23 @@ def costs_cell(units, route):
 def places_sheet(plan):
     """The table of the places."""
     problem, units, rows = plan.problem, plan.problem.units, []
-    table = problem.place_table
-    own = own_columns(table)
+    table, own = problem.place_table, own_columns(problem.place_table)
+    has_bounds, has_unmet = any(place.bounds for place in problem.places), plan.net.hub is not None
     for place, result in zip(problem.places, plan.places):
-        rows.append(("", [place.name, units.amount(place.supply), units.amount(result.unmet) if result.unmet else "", plan.rate(result.price),
-                          Figure(result.group), *(cell_at(place.cells, column) for column in own)]))
+        cells = [place.name, units.amount(place.supply), plan.rate(result.price), Figure(result.group)]
+        cells += [units.amount(result.unmet) if result.unmet else ""] * has_unmet + (through_cells(plan, place, result.through) if has_bounds else [])
+        rows.append(("", cells + [cell_at(place.cells, column) for column in own]))
     rows, note = listed_rows(rows)
-    return Sheet("Places", PLACE_COLUMNS + [(table.titles[place], "") for place in own], rows, (), note)
+    columns = PLACE_COLUMNS + UNMET_COLUMNS * has_unmet + THROUGH_COLUMNS * has_bounds + [(table.titles[place], "") for place in own]
+    return Sheet("Places", columns, rows, (), note)
+
+
+def through_cells(plan, place, through):
+    """What passes through a place."""
+    if not through:
+        return [""] * len(THROUGH_COLUMNS)
+    units = plan.problem.units
+    return [units.amount(through.carries), units.amount(place.bounds.most), units.total(through.cost), plan.rate(through.saves) if through.saves else ""]
 
 
 def blocked_page(blocked, options, picture):

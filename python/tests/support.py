@@ -2,7 +2,6 @@
 import contextlib
 import csv
 import io
-import os
 import pathlib
 import stat
 import tempfile
