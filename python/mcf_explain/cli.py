@@ -20,10 +20,15 @@ def shown_line(fault):
     if not fault.row:
         return []
     start = fault.row.starts[fault.field] if fault.field < len(fault.row.starts) else len(fault.row.line)
-    before, after = (part.decode("utf-8", "backslashreplace") for part in (fault.row.line[:start], fault.row.line[start:]))
-    before, after = ("".join(c if c.isprintable() else " " if c == "\t" else f"\\x{ord(c):02x}" for c in part.rstrip("\r")) for part in (before, after))
-    before = before if len(before) <= SHOWN else "..." + before[-SHOWN + 3:]
-    after = after if len(after) <= SHOWN else after[:SHOWN - 3] + "..."
+    before, after = (
+        part.decode("utf-8", "backslashreplace") for part in (fault.row.line[:start], fault.row.line[start:])
+    )
+    before, after = (
+        "".join(c if c.isprintable() else " " if c == "\t" else f"\\x{ord(c):02x}" for c in part.rstrip("\r"))
+        for part in (before, after)
+    )
+    before = before if len(before) <= SHOWN else "..." + before[-SHOWN + 3 :]
+    after = after if len(after) <= SHOWN else after[: SHOWN - 3] + "..."
     return ["    " + before + after, "    " + " " * len(before) + "^"]
 
 
@@ -45,7 +50,9 @@ def further_lines(faults):
         kinds[fault.code][1][:] = kinds[fault.code][1][0] + 1, fault.number
     told = []
     for code, (lines, (count, last)) in kinds.items():
-        told += lines + ([f"and {count - len(lines)} more of {code}, the last in line {last}"] if count > len(lines) else [])
+        told += lines + (
+            [f"and {count - len(lines)} more of {code}, the last in line {last}"] if count > len(lines) else []
+        )
     return (["Further on, where mcf doesn't look any more:"] if told else []) + told
 
 
@@ -60,7 +67,13 @@ def agreement(programs, data, fault):
             is_right = fault is not None
         except Rejected as rejected:
             is_right = fault is None and "rejected kind" in str(rejected)
-    return [] if is_right else ["MCF SEES IT OTHERWISE: mcfcheck doesn't accept what is said here. Believe mcf; please report the instance."]
+    return (
+        []
+        if is_right
+        else [
+            "MCF SEES IT OTHERWISE: mcfcheck doesn't accept what is said here. Believe mcf; please report the instance."
+        ]
+    )
 
 
 def explained(name, data, programs):
@@ -94,8 +107,11 @@ def data_of(file):
 
 
 def main(words):
-    """Does what the words ask, and gives the exit status: 0 where there is no fault, 2 where there is one, 3 for anything else."""
-    parser = Parser(prog="mcf_explain", description="Why mcf refuses an instance: the first fault in words, and all further ones.")
+    """Does what the words ask, and gives the exit status: 0 where there is no fault, 2 where there is one, 3
+    for anything else."""
+    parser = Parser(
+        prog="mcf_explain", description="Why mcf refuses an instance: the first fault in words, and all further ones."
+    )
     parser.add_argument("file", nargs="?", metavar="FILE", help="the instance; without it, standard input")
     parser.add_argument("--programs", metavar="FOLDER", help="where mcf and mcfcheck are")
     try:
@@ -103,7 +119,9 @@ def main(words):
         if hasattr(sys, "set_int_max_str_digits"):
             sys.set_int_max_str_digits(0)
         options = parser.parse_args(words)
-        lines, status = explained(options.file or "standard input", data_of(options.file), programs_in(options.programs))
+        lines, status = explained(
+            options.file or "standard input", data_of(options.file), programs_in(options.programs)
+        )
         print("\n".join(lines), flush=True)
         return status
     except Stop as stop:

@@ -3,11 +3,12 @@ import collections
 import re
 
 FIELD, WHOLE = re.compile(rb"[^ \t\r]+"), re.compile(rb"[+-]?[0-9]+")
-NODE_LIMIT, ARC_LIMIT, AMOUNT_LIMIT, COST_LIMIT, TOTAL_LIMIT = 10 ** 6, 10 ** 7, 10 ** 18, 10 ** 15, 10 ** 36
+NODE_LIMIT, ARC_LIMIT, AMOUNT_LIMIT, COST_LIMIT, TOTAL_LIMIT = 10**6, 10**7, 10**18, 10**15, 10**36
 
 # A line that is no comment and not blank: its number, its bytes, and the places where its fields begin.
 Row = collections.namedtuple("Row", "number line starts fields")
-# What is wrong: a code of `mcf`, the row (None after the last line), the number of the field, and what else the sentence needs.
+# What is wrong: a code of `mcf`, the row (None after the last line), the number of the field, and what else
+# the sentence needs.
 Fault = collections.namedtuple("Fault", "code number row field known")
 
 
@@ -35,14 +36,23 @@ class Reader:
         kind = row.fields[0]
         if kind not in (b"p", b"n", b"a"):
             return self.made("kind", row, 0)
-        found = self.form_fault(row, kind) or {b"p": self.header_fault, b"n": self.node_fault, b"a": self.arc_fault}[kind](row)
+        found = self.form_fault(row, kind) or {b"p": self.header_fault, b"n": self.node_fault, b"a": self.arc_fault}[
+            kind
+        ](row)
         self.take(row, kind)
         return found
 
     def made(self, code, row, field):
         """A fault of a row, with what was known then."""
-        known = {"problem": self.problem, "nodes": self.nodes, "arcs": self.arcs, "arc_lines": self.arc_lines, "header": self.header, "named": self.named,
-                 "first_arc": self.first_arc}
+        known = {
+            "problem": self.problem,
+            "nodes": self.nodes,
+            "arcs": self.arcs,
+            "arc_lines": self.arc_lines,
+            "header": self.header,
+            "named": self.named,
+            "first_arc": self.first_arc,
+        }
         return Fault(code, row.number, row, field, known)
 
     def counts(self, kind):
@@ -56,7 +66,9 @@ class Reader:
             return self.made("fields", row, min(len(row.fields) - 1, max(self.counts(kind))))
         if kind == b"p" and row.fields[1] not in (b"min", b"asn"):
             return self.made("problem", row, 1)
-        wrong = next((k for k in range(2 if kind == b"p" else 1, len(row.fields)) if not WHOLE.fullmatch(row.fields[k])), None)
+        wrong = next(
+            (k for k in range(2 if kind == b"p" else 1, len(row.fields)) if not WHOLE.fullmatch(row.fields[k])), None
+        )
         if wrong is not None:
             return self.made("number", row, wrong)
         if (kind == b"p") == (self.header is not None):
@@ -108,7 +120,10 @@ class Reader:
         if kind == b"p" and self.header is None:
             self.header = row
             self.problem = row.fields[1] if len(row.fields) > 1 and row.fields[1] in (b"min", b"asn") else None
-            sizes = [int(field) if field is not None and 0 <= int(field) <= limit else None for field, limit in zip(good[1:3], (NODE_LIMIT, ARC_LIMIT))]
+            sizes = [
+                int(field) if field is not None and 0 <= int(field) <= limit else None
+                for field, limit in zip(good[1:3], (NODE_LIMIT, ARC_LIMIT))
+            ]
             self.nodes, self.arcs = sizes if len(sizes) == 2 and len(row.fields) == 4 else (None, None)
         elif kind == b"n" and good and good[0] is not None:
             self.named.setdefault(int(good[0]), row.number)

@@ -18,11 +18,19 @@ MAGIC = {
     b"<": "the file is XML or HTML",
     b"NAME": "the file is a linear program in MPS: mcf reads the DIMACS form of minimum-cost flow",
 }
-PROBLEMS = {b"max": "a maximum flow: mcf takes min and asn; with cost -1 on an arc from sink to source, and no supplies, it is a problem of least cost",
-            b"sp": "a problem of shortest paths: mcf takes min and asn", b"edge": "a graph to be coloured or matched: mcf takes min and asn",
-            b"col": "a graph to be coloured: mcf takes min and asn"}
-SHAPES = {(b"p", None): "p min NODES ARCS", (b"n", b"min"): "n ID SUPPLY", (b"n", b"asn"): "n ID", (b"a", b"min"): "a FROM TO LOW CAP COST",
-          (b"a", b"asn"): "a FROM TO COST"}
+PROBLEMS = {
+    b"max": "a maximum flow: mcf takes min and asn; with cost -1 on an arc from sink to source, and no supplies, it is a problem of least cost",
+    b"sp": "a problem of shortest paths: mcf takes min and asn",
+    b"edge": "a graph to be coloured or matched: mcf takes min and asn",
+    b"col": "a graph to be coloured: mcf takes min and asn",
+}
+SHAPES = {
+    (b"p", None): "p min NODES ARCS",
+    (b"n", b"min"): "n ID SUPPLY",
+    (b"n", b"asn"): "n ID",
+    (b"a", b"min"): "a FROM TO LOW CAP COST",
+    (b"a", b"asn"): "a FROM TO COST",
+}
 
 
 def text(field):
@@ -60,7 +68,11 @@ def kind_words(fault):
 def fields_words(fault):
     """A line with too many fields, or too few."""
     kind, problem = fault.row.fields[0], fault.known["problem"]
-    shapes = [SHAPES[b"p", None]] if kind == b"p" else [SHAPES[kind, word] for word in (b"min", b"asn") if problem in (None, word)]
+    shapes = (
+        [SHAPES[b"p", None]]
+        if kind == b"p"
+        else [SHAPES[kind, word] for word in (b"min", b"asn") if problem in (None, word)]
+    )
     cause, count = None, len(fault.row.fields)
     if (kind, problem, count) == (b"n", b"asn", 3):
         cause = "a node line of an assignment names a row, and has no supply"
@@ -80,7 +92,9 @@ def number_words(fault):
     field = fault.row.fields[fault.field]
     cause = None
     if re.fullmatch(rb"[+-]?[0-9]*[.,][0-9]+", field):
-        cause = "numbers are whole: multiply all costs, or all amounts, by 10, 100 or 1000 (mcf_plan does that for tables)"
+        cause = (
+            "numbers are whole: multiply all costs, or all amounts, by 10, 100 or 1000 (mcf_plan does that for tables)"
+        )
     elif re.fullmatch(rb"[+-]?[0-9.]+[eE][+-]?[0-9]+", field):
         cause = "write all digits of a number"
     elif field.lower().lstrip(b"+-") in (b"inf", b"infinity", b"infinite", b"nan", b"none"):
@@ -93,7 +107,10 @@ def side_words(fault):
     tail, head = (int(field) for field in fault.row.fields[1:3])
     rows = "rows are the nodes with a node line"
     if fault.field == 1:
-        return f"node {tail} is a column, and an arc goes from a row to a column; {rows}", "are the ends exchanged?" if head in fault.known["named"] else None
+        return (
+            f"node {tail} is a column, and an arc goes from a row to a column; {rows}",
+            "are the ends exchanged?" if head in fault.known["named"] else None,
+        )
     return f"node {head} is a row, and an arc goes from a row to a column; {rows}", None
 
 
@@ -102,36 +119,95 @@ def last_words(fault):
     arcs, lines = fault.known["arcs"], fault.known["arc_lines"]
     if fault.code == "no-p":
         return "there is no problem line, p min NODES ARCS or p asn NODES ARCS", None
-    return f"the problem line (line {fault.known['header'].number}) says {count_of(arcs, 'arc', 'arcs')}, and there {'is' if lines == 1 else 'are'} {lines}", "was the text cut off?"
+    return (
+        f"the problem line (line {fault.known['header'].number}) says {count_of(arcs, 'arc', 'arcs')}, and there {'is' if lines == 1 else 'are'} {lines}",
+        "was the text cut off?",
+    )
+
+
+def problem_words(fault):
+    """A problem that `mcf` doesn't take."""
+    word = fault.row.fields[1]
+    cause = "the words are in small letters" if word.lower() in (b"min", b"asn") else PROBLEMS.get(word)
+    return f"the problem {text(word)} is neither min nor asn", cause
+
+
+def size_words(fault):
+    """A number of nodes, or of arcs, beyond the limits."""
+    what = "nodes from 0 to 1000000" if fault.field == 2 else "arcs from 0 to 10000000"
+    return f"{text(fault.row.fields[fault.field])} isn't a number of {what}", None
+
+
+def node_words(fault):
+    """A node that there isn't."""
+    number = int(fault.row.fields[fault.field])
+    which = "the node" if fault.row.fields[0] == b"n" else "the first end" if fault.field == 1 else "the second end"
+    return f"{which} is {number}; nodes are 1 to {fault.known['nodes']}", "nodes count from 1" if number == 0 else None
+
+
+def twice_words(fault):
+    """A second line of one node."""
+    number = int(fault.row.fields[1])
+    return f"node {number} has a node line already, line {fault.known['named'][number]}", None
+
+
+def limit_words(fault):
+    """A number beyond the limits."""
+    what, limit = {"supply": ("supplies", 18), "bound": ("bounds", 18), "cost": ("costs", 15)}[fault.code]
+    cause = (
+        "where no limit is meant, give as CAP what all supplies add to, if no cost is below 0"
+        if fault.code == "bound"
+        else None
+    )
+    return (
+        f"{text(fault.row.fields[fault.field])} is beyond the {what} that mcf takes, -10^{limit} to 10^{limit}",
+        cause,
+    )
+
+
+def order_words(fault):
+    """Bounds that leave nothing between them."""
+    low, cap = (int(field) for field in fault.row.fields[3:5])
+    return f"LOW, {low}, is greater than CAP, {cap}", "are LOW and CAP exchanged?"
+
+
+def place_words(fault):
+    """A line that stands where it may not, or is one too many."""
+    known = fault.known
+    header = f"line {known['header'].number}" if known["header"] else ""
+    return {
+        "second-p": (f"this is a second problem line; the first is {header}", "were two instances put into one file?"),
+        "before-p": ("this line stands before the problem line, which comes first", None),
+        "late-n": (f"this node line stands after an arc line (line {known['first_arc']}): node lines come first", None),
+        "extra": (
+            f"this is arc line {known['arc_lines'] + 1}, and the problem line ({header}) says {count_of(known['arcs'] or 0, 'arc', 'arcs')}",
+            None,
+        ),
+        "total": (
+            "with this arc the sizes of costs, times the greater size of LOW and CAP, add to more than 10^36",
+            "are bounds great where no limit is meant?",
+        ),
+    }[fault.code]
+
+
+WORDS = {
+    "kind": kind_words,
+    "fields": fields_words,
+    "problem": problem_words,
+    "number": number_words,
+    "size": size_words,
+    "node": node_words,
+    "twice": twice_words,
+    "supply": limit_words,
+    "bound": limit_words,
+    "cost": limit_words,
+    "order": order_words,
+    "side": side_words,
+    "no-p": last_words,
+    "missing": last_words,
+}
 
 
 def said_of(fault):
     """The sentence on a fault, and its usual cause or None."""
-    special = {"kind": kind_words, "fields": fields_words, "number": number_words, "side": side_words, "no-p": last_words, "missing": last_words}
-    if fault.code in special:
-        return special[fault.code](fault)
-    known, field = fault.known, fault.row.fields[fault.field]
-    header = f"line {known['header'].number}" if known["header"] else ""
-    sentences = {
-        "problem": lambda: (f"the problem {text(field)} is neither min nor asn", "the words are in small letters" if field.lower() in (b"min", b"asn")
-                            else PROBLEMS.get(field)),
-        "second-p": lambda: (f"this is a second problem line; the first is {header}", "were two instances put into one file?"),
-        "before-p": lambda: ("this line stands before the problem line, which comes first", None),
-        "size": lambda: (f"{text(field)} isn't a number of {'nodes from 0 to 1000000' if fault.field == 2 else 'arcs from 0 to 10000000'}", None),
-        "node": lambda: (f"{end_name(fault)} is {int(field)}; nodes are 1 to {known['nodes']}", "nodes count from 1" if int(field) == 0 else None),
-        "late-n": lambda: (f"this node line stands after an arc line (line {known['first_arc']}): node lines come first", None),
-        "twice": lambda: (f"node {int(field)} has a node line already, line {known['named'][int(field)]}", None),
-        "supply": lambda: (f"{text(field)} is beyond the supplies that mcf takes, -10^18 to 10^18", None),
-        "bound": lambda: (f"{text(field)} is beyond the bounds that mcf takes, -10^18 to 10^18",
-                          "where no limit is meant, give as CAP what all supplies add to, if no cost is below 0"),
-        "order": lambda: (f"LOW, {int(field)}, is greater than CAP, {int(fault.row.fields[4])}", "are LOW and CAP exchanged?"),
-        "cost": lambda: (f"{text(field)} is beyond the costs that mcf takes, -10^15 to 10^15", None),
-        "extra": lambda: (f"this is arc line {known['arc_lines'] + 1}, and the problem line ({header}) says {count_of(known['arcs'], 'arc', 'arcs')}", None),
-        "total": lambda: ("with this arc the sizes of costs, times the greater size of LOW and CAP, add to more than 10^36", "are bounds great where no limit is meant?"),
-    }
-    return sentences[fault.code]()
-
-
-def end_name(fault):
-    """Which node of a line it is."""
-    return "the node" if fault.row.fields[0] == b"n" else "the first end" if fault.field == 1 else "the second end"
+    return WORDS.get(fault.code, place_words)(fault)

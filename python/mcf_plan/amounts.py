@@ -1,4 +1,5 @@
-"""Numbers as tables have them: whole or with decimals, after a point or a comma, with or without marks between thousands. All are exact."""
+"""Numbers as tables have them: whole or with decimals, after a point or a comma, with or without marks
+between thousands. All are exact."""
 import math
 import re
 from fractions import Fraction
@@ -38,7 +39,10 @@ def mark_in(cell):
     if found:
         return found[1]
     for mark, other in OTHER.items():
-        if re.fullmatch(rf"[+-]?[0-9]{{1,3}}(?:\{other}[0-9]{{3}})+\{mark}[0-9]+|[+-]?[0-9]{{1,3}}(?:\{other}[0-9]{{3}}){{2,}}", cell):
+        if re.fullmatch(
+            rf"[+-]?[0-9]{{1,3}}(?:\{other}[0-9]{{3}})+\{mark}[0-9]+|[+-]?[0-9]{{1,3}}(?:\{other}[0-9]{{3}}){{2,}}",
+            cell,
+        ):
             return mark
     return None
 
@@ -47,7 +51,9 @@ def value_of(cell, mark):
     """The value of a cell whose decimals stand after a mark; None where it is no such number."""
     cell = without_blanks(cell)
     other = OTHER[mark]
-    if not re.fullmatch(rf"[+-]?(?:[0-9]{{1,1000}}|[0-9]{{1,3}}(?:\{other}[0-9]{{3}})+|(?=\{mark}))(?:\{mark}[0-9]{{1,1000}})?", cell):
+    if not re.fullmatch(
+        rf"[+-]?(?:[0-9]{{1,1000}}|[0-9]{{1,3}}(?:\{other}[0-9]{{3}})+|(?=\{mark}))(?:\{mark}[0-9]{{1,1000}})?", cell
+    ):
         return None
     whole, _, decimals = cell.replace(other, "").partition(mark)
     value = Fraction(int(whole + decimals), 10 ** len(decimals))
@@ -72,8 +78,12 @@ class Numbers:
         """Settles the mark, where cells show one and nothing else was said."""
         if not self.mark and len(self.shown_by) == 2:
             (table, line, cell), (other, other_line, other_cell) = self.shown_by.values()
-            faults.add(At(other, other_line, ""), "both marks", f"decimals stand after a point and after a comma: {shown(cell)} ({table.name}, line {line}) and "
-                       f"{shown(other_cell)}; write them in one way, or say --decimal")
+            faults.add(
+                At(other, other_line, ""),
+                "both marks",
+                f"decimals stand after a point and after a comma: {shown(cell)} ({table.name}, line {line}) and "
+                f"{shown(other_cell)}; write them in one way, or say --decimal",
+            )
         self.mark = self.mark or next(iter(self.shown_by), None)
 
     def read(self, table, line, head, cell, faults):
@@ -81,8 +91,13 @@ class Numbers:
         if WHOLE.fullmatch(cell):
             return int(cell)
         if not self.mark and EITHER.fullmatch(without_blanks(cell)):
-            faults.add(At(table, line, head), "either", f"{shown(cell)} may be {cell.replace(',', '').replace('.', '')} or a number with three decimals: "
-                       "say --decimal , or --decimal . (what stands before decimals)", cell)
+            faults.add(
+                At(table, line, head),
+                "either",
+                f"{shown(cell)} may be {cell.replace(',', '').replace('.', '')} or a number with three decimals: "
+                "say --decimal , or --decimal . (what stands before decimals)",
+                cell,
+            )
             return 0
         value = value_of(cell, "." if isinstance(cell, Figure) else self.mark or ".")
         if value is None:
@@ -94,7 +109,11 @@ class Numbers:
 
     def penalty(self, text):
         """A cost that isn't below 0, of the command line, written as the tables are."""
-        value = None if not self.mark and EITHER.fullmatch(without_blanks(text)) else value_of(text, self.mark or mark_in(text) or ".")
+        value = (
+            None
+            if not self.mark and EITHER.fullmatch(without_blanks(text))
+            else value_of(text, self.mark or mark_in(text) or ".")
+        )
         if value is None or value < 0:
             raise Stop(f"--penalty {text}: this is no cost, written as in the tables", 2)
         return value
@@ -108,7 +127,10 @@ class Numbers:
         mark = self.mark or "."
         if value_of(cell, OTHER[mark]) is not None and mark in self.shown_by:
             table, line, other = self.shown_by[mark]
-            return "other mark", f"{shown(cell)} isn't written as other numbers are, such as {shown(other)} ({table.name}, line {line})"
+            return (
+                "other mark",
+                f"{shown(cell)} isn't written as other numbers are, such as {shown(other)} ({table.name}, line {line})",
+            )
         if value_of(cell, OTHER[mark]) is not None:
             return "other mark", f"{shown(cell)} isn't written with {shown(mark)} before decimals, as --decimal says"
         return "no number", f"{shown(cell)} is no number"
@@ -120,7 +142,9 @@ class Numbers:
         if self.mark not in self.shown_by:
             return [f"{self.settled}, as --decimal says."]
         table, line, cell = self.shown_by[self.mark]
-        return [f"{self.settled}, since {shown(cell)} ({table.name}, line {line}) has decimals after {shown(self.mark)}."]
+        return [
+            f"{self.settled}, since {shown(cell)} ({table.name}, line {line}) has decimals after {shown(self.mark)}."
+        ]
 
 
 def coordinate_in(table, line, head, cell, faults):
@@ -130,7 +154,12 @@ def coordinate_in(table, line, head, cell, faults):
     except ValueError:
         number = math.nan
     if not math.isfinite(number):
-        faults.add(At(table, line, head), "no spot", f"{shown(cell)} is no number (either all places have x and y, or leave the columns out)", cell)
+        faults.add(
+            At(table, line, head),
+            "no spot",
+            f"{shown(cell)} is no number (either all places have x and y, or leave the columns out)",
+            cell,
+        )
     return number
 
 
@@ -153,7 +182,8 @@ def decimal_text(number, scale):
 
 
 class Units:
-    """What whole numbers of an instance are in the units of the tables. Costs may be told with another sign than they have there."""
+    """What whole numbers of an instance are in the units of the tables. Costs may be told with another sign
+    than they have there."""
 
     def __init__(self, amounts=1, costs=1, sign=1):
         self.amounts, self.costs, self.sign = amounts, costs, sign

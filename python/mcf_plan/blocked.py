@@ -9,7 +9,8 @@ from .solve import bottlenecks_of
 class Blocked:
     """What blocks a network that has no plan, as `mcfcheck` accepted.
 
-    Where supplies and demands don't agree, all places together do; and then whatever blocks if what is too much may stay, or be short: that is `eased`.
+    Where supplies and demands don't agree, all places together do; and then whatever blocks if what is too
+    much may stay, or be short: that is `eased`.
     """
 
     def __init__(self, programs, folder, net):
@@ -17,7 +18,10 @@ class Blocked:
         total = sum(net.supplies)
         self.is_unbalanced = total != 0
         if self.is_unbalanced:
-            self.eased = FlowNet(net.problem, net.policy._replace(unused=net.policy.unused or total > 0, short=net.policy.short or total < 0))
+            self.eased = FlowNet(
+                net.problem,
+                net.policy._replace(unused=net.policy.unused or total > 0, short=net.policy.short or total < 0),
+            )
             with tempfile.TemporaryDirectory() as scratch:
                 self.bottlenecks = self.remaining(programs, pathlib.Path(scratch))
         else:

@@ -25,31 +25,13 @@ class Parser(argparse.ArgumentParser):
 
 def options_of(words):
     """What the words of the command line ask."""
-    parser = Parser(prog="mcf_plan", description="Plans from tables, as mcf solves them and mcfcheck accepts them.", epilog=STATUSES)
+    parser = Parser(
+        prog="mcf_plan", description="Plans from tables, as mcf solves them and mcfcheck accepts them.", epilog=STATUSES
+    )
     commands = parser.add_subparsers(dest="command", metavar="flow|pairs|diff")
-    flow = commands.add_parser("flow", help="the least-cost flow over routes between places")
-    flow.add_argument("tables", metavar="PLACES [ROUTES]", nargs="+", help="a table with the columns name and supply, perhaps x and y; and one with the "
-                      "columns from, to, most and cost, perhaps least; or a workbook with both as sheets")
-    paired = commands.add_parser("pairs", help="the least-cost pairs of persons and things")
-    paired.add_argument("costs", metavar="COSTS", help="a table with the columns who, what and cost, or a matrix of persons by things")
-    paired.add_argument("--each", choices=("who", "what", "both"), help="who gets one: each person (the usual), each thing (where takes or needs are said), or both")
-    paired.add_argument("--maximise", "--maximize", action="store_true", help="costs are values: the greatest sum")
-    for command, act in ((flow, flow_command), (paired, pairs_command)):
-        command.add_argument("-o", "--output", dest="folder", metavar="FOLDER", required=True, help="where the results are written")
-        command.add_argument("--programs", metavar="FOLDER", help="where mcf and mcfcheck are, if not beside this tool, in bin/ or on the path")
-        add_reading(command)
-        command.set_defaults(act=act)
-    for word, text in (("--unused", "supplies may stay where they are"), ("--short", "demands may be short, as little as can be or by --penalty")):
-        flow.add_argument(word, choices=("allow", "refuse"), default="refuse", help=text)
-    flow.add_argument("--most-flow", action="store_true", help="as much as can be sent, at the least cost: --unused allow --short allow")
-    flow.add_argument("--penalty", metavar="N", help="what each unit costs that is missing")
-    flow.add_argument("--no-picture", action="store_true", help="draw no picture")
-    compared = commands.add_parser("diff", help="two plans compared")
-    compared.add_argument("old", metavar="OLD", help="the folder of one plan")
-    compared.add_argument("new", metavar="NEW", help="the folder of another")
-    compared.add_argument("--all", action="store_true", help="tell all that differs")
-    compared.add_argument("--programs", metavar="FOLDER", help="where mcf and mcfcheck are")
-    compared.set_defaults(act=diff_command, map=[], decimal=None, encoding=None, xlsx=False)
+    add_flow(commands.add_parser("flow", help="the least-cost flow over routes between places"))
+    add_pairs(commands.add_parser("pairs", help="the least-cost pairs of persons and things"))
+    add_diff(commands.add_parser("diff", help="two plans compared"))
     options = parser.parse_args(words)
     if not options.command:
         parser.error("say what is planned: flow or pairs, or diff")
@@ -60,28 +42,106 @@ def options_of(words):
     return options
 
 
+def add_flow(command):
+    """Adds the words and options of `flow`."""
+    command.add_argument(
+        "tables",
+        metavar="PLACES [ROUTES]",
+        nargs="+",
+        help="a table with the columns name and supply, perhaps x and y; and one "
+        "with the columns from, to, most and cost, perhaps least; or a workbook with both as sheets",
+    )
+    add_common(command, flow_command)
+    for word, text in (
+        ("--unused", "supplies may stay where they are"),
+        ("--short", "demands may be short, as little as can be or by --penalty"),
+    ):
+        command.add_argument(word, choices=("allow", "refuse"), default="refuse", help=text)
+    command.add_argument(
+        "--most-flow",
+        action="store_true",
+        help="as much as can be sent, at the least cost: --unused allow --short allow",
+    )
+    command.add_argument("--penalty", metavar="N", help="what each unit costs that is missing")
+    command.add_argument("--no-picture", action="store_true", help="draw no picture")
+
+
+def add_pairs(command):
+    """Adds the words and options of `pairs`."""
+    command.add_argument(
+        "costs", metavar="COSTS", help="a table with the columns who, what and cost, or a matrix of persons by things"
+    )
+    add_common(command, pairs_command)
+    command.add_argument(
+        "--each",
+        choices=("who", "what", "both"),
+        help="who gets one: each person (the usual), each thing (where takes or needs are said), or both",
+    )
+    command.add_argument("--maximise", "--maximize", action="store_true", help="costs are values: the greatest sum")
+
+
+def add_diff(command):
+    """Adds the words and options of `diff`."""
+    command.add_argument("old", metavar="OLD", help="the folder of one plan")
+    command.add_argument("new", metavar="NEW", help="the folder of another")
+    command.add_argument("--all", action="store_true", help="tell all that differs")
+    command.add_argument("--programs", metavar="FOLDER", help="where mcf and mcfcheck are")
+    command.set_defaults(act=diff_command, map=[], decimal=None, encoding=None, xlsx=False)
+
+
+def add_common(command, act):
+    """Adds the options of all that makes a plan."""
+    command.add_argument(
+        "-o", "--output", dest="folder", metavar="FOLDER", required=True, help="where the results are written"
+    )
+    command.add_argument(
+        "--programs",
+        metavar="FOLDER",
+        help="where mcf and mcfcheck are, if not beside this tool, in bin/ or on the path",
+    )
+    add_reading(command)
+    command.set_defaults(act=act)
+
+
 def add_reading(command):
     """Adds the options on how tables are read and written."""
-    command.add_argument("--decimal", choices=(",", "."), help="what stands before decimals, where the tables don't show it")
+    command.add_argument(
+        "--decimal", choices=(",", "."), help="what stands before decimals, where the tables don't show it"
+    )
     command.add_argument("--encoding", help="the encoding of the tables, such as windows-1252, if it isn't UTF-8")
-    command.add_argument("--map", action="append", default=[], metavar="HEAD=NAME", help="the column that is wanted as HEAD is called NAME in the tables")
-    command.add_argument("--xlsx", action="store_true", help="write the tables as a workbook, too, as is done where a workbook was read")
+    command.add_argument(
+        "--map",
+        action="append",
+        default=[],
+        metavar="HEAD=NAME",
+        help="the column that is wanted as HEAD is called NAME in the tables",
+    )
+    command.add_argument(
+        "--xlsx", action="store_true", help="write the tables as a workbook, too, as is done where a workbook was read"
+    )
     command.add_argument("--title", help="what the page is called")
     command.add_argument("--currency", default="", help="what costs are in, for the page")
     command.add_argument("--unit", default="", help="what amounts are in, for the page")
-    command.add_argument("--guard-formulas", action="store_true", help="write ' before cells that a spreadsheet would take for a formula")
+    command.add_argument(
+        "--guard-formulas", action="store_true", help="write ' before cells that a spreadsheet would take for a formula"
+    )
 
 
 def reading_of(options):
     """How tables are read."""
-    wrong = [word for word in options.map if re.sub("^(most|cost) [2-9]$", r"\1", word.split("=")[0]) not in HEADS or "=" not in word]
+    wrong = [
+        word
+        for word in options.map
+        if re.sub("^(most|cost) [2-9]$", r"\1", word.split("=")[0]) not in HEADS or "=" not in word
+    ]
     if wrong:
         raise Stop(f"--map {wrong[0]}: say --map HEAD=NAME, where HEAD is one of {', '.join(HEADS)}", 2)
     return Reading(options.decimal, options.encoding, dict(word.split("=", 1) for word in options.map))
 
 
 def prepare():
-    """Opens streams that were closed, lets any text be printed, and lets a signal end the run with its status, after all is tidied up."""
+    """Opens streams that were closed, lets any text be printed, and lets a signal end the run with its
+    status, after all is tidied up."""
     for number in range(3):
         try:
             os.fstat(number)
@@ -134,4 +194,6 @@ def main(words):
     except OSError as error:
         return told(f"{error.filename or 'a file'}: {error.strerror}", 3)
     except Exception as error:  # Status 1 would say that no plan exists.
-        return told(f"a fault of this tool, which please report: {type(error).__name__}: {' '.join(str(error).split())}", 3)
+        return told(
+            f"a fault of this tool, which please report: {type(error).__name__}: {' '.join(str(error).split())}", 3
+        )

@@ -14,7 +14,9 @@ from .solve import Programs, bottlenecks_of, solve
 
 def policy_of(options, problem):
     """What may stay and what may be short."""
-    return Policy(options.unused == "allow" or options.most_flow, options.short == "allow" or options.most_flow, problem.penalty)
+    return Policy(
+        options.unused == "allow" or options.most_flow, options.short == "allow" or options.most_flow, problem.penalty
+    )
 
 
 def flow_command(options, reading):
@@ -27,8 +29,11 @@ def flow_command(options, reading):
     with results_in(options.folder) as folder:
         results = Results(folder, options, problem.numbers.mark, [problem.place_table, problem.route_table])
         answer = solve(programs, folder, net.instance())
-        lines = (plan_results(FlowPlan(net, answer), results, options) if answer else
-                 blocked_results(Blocked(programs, folder, net), results, options))
+        lines = (
+            plan_results(FlowPlan(net, answer), results, options)
+            if answer
+            else blocked_results(Blocked(programs, folder, net), results, options)
+        )
     return lines + problem.numbers.told(), 0 if answer else 1
 
 
@@ -38,9 +43,14 @@ def plan_results(plan, results, options):
     report.write_flows(results, plan)
     report.write_prices(results, plan)
     results.finish()
-    lines, page = report.flow_summary(plan), flowpage.plan_page(plan, options, drawn_in(folder, picture.plan_scene(plan), options))
+    lines, page = report.flow_summary(plan), flowpage.plan_page(
+        plan, options, drawn_in(folder, picture.plan_scene(plan), options)
+    )
     write_page(folder, "instance.min", page, problem.numbers)
-    parts = [(*problem.ends(route), problem.units.amount(result.carries)) for route, result in zip(problem.routes, plan.routes)]
+    parts = [
+        (*problem.ends(route), problem.units.amount(result.carries))
+        for route, result in zip(problem.routes, plan.routes)
+    ]
     write_record(folder, "flow", lines, problem.units.total(plan.cost), parts)
     return lines
 
@@ -50,7 +60,9 @@ def blocked_results(blocked, results, options):
     folder = results.folder
     report.write_bottlenecks(results, blocked.eased, blocked.all())
     results.finish()
-    lines, page = report.blocked_summary(blocked), flowpage.blocked_page(blocked, options, drawn_in(folder, picture.blocked_scene(blocked), options))
+    lines, page = report.blocked_summary(blocked), flowpage.blocked_page(
+        blocked, options, drawn_in(folder, picture.blocked_scene(blocked), options)
+    )
     write_page(folder, "instance.min", page, blocked.net.problem.numbers)
     write_record(folder, "flow", lines)
     return lines
@@ -91,5 +103,11 @@ def pairs_command(options, reading):
             page = pairspage.blocked_page(net, found, options)
         results.finish()
         write_page(folder, instance.name, page, roster.numbers)
-        write_record(folder, "pairs", lines, cost, [(*map(net.name, (pair.who, net.persons + pair.what)), "1") for pair in chosen])
+        write_record(
+            folder,
+            "pairs",
+            lines,
+            cost,
+            [(*map(net.name, (pair.who, net.persons + pair.what)), "1") for pair in chosen],
+        )
     return lines + roster.numbers.told(), 0 if plan else 1

@@ -20,7 +20,10 @@ def read_record(name, programs):
         record = json.loads((folder / "plan.json").read_text(encoding="utf-8"))
         if record["format"] != FORMAT:
             raise bad_table(f"{name}: its plan.json is of another version of this tool")
-        same = [sha256_of(folder / record["instance"]) == record["instance_sha256"], sha256_of(folder / "answer.ans") == record["answer_sha256"]]
+        same = [
+            sha256_of(folder / record["instance"]) == record["instance_sha256"],
+            sha256_of(folder / "answer.ans") == record["answer_sha256"],
+        ]
     except OSError as error:
         raise bad_table(f"{name}: this is no folder of a plan: {error.filename}: {error.strerror}")
     except (ValueError, KeyError, TypeError):
@@ -62,7 +65,9 @@ def changes(old, new, show_all):
         was, now = before.get(key), after.get(key)
         difference = (now or 0) - (was or 0)
         words = ["not there" if value is None else number_text(value) for value in (was, now)]
-        lines.append(f"  {name_text(key)}: {words[0]}, now {words[1]} ({'+' if difference > 0 else ''}{number_text(difference)})")
+        lines.append(
+            f"  {name_text(key)}: {words[0]}, now {words[1]} ({'+' if difference > 0 else ''}{number_text(difference)})"
+        )
     if len(differing) > TOLD and not show_all:
         lines.append(f"  and {len(differing) - TOLD} more (--all tells them)")
     return lines
@@ -74,10 +79,16 @@ def diff_command(options, _):
     old, new = (read_record(name, programs) for name in (options.old, options.new))
     if old["kind"] != new["kind"]:
         raise bad_table(f"{options.old} is a plan of {old['kind']}, {options.new} one of {new['kind']}")
-    lines = [f"{word}: {record['said'][0] if record['cost'] is None else 'cost ' + record['cost']} (accepted again by mcfcheck)"
-             for word, record in (("old", old), ("new", new))]
+    lines = [
+        f"{word}: {record['said'][0] if record['cost'] is None else 'cost ' + record['cost']} (accepted again by mcfcheck)"
+        for word, record in (("old", old), ("new", new))
+    ]
     if None in (old["cost"], new["cost"]):
         return lines + [line for record in (old, new) if record["cost"] is None for line in record["said"][1:]], 0
     difference = Fraction(new["cost"]) - Fraction(old["cost"])
-    lines.append("The cost stays." if not difference else f"The cost {'rises' if difference > 0 else 'falls'} by {number_text(abs(difference))}.")
+    lines.append(
+        "The cost stays."
+        if not difference
+        else f"The cost {'rises' if difference > 0 else 'falls'} by {number_text(abs(difference))}."
+    )
     return lines + changes(old, new, options.all), 0

@@ -5,23 +5,28 @@ from .network import Arc, Network, parts_of
 from .solve import Instance
 
 STAYS, MISSING, THROUGH = "(stays)", "(missing)", "(through)"
-# Whether supplies may stay where they are, whether demands may be short, and what each unit short costs: None is so much that as little is short as can be.
+# Whether supplies may stay where they are, whether demands may be short, and what each unit short costs: None
+# is so much that as little is short as can be.
 Policy = collections.namedtuple("Policy", "unused short penalty", defaults=(False, False, None))
-# What a plan says of a route, or of what passes through a place: how much, and what that costs; the room that is left (None: without a limit), what one
-# more unit of room saves, and whether just that. Of a place: minus its price, in which group that is exact, how much stays there or is missing, and what
-# passes through it, where that has bounds.
+# What a plan says of a route, or of what passes through a place: how much, and what that costs; the room that
+# is left (None: without a limit), what one more unit of room saves, and whether just that. Of a place: minus
+# its price, in which group that is exact, how much stays there or is missing, and what passes through it,
+# where that has bounds.
 RouteResult = collections.namedtuple("RouteResult", "carries cost free saves is_exact")
 PlaceResult = collections.namedtuple("PlaceResult", "price group unmet through")
-# What an arc is for: its kind, the number from 0 of its route or place, and 1, or -1 where it leads a route's other way.
+# What an arc is for: its kind, the number from 0 of its route or place, and 1, or -1 where it leads a route's
+# other way.
 Use = collections.namedtuple("Use", "kind number sign", defaults=(1,))
 
 
 class FlowNet(Network):
-    """The network of a problem: node k is the k-th place, and arc k the k-th route, or its first step; all that is more comes after them.
+    """The network of a problem: node k is the k-th place, and arc k the k-th route, or its first step; all that
+    is more comes after them.
 
-    A place with bounds is two nodes with an arc between them: node k has what comes in and what is sent there, the other what goes out and what is taken.
-    Where amounts may stay or be short there is one node more, the hub, which takes what stays, gives what is missing, and has what lacks for a balance as
-    its supply.
+    A place with bounds is two nodes with an arc between them: node k has what comes in and what is sent
+    there, the other what goes out and what is taken. Where amounts may stay or be short there is one node
+    more, the hub, which takes what stays, gives what is missing, and has what lacks for a balance as its
+    supply.
     """
 
     def __init__(self, problem, policy=Policy()):
@@ -36,7 +41,10 @@ class FlowNet(Network):
         for number, place in enumerate(problem.places):
             if place.bounds:
                 most = problem.throughput() if place.bounds.most is None else place.bounds.most
-                self.add(Use("through", number), Arc(number + 1, self.outs[number], place.bounds.least, most, place.bounds.cost))
+                self.add(
+                    Use("through", number),
+                    Arc(number + 1, self.outs[number], place.bounds.least, most, place.bounds.cost),
+                )
         # No sum of costs along a way without repetition is beyond this.
         self.bound = sum(abs(arc.cost) for arc in self.arcs)
         total = sum(self.supplies)
@@ -68,7 +76,10 @@ class FlowNet(Network):
             self.add(Use("route", number), arcs[0])
             more += [(Use("route", number), arc) for arc in arcs[1:]]
             if route.both:
-                more += [(Use("route", number, -1), arc._replace(tail=self.outs[route.head - 1], head=route.tail)) for arc in arcs]
+                more += [
+                    (Use("route", number, -1), arc._replace(tail=self.outs[route.head - 1], head=route.tail))
+                    for arc in arcs
+                ]
         for use, arc in more:
             self.add(use, arc)
 
@@ -87,8 +98,10 @@ class FlowNet(Network):
     def instance(self):
         """The network as text, with where its lines come from."""
         made, problem = Instance("min"), self.problem
-        made.add(["c node k is the k-th place, arc k the k-th route", problem.units.comment()] +
-                 [f"c node {self.hub} takes what stays and gives what is missing"] * bool(self.hub))
+        made.add(
+            ["c node k is the k-th place, arc k the k-th route", problem.units.comment()]
+            + [f"c node {self.hub} takes what stays and gives what is missing"] * bool(self.hub)
+        )
         size = [(problem.route_table, problem.route_table.head_line, {"size": "from"})]
         places = [(problem.place_table, place.line, {"supply": "supply"}) for place in problem.places]
         places += [None] * (len(self.supplies) - len(places))
@@ -97,7 +110,11 @@ class FlowNet(Network):
 
     def origin(self, use):
         """Where an arc comes from."""
-        table, rows = (self.problem.route_table, self.problem.routes) if use.kind == "route" else (self.problem.place_table, self.problem.places)
+        table, rows = (
+            (self.problem.route_table, self.problem.routes)
+            if use.kind == "route"
+            else (self.problem.place_table, self.problem.places)
+        )
         if use.kind == "route":
             return table, rows[use.number].line, columns_of(rows[use.number])
         if use.kind == "through":
@@ -112,7 +129,7 @@ class FlowNet(Network):
         """The names of an arc's ends."""
         use = self.uses[k]
         if use.kind == "route":
-            return self.problem.ends(self.problem.routes[use.number])[::use.sign]
+            return self.problem.ends(self.problem.routes[use.number])[:: use.sign]
         name = self.problem.places[use.number].name
         return {"stays": (name, STAYS), "missing": (MISSING, name), "through": (name, THROUGH)}[use.kind]
 
@@ -132,9 +149,14 @@ class FlowPlan:
         arcs_of = collections.defaultdict(list)
         for k, use in enumerate(net.uses):
             arcs_of[use.kind, use.number].append(k)
-        self.routes = [self.result(arcs_of["route", number], route.most, route.both) for number, route in enumerate(self.problem.routes)]
+        self.routes = [
+            self.result(arcs_of["route", number], route.most, route.both)
+            for number, route in enumerate(self.problem.routes)
+        ]
         self.places = [self.place(number, arcs_of) for number in range(len(self.problem.places))]
-        self.penalties = sum(flow * arc.cost for use, flow, arc in zip(net.uses, plan.flows, net.arcs) if use.kind == "missing")
+        self.penalties = sum(
+            flow * arc.cost for use, flow, arc in zip(net.uses, plan.flows, net.arcs) if use.kind == "missing"
+        )
         # The default penalty is there to have little missing: it's no cost.
         self.cost = plan.cost - (self.penalties if net.policy.penalty is None else 0)
 
@@ -151,11 +173,13 @@ class FlowPlan:
         return max(0, self.prices[arc.tail - 1] - self.prices[arc.head - 1] - arc.cost)
 
     def result(self, arcs, most, both):
-        """What the plan says of the arcs of a route, or of a place: the room that could be more is that of the last step, either way.
+        """What the plan says of the arcs of a route, or of a place: the room that could be more is that of the
+        last step, either way.
 
-        One more unit of room saves just so much where, if it saves, a unit can go on from the arc's end to its beginning within a group. Nodes of one group
-        are joined by arcs that can carry one unit more, and one less, at no change of cost beyond the prices: they carry amounts between their least and
-        their most, and their reduced cost is 0.
+        One more unit of room saves just so much where, if it saves, a unit can go on from the arc's end to
+        its beginning within a group. Nodes of one group are joined by arcs that can carry one unit more, and
+        one less, at no change of cost beyond the prices: they carry amounts between their least and their
+        most, and their reduced cost is 0.
         """
         carries = sum(self.net.uses[k].sign * self.flows[k] for k in arcs)
         cost = sum(self.net.arcs[k].cost * self.flows[k] for k in arcs)
@@ -163,7 +187,13 @@ class FlowPlan:
         last = max(widest, key=self.saves)
         arc = self.net.arcs[last]
         is_exact = self.saves(last) == 0 or self.group[arc.tail] == self.group[arc.head]
-        return RouteResult(carries, cost, None if most is None else most - (abs(carries) if both else carries), self.saves(last), is_exact)
+        return RouteResult(
+            carries,
+            cost,
+            None if most is None else most - (abs(carries) if both else carries),
+            self.saves(last),
+            is_exact,
+        )
 
     def rate(self, number):
         """What one more unit saves or costs, as text: where it is but the default penalty, in words."""
@@ -177,7 +207,11 @@ class FlowPlan:
 
     def unmet(self, is_supply):
         """The places where something stays (or is missing), with the amounts."""
-        return [(place, result.unmet) for place, result in zip(self.problem.places, self.places) if result.unmet and (place.supply > 0) == is_supply]
+        return [
+            (place, result.unmet)
+            for place, result in zip(self.problem.places, self.places)
+            if result.unmet and (place.supply > 0) == is_supply
+        ]
 
 
 def columns_of(bounds):

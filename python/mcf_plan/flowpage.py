@@ -5,14 +5,31 @@ from .page import Page, Share, Sheet, finding, grouped, listed_rows
 from .tables import cell_at
 from .words import listed
 
-ROUTE_COLUMNS = [("from", "where the route begins"), ("to", "where it ends"), ("least", "it carries no less"), ("most", "it carries no more; empty: no limit"),
-                 ("cost", "of each unit"), ("carries", "in this plan"), ("total", "cost of what it carries"), ("of its room", "what it carries of its most"),
-                 ("one more saves", "what one more unit of room saves"), ("exact", "whether it saves just that")]
-PLACE_COLUMNS = [("name", ""), ("supply", "above 0 it sends, below 0 it takes"), ("one more costs", "what one more unit costs there"),
-                 ("group", "among places of one group that is exact")]
+ROUTE_COLUMNS = [
+    ("from", "where the route begins"),
+    ("to", "where it ends"),
+    ("least", "it carries no less"),
+    ("most", "it carries no more; empty: no limit"),
+    ("cost", "of each unit"),
+    ("carries", "in this plan"),
+    ("total", "cost of what it carries"),
+    ("of its room", "what it carries of its most"),
+    ("one more saves", "what one more unit of room saves"),
+    ("exact", "whether it saves just that"),
+]
+PLACE_COLUMNS = [
+    ("name", ""),
+    ("supply", "above 0 it sends, below 0 it takes"),
+    ("one more costs", "what one more unit costs there"),
+    ("group", "among places of one group that is exact"),
+]
 UNMET_COLUMNS = [("unmet", "what stays, or is missing")]
-THROUGH_COLUMNS = [("passes", "what comes in and what is sent there"), ("passes at most", "empty: no limit"), ("passing costs", "in this plan"),
-                   ("one more saves", "what one more unit of room saves")]
+THROUGH_COLUMNS = [
+    ("passes", "what comes in and what is sent there"),
+    ("passes at most", "empty: no limit"),
+    ("passing costs", "in this plan"),
+    ("one more saves", "what one more unit of room saves"),
+]
 # Heads of columns that the page shows anyway.
 USED = ("from", "to", "least", "most", "cost", "name", "supply", "x", "y")
 RESULTS = ("carries", "total", "free", "one_more_saves", "exact", "one_more_costs", "group")
@@ -20,7 +37,11 @@ RESULTS = ("carries", "total", "free", "one_more_saves", "exact", "one_more_cost
 
 def own_columns(table):
     """The columns of a table that are the planner's own."""
-    return [place for place, head in enumerate(table.heads) if head not in USED and table.titles[place].casefold() not in RESULTS]
+    return [
+        place
+        for place, head in enumerate(table.heads)
+        if head not in USED and table.titles[place].casefold() not in RESULTS
+    ]
 
 
 def plan_page(plan, options, picture):
@@ -28,12 +49,35 @@ def plan_page(plan, options, picture):
     problem, total = plan.problem, plan.problem.units.total(plan.cost)
     carrying = sum(1 for result in plan.routes if result.carries)
     full = sum(1 for number in range(len(plan.routes)) if plan.is_full(number))
-    facts = [(Figure(len(problem.places)), "places"), (Figure(len(problem.routes)), "routes"), (Figure(carrying), "carry something"), (Figure(full), "are full")]
-    facts += [(told(problem.units.amount(sum(unmet for _, unmet in plan.unmet(is_supply))), problem.numbers.mark, options.unit), words)
-              for is_supply, words in ((True, "stay"), (False, "are missing")) if plan.unmet(is_supply)]
+    facts = [
+        (Figure(len(problem.places)), "places"),
+        (Figure(len(problem.routes)), "routes"),
+        (Figure(carrying), "carry something"),
+        (Figure(full), "are full"),
+    ]
+    facts += [
+        (
+            told(
+                problem.units.amount(sum(unmet for _, unmet in plan.unmet(is_supply))),
+                problem.numbers.mark,
+                options.unit,
+            ),
+            words,
+        )
+        for is_supply, words in ((True, "stay"), (False, "are missing"))
+        if plan.unmet(is_supply)
+    ]
     lead = ["No plan for these tables costs less."] + report.unmet_lines(plan)
-    return Page(options.title or "A least-cost plan", f"Least cost: {told(total, problem.numbers.mark, options.currency)}", True, lead, facts, [], picture,
-                savings(plan) + [routes_sheet(plan), places_sheet(plan)])
+    return Page(
+        options.title or "A least-cost plan",
+        f"Least cost: {told(total, problem.numbers.mark, options.currency)}",
+        True,
+        lead,
+        facts,
+        [],
+        picture,
+        savings(plan) + [routes_sheet(plan), places_sheet(plan)],
+    )
 
 
 def told(number, mark, unit):
@@ -43,7 +87,10 @@ def told(number, mark, unit):
 
 def savings(plan):
     """The table of what one more unit of room saves."""
-    rows = [("full", [*ends, "exactly" if result.is_exact else "at most", plan.rate(result.saves)]) for ends, result in report.savings_of(plan)[:50]]
+    rows = [
+        ("full", [*ends, "exactly" if result.is_exact else "at most", plan.rate(result.saves)])
+        for ends, result in report.savings_of(plan)[:50]
+    ]
     columns = [("from", ""), ("to", ""), ("exact", "whether it saves just that"), ("one more unit saves", "")]
     return [Sheet("What one more unit of room saves", columns, rows)] if rows else []
 
@@ -57,11 +104,27 @@ def routes_sheet(plan):
         share = "" if not route.most else Share(100 * abs(result.carries) / abs(route.most))
         kind = "full" if plan.is_full(number) else "" if result.carries else "idle"
         exact = "" if not result.saves else "exactly" if result.is_exact else "at most"
-        rows.append((kind, [*problem.ends(route), units.amount(route.least), units.amount(route.most), costs_cell(units, route), units.amount(result.carries),
-                            units.total(result.cost), share, plan.rate(result.saves) if result.saves else "", exact,
-                            *(cell_at(route.cells, place) for place in own)]))
+        rows.append(
+            (
+                kind,
+                [
+                    *problem.ends(route),
+                    units.amount(route.least),
+                    units.amount(route.most),
+                    costs_cell(units, route),
+                    units.amount(result.carries),
+                    units.total(result.cost),
+                    share,
+                    plan.rate(result.saves) if result.saves else "",
+                    exact,
+                    *(cell_at(route.cells, place) for place in own),
+                ],
+            )
+        )
     rows, note = listed_rows(rows)
-    totals = ["", "", "", "", "", "", units.total(sum(result.cost for result in plan.routes)), "", ""] + [""] * (1 + len(own))
+    totals = ["", "", "", "", "", "", units.total(sum(result.cost for result in plan.routes)), "", ""] + [""] * (
+        1 + len(own)
+    )
     return Sheet("Routes", ROUTE_COLUMNS + [(table.titles[place], "") for place in own], rows, totals, note)
 
 
@@ -77,10 +140,17 @@ def places_sheet(plan):
     has_bounds, has_unmet = any(place.bounds for place in problem.places), plan.net.hub is not None
     for place, result in zip(problem.places, plan.places):
         cells = [place.name, units.amount(place.supply), plan.rate(result.price), Figure(result.group)]
-        cells += [units.amount(result.unmet) if result.unmet else ""] * has_unmet + (through_cells(plan, place, result.through) if has_bounds else [])
+        cells += [units.amount(result.unmet) if result.unmet else ""] * has_unmet + (
+            through_cells(plan, place, result.through) if has_bounds else []
+        )
         rows.append(("", cells + [cell_at(place.cells, column) for column in own]))
     rows, note = listed_rows(rows)
-    columns = PLACE_COLUMNS + UNMET_COLUMNS * has_unmet + THROUGH_COLUMNS * has_bounds + [(table.titles[place], "") for place in own]
+    columns = (
+        PLACE_COLUMNS
+        + UNMET_COLUMNS * has_unmet
+        + THROUGH_COLUMNS * has_bounds
+        + [(table.titles[place], "") for place in own]
+    )
     return Sheet("Places", columns, rows, (), note)
 
 
@@ -89,7 +159,12 @@ def through_cells(plan, place, through):
     if not through:
         return [""] * len(THROUGH_COLUMNS)
     units = plan.problem.units
-    return [units.amount(through.carries), units.amount(place.bounds.most), units.total(through.cost), plan.rate(through.saves) if through.saves else ""]
+    return [
+        units.amount(through.carries),
+        units.amount(place.bounds.most),
+        units.total(through.cost),
+        plan.rate(through.saves) if through.saves else "",
+    ]
 
 
 def blocked_page(blocked, options, picture):
@@ -101,9 +176,13 @@ def blocked_page(blocked, options, picture):
         supply, demand = report.balance_of(problem)
         headline = f"No plan exists: supply {amount(supply)}, demand {amount(demand)}"
     else:
-        headline = "No plan exists: " + ", ".join(f"short by {amount(bottleneck.must - bottleneck.can)}" for bottleneck in blocked.bottlenecks[:3])
+        headline = "No plan exists: " + ", ".join(
+            f"short by {amount(bottleneck.must - bottleneck.can)}" for bottleneck in blocked.bottlenecks[:3]
+        )
     lead = ["Whatever way amounts go, these places must send or take more than the routes around them carry."]
-    return Page(options.title or "No plan exists", headline, False, lead, [], findings, picture, limiting_sheet(blocked))
+    return Page(
+        options.title or "No plan exists", headline, False, lead, [], findings, picture, limiting_sheet(blocked)
+    )
 
 
 def balance_finding(problem):
@@ -122,7 +201,11 @@ def bottleneck_finding(net, bottleneck):
     figures = [("must", amount(bottleneck.must)), ("can", amount(bottleneck.can)), ("short by", short)]
     what = "demand" if bottleneck.side == "take" else "supply"
     routes = listed([" -> ".join(net.ends(k)) for k in bottleneck.limiting])
-    raise_them = f"Give {routes} {short} more room{' together' if len(bottleneck.limiting) > 1 else ''}, or move" if routes else "Give them a route, or move"
+    raise_them = (
+        f"Give {routes} {short} more room{' together' if len(bottleneck.limiting) > 1 else ''}, or move"
+        if routes
+        else "Give them a route, or move"
+    )
     return finding(report.bottleneck_sentence(net, bottleneck), figures, f"{raise_them} {short} of {what} elsewhere.")
 
 
@@ -132,5 +215,11 @@ def limiting_sheet(blocked):
     for count, bottleneck in enumerate(blocked.bottlenecks, 1):
         rows += [("full", [f"{count}.", *net.ends(k), amount(net.arcs[k].most), ""]) for k in bottleneck.limiting]
         rows += [("", [f"{count}.", *net.ends(k), "", amount(net.arcs[k].least)]) for k in bottleneck.forcing]
-    columns = [("bottleneck", ""), ("from", ""), ("to", ""), ("most", "so the route limits the places"), ("least", "so it forces that upon them")]
+    columns = [
+        ("bottleneck", ""),
+        ("from", ""),
+        ("to", ""),
+        ("most", "so the route limits the places"),
+        ("least", "so it forces that upon them"),
+    ]
     return [Sheet("Routes that limit them", columns, rows)] if rows else []

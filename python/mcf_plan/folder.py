@@ -8,13 +8,25 @@ import signal
 from .faults import Rejected, Stop, trouble
 
 # What a plan is written into; a folder with anything else in it isn't touched.
-RESULTS = ("flows.csv", "prices.csv", "pairs.csv", "bottleneck.csv", "plan.xlsx", "plan.svg", "plan.json", "report.html",
-           "instance.min", "instance.asn", "answer.ans")
+RESULTS = (
+    "flows.csv",
+    "prices.csv",
+    "pairs.csv",
+    "bottleneck.csv",
+    "plan.xlsx",
+    "plan.svg",
+    "plan.json",
+    "report.html",
+    "instance.min",
+    "instance.asn",
+    "answer.ans",
+)
 
 
 @contextlib.contextmanager
 def results_in(name):
-    """A new folder beside the one that is named, which takes its place at the end; where the run ends otherwise, nothing is left of it."""
+    """A new folder beside the one that is named, which takes its place at the end; where the run ends
+    otherwise, nothing is left of it."""
     target = pathlib.Path(os.path.realpath(name))
     check_target(name, target)
     part = target.with_name(f".{target.name}.part-{os.getpid()}")
@@ -38,7 +50,10 @@ def check_target(name, target):
         raise trouble(f"the folder {name} can't be made: there is a file of this name")
     foreign = sorted(path.name for path in target.iterdir() if path.name not in RESULTS) if target.exists() else []
     if foreign:
-        raise Stop(f"the folder {name} has files that are no results, such as {foreign[0]}: name a folder of its own with -o", 2)
+        raise Stop(
+            f"the folder {name} has files that are no results, such as {foreign[0]}: name a folder of its own with -o",
+            2,
+        )
     if target == pathlib.Path.cwd() or target.name == "":
         raise Stop(f"the folder {name} can't be replaced: name another with -o", 2)
 

@@ -10,10 +10,12 @@ import time
 Box = collections.namedtuple("Box", "x y width height")
 # Boxes of the nodes; for each link its curve of cubic pieces, and the middle of its label.
 Layout = collections.namedtuple("Layout", "boxes curves labels")
-# What is to be laid out: sizes of boxes, spots on a map or None, links by their nodes from 0, and the size of each label or None.
+# What is to be laid out: sizes of boxes, spots on a map or None, links by their nodes from 0, and the size of
+# each label or None.
 Task = collections.namedtuple("Task", "sizes spots links labels starts")
 
-# What Graphviz may take, in seconds; and a picture in ranks that is wider than this is laid out by springs, as are nets of many routes both ways.
+# What Graphviz may take, in seconds; and a picture in ranks that is wider than this is laid out by springs,
+# as are nets of many routes both ways.
 PATIENCE, WIDEST = 10, 2400
 # How far the places of a map stand apart: boxes, and dots.
 SPREAD, DOTS_SPREAD = 235, 26
@@ -28,7 +30,9 @@ def laid_out(task):
             return graphviz(program, ["-Kneato", "-n"], task, map_boxes(task), until)
         if program:
             found = graphviz(program, ["-Kdot"], task, None, until)
-            is_wide = max((box.x for box in found.boxes), default=0) - min((box.x for box in found.boxes), default=0) > WIDEST
+            is_wide = (
+                max((box.x for box in found.boxes), default=0) - min((box.x for box in found.boxes), default=0) > WIDEST
+            )
             return graphviz(program, ["-Kneato"], task, None, until) if is_wide else found
     except subprocess.TimeoutExpired:
         return None
@@ -45,8 +49,14 @@ def laid_out(task):
 def graphviz(program, words, task, boxes, until):
     """The layout by Graphviz, of boxes that stand on a map or anywhere."""
     words = [program, *words, "-Tjson"]
-    done = subprocess.run(words, input=graph_text(task, boxes).encode(), stdout=subprocess.PIPE, stderr=subprocess.DEVNULL,
-                          timeout=max(0.1, until - time.monotonic()), check=True)
+    done = subprocess.run(
+        words,
+        input=graph_text(task, boxes).encode(),
+        stdout=subprocess.PIPE,
+        stderr=subprocess.DEVNULL,
+        timeout=max(0.1, until - time.monotonic()),
+        check=True,
+    )
     return layout_of(json.loads(done.stdout.decode()), task)
 
 
@@ -55,8 +65,10 @@ def graph_text(task, boxes):
     # Few ranks of many places stand farther apart, so that the picture isn't a tower.
     ranks = 1 + max(levels_of(len(task.sizes), task.links, task.starts), default=0)
     apart = min(4, max(1.1, len(task.sizes) / ranks / 4))
-    lines = [f"digraph plan {{ rankdir=LR; nodesep=0.22; ranksep={apart:.1f}; overlap=prism; splines=true; sep=\"+26\"; esep=\"+6\";",
-             "node [shape=box, fixedsize=true, label=\"\"]; edge [arrowhead=none, len=2.3, fontsize=11];"]
+    lines = [
+        f'digraph plan {{ rankdir=LR; nodesep=0.22; ranksep={apart:.1f}; overlap=prism; splines=true; sep="+26"; esep="+6";',
+        'node [shape=box, fixedsize=true, label=""]; edge [arrowhead=none, len=2.3, fontsize=11];',
+    ]
     for node, (width, height) in enumerate(task.sizes):
         spot = f', pos="{boxes[node].x:.1f},{-boxes[node].y:.1f}"' if boxes else ""
         lines.append(f"n{node} [width={width / 72:.3f}, height={height / 72:.3f}{spot}];")
@@ -90,6 +102,7 @@ def pair_of(word):
 
 def forward(points, tail):
     """A curve that begins at the end which is nearer to the box of its tail."""
+
     def far(point):
         return math.hypot(point[0] - tail.x, point[1] - tail.y)
 
@@ -128,7 +141,9 @@ def levels_of(count, links, starts):
 def column_boxes(task):
     """Boxes in columns by how far they are from the places that send, in the order of their tables."""
     levels = levels_of(len(task.sizes), task.links, task.starts)
-    columns = [[node for node in range(len(levels)) if levels[node] == level] for level in range(max(levels, default=-1) + 1)]
+    columns = [
+        [node for node in range(len(levels)) if levels[node] == level] for level in range(max(levels, default=-1) + 1)
+    ]
     tallest, across, boxes = max(map(len, columns), default=0), 0, [None] * len(levels)
     for column in columns:
         wide = max(task.sizes[node][0] for node in column)
@@ -162,7 +177,12 @@ def bowed(tail, head, bow):
     far = math.hypot(dx, dy) or 1
     over = tail.x + dx / 2 - dy / far * bow * 2, tail.y + dy / 2 + dx / far * bow * 2
     (ax, ay), (bx, by) = edge_of(tail, over), edge_of(head, over)
-    return [(ax, ay), (ax + (over[0] - ax) * 2 / 3, ay + (over[1] - ay) * 2 / 3), (bx + (over[0] - bx) * 2 / 3, by + (over[1] - by) * 2 / 3), (bx, by)]
+    return [
+        (ax, ay),
+        (ax + (over[0] - ax) * 2 / 3, ay + (over[1] - ay) * 2 / 3),
+        (bx + (over[0] - bx) * 2 / 3, by + (over[1] - by) * 2 / 3),
+        (bx, by),
+    ]
 
 
 def edge_of(box, to):
@@ -178,7 +198,7 @@ def edge_of(box, to):
 def point_at(piece, part):
     """The point of a cubic piece at a part of it, from 0 to 1."""
     rest = 1 - part
-    weights = rest ** 3, 3 * rest * rest * part, 3 * rest * part * part, part ** 3
+    weights = rest**3, 3 * rest * rest * part, 3 * rest * part * part, part**3
     return tuple(sum(weight * point[axis] for weight, point in zip(weights, piece)) for axis in (0, 1))
 
 
@@ -186,7 +206,7 @@ def samples(points, count=24):
     """Points along a curve of cubic pieces."""
     found = []
     for begin in range(0, len(points) - 3, 3):
-        found += [point_at(points[begin:begin + 4], step / count) for step in range(count)]
+        found += [point_at(points[begin : begin + 4], step / count) for step in range(count)]
     return found + [points[-1]]
 
 

@@ -13,7 +13,8 @@ SPOT_HEADS = ("x", "y")
 BOUND_HEADS = ("least", "most", "cost")
 YES, NO = ("yes", "y", "x", "1", "true", "ja", "j"), ("", "no", "n", "0", "false", "nein")
 
-# A place: what passes through it, which comes in or is sent there, has bounds and a cost of its own if they are said (else None); its line and its cells.
+# A place: what passes through it, which comes in or is sent there, has bounds and a cost of its own if they
+# are said (else None); its line and its cells.
 Place = collections.namedtuple("Place", "name supply spot bounds line cells")
 # How much may pass through a place, and what each unit costs there; a most of None is no limit.
 Bounds = collections.namedtuple("Bounds", "least most cost")
@@ -22,7 +23,8 @@ Step = collections.namedtuple("Step", "most cost")
 
 
 class Route(collections.namedtuple("Route", "tail head least steps both line cells")):
-    """A route between two places by their numbers from 1, perhaps to be used both ways, with the line and the cells of its table."""
+    """A route between two places by their numbers from 1, perhaps to be used both ways, with the line and the
+    cells of its table."""
 
     @property
     def most(self):
@@ -47,24 +49,37 @@ class Problem:
         self.numbers = numbers
         bounds = [place.bounds for place in places if place.bounds]
         steps = [step for route in routes for step in route.steps]
-        amounts = [place.supply for place in places] + [route.least for route in routes] + [part.least for part in bounds]
+        amounts = (
+            [place.supply for place in places] + [route.least for route in routes] + [part.least for part in bounds]
+        )
         amounts += [part.most for part in steps + bounds if part.most is not None]
         self.units = Units(scale_of(amounts), scale_of([part.cost for part in steps + bounds] + [penalty or 0]))
         self.said = Said(self.units, numbers.mark)
         self.penalty = None if penalty is None else self.whole_cost(penalty)
-        self.places = [place._replace(supply=self.whole(place.supply), bounds=self.whole_bounds(place.bounds)) for place in places]
-        self.routes = [route._replace(least=self.whole(route.least),
-                                      steps=tuple(Step(self.whole(step.most), self.whole_cost(step.cost)) for step in route.steps)) for route in routes]
+        self.places = [
+            place._replace(supply=self.whole(place.supply), bounds=self.whole_bounds(place.bounds)) for place in places
+        ]
+        self.routes = [
+            route._replace(
+                least=self.whole(route.least),
+                steps=tuple(Step(self.whole(step.most), self.whole_cost(step.cost)) for step in route.steps),
+            )
+            for route in routes
+        ]
 
     @classmethod
     def read(cls, paths, reading, penalty=None):
-        """The problem of two files, or of a workbook with two sheets. The penalty is a cost, as text, that comes with them."""
+        """The problem of two files, or of a workbook with two sheets. The penalty is a cost, as text, that
+        comes with them."""
         faults, numbers = Faults(), Numbers(reading.decimal)
         tables = tables_of(paths, (PLACE_HEADS, ROUTE_HEADS), reading, faults)
         check_heads(*tables, faults)
         for table in tables:
             table.check_widths(faults)
-            numbers.look(table, [place for place, head in enumerate(table.heads) if head.split(" ")[0] in ("supply", *BOUND_HEADS)])
+            numbers.look(
+                table,
+                [place for place, head in enumerate(table.heads) if head.split(" ")[0] in ("supply", *BOUND_HEADS)],
+            )
         numbers.settle(faults)
         places = places_of(tables[0], numbers, faults)
         routes = routes_of(tables[1], places, numbers, faults)
@@ -85,15 +100,18 @@ class Problem:
         return bounds and Bounds(self.whole(bounds.least), self.whole(bounds.most), self.whole_cost(bounds.cost))
 
     def reach(self):
-        """What no route without a limit carries beyond its least, in some plan that costs least where no cost is below 0.
+        """What no route without a limit carries beyond its least, in some plan that costs least where no cost is
+        below 0.
 
-        Beyond the leasts such a plan has no round trip, so each route carries a part of what places, leasts and a hub, which gives what is missing, send on.
+        Beyond the leasts such a plan has no round trip, so each route carries a part of what places, leasts
+        and a hub, which gives what is missing, send on.
         """
         leasts = [route.least for route in self.routes] + [place.bounds.least for place in self.places if place.bounds]
         return 1 + sum(abs(place.supply) for place in self.places) + sum(map(abs, leasts))
 
     def throughput(self):
-        """What passes through no place, whatever the plan, where no route is without a limit; and beyond the reach where one is."""
+        """What passes through no place, whatever the plan, where no route is without a limit; and beyond the
+        reach where one is."""
         return self.reach() + sum(abs(route.least) + abs(route.most) for route in self.routes if route.most is not None)
 
     def ends(self, route):
@@ -104,7 +122,11 @@ class Problem:
 def check_heads(place_table, route_table, faults):
     """Ends the run where heads are missing; tables that were exchanged are told."""
     exchanged = route_table.has(PLACE_HEADS) and place_table.has(ROUTE_HEADS[:2])
-    place_table.need(PLACE_HEADS, faults, "this looks like the table of routes, which comes second; of places wanted are" if exchanged else "wanted are")
+    place_table.need(
+        PLACE_HEADS,
+        faults,
+        "this looks like the table of routes, which comes second; of places wanted are" if exchanged else "wanted are",
+    )
     route_table.need(ROUTE_HEADS, faults)
     if not place_table.has(PLACE_HEADS) or not route_table.has(ROUTE_HEADS):
         faults.end()
@@ -120,7 +142,14 @@ def places_of(table, numbers, faults):
         if name:
             once(At(table, line, "name"), key_of(name), f"a place {shown(name)}", seen, faults)
         supply = numbers.read(table, line, "supply", cell_at(cells, supply_column), faults)
-        spot = tuple(coordinate_in(table, line, head, cell_at(cells, column), faults) for head, column in zip(SPOT_HEADS, spots)) if spots else None
+        spot = (
+            tuple(
+                coordinate_in(table, line, head, cell_at(cells, column), faults)
+                for head, column in zip(SPOT_HEADS, spots)
+            )
+            if spots
+            else None
+        )
         found.append(Place(name, supply, spot, bounds_of(table, line, cells, numbers, faults), line, cells))
     return found
 
@@ -130,9 +159,11 @@ def bounds_of(table, line, cells, numbers, faults):
     least, most, cost = (cell_at(cells, table.perhaps(head)) for head in BOUND_HEADS)
     if not (least or most or cost):
         return None
-    return Bounds(numbers.read(table, line, "least", least or "0", faults),
-                  None if most.casefold() in NO_LIMIT else numbers.read(table, line, "most", most, faults),
-                  numbers.read(table, line, "cost", cost or "0", faults))
+    return Bounds(
+        numbers.read(table, line, "least", least or "0", faults),
+        None if most.casefold() in NO_LIMIT else numbers.read(table, line, "most", most, faults),
+        numbers.read(table, line, "cost", cost or "0", faults),
+    )
 
 
 def end_of(table, line, head, cell, numbers, faults):
@@ -141,13 +172,20 @@ def end_of(table, line, head, cell, numbers, faults):
     number = numbers.get(key_of(name), 0)
     if name and not number:
         near = [] if faults.has(table, "no place") else near_to(key_of(name), list(numbers))
-        faults.add(At(table, line, head), "no place", f"there is no place {shown(name)}" + (f"; is {shown(near[0])} meant?" if near else ""), name)
+        faults.add(
+            At(table, line, head),
+            "no place",
+            f"there is no place {shown(name)}" + (f"; is {shown(near[0])} meant?" if near else ""),
+            name,
+        )
     return number
 
 
 def near_to(name, names):
     """The names, of some thousands, that are nearly a name."""
-    return ([other for other in names if other.casefold() == name.casefold()] or difflib.get_close_matches(name, names[:10_000], 1))
+    return [other for other in names if other.casefold() == name.casefold()] or difflib.get_close_matches(
+        name, names[:10_000], 1
+    )
 
 
 def routes_of(table, places, numbers, faults):
@@ -157,14 +195,32 @@ def routes_of(table, places, numbers, faults):
     known = {key_of(place.name): number for number, place in enumerate(places, 1)}
     found = []
     for line, cells in table.rows:
-        ends = [end_of(table, line, head, cell_at(cells, column), known, faults) for head, column in (("from", tails), ("to", heads))]
+        ends = [
+            end_of(table, line, head, cell_at(cells, column), known, faults)
+            for head, column in (("from", tails), ("to", heads))
+        ]
         least = cell_at(cells, leasts)
-        route = Route(*ends, numbers.read(table, line, "least", least, faults) if least else 0,
-                      steps_of(table, (line, cells), steps, numbers, faults), cell_at(cells, ways).casefold() in YES, line, cells)
+        route = Route(
+            *ends,
+            numbers.read(table, line, "least", least, faults) if least else 0,
+            steps_of(table, (line, cells), steps, numbers, faults),
+            cell_at(cells, ways).casefold() in YES,
+            line,
+            cells,
+        )
         if cell_at(cells, ways).casefold() not in YES + NO:
-            faults.add(At(table, line, "both"), "both", f"{shown(cell_at(cells, ways))} is neither yes nor no", cell_at(cells, ways))
+            faults.add(
+                At(table, line, "both"),
+                "both",
+                f"{shown(cell_at(cells, ways))} is neither yes nor no",
+                cell_at(cells, ways),
+            )
         if route.both and (route.least != 0 or route.cost < 0):
-            faults.add(At(table, line, "both"), "both bounds", "a route that is used both ways has no least, and no cost below 0")
+            faults.add(
+                At(table, line, "both"),
+                "both bounds",
+                "a route that is used both ways has no least, and no cost below 0",
+            )
         found.append(route)
     return found
 
@@ -187,13 +243,27 @@ def steps_of(table, row, columns, numbers, faults):
             break
         if found and found[-1].most is None:
             faults.add(At(table, line, heads[0]), "after no limit", "the step before is without a limit")
-        found.append(Step(None if most.casefold() in NO_LIMIT else numbers.read(table, line, heads[0], most, faults),
-                          numbers.read(table, line, heads[1], cost, faults)))
+        found.append(
+            Step(
+                None if most.casefold() in NO_LIMIT else numbers.read(table, line, heads[0], most, faults),
+                numbers.read(table, line, heads[1], cost, faults),
+            )
+        )
         if len(found) > 1 and cost and found[-1].cost < found[-2].cost:
-            faults.add(At(table, line, heads[1]), "falling cost", f"{shown(cost)} is below the cost of the step before: units that get cheaper with more of them "
-                       "make no minimum-cost flow", cost)
+            faults.add(
+                At(table, line, heads[1]),
+                "falling cost",
+                f"{shown(cost)} is below the cost of the step before: units that get cheaper with more of them "
+                "make no minimum-cost flow",
+                cost,
+            )
         if len(found) > 1 and (found[-1].most or 0) < 0:
-            faults.add(At(table, line, heads[0]), "step below 0", f"{shown(most)} is below 0, and this step adds to the one before", most)
+            faults.add(
+                At(table, line, heads[0]),
+                "step below 0",
+                f"{shown(most)} is below 0, and this step adds to the one before",
+                most,
+            )
     return tuple(found)
 
 
@@ -203,5 +273,9 @@ def check_limits(tables, places, routes, faults):
     below += [f"{tables[0].name}, line {place.line}" for place in places if place.bounds and place.bounds.cost < 0]
     for route in routes if below else []:
         if route.most is None:
-            faults.add(At(tables[1], route.line, "most"), "no limit", f"this is empty, so without a limit, and a cost is below 0 ({below[0]}): a "
-                       "round trip could earn without end; give a most")
+            faults.add(
+                At(tables[1], route.line, "most"),
+                "no limit",
+                f"this is empty, so without a limit, and a cost is below 0 ({below[0]}): a "
+                "round trip could earn without end; give a most",
+            )

@@ -15,20 +15,24 @@ class Network:
 
     def lines(self):
         """The lines of the network's text."""
-        return ([f"p min {len(self.supplies)} {len(self.arcs)}"] +
-                [f"n {node} {supply}" for node, supply in enumerate(self.supplies, 1)] +
-                ["a %d %d %d %d %d" % arc for arc in self.arcs])
+        return (
+            [f"p min {len(self.supplies)} {len(self.arcs)}"]
+            + [f"n {node} {supply}" for node, supply in enumerate(self.supplies, 1)]
+            + ["a %d %d %d %d %d" % arc for arc in self.arcs]
+        )
 
     def turned(self):
-        """The network with each arc turned round, and with demands for supplies: what must take there must send here."""
-        return Network([-supply for supply in self.supplies],
-                       [arc._replace(tail=arc.head, head=arc.tail) for arc in self.arcs])
+        """The network with each arc turned round, and with demands for supplies: what must take there must
+        send here."""
+        return Network(
+            [-supply for supply in self.supplies], [arc._replace(tail=arc.head, head=arc.tail) for arc in self.arcs]
+        )
 
     def bottleneck(self, side, nodes):
         """What a set must and can send (or take).
 
-        It must send its supplies and what arcs bring by their least; it can send the most of the arcs that lead out. Of a set that takes it is the
-        other way round.
+        It must send its supplies and what arcs bring by their least; it can send the most of the arcs that
+        lead out. Of a set that takes it is the other way round.
         """
         leaving = [k for k, arc in enumerate(self.arcs) if arc.tail in nodes and arc.head not in nodes]
         entering = [k for k, arc in enumerate(self.arcs) if arc.tail not in nodes and arc.head in nodes]
@@ -38,7 +42,8 @@ class Network:
         return Bottleneck(side, sorted(nodes), must, can, [k for k in forcing if self.arcs[k].least], limiting)
 
     def blocking_parts(self, side, nodes):
-        """The bottlenecks that a blocking set falls into: no arc joins two of its parts, so that one at least blocks by itself."""
+        """The bottlenecks that a blocking set falls into: no arc joins two of its parts, so that one at least
+        blocks by itself."""
         found = (self.bottleneck(side, part) for part in parts_of(nodes, self.arcs))
         return [bottleneck for bottleneck in found if bottleneck.must > bottleneck.can]
 

@@ -7,17 +7,21 @@ import re
 
 from .amounts import Figure
 
-# A page: what stands at its top, whether a plan exists, facts as pairs of a value and its words, findings as paragraphs, the picture or None, and sheets.
+# A page: what stands at its top, whether a plan exists, facts as pairs of a value and its words, findings as
+# paragraphs, the picture or None, and sheets.
 Page = collections.namedtuple("Page", "title headline is_plan lead facts findings picture sheets")
-# A table of the page. Columns are pairs of a head and what it means; rows are pairs of a class and cells; totals stand below them.
+# A table of the page. Columns are pairs of a head and what it means; rows are pairs of a class and cells;
+# totals stand below them.
 Sheet = collections.namedtuple("Sheet", "title columns rows totals note", defaults=((), ""))
 # A cell that shows a part of a whole, in percent.
 Share = collections.namedtuple("Share", "percent")
 # More rows than these aren't listed: a browser would be slow.
 LISTED = 5000
 
-PROVED = ("mcfcheck accepted this answer for this instance, and mcfcheck is proved to accept nothing that isn't right. How the instance was made of the "
-          "tables, and this page of the answer, isn't proved, but tested.")
+PROVED = (
+    "mcfcheck accepted this answer for this instance, and mcfcheck is proved to accept nothing that isn't right. How the instance was made of the "
+    "tables, and this page of the answer, isn't proved, but tested."
+)
 
 
 def text(value):
@@ -44,21 +48,51 @@ class Writer:
         """The whole page."""
         here = pathlib.Path(__file__).resolve().parent
         style, script = ((here / name).read_text(encoding="utf-8") for name in ("page.css", "page.js"))
-        body = [f'<h1{"" if page.is_plan else " class=none"}>{text(page.headline)}</h1>', *(f"<p>{text(line)}</p>" for line in page.lead), self.seal()]
-        if page.facts:
-            body.append('<ul class="facts">' + "".join(f"<li><b>{text(self.figure(value))}</b>{text(words)}</li>" for value, words in page.facts) + "</ul>")
-        body += page.findings
-        if page.picture:
-            zooms = "".join(f'<button type="button" data-zoom="{factor}" title="{words}">{sign}</button>'
-                            for factor, sign, words in (("0.7", "+", "nearer"), ("1.43", "\u2212", "farther"), ("0", "\u21ba", "all of it")))
-            body.append(f'<h2>Picture</h2>\n<div class="picture">{page.picture}<div class="zoom">{zooms}</div></div>')
-        body += [self.section(sheet) for sheet in page.sheets] + [self.proof()]
-        return "\n".join(['<!DOCTYPE html>', '<html lang="en">', '<meta charset="utf-8">', '<meta name="viewport" content="width=device-width">',
-                          f"<title>{text(page.title)}</title>", f"<style>\n{style}</style>", *body, f"<script>\n{script}</script>", "</html>"]) + "\n"
+        parts = [f'<h1{"" if page.is_plan else " class=none"}>{text(page.headline)}</h1>']
+        parts += (
+            [f"<p>{text(line)}</p>" for line in page.lead]
+            + [self.seal()]
+            + self.facts(page)
+            + page.findings
+            + self.picture(page)
+        )
+        parts += [self.section(sheet) for sheet in page.sheets] + [self.proof()]
+        head = [
+            "<!DOCTYPE html>",
+            '<html lang="en">',
+            '<meta charset="utf-8">',
+            '<meta name="viewport" content="width=device-width">',
+        ]
+        head += [f"<title>{text(page.title)}</title>", f"<style>\n{style}</style>"]
+        return "\n".join(head + parts + [f"<script>\n{script}</script>", "</html>"]) + "\n"
+
+    def facts(self, page):
+        """What stands in boxes below the headline."""
+        boxes = "".join(f"<li><b>{text(self.figure(value))}</b>{text(words)}</li>" for value, words in page.facts)
+        return [f'<ul class="facts">{boxes}</ul>'] if boxes else []
+
+    @staticmethod
+    def picture(page):
+        """The picture with its buttons."""
+        zooms = "".join(
+            f'<button type="button" data-zoom="{factor}" title="{words}">{sign}</button>'
+            for factor, sign, words in (
+                ("0.7", "+", "nearer"),
+                ("1.43", "\u2212", "farther"),
+                ("0", "\u21ba", "all of it"),
+            )
+        )
+        return (
+            [f'<h2>Picture</h2>\n<div class="picture">{page.picture}<div class="zoom">{zooms}</div></div>']
+            if page.picture
+            else []
+        )
 
     def seal(self):
         """Below the headline: by which instance and which answer it holds."""
-        sums = " &middot; ".join(f"{name} <code>{sha256_of(self.folder / name)[:16]}</code>" for name in (self.instance, "answer.ans"))
+        sums = " &middot; ".join(
+            f"{name} <code>{sha256_of(self.folder / name)[:16]}</code>" for name in (self.instance, "answer.ans")
+        )
         return f'<p class="soft">Accepted by mcfcheck, which is proved. {sums} (<a href="#accepted">whole sums</a>)</p>'
 
     def figure(self, value):
@@ -75,18 +109,38 @@ class Writer:
 
     def section(self, sheet):
         """A table with its tools."""
-        numeric = [any(isinstance(cells[column], (Figure, Share)) for _, cells in sheet.rows) for column in range(len(sheet.columns))]
-        heads = "".join(f'<th{" class=number" if number else ""} title="{text(meaning)}">{text(head)}</th>'
-                        for (head, meaning), number in zip(sheet.columns, numeric))
-        rows = "\n".join(f'<tr{f" class={kind}" if kind else ""}>' + "".join(self.cell_in(value, number) for value, number in zip(cells, numeric)) + "</tr>"
-                         for kind, cells in sheet.rows)
+        numeric = [
+            any(isinstance(cells[column], (Figure, Share)) for _, cells in sheet.rows)
+            for column in range(len(sheet.columns))
+        ]
+        heads = "".join(
+            f'<th{" class=number" if number else ""} title="{text(meaning)}">{text(head)}</th>'
+            for (head, meaning), number in zip(sheet.columns, numeric)
+        )
+        rows = "\n".join(
+            f'<tr{f" class={kind}" if kind else ""}>'
+            + "".join(self.cell_in(value, number) for value, number in zip(cells, numeric))
+            + "</tr>"
+            for kind, cells in sheet.rows
+        )
         foot = f'<tfoot><tr>{"".join(map(self.cell, sheet.totals))}</tr></tfoot>' if sheet.totals else ""
-        box = '<label><input type="checkbox"> only what carries something</label>' if any(kind == "idle" for kind, _ in sheet.rows) else ""
-        tools = ('<div class="tools"><input type="search" placeholder="filter" aria-label="filter">' + box + '<span class="soft count"></span></div>'
-                 if len(sheet.rows) > 5 else "")
+        box = (
+            '<label><input type="checkbox"> only what carries something</label>'
+            if any(kind == "idle" for kind, _ in sheet.rows)
+            else ""
+        )
+        tools = (
+            '<div class="tools"><input type="search" placeholder="filter" aria-label="filter">'
+            + box
+            + '<span class="soft count"></span></div>'
+            if len(sheet.rows) > 5
+            else ""
+        )
         note = f'<p class="soft">{text(sheet.note)}</p>' if sheet.note else ""
-        return (f"<section><h2>{text(sheet.title)}</h2>{note}{tools}\n<div class=\"sheet\"><table>\n<thead><tr>{heads}</tr></thead>\n<tbody>\n{rows}\n</tbody>"
-                f"{foot}</table></div></section>")
+        return (
+            f'<section><h2>{text(sheet.title)}</h2>{note}{tools}\n<div class="sheet"><table>\n<thead><tr>{heads}</tr></thead>\n<tbody>\n{rows}\n</tbody>'
+            f"{foot}</table></div></section>"
+        )
 
     def cell_in(self, value, is_number):
         """A cell of a column; one that is empty among numbers is none."""
@@ -94,9 +148,14 @@ class Writer:
 
     def proof(self):
         """What was accepted, and how to have it judged again."""
-        rows = "".join(f"<dt>{name}</dt><dd><code>{sha256_of(self.folder / name)}</code></dd>" for name in (self.instance, "answer.ans"))
-        return (f"<section id=\"accepted\"><h2>What was accepted</h2><p>{text(PROVED)}</p><dl>{rows}</dl>"
-                f"<p class=\"soft\">These are SHA-256. To have it judged again: <code>mcfcheck {self.instance} answer.ans</code></p></section>")
+        rows = "".join(
+            f"<dt>{name}</dt><dd><code>{sha256_of(self.folder / name)}</code></dd>"
+            for name in (self.instance, "answer.ans")
+        )
+        return (
+            f'<section id="accepted"><h2>What was accepted</h2><p>{text(PROVED)}</p><dl>{rows}</dl>'
+            f'<p class="soft">These are SHA-256. To have it judged again: <code>mcfcheck {self.instance} answer.ans</code></p></section>'
+        )
 
 
 def sha256_of(path):
@@ -106,14 +165,21 @@ def sha256_of(path):
 
 def finding(sentence, figures, cure):
     """A bottleneck: its sentence, its figures in words, and what would help."""
-    parts = " &middot; ".join(f'<b{" class=short" if words == "short by" else ""}>{text(words)} {text(number)}</b>' for words, number in figures)
+    parts = " &middot; ".join(
+        f'<b{" class=short" if words == "short by" else ""}>{text(words)} {text(number)}</b>'
+        for words, number in figures
+    )
     after = f'<p class="soft">{text(cure)}</p>' if cure else ""
     return f'<div class="finding"><p>{parts}</p><p>{text(sentence)}</p>{after}</div>'
 
 
 def listed_rows(rows):
-    """The rows of a table that are listed, and a note on the others: of very many those that carry nothing are left out."""
+    """The rows of a table that are listed, and a note on the others: of very many those that carry nothing
+    are left out."""
     if len(rows) <= LISTED:
         return rows, ""
     chosen = [row for row in rows if row[0] != "idle"][:LISTED]
-    return chosen, f"{len(chosen)} of {len(rows)} lines: of so many, only such as carry something. All stand in the table of this folder."
+    return (
+        chosen,
+        f"{len(chosen)} of {len(rows)} lines: of so many, only such as carry something. All stand in the table of this folder.",
+    )

@@ -9,6 +9,14 @@ FORMAT = 1
 def write_record(folder, kind, said, cost=None, parts=()):
     """Writes plan.json. Parts are lists of names with an amount; of a plan that can't be there is no cost."""
     instance = next(folder.glob("instance.*")).name
-    record = {"format": FORMAT, "kind": kind, "instance": instance, "instance_sha256": sha256_of(folder / instance),
-              "answer_sha256": sha256_of(folder / "answer.ans"), "cost": cost, "said": said, "parts": [list(part) for part in parts]}
+    record = {
+        "format": FORMAT,
+        "kind": kind,
+        "instance": instance,
+        "instance_sha256": sha256_of(folder / instance),
+        "answer_sha256": sha256_of(folder / "answer.ans"),
+        "cost": cost,
+        "said": said,
+        "parts": [list(part) for part in parts],
+    }
     (folder / "plan.json").write_text(json.dumps(record, ensure_ascii=False, indent=0) + "\n", encoding="utf-8")

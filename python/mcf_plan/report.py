@@ -5,11 +5,17 @@ from .words import TOLD_NAMES, count_of, listed
 
 
 def write_flows(results, plan):
-    """Writes flows.csv: the routes in their order, with the columns that they had; then what stays and what is missing."""
+    """Writes flows.csv: the routes in their order, with the columns that they had; then what stays and what
+    is missing."""
     units, table, rows = plan.problem.units, plan.problem.route_table, []
     for route, result in zip(plan.problem.routes, plan.routes):
         free, exact = units.amount(result.free), "yes" if result.is_exact else "no"
-        rows.append((route.cells, [units.amount(result.carries), units.total(result.cost), free, plan.rate(result.saves), exact]))
+        rows.append(
+            (
+                route.cells,
+                [units.amount(result.carries), units.total(result.cost), free, plan.rate(result.saves), exact],
+            )
+        )
     for is_supply in (True, False):
         for place, amount in plan.unmet(is_supply):
             ends = {"from": place.name, "to": STAYS} if is_supply else {"from": MISSING, "to": place.name}
@@ -20,10 +26,17 @@ def write_flows(results, plan):
 
 
 def write_prices(results, plan):
-    """Writes prices.csv: the places in their order, with the columns that they had. What a unit costs at a place is minus its price."""
+    """Writes prices.csv: the places in their order, with the columns that they had. What a unit costs at a
+    place is minus its price."""
     has_bounds = any(place.bounds for place in plan.problem.places)
-    rows = [(place.cells, [plan.rate(result.price), Figure(result.group)] + (through_cells(plan, result.through) if has_bounds else []))
-            for place, result in zip(plan.problem.places, plan.places)]
+    rows = [
+        (
+            place.cells,
+            [plan.rate(result.price), Figure(result.group)]
+            + (through_cells(plan, result.through) if has_bounds else []),
+        )
+        for place, result in zip(plan.problem.places, plan.places)
+    ]
     more = ["passes", "passing_costs", "free", "one_more_saves", "exact"] if has_bounds else []
     results.after("prices", plan.problem.place_table, ["one_more_costs", "group"] + more, rows)
 
@@ -33,23 +46,35 @@ def through_cells(plan, through):
     units = plan.problem.units
     if not through:
         return [""] * 5
-    return [units.amount(through.carries), units.total(through.cost), units.amount(through.free), plan.rate(through.saves), "yes" if through.is_exact else "no"]
+    return [
+        units.amount(through.carries),
+        units.total(through.cost),
+        units.amount(through.free),
+        plan.rate(through.saves),
+        "yes" if through.is_exact else "no",
+    ]
 
 
 def write_bottlenecks(results, net, bottlenecks):
-    """Writes bottleneck.csv: of each bottleneck the column must adds up to what must be sent (or taken), the column can to what can be."""
+    """Writes bottleneck.csv: of each bottleneck the column must adds up to what must be sent (or taken), the
+    column can to what can be."""
     amount, rows = net.problem.units.amount, []
     for count, bottleneck in enumerate(bottlenecks, 1):
         sign = 1 if bottleneck.side == "send" else -1
         supplies = {}
         for node in bottleneck.nodes:
             supplies[net.node_name(node)] = supplies.get(net.node_name(node), 0) + sign * net.supplies[node - 1]
-        rows += [[Figure(count), bottleneck.side, "place", name, "", "", amount(supply), ""] for name, supply in supplies.items()]
+        rows += [
+            [Figure(count), bottleneck.side, "place", name, "", "", amount(supply), ""]
+            for name, supply in supplies.items()
+        ]
         for k in bottleneck.forcing:
             rows.append([Figure(count), bottleneck.side, *arc_cells(net, k), amount(net.arcs[k].least), ""])
         for k in bottleneck.limiting:
             rows.append([Figure(count), bottleneck.side, *arc_cells(net, k), "", amount(net.arcs[k].most)])
-    results.table("bottleneck", net.problem.route_table, ["bottleneck", "side", "kind", "name", "from", "to", "must", "can"], rows)
+    results.table(
+        "bottleneck", net.problem.route_table, ["bottleneck", "side", "kind", "name", "from", "to", "must", "can"], rows
+    )
 
 
 def arc_cells(net, k):
@@ -59,16 +84,25 @@ def arc_cells(net, k):
 
 def balance_of(problem):
     """The sums of supplies and of demands."""
-    return (sum(place.supply for place in problem.places if place.supply > 0), -sum(place.supply for place in problem.places if place.supply < 0))
+    return (
+        sum(place.supply for place in problem.places if place.supply > 0),
+        -sum(place.supply for place in problem.places if place.supply < 0),
+    )
 
 
 def balance_sentence(problem):
     """What is wrong where supplies and demands don't agree."""
     amount = problem.said.amount
     supply, demand = balance_of(problem)
-    more, less, cure = ("supply", "demand", "--unused allow lets it stay") if supply > demand else ("demand", "supply", "--short allow lets it be short")
-    return (f"{more} exceeds {less} by {amount(abs(supply - demand))}: the supplies add to {amount(supply)}, the demands to {amount(demand)}, "
-            f"and they must be equal ({cure}).")
+    more, less, cure = (
+        ("supply", "demand", "--unused allow lets it stay")
+        if supply > demand
+        else ("demand", "supply", "--short allow lets it be short")
+    )
+    return (
+        f"{more} exceeds {less} by {amount(abs(supply - demand))}: the supplies add to {amount(supply)}, the demands to {amount(demand)}, "
+        f"and they must be equal ({cure})."
+    )
 
 
 def bottleneck_sentence(net, bottleneck):
@@ -98,8 +132,12 @@ def blocked_summary(blocked):
     if blocked.is_unbalanced:
         lines.append("  " + balance_sentence(blocked.net.problem))
     if blocked.is_unbalanced and blocked.bottlenecks:
-        lines.append(f"Even if that {'stays' if sum(blocked.net.supplies) > 0 else 'is short'}, no plan exists, as mcf found and mcfcheck accepted:")
-    return lines + ["  " + bottleneck_sentence(blocked.eased, bottleneck) for bottleneck in blocked.bottlenecks[:TOLD_NAMES]]
+        lines.append(
+            f"Even if that {'stays' if sum(blocked.net.supplies) > 0 else 'is short'}, no plan exists, as mcf found and mcfcheck accepted:"
+        )
+    return lines + [
+        "  " + bottleneck_sentence(blocked.eased, bottleneck) for bottleneck in blocked.bottlenecks[:TOLD_NAMES]
+    ]
 
 
 def flow_summary(plan):
@@ -108,10 +146,14 @@ def flow_summary(plan):
     carrying = sum(1 for result in plan.routes if result.carries)
     full = sum(1 for result in plan.routes if result.free == 0)
     passing = sum(result.through.cost for result in plan.places if result.through)
-    lines = [f"A least-cost plan, written by mcf and accepted by mcfcheck: cost {problem.said.total(plan.cost)}.",
-             f"{count_of(len(problem.places), 'place', 'places')}, {count_of(len(problem.routes), 'route', 'routes')}: "
-             f"{carrying} {'carries' if carrying == 1 else 'carry'} something, {full} {'is' if full == 1 else 'are'} full."]
-    lines += unmet_lines(plan) + ([f"Passing through places costs {problem.said.total(passing)} of that."] if passing else [])
+    lines = [
+        f"A least-cost plan, written by mcf and accepted by mcfcheck: cost {problem.said.total(plan.cost)}.",
+        f"{count_of(len(problem.places), 'place', 'places')}, {count_of(len(problem.routes), 'route', 'routes')}: "
+        f"{carrying} {'carries' if carrying == 1 else 'carry'} something, {full} {'is' if full == 1 else 'are'} full.",
+    ]
+    lines += unmet_lines(plan) + (
+        [f"Passing through places costs {problem.said.total(passing)} of that."] if passing else []
+    )
     saving = savings_of(plan)
     if saving:
         lines.append("One more unit of room would save most on:")
@@ -125,7 +167,9 @@ def savings_of(plan):
     """The routes and the places where more room would save, the greatest savings first."""
     problem = plan.problem
     found = [(problem.ends(route), result) for route, result in zip(problem.routes, plan.routes)]
-    found += [((place.name, THROUGH), result.through) for place, result in zip(problem.places, plan.places) if result.through]
+    found += [
+        ((place.name, THROUGH), result.through) for place, result in zip(problem.places, plan.places) if result.through
+    ]
     return sorted(((ends, result) for ends, result in found if result.saves), key=lambda pair: -pair[1].saves)
 
 

@@ -1,4 +1,5 @@
-"""The tables that are written: as CSV like those that were read, and as a workbook where one was read or is asked for."""
+"""The tables that are written: as CSV like those that were read, and as a workbook where one was read or is
+asked for."""
 import csv
 
 from .amounts import Figure
@@ -17,7 +18,9 @@ class Results:
     def table(self, name, like, heads, rows):
         """Writes a table with the separator, and with or without the byte-order mark, of another."""
         rows = list(rows)
-        with open(self.folder / f"{name}.csv", "w", newline="", encoding="utf-8-sig" if like.mark else "utf-8") as output:
+        with open(
+            self.folder / f"{name}.csv", "w", newline="", encoding="utf-8-sig" if like.mark else "utf-8"
+        ) as output:
             writer = csv.writer(output, delimiter=like.separator, lineterminator="\n")
             writer.writerow(heads)
             writer.writerows([self.cell(value) for value in row] for row in rows)
@@ -25,16 +28,26 @@ class Results:
             self.sheets.append((name, heads, rows))
 
     def after(self, name, like, heads, rows):
-        """Writes a table of another's columns, and of others after them, for the rows of which the cells of both are given."""
+        """Writes a table of another's columns, and of others after them, for the rows of which the cells of
+        both are given."""
         places = like.kept(heads)
-        self.table(name, like, [like.titles[place] for place in places] + list(heads),
-                   ([cells[place] if place < len(cells) else "" for place in places] + more for cells, more in rows))
+        self.table(
+            name,
+            like,
+            [like.titles[place] for place in places] + list(heads),
+            ([cells[place] if place < len(cells) else "" for place in places] + more for cells, more in rows),
+        )
 
     def cell(self, value):
         """A cell as CSV has it."""
         if isinstance(value, Figure):
             return value.replace(".", self.mark)
-        if self.guards_formulas and isinstance(value, str) and value.startswith(FORMULA) and not value[1:].replace(".", "").replace(",", "").isdigit():
+        if (
+            self.guards_formulas
+            and isinstance(value, str)
+            and value.startswith(FORMULA)
+            and not value[1:].replace(".", "").replace(",", "").isdigit()
+        ):
             return "'" + value
         return value
 

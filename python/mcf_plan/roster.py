@@ -16,7 +16,8 @@ Pair = collections.namedtuple("Pair", "who what cost line column cells")
 
 
 class Side:
-    """The persons, or the things, each numbered from 1 in the order in which they come; how many each may have, where that is said."""
+    """The persons, or the things, each numbered from 1 in the order in which they come; how many each may
+    have, where that is said."""
 
     def __init__(self, head):
         self.head, self.names, self.numbers, self.said = head, [], {}, {}
@@ -32,13 +33,24 @@ class Side:
         """Notes how many one may have, in a cell that isn't empty; what was said before must be the same."""
         found = RANGE.fullmatch(cell)
         if cell and (not found or int(found[1]) > int(found[2] or found[1])):
-            faults.add(at, "range", f"{shown(cell)} is no number, and no range such as 2..3" +
-                       ("; was it taken for a date?" if re.search(r"[0-9]{4}-|\.\s?\w{3}", cell) else ""), cell)
+            faults.add(
+                at,
+                "range",
+                f"{shown(cell)} is no number, and no range such as 2..3"
+                + ("; was it taken for a date?" if re.search(r"[0-9]{4}-|\.\s?\w{3}", cell) else ""),
+                cell,
+            )
         elif cell and self.said.setdefault(number, found.groups()) != found.groups():
-            faults.add(at, "two ranges", f"{shown(self.names[number - 1])} has two different numbers: this is {shown(cell)}", cell)
+            faults.add(
+                at,
+                "two ranges",
+                f"{shown(self.names[number - 1])} has two different numbers: this is {shown(cell)}",
+                cell,
+            )
 
     def range_of(self, number, is_each):
-        """How many one gets, at least and at most: just one of those that each have to, else at most one; or what was said."""
+        """How many one gets, at least and at most: just one of those that each have to, else at most one; or
+        what was said."""
         least, most = self.said.get(number, (None, "1"))
         if most is not None:
             return (1 if is_each else 0) if least is None else int(least), int(most)
@@ -51,7 +63,7 @@ class Roster:
 
     def __init__(self, path, reading, each=None, maximise=False):
         faults, self.numbers = Faults(), Numbers(reading.decimal)
-        self.table, = tables_of([path], [PAIR_HEADS], reading, faults)
+        (self.table,) = tables_of([path], [PAIR_HEADS], reading, faults)
         self.table.check_widths(faults)
         self.persons, self.things, self.is_list = Side("takes"), Side("needs"), self.table.has(PAIR_HEADS)
         found = (self.listed if self.is_list else self.matrix)(faults)
@@ -97,8 +109,11 @@ class Roster:
             once(At(table, line, 1), key_of(name), f"a person {shown(name)}", seen, faults)
             who = self.persons.number(name)
             self.persons.say(At(table, line, "takes"), who, cell_at(cells, takes), faults)
-            pairs += [Pair(who, what, self.numbers.read(table, line, place + 1, cells[place], faults), line, place + 1, None)
-                      for place, what in things if cell_at(cells, place).casefold() not in FORBIDDEN]
+            pairs += [
+                Pair(who, what, self.numbers.read(table, line, place + 1, cells[place], faults), line, place + 1, None)
+                for place, what in things
+                if cell_at(cells, place).casefold() not in FORBIDDEN
+            ]
         return pairs
 
     def matrix_things(self, faults):

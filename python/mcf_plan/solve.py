@@ -50,7 +50,8 @@ class Programs:
 
     @staticmethod
     def find(name, folder):
-        """Where a program is: in the folder that was named, here or by MCF_BIN; else beside this tool, in the repository's bin/, or on the path."""
+        """Where a program is: in the folder that was named, here or by MCF_BIN; else beside this tool, in the
+        repository's bin/, or on the path."""
         folder = folder or os.environ.get("MCF_BIN")
         folders = [folder] if folder else [pathlib.Path(sys.argv[0]).resolve().parent, TOP / "bin"]
         for candidate in folders:
@@ -60,12 +61,16 @@ class Programs:
         found = None if folder else shutil.which(name)
         if found:
             return found
-        raise trouble(f"the program {name} isn't in {' or '.join(map(str, folders))}" + ("" if folder else " nor on the path") +
-                      ": build it with `make`, or name its folder with --programs")
+        raise trouble(
+            f"the program {name} isn't in {' or '.join(map(str, folders))}"
+            + ("" if folder else " nor on the path")
+            + ": build it with `make`, or name its folder with --programs"
+        )
 
     @staticmethod
     def run(words, output):
-        """Runs a program, its standard output going to an open file, and gives its status and what it said on standard error."""
+        """Runs a program, its standard output going to an open file, and gives its status and what it said on
+        standard error."""
         try:
             done = subprocess.run(words, stdin=subprocess.DEVNULL, stdout=output, stderr=subprocess.PIPE)
         except OSError as error:
@@ -73,7 +78,8 @@ class Programs:
         return done.returncode, done.stderr.decode("utf-8", "replace").strip()
 
     def solve(self, instance, answer, *options):
-        """Has `mcf` answer the instance of one file into another. Gives its status: 0 a flow, 1 a set that blocks, 2 a refusal."""
+        """Has `mcf` answer the instance of one file into another. Gives its status: 0 a flow, 1 a set that
+        blocks, 2 a refusal."""
         with open(answer, "wb") as output, life.doing("mcf solves"):
             status, said = self.run([self.solver, "solve", *options, str(instance)], output)
         if status not in KINDS:
@@ -106,8 +112,10 @@ def refused(answer, instance):
     if not origin or code not in origin[2]:
         return Rejected(f"mcf refuses line {line} of its instance ({code}), which is no fault of the tables")
     table, table_line, columns = origin
-    return bad_table(f"{table.name}, line {table_line}, column {columns[code]}: {REFUSALS[code]} (mcf: {code}); "
-                     "LIMITS in `man mcf` has what it takes")
+    return bad_table(
+        f"{table.name}, line {table_line}, column {columns[code]}: {REFUSALS[code]} (mcf: {code}); "
+        "LIMITS in `man mcf` has what it takes"
+    )
 
 
 def solve(programs, folder, instance):
@@ -130,14 +138,17 @@ def solve(programs, folder, instance):
 def blocking_set(programs, network):
     """A set of a network that must send more than it can.
 
-    Cost scaling is asked, since its set is the least of those that must send the most beyond what they can: it has nothing in it that doesn't matter.
+    Cost scaling is asked, since its set is the least of those that must send the most beyond what they can:
+    it has nothing in it that doesn't matter.
     """
     with tempfile.TemporaryDirectory() as scratch:
         instance, answer = pathlib.Path(scratch, "instance.min"), pathlib.Path(scratch, "answer.ans")
         instance.write_text("\n".join(network.lines()) + "\n")
         status = programs.solve(instance, answer, "--engine", "scaling")
         if status != 1 or answer_lines(answer, "i")[0][1] != "send":
-            raise Rejected(f"mcf found that no plan exists, and by another engine it answers otherwise (status {status})")
+            raise Rejected(
+                f"mcf found that no plan exists, and by another engine it answers otherwise (status {status})"
+            )
         return {int(fields[0]) for fields in answer_lines(answer, "x")}
 
 
@@ -152,8 +163,8 @@ def check_set(programs, instance_path, side, nodes):
 def bottlenecks_of(programs, instance_path, network, hub=None, whole=None):
     """The bottlenecks of a balanced network without a plan, each accepted by `mcfcheck`.
 
-    They are told from the side, of those that send and those that take, that has fewer nodes; and from the side of the cut on which no hub is. `whole`
-    adds to one what belongs to it.
+    They are told from the side, of those that send and those that take, that has fewer nodes; and from the
+    side of the cut on which no hub is. `whole` adds to one what belongs to it.
     """
     choices = []
     for side, turned in (("send", network), ("take", network.turned())):

@@ -40,7 +40,8 @@ def bytes_of(path):
 
 
 def text_of(path, data, encoding):
-    """The text of a file. What isn't UTF-8, and hasn't its encoding named, is read as Windows-1252 with a fault: that it isn't."""
+    """The text of a file. What isn't UTF-8, and hasn't its encoding named, is read as Windows-1252 with a
+    fault: that it isn't."""
     if data[:2] in (b"\xff\xfe", b"\xfe\xff"):
         encoding = "utf-16"
     try:
@@ -53,8 +54,11 @@ def text_of(path, data, encoding):
         text = data.decode("windows-1252", "replace")
         line = data.count(b"\n", 0, error.start) + 1
         part = text.split("\n")[line - 1].strip()
-        return text, (line, f"this isn't in UTF-8, but perhaps in Windows-1252 (ANSI), which reads {shown(part)}: in Excel, save as CSV UTF-8; "
-                            "or say --encoding windows-1252")
+        return text, (
+            line,
+            f"this isn't in UTF-8, but perhaps in Windows-1252 (ANSI), which reads {shown(part)}: in Excel, save as CSV UTF-8; "
+            "or say --encoding windows-1252",
+        )
 
 
 def records_of(text, separator, name):
@@ -68,7 +72,11 @@ def records_of(text, separator, name):
                 found.append((line, cells))
             line = reader.line_num + 1
     except csv.Error as error:
-        what = "a quote that isn't closed" if "end of data" in str(error) else "something after the closing quote (a quote within quotes is written twice)"
+        what = (
+            "a quote that isn't closed"
+            if "end of data" in str(error)
+            else "something after the closing quote (a quote within quotes is written twice)"
+        )
         raise bad_table(f"{name}, line {line}: {what}")
     return found
 
@@ -90,7 +98,8 @@ class Table:
 
     @classmethod
     def of_text(cls, path, data, wanted, reading, faults):
-        """The table of a file of text. The separator is the one that the file names, or that gives most of the heads."""
+        """The table of a file of text. The separator is the one that the file names, or that gives most of
+        the heads."""
         text, wrong = text_of(path, data, reading.encoding)
         text = text.replace("\r\n", "\n").replace("\r", "\n")
         first = next((line for line in text.split("\n") if line.strip()), "")
@@ -100,7 +109,13 @@ class Table:
             first = next((line for line in text.split("\n") if line.strip()), "")
         known = set(wanted) | {own.casefold() for own in reading.heads.values()}
         separator = named[1] if named else max(",;\t", key=lambda mark: rank_of(first, mark, known))
-        table = cls(str(path), records_of(text, separator, str(path)), reading, separator, data.startswith((b"\xef\xbb\xbf", b"\xff\xfe", b"\xfe\xff")))
+        table = cls(
+            str(path),
+            records_of(text, separator, str(path)),
+            reading,
+            separator,
+            data.startswith((b"\xef\xbb\xbf", b"\xff\xfe", b"\xfe\xff")),
+        )
         if wrong:
             faults.add(At(table, wrong[0], ""), "encoding", wrong[1])
         return table
@@ -109,9 +124,12 @@ class Table:
         """Notes the columns that are wanted and aren't there, or are there twice."""
         lacking = [head for head in wanted if head not in self.heads]
         if lacking:
-            faults.add(At(self, self.head_line, lacking[0]), "no column",
-                       f"there is no such column among {', '.join(map(shown, self.titles))} (split at {shown(self.separator)}); {hint} "
-                       f"{', '.join(wanted)}; where a head has another name, say so: --map {lacking[0]}=NAME")
+            faults.add(
+                At(self, self.head_line, lacking[0]),
+                "no column",
+                f"there is no such column among {', '.join(map(shown, self.titles))} (split at {shown(self.separator)}); {hint} "
+                f"{', '.join(wanted)}; where a head has another name, say so: --map {lacking[0]}=NAME",
+            )
         for head in wanted:
             if self.heads.count(head) > 1:
                 faults.add(At(self, self.head_line, head), "two columns", "there are two such columns")
@@ -136,7 +154,12 @@ class Table:
         for line, cells in self.rows:
             for place in range(len(self.titles), len(cells)):
                 if cells[place]:
-                    faults.add(At(self, line, place + 1), "beyond", f"a cell beyond the last head: {shown(cells[place])}", cells[place])
+                    faults.add(
+                        At(self, line, place + 1),
+                        "beyond",
+                        f"a cell beyond the last head: {shown(cells[place])}",
+                        cells[place],
+                    )
 
     def kept(self, results):
         """The places of the columns that results are written after: all but those of earlier results."""
@@ -159,7 +182,12 @@ def name_in(table, line, head, cell, faults):
     if not cell:
         faults.add(At(table, line, head), "empty name", "the name is empty")
     elif CONTROL.search(cell):
-        faults.add(At(table, line, head), "control", f"the name {shown(cell)} has a line break or another control character", cell)
+        faults.add(
+            At(table, line, head),
+            "control",
+            f"the name {shown(cell)} has a line break or another control character",
+            cell,
+        )
     return cell
 
 

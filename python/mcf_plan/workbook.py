@@ -9,7 +9,8 @@ from .tables import Table, bytes_of, is_workbook
 
 
 def tables_of(paths, wanted, reading, faults):
-    """The tables of some files, each with the heads that are wanted of it; a workbook has the sheets of those that aren't named."""
+    """The tables of some files, each with the heads that are wanted of it; a workbook has the sheets of those
+    that aren't named."""
     found, books = [], {}
     for path, heads in zip(list(paths) + [paths[-1]] * (len(wanted) - len(paths)), wanted):
         data = bytes_of(path)
@@ -24,7 +25,12 @@ def tables_of(paths, wanted, reading, faults):
     titles = {title.casefold() for table in found for title in table.titles}
     for head, own in reading.heads.items():
         if own.casefold() not in titles:
-            faults.add(At(found[-1], found[-1].head_line, own), "map", f"there is no such column, which --map {head}={own} names", own)
+            faults.add(
+                At(found[-1], found[-1].head_line, own),
+                "map",
+                f"there is no such column, which --map {head}={own} names",
+                own,
+            )
     return found
 
 
@@ -33,7 +39,9 @@ def openpyxl_for(path):
     try:
         import openpyxl
     except ImportError:
-        raise bad_table(f"{path}: for Excel workbooks Python's openpyxl is needed (Debian: python3-openpyxl); or save each sheet as CSV UTF-8")
+        raise bad_table(
+            f"{path}: for Excel workbooks Python's openpyxl is needed (Debian: python3-openpyxl); or save each sheet as CSV UTF-8"
+        )
     return openpyxl
 
 
@@ -41,10 +49,15 @@ def sheets_of(path, data):
     """The sheets of a workbook: their titles with their records."""
     openpyxl = openpyxl_for(path)
     try:
-        values, formulas = (openpyxl.load_workbook(io.BytesIO(data), data_only=data_only) for data_only in (True, False))
+        values, formulas = (
+            openpyxl.load_workbook(io.BytesIO(data), data_only=data_only) for data_only in (True, False)
+        )
     except Exception as error:  # What openpyxl raises is anything.
         raise bad_table(f"{path}: this can't be read as an Excel workbook: {' '.join(str(error).split())}")
-    return [(sheet.title, records_of(f"{path}, sheet {sheet.title}", sheet, formulas[sheet.title])) for sheet in values.worksheets]
+    return [
+        (sheet.title, records_of(f"{path}, sheet {sheet.title}", sheet, formulas[sheet.title]))
+        for sheet in values.worksheets
+    ]
 
 
 def records_of(name, sheet, formulas):
@@ -53,7 +66,9 @@ def records_of(name, sheet, formulas):
     for (line, row), asked in zip(enumerate(sheet.iter_rows(values_only=True), 1), formulas.iter_rows()):
         for value, cell in zip(row, asked):
             if value is None and cell.data_type == "f":
-                raise bad_table(f"{name}, line {line}: a formula whose value isn't stored, {shown(str(cell.value))}: open the workbook in Excel and save it")
+                raise bad_table(
+                    f"{name}, line {line}: a formula whose value isn't stored, {shown(str(cell.value))}: open the workbook in Excel and save it"
+                )
         cells = [text_of_cell(value) for value in row]
         if any(cells):
             found.append((line, cells))
@@ -67,14 +82,20 @@ def text_of_cell(value):
     if isinstance(value, (int, float)) and not isinstance(value, bool):
         return Figure(format(decimal.Decimal(repr(value)), "f"))
     if isinstance(value, (datetime.datetime, datetime.date)):
-        return value.isoformat(" ").replace(" 00:00:00", "") if isinstance(value, datetime.datetime) else value.isoformat()
+        return (
+            value.isoformat(" ").replace(" 00:00:00", "") if isinstance(value, datetime.datetime) else value.isoformat()
+        )
     return str(value).strip()
 
 
 def sheet_with(path, sheets, wanted, reading):
     """The table of the sheet that has most of the heads that are wanted."""
     own = {reading.heads.get(head, head).casefold() for head in wanted}
-    ranked = [(len(own & {cell.casefold() for cell in records[0][1]}), -number) for number, (_, records) in enumerate(sheets) if records]
+    ranked = [
+        (len(own & {cell.casefold() for cell in records[0][1]}), -number)
+        for number, (_, records) in enumerate(sheets)
+        if records
+    ]
     if not ranked:
         raise bad_table(f"{path}: the workbook is empty")
     title, records = sheets[-max(ranked)[1]]
@@ -84,7 +105,8 @@ def sheet_with(path, sheets, wanted, reading):
 
 
 def write_workbook(path, sheets):
-    """Writes a workbook of titles with heads and rows: numbers as numbers, all else as text, so that nothing is a formula."""
+    """Writes a workbook of titles with heads and rows: numbers as numbers, all else as text, so that nothing
+    is a formula."""
     openpyxl = openpyxl_for(path)
     book = openpyxl.Workbook()
     book.remove(book.active)

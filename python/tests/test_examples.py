@@ -1,6 +1,8 @@
-"""The plans of examples/plans/, compared with what is stored there; `store_examples.py` writes what they give now.
+"""The plans of examples/plans/, compared with what is stored there; `store_examples.py` writes what they give
+now.
 
-A folder has its tables, the words of the call in call.txt where they aren't the usual ones, and `expected/` with the results and what is said.
+A folder has its tables, the words of the call in call.txt where they aren't the usual ones, and `expected/`
+with the results and what is said.
 """
 import copy
 import os
@@ -44,7 +46,15 @@ class Examples(WithFolder):
             for number, (route, result) in enumerate(zip(problem.routes, plan.routes)):
                 if result.free:
                     continue
-                wider = problem.routes[:number] + [route._replace(steps=route.steps[:-1] + (model.Step(route.steps[-1].most + 1, route.steps[-1].cost),))] + problem.routes[number + 1:]
+                wider = (
+                    problem.routes[:number]
+                    + [
+                        route._replace(
+                            steps=route.steps[:-1] + (model.Step(route.steps[-1].most + 1, route.steps[-1].cost),)
+                        )
+                    ]
+                    + problem.routes[number + 1 :]
+                )
                 again = self.solved(problem, routes=wider)
                 with self.subTest(name=name, route=route):
                     self.assertLessEqual(plan.cost - again.cost, result.saves)
@@ -77,7 +87,9 @@ class Examples(WithFolder):
 
     def test_functions_are_short(self):
         for file in (TOP / "python").rglob("*.py"):
-            for name, body in re.findall(r"^ *def (\w+)(.*(?:\n(?:(?! *def |\S).*)?)*)", file.read_text(encoding="utf-8"), re.M):
+            for name, body in re.findall(
+                r"^ *def (\w+)(.*(?:\n(?:(?! *def |\S).*)?)*)", file.read_text(encoding="utf-8"), re.M
+            ):
                 self.assertLess(len(body.rstrip().splitlines()), 40, name)
 
 

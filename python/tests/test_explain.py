@@ -56,15 +56,25 @@ class Explain(WithFolder):
 
     def test_the_place(self):
         said, _ = self.explained(b"p min 4 1\n\ta 1 9 0 3 2\r\n")
-        self.assertEqual(said, "text: line 2: the second end is 9; nodes are 1 to 4 (mcf: r 2 node)\n     a 1 9 0 3 2\n         ^")
+        self.assertEqual(
+            said, "text: line 2: the second end is 9; nodes are 1 to 4 (mcf: r 2 node)\n     a 1 9 0 3 2\n         ^"
+        )
 
     def test_all_further_faults(self):
         said, _ = self.explained(b"p min 2 9\nn 1 x\nn 1 3\n" + b"a 1 3 0 1 1\n" * 7 + b"q\n")
-        self.assertEqual(said.split("\n")[3:], [
-            "Further on, where mcf doesn't look any more:", "line 3: node 1 has a node line already, line 2 (twice)", "line 4: the second end is 3; nodes are 1 to 2 (node)",
-            "line 5: the second end is 3; nodes are 1 to 2 (node)", "line 6: the second end is 3; nodes are 1 to 2 (node)",
-            "and 4 more of node, the last in line 10", "line 11: 'q' begins no line of an instance: lines begin with p, n or a, and comments with c (kind)",
-            "line 12: the problem line (line 1) says 9 arcs, and there are 7 (missing)"])
+        self.assertEqual(
+            said.split("\n")[3:],
+            [
+                "Further on, where mcf doesn't look any more:",
+                "line 3: node 1 has a node line already, line 2 (twice)",
+                "line 4: the second end is 3; nodes are 1 to 2 (node)",
+                "line 5: the second end is 3; nodes are 1 to 2 (node)",
+                "line 6: the second end is 3; nodes are 1 to 2 (node)",
+                "and 4 more of node, the last in line 10",
+                "line 11: 'q' begins no line of an instance: lines begin with p, n or a, and comments with c (kind)",
+                "line 12: the problem line (line 1) says 9 arcs, and there are 7 (missing)",
+            ],
+        )
 
     def test_after_a_faulty_problem_line(self):
         self.assertNotIn("Further", self.explained(b"p min x 2\nn 1 3\na 1 2 0 1 1\na 1 2 0 1 1\n")[0])
@@ -79,12 +89,33 @@ class Explain(WithFolder):
 
     def test_changed_texts_agree_with_mcf(self):
         draw = random.Random(9)
-        pieces = [b"p", b"n", b"a", b"c", b"0", b"1", b"4", b"-1", b"+2", b"\n", b" ", b"\t", b"x", b"min", b"asn", b"9" * 19, b"9" * 16, b"p min 2 1\n", b"n 2\n", b"\r"]
+        pieces = [
+            b"p",
+            b"n",
+            b"a",
+            b"c",
+            b"0",
+            b"1",
+            b"4",
+            b"-1",
+            b"+2",
+            b"\n",
+            b" ",
+            b"\t",
+            b"x",
+            b"min",
+            b"asn",
+            b"9" * 19,
+            b"9" * 16,
+            b"p min 2 1\n",
+            b"n 2\n",
+            b"\r",
+        ]
         for case in range(250):
             data = (GOOD if draw.random() < 0.5 else ASSIGNMENT).encode()
             for _ in range(draw.randint(1, 3)):
                 begin = draw.randrange(len(data) + 1)
-                data = data[:begin] + draw.choice(pieces) * draw.randint(0, 1) + data[begin + draw.randint(0, 3):]
+                data = data[:begin] + draw.choice(pieces) * draw.randint(0, 1) + data[begin + draw.randint(0, 3) :]
             with self.subTest(data=data):
                 said, status = self.explained(data)
                 self.assertIn(status, (0, 2), said)

@@ -3,20 +3,39 @@ from support import PLACES, ROUTES, WithFolder, rows_of
 
 # What `mcf` refuses, and the table's line that it came from.
 REFUSED_FLOWS = [
-    ("name,supply\n\nA,1000000000000000001\nB,-1000000000000000001\n", "from,to,least,most,cost\n", "places.csv, line 3, column supply: a supply beyond"),
-    (PLACES, "from,to,least,most,cost\n\nMill,Wien,0,1000000000000000001,1\n", "routes.csv, line 3, column most: an amount beyond"),
-    (PLACES, "from,to,least,most,cost\nMill,Wien,-" + "9" * 40 + ",1,1\n", "routes.csv, line 2, column least: an amount beyond"),
+    (
+        "name,supply\n\nA,1000000000000000001\nB,-1000000000000000001\n",
+        "from,to,least,most,cost\n",
+        "places.csv, line 3, column supply: a supply beyond",
+    ),
+    (
+        PLACES,
+        "from,to,least,most,cost\n\nMill,Wien,0,1000000000000000001,1\n",
+        "routes.csv, line 3, column most: an amount beyond",
+    ),
+    (
+        PLACES,
+        "from,to,least,most,cost\nMill,Wien,-" + "9" * 40 + ",1,1\n",
+        "routes.csv, line 2, column least: an amount beyond",
+    ),
     (PLACES, ROUTES + "Mill,Wien,5,4,1\n", "routes.csv, line 5, column least: least is greater than most"),
-    (PLACES, "cost,from,to,least,most\n" + "9" * 30 + ",Mill,Wien,0,1\n", "routes.csv, line 2, column cost: a cost beyond"),
-    (PLACES, "from,to,least,most,cost\n" + "Mill,Wien,0,1000000000000000000,1000000000000000\n" * 1001,
-     "routes.csv, line 1002, column cost: with this route, costs"),
+    (
+        PLACES,
+        "cost,from,to,least,most\n" + "9" * 30 + ",Mill,Wien,0,1\n",
+        "routes.csv, line 2, column cost: a cost beyond",
+    ),
+    (
+        PLACES,
+        "from,to,least,most,cost\n" + "Mill,Wien,0,1000000000000000000,1000000000000000\n" * 1001,
+        "routes.csv, line 1002, column cost: with this route, costs",
+    ),
 ]
 # The same two tables as PLACES and ROUTES, written in other ways that mean the same.
 SAME_PLACES = [
     "\ufeffname,supply\nMill,30\nWien,-18\nGraz,-12\n",
     "Name;Supply\r\nMill;30\r\nWien;-18\r\nGraz;-12\r\n",
     "supply\tname\n30\tMill\n-18\tWien\n-12\tGraz",
-    "\nname , supply ,note\n\n\"Mill\",\"+30\",\"a \"\"big\"\" one,\nby the river\"\n Wien , -018\n,,\nGraz,-12,",
+    '\nname , supply ,note\n\n"Mill","+30","a ""big"" one,\nby the river"\n Wien , -018\n,,\nGraz,-12,',
     "name,supply\rMill,30\rWien,-18\rGraz,-12\r",
 ]
 
@@ -28,9 +47,15 @@ class Flows(WithFolder):
         status, said, told = self.flow(PLACES, ROUTES)
         self.assertEqual((status, told), (0, ""))
         self.assertIn("cost 171", said)
-        self.assertEqual((self.out / "flows.csv").read_text(), "from,to,least,most,cost,carries,total,free,one_more_saves,exact\n"
-                         "Mill,Wien,0,15,4,15,60,0,5,yes\nMill,Graz,0,20,7,15,105,5,0,yes\nGraz,Wien,0,10,2,3,6,7,0,yes\n")
-        self.assertEqual((self.out / "prices.csv").read_text(), "name,supply,one_more_costs,group\nMill,30,0,1\nWien,-18,9,1\nGraz,-12,7,1\n")
+        self.assertEqual(
+            (self.out / "flows.csv").read_text(),
+            "from,to,least,most,cost,carries,total,free,one_more_saves,exact\n"
+            "Mill,Wien,0,15,4,15,60,0,5,yes\nMill,Graz,0,20,7,15,105,5,0,yes\nGraz,Wien,0,10,2,3,6,7,0,yes\n",
+        )
+        self.assertEqual(
+            (self.out / "prices.csv").read_text(),
+            "name,supply,one_more_costs,group\nMill,30,0,1\nWien,-18,9,1\nGraz,-12,7,1\n",
+        )
 
     def test_tables_that_mean_the_same(self):
         for places in SAME_PLACES:
@@ -74,7 +99,10 @@ class Flows(WithFolder):
         self.assertIn("D must take 5, and can take only 4, over C -> D (3), B -> D (1).", said)
 
     def test_places_that_nothing_leads_to(self):
-        self.assertIn("C must take 2, and no route leads there.", self.flow("name,supply\nA,2\nB,0\nC,-2\n", "from,to,least,most,cost\nA,B,0,4,1\n")[1])
+        self.assertIn(
+            "C must take 2, and no route leads there.",
+            self.flow("name,supply\nA,2\nB,0\nC,-2\n", "from,to,least,most,cost\nA,B,0,4,1\n")[1],
+        )
 
     def test_a_least_amount_that_is_too_much(self):
         routes = "from,to,least,most,cost\nB,A,2,3,1\nA,B,0,1,1\n"
@@ -82,7 +110,10 @@ class Flows(WithFolder):
         self.assertEqual(status, 1)
         self.assertIn("A must send 2 (with the least of B -> A (2)), and can send only 1, over A -> B (1).", said)
         rows = rows_of(self.out / "bottleneck.csv")
-        self.assertEqual([(row["kind"], row["must"], row["can"]) for row in rows], [("place", "0", ""), ("route", "2", ""), ("route", "", "1")])
+        self.assertEqual(
+            [(row["kind"], row["must"], row["can"]) for row in rows],
+            [("place", "0", ""), ("route", "2", ""), ("route", "", "1")],
+        )
 
     def test_two_bottlenecks(self):
         places = "name,supply\nA,5\nB,-5\nC,6\nD,-6\n"
@@ -130,23 +161,40 @@ class Unbalanced(WithFolder):
         self.assertEqual((status, told), (0, ""))
         self.assertIn("cost 6.", said)
         self.assertIn("5 are missing at: ", said)
-        self.assertEqual(sum(int(row["carries"]) for row in rows_of(self.out / "flows.csv") if row["from"] == "(missing)"), 5)
-        self.assertEqual([row["one_more_costs"] for row in rows_of(self.out / "prices.csv")][2:], ["less is missing"] * 2)
+        self.assertEqual(
+            sum(int(row["carries"]) for row in rows_of(self.out / "flows.csv") if row["from"] == "(missing)"), 5
+        )
+        self.assertEqual(
+            [row["one_more_costs"] for row in rows_of(self.out / "prices.csv")][2:], ["less is missing"] * 2
+        )
 
     def test_a_penalty(self):
         places = self.PLACES.replace("A,9", "A,1")
         for penalty, cost in (("10", "56"), ("0,5", "8,5"), ("0", "6")):
             with self.subTest(penalty=penalty):
-                status, said, _ = self.flow(places, self.ROUTES, "--short", "allow", "--penalty", penalty, "--decimal", ",")
+                status, said, _ = self.flow(
+                    places, self.ROUTES, "--short", "allow", "--penalty", penalty, "--decimal", ","
+                )
                 self.assertEqual(status, 0)
                 self.assertIn(f"cost {cost}.", said)
 
     def test_a_penalty_that_is_none(self):
-        for words in (["--penalty", "3"], ["--short", "allow", "--penalty", "much"], ["--short", "allow", "--penalty", "-1"]):
+        for words in (
+            ["--penalty", "3"],
+            ["--short", "allow", "--penalty", "much"],
+            ["--short", "allow", "--penalty", "-1"],
+        ):
             self.assertEqual(self.flow(self.PLACES, self.ROUTES, *words)[0], 2)
 
     def test_as_much_as_can_be(self):
-        status, said, _ = self.flow("name,supply\nA,9\nB,-5\nC,-9\n", "from,to,most,cost\nA,B,9,1\nA,C,3,8\n", "--unused", "allow", "--short", "allow")
+        status, said, _ = self.flow(
+            "name,supply\nA,9\nB,-5\nC,-9\n",
+            "from,to,most,cost\nA,B,9,1\nA,C,3,8\n",
+            "--unused",
+            "allow",
+            "--short",
+            "allow",
+        )
         self.assertEqual(status, 0)
         for text in ("cost 29.", "1 stay at: A 1.", "6 are missing at: C 6."):
             self.assertIn(text, said)
@@ -155,13 +203,19 @@ class Unbalanced(WithFolder):
         places, routes = "name,supply\nA,9\nB,-5\nC,-9\n", "from,to,most,cost\nA,B,4,1\nA,C,9,1\n"
         status, said, _ = self.flow(places, routes)
         self.assertEqual(status, 1)
-        self.assertIn("  demand exceeds supply by 5: the supplies add to 9, the demands to 14, and they must be equal (--short allow lets it be short).", said)
+        self.assertIn(
+            "  demand exceeds supply by 5: the supplies add to 9, the demands to 14, and they must be equal (--short allow lets it be short).",
+            said,
+        )
         self.assertNotIn("Even if", said)
         status, said, _ = self.flow(places.replace("A,9", "A,19"), routes)
         self.assertEqual(status, 1)
         self.assertIn("  supply exceeds demand by 5", said)
-        self.assertIn("Even if that stays, no plan exists, as mcf found and mcfcheck accepted:\n"
-                      "  B must take 5, and can take only 4, over A -> B (4). Short by 1.", said)
+        self.assertIn(
+            "Even if that stays, no plan exists, as mcf found and mcfcheck accepted:\n"
+            "  B must take 5, and can take only 4, over A -> B (4). Short by 1.",
+            said,
+        )
         self.assertEqual({row["bottleneck"] for row in rows_of(self.out / "bottleneck.csv")}, {"1", "2"})
 
     def test_what_may_stay_and_is_lacking(self):
@@ -170,6 +224,11 @@ class Unbalanced(WithFolder):
         self.assertIn("demand exceeds supply by 5", said)
 
     def test_what_stays_with_least_amounts(self):
-        status, said, _ = self.flow("name,supply\nA,2\nB,0\nC,-1\n", "from,to,least,most,cost\nA,B,1,4,1\nB,C,0,1,1\nA,C,3,4,1\n", "--unused", "allow")
+        status, said, _ = self.flow(
+            "name,supply\nA,2\nB,0\nC,-1\n",
+            "from,to,least,most,cost\nA,B,1,4,1\nB,C,0,1,1\nA,C,3,4,1\n",
+            "--unused",
+            "allow",
+        )
         self.assertEqual(status, 1)
         self.assertIn("must", said)

@@ -1,4 +1,5 @@
-"""What tables may ask beyond plain routes, compared with glpsol, which gets the problem as it is meant, and with networkx."""
+"""What tables may ask beyond plain routes, compared with glpsol, which gets the problem as it is meant, and
+with networkx."""
 import collections
 import importlib.util
 import random
@@ -23,7 +24,12 @@ class Case:
         self.supplies = [draw.randint(-6, 6) for _ in range(count)]
         if draw.random() < 0.7:
             self.supplies[-1] -= sum(self.supplies)
-        self.bounds = [(draw.randint(0, 2), draw.choice([None, draw.randint(4, 12)]), draw.randint(0, 5)) if draw.random() < 0.5 else None for _ in range(count)]
+        self.bounds = [
+            (draw.randint(0, 2), draw.choice([None, draw.randint(4, 12)]), draw.randint(0, 5))
+            if draw.random() < 0.5
+            else None
+            for _ in range(count)
+        ]
         self.routes = [self.route(draw, count) for _ in range(draw.randint(3, 9))]
 
     @staticmethod
@@ -43,11 +49,18 @@ class Case:
         """The two tables."""
         places = ["name,supply,least,most,cost"]
         for number, (supply, bounds) in enumerate(zip(self.supplies, self.bounds)):
-            places.append(f"P{number},{supply}," + (",".join("" if value is None else str(value) for value in bounds) if bounds else ",,"))
+            places.append(
+                f"P{number},{supply},"
+                + (",".join("" if value is None else str(value) for value in bounds) if bounds else ",,")
+            )
         routes = ["from,to,least,most,cost,most 2,cost 2,most 3,cost 3,both"]
         for tail, head, least, steps, both in self.routes:
-            cells = [("" if most is None else str(most), str(cost)) for most, cost in steps] + [("", "")] * (3 - len(steps))
-            routes.append(f"P{tail},P{head},{least}," + ",".join(",".join(pair) for pair in cells) + (",yes" if both else ","))
+            cells = [("" if most is None else str(most), str(cost)) for most, cost in steps] + [("", "")] * (
+                3 - len(steps)
+            )
+            routes.append(
+                f"P{tail},P{head},{least}," + ",".join(",".join(pair) for pair in cells) + (",yes" if both else ",")
+            )
         return "\n".join(places) + "\n", "\n".join(routes) + "\n"
 
     def program(self):
@@ -55,7 +68,7 @@ class Case:
         costs, rows, bounds, outs, ins = [], [], [], {}, {}
         for number, (tail, head, least, steps, both) in enumerate(self.routes):
             for step, (most, cost) in enumerate(steps):
-                for way, (begin, end) in (("f", (tail, head)), ("b", (head, tail)))[:2 if both else 1]:
+                for way, (begin, end) in (("f", (tail, head)), ("b", (head, tail)))[: 2 if both else 1]:
                     name = f"{way}{number}_{step}"
                     costs.append((cost, name))
                     bounds.append(f"0 <= {name} <= {most}" if most is not None else f"{name} >= 0")
@@ -72,12 +85,20 @@ class Case:
                 costs.append((cost, f"t{number}"))
                 bounds += [f"t{number} >= {least}"] + ([f"t{number} <= {most}"] if most is not None else [])
             if supply > 0:
-                bounds.append(f"0 <= sent{number} <= {supply}" if self.policy in ("unused", "both") else f"sent{number} = {supply}")
+                bounds.append(
+                    f"0 <= sent{number} <= {supply}"
+                    if self.policy in ("unused", "both")
+                    else f"sent{number} = {supply}"
+                )
             elif supply < 0:
                 bounds.append(f"0 <= lack{number} <= {-supply if self.policy in ('short', 'both') else 0}")
         goal = " + ".join(f"{cost} {name}" for cost, name in costs) or "0 x"
         numbered = "\n".join(f" r{number}: {row}" for number, row in enumerate(rows))
-        return f"Minimize\n obj: {goal}\nSubject To\n{numbered}\nBounds\n" + "\n".join(f" {bound}" for bound in bounds) + "\nEnd\n"
+        return (
+            f"Minimize\n obj: {goal}\nSubject To\n{numbered}\nBounds\n"
+            + "\n".join(f" {bound}" for bound in bounds)
+            + "\nEnd\n"
+        )
 
     def balance(self, number, supply, outs, ins, costs):
         """What goes out of a place is what comes in and what is sent there, less what is taken and isn't missing."""
@@ -90,7 +111,9 @@ class Case:
     def words(self):
         """The options."""
         words = ["--unused", "allow"] if self.policy in ("unused", "both") else []
-        return words + (["--short", "allow", "--penalty", str(self.penalty)] if self.policy in ("short", "both") else [])
+        return words + (
+            ["--short", "allow", "--penalty", str(self.penalty)] if self.policy in ("short", "both") else []
+        )
 
 
 def sum_of(added, taken):
@@ -107,10 +130,21 @@ class WithGlpsol(WithFolder):
     def best(self, case):
         """The least cost by glpsol, or None where there is no plan."""
         program = self.put("case.lp", case.program())
-        done = subprocess.run([GLPSOL, "--lp", str(program), "-o", str(self.folder / "case.sol")], stdout=subprocess.PIPE, check=True, timeout=60)
+        done = subprocess.run(
+            [GLPSOL, "--lp", str(program), "-o", str(self.folder / "case.sol")],
+            stdout=subprocess.PIPE,
+            check=True,
+            timeout=60,
+        )
         text = (self.folder / "case.sol").read_text()
         if "OPTIMAL" not in text:
-            self.assertTrue("NO PRIMAL FEASIBLE" in done.stdout.decode() or "NO FEASIBLE" in done.stdout.decode() or "INFEASIBLE" in text or "UNDEFINED" in text, text)
+            self.assertTrue(
+                "NO PRIMAL FEASIBLE" in done.stdout.decode()
+                or "NO FEASIBLE" in done.stdout.decode()
+                or "INFEASIBLE" in text
+                or "UNDEFINED" in text,
+                text,
+            )
             return None
         return round(float(re.search(r"obj = (\S+)", text)[1]))
 
@@ -127,12 +161,15 @@ class WithGlpsol(WithFolder):
         self.assertGreater(plans, 20)
 
 
-@unittest.skipUnless(importlib.util.find_spec("networkx"), "networkx isn't there: the most flow at the least cost, compared with it")
+@unittest.skipUnless(
+    importlib.util.find_spec("networkx"), "networkx isn't there: the most flow at the least cost, compared with it"
+)
 class WithNetworkx(WithFolder):
     """The most flow at the least cost."""
 
     def test_random_networks(self):
         import networkx
+
         for seed in range(30):
             draw = random.Random(seed)
             count, graph = draw.randint(3, 7), networkx.DiGraph()
@@ -141,9 +178,15 @@ class WithNetworkx(WithFolder):
                 tail, head = draw.sample(range(count), 2)
                 graph.add_edge(tail, head, capacity=draw.randint(1, 9), weight=draw.randint(0, 9))
             flows = networkx.max_flow_min_cost(graph, 0, count - 1)
-            value, cost = sum(flows[0].values()) - sum(flows[node].get(0, 0) for node in flows), networkx.cost_of_flow(graph, flows)
-            places = "name,supply\n" + "".join(f"{node},{999 if node == 0 else -999 if node == count - 1 else 0}\n" for node in range(count))
-            routes = "from,to,most,cost\n" + "".join(f"{tail},{head},{edge['capacity']},{edge['weight']}\n" for tail, head, edge in graph.edges(data=True))
+            value, cost = sum(flows[0].values()) - sum(flows[node].get(0, 0) for node in flows), networkx.cost_of_flow(
+                graph, flows
+            )
+            places = "name,supply\n" + "".join(
+                f"{node},{999 if node == 0 else -999 if node == count - 1 else 0}\n" for node in range(count)
+            )
+            routes = "from,to,most,cost\n" + "".join(
+                f"{tail},{head},{edge['capacity']},{edge['weight']}\n" for tail, head, edge in graph.edges(data=True)
+            )
             status, said, told = self.flow(places, routes, "--most-flow", "--no-picture")
             with self.subTest(seed=seed):
                 self.assertEqual((status, told), (0, ""))
@@ -159,10 +202,22 @@ class Columns(WithFolder):
         status, said, _ = self.flow("name,supply\nA,11\nB,-11\n", routes)
         self.assertEqual(status, 0)
         self.assertIn("cost 49.", said)
-        self.assertEqual([(row["carries"], row["total"], row["free"]) for row in rows_of(self.out / "flows.csv")], [("7", "29", ""), ("4", "20", "0")])
-        for cells, text in ((",3,5,2,4,,", "column cost 2: '4' is below the cost of the step before"), (",,5,2,6,,", "column most 2: the step before is without"),
-                            (",3,5,2,,,", "column cost 2: the number is empty"), (",3,5,-2,6,,", "column most 2: '-2' is below 0")):
-            self.assertIn(text, self.flow("name,supply\nA,0\n", f"from,to,least,most,cost,most 2,cost 2,most 3,cost 3\nA,A,{cells}\n")[2])
+        self.assertEqual(
+            [(row["carries"], row["total"], row["free"]) for row in rows_of(self.out / "flows.csv")],
+            [("7", "29", ""), ("4", "20", "0")],
+        )
+        for cells, text in (
+            (",3,5,2,4,,", "column cost 2: '4' is below the cost of the step before"),
+            (",,5,2,6,,", "column most 2: the step before is without"),
+            (",3,5,2,,,", "column cost 2: the number is empty"),
+            (",3,5,-2,6,,", "column most 2: '-2' is below 0"),
+        ):
+            self.assertIn(
+                text,
+                self.flow("name,supply\nA,0\n", f"from,to,least,most,cost,most 2,cost 2,most 3,cost 3\nA,A,{cells}\n")[
+                    2
+                ],
+            )
 
     def test_places_with_bounds(self):
         places = "name,supply,most,cost\nA,9,,\nHub,0,5,2\nB,-9,,\n"
@@ -170,12 +225,20 @@ class Columns(WithFolder):
         status, said, _ = self.flow(places, routes)
         self.assertEqual(status, 0)
         self.assertIn("cost 48.", said)
-        self.assertIn("Passing through places costs 10 of that.\nOne more unit of room would save most on:\n  Hub -> (through): 3\n", said)
+        self.assertIn(
+            "Passing through places costs 10 of that.\nOne more unit of room would save most on:\n  Hub -> (through): 3\n",
+            said,
+        )
         rows = rows_of(self.out / "prices.csv")
-        self.assertEqual([rows[1][head] for head in ("passes", "passing_costs", "free", "one_more_saves", "exact")], ["5", "10", "0", "3", "yes"])
+        self.assertEqual(
+            [rows[1][head] for head in ("passes", "passing_costs", "free", "one_more_saves", "exact")],
+            ["5", "10", "0", "3", "yes"],
+        )
         status, said, _ = self.flow(places, routes.replace("A,B,,7", "A,B,3,7"))
         self.assertEqual(status, 1)
-        self.assertIn("A, Hub together must send 9, and can send only 8, over A -> B (3), through Hub (5). Short by 1.", said)
+        self.assertIn(
+            "A, Hub together must send 9, and can send only 8, over A -> B (3), through Hub (5). Short by 1.", said
+        )
         self.assertIn("1,send,through,Hub,,,,5", (self.out / "bottleneck.csv").read_text())
         self.assertIn("≤ 5 pass", (self.out / "plan.svg").read_text(encoding="utf-8"))
 
@@ -186,7 +249,10 @@ class Columns(WithFolder):
         self.assertEqual([row["carries"] for row in rows_of(self.out / "flows.csv")], ["4", "0", "-1"])
         self.assertIn("<title>A -&gt; C: 1 of 9, either way, cost 1</title>", (self.out / "plan.svg").read_text())
         self.assertIn("cost 13.", said)
-        for cells, text in (("A,B,4,3,perhaps", "'perhaps' is neither yes nor no"), ("A,B,4,-3,yes", "has no least, and no cost below 0")):
+        for cells, text in (
+            ("A,B,4,3,perhaps", "'perhaps' is neither yes nor no"),
+            ("A,B,4,-3,yes", "has no least, and no cost below 0"),
+        ):
             self.assertIn(text, self.flow("name,supply\nA,0\nB,0\n", f"from,to,most,cost,both\n{cells}\n")[2])
 
     def test_a_step_that_mcf_refuses(self):

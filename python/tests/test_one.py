@@ -19,8 +19,18 @@ class One(WithFolder):
 
     def run_one(self, *words, **variables):
         """Runs the script: its status and what it says."""
-        environment = {**os.environ, "MCF_BIN": os.path.dirname(Programs(None).solver), **{name: str(value) for name, value in variables.items()}}
-        done = subprocess.run([self.shell, TOOL, *map(str, words)], stdout=subprocess.PIPE, stderr=subprocess.PIPE, env=environment, timeout=60)
+        environment = {
+            **os.environ,
+            "MCF_BIN": os.path.dirname(Programs(None).solver),
+            **{name: str(value) for name, value in variables.items()},
+        }
+        done = subprocess.run(
+            [self.shell, TOOL, *map(str, words)],
+            stdout=subprocess.PIPE,
+            stderr=subprocess.PIPE,
+            env=environment,
+            timeout=60,
+        )
         return done.returncode, done.stdout.decode()
 
     def setUp(self):
@@ -30,9 +40,13 @@ class One(WithFolder):
     def test_statuses(self):
         for shell in filter(None, map(shutil.which, ("dash", "bash"))):
             self.shell = shell
-            for name, text, status, verdict in (("a b (1).min", FLOW, 0, "accepted flow 15"), ("blocked.min", FLOW.replace("4 5", "2 5"), 1, "accepted blocked 1"),
-                                                ("pairs.asn", "p asn 2 1\nn 1\na 1 2 7\n", 0, "accepted flow 7"),
-                                                ("bad.min", "p min 1 0\nx\n", 2, "accepted refusal 2 kind"), ("no.dot.here/plain", FLOW, 0, "accepted flow 15")):
+            for name, text, status, verdict in (
+                ("a b (1).min", FLOW, 0, "accepted flow 15"),
+                ("blocked.min", FLOW.replace("4 5", "2 5"), 1, "accepted blocked 1"),
+                ("pairs.asn", "p asn 2 1\nn 1\na 1 2 7\n", 0, "accepted flow 7"),
+                ("bad.min", "p min 1 0\nx\n", 2, "accepted refusal 2 kind"),
+                ("no.dot.here/plain", FLOW, 0, "accepted flow 15"),
+            ):
                 with self.subTest(shell=shell, name=name):
                     (self.folder / name).parent.mkdir(exist_ok=True)
                     path = self.put(name, text)
@@ -57,8 +71,13 @@ class One(WithFolder):
 
     def run_one_with(self, path):
         """Begins the script in a group of its own."""
-        return subprocess.Popen(["/bin/sh", TOOL, str(path)], env=dict(os.environ, MCF_BIN=str(self.folder)), start_new_session=True,
-                                stdout=subprocess.PIPE, stderr=subprocess.DEVNULL)
+        return subprocess.Popen(
+            ["/bin/sh", TOOL, str(path)],
+            env=dict(os.environ, MCF_BIN=str(self.folder)),
+            start_new_session=True,
+            stdout=subprocess.PIPE,
+            stderr=subprocess.DEVNULL,
+        )
 
     def test_signals_leave_nothing(self):
         begun = self.folder / "begun"
@@ -71,7 +90,9 @@ class One(WithFolder):
                 time.sleep(0.1)
                 os.killpg(process.pid, number)
                 begun.unlink()
-                self.assertEqual((process.wait(20), [entry.name for entry in self.folder.glob("a.*")]), (status, ["a.min"]))
+                self.assertEqual(
+                    (process.wait(20), [entry.name for entry in self.folder.glob("a.*")]), (status, ["a.min"])
+                )
 
     def test_the_log_of_many(self):
         names = [f'job "{number}", a.min' for number in range(40)]
@@ -79,8 +100,13 @@ class One(WithFolder):
             self.put(name, FLOW if number % 4 else FLOW.replace("4 5", "2 5"))
         log = self.folder / "log.csv"
         environment = dict(os.environ, MCF_BIN=os.path.dirname(Programs(None).solver), MCF_LOG=str(log))
-        subprocess.run(["xargs", "-r", "-0", "-n", "1", "-P", "8", TOOL], input="\0".join(str(self.folder / name) for name in names).encode(), env=environment,
-                       stdout=subprocess.PIPE, timeout=60)
+        subprocess.run(
+            ["xargs", "-r", "-0", "-n", "1", "-P", "8", TOOL],
+            input="\0".join(str(self.folder / name) for name in names).encode(),
+            env=environment,
+            stdout=subprocess.PIPE,
+            timeout=60,
+        )
         with open(log, newline="") as table:
             rows = sorted(csv.DictReader(table), key=lambda row: row["instance"])
         self.assertEqual([row["instance"] for row in rows], sorted(str(self.folder / name) for name in names))

@@ -65,15 +65,27 @@ class Pages(WithFolder):
         parser = Balanced()
         parser.feed(text)
         self.assertEqual((parser.open, parser.wrong, parser.fetched), ([], [], []))
-        self.assertEqual(re.findall("https?://[^\"]*", text), ["http://www.w3.org/2000/svg"] * text.count("<svg"))
+        self.assertEqual(re.findall('https?://[^"]*', text), ["http://www.w3.org/2000/svg"] * text.count("<svg"))
         return text
 
     def test_a_plan(self):
-        self.flow(PLACES.replace("Mill", "M & <b>"), ROUTES.replace("Mill", "M & <b>").replace("cost", "cost,carrier").replace(",4\n", ",4,Ann\u00e9\n"),
-                  "--currency", "EUR", "--title", "Week 7")
+        self.flow(
+            PLACES.replace("Mill", "M & <b>"),
+            ROUTES.replace("Mill", "M & <b>").replace("cost", "cost,carrier").replace(",4\n", ",4,Ann\u00e9\n"),
+            "--currency",
+            "EUR",
+            "--title",
+            "Week 7",
+        )
         text = self.page()
-        for part in ("<title>Week 7</title>", "<h1>Least cost: 171 EUR</h1>", "M &amp; &lt;b&gt;", "Ann\u00e9", "No plan for these tables costs less.",
-                     '<tr class=full><td>M &amp; &lt;b&gt;</td><td>Wien</td><td>exactly</td><td class="number" data-value="5">5</td></tr>'):
+        for part in (
+            "<title>Week 7</title>",
+            "<h1>Least cost: 171 EUR</h1>",
+            "M &amp; &lt;b&gt;",
+            "Ann\u00e9",
+            "No plan for these tables costs less.",
+            '<tr class=full><td>M &amp; &lt;b&gt;</td><td>Wien</td><td>exactly</td><td class="number" data-value="5">5</td></tr>',
+        ):
             self.assertIn(part, text)
         for name in ("instance.min", "answer.ans"):
             self.assertIn(hashlib.sha256((self.out / name).read_bytes()).hexdigest(), text)
@@ -86,8 +98,11 @@ class Pages(WithFolder):
     def test_what_blocks(self):
         self.flow("name,supply\nA,5\nB,-5\n", "from,to,most,cost\nA,B,4,1\n")
         text = self.page()
-        for part in ("<h1 class=none>No plan exists: short by 1</h1>", "<b>must 5</b> &middot; <b>can 4</b> &middot; <b class=short>short by 1</b>",
-                     "Give A -&gt; B 1 more room, or move 1 of supply elsewhere."):
+        for part in (
+            "<h1 class=none>No plan exists: short by 1</h1>",
+            "<b>must 5</b> &middot; <b>can 4</b> &middot; <b class=short>short by 1</b>",
+            "Give A -&gt; B 1 more room, or move 1 of supply elsewhere.",
+        ):
             self.assertIn(part, text)
 
     def test_pairs(self):
@@ -99,9 +114,17 @@ class Pages(WithFolder):
     def test_three_thousand_places(self):
         draw = random.Random(3)
         amounts = [draw.randint(1, 40) for _ in range(3000)]
-        places = ["name,supply,x,y"] + [f"Ort {k},{-amounts[k] if k % 10 else sum(amounts[k + 1:k + 10])},{draw.random():.4f},{draw.random():.4f}" for k in range(3000)]
-        routes = ["from,to,most,cost"] + [f"Ort {k - k % 10},Ort {k},,{draw.randint(1, 99)}.5" for k in range(3000) if k % 10]
-        routes += [f"Ort {draw.randrange(3000)},Ort {draw.randrange(3000)},{draw.randint(1, 60)},{draw.randint(1, 40)}.25" for _ in range(17300)]
+        places = ["name,supply,x,y"] + [
+            f"Ort {k},{-amounts[k] if k % 10 else sum(amounts[k + 1:k + 10])},{draw.random():.4f},{draw.random():.4f}"
+            for k in range(3000)
+        ]
+        routes = ["from,to,most,cost"] + [
+            f"Ort {k - k % 10},Ort {k},,{draw.randint(1, 99)}.5" for k in range(3000) if k % 10
+        ]
+        routes += [
+            f"Ort {draw.randrange(3000)},Ort {draw.randrange(3000)},{draw.randint(1, 60)},{draw.randint(1, 40)}.25"
+            for _ in range(17300)
+        ]
         begun = time.monotonic()
         status, said, told = self.flow("\n".join(places), "\n".join(routes))
         self.assertEqual((status, told), (0, ""))
@@ -119,8 +142,21 @@ class Pages(WithFolder):
     def test_in_chromium(self):
         self.flow(PLACES, ROUTES + "Wien,Graz,0,9,9\nMill,Mill,0,9,9\nGraz,Mill,0,9,9\n")
         tried = self.put("tried.html", self.page().replace("</script>\n</html>", TRIED + "</script>\n</html>"))
-        done = subprocess.run([CHROMIUM, "--headless=new", "--no-sandbox", "--disable-gpu", f"--user-data-dir={self.folder / 'profile'}", "--dump-dom",
-                               tried.as_uri()], stdout=subprocess.PIPE, stderr=subprocess.DEVNULL, timeout=60, check=True)
+        done = subprocess.run(
+            [
+                CHROMIUM,
+                "--headless=new",
+                "--no-sandbox",
+                "--disable-gpu",
+                f"--user-data-dir={self.folder / 'profile'}",
+                "--dump-dom",
+                tried.as_uri(),
+            ],
+            stdout=subprocess.PIPE,
+            stderr=subprocess.DEVNULL,
+            timeout=60,
+            check=True,
+        )
         said = json.loads(html.unescape(re.search("<title>said (.*)</title>", done.stdout.decode())[1]))
         self.assertEqual(said["down"], ["15", "15", "3", "0", "0", "0"])
         self.assertEqual(said["up"], ["0", "0", "0", "3", "15", "15"])
@@ -141,19 +177,27 @@ class Diff(WithFolder):
         return self.out
 
     def test_two_plans(self):
-        old, new = self.made("old", PLACES, ROUTES), self.made("new", PLACES, ROUTES.replace("15,4", "18.5,4") + "Mill,Wien,0,1,1\n")
+        old, new = self.made("old", PLACES, ROUTES), self.made(
+            "new", PLACES, ROUTES.replace("15,4", "18.5,4") + "Mill,Wien,0,1,1\n"
+        )
         status, said, told = run("diff", old, new)
         self.assertEqual((status, told), (0, ""))
-        self.assertEqual(said, "old: cost 171 (accepted again by mcfcheck)\nnew: cost 153 (accepted again by mcfcheck)\nThe cost falls by 18.\n4 of 4 differ:\n"
-                         "  Graz -> Wien: 3, now 0 (-3)\n  Mill -> Graz: 15, now 12 (-3)\n  Mill -> Wien: 15, now 17 (+2)\n"
-                         "  Mill -> Wien (2): not there, now 1 (+1)\n")
+        self.assertEqual(
+            said,
+            "old: cost 171 (accepted again by mcfcheck)\nnew: cost 153 (accepted again by mcfcheck)\nThe cost falls by 18.\n4 of 4 differ:\n"
+            "  Graz -> Wien: 3, now 0 (-3)\n  Mill -> Graz: 15, now 12 (-3)\n  Mill -> Wien: 15, now 17 (+2)\n"
+            "  Mill -> Wien (2): not there, now 1 (+1)\n",
+        )
         self.assertIn("The cost stays.\n0 of 3 differ.", run("diff", old, old)[1])
 
     def test_a_plan_that_cannot_be(self):
         old, new = self.made("old", PLACES, ROUTES), self.made("new", PLACES, ROUTES.replace("20", "2"))
         status, said, _ = run("diff", old, new)
         self.assertEqual(status, 0)
-        self.assertIn("new: No plan exists, as mcf found and mcfcheck accepted: (accepted again by mcfcheck)\n  Mill must send 30", said)
+        self.assertIn(
+            "new: No plan exists, as mcf found and mcfcheck accepted: (accepted again by mcfcheck)\n  Mill must send 30",
+            said,
+        )
 
     def test_folders_that_are_none_or_were_changed(self):
         old = self.made("old", PLACES, ROUTES)

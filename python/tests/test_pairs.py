@@ -17,16 +17,21 @@ class Pairs(WithFolder):
         self.assertIn("cost 5", said)
 
     def test_a_matrix_with_things_left_over(self):
-        status, said, _ = self.pairs("\u2193;X;Y;Z\nAnn\u00e9;4;1;\n\"B; C\";2;;9\n")
+        status, said, _ = self.pairs('\u2193;X;Y;Z\nAnn\u00e9;4;1;\n"B; C";2;;9\n')
         self.assertEqual(status, 0)
-        self.assertEqual((self.out / "pairs.csv").read_text(encoding="utf-8"), "who;what;cost\nAnn\u00e9;Y;1\n\"B; C\";X;2\n")
+        self.assertEqual(
+            (self.out / "pairs.csv").read_text(encoding="utf-8"), 'who;what;cost\nAnn\u00e9;Y;1\n"B; C";X;2\n'
+        )
         self.assertIn("Left over: Z.", said)
 
     def test_competing(self):
         status, said, _ = self.pairs("who,what,cost\nA,X,1\nB,X,1\nC,Y,1\nC,Z,1\n")
         self.assertEqual(status, 1)
         self.assertIn("2 persons compete for 1 thing: A, B can only get X.", said)
-        self.assertEqual((self.out / "bottleneck.csv").read_text(), "bottleneck,kind,name,must,can\n1,person,A,1,\n1,person,B,1,\n1,thing,X,,1\n")
+        self.assertEqual(
+            (self.out / "bottleneck.csv").read_text(),
+            "bottleneck,kind,name,must,can\n1,person,A,1,\n1,person,B,1,\n1,thing,X,,1\n",
+        )
 
     def test_more_persons_than_things(self):
         status, said, _ = self.pairs(",X,Y\nA,1,1\nB,1,1\nC,1,1\n")
@@ -40,8 +45,10 @@ class Pairs(WithFolder):
         self.assertEqual(self.pairs("who,what,cost\nA,A,1\n")[0], 0)
 
     def test_a_refused_cost(self):
-        for costs, begins in (("who,what,cost\n\nA,X,1000000000000001\n", "costs.csv, line 3, column cost: a cost beyond"),
-                              (",X,Y\nA,1,1000000000000001\n", "costs.csv, line 2, column 3: a cost beyond")):
+        for costs, begins in (
+            ("who,what,cost\n\nA,X,1000000000000001\n", "costs.csv, line 3, column cost: a cost beyond"),
+            (",X,Y\nA,1,1000000000000001\n", "costs.csv, line 2, column 3: a cost beyond"),
+        ):
             status, _, told = self.pairs(costs)
             self.assertEqual(status, 2)
             self.assertIn(begins, told)
@@ -54,7 +61,10 @@ class Each(WithFolder):
         """A matrix of nurses and shifts, with costs of a pattern; nobody may do those that are shut."""
         lines = [";" + ";".join(f"Schicht {shift}" for shift in range(shifts))]
         for nurse in range(count):
-            lines.append(f"Schwester {nurse};" + ";".join("X" if shift in shut else str((nurse * 7 + shift * 11) % 13) for shift in range(shifts)))
+            lines.append(
+                f"Schwester {nurse};"
+                + ";".join("X" if shift in shut else str((nurse * 7 + shift * 11) % 13) for shift in range(shifts))
+            )
         return "\n".join(lines) + "\n"
 
     def test_sixty_nurses_for_fifty_shifts(self):
@@ -71,7 +81,9 @@ class Each(WithFolder):
             status, said, _ = self.pairs(self.nurses(60, 60, shut=[17]), *each)
             self.assertEqual(status, 1)
             self.assertIn("  Nobody may do Schicht 17.\n", said)
-            self.assertEqual((self.out / "bottleneck.csv").read_text(), "bottleneck;kind;name;must;can\n1;thing;Schicht 17;1;\n")
+            self.assertEqual(
+                (self.out / "bottleneck.csv").read_text(), "bottleneck;kind;name;must;can\n1;thing;Schicht 17;1;\n"
+            )
 
     def test_things_that_want_for_persons(self):
         said = self.pairs(",X,Y\nA,1,2\nB,,\nC,,\n", "--each", "what")[1]
@@ -106,7 +118,12 @@ class TakesAndNeeds(WithFolder):
         self.assertIn("this is '3'", self.pairs(costs.replace("B,X,5,,2", "B,X,5,,3"))[2])
 
     def test_what_is_no_range(self):
-        for cell, text in (("two", "'two' is no number"), ("3-2", "'3-2' is no number"), ("2026-03-02", "was it taken for a date?"), ("02. Mrz", "for a date?")):
+        for cell, text in (
+            ("two", "'two' is no number"),
+            ("3-2", "'3-2' is no number"),
+            ("2026-03-02", "was it taken for a date?"),
+            ("02. Mrz", "for a date?"),
+        ):
             self.assertIn(text, self.pairs(MATRIX.replace("0..2", cell))[2])
 
     def test_persons_who_must_take_more_than_they_can(self):
@@ -118,11 +135,22 @@ class TakesAndNeeds(WithFolder):
         draw = random.Random(5)
         for case in range(30):
             people, goods = draw.randint(1, 3), draw.randint(1, 3)
-            cost = {pair: draw.randint(-4, 9) for pair in itertools.product(range(people), range(goods)) if draw.random() < 0.8}
-            takes, needs = ([sorted((draw.randint(0, 2), draw.randint(0, 3))) for _ in range(count)] for count in (people, goods))
+            cost = {
+                pair: draw.randint(-4, 9)
+                for pair in itertools.product(range(people), range(goods))
+                if draw.random() < 0.8
+            }
+            takes, needs = (
+                [sorted((draw.randint(0, 2), draw.randint(0, 3))) for _ in range(count)] for count in (people, goods)
+            )
             sign = draw.choice((1, -1))
             rows = ["," + ",".join(f"T{thing}" for thing in range(goods)) + ",takes"]
-            rows += [f"P{who}," + ",".join(str(cost.get((who, thing), "X")) for thing in range(goods)) + ",%d-%d" % tuple(takes[who]) for who in range(people)]
+            rows += [
+                f"P{who},"
+                + ",".join(str(cost.get((who, thing), "X")) for thing in range(goods))
+                + ",%d-%d" % tuple(takes[who])
+                for who in range(people)
+            ]
             rows += ["needs," + ",".join("%d-%d" % tuple(need) for need in needs) + ","]
             status, said, told = self.pairs("\n".join(rows) + "\n", *(["--maximise"] if sign < 0 else []))
             best = best_of(cost, takes, needs, sign)
@@ -136,7 +164,11 @@ def best_of(cost, takes, needs, sign):
     found = []
     for count in range(len(cost) + 1):
         for chosen in itertools.combinations(cost, count):
-            counts = [sum(1 for pair in chosen if pair[side] == number) for side, ranges in ((0, takes), (1, needs)) for number in range(len(ranges))]
+            counts = [
+                sum(1 for pair in chosen if pair[side] == number)
+                for side, ranges in ((0, takes), (1, needs))
+                for number in range(len(ranges))
+            ]
             if all(least <= count <= most for count, (least, most) in zip(counts, takes + needs)):
                 found.append(sign * sum(cost[pair] for pair in chosen))
     return sign * min(found) if found else None

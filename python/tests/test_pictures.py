@@ -49,6 +49,8 @@ class Pictures(WithFolder):
 
     def test_of_many_places_those_near_what_blocks_are_drawn(self):
         places = "name,supply\nA,5\nB,0\nC,-5\n" + "".join(f"P{k},0\n" for k in range(100))
-        texts = self.drawn(places, "from,to,most,cost\nA,B,4,1\nB,C,5,1\n" + "".join(f"B,P{k},9,1\n" for k in range(100)))
+        texts = self.drawn(
+            places, "from,to,most,cost\nA,B,4,1\nB,C,5,1\n" + "".join(f"B,P{k},9,1\n" for k in range(100))
+        )
         self.assertIn("No plan exists: short by 1 (101 places farther off aren't drawn)", texts)
         self.assertEqual([text for text in texts if text in ("A", "B", "C", "P1")], ["A", "B"])

@@ -41,7 +41,10 @@ class Programs(WithFolder):
         script(self.folder / "mcfcheck", "echo accepted refusal 9 total")
         status, _, told = self.flow(PLACES, ROUTES, "--programs", self.folder)
         self.assertEqual(status, 2)
-        self.assertIn("routes.csv, line 4, column cost: with this route, costs times amounts add to more than mcf takes (mcf: total)", told)
+        self.assertIn(
+            "routes.csv, line 4, column cost: with this route, costs times amounts add to more than mcf takes (mcf: total)",
+            told,
+        )
 
     def test_a_wrong_answer_is_found_by_the_true_checker(self):
         shutil.copy(Found(None).checker, self.folder / "mcfcheck")

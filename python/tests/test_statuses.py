@@ -24,15 +24,20 @@ class Statuses(WithFolder):
 
     def left(self):
         """What stands in the folder of the test besides the tables."""
-        return sorted(path.name for path in self.folder.iterdir() if path.suffix != ".csv" and not path.name.startswith("mcf"))
+        return sorted(
+            path.name for path in self.folder.iterdir() if path.suffix != ".csv" and not path.name.startswith("mcf")
+        )
 
     def test_want_of_memory_never_says_that_no_plan_exists(self):
         for size in range(20_000, 61_000, 5_000):
+
             def limit(size=size):
                 resource.setrlimit(resource.RLIMIT_AS, (size * 1024, size * 1024))
 
             with self.subTest(size=size):
-                done = subprocess.run(self.words(), stdout=subprocess.PIPE, stderr=subprocess.PIPE, preexec_fn=limit, timeout=60)
+                done = subprocess.run(
+                    self.words(), stdout=subprocess.PIPE, stderr=subprocess.PIPE, preexec_fn=limit, timeout=60
+                )
                 self.assertIn(done.returncode, (0, 3), done.stderr)
                 self.assertEqual(self.left(), ["out"] if done.returncode == 0 else [])
                 subprocess.run(["rm", "-rf", str(self.out)], check=True)
@@ -51,7 +56,9 @@ class Statuses(WithFolder):
         script(self.folder / "mcf", "sleep 60")
         script(self.folder / "mcfcheck", "exit 0")
         for number, status in ((signal.SIGINT, 130), (signal.SIGTERM, 143)):
-            with self.subTest(number=number), subprocess.Popen(self.words("--programs", str(self.folder)), stderr=subprocess.PIPE) as process:
+            with self.subTest(number=number), subprocess.Popen(
+                self.words("--programs", str(self.folder)), stderr=subprocess.PIPE
+            ) as process:
                 while not self.left():
                     time.sleep(0.05)
                 process.send_signal(number)
@@ -61,7 +68,9 @@ class Statuses(WithFolder):
     def test_any_other_fault_is_told_in_one_line(self):
         with mock.patch.object(flownet.FlowNet, "instance", side_effect=TypeError("one\ntwo")):
             status, said, told = self.flow(PLACES, ROUTES)
-        self.assertEqual((status, said, told), (3, "", "mcf_plan: a fault of this tool, which please report: TypeError: one two\n"))
+        self.assertEqual(
+            (status, said, told), (3, "", "mcf_plan: a fault of this tool, which please report: TypeError: one two\n")
+        )
         self.assertEqual(self.left(), [])
 
     def test_a_sign_of_life_on_a_terminal(self):

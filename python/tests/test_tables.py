@@ -6,10 +6,25 @@ from support import PLACES, ROUTES, WithFolder, rows_of, run
 
 # A table that is bad, and what is said of it: places, routes, and the words that each line of the error ends with.
 BAD_FLOWS = [
-    ("name,supply\nA,1.000\n", ROUTES, "places.csv, line 2, column supply: '1.000' may be 1000 or a number with three decimals", "--decimal"),
+    (
+        "name,supply\nA,1.000\n",
+        ROUTES,
+        "places.csv, line 2, column supply: '1.000' may be 1000 or a number with three decimals",
+        "--decimal",
+    ),
     ("name;supply\nA;-1,500\n", ROUTES, "places.csv, line 2, column supply: '-1,500' may be -1500", "--decimal"),
-    ("name;supply\nA;12,50\nB;1.5\n", ROUTES, "places.csv, line 3: decimals stand after a point and after a comma: '12,50' (", "and '1.5'"),
-    ("name;supply\nA;12,50\n", "from;to;most;cost\nA;A;1.2.3;2\n", "routes.csv, line 2, column most: '1.2.3' is no number", ""),
+    (
+        "name;supply\nA;12,50\nB;1.5\n",
+        ROUTES,
+        "places.csv, line 3: decimals stand after a point and after a comma: '12,50' (",
+        "and '1.5'",
+    ),
+    (
+        "name;supply\nA;12,50\n",
+        "from;to;most;cost\nA;A;1.2.3;2\n",
+        "routes.csv, line 2, column most: '1.2.3' is no number",
+        "",
+    ),
     ("name,supply\nA,1e3\n", ROUTES, "places.csv, line 2, column supply: '1e3' is written with an exponent", ""),
     ("name,supply\nA,1 00\n", ROUTES, "places.csv, line 2, column supply: '1 00' is no number", ""),
     ("name,supply\nA,ten\n", ROUTES, "places.csv, line 2, column supply: 'ten' is no number", ""),
@@ -17,30 +32,74 @@ BAD_FLOWS = [
     ("name,supply\nA,\n", ROUTES, "places.csv, line 2, column supply: the number is empty", ""),
     ("name,supply\nA\n", ROUTES, "places.csv, line 2, column supply: the number is empty", ""),
     ("name,supply\n,1\n", ROUTES, "places.csv, line 2, column name: the name is empty", ""),
-    ("name,supply\n\"A\nB\",1\n", ROUTES, "places.csv, line 2, column name: the name 'A\\x0aB' has a line break", ""),
+    ('name,supply\n"A\nB",1\n', ROUTES, "places.csv, line 2, column name: the name 'A\\x0aB' has a line break", ""),
     ("name,supply\n\nA,1\nA,2\n", ROUTES, "places.csv, line 4, column name: a place 'A' stands on line 3 already", ""),
-    ("name,supply\nOrle\u0301ans,1\nOrl\u00e9ans,2\n", ROUTES, "places.csv, line 3, column name: a place 'Orl\u00e9ans' stands on line 2 already", ""),
-    ("name,amount\nA,1\n", ROUTES, "places.csv, line 1, column supply: there is no such column among 'name', 'amount'", "--map supply=NAME"),
-    ("name|supply\nA|1\n", ROUTES, "places.csv, line 1, column name: there is no such column among 'name|supply'", "wanted are name, supply"),
+    (
+        "name,supply\nOrle\u0301ans,1\nOrl\u00e9ans,2\n",
+        ROUTES,
+        "places.csv, line 3, column name: a place 'Orl\u00e9ans' stands on line 2 already",
+        "",
+    ),
+    (
+        "name,amount\nA,1\n",
+        ROUTES,
+        "places.csv, line 1, column supply: there is no such column among 'name', 'amount'",
+        "--map supply=NAME",
+    ),
+    (
+        "name|supply\nA|1\n",
+        ROUTES,
+        "places.csv, line 1, column name: there is no such column among 'name|supply'",
+        "wanted are name, supply",
+    ),
     ("name,supply,supply\nA,1,1\n", ROUTES, "places.csv, line 1, column supply: there are two such columns", ""),
     ("name,supply\nA,1,7\n", ROUTES, "places.csv, line 2, column 3: a cell beyond the last head: '7'", ""),
-    ("name,supply\n\"A,1\nB,2\n", ROUTES, "places.csv, line 2: a quote that isn't closed", ""),
-    ("name,supply\n\"A\"B,1\n", ROUTES, "places.csv, line 2: something after the closing quote", ""),
+    ('name,supply\n"A,1\nB,2\n', ROUTES, "places.csv, line 2: a quote that isn't closed", ""),
+    ('name,supply\n"A"B,1\n', ROUTES, "places.csv, line 2: something after the closing quote", ""),
     ("name,supply,x,y\nA,1,0,north\n", ROUTES, "places.csv, line 2, column y: 'north' is no number", ""),
     ("", ROUTES, "places.csv, line 1: the table is empty", ""),
-    (b"name,supply\nA,1\nGr\xfcn,1\nBl\xe4u,x\n", ROUTES, "places.csv, line 3: this isn't in UTF-8, but perhaps in Windows-1252 (ANSI), which reads 'Gr\u00fcn,1'",
-     "say --encoding windows-1252\nmcf_plan: "),
+    (
+        b"name,supply\nA,1\nGr\xfcn,1\nBl\xe4u,x\n",
+        ROUTES,
+        "places.csv, line 3: this isn't in UTF-8, but perhaps in Windows-1252 (ANSI), which reads 'Gr\u00fcn,1'",
+        "say --encoding windows-1252\nmcf_plan: ",
+    ),
     (b"name,supply\nA\0,1\xff\n", ROUTES, "places.csv: this isn't text in UTF-8", ""),
     (b"\x1f\x8b\x08\x00", ROUTES, "places.csv: this is compressed (gzip)", ""),
     (b"\xd0\xcf\x11\xe0\xa1", ROUTES, "places.csv: this is an old Excel workbook", ""),
-    (PLACES, "from,to,least,most,cost\nMil,Wien,0,1,1\n", "routes.csv, line 2, column from: there is no place 'Mil'; is 'Mill' meant?", ""),
-    (PLACES, "from,to,least,most,cost\nmill,Wien,0,1,1\n", "routes.csv, line 2, column from: there is no place 'mill'; is 'Mill' meant?", ""),
-    (PLACES, "from,to,least,most,cost\nMill,Paris,0,1,1\n", "routes.csv, line 2, column to: there is no place 'Paris'", ""),
+    (
+        PLACES,
+        "from,to,least,most,cost\nMil,Wien,0,1,1\n",
+        "routes.csv, line 2, column from: there is no place 'Mil'; is 'Mill' meant?",
+        "",
+    ),
+    (
+        PLACES,
+        "from,to,least,most,cost\nmill,Wien,0,1,1\n",
+        "routes.csv, line 2, column from: there is no place 'mill'; is 'Mill' meant?",
+        "",
+    ),
+    (
+        PLACES,
+        "from,to,least,most,cost\nMill,Paris,0,1,1\n",
+        "routes.csv, line 2, column to: there is no place 'Paris'",
+        "",
+    ),
     (PLACES, "from,to,least,most,cost\nMill,,0,1,1\n", "routes.csv, line 2, column to: the name is empty", ""),
     (PLACES, "from,to,least,cost\nMill,Wien,1,1\n", "routes.csv, line 1, column most: there is no such column", ""),
-    (PLACES, "from,to,most,cost\nMill,Wien,,-1\n", "routes.csv, line 2, column most: this is empty, so without a limit, and a cost is below 0 (line 2)", "give a most"),
+    (
+        PLACES,
+        "from,to,most,cost\nMill,Wien,,-1\n",
+        "routes.csv, line 2, column most: this is empty, so without a limit, and a cost is below 0 (line 2)",
+        "give a most",
+    ),
     (PLACES, "from,to,most,cost\nMill,Wien,1,\n", "routes.csv, line 2, column cost: the number is empty", ""),
-    (ROUTES, PLACES, "places.csv, line 1, column name: there is no such column", "this looks like the table of routes, which comes second"),
+    (
+        ROUTES,
+        PLACES,
+        "places.csv, line 1, column name: there is no such column",
+        "this looks like the table of routes, which comes second",
+    ),
 ]
 
 
@@ -58,31 +117,43 @@ class BadTables(WithFolder):
 
     def test_heads_of_both_tables_are_told_at_once(self):
         told = self.flow("Ort;Menge\nA;1\n", "Von;Nach\nA;B\n")[2]
-        for text in ("places.csv, line 1, column name: there is no such column among 'Ort', 'Menge'", "routes.csv, line 1, column from: there is no such"):
+        for text in (
+            "places.csv, line 1, column name: there is no such column among 'Ort', 'Menge'",
+            "routes.csv, line 1, column from: there is no such",
+        ):
             self.assertIn(text, told)
 
     def test_each_kind_of_fault_is_told_once(self):
         places = "name,supply\n" + "".join(f"A{k},x{k}\n" for k in range(300)) + "A1,1\n"
         routes = ROUTES + "".join(f"A1,B{k},0,1,1e{k}\n" for k in range(300))
         told = self.flow(places, routes)[2].replace(f"{self.folder}/", "").splitlines()
-        self.assertEqual(told, [
-            "mcf_plan: places.csv, line 2, column supply: 'x0' is no number (300 such cells; also 'x1' in line 3, 'x2' in line 4, "
-            "'x3' in line 5, 'x4' in line 6)",
-            "mcf_plan: places.csv, line 302, column name: a place 'A1' stands on line 3 already",
-            "mcf_plan: routes.csv, line 2, column from: there is no place 'Mill' (3 such cells; also 'Mill' in line 3, 'Graz' in line 4)",
-            "mcf_plan: routes.csv, line 2, column to: there is no place 'Wien' (303 such cells; also 'Graz' in line 3, 'Wien' in line 4, "
-            "'B0' in line 5, 'B1' in line 6)",
-            "mcf_plan: routes.csv, line 5, column cost: '1e0' is written with an exponent; write all its digits (300 such cells; "
-            "also '1e1' in line 6, '1e2' in line 7, '1e3' in line 8, '1e4' in line 9)"])
+        self.assertEqual(
+            told,
+            [
+                "mcf_plan: places.csv, line 2, column supply: 'x0' is no number (300 such cells; also 'x1' in line 3, 'x2' in line 4, "
+                "'x3' in line 5, 'x4' in line 6)",
+                "mcf_plan: places.csv, line 302, column name: a place 'A1' stands on line 3 already",
+                "mcf_plan: routes.csv, line 2, column from: there is no place 'Mill' (3 such cells; also 'Mill' in line 3, 'Graz' in line 4)",
+                "mcf_plan: routes.csv, line 2, column to: there is no place 'Wien' (303 such cells; also 'Graz' in line 3, 'Wien' in line 4, "
+                "'B0' in line 5, 'B1' in line 6)",
+                "mcf_plan: routes.csv, line 5, column cost: '1e0' is written with an exponent; write all its digits (300 such cells; "
+                "also '1e1' in line 6, '1e2' in line 7, '1e3' in line 8, '1e4' in line 9)",
+            ],
+        )
 
     def test_bad_pairs(self):
-        rows = [("who,what,cost\nA,X,1\nA,X,2\n", "costs.csv, line 3, column what: the pair of 'A' and 'X' stands on line 2 already"),
-                ("who,what,cost\nA,,1\n", "costs.csv, line 2, column what: the name is empty"),
-                (",X,Y\nA,1,2\nA,3,4\n", "costs.csv, line 3, column 1: a person 'A' stands on line 2 already"),
-                (",X,X\nA,1,2\n", "costs.csv, line 1, column 3: a thing 'X' stands on line 1 already"),
-                (",X,\nA,1,2\n", "costs.csv, line 1, column 3: the name is empty"),
-                (",X,Y\nA,1,2.500\n", "costs.csv, line 2, column 3: '2.500' may be 2500 or"),
-                (",X,Y\nA,1,2,3\n", "costs.csv, line 2, column 4: a cell beyond the last head")]
+        rows = [
+            (
+                "who,what,cost\nA,X,1\nA,X,2\n",
+                "costs.csv, line 3, column what: the pair of 'A' and 'X' stands on line 2 already",
+            ),
+            ("who,what,cost\nA,,1\n", "costs.csv, line 2, column what: the name is empty"),
+            (",X,Y\nA,1,2\nA,3,4\n", "costs.csv, line 3, column 1: a person 'A' stands on line 2 already"),
+            (",X,X\nA,1,2\n", "costs.csv, line 1, column 3: a thing 'X' stands on line 1 already"),
+            (",X,\nA,1,2\n", "costs.csv, line 1, column 3: the name is empty"),
+            (",X,Y\nA,1,2.500\n", "costs.csv, line 2, column 3: '2.500' may be 2500 or"),
+            (",X,Y\nA,1,2,3\n", "costs.csv, line 2, column 4: a cell beyond the last head"),
+        ]
         for costs, begins in rows:
             with self.subTest(begins=begins):
                 status, said, told = self.pairs(costs, "--programs", self.folder / "none")
@@ -93,7 +164,13 @@ class BadTables(WithFolder):
         self.assertEqual(run("pairs", self.folder / "none.csv", "-o", self.out)[0], 2)
 
     def test_wrong_calls(self):
-        for words in ([], ["flow"], ["flow", "a.csv", "b.csv"], ["pears", "a.csv", "-o", "x"], ["pairs", "a.csv", "b.csv", "-o", "x"]):
+        for words in (
+            [],
+            ["flow"],
+            ["flow", "a.csv", "b.csv"],
+            ["pears", "a.csv", "-o", "x"],
+            ["pairs", "a.csv", "b.csv", "-o", "x"],
+        ):
             with self.subTest(words=words):
                 self.assertEqual(run(*words)[0], 2)
 
@@ -115,11 +192,24 @@ class Reading(WithFolder):
         return said.split(": cost ")[1].split(".\n")[0].replace(",", ".")
 
     def test_decimals_are_exact(self):
-        for cost, total in (("12,50", "31.25"), ("0,1", "0.25"), ("1.234,56", "3086.4"), ("7", "17.5"), ("1 234,5", "3086.25"), ("1'000", "2500"),
-                            ("1.234.567", "3086417.5"), ("1.500", "3750"), (",5", "1.25"), ("0,000001", "0.0000025")):
+        for cost, total in (
+            ("12,50", "31.25"),
+            ("0,1", "0.25"),
+            ("1.234,56", "3086.4"),
+            ("7", "17.5"),
+            ("1 234,5", "3086.25"),
+            ("1'000", "2500"),
+            ("1.234.567", "3086417.5"),
+            ("1.500", "3750"),
+            (",5", "1.25"),
+            ("0,000001", "0.0000025"),
+        ):
             with self.subTest(cost=cost):
                 self.assertEqual(self.total(cost), total)
-        self.assertIn("c amounts here are 10 times those of the tables, costs of a unit 1000000 times", (self.out / "instance.min").read_text())
+        self.assertIn(
+            "c amounts here are 10 times those of the tables, costs of a unit 1000000 times",
+            (self.out / "instance.min").read_text(),
+        )
 
     def test_what_settles_the_mark(self):
         places = "name;supply\nA;1.500\nB;-1.500\n"
@@ -132,8 +222,13 @@ class Reading(WithFolder):
 
     def test_results_have_the_mark_of_the_tables(self):
         self.total("12,50")
-        self.assertEqual((self.out / "flows.csv").read_text(), "from;to;most;cost;carries;total;free;one_more_saves;exact\nA;B;;12,50;2,5;31,25;;0;yes\n")
-        self.assertEqual((self.out / "prices.csv").read_text(), "name;supply;one_more_costs;group\nA;2,5;0;1\nB;-2,5;12,5;1\n")
+        self.assertEqual(
+            (self.out / "flows.csv").read_text(),
+            "from;to;most;cost;carries;total;free;one_more_saves;exact\nA;B;;12,50;2,5;31,25;;0;yes\n",
+        )
+        self.assertEqual(
+            (self.out / "prices.csv").read_text(), "name;supply;one_more_costs;group\nA;2,5;0;1\nB;-2,5;12,5;1\n"
+        )
 
     def test_encodings(self):
         places, routes = "name,supply\nGr\u00fcn,1\nB,-1\n", "from,to,most,cost\nGr\u00fcn,B,,1\n"
@@ -146,23 +241,36 @@ class Reading(WithFolder):
 
     def test_the_line_of_a_separator(self):
         self.assertEqual(self.flow("sep=;\nname;supply\nA, the first;0\n", "\nsep=|\nfrom|to|most|cost\n")[0], 0)
-        self.assertIn("places.csv, line 3, column supply", self.flow("sep=;\nname;supply\nA;x\n", "from,to,most,cost\n")[2])
+        self.assertIn(
+            "places.csv, line 3, column supply", self.flow("sep=;\nname;supply\nA;x\n", "from,to,most,cost\n")[2]
+        )
 
     def test_own_heads(self):
         places, routes = "Ort;Angebot;name\nA;1;x\nB;-1;y\n", "Von;Nach;Max;Preis\nA;B;5;3\n"
-        words = [word for pair in ("name=Ort", "supply=Angebot", "from=von", "to=Nach", "most=Max", "cost=Preis") for word in ("--map", pair)]
+        words = [
+            word
+            for pair in ("name=Ort", "supply=Angebot", "from=von", "to=Nach", "most=Max", "cost=Preis")
+            for word in ("--map", pair)
+        ]
         self.assertEqual(self.flow(places, routes, *words)[0], 0)
-        self.assertEqual((self.out / "flows.csv").read_text().splitlines()[0], "Von;Nach;Max;Preis;carries;total;free;one_more_saves;exact")
+        self.assertEqual(
+            (self.out / "flows.csv").read_text().splitlines()[0],
+            "Von;Nach;Max;Preis;carries;total;free;one_more_saves;exact",
+        )
         told = self.flow(places, routes, *words, "--map", "least=Mindest")[2]
         self.assertIn("column Mindest: there is no such column, which --map least=Mindest names", told)
         for wrong in ("name", "nome=Ort"):
             self.assertIn(f"--map {wrong}: say --map HEAD=NAME", self.flow(places, routes, "--map", wrong)[2])
 
     def test_results_are_tables_again(self):
-        self.flow(PLACES, ROUTES.replace("cost\n", "cost,carrier\n").replace(",4\n", ",4,=HYPERLINK(1)\n"), "--guard-formulas")
+        self.flow(
+            PLACES, ROUTES.replace("cost\n", "cost,carrier\n").replace(",4\n", ",4,=HYPERLINK(1)\n"), "--guard-formulas"
+        )
         once = (self.out / "flows.csv").read_text()
         self.assertIn("Mill,Wien,0,15,4,'=HYPERLINK(1),15,60,0,5,yes\n", once)
-        self.assertEqual(run("flow", self.out / "prices.csv", self.out / "flows.csv", "-o", self.folder / "again")[0], 0)
+        self.assertEqual(
+            run("flow", self.out / "prices.csv", self.out / "flows.csv", "-o", self.folder / "again")[0], 0
+        )
         self.assertEqual((self.folder / "again" / "flows.csv").read_text(), once)
 
     def test_no_limit(self):
@@ -170,7 +278,9 @@ class Reading(WithFolder):
         status, said, _ = self.flow(PLACES, routes)
         self.assertEqual(status, 0)
         self.assertIn("cost 120.", said)
-        self.assertEqual([(row["carries"], row["free"]) for row in rows_of(self.out / "flows.csv")][:2], [("30", ""), ("0", "20")])
+        self.assertEqual(
+            [(row["carries"], row["free"]) for row in rows_of(self.out / "flows.csv")][:2], [("30", ""), ("0", "20")]
+        )
 
     def test_forbidden_pairs(self):
         for mark in ("", "X", "x", "-", "\u2013"):
@@ -192,6 +302,7 @@ class Workbooks(WithFolder):
     def book(self, **sheets):
         """A workbook of these sheets."""
         import openpyxl
+
         book = openpyxl.Workbook()
         book.remove(book.active)
         for title, rows in sheets.items():
@@ -206,8 +317,15 @@ class Workbooks(WithFolder):
 
     def test_two_sheets(self):
         import openpyxl
-        book = self.book(Strecken=[["from", "to", "most", "cost", "Spediteur"], ["A", "B", None, 8.07, "=1+1 GmbH"], ["A", "B", 1000, 0.1, None]],
-                         Orte=[["Liste der Orte"][1:] + ["name", "supply"], ["A", 1500.5], [None, None], ["B", -1500.5]])
+
+        book = self.book(
+            Strecken=[
+                ["from", "to", "most", "cost", "Spediteur"],
+                ["A", "B", None, 8.07, "=1+1 GmbH"],
+                ["A", "B", 1000, 0.1, None],
+            ],
+            Orte=[["Liste der Orte"][1:] + ["name", "supply"], ["A", 1500.5], [None, None], ["B", -1500.5]],
+        )
         status, said, told = run("flow", book, "-o", self.out)
         self.assertEqual((status, told), (0, ""), told)
         self.assertIn("cost 4139.035.", said)
@@ -219,18 +337,24 @@ class Workbooks(WithFolder):
 
     def test_a_formula_without_its_value(self):
         book = self.book(a=[["name", "supply"], ["A", "=1+1"]], b=[["from", "to", "most", "cost"]])
-        self.assertIn("sheet a, line 2: a formula whose value isn't stored, '=1+1'", run("flow", book, "-o", self.out)[2])
+        self.assertIn(
+            "sheet a, line 2: a formula whose value isn't stored, '=1+1'", run("flow", book, "-o", self.out)[2]
+        )
 
     def test_faults_name_the_sheet(self):
         book = self.book(a=[["name", "supply"], ["A", "many"]], b=[["from", "to", "most", "cost"]])
-        self.assertIn("plan.xlsx, sheet a, line 2, column supply: 'many' is no number", run("flow", book, "-o", self.out)[2])
+        self.assertIn(
+            "plan.xlsx, sheet a, line 2, column supply: 'many' is no number", run("flow", book, "-o", self.out)[2]
+        )
 
     def test_a_workbook_is_written_where_it_is_asked_for(self):
         self.assertEqual(self.flow(PLACES, ROUTES, "--xlsx")[0], 0)
         self.assertTrue((self.out / "plan.xlsx").exists())
 
     def test_one_table_of_text(self):
-        self.assertIn("this is no workbook with two sheets", run("flow", self.put("places.csv", PLACES), "-o", self.out)[2])
+        self.assertIn(
+            "this is no workbook with two sheets", run("flow", self.put("places.csv", PLACES), "-o", self.out)[2]
+        )
 
     def test_a_zip_archive_that_is_none(self):
         self.assertIn("can't be read as an Excel workbook", self.flow(b"PK\x03\x04 no", ROUTES)[2])
