@@ -133,6 +133,14 @@ class FlowNet(Network):
         name = self.problem.places[use.number].name
         return {"stays": (name, STAYS), "missing": (MISSING, name), "through": (name, THROUGH)}[use.kind]
 
+    def amounts(self, arcs, bound):
+        """The least or the most of some arcs, the steps of a route together: with the first arc of each."""
+        found = {}
+        for k in arcs:
+            first, total = found.get(self.uses[k], (k, 0))
+            found[self.uses[k]] = first, total + getattr(self.arcs[k], bound)
+        return list(found.values())
+
     def home(self, number):
         """The node of a place where one unit more is sent, or is taken."""
         return number + 1 if self.problem.places[number].supply > 0 else self.outs[number]

@@ -200,21 +200,22 @@ def bottleneck_finding(net, bottleneck):
     short = amount(bottleneck.must - bottleneck.can)
     figures = [("must", amount(bottleneck.must)), ("can", amount(bottleneck.can)), ("short by", short)]
     what = "demand" if bottleneck.side == "take" else "supply"
-    routes = listed([" -> ".join(net.ends(k)) for k in bottleneck.limiting])
-    raise_them = (
-        f"Give {routes} {short} more room{' together' if len(bottleneck.limiting) > 1 else ''}, or move"
-        if routes
-        else "Give them a route, or move"
+    routes = [" -> ".join(net.ends(k)) for k, _ in net.amounts(bottleneck.limiting, "most")]
+    together = " together" if len(routes) > 1 else ""
+    raise_them = f"Give {listed(routes)} {short} more room{together}, or" if routes else "Give them a route, or"
+    return finding(
+        report.bottleneck_sentence(net, bottleneck), figures, f"{raise_them} move {short} of {what} elsewhere."
     )
-    return finding(report.bottleneck_sentence(net, bottleneck), figures, f"{raise_them} {short} of {what} elsewhere.")
 
 
 def limiting_sheet(blocked):
     """The routes that limit the bottlenecks."""
     net, amount, rows = blocked.eased, blocked.net.problem.units.amount, []
     for count, bottleneck in enumerate(blocked.bottlenecks, 1):
-        rows += [("full", [f"{count}.", *net.ends(k), amount(net.arcs[k].most), ""]) for k in bottleneck.limiting]
-        rows += [("", [f"{count}.", *net.ends(k), "", amount(net.arcs[k].least)]) for k in bottleneck.forcing]
+        for k, most in net.amounts(bottleneck.limiting, "most"):
+            rows.append(("full", [f"{count}.", *net.ends(k), amount(most), ""]))
+        for k, least in net.amounts(bottleneck.forcing, "least"):
+            rows.append(("", [f"{count}.", *net.ends(k), "", amount(least)]))
     columns = [
         ("bottleneck", ""),
         ("from", ""),

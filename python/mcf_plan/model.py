@@ -112,7 +112,8 @@ class Problem:
     def throughput(self):
         """What passes through no place, whatever the plan, where no route is without a limit; and beyond the
         reach where one is."""
-        return self.reach() + sum(abs(route.least) + abs(route.most) for route in self.routes if route.most is not None)
+        limited = [route for route in self.routes if route.most is not None]
+        return self.reach() + sum((abs(route.least) + abs(route.most)) * (2 if route.both else 1) for route in limited)
 
     def ends(self, route):
         """The names of a route's ends."""

@@ -68,10 +68,10 @@ def write_bottlenecks(results, net, bottlenecks):
             [Figure(count), bottleneck.side, "place", name, "", "", amount(supply), ""]
             for name, supply in supplies.items()
         ]
-        for k in bottleneck.forcing:
-            rows.append([Figure(count), bottleneck.side, *arc_cells(net, k), amount(net.arcs[k].least), ""])
-        for k in bottleneck.limiting:
-            rows.append([Figure(count), bottleneck.side, *arc_cells(net, k), "", amount(net.arcs[k].most)])
+        for k, least in net.amounts(bottleneck.forcing, "least"):
+            rows.append([Figure(count), bottleneck.side, *arc_cells(net, k), amount(least), ""])
+        for k, most in net.amounts(bottleneck.limiting, "most"):
+            rows.append([Figure(count), bottleneck.side, *arc_cells(net, k), "", amount(most)])
     results.table(
         "bottleneck", net.problem.route_table, ["bottleneck", "side", "kind", "name", "from", "to", "must", "can"], rows
     )
@@ -112,10 +112,10 @@ def bottleneck_sentence(net, bottleneck):
     named = listed(places) + (" together" if len(places) > 1 else "")
     must = f"{named} must {bottleneck.side} {amount(bottleneck.must)}"
     if bottleneck.forcing:
-        must += f" (with the least of {listed([route_text(net, k, net.arcs[k].least) for k in bottleneck.forcing])})"
+        must += f" (with the least of {listed([route_text(net, *pair) for pair in net.amounts(bottleneck.forcing, 'least')])})"
     if not bottleneck.limiting:
         return f"{must}, and no route {'leads away' if bottleneck.side == 'send' else 'leads there'}."
-    over = listed([route_text(net, k, net.arcs[k].most) for k in bottleneck.limiting])
+    over = listed([route_text(net, *pair) for pair in net.amounts(bottleneck.limiting, "most")])
     short = amount(bottleneck.must - bottleneck.can)
     return f"{must}, and can {bottleneck.side} only {amount(bottleneck.can)}, over {over}. Short by {short}."
 

@@ -219,6 +219,12 @@ class Columns(WithFolder):
                 ],
             )
 
+    def test_steps_that_limit_are_told_together(self):
+        routes = "from,to,least,most,cost,most 2,cost 2\nA,B,,3,1,2,4\n"
+        said = self.flow("name,supply\nA,11\nB,-11\n", routes)[1]
+        self.assertIn("A must send 11, and can send only 5, over A -> B (5). Short by 6.", said)
+        self.assertIn("1,send,route,,A,B,,5", (self.out / "bottleneck.csv").read_text())
+
     def test_places_with_bounds(self):
         places = "name,supply,most,cost\nA,9,,\nHub,0,5,2\nB,-9,,\n"
         routes = "from,to,most,cost\nA,Hub,,1\nHub,B,,1\nA,B,,7\n"
