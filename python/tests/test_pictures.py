@@ -1,8 +1,10 @@
 """The picture, with Graphviz where it is there, and without it."""
 import os
 import xml.etree.ElementTree
+from unittest import mock
 
-from support import ROUTES, WithFolder
+from mcf_plan import layout
+from support import PLACES, ROUTES, WithFolder, script
 
 
 class Pictures(WithFolder):
@@ -54,3 +56,18 @@ class Pictures(WithFolder):
         )
         self.assertIn("No plan exists: short by 1 (101 places farther off aren't drawn)", texts)
         self.assertEqual([text for text in texts if text in ("A", "B", "C", "P1")], ["A", "B"])
+
+    def test_a_layout_that_takes_too_long_is_dots(self):
+        script(self.folder / "dot", "exec sleep 20")
+        path = f"{self.folder}:{os.environ['PATH']}"
+        with mock.patch.dict(os.environ, PATH=path), mock.patch.object(layout, "PATIENCE", 0.2):
+            self.assertEqual(self.flow(PLACES, ROUTES)[0], 0)
+        self.assertIn("<circle", (self.out / "plan.svg").read_text())
+
+    def test_a_graphviz_that_fails_is_as_good_as_none(self):
+        path = f"{self.folder}:{os.environ['PATH']}"
+        for text in ("exit 1", "echo '{'", 'echo \'{"objects": [{"name": "n7", "pos": "1,1"}]}\''):
+            script(self.folder / "dot", text)
+            with self.subTest(text=text), mock.patch.dict(os.environ, PATH=path):
+                self.assertEqual(self.flow(PLACES, ROUTES)[0], 0)
+                self.assertIn(">sends 30</text>", (self.out / "plan.svg").read_text())
