@@ -32,16 +32,12 @@ THROUGH_COLUMNS = [
 ]
 # Heads of columns that the page shows anyway.
 USED = ("from", "to", "least", "most", "cost", "name", "supply", "x", "y")
-RESULTS = ("carries", "total", "free", "one_more_saves", "exact", "one_more_costs", "group")
 
 
 def own_columns(table):
     """The columns of a table that are the planner's own."""
-    return [
-        place
-        for place, head in enumerate(table.heads)
-        if head not in USED and table.titles[place].casefold() not in RESULTS
-    ]
+    kept = table.kept(report.FLOW_RESULTS, report.PLACE_RESULTS, report.THROUGH_RESULTS)
+    return [place for place in kept if table.heads[place] not in USED]
 
 
 def plan_page(plan, options, picture):

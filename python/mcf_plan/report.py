@@ -3,6 +3,11 @@ from .amounts import Figure
 from .flownet import MISSING, STAYS, THROUGH
 from .words import TOLD_NAMES, count_of, listed
 
+# The heads of results, in groups.
+FLOW_RESULTS = ("carries", "total", "free", "one_more_saves", "exact")
+PLACE_RESULTS = ("one_more_costs", "group")
+THROUGH_RESULTS = ("passes", "passing_costs", "free", "one_more_saves", "exact")
+
 
 def write_flows(results, plan):
     """Writes flows.csv: the routes in their order, with the columns that they had; then what stays and what
@@ -22,7 +27,7 @@ def write_flows(results, plan):
             penalty = plan.net.policy.penalty if not is_supply else 0
             cost = "" if penalty is None else units.total(penalty * amount)
             rows.append(([ends.get(head, "") for head in table.heads], [units.amount(amount), cost, "", "", ""]))
-    results.after("flows", table, ["carries", "total", "free", "one_more_saves", "exact"], rows)
+    results.after("flows", table, [FLOW_RESULTS], rows)
 
 
 def write_prices(results, plan):
@@ -37,8 +42,8 @@ def write_prices(results, plan):
         )
         for place, result in zip(plan.problem.places, plan.places)
     ]
-    more = ["passes", "passing_costs", "free", "one_more_saves", "exact"] if has_bounds else []
-    results.after("prices", plan.problem.place_table, ["one_more_costs", "group"] + more, rows)
+    groups = [PLACE_RESULTS, THROUGH_RESULTS] if has_bounds else [PLACE_RESULTS]
+    results.after("prices", plan.problem.place_table, groups, rows)
 
 
 def through_cells(plan, through):

@@ -3,6 +3,7 @@ asked for."""
 import csv
 
 from .amounts import Figure
+from .tables import cell_at
 from .workbook import openpyxl_for, write_workbook
 
 FORMULA = ("=", "+", "-", "@", "\t", "\r")
@@ -27,16 +28,12 @@ class Results:
         if self.sheets is not None:
             self.sheets.append((name, heads, rows))
 
-    def after(self, name, like, heads, rows):
-        """Writes a table of another's columns, and of others after them, for the rows of which the cells of
-        both are given."""
-        places = like.kept(heads)
-        self.table(
-            name,
-            like,
-            [like.titles[place] for place in places] + list(heads),
-            ([cells[place] if place < len(cells) else "" for place in places] + more for cells, more in rows),
-        )
+    def after(self, name, like, results, rows):
+        """Writes a table of another's columns, and of groups of results after them, for the rows of which the
+        cells of both are given."""
+        places = like.kept(*results)
+        heads = [like.titles[place] for place in places] + [head for group in results for head in group]
+        self.table(name, like, heads, ([cell_at(cells, place) for place in places] + more for cells, more in rows))
 
     def cell(self, value):
         """A cell as CSV has it."""

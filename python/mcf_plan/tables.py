@@ -161,9 +161,12 @@ class Table:
                         cells[place],
                     )
 
-    def kept(self, results):
-        """The places of the columns that results are written after: all but those of earlier results."""
-        return [place for place, title in enumerate(self.titles) if title.casefold() not in results]
+    def kept(self, *results):
+        """The places of the columns that results are written after: all but those of earlier results, which are
+        there as a whole if they are."""
+        titles = [title.casefold() for title in self.titles]
+        gone = {head for heads in results if set(heads) <= set(titles) for head in heads}
+        return [place for place, title in enumerate(titles) if title not in gone]
 
 
 def rank_of(line, separator, known):

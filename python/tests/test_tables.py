@@ -273,6 +273,10 @@ class Reading(WithFolder):
         )
         self.assertEqual((self.folder / "again" / "flows.csv").read_text(), once)
 
+    def test_own_columns_that_are_called_as_results_are(self):
+        self.flow(PLACES, ROUTES.replace("cost\n", "cost,total\n").replace(",4\n", ",4,mine\n"))
+        self.assertIn("Mill,Wien,0,15,4,mine,15,60,0,5,yes\n", (self.out / "flows.csv").read_text())
+
     def test_no_limit(self):
         routes = "from,to,least,most,cost\nMill,Wien,3,,4\nMill,Graz,,20,7\nGraz,Wien,,inf,0\nWien,Graz,-2,,0\n"
         status, said, _ = self.flow(PLACES, routes)
