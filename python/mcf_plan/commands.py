@@ -80,12 +80,15 @@ def drawn_in(folder, scene, options):
 
 def write_page(folder, instance, page, numbers):
     """Writes report.html."""
-    (folder / "report.html").write_text(Writer(folder, instance, numbers.mark).html(page), encoding="utf-8")
+    with life.doing("writes the page"):
+        text = Writer(folder, instance, numbers.mark).html(page)
+        (folder / "report.html").write_text(text, encoding="utf-8")
 
 
 def pairs_command(options, reading):
     """Does `pairs`: gives the lines of the summary and the status."""
-    roster = Roster(options.costs, reading, options.each, options.maximise)
+    with life.doing("reads the table"):
+        roster = Roster(options.costs, reading, options.each, options.maximise)
     programs, net = Programs(options.programs), pairs.RosterNet(roster)
     with results_in(options.folder) as folder:
         results, instance = Results(folder, options, roster.numbers.mark, [roster.table]), net.instance()

@@ -42,6 +42,8 @@ document.querySelectorAll(".sheet table").forEach(function (table) {
     return cell.dataset.value === undefined ? cell.textContent : cell.dataset.value === "" ? Infinity : Number(cell.dataset.value);
   };
   table.querySelectorAll("thead th").forEach(function (head, column) {
+    head.tabIndex = 0;
+    head.addEventListener("keydown", function (event) { if (event.key === "Enter") { head.click(); } });
     head.addEventListener("click", function () {
       const down = head.getAttribute("aria-sort") === (head.classList.contains("number") ? "descending" : "ascending");
       const sign = head.classList.contains("number") === down ? 1 : -1;

@@ -1,5 +1,4 @@
 """Excel workbooks, where openpyxl is there: read by sheets, and written with the same sheets as there are tables."""
-import datetime
 import decimal
 import io
 
@@ -76,16 +75,15 @@ def records_of(name, sheet, formulas):
 
 
 def text_of_cell(value):
-    """A cell as text: a number is what it is shown as, all its digits written."""
+    """A cell as text. A number has the fifteen digits that a spreadsheet has of it, where a sum of tenths is
+    exact; a date is one, and no number."""
     if value is None:
         return ""
-    if isinstance(value, (int, float)) and not isinstance(value, bool):
-        return Figure(format(decimal.Decimal(repr(value)), "f"))
-    if isinstance(value, (datetime.datetime, datetime.date)):
-        return (
-            value.isoformat(" ").replace(" 00:00:00", "") if isinstance(value, datetime.datetime) else value.isoformat()
-        )
-    return str(value).strip()
+    if isinstance(value, float):
+        return Figure(format(decimal.Decimal(format(value, ".15g")).normalize(), "f"))
+    if isinstance(value, int) and not isinstance(value, bool):
+        return Figure(value)
+    return str(value).replace(" 00:00:00", "").strip()
 
 
 def sheet_with(path, sheets, wanted, reading):

@@ -339,6 +339,14 @@ class Workbooks(WithFolder):
         self.assertEqual(rows[1], ("A", "B", None, 8.07, "=1+1 GmbH", 500.5, 4039.035, None, 0, "yes"))
         self.assertEqual(made["flows"]["E2"].data_type, "s")
 
+    def test_numbers_as_spreadsheets_have_them(self):
+        places = [["name", "supply"], [101, 0.1 + 0.2], ["B", -0.3], ["C", 7.0], ["D", -7]]
+        routes = [["from", "to", "most", "cost"], ["101", "B", None, 8.07 * 3], ["C", "D", 1e9, 1e-7]]
+        status, said, told = run("flow", self.book(a=places, b=routes), "-o", self.out)
+        self.assertEqual((status, told), (0, ""))
+        self.assertIn("cost 7.2630007.", said)
+        self.assertIn("101,0.3,", (self.out / "prices.csv").read_text(encoding="utf-8-sig"))
+
     def test_a_formula_without_its_value(self):
         book = self.book(a=[["name", "supply"], ["A", "=1+1"]], b=[["from", "to", "most", "cost"]])
         self.assertIn(
