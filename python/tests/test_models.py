@@ -1,6 +1,7 @@
 """What tables may ask beyond plain routes, compared with glpsol, which gets the problem as it is meant, and
 with networkx."""
 import collections
+import copy
 import importlib.util
 import random
 import re
@@ -8,6 +9,10 @@ import shutil
 import subprocess
 import unittest
 
+from mcf_plan.flownet import FlowNet, FlowPlan, Policy
+from mcf_plan.model import Problem, Step
+from mcf_plan.solve import Programs, solve
+from mcf_plan.tables import Reading
 from support import WithFolder, rows_of
 
 GLPSOL = shutil.which("glpsol")
@@ -121,6 +126,46 @@ def sum_of(added, taken):
     counts = collections.Counter(added)
     counts.subtract(taken)
     return " ".join(f"{'+' if count >= 0 else '-'} {abs(count)} {name}" for name, count in counts.items()) or "0 none"
+
+
+class OneMoreUnit(WithFolder):
+    """What one more unit of room saves, of routes with steps and both ways, and of places."""
+
+    def solved(self, problem, **changes):
+        """The plan of a problem, perhaps with other places or routes, or None."""
+        changed = copy.copy(problem)
+        vars(changed).update(changes)
+        net = FlowNet(changed, Policy(unused=True, short=True, penalty=40))
+        plan = solve(Programs(None), self.folder, net.instance())
+        return plan and FlowPlan(net, plan)
+
+    def test_random_tables(self):
+        seen = collections.Counter()
+        for seed in range(100, 125):
+            places, routes = Case(seed).tables()
+            problem = Problem.read([self.put("places.csv", places), self.put("routes.csv", routes)], Reading())
+            problem.places = [place._replace(supply=3 * place.supply) for place in problem.places]
+            plan = self.solved(problem)
+            for result, again in self.wider(problem, plan) if plan else ():
+                with self.subTest(seed=seed):
+                    self.assertLessEqual(plan.cost - again.cost, result.saves)
+                    self.assertTrue(plan.cost - again.cost == result.saves or not result.is_exact)
+                    seen[result.is_exact, result.saves > 0] += 1
+        self.assertTrue(seen[True, True] > 5 and seen[True, False] > 5, seen)
+
+    def wider(self, problem, plan):
+        """Results with the plans that one more unit of room gives, where there is a limit."""
+        for number, (route, result) in enumerate(zip(problem.routes, plan.routes)):
+            if route.most is not None:
+                step = Step(route.steps[-1].most + 1, route.steps[-1].cost)
+                routes = [*problem.routes]
+                routes[number] = route._replace(steps=route.steps[:-1] + (step,))
+                yield result, self.solved(problem, routes=routes)
+        for number, (place, result) in enumerate(zip(problem.places, plan.places)):
+            if place.bounds and place.bounds.most is not None:
+                places = [*problem.places]
+                places[number] = place._replace(bounds=place.bounds._replace(most=place.bounds.most + 1))
+                yield result.through, self.solved(problem, places=places)
 
 
 @unittest.skipUnless(GLPSOL, "glpsol isn't there: what tables may ask, compared with it")
