@@ -23,8 +23,8 @@ use Rattle.mcf_basis.specs.declared.offer.Offer.{Offer}
 use Rattle.mcf_basis.specs.declared.rooms.Rooms.{Rooms}
 use Rattle.mcf_basis.specs.Bases.{IsBasis}
 use Rattle.mcf_basis.specs.Laws.{HasNoArtificial}
-use Rattle.mcf_basis.specs.Private.Layouts.{Layout, IsLaidOut, amount_by, amount_in, basis_in, no_offer, no_rooms, node_below, wide_limit}
-use Rattle.mcf_basis.specs.Structures.{TreeStructure, carried, price_at, state_of}
+use Rattle.mcf_basis.specs.Private.Layouts.{Layout, IsLaidOut, amount_by, amount_in, basis_in, no_offer, no_rooms, node_below}
+use Rattle.mcf_basis.specs.Structures.{TreeStructure, carried, price_at, state_of, price_limit}
 use Rattle.mcf_basis.proofs.Around.{arcs_of}
 use Rattle.mcf_basis.specs.Violations.{HasNoEligible}
 use Rattle.mcf_basis.proofs.Cuts.{HasWideTree, cuts_block}
@@ -71,20 +71,20 @@ none_left l b t e ok test =
 
 -- ---- the prices
 
-small_prices : (b : TreeStructure) → IsBasis b → All (IsUpTo wide_limit) (drop 1 b.prices)
+small_prices : (b : TreeStructure) → IsBasis b → All (IsUpTo price_limit) (drop 1 b.prices)
 small_prices b ok k d h =
     let count : length b.prices ≡ node_count b.net + 1 = ok.prices.one_per_node in
     let short = length-drop 1 b.prices in
     let inside : 1 + k < length b.prices = omega (arith, short, h, count) in
     let place : 1 + k ≡ k + 1 = omega arith in
-    subst (IsUpTo wide_limit) (sym (get_or-drop 1 b.prices k d ∙ get_or_default b.prices (1 + k) d (pos 0) inside))
+    subst (IsUpTo price_limit) (sym (get_or-drop 1 b.prices k d ∙ get_or_default b.prices (1 + k) d (pos 0) inside))
     (price_small b ok (1 + k) (omega (arith, inside, count)))
 
 pub record AreReadPrices (l : Layout) (b : TreeStructure) : Type 0 where
   pub some : 1 ≤ length l.table.prices
   pub count : length (drop 1 l.table.prices) ≡ node_count b.net
   pub value : drop 1 l.table.prices ≡ drop 1 b.prices
-  pub small : All (IsUpTo wide_limit) (drop 1 b.prices)
+  pub small : All (IsUpTo price_limit) (drop 1 b.prices)
 
 pub read_prices : (l : Layout) (b : TreeStructure) → basis_in l ≡ b → IsLaidOut l → AreReadPrices l b
 unfolding basis_in

@@ -21,9 +21,9 @@ use Rattle.mcf_basis.specs.Bases.{IsBasis}
 use Rattle.mcf_basis.specs.Pivots.{IsEligible, IsPivot, PairFalls, entering}
 use Rattle.mcf_basis.specs.Private.Climbs.{CanReplace, IsClimb, IsFound, IsReplaced, laid}
 use Rattle.mcf_basis.specs.Private.Climbs.IsReplaced.{at_once, down, up}
-use Rattle.mcf_basis.specs.Private.Layouts.{Layout, IsLaidOut, Prices, basis_in, offer_at, wide_limit}
+use Rattle.mcf_basis.specs.Private.Layouts.{Layout, IsLaidOut, Prices, basis_in, offer_at}
 use Rattle.mcf_basis.specs.Private.Turned.{CanExchange, CanPush, IsExchangedBy, IsPushedRound, price_of}
-use Rattle.mcf_basis.specs.Structures.{TreeStructure, CanTake}
+use Rattle.mcf_basis.specs.Structures.{TreeStructure, CanTake, price_limit}
 use Rattle.mcf_basis.proofs.Around.{CanGoRound, IsAround, IsLeaving, WentRound, down_arc, from_of, to_of, up_arc}
 use Rattle.mcf_basis.proofs.Around.IsLeaving.{right as leaves_right, enter as leaves_at_once, left as leaves_left}
 use Rattle.mcf_basis.proofs.Climbed.{chosen_down, chosen_leaves, chosen_round, chosen_up, leaves_by}
@@ -149,11 +149,11 @@ module _ (l : Layout) (k : ℕ) (ok : IsLaidOut l) (el : IsEligible (basis_in l)
     pub cost_small : IsUpTo limits.cost o.cost
     cost_small = rw is read.cost
 
-    pub from_small : IsUpTo wide_limit (price_of l.table o.from)
+    pub from_small : IsUpTo price_limit (price_of l.table o.from)
     unfolding basis_in
     from_small = rw is (price_small (basis_in l) ok.basis (offer_at l k).from read.from)
 
-    pub to_small : IsUpTo wide_limit (price_of l.table o.to)
+    pub to_small : IsUpTo price_limit (price_of l.table o.to)
     unfolding basis_in
     to_small = rw is (price_small (basis_in l) ok.basis (offer_at l k).to read.to)
 

@@ -12,7 +12,8 @@ use Rattle.mcf_instance.specs.declared.arc.Arc.{Arc}
 use Rattle.mcf_instance.specs.Network.{Network, IsArcNumber, IsNode, at_node, node_count}
 use Rattle.mcf_instance.specs.WellFormed.{weight}
 use Rattle.mcf_instance.proofs.Bounds.{size_up_to, sum-weights}
-use Rattle.mcf_network.specs.Nets.{IsNet, IsNetArc}
+use Rattle.mcf_instance.specs.Limits.{limits}
+use Rattle.mcf_network.specs.Nets.{IsNet, IsNetArc, width_limit}
 use Rattle.mcf_network.specs.Residual.{arc_at}
 use Rattle.mcf_network.proofs.ArcLaws.{net_arc_at}
 use Rattle.mcf_tree.specs.SpanningTree.{IsSpanning, IsStar, label_of}
@@ -74,11 +75,11 @@ net_weight a ok =
 
 pub weight_small : (a : Arc) → IsNetArc a → unsigned_abs a.cost * unsigned_abs a.cap ≤ 10 ^ 34
 weight_small a ok =
-    let cost : unsigned_abs a.cost ≤ 10 ^ 15 = size_up_to (10 ^ 15) a.cost ok.cost_small in
+    let cost : unsigned_abs a.cost ≤ limits.cost = size_up_to limits.cost a.cost ok.cost_small in
     let low = ok.width_low in
     let high = ok.width_high in
-    let cap : unsigned_abs a.cap ≤ 2 * 10 ^ 18 = size_up_to (2 * 10 ^ 18) a.cap (omega (arith, ints, low), omega (arith, ints, high)) in
-    let le = mul-le (unsigned_abs a.cost) (unsigned_abs a.cap) (10 ^ 15) (2 * 10 ^ 18) cost cap in
+    let cap : unsigned_abs a.cap ≤ width_limit = size_up_to width_limit a.cap (omega (arith, ints, low), omega (arith, ints, high)) in
+    let le = mul-le (unsigned_abs a.cost) (unsigned_abs a.cap) limits.cost width_limit cost cap in
     omega (arith, le)
 
 -- ---- the greatest cost, and how far prices reach

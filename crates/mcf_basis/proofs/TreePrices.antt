@@ -19,9 +19,8 @@ use Rattle.mcf_links.proofs.Depths.{depth-lt}
 use Rattle.mcf_basis.specs.Artificial.{artificial_cost, with_artificial}
 use Rattle.mcf_basis.specs.Bases.{HasTreeArc, IsBasis}
 use Rattle.mcf_basis.specs.Ranks.{greatest_cost, price_reach}
-use Rattle.mcf_basis.specs.Structures.{TreeStructure, Joins, price_at, reduced_at}
+use Rattle.mcf_basis.specs.Structures.{TreeStructure, Joins, price_at, reduced_at, price_limit}
 use Rattle.mcf_basis.specs.Structures.Joins.{out_of, into}
-use Rattle.mcf_basis.specs.Private.Layouts.{wide_limit}
 use Rattle.mcf_basis.proofs.Labels.{own_arc, root_arc, inner_arc}
 
 -- no arc costs more than the greatest cost
@@ -112,7 +111,7 @@ module _ (b : TreeStructure) (ok : IsBasis b) where
       ]
 
 -- within the limits of nets a price fits 128 bits, with much to spare
-pub reach_small : (g : Network) → IsNet g → price_reach g ≤ wide_limit
+pub reach_small : (g : Network) → IsNet g → price_reach g ≤ price_limit
 reach_small g ok =
     let total : sum (map weight g.arcs) ≤ net_total_limit = ok.total in
     let nodes : node_count g ≤ node_limit = ok.nodes in
@@ -121,8 +120,8 @@ reach_small g ok =
     let b : node_limit * greatest_cost g.arcs ≤ node_limit * limits.cost = mul-le-mul_left node_limit cost in
     omega arith
 
-pub price_small : (b : TreeStructure) → IsBasis b → (v : ℕ) → v ≤ node_count b.net → IsUpTo wide_limit (price_at b v)
+pub price_small : (b : TreeStructure) → IsBasis b → (v : ℕ) → v ≤ node_count b.net → IsUpTo price_limit (price_at b v)
 price_small b ok v h =
     let p : IsUpTo (price_reach b.net) (price_at b v) = price_reached b ok v h in
-    let small : price_reach b.net ≤ wide_limit = reach_small b.net ok.of_net in
+    let small : price_reach b.net ≤ price_limit = reach_small b.net ok.of_net in
     (omega (arith, ints), omega (arith, ints))

@@ -7,9 +7,9 @@ use Rattle.mcf_instance.specs.Network.{IsArcNumber, node_count}
 use Rattle.mcf_instance.specs.WellFormed.{IsUpTo}
 use Rattle.mcf_tree.specs.SpanningTree.{label_of}
 use Rattle.mcf_basis.specs.Bases.{IsBasis}
-use Rattle.mcf_basis.specs.Private.Layouts.{Layout, IsLaidOut, amount_by, amount_in, amount_outside, basis_in, node_below, wide_limit}
+use Rattle.mcf_basis.specs.Private.Layouts.{Layout, IsLaidOut, amount_by, amount_in, amount_outside, basis_in, node_below}
 use Rattle.mcf_basis.specs.Ranks.{price_reach}
-use Rattle.mcf_basis.specs.Structures.{TreeStructure, IsInTree, carried, price_at}
+use Rattle.mcf_basis.specs.Structures.{TreeStructure, IsInTree, carried, price_at, price_limit}
 use Rattle.mcf_basis.proofs.LeastFound.{found_nowhere}
 use Rattle.mcf_basis.proofs.TreePrices.{price_reached, price_small}
 
@@ -27,7 +27,7 @@ view_basis l b e ok = subst IsBasis e ok.basis
 pub record IsReadPrice (l : Layout) (b : TreeStructure) (v : ℕ) : Type 0 where
   pub in_range : v < length l.table.prices
   pub value : get_or l.table.prices v (pos 0) ≡ price_at b v
-  pub small : IsUpTo wide_limit (get_or l.table.prices v (pos 0))
+  pub small : IsUpTo price_limit (get_or l.table.prices v (pos 0))
 
 pub read_price : (l : Layout) (b : TreeStructure) (v : ℕ) → basis_in l ≡ b → IsLaidOut l → v ≤ node_count b.net → IsReadPrice l b v
 unfolding basis_in

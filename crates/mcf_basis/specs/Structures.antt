@@ -1,7 +1,7 @@
 -- Spanning tree structures (Ahuja, Magnanti and Orlin, Network Flows, section 11.2): a spanning tree of a net with its artificial
 -- arcs, an amount for each arc and a price for each node; and the paths and cycles of the tree.
 -- Source: AMO 11.2
-use Rattle.std.specs.Prelude.{◌≡◌, ℕ, zero, suc, ◌-◌, ◌==◌, ◌≤◌, true, false, not, List, [], ◌∷◌, ◌++◌, length, take, ℤ, pos, ◌+ℤ◌, ◌-ℤ◌, ◌≤ℤ◌, slice_index_or}
+use Rattle.std.specs.Prelude.{◌≡◌, ℕ, zero, suc, ◌-◌, ◌*◌, ◌^◌, ◌==◌, ◌≤◌, true, false, not, List, [], ◌∷◌, ◌++◌, length, take, ℤ, pos, ◌+ℤ◌, ◌-ℤ◌, ◌≤ℤ◌, slice_index_or}
 use Rattle.mcf_instance.specs.Network.{Network, IsNode, node_count}
 use Rattle.mcf_network.specs.declared.rid.Rid.{Rid}
 use Rattle.mcf_network.specs.Residual.{arc_at, head, tail}
@@ -55,6 +55,16 @@ pub record IsInTree (b : TreeStructure) (label : ℕ) : Type 0 where
   pub node : ℕ
   pub is_node : IsNode (node_count b.net) node
   pub labelled : label_of b.tree node ≡ label
+
+-- ---- limits
+
+-- how far from 0 the price of a node of a basis lies at most
+abbrev pub price_limit : ℕ
+price_limit = 3 * 10 ^ 36
+
+-- how far from 0 a reduced cost lies at most: the cost of an arc and two prices
+abbrev pub reduced_limit : ℕ
+reduced_limit = 7 * 10 ^ 36
 
 -- ---- paths and cycles
 

@@ -4,9 +4,8 @@ ghost use Rattle.mcf_instance.specs.Network.{IsArcNumber, IsNode, node_count};
 ghost use Rattle.mcf_instance.specs.WellFormed.{IsUpTo};
 ghost use Rattle.mcf_basis.specs.Bases.{IsBasis};
 ghost use Rattle.mcf_basis.specs.Pivots.{IsEligible};
-ghost use Rattle.mcf_basis.specs.Structures.{price_at, reduced_at};
+ghost use Rattle.mcf_basis.specs.Structures.{price_at, reduced_at, price_limit, reduced_limit};
 ghost use Rattle.mcf_basis.specs.Violations.{IsMostViolatedPick, violation};
-ghost use Rattle.mcf_basis.specs.Private.Layouts.{reduced_limit};
 
 use crate::offer::Offer;
 use crate::price_table::PriceTable;
@@ -74,7 +73,7 @@ impl<'n> Basis<'n> {
     pub fn price(&self, v: NodeId) -> i128
         requires { IsNode (node_count self.now.net) v }
         ensures value { result ≡ price_at self.now v }
-        ensures small { IsUpTo (3 * 10 ^ 36) result }
+        ensures small { IsUpTo price_limit result }
         ensures basis { IsBasis self.now }
     {
         self.table.get(v.get())
@@ -85,7 +84,7 @@ impl<'n> Basis<'n> {
     pub fn reduced(&self, k: ArcId) -> i128
         requires { IsArcNumber self.now.net k }
         ensures value { result ≡ reduced_at self.now k }
-        ensures small { IsUpTo (7 * 10 ^ 36) result }
+        ensures small { IsUpTo reduced_limit result }
         ensures basis { IsBasis self.now }
     {
         let (src, dst) = self.net.ends(k);

@@ -13,7 +13,7 @@ ghost use Rattle.mcf_tree.specs.SpanningTree.{IsSpanning, label_of, size_of};
 ghost use Rattle.mcf_basis.specs.Bases.{IsBasis};
 ghost use Rattle.mcf_basis.specs.Laws.{HasNoArtificial};
 ghost use Rattle.mcf_basis.specs.Private.Layouts.{no_offer, no_rooms};
-ghost use Rattle.mcf_basis.specs.Structures.{price_at, state_of};
+ghost use Rattle.mcf_basis.specs.Structures.{price_at, state_of, price_limit};
 ghost use Rattle.mcf_basis.specs.Violations.{HasNoEligible};
 
 use crate::basis::Basis;
@@ -60,7 +60,7 @@ impl<'n> Basis<'n> {
         requires { length prices.old ≡ node_count self.now.net }
         ensures value { prices.new ≡ drop 1 self.now.prices }
         ensures count { length prices.new ≡ node_count self.now.net }
-        ensures small { All (IsUpTo (3 * 10 ^ 36)) prices.new }
+        ensures small { All (IsUpTo price_limit) prices.new }
         ensures basis { IsBasis self.now }
     {
         // Called for its clause alone: this is a basis.

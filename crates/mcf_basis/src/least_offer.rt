@@ -1,6 +1,7 @@
 //! Which of some offers violates optimality most: the loop in which the simplex looks at arcs.
-ghost use Rattle.mcf_basis.specs.Private.Layouts.{narrow_limit, wide_limit};
+ghost use Rattle.mcf_basis.specs.Private.Layouts.{narrow_limit};
 ghost use Rattle.mcf_basis.specs.Private.Offered.{CanCompare, IsLeastOffer};
+ghost use Rattle.mcf_basis.specs.Structures.{price_limit};
 
 use crate::offer::Offer;
 
@@ -35,7 +36,7 @@ pub(crate) fn least_wide(
     begin: usize,
     end: usize,
 ) -> Option<usize>
-    requires { CanCompare prices.now wide_limit offers.now begin end }
+    requires { CanCompare prices.now price_limit offers.now begin end }
     ensures { IsLeastOffer prices.now offers.now begin end result }
 {
     let mut place = begin;

@@ -9,9 +9,10 @@ ghost use Rattle.mcf_basis.specs.declared.pivot.Step.TheVariants.{Moved, Still};
 ghost use Rattle.mcf_basis.specs.Bases.{IsBasis};
 ghost use Rattle.mcf_basis.specs.Pivots.{IsEligible, IsPivot, PairFalls};
 ghost use Rattle.mcf_basis.specs.Private.Climbs.{CanReplace, IsFound, IsReplaced, laid};
-ghost use Rattle.mcf_basis.specs.Private.Layouts.{IsLaidOut, basis_in, wide_limit};
+ghost use Rattle.mcf_basis.specs.Private.Layouts.{IsLaidOut, basis_in};
 ghost use Rattle.mcf_basis.specs.Private.Turned.{price_of};
 ghost use Rattle.mcf_basis.specs.Steps.{moved_by};
+ghost use Rattle.mcf_basis.specs.Structures.{price_limit};
 
 use crate::basis::Basis;
 use crate::climb::Climb;
@@ -152,8 +153,8 @@ fn reduced_of(table: &PriceTable, offer: Offer) -> i128
     requires from { offer.from < length table.now.prices }
     requires to { offer.to < length table.now.prices }
     requires cost { IsUpTo limits.cost offer.cost }
-    requires from_small { IsUpTo wide_limit (price_of table.now offer.from) }
-    requires to_small { IsUpTo wide_limit (price_of table.now offer.to) }
+    requires from_small { IsUpTo price_limit (price_of table.now offer.from) }
+    requires to_small { IsUpTo price_limit (price_of table.now offer.to) }
     ensures { result ≡ offer.cost -ℤ price_of table.now offer.from +ℤ price_of table.now offer.to }
 {
     i128::from(offer.cost) - table.get(offer.from) + table.get(offer.to)

@@ -2,9 +2,10 @@
 
 ghost use Rattle.std.specs.Prelude.{◌≡◌, ℕ, ◌+◌, ◌^◌, ◌<◌, ◌≤◌, List, drop, length, get_or, pos};
 ghost use Rattle.mcf_basis.specs.Private.Columns.{limit_of, priced_in, prices_in};
-ghost use Rattle.mcf_basis.specs.Private.Layouts.{narrow_limit, wide_limit};
+ghost use Rattle.mcf_basis.specs.Private.Layouts.{narrow_limit};
 ghost use Rattle.mcf_basis.specs.Private.Offered.{CanCompare, IsLeastOffer};
 ghost use Rattle.mcf_basis.specs.Private.Turned.{AreRaised, CanRaise};
+ghost use Rattle.mcf_basis.specs.Structures.{price_limit};
 
 use crate::least_offer::{least_narrow, least_wide};
 use crate::offer::Offer;
@@ -50,7 +51,7 @@ impl PriceTable {
 
     /// A table of prices that may need 128 bits.
     pub fn wide(prices: Vec<i128>) -> PriceTable
-        ensures { result ≡ record { prices = prices.items; priced = 0; limit = wide_limit } }
+        ensures { result ≡ record { prices = prices.items; priced = 0; limit = price_limit } }
     {
         PriceTable {
             column: PriceColumn::Wide(Column::new(prices)),

@@ -1,8 +1,9 @@
 //! The prices of a part of the tree.
 
 ghost use Rattle.std.specs.Prelude.{◌≡◌, ◌+◌, length, set, slice_index_or, pos, ◌+ℤ◌};
-ghost use Rattle.mcf_basis.specs.Private.Layouts.{narrow_limit, wide_limit};
+ghost use Rattle.mcf_basis.specs.Private.Layouts.{narrow_limit};
 ghost use Rattle.mcf_basis.specs.Private.Turned.{AreRaised, CanRaise, CanRaiseAt};
+ghost use Rattle.mcf_basis.specs.Structures.{price_limit};
 
 use mcf_counts::Column;
 use mcf_text::NodeId;
@@ -20,7 +21,7 @@ pub(crate) fn reprice_narrow(prices: &mut Column<i64>, part: &[NodeId], change: 
 
 /// Adds a change to the prices, in 128 bits, of listed nodes.
 pub(crate) fn reprice_wide(prices: &mut Column<i128>, part: &[NodeId], change: i128)
-    requires { CanRaise part.now change wide_limit prices.old.entries }
+    requires { CanRaise part.now change price_limit prices.old.entries }
     ensures prices { AreRaised part.now change prices.old.entries prices.new.entries }
     ensures counted { prices.new.written ≡ prices.old.written + length part.now }
 {
@@ -41,7 +42,7 @@ fn raise_narrow(prices: &mut Column<i64>, place: usize, change: i64)
 
 // Adds a change to the price, in 128 bits, at one place.
 fn raise_wide(prices: &mut Column<i128>, place: usize, change: i128)
-    requires { CanRaiseAt wide_limit change prices.old.entries place }
+    requires { CanRaiseAt price_limit change prices.old.entries place }
     ensures price { prices.new.entries ≡ set prices.old.entries place (slice_index_or prices.old.entries place (pos 0) +ℤ change) }
     ensures counted { prices.new.written ≡ prices.old.written + 1 }
 {

@@ -91,7 +91,7 @@ left_after g i v = at_node g.supplies v -ℤ net (take i g.arcs) (lows g.arcs) v
 pub left_small : (g : Network) (i v : ℕ) → IsWellFormed limits g → IsNode (node_count g) v → i ≤ length g.arcs → IsUpTo supply_limit (left_after g i v)
 left_small g i v ok hv h =
     let lows = net_up_to g.arcs (lows g.arcs) i v ok.within.arcs ok.arcs (lows_within g.arcs ok.within.arcs) h in
-    let supply : IsUpTo (10 ^ 18) (at_node g.supplies v) = ok.within.supplies (v - 1) (pos 0) (omega arith) in
+    let supply : IsUpTo limits.supply (at_node g.supplies v) = ok.within.supplies (v - 1) (pos 0) (omega arith) in
     omega (arith, ints, lows, supply)
 
 pub left_all : (g : Network) (v : ℕ) → left_after g (length g.arcs) v ≡ supply_left g v

@@ -18,7 +18,7 @@ use Rattle.mcf_instance.proofs.ArcSums.{flow_sum-set}
 use Rattle.mcf_instance.proofs.Bounds.{flow_sum_up_to, when_up_to}
 use Rattle.mcf_instance.proofs.NodeSums.{when-neg}
 use Rattle.mcf_network.specs.declared.rid.Rid.{Rid}
-use Rattle.mcf_network.specs.Nets.{IsNet, IsNetArc, width_limit}
+use Rattle.mcf_network.specs.Nets.{IsNet, IsNetArc, surplus_limit, width_limit}
 use Rattle.mcf_network.specs.Private.StoredAmounts.{HaveWidthsUpTo}
 use Rattle.mcf_network.specs.Residual.{no_arc, arc_at, tail, head}
 use Rattle.mcf_network.specs.States.{Pseudoflow, IsPseudoflow, KeepsSurplus, amount_at, pushed, room_of, surplus_at}
@@ -100,28 +100,28 @@ pushed_surplus s k false x ok h v = let e = net_changed s k x v ok h in omega (a
 abbrev Placed : Arc → ℤ → Type 0
 Placed a f = IsNetArc a × CanCarry a f
 
-placed_up_to : (b : Bool) (a : Arc) (f : ℤ) → Placed a f → IsUpTo (2 * 10 ^ 18) (when b f)
+placed_up_to : (b : Bool) (a : Arc) (f : ℤ) → Placed a f → IsUpTo width_limit (when b f)
 placed_up_to b a f h =
     let none = h.0.no_low in
     let wide = h.0.width_high in
-    when_up_to b (2 * 10 ^ 18) f (omega (arith, ints, none, wide, h.1))
+    when_up_to b width_limit f (omega (arith, ints, none, wide, h.1))
 
 -- the net of a node is small
 net_small : (s : Pseudoflow) (v : ℕ) → IsPseudoflow s → IsUpTo (4 * 10 ^ 25) (net s.net.arcs s.amounts v)
 net_small s v ok =
     let all = AllZip-with CanCarry IsNetArc s.net.arcs s.amounts ok.of_net.each_arc ok.within_bounds in
-    let out = rw (take-length s.net.arcs) at (flow_sum_up_to Placed (λ a f. when (eqb a.src v) f) (2 * 10 ^ 18)
+    let out = rw (take-length s.net.arcs) at (flow_sum_up_to Placed (λ a f. when (eqb a.src v) f) width_limit
     (λ a f. placed_up_to (eqb a.src v) a f) s.net.arcs s.amounts (length s.net.arcs) all) in
-    let into = rw (take-length s.net.arcs) at (flow_sum_up_to Placed (λ a f. when (eqb a.dst v) f) (2 * 10 ^ 18)
+    let into = rw (take-length s.net.arcs) at (flow_sum_up_to Placed (λ a f. when (eqb a.dst v) f) width_limit
     (λ a f. placed_up_to (eqb a.dst v) a f) s.net.arcs s.amounts (length s.net.arcs) all) in
     let count = ok.of_net.arcs in
     omega (arith, ints, out, into, count)
 
-pub surplus_small : (s : Pseudoflow) (v : ℕ) → IsPseudoflow s → IsNode (node_count s.net) v → IsUpTo (2 * 10 ^ 26) (surplus_at s v)
+pub surplus_small : (s : Pseudoflow) (v : ℕ) → IsPseudoflow s → IsNode (node_count s.net) v → IsUpTo surplus_limit (surplus_at s v)
 surplus_small s v ok h =
     omega (arith, ints, net_small s v ok, supply_at s.net v ok.of_net h)
 
-pub kept_small : (s : Pseudoflow) (kept : List ℤ) (v : ℕ) → KeepsSurplus s kept → IsNode (length kept) v → IsUpTo (2 * 10 ^ 26) (at_node kept v)
+pub kept_small : (s : Pseudoflow) (kept : List ℤ) (v : ℕ) → KeepsSurplus s kept → IsNode (length kept) v → IsUpTo surplus_limit (at_node kept v)
 kept_small s kept v ok h =
     let l : IsNode (node_count s.net) v = omega (arith, ok.count) in
     rw (ok.each v l) (surplus_small s v ok.flow l)
@@ -248,7 +248,7 @@ push_fits s g amounts limit r x a w i view ok fit ei h low high ea ew =
 -- a kept surplus, as a read gives it
 pub record IsReadSurplus (s : Pseudoflow) (v : ℕ) (x : ℤ) : Type 0 where
   pub is : x ≡ surplus_at s v
-  pub small : IsUpTo (2 * 10 ^ 26) x
+  pub small : IsUpTo surplus_limit x
   pub flow : IsPseudoflow s
 
 pub read_surplus : (s : Pseudoflow) (g : Network) (amounts kept : List ℤ) (v : ℕ) (x : ℤ) → record { net = g; amounts = amounts } ≡ s

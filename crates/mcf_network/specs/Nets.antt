@@ -16,6 +16,10 @@ width_limit = 2 * 10 ^ 18
 abbrev pub supply_limit : ℕ
 supply_limit = 10 ^ 26
 
+-- the greatest size of what a node has left to send: its supply, and what its arcs carry
+abbrev pub surplus_limit : ℕ
+surplus_limit = 2 * 10 ^ 26
+
 -- the greatest total over the arcs of the size of the cost times the width
 abbrev pub net_total_limit : ℕ
 net_total_limit = 2 * 10 ^ 36

@@ -2,7 +2,7 @@
 ghost use Rattle.std.specs.Prelude.{◌≡◌, ◌+ℤ◌, ◌-ℤ◌, ◌*◌, ◌^◌, ◌≤◌, ◌≤ℤ◌, IfOk, OnErr, if◌then◌else◌, length, pos, replicate};
 ghost use Rattle.mcf_instance.specs.Network.{IsArcNumber, IsNode, node_count};
 ghost use Rattle.mcf_instance.specs.WellFormed.{IsUpTo};
-ghost use Rattle.mcf_network.specs.Nets.{width_limit};
+ghost use Rattle.mcf_network.specs.Nets.{surplus_limit, width_limit};
 ghost use Rattle.mcf_network.specs.Residual.{arc_at, head, tail};
 ghost use Rattle.mcf_network.specs.States.{IsPseudoflow, MovesSurplus, amount_at, pushed, room_of, surplus_at};
 
@@ -80,7 +80,7 @@ impl<'n> State<'n> {
     pub fn surplus(&self, v: NodeId) -> i128
         requires { IsNode (node_count self.now.net) v }
         ensures value { result ≡ surplus_at self.now v }
-        ensures small { IsUpTo (2 * 10 ^ 26) result }
+        ensures small { IsUpTo surplus_limit result }
         ensures valid { IsPseudoflow self.now }
     {
         self.surpluses[v.place()]

@@ -19,7 +19,7 @@ use Rattle.mcf_basis.specs.Bases.{IsBasis}
 use Rattle.mcf_basis.specs.Laws.{HasNoArtificial}
 use Rattle.mcf_basis.specs.Ranks.{IsBounded}
 use Rattle.mcf_basis.specs.Starts.{IsStart}
-use Rattle.mcf_basis.specs.Structures.{TreeStructure, state_of}
+use Rattle.mcf_basis.specs.Structures.{TreeStructure, state_of, price_limit}
 use Rattle.mcf_basis.specs.Violations.{HasNoEligible}
 use Rattle.mcf_basis.proofs.LastBases.{last_bases_are_shown_lem}
 use Rattle.mcf_simplex.specs.Private.Loops.{IsLoop}
@@ -51,10 +51,10 @@ module _ (b : TreeStructure) (ok : IsBasis b) (last : HasNoEligible b) where
           least = shown_flows_are_least_lem b.net (drop 1 b.prices) (state_of b).amounts ok.of_net.ends shown.0 shown.1;
         }
 
-    near_at : length (drop 1 b.prices) ≡ node_count b.net → All (IsUpTo (3 * 10 ^ 36)) (drop 1 b.prices) → AreNearPrices (state_of b) 1 0 (drop 1 b.prices)
+    near_at : length (drop 1 b.prices) ≡ node_count b.net → All (IsUpTo price_limit) (drop 1 b.prices) → AreNearPrices (state_of b) 1 0 (drop 1 b.prices)
     near_at count small =
         let near : All (IsUpTo near_limit) (drop 1 b.prices) =
-        All-weaker (IsUpTo (3 * 10 ^ 36)) (IsUpTo near_limit) (λ y h. (let low = h.0 in let high = h.1 in
+        All-weaker (IsUpTo price_limit) (IsUpTo near_limit) (λ y h. (let low = h.0 in let high = h.1 in
         (omega (arith, ints, low), omega (arith, ints, high))))
         (drop 1 b.prices) small in
         shown_near (state_of b) (drop 1 b.prices) own_flow count near (last_bases_are_shown_lem b ok last clear).1
@@ -63,10 +63,10 @@ module _ (b : TreeStructure) (ok : IsBasis b) (last : HasNoEligible b) where
     last_least s e = subst (λ (x : Pseudoflow). IsLeastState b.net x) (sym e) least_at
 
     pub last_near : (s : Pseudoflow) (ys : List ℤ) → s ≡ state_of b → ys ≡ drop 1 b.prices → length ys ≡ node_count b.net
-        → All (IsUpTo (3 * 10 ^ 36)) ys → AreNearPrices s 1 0 ys
+        → All (IsUpTo price_limit) ys → AreNearPrices s 1 0 ys
     last_near s ys e f count small =
         let here : AreNearPrices (state_of b) 1 0 (drop 1 b.prices) =
-        near_at (ap (λ (l : List ℤ). length l) (sym f) ∙ count) (subst (λ (l : List ℤ). All (IsUpTo (3 * 10 ^ 36)) l) f small) in
+        near_at (ap (λ (l : List ℤ). length l) (sym f) ∙ count) (subst (λ (l : List ℤ). All (IsUpTo price_limit) l) f small) in
         subst (λ (l : List ℤ). AreNearPrices s 1 0 l) (sym f) (subst (λ (x : Pseudoflow). AreNearPrices x 1 0 (drop 1 b.prices)) (sym e) here)
 
 -- ---- how the state was made

@@ -1,14 +1,14 @@
 use Rattle.std.proofs.Common.{◌+◌, arith, refl}
 use Rattle.std.proofs.lemmas.Int.{ints}
-use Rattle.mcf_basis.specs.Private.Layouts.{wide_limit}
 use Rattle.mcf_basis.specs.Private.Offered.{reduced_of}
 use Rattle.mcf_basis.proofs.LeastOffers.{read_at, so_far-is, so_far-less, so_far-same}
 use Rattle.mcf_basis.proofs.least_offer.least_wide.Goals.{then-value-least, else-value-least}
 use Rattle.mcf_basis.proofs.least_offer.least_wide.Goals as goal
+use Rattle.mcf_basis.specs.Structures.{price_limit}
 
 pub overflow_add-value : goal.overflow_add-value
 overflow_add-value c =
-    let r = read_at c.args.prices.now wide_limit c.args.offers.now c.args.begin c.args.end c.offers.i c.requires c.offers.auto.i c.offers-test.true in
+    let r = read_at c.args.prices.now price_limit c.args.offers.now c.args.begin c.args.end c.offers.i c.requires c.offers.auto.i c.offers-test.true in
     let cost = r.ends.cost in
     let from = r.from_small in
     let to = r.to_small in
@@ -19,7 +19,7 @@ pub offers-preserved : goal.offers-preserved
 offers-preserved c =
     let prices = c.args.prices.now in
     let offers = c.args.offers.now in
-    let r = read_at prices wide_limit offers c.args.begin c.args.end c.offers.i c.requires c.offers.auto.i c.offers-test.true in
+    let r = read_at prices price_limit offers c.args.begin c.args.end c.offers.i c.requires c.offers.auto.i c.offers-test.true in
     let cost = r.ends.cost in
     let from = r.from_small in
     let to = r.to_small in

@@ -4,6 +4,7 @@ use Rattle.mcf_instance.specs.WellFormed.{IsUpTo}
 use Rattle.mcf_basis.specs.Private.Layouts.{Layout}
 use Rattle.mcf_basis.proofs.Endings.{read_prices}
 use Rattle.mcf_basis.proofs.basis.Basis.write_prices.Goals as goal
+use Rattle.mcf_basis.specs.Structures.{price_limit}
 
 pub write_nodes-requires : goal.write_nodes-requires
 write_nodes-requires c =
@@ -48,4 +49,4 @@ returns-clause-small c =
       pivots = c.self.inside.pivots.number;
     } in
     let p = read_prices l c.args.self.now c.self.view_is c.self.invariant in
-    subst (All (IsUpTo (3 * 10 ^ 36))) (sym (c.write_nodes.ensures ∙ p.value)) p.small
+    subst (All (IsUpTo price_limit)) (sym (c.write_nodes.ensures ∙ p.value)) p.small
