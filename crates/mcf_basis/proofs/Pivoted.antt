@@ -1,7 +1,8 @@
 -- One pivot, from what its parts leave.
-use Rattle.std.proofs.Common.{◌≡◌, ℕ, ◌+◌, ◌<◌, ◌≤◌, Bool, true, false, List, length, refl, sym, ap, ◌∙◌, arith, subst, ℤ, pos, ◌+ℤ◌, ◌-ℤ◌, ◌≤ℤ◌}
+use Rattle.std.proofs.Common.{◌≡◌, ◌≢◌, ℕ, ◌+◌, ◌-◌, get_or, ◌<◌, ◌≤◌, List, length, refl, sym, ap, ◌∙◌, arith, subst, ℤ, pos, ◌+ℤ◌, ◌-ℤ◌, ◌≤ℤ◌}
 use Rattle.std.specs.Prelude.{unsigned_abs}
 use Rattle.std.proofs.lemmas.Int.{ints}
+use Rattle.std.proofs.lemmas.List.{get_or_default}
 use Rattle.mcf_instance.specs.Limits.{limits}
 use Rattle.mcf_instance.specs.WellFormed.{IsUpTo}
 use Rattle.mcf_instance.specs.Network.{Network, IsArcNumber, node_count}
@@ -12,19 +13,20 @@ use Rattle.mcf_network.proofs.ArcLaws.{net_arc_at}
 use Rattle.mcf_tree.specs.Apex.{IsApex}
 use Rattle.mcf_tree.specs.SpanningTree.{SpanningTree, depth_of, size_of}
 use Rattle.mcf_basis.specs.declared.climb.Climb.{Climb}
-use Rattle.mcf_basis.specs.declared.leaving_arc.Leaving.TheVariants.{Entering, Down, Up}
+use Rattle.mcf_basis.specs.declared.cycle.Cycle.{Cycle}
+use Rattle.mcf_basis.specs.declared.cycle.Leaving.{Leaving}
+use Rattle.mcf_basis.specs.declared.cycle.Leaving.TheVariants.{Entering}
 use Rattle.mcf_basis.specs.declared.offer.Offer.{Offer}
-use Rattle.mcf_basis.specs.declared.pivot.Found.{Found}
-use Rattle.mcf_basis.specs.declared.push.Round.{Round}
 use Rattle.mcf_basis.specs.declared.rooms.Rooms.{Rooms}
 use Rattle.mcf_basis.specs.Bases.{IsBasis}
 use Rattle.mcf_basis.specs.Pivots.{IsEligible, IsPivot, PairFalls, entering}
-use Rattle.mcf_basis.specs.Private.Climbs.{CanReplace, IsClimb, IsFound, IsReplaced, laid}
-use Rattle.mcf_basis.specs.Private.Climbs.IsReplaced.{at_once, down, up}
-use Rattle.mcf_basis.specs.Private.Layouts.{Layout, IsLaidOut, Prices, basis_in, offer_at}
-use Rattle.mcf_basis.specs.Private.Turned.{CanExchange, CanPush, IsExchangedBy, IsPushedRound, price_of}
+use Rattle.mcf_basis.specs.Private.Climbs.{CanReplace, IsChosen, IsClimb, IsReplaced, laid}
+use Rattle.mcf_basis.specs.Private.Climbs.IsChosen.{down_leaves, entering_leaves, up_leaves}
+use Rattle.mcf_basis.specs.Private.Climbs.IsReplaced.{at_once, exchanged}
+use Rattle.mcf_basis.specs.Private.Layouts.{Layout, IsLaidOut, Prices, basis_in, no_offer, offer_at}
+use Rattle.mcf_basis.specs.Private.Turned.{CanPush, IsExchangedBy, IsPushedRound, is_left, offers_kept, price_of}
 use Rattle.mcf_basis.specs.Structures.{TreeStructure, CanTake, price_limit}
-use Rattle.mcf_basis.proofs.Around.{CanGoRound, IsAround, IsLeaving, WentRound, down_arc, from_of, to_of, up_arc}
+use Rattle.mcf_basis.proofs.Around.{CanGoRound, IsAround, IsLeaving, WentRound, from_of, to_of}
 use Rattle.mcf_basis.proofs.Around.IsLeaving.{right as leaves_right, enter as leaves_at_once, left as leaves_left}
 use Rattle.mcf_basis.proofs.Climbed.{chosen_down, chosen_leaves, chosen_round, chosen_up, leaves_by}
 use Rattle.mcf_basis.proofs.CyclePlaces.{last_of_leaving}
@@ -39,15 +41,15 @@ use Rattle.mcf_basis.proofs.TurnedLayout.{IsOut, IsPivotedLayout, can_exchange, 
 use Rattle.mcf_basis.proofs.TurnedStart.{can_push, offer_ends}
 
 -- what was found goes round the cycle of arc k
-pub record IsRoundOf (l : Layout) (k : ℕ) (f : Found) : Type 0 where
+pub record IsRoundOf (l : Layout) (k : ℕ) (f : Cycle) : Type 0 where
+  pub same_arc : f.arc ≡ k
   pub same_from : f.from ≡ from_of (basis_in l) k
   pub same_to : f.to ≡ to_of (basis_in l) k
   pub is_apex : IsApex (basis_in l).tree.parents (depth_of (basis_in l).tree) (from_of (basis_in l) k) (to_of (basis_in l) k) f.apex
   pub is_around : IsAround (basis_in l) k f.apex
   pub can : CanGoRound (basis_in l) k f.apex (pos f.amount)
   pub leaves : IsLeaving (basis_in l) k f.apex (pos f.amount) (leaves_by (basis_in l) k f.leaving f.out)
-  pub left_out : f.leaving ≡ Down → IsOut (basis_in l) k f.apex (pos f.amount) (down_arc (basis_in l) f.out) f.out true
-  pub right_out : f.leaving ≡ Up → IsOut (basis_in l) k f.apex (pos f.amount) (up_arc (basis_in l) f.out) f.out false
+  pub is_out : f.leaving ≢ Entering → IsOut (basis_in l) k f.apex (pos f.amount) (leaves_by (basis_in l) k f.leaving f.out) f.out (is_left f.leaving)
 
 leaving_blocks : (b : TreeStructure) (k apex : ℕ) (x : ℤ) (r : Rid) → IsLeaving b k apex x r → ¬ CanTake b r (x +ℤ pos 1)
 leaving_blocks b k apex x r (leaves_right m short is full rest) = full
@@ -95,30 +97,50 @@ module _ (l : Layout) (k : ℕ) (ok : IsLaidOut l) (el : IsEligible (basis_in l)
       let far : o.to ≡ to_of (basis_in l) k = ap (λ x. x.to) is ∙ ends.1 in
       subst (λ v. IsClimb l.tree l.rooms (from_of (basis_in l) k) v c) far (subst (λ u. IsClimb l.tree l.rooms u o.to c) near h)
 
-  pub round_found : (o : Offer) (f : Found) → o ≡ offer_at l k →
-      IsFound l.tree l.rooms o.from o.to (unsigned_abs (arc_at l.net k).cap) f → IsRoundOf l k f
+  -- the arc that leaves, where it isn't the entering one, stands at a place of its side
+  out_of : (c : Climb) → IsClimb l.tree l.rooms (from_of (basis_in l) k) (to_of (basis_in l) k) c → (amount : ℕ) (leaving : Leaving) (out : ℕ) →
+      IsChosen c (unsigned_abs (arc_at l.net k).cap) amount leaving out → leaving ≢ Entering →
+      IsOut (basis_in l) k c.apex (pos amount) (leaves_by (basis_in l) k leaving out) out (is_left leaving)
+  out_of c climbed amount leaving out (up_leaves q n e w d) other =
+      rw q (let o = chosen_up l k (unsigned_abs (arc_at l.net k).cap) c ok el wide climbed amount leaving out (up_leaves q n e w d) q in
+      out_right o.place o.short o.at refl o.full)
+  out_of c climbed amount leaving out (entering_leaves q e u d) other = absurd (other q)
+  out_of c climbed amount leaving out (down_leaves q n e w u) other =
+      rw q (let o = chosen_down l k (unsigned_abs (arc_at l.net k).cap) c ok el wide climbed amount leaving out (down_leaves q n e w u) q in
+      out_left o.place o.short o.at refl o.full)
+
+  -- the cycle of a climb from the ends of the offer
+  pub cycle_found : (o : Offer) (f : Cycle) (c : Climb) (rooms : List Rooms) (width : ℕ) → o ≡ offer_at l k → rooms ≡ l.rooms →
+      width ≡ unsigned_abs (arc_at l.net k).cap → IsClimb l.tree rooms o.from o.to c → f.arc ≡ k → f.from ≡ o.from → f.to ≡ o.to → f.apex ≡ c.apex →
+      IsChosen c width f.amount f.leaving f.out → IsRoundOf l k f
   unfolding basis_in
-  round_found o f is h =
+  cycle_found o f c rooms width is same_rooms same_width climb arc from to apex chosen =
       let ends = offer_ends l k ok el in
-      let c : Climb = h.climb in
-      let climbed = found_climb o c is h.climbed in
-      let width = unsigned_abs (arc_at l.net k).cap in
-      let turned : c.apex ≡ f.apex = sym h.same_apex in
+      let climbed = found_climb o c is (subst (λ r. IsClimb l.tree r o.from o.to c) same_rooms climb) in
+      let w = unsigned_abs (arc_at l.net k).cap in
+      let h : IsChosen c w f.amount f.leaving f.out = subst (λ x. IsChosen c x f.amount f.leaving f.out) same_width chosen in
+      let turned : c.apex ≡ f.apex = sym apex in
       let is_apex : IsApex l.tree.parents (depth_of l.tree) (from_of (basis_in l) k) (to_of (basis_in l) k) f.apex =
       subst (λ a. IsApex l.tree.parents (depth_of l.tree) (from_of (basis_in l) k) (to_of (basis_in l) k) a) turned climbed.apex in
       record {
-        same_from = h.same_from ∙ (ap (λ x. x.from) is ∙ ends.0);
-        same_to = h.same_to ∙ (ap (λ x. x.to) is ∙ ends.1);
+        same_arc = arc;
+        same_from = from ∙ (ap (λ x. x.from) is ∙ ends.0);
+        same_to = to ∙ (ap (λ x. x.to) is ∙ ends.1);
         is_apex = is_apex;
         is_around = around (basis_in l) k f.apex ok.basis el is_apex;
-        can = subst (λ a. CanGoRound (basis_in l) k a (pos f.amount)) turned (chosen_round l k width c ok el wide climbed f.amount f.leaving f.out h.chosen);
+        can = subst (λ a. CanGoRound (basis_in l) k a (pos f.amount)) turned (chosen_round l k w c ok el wide climbed f.amount f.leaving f.out h);
         leaves = subst (λ a. IsLeaving (basis_in l) k a (pos f.amount) (leaves_by (basis_in l) k f.leaving f.out)) turned
-            (chosen_leaves l k width c ok el wide climbed f.amount f.leaving f.out h.chosen);
-        left_out = λ e. subst (λ a. IsOut (basis_in l) k a (pos f.amount) (down_arc (basis_in l) f.out) f.out true) turned
-            (let out = chosen_down l k width c ok el wide climbed f.amount f.leaving f.out h.chosen e in out_left out.place out.short out.at refl out.full);
-        right_out = λ e. subst (λ a. IsOut (basis_in l) k a (pos f.amount) (up_arc (basis_in l) f.out) f.out false) turned
-            (let out = chosen_up l k width c ok el wide climbed f.amount f.leaving f.out h.chosen e in out_right out.place out.short out.at refl out.full);
+            (chosen_leaves l k w c ok el wide climbed f.amount f.leaving f.out h);
+        is_out = λ other. subst (λ a. IsOut (basis_in l) k a (pos f.amount) (leaves_by (basis_in l) k f.leaving f.out) f.out (is_left f.leaving)) turned
+            (out_of c climbed f.amount f.leaving f.out h other);
       }
+
+  -- the offer, as it is read
+  pub offer_read : (o : Offer) (i : ℕ) → i ≡ k - 1 → o ≡ get_or l.offers i o → o ≡ offer_at l k
+  offer_read o i at is =
+      let n = number in
+      let size = ok.offers_size in
+      is ∙ (get_or_default l.offers i o no_offer (omega (arith, at, n, size)) ∙ ap (λ j. get_or l.offers j no_offer) at)
 
   pub rooms_sized : length l.rooms ≡ size_of l.tree
   unfolding basis_in
@@ -161,39 +183,31 @@ module _ (l : Layout) (k : ℕ) (ok : IsLaidOut l) (el : IsEligible (basis_in l)
     unfolding basis_in
     reduced_is = rw is refl
 
-  module _ (f : Found) (round : IsRoundOf l k f) where
+  module _ (f : Cycle) (round : IsRoundOf l k f) where
     -- what push asks for
-    push_ready : CanPush l.net l.tree l.rooms l.artificial f.from f.to f.apex f.amount
+    pub push_ready : CanPush l.net l.tree l.rooms l.artificial f.from f.to f.apex f.amount
     push_ready = rw (round.same_from, round.same_to) (can_push l k f.apex f.amount ok el round.is_apex round.is_around round.can)
 
-    pub push_asked : (r : Round) → r ≡ record { from = f.from; to = f.to; apex = f.apex; amount = f.amount }
-        → CanPush l.net l.tree l.rooms l.artificial r.from r.to r.apex r.amount
-    push_asked r is = rw is push_ready
-
-    exchange_ready : (rooms : List Rooms) (left : Bool) (r : Rid) → length rooms ≡ length l.rooms → IsOut (basis_in l) k f.apex (pos f.amount) r f.out left →
-        CanExchange l.net l.tree l.offers rooms l.table k f.out f.from f.to left f.amount (offered (basis_in l) (offer_at l k))
-    exchange_ready rooms left r size out =
-        rw (round.same_from, round.same_to) (can_exchange l k f.apex f.amount f.out left r rooms ok el round.is_around round.can out size)
-
     -- what the exchange asks for
-    pub replace_ready : (rooms : List Rooms) (reduced : ℤ) → length rooms ≡ length l.rooms → reduced ≡ offered (basis_in l) (offer_at l k) →
-        CanReplace l.net l.tree l.offers rooms l.table k reduced f
-    replace_ready rooms reduced size is = rw is (record {
-      at_once = λ e. keep_premises;
-      down = λ e. exchange_ready rooms true (down_arc (basis_in l) f.out) size (round.left_out e);
-      up = λ e. exchange_ready rooms false (up_arc (basis_in l) f.out) size (round.right_out e);
-    })
+    pub replace_ready : (rooms : List Rooms) → length rooms ≡ length l.rooms → f.reduced ≡ offered (basis_in l) (offer_at l k) →
+        CanReplace l.net l.tree l.offers rooms l.table f
+    replace_ready rooms size is = record {
+      at_once = λ e. rw round.same_arc keep_premises;
+      exchanged = λ other. rw (round.same_arc, round.same_from, round.same_to, is)
+          (can_exchange l k f.apex f.amount f.out (is_left f.leaving) (leaves_by (basis_in l) k f.leaving f.out) rooms ok el round.is_around round.can
+          (round.is_out other) size);
+    }
 
     went : WentRound (basis_in l) k f.apex (pos f.amount)
     went = went_round (basis_in l) k f.apex (pos f.amount) is_basis el round.is_around (omega (arith, ints))
 
     -- what the parts leave
-    replaced : (t' : SpanningTree) (offers : List Offer) (rooms rooms' : List Rooms) (artificial : List ℤ) (table' : Prices)
-        (reduced : ℤ) → reduced ≡ offered (basis_in l) (offer_at l k) →
+    replaced : (t' : SpanningTree) (offers : List Offer) (rooms rooms' : List Rooms) (artificial : List ℤ) (table' : Prices) →
+        f.reduced ≡ offered (basis_in l) (offer_at l k) →
         IsPushedRound l.net l.tree l.rooms rooms l.artificial artificial f.from f.to f.apex f.amount →
-        IsReplaced l.net l.tree t' l.offers offers rooms rooms' l.table table' k reduced f →
+        IsReplaced l.net l.tree t' l.offers offers rooms rooms' l.table table' f →
         IsPivotedLayout l (next_layout l t' offers rooms' artificial table') k f.apex (pos f.amount) (leaves_by (basis_in l) k f.leaving f.out)
-    replaced t' offers rooms rooms' artificial table' reduced is pushed done =
+    replaced t' offers rooms rooms' artificial table' is pushed done =
         by_case done
       where
         pushed_round : IsPushedRound l.net l.tree l.rooms rooms l.artificial artificial (from_of (basis_in l) k) (to_of (basis_in l) k) f.apex f.amount
@@ -201,35 +215,24 @@ module _ (l : Layout) (k : ℕ) (ok : IsLaidOut l) (el : IsEligible (basis_in l)
             subst (λ v. IsPushedRound l.net l.tree l.rooms rooms l.artificial artificial (from_of (basis_in l) k) v f.apex f.amount) round.same_to
             (subst (λ u. IsPushedRound l.net l.tree l.rooms rooms l.artificial artificial u f.to f.apex f.amount) round.same_from pushed)
 
-        exchanged_ends : (left : Bool) → IsExchangedBy l.net l.tree t' l.offers offers rooms rooms' l.table table' k f.out f.from f.to left f.amount reduced →
+        exchanged_ends : IsExchangedBy l.net l.tree t' l.offers offers rooms rooms' l.table table' f.arc f.out f.from f.to (is_left f.leaving) f.amount f.reduced →
             IsExchangedBy l.net l.tree t' l.offers offers rooms rooms' l.table table' k f.out (from_of (basis_in l) k)
-            (to_of (basis_in l) k) left f.amount (offered (basis_in l) (offer_at l k))
-        exchanged_ends left h =
-            subst (λ v. IsExchangedBy l.net l.tree t' l.offers offers rooms rooms' l.table table' k f.out
-            (from_of (basis_in l) k) v left f.amount (offered (basis_in l) (offer_at l k))) round.same_to
-            (subst (λ u. IsExchangedBy l.net l.tree t' l.offers offers rooms rooms' l.table table' k f.out u f.to left
-            f.amount (offered (basis_in l) (offer_at l k))) round.same_from
-            (subst (λ z. IsExchangedBy l.net l.tree t' l.offers offers rooms rooms' l.table table' k f.out f.from f.to left f.amount z) is h))
-
-        by_exchange : (left : Bool) (r : Rid) → IsOut (basis_in l) k f.apex (pos f.amount) r f.out left →
-            IsExchangedBy l.net l.tree t' l.offers offers rooms rooms' l.table table' k f.out f.from f.to left f.amount reduced →
-            IsPivotedLayout l (next_layout l t' offers rooms' artificial table') k f.apex (pos f.amount) r
-        by_exchange left r out h =
-            exchanged_layout l k f.apex f.amount f.out left r t' offers rooms rooms' artificial table' ok el round.is_apex round.is_around round.can
-            out went pushed_round (exchanged_ends left h)
+            (to_of (basis_in l) k) (is_left f.leaving) f.amount (offered (basis_in l) (offer_at l k))
+        exchanged_ends h = rw (round.same_arc, round.same_from, round.same_to, is) at h
 
         blocks_at_once : f.leaving ≡ Entering → ¬ CanTake (basis_in l) (entering (basis_in l) k) (pos f.amount +ℤ pos 1)
         blocks_at_once e = leaving_blocks (basis_in l) k f.apex (pos f.amount) (entering (basis_in l) k)
             (subst (λ w. IsLeaving (basis_in l) k f.apex (pos f.amount) (leaves_by (basis_in l) k w f.out)) e round.leaves)
 
-        by_case : IsReplaced l.net l.tree t' l.offers offers rooms rooms' l.table table' k reduced f →
+        by_case : IsReplaced l.net l.tree t' l.offers offers rooms rooms' l.table table' f →
             IsPivotedLayout l (next_layout l t' offers rooms' artificial table') k f.apex (pos f.amount) (leaves_by (basis_in l) k f.leaving f.out)
         by_case (at_once e tree turned same prices) =
             rw (e, tree, same, prices)
             (kept_layout l k f.apex f.amount offers rooms artificial ok el round.is_apex round.is_around round.can (blocks_at_once e) went
-            pushed_round turned)
-        by_case (down e h) = rw e (by_exchange true (down_arc (basis_in l) f.out) (round.left_out e) h)
-        by_case (up e h) = rw e (by_exchange false (up_arc (basis_in l) f.out) (round.right_out e) h)
+            pushed_round (turned ∙ ap (λ a. offers_kept a l.offers) round.same_arc))
+        by_case (exchanged other h) =
+            exchanged_layout l k f.apex f.amount f.out (is_left f.leaving) (leaves_by (basis_in l) k f.leaving f.out) t' offers rooms rooms' artificial table' ok el
+            round.is_apex round.is_around round.can (round.is_out other) went pushed_round (exchanged_ends h)
 
     pub pivoted : (l' : Layout) → IsPivotedLayout l l' k f.apex (pos f.amount) (leaves_by (basis_in l) k f.leaving f.out) → IsTurnedTo l l' k f.amount
     pivoted l' h =
@@ -252,19 +255,24 @@ module _ (l : Layout) (k : ℕ) (ok : IsLaidOut l) (el : IsEligible (basis_in l)
           falls = pivots_lower_the_pair_lem (basis_in l) (basis_in l') k (pos f.amount) is_basis pivot;
         }
 
-    pub turned : (t' : SpanningTree) (offers : List Offer) (rooms rooms' : List Rooms) (artificial : List ℤ) (table' : Prices) (pivots : ℕ)
-        (reduced : ℤ) (r : Round) → pivots ≡ l.pivots + 1 → reduced ≡ offered (basis_in l) (offer_at l k) →
-        r ≡ record { from = f.from; to = f.to; apex = f.apex; amount = f.amount } →
-        IsPushedRound l.net l.tree l.rooms rooms l.artificial artificial r.from r.to r.apex r.amount →
-        IsReplaced l.net l.tree t' l.offers offers rooms rooms' l.table table' k reduced f →
+    pub turned : (t' : SpanningTree) (offers : List Offer) (rooms rooms' : List Rooms) (artificial : List ℤ) (table' : Prices) (pivots : ℕ) →
+        pivots ≡ l.pivots + 1 → f.reduced ≡ offered (basis_in l) (offer_at l k) →
+        IsPushedRound l.net l.tree l.rooms rooms l.artificial artificial f.from f.to f.apex f.amount →
+        IsReplaced l.net l.tree t' l.offers offers rooms rooms' l.table table' f →
         IsTurnedTo l (laid l.net t' offers rooms' artificial table' pivots) k f.amount
-    turned t' offers rooms rooms' artificial table' pivots reduced r one_more is same pushed done =
+    turned t' offers rooms rooms' artificial table' pivots one_more is pushed done =
         subst (λ n. IsTurnedTo l (laid l.net t' offers rooms' artificial table' n) k f.amount) (sym one_more)
-        (pivoted (next_layout l t' offers rooms' artificial table')
-        (replaced t' offers rooms rooms' artificial table' reduced is
-        (subst (λ (q : Round). IsPushedRound l.net l.tree l.rooms rooms l.artificial artificial q.from q.to q.apex q.amount) same pushed) done))
+        (pivoted (next_layout l t' offers rooms' artificial table') (replaced t' offers rooms rooms' artificial table' is pushed done))
 
 -- the same of lists and numbers that are equal
+pub same_laid_out : (g : Network) (t : SpanningTree) (offers offers' : List Offer) (rooms rooms' : List Rooms) (artificial artificial' : List ℤ)
+    (table : Prices) (pivots : ℕ) → offers' ≡ offers → rooms' ≡ rooms → artificial' ≡ artificial →
+    IsLaidOut (laid g t offers rooms artificial table pivots) → IsLaidOut (laid g t offers' rooms' artificial' table pivots)
+same_laid_out g t offers offers' rooms rooms' artificial artificial' table pivots same_offers same_rooms same_artificial h =
+    subst (λ o. IsLaidOut (laid g t o rooms' artificial' table pivots)) (sym same_offers)
+    (subst (λ r. IsLaidOut (laid g t offers r artificial' table pivots)) (sym same_rooms)
+    (subst (λ a. IsLaidOut (laid g t offers rooms a table pivots)) (sym same_artificial) h))
+
 pub same_pivot : (b : TreeStructure) (l : Layout) (g : Network) (t : SpanningTree) (offers offers' : List Offer) (rooms rooms' : List Rooms)
     (artificial artificial' : List ℤ) (table : Prices) (pivots k x : ℕ) (moved : ℤ) → basis_in l ≡ b → offers' ≡ offers → rooms' ≡ rooms →
     artificial' ≡ artificial → moved ≡ pos x →

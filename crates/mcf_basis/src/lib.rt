@@ -10,11 +10,11 @@
 
 mod basis;
 mod climb;
+mod cycle;
 mod ending;
 mod exchange;
 mod laws;
 mod least_offer;
-mod leaving_arc;
 mod offer;
 mod pivot;
 mod price_table;

@@ -8,21 +8,19 @@ ghost use Rattle.mcf_tree.specs.SpanningTree.{size_of};
 ghost use Rattle.mcf_basis.specs.declared.pivot.Step.TheVariants.{Moved, Still};
 ghost use Rattle.mcf_basis.specs.Bases.{IsBasis};
 ghost use Rattle.mcf_basis.specs.Pivots.{IsEligible, IsPivot, PairFalls};
-ghost use Rattle.mcf_basis.specs.Private.Climbs.{CanReplace, IsFound, IsReplaced, laid};
-ghost use Rattle.mcf_basis.specs.Private.Layouts.{IsLaidOut, basis_in};
+ghost use Rattle.mcf_basis.specs.Private.Climbs.{CanReplace, IsReplaced};
 ghost use Rattle.mcf_basis.specs.Private.Turned.{price_of};
 ghost use Rattle.mcf_basis.specs.Steps.{moved_by};
 ghost use Rattle.mcf_basis.specs.Structures.{price_limit};
 
 use crate::basis::Basis;
 use crate::climb::Climb;
-use crate::exchange::{Turn, exchange, keep};
-use crate::leaving_arc::Leaving;
+use crate::cycle::{Cycle, Leaving};
+use crate::exchange::{exchange, keep};
 use crate::offer::Offer;
 use crate::price_table::PriceTable;
-use crate::push::{Round, push};
+use crate::push::push;
 use crate::rooms::Rooms;
-use mcf_counts::Count;
 use mcf_network::Net;
 use mcf_text::{ArcId, NodeId};
 use mcf_tree::Tree;
@@ -50,17 +48,27 @@ impl<'n> Basis<'n> {
         ensures basis { IsBasis self.new }
         ensures falls { PairFalls self.old self.new }
     {
-        let amount = turn(
+        self.pivots.add_one();
+        let offer = self.offers[k.place()];
+        let reduced = reduced_of(&self.table, offer);
+        let climb = Climb::of(&self.tree, &self.rooms, offer.from, offer.to);
+        let cycle = climb.cycle(k, self.net.width(k) as u64, reduced, offer);
+        push(
+            self.net,
+            &self.tree,
+            &mut self.rooms,
+            &mut self.artificial,
+            &cycle,
+        );
+        replace(
             self.net,
             &mut self.tree,
             &mut self.offers,
             &mut self.rooms,
-            &mut self.artificial,
             &mut self.table,
-            &mut self.pivots,
-            k,
+            &cycle,
         );
-        step_of(amount)
+        step_of(cycle.amount)
     }
 }
 
@@ -73,78 +81,6 @@ fn step_of(amount: u64) -> Step
         Step::Moved(i128::from(amount))
     } else {
         Step::Still
-    }
-}
-
-// A pivot by the parts of a basis, and the amount that moved.
-fn turn(
-    net: &Net,
-    tree: &mut Tree,
-    offers: &mut [Offer],
-    rooms: &mut [Rooms],
-    artificial: &mut [i128],
-    table: &mut PriceTable,
-    pivots: &mut Count,
-    k: ArcId,
-) -> u64
-    requires laid_out { IsLaidOut (laid net.now tree.old offers.old rooms.old artificial.old table.old pivots.old.number) }
-    requires eligible { IsEligible (basis_in (laid net.now tree.old offers.old rooms.old artificial.old table.old pivots.old.number)) k }
-    ensures pivot { IsPivot (basis_in (laid net.now tree.old offers.old rooms.old artificial.old table.old pivots.old.number)) k (pos result)
-        (basis_in (laid net.now tree.new offers.new rooms.new artificial.new table.new pivots.new.number)) }
-    ensures laid_out { IsLaidOut (laid net.now tree.new offers.new rooms.new artificial.new table.new pivots.new.number) }
-    ensures falls { PairFalls (basis_in (laid net.now tree.old offers.old rooms.old artificial.old table.old pivots.old.number))
-        (basis_in (laid net.now tree.new offers.new rooms.new artificial.new table.new pivots.new.number)) }
-{
-    pivots.add_one();
-    let offer = offers[k.place()];
-    let found = find_round(net, tree, rooms, offer, k);
-    push(net, tree, rooms, artificial, round_of(found));
-    let reduced = reduced_of(table, offer);
-    replace(net, tree, offers, rooms, table, k, found, reduced);
-    found.amount
-}
-
-// What goes round the cycle of an entering arc from node `from` to node `to`, and which arc leaves: the one above node `out`, unless
-// it is the entering one.
-#[derive(Clone, Copy, Debug)]
-struct Found {
-    from: u32,
-    to: u32,
-    apex: u32,
-    amount: u64,
-    leaving: Leaving,
-    out: u32,
-}
-
-// Climbs once from the two ends of an offer.
-fn find_round(net: &Net, tree: &Tree, rooms: &[Rooms], offer: Offer, k: ArcId) -> Found
-    requires arc { IsArcNumber net.now k }
-    requires sized { length rooms.now ≡ size_of tree.now }
-    requires from { offer.from < size_of tree.now }
-    requires to { offer.to < size_of tree.now }
-    ensures value { IsFound tree.now rooms.now offer.from offer.to (unsigned_abs (arc_at net.now k).cap) result }
-{
-    let climb = Climb::of(tree, rooms, offer.from, offer.to);
-    let choice = climb.leaving(net.width(k) as u64);
-    Found {
-        from: offer.from,
-        to: offer.to,
-        apex: climb.apex,
-        amount: choice.amount,
-        leaving: choice.leaving,
-        out: choice.out,
-    }
-}
-
-// What goes round.
-fn round_of(found: Found) -> Round
-    ensures { result ≡ record { from = found.from; to = found.to; apex = found.apex; amount = found.amount } }
-{
-    Round {
-        from: NodeId::new(found.from),
-        to: NodeId::new(found.to),
-        apex: NodeId::new(found.apex),
-        amount: found.amount,
     }
 }
 
@@ -167,45 +103,14 @@ fn replace(
     offers: &mut [Offer],
     rooms: &mut [Rooms],
     table: &mut PriceTable,
-    k: ArcId,
-    found: Found,
-    reduced: i128,
+    cycle: &Cycle,
 )
-    requires { CanReplace net.now tree.old offers.old rooms.old table.old k reduced found }
-    ensures { IsReplaced net.now tree.old tree.new offers.old offers.new rooms.old rooms.new table.old table.new k reduced found }
+    requires { CanReplace net.now tree.old offers.old rooms.old table.old cycle.now }
+    ensures { IsReplaced net.now tree.old tree.new offers.old offers.new rooms.old rooms.new table.old table.new cycle.now }
 {
-    match found.leaving {
-        Leaving::Entering => keep(offers, k),
-        Leaving::Down => exchange(
-            net,
-            tree,
-            offers,
-            rooms,
-            table,
-            turn_of(k, found, true, reduced),
-        ),
-        Leaving::Up => exchange(
-            net,
-            tree,
-            offers,
-            rooms,
-            table,
-            turn_of(k, found, false, reduced),
-        ),
-    }
-}
-
-// The exchange of the arc that leaves, on the left or the right side.
-fn turn_of(k: ArcId, found: Found, left: bool, reduced: i128) -> Turn
-    ensures { result ≡ record { arc = k; out = found.out; from = found.from; to = found.to; left = left; amount = found.amount; reduced = reduced } }
-{
-    Turn {
-        arc: k,
-        out: NodeId::new(found.out),
-        from: NodeId::new(found.from),
-        to: NodeId::new(found.to),
-        left,
-        amount: found.amount,
-        reduced,
+    match cycle.leaving {
+        Leaving::Entering => keep(offers, cycle.arc),
+        Leaving::Down => exchange(net, tree, offers, rooms, table, cycle),
+        Leaving::Up => exchange(net, tree, offers, rooms, table, cycle),
     }
 }

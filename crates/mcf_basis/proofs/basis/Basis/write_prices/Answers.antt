@@ -1,4 +1,4 @@
-use Rattle.std.proofs.Common.{◌*◌, ◌^◌, arith, length-drop, sym, subst, ◌∙◌}
+use Rattle.std.proofs.Common.{arith, length-drop, sym, subst, ◌∙◌}
 use Rattle.std.specs.List.{All}
 use Rattle.mcf_instance.specs.WellFormed.{IsUpTo}
 use Rattle.mcf_basis.specs.Private.Layouts.{Layout}
