@@ -6,7 +6,7 @@ use Rattle.std.specs.Prelude.{◌⊎◌, Option, ℤ, pos, neg_ℤ, unsigned_abs
 use Rattle.std.specs.List.{All}
 use Rattle.std.proofs.lemmas.Int.{ints}
 use Rattle.std.proofs.lemmas.List.{length-map, length-set, length-replicate, map-append, map-set, get_or-map, length_push, nil_from_length}
-use Rattle.std.proofs.lemmas.List.Elements.{All-nil, All-replicate, All-set, All-push, All-weaker, All-map}
+use Rattle.std.proofs.lemmas.List.Elements.{All-nil, All-replicate, All-set, All-push, All-map}
 use Rattle.std.proofs.lemmas.List.Sums.{sum_by-append, sum_by-le, sum-map}
 use Rattle.std.proofs.Math.Nat.{mul-le-mul}
 use Rattle.mcf_instance.specs.declared.arc.Arc.{Arc}

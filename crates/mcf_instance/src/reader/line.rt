@@ -345,16 +345,19 @@ pub(crate) fn arc_tests(
     arcs: usize,
     total: u128,
     listed: &[bool],
-    src: i64,
-    dst: i64,
-    low: i64,
-    cap: i64,
-    cost: i64,
+    numbers: ArcNumbers,
 ) -> Result<PackedArc, Code>
     requires tabled { length listed.now ≡ header.nodes }
     requires total { total ≤ total_limit }
-    ensures { result ≡ arc_tests limits header arcs total listed.now (record { src = src; dst = dst; low = low; cap = cap; cost = cost }) }
+    ensures { result ≡ arc_tests limits header arcs total listed.now numbers }
 {
+    let ArcNumbers {
+        src,
+        dst,
+        low,
+        cap,
+        cost,
+    } = numbers;
     let src = node_of(header, src)?;
     let dst = node_of(header, dst)?;
     if let Some(fault) = amount_fault(low, cap, cost) {
@@ -398,16 +401,6 @@ pub(crate) fn arc_line(
     let numbers = arc_numbers(fields)?;
     match header {
         None => Err(Code::BeforeP),
-        Some(header) => arc_tests(
-            header,
-            arcs,
-            total,
-            listed,
-            numbers.src,
-            numbers.dst,
-            numbers.low,
-            numbers.cap,
-            numbers.cost,
-        ),
+        Some(header) => arc_tests(header, arcs, total, listed, numbers),
     }
 }

@@ -6,8 +6,6 @@ ghost use Rattle.mcf_instance.specs.Private.TakenArcs.{ReadsLines, WantsForLines
 ghost use Rattle.mcf_instance.specs.ReadOn.{HasRead};
 ghost use Rattle.mcf_text.specs.Feed.{BeginsWithLines};
 
-use crate::problem::Problem;
-use crate::reader::line::Header;
 use crate::reader::state::State;
 use mcf_text::{NoMemory, is_kept};
 use std::alloc::Global;
@@ -30,48 +28,10 @@ pub(crate) fn take_arcs(state: &mut State, text: &[u8]) -> Result<Run, NoMemory>
     let Some(header) = state.header() else {
         return Ok(Run { lines: 0, bytes: 0 });
     };
-    match header.problem {
-        Problem::Min => take_links(state, header, text),
-        Problem::Asn => take_pairs(state, header, text),
-    }
-}
-
-// Takes the arc lines of an assignment in.
-fn take_pairs(state: &mut State, header: Header, text: &[u8]) -> Result<Run, NoMemory>
-    requires good { state.old.refusal ≡ None }
-    requires header { state.old.header ≡ Some header }
-    requires problem { header.problem ≡ Problem.Asn }
-    ensures good { OnOk result (state.new.refusal ≡ None) }
-    ensures lines { IfOk result (λ run. BeginsWithLines text.now run.lines run.bytes) }
-    ensures read { IfOk result (λ run. ReadsLines state.old text.now state.new run.lines (drop run.bytes text.now)) }
-    ensures wants { OnErr result (WantsForLines state.old text.now) }
-{
     let mut lines = 0;
     let mut bytes = 0;
     'arcs: while bytes < text.len() {
-        let Some(len) = state.take_pair(header, &text[bytes..])? else {
-            return Ok(Run { lines, bytes });
-        };
-        lines += 1;
-        bytes += len;
-    }
-    Ok(Run { lines, bytes })
-}
-
-// Takes the arc lines of the flow problem in.
-fn take_links(state: &mut State, header: Header, text: &[u8]) -> Result<Run, NoMemory>
-    requires good { state.old.refusal ≡ None }
-    requires header { state.old.header ≡ Some header }
-    requires problem { header.problem ≡ Problem.Min }
-    ensures good { OnOk result (state.new.refusal ≡ None) }
-    ensures lines { IfOk result (λ run. BeginsWithLines text.now run.lines run.bytes) }
-    ensures read { IfOk result (λ run. ReadsLines state.old text.now state.new run.lines (drop run.bytes text.now)) }
-    ensures wants { OnErr result (WantsForLines state.old text.now) }
-{
-    let mut lines = 0;
-    let mut bytes = 0;
-    'arcs: while bytes < text.len() {
-        let Some(len) = state.take_link(header, &text[bytes..])? else {
+        let Some(len) = state.take_arc(header, &text[bytes..])? else {
             return Ok(Run { lines, bytes });
         };
         lines += 1;

@@ -9,7 +9,7 @@ ghost use Rattle.mcf_text.specs.Fields.{is_blank};
 use crate::arc::PackedArc;
 use crate::code::Code;
 use crate::problem::Problem;
-use crate::reader::line::{Header, arc_tests};
+use crate::reader::line::{ArcNumbers, Header, arc_tests};
 use mcf_text::leading_digits;
 
 // A number, and a place behind it.
@@ -169,9 +169,31 @@ fn minus_last_number_at(text: &[u8], start: usize) -> Option<PlainNumber>
     })
 }
 
-/// The first line of a text, where it is a good arc line of an assignment and plain.
+/// The first line of a text, where it is a good arc line and plain.
 #[inline(always)]
-pub(crate) fn plain_pair(
+pub(crate) fn plain_arc(
+    header: Header,
+    arcs: usize,
+    total: u128,
+    listed: &[bool],
+    text: &[u8],
+) -> Option<PlainArc>
+    requires tabled { length listed.now ≡ header.nodes }
+    requires total { total ≤ total_limit }
+    ensures { IfSome result (λ p. SaysArc header arcs total listed.now text.now p.arc p.end) }
+{
+    if !begins_arc(text) {
+        return None;
+    }
+    match header.problem {
+        Problem::Min => plain_link(header, arcs, total, listed, text),
+        Problem::Asn => plain_pair(header, arcs, total, listed, text),
+    }
+}
+
+// The first line of a text, which begins as an arc line, where it is a good one of an assignment and plain.
+#[inline(always)]
+fn plain_pair(
     header: Header,
     arcs: usize,
     total: u128,
@@ -181,23 +203,25 @@ pub(crate) fn plain_pair(
     requires problem { header.problem ≡ Problem.Asn }
     requires tabled { length listed.now ≡ header.nodes }
     requires total { total ≤ total_limit }
+    requires begins { BeginsArc text.now }
     ensures { IfSome result (λ p. SaysArc header arcs total listed.now text.now p.arc p.end) }
 {
-    if !begins_arc(text) {
-        return None;
-    }
     let src = number_at(text, 2)?;
     let dst = number_at(text, src.place)?;
     let cost = last_number_at(text, dst.place)?;
-    let said = arc_tests(
-        header, arcs, total, listed, src.value, dst.value, 0, 1, cost.value,
-    );
-    plain_arc(said, cost.place)
+    let numbers = ArcNumbers {
+        src: src.value,
+        dst: dst.value,
+        low: 0,
+        cap: 1,
+        cost: cost.value,
+    };
+    said_arc(arc_tests(header, arcs, total, listed, numbers), cost.place)
 }
 
-/// The first line of a text, where it is a good arc line of the flow problem and plain.
+// The same of the flow problem.
 #[inline(always)]
-pub(crate) fn plain_link(
+fn plain_link(
     header: Header,
     arcs: usize,
     total: u128,
@@ -207,25 +231,27 @@ pub(crate) fn plain_link(
     requires problem { header.problem ≡ Problem.Min }
     requires tabled { length listed.now ≡ header.nodes }
     requires total { total ≤ total_limit }
+    requires begins { BeginsArc text.now }
     ensures { IfSome result (λ p. SaysArc header arcs total listed.now text.now p.arc p.end) }
 {
-    if !begins_arc(text) {
-        return None;
-    }
     let src = number_at(text, 2)?;
     let dst = number_at(text, src.place)?;
     let low = number_at(text, dst.place)?;
     let cap = number_at(text, low.place)?;
     let cost = last_number_at(text, cap.place)?;
-    let said = arc_tests(
-        header, arcs, total, listed, src.value, dst.value, low.value, cap.value, cost.value,
-    );
-    plain_arc(said, cost.place)
+    let numbers = ArcNumbers {
+        src: src.value,
+        dst: dst.value,
+        low: low.value,
+        cap: cap.value,
+        cost: cost.value,
+    };
+    said_arc(arc_tests(header, arcs, total, listed, numbers), cost.place)
 }
 
 // The arc of a line that ends at this place, where it has no fault.
 #[inline(always)]
-fn plain_arc(said: Result<PackedArc, Code>, end: usize) -> Option<PlainArc>
+fn said_arc(said: Result<PackedArc, Code>, end: usize) -> Option<PlainArc>
     ensures { IfSome result (λ p. (said ≡ Ok p.arc) × (p.end ≡ end)) }
 {
     match said {

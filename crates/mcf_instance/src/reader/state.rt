@@ -16,7 +16,7 @@ use crate::instances::Instance;
 use crate::problem::Problem;
 use crate::reader::fields::first_fields;
 use crate::reader::line::{Header, Item, arc_line, is_word, node_line, problem_line};
-use crate::reader::plain::{PlainArc, plain_link, plain_pair};
+use crate::reader::plain::{PlainArc, plain_arc};
 use crate::refusal::Refusal;
 use mcf_text::{NoMemory, copies};
 use std::alloc::Global;
@@ -201,59 +201,28 @@ impl State {
         self.header
     }
 
-    // The first line of a text, where it is a good arc line of an assignment and plain.
+    // The first line of a text, where it is a good arc line and plain.
     #[inline(always)]
-    fn first_pair(&self, header: Header, text: &[u8]) -> Option<PlainArc>
-        requires header { self.now.header ≡ Some header }
-        requires problem { header.problem ≡ Problem.Asn }
+    fn first_arc(&self, header: Header, text: &[u8]) -> Option<PlainArc>
+        requires { self.now.header ≡ Some header }
         ensures { IfSome result (λ p. BeginsWithArc self.now text.now p.arc p.end) }
     {
-        plain_pair(header, self.arcs.len(), self.total, &self.listed, text)
+        plain_arc(header, self.arcs.len(), self.total, &self.listed, text)
     }
 
-    // The first line of a text, where it is a good arc line of the flow problem and plain.
+    /// Takes the first line of a text in, where it is a good arc line and plain, and answers how many bytes it has with the one that
+    /// ends it; else nothing changes.
     #[inline(always)]
-    fn first_link(&self, header: Header, text: &[u8]) -> Option<PlainArc>
-        requires header { self.now.header ≡ Some header }
-        requires problem { header.problem ≡ Problem.Min }
-        ensures { IfSome result (λ p. BeginsWithArc self.now text.now p.arc p.end) }
-    {
-        plain_link(header, self.arcs.len(), self.total, &self.listed, text)
-    }
-
-    /// Takes the first line of a text in, where it is a good arc line of an assignment and plain, and answers
-    /// how many bytes it has with the one that ends it; else nothing changes.
-    #[inline(always)]
-    pub(crate) fn take_pair(
+    pub(crate) fn take_arc(
         &mut self,
         header: Header,
         text: &[u8],
     ) -> Result<Option<usize>, NoMemory>
-        requires header { self.old.header ≡ Some header }
-        requires problem { header.problem ≡ Problem.Asn }
+        requires { self.old.header ≡ Some header }
         ensures taken { IfOk result (λ len. TakesArc self.old text.now len self.new) }
         ensures wants { OnErr result (WantsArc self.old text.now) }
     {
-        let Some(plain) = self.first_pair(header, text) else {
-            return Ok(None);
-        };
-        self.link(plain.arc)?;
-        Ok(Some(plain.end + 1))
-    }
-
-    /// The same of the flow problem.
-    #[inline(always)]
-    pub(crate) fn take_link(
-        &mut self,
-        header: Header,
-        text: &[u8],
-    ) -> Result<Option<usize>, NoMemory>
-        requires header { self.old.header ≡ Some header }
-        requires problem { header.problem ≡ Problem.Min }
-        ensures taken { IfOk result (λ len. TakesArc self.old text.now len self.new) }
-        ensures wants { OnErr result (WantsArc self.old text.now) }
-    {
-        let Some(plain) = self.first_link(header, text) else {
+        let Some(plain) = self.first_arc(header, text) else {
             return Ok(None);
         };
         self.link(plain.arc)?;

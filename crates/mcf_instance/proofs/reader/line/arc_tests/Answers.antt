@@ -11,10 +11,10 @@ use Rattle.mcf_instance.proofs.reader.line.arc_tests.Goals as goal
 pub returns-then-header-arcs : goal.returns-then-header-arcs
 returns-then-header-arcs c =
     let room : nat_le c.args.header.arcs c.args.arcs ≡ true = search rules in
-    let none : amount_fault limits c.args.low c.args.cap c.args.cost ≡ None = search rules in
-    let f1 : SFits w64 c.args.src = search rules in
-    let f2 : SFits w64 c.args.dst = search rules in
+    let none : amount_fault limits c.args.numbers.low c.args.numbers.cap c.args.numbers.cost ≡ None = search rules in
+    let f1 : SFits w64 c.args.numbers.src = search rules in
+    let f2 : SFits w64 c.args.numbers.dst = search rules in
     let src = simp to_z-of_z at c.in_ok-src.ensures.exact in
     let dst = simp to_z-of_z at c.in_ok-dst.ensures.exact in
     sym (arc_tests_extra c.args.header c.args.arcs c.args.total c.args.listed.now
-    (record { src = c.args.src; dst = c.args.dst; low = c.args.low; cap = c.args.cap; cost = c.args.cost }) _ _ (sym src) (sym dst) none room)
+    c.args.numbers _ _ (sym src) (sym dst) none room)

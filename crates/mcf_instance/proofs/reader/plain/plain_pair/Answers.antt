@@ -7,10 +7,9 @@ use Rattle.mcf_instance.proofs.reader.plain.plain_pair.Goals as goal
 
 pub returns : goal.returns
 returns c =
-    let a = c.begins_arc.ensures c.if-not-begins_arc.false in
     let f1 : SFits w64 c.in_ok-src.src.value = search rules in
     let f2 : SFits w64 c.in_ok-dst.dst.value = search rules in
     let f3 : SFits w64 c.in_ok-cost.cost.value = search rules in
-    let told = simp to_z-of_z at c.arc_tests-said.ensures in
-    pair_found c.args.header c.args.arcs c.args.total c.args.listed.now c.args.text.now _ _ _ _ _ _ c.arc_tests-said.result c.plain_arc.result
-    c.requires.problem a c.in_ok-src.ensures c.in_ok-dst.ensures c.in_ok-cost.ensures told c.plain_arc.ensures
+    let told = simp to_z-of_z at c.arc_tests.ensures in
+    pair_found c.args.header c.args.arcs c.args.total c.args.listed.now c.args.text.now _ _ _ _ _ _ c.arc_tests.result c.said_arc.result
+    c.requires.problem c.requires.begins c.in_ok-src.ensures c.in_ok-dst.ensures c.in_ok-cost.ensures told c.said_arc.ensures

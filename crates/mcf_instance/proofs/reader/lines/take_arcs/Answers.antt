@@ -1,7 +1,7 @@
 use Rattle.std.proofs.lemmas.List.{take_rest}
 use Rattle.std.proofs.lemmas.Result.{err_from_is_err_and}
 use Rattle.mcf_instance.proofs.TakenArcs.{one_taken, wants_more}
-use Rattle.mcf_instance.proofs.reader.lines.take_links.Goals as goal
+use Rattle.mcf_instance.proofs.reader.lines.take_arcs.Goals as goal
 
 pub returns-in_err-len-clause-wants : goal.returns-in_err-len-clause-wants
 returns-in_err-len-clause-wants c =
@@ -11,6 +11,6 @@ returns-in_err-len-clause-wants c =
 
 pub arcs-preserved : goal.arcs-preserved
 arcs-preserved c =
-    let took = rw c.in-Some.is at c.in_ok-len.ensures.taken in
-    one_taken c.args.state.now c.arcs.state c.take_link.new.self c.args.text.now c.arcs.lines c.arcs.bytes c.in-Some.len c.arcs.invariant
+    let took = rw c.in-Some-2.is at c.in_ok-len.ensures.taken in
+    one_taken c.args.state.now c.arcs.state c.take_arc.new.self c.args.text.now c.arcs.lines c.arcs.bytes c.in-Some-2.len c.arcs.invariant
     (simp take_rest at took)

@@ -1,6 +1,6 @@
 use Rattle.std.proofs.Common.{◌-◌, length}
 use Rattle.mcf_instance.proofs.TakenArcs.{HasTaken}
-use Rattle.mcf_instance.proofs.reader.lines.take_pairs.Given as goal
+use Rattle.mcf_instance.proofs.reader.lines.take_arcs.Given as goal
 
 -- the lines so far are good arc lines, and the state has read them
 abbrev pub invariant-arcs : goal.invariant-arcs
