@@ -1,5 +1,5 @@
 -- What a line of a good text says fits the state.
-use Rattle.std.proofs.Common.{◌≡◌, ℕ, ◌+◌, ◌<◌, ◌≤◌, Bool, true, false, not, cond, ◌&&◌, List, [], length, refl, sym, ◌∙◌, Some, None, Ok, Err, arith}
+use Rattle.std.proofs.Common.{◌≡◌, ℕ, ◌+◌, ◌<◌, ◌≤◌, Bool, true, false, not, cond, ◌&&◌, List, [], length, refl, sym, subst, ◌∙◌, Some, None, Ok, Err, arith}
 use Rattle.std.specs.Prelude.{Option, Result, ℤ, pos, ◌≤ℤ◌, bytes_eq, codes, slice_index_or, nat_lt, nat_le, int_lt, ◌==◌, is_some, IfOk}
 use Rattle.std.proofs.lemmas.Int.{ints}
 use Rattle.std.proofs.lemmas.Result.{IfOk-at_ok}
@@ -11,6 +11,7 @@ use Rattle.mcf_instance.specs.declared.problem.Problem.TheVariants.{Min, Asn}
 use Rattle.mcf_instance.specs.declared.reader.line.ArcNumbers.{ArcNumbers}
 use Rattle.mcf_instance.specs.declared.reader.line.Header.{Header}
 use Rattle.mcf_instance.specs.declared.reader.line.Item.{Item}
+use Rattle.mcf_instance.specs.declared.reader.line.Item.TheVariants.{Link}
 use Rattle.mcf_instance.specs.Assignment.{OnAssignment}
 use Rattle.mcf_instance.specs.Blocking.{in_table}
 use Rattle.mcf_instance.specs.Fault.{is_up_to}
@@ -235,3 +236,19 @@ if_ok_item s fields = go (bytes_eq (slice_index_or fields 0 []) (codes "p")) (by
 
 pub item_fits : (s : StateData) (fields : List (List ℕ)) (item : Item) → item_of limits s fields ≡ Ok item → ItemFits limits s item
 item_fits s fields item e = IfOk-at_ok (ItemFits limits s) e (if_ok_item s fields)
+
+-- ---- an arc that is offered
+
+pub offered_fits : (s : StateData) (h : Header) (a : ArcNumbers) (arc : PackedArc) → s.header ≡ Some h → UnitBounds h.problem a
+    → arc_tests limits h (length s.arcs) s.total s.listed a ≡ Ok arc → ItemFits limits s (Link arc)
+offered_fits s h a arc header unit tested =
+    let fits = IfOk-at_ok (ArcFits (Some h) (length s.arcs) s.total s.listed) tested (arc_tests_fit h (length s.arcs) s.total s.listed a unit) in
+    let at = subst (λ o. ArcFits o (length s.arcs) s.total s.listed arc) (sym header) fits in
+    record { room = at.room; ends = at.ends; is_within = at.is_within; total_small = at.total_small; assignment = at.assignment }
+
+-- a good arc ends at a node
+pub offered_nodes : (h : Header) (arcs total : ℕ) (listed : List Bool) (a : ArcNumbers) (arc : PackedArc) → UnitBounds h.problem a
+    → arc_tests limits h arcs total listed a ≡ Ok arc → 1 ≤ h.nodes
+offered_nodes h arcs total listed a arc unit tested =
+    let fits = IfOk-at_ok (ArcFits (Some h) arcs total listed) tested (arc_tests_fit h arcs total listed a unit) in
+    omega (arith, fits.ends.src_is_node.0, fits.ends.src_is_node.1)

@@ -2,6 +2,7 @@ pub mod After
 pub mod AllZips
 pub mod ArcLines
 pub mod ArcSums
+pub mod ArrayFaults
 pub mod Bounds
 pub mod Comparing
 pub mod CutTexts
@@ -9,6 +10,7 @@ pub mod Duality
 pub mod Faults
 pub mod FaultyTexts
 pub mod FirstFaults
+pub mod FirstFound
 pub mod FittingItems
 pub mod NamedNodes
 pub mod GoodTexts

@@ -29,7 +29,7 @@ use Rattle.mcf_instance.proofs.Totals.{sum_one}
 
 -- ---- a problem line
 
-map-replicate : {X Y : Type 0} (f : X → Y) (n : ℕ) (x : X) → map f (replicate n x) ≡ replicate n (f x)
+pub map-replicate : {X Y : Type 0} (f : X → Y) (n : ℕ) (x : X) → map f (replicate n x) ≡ replicate n (f x)
 map-replicate f zero x = refl
 map-replicate f (suc n) x = ap (λ ys. f x ∷ ys) (map-replicate f n x)
 
@@ -103,10 +103,10 @@ sound_supply o listed supplies arcs total v z sound fits =
 
 -- ---- an arc line
 
-push_arc : (P : Arc → Type 0) (arcs : List PackedArc) (a : PackedArc) → All P (map unpacked arcs) → P (unpacked a) → All P (map unpacked (arcs ++ a ∷ []))
+pub push_arc : (P : Arc → Type 0) (arcs : List PackedArc) (a : PackedArc) → All P (map unpacked arcs) → P (unpacked a) → All P (map unpacked (arcs ++ a ∷ []))
 push_arc P arcs a all h = rw (map-append unpacked arcs (a ∷ [])) (All-push P (map unpacked arcs) (unpacked a) all h)
 
-flag_supply : (listed : List Bool) (v : ℕ) → 1 ≤ v → v ≤ length listed → at_node (map side_supply listed) v ≡ side_supply (in_table listed v)
+pub flag_supply : (listed : List Bool) (v : ℕ) → 1 ≤ v → v ≤ length listed → at_node (map side_supply listed) v ≡ side_supply (in_table listed v)
 flag_supply listed v low high = get_or-map side_supply listed (v - 1) false (pos 0) (omega arith)
 
 sides_with_arc : (p : Format) (listed : List Bool) (supplies : List ℤ) (arcs : List PackedArc) (a : PackedArc) (n : ℕ) → length listed ≡ n
@@ -127,7 +127,7 @@ sides_with_arc Asn listed supplies arcs a n long ends h pair =
       };
     }
 
-weights_push : (arcs : List PackedArc) (a : PackedArc)
+pub weights_push : (arcs : List PackedArc) (a : PackedArc)
     → sum (map weight (map unpacked (arcs ++ a ∷ []))) ≡ sum (map weight (map unpacked arcs)) + weight (unpacked a)
 weights_push arcs a =
     let lists : map weight (map unpacked (arcs ++ a ∷ [])) ≡ map weight (map unpacked arcs) ++ weight (unpacked a) ∷ [] =

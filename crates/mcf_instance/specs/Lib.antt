@@ -1,5 +1,6 @@
 pub use Rattle.mcf_text.specs.Row
 pub use Rattle.mcf_text.specs.Whole
+pub mod Arrays
 pub mod Assignment
 pub mod Blocking
 pub mod Fault

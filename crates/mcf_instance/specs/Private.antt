@@ -1,4 +1,5 @@
 -- What the proofs of this crate alone need: no public clause names it.
+pub mod ArrayStates
 pub mod LineReader
 pub mod PlainLines
 pub mod ReaderSound

@@ -3,10 +3,11 @@
 //! Instances of minimum-cost flow: what the texts say, and the vocabulary of flows.
 //!
 //! It stands on `mcf_text`. Definitions stand in `specs/`: `Limits`, `Fault` and `Reading` say what a
-//! text stands for, `Network`, `Flow`, `Blocking` and `Laws` what flows, prices and node sets are.
+//! text stands for, `Arrays` what arrays stand for, `Network`, `Flow`, `Blocking` and `Laws` what flows, prices and node sets are.
 
 mod arc;
 mod arc_table;
+mod arrays;
 mod blocking;
 mod code;
 mod instances;
@@ -16,6 +17,7 @@ mod reader;
 mod refusal;
 
 pub use arc::Arc;
+pub use arrays::{ArrayFault, RawArc, RawPair, assignment_problem, flow_problem};
 pub use blocking::{blocks, table_of};
 pub use code::Code;
 pub use instances::Instance;

@@ -5,11 +5,11 @@ ghost use Rattle.mcf_instance.specs.Memory.{NamesNodes};
 ghost use Rattle.mcf_instance.specs.Reading.{reading};
 
 mod fields;
-mod line;
+pub(crate) mod line;
 mod lines;
 mod pieces;
 mod plain;
-mod state;
+pub(crate) mod state;
 
 use crate::instances::Instance;
 use crate::reader::lines::{read_line, take_arcs};

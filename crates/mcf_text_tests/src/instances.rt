@@ -23,8 +23,8 @@ fn is_refused(alloc: Global, text: &[u8], line: u128, word: &str) -> Result<bool
     Ok(refusal.line == line && is_word && is_code)
 }
 
-// The ends of an arc, its least and its greatest flow, and its cost.
-type Row = (u32, u32, i128, i128, i128);
+/// The ends of an arc, its least and its greatest flow, and its cost.
+pub type Row = (u32, u32, i128, i128, i128);
 
 // The arc of a row.
 fn arc_of(row: Row) -> Arc {
@@ -38,8 +38,8 @@ fn arc_of(row: Row) -> Arc {
     }
 }
 
-// Whether these are the arcs.
-fn has_arcs(instance: &Instance, arcs: &[Row]) -> bool {
+/// Whether these are the arcs.
+pub fn has_arcs(instance: &Instance, arcs: &[Row]) -> bool {
     if arcs.len() != instance.arc_count() as usize {
         return false;
     }
@@ -54,8 +54,8 @@ fn has_arcs(instance: &Instance, arcs: &[Row]) -> bool {
     true
 }
 
-// Whether these are the supplies of the nodes.
-fn has_supplies(instance: &Instance, supplies: &[i128]) -> bool {
+/// Whether these are the supplies of the nodes.
+pub fn has_supplies(instance: &Instance, supplies: &[i128]) -> bool {
     if supplies.len() != instance.node_count() as usize {
         return false;
     }

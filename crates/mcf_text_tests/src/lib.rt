@@ -10,6 +10,8 @@ mod answers;
 #[cfg(test)]
 mod arc_lines;
 #[cfg(test)]
+mod arrays;
+#[cfg(test)]
 mod checking;
 #[cfg(test)]
 mod cut_answers;

@@ -20,7 +20,7 @@ const NODE_LIMIT: i64 = 1_000_000;
 const ARC_LIMIT: i64 = 10_000_000;
 
 // How far from 0 a supply, a bound and a cost may lie.
-const SUPPLY_LIMIT: i64 = 1_000_000_000_000_000_000;
+pub(crate) const SUPPLY_LIMIT: i64 = 1_000_000_000_000_000_000;
 
 const BOUND_LIMIT: i64 = 1_000_000_000_000_000_000;
 
@@ -128,7 +128,7 @@ pub(crate) fn problem_line(is_seen: bool, fields: &[&[u8]]) -> Result<Header, Co
     })
 }
 
-fn is_up_to(size: i64, value: i64) -> bool
+pub(crate) fn is_up_to(size: i64, value: i64) -> bool
     requires { (pos 0 ≤ℤ size) × (size <ℤ pos (2 ^ 63)) }
     ensures { result ≡ is_up_to (natural size) value }
 {

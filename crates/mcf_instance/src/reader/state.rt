@@ -2,10 +2,13 @@
 ghost use Rattle.std.specs.Prelude.{◌≡◌, ◌++◌, ◌∷◌, [], List, map, length, slice_get, None, Some, OnOk, OnErr, ◌≤◌, IfOk, IfSome, IsTrue};
 ghost use Rattle.mcf_instance.specs.Fault.{faults, header};
 ghost use Rattle.mcf_instance.specs.Limits.{limits, line_limit};
-ghost use Rattle.mcf_instance.specs.Private.ReaderSound.{ItemFits};
-ghost use Rattle.mcf_instance.specs.Private.ReaderState.{empty, item_of, with_item, item_grows, outcome_grows, after_row, refusal_after, finished};
+ghost use Rattle.mcf_instance.specs.Private.ArrayStates.{CarriesOne, NodesFit, Offered};
+ghost use Rattle.mcf_instance.specs.Private.LineReader.{arc_tests};
+ghost use Rattle.mcf_instance.specs.Private.ReaderSound.{IsSound, ItemFits};
+ghost use Rattle.mcf_instance.specs.Private.ReaderState.{empty, item_of, with_item, item_grows, network_of, outcome_grows, after_row, refusal_after, finished};
 ghost use Rattle.mcf_instance.specs.Private.TakenArcs.{BeginsWithArc, TakesArc, WantsArc};
 ghost use Rattle.mcf_instance.specs.ReadOn.{Stands};
+ghost use Rattle.mcf_instance.specs.WellFormed.{IsWellFormed};
 ghost use Rattle.mcf_text.specs.Fields.{fields_of, is_kept};
 ghost use Rattle.mcf_text.specs.Row.{Row, row_of};
 
@@ -15,7 +18,9 @@ use crate::code::Code;
 use crate::instances::Instance;
 use crate::problem::Problem;
 use crate::reader::fields::first_fields;
-use crate::reader::line::{Header, Item, arc_line, is_word, node_line, problem_line};
+use crate::reader::line::{
+    ArcNumbers, Header, Item, arc_line, arc_tests, is_word, node_line, problem_line,
+};
 use crate::reader::plain::{PlainArc, plain_arc};
 use crate::refusal::Refusal;
 use mcf_text::{NoMemory, copies};
@@ -61,6 +66,26 @@ impl State {
             header: None,
             listed: Vec::new(alloc),
             supplies: Vec::new(alloc),
+            arcs: ArcTable::new(alloc),
+            total: 0,
+            refusal: None,
+        }
+    }
+
+    /// The state before the first arc, where these are the nodes' flags and supplies.
+    pub(crate) fn of_nodes(
+        alloc: Global,
+        header: Header,
+        listed: Vec<bool>,
+        supplies: Vec<i64>,
+    ) -> State
+        requires { NodesFit header listed.items supplies.items }
+        ensures { result ≡ record { header = Some header; listed = listed.items; supplies = supplies.items; arcs = []; total = 0; refusal = None } }
+    {
+        State {
+            header: Some(header),
+            listed,
+            supplies,
             arcs: ArcTable::new(alloc),
             total: 0,
             refusal: None,
@@ -123,6 +148,37 @@ impl State {
         self.arcs.push(arc)?;
         self.total += arc.weight();
         Ok(())
+    }
+
+    // What the numbers of an arc say, or their fault.
+    #[tactic(auto, using(crate::proofs::Signed::signed))]
+    fn tested(&self, header: Header, numbers: ArcNumbers) -> Result<PackedArc, Code>
+        requires { self.now.header ≡ Some header }
+        ensures exact { result ≡ arc_tests limits header (length self.now.arcs) self.now.total self.now.listed numbers }
+        ensures sound { IsSound limits self.now.header self.now.listed self.now.supplies self.now.arcs self.now.total }
+    {
+        arc_tests(header, self.arcs.len(), self.total, &self.listed, numbers)
+    }
+
+    /// Takes an arc in, unless it has a fault: its first is answered.
+    pub(crate) fn offer(
+        &mut self,
+        header: Header,
+        numbers: ArcNumbers,
+    ) -> Result<Option<Code>, NoMemory>
+        requires header { self.old.header ≡ Some header }
+        requires carries_one { CarriesOne header numbers }
+        ensures offered { IfOk result (λ fault. Offered self.old header numbers fault self.new) }
+        ensures sound { IsSound limits self.old.header self.old.listed self.old.supplies self.old.arcs self.old.total }
+        ensures wants { OnErr result (1 ≤ header.nodes) }
+    {
+        match self.tested(header, numbers) {
+            Ok(arc) => {
+                self.link(arc)?;
+                Ok(None)
+            }
+            Err(code) => Ok(Some(code)),
+        }
     }
 
     // Takes a good line in.
@@ -283,6 +339,27 @@ impl State {
                 supplies,
             }),
             None => unreachable!(),
+        }
+    }
+
+    /// The instance of the supplies and arcs so far, whether or not all arcs have come.
+    pub(crate) fn into_instance(self, header: Header) -> Instance
+        requires { self.header ≡ Some header }
+        ensures value { result ≡ network_of self }
+        ensures sound { IsWellFormed limits result }
+    {
+        let State {
+            header: _,
+            listed: _,
+            supplies,
+            arcs,
+            total: _,
+            refusal: _,
+        } = self;
+        Instance {
+            problem: header.problem,
+            arcs,
+            supplies,
         }
     }
 }
