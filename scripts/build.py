@@ -3,9 +3,9 @@
 
 Crates that don't stand on one another are proved at the same time, as many as processors and memory allow, those with the longest chain above
 them first; the first of all may take every processor, and the others run beside it at a lower priority. One line says which are at work and how
-many are left. A check keeps others out of its crate and of all below it, so that each has a copy of these to itself, by links, in bin/proofs/;
-what it keeps is then put where it belongs. `rt run` builds each program in such a copy and runs it on an example. It is the judge, and looks for
-itself at what has changed: where nothing has since the last time, nothing but it is called.
+many are left, and one that a program is ready, as soon as it is. A check keeps others out of its crate and of all below it, so that each has a
+copy of these to itself, by links, in bin/proofs/; what it keeps is then put where it belongs. `rt run` builds each program in such a copy and runs
+it on an example. It is the judge, and looks for itself at what has changed: where nothing has since the last time, nothing but it is called.
 
 Usage: scripts/build.py [PROGRAM ..]      all programs that crates.txt lists, where none is named
 """
@@ -98,6 +98,11 @@ class Progress:
         line = f"{spent // 60}:{spent % 60:02} {text}"
         print("\r\033[K" + line if self.live else line, end="" if self.live else "\n", flush=True)
 
+    def tell(self, text):
+        """A line that stays."""
+        self.show(text)
+        self.end()
+
     def end(self):
         if self.live:
             print()
@@ -159,7 +164,15 @@ def prove(below, names, progress):
                     other.terminate()
                 return name
             end(name)
+            if name in WORDS:
+                put(name)
+                progress.tell(f"bin/{name} is proved, built and run on {EXAMPLE.removeprefix('../../')}")
     return None
+
+
+def put(name):
+    """Puts a program that was built into bin/."""
+    shutil.copy(TOP / "crates" / name / "out" / name, BIN / name)
 
 
 def run(name):
@@ -194,7 +207,7 @@ def build(programs):
         print(f"{failed}: not proved, or not built; the log is bin/{failed}.log")
         return False
     for name in programs:
-        shutil.copy(TOP / "crates" / name / "out" / name, BIN / name)
+        put(name)
     kept.write_text(now)
     return True
 
