@@ -14,9 +14,9 @@ use Rattle.mcf_assign.specs.declared.search.Target.{Target}
 use Rattle.mcf_assign.specs.Matchings.{AreMatchingPrices, IsPartialMatching, column_of, row_of}
 use Rattle.mcf_assign.specs.Private.Lows.{AreLows, IsGap, IsLow, low_reach}
 use Rattle.mcf_assign.specs.Private.RowLists.{IsRowArc}
-use Rattle.mcf_assign.specs.Private.Searches.{IsOut, Search, dist_at, offer}
+use Rattle.mcf_assign.specs.Private.Searches.{IsBestUpTo, Search, dist_at, offer}
 use Rattle.mcf_assign.proofs.PairLaws.{column_is}
-use Rattle.mcf_assign.proofs.Relaxing.{out_beyond}
+use Rattle.mcf_assign.proofs.Relaxing.{best_beyond}
 
 pub low_is : (x y low z : ℤ) → IsLow y low → x ≡ y → z ≡ low → IsLow x z
 low_is x y low z is ex ez = subst (λ (p : ℤ). IsLow p z) (sym ex) (subst (λ (l : ℤ). IsLow y l) (sym ez) is)
@@ -38,16 +38,16 @@ lows_set y lows i x z are is =
     }
 
 -- another way to write a gap
-pub gap_is : (best : Option Target) (horizon : Option ℤ) (base g h : ℤ) → IsGap best horizon base g → h ≡ g → IsGap best horizon base h
-gap_is best horizon base g h none e x near l = none x near (omega (arith, ints, l, e))
+pub gap_is : (best : Option Target) (base g h : ℤ) → IsGap best base g → h ≡ g → IsGap best base h
+gap_is best base g h none e x near l = none x near (omega (arith, ints, l, e))
 
 -- an arc offers no less than the base of its row with its cost and the cut price of its column: so it is of no use where these are no less
 -- than the gap
 pub past_worse : (s : Pseudoflow) (y lows : List ℤ) (q : Search) (a : RowArc) (base gap : ℤ) → IsPartialMatching s → AreMatchingPrices s y → AreLows y lows
-    → IsRowArc s.net (row_of s a.arc) a → base ≡ dist_at q (row_of s a.arc) -ℤ at_node y (row_of s a.arc) → IsGap q.best q.horizon base gap
-    → gap ≤ℤ (a.cost +ℤ at_node lows a.column) → IsOut q.best q.horizon (offer s y q a.arc)
+    → IsRowArc s.net (row_of s a.arc) a → base ≡ dist_at q (row_of s a.arc) -ℤ at_node y (row_of s a.arc) → IsGap q.best base gap
+    → gap ≤ℤ (a.cost +ℤ at_node lows a.column) → IsBestUpTo q.best (offer s y q a.arc)
 past_worse s y lows q a base gap ok shown are is eb none past =
-    out_beyond q.best q.horizon (base +ℤ (a.cost +ℤ at_node lows a.column)) (offer s y q a.arc) beyond (none (a.cost +ℤ at_node lows a.column) small past)
+    best_beyond q.best (base +ℤ (a.cost +ℤ at_node lows a.column)) (offer s y q a.arc) beyond (none (a.cost +ℤ at_node lows a.column) small past)
   where
     low : IsLow (at_node y a.column) (at_node lows a.column)
     low =

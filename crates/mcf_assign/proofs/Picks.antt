@@ -13,11 +13,10 @@ use Rattle.mcf_assign.specs.declared.rows.RowArc.{RowArc}
 use Rattle.mcf_assign.specs.Matchings.{AreMatchingPrices, IsPartialMatching}
 use Rattle.mcf_assign.specs.Private.Lows.{AreLows, IsGap, IsIdleArc, IsPicked}
 use Rattle.mcf_assign.specs.Private.RowLists.{IsRowArc, forward_of}
-use Rattle.mcf_assign.specs.Private.Scans.{HasFarArcs, IsStep}
+use Rattle.mcf_assign.specs.Private.Scans.{IsStep}
 use Rattle.mcf_assign.specs.Private.Searches.{IsLast, IsSearch, Search, Settled, dist_at}
 use Rattle.mcf_assign.proofs.CutPrices.{past_worse}
-use Rattle.mcf_assign.proofs.Relaxing.{listed, relaxed_out, relaxed_settled}
-use Rattle.mcf_assign.proofs.Scans.{far_before}
+use Rattle.mcf_assign.proofs.Relaxing.{listed, relaxed_settled, relaxed_worse}
 
 abbrev forward : ℕ → Rid
 forward k = record { arc = k; back = false }
@@ -97,31 +96,30 @@ contains_forward (b ∷ list) a has =
     ]
 
 module _ (s : Pseudoflow) (y lows : List ℤ) (q : Search) (row : ℕ) (base gap : ℤ) (ok : IsPartialMatching s) (shown : AreMatchingPrices s y)
-    (are : AreLows y lows) (settled : Settled q row) (last : IsLast s q row) (eb : base ≡ dist_at q row -ℤ at_node y row) (is : IsGap q.best q.horizon base gap) where
+    (are : AreLows y lows) (settled : Settled q row) (last : IsLast s q row) (eb : base ≡ dist_at q row -ℤ at_node y row) (is : IsGap q.best base gap) where
   -- an arc of the row that is idle need not be relaxed
-  idle_kept : (a : RowArc) → IsRowArc s.net row a → IsIdleArc lows q.settled gap a → (source : ℕ) (rest : List Rid) → HasFarArcs s y q rest
+  idle_kept : (a : RowArc) → IsRowArc s.net row a → IsIdleArc lows q.settled gap a → (source : ℕ) (rest : List Rid)
       → IsSearch s y q source (forward_of a ∷ rest) → IsSearch s y q source rest
-  idle_kept a here idle source rest far search =
+  idle_kept a here idle source rest search =
       let set_row = subst (λ v. Settled q v) (sym here.from) settled in
       let last_row = subst (λ v. IsLast s q v) (sym here.from) last in
       elim idle [
-        | inl past ↦ relaxed_out s y q a.arc ok shown here.arc set_row last_row
+        | inl past ↦ relaxed_worse s y q a.arc ok shown here.arc set_row last_row
             (past_worse s y lows q a base gap ok shown are
             (record { arc = here.arc; from = refl; to = here.to; head = here.head; cost = here.cost; small = here.small })
-            (eb ∙ ap (λ v. dist_at q v -ℤ at_node y v) (sym here.from)) is past) source rest far search
+            (eb ∙ ap (λ v. dist_at q v -ℤ at_node y v) (sym here.from)) is past) source rest search
         | inr mark ↦ relaxed_settled s y q a.arc ok shown here.arc set_row last_row (subst (λ v. Settled q v) (sym here.to) mark) source rest search
       ]
 
   -- nor need those of a list that are idle, or in the rest
   passed : (source : ℕ) (rest : List Rid) (list : List RowArc) → All (IsRowArc s.net row) list
-      → All (λ a. Contains rest (forward_of a) ⊎ IsIdleArc lows q.settled gap a) list → HasFarArcs s y q rest
+      → All (λ a. Contains rest (forward_of a) ⊎ IsIdleArc lows q.settled gap a) list
       → IsSearch s y q source (map forward_of list ++ rest) → IsSearch s y q source rest
-  passed source rest [] each done far search = search
-  passed source rest (a ∷ list) each done far search =
-      passed source rest list (All-tail (IsRowArc s.net row) a list each) (All-tail (λ b. Contains rest (forward_of b) ⊎ IsIdleArc lows q.settled gap b) a list done) far
+  passed source rest [] each done search = search
+  passed source rest (a ∷ list) each done search =
+      passed source rest list (All-tail (IsRowArc s.net row) a list each) (All-tail (λ b. Contains rest (forward_of b) ⊎ IsIdleArc lows q.settled gap b) a list done)
       (elim (All-head (λ b. Contains rest (forward_of b) ⊎ IsIdleArc lows q.settled gap b) a list done) [
-        | inr idle ↦ idle_kept a (All-head (IsRowArc s.net row) a list each) idle source (map forward_of list ++ rest)
-            (λ k arc h beyond. Contains-append_right (map forward_of list) rest (forward k) (far k arc h beyond)) search
+        | inr idle ↦ idle_kept a (All-head (IsRowArc s.net row) a list each) idle source (map forward_of list ++ rest) search
         | inl in_it ↦ listed s y q source (forward_of a ∷ (map forward_of list ++ rest)) (map forward_of list ++ rest)
             (λ r has. elim (Contains-cons (forward_of a) (map forward_of list ++ rest) r has) [
               | inl at ↦ subst (λ x. Contains (map forward_of list ++ rest) x) at (Contains-append_right (map forward_of list) rest (forward_of a) in_it)
@@ -141,7 +139,6 @@ module _ (s : Pseudoflow) (y lows : List ℤ) (q : Search) (row : ℕ) (base gap
               | inl in_it ↦ inl (Contains-append_left (map forward_of picked) rest (forward_of a) (contains_forward picked a in_it))
               | inr idle ↦ inr idle
             ])
-            (λ k arc h beyond. Contains-append_right (map forward_of picked) rest (forward k) (far_before s y q new rest ok step.kept step.horizon more.far k arc h beyond))
             (listed s y q source (map forward_of list ++ rest) (map forward_of list ++ (map forward_of picked ++ rest))
             (λ r has. elim (Contains-append_cases (map forward_of list) rest r has) [
               | inl first ↦ Contains-append_left (map forward_of list) (map forward_of picked ++ rest) r first
@@ -149,7 +146,7 @@ module _ (s : Pseudoflow) (y lows : List ℤ) (q : Search) (row : ℕ) (base gap
             ]) search));
         kept = step.kept;
         fresh = step.fresh;
-        horizon = step.horizon;
+        number = step.number;
         more = step.more;
         longer = step.longer;
       }

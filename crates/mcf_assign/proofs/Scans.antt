@@ -1,5 +1,5 @@
 -- A search while it scans rows: what one arc changes, one row, and one row more settled.
-use Rattle.std.proofs.Common.{◌≡◌, ◌≢◌, ℕ, ◌+◌, ◌-◌, ◌*◌, ◌<◌, ◌≤◌, true, false, List, [], ◌∷◌, ◌++◌, length, get_or, Option, None, Some, ℤ, ◌≤ℤ◌, ◌+ℤ◌, ◌-ℤ◌, ◌⊎◌, refl, sym}
+use Rattle.std.proofs.Common.{◌≡◌, ◌≢◌, ℕ, ◌+◌, ◌-◌, ◌*◌, ◌<◌, ◌≤◌, true, false, List, [], ◌∷◌, ◌++◌, length, get_or, Some, ℤ, ◌≤ℤ◌, ◌⊎◌, refl, sym}
 use Rattle.std.proofs.Common.{◌∙◌, ap, subst, arith, inl, inr, ◌^◌, set, length-set}
 use Rattle.std.specs.List.{Contains, range_with_len}
 use Rattle.std.proofs.lemmas.Bool.{cases_eq, cases_lt, true≢false}
@@ -12,14 +12,12 @@ use Rattle.mcf_instance.specs.WellFormed.{IsUpTo}
 use Rattle.mcf_network.specs.declared.rid.Rid.{Rid}
 use Rattle.mcf_network.specs.Stars.{Leaves, ListsLeaving}
 use Rattle.mcf_network.specs.States.{Pseudoflow}
-use Rattle.mcf_network.proofs.Lists.{Contains-cons}
 use Rattle.mcf_network.proofs.Marks.{count_small}
-use Rattle.mcf_network.proofs.RestoringLaws.{sign_of}
-use Rattle.mcf_assign.specs.Matchings.{AreMatchingPrices, IsColumn, IsMatchedColumn, IsPair, IsPartialMatching, IsRow, column_of, reduced, row_of}
+use Rattle.mcf_assign.specs.Matchings.{AreMatchingPrices, IsColumn, IsMatchedColumn, IsPair, IsPartialMatching, IsRow, column_of, row_of}
 use Rattle.mcf_assign.specs.Private.Forests.{IsOrder}
-use Rattle.mcf_assign.specs.Private.Scans.{AreTurns, HasFarArcs, HasNewArcs, HasPending, IsGoing, IsNextRow, IsSound, IsStep, all_forward}
-use Rattle.mcf_assign.specs.Private.Searches.{HasEntries, HasForward, IsBeyond, IsLink, IsLast, IsOver, IsPassed, IsReached, IsLowering, IsNear, IsNearest, IsReady, IsSearch, IsSettling, Search, Settled, Waits}
-use Rattle.mcf_assign.specs.Private.Searches.{dist_at, link_at, lowered, offer, reach_of, settled_pair}
+use Rattle.mcf_assign.specs.Private.Scans.{AreTurns, HasNewArcs, HasPending, IsGoing, IsNextRow, IsSound, IsStep, all_forward}
+use Rattle.mcf_assign.specs.Private.Searches.{HasEntries, HasForward, IsLast, IsLowering, IsNear, IsNearest, IsReady, IsSearch, IsSettling, Search, Settled, Waits}
+use Rattle.mcf_assign.specs.Private.Searches.{dist_at, lowered, offer, reach_of, settled_pair}
 use Rattle.mcf_assign.proofs.Near.{near_best, near_lowered}
 use Rattle.mcf_assign.proofs.Orders.{ordered_kept, ordered_more, two_more}
 use Rattle.mcf_assign.proofs.PairLaws.{column_is, row_column, row_is}
@@ -110,33 +108,19 @@ turns_more s order c r turns column row =
 
 -- ---- steps
 
--- nothing changed, since arcs that offer too much are left in the rest
-pub far_step : (s : Pseudoflow) (y : List ℤ) (q : Search) (order : List ℕ) (row : ℕ) (arcs : List Rid)
-    → ((source : ℕ) (rest : List Rid) → HasFarArcs s y q rest → IsSearch s y q source (arcs ++ rest) → IsSearch s y q source rest)
-    → IsStep s y q order q order row arcs
-far_step s y q order row arcs relaxes =
-    record {
-      sound = λ source h. h;
-      search = λ source rest new search. relaxes source rest new.far search;
-      kept = λ v n h. (h, refl);
-      fresh = λ v n h. inl h;
-      horizon = refl;
-      more = [];
-      longer = sym (append-nil order);
-    }
-
 -- nothing changed
 pub idle_step : (s : Pseudoflow) (y : List ℤ) (q : Search) (order : List ℕ) (row : ℕ) (arcs : List Rid)
     → ((source : ℕ) (rest : List Rid) → IsSearch s y q source (arcs ++ rest) → IsSearch s y q source rest) → IsStep s y q order q order row arcs
-idle_step s y q order row arcs relaxes = far_step s y q order row arcs (λ source rest far search. relaxes source rest search)
-
--- arcs that offer too much offer that later, too
-pub far_before : (s : Pseudoflow) (y : List ℤ) (q r : Search) (rest : List Rid) → IsPartialMatching s
-    → ((v : ℕ) → IsNode (node_count s.net) v → Settled q v → Settled r v × (dist_at r v ≡ dist_at q v)) → r.horizon ≡ q.horizon → HasFarArcs s y r rest
-    → HasFarArcs s y q rest
-far_before s y q r rest ok kept same far k arc h beyond =
-    let here = kept (row_of s k) (row_is s k ok arc).0 h in
-    far k arc here.0 (subst (λ o. IsBeyond o (offer s y r k)) (sym same) (subst (λ d. IsBeyond q.horizon (d +ℤ reduced s y k)) (sym here.1) beyond))
+idle_step s y q order row arcs relaxes =
+    record {
+      sound = λ source h. h;
+      search = λ source rest new search. relaxes source rest search;
+      kept = λ v n h. (h, refl);
+      fresh = λ v n h. inl h;
+      number = refl;
+      more = [];
+      longer = sym (append-nil order);
+    }
 
 -- one step after another
 pub steps : (s : Pseudoflow) (y : List ℤ) (p q r : Search) (a b c : List ℕ) (row : ℕ) (xs ys : List Rid) → IsPartialMatching s → IsNode (node_count s.net) row
@@ -145,21 +129,15 @@ steps s y p q r a b c row xs ys ok node settled first second =
     record {
       sound = λ source h. second.sound source (first.sound source h);
       search = λ source rest new search. second.search source rest
-          (record {
-            fresh = λ k arc h. elim (new.fresh k arc h) [
-              | inl was ↦ inl (first.kept (row_of s k) (row_is s k ok arc).0 was).0
-              | inr has ↦ inr has
-            ];
-            far = new.far;
-          })
+          (λ k arc h. elim (new k arc h) [
+            | inl was ↦ inl (first.kept (row_of s k) (row_is s k ok arc).0 was).0
+            | inr has ↦ inr has
+          ])
           (first.search source (ys ++ rest)
-          (record {
-            fresh = λ k arc h. elim (new.fresh k arc (second.kept (row_of s k) (row_is s k ok arc).0 h).0) [
-              | inl was ↦ inl was
-              | inr has ↦ inr (Contains-append_right ys rest (forward k) has)
-            ];
-            far = λ k arc h beyond. Contains-append_right ys rest (forward k) (far_before s y q r rest ok second.kept second.horizon new.far k arc h beyond);
-          }) (subst (λ l. IsSearch s y p source l) (append_assoc xs ys rest) search));
+          (λ k arc h. elim (new k arc (second.kept (row_of s k) (row_is s k ok arc).0 h).0) [
+            | inl was ↦ inl was
+            | inr has ↦ inr (Contains-append_right ys rest (forward k) has)
+          ]) (subst (λ l. IsSearch s y p source l) (append_assoc xs ys rest) search));
       kept = λ v n h. (let x = first.kept v n h in let z = second.kept v n x.0 in (z.0, z.1 ∙ x.1));
       fresh = λ v n h. elim (second.fresh v n h) [
         | inr far ↦ inr (far ∙ (first.kept row node settled).1)
@@ -168,7 +146,7 @@ steps s y p q r a b c row xs ys ok node settled first second =
           | inr far ↦ inr ((second.kept v n was).1 ∙ far)
         ]
       ];
-      horizon = second.horizon ∙ first.horizon;
+      number = second.number ∙ first.number;
       more = first.more ++ second.more;
       longer = second.longer ∙ ap (λ l. l ++ second.more) first.longer ∙ append_assoc a first.more second.more;
     }
@@ -259,7 +237,7 @@ module _ (s : Pseudoflow) (y : List ℤ) (q : Search) (order : List ℕ) (k : �
         search = λ source rest new search. relaxes source rest search;
         kept = λ v n h. (h, refl);
         fresh = λ v n h. inl h;
-        horizon = refl;
+        number = refl;
         more = [];
         longer = sym (append-nil order);
       }
@@ -302,7 +280,7 @@ module _ (s : Pseudoflow) (y : List ℤ) (q : Search) (order : List ℕ) (k : �
           search = λ source rest new search. relaxes source rest search;
           kept = λ v n h. (h, low_dist v n h);
           fresh = λ v n h. inl h;
-          horizon = refl;
+          number = refl;
           more = [];
           longer = sym (append-nil order);
         }
@@ -368,10 +346,10 @@ module _ (s : Pseudoflow) (y : List ℤ) (q : Search) (order : List ℕ) (k : �
       stepped source rest search =
           stepped_pair s y low source c r k0 rest ok shown (low_entries entries) search (first source rest search) pair at_column at_row
 
-      once_search : (source : ℕ) (rest : List Rid) → HasNewArcs s y q new rest → IsSearch s y q source (forward k ∷ rest) → IsSearch s y new source rest
+      once_search : (source : ℕ) (rest : List Rid) → HasNewArcs s q new rest → IsSearch s y q source (forward k ∷ rest) → IsSearch s y new source rest
       once_search source rest arcs search =
           let h = low_search source rest search in
-          (stepped source rest h).search rest (λ j a e. elim (arcs.fresh j a (subst (λ v. Settled new v) (sym e) settling.row)) [
+          (stepped source rest h).search rest (λ j a e. elim (arcs j a (subst (λ v. Settled new v) (sym e) settling.row)) [
             | inl was ↦ absurd (r_new source rest h (subst (λ v. Settled q v) e was))
             | inr has ↦ has
           ]) (λ o has. has)
@@ -406,7 +384,7 @@ module _ (s : Pseudoflow) (y : List ℤ) (q : Search) (order : List ℕ) (k : �
               | inr (inl e) ↦ inr (ap (dist_at new) e ∙ settling.dist c c_is.0 apart ∙ c_far)
               | inr (inr e) ↦ inr (ap (dist_at new) e ∙ settling.at_row ∙ c_far)
             ];
-            horizon = refl;
+            number = refl;
             more = c ∷ r ∷ [];
             longer = append_assoc order (c ∷ []) (r ∷ []);
           }
@@ -453,7 +431,7 @@ going_start s y q source order ready listed e =
       half = 0;
       even = refl;
       within = omega arith;
-      search = λ list pending far. ready.search list (λ k arc from. pending k 0 arc (omega arith) (omega (arith, one)) (at 0 (omega arith) ∙ sym from));
+      search = λ list pending. ready.search list (λ k arc from. pending k 0 arc (omega arith) (omega (arith, one)) (at 0 (omega arith) ∙ sym from));
       last = λ i from l. subst (λ v. IsLast s q v) (sym (at i (omega (arith, l, one)))) ready.last;
     }
   where
@@ -463,142 +441,11 @@ going_start s y q source order ready listed e =
     at : (i : ℕ) → i ≡ 0 → get_or order i 0 ≡ source
     at i none = ap (λ j. get_or order j 0) none ∙ ap (λ o. get_or o 0 0) e
 
--- where all rows are scanned no arc is left but those that offer too much
+-- where all rows are scanned no arc is left
 pub going_over : (s : Pseudoflow) (y : List ℤ) (q : Search) (source : ℕ) (order : List ℕ) (next : ℕ) (list : List Rid) → IsGoing s y q source order next
-    → length order ≤ next → HasFarArcs s y q list → IsSearch s y q source list
-going_over s y q source order next list going over far =
-    going.search list (λ k i arc from l e. absurd (omega (arith, from, l, over))) far
-
--- ---- a horizon
-
-beyond_or_not : (horizon : Option ℤ) (x : ℤ) → IsBeyond horizon x ⊎ (IsBeyond horizon x → ⊥)
-beyond_or_not None x = inr (λ h. h)
-beyond_or_not (Some far) x =
-    elim (sign_of (x -ℤ far)) [
-      | inl less ↦ inr (λ h. (let l = less.0 in omega (arith, ints, l, h)))
-      | inr more ↦ inl (let l = more.0 in omega (arith, ints, l))
-    ]
-
--- those of some arcs that offer too much
-far_of : (s : Pseudoflow) (y : List ℤ) (q : Search) (all : List Rid) → (list : List Rid)
-    × ((r : Rid) → Contains all r → IsBeyond q.horizon (offer s y q r.arc) → Contains list r)
-    × ((r : Rid) → Contains list r → IsBeyond q.horizon (offer s y q r.arc))
-far_of s y q [] = ([], λ r has beyond. has, λ r has. absurd (let (i, h, x) = has in omega (arith, h)))
-far_of s y q (a ∷ all) =
-    let more = far_of s y q all in
-    elim (beyond_or_not q.horizon (offer s y q a.arc)) [
-      | inl beyond ↦ (
-        a ∷ more.0,
-        λ r has far. elim (Contains-cons a all r has) [
-          | inl at ↦ subst (λ x. Contains (a ∷ more.0) x) at (Contains-append_left (a ∷ []) more.0 a (Contains-push [] a))
-          | inr later ↦ Contains-append_right (a ∷ []) more.0 r (more.1 r later far)
-        ],
-        λ r has. elim (Contains-cons a more.0 r has) [
-          | inl at ↦ subst (λ (x : Rid). IsBeyond q.horizon (offer s y q x.arc)) at beyond
-          | inr later ↦ more.2 r later
-        ],
-      )
-      | inr within ↦ (
-        more.0,
-        λ r has far. elim (Contains-cons a all r has) [
-          | inl at ↦ absurd (within (subst (λ (x : Rid). IsBeyond q.horizon (offer s y q x.arc)) (sym at) far))
-          | inr later ↦ more.1 r later far
-        ],
-        more.2,
-      )
-    ]
-
--- a search that found its target within its horizon is over
-pub going_reached : (s : Pseudoflow) (y : List ℤ) (q : Search) (source : ℕ) (order : List ℕ) (next : ℕ) → IsGoing s y q source order next
-    → length order ≤ next → IsReached q → IsSearch s y q source []
-going_reached s y q source order next going over reached =
-    let far = far_of s y q (all_forward s.net) in
-    let search = going_over s y q source order next far.0 going over (λ k arc h beyond. far.1 (forward k) (all_has s.net k arc) beyond) in
-    record {
-      dist_count = search.dist_count;
-      waiting_count = search.waiting_count;
-      settled_count = search.settled_count;
-      link_count = search.link_count;
-      is_row = search.is_row;
-      not_matched = search.not_matched;
-      source_settled = search.source_settled;
-      pairs = search.pairs;
-      partners = search.partners;
-      settled_columns = search.settled_columns;
-      waiting_columns = search.waiting_columns;
-      apart = search.apart;
-      level = search.level;
-      best = search.best;
-      offers = λ k arc h. elim (search.offers k arc h) [
-        | inl was ↦ inl was
-        | inr has ↦ inl (inr (inr (reached (offer s y q k) (far.2 (forward k) has))))
-      ];
-    }
-
-pub passed_over : (nodes : ℕ) (q : Search) → IsPassed nodes q → IsReached q → IsOver nodes q
-passed_over nodes q passed reached w n h =
-    elim (passed w n h) [
-      | inl worse ↦ worse
-      | inr beyond ↦ reached (dist_at q w) beyond
-    ]
-
--- a search that had no horizon gets one
-bounded_search : (s : Pseudoflow) (y : List ℤ) (q : Search) (source : ℕ) (rest : List Rid) (horizon : Option ℤ) → IsSearch s y q source rest
-    → IsSearch s y (record q { horizon = horizon }) source rest
-bounded_search s y q source rest horizon search =
-    record {
-      dist_count = search.dist_count;
-      waiting_count = search.waiting_count;
-      settled_count = search.settled_count;
-      link_count = search.link_count;
-      is_row = search.is_row;
-      not_matched = search.not_matched;
-      source_settled = search.source_settled;
-      pairs = search.pairs;
-      partners = search.partners;
-      settled_columns = λ v h n. (let b = search.settled_columns v h n in (b.0, link v b.1));
-      waiting_columns = λ v h n. (let b = search.waiting_columns v h n in (b.0, link v b.1));
-      apart = search.apart;
-      level = search.level;
-      best = λ t e. (let b = search.best t e in (again t.arc (column_of s t.arc) t.dist b.0, b.1, b.2));
-      offers = search.offers;
-    }
-  where
-    again : (k v : ℕ) (x : ℤ) → IsLink s y q k v x → IsLink s y (record q { horizon = horizon }) k v x
-    again k v x l = record { arc = l.arc; idle = l.idle; from = l.from; to = l.to; gives = l.gives }
-
-    link : (v : ℕ) → IsLink s y q (link_at q v) v (dist_at q v) → IsLink s y (record q { horizon = horizon }) (link_at q v) v (dist_at q v)
-    link v l = again (link_at q v) v (dist_at q v) l
-
-pub going_bounded : (s : Pseudoflow) (y : List ℤ) (q q' : Search) (source : ℕ) (order : List ℕ) (next : ℕ) (horizon : Option ℤ) → q.horizon ≡ None
-    → q' ≡ record q { horizon = horizon } → IsGoing s y q source order next → IsGoing s y q' source order next
-going_bounded s y q q' source order next horizon none value going =
-    subst (λ (x : Search). IsGoing s y x source order next) (sym value) (record {
-      sound = record {
-        entries = record {
-          dist_count = entries.dist_count;
-          waiting_count = entries.waiting_count;
-          settled_count = entries.settled_count;
-          link_count = entries.link_count;
-        };
-        search = bounded_search s y q source (all_forward s.net) horizon going.sound.search;
-        order_ok = ordered_kept s q (record q { horizon = horizon }) source order order refl refl (λ v n w. refl) going.sound.order_ok;
-        near = record { settled = near.settled; waiting = near.waiting; best = near.best };
-        turns = going.sound.turns;
-      };
-      half = going.half;
-      even = going.even;
-      within = going.within;
-      search = λ list pending far. bounded_search s y q source list horizon
-          (going.search list pending (λ k arc h beyond. absurd (subst (λ o. IsBeyond o (offer s y q k)) none beyond)));
-      last = going.last;
-    })
-  where
-    entries : HasEntries (node_count s.net) q
-    entries = going.sound.entries
-
-    near : IsNear s y q source (reach_of q)
-    near = going.sound.near
+    → length order ≤ next → IsSearch s y q source list
+going_over s y q source order next list going over =
+    going.search list (λ k i arc from l e. absurd (omega (arith, from, l, over)))
 
 -- the list of what is settled is no longer than the net
 pub going_few : (s : Pseudoflow) (y : List ℤ) (q : Search) (source : ℕ) (order : List ℕ) → IsSound s y q source order → length order ≤ node_count s.net
@@ -651,9 +498,6 @@ going_settled s y q q' source c r order order' next ok shown going over first va
         search.apart c c_is.0 first.waits
         (subst (λ u. Settled q u) at_column (search.pairs k pair (subst (λ u. Settled q u) (e ∙ sym at_row) h)).0)
 
-    kept : (v : ℕ) → IsNode (node_count s.net) v → Settled q v → Settled (settled_pair q c r) v × (dist_at (settled_pair q c r) v ≡ dist_at q v)
-    kept v n h = (settling.kept v n h, settling.dist v n (r_new v h))
-
     one : length (order ++ c ∷ []) ≡ length order + 1
     one = length_push order c
 
@@ -685,8 +529,7 @@ going_settled s y q q' source c r order order' next ok shown going over first va
           half = going.half;
           even = even;
           within = omega (arith, within, one, two);
-          search = λ list pending far. (stepped list (going_over s y q source order next list going over (far_before s y q (settled_pair q c r) list ok
-              kept refl far))).search list (λ j a e. pending j (length order + 1) a (omega (arith, within)) (omega (arith, one, two))
+          search = λ list pending. (stepped list (going_over s y q source order next list going over)).search list (λ j a e. pending j (length order + 1) a (omega (arith, within)) (omega (arith, one, two))
               (here (length order + 1) (omega (arith, within)) (omega (arith, one, two)) ∙ sym e)) (λ o has. has);
           last = λ i from l. subst (λ v. IsLast s (settled_pair q c r) v) (sym (here i from l)) done.last;
         }
@@ -701,8 +544,7 @@ going_scanned s y q q' source row next order order' list ok going inside at list
       half = going.half + 1;
       even = omega (arith, even);
       within = omega (arith, inside, even, odd, length_now);
-      search = λ rest pending far. step.search source rest (record { fresh = new_arcs rest pending; far = far })
-          (going.search (list ++ rest) (old_arcs rest pending) (old_far rest far));
+      search = λ rest pending. step.search source rest (new_arcs rest pending) (going.search (list ++ rest) (old_arcs rest pending));
       last = later_last;
     }
   where
@@ -727,10 +569,6 @@ going_scanned s y q q' source row next order order' list ok going inside at list
         let column = subst (λ j. IsColumn s (get_or order' j 0)) (let b : 2 * going.half + 1 ≡ i = omega (arith, e, even) in b)
         (now.turns.columns going.half (omega (arith, l, e, even))) in
         row_column s (row_of s k) (get_or order' i 0) (row_is s k ok arc) column (sym is)
-
-    old_far : (rest : List Rid) → HasFarArcs s y q' rest → HasFarArcs s y q (list ++ rest)
-    old_far rest far k arc h beyond =
-        Contains-append_right list rest (forward k) (far_before s y q q' rest ok step.kept step.horizon far k arc h beyond)
 
     new_arcs : (rest : List Rid) → HasPending s order' (next + 2) rest → (k : ℕ) → IsArcNumber s.net k → Settled q' (row_of s k)
         → Settled q (row_of s k) ⊎ Contains rest (forward k)

@@ -11,12 +11,13 @@ ghost use Rattle.mcf_assign.specs.Private.Keeping.{IsEnded, IsIdle};
 ghost use Rattle.mcf_assign.specs.Matchings.{AreMatchingPrices, IsMatchedRow, IsPartialMatching, IsRow, column_of};
 ghost use Rattle.mcf_assign.specs.Private.Lows.{AreLows};
 ghost use Rattle.mcf_assign.specs.Private.RowLists.{AreRows};
-ghost use Rattle.mcf_assign.specs.Private.Searches.{AreRaised, HasEntries, IsReached, Settled, search_of};
+ghost use Rattle.mcf_assign.specs.Private.Searches.{AreRaised, HasEntries, Settled, search_of};
 ghost use Rattle.mcf_assign.specs.Private.Turning.{IsExtended};
 
 use crate::prices::Prices;
 use crate::rows::{RowArc, Rows};
 use crate::search::{Tables, Target};
+use mcf_counts::Count;
 use mcf_network::{Net, NodeSet, State};
 use mcf_prices::Heap;
 use mcf_text::{ArcId, NoMemory, NodeId, copies};
@@ -30,6 +31,7 @@ impl Tables {
         requires keys { length heap.keys ≡ node_count net.now }
         ensures idle { IfOk result (IsIdle (node_count net.now)) }
         ensures order { IfOk result (λ tables. tables.order.items ≡ []) }
+        ensures searches { IfOk result (λ tables. tables.searches.number ≡ 0) }
         ensures wants { OnErr result (1 ≤ node_count net.now) }
     {
         let nodes = net.node_count() as usize;
@@ -38,11 +40,9 @@ impl Tables {
             marks: copies(alloc, nodes, false)?,
             links: copies(alloc, nodes, 0)?,
             best: None,
-            horizon: None,
             order: Vec::with_capacity(alloc, nodes)?,
             partners: copies(alloc, nodes, 0)?,
-            nearest: 0,
-            looked: 0,
+            searches: Count::zero(),
             pairs: 0,
         })
     }
@@ -71,44 +71,13 @@ impl Tables {
         ensures room { node_count state.now.net ≤ vec_capacity self.new.order }
         ensures ended { IsEnded state.now prices.now (search_of self.new) source self.new.order.items }
         ensures best { result ≡ self.new.best }
-    {
-        self.look(state, rows, prices, lows, mates, picks, source, true);
-        if !self.is_reached() {
-            self.look(state, rows, prices, lows, mates, picks, source, false);
-        }
-        self.learn();
-        self.pairs = self.pairs.saturating_add(self.order.len() as u64 / 2);
-        self.best
-    }
-
-    // Runs a search from a row that is not matched, with a horizon if that is asked.
-    fn look(
-        &mut self,
-        state: &State<'_>,
-        rows: &Rows,
-        prices: &Prices,
-        lows: &[i64],
-        mates: &[u32],
-        picks: &mut [RowArc],
-        source: NodeId,
-        bounded: bool,
-    )
-        requires matching { IsPartialMatching state.now }
-        requires rows { AreRows state.now.net rows.now }
-        requires prices { AreMatchingPrices state.now prices.now }
-        requires lows { AreLows prices.now lows.now }
-        requires mates { AreMates state.now mates.now }
-        requires idle { IsIdle (node_count state.now.net) self.old }
-        requires small { (v : ℕ) → IsNode (node_count state.now.net) v → IsUpTo (10 ^ 29) (at_node prices.now v) }
-        requires row { IsRow state.now source }
-        requires free { ¬ IsMatchedRow state.now source }
-        ensures idle { IsIdle (node_count state.now.net) self.new }
-        ensures ended { IsReached (search_of self.new) → IsEnded state.now prices.now (search_of self.new) source self.new.order.items }
-        ensures unbounded { bounded ≡ false → self.new.horizon ≡ None }
+        ensures counted { self.new.searches.number ≡ self.old.searches.number + 1 }
     {
         self.reset();
         self.begin(state, source);
-        self.run(state, rows, prices, lows, mates, picks, source, bounded);
+        self.run(state, rows, prices, lows, mates, picks, source);
+        self.pairs = self.pairs.saturating_add(self.order.len() as u64 / 2);
+        self.best
     }
 
     /// Matches the row of a search that found a path which ends with an arc: prices rise, the path is turned, and the
@@ -144,26 +113,25 @@ impl Tables {
         self.order.push_reserved(column);
     }
 
-    /// The heap, in which no node waits.
-    pub(crate) fn into_heap(self) -> Heap
-        ensures none { NoneWaits result }
-        ensures nodes { length result.waiting ≡ length self.heap.waiting }
-        ensures keys { length result.keys ≡ length self.heap.keys }
+    /// The heap, in which no node waits, and the count of the searches.
+    pub(crate) fn into_parts(self) -> (Heap, Count)
+        ensures none { NoneWaits result.0 }
+        ensures nodes { length result.0.waiting ≡ length self.heap.waiting }
+        ensures keys { length result.0.keys ≡ length self.heap.keys }
+        ensures searches { result.1.number ≡ self.searches.number }
     {
         let Tables {
             mut heap,
             marks: _,
             links: _,
             best: _,
-            horizon: _,
             order: _,
             partners: _,
-            nearest: _,
-            looked: _,
+            searches,
             pairs: _,
         } = self;
         heap.clear();
-        heap
+        (heap, searches)
     }
 
     // Takes back what the search before left, in time of what it settled.
@@ -174,6 +142,7 @@ impl Tables {
         ensures entries { (nodes : ℕ) → HasEntries nodes (search_of self.old) → HasEntries nodes (search_of self.new) }
         ensures unsettled { (v : ℕ) → in_table self.new.marks.items v ≡ false }
         ensures none { self.new.order.items ≡ [] }
+        ensures number { self.new.searches.number ≡ self.old.searches.number }
         ensures room { vec_capacity self.new.order ≡ vec_capacity self.old.order }
     {
         self.heap.clear();

@@ -37,7 +37,6 @@ pub struct Matching<'n> {
     tables: Tables,
     reached: NodeSet,
     update: Update,
-    searches: Count,
 }
 
 impl<'n> Model for Matching<'n> {
@@ -47,7 +46,7 @@ impl<'n> Model for Matching<'n> {
 
     ghost use Rattle.mcf_assign.specs.Private.Keeping.{IsKept};
 
-    ghost view = { λ a. record { flow = a.state; prices = a.prices; settled = a.tables.order.items; reached = a.reached; searches = a.searches.number } };
+    ghost view = { λ a. record { flow = a.state; prices = a.prices; settled = a.tables.order.items; reached = a.reached; searches = a.tables.searches.number } };
 
     ghost use Rattle.mcf_instance.specs.Network.{node_count};
     ghost use Rattle.mcf_assign.specs.Private.RowLists.{AreRows};
@@ -105,7 +104,6 @@ impl<'n> Matching<'n> {
             tables: Tables::new(alloc, net, heap)?,
             reached: NodeSet::new(alloc, net)?,
             update: Update::new(alloc, net)?,
-            searches: Count::zero(),
         })
     }
 
@@ -127,7 +125,6 @@ impl<'n> Matching<'n> {
         let found = self
             .tables
             .search(&self.state, &self.rows, prices, lows, mates, picks, row);
-        self.searches.add_one();
         match found {
             Some(target) => {
                 let mates = self.mates.as_mut_slice();
@@ -207,7 +204,6 @@ impl<'n> Matching<'n> {
             tables: _,
             reached: _,
             update: _,
-            searches: _,
         } = self;
         (state, prices.into_wide())
     }
@@ -232,9 +228,9 @@ impl<'n> Matching<'n> {
             tables,
             reached: _,
             update: _,
-            searches,
         } = self;
-        (state, prices.into_wide(), tables.into_heap(), searches)
+        let (heap, searches) = tables.into_parts();
+        (state, prices.into_wide(), heap, searches)
     }
 
     /// The set that the last search reached that found no path, and the count of the searches.
@@ -248,11 +244,11 @@ impl<'n> Matching<'n> {
             prices: _,
             mates: _,
             picks: _,
-            tables: _,
+            tables,
             reached,
             update: _,
-            searches,
         } = self;
+        let (_, searches) = tables.into_parts();
         (reached, searches)
     }
 }

@@ -6,7 +6,7 @@ use Rattle.mcf_instance.specs.Network.{at_node}
 use Rattle.mcf_instance.specs.WellFormed.{IsUpTo}
 use Rattle.mcf_assign.specs.declared.rows.RowArc.{RowArc}
 use Rattle.mcf_assign.specs.declared.search.Target.{Target}
-use Rattle.mcf_assign.specs.Private.Searches.{IsOut}
+use Rattle.mcf_assign.specs.Private.Searches.{IsBestUpTo}
 
 -- how far from 0 a price lies at most that is cut
 abbrev pub low_reach : ℕ
@@ -40,8 +40,8 @@ unfoldable pub whole_prices : List ℤ → List ℤ → List ℤ
 whole_prices lows wide = map (λ i. whole_price (slice_index_or lows i (pos 0)) (slice_index_or wide i (pos 0))) (range_with_len 0 (length lows))
 
 -- what arcs offer from a row, less its base, is of no use where it is no less than the gap
-abbrev pub IsGap : Option Target → Option ℤ → ℤ → ℤ → Type 0
-IsGap best horizon base gap = (x : ℤ) → IsUpTo (2 ^ 62) x → gap ≤ℤ x → IsOut best horizon (base +ℤ x)
+abbrev pub IsGap : Option Target → ℤ → ℤ → Type 0
+IsGap best base gap = (x : ℤ) → IsUpTo (2 ^ 62) x → gap ≤ℤ x → IsBestUpTo best (base +ℤ x)
 
 -- an arc of a row that is no news: it offers no less than the gap, or its column is settled
 abbrev pub IsIdleArc : List ℤ → List Bool → ℤ → RowArc → Type 0

@@ -6,21 +6,16 @@ use Rattle.mcf_network.specs.declared.rid.Rid.{Rid}
 use Rattle.mcf_network.specs.States.{Pseudoflow}
 use Rattle.mcf_assign.specs.Matchings.{IsColumn, IsRow, row_of}
 use Rattle.mcf_assign.specs.Private.Forests.{IsOrder}
-use Rattle.mcf_assign.specs.Private.Searches.{HasEntries, IsBeyond, IsLast, IsNear, IsSearch, Search, Settled, dist_at, offer, reach_of}
+use Rattle.mcf_assign.specs.Private.Searches.{HasEntries, IsLast, IsNear, IsSearch, Search, Settled, dist_at, reach_of}
 
 -- all arcs of a net, forward
 abbrev pub all_forward : Network → List Rid
 all_forward g = map (λ (k : ℕ). record { arc = k; back = false }) (range_with_len 1 (length g.arcs))
 
--- the list has each arc that leaves a settled row and offers what isn't within how far the search looks
-abbrev pub HasFarArcs : Pseudoflow → List ℤ → Search → List Rid → Type 0
-HasFarArcs s y q list =
-    (k : ℕ) → IsArcNumber s.net k → Settled q (row_of s k) → IsBeyond q.horizon (offer s y q k) → Contains list (record { arc = k; back = false })
-
--- the list has each arc that leaves a row settled now and not before, and those that offer too much
-pub record HasNewArcs (s : Pseudoflow) (y : List ℤ) (old new : Search) (list : List Rid) : Type 0 where
-  pub fresh : (k : ℕ) → IsArcNumber s.net k → Settled new (row_of s k) → Settled old (row_of s k) ⊎ Contains list (record { arc = k; back = false })
-  pub far : HasFarArcs s y new list
+-- the list has each arc that leaves a row settled now and not before
+abbrev pub HasNewArcs : Pseudoflow → Search → Search → List Rid → Type 0
+HasNewArcs s old new list =
+    (k : ℕ) → IsArcNumber s.net k → Settled new (row_of s k) → Settled old (row_of s k) ⊎ Contains list (record { arc = k; back = false })
 
 -- rows and columns by turns, a row first and a row last
 pub record AreTurns (s : Pseudoflow) (order : List ℕ) : Type 0 where
@@ -40,10 +35,10 @@ pub record IsSound (s : Pseudoflow) (y : List ℤ) (q : Search) (source : ℕ) (
 -- some arcs of a row were relaxed: what was settled stays so at its distance, and what is settled now is as far as the row
 pub record IsStep (s : Pseudoflow) (y : List ℤ) (old : Search) (before : List ℕ) (new : Search) (after : List ℕ) (row : ℕ) (arcs : List Rid) : Type 0 where
   pub sound : (source : ℕ) → IsSound s y old source before → IsSound s y new source after
-  pub search : (source : ℕ) (rest : List Rid) → HasNewArcs s y old new rest → IsSearch s y old source (arcs ++ rest) → IsSearch s y new source rest
+  pub search : (source : ℕ) (rest : List Rid) → HasNewArcs s old new rest → IsSearch s y old source (arcs ++ rest) → IsSearch s y new source rest
   pub kept : (v : ℕ) → IsNode (node_count s.net) v → Settled old v → Settled new v × (dist_at new v ≡ dist_at old v)
   pub fresh : (v : ℕ) → IsNode (node_count s.net) v → Settled new v → Settled old v ⊎ (dist_at new v ≡ dist_at old row)
-  pub horizon : new.horizon ≡ old.horizon
+  pub number : new.number ≡ old.number
   pub more : List ℕ
   pub longer : after ≡ before ++ more
 
@@ -58,7 +53,7 @@ pub record IsGoing (s : Pseudoflow) (y : List ℤ) (q : Search) (source : ℕ) (
   pub half : ℕ
   pub even : next ≡ 2 * half
   pub within : next ≤ length order + 1
-  pub search : (list : List Rid) → HasPending s order next list → HasFarArcs s y q list → IsSearch s y q source list
+  pub search : (list : List Rid) → HasPending s order next list → IsSearch s y q source list
   pub last : (i : ℕ) → next ≤ i → i < length order → IsLast s q (slice_index_or order i 0)
 
 -- the row at a place of the order

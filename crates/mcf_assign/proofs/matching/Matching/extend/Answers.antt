@@ -6,7 +6,7 @@ use Rattle.mcf_assign.specs.Private.Keeping.{IsKept}
 use Rattle.mcf_assign.specs.Matchings.{IsRow}
 use Rattle.mcf_assign.specs.Private.RowLists.{AreRows}
 use Rattle.mcf_assign.specs.Private.Updating.{HasTables}
-use Rattle.mcf_assign.specs.Private.Searches.{search_of}
+use Rattle.mcf_assign.specs.Private.Searches.{Search, search_of}
 use Rattle.mcf_assign.proofs.Kept.{grown_from, kept_grown, near_small, shown_kept, stopped_from, written}
 use Rattle.mcf_assign.proofs.matching.Matching.extend.Goals as goal
 
@@ -51,11 +51,11 @@ returns-in-Some-clause-extended c =
     let t = c.in-Some.target in
     let s = c.search-found.ensures in
     subst (λ (m : Assigned). IsGrown m c.args.row
-    (record { flow = c.augment.new.state; prices = c.augment.new.prices; settled = c.augment.new.self.order.items; reached = i.reached; searches = c.add_one.new.self.number })) c.self.view_is
+    (record { flow = c.augment.new.state; prices = c.augment.new.prices; settled = c.augment.new.self.order.items; reached = i.reached; searches = c.augment.new.self.searches.number })) c.self.view_is
     (grown_from i.state i.prices c.augment.new.prices (search_of c.search-found.new.self) c.args.row c.search-found.new.self.order.items t k.matching
     k.shown s.entries s.ended (sym c.in-Some.ensures.best) e.raised c.augment.new.state c.augment.new.prices i.tables.order.items
-    c.augment.new.self.order.items i.reached i.searches.number c.add_one.new.self.number (e.extended c.args.row s.ended) e.changed e.order refl
-    c.add_one.ensures)
+    c.augment.new.self.order.items i.reached i.tables.searches.number c.augment.new.self.searches.number (e.extended c.args.row s.ended) e.changed e.order refl
+    (ap (λ (q : Search). q.number) e.tables ∙ s.counted))
 
 pub returns-in-Some-clause-shown : goal.returns-in-Some-clause-shown
 returns-in-Some-clause-shown c =
@@ -69,7 +69,7 @@ returns-in-Some-clause-shown c =
     i.reached c.args.row t k.matching k.shown k.near k.free_rows k.count s.entries s.room row s.ended (sym c.in-Some.ensures.best) e.raised
     (e.extended c.args.row s.ended) e.mates e.tables e.order e.room in
     shown_kept c.augment.new.state c.augment.new.prices c.augment.new.mates c.augment.new.self i.reached kept
-    (record { flow = c.augment.new.state; prices = c.augment.new.prices; settled = c.augment.new.self.order.items; reached = i.reached; searches = c.add_one.new.self.number }) refl refl
+    (record { flow = c.augment.new.state; prices = c.augment.new.prices; settled = c.augment.new.self.order.items; reached = i.reached; searches = c.augment.new.self.searches.number }) refl refl
 
 pub returns-in-None-clause-extended : goal.returns-in-None-clause-extended
 returns-in-None-clause-extended c =
@@ -79,13 +79,13 @@ returns-in-None-clause-extended c =
     let list = c.as_slice.ensures.value in
     let members = rw list at c.fill.ensures.members in
     subst (λ (m : Assigned). IsStopped m c.args.row
-    (record { flow = i.state; prices = i.prices; settled = c.search-found.new.self.order.items; reached = c.fill.new.set; searches = c.add_one.new.self.number })) c.self.view_is
+    (record { flow = i.state; prices = i.prices; settled = c.search-found.new.self.order.items; reached = c.fill.new.set; searches = c.search-found.new.self.searches.number })) c.self.view_is
     (stopped_from i.state i.prices i.prices i.prices (search_of c.search-found.new.self) c.args.row
-    c.search-found.new.self.order.items i.tables.order.items c.search-found.new.self.order.items i.reached c.fill.new.set i.searches.number c.add_one.new.self.number k.matching s.ended
-    (sym c.in-None.ensures.best) (c.fill.ensures.count ∙ k.count) (λ v n. members v (subst (λ m. IsNode m v) (sym k.count) n)) refl refl c.add_one.ensures)
+    c.search-found.new.self.order.items i.tables.order.items c.search-found.new.self.order.items i.reached c.fill.new.set i.tables.searches.number c.search-found.new.self.searches.number k.matching s.ended
+    (sym c.in-None.ensures.best) (c.fill.ensures.count ∙ k.count) (λ v n. members v (subst (λ m. IsNode m v) (sym k.count) n)) refl refl s.counted)
 
 pub returns-in-None-clause-shown : goal.returns-in-None-clause-shown
 returns-in-None-clause-shown c =
     let i = c.self.inside in
     shown_kept i.state i.prices i.mates.items i.tables i.reached c.self.invariant.0
-    (record { flow = i.state; prices = i.prices; settled = c.search-found.new.self.order.items; reached = c.fill.new.set; searches = c.add_one.new.self.number }) refl refl
+    (record { flow = i.state; prices = i.prices; settled = c.search-found.new.self.order.items; reached = c.fill.new.set; searches = c.search-found.new.self.searches.number }) refl refl

@@ -11,7 +11,7 @@ returns-then-not-is_due-clause-shown c =
     let i = c.self.inside in
     subst (λ (m : Assigned). IsShownMatching m) c.self.view_is
     (shown_kept i.state i.prices i.mates.items i.tables i.reached c.self.invariant.0
-    (record { flow = i.state; prices = i.prices; settled = i.tables.order.items; reached = i.reached; searches = i.searches.number }) refl refl)
+    (record { flow = i.state; prices = i.prices; settled = i.tables.order.items; reached = i.reached; searches = i.tables.searches.number }) refl refl)
 
 pub take_lows-requires-clause-count : goal.take_lows-requires-clause-count
 take_lows-requires-clause-count c = c.run.ensures.tables.lows ∙ sym c.self.invariant.0.shown.count
@@ -44,10 +44,10 @@ returns-then-run-clause-shown c =
     (c.run.ensures.updated c.if-run.true i.prices c.self.invariant.0.shown c.lows-lows.ensures) in
     shown_kept i.state c.run.new.self.lows.items i.mates.items i.tables i.reached
     (kept_updated i.state i.prices c.run.new.self.lows.items i.mates.items i.tables i.reached c.self.invariant.0 new)
-    (record { flow = i.state; prices = c.take_lows.new.self; settled = i.tables.order.items; reached = i.reached; searches = i.searches.number }) refl c.take_lows.ensures.prices
+    (record { flow = i.state; prices = c.take_lows.new.self; settled = i.tables.order.items; reached = i.reached; searches = i.tables.searches.number }) refl c.take_lows.ensures.prices
 
 pub returns-else-run-clause-shown : goal.returns-else-run-clause-shown
 returns-else-run-clause-shown c =
     let i = c.self.inside in
     shown_kept i.state i.prices i.mates.items i.tables i.reached c.self.invariant.0
-    (record { flow = i.state; prices = i.prices; settled = i.tables.order.items; reached = i.reached; searches = i.searches.number }) refl refl
+    (record { flow = i.state; prices = i.prices; settled = i.tables.order.items; reached = i.reached; searches = i.tables.searches.number }) refl refl

@@ -1,7 +1,7 @@
 use Rattle.std.proofs.Common.{subst, arith}
 use Rattle.mcf_instance.specs.Network.{IsNode}
 use Rattle.mcf_assign.specs.Private.Scans.{all_forward}
-use Rattle.mcf_assign.specs.Private.Searches.{IsNearest, IsPassed, Settled, search_of}
+use Rattle.mcf_assign.specs.Private.Searches.{IsNearest, IsOver, Settled, search_of}
 use Rattle.mcf_assign.proofs.Scans.{going_settled, pair_room, rows_idle, settled_next}
 use Rattle.mcf_assign.proofs.Stepping.{waiting_is}
 use Rattle.mcf_assign.proofs.search.Tables.next_row.Goals as goal
@@ -11,7 +11,7 @@ returns-in_default-clause-over c =
     let was = c.requires.going in
     let t = c.if-next-len.false in
     let e = c.len.ensures in
-    (subst (λ n. IsPassed n (search_of c.args.self.now)) was.3.sound.entries.settled_count c.in_default.ensures.over, omega (arith, t, e))
+    (subst (λ n. IsOver n (search_of c.args.self.now)) was.3.sound.entries.settled_count c.in_default.ensures.over, omega (arith, t, e))
 
 pub settle-row-requires-clause-entries : goal.settle-row-requires-clause-entries
 settle-row-requires-clause-entries c = c.requires.going.3.sound.entries

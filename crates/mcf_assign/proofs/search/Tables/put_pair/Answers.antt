@@ -18,6 +18,6 @@ pub returns-clause-value : goal.returns-clause-value
 returns-clause-value c =
     let old = c.args.self.now in
     let x : to_z w128 (of_z w128 c.args.dist) ≡ c.args.dist = search (rules, to_z-of_z) in
-    paired_value old.heap c.set_key.new.self old.marks.items old.links.items old.best old.horizon c.args.column c.matched_row-row.result c.place-c.result c.place.result
+    paired_value old.heap c.set_key.new.self old.marks.items old.links.items old.best old.searches.number c.args.column c.matched_row-row.result c.place-c.result c.place.result
     (to_z w128 (of_z w128 c.args.dist)) c.set_key.ensures c.place-c.ensures c.place.ensures
     ∙ ap (λ z. paired (search_of old) c.args.column c.matched_row-row.result z) x

@@ -1,6 +1,6 @@
 use Rattle.std.proofs.lemmas.Int.{to_z-of_z}
 use mir.Syntax.{w64, w128}
-use Rattle.std.proofs.Common.{rules, Option, ℤ, to_z, of_z, List, ◌^◌, ◌∙◌, refl, subst, sym}
+use Rattle.std.proofs.Common.{rules, Option, to_z, of_z, List, ◌^◌, ◌∙◌, refl, subst, sym}
 use Rattle.mcf_instance.specs.WellFormed.{IsUpTo}
 use Rattle.mcf_instance.specs.Network.{Network}
 use Rattle.mcf_network.specs.declared.rid.Rid.{Rid}
@@ -22,7 +22,7 @@ arcs-init c =
       scanned = scan_start c.args.state.now c.args.prices.now (search_of c.args.self.now) c.args.self.now.order.items c.args.row
           c.into_iter-leaving-iterator.result
           (subst (λ (g : Network). ListsLeaving g c.args.row c.into_iter-leaving-iterator.result) c.net.ensures.value lists);
-      gap = gap_is _ _ _ c.gap-gap.result _ c.gap-gap.ensures (search (rules, to_z-of_z));
+      gap = gap_is _ _ c.gap-gap.result _ c.gap-gap.ensures (search (rules, to_z-of_z));
       room = refl;
     }
 
@@ -81,7 +81,7 @@ arcs-preserved c =
       is_finite = tt;
       scanned = scan_more s y p q (search_of c.scan_arc-found.new.self) c.args.self.now.order.items c.arcs.self.order.items c.scan_arc-found.new.self.order.items
           c.args.row c.in-Some.leaving c.next.new.self c.requires.matching c.requires.row c.requires.settled scanned c.scan_arc-found.ensures.step;
-      gap = gap_is _ _ _ c.gap_after-gap.result _ c.gap_after-gap.ensures (search (rules, to_z-of_z));
+      gap = gap_is _ _ c.gap_after-gap.result _ c.gap_after-gap.ensures (search (rules, to_z-of_z));
       room = c.scan_arc-found.ensures.room ∙ c.arcs.invariant.room;
     }
 
@@ -107,7 +107,5 @@ scan_arc-found-requires-clause-near c =
 
 pub gap_after-gap-requires : goal.gap_after-gap-requires
 gap_after-gap-requires c same =
-    subst (λ (b : Option Target). IsGap b c.scan_arc-found.new.self.horizon (to_z w128 (of_z w128 c.args.base)) (to_z w64 c.arcs.gap-bits))
-    (sym (c.scan_arc-found.ensures.best same))
-    (subst (λ (h : Option ℤ). IsGap c.arcs.self.best h (to_z w128 (of_z w128 c.args.base)) (to_z w64 c.arcs.gap-bits)) (sym c.scan_arc-found.ensures.step.horizon)
-    c.arcs.invariant.gap)
+    subst (λ (b : Option Target). IsGap b (to_z w128 (of_z w128 c.args.base)) (to_z w64 c.arcs.gap-bits)) (sym (c.scan_arc-found.ensures.best same))
+    c.arcs.invariant.gap

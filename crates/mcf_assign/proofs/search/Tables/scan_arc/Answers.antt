@@ -57,7 +57,6 @@ returns-clause-step c =
 pub relax-requires-clause-gap : goal.relax-requires-clause-gap
 relax-requires-clause-gap c =
     let best = c.args.self.now.best in
-    let far = c.args.self.now.horizon in
     let b : to_z w128 (of_z w128 c.args.base) ≡ c.args.base = search (rules, to_z-of_z) in
-    gap_is best far (to_z w128 (of_z w128 c.args.base)) c.args.gap (to_z w64 (of_z w64 c.args.gap))
-    (subst (λ x. IsGap best far x c.args.gap) (sym b) c.requires.gap) (search (rules, to_z-of_z))
+    gap_is best (to_z w128 (of_z w128 c.args.base)) c.args.gap (to_z w64 (of_z w64 c.args.gap))
+    (subst (λ x. IsGap best x c.args.gap) (sym b) c.requires.gap) (search (rules, to_z-of_z))

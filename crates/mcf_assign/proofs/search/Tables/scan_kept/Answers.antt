@@ -27,7 +27,7 @@ scan_part-requires-clause-arcs c =
 
 pub scan_part-requires-clause-gap : goal.scan_part-requires-clause-gap
 scan_part-requires-clause-gap c =
-    gap_is c.args.self.now.best c.args.self.now.horizon (to_z w128 (of_z w128 c.args.base)) c.gap-gap.result (to_z w64 (of_z w64 c.gap-gap.result)) c.gap-gap.ensures
+    gap_is c.args.self.now.best (to_z w128 (of_z w128 c.args.base)) c.gap-gap.result (to_z w64 (of_z w64 c.gap-gap.result)) c.gap-gap.ensures
     (search (rules, to_z-of_z))
 
 pub returns-clause-step : goal.returns-clause-step
@@ -35,9 +35,8 @@ returns-clause-step c =
     let b : to_z w128 (of_z w128 c.args.base) ≡ c.args.base = search (rules, to_z-of_z) in
     let gap = to_z w64 (of_z w64 c.gap-gap.result) in
     let best = c.args.self.now.best in
-    let far = c.args.self.now.horizon in
-    let is : IsGap best far c.args.base gap = gap_is best far c.args.base c.gap-gap.result gap
-    (subst (λ x. IsGap best far x c.gap-gap.result) b c.gap-gap.ensures) (search (rules, to_z-of_z)) in
+    let is : IsGap best c.args.base gap = gap_is best c.args.base c.gap-gap.result gap
+    (subst (λ x. IsGap best x c.gap-gap.result) b c.gap-gap.ensures) (search (rules, to_z-of_z)) in
     let list = c.picked-picked.result.now in
     picked_step c.args.state.now c.args.prices.now c.args.lows.now (search_of c.args.self.now) c.args.row c.args.base gap c.requires.matching c.requires.prices
     c.requires.lows c.requires.settled c.requires.last c.requires.base is (search_of c.scan_part.new.self) c.args.self.now.order.items

@@ -36,7 +36,7 @@ scan_part-requires-clause-arcs c =
 
 pub scan_part-requires-clause-gap : goal.scan_part-requires-clause-gap
 scan_part-requires-clause-gap c =
-    gap_is c.args.self.now.best c.args.self.now.horizon (to_z w128 (of_z w128 c.args.base)) c.gap-gap.result (to_z w64 (of_z w64 c.gap-gap.result)) c.gap-gap.ensures
+    gap_is c.args.self.now.best (to_z w128 (of_z w128 c.args.base)) c.gap-gap.result (to_z w64 (of_z w64 c.gap-gap.result)) c.gap-gap.ensures
     (search (rules, to_z-of_z))
 
 pub returns-clause-step : goal.returns-clause-step
@@ -46,9 +46,8 @@ returns-clause-step c =
     let b : to_z w128 (of_z w128 c.args.base) ≡ c.args.base = search (rules, to_z-of_z) in
     let gap = to_z w64 (of_z w64 c.gap-gap.result) in
     let best = c.args.self.now.best in
-    let far = c.args.self.now.horizon in
-    let is : IsGap best far c.args.base gap = gap_is best far c.args.base c.gap-gap.result gap
-    (subst (λ x. IsGap best far x c.gap-gap.result) b c.gap-gap.ensures) (search (rules, to_z-of_z)) in
+    let is : IsGap best c.args.base gap = gap_is best c.args.base c.gap-gap.result gap
+    (subst (λ x. IsGap best x c.gap-gap.result) b c.gap-gap.ensures) (search (rules, to_z-of_z)) in
     let list = c.picked_numbered-picked.result.now in
     let own = subst (λ (n : Network). IsPicked RowArc (IsIdleArc c.args.lows.now c.as_slice-marks.result.now gap) (numbered_arcs n c.args.first c.args.last) list)
     c.net.ensures.value c.picked_numbered-picked.ensures in (

@@ -1,4 +1,4 @@
-use Rattle.std.proofs.Common.{Option, ℤ, ◌≡◌, ◌^◌, ◌-ℤ◌, ◌∷◌, [], List, map, take, get_or, sym, subst, ◌∙◌, refl, arith, rules, to_z, of_z}
+use Rattle.std.proofs.Common.{Option, ◌≡◌, ◌^◌, ◌-ℤ◌, ◌∷◌, [], List, map, take, get_or, sym, subst, ◌∙◌, refl, arith, rules, to_z, of_z}
 use mir.Syntax.{w64, w128}
 use Rattle.std.proofs.lemmas.Int.{ints, to_z-of_z}
 use Rattle.std.proofs.lemmas.List.{take_all}
@@ -18,10 +18,10 @@ use Rattle.mcf_assign.proofs.search.Tables.scan_part.Goals as goal
 pub arcs-init : goal.arcs-init
 arcs-init c =
     let b : to_z w128 (of_z w128 c.args.base) ≡ c.args.base = search (rules, to_z-of_z) in
-    let gap = subst (λ x. IsGap c.args.self.now.best c.args.self.now.horizon x c.args.first_gap) (sym b) c.requires.gap in
+    let gap = subst (λ x. IsGap c.args.self.now.best x c.args.first_gap) (sym b) c.requires.gap in
     record {
       step = idle_step c.args.state.now c.args.prices.now (search_of c.args.self.now) c.args.self.now.order.items c.args.row [] (λ source rest search. search);
-      gap = gap_is _ _ _ c.args.first_gap _ gap (search (rules, to_z-of_z));
+      gap = gap_is _ _ c.args.first_gap _ gap (search (rules, to_z-of_z));
       room = refl;
     }
 
@@ -86,7 +86,7 @@ arcs-preserved c =
           (steps s y (search_of c.args.self.now) (search_of c.arcs.self) (search_of c.relax-found.new.self) c.args.self.now.order.items c.arcs.self.order.items
           c.relax-found.new.self.order.items c.args.row (map forward_of (take c.arcs.a-index c.args.list.now))
           (forward_of (get_or c.args.list.now c.arcs.a-index no_arc) ∷ []) c.requires.matching c.requires.row c.requires.settled inv.step one);
-      gap = gap_is _ _ _ c.gap_after-gap.result _ c.gap_after-gap.ensures (search (rules, to_z-of_z));
+      gap = gap_is _ _ c.gap_after-gap.result _ c.gap_after-gap.ensures (search (rules, to_z-of_z));
       room = e.room ∙ inv.room;
     }
 
@@ -98,7 +98,5 @@ returns-clause-step c =
 
 pub gap_after-gap-requires : goal.gap_after-gap-requires
 gap_after-gap-requires c same =
-    subst (λ (b : Option Target). IsGap b c.relax-found.new.self.horizon (to_z w128 (of_z w128 c.args.base)) (to_z w64 c.arcs.gap-bits))
-    (sym (c.relax-found.ensures.best same))
-    (subst (λ (h : Option ℤ). IsGap c.arcs.self.best h (to_z w128 (of_z w128 c.args.base)) (to_z w64 c.arcs.gap-bits)) (sym c.relax-found.ensures.step.horizon)
-    c.arcs.invariant.gap)
+    subst (λ (b : Option Target). IsGap b (to_z w128 (of_z w128 c.args.base)) (to_z w64 c.arcs.gap-bits)) (sym (c.relax-found.ensures.best same))
+    c.arcs.invariant.gap

@@ -29,7 +29,7 @@ returns-clause-value c =
     let n = c.requires.column.0 in
     let count = c.requires.entries.dist_count in
     let inside : c.args.column - 1 < length old.heap.keys = omega (arith, n, count) in
-    c.put_pair.ensures.value ∙ once_value old.heap c.set_key.new.self old.marks.items old.links.items old.best old.horizon c.args.column c.put_pair.result c.args.k
+    c.put_pair.ensures.value ∙ once_value old.heap c.set_key.new.self old.marks.items old.links.items old.best old.searches.number c.args.column c.put_pair.result c.args.k
     c.place-c.result (to_z w128 (of_z w128 c.args.dist)) c.set_key.ensures c.place-c.ensures
     (not_true (in_table old.heap.waiting c.args.column) c.requires.waits) inside
     ∙ ap (λ z. settled_pair (lowered (search_of old) c.args.column c.args.k z) c.args.column c.put_pair.result) x
