@@ -115,11 +115,10 @@ module _ (s : Pseudoflow) (y z : List ℤ) (q : Search) (row : ℕ) (order : Lis
       (ended.order_ok.reachable (row_of s t.arc) (row_is s t.arc ok l.arc).0 l.from set closed has)
 
   pub grown_from : (s' : Pseudoflow) (z' : List ℤ) (l0 l1 : List ℕ) (r : List Bool) (n0 n1 : ℕ) → IsExtended s s' z row c → IsChangedWithin s s' q c
-      → l1 ≡ order ++ c ∷ [] → z' ≡ z
-      → n1 ≡ n0 + 1
+      → l1 ≡ order ++ c ∷ [] → n1 ≡ n0 + 1
       → IsGrown (record { flow = s; prices = y; settled = l0; reached = r; searches = n0 }) row
       (record { flow = s'; prices = z'; settled = l1; reached = r; searches = n1 })
-  grown_from s' z' l0 l1 r n0 n1 ext changed e ez counted =
+  grown_from s' z' l0 l1 r n0 n1 ext changed e counted =
       record {
         net = ext.net;
         path = ext.path;
@@ -140,8 +139,6 @@ module _ (s : Pseudoflow) (y z : List ℤ) (q : Search) (row : ℕ) (order : Lis
           | inl was ↦ ended.order_ok.reachable v (All-contains (IsNode (node_count s.net)) order v ended.order_ok.nodes was) (ended.order_ok.members v was)
           | inr at ↦ subst (λ u. IsReachable s row u) at end_reachable
         ];
-        prices = λ v n none.
-            ap (λ (x : List ℤ). at_node x v) ez ∙ raised.others v n (λ h. none (subst (λ l. Contains l v) (sym e) (listed_more v n h)));
         reached = refl;
         searches = counted;
       }
@@ -230,13 +227,12 @@ kept_grown s s' y z mates' tables tables' reached row t ok shown near first coun
 
 pub stopped_from : (s : Pseudoflow) (y y' y0 : List ℤ) (q : Search) (row : ℕ) (order l0 list : List ℕ) (r0 set : List Bool) (n0 n1 : ℕ) → IsPartialMatching s
     → IsEnded s y q row order → q.best ≡ None → length set ≡ node_count s.net
-    → ((v : ℕ) → IsNode (node_count s.net) v → (in_table set v ≡ true → Contains order v) × (Contains order v → in_table set v ≡ true)) → y' ≡ y0 → list ≡ order → n1 ≡ n0 + 1
+    → ((v : ℕ) → IsNode (node_count s.net) v → (in_table set v ≡ true → Contains order v) × (Contains order v → in_table set v ≡ true)) → list ≡ order → n1 ≡ n0 + 1
     → IsStopped (record { flow = s; prices = y0; settled = l0; reached = r0; searches = n0 }) row
     (record { flow = s; prices = y'; settled = list; reached = set; searches = n1 })
-stopped_from s y y' y0 q row order l0 list r0 set n0 n1 ok ended none count members ep el counted =
+stopped_from s y y' y0 q row order l0 list r0 set n0 n1 ok ended none count members el counted =
     record {
       flow = refl;
-      prices = ep;
       settled = subst (λ l. IsSettledList (node_count s.net) row l) (sym el) (record { rest = o.rest; first = o.first; once = o.once; each = o.nodes });
       one_per_node = count;
       all = λ v n. subst (λ l. (in_table set v ≡ true → Contains l v) × (Contains l v → in_table set v ≡ true)) (sym el) (members v n);

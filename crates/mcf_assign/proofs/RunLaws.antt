@@ -26,7 +26,7 @@ use Rattle.mcf_assign.specs.Extending.{Assigned, IsExtension, IsShownMatching}
 use Rattle.mcf_assign.specs.Matchings.{IsMatchedRow, IsPartialMatching, IsRow}
 use Rattle.mcf_assign.specs.Private.Keeping.{AreNearZero}
 use Rattle.mcf_assign.specs.Private.Offering.{AreOffered}
-use Rattle.mcf_assign.specs.Runs.{IsBlockedAtRow, IsMatchedByRows, Run, more, priced, start, is_source, sources, sources_to}
+use Rattle.mcf_assign.specs.Runs.{IsBlockedAtRow, IsMatchedByRows, Run, more, start, is_source, sources, sources_to}
 use Rattle.mcf_assign.proofs.Kept.{no_pair}
 use Rattle.mcf_assign.proofs.Surpluses.{column_matched_or_not, free_column, matched_column, matched_row, matching_shown, row_or_column}
 
@@ -111,7 +111,6 @@ sources_have g (suc n) v node source =
 pub run_net : (g : Network) (rows : List ℕ) (m : Assigned) → Run g rows m → m.flow.net ≡ g
 run_net g rows m (start first) = ap (λ (s : Pseudoflow). s.net) first.flow
 run_net g rows n (more {rows = before} {m = m} run is_row free grown shown) = grown.net ∙ run_net g before m run
-run_net g rows n (priced {m = m} run same shown) = ap (λ (s : Pseudoflow). s.net) same.flow ∙ run_net g rows m run
 
 run_listed : (g : Network) (rows : List ℕ) (m : Assigned) (v : ℕ) → Run g rows m → IsMatchedRow m.flow v → Contains rows v
 run_listed g rows m v (start first) matched =
@@ -122,8 +121,6 @@ run_listed g rows n v (more {rows = before} {row = row} {m = m} run is_row free 
       | inl was ↦ Contains-append_left before (row ∷ []) v (run_listed g before m v run was)
       | inr e ↦ subst (λ u. Contains (before ++ row ∷ []) u) (sym e) (Contains-push before row)
     ]
-run_listed g rows n v (priced {m = m} run same shown) matched =
-    run_listed g rows m v run (subst (λ (s : Pseudoflow). IsMatchedRow s v) same.flow matched)
 
 run_matched : (g : Network) (rows : List ℕ) (m : Assigned) (v : ℕ) → Run g rows m → Contains rows v → IsMatchedRow m.flow v
 run_matched g rows m v (start first) listed = absurd (let l = listed.1 in omega (arith, l))
@@ -132,8 +129,6 @@ run_matched g rows n v (more {rows = before} {row = row} {m = m} run is_row free
       | inl was ↦ (grown.rows v).1 (inl (run_matched g before m v run was))
       | inr e ↦ (grown.rows v).1 (inr (sym e))
     ]
-run_matched g rows n v (priced {m = m} run same shown) listed =
-    subst (λ (s : Pseudoflow). IsMatchedRow s v) (sym same.flow) (run_matched g rows m v run listed)
 
 -- one search for each row
 run_searches : (g : Network) (rows : List ℕ) (m : Assigned) → Run g rows m → m.searches ≡ length rows
@@ -143,7 +138,6 @@ run_searches g rows n (more {rows = before} {row = row} {m = m} run is_row free 
     let was = run_searches g before m run in
     let longer = length-append before (row ∷ []) in
     omega (arith, counted, was, longer)
-run_searches g rows n (priced {m = m} run same shown) = same.searches ∙ run_searches g rows m run
 
 -- ---- one node more
 

@@ -4,7 +4,7 @@ use Rattle.std.specs.Prelude.{◌≡◌, ◌≢◌, ◌↔◌, ℕ, ◌+◌, Boo
 use Rattle.std.specs.List.{All, AllPairs, Contains}
 use Rattle.mcf_instance.specs.declared.problem.Side.TheVariants.{Send}
 use Rattle.mcf_instance.specs.Blocking.{Blocks, in_table}
-use Rattle.mcf_instance.specs.Network.{IsArcNumber, IsNode, at_node, node_count}
+use Rattle.mcf_instance.specs.Network.{IsArcNumber, IsNode, node_count}
 use Rattle.mcf_network.specs.declared.rid.Rid.{Rid}
 use Rattle.mcf_network.specs.Residual.{head, tail}
 use Rattle.mcf_network.specs.States.{Pseudoflow, amount_at}
@@ -61,8 +61,8 @@ pub record IsAugmented (old : Pseudoflow) (row : ℕ) (new : Pseudoflow) : Type 
   pub turned : new ≡ pushed_along old walk (pos 1)
 
 -- a path from the row was turned: the rows that are matched are those before and the row asked, matched columns stay
--- matched, the search settled both ends of each arc whose amount changed, residual arcs with room led from the row to
--- each settled node, and the prices of settled nodes alone changed; the set that was reached before stays
+-- matched, the search settled both ends of each arc whose amount changed, and residual arcs with room led from the row to
+-- each settled node; the set that was reached before stays
 pub record IsGrown (old : Assigned) (row : ℕ) (new : Assigned) : Type 0 where
   pub net : new.flow.net ≡ old.flow.net
   pub path : IsAugmented old.flow row new.flow
@@ -72,15 +72,13 @@ pub record IsGrown (old : Assigned) (row : ℕ) (new : Assigned) : Type 0 where
   pub changed : (k : ℕ) → IsArcNumber old.flow.net k → amount_at new.flow k ≢ amount_at old.flow k
       → Contains new.settled (row_of old.flow k) × Contains new.settled (column_of old.flow k)
   pub reachable : (v : ℕ) → Contains new.settled v → IsReachable old.flow row v
-  pub prices : (v : ℕ) → IsNode (node_count old.flow.net) v → ¬ Contains new.settled v → at_node new.prices v ≡ at_node old.prices v
   pub reached : new.reached ≡ old.reached
   pub searches : new.searches ≡ old.searches + 1
 
--- no amount and no price changed; what was reached is what was settled, and that is the row and every node to which
+-- no amount changed; what was reached is what was settled, and that is the row and every node to which
 -- residual arcs with room lead from it; it must send more than it can
 pub record IsStopped (old : Assigned) (row : ℕ) (new : Assigned) : Type 0 where
   pub flow : new.flow ≡ old.flow
-  pub prices : new.prices ≡ old.prices
   pub settled : IsSettledList (node_count old.flow.net) row new.settled
   pub one_per_node : length new.reached ≡ node_count old.flow.net
   pub all : (v : ℕ) → IsNode (node_count old.flow.net) v → (in_table new.reached v ≡ true) ↔ Contains new.settled v
@@ -88,15 +86,8 @@ pub record IsStopped (old : Assigned) (row : ℕ) (new : Assigned) : Type 0 wher
   pub blocks : Blocks old.flow.net (in_table new.reached) Send
   pub searches : new.searches ≡ old.searches + 1
 
--- prices alone changed
--- Source: Goldberg and Kennedy 1995
-pub record IsRepriced (old new : Assigned) : Type 0 where
-  pub flow : new.flow ≡ old.flow
-  pub settled : new.settled ≡ old.settled
-  pub reached : new.reached ≡ old.reached
-  pub searches : new.searches ≡ old.searches
-
--- what one search from a row does
+-- what one search from a row does; of the prices after it nothing is said but that they show the matching (`IsShownMatching`),
+-- since all of them may be updated before it begins
 abbrev pub IsExtension : Assigned → ℕ → Extended → Assigned → Type 0
 IsExtension old row Matched new = IsGrown old row new
 IsExtension old row Blocked new = IsStopped old row new

@@ -10,7 +10,7 @@ use Rattle.mcf_feas.specs.Chosen.{supply_total}
 use Rattle.mcf_prices.specs.declared.engine.Outcome.{Outcome}
 use Rattle.mcf_prices.specs.declared.engine.Outcome.TheVariants.{Least, Blocked as NoFlow}
 use Rattle.mcf_assign.specs.declared.extended.Extended.TheVariants.{Matched, Blocked}
-use Rattle.mcf_assign.specs.Extending.{Assigned, IsExtension, IsRepriced, IsShownMatching}
+use Rattle.mcf_assign.specs.Extending.{Assigned, IsExtension, IsShownMatching}
 use Rattle.mcf_assign.specs.Matchings.{IsMatchedRow, IsRow}
 
 -- a node of supply 1
@@ -34,13 +34,11 @@ pub record IsStart (g : Network) (m : Assigned) : Type 0 where
   pub shown : IsShownMatching m
 
 -- reached from the matching without pairs by one search from each row of a list, in that order, each of which matched
--- its row by a path from it, and after each of which prices show that no other amounts match the same rows for less;
--- between two searches prices alone may change, to others that show the same
+-- its row by a path from it, and after each of which prices show that no other amounts match the same rows for less
 pub data Run (g : Network) : List ℕ → Assigned → Type 0 where
   start : {m : Assigned} → IsStart g m → Run g [] m
   more : {rows : List ℕ} {row : ℕ} {m n : Assigned} → Run g rows m → IsRow m.flow row → ¬ IsMatchedRow m.flow row
       → IsExtension m row Matched n → IsShownMatching n → Run g (rows ++ row ∷ []) n
-  priced : {rows : List ℕ} {m n : Assigned} → Run g rows m → IsRepriced m n → IsShownMatching n → Run g rows n
 
 -- one search from each source node, ascending, matched its row, and the last left this state; there were so many searches
 pub record IsMatchedByRows (g : Network) (s : Pseudoflow) (searches : ℕ) : Type 0 where

@@ -6,8 +6,9 @@ ghost use Rattle.mcf_instance.specs.Network.{IsNode, at_node, node_count};
 ghost use Rattle.mcf_instance.specs.WellFormed.{IsUpTo};
 ghost use Rattle.mcf_network.specs.NodeSets.{no_nodes};
 ghost use Rattle.mcf_prices.specs.Heaps.{NoneWaits};
-ghost use Rattle.mcf_assign.specs.Extending.{IsExtension, IsMatched, IsRepriced, IsShownMatching};
+ghost use Rattle.mcf_assign.specs.Extending.{IsExtension, IsMatched, IsShownMatching};
 ghost use Rattle.mcf_assign.specs.Matchings.{IsMatchedRow, IsRow};
+ghost use Rattle.mcf_assign.specs.Private.Updating.{IsRepriced};
 
 use crate::augmenting::fill;
 use crate::extended::Extended;
@@ -111,8 +112,20 @@ impl<'n> Matching<'n> {
     ///
     /// It searches for a shortest augmenting path from the row by reduced costs (Dijkstra; Ahuja, Magnanti and Orlin,
     /// Network Flows, sections 9.7 and 12.4), and ends at the first column that isn't matched. Costs may have either
-    /// sign. Prices change at the nodes that it settled alone, and at none where it found no path.
+    /// sign. Before it begins all prices are updated, if the searches since the last update settled so many pairs that this pays
+    /// (Goldberg and Kennedy, An efficient cost scaling algorithm for the assignment problem, 1995).
     pub fn extend(&mut self, row: NodeId) -> Extended
+        requires row { IsRow self.old.flow row }
+        requires free { ¬ IsMatchedRow self.old.flow row }
+        ensures extended { IsExtension self.old row result self.new }
+        ensures shown { IsShownMatching self.new }
+    {
+        self.refresh();
+        self.grow(row)
+    }
+
+    // Searches from a row, and turns the path that was found.
+    fn grow(&mut self, row: NodeId) -> Extended
         requires row { IsRow self.old.flow row }
         requires free { ¬ IsMatchedRow self.old.flow row }
         ensures extended { IsExtension self.old row result self.new }
@@ -139,9 +152,8 @@ impl<'n> Matching<'n> {
         }
     }
 
-    /// Changes the prices alone, and to others that show the matching, if the searches since the last time settled so
-    /// many pairs that an update of all prices pays.
-    pub(crate) fn refresh(&mut self)
+    // Updates all prices, if that pays now. Nothing else changes, and the new prices show the matching.
+    fn refresh(&mut self)
         ensures repriced { IsRepriced self.old self.new }
         ensures shown { IsShownMatching self.new }
     {

@@ -23,9 +23,7 @@ use std::marker::Model;
 /// Flows, sections 9.7 and 12.4).
 ///
 /// It takes the nets of assignments alone. How it made a state is a relation of its contract, `IsMatchedByRows`: one
-/// search from each source node, each of which matched it. That is as many searches as there are source nodes. Between two
-/// searches all prices may be updated (Goldberg and Kennedy, An efficient cost scaling algorithm for the assignment
-/// problem, 1995), so that searches stay short where a row has few arcs.
+/// search from each source node, each of which matched it. That is as many searches as there are source nodes.
 /// A clause sees how many searches the last solve made that was answered.
 #[derive(Drop)]
 pub struct Sap {
@@ -139,7 +137,6 @@ fn match_node(matching: &mut Matching<'_>, net: &Net, v: NodeId) -> Extended
     if !is_source(net, v) {
         return Extended::Matched;
     }
-    matching.refresh();
     matching.extend(v)
 }
 

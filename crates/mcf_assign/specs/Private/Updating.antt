@@ -12,6 +12,7 @@ use Rattle.mcf_assign.specs.declared.spread.Columns.{Columns}
 use Rattle.mcf_assign.specs.declared.spread.ShortArc.{ShortArc}
 use Rattle.mcf_assign.specs.declared.spread.Spread.{Spread}
 use Rattle.mcf_assign.specs.declared.update.Update.{Update}
+use Rattle.mcf_assign.specs.Extending.{Assigned}
 use Rattle.mcf_assign.specs.Private.Lows.{low_inside, low_reach}
 
 -- ---- the arcs that enter each node, side by side
@@ -159,6 +160,14 @@ FitsLeaving g z v = (k : ℕ) → IsArcNumber g k → (arc_at g k).src ≡ v →
 pub record FitsNode (g : Network) (mates : List ℕ) (y z : List ℤ) (v : ℕ) : Type 0 where
   pub mate : FitsMate g mates y z v
   pub low : FitsLeaving g z v
+
+-- an update before a search: prices alone changed
+-- Source: Goldberg and Kennedy 1995
+pub record IsRepriced (old new : Assigned) : Type 0 where
+  pub flow : new.flow ≡ old.flow
+  pub settled : new.settled ≡ old.settled
+  pub reached : new.reached ≡ old.reached
+  pub searches : new.searches ≡ old.searches
 
 -- new prices are near 0 and fit each node
 pub record AreUpdated (s : Pseudoflow) (mates : List ℕ) (y z : List ℤ) : Type 0 where

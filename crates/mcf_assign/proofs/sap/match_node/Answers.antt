@@ -1,5 +1,4 @@
 use Rattle.std.proofs.Common.{◌∙◌, sym}
-use Rattle.mcf_assign.specs.Runs.{priced}
 use Rattle.mcf_assign.proofs.RunLaws.{offered_free, offered_next, offered_none, offered_row}
 use Rattle.mcf_assign.proofs.sap.match_node.Goals as goal
 
@@ -9,14 +8,12 @@ returns-then-not-is_source c =
 
 pub extend-requires-clause-row : goal.extend-requires-clause-row
 extend-requires-clause-row c =
-    offered_row c.args.net.now c.args.v c.refresh.new.self c.requires.node (priced c.requires.run c.refresh.ensures.repriced c.refresh.ensures.shown)
-    (sym c.is_source.ensures ∙ c.if-not-is_source.false)
+    offered_row c.args.net.now c.args.v c.args.matching.now c.requires.node c.requires.run (sym c.is_source.ensures ∙ c.if-not-is_source.false)
 
 pub extend-requires-clause-free : goal.extend-requires-clause-free
-extend-requires-clause-free c =
-    offered_free c.args.net.now c.args.v c.refresh.new.self c.requires.node (priced c.requires.run c.refresh.ensures.repriced c.refresh.ensures.shown)
+extend-requires-clause-free c = offered_free c.args.net.now c.args.v c.args.matching.now c.requires.node c.requires.run
 
 pub returns : goal.returns
 returns c =
-    offered_next c.args.net.now c.args.v c.refresh.new.self c.requires.node (priced c.requires.run c.refresh.ensures.repriced c.refresh.ensures.shown)
-    c.extend.result c.extend.new.self (sym c.is_source.ensures ∙ c.if-not-is_source.false) c.extend.ensures.extended c.extend.ensures.shown
+    offered_next c.args.net.now c.args.v c.args.matching.now c.requires.node c.requires.run c.extend.result c.extend.new.self
+    (sym c.is_source.ensures ∙ c.if-not-is_source.false) c.extend.ensures.extended c.extend.ensures.shown
