@@ -41,7 +41,6 @@ impl Tables {
             links: copies(alloc, nodes, 0)?,
             best: None,
             order: Vec::with_capacity(alloc, nodes)?,
-            partners: copies(alloc, nodes, 0)?,
             searches: Count::zero(),
             pairs: 0,
         })
@@ -126,7 +125,6 @@ impl Tables {
             links: _,
             best: _,
             order: _,
-            partners: _,
             searches,
             pairs: _,
         } = self;
