@@ -1,5 +1,5 @@
 -- Updates of all prices at once: what their tables hold, and what new prices are.
-use Rattle.std.specs.Prelude.{◌≡◌, ℕ, ◌-◌, ◌^◌, ◌<◌, ◌≤◌, ◌⊎◌, List, ◌++◌, map, length, slice_range, slice_index_or, ℤ, pos, ◌≤ℤ◌, ◌<ℤ◌, ◌+ℤ◌, ◌-ℤ◌}
+use Rattle.std.specs.Prelude.{◌≡◌, ℕ, ◌-◌, ◌^◌, ◌<◌, ◌≤◌, ◌⊎◌, List, length, slice_range, slice_index_or, ℤ, pos, ◌≤ℤ◌, ◌<ℤ◌, ◌+ℤ◌, ◌-ℤ◌}
 use Rattle.std.specs.List.{All, Contains}
 use Rattle.mcf_instance.specs.Flow.{reduced_cost}
 use Rattle.mcf_instance.specs.Limits.{limits}
@@ -9,7 +9,6 @@ use Rattle.mcf_network.specs.Residual.{arc_at}
 use Rattle.mcf_network.specs.States.{Pseudoflow}
 use Rattle.mcf_assign.specs.declared.spread.ColumnArc.{ColumnArc}
 use Rattle.mcf_assign.specs.declared.spread.Columns.{Columns}
-use Rattle.mcf_assign.specs.declared.spread.ShortArc.{ShortArc}
 use Rattle.mcf_assign.specs.declared.spread.Spread.{Spread}
 use Rattle.mcf_assign.specs.declared.update.Update.{Update}
 use Rattle.mcf_assign.specs.Extending.{Assigned}
@@ -31,18 +30,6 @@ pub record IsEntering (g : Network) (v : ℕ) (list : List ColumnArc) : Type 0 w
   pub each : All (IsColumnArc g) list
   pub every : (k : ℕ) → IsArcNumber g k → (arc_at g k).dst ≡ v → Contains list (entry_of g k)
 
--- a short arc, with its cost widened
-abbrev pub widened : ShortArc → ColumnArc
-widened a = record { row = a.row; cost = a.cost }
-
--- how far from 0 the cost of a short arc lies at most
-abbrev pub short_reach : ℕ
-short_reach = 2 ^ 31 - 1
-
--- each cost has room in a short arc
-abbrev pub AreCostsShort : Network → Type 0
-AreCostsShort g = (k : ℕ) → IsArcNumber g k → IsUpTo short_reach (arc_at g k).cost
-
 -- the arcs of a node stand from one place on, and before another
 pub record IsColumnPart (g : Network) (arcs : List ColumnArc) (v start end : ℕ) : Type 0 where
   pub rises : start ≤ end
@@ -53,9 +40,9 @@ pub record IsColumnPart (g : Network) (arcs : List ColumnArc) (v start end : ℕ
 abbrev pub AreParts : Network → List ℕ → List ColumnArc → Type 0
 AreParts g starts arcs = (v : ℕ) → 1 ≤ v → v < length starts → IsColumnPart g arcs v (slice_index_or starts (v - 1) 0) (slice_index_or starts v 0)
 
--- the arcs of some nodes, in the form that is there
+-- the arcs of some nodes
 abbrev pub AreColumns : Network → Columns → Type 0
-AreColumns g c = AreParts g c.starts.items (map widened c.short.items ++ c.arcs.items)
+AreColumns g c = AreParts g c.starts.items c.arcs.items
 
 -- ---- how far prices of rows may rise
 
@@ -74,10 +61,6 @@ AreLimited g limits scanned = (v : ℕ) → IsNode (node_count g) v → at_node 
 -- the limit of the row of an arc is no more than x and the cost of the arc
 abbrev pub IsOffered : List ℤ → ℤ → ColumnArc → Type 0
 IsOffered limits x a = at_node limits a.row ≤ℤ (x +ℤ a.cost)
-
--- so it is for a short arc
-abbrev pub IsShortOffered : List ℤ → ℤ → ShortArc → Type 0
-IsShortOffered limits x a = IsOffered limits x (widened a)
 
 -- tables of a search for a net
 pub record HasSpread (g : Network) (q : Spread) : Type 0 where
