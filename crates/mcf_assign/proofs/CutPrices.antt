@@ -41,6 +41,10 @@ lows_set y lows i x z are is =
 pub gap_is : (best : Option Target) (base g h : ℤ) → IsGap best base g → h ≡ g → IsGap best base h
 gap_is best base g h none e x near l = none x near (omega (arith, ints, l, e))
 
+-- and of another way to write its base
+pub gap_at : (best : Option Target) (base base' g h : ℤ) → IsGap best base g → base' ≡ base → h ≡ g → IsGap best base' h
+gap_at best base base' g h none eb e = subst (λ b. IsGap best b h) (sym eb) (gap_is best base g h none e)
+
 -- an arc offers no less than the base of its row with its cost and the cut price of its column: so it is of no use where these are no less
 -- than the gap
 pub past_worse : (s : Pseudoflow) (y lows : List ℤ) (q : Search) (a : RowArc) (base gap : ℤ) → IsPartialMatching s → AreMatchingPrices s y → AreLows y lows

@@ -1,5 +1,5 @@
 -- A search while it scans rows: what one arc changes, one row, and one row more settled.
-use Rattle.std.proofs.Common.{◌≡◌, ◌≢◌, ℕ, ◌+◌, ◌-◌, ◌*◌, ◌<◌, ◌≤◌, true, false, List, [], ◌∷◌, ◌++◌, length, get_or, Some, ℤ, ◌≤ℤ◌, ◌⊎◌, refl, sym}
+use Rattle.std.proofs.Common.{◌≡◌, ◌≢◌, ℕ, ◌+◌, ◌-◌, ◌*◌, ◌<◌, ◌≤◌, true, false, List, [], ◌∷◌, ◌++◌, length, get_or, Some, ℤ, ◌≤ℤ◌, ◌-ℤ◌, ◌⊎◌, refl, sym}
 use Rattle.std.proofs.Common.{◌∙◌, ap, subst, arith, inl, inr, ◌^◌, set, length-set}
 use Rattle.std.specs.List.{Contains, range_with_len}
 use Rattle.std.proofs.lemmas.Bool.{cases_eq, cases_lt, true≢false}
@@ -14,8 +14,10 @@ use Rattle.mcf_network.specs.Stars.{Leaves, ListsLeaving}
 use Rattle.mcf_network.specs.States.{Pseudoflow}
 use Rattle.mcf_network.proofs.Marks.{count_small}
 use Rattle.mcf_assign.specs.Matchings.{AreMatchingPrices, IsColumn, IsMatchedColumn, IsPair, IsPartialMatching, IsRow, column_of, row_of}
+use Rattle.mcf_assign.specs.declared.scene.Row.{Row}
 use Rattle.mcf_assign.specs.Private.Forests.{IsOrder}
 use Rattle.mcf_assign.specs.Private.Scans.{AreTurns, HasNewArcs, HasPending, IsGoing, IsNextRow, IsSound, IsStep, all_forward}
+use Rattle.mcf_assign.specs.Private.Scenes.{IsFarthestRow}
 use Rattle.mcf_assign.specs.Private.Searches.{HasEntries, HasForward, IsLast, IsLowering, IsNear, IsNearest, IsReady, IsSearch, IsSettling, Search, Settled, Waits}
 use Rattle.mcf_assign.specs.Private.Searches.{dist_at, lowered, offer, reach_of, settled_pair}
 use Rattle.mcf_assign.proofs.Near.{near_best, near_lowered}
@@ -160,6 +162,40 @@ step_last s y q q' order order' row arcs step node settled last u n h =
       | inl was ↦ (let far = last u n was in let same = (step.kept u n was).1 in omega (arith, ints, far, same, here))
       | inr at ↦ omega (arith, ints, at, here)
     ]
+
+-- the row whose arcs are relaxed, as it was read
+pub row_read : (s : Pseudoflow) (y : List ℤ) (q : Search) (row : Row) (v : ℕ) → row.id ≡ v → row.level ≡ dist_at q v → row.base ≡ dist_at q v -ℤ at_node y v
+    → IsNode (node_count s.net) v → Settled q v → IsLast s q v → IsUpTo (10 ^ 30) (dist_at q v) → IsFarthestRow s y q row
+row_read s y q row v at level base node settled last near =
+    record {
+      node = subst (λ u. IsNode (node_count s.net) u) (sym at) node;
+      settled = subst (λ u. Settled q u) (sym at) settled;
+      last = subst (λ u. IsLast s q u) (sym at) last;
+      level = level ∙ ap (dist_at q) (sym at);
+      base = (let price = ap (at_node y) at in omega (arith, ints, base, level, price));
+      near = subst (λ x. IsUpTo (10 ^ 30) x) (sym level) near;
+    }
+
+-- it is as it was after some of its arcs
+pub row_kept : (s : Pseudoflow) (y : List ℤ) (q q' : Search) (order order' : List ℕ) (row : Row) (arcs : List Rid)
+    → IsStep s y q order q' order' row.id arcs → IsFarthestRow s y q row → IsFarthestRow s y q' row
+row_kept s y q q' order order' row arcs step is =
+    let here = step.kept row.id is.node is.settled in
+    record {
+      node = is.node;
+      settled = here.0;
+      last = step_last s y q q' order order' row.id arcs step is.node is.settled is.last;
+      level = is.level ∙ sym here.1;
+      base = is.base;
+      near = is.near;
+    }
+
+-- the same of the node that an arc of the row leaves
+pub row_at : (s : Pseudoflow) (y : List ℤ) (q : Search) (row : Row) (v : ℕ) → v ≡ row.id → IsFarthestRow s y q row
+    → Settled q v × IsLast s q v × (row.level ≡ dist_at q v) × (row.base ≡ dist_at q v -ℤ at_node y v)
+row_at s y q row v at is =
+    subst (λ u. Settled q u × IsLast s q u × (row.level ≡ dist_at q u) × (row.base ≡ dist_at q u -ℤ at_node y u)) (sym at)
+    (is.settled, is.last, is.level, let base = is.base in let level = is.level in omega (arith, ints, base, level))
 
 -- ---- all arcs of a row, one after another
 

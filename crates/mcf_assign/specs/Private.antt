@@ -1,5 +1,6 @@
 -- What the proofs of this crate alone need: no public clause names it.
 pub mod RowLists
+pub mod Scenes
 pub mod Searches
 pub mod Lows
 pub mod Scans

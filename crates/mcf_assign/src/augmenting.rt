@@ -9,13 +9,13 @@ ghost use Rattle.mcf_prices.specs.Heaps.{NoneWaits};
 ghost use Rattle.mcf_assign.specs.Private.Forests.{AreMates, IsChangedWithin};
 ghost use Rattle.mcf_assign.specs.Private.Keeping.{IsEnded, IsIdle};
 ghost use Rattle.mcf_assign.specs.Matchings.{AreMatchingPrices, IsMatchedRow, IsPartialMatching, IsRow, column_of};
-ghost use Rattle.mcf_assign.specs.Private.Lows.{AreLows};
-ghost use Rattle.mcf_assign.specs.Private.RowLists.{AreRows};
+ghost use Rattle.mcf_assign.specs.Private.Scenes.{IsScene};
 ghost use Rattle.mcf_assign.specs.Private.Searches.{AreRaised, HasEntries, Settled, search_of};
 ghost use Rattle.mcf_assign.specs.Private.Turning.{IsExtended};
 
 use crate::prices::Prices;
-use crate::rows::{RowArc, Rows};
+use crate::rows::RowArc;
+use crate::scene::Scene;
 use crate::search::{Tables, Target};
 use mcf_counts::Count;
 use mcf_network::{Net, NodeSet, State};
@@ -49,32 +49,23 @@ impl Tables {
     /// Searches for a shortest augmenting path from a row that is not matched, and gives its last arc if there is one.
     pub(crate) fn search(
         &mut self,
-        state: &State<'_>,
-        rows: &Rows,
-        prices: &Prices,
-        lows: &[i64],
-        mates: &[u32],
+        scene: &Scene<'_, '_>,
         picks: &mut [RowArc],
         source: NodeId,
     ) -> Option<Target>
-        requires matching { IsPartialMatching state.now }
-        requires rows { AreRows state.now.net rows.now }
-        requires prices { AreMatchingPrices state.now prices.now }
-        requires lows { AreLows prices.now lows.now }
-        requires mates { AreMates state.now mates.now }
-        requires idle { IsIdle (node_count state.now.net) self.old }
-        requires small { (v : ℕ) → IsNode (node_count state.now.net) v → IsUpTo (10 ^ 29) (at_node prices.now v) }
-        requires row { IsRow state.now source }
-        requires free { ¬ IsMatchedRow state.now source }
-        ensures entries { HasEntries (node_count state.now.net) (search_of self.new) }
-        ensures room { node_count state.now.net ≤ vec_capacity self.new.order }
-        ensures ended { IsEnded state.now prices.now (search_of self.new) source self.new.order.items }
+        requires scene { IsScene scene.now.state.now scene.now.rows.now scene.now.prices.now scene.now.mates.now }
+        requires idle { IsIdle (node_count scene.now.state.now.net) self.old }
+        requires row { IsRow scene.now.state.now source }
+        requires free { ¬ IsMatchedRow scene.now.state.now source }
+        ensures entries { HasEntries (node_count scene.now.state.now.net) (search_of self.new) }
+        ensures room { node_count scene.now.state.now.net ≤ vec_capacity self.new.order }
+        ensures ended { IsEnded scene.now.state.now scene.now.prices.now (search_of self.new) source self.new.order.items }
         ensures best { result ≡ self.new.best }
         ensures counted { self.new.searches.number ≡ self.old.searches.number + 1 }
     {
         self.reset();
-        self.begin(state, source);
-        self.run(state, rows, prices, lows, mates, picks, source);
+        self.begin(scene.state, source);
+        self.run(scene, picks, source);
         self.pairs = self.pairs.saturating_add(self.order.len() as u64 / 2);
         self.best
     }

@@ -14,6 +14,7 @@ use crate::augmenting::fill;
 use crate::extended::Extended;
 use crate::prices::Prices;
 use crate::rows::{MOST_PICKS, NO_ARC, RowArc, Rows};
+use crate::scene::Scene;
 use crate::search::Tables;
 use crate::update::Update;
 use mcf_counts::Count;
@@ -131,13 +132,15 @@ impl<'n> Matching<'n> {
         ensures extended { IsExtension self.old row result self.new }
         ensures shown { IsShownMatching self.new }
     {
-        let prices = &self.prices;
-        let lows = prices.lows();
         let mates = self.mates.as_slice();
+        let scene = Scene {
+            state: &self.state,
+            rows: &self.rows,
+            prices: &self.prices,
+            mates,
+        };
         let picks = self.picks.as_mut_slice();
-        let found = self
-            .tables
-            .search(&self.state, &self.rows, prices, lows, mates, picks, row);
+        let found = self.tables.search(&scene, picks, row);
         match found {
             Some(target) => {
                 let mates = self.mates.as_mut_slice();

@@ -2,6 +2,7 @@ use Rattle.std.proofs.Common.{ℕ, List, length, drop, ap, sym, subst, ◌∙◌
 use Rattle.std.specs.List.{All}
 use Rattle.mcf_instance.specs.Network.{Network, IsNode}
 use Rattle.mcf_assign.specs.Extending.{Assigned, IsGrown, IsStopped}
+use Rattle.mcf_assign.specs.Private.Forests.{AreMates}
 use Rattle.mcf_assign.specs.Private.Keeping.{IsKept}
 use Rattle.mcf_assign.specs.Matchings.{IsRow}
 use Rattle.mcf_assign.specs.Private.RowLists.{AreRows}
@@ -10,8 +11,17 @@ use Rattle.mcf_assign.specs.Private.Searches.{Search, search_of}
 use Rattle.mcf_assign.proofs.Kept.{grown_from, kept_grown, near_small, shown_kept, stopped_from, written}
 use Rattle.mcf_assign.proofs.matching.Matching.grow.Goals as goal
 
-pub search-found-requires-clause-small : goal.search-found-requires-clause-small
-search-found-requires-clause-small c = near_small c.self.inside.state c.self.inside.prices c.self.inside.prices c.self.invariant.0.near refl
+pub search-found-requires-clause-scene : goal.search-found-requires-clause-scene
+search-found-requires-clause-scene c =
+    let i = c.self.inside in
+    let k = c.self.invariant.0 in
+    record {
+      matching = k.matching;
+      rows = c.self.invariant.1;
+      prices = k.shown;
+      mates = subst (λ (l : List ℕ). AreMates i.state l) (sym c.as_slice-mates.ensures.value) k.mated;
+      small = near_small i.state i.prices i.prices k.near refl;
+    }
 
 pub augment-requires-clause-small : goal.augment-requires-clause-small
 augment-requires-clause-small c = near_small c.self.inside.state c.self.inside.prices c.self.inside.prices c.self.invariant.0.near refl

@@ -9,7 +9,7 @@ invariant-arcs l =
     record {
       can_next : (goal.iterator-arcs).can_next l.leaving-iterator;
       is_finite : (goal.iterator-arcs).is_finite l.leaving-iterator;
-      scanned : IsScanned l.fn.state l.fn.prices (search_of l.fn.self) l.fn.self.order.items (search_of l.self) l.self.order.items l.fn.row l.leaving-iterator;
-      gap : IsGap l.self.best l.base l.gap;
+      scanned : IsScanned l.fn.scene.state.now l.fn.scene.prices.now (search_of l.fn.self) l.fn.self.order.items (search_of l.self) l.self.order.items l.fn.row.id l.leaving-iterator;
+      gap : IsGap l.self.best l.row.base l.gap;
       room : vec_capacity l.self.order ≡ vec_capacity l.fn.self.order;
     }

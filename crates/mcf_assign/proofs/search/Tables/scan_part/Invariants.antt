@@ -8,8 +8,8 @@ use Rattle.mcf_assign.proofs.search.Tables.scan_part.Given as goal
 abbrev pub invariant-arcs : goal.invariant-arcs
 invariant-arcs l =
     record {
-      step : IsStep l.fn.state l.fn.prices (search_of l.fn.self) l.fn.self.order.items (search_of l.self) l.self.order.items l.fn.row
+      step : IsStep l.fn.scene.state.now l.fn.scene.prices.now (search_of l.fn.self) l.fn.self.order.items (search_of l.self) l.self.order.items l.fn.row.id
           (map forward_of (take l.a-index l.list));
-      gap : IsGap l.self.best l.base l.gap;
+      gap : IsGap l.self.best l.row.base l.gap;
       room : vec_capacity l.self.order ≡ vec_capacity l.fn.self.order;
     }
