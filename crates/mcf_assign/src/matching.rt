@@ -13,7 +13,8 @@ ghost use Rattle.mcf_assign.specs.Private.Updating.{IsRepriced};
 use crate::augmenting::fill;
 use crate::extended::Extended;
 use crate::prices::Prices;
-use crate::rows::{MOST_PICKS, NO_ARC, RowArc, Rows};
+use crate::regime::{MOST_PICKS, NODES_PER_PAIR};
+use crate::rows::{NO_ARC, RowArc, Rows};
 use crate::scene::Scene;
 use crate::search::Tables;
 use crate::update::Update;
@@ -267,7 +268,3 @@ impl<'n> Matching<'n> {
         (reached, searches)
     }
 }
-
-// The searches settle a pair for so many nodes, on the average, between two updates of all prices. The rows from which they begin
-// don't count, so that there is no update as long as they find a column that isn't matched at once.
-const NODES_PER_PAIR: u64 = 5;
