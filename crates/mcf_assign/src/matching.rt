@@ -165,9 +165,14 @@ impl<'n> Matching<'n> {
             return;
         }
         self.tables.pairs = 0;
-        let lows = self.prices.lows();
         let mates = self.mates.as_slice();
-        if self.update.run(&self.state, lows, mates) {
+        let scene = Scene {
+            state: &self.state,
+            rows: &self.rows,
+            prices: &self.prices,
+            mates,
+        };
+        if self.update.run(&scene) {
             self.prices.take_lows(&mut self.update.lows);
         }
     }
