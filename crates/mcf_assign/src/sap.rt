@@ -14,7 +14,7 @@ use mcf_counts::Count;
 use mcf_feas::unbalanced;
 use mcf_instance::{Problem, Side};
 use mcf_network::{Net, State};
-use mcf_prices::{Engine, HeaplessPricer, Outcome, Pricer};
+use mcf_prices::{Engine, Heap, Outcome, Pricer};
 use mcf_text::{NoMemory, NodeId};
 use std::alloc::Global;
 use std::marker::Model;
@@ -100,7 +100,7 @@ fn assign<'n>(alloc: Global, net: &'n Net) -> Result<(Outcome<'n>, Count), NoMem
     ensures wants { OnErr result (1 ≤ node_count net.now) }
 {
     let pricer = Pricer::start(alloc, net)?;
-    let (heap, pricer) = pricer.lend();
+    let heap = Heap::new(alloc, net)?;
     let mut matching = Matching::over(alloc, net, heap)?;
     match match_rows(&mut matching, net) {
         Extended::Matched => {
@@ -148,15 +148,15 @@ fn is_source(net: &Net, v: NodeId) -> bool
     net.supply(v) == 1
 }
 
-// The state of a matching, the greatest prices that show it, found with the heap of its searches, and the count of these.
-fn priced<'n>(pricer: HeaplessPricer, matching: Matching<'n>) -> (State<'n>, Vec<i128>, Count)
+// The state of a matching, the greatest prices that show it, and the count of its searches.
+fn priced<'n>(mut pricer: Pricer, matching: Matching<'n>) -> (State<'n>, Vec<i128>, Count)
+    requires room { pricer ≡ node_count matching.flow.net }
     ensures state { result.0 ≡ matching.entry.flow }
     ensures prices { AreStatePrices matching.entry.flow.net result.0 result.1.items }
     ensures shown { IsShownMatching matching.entry }
     ensures searches { result.2.number ≡ matching.entry.searches }
 {
-    let (state, mut prices, heap, searches) = matching.into_all_parts();
-    let mut pricer = pricer.resume(heap);
+    let (state, mut prices, _, searches) = matching.into_all_parts();
     pricer.raise(&state, 1, 0, prices.as_mut_slice());
     (state, prices, searches)
 }

@@ -47,35 +47,17 @@ fn raises_to_the_greatest_prices(rt: HostRuntime) -> Result<(), Fail> {
 }
 
 #[test]
-fn raises_with_a_heap_that_was_lent(rt: HostRuntime) -> Result<(), Fail> {
-    let alloc = rt.alloc();
-    let net = net_of(alloc, CHAIN)?;
-    let state = State::zero(alloc, &net)?;
-    let pricer = Pricer::start(alloc, &net)?;
-    let (heap, rest) = pricer.lend();
-    assert_eq!(rt; heap.first().map(|v| v.get()), None);
-    let mut pricer = rest.resume(heap);
-    let mut prices = match recover(alloc, &state)? {
-        Recovered::Prices(prices) => prices,
-        Recovered::Cycle(_) => return Err("a cycle".into()),
-    };
-    raise_shown(&mut pricer, &state, &mut prices);
-    assert_eq!(rt; prices.as_slice(), [-5, -3, 0].as_slice());
-    Ok(())
-}
-
-#[test]
 fn takes_nodes_out_by_key_and_number(rt: HostRuntime) -> Result<(), Fail> {
     let alloc = rt.alloc();
     let net = net_of(alloc, CHAIN)?;
     assert_eq!(rt; net.node_count(), 3);
     let mut heap = Heap::new(alloc, &net)?;
-    heap.lower(NodeId::new(2), 5);
-    heap.lower(NodeId::new(1), 5);
-    heap.lower(NodeId::new(3), 9);
+    heap.offer(NodeId::new(2), 5);
+    heap.offer(NodeId::new(1), 5);
+    heap.offer(NodeId::new(3), 9);
     assert!(rt; heap.waits(NodeId::new(1)));
     assert_eq!(rt; heap.first().map(|v| v.get()), Some(1));
-    heap.lower(NodeId::new(3), 4);
+    heap.offer(NodeId::new(3), 4);
     assert_eq!(rt; heap.pop().map(|v| v.get()), Some(3));
     assert_eq!(rt; heap.pop().map(|v| v.get()), Some(1));
     heap.clear();
@@ -89,7 +71,7 @@ fn gives_a_key_to_a_node_that_waits_no_more(rt: HostRuntime) -> Result<(), Fail>
     let net = net_of(alloc, CHAIN)?;
     assert_eq!(rt; net.node_count(), 3);
     let mut heap = Heap::new(alloc, &net)?;
-    heap.lower(NodeId::new(3), 4);
+    heap.offer(NodeId::new(3), 4);
     assert_eq!(rt; heap.pop().map(|v| v.get()), Some(3));
     assert_eq!(rt; heap.key(NodeId::new(3)), 4);
     heap.set_key(NodeId::new(3), 7);
@@ -103,9 +85,9 @@ fn settles_a_node_that_does_not_come_first(rt: HostRuntime) -> Result<(), Fail> 
     let net = net_of(alloc, CHAIN)?;
     assert_eq!(rt; net.node_count(), 3);
     let mut heap = Heap::new(alloc, &net)?;
-    heap.lower(NodeId::new(1), 9);
-    heap.lower(NodeId::new(2), 5);
-    heap.lower(NodeId::new(3), 7);
+    heap.offer(NodeId::new(1), 9);
+    heap.offer(NodeId::new(2), 5);
+    heap.offer(NodeId::new(3), 7);
     heap.settle(NodeId::new(1), 5);
     assert!(rt; !heap.waits(NodeId::new(1)));
     assert_eq!(rt; heap.key(NodeId::new(1)), 5);
@@ -122,9 +104,9 @@ fn takes_nodes_out_by_keys_above_those_of_64_bits(rt: HostRuntime) -> Result<(),
     assert_eq!(rt; net.node_count(), 3);
     let far: i128 = 1_000_000_000_000_000_000_000_000_000_000;
     let mut heap = Heap::new(alloc, &net)?;
-    heap.lower(NodeId::new(1), far + 1);
-    heap.lower(NodeId::new(2), far);
-    heap.lower(NodeId::new(3), far);
+    heap.offer(NodeId::new(1), far + 1);
+    heap.offer(NodeId::new(2), far);
+    heap.offer(NodeId::new(3), far);
     assert_eq!(rt; heap.pop().map(|v| v.get()), Some(2));
     assert_eq!(rt; heap.pop().map(|v| v.get()), Some(3));
     assert_eq!(rt; heap.pop().map(|v| v.get()), Some(1));
@@ -138,9 +120,9 @@ fn takes_nodes_out_by_keys_below_those_of_64_bits(rt: HostRuntime) -> Result<(),
     assert_eq!(rt; net.node_count(), 3);
     let far: i128 = 1_000_000_000_000_000_000_000_000_000_000;
     let mut heap = Heap::new(alloc, &net)?;
-    heap.lower(NodeId::new(1), 0);
-    heap.lower(NodeId::new(2), -far);
-    heap.lower(NodeId::new(3), -far - 1);
+    heap.offer(NodeId::new(1), 0);
+    heap.offer(NodeId::new(2), -far);
+    heap.offer(NodeId::new(3), -far - 1);
     assert_eq!(rt; heap.pop().map(|v| v.get()), Some(3));
     assert_eq!(rt; heap.pop().map(|v| v.get()), Some(2));
     assert_eq!(rt; heap.pop().map(|v| v.get()), Some(1));

@@ -7,15 +7,14 @@ use Rattle.mcf_instance.specs.Network.{Network, IsArcNumber, IsNode, at_node, no
 use Rattle.mcf_network.specs.declared.rid.Rid.{Rid}
 use Rattle.mcf_network.specs.Residual.{tail, head, unit_cost}
 use Rattle.mcf_network.specs.Stars.{ListsLeaving}
-use Rattle.mcf_network.specs.States.{Pseudoflow, IsPseudoflow}
 use Rattle.mcf_network.proofs.ArcLaws.{tail_is_node}
 use Rattle.mcf_network.proofs.Lists.{Contains-first, Contains-later}
 use Rattle.mcf_prices.specs.declared.shortlist.Entry.{Entry}
+use Rattle.mcf_prices.specs.declared.near_state.NearState.{NearState}
 use Rattle.mcf_prices.specs.Heaps.{Keyed}
-use Rattle.mcf_prices.specs.Private.Raisings.{IsLastSettled, IsPassedFrom, IsPopped, IsRaising, label}
+use Rattle.mcf_prices.specs.Private.Raisings.{IsLastSettled, IsPassedFrom, IsPopped, IsRaising, label, reverse}
 use Rattle.mcf_prices.specs.Private.Shortlists.{AreChains, HasChain, IsChain, IsLastEntry, IsWhole, entry_at, out_of}
 use Rattle.mcf_prices.proofs.RaisingSteps.{tail_reversed}
-use Rattle.mcf_prices.proofs.Relaxing.{reverse}
 use Rattle.mcf_prices.proofs.Shortlists.{StandsAt, stands, stands_at}
 
 -- ---- the chain of a node
@@ -58,62 +57,62 @@ chain_end g entries w c rest none i l leaves = absurd (omega (arith, l, none))
 -- ---- the scan
 
 -- the next entry of a chain is a residual arc that leaves the node that was settled last, and those before it are still to come
-pub record IsNext (s : Pseudoflow) (scale slack : ℕ) (y : List ℤ) (h : Keyed) (entries : List Entry) (w next : ℕ) (base : ℤ) (out : Rid) : Type 0 where
-  pub arc : IsArcNumber s.net out.arc
-  pub last : IsLastSettled (node_count s.net) h (tail s.net out)
-  pub base_is : base ≡ label y h (tail s.net out)
-  pub chain : IsChain s.net entries w next
-  pub all : IsRaising s scale slack y h (out ∷ map out_of entries)
-  pub search : (rest : List Rid) → HasChain s.net entries w next rest → IsRaising s scale slack y h (out ∷ rest)
+pub record IsNext (p : NearState) (h : Keyed) (entries : List Entry) (w next : ℕ) (base : ℤ) (out : Rid) : Type 0 where
+  pub arc : IsArcNumber p.state.now.net out.arc
+  pub last : IsLastSettled (node_count p.state.now.net) h (tail p.state.now.net out)
+  pub base_is : base ≡ label p.prices.now h (tail p.state.now.net out)
+  pub chain : IsChain p.state.now.net entries w next
+  pub all : IsRaising p h (out ∷ map out_of entries)
+  pub search : (rest : List Rid) → HasChain p.state.now.net entries w next rest → IsRaising p h (out ∷ rest)
 
-module _ (s : Pseudoflow) (scale slack : ℕ) (y : List ℤ) where
+module _ (p : NearState) where
   -- all residual arcs that leave the node are such a list
-  pub entering_list : (h : Keyed) (w : ℕ) (list : List Rid) → IsPopped s scale slack y h w → ListsLeaving s.net w list → IsRaising s scale slack y h list
+  pub entering_list : (h : Keyed) (w : ℕ) (list : List Rid) → IsPopped p h w → ListsLeaving p.state.now.net w list → IsRaising p h list
   entering_list h w list popped lists =
-      popped.search list (λ r room is. inr (lists.every (reverse r) (record { arc = room.arc; from = tail_reversed s.net r.arc r.back ∙ is })))
+      popped.search list (λ r room is. inr (lists.every (reverse r) (record { arc = room.arc; from = tail_reversed p.state.now.net r.arc r.back ∙ is })))
 
   -- so is the chain of the node, where no other residual arc offers a label below 0
-  pub chain_search : (h : Keyed) (passed : List ℤ) (heads : List ℕ) (entries : List Entry) (w c : ℕ) (base least : ℤ) → IsPseudoflow s
-      → IsWhole s passed heads entries → IsPopped s scale slack y h w → c ≡ get_or heads (w - 1) 0 → base ≡ label y h w → IsPassedFrom scale base least
-      → least ≤ℤ at_node passed w → (rest : List Rid) → HasChain s.net entries w c rest → IsRaising s scale slack y h rest
-  chain_search h passed heads entries w c base least flow whole popped is base_is from low rest has =
+  pub chain_search : (h : Keyed) (passed : List ℤ) (heads : List ℕ) (entries : List Entry) (w c : ℕ) (base least : ℤ)
+      → IsWhole p.state.now passed heads entries → IsPopped p h w → c ≡ get_or heads (w - 1) 0 → base ≡ label p.prices.now h w → IsPassedFrom p.scale base least
+      → least ≤ℤ at_node passed w → (rest : List Rid) → HasChain p.state.now.net entries w c rest → IsRaising p h rest
+  chain_search h passed heads entries w c base least whole popped is base_is from low rest has =
       popped.search rest (λ r room enters.
       let same = ap (at_node passed) enters in
-      by_lt_z (unit_cost s.net r) (at_node passed w)
+      by_lt_z (unit_cost p.state.now.net r) (at_node passed w)
       (λ less. inr (listed r enters (stands_at entries (reverse r) (whole.every r room (omega (arith, ints, less, same))))))
       (λ most. inl (λ _.
-      let offered = from (unit_cost s.net r) (omega (arith, ints, most, low)) in
-      let up = popped.not_above (tail s.net r) (tail_is_node s.net r.arc r.back flow.of_net room.arc) in
-      let there = ap (λ v. label y h v) enters in
+      let offered = from (unit_cost p.state.now.net r) (omega (arith, ints, most, low)) in
+      let up = popped.not_above (tail p.state.now.net r) (tail_is_node p.state.now.net r.arc r.back popped.flow.of_net room.arc) in
+      let there = ap (λ v. label p.prices.now h v) enters in
       omega (arith, ints, offered, up, there, base_is))))
     where
-      link : IsLastEntry s.net entries w c (length entries)
-      link = subst (λ k. IsLastEntry s.net entries w k (length entries)) (sym is) (whole.chains.first w popped.last.is_node)
+      link : IsLastEntry p.state.now.net entries w c (length entries)
+      link = subst (λ k. IsLastEntry p.state.now.net entries w k (length entries)) (sym is) (whole.chains.first w popped.last.is_node)
 
-      listed : (r : Rid) → head s.net r ≡ w → StandsAt entries (reverse r) → Contains rest (reverse r)
+      listed : (r : Rid) → head p.state.now.net r ≡ w → StandsAt entries (reverse r) → Contains rest (reverse r)
       listed r enters at =
-          let leaves : tail s.net (out_of (entry_at entries at.place)) ≡ w = ap (λ x. tail s.net x) at.is ∙ tail_reversed s.net r.arc r.back ∙ enters in
+          let leaves : tail p.state.now.net (out_of (entry_at entries at.place)) ≡ w = ap (λ x. tail p.state.now.net x) at.is ∙ tail_reversed p.state.now.net r.arc r.back ∙ enters in
           elim (cases_lt at.place c) [
             | inl before ↦ subst (λ x. Contains rest x) at.is (has at.place before leaves)
             | inr behind ↦ absurd (link.last at.place behind at.inside leaves)
           ]
 
-  pub next_entry : (h : Keyed) (entries : List Entry) (w c : ℕ) (base : ℤ) (entry : Entry) (arc : ℕ) → IsChain s.net entries w c → 1 ≤ c
-      → ((rest : List Rid) → HasChain s.net entries w c rest → IsRaising s scale slack y h rest) → IsLastSettled (node_count s.net) h w
-      → base ≡ label y h w → entry ≡ entry_at entries (c - 1) → arc ≡ entry.arc
-      → IsNext s scale slack y h entries w entry.next base (record { arc = arc; back = entry.back })
+  pub next_entry : (h : Keyed) (entries : List Entry) (w c : ℕ) (base : ℤ) (entry : Entry) (arc : ℕ) → IsChain p.state.now.net entries w c → 1 ≤ c
+      → ((rest : List Rid) → HasChain p.state.now.net entries w c rest → IsRaising p h rest) → IsLastSettled (node_count p.state.now.net) h w
+      → base ≡ label p.prices.now h w → entry ≡ entry_at entries (c - 1) → arc ≡ entry.arc
+      → IsNext p h entries w entry.next base (record { arc = arc; back = entry.back })
   next_entry h entries w c base entry arc chain some search last base_is is arc_is =
       let low = chain.low in
       let inside : c - 1 < length entries = omega (arith, low, some) in
       let leaves = chain.leaves some in
-      let made : IsNext s scale slack y h entries w (entry_at entries (c - 1)).next base (out_of (entry_at entries (c - 1))) = record {
+      let made : IsNext p h entries w (entry_at entries (c - 1)).next base (out_of (entry_at entries (c - 1))) = record {
         arc = chain.arcs (c - 1) inside;
-        last = subst (λ x. IsLastSettled (node_count s.net) h x) (sym leaves) last;
-        base_is = base_is ∙ ap (λ x. label y h x) (sym leaves);
-        chain = chain_next s.net entries w c chain some;
+        last = subst (λ x. IsLastSettled (node_count p.state.now.net) h x) (sym leaves) last;
+        base_is = base_is ∙ ap (λ x. label p.prices.now h x) (sym leaves);
+        chain = chain_next p.state.now.net entries w c chain some;
         all = search (out_of (entry_at entries (c - 1)) ∷ map out_of entries) (λ i l _.
             Contains-later (out_of (entry_at entries (c - 1))) (out_of (entry_at entries i)) (map out_of entries) (stands entries i (omega (arith, l, low))));
-        search = λ rest has. search (out_of (entry_at entries (c - 1)) ∷ rest) (chain_rest s.net entries w c chain some rest has);
+        search = λ rest has. search (out_of (entry_at entries (c - 1)) ∷ rest) (chain_rest p.state.now.net entries w c chain some rest has);
       } in
-      subst (λ k. IsNext s scale slack y h entries w entry.next base (record { arc = k; back = entry.back })) (sym arc_is)
-      (subst (λ (e : Entry). IsNext s scale slack y h entries w e.next base (out_of e)) (sym is) made)
+      subst (λ k. IsNext p h entries w entry.next base (record { arc = k; back = entry.back })) (sym arc_is)
+      (subst (λ (e : Entry). IsNext p h entries w e.next base (out_of e)) (sym is) made)

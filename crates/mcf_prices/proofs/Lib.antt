@@ -16,7 +16,6 @@ pub mod Marks
 pub mod NearLaws
 pub mod Offers
 pub mod Paths
-pub mod Picks
 pub mod PriceFloors
 pub mod QueueLaws
 pub mod RaisedPrices

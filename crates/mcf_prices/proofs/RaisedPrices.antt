@@ -10,12 +10,11 @@ use Rattle.mcf_instance.proofs.IntLaws.{neg-mul, add-mul, one-mul}
 use Rattle.mcf_network.specs.declared.rid.Rid.{Rid}
 use Rattle.mcf_network.specs.NodeSets.{member_count}
 use Rattle.mcf_network.specs.Residual.{tail, head, unit_cost}
-use Rattle.mcf_network.specs.States.{Pseudoflow, IsPseudoflow}
 use Rattle.mcf_network.proofs.ArcLaws.{head_is_node, tail_is_node}
 use Rattle.mcf_network.proofs.Marks.{count_none, unmarked}
 use Rattle.mcf_prices.specs.Heaps.{Keyed, NoneWaits}
 use Rattle.mcf_prices.specs.Private.Labels.{Respects}
-use Rattle.mcf_prices.specs.NearPrices.{AreNearPrices}
+use Rattle.mcf_prices.specs.declared.near_state.NearState.{NearState}
 use Rattle.mcf_prices.specs.Outcomes.{AreStatePrices}
 use Rattle.mcf_prices.specs.Private.Raisings.{AreRounded, IsLength, IsRaising, IsRoundedDown, Settled, label}
 use Rattle.mcf_prices.proofs.LabelLengths.{cancelled, rounded_above, rounded_respects}
@@ -37,30 +36,30 @@ rounded_is scale depth q z g high depth_is is enough least =
     low : (x : ℤ) → x ≤ℤ pos 0 → depth ≡ unsigned_abs x → x ≡ neg_ℤ (pos depth)
     low x l e = omega (arith, ints)
 
-module _ (s : Pseudoflow) (scale slack : ℕ) (y : List ℤ) (flow : IsPseudoflow s) (near : AreNearPrices s scale slack y) (h : Keyed) (z : List ℤ)
-    (search : IsRaising s scale slack y h []) (none : NoneWaits h) (rounded : AreRounded scale y h z) where
+module _ (p : NearState) (h : Keyed) (z : List ℤ)
+    (search : IsRaising p h []) (none : NoneWaits h) (rounded : AreRounded p.scale p.prices.now h z) where
   all_settled : (v : ℕ) → Settled h v
   all_settled v = ap (λ t. get_or t (v - 1) false) none ∙ unmarked (length h.waiting) v
 
   none_left : member_count h.waiting ≡ 0
   none_left = ap member_count none ∙ count_none (length h.waiting)
 
-  walk : (v : ℕ) → IsNode (node_count s.net) v → IsLength scale slack 1 (node_count s.net) (label y h v)
-  walk v n = subst (λ m. IsLength scale slack (m + 1) (node_count s.net) (label y h v)) none_left (search.shorter v n (all_settled v))
+  walk : (v : ℕ) → IsNode (node_count p.state.now.net) v → IsLength p.scale p.slack 1 (node_count p.state.now.net) (label p.prices.now h v)
+  walk v n = subst (λ m. IsLength p.scale p.slack (m + 1) (node_count p.state.now.net) (label p.prices.now h v)) none_left (search.shorter v n (all_settled v))
 
-  round : (v : ℕ) → IsNode (node_count s.net) v → IsRoundedDown scale (label y h v) (at_node z v)
-  round v n = rounded.each v (n.0, (let count = near.one_per_node in omega (arith, n, count)))
+  round : (v : ℕ) → IsNode (node_count p.state.now.net) v → IsRoundedDown p.scale (label p.prices.now h v) (at_node z v)
+  round v n = rounded.each v (n.0, (let count = p.near.one_per_node in omega (arith, n, count)))
 
-  count : length z ≡ node_count s.net
-  count = rounded.count ∙ near.one_per_node
+  count : length z ≡ node_count p.state.now.net
+  count = rounded.count ∙ p.near.one_per_node
 
   -- no price is above 0
-  low_price : (v : ℕ) → IsNode (node_count s.net) v → at_node z v ≤ℤ pos 0
+  low_price : (v : ℕ) → IsNode (node_count p.state.now.net) v → at_node z v ≤ℤ pos 0
   low_price v n =
       let below = (round v n).below in
       let up = search.not_above v n in
-      let fits = near.slack_small in
-      let less : at_node z v <ℤ pos 1 = cancelled (at_node z v) (pos 1) scale (omega (arith, ints, below, up, fits, one-mul (pos scale))) in
+      let fits = p.near.slack_small in
+      let less : at_node z v <ℤ pos 1 = cancelled (at_node z v) (pos 1) p.scale (omega (arith, ints, below, up, fits, one-mul (pos p.scale))) in
       omega (arith, ints, less)
 
   low_prices : AreNotAboveZero z
@@ -71,27 +70,27 @@ module _ (s : Pseudoflow) (scale slack : ℕ) (y : List ℤ) (flow : IsPseudoflo
       let same = ap (λ j. get_or z j (pos 0)) back in
       omega (arith, ints, here, read, same)
 
-  respected : (r : Rid) → Respects s z r
+  respected : (r : Rid) → Respects p.state.now z r
   respected r room =
-      let from = tail_is_node s.net r.arc r.back flow.of_net room.arc in
-      let to = head_is_node s.net r.arc r.back flow.of_net room.arc in
-      elim (search.respects r room (all_settled (head s.net r))) [
-        | inl a ↦ rounded_respects scale slack (node_count s.net) (unit_cost s.net r) (label y h (tail s.net r)) (label y h (head s.net r))
-            (at_node z (tail s.net r)) (at_node z (head s.net r)) near.slack_small (walk (head s.net r) to) a (round (tail s.net r) from)
-            (round (head s.net r) to)
+      let from = tail_is_node p.state.now.net r.arc r.back search.flow.of_net room.arc in
+      let to = head_is_node p.state.now.net r.arc r.back search.flow.of_net room.arc in
+      elim (search.respects r room (all_settled (head p.state.now.net r))) [
+        | inl a ↦ rounded_respects p.scale p.slack (node_count p.state.now.net) (unit_cost p.state.now.net r) (label p.prices.now h (tail p.state.now.net r)) (label p.prices.now h (head p.state.now.net r))
+            (at_node z (tail p.state.now.net r)) (at_node z (head p.state.now.net r)) p.near.slack_small (walk (head p.state.now.net r) to) a (round (tail p.state.now.net r) from)
+            (round (head p.state.now.net r) to)
         | inr has ↦ absurd (none_contained _ has)
       ]
 
-  raised_greatest : AreGreatestPrices s.net z s.amounts
+  raised_greatest : AreGreatestPrices p.state.now.net z p.state.now.amounts
   raised_greatest =
       record {
         low = record {
           one_per_node = count;
           not_above_zero = low_prices;
-          show_flow = shows_from_respects s z flow respected;
+          show_flow = shows_from_respects p.state.now z search.flow respected;
         };
-        greatest = λ others low v n. rounded_above scale (label y h v) (at_node z v) (at_node others v) (search.above others low v n) (round v n);
+        greatest = λ others low v n. rounded_above p.scale (label p.prices.now h v) (at_node z v) (at_node others v) (search.above others low v n) (round v n);
       }
 
-  pub raised : AreStatePrices s.net s z
-  raised = record { greatest = raised_greatest; small = greatest_are_small s z flow raised_greatest }
+  pub raised : AreStatePrices p.state.now.net p.state.now z
+  raised = record { greatest = raised_greatest; small = greatest_are_small p.state.now z search.flow raised_greatest }

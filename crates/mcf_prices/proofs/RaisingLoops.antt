@@ -1,6 +1,7 @@
 -- The loops over all nodes before and after a search for the greatest prices.
-use Rattle.std.proofs.Common.{◌≡◌, ◌≢◌, ℕ, ◌+◌, ◌-◌, ◌<◌, ◌≤◌, true, false, List, length, set, ℤ, pos, neg_ℤ, ◌+ℤ◌, refl, sym, ap, subst, ◌∙◌, arith, ◌⊎◌, inl}
+use Rattle.std.proofs.Common.{◌≡◌, ◌≢◌, ℕ, ◌+◌, ◌-◌, ◌<◌, ◌≤◌, Bool, true, false, List, length, set, ℤ, pos, neg_ℤ, ◌+ℤ◌, ◌≤ℤ◌, refl, sym, ap, subst, ◌∙◌, arith, ◌⊎◌, inl}
 use Rattle.std.proofs.Common.{inr, length-set}
+use Rattle.std.proofs.lemmas.Bool.{true≢false}
 use Rattle.std.proofs.lemmas.Int.{ints}
 use Rattle.mcf_instance.specs.Blocking.{in_table}
 use Rattle.mcf_instance.specs.Network.{IsNode, at_node}
@@ -26,6 +27,12 @@ wait_start y h keys waiting none =
       zero = λ v n. absurd (omega (arith, n));
       rest = λ v l. ap (λ t. in_table t v) none ∙ unmarked (length h.waiting) v;
     }
+
+-- the heap takes what is offered to a node that doesn't wait
+pub taken_in : (h h' : Keyed) (v : ℕ) (key : ℤ) (b : Bool) → Settled h v → (b ≡ true → h' ≡ waiting_with h v key)
+    → (b ≡ false → Waits h v × (at_node h.keys v ≤ℤ key)) → h' ≡ waiting_with h v key
+taken_in h h' v key true idle taken waits = taken refl
+taken_in h h' v key false idle taken waits = absurd (true≢false (sym (waits refl).0 ∙ idle))
 
 pub wait_next : (y : List ℤ) (h : Keyed) (i v : ℕ) (key : ℤ) → AreWaiting y h i → i < length y → v ≡ i + 1 → key ≡ neg_ℤ (at_node y v)
     → AreWaiting y (waiting_with h v key) (i + 1)

@@ -1,7 +1,7 @@
 -- What the steps of a search for the greatest prices keep.
 use Rattle.std.proofs.Common.{◌≡◌, ◌≢◌, ℕ, ◌+◌, ◌-◌, ◌≤◌, Bool, true, false, List, [], ◌∷◌, ◌++◌, length, set, ℤ, pos, ◌+ℤ◌, ◌-ℤ◌, ◌*ℤ◌, ◌≤ℤ◌, refl, sym}
 use Rattle.std.proofs.Common.{ap, subst, ◌∙◌, arith, ◌⊎◌, inl, inr, length-set}
-use Rattle.std.specs.Prelude.{◌↔◌, not}
+use Rattle.std.specs.Prelude.{◌↔◌}
 use Rattle.std.specs.List.{All, Contains}
 use Rattle.std.proofs.lemmas.Bool.{true≢false}
 use Rattle.std.proofs.lemmas.Int.{ints}
@@ -22,13 +22,14 @@ use Rattle.mcf_network.proofs.ArcLaws.{head_is_node, tail_is_node}
 use Rattle.mcf_network.proofs.Lists.{All-behind, Contains-cons}
 use Rattle.mcf_network.proofs.Marks.{count_small}
 use Rattle.mcf_prices.specs.Heaps.{ComesFirst, IsFirst, Keyed, Waits, waiting_with, with_key, without}
-use Rattle.mcf_prices.specs.NearPrices.{AreNearPrices, near_limit}
-use Rattle.mcf_prices.specs.Private.Raisings.{ArePassed, ArePicked, CostsAtLeast, IsLastSettled, IsLength, IsPassedFrom, IsPopped, IsRaising, IsReady, IsScanned, IsSettledNext, KeepsSettled, RespectsLabel, Settled}
-use Rattle.mcf_prices.specs.Private.Raisings.{label, label_reach, step}
+use Rattle.mcf_prices.specs.NearPrices.{near_limit}
+use Rattle.mcf_prices.specs.Private.Raisings.{ArePassed, CostsAtLeast, IsLastSettled, IsLength, IsOffer, IsPassedFrom, IsPopped, IsRaising, IsReady, IsRelaxed, IsScanned, IsSettledNext, KeepsSettled, RespectsLabel, Settled}
+use Rattle.mcf_prices.specs.Private.Raisings.{label, label_reach, reverse, step}
+use Rattle.mcf_prices.specs.declared.near_state.NearState.{NearState}
 use Rattle.mcf_prices.proofs.HeapPlaces.{count_less}
 use Rattle.mcf_prices.proofs.LabelLengths.{length_fewer, length_next, length_zero}
 use Rattle.mcf_prices.proofs.Marks.{read_node}
-use Rattle.mcf_prices.proofs.Relaxing.{reverse, reversed}
+use Rattle.mcf_prices.proofs.Relaxing.{reversed}
 use Rattle.mcf_prices.proofs.Showing.{cost_small, respects_from_shows}
 
 -- the reverse of a residual arc leaves the node that the arc enters, and the other way round
@@ -94,52 +95,43 @@ settled_from false b e f = refl
 settled_from true b e f = absurd (true≢false (sym (e.1 refl) ∙ f))
 
 -- one residual arc more is passed over
-pub passed_more : (s : Pseudoflow) (passed : ℤ) (list rest : List Rid) (out : Rid) → CostsAtLeast s passed (record { arc = out.arc; back = not out.back })
+pub passed_more : (s : Pseudoflow) (passed : ℤ) (list rest : List Rid) (out : Rid) → CostsAtLeast s passed (reverse out)
     → ArePassed s passed list (out ∷ rest) → ArePassed s passed list rest
 passed_more s passed list rest out costs before =
     record {
       first = before.first ++ out ∷ [];
-      costs = All-push (λ (r : Rid). CostsAtLeast s passed (record { arc = r.arc; back = not r.back })) before.first out before.costs costs;
+      costs = All-push (λ (r : Rid). CostsAtLeast s passed (reverse r)) before.first out before.costs costs;
       whole = before.whole ∙ sym (append_assoc before.first (out ∷ []) rest);
     }
 
--- what relaxing a residual arc does to a search, whatever is still to come
-pub record IsRelaxed (s : Pseudoflow) (scale slack : ℕ) (y : List ℤ) (h h' : Keyed) (out : Rid) : Type 0 where
-  pub search : (rest : List Rid) → IsRaising s scale slack y h (out ∷ rest) → IsRaising s scale slack y h' rest
-  pub keeps : KeepsSettled (node_count s.net) h h'
-
--- the last residual arc of all was respected, or relaxed
-pub scanned_kept : (s : Pseudoflow) (scale slack : ℕ) (y : List ℤ) (h : Keyed) → IsRaising s scale slack y h [] → IsScanned s scale slack y h h
-scanned_kept s scale slack y h search = record { search = search; waiting = refl }
-
-pub scanned_lowered : (s : Pseudoflow) (scale slack : ℕ) (y : List ℤ) (h h' : Keyed) (out : Rid) → IsRelaxed s scale slack y h h' out
-    → IsRaising s scale slack y h (out ∷ []) → IsScanned s scale slack y h h'
-scanned_lowered s scale slack y h h' out relaxed search = record { search = relaxed.search [] search; waiting = relaxed.keeps.waiting }
+-- the last residual arc of all was relaxed
+pub scanned : (p : NearState) (h h' : Keyed) (out : Rid) → IsRelaxed p h h' out → IsRaising p h (out ∷ []) → IsScanned p h h'
+scanned p h h' out relaxed search = record { search = relaxed.search [] search; waiting = relaxed.keeps.waiting }
 
 -- a residual arc that leaves the node that was settled last, whose label is the base, and those after it are still to come
-pub record IsFound (s : Pseudoflow) (scale slack : ℕ) (y : List ℤ) (h : Keyed) (w : ℕ) (base : ℤ) (out : Rid) (rest : List Rid) : Type 0 where
-  pub arc : IsArcNumber s.net out.arc
-  pub leaves : All (Leaves s.net w) rest
-  pub search : IsRaising s scale slack y h (out ∷ rest)
-  pub last : IsLastSettled (node_count s.net) h (tail s.net out)
-  pub base_is : base ≡ label y h (tail s.net out)
+pub record IsFound (p : NearState) (h : Keyed) (w : ℕ) (base : ℤ) (out : Rid) (rest : List Rid) : Type 0 where
+  pub arc : IsArcNumber p.state.now.net out.arc
+  pub leaves : All (Leaves p.state.now.net w) rest
+  pub search : IsRaising p h (out ∷ rest)
+  pub last : IsLastSettled (node_count p.state.now.net) h (tail p.state.now.net out)
+  pub base_is : base ≡ label p.prices.now h (tail p.state.now.net out)
 
 -- the label of a settled node stays as it was
 pub base_kept : (y : List ℤ) (old h : Keyed) (nodes w : ℕ) (base : ℤ) → base ≡ label y old w → IsLastSettled nodes old w → KeepsSettled nodes old h
     → base ≡ label y h w
 base_kept y old h nodes w base is last keeps = is ∙ ap (λ (z : ℤ). at_node y w +ℤ z) (sym (keeps.keys w last.is_node last.is_settled))
 
-module _ (s : Pseudoflow) (scale slack : ℕ) (y : List ℤ) (flow : IsPseudoflow s) (near : AreNearPrices s scale slack y) where
-  head_node : (r : Rid) → HasRoom s r → IsNode (node_count s.net) (head s.net r)
-  head_node r room = head_is_node s.net r.arc r.back flow.of_net room.arc
+module _ (p : NearState) (flow : IsPseudoflow p.state.now) where
+  head_node : (r : Rid) → HasRoom p.state.now r → IsNode (node_count p.state.now.net) (head p.state.now.net r)
+  head_node r room = head_is_node p.state.now.net r.arc r.back flow.of_net room.arc
 
-  tail_node : (r : Rid) → HasRoom s r → IsNode (node_count s.net) (tail s.net r)
-  tail_node r room = tail_is_node s.net r.arc r.back flow.of_net room.arc
+  tail_node : (r : Rid) → HasRoom p.state.now r → IsNode (node_count p.state.now.net) (tail p.state.now.net r)
+  tail_node r room = tail_is_node p.state.now.net r.arc r.back flow.of_net room.arc
 
-  pub price_small : (v : ℕ) → IsNode (node_count s.net) v → IsUpTo near_limit (at_node y v)
-  price_small v n = near.small (v - 1) (pos 0) (let count = near.one_per_node in omega (arith, n, count))
+  pub price_small : (v : ℕ) → IsNode (node_count p.state.now.net) v → IsUpTo near_limit (at_node p.prices.now v)
+  price_small v n = p.near.small (v - 1) (pos 0) (let count = p.near.one_per_node in omega (arith, n, count))
 
-  pub label_small : (h : Keyed) (rest : List Rid) → IsRaising s scale slack y h rest → (v : ℕ) → IsNode (node_count s.net) v → IsUpTo label_reach (label y h v)
+  pub label_small : (h : Keyed) (rest : List Rid) → IsRaising p h rest → (v : ℕ) → IsNode (node_count p.state.now.net) v → IsUpTo label_reach (label p.prices.now h v)
   label_small h rest search v n =
       let length = search.lengths v n in
       let low = length.low in
@@ -149,31 +141,32 @@ module _ (s : Pseudoflow) (scale slack : ℕ) (y : List ℤ) (flow : IsPseudoflo
       (omega (arith, ints, low, few, limit), omega (arith, ints, up))
 
   -- all nodes wait with the label 0
-  pub started : (h : Keyed) → IsReady y h → IsRaising s scale slack y h []
+  pub started : (h : Keyed) → IsReady p.prices.now h → IsRaising p h []
   started h ready =
-      let count = near.one_per_node in
-      let node : (v : ℕ) → IsNode (node_count s.net) v → IsNode (length y) v = λ (v : ℕ) (n : IsNode (node_count s.net) v). (n.0, omega (arith, n, count)) in
-      let waits : (v : ℕ) → IsNode (node_count s.net) v → Settled h v
-      → ⊥ = λ (v : ℕ) (n : IsNode (node_count s.net) v) (e : Settled h v). waits_or_settled h v (ready.waits v (node v n)) e in
+      let count = p.near.one_per_node in
+      let node : (v : ℕ) → IsNode (node_count p.state.now.net) v → IsNode (length p.prices.now) v = λ (v : ℕ) (n : IsNode (node_count p.state.now.net) v). (n.0, omega (arith, n, count)) in
+      let waits : (v : ℕ) → IsNode (node_count p.state.now.net) v → Settled h v
+      → ⊥ = λ (v : ℕ) (n : IsNode (node_count p.state.now.net) v) (e : Settled h v). waits_or_settled h v (ready.waits v (node v n)) e in
       record {
+        flow = flow;
         key_count = ready.key_count ∙ count;
         waiting_count = ready.waiting_count ∙ count;
         not_above = λ v n. let z = ready.zero v (node v n) in omega (arith, ints, z);
-        lengths = λ v n. length_zero scale slack (member_count h.waiting) (node_count s.net) (label y h v)
+        lengths = λ v n. length_zero p.scale p.slack (member_count h.waiting) (node_count p.state.now.net) (label p.prices.now h v)
             (omega (arith, count_small h.waiting, ready.waiting_count, count)) (ready.zero v (node v n));
         shorter = λ v n e. absurd (waits v n e);
         above = λ others low v n.
             let up = low.not_above_zero (v - 1) (pos 0) (omega (arith, n, low.one_per_node)) in
             let z = ready.zero v (node v n) in
-            omega (arith, ints, z, mul-mono_left (at_node others v) (pos 0) (pos scale) (omega (arith, ints)) up, zero-mul (pos scale));
+            omega (arith, ints, z, mul-mono_left (at_node others v) (pos 0) (pos p.scale) (omega (arith, ints)) up, zero-mul (pos p.scale));
         level = λ u v m n e w. absurd (waits u m e);
-        respects = λ r room e. absurd (waits (head s.net r) (head_node r room) e);
+        respects = λ r room e. absurd (waits (head p.state.now.net r) (head_node r room) e);
       }
 
   -- ---- a node with the least key is taken out, and settled
 
-  module _ (h : Keyed) (w : ℕ) (search : IsRaising s scale slack y h []) (first : HasLeastKey h w) where
-    here : IsNode (node_count s.net) w
+  module _ (h : Keyed) (w : ℕ) (search : IsRaising p h []) (first : HasLeastKey h w) where
+    here : IsNode (node_count p.state.now.net) w
     here = let n = first.is_node in (n.0, omega (arith, n, search.waiting_count))
 
     read : (v : ℕ) → 1 ≤ v → ((v ≡ w) × (in_table (without h w).waiting v ≡ false)) ⊎ ((v ≢ w) × (in_table (without h w).waiting v ≡ in_table h.waiting v))
@@ -190,7 +183,7 @@ module _ (s : Pseudoflow) (scale slack : ℕ) (y : List ℤ) (flow : IsPseudoflo
     pub fewer : member_count (without h w).waiting + 1 ≡ member_count h.waiting
     fewer = let n = first.is_node in count_less h.waiting (w - 1) (omega (arith, n)) first.waits
 
-    popped_last : IsLastSettled (node_count s.net) (without h w) w
+    popped_last : IsLastSettled (node_count p.state.now.net) (without h w) w
     popped_last =
         record {
           is_node = here;
@@ -203,18 +196,19 @@ module _ (s : Pseudoflow) (scale slack : ℕ) (y : List ℤ) (flow : IsPseudoflo
 
     -- whatever list has the reverses of the residual arcs that enter the node, but for those that are respected
     popped_any : (rest : List Rid)
-        → ((r : Rid) → HasRoom s r → head s.net r ≡ w → RespectsLabel s scale slack y (without h w) r ⊎ Contains rest (reverse r))
-        → IsRaising s scale slack y (without h w) rest
+        → ((r : Rid) → HasRoom p.state.now r → head p.state.now.net r ≡ w → RespectsLabel p (without h w) r ⊎ Contains rest (reverse r))
+        → IsRaising p (without h w) rest
     popped_any rest entering =
         record {
+          flow = flow;
           key_count = search.key_count;
           waiting_count = length-set h.waiting (w - 1) false ∙ search.waiting_count;
           not_above = search.not_above;
-          lengths = λ v n. length_fewer scale slack (member_count h.waiting) (member_count (without h w).waiting) (node_count s.net) (label y h v)
+          lengths = λ v n. length_fewer p.scale p.slack (member_count h.waiting) (member_count (without h w).waiting) (node_count p.state.now.net) (label p.prices.now h v)
               (omega (arith, fewer)) (search.lengths v n);
           shorter = λ v n e. elim (settled_before v n.0 e) [
-            | inl is ↦ subst (λ m. IsLength scale slack m (node_count s.net) (label y h v)) (sym fewer) (search.lengths v n)
-            | inr was ↦ length_fewer scale slack (member_count h.waiting + 1) (member_count (without h w).waiting + 1) (node_count s.net) (label y h v)
+            | inl is ↦ subst (λ m. IsLength p.scale p.slack m (node_count p.state.now.net) (label p.prices.now h v)) (sym fewer) (search.lengths v n)
+            | inr was ↦ length_fewer p.scale p.slack (member_count h.waiting + 1) (member_count (without h w).waiting + 1) (node_count p.state.now.net) (label p.prices.now h v)
                 (omega (arith, fewer)) (search.shorter v n was)
           ];
           above = search.above;
@@ -225,15 +219,16 @@ module _ (s : Pseudoflow) (scale slack : ℕ) (y : List ℤ) (flow : IsPseudoflo
                 omega (arith, ints, low, same))
             | inr was ↦ search.level u v m n was (waited_before v n.0 waits)
           ];
-          respects = λ r room e. elim (settled_before (head s.net r) (head_node r room).0 e) [
+          respects = λ r room e. elim (settled_before (head p.state.now.net r) (head_node r room).0 e) [
             | inl is ↦ elim (entering r room is) [ inl respects ↦ inl (respects room) | inr has ↦ inr has ]
             | inr was ↦ elim (search.respects r room was) [ inl a ↦ inl a | inr has ↦ absurd (none_contained (reverse r) has) ]
           ];
         }
 
-    pub popped_is : IsPopped s scale slack y (without h w) w
+    pub popped_is : IsPopped p (without h w) w
     popped_is =
         record {
+          flow = flow;
           key_count = search.key_count;
           low = (label_small h [] search w here).0;
           not_above = search.not_above;
@@ -244,17 +239,18 @@ module _ (s : Pseudoflow) (scale slack : ℕ) (y : List ℤ) (flow : IsPseudoflo
   -- ---- a residual arc is respected
 
   -- the tail is settled, with a key no greater than that of the head
-  pub settled_respects : (h : Keyed) (r : Rid) → IsLastSettled (node_count s.net) h (head s.net r) → Settled h (tail s.net r)
-      → RespectsLabel s scale slack y h r
+  pub settled_respects : (h : Keyed) (r : Rid) → IsLastSettled (node_count p.state.now.net) h (head p.state.now.net r) → Settled h (tail p.state.now.net r)
+      → RespectsLabel p h r
   settled_respects h r last settled room =
-      let low = last.last (tail s.net r) (tail_node r room) settled in
-      let cheap = near.near r room in
+      let low = last.last (tail p.state.now.net r) (tail_node r room) settled in
+      let cheap = p.near.near r room in
       omega (arith, ints, low, cheap)
 
-  pub kept : (h : Keyed) (out : Rid) (rest : List Rid) → RespectsLabel s scale slack y h (reverse out) → IsRaising s scale slack y h (out ∷ rest)
-      → IsRaising s scale slack y h rest
+  pub kept : (h : Keyed) (out : Rid) (rest : List Rid) → RespectsLabel p h (reverse out) → IsRaising p h (out ∷ rest)
+      → IsRaising p h rest
   kept h out rest respects search =
       record {
+        flow = flow;
         key_count = search.key_count;
         waiting_count = search.waiting_count;
         not_above = search.not_above;
@@ -265,60 +261,26 @@ module _ (s : Pseudoflow) (scale slack : ℕ) (y : List ℤ) (flow : IsPseudoflo
         respects = λ r room e. elim (search.respects r room e) [
           | inl a ↦ inl a
           | inr has ↦ elim (Contains-cons out rest (reverse r) has) [
-            | inl is ↦ inl (let same : reverse out ≡ r = reversed out r is in subst (λ q. RespectsLabel s scale slack y h q) same respects room)
+            | inl is ↦ inl (let same : reverse out ≡ r = reversed out r is in subst (λ q. RespectsLabel p h q) same respects room)
             | inr later ↦ inr later
           ]
         ];
       }
 
   -- a residual arc of a cost from which on none offers its tail a label below 0
-  costly_respects : (h : Keyed) (rest : List Rid) (base passed : ℤ) (r : Rid) → IsRaising s scale slack y h rest → base ≡ label y h (head s.net r)
-      → IsPassedFrom scale base passed → CostsAtLeast s passed r → RespectsLabel s scale slack y h r
+  costly_respects : (h : Keyed) (rest : List Rid) (base passed : ℤ) (r : Rid) → IsRaising p h rest → base ≡ label p.prices.now h (head p.state.now.net r)
+      → IsPassedFrom p.scale base passed → CostsAtLeast p.state.now passed r → RespectsLabel p h r
   costly_respects h rest base passed r search is from costs room =
-      let low = from (unit_cost s.net r) (costs room) in
-      let up = search.not_above (tail s.net r) (tail_node r room) in
+      let low = from (unit_cost p.state.now.net r) (costs room) in
+      let up = search.not_above (tail p.state.now.net r) (tail_node r room) in
       omega (arith, ints, low, up, is)
 
-  -- the first residual arcs of a list are passed over
-  pub pass : (h : Keyed) (w : ℕ) (base passed : ℤ) (first rest : List Rid) → base ≡ label y h w → IsPassedFrom scale base passed
-      → All (Leaves s.net w) (first ++ rest) → All (λ r. CostsAtLeast s passed (record { arc = r.arc; back = not r.back })) first
-      → IsRaising s scale slack y h (first ++ rest) → IsRaising s scale slack y h rest
-  pass h w base passed [] rest is from leaves costs search = search
-  pass h w base passed (out ∷ first) rest is from leaves costs search =
-      let leaves_w = (All-head (Leaves s.net w) out (first ++ rest) leaves).from in
-      let here = ap (λ x. label y h x) (head_reversed s.net out.arc out.back ∙ leaves_w) in
-      let cost = All-head (λ (r : Rid). CostsAtLeast s passed (record { arc = r.arc; back = not r.back })) out first costs in
-      let respects = costly_respects h (out ∷ first ++ rest) base passed (reverse out) search (is ∙ sym here) from cost in
-      pass h w base passed first rest is from (All-tail (Leaves s.net w) out (first ++ rest) leaves)
-      (All-tail (λ (r : Rid). CostsAtLeast s passed (record { arc = r.arc; back = not r.back })) out first costs)
-      (kept h out (first ++ rest) respects search)
-
-  pub passed_list : (h : Keyed) (w : ℕ) (base passed : ℤ) (list rest : List Rid) → base ≡ label y h w → IsPassedFrom scale base passed
-      → All (Leaves s.net w) list → ArePassed s passed list rest → IsRaising s scale slack y h list → IsRaising s scale slack y h rest
-  passed_list h w base passed list rest is from leaves before search =
-      pass h w base passed before.first rest is from (subst (λ (xs : List Rid). All (Leaves s.net w) xs) before.whole leaves) before.costs
-      (subst (λ (xs : List Rid). IsRaising s scale slack y h xs) before.whole search)
-
-  pub found : (h : Keyed) (w : ℕ) (base passed : ℤ) (list rest : List Rid) (out : Rid) → base ≡ label y h w → IsPassedFrom scale base passed
-      → IsLastSettled (node_count s.net) h w → All (Leaves s.net w) list → ArePassed s passed list (out ∷ rest) → IsRaising s scale slack y h list
-      → IsFound s scale slack y h w base out rest
-  found h w base passed list rest out is from last leaves before search =
-      let here : All (Leaves s.net w) (out ∷ rest) = All-behind (Leaves s.net w) before.first (out ∷ rest)
-      (subst (λ (xs : List Rid). All (Leaves s.net w) xs) before.whole leaves) in
-      let first = All-head (Leaves s.net w) out rest here in
+  -- some residual arcs of a list are passed over
+  pub passed_list : (h : Keyed) (w : ℕ) (base passed : ℤ) (front list rest : List Rid) → base ≡ label p.prices.now h w → IsPassedFrom p.scale base passed
+      → All (Leaves p.state.now.net w) list → ArePassed p.state.now passed list rest → IsRaising p h (front ++ list) → IsRaising p h (front ++ rest)
+  passed_list h w base passed front list rest is from leaves before search =
       record {
-        arc = first.arc;
-        leaves = All-tail (Leaves s.net w) out rest here;
-        search = passed_list h w base passed list (out ∷ rest) is from leaves before search;
-        last = subst (λ x. IsLastSettled (node_count s.net) h x) (sym first.from) last;
-        base_is = is ∙ ap (λ x. label y h x) (sym first.from);
-      }
-
-  -- of the first residual arcs of a list those that were picked are still to come
-  pub picked_list : (h : Keyed) (w : ℕ) (base passed : ℤ) (list picked rest : List Rid) → base ≡ label y h w → IsPassedFrom scale base passed
-      → All (Leaves s.net w) list → ArePicked s passed list picked rest → IsRaising s scale slack y h list → IsRaising s scale slack y h (picked ++ rest)
-  picked_list h w base passed list picked rest is from leaves pick search =
-      record {
+        flow = flow;
         key_count = search.key_count;
         waiting_count = search.waiting_count;
         not_above = search.not_above;
@@ -328,110 +290,127 @@ module _ (s : Pseudoflow) (scale slack : ℕ) (y : List ℤ) (flow : IsPseudoflo
         level = search.level;
         respects = λ r room e. elim (search.respects r room e) [
           | inl a ↦ inl a
-          | inr has ↦ elim (Contains-append_cases pick.first rest (reverse r) (subst (λ (xs : List Rid). Contains xs (reverse r)) pick.whole has)) [
-            | inr later ↦ inr (Contains-append_right picked rest (reverse r) later)
-            | inl first ↦ elim (pick.all (reverse r) first) [
-              | inl in_it ↦ inr (Contains-append_left picked rest (reverse r) in_it)
-              | inr costs ↦ inl (
-                  let leaves_w = (All-contains (Leaves s.net w) list (reverse r) leaves has).from in
-                  let there : head s.net r ≡ w = sym (tail_reversed s.net r.arc r.back) ∙ leaves_w in
+          | inr has ↦ elim (Contains-append_cases front list (reverse r) has) [
+            | inl here ↦ inr (Contains-append_left front rest (reverse r) here)
+            | inr there ↦ elim (Contains-append_cases before.first rest (reverse r) (subst (λ (xs : List Rid). Contains xs (reverse r)) before.whole there)) [
+              | inr later ↦ inr (Contains-append_right front rest (reverse r) later)
+              | inl first ↦ inl (
                   let same : reverse (reverse r) ≡ r = reversed (reverse r) r refl in
-                  costly_respects h list base passed r search (is ∙ ap (λ v. label y h v) (sym there)) from
-                  (subst (λ q. CostsAtLeast s passed q) same costs) room)
+                  let costs = All-contains (λ (q : Rid). CostsAtLeast p.state.now passed (reverse q)) before.first (reverse r) before.costs first in
+                  let leaves_w = (All-contains (Leaves p.state.now.net w) list (reverse r) leaves there).from in
+                  let at : head p.state.now.net r ≡ w = sym (tail_reversed p.state.now.net r.arc r.back) ∙ leaves_w in
+                  costly_respects h (front ++ list) base passed r search (is ∙ ap (λ v. label p.prices.now h v) (sym at)) from
+                  (subst (λ q. CostsAtLeast p.state.now passed q) same costs) room)
             ]
           ]
         ];
       }
 
+  pub found : (h : Keyed) (w : ℕ) (base passed : ℤ) (list rest : List Rid) (out : Rid) → base ≡ label p.prices.now h w → IsPassedFrom p.scale base passed
+      → IsLastSettled (node_count p.state.now.net) h w → All (Leaves p.state.now.net w) list → ArePassed p.state.now passed list (out ∷ rest) → IsRaising p h list
+      → IsFound p h w base out rest
+  found h w base passed list rest out is from last leaves before search =
+      let here : All (Leaves p.state.now.net w) (out ∷ rest) = All-behind (Leaves p.state.now.net w) before.first (out ∷ rest)
+      (subst (λ (xs : List Rid). All (Leaves p.state.now.net w) xs) before.whole leaves) in
+      let first = All-head (Leaves p.state.now.net w) out rest here in
+      record {
+        arc = first.arc;
+        leaves = All-tail (Leaves p.state.now.net w) out rest here;
+        search = passed_list h w base passed [] list (out ∷ rest) is from leaves before search;
+        last = subst (λ x. IsLastSettled (node_count p.state.now.net) h x) (sym first.from) last;
+        base_is = is ∙ ap (λ x. label p.prices.now h x) (sym first.from);
+      }
+
   -- ---- the key of the tail is lowered
 
-  module _ (h : Keyed) (r : Rid) (key : ℤ) (room : HasRoom s r) (key_count : length h.keys ≡ node_count s.net)
-      (last : IsLastSettled (node_count s.net) h (head s.net r)) (waits : Waits h (tail s.net r))
-      (is : key ≡ label y h (head s.net r) +ℤ step s scale slack r -ℤ at_node y (tail s.net r)) where
+  module _ (h : Keyed) (r : Rid) (key : ℤ) (room : HasRoom p.state.now r) (key_count : length h.keys ≡ node_count p.state.now.net)
+      (last : IsLastSettled (node_count p.state.now.net) h (head p.state.now.net r)) (waits : Waits h (tail p.state.now.net r))
+      (is : key ≡ label p.prices.now h (head p.state.now.net r) +ℤ step p r -ℤ at_node p.prices.now (tail p.state.now.net r)) where
     lower_read : (v : ℕ) → 1 ≤ v
-        → ((v ≡ tail s.net r) × (at_node (with_key h (tail s.net r) key).keys v ≡ key)) ⊎
-        ((v ≢ tail s.net r) × (at_node (with_key h (tail s.net r) key).keys v ≡ at_node h.keys v))
+        → ((v ≡ tail p.state.now.net r) × (at_node (with_key h (tail p.state.now.net r) key).keys v ≡ key)) ⊎
+        ((v ≢ tail p.state.now.net r) × (at_node (with_key h (tail p.state.now.net r) key).keys v ≡ at_node h.keys v))
     lower_read v low =
         let n = tail_node r room in
-        read_node h.keys (tail s.net r) v key (pos 0) (n.0, omega (arith, n, key_count)) low
+        read_node h.keys (tail p.state.now.net r) v key (pos 0) (n.0, omega (arith, n, key_count)) low
 
     -- settled nodes keep their keys
-    settled_key : (v : ℕ) → 1 ≤ v → Settled h v → at_node (with_key h (tail s.net r) key).keys v ≡ at_node h.keys v
+    settled_key : (v : ℕ) → 1 ≤ v → Settled h v → at_node (with_key h (tail p.state.now.net r) key).keys v ≡ at_node h.keys v
     settled_key v low e =
         elim (lower_read v low) [
           | inl (here', _) ↦ absurd (waits_or_settled h v (subst (λ x. Waits h x) (sym here') waits) e)
           | inr (_, same) ↦ same
         ]
 
-    settled_label : (v : ℕ) → 1 ≤ v → Settled h v → label y (with_key h (tail s.net r) key) v ≡ label y h v
-    settled_label v low e = ap (λ z. at_node y v +ℤ z) (settled_key v low e)
+    settled_label : (v : ℕ) → 1 ≤ v → Settled h v → label p.prices.now (with_key h (tail p.state.now.net r) key) v ≡ label p.prices.now h v
+    settled_label v low e = ap (λ z. at_node p.prices.now v +ℤ z) (settled_key v low e)
 
-    tail_label : (v : ℕ) → v ≡ tail s.net r → at_node (with_key h (tail s.net r) key).keys v ≡ key
-        → label y (with_key h (tail s.net r) key) v ≡ label y h (head s.net r) +ℤ step s scale slack r
+    tail_label : (v : ℕ) → v ≡ tail p.state.now.net r → at_node (with_key h (tail p.state.now.net r) key).keys v ≡ key
+        → label p.prices.now (with_key h (tail p.state.now.net r) key) v ≡ label p.prices.now h (head p.state.now.net r) +ℤ step p r
     tail_label v e k =
-        let same = ap (at_node y) e in
+        let same = ap (at_node p.prices.now) e in
         omega (arith, ints, is, k, same)
 
-    pub lowered_keeps : KeepsSettled (node_count s.net) h (with_key h (tail s.net r) key)
+    pub lowered_keeps : KeepsSettled (node_count p.state.now.net) h (with_key h (tail p.state.now.net r) key)
     lowered_keeps = record { waiting = refl; keys = λ v n e. settled_key v n.0 e }
 
-    module _ (less : key ≤ℤ at_node h.keys (tail s.net r)) (out : Rid) (back : reverse out ≡ r) (rest : List Rid)
-        (search : IsRaising s scale slack y h (out ∷ rest)) where
-      no_rise : (v : ℕ) → 1 ≤ v → label y (with_key h (tail s.net r) key) v ≤ℤ label y h v
+    module _ (less : key ≤ℤ at_node h.keys (tail p.state.now.net r)) (out : Rid) (back : reverse out ≡ r) (rest : List Rid)
+        (search : IsRaising p h (out ∷ rest)) where
+      no_rise : (v : ℕ) → 1 ≤ v → label p.prices.now (with_key h (tail p.state.now.net r) key) v ≤ℤ label p.prices.now h v
       no_rise v low =
           elim (lower_read v low) [
             | inl (e, k) ↦ (let same = ap (at_node h.keys) e in omega (arith, ints, k, less, same))
             | inr (_, same) ↦ omega (arith, ints, same)
           ]
 
-      lowered_lengths : (v : ℕ) → IsNode (node_count s.net) v
-          → IsLength scale slack (member_count h.waiting) (node_count s.net) (label y (with_key h (tail s.net r) key) v)
+      lowered_lengths : (v : ℕ) → IsNode (node_count p.state.now.net) v
+          → IsLength p.scale p.slack (member_count h.waiting) (node_count p.state.now.net) (label p.prices.now (with_key h (tail p.state.now.net r) key) v)
       lowered_lengths v n =
           elim (lower_read v n.0) [
-            | inl (e, k) ↦ length_next scale slack (member_count h.waiting) (node_count s.net) (unit_cost s.net r) (label y h (head s.net r)) _
-                near.scale_small (cost_small s.net r.arc r.back flow.of_net room.arc) (tail_label v e k)
-                (search.shorter (head s.net r) last.is_node last.is_settled)
-            | inr (_, same) ↦ subst (λ z. IsLength scale slack (member_count h.waiting) (node_count s.net) (at_node y v +ℤ z)) (sym same) (search.lengths v n)
+            | inl (e, k) ↦ length_next p.scale p.slack (member_count h.waiting) (node_count p.state.now.net) (unit_cost p.state.now.net r) (label p.prices.now h (head p.state.now.net r)) _
+                p.near.scale_small (cost_small p.state.now.net r.arc r.back flow.of_net room.arc) (tail_label v e k)
+                (search.shorter (head p.state.now.net r) last.is_node last.is_settled)
+            | inr (_, same) ↦ subst (λ z. IsLength p.scale p.slack (member_count h.waiting) (node_count p.state.now.net) (at_node p.prices.now v +ℤ z)) (sym same) (search.lengths v n)
           ]
 
-      lowered_above : (others : List ℤ) → AreLowPrices s.net others s.amounts → (v : ℕ) → IsNode (node_count s.net) v
-          → (at_node others v *ℤ pos scale) ≤ℤ label y (with_key h (tail s.net r) key) v
+      lowered_above : (others : List ℤ) → AreLowPrices p.state.now.net others p.state.now.amounts → (v : ℕ) → IsNode (node_count p.state.now.net) v
+          → (at_node others v *ℤ pos p.scale) ≤ℤ label p.prices.now (with_key h (tail p.state.now.net r) key) v
       lowered_above others low v n =
           elim (lower_read v n.0) [
             | inl (e, k) ↦ (
-                let shown = respects_from_shows s others r.arc r.back flow low.show_flow room in
-                let scaled = mul-mono_left (at_node others (tail s.net r)) (unit_cost s.net r +ℤ at_node others (head s.net r)) (pos scale)
+                let shown = respects_from_shows p.state.now others r.arc r.back flow low.show_flow room in
+                let scaled = mul-mono_left (at_node others (tail p.state.now.net r)) (unit_cost p.state.now.net r +ℤ at_node others (head p.state.now.net r)) (pos p.scale)
                 (omega (arith, ints)) shown in
-                let there = search.above others low (head s.net r) last.is_node in
-                let same = ap (λ x. at_node others x *ℤ pos scale) e in
-                omega (arith, ints, scaled, there, same, tail_label v e k, add-mul (unit_cost s.net r) (at_node others (head s.net r)) (pos scale)))
+                let there = search.above others low (head p.state.now.net r) last.is_node in
+                let same = ap (λ x. at_node others x *ℤ pos p.scale) e in
+                omega (arith, ints, scaled, there, same, tail_label v e k, add-mul (unit_cost p.state.now.net r) (at_node others (head p.state.now.net r)) (pos p.scale)))
             | inr (_, same) ↦ (let old = search.above others low v n in omega (arith, ints, same, old))
           ]
 
-      lowered_level : (u v : ℕ) → IsNode (node_count s.net) u → IsNode (node_count s.net) v → Settled h u → Waits h v
-          → at_node (with_key h (tail s.net r) key).keys u ≤ℤ at_node (with_key h (tail s.net r) key).keys v
+      lowered_level : (u v : ℕ) → IsNode (node_count p.state.now.net) u → IsNode (node_count p.state.now.net) v → Settled h u → Waits h v
+          → at_node (with_key h (tail p.state.now.net r) key).keys u ≤ℤ at_node (with_key h (tail p.state.now.net r) key).keys v
       lowered_level u v m n settled waits' =
           let left = settled_key u m.0 settled in
           elim (lower_read v n.0) [
-            | inl (e, k) ↦ (let low = last.last u m settled in let cheap = near.near r room in omega (arith, ints, left, low, cheap, is, k))
+            | inl (e, k) ↦ (let low = last.last u m settled in let cheap = p.near.near r room in omega (arith, ints, left, low, cheap, is, k))
             | inr (_, same) ↦ (let old = search.level u v m n settled waits' in omega (arith, ints, left, same, old))
           ]
 
-      pub lowered : IsRaising s scale slack y (with_key h (tail s.net r) key) rest
+      pub lowered : IsRaising p (with_key h (tail p.state.now.net r) key) rest
       lowered =
           record {
-            key_count = length-set h.keys (tail s.net r - 1) key ∙ key_count;
+            flow = flow;
+            key_count = length-set h.keys (tail p.state.now.net r - 1) key ∙ key_count;
             waiting_count = search.waiting_count;
             not_above = λ v n. let old = search.not_above v n in let low = no_rise v n.0 in omega (arith, ints, old, low);
             lengths = lowered_lengths;
-            shorter = λ v n e. subst (λ z. IsLength scale slack (member_count h.waiting + 1) (node_count s.net) z) (sym (settled_label v n.0 e))
+            shorter = λ v n e. subst (λ z. IsLength p.scale p.slack (member_count h.waiting + 1) (node_count p.state.now.net) z) (sym (settled_label v n.0 e))
                 (search.shorter v n e);
             above = lowered_above;
             level = lowered_level;
             respects = λ q has_room e.
-                let same = settled_label (head s.net q) (head_node q has_room).0 e in
+                let same = settled_label (head p.state.now.net q) (head_node q has_room).0 e in
                 elim (search.respects q has_room e) [
-                  | inl a ↦ inl (let low = no_rise (tail s.net q) (tail_node q has_room).0 in omega (arith, ints, a, same, low))
+                  | inl a ↦ inl (let low = no_rise (tail p.state.now.net q) (tail_node q has_room).0 in omega (arith, ints, a, same, low))
                   | inr has ↦ elim (Contains-cons out rest (reverse q) has) [
                     | inl this ↦ inl (self q (sym back ∙ reversed out q this))
                     | inr later ↦ inr later
@@ -440,91 +419,96 @@ module _ (s : Pseudoflow) (scale slack : ℕ) (y : List ℤ) (flow : IsPseudoflo
           }
         where
           self : (q : Rid) → r ≡ q
-              → label y (with_key h (tail s.net r) key) (tail s.net q) ≤ℤ (label y (with_key h (tail s.net r) key) (head s.net q) +ℤ step s scale slack q)
+              → label p.prices.now (with_key h (tail p.state.now.net r) key) (tail p.state.now.net q) ≤ℤ (label p.prices.now (with_key h (tail p.state.now.net r) key) (head p.state.now.net q) +ℤ step p q)
           self q e =
-              let tails = ap (λ (x : Rid). tail s.net x) (sym e) in
-              let P : Rid → Type 0 = λ (x : Rid). label y (with_key h (tail s.net r) key)
-              (tail s.net x) ≤ℤ (label y (with_key h (tail s.net r) key) (head s.net x) +ℤ step s scale slack x) in
+              let tails = ap (λ (x : Rid). tail p.state.now.net x) (sym e) in
+              let P : Rid → Type 0 = λ (x : Rid). label p.prices.now (with_key h (tail p.state.now.net r) key)
+              (tail p.state.now.net x) ≤ℤ (label p.prices.now (with_key h (tail p.state.now.net r) key) (head p.state.now.net x) +ℤ step p x) in
               subst P e (
-              let there = settled_label (head s.net r) last.is_node.0 last.is_settled in
-              elim (lower_read (tail s.net r) (tail_node r room).0) [
-                | inl (f, k) ↦ (let here' = tail_label (tail s.net r) refl k in omega (arith, ints, there, here'))
+              let there = settled_label (head p.state.now.net r) last.is_node.0 last.is_settled in
+              elim (lower_read (tail p.state.now.net r) (tail_node r room).0) [
+                | inl (f, k) ↦ (let here' = tail_label (tail p.state.now.net r) refl k in omega (arith, ints, there, here'))
                 | inr (n, _) ↦ absurd (n refl)
               ])
 
   -- ---- a residual arc is relaxed, as the code does it
 
-  module _ (h : Keyed) (out : Rid) (last : IsLastSettled (node_count s.net) h (tail s.net out)) where
-    last_head : IsLastSettled (node_count s.net) h (head s.net (reverse out))
-    last_head = subst (λ x. IsLastSettled (node_count s.net) h x) (sym (head_reversed s.net out.arc out.back)) last
+  module _ (h : Keyed) (out : Rid) (last : IsLastSettled (node_count p.state.now.net) h (tail p.state.now.net out)) where
+    last_head : IsLastSettled (node_count p.state.now.net) h (head p.state.now.net (reverse out))
+    last_head = subst (λ x. IsLastSettled (node_count p.state.now.net) h x) (sym (head_reversed p.state.now.net out.arc out.back)) last
 
-    pub relax_settled : (from : ℕ) (b : Bool) (rest : List Rid) → from ≡ tail s.net (reverse out) → ((b ≡ true) ↔ Waits h from) → b ≡ false
-        → IsRaising s scale slack y h (out ∷ rest) → IsRaising s scale slack y h rest
-    relax_settled from b rest e test none =
-        kept h out rest (settled_respects h (reverse out) last_head (subst (λ x. Settled h x) e (settled_from (in_table h.waiting from) b test none)))
+    pub settled_tail : (from : ℕ) (b : Bool) → from ≡ tail p.state.now.net (reverse out) → ((b ≡ true) ↔ Waits h from) → b ≡ false
+        → RespectsLabel p h (reverse out)
+    settled_tail from b e test none =
+        settled_respects h (reverse out) last_head (subst (λ x. Settled h x) e (settled_from (in_table h.waiting from) b test none))
 
     -- the tail has a key no greater than what is offered
-    pub relax_lower : (from : ℕ) (base price key : ℤ) (rest : List Rid) → from ≡ tail s.net (reverse out) → base ≡ label y h (tail s.net out)
-        → price ≡ at_node y from → key ≡ base +ℤ step s scale slack (reverse out) -ℤ price → at_node h.keys from ≤ℤ key
-        → IsRaising s scale slack y h (out ∷ rest) → IsRaising s scale slack y h rest
-    relax_lower from base price key rest e base_is price_is key_is low =
-        kept h out rest (λ room.
-        let a = ap (at_node y) e in
+    pub lower_tail : (from : ℕ) (key : ℤ) → from ≡ tail p.state.now.net (reverse out)
+        → at_node p.prices.now from +ℤ key ≡ label p.prices.now h (tail p.state.now.net out) +ℤ step p (reverse out) → at_node h.keys from ≤ℤ key
+        → RespectsLabel p h (reverse out)
+    lower_tail from key e value low room =
+        let a = ap (at_node p.prices.now) e in
         let b = ap (at_node h.keys) e in
-        let c = ap (λ x. label y h x) (head_reversed s.net out.arc out.back) in
-        omega (arith, ints, a, b, c, base_is, price_is, key_is, low))
+        let c = ap (λ x. label p.prices.now h x) (head_reversed p.state.now.net out.arc out.back) in
+        omega (arith, ints, a, b, c, value, low)
 
-    pub relax_lowered : (h' : Keyed) (from : ℕ) (base price key : ℤ) → HasRoom s (reverse out) → length h.keys ≡ node_count s.net
-        → from ≡ tail s.net (reverse out) → Waits h from → base ≡ label y h (tail s.net out) → price ≡ at_node y from
-        → key ≡ base +ℤ step s scale slack (reverse out) -ℤ price → key ≤ℤ at_node h.keys from → h' ≡ waiting_with h from key
-        → IsRelaxed s scale slack y h h' out
-    relax_lowered h' from base price key room count e waits base_is price_is key_is less new =
-        let there : Waits h (tail s.net (reverse out)) = subst (λ x. Waits h x) e waits in
-        let a = ap (at_node y) e in
-        let b = ap (at_node h.keys) e in
-        let c = ap (λ x. label y h x) (head_reversed s.net out.arc out.back) in
-        let is : key ≡ label y h (head s.net (reverse out)) +ℤ step s scale slack (reverse out) -ℤ at_node y (tail s.net (reverse out)) = omega
-        (arith, ints, a, c, base_is, price_is, key_is) in
-        let fewer : key ≤ℤ at_node h.keys (tail s.net (reverse out)) = omega (arith, ints, b, less) in
-        let same : h' ≡ with_key h (tail s.net (reverse out)) key = new ∙ ap (λ x. waiting_with h x key) e ∙ waiting_again h (tail s.net (reverse out)) key
-        there in
-        record {
-          search = λ rest search. subst (λ x. IsRaising s scale slack y x rest) (sym same)
-              (lowered h (reverse out) key room count last_head there is fewer out refl rest search);
-          keeps = subst (λ x. KeepsSettled (node_count s.net) h x) (sym same) (lowered_keeps h (reverse out) key room count last_head there is);
-        }
+    pub relax_respected : RespectsLabel p h (reverse out) → IsRelaxed p h h out
+    relax_respected respects = record { search = λ rest search. kept h out rest respects search; keeps = record { waiting = refl; keys = λ v n e. refl } }
 
-    -- the tail is settled at once, with a key that is no greater than that of the node that was settled last
-    pub relax_settles : (h' : Keyed) (from : ℕ) (base price key : ℤ) → HasRoom s (reverse out) → IsRaising s scale slack y h (out ∷ [])
-        → from ≡ tail s.net (reverse out) → Waits h from → base ≡ label y h (tail s.net out) → price ≡ at_node y from
-        → key ≡ base +ℤ step s scale slack (reverse out) -ℤ price → key ≤ℤ at_node h.keys from → key ≤ℤ at_node h.keys (tail s.net out)
-        → h' ≡ without (with_key h from key) from → IsSettledNext s scale slack y h h' from
-    relax_settles h' from base price key room search e waits base_is price_is key_is less tied new =
-        let t = tail s.net (reverse out) in
-        let there : Waits h (tail s.net (reverse out)) = subst (λ x. Waits h x) e waits in
-        let a = ap (at_node y) e in
-        let b = ap (at_node h.keys) e in
-        let c = ap (λ x. label y h x) (head_reversed s.net out.arc out.back) in
-        let is : key ≡ label y h (head s.net (reverse out)) +ℤ step s scale slack (reverse out) -ℤ at_node y (tail s.net (reverse out)) = omega
-        (arith, ints, a, c, base_is, price_is, key_is) in
-        let lower : key ≤ℤ at_node h.keys (tail s.net (reverse out)) = omega (arith, ints, b, less) in
-        let node = tail_node (reverse out) room in
-        let read = lower_read h (reverse out) key room search.key_count last_head there is in
-        let here : at_node (with_key h t key).keys t ≡ key = elim (read t node.0) [ inl (_, k) ↦ k | inr (n, _) ↦ absurd (n refl) ] in
-        let raising = lowered h (reverse out) key room search.key_count last_head there is lower out refl [] search in
-        let least : HasLeastKey (with_key h t key) t = record {
-          is_node = (node.0, omega (arith, node, search.waiting_count));
-          waits = there;
-          least = λ v n waiting. elim (read v n.0) [
-            | inl (_, k) ↦ omega (arith, ints, here, k)
-            | inr (_, same) ↦ (
-                let up = search.level (tail s.net out) v last.is_node (n.0, omega (arith, n, search.waiting_count)) last.is_settled waiting in
-                omega (arith, ints, here, same, up, tied))
-          ];
-        } in
-        let made : IsSettledNext s scale slack y h (without (with_key h t key) t) t = record {
-          popped = popped_is (with_key h t key) t raising least;
-          fewer = fewer (with_key h t key) t raising least;
-        } in
-        subst (λ x. IsSettledNext s scale slack y h x from) (sym new)
-        (subst (λ v. IsSettledNext s scale slack y h (without (with_key h v key) v) v) (sym e) made)
+    module _ (h' : Keyed) (from : ℕ) (key : ℤ) (offer : IsOffer p h out from key) where
+      offer_waits : Waits h (tail p.state.now.net (reverse out))
+      offer_waits = subst (λ x. Waits h x) offer.from_is offer.waits
+
+      offer_is : key ≡ label p.prices.now h (head p.state.now.net (reverse out)) +ℤ step p (reverse out) -ℤ at_node p.prices.now (tail p.state.now.net (reverse out))
+      offer_is =
+          let a = ap (at_node p.prices.now) offer.from_is in
+          let c = ap (λ x. label p.prices.now h x) (head_reversed p.state.now.net out.arc out.back) in
+          let value = offer.value in
+          omega (arith, ints, a, c, value)
+
+      offer_least : key ≤ℤ at_node h.keys (tail p.state.now.net (reverse out))
+      offer_least = let b = ap (at_node h.keys) offer.from_is in let least = offer.least in omega (arith, ints, b, least)
+
+      pub relax_lowered : length h.keys ≡ node_count p.state.now.net → h' ≡ waiting_with h from key → IsRelaxed p h h' out
+      relax_lowered count new =
+          let same : h' ≡ with_key h (tail p.state.now.net (reverse out)) key = new ∙ ap (λ x. waiting_with h x key) offer.from_is
+          ∙ waiting_again h (tail p.state.now.net (reverse out)) key offer_waits in
+          record {
+            search = λ rest search. subst (λ x. IsRaising p x rest) (sym same)
+                (lowered h (reverse out) key offer.room count last_head offer_waits offer_is offer_least out refl rest search);
+            keeps = subst (λ x. KeepsSettled (node_count p.state.now.net) h x) (sym same)
+                (lowered_keeps h (reverse out) key offer.room count last_head offer_waits offer_is);
+          }
+
+      -- the tail is settled at once, with a key that is no greater than that of the node that was settled last
+      pub relax_settles : IsRaising p h (out ∷ []) → key ≤ℤ at_node h.keys (tail p.state.now.net out)
+          → h' ≡ without (with_key h from key) from → IsSettledNext p h h' from
+      relax_settles search tied new =
+          let t = tail p.state.now.net (reverse out) in
+          let node = tail_node (reverse out) offer.room in
+          let read = lower_read h (reverse out) key offer.room search.key_count last_head offer_waits offer_is in
+          let here : at_node (with_key h t key).keys t ≡ key = elim (read t node.0) [ inl (_, k) ↦ k | inr (n, _) ↦ absurd (n refl) ] in
+          let raising = lowered h (reverse out) key offer.room search.key_count last_head offer_waits offer_is offer_least out refl [] search in
+          let least : HasLeastKey (with_key h t key) t = record {
+            is_node = (node.0, omega (arith, node, search.waiting_count));
+            waits = offer_waits;
+            least = λ v n waiting. elim (read v n.0) [
+              | inl (_, k) ↦ omega (arith, ints, here, k)
+              | inr (_, same) ↦ (
+                  let up = search.level (tail p.state.now.net out) v last.is_node (n.0, omega (arith, n, search.waiting_count)) last.is_settled waiting in
+                  omega (arith, ints, here, same, up, tied))
+            ];
+          } in
+          let made : IsSettledNext p h (without (with_key h t key) t) t = record {
+            popped = popped_is (with_key h t key) t raising least;
+            fewer = fewer (with_key h t key) t raising least;
+          } in
+          subst (λ x. IsSettledNext p h x from) (sym new)
+          (subst (λ v. IsSettledNext p h (without (with_key h v key) v) v) (sym offer.from_is) made)
+
+      -- the heap takes the offer, unless the tail waits with the very key
+      pub offer_taken : (b : Bool) → length h.keys ≡ node_count p.state.now.net → (b ≡ true → h' ≡ waiting_with h from key) → (b ≡ false → h' ≡ h)
+          → (b ≡ false → Waits h from × (at_node h.keys from ≤ℤ key)) → IsRelaxed p h h' out
+      offer_taken true count taken same least = relax_lowered count (taken refl)
+      offer_taken false count taken same least =
+          subst (λ x. IsRelaxed p h x out) (sym (same refl)) (relax_respected (lower_tail from key offer.from_is offer.value (least refl).1))

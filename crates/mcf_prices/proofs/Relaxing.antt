@@ -1,7 +1,6 @@
 -- What the residual arcs that enter a node do to the labels and the queue.
 use Rattle.std.proofs.Common.{◌≡◌, ℕ, ◌+◌, List, [], ◌∷◌, length, Bool, true, false, refl, sym, ap, subst, ◌∙◌, arith, ◌⊎◌, inl, inr}
 use Rattle.std.specs.List.{All, Contains}
-use Rattle.std.specs.Prelude.{not}
 use Rattle.std.proofs.lemmas.Int.{ints}
 use Rattle.std.proofs.lemmas.Bool.{cases_eq}
 use Rattle.mcf_instance.specs.Blocking.{in_table}
@@ -15,14 +14,11 @@ use Rattle.mcf_network.proofs.ArcLaws.{tail_is_node, head_is_node}
 use Rattle.mcf_network.proofs.Lists.{Contains-cons}
 use Rattle.mcf_prices.specs.Private.Labels.{Labels, IsLabelling, IsLowering, IsKeeping, Respects, cost_limit, lowered}
 use Rattle.mcf_prices.specs.Private.Queues.{Waiting, IsQueue, queued}
+use Rattle.mcf_prices.specs.Private.Raisings.{reverse}
 use Rattle.mcf_prices.specs.Private.Rounds.{IsHandled, IsProgress}
 use Rattle.mcf_prices.proofs.Lowering.{lowered_ok, lowered_other, lowered_no_rise, lowered_total, offer_low, lowered_floor, lowered_respects}
 use Rattle.mcf_prices.proofs.QueueLaws.{IsQueued, queued_ok}
 use Rattle.mcf_prices.proofs.Showing.{no_loop}
-
--- the residual arc the other way
-abbrev pub reverse : Rid → Rid
-reverse r = record r { back = not r.back }
 
 -- while the residual arcs that enter node w are relaxed, of which those that remain are the reverses of a list
 pub record IsEntering (old new : Labels) (before after : Waiting) (w : ℕ) (rest : List Rid) : Type 0 where

@@ -66,15 +66,6 @@ impl Heap {
         self.items.waits(v.get() - 1)
     }
 
-    /// Lets a node wait with a key, which is no greater than the one with which it waits, if it does.
-    pub fn lower(&mut self, v: NodeId, key: i128)
-        requires node { IsNode (length self.old.waiting) v }
-        requires low { Waits self.old v → key ≤ℤ at_node self.old.keys v }
-        ensures { self.new ≡ waiting_with self.old v key }
-    {
-        self.items.lower(v.get() - 1, key);
-    }
-
     /// Lets a node wait with a key, unless it waits with one that is no greater, and says whether it waits with this one from
     /// now on.
     pub fn offer(&mut self, v: NodeId, key: i128) -> bool

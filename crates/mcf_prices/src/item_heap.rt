@@ -46,23 +46,6 @@ impl ItemHeap {
         })
     }
 
-    /// Lets an item wait with a key that is no greater than the one with which it waits, if it does.
-    pub(crate) fn lower(&mut self, v: u32, key: i128)
-        requires valid { IsHeap self.old }
-        requires items { length self.old.places.items < 2 ^ 31 }
-        requires item { v < length self.old.places.items }
-        requires low { 0 < entry self.old.places.items v → key ≤ℤ key_at self.old.keys v }
-        ensures valid { IsHeap self.new }
-        ensures table { table_of self.new.places.items ≡ slice_set (table_of self.old.places.items) v true }
-        ensures keys { self.new.keys ≡ slice_set self.old.keys v key }
-    {
-        if !is_short(key) {
-            self.lower_wide(v, key);
-            return;
-        }
-        self.lower_short(v, key as i64);
-    }
-
     /// Lets an item wait with a key, unless it waits with one that is no greater, and says whether it waits with this
     /// one from now on. Where the key lies inside the range of 64 bits, the cut key beside the item's slot tells.
     pub(crate) fn offer(&mut self, v: u32, key: i128) -> bool

@@ -13,9 +13,11 @@ mod heap;
 mod item_heap;
 mod keys;
 mod laws;
+mod near_state;
 mod price_search;
 mod pricer;
 mod queue;
+mod raising;
 mod recovered;
 mod shortlist;
 
@@ -23,5 +25,5 @@ pub use cancel::Cancel;
 pub use engine::{Engine, Outcome};
 pub use heap::Heap;
 pub use laws::{greatest_prices_are_small, least_states_have_no_cycle};
-pub use pricer::{HeaplessPricer, Pricer, optimal_prices_are_near, shown_prices_are_near};
+pub use pricer::{Pricer, optimal_prices_are_near, shown_prices_are_near};
 pub use recovered::{Recovered, recover};

@@ -8,8 +8,10 @@ ghost use Rattle.mcf_network.specs.Residual.{head};
 ghost use Rattle.mcf_network.specs.States.{room_of};
 ghost use Rattle.mcf_prices.specs.declared.shortlist.Entry.{Entry};
 ghost use Rattle.mcf_prices.specs.Private.Raisings.{CostsAtLeast};
-ghost use Rattle.mcf_prices.specs.Private.Shortlists.{AreChains, IsPut, IsWhole, entry_at};
+ghost use Rattle.mcf_prices.specs.Private.Shortlists.{AreChains, IsFilled, IsPut, IsWhole, entry_at};
 
+use crate::near_state::NearState;
+use crate::pricer::passing_cost;
 use mcf_instance::Problem;
 use mcf_network::{Net, Rid, State};
 use mcf_text::{ArcId, NoMemory, NodeId, copies};
@@ -33,6 +35,9 @@ const DENSE_ASSIGNMENT: u32 = 96;
 // How many entries a node there is room for.
 const SHORT: usize = 16;
 
+// No label is below this.
+const LEAST_LABEL: i128 = -1_000_000_000_000_000_000_000_000_000_000;
+
 // There are no more entries than this.
 const ENTRY_LIMIT: usize = 1 << 31;
 
@@ -40,12 +45,14 @@ const ENTRY_LIMIT: usize = 1 << 31;
 ///
 /// They are found by one walk over all arcs in their order, since the arcs that enter a node lie far apart in memory.
 /// Those of a node are a chain: its head says where the last of them stands, and each entry where the one before it does.
-/// Only `start` takes memory.
+/// Where there was no room for all, or the net is not dense, the list is not whole, and serves no node. Only `start` takes
+/// memory.
 #[derive(Drop)]
 pub(crate) struct Shortlist {
-    pub(crate) passed: Vec<i128>,
-    pub(crate) heads: Vec<u32>,
+    passed: Vec<i128>,
+    heads: Vec<u32>,
     pub(crate) entries: Vec<Entry>,
+    whole: bool,
 }
 
 impl Shortlist {
@@ -61,11 +68,58 @@ impl Shortlist {
             passed,
             heads,
             entries,
+            whole: false,
         })
     }
 
-    /// Whether there is a list for a net.
-    pub(crate) fn is_for(&self, net: &Net) -> bool
+    /// Lists the residual arcs of a state that may lower a key in a search from its prices, if the net is dense.
+    pub(crate) fn fill(&mut self, near: &NearState<'_, '_>)
+        ensures { IsFilled near.now self.new }
+    {
+        self.whole = self.fill_dense(near);
+    }
+
+    /// Whether the list has all residual arcs with room that enter a node and cost less than `passed`.
+    pub(crate) fn serves(&self, w: NodeId, passed: i128) -> bool
+        requires { self.now.whole ≡ true → IsNode (length self.now.passed.items) w }
+        ensures whole { result ≡ true → self.now.whole ≡ true }
+        ensures passed { result ≡ true → passed ≤ℤ at_node self.now.passed.items w }
+    {
+        if !self.whole {
+            return false;
+        }
+        passed <= self.passed[w.place()]
+    }
+
+    /// Where the last entry of a node stands: one more than its place, or 0 where there is none.
+    pub(crate) fn last_of(&self, w: NodeId) -> u32
+        requires { IsNode (length self.now.heads.items) w }
+        ensures { result ≡ slice_index_or self.now.heads.items (w - 1) 0 }
+    {
+        self.heads[w.place()]
+    }
+
+    // Lists them, and says whether the list is whole.
+    fn fill_dense(&mut self, near: &NearState<'_, '_>) -> bool
+        ensures count { result ≡ true → length self.new.passed.items ≡ node_count near.now.state.now.net }
+        ensures whole { result ≡ true → IsWhole near.now.state.now self.new.passed.items self.new.heads.items self.new.entries.items }
+    {
+        if !self.is_for(near.state.net()) {
+            return false;
+        }
+        put_thresholds(&mut self.passed, near.scale, near.prices);
+        self.entries.clear();
+        clear_heads(&mut self.heads);
+        put_arcs(
+            self.passed.as_slice(),
+            &mut self.heads,
+            &mut self.entries,
+            near.state,
+        )
+    }
+
+    // Whether there is a list for a net.
+    fn is_for(&self, net: &Net) -> bool
         ensures passed { result ≡ true → length self.now.passed.items ≡ node_count net.now }
         ensures heads { result ≡ true → length self.now.heads.items ≡ node_count net.now }
     {
@@ -99,20 +153,27 @@ fn dense_from(net: &Net) -> u32
     }
 }
 
-/// Lists the residual arcs below the thresholds, and says whether there was room for all.
-pub(crate) fn fill(
-    passed: &[i128],
-    heads: &mut Vec<u32>,
-    entries: &mut Vec<Entry>,
-    state: &State<'_>,
-) -> bool
-    requires passed { length passed.now ≡ node_count state.now.net }
-    requires heads { length heads.old.items ≡ node_count state.now.net }
-    ensures { result ≡ true → IsWhole state.now passed.now heads.new.items entries.new.items }
+// Makes the thresholds of all nodes. No key falls below the opposite of the greatest price, so that no label falls below
+// the price less that one. Nothing rests on it, since a threshold is compared with that of the label itself.
+fn put_thresholds(passed: &mut Vec<i128>, scale: u32, prices: &[i128])
+    requires scale { 1 ≤ scale }
+    requires count { length passed.old.items ≡ length prices.now }
+    ensures { length passed.new.items ≡ length passed.old.items }
 {
-    entries.clear();
-    clear_heads(heads);
-    put_arcs(passed, heads, entries, state)
+    let top = greatest(prices);
+    'nodes: for i in 0..prices.len() {
+        let floor = prices[i].saturating_sub(top);
+        passed[i] = passing_cost(floor.max(LEAST_LABEL).min(0), scale);
+    }
+}
+
+// The greatest price.
+fn greatest(prices: &[i128]) -> i128 {
+    let mut top = i128::MIN;
+    'nodes: for price in prices {
+        top = top.max(*price);
+    }
+    top
 }
 
 // Lets no node have an entry.
@@ -261,22 +322,6 @@ fn is_dear(passed: &[i128], state: &State<'_>, arc: ArcId, back: bool) -> bool
 {
     let (_, to) = state.net().route(Rid { arc, back });
     passed[to.place()] <= state.net().unit_cost(Rid { arc, back })
-}
-
-/// The threshold of a node.
-pub(crate) fn threshold(passed: &[i128], v: NodeId) -> i128
-    requires { IsNode (length passed.now) v }
-    ensures { result ≡ at_node passed.now v }
-{
-    passed[v.place()]
-}
-
-/// Where the last entry of a node stands: one more than its place, or 0 where there is none.
-pub(crate) fn last_of(heads: &[u32], v: NodeId) -> u32
-    requires { IsNode (length heads.now) v }
-    ensures { result ≡ slice_index_or heads.now (v - 1) 0 }
-{
-    heads[v.place()]
 }
 
 /// The entry before a place, counted from 1.

@@ -1,6 +1,6 @@
 -- A search for the greatest prices that show a state, from prices that nearly show it: the label of a node is the
 -- least cost, at costs times the scale and with the slack for each arc, of a walk with room that begins there.
-use Rattle.std.specs.Prelude.{◌≡◌, ℕ, ◌+◌, ◌*◌, ◌^◌, ◌≤◌, ◌++◌, false, not, List, [], length, ℤ, pos, neg_ℤ, ◌+ℤ◌, ◌*ℤ◌, ◌≤ℤ◌, ◌<ℤ◌, ◌⊎◌}
+use Rattle.std.specs.Prelude.{◌≡◌, ℕ, ◌+◌, ◌*◌, ◌^◌, ◌≤◌, ◌++◌, ◌∷◌, false, not, List, [], length, ℤ, pos, neg_ℤ, ◌+ℤ◌, ◌*ℤ◌, ◌≤ℤ◌, ◌<ℤ◌, ◌⊎◌}
 use Rattle.std.specs.List.{All, Contains}
 use Rattle.mcf_instance.specs.Blocking.{in_table}
 use Rattle.mcf_instance.specs.Flow.{AreLowPrices}
@@ -8,9 +8,10 @@ use Rattle.mcf_instance.specs.Network.{IsNode, at_node, node_count}
 use Rattle.mcf_network.specs.declared.rid.Rid.{Rid}
 use Rattle.mcf_network.specs.NodeSets.{member_count}
 use Rattle.mcf_network.specs.Residual.{tail, head, unit_cost}
-use Rattle.mcf_network.specs.States.{Pseudoflow}
+use Rattle.mcf_network.specs.States.{Pseudoflow, IsPseudoflow}
 use Rattle.mcf_network.specs.Walks.{HasRoom}
 use Rattle.mcf_prices.specs.Heaps.{Keyed, Waits}
+use Rattle.mcf_prices.specs.declared.near_state.NearState.{NearState}
 use Rattle.mcf_prices.specs.Private.Labels.{cost_limit}
 
 -- how far below 0 a label may lie for each arc of its walk
@@ -32,13 +33,18 @@ abbrev pub Settled : Keyed → ℕ → Type 0
 Settled h v = in_table h.waiting v ≡ false
 
 -- what a residual arc adds to the label of its head
-abbrev pub step : Pseudoflow → ℕ → ℕ → Rid → ℤ
-step s scale slack r = unit_cost s.net r *ℤ pos scale +ℤ pos slack
+abbrev pub step : NearState → Rid → ℤ
+step p r = unit_cost p.state.now.net r *ℤ pos p.scale +ℤ pos p.slack
 
 -- with room, a residual arc offers its tail no lower label
-abbrev pub RespectsLabel : Pseudoflow → ℕ → ℕ → List ℤ → Keyed → Rid → Type 0
-RespectsLabel s scale slack y h r =
-    HasRoom s r → label y h (tail s.net r) ≤ℤ (label y h (head s.net r) +ℤ step s scale slack r)
+abbrev pub RespectsLabel : NearState → Keyed → Rid → Type 0
+RespectsLabel p h r =
+    HasRoom p.state.now r
+    → label p.prices.now h (tail p.state.now.net r) ≤ℤ (label p.prices.now h (head p.state.now.net r) +ℤ step p r)
+
+-- the residual arc the other way
+abbrev pub reverse : Rid → Rid
+reverse r = record r { back = not r.back }
 
 -- from a cost on, a residual arc whose head has the label base offers its tail no label below 0, even without the slack
 abbrev pub IsPassedFrom : ℕ → ℤ → ℤ → Type 0
@@ -51,15 +57,7 @@ CostsAtLeast s least r = HasRoom s r → least ≤ℤ unit_cost s.net r
 -- a list of residual arcs begins with some whose reverses, with room, cost so much or more, and goes on with the rest
 pub record ArePassed (s : Pseudoflow) (passed : ℤ) (list rest : List Rid) : Type 0 where
   pub first : List Rid
-  pub costs : All (λ r. CostsAtLeast s passed (record { arc = r.arc; back = not r.back })) first
-  pub whole : list ≡ first ++ rest
-
--- a list of residual arcs begins with some, of which all were picked but those whose reverses, with room, cost so much or
--- more, and goes on with the rest
-pub record ArePicked (s : Pseudoflow) (passed : ℤ) (list picked rest : List Rid) : Type 0 where
-  pub first : List Rid
-  pub some : (r : Rid) → Contains picked r → Contains first r
-  pub all : (r : Rid) → Contains first r → Contains picked r ⊎ CostsAtLeast s passed (record r { back = not r.back })
+  pub costs : All (λ r. CostsAtLeast s passed (reverse r)) first
   pub whole : list ≡ first ++ rest
 
 -- a number is the cost of so many arcs, at costs times the scale and with the slack for each; they are no more
@@ -74,16 +72,17 @@ pub record IsLength (scale slack waiting nodes : ℕ) (z : ℤ) : Type 0 where
 
 -- the labels and the settled nodes of a search: residual arcs that enter settled nodes are respected, but those
 -- whose reverses are still to come in a list
-pub record IsRaising (s : Pseudoflow) (scale slack : ℕ) (y : List ℤ) (h : Keyed) (rest : List Rid) : Type 0 where
-  pub key_count : length h.keys ≡ node_count s.net
-  pub waiting_count : length h.waiting ≡ node_count s.net
-  pub not_above : (v : ℕ) → IsNode (node_count s.net) v → label y h v ≤ℤ pos 0
-  pub lengths : (v : ℕ) → IsNode (node_count s.net) v → IsLength scale slack (member_count h.waiting) (node_count s.net) (label y h v)
-  pub shorter : (v : ℕ) → IsNode (node_count s.net) v → Settled h v → IsLength scale slack (member_count h.waiting + 1) (node_count s.net) (label y h v)
-  pub above : (others : List ℤ) → AreLowPrices s.net others s.amounts → (v : ℕ) → IsNode (node_count s.net) v → (at_node others v *ℤ pos scale) ≤ℤ label y h v
-  pub level : (u v : ℕ) → IsNode (node_count s.net) u → IsNode (node_count s.net) v → Settled h u → Waits h v → at_node h.keys u ≤ℤ at_node h.keys v
-  pub respects : (r : Rid) → HasRoom s r → Settled h (head s.net r)
-      → (label y h (tail s.net r) ≤ℤ (label y h (head s.net r) +ℤ step s scale slack r)) ⊎ Contains rest (record r { back = not r.back })
+pub record IsRaising (p : NearState) (h : Keyed) (rest : List Rid) : Type 0 where
+  pub flow : IsPseudoflow p.state.now
+  pub key_count : length h.keys ≡ node_count p.state.now.net
+  pub waiting_count : length h.waiting ≡ node_count p.state.now.net
+  pub not_above : (v : ℕ) → IsNode (node_count p.state.now.net) v → label p.prices.now h v ≤ℤ pos 0
+  pub lengths : (v : ℕ) → IsNode (node_count p.state.now.net) v → IsLength p.scale p.slack (member_count h.waiting) (node_count p.state.now.net) (label p.prices.now h v)
+  pub shorter : (v : ℕ) → IsNode (node_count p.state.now.net) v → Settled h v → IsLength p.scale p.slack (member_count h.waiting + 1) (node_count p.state.now.net) (label p.prices.now h v)
+  pub above : (others : List ℤ) → AreLowPrices p.state.now.net others p.state.now.amounts → (v : ℕ) → IsNode (node_count p.state.now.net) v → (at_node others v *ℤ pos p.scale) ≤ℤ label p.prices.now h v
+  pub level : (u v : ℕ) → IsNode (node_count p.state.now.net) u → IsNode (node_count p.state.now.net) v → Settled h u → Waits h v → at_node h.keys u ≤ℤ at_node h.keys v
+  pub respects : (r : Rid) → HasRoom p.state.now r → Settled h (head p.state.now.net r)
+      → (label p.prices.now h (tail p.state.now.net r) ≤ℤ (label p.prices.now h (head p.state.now.net r) +ℤ step p r)) ⊎ Contains rest (reverse r)
 
 -- a settled node, and no settled node has a greater key
 pub record IsLastSettled (nodes : ℕ) (h : Keyed) (w : ℕ) : Type 0 where
@@ -93,28 +92,42 @@ pub record IsLastSettled (nodes : ℕ) (h : Keyed) (w : ℕ) : Type 0 where
 
 -- node w was just settled: the search goes on with whatever list has the reverses of the residual arcs that enter it, but
 -- for those that are respected
-pub record IsPopped (s : Pseudoflow) (scale slack : ℕ) (y : List ℤ) (h : Keyed) (w : ℕ) : Type 0 where
-  pub key_count : length h.keys ≡ node_count s.net
-  pub low : neg_ℤ (pos label_reach) ≤ℤ label y h w
-  pub not_above : (v : ℕ) → IsNode (node_count s.net) v → label y h v ≤ℤ pos 0
-  pub last : IsLastSettled (node_count s.net) h w
+pub record IsPopped (p : NearState) (h : Keyed) (w : ℕ) : Type 0 where
+  pub flow : IsPseudoflow p.state.now
+  pub key_count : length h.keys ≡ node_count p.state.now.net
+  pub low : neg_ℤ (pos label_reach) ≤ℤ label p.prices.now h w
+  pub not_above : (v : ℕ) → IsNode (node_count p.state.now.net) v → label p.prices.now h v ≤ℤ pos 0
+  pub last : IsLastSettled (node_count p.state.now.net) h w
   pub search : (rest : List Rid)
-      → ((r : Rid) → HasRoom s r → head s.net r ≡ w → RespectsLabel s scale slack y h r ⊎ Contains rest (record r { back = not r.back }))
-      → IsRaising s scale slack y h rest
+      → ((r : Rid) → HasRoom p.state.now r → head p.state.now.net r ≡ w → RespectsLabel p h r ⊎ Contains rest (reverse r))
+      → IsRaising p h rest
+
+-- the reverse of a residual arc has room, and offers its tail, which waits, a key no greater than its own
+pub record IsOffer (p : NearState) (h : Keyed) (out : Rid) (from : ℕ) (key : ℤ) : Type 0 where
+  pub from_is : from ≡ tail p.state.now.net (reverse out)
+  pub waits : Waits h from
+  pub room : HasRoom p.state.now (reverse out)
+  pub value : at_node p.prices.now from +ℤ key ≡ label p.prices.now h (tail p.state.now.net out) +ℤ step p (reverse out)
+  pub least : key ≤ℤ at_node h.keys from
 
 -- the same nodes wait, and the keys of the others are as they were
 pub record KeepsSettled (nodes : ℕ) (old new : Keyed) : Type 0 where
   pub waiting : new.waiting ≡ old.waiting
   pub keys : (v : ℕ) → IsNode nodes v → Settled old v → at_node new.keys v ≡ at_node old.keys v
 
+-- a residual arc was relaxed: the search goes on with whatever is still to come after it
+pub record IsRelaxed (p : NearState) (old new : Keyed) (out : Rid) : Type 0 where
+  pub search : (rest : List Rid) → IsRaising p old (out ∷ rest) → IsRaising p new rest
+  pub keeps : KeepsSettled (node_count p.state.now.net) old new
+
 -- no residual arc is still to come, and the same nodes wait
-pub record IsScanned (s : Pseudoflow) (scale slack : ℕ) (y : List ℤ) (old new : Keyed) : Type 0 where
-  pub search : IsRaising s scale slack y new []
+pub record IsScanned (p : NearState) (old new : Keyed) : Type 0 where
+  pub search : IsRaising p new []
   pub waiting : new.waiting ≡ old.waiting
 
 -- node u was settled besides, so that one node less waits
-pub record IsSettledNext (s : Pseudoflow) (scale slack : ℕ) (y : List ℤ) (old new : Keyed) (u : ℕ) : Type 0 where
-  pub popped : IsPopped s scale slack y new u
+pub record IsSettledNext (p : NearState) (old new : Keyed) (u : ℕ) : Type 0 where
+  pub popped : IsPopped p new u
   pub fewer : member_count new.waiting + 1 ≡ member_count old.waiting
 
 -- each node waits, and has the label 0

@@ -1,13 +1,15 @@
 -- The residual arcs that cost less than the threshold of the node that they enter, each listed once: a chain of entries
 -- for each node.
-use Rattle.std.specs.Prelude.{◌≡◌, ◌≢◌, ℕ, ◌-◌, ◌<◌, ◌≤◌, false, not, List, length, map, ℤ, ◌<ℤ◌, slice_index_or}
+use Rattle.std.specs.Prelude.{◌≡◌, ◌≢◌, ℕ, ◌-◌, ◌<◌, ◌≤◌, false, true, not, List, length, map, ℤ, ◌<ℤ◌, slice_index_or}
 use Rattle.std.specs.List.{Contains}
 use Rattle.mcf_instance.specs.Network.{Network, IsArcNumber, IsNode, at_node, node_count}
 use Rattle.mcf_network.specs.declared.rid.Rid.{Rid}
 use Rattle.mcf_network.specs.Residual.{tail, head, unit_cost}
 use Rattle.mcf_network.specs.States.{Pseudoflow}
 use Rattle.mcf_network.specs.Walks.{HasRoom}
+use Rattle.mcf_prices.specs.declared.near_state.NearState.{NearState}
 use Rattle.mcf_prices.specs.declared.shortlist.Entry.{Entry}
+use Rattle.mcf_prices.specs.declared.shortlist.Shortlist.{Shortlist}
 
 -- the entry past the end
 abbrev pub no_entry : Entry
@@ -43,6 +45,12 @@ IsListed s passed entries r =
 pub record IsWhole (s : Pseudoflow) (passed : List ℤ) (heads : List ℕ) (entries : List Entry) : Type 0 where
   pub chains : AreChains s.net heads entries
   pub every : (r : Rid) → IsListed s passed entries r
+
+-- if a list says that it is whole, it is, with a threshold for each node
+abbrev pub IsFilled : NearState → Shortlist → Type 0
+IsFilled p list =
+    list.whole ≡ true
+    → (length list.passed.items ≡ node_count p.state.now.net) × IsWhole p.state.now list.passed.items list.heads.items list.entries.items
 
 -- each entry says where the one of the same node before it stands, and an entry of node w stands before place c, or c is 0
 pub record IsChain (g : Network) (entries : List Entry) (w c : ℕ) : Type 0 where

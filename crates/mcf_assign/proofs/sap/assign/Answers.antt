@@ -1,5 +1,14 @@
-use Rattle.mcf_assign.proofs.RunLaws.{end_blocked, end_least, end_made, end_prices}
+use Rattle.std.proofs.Common.{◌∙◌, ap, sym}
+use Rattle.mcf_instance.specs.Network.{Network, node_count}
+use Rattle.mcf_assign.proofs.RunLaws.{end_blocked, end_least, end_made, end_prices, run_net}
+use Rattle.mcf_assign.specs.Runs.{sources}
 use Rattle.mcf_assign.proofs.sap.assign.Goals as goal
+
+pub priced-state-requires : goal.priced-state-requires
+priced-state-requires c =
+    let g = c.args.net.now in
+    let run = rw c.in-Matched.is at c.match_rows.ensures in
+    record { room = c.in_ok-pricer.ensures.room ∙ sym (ap (λ (x : Network). node_count x) (run_net g (sources g) c.match_rows.new.matching run)) }
 
 pub returns-in-Matched-clause-outcome : goal.returns-in-Matched-clause-outcome
 returns-in-Matched-clause-outcome c =

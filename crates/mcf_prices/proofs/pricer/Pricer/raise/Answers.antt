@@ -16,15 +16,15 @@ pub wait_all-requires-clause-waiting : goal.wait_all-requires-clause-waiting
 wait_all-requires-clause-waiting c =
     c.self.view_is ∙ c.requires.room ∙ ap (λ (g : Network). node_count g) (sym c.net.ensures.value)
 
-pub settle_nodes-requires-clause-ready : goal.settle_nodes-requires-clause-ready
-settle_nodes-requires-clause-ready c =
-    started c.args.state.now c.args.scale c.args.slack c.args.prices.now c.net.ensures.valid c.requires.near c.wait_all.new.heap c.wait_all.ensures
+pub settle_all-requires-clause-ready : goal.settle_all-requires-clause-ready
+settle_all-requires-clause-ready c =
+    started _ c.net.ensures.valid c.wait_all.new.heap c.wait_all.ensures
 
 pub round_all-requires-clause-scale : goal.round_all-requires-clause-scale
 round_all-requires-clause-scale c = let fits = c.requires.near.slack_small in omega (arith, fits)
 
 pub round_all-requires-clause-keys : goal.round_all-requires-clause-keys
-round_all-requires-clause-keys c = c.settle_nodes.ensures.search.key_count ∙ sym c.requires.near.one_per_node
+round_all-requires-clause-keys c = c.settle_all.ensures.search.key_count ∙ sym c.requires.near.one_per_node
 
 pub round_all-requires-clause-few : goal.round_all-requires-clause-few
 round_all-requires-clause-few c =
@@ -35,21 +35,20 @@ round_all-requires-clause-few c =
 pub round_all-requires-clause-low : goal.round_all-requires-clause-low
 round_all-requires-clause-low c v n =
     let count = c.requires.near.one_per_node in
-    (label_small c.args.state.now c.args.scale c.args.slack c.args.prices.now c.net.ensures.valid c.requires.near c.settle_nodes.new.heap _
-    c.settle_nodes.ensures.search v (n.0, omega (arith, n, count))).0
+    (label_small _ c.net.ensures.valid c.settle_all.new.heap _
+    c.settle_all.ensures.search v (n.0, omega (arith, n, count))).0
 
 pub round_all-requires-clause-high : goal.round_all-requires-clause-high
 round_all-requires-clause-high c v n =
     let count = c.requires.near.one_per_node in
-    c.settle_nodes.ensures.search.not_above v (n.0, omega (arith, n, count))
+    c.settle_all.ensures.search.not_above v (n.0, omega (arith, n, count))
 
 pub invariant_of-self : goal.invariant_of-self
-invariant_of-self c = (c.settle_nodes.ensures.search.key_count ∙ sym c.settle_nodes.ensures.search.waiting_count, c.settle_nodes.ensures.over)
+invariant_of-self c = (c.settle_all.ensures.search.key_count ∙ sym c.settle_all.ensures.search.waiting_count, c.settle_all.ensures.over)
 
 pub returns-clause-prices : goal.returns-clause-prices
 returns-clause-prices c =
-    raised c.args.state.now c.args.scale c.args.slack c.args.prices.now c.net.ensures.valid c.requires.near c.settle_nodes.new.heap c.round_all.new.prices
-    c.settle_nodes.ensures.search c.settle_nodes.ensures.over c.round_all.ensures
+    raised _ c.settle_all.new.heap c.round_all.new.prices c.settle_all.ensures.search c.settle_all.ensures.over c.round_all.ensures
 
 pub returns-clause-room : goal.returns-clause-room
-returns-clause-room c = c.settle_nodes.ensures.search.waiting_count ∙ sym c.requires.room
+returns-clause-room c = c.settle_all.ensures.search.waiting_count ∙ sym c.requires.room
