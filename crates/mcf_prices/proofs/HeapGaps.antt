@@ -4,7 +4,7 @@ use Rattle.std.proofs.lemmas.Bool.{cases_eq}
 use Rattle.std.proofs.lemmas.Grind.{get_or-set_at}
 use Rattle.std.proofs.lemmas.List.{get_or-set_other, set-get_or, set-set, set_comm}
 use Rattle.mcf_prices.specs.declared.item_heap.ItemHeap.{ItemHeap}
-use Rattle.mcf_prices.specs.Private.ItemHeaps.{AreShort, IsHeap, Precedes, entry, IsChild, IsOrdered, IsOrderedAbove, IsOrderedBelow, IsPlaced, IsPlacedBut, table_of}
+use Rattle.mcf_prices.specs.Private.ItemHeaps.{IsGap, IsHeap, Precedes, entry, IsChild, IsOrdered, IsOrderedAbove, IsOrderedBelow, IsPlaced, IsPlacedBut, table_of}
 use Rattle.mcf_prices.proofs.HeapLowered.{table_again}
 use Rattle.mcf_prices.proofs.HeapOrder.{ordered_below, precedes_at, precedes_trans, rise_step, sink_step}
 use Rattle.mcf_prices.proofs.HeapPlaces.{IsExchange, dropped_places, exchange_ok, swapped_other_way, table_kept, unplaced}
@@ -27,6 +27,10 @@ gap_of_item count slots places v k ok l is some =
       at.0,
       ap table_of start.1 ∙ table_again places v l (omega (arith, is, some)),
     )
+
+-- the slots in use are there
+pub gap_within : (count : ℕ) (slots places : List ℕ) (i v : ℕ) → IsPlacedBut count slots places i v → count ≤ length slots
+gap_within count slots places i v ok = (let w = ok.within in omega (arith, w, length-set slots i v))
 
 -- the item in hand is that of the gap
 pub gap_item : (count : ℕ) (slots places : List ℕ) (i v : ℕ) → IsPlacedBut count slots places i v → i < count
@@ -182,16 +186,31 @@ item_taken c slots places i gone v ok l is last =
       table_kept (set places gone 0) v (i + 1) (omega (arith, there)) (omega arith) ∙ unplaced places gone,
     )
 
--- ---- the heap, once its vectors were lent
+-- ---- the heap after a write
 
-pub heap_is : (h : ItemHeap) (slots : List ℕ) (shorts : List ℤ) (places : List ℕ) → h.slots.items ≡ slots → h.shorts.items ≡ shorts
-    → h.places.items ≡ places → length h.keys ≡ length places → length shorts ≡ length slots → IsPlaced h.count slots places
-    → IsOrdered h.keys h.count slots → AreShort h.keys h.count slots shorts → IsHeap h
-heap_is h slots shorts places es er ep keys room placed ordered short =
+-- the item in hand is written into its gap
+pub gap_filled : (h h' : ItemHeap) (at v : ℕ) → IsGap h at v → IsOrdered h.keys.items h.count (set h.slots.items at v)
+    → h'.slots.items ≡ set h.slots.items at v → h'.places.items ≡ set h.places.items v (at + 1) → h'.keys ≡ h.keys → h'.count ≡ h.count → IsHeap h'
+gap_filled h h' at v gap order es ep ek ec =
+    let keys : h'.keys.items ≡ h.keys.items = ap (λ x. x.items) ek in
+    let small = gap.small in
     record {
-      placed = rw (es, ep) placed;
-      ordered = rw es ordered;
-      keys = rw ep keys;
-      room = rw (es, er) room;
-      shorts = rw (es, er) short;
+      placed = rw (ec, es, ep) gap.placed;
+      ordered = rw (keys, ec, es) order;
+      keys = rw (keys, ep) (gap.keys ∙ sym (length-set h.places.items v (at + 1)));
+      small = rw ep (omega (arith, small, length-set h.places.items v (at + 1)));
+    }
+
+-- another item is, and its slot is the gap
+pub gap_next : (h h' : ItemHeap) (i j v w : ℕ) → IsGap h i v → j < h.count → IsPlacedBut h.count h'.slots.items h'.places.items j v
+    → h'.places.items ≡ set h.places.items w (i + 1) → h'.keys ≡ h.keys → h'.count ≡ h.count → IsGap h' j v
+gap_next h h' i j v w gap inside placed ep ek ec =
+    let keys : h'.keys.items ≡ h.keys.items = ap (λ x. x.items) ek in
+    let small = gap.small in
+    let l : length h'.places.items ≡ length h.places.items = ap (λ (xs : List ℕ). length xs) ep ∙ length-set h.places.items w (i + 1) in
+    record {
+      placed = rw ec placed;
+      slot = rw ec inside;
+      keys = ap (λ (xs : List ℤ). length xs) keys ∙ gap.keys ∙ sym l;
+      small = omega (arith, small, l);
     }

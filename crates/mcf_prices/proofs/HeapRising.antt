@@ -1,12 +1,11 @@
 -- An item in hand that is to wait with a key: what its rise needs.
 use Rattle.std.proofs.Common.{◌≡◌, ℕ, ◌+◌, ◌<◌, List, ℤ, ◌≤ℤ◌, length, set, sym, subst, arith, inl, inr}
 use Rattle.std.proofs.lemmas.Bool.{cases_eq}
-use Rattle.mcf_prices.specs.Private.ItemHeaps.{AreShort, AreShortBut, IsOrdered, IsOrderedAbove, IsPlaced, entry, key_at}
+use Rattle.mcf_prices.specs.Private.ItemHeaps.{IsOrdered, IsOrderedAbove, IsPlaced, entry, key_at}
 use Rattle.mcf_prices.proofs.HeapGaps.{gap_start}
 use Rattle.mcf_prices.proofs.HeapLowered.{appended_above, lowered_above}
 use Rattle.mcf_prices.proofs.HeapOrder.{above_at}
 use Rattle.mcf_prices.proofs.HeapPlaces.{room_for}
-use Rattle.mcf_prices.proofs.HeapShorts.{shorts_apart, shorts_keyed}
 
 -- the gap is the item's slot, or one more where it has none
 pub record IsGapFor (count count' : ℕ) (places : List ℕ) (v at : ℕ) : Type 0 where
@@ -30,16 +29,4 @@ order_for keys keys' count count' slots places v at key placed ordered counted i
           let start = gap_start count slots places at v placed there.0 (sym there.1) in
           let above = lowered_above keys count slots places v at key placed ordered (omega (arith, counted, item)) k.1 (low positive) in
           subst (λ x. IsOrderedAbove keys' count' x at) (sym start.0) (above_at _ _ _ _ _ _ is k.0 above))
-    ]
-
-pub shorts_for : (keys : List ℤ) (count count' : ℕ) (slots places : List ℕ) (shorts : List ℤ) (v at : ℕ) (key : ℤ) → IsPlaced count slots places
-    → AreShort keys count slots shorts → IsGapFor count count' places v at → AreShortBut (set keys v key) count' slots shorts at
-shorts_for keys count count' slots places shorts v at key placed all gap =
-    elim (cases_eq (entry places v) 0) [
-      | inl none ↦ (
-          let f = gap.fresh none in
-          λ j l n. shorts_apart keys count slots places shorts v key placed all none j (omega (arith, f, l, n)))
-      | inr some ↦ (
-          let k = gap.kept (omega (arith, some)) in
-          λ j l n. shorts_keyed keys count slots places shorts v at key placed all k.1 j (omega (arith, k, l)) n)
     ]

@@ -1,6 +1,5 @@
 -- What a heap of nodes shows of a heap of items.
-use Rattle.std.proofs.Common.{◌≡◌, ℕ, ◌-◌, ◌<◌, Bool, true, false, List, [], ◌∷◌, ℤ, length, count_by, cond, Option, IfNone, sym, refl, ◌∙◌, ap, arith, Some}
-use Rattle.std.proofs.Common.{None}
+use Rattle.std.proofs.Common.{◌≡◌, ℕ, ◌-◌, ◌<◌, Bool, true, false, List, [], ◌∷◌, ℤ, length, count_by, cond, sym, refl, ◌∙◌, ap, arith}
 use Rattle.std.proofs.lemmas.List.Sums.{sum_by-cons}
 use Rattle.mcf_network.specs.NodeSets.{no_nodes}
 use Rattle.mcf_prices.specs.declared.item_heap.ItemHeap.{ItemHeap}
@@ -21,8 +20,8 @@ precedes_all h v valid some is =
       waits = omega (arith, place, b);
       first = λ w l waits.
           let s = slot_of h.count slots places w valid.placed l waits in
-          precedes_at h.keys (entry slots 0) (entry slots (entry places w - 1)) _ _
-          (first_precedes h.keys h.count slots valid.ordered (entry places w - 1) s.0) is (sym s.1);
+          precedes_at h.keys.items (entry slots 0) (entry slots (entry places w - 1)) _ _
+          (first_precedes h.keys.items h.count slots valid.ordered (entry places w - 1) s.0) is (sym s.1);
     }
 
 -- a table that marks none
@@ -35,11 +34,6 @@ none_marked (false ∷ table) h =
 pub none_waits : (h : ItemHeap) → IsHeap h → h.count ≡ 0 → table_of h.places.items ≡ no_nodes (length (table_of h.places.items))
 none_waits h valid none = none_marked (table_of h.places.items) (sym valid.placed.tally ∙ none)
 
--- what holds in any case holds if there is none
-pub if_none : {A : Type 0} (o : Option A) (P : Type 0) → P → IfNone o P
-if_none None P h = h
-if_none (Some a) P h = tt
-
 with_keys : List Bool → List ℤ → Keyed
 with_keys table keys = record { keys = keys; waiting = table }
 
@@ -49,5 +43,5 @@ pub cleared_view : (old new : ItemHeap) → IsHeap new → new.count ≡ 0 → l
 unfolding with_keys
 cleared_view old new valid none items keys =
     let same = table_length new.places.items ∙ items ∙ sym (table_length old.places.items) in
-    ap (λ t. with_keys t new.keys) (none_waits new valid none ∙ ap no_nodes same)
-    ∙ ap (λ k. with_keys (no_nodes (length (view_of old).waiting)) k) keys
+    ap (λ t. with_keys t new.keys.items) (none_waits new valid none ∙ ap no_nodes same)
+    ∙ ap (λ k. with_keys (no_nodes (length (view_of old).waiting)) k) (ap (λ x. x.items) keys)

@@ -5,10 +5,8 @@ pub mod HeapLowered
 pub mod HeapOrder
 pub mod HeapPlaces
 pub mod HeapRising
-pub mod HeapShorts
 pub mod HeapTaken
 pub mod HeapViews
-pub mod KeyLists
 pub mod LabelLengths
 pub mod LinkWalks
 pub mod Lowering

@@ -5,5 +5,4 @@ pub mod Rounds
 pub mod Trails
 pub mod Raisings
 pub mod ItemHeaps
-pub mod KeyLists
 pub mod Shortlists

@@ -22,7 +22,6 @@ pub struct Heap {
 }
 
 impl Model for Heap {
-    ghost use Rattle.std.specs.Prelude.{◌<◌, ◌^◌, length};
     ghost use Rattle.mcf_prices.specs.Heaps.{Keyed};
 
     ghost Value = { Keyed };
@@ -31,7 +30,7 @@ impl Model for Heap {
 
     ghost view = { λ h. view_of h.items };
 
-    ghost invariant = { λ h. IsHeap h.items × (length h.items.places.items < 2 ^ 31) };
+    ghost invariant = { λ h. IsHeap h.items };
 }
 
 impl Heap {
@@ -92,7 +91,9 @@ impl Heap {
         ensures first { IfSome result (IsFirst self.now) }
         ensures none { IfNone result (NoneWaits self.now) }
     {
-        let item = self.items.first()?;
+        let Some(item) = self.items.first() else {
+            return None;
+        };
         Some(NodeId::at(item))
     }
 
@@ -103,7 +104,9 @@ impl Heap {
         ensures none { IfNone result (NoneWaits self.old) }
         ensures same { IfNone result (self.new ≡ self.old) }
     {
-        let item = self.items.pop()?;
+        let Some(item) = self.items.pop() else {
+            return None;
+        };
         Some(NodeId::at(item))
     }
 

@@ -11,7 +11,6 @@ mod cancel;
 mod engine;
 mod heap;
 mod item_heap;
-mod keys;
 mod laws;
 mod near_state;
 mod price_search;

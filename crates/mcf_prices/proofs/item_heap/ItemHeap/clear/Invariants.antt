@@ -1,12 +1,11 @@
 use Rattle.std.proofs.Common.{◌≡◌, length}
-use Rattle.mcf_prices.specs.Private.ItemHeaps.{IsPlaced}
+use Rattle.mcf_prices.specs.Private.ItemHeaps.{IsHeap}
 use Rattle.mcf_prices.proofs.item_heap.ItemHeap.clear.Given as goal
 
 abbrev pub invariant-items : goal.invariant-items
 invariant-items l =
     record {
-      placed : IsPlaced l.self.count l.self.slots.items l.self.places.items;
-      shorts : length l.self.shorts.items ≡ length l.self.slots.items;
+      valid : IsHeap l.self;
       items : length l.self.places.items ≡ length l.initial.self.places.items;
       keys : l.self.keys ≡ l.initial.self.keys;
     }

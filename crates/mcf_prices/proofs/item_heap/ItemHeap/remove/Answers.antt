@@ -19,15 +19,14 @@ returns-then-at-last-clause-valid c =
       placed = dropped_places (n - 1) slots places c.args.gone (subst (λ x. IsPlaced x slots places) back h.placed) is;
       ordered = λ p j d l. h.ordered p j d (omega (arith, l));
       keys = h.keys ∙ sym (length-set places c.args.gone 0);
-      room = h.room;
-      shorts = λ j l. h.shorts j (omega (arith, l));
+      small = let few = h.small in omega (arith, few, length-set places c.args.gone 0);
     }
 
 pub returns-then-at-last-clause-table : goal.returns-then-at-last-clause-table
 returns-then-at-last-clause-table c = unplaced c.args.self.now.places.items c.args.gone
 
-pub put_back-requires-clause-placed : goal.put_back-requires-clause-placed
-put_back-requires-clause-placed c =
+pub put_back-requires-clause-gap : goal.put_back-requires-clause-gap
+put_back-requires-clause-gap c =
     let h = c.requires.valid in
     let n = c.args.self.now.count in
     let slots = c.args.self.now.slots.items in
@@ -38,13 +37,20 @@ put_back-requires-clause-placed c =
     let other = c.if-at-last.false in
     let back : n ≡ n - 1 + 1 = omega (arith, within) in
     let last = read_is slots (n - 1) c.index-v.result.now c.index-v.ensures (omega (arith, within, room)) in
-    (item_taken (n - 1) slots places c.slot_of-at.result c.args.gone c.index-v.result.now (subst (λ x. IsPlaced x slots places) back h.placed)
-    (omega (arith, within, other)) (sym e.item) last).0
+    let small = h.small in
+    let placed = (item_taken (n - 1) slots places c.slot_of-at.result c.args.gone c.index-v.result.now (subst (λ x. IsPlaced x slots places) back h.placed)
+    (omega (arith, within, other)) (sym e.item) last).0 in
+    record {
+      placed = placed;
+      slot = omega (arith, within, other);
+      keys = h.keys ∙ sym (length-set places c.args.gone 0);
+      small = omega (arith, small, length-set places c.args.gone 0);
+    }
 
 pub put_back-requires-clause-order : goal.put_back-requires-clause-order
 put_back-requires-clause-order c =
     let n = c.args.self.now.count in
-    let keys = c.args.self.now.keys in
+    let keys = c.args.self.now.keys.items in
     let slots = c.args.self.now.slots.items in
     let within = c.slot_of-at.ensures.within in
     let other = c.if-at-last.false in

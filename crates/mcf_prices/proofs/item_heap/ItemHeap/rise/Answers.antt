@@ -1,16 +1,27 @@
-use Rattle.std.proofs.Common.{◌≡◌, length, arith, rules}
-use Rattle.std.proofs.lemmas.List.{with_items_is, places}
-use Rattle.mcf_prices.proofs.HeapGaps.{heap_is}
+use Rattle.mcf_prices.proofs.HeapGaps.{gap_filled, gap_item, gap_within}
+use Rattle.std.proofs.Common.{◌∙◌, ap, arith}
+use Rattle.mcf_prices.specs.Private.ItemHeaps.{table_of}
 use Rattle.mcf_prices.proofs.item_heap.ItemHeap.rise.Goals as goal
+
+pub put-requires-clause-slot : goal.put-requires-clause-slot
+put-requires-clause-slot c =
+    let h = c.raise_gap-at.new.self in
+    let gap = c.raise_gap-at.ensures.gap in
+    let slot = gap.slot in
+    let within = gap_within h.count h.slots.items h.places.items c.raise_gap-at.result c.args.v gap.placed in
+    omega (arith, slot, within)
+
+pub put-requires-clause-item : goal.put-requires-clause-item
+put-requires-clause-item c =
+    let h = c.raise_gap-at.new.self in
+    let gap = c.raise_gap-at.ensures.gap in
+    (gap_item h.count h.slots.items h.places.items c.raise_gap-at.result c.args.v gap.placed gap.slot).1
 
 pub returns-clause-valid : goal.returns-clause-valid
 returns-clause-valid c =
-    let e = c.rise_from.ensures in
-    let new = c.rise_from.new in
-    let items : length new.places ≡ length c.args.self.now.places.items = search (rules, places) in
-    let slots : length new.slots ≡ length c.args.self.now.slots.items = search (rules, places) in
-    let shorts : length new.shorts ≡ length c.args.self.now.shorts.items = search (rules, places) in
-    heap_is _ new.slots new.shorts new.places (with_items_is c.args.self.now.slots new.slots (search rules))
-    (with_items_is c.args.self.now.shorts new.shorts (search rules)) (with_items_is c.args.self.now.places new.places (search rules))
-    (omega (arith, items, c.requires.counted)) (omega (arith, slots, shorts, c.requires.room)) e.placed
-    e.order e.shorts
+    let e = c.raise_gap-at.ensures in
+    let p = c.put.ensures in
+    gap_filled c.raise_gap-at.new.self c.put.new.self c.raise_gap-at.result c.args.v e.gap e.order p.slots p.places p.keys p.count
+
+pub returns-clause-table : goal.returns-clause-table
+returns-clause-table c = ap table_of c.put.ensures.places ∙ c.raise_gap-at.ensures.table

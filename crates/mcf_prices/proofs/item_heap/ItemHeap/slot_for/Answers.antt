@@ -3,30 +3,30 @@ use Rattle.mcf_prices.proofs.HeapGaps.{gap_of_item}
 use Rattle.mcf_prices.proofs.HeapPlaces.{appended_places, placed_at, read_is}
 use Rattle.mcf_prices.proofs.item_heap.ItemHeap.slot_for.Goals as goal
 
-pub returns-then-place-gt0-clause-placed : goal.returns-then-place-gt0-clause-placed
-returns-then-place-gt0-clause-placed c =
+pub returns-then-place-gt0-clause-gap : goal.returns-then-place-gt0-clause-gap
+returns-then-place-gt0-clause-gap c =
     let is = read_is c.args.self.now.places.items c.args.v c.index-place.result.now c.index-place.ensures c.requires.item in
-    (gap_of_item c.args.self.now.count c.args.self.now.slots.items c.args.self.now.places.items c.args.v c.index-place.result.now c.requires.placed
-    c.requires.item is c.if-place-gt0.true).0
-
-pub returns-then-place-gt0-clause-slot : goal.returns-then-place-gt0-clause-slot
-returns-then-place-gt0-clause-slot c =
-    let is = read_is c.args.self.now.places.items c.args.v c.index-place.result.now c.index-place.ensures c.requires.item in
-    (gap_of_item c.args.self.now.count c.args.self.now.slots.items c.args.self.now.places.items c.args.v c.index-place.result.now c.requires.placed
-    c.requires.item is c.if-place-gt0.true).1
+    let gap = gap_of_item c.args.self.now.count c.args.self.now.slots.items c.args.self.now.places.items c.args.v c.index-place.result.now
+    c.requires.valid.placed c.requires.item is c.if-place-gt0.true in
+    record { placed = gap.0; slot = gap.1; keys = c.requires.valid.keys; small = c.requires.valid.small }
 
 pub returns-then-place-gt0-clause-table : goal.returns-then-place-gt0-clause-table
 returns-then-place-gt0-clause-table c =
     let is = read_is c.args.self.now.places.items c.args.v c.index-place.result.now c.index-place.ensures c.requires.item in
-    (gap_of_item c.args.self.now.count c.args.self.now.slots.items c.args.self.now.places.items c.args.v c.index-place.result.now c.requires.placed
+    (gap_of_item c.args.self.now.count c.args.self.now.slots.items c.args.self.now.places.items c.args.v c.index-place.result.now c.requires.valid.placed
     c.requires.item is c.if-place-gt0.true).2
 
-pub returns-clause-placed : goal.returns-clause-placed
-returns-clause-placed c =
+pub returns-clause-gap : goal.returns-clause-gap
+returns-clause-gap c =
     let is = read_is c.args.self.now.places.items c.args.v c.index-place.result.now c.index-place.ensures c.requires.item in
     let none = c.if-place-gt0.false in
-    appended_places c.args.self.now.count c.args.self.now.slots.items c.args.self.now.places.items c.args.v c.requires.placed c.requires.item
-    (omega (arith, is, none))
+    record {
+      placed = appended_places c.args.self.now.count c.args.self.now.slots.items c.args.self.now.places.items c.args.v c.requires.valid.placed c.requires.item
+          (omega (arith, is, none));
+      slot = omega arith;
+      keys = c.requires.valid.keys;
+      small = c.requires.valid.small;
+    }
 
 pub returns-clause-table : goal.returns-clause-table
 returns-clause-table c =
