@@ -1,0 +1,170 @@
+//! The judge of what the search found: whether it is a flow without surplus that its prices show.
+ghost use Rattle.std.specs.Prelude.{◌≡◌, ◌+ℤ◌, ◌-ℤ◌, ◌<ℤ◌, ◌≤ℤ◌, length, pos, true};
+ghost use Rattle.std.specs.List.{All};
+ghost use Rattle.mcf_instance.specs.Flow.{IsComplementary, Shows, reduced_cost};
+ghost use Rattle.mcf_instance.specs.Network.{IsArcNumber, IsNode, at_node, node_count};
+ghost use Rattle.mcf_instance.specs.WellFormed.{IsUpTo};
+ghost use Rattle.mcf_network.specs.Residual.{arc_at};
+ghost use Rattle.mcf_network.specs.States.{HasNoSurplus, IsPseudoflow, amount_at, surplus_at};
+ghost use Rattle.mcf_prices.specs.NearPrices.{AreNearPrices, near_limit};
+ghost use Rattle.mcf_prices.specs.Outcomes.{IsLeastState};
+
+use crate::columns::at;
+use crate::search::Search;
+use mcf_network::{Net, Rid, State};
+use mcf_text::{ArcId, NodeId};
+
+/// Writes down what a search ended with, and says whether it is a least flow that the prices show.
+pub(crate) fn judge(search: &Search, state: &mut State<'_>, prices: &mut [i128]) -> bool
+    requires count { length prices.old ≡ node_count state.old.net }
+    requires small { All (IsUpTo near_limit) prices.old }
+    ensures net { state.new.net ≡ state.old.net }
+    ensures count { length prices.new ≡ length prices.old }
+    ensures least { result ≡ true → IsLeastState state.old.net state.new }
+    ensures near { result ≡ true → AreNearPrices state.new 1 0 prices.new }
+{
+    carry_all(search, state);
+    write_prices(search, prices);
+    has_no_surplus(state) && shows(state, prices)
+}
+
+// Lets each arc carry what the search lets it carry.
+fn carry_all(search: &Search, state: &mut State<'_>)
+    ensures net { state.new.net ≡ state.old.net }
+    ensures flow { IsPseudoflow state.new }
+{
+    let net = state.net();
+    'arcs: for number in 0..net.arc_count() {
+        carry(state, ArcId::at(number), search.star.amount(number));
+    }
+}
+
+// Lets an arc carry so much more, as far as it can.
+fn carry(state: &mut State<'_>, arc: ArcId, amount: i64)
+    requires arc { IsArcNumber state.old.net arc }
+    ensures net { state.new.net ≡ state.old.net }
+    ensures flow { IsPseudoflow state.new }
+{
+    let forward = Rid { arc, back: false };
+    let room = state.room(forward);
+    let amount = i128::from(amount).max(0).min(room);
+    state.push(Rid { arc, back: false }, amount);
+}
+
+// Writes the price of each node, the opposite of what the search calls so.
+fn write_prices(search: &Search, prices: &mut [i128])
+    requires small { All (IsUpTo near_limit) prices.old }
+    ensures count { length prices.new ≡ length prices.old }
+    ensures small { All (IsUpTo near_limit) prices.new }
+{
+    'nodes: for i in 0..prices.len() {
+        prices[i] = -i128::from(at(&search.prices, i, 0));
+    }
+}
+
+// Whether no node has anything left to send or to take.
+fn has_no_surplus(state: &State<'_>) -> bool
+    ensures { result ≡ true → HasNoSurplus state.now }
+{
+    'nodes: for number in 0..state.net().node_count() {
+        if !is_met(state, NodeId::at(number)) {
+            return false;
+        }
+    }
+    true
+}
+
+// Whether a node has nothing left to send or to take.
+fn is_met(state: &State<'_>, v: NodeId) -> bool
+    requires { IsNode (node_count state.now.net) v }
+    ensures { result ≡ true → surplus_at state.now v ≡ pos 0 }
+{
+    let surplus = state.surplus(v);
+    surplus <= 0 && surplus >= 0
+}
+
+// Whether prices show the flow of a state.
+fn shows(state: &State<'_>, prices: &[i128]) -> bool
+    requires count { length prices.now ≡ node_count state.now.net }
+    requires small { All (IsUpTo near_limit) prices.now }
+    ensures { result ≡ true → Shows state.now.net.arcs prices.now state.now.amounts }
+{
+    'arcs: for number in 0..state.net().arc_count() {
+        if !shows_at(state, prices, ArcId::at(number)) {
+            return false;
+        }
+    }
+    true
+}
+
+// Whether they show what an arc carries.
+fn shows_at(state: &State<'_>, prices: &[i128], k: ArcId) -> bool
+    requires arc { IsArcNumber state.now.net k }
+    requires count { length prices.now ≡ node_count state.now.net }
+    requires small { All (IsUpTo near_limit) prices.now }
+    ensures { result ≡ true → IsComplementary prices.now (arc_at state.now.net k) (amount_at state.now k) }
+{
+    let net = state.net();
+    let reduced = reduced_of(net, prices, k);
+    is_complementary(reduced, state.amount(k), net.width(k))
+}
+
+// Whether an amount is that of an arc of this reduced cost.
+fn is_complementary(reduced: i128, amount: i128, width: i128) -> bool
+    requires low { pos 0 ≤ℤ amount }
+    requires high { amount ≤ℤ width }
+    ensures above { result ≡ true → pos 0 <ℤ reduced → amount ≡ pos 0 }
+    ensures below { result ≡ true → reduced <ℤ pos 0 → amount ≡ width }
+{
+    if reduced > 0 {
+        return amount <= 0;
+    }
+    if reduced < 0 {
+        return amount >= width;
+    }
+    true
+}
+
+// The reduced cost of an arc.
+fn reduced_of(net: &Net, prices: &[i128], k: ArcId) -> i128
+    requires arc { IsArcNumber net.now k }
+    requires count { length prices.now ≡ node_count net.now }
+    requires small { All (IsUpTo near_limit) prices.now }
+    ensures { result ≡ reduced_cost prices.now (arc_at net.now k) }
+{
+    let (src, dst) = net.ends(k);
+    less_fall(
+        cost_of(net, k),
+        price_of(prices, src),
+        price_of(prices, dst),
+    )
+}
+
+// The cost of an arc.
+fn cost_of(net: &Net, k: ArcId) -> i128
+    requires { IsArcNumber net.now k }
+    ensures value { result ≡ (arc_at net.now k).cost }
+    ensures small { IsUpTo near_limit result }
+{
+    net.cost(k)
+}
+
+// A cost less one price plus another.
+fn less_fall(cost: i128, from: i128, to: i128) -> i128
+    requires cost { IsUpTo near_limit cost }
+    requires from { IsUpTo near_limit from }
+    requires to { IsUpTo near_limit to }
+    ensures { result ≡ cost -ℤ from +ℤ to }
+{
+    cost - from + to
+}
+
+// The price of a node.
+fn price_of(prices: &[i128], v: NodeId) -> i128
+    requires node { IsNode (length prices.now) v }
+    requires small { All (IsUpTo near_limit) prices.now }
+    ensures value { result ≡ at_node prices.now v }
+    ensures small { IsUpTo near_limit result }
+{
+    prices[v.place()]
+}

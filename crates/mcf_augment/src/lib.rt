@@ -1,0 +1,20 @@
+#![tactic(auto)]
+
+//! An engine for large nets: a fast search, of which nothing is proved but that it is safe and ends, and a proved judge of what it finds.
+//!
+//! It stands on `mcf_network`, `mcf_feas`, `mcf_prices` and `mcf_simplex`.
+
+mod augment;
+mod columns;
+mod finish;
+mod judging;
+mod phase;
+mod refinement;
+mod search;
+mod sorting;
+mod star;
+mod tables;
+mod update;
+mod view;
+
+pub use augment::Augment;
