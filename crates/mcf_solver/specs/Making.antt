@@ -24,11 +24,11 @@ use Rattle.mcf_solver.specs.declared.choice.Choice.{Choice}
 use Rattle.mcf_solver.specs.declared.choice.EngineChoice.{EngineChoice}
 use Rattle.mcf_scaling.specs.Made.{IsScaled}
 use Rattle.mcf_scaling.specs.Refinements.{StepCounts}
-use Rattle.mcf_solver.specs.declared.choice.EngineChoice.TheVariants.{Auto, Cancel, Simplex, Scaling, Sap}
+use Rattle.mcf_solver.specs.declared.choice.EngineChoice.TheVariants.{Auto, Cancel, Simplex, Scaling, Augment, Sap}
 use Rattle.mcf_solver.specs.declared.choice.PricingChoice.{PricingChoice}
 use Rattle.mcf_solver.specs.declared.choice.PricingChoice.TheVariants.{First, Best, Block, Wide}
 use Rattle.mcf_solver.specs.declared.choice.Meant.{Meant}
-use Rattle.mcf_solver.specs.declared.choice.Meant.TheVariants.{ByCancel, BySimplex, ByScaling, BySap}
+use Rattle.mcf_solver.specs.declared.choice.Meant.TheVariants.{ByCancel, BySimplex, ByScaling, ByAugment, BySap}
 
 -- the engine that suits a problem
 abbrev pub suited : Problem → Meant
@@ -41,6 +41,7 @@ meant Auto problem = suited problem
 meant Cancel problem = ByCancel
 meant Simplex problem = BySimplex
 meant Scaling problem = ByScaling
+meant Augment problem = ByAugment
 meant Sap problem = suited problem
 
 -- what the rule of the first arc picks, which keeps nothing
@@ -63,12 +64,13 @@ IsMadeBySimplex Best block g s = (old new : RuleState BestRule) × IsMadeByRun b
 IsMadeBySimplex Block block g s = (new : RuleState BlockRule) × IsMadeByRun IsBlockPick (new_block_rule block) g s new
 IsMadeBySimplex Wide block g s = (old new : RuleState WideRule) × IsWideFor (length g.arcs) old.rule × IsMadeByRun IsWidePick old g s new
 
--- the net's state was made by a new engine of this name; the plain engine asks nothing of how, cost scaling counts its steps, and the
--- engine for assignments its searches
+-- the net's state was made by a new engine of this name; the plain engine and the search that is judged ask nothing of how,
+-- cost scaling counts its steps, and the engine for assignments its searches
 abbrev pub IsMadeByEngine : Meant → Choice → Network → Pseudoflow → Type 0
 IsMadeByEngine ByCancel choice g s = ⊤
 IsMadeByEngine BySimplex choice g s = IsMadeBySimplex choice.pricing choice.block g s
 IsMadeByEngine ByScaling choice g s = (steps : StepCounts) × IsScaled g s steps
+IsMadeByEngine ByAugment choice g s = ⊤
 IsMadeByEngine BySap choice g s = (searches : ℕ) × IsMatchedByRows g s searches
 
 -- the net's state was made by a new engine that the choice means for the problem of the net
@@ -92,6 +94,7 @@ abbrev pub IsShapedBy : Meant → Network → List ℤ → Type 0
 IsShapedBy ByCancel g flow = ⊤
 IsShapedBy BySimplex g flow = IsTreeSolution g flow
 IsShapedBy ByScaling g flow = ⊤
+IsShapedBy ByAugment g flow = ⊤
 IsShapedBy BySap g flow = ⊤
 
 -- an answer's flow, where it gives one, has the shape of those of the engine that the choice means

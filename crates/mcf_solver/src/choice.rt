@@ -15,6 +15,8 @@ pub enum EngineChoice {
     Simplex,
     /// Cost scaling.
     Scaling,
+    /// A fast search whose answer is judged, for large instances; where it finds none, the network simplex.
+    Augment,
     /// Shortest augmenting paths, for an assignment; for a flow problem it means `Auto`.
     Sap,
 }
@@ -90,6 +92,8 @@ pub(crate) enum Meant {
     BySimplex,
     // Cost scaling.
     ByScaling,
+    // A fast search that is judged.
+    ByAugment,
     // Shortest augmenting paths.
     BySap,
 }

@@ -19,6 +19,7 @@ use crate::set::set_answer;
 use crate::sparse::sparse_answer;
 use mcf_answer::{Answer, write};
 use mcf_assign::Sap;
+use mcf_augment::Augment;
 use mcf_checker::correct_answers_are_accepted;
 use mcf_instance::{Instance, Problem, Refusal, read};
 use mcf_network::{Net, restored_tree_solutions_are_tree_solutions};
@@ -129,6 +130,7 @@ fn solve_instance(alloc: Global, instance: &Instance, choice: Choice) -> Result<
         Meant::ByCancel => solve_by(alloc, instance, choice.form, &mut Cancel::new()),
         Meant::BySimplex => solve_by_simplex(alloc, instance, choice),
         Meant::ByScaling => solve_by(alloc, instance, choice.form, &mut Scaling::new()),
+        Meant::ByAugment => solve_by(alloc, instance, choice.form, &mut Augment::new()),
         Meant::BySap => solve_by(alloc, instance, choice.form, &mut Sap::new()),
     }
 }
@@ -141,6 +143,7 @@ fn engine_meant(engine: EngineChoice, problem: Problem) -> Meant
         EngineChoice::Cancel => Meant::ByCancel,
         EngineChoice::Simplex => Meant::BySimplex,
         EngineChoice::Scaling => Meant::ByScaling,
+        EngineChoice::Augment => Meant::ByAugment,
         EngineChoice::Auto | EngineChoice::Sap => suited(problem),
     }
 }

@@ -5,7 +5,7 @@ use Rattle.clap.specs.Words.{Text, fault_of, first_of, subcommand_of, takes}
 use Rattle.clap.specs.declared.error.kind.ErrorKind.TheVariants.{DisplayHelp, InvalidValue, MissingSubcommand, UnknownArgument, ValueValidation}
 use Rattle.clap.proofs.OnLiterals.{clap_on_literals}
 use Rattle.mcf_solver.specs.declared.choice.EngineChoice.{EngineChoice}
-use Rattle.mcf_solver.specs.declared.choice.EngineChoice.TheVariants.{Auto, Cancel, Scaling, Sap}
+use Rattle.mcf_solver.specs.declared.choice.EngineChoice.TheVariants.{Auto, Cancel, Scaling, Augment, Sap}
 use Rattle.mcf_solver.specs.declared.choice.PricingChoice.{PricingChoice}
 use Rattle.mcf_solver.specs.declared.choice.PricingChoice.TheVariants.{Best, Block}
 use Rattle.mcf_solver.specs.declared.choice.Form.{Form}
@@ -47,6 +47,10 @@ with_equals = refl
 with_scaling : asked_by (codes "mcf" ∷ codes "solve" ∷ codes "--engine=scaling" ∷ []) ≡ Some (codes "solve", Scaling, None)
 unfolding clap_on_literals asked_by some_app
 with_scaling = refl
+
+with_augment : asked_by (codes "mcf" ∷ codes "solve" ∷ codes "--engine=augment" ∷ []) ≡ Some (codes "solve", Augment, None)
+unfolding clap_on_literals asked_by some_app
+with_augment = refl
 
 with_sap : asked_by (codes "mcf" ∷ codes "solve" ∷ codes "--engine=sap" ∷ []) ≡ Some (codes "solve", Sap, None)
 unfolding clap_on_literals asked_by some_app

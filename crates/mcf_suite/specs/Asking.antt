@@ -15,7 +15,7 @@ use Rattle.clap.specs.declared.error.Error.{Error}
 use Rattle.clap.specs.declared.error.kind.ErrorKind.TheVariants.{OutOfMemory}
 use Rattle.mcf_suite.specs.declared.asking.Asked.{Asked}
 use Rattle.mcf_solver.specs.declared.choice.EngineChoice.{EngineChoice}
-use Rattle.mcf_solver.specs.declared.choice.EngineChoice.TheVariants.{Auto, Cancel, Simplex, Scaling, Sap}
+use Rattle.mcf_solver.specs.declared.choice.EngineChoice.TheVariants.{Auto, Cancel, Simplex, Scaling, Augment, Sap}
 use Rattle.mcf_solver.specs.declared.choice.PricingChoice.{PricingChoice}
 use Rattle.mcf_solver.specs.declared.choice.PricingChoice.TheVariants.{First, Best, Block, Wide}
 use Rattle.mcf_solver.specs.declared.choice.Form.{Form}
@@ -25,7 +25,8 @@ use Rattle.mcf_solver.specs.BlockSizes.{block_limit, standard_block}
 -- the names of the engines, and what each asks for
 abbrev pub engine_words : List (Text × EngineChoice)
 engine_words =
-    (codes "auto", Auto) ∷ (codes "cancel", Cancel) ∷ (codes "simplex", Simplex) ∷ (codes "scaling", Scaling) ∷ (codes "sap", Sap) ∷ []
+    (codes "auto", Auto) ∷ (codes "cancel", Cancel) ∷ (codes "simplex", Simplex) ∷ (codes "scaling", Scaling) ∷ (codes "augment", Augment)
+    ∷ (codes "sap", Sap) ∷ []
 
 -- the names of the engines
 abbrev pub engine_names : List Text

@@ -21,7 +21,7 @@ pub struct Asked<'a> {
 }
 
 // The names of the engines.
-static ENGINES: [&str; 5] = ["auto", "cancel", "simplex", "scaling", "sap"];
+static ENGINES: [&str; 6] = ["auto", "cancel", "simplex", "scaling", "augment", "sap"];
 
 // The names of the pricing rules.
 static RULES: [&str; 4] = ["first", "best", "block", "wide"];
@@ -36,6 +36,7 @@ Engines:
   cancel   cycle cancelling: slow and short, to compare with on small instances
   simplex  the network simplex: for most flow problems
   scaling  cost scaling: where the simplex takes too many pivots
+  augment  a fast search whose answer is judged, and else the simplex: for large sparse flow problems
   sap      shortest augmenting paths: for assignments; for a flow problem it means auto
 
 Pricing rules of the simplex:
@@ -49,7 +50,7 @@ Forms of a flow:
   2        a line for each arc that doesn't carry its LOW, with its number: for instances of many arcs";
 
 /// Reads what the words of a command line ask:
-/// `mcf solve [--engine auto|cancel|simplex|scaling|sap] [--pricing first|best|block|wide] [--block N] [--form 1|2] [FILE]`,
+/// `mcf solve [--engine auto|cancel|simplex|scaling|augment|sap] [--pricing first|best|block|wide] [--block N] [--form 1|2] [FILE]`,
 /// where N is 1 to 1,000,000. What is left out is `auto`, `block`, 256 and 1.
 ///
 /// The words begin with the name of the program, which isn't read.
@@ -183,6 +184,7 @@ fn engine_of(name: Option<&str>) -> EngineChoice
         Some("cancel") => EngineChoice::Cancel,
         Some("simplex") => EngineChoice::Simplex,
         Some("scaling") => EngineChoice::Scaling,
+        Some("augment") => EngineChoice::Augment,
         Some("sap") => EngineChoice::Sap,
         _ => EngineChoice::Auto,
     }

@@ -101,7 +101,7 @@ struct Asking {
     file: Option<&'static str>,
 }
 
-static ASKED: [Asking; 10] = [
+static ASKED: [Asking; 11] = [
     Asking {
         words: &["mcf", "solve"],
         engine: EngineChoice::Auto,
@@ -133,6 +133,14 @@ static ASKED: [Asking; 10] = [
         block: 256,
         form: Form::One,
         file: None,
+    },
+    Asking {
+        words: &["mcf", "solve", "--engine=augment", "f.min"],
+        engine: EngineChoice::Augment,
+        pricing: PricingChoice::Block,
+        block: 256,
+        form: Form::One,
+        file: Some("f.min"),
     },
     Asking {
         words: &["mcf", "solve", "--engine", "sap", "--pricing", "best"],
@@ -407,10 +415,11 @@ fn refusals(rt: HostRuntime) -> Result<(), Fail> {
 }
 
 // Words that ask for an answer, and whether they name a file.
-static SOLVING: [(Words, bool); 16] = [
+static SOLVING: [(Words, bool); 17] = [
     (&["mcf", "solve", "--engine", "auto"], false),
     (&["mcf", "solve", "--engine", "simplex"], false),
     (&["mcf", "solve", "--engine", "scaling"], false),
+    (&["mcf", "solve", "--engine", "augment"], false),
     (&["mcf", "solve", "--engine", "sap"], false),
     (&["mcf", "solve", "--pricing", "first", "a"], true),
     (&["mcf", "solve", "--pricing", "best"], false),
@@ -494,7 +503,7 @@ fn words_that_are_refused(rt: HostRuntime) -> Result<(), Fail> {
 }
 
 // Words that ask for help, and a part of it.
-static HELP: [(Words, &str); 28] = [
+static HELP: [(Words, &str); 29] = [
     (&["mcf", "--help"], "solve"),
     (&["mcf", "-h"], "solve"),
     (&["mcf", "help"], "solve"),
@@ -504,7 +513,7 @@ static HELP: [(Words, &str); 28] = [
     (&["mcf", "solve", "--help"], "--block <N>"),
     (
         &["mcf", "solve", "--help"],
-        "auto, cancel, simplex, scaling, sap",
+        "auto, cancel, simplex, scaling, augment, sap",
     ),
     (&["mcf", "solve", "--help"], "[default: auto]"),
     (&["mcf", "solve", "--help"], "first, best, block, wide"),
@@ -513,6 +522,7 @@ static HELP: [(Words, &str); 28] = [
     (&["mcf", "solve", "--help"], "[default: 256]"),
     (&["mcf", "solve", "--help"], "\n  auto     "),
     (&["mcf", "solve", "--help"], "\n  cancel   "),
+    (&["mcf", "solve", "--help"], "\n  augment  "),
     (&["mcf", "solve", "--help"], "\n  simplex  "),
     (&["mcf", "solve", "--help"], "\n  scaling  "),
     (&["mcf", "solve", "--help"], "\n  sap      "),
