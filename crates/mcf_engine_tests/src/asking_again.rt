@@ -5,6 +5,7 @@
 use crate::networks::net_of;
 use crate::scaling::cost_of;
 use mcf_assign::Sap;
+use mcf_augment::Augment;
 use mcf_network::Net;
 use mcf_prices::{Cancel, Engine, Outcome};
 use mcf_scaling::Scaling;
@@ -118,6 +119,13 @@ fn six_rows_by_the_simplex(rt: HostRuntime) -> Result<(), Fail> {
     assert!(rt; finds_both(rt.alloc(), &mut Simplex::new(First))?);
     assert!(rt; finds_both(rt.alloc(), &mut Simplex::new(Best))?);
     assert!(rt; finds_both(rt.alloc(), &mut Simplex::new(Block::new(2)))?);
+    Ok(())
+}
+
+#[test]
+fn six_rows_by_a_judged_search(rt: HostRuntime) -> Result<(), Fail> {
+    assert!(rt; finds_both(rt.alloc(), &mut Augment::new())?);
+    assert!(rt; finds_both(rt.alloc(), &mut Augment::within(0))?);
     Ok(())
 }
 

@@ -10,6 +10,8 @@ mod asking_again;
 #[cfg(test)]
 mod assigning;
 #[cfg(test)]
+mod augmenting;
+#[cfg(test)]
 mod bases;
 #[cfg(test)]
 mod feasibility;

@@ -2,6 +2,7 @@
 
 use crate::networks::net_of;
 use crate::trees::{below, next};
+use mcf_augment::Augment;
 use mcf_network::Net;
 use mcf_prices::{Cancel, Engine, Outcome, Recovered, recover};
 use mcf_scaling::Scaling;
@@ -76,7 +77,8 @@ fn all_agree(alloc: Global, seed: u64) -> Result<Option<bool>, NoMemory> {
     let plain = agrees(alloc, &mut Cancel::new(), &net)?;
     let scaled = agrees(alloc, &mut Scaling::new(), &net)?;
     let pivoted = agrees(alloc, &mut Simplex::new(First), &net)?;
-    if plain == scaled && plain == pivoted {
+    let augmented = agrees(alloc, &mut Augment::new(), &net)?;
+    if plain == scaled && plain == pivoted && plain == augmented {
         Ok(plain)
     } else {
         Ok(Some(false))

@@ -16,7 +16,7 @@ struct Way {
 }
 
 // Every engine, and the simplex with each rule and with blocks of several sizes.
-static WAYS: [Way; 11] = [
+static WAYS: [Way; 12] = [
     Way {
         engine: EngineChoice::Auto,
         pricing: PricingChoice::Block,
@@ -29,6 +29,11 @@ static WAYS: [Way; 11] = [
     },
     Way {
         engine: EngineChoice::Scaling,
+        pricing: PricingChoice::Block,
+        block: 256,
+    },
+    Way {
+        engine: EngineChoice::Augment,
         pricing: PricingChoice::Block,
         block: 256,
     },
