@@ -16,7 +16,7 @@ use Rattle.mcf_answer.specs.Spelling.{IsAnswer, Spells}
 use Rattle.mcf_answer.specs.declared.answers.Answer.{Answer}
 use Rattle.mcf_answer.specs.declared.answers.Answer.TheVariants.{Blocked, Flow, Refused, Sparse}
 use Rattle.mcf_answer.specs.declared.shape.Shape.{Shape}
-use Rattle.mcf_checker.specs.Correct.{GivesLeastFlow, HasNoFlow, IsCorrect, IsRight, IsRightFlow, IsRightSet, amounts, flow_given, spread}
+use Rattle.mcf_checker.specs.Correct.{GivesLeastFlow, HasNoFlow, IsCorrect, IsRight, IsRightFlow, IsRightSet, IsRightSolution, amounts, flow_given, spread}
 use Rattle.mcf_checker.specs.Judging.{accepts, bad_moved, bad_node, bad_price, flow_verdict, judged, same_fault, set_verdict}
 use Rattle.mcf_checker.specs.Judging.{solution_verdict, sparse_verdict, verdict}
 use Rattle.mcf_checker.specs.Private.StatedFlows.{AreArcsInOrder}
@@ -29,7 +29,7 @@ use Rattle.mcf_checker.proofs.Sets.{IsRightSet-from_accepts, accepts-from_IsRigh
 use Rattle.mcf_checker.proofs.Solutions.{IsRightSolution-from_accepts, accepts-from_IsRightSolution, at_right}
 use Rattle.mcf_checker.proofs.SparseFlows.{IsRightSparse-from_accepts, accepts-from_IsRightSparse}
 use Rattle.mcf_instance.specs.Blocking.{in_list}
-use Rattle.mcf_instance.specs.Flow.{cost}
+use Rattle.mcf_instance.specs.Flow.{IsLeast, cost}
 use Rattle.mcf_instance.specs.Fault.{Fault, code_word}
 use Rattle.mcf_instance.specs.Limits.{limits}
 use Rattle.mcf_instance.specs.Network.{Network}
@@ -327,3 +327,17 @@ least_at input text v parses reads e total h =
 pub none_at : (input text : List ℕ) (v : Verdict) → ReadsWellFormed input → v ≡ verdict input text → (count : ℕ) → v ≡ SetAccepted count → HasNoFlow input
 none_at input text v reads e count h =
     accepted_sets_leave_no_flow input text count reads (sym e ∙ h)
+
+-- ---- a flow for an instance
+
+pub right_flow_at : (g : Network) (a : Solution) (v : Verdict) → v ≡ solution_verdict g a → IsTrue (accepts v) ↔ IsRightSolution g a
+right_flow_at g a v is = (
+  λ e. IsRightSolution-from_accepts g a (ap accepts (sym is) ∙ e),
+  λ h. ap accepts is ∙ accepts-from_IsRightSolution g a h,
+)
+
+pub least_flow_at : (g : Network) (a : Solution) (v : Verdict) → IsWellFormed limits g → v ≡ solution_verdict g a → IsTrue (accepts v)
+    → IsLeast g (amounts a.sent)
+least_flow_at g a v well is e =
+    let right = (right_flow_at g a v is).0 e in
+    shown_flows_are_least_lem g a.prices (amounts a.sent) well.ends right.right.feasible right.right.shown

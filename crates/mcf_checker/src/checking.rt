@@ -1,8 +1,9 @@
 //! The verdict on an answer text for an instance text.
 ghost use Rattle.std.specs.Prelude.{◌≡◌, ◌≤◌, ◌↔◌, ◌⊎◌, Err, IfOk, IsTrue, Ok, OnErr, if◌then◌else◌, ℕ, ℤ};
 ghost use Rattle.mcf_answer.specs.Parsing.{has_item_line};
-ghost use Rattle.mcf_checker.specs.Correct.{GivesLeastFlow, HasNoFlow, IsCorrect};
-ghost use Rattle.mcf_checker.specs.Judging.{accepts, judged, same_fault, verdict};
+ghost use Rattle.mcf_checker.specs.Correct.{GivesLeastFlow, HasNoFlow, IsCorrect, IsRightSolution, amounts};
+ghost use Rattle.mcf_checker.specs.Judging.{accepts, judged, same_fault, solution_verdict, verdict};
+ghost use Rattle.mcf_instance.specs.Flow.{IsLeast};
 ghost use Rattle.mcf_instance.specs.Limits.{limits};
 ghost use Rattle.mcf_instance.specs.Memory.{NamesNodes};
 ghost use Rattle.mcf_instance.specs.Network.{node_count};
@@ -12,7 +13,7 @@ use crate::set::set_verdict;
 use crate::solution::solution_verdict;
 use crate::sparse::sparse_verdict;
 use crate::verdict::Verdict;
-use mcf_answer::{Answer, parse};
+use mcf_answer::{Answer, FlowAnswer, parse};
 use mcf_instance::{Instance, Refusal, read};
 use mcf_text::NoMemory;
 use std::alloc::Global;
@@ -65,6 +66,25 @@ fn instance_verdict(
         Answer::Blocked(answer) => set_verdict(alloc, instance, answer),
         Answer::Refused(_) => Ok(Verdict::BadKind),
     }
+}
+
+/// The verdict on a flow with its cost and prices for an instance: the first of `BadArc`, `BadNode`, `BadPrice`, `BadCost` and
+/// `Flow` that applies. It accepts exactly where the flow is right, whoever made it, and then no feasible flow costs less.
+///
+/// # Errors
+/// `NoMemory` where there is no memory for the nets of the nodes; an instance without nodes wants none.
+pub fn check_flow(
+    alloc: Global,
+    instance: &Instance,
+    answer: &FlowAnswer,
+) -> Result<Verdict, NoMemory>
+    ensures verdict { IfOk result (λ v. v ≡ solution_verdict instance.now answer.now) }
+    ensures exact { IfOk result (λ v. IsTrue (accepts v) ↔ IsRightSolution instance.now answer.now) }
+    ensures least { IfOk result (λ v. IsTrue (accepts v) → IsLeast instance.now (amounts answer.now.sent)) }
+    ensures wants { OnErr result (1 ≤ node_count instance.now) }
+{
+    prove!(instance.node_count() <= 1_000_000);
+    solution_verdict(alloc, instance, answer)
 }
 
 /// The verdict on an answer text for an instance text: the first of `Verdict` that applies. It accepts exactly where

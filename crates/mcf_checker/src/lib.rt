@@ -16,7 +16,7 @@ mod sparse;
 mod stated;
 mod verdict;
 
-pub use checking::check;
+pub use checking::{check, check_flow};
 pub use command::{FileFault, judge};
 pub use laws::correct_answers_are_accepted;
 pub use verdict::Verdict;

@@ -22,4 +22,4 @@ pub use choice::{Choice, EngineChoice, Form, Kind, PricingChoice};
 pub use device::{FromReader, IntoWriter, Sink, SinkFault, Source, SourceFault};
 pub use fault::RunFault;
 pub use running::{run, send};
-pub use solving::solve_text;
+pub use solving::{solve_instance, solve_text};

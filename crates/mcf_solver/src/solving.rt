@@ -119,8 +119,16 @@ fn answer_for(
     }
 }
 
-// The answer to an instance, by the engine that is chosen.
-fn solve_instance(alloc: Global, instance: &Instance, choice: Choice) -> Result<Answer, NoMemory>
+/// The answer to an instance, by the engine that is chosen: what `solve_text` writes of a text that stands for it.
+///
+/// # Errors
+///
+/// Want of memory, only where there are nodes or the network simplex is meant.
+pub fn solve_instance(
+    alloc: Global,
+    instance: &Instance,
+    choice: Choice,
+) -> Result<Answer, NoMemory>
     ensures owed { IfOk result (IsOwed (Ok instance.now)) }
     ensures made { IfOk result (HasMadeFlow (IsMadeBy choice) (Ok instance.now)) }
     ensures formed { IfOk result (HasForm choice.form (Ok instance.now)) }

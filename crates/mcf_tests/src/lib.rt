@@ -5,6 +5,8 @@
 //! They stand in a crate of their own, since a crate with tests is proved twice. It has no other function.
 
 #[cfg(test)]
+mod arrays;
+#[cfg(test)]
 mod cut_instances;
 #[cfg(test)]
 mod large;
