@@ -124,7 +124,7 @@ def copied(below, name):
     if name in WORDS:
         linked(TOP / "examples", copy / "examples")
     lines = (TOP / "crates.txt").read_text().splitlines(keepends=True)
-    (copy / "crates.txt").write_text("".join(line for line in lines if line.split(":")[0].strip() in needed))
+    (copy / "crates.txt").write_text("".join(line for line in lines if (line.split(":")[0].split() or [""])[0] in needed))
     return copy / "crates" / name
 
 

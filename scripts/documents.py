@@ -97,7 +97,7 @@ def split_file(crate, path):
 
 def crates():
     """The crates that have definitions, in the order of crates.txt."""
-    listed = (line.split(":")[0] for line in (TOP / "crates.txt").read_text().splitlines() if ":" in line)
+    listed = (line.split(":")[0].split()[0] for line in (TOP / "crates.txt").read_text().splitlines() if ":" in line)
     return [name for name in listed if (CRATES / name / "specs").is_dir()]
 
 
@@ -164,7 +164,7 @@ def items_of(path):
             note = []
         elif line == "}":
             owner, trait, kind, note = None, None, None, []
-        elif re.match(r"(pub )?fn \w", text) and len(indent) == (4 if owner else 0):
+        elif re.match(r'(pub )?(extern "C" )?fn \w', text) and len(indent) == (4 if owner else 0):
             last, tail = end_of(lines, place, indent)
             head = [part[len(indent):] for part in lines[place:last] + tail]
             has_clauses = any(re.match(r"\s+(requires|ensures)\b", part) for part in head)
@@ -197,7 +197,15 @@ def exported(crate):
     for path, group in re.findall(r"^pub use ([\w:]+?)(?:::\{([^}]*)\})?;", text, re.M | re.S):
         if not path.startswith("mcf_"):
             names += re.findall(r"\w+", group) if group else [path.split("::")[-1]]
+    # What a static library hands to C stands in its modules.
+    for path in sorted((CRATES / crate / "src").glob("*.rt")):
+        names += re.findall(r"^#\[(?:repr\(C\)\]\n#\[derive.*\]\npub struct|unsafe\(no_mangle\)\]\npub extern \"C\" fn) (\w+)", path.read_text(), re.M) if is_static(crate) else []
     return "\n".join(heads), names + re.findall(r"^pub (?:struct|enum|fn) (\w+)", text, re.M)
+
+
+def is_static(crate):
+    """Whether a crate is a static library, for C."""
+    return re.search(rf"^{crate} staticlib:", (TOP / "crates.txt").read_text(), re.M) is not None
 
 
 def libraries():

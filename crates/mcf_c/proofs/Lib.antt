@@ -1,0 +1,4 @@
+pub mod Judges
+pub mod Marks
+pub mod Statuses
+pub mod Stored

@@ -1,0 +1,65 @@
+-- What a call for arrays hands out.
+-- Source: own
+use Rattle.std.specs.Prelude.{◌≡◌, ℕ, ◌≤◌, ◌⊎◌, Bool, List, ℤ, pos, FitsSigned, Some, if◌then◌else◌}
+use Rattle.std.specs.Int.{w64}
+use Rattle.std.specs.List.{All}
+use Rattle.std.specs.Ordering.{int_eq}
+use Rattle.mcf_answer.specs.Solution.{Solution}
+use Rattle.mcf_c.specs.Verdicts.{Tells, TellsFault, TellsSet}
+use Rattle.mcf_c.specs.declared.verdicts.McfVerdict.{McfVerdict}
+use Rattle.mcf_checker.specs.Correct.{IsRightFlow, amounts}
+use Rattle.mcf_checker.specs.declared.verdict.Verdict.TheVariants.{Flow}
+use Rattle.mcf_instance.specs.Arrays.{array_fault}
+use Rattle.mcf_instance.specs.Blocking.{Blocks}
+use Rattle.mcf_instance.specs.Flow.{IsFeasible}
+use Rattle.mcf_instance.specs.Limits.{limits}
+use Rattle.mcf_instance.specs.Network.{Network, at_node, node_count}
+use Rattle.mcf_instance.specs.declared.arrays.ArrayFault.{ArrayFault}
+use Rattle.mcf_instance.specs.declared.problem.Problem.TheVariants.{Min}
+use Rattle.mcf_instance.specs.declared.problem.Side.{Side}
+use Rattle.mcf_solver.specs.Answering.{IsLeastFlow, IsLeastSolution}
+use Rattle.mcf_solver.specs.Making.{meant, suited}
+use Rattle.mcf_solver.specs.declared.choice.EngineChoice.{EngineChoice}
+
+-- a flow by arc that no feasible flow undercuts, its cost, and prices by node that show it
+pub record HandsFlow (g : Network) (flow prices : List ℤ) (told : McfVerdict) : Type 0 where
+  pub cost : ℤ
+  pub right : IsRightFlow g cost prices flow
+  pub least : IsLeastFlow g prices flow
+  pub tells : Tells (Flow cost) told
+
+-- the nodes that are marked by 1
+abbrev pub marked : List ℤ → ℕ → Bool
+marked marks v = int_eq (at_node marks v) (pos 1)
+
+-- the mark of a node, by whether it is in a set
+abbrev pub mark_of : Bool → ℤ
+mark_of is_in = if is_in then pos 1 else pos 0
+
+-- marks of a node set that blocks by a side, so that no flow is feasible
+pub record HandsSet (g : Network) (marks : List ℤ) (told : McfVerdict) : Type 0 where
+  pub side : Side
+  pub count : ℕ
+  pub blocks : Blocks g (marked marks) side
+  pub none : (flow : List ℤ) → ¬ IsFeasible g flow
+  pub tells : TellsSet side count told
+
+-- all numbers fit 64 bits
+abbrev pub FitWords : List ℤ → Type 0
+FitWords zs = All (FitsSigned w64) zs
+
+-- a least flow with its prices, some number of which doesn't fit 64 bits
+pub record HasWideNumber (g : Network) : Type 0 where
+  pub answer : Solution
+  pub least : IsLeastSolution g answer
+  pub wide : ¬ (FitWords (amounts answer.sent) × FitWords answer.prices)
+
+-- there are nodes, or the root of the simplex' start basis, to take memory for
+abbrev pub TakesMemory : EngineChoice → Network → Type 0
+TakesMemory engine g = (1 ≤ node_count g) ⊎ (meant engine g.problem ≡ suited Min)
+
+-- the first fault of the arrays of a network
+pub record HandsFault (g : Network) (told : McfVerdict) : Type 0 where
+  pub fault : ArrayFault
+  pub found : array_fault limits g ≡ Some fault
+  pub tells : TellsFault fault told

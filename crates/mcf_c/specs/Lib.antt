@@ -1,0 +1,12 @@
+pub use Rattle.mcf_checker.specs.Correct
+pub use Rattle.mcf_checker.specs.Judging
+pub use Rattle.mcf_instance.specs.Arrays
+pub use Rattle.mcf_instance.specs.Blocking
+pub use Rattle.mcf_instance.specs.Memory
+pub use Rattle.mcf_solver.specs.Answering
+pub use Rattle.mcf_solver.specs.Making
+pub mod Calls
+pub mod Choices
+pub mod Handing
+pub mod Judged
+pub mod Verdicts

@@ -1,0 +1,144 @@
+//! Flow problems and assignment problems solved in arrays, with no text.
+ghost use Rattle.std.specs.Prelude.{◌≡◌, ◌≢◌, ◌≤◌, ◌<◌, ◌⊎◌, ◌↔◌, ◌+◌, IfErr, IfOk, IfSome, None, is_ok, length, true, false};
+ghost use Rattle.mcf_c.specs.Choices.{choice_of};
+ghost use Rattle.mcf_c.specs.Handing.{HandsFault, HandsFlow, HandsSet, HasWideNumber, TakesMemory};
+ghost use Rattle.mcf_c.specs.Verdicts.{TellsFault};
+ghost use Rattle.mcf_instance.specs.Arrays.{assignment_problem, flow_problem, made_of_arrays};
+ghost use Rattle.mcf_instance.specs.Limits.{limits};
+ghost use Rattle.mcf_instance.specs.Network.{node_count};
+ghost use Rattle.mcf_instance.specs.WellFormed.{IsWellFormed};
+
+use crate::choosing::{McfChoice, choice_of};
+use crate::handing::answer_instance;
+use crate::verdicts::{McfVerdict, fault_numbers};
+use mcf_instance::{ArrayFault, Instance, RawArc, RawPair, assignment_problem, flow_problem};
+use mcf_solver::Choice;
+use std::alloc::Global;
+
+// What a call answers where the arrays have a fault, memory is wanting, a room has another length, and the numbers mean no choice.
+const REFUSED: u32 = 2;
+
+const NO_MEMORY: u32 = 3;
+
+const NO_ROOM: u32 = 4;
+
+const NO_CHOICE: u32 = 5;
+
+// Answers what was made of arrays that stand for a network.
+fn answer_made(
+    alloc: Global,
+    made: Result<Instance, ArrayFault>,
+    choice: Choice,
+    flow: &mut [i64],
+    prices: &mut [i64],
+    told: &mut McfVerdict,
+) -> u32
+    requires flow { IfOk made (λ g. length flow.old ≡ length g.arcs) }
+    requires prices { IfOk made (λ g. length prices.old ≡ node_count g) }
+    ensures statuses { (result ≤ 3) ⊎ (result ≡ 6) }
+    ensures flow { result ≡ 0 → IfOk made (λ g. HandsFlow g flow.new prices.new told.new) × (is_ok made ≡ true) }
+    ensures set { result ≡ 1 → IfOk made (λ g. HandsSet g prices.new told.new) × (is_ok made ≡ true) }
+    ensures fault { result ≡ 2 → IfErr made (λ fault. TellsFault fault told.new) × (is_ok made ≡ false) }
+    ensures memory { result ≡ 3 → IfOk made (λ g. TakesMemory choice.engine g) × (is_ok made ≡ true) }
+    ensures wide { result ≡ 6 → IfOk made (λ g. HasWideNumber g) × (is_ok made ≡ true) }
+    ensures flow_stays { (2 ≤ result) × (result ≤ 5) → flow.new ≡ flow.old }
+    ensures prices_stay { (2 ≤ result) × (result ≤ 5) → prices.new ≡ prices.old }
+    ensures told_stays { result ≡ 3 → told.new ≡ told.old }
+{
+    match made {
+        Ok(instance) => answer_instance(alloc, &instance, choice, flow, prices, told),
+        Err(fault) => {
+            *told = fault_numbers(&fault);
+            REFUSED
+        }
+    }
+}
+
+/// Solves the flow problem of these supplies and arcs, and writes its flow by arc and its prices by node.
+///
+/// The status is 0 for a least-cost flow, 1 where a node set blocks, whose nodes `prices` marks by 1 and all others by 0, 2
+/// where the arrays have a fault, 3 where memory is wanting, 4 where a room hasn't the length of the arrays, 5 where the
+/// numbers mean no choice, and 6 where a flow or a price doesn't fit 64 bits. `told` becomes the cost, the side and the count
+/// of nodes, or the fault. What is chosen of a form means nothing here.
+#[unsafe(no_mangle)]
+pub extern "C" fn mcf_solve_arcs(
+    alloc: Global,
+    supplies: &[i64],
+    arcs: &[RawArc],
+    choice: &McfChoice,
+    flow: &mut [i64],
+    prices: &mut [i64],
+    told: &mut McfVerdict,
+) -> u32
+    ensures statuses { result ≤ 6 }
+    ensures flow { result ≡ 0 → HandsFlow (flow_problem supplies.now arcs.now) flow.new prices.new told.new }
+    ensures set { result ≡ 1 → HandsSet (flow_problem supplies.now arcs.now) prices.new told.new }
+    ensures fault { result ≡ 2 → HandsFault (flow_problem supplies.now arcs.now) told.new }
+    ensures within { (result ≤ 1) ⊎ (result ≡ 6) → IsWellFormed limits (flow_problem supplies.now arcs.now) }
+    ensures memory { result ≡ 3 → IfSome (choice_of choice.now) (λ c. TakesMemory c.engine (flow_problem supplies.now arcs.now)) }
+    ensures room { result ≡ 4 → (length flow.old ≢ length arcs.now) ⊎ (length prices.old ≢ length supplies.now) }
+    ensures choice { (result ≡ 5) ↔ (choice_of choice.now ≡ None) }
+    ensures wide { result ≡ 6 → HasWideNumber (flow_problem supplies.now arcs.now) }
+    ensures flow_stays { (2 ≤ result) × (result ≤ 5) → flow.new ≡ flow.old }
+    ensures prices_stay { (2 ≤ result) × (result ≤ 5) → prices.new ≡ prices.old }
+    ensures told_stays { (3 ≤ result) × (result ≤ 5) → told.new ≡ told.old }
+{
+    let Some(choice) = choice_of(choice) else {
+        return NO_CHOICE;
+    };
+    if !are_rooms(flow, arcs.len(), prices, supplies.len()) {
+        return NO_ROOM;
+    }
+    let Ok(made) = flow_problem(alloc, supplies, arcs) else {
+        return NO_MEMORY;
+    };
+    answer_made(alloc, made, choice, flow, prices, told)
+}
+
+/// Whether arrays for the arcs and for the nodes have these lengths.
+pub(crate) fn are_rooms(flow: &[i64], arcs: usize, prices: &[i64], nodes: usize) -> bool
+    ensures yes { result ≡ true → (length flow.now ≡ arcs) × (length prices.now ≡ nodes) }
+    ensures no { result ≡ false → (length flow.now ≢ arcs) ⊎ (length prices.now ≢ nodes) }
+{
+    flow.len() == arcs && prices.len() == nodes
+}
+
+/// Solves the assignment problem of so many rows and columns and of these pairs, and writes which pairs are assigned, by 1
+/// and else 0, and the prices of the rows and then of the columns.
+///
+/// The statuses are those of `mcf_solve_arcs`, with the rows and then the columns as nodes and the pairs as arcs.
+#[unsafe(no_mangle)]
+pub extern "C" fn mcf_solve_pairs(
+    alloc: Global,
+    rows: u32,
+    columns: u32,
+    pairs: &[RawPair],
+    choice: &McfChoice,
+    flow: &mut [i64],
+    prices: &mut [i64],
+    told: &mut McfVerdict,
+) -> u32
+    ensures statuses { result ≤ 6 }
+    ensures flow { result ≡ 0 → HandsFlow (assignment_problem rows columns pairs.now) flow.new prices.new told.new }
+    ensures set { result ≡ 1 → HandsSet (assignment_problem rows columns pairs.now) prices.new told.new }
+    ensures fault { result ≡ 2 → HandsFault (assignment_problem rows columns pairs.now) told.new }
+    ensures within { (result ≤ 1) ⊎ (result ≡ 6) → IsWellFormed limits (assignment_problem rows columns pairs.now) }
+    ensures memory { result ≡ 3 → IfSome (choice_of choice.now) (λ c. TakesMemory c.engine (assignment_problem rows columns pairs.now)) }
+    ensures room { result ≡ 4 → (length flow.old ≢ length pairs.now) ⊎ (length prices.old ≢ rows + columns) }
+    ensures choice { (result ≡ 5) ↔ (choice_of choice.now ≡ None) }
+    ensures wide { result ≡ 6 → HasWideNumber (assignment_problem rows columns pairs.now) }
+    ensures flow_stays { (2 ≤ result) × (result ≤ 5) → flow.new ≡ flow.old }
+    ensures prices_stay { (2 ≤ result) × (result ≤ 5) → prices.new ≡ prices.old }
+    ensures told_stays { (3 ≤ result) × (result ≤ 5) → told.new ≡ told.old }
+{
+    let Some(choice) = choice_of(choice) else {
+        return NO_CHOICE;
+    };
+    if !are_rooms(flow, pairs.len(), prices, rows as usize + columns as usize) {
+        return NO_ROOM;
+    }
+    let Ok(made) = assignment_problem(alloc, rows, columns, pairs) else {
+        return NO_MEMORY;
+    };
+    answer_made(alloc, made, choice, flow, prices, told)
+}

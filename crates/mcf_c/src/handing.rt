@@ -1,0 +1,198 @@
+//! Answers to instances, handed out in arrays.
+ghost use Rattle.std.specs.Prelude.{◌≡◌, ◌≢◌, ◌≤◌, ◌<◌, ◌⊎◌, ◌↔◌, FitsSigned, IfOk, List, Ok, OnErr, length, map, set, true, false, ℤ, ℕ, pos};
+ghost use Rattle.std.specs.Int.{w64};
+ghost use Rattle.std.specs.List.{All};
+ghost use Rattle.mcf_c.specs.Handing.{FitWords, HandsFlow, HandsSet, HasWideNumber, TakesMemory, mark_of, marked};
+ghost use Rattle.mcf_c.specs.Verdicts.{Tells, TellsSet};
+ghost use Rattle.mcf_checker.specs.Correct.{amounts};
+ghost use Rattle.mcf_instance.specs.Blocking.{in_list, in_table};
+ghost use Rattle.mcf_instance.specs.Network.{IsNode, Network, node_count};
+ghost use Rattle.mcf_solver.specs.Answering.{IsNoFlowProof, IsOwed};
+
+use crate::verdicts::{McfVerdict, numbers, set_numbers};
+use mcf_answer::{Answer, BlockedAnswer, FlowAnswer, Sent};
+use mcf_checker::Verdict;
+use mcf_instance::{Instance, table_of};
+use mcf_solver::{Choice, Form, solve_instance};
+use std::alloc::Global;
+
+// What a call answers where it hands out a flow, a node set, no memory, or no flow for a number beyond 64 bits.
+const FLOW: u32 = 0;
+
+const BLOCKED: u32 = 1;
+
+const NO_MEMORY: u32 = 3;
+
+const WIDE: u32 = 6;
+
+// Whether a number fits 64 bits.
+fn fits(n: i128) -> bool
+    ensures yes { result ≡ true → FitsSigned w64 n }
+    ensures no { result ≡ false → ¬ FitsSigned w64 n }
+{
+    if n < -0x8000_0000_0000_0000 {
+        return false;
+    }
+    n <= 0x7fff_ffff_ffff_ffff
+}
+
+// Writes a number at a place, unless it doesn't fit.
+fn store(room: &mut [i64], place: usize, n: i128) -> bool
+    requires { place < length room.old }
+    ensures stored { result ≡ true → room.new ≡ set room.old place n }
+    ensures wide { result ≡ false → ¬ FitsSigned w64 n }
+{
+    if !fits(n) {
+        return false;
+    }
+    room[place] = n as i64;
+    true
+}
+
+// What an arc carries.
+fn flow_of(sent: &Sent) -> i128
+    ensures { result ≡ sent.now.flow }
+{
+    sent.flow
+}
+
+// Writes what the arcs carry into a room for it, unless a number doesn't fit.
+fn put_flow(sent: &[Sent], room: &mut [i64]) -> bool
+    requires { length room.old ≡ length sent.now }
+    ensures written { result ≡ true → room.new ≡ amounts sent.now }
+    ensures wide { result ≡ false → ¬ FitWords (amounts sent.now) }
+{
+    for i in 0..sent.len() {
+        if !store(room, i, flow_of(&sent[i])) {
+            return false;
+        }
+    }
+    true
+}
+
+// Writes prices into a room for them, unless one doesn't fit.
+fn put_prices(prices: &[i128], room: &mut [i64]) -> bool
+    requires { length room.old ≡ length prices.now }
+    ensures written { result ≡ true → room.new ≡ prices.now }
+    ensures wide { result ≡ false → ¬ FitWords prices.now }
+{
+    for i in 0..prices.len() {
+        let price = prices[i];
+        if !store(room, i, price) {
+            return false;
+        }
+    }
+    true
+}
+
+// Hands out a flow.
+fn hand_flow(
+    answer: &FlowAnswer,
+    flow: &mut [i64],
+    prices: &mut [i64],
+    told: &mut McfVerdict,
+) -> u32
+    requires flow { length flow.old ≡ length answer.now.sent }
+    requires prices { length prices.old ≡ length answer.now.prices }
+    ensures statuses { (result ≡ 0) ⊎ (result ≡ 6) }
+    ensures flow { result ≡ 0 → flow.new ≡ amounts answer.now.sent }
+    ensures prices { result ≡ 0 → prices.new ≡ answer.now.prices }
+    ensures told { result ≡ 0 → Tells (Verdict.Flow answer.now.cost) told.new }
+    ensures wide { result ≡ 6 → ¬ (FitWords (amounts answer.now.sent) × FitWords answer.now.prices) }
+{
+    if !put_flow(answer.sent.as_slice(), flow) {
+        return WIDE;
+    }
+    if !put_prices(answer.prices.as_slice(), prices) {
+        return WIDE;
+    }
+    *told = numbers(&Verdict::Flow(answer.cost));
+    FLOW
+}
+
+// The mark of a node, by whether it is in a set.
+fn mark_of(is_in: bool) -> i64
+    ensures { result ≡ mark_of is_in }
+{
+    if is_in { 1 } else { 0 }
+}
+
+// Writes the marks of a set's nodes into a room for them.
+fn put_marks(table: &[bool], marks: &mut [i64])
+    requires { length marks.old ≡ length table.now }
+    ensures { marks.new ≡ map mark_of table.now }
+{
+    for i in 0..table.len() {
+        marks[i] = mark_of(table[i]);
+    }
+}
+
+// Hands out a node set that blocks an instance.
+fn hand_set(
+    alloc: Global,
+    instance: &Instance,
+    answer: &BlockedAnswer,
+    marks: &mut [i64],
+    told: &mut McfVerdict,
+) -> u32
+    requires marks { length marks.old ≡ node_count instance.now }
+    requires blocks { IsNoFlowProof instance.now answer.now }
+    ensures statuses { (result ≡ 1) ⊎ (result ≡ 3) }
+    ensures set { result ≡ 1 → HandsSet instance.now marks.new told.new }
+    ensures memory { result ≡ 3 → 1 ≤ node_count instance.now }
+    ensures marks_stay { result ≡ 3 → marks.new ≡ marks.old }
+    ensures told_stays { result ≡ 3 → told.new ≡ told.old }
+{
+    let nodes = answer.nodes.as_slice();
+    let Ok(table) = table_of(alloc, instance.node_count(), nodes) else {
+        return NO_MEMORY;
+    };
+    put_marks(&table, marks);
+    *told = set_numbers(answer.side, nodes.len());
+    BLOCKED
+}
+
+/// Answers an instance in arrays: its flow by arc and its prices by node, or the marks of a node set that blocks in the
+/// place of the prices.
+pub(crate) fn answer_instance(
+    alloc: Global,
+    instance: &Instance,
+    choice: Choice,
+    flow: &mut [i64],
+    prices: &mut [i64],
+    told: &mut McfVerdict,
+) -> u32
+    requires flow { length flow.old ≡ length instance.now.arcs }
+    requires prices { length prices.old ≡ node_count instance.now }
+    ensures statuses { (result ≤ 1) ⊎ ((result ≡ 3) ⊎ (result ≡ 6)) }
+    ensures flow { result ≡ 0 → HandsFlow instance.now flow.new prices.new told.new }
+    ensures set { result ≡ 1 → HandsSet instance.now prices.new told.new }
+    ensures memory { result ≡ 3 → TakesMemory choice.engine instance.now }
+    ensures wide { result ≡ 6 → HasWideNumber instance.now }
+    ensures flow_stays { result ≡ 3 → flow.new ≡ flow.old }
+    ensures prices_stay { result ≡ 3 → prices.new ≡ prices.old }
+    ensures told_stays { result ≡ 3 → told.new ≡ told.old }
+{
+    let choice = in_one_form(choice);
+    let Ok(answer) = solve_instance(alloc, instance, choice) else {
+        return NO_MEMORY;
+    };
+    match &answer {
+        Answer::Flow(answer) => hand_flow(answer, flow, prices, told),
+        Answer::Blocked(answer) => hand_set(alloc, instance, answer, prices, told),
+        Answer::Sparse(_) | Answer::Refused(_) => unreachable!(),
+    }
+}
+
+// The choice with the first form.
+fn in_one_form(choice: Choice) -> Choice
+    ensures form { result.form ≡ Form.One }
+    ensures engine { result.engine ≡ choice.engine }
+{
+    Choice {
+        engine: choice.engine,
+        pricing: choice.pricing,
+        block: choice.block,
+        form: Form::One,
+    }
+}
