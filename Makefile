@@ -4,9 +4,11 @@
 # make clean  takes away what was proved and built: bin/, and out/ of each crate
 # make bench  the measurements of bench/
 # make tools-test   the tests of python/ and tools/, on the plans of examples/plans/ too: needs the programs of bin/ and Python 3.8; a part of make test
+# make library      proves and builds the library for C: bin/libmcf.so, bin/libmcf.a and bin/mcf.h
+# make library-test the library called from C, C++ and Rust, where these are there; four minutes at most
 # make install      puts the programs, the tools and the manual pages under PREFIX (and DESTDIR before it); make uninstall removes just these
 
-.PHONY: all kit test memory-test clean bench tools-test install uninstall
+.PHONY: all kit test memory-test clean bench tools-test library library-test install uninstall
 .NOTPARALLEL:
 
 # The programs among the crates that crates.txt lists; the logs are bin/NAME.log.
@@ -38,6 +40,12 @@ bench:
 
 tools-test:
 	@scripts/tools_test.sh
+
+library: kit
+	@scripts/library.sh
+
+library-test:
+	@scripts/library_test.sh
 
 PREFIX = /usr/local
 BIN = $(DESTDIR)$(PREFIX)/bin

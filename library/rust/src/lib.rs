@@ -1,0 +1,127 @@
+//! Safe Rust over `libmcf.a`. No export of the library has a condition on its arguments beyond what their types say, so
+//! each of these calls is allowed with any arguments.
+
+mod raw;
+
+pub use raw::{Arc, Choice, Pair};
+
+/// What an answer holds.
+#[derive(Clone, Copy, Debug, PartialEq, Eq)]
+pub enum Kind {
+    Flow,
+    Blocked,
+    Refused,
+}
+
+/// Why there is no answer.
+#[derive(Clone, Copy, Debug, PartialEq, Eq)]
+pub enum Error {
+    NoMemory,
+    /// The numbers of the choice mean none.
+    NoChoice,
+    /// A price of the flow doesn't fit 64 bits.
+    Wide,
+}
+
+/// The side by which a node set blocks.
+#[derive(Clone, Copy, Debug, PartialEq, Eq)]
+pub enum Side {
+    Send,
+    Take,
+}
+
+/// The answer to arrays.
+#[derive(Clone, Debug, PartialEq, Eq)]
+pub enum Answer {
+    /// A flow by arc that no feasible flow undercuts, its cost, and prices by node that show it.
+    Flow { cost: i128, flow: Vec<i64>, prices: Vec<i64> },
+    /// Nodes, from 1, that must send or take more than they can.
+    Blocked { side: Side, nodes: Vec<usize> },
+    /// The first fault: its code, as `mcf.h` has it, and the node or arc, from 1, or 0.
+    Refused { code: u32, place: u64 },
+}
+
+/// A verdict in numbers, as `mcf.h` has them.
+#[derive(Clone, Copy, Debug, PartialEq, Eq)]
+pub struct Verdict {
+    pub accepted: bool,
+    pub kind: u32,
+    pub code: u32,
+    pub negative: bool,
+    pub size: u128,
+}
+
+/// The kind and the text of the answer to an instance text.
+pub fn solve(input: &[u8], choice: Choice) -> Result<(Kind, Vec<u8>), Error> {
+    let mut room = vec![0; 4096 + 6 * input.len()];
+    loop {
+        let (status, used) = raw::solve(input, &choice, &mut room);
+        if status == raw::NO_ROOM {
+            room.resize(used, 0);
+            continue;
+        }
+        room.truncate(used);
+        return Ok((kind_of(status)?, room));
+    }
+}
+
+/// The verdict on an answer text for an instance text.
+pub fn check(input: &[u8], answer: &[u8]) -> Result<Verdict, Error> {
+    let mut told = raw::Told::default();
+    let status = raw::check(input, answer, &mut told);
+    verdict_of(status, told)
+}
+
+/// The answer to the flow problem of these supplies and arcs.
+pub fn solve_arcs(supplies: &[i64], arcs: &[Arc], choice: Choice) -> Result<Answer, Error> {
+    let (mut flow, mut prices, mut told) = (vec![0; arcs.len()], vec![0; supplies.len()], raw::Told::default());
+    let status = raw::solve_arcs(supplies, arcs, &choice, &mut flow, &mut prices, &mut told);
+    answer_of(status, flow, prices, told)
+}
+
+/// The answer to the assignment problem of so many rows and columns and of these pairs: its nodes are the rows and then the
+/// columns, and its arcs the pairs.
+pub fn solve_pairs(rows: u32, columns: u32, pairs: &[Pair], choice: Choice) -> Result<Answer, Error> {
+    let nodes = rows as usize + columns as usize;
+    let (mut flow, mut prices, mut told) = (vec![0; pairs.len()], vec![0; nodes], raw::Told::default());
+    let status = raw::solve_pairs(rows, columns, pairs, &choice, &mut flow, &mut prices, &mut told);
+    answer_of(status, flow, prices, told)
+}
+
+/// The verdict on a flow by arc, prices by node and a cost, or `None` where the arrays have a fault or other lengths.
+pub fn check_arcs(supplies: &[i64], arcs: &[Arc], flow: &[i64], prices: &[i64], cost: i128) -> Result<Option<Verdict>, Error> {
+    let mut told = raw::Told::of(cost);
+    match raw::check_arcs(supplies, arcs, flow, prices, &mut told) {
+        raw::REFUSED | raw::NO_ROOM => Ok(None),
+        status => verdict_of(status, told).map(Some),
+    }
+}
+
+fn kind_of(status: u32) -> Result<Kind, Error> {
+    match status {
+        0 => Ok(Kind::Flow),
+        1 => Ok(Kind::Blocked),
+        raw::REFUSED => Ok(Kind::Refused),
+        raw::NO_MEMORY => Err(Error::NoMemory),
+        raw::WIDE => Err(Error::Wide),
+        _ => Err(Error::NoChoice),
+    }
+}
+
+fn verdict_of(status: u32, told: raw::Told) -> Result<Verdict, Error> {
+    if status == raw::NO_MEMORY {
+        return Err(Error::NoMemory);
+    }
+    Ok(Verdict { accepted: status == 0, kind: told.kind, code: told.code, negative: told.negative == 1, size: told.size() })
+}
+
+fn answer_of(status: u32, flow: Vec<i64>, prices: Vec<i64>, told: raw::Told) -> Result<Answer, Error> {
+    Ok(match kind_of(status)? {
+        Kind::Flow => Answer::Flow { cost: told.number(), flow, prices },
+        Kind::Blocked => Answer::Blocked {
+            side: if told.code == 0 { Side::Send } else { Side::Take },
+            nodes: (1..=prices.len()).filter(|v| prices[v - 1] == 1).collect(),
+        },
+        Kind::Refused => Answer::Refused { code: told.code, place: told.low },
+    })
+}

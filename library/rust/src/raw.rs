@@ -1,0 +1,109 @@
+//! The exports, as `mcf.h` declares them, each behind a function that lends it what its types ask.
+
+pub const REFUSED: u32 = 2;
+pub const NO_MEMORY: u32 = 3;
+pub const NO_ROOM: u32 = 4;
+pub const WIDE: u32 = 6;
+
+/// How an instance is solved and answered, in the numbers of `mcf.h`; all 0 is what suits.
+#[repr(C)]
+#[derive(Clone, Copy, Debug, Default)]
+pub struct Choice {
+    pub engine: u32,
+    pub pricing: u32,
+    pub block: u32,
+    pub form: u32,
+}
+
+/// An arc, with nodes from 1.
+#[repr(C)]
+#[derive(Clone, Copy, Debug)]
+pub struct Arc {
+    pub src: u32,
+    pub dst: u32,
+    pub low: i64,
+    pub cap: i64,
+    pub cost: i64,
+}
+
+/// A pair that may be assigned, with rows and columns from 1.
+#[repr(C)]
+#[derive(Clone, Copy, Debug)]
+pub struct Pair {
+    pub row: u32,
+    pub column: u32,
+    pub cost: i64,
+}
+
+#[repr(C)]
+#[derive(Clone, Copy, Debug, Default)]
+pub struct Told {
+    pub kind: u32,
+    pub code: u32,
+    pub negative: u32,
+    pub low: u64,
+    pub high: u64,
+}
+
+impl Told {
+    pub fn of(cost: i128) -> Told {
+        let size = cost.unsigned_abs();
+        Told { kind: 0, code: 0, negative: u32::from(cost < 0), low: size as u64, high: (size >> 64) as u64 }
+    }
+
+    pub fn size(self) -> u128 {
+        u128::from(self.low) + (u128::from(self.high) << 64)
+    }
+
+    pub fn number(self) -> i128 {
+        let size = self.size() as i128;
+        if self.negative == 1 { -size } else { size }
+    }
+}
+
+mod exports {
+    use super::{Arc, Choice, Pair, Told};
+
+    #[rustfmt::skip]
+    unsafe extern "C" {
+        pub fn mcf_solve(input: *const u8, input_length: usize, choice: *const Choice, room: *mut u8, room_length: usize, used: *mut usize) -> u32;
+        pub fn mcf_check(input: *const u8, input_length: usize, answer: *const u8, answer_length: usize, told: *mut Told) -> u32;
+        pub fn mcf_solve_arcs(supplies: *const i64, nodes: usize, arcs: *const Arc, arc_count: usize, choice: *const Choice,
+            flow: *mut i64, flow_length: usize, prices: *mut i64, prices_length: usize, told: *mut Told) -> u32;
+        pub fn mcf_check_arcs(supplies: *const i64, nodes: usize, arcs: *const Arc, arc_count: usize,
+            flow: *const i64, flow_length: usize, prices: *const i64, prices_length: usize, told: *mut Told) -> u32;
+        pub fn mcf_solve_pairs(rows: u32, columns: u32, pairs: *const Pair, pair_count: usize, choice: *const Choice,
+            flow: *mut i64, flow_length: usize, prices: *mut i64, prices_length: usize, told: *mut Told) -> u32;
+    }
+}
+
+// SAFETY, of each call below: the declarations are those of `mcf.h`, and the pointers and lengths are those of slices and references that
+// live through the call, of which those that are written are distinct from all others.
+
+pub fn solve(input: &[u8], choice: &Choice, room: &mut [u8]) -> (u32, usize) {
+    let mut used = 0;
+    let status = unsafe { exports::mcf_solve(input.as_ptr(), input.len(), choice, room.as_mut_ptr(), room.len(), &mut used) };
+    (status, used)
+}
+
+pub fn check(input: &[u8], answer: &[u8], told: &mut Told) -> u32 {
+    unsafe { exports::mcf_check(input.as_ptr(), input.len(), answer.as_ptr(), answer.len(), told) }
+}
+
+pub fn solve_arcs(supplies: &[i64], arcs: &[Arc], choice: &Choice, flow: &mut [i64], prices: &mut [i64], told: &mut Told) -> u32 {
+    unsafe {
+        exports::mcf_solve_arcs(supplies.as_ptr(), supplies.len(), arcs.as_ptr(), arcs.len(), choice, flow.as_mut_ptr(), flow.len(), prices.as_mut_ptr(), prices.len(), told)
+    }
+}
+
+pub fn check_arcs(supplies: &[i64], arcs: &[Arc], flow: &[i64], prices: &[i64], told: &mut Told) -> u32 {
+    unsafe {
+        exports::mcf_check_arcs(supplies.as_ptr(), supplies.len(), arcs.as_ptr(), arcs.len(), flow.as_ptr(), flow.len(), prices.as_ptr(), prices.len(), told)
+    }
+}
+
+pub fn solve_pairs(rows: u32, columns: u32, pairs: &[Pair], choice: &Choice, flow: &mut [i64], prices: &mut [i64], told: &mut Told) -> u32 {
+    unsafe {
+        exports::mcf_solve_pairs(rows, columns, pairs.as_ptr(), pairs.len(), choice, flow.as_mut_ptr(), flow.len(), prices.as_mut_ptr(), prices.len(), told)
+    }
+}

@@ -1,0 +1,62 @@
+use mcf::{check, check_arcs, solve, solve_arcs, solve_pairs, Answer, Arc, Choice, Error, Kind, Pair, Side};
+
+const TEXT: &[u8] = b"p min 3 3\nn 1 4\nn 3 -4\na 1 2 0 3 1\na 2 3 0 3 -1\na 1 3 0 9 5\n";
+
+const ARCS: [Arc; 3] = [
+    Arc { src: 1, dst: 2, low: 0, cap: 3, cost: 1 },
+    Arc { src: 2, dst: 3, low: 0, cap: 3, cost: -1 },
+    Arc { src: 1, dst: 3, low: 0, cap: 9, cost: 5 },
+];
+
+fn engine(engine: u32) -> Choice {
+    Choice { engine, ..Choice::default() }
+}
+
+#[test]
+fn texts() {
+    let (kind, answer) = solve(TEXT, Choice::default()).unwrap();
+    assert_eq!(kind, Kind::Flow);
+    assert!(answer.starts_with(b"s 5\n"));
+    let verdict = check(TEXT, &answer).unwrap();
+    assert!(verdict.accepted && verdict.kind == 0 && verdict.size == 5 && !verdict.negative);
+    assert!(!check(TEXT, b"s 4\n").unwrap().accepted);
+    assert_eq!(solve(b"p min 2 1\n", Choice::default()).unwrap(), (Kind::Refused, b"r 2 missing\n".to_vec()));
+    assert_eq!(solve(b"p min 2 0\nn 1 1\nn 2 -1\n", Choice::default()).unwrap().0, Kind::Blocked);
+    assert_eq!(solve(TEXT, engine(5)), Err(Error::NoChoice));
+    assert_eq!(solve(b"", Choice::default()).unwrap().0, Kind::Refused);
+}
+
+#[test]
+fn arrays() {
+    for number in 0..5 {
+        let Ok(Answer::Flow { cost, flow, prices }) = solve_arcs(&[4, 0, -4], &ARCS, engine(number)) else { panic!() };
+        assert_eq!((cost, &flow[..]), (5, &[3, 3, 1][..]));
+        assert!(check_arcs(&[4, 0, -4], &ARCS, &flow, &prices, 5).unwrap().unwrap().accepted);
+        assert!(!check_arcs(&[4, 0, -4], &ARCS, &flow, &prices, 6).unwrap().unwrap().accepted);
+        assert_eq!(check_arcs(&[4, 0, -4], &ARCS, &flow, &prices[1..], 5), Ok(None));
+    }
+    let blocked = solve_arcs(&[0, 1, -1], &ARCS[..1], Choice::default()).unwrap();
+    assert!(matches!(blocked, Answer::Blocked { side: Side::Send | Side::Take, nodes } if !nodes.is_empty()));
+    assert_eq!(solve_arcs(&[4], &ARCS, Choice::default()), Ok(Answer::Refused { code: 8, place: 1 }));
+    assert!(matches!(solve_arcs(&[], &[], Choice::default()), Ok(Answer::Flow { cost: 0, .. })));
+}
+
+#[test]
+fn assignments() {
+    let pairs = [(1, 1, 4), (1, 2, 1), (2, 1, 2), (2, 2, -3)].map(|(row, column, cost)| Pair { row, column, cost });
+    let Ok(Answer::Flow { cost, flow, .. }) = solve_pairs(2, 2, &pairs, Choice::default()) else { panic!() };
+    assert_eq!((cost, &flow[..]), (1, &[1, 0, 0, 1][..]));
+}
+
+#[test]
+fn threads_at_once() {
+    std::thread::scope(|scope| {
+        for number in 0..5 {
+            scope.spawn(move || {
+                for _ in 0..1000 {
+                    assert_eq!(solve(TEXT, engine(number)).unwrap().0, Kind::Flow);
+                }
+            });
+        }
+    });
+}

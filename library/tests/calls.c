@@ -1,0 +1,124 @@
+/* Calls each function of the library, and ends with the number of the first check that fails, or 0.
+   The words are instance texts, each after the status that is wanted of it. */
+#include "mcf.h"
+
+#include <stdio.h>
+#include <stdlib.h>
+#include <string.h>
+
+#define CHECK(number, holds)                                                                     \
+    do {                                                                                         \
+        if (!(holds)) {                                                                          \
+            fprintf(stderr, "calls: check %d fails, line %d\n", number, __LINE__);               \
+            return number;                                                                       \
+        }                                                                                        \
+    } while (0)
+
+static const struct mcf_choice standard = {0, 0, 0, 0};
+
+static uint8_t *read_all(const char *path, size_t *length) {
+    FILE *file = fopen(path, "rb");
+    uint8_t *bytes;
+    if (!file) exit(90);
+    fseek(file, 0, SEEK_END);
+    *length = (size_t)ftell(file);
+    rewind(file);
+    bytes = malloc(*length + 1);
+    if (!bytes || fread(bytes, 1, *length, file) != *length) exit(91);
+    fclose(file);
+    return bytes;
+}
+
+/* A text by each engine and rule, in each form, and judged. */
+static int check_text(const char *path, uint32_t want) {
+    size_t length, used = 77, again;
+    uint8_t nothing = 0, *room;
+    uint8_t *input = read_all(path, &length);
+    struct mcf_choice choice = standard;
+    struct mcf_verdict told;
+    CHECK(1, mcf_solve(input, length, &choice, &nothing, 0, &used) == MCF_NO_ROOM && used > 0);
+    room = malloc(used + 4096);
+    CHECK(2, mcf_solve(input, length, &choice, room, used, &again) == want && again == used);
+    memset(&told, 0xff, sizeof told);
+    CHECK(3, mcf_check(input, length, room, used, &told) == 0 && told.kind == want);
+    room[0] ^= 1;
+    CHECK(4, mcf_check(input, length, room, used, &told) == 1 && told.kind == MCF_BAD_SHAPE && told.low == 1);
+    choice.engine = 9;
+    CHECK(5, mcf_solve(input, length, &choice, room, used, &again) == MCF_NO_CHOICE && again == 0);
+    choice.engine = 0;
+    choice.block = 1000001;
+    CHECK(6, mcf_solve(input, length, &choice, room, used, &again) == MCF_NO_CHOICE);
+    for (choice.engine = 0; choice.engine < 5; choice.engine++)
+        for (choice.pricing = 0; choice.pricing < 4; choice.pricing++)
+            for (choice.form = 0; choice.form < 3; choice.form++) {
+                choice.block = choice.pricing;
+                CHECK(7, mcf_solve(input, length, &choice, room, used + 4096, &again) == want);
+                CHECK(8, mcf_check(input, length, room, again, &told) == 0);
+            }
+    free(room);
+    free(input);
+    return 0;
+}
+
+static int check_arcs(void) {
+    static const int64_t supplies[3] = {4, 0, -4};
+    static const struct mcf_arc arcs[3] = {{1, 2, 0, 3, 1}, {2, 3, 0, 3, -1}, {1, 3, 0, 9, 5}};
+    struct mcf_arc other[3];
+    int64_t flow[3], prices[3], more[3] = {4, 4, -4};
+    struct mcf_choice choice = standard;
+    struct mcf_verdict told;
+    for (choice.engine = 0; choice.engine < 5; choice.engine++) {
+        CHECK(11, mcf_solve_arcs(supplies, 3, arcs, 3, &choice, flow, 3, prices, 3, &told) == MCF_FLOW);
+        CHECK(12, flow[0] == 3 && flow[1] == 3 && flow[2] == 1 && told.low == 5 && told.high == 0 && told.negative == 0);
+        CHECK(13, mcf_check_arcs(supplies, 3, arcs, 3, flow, 3, prices, 3, &told) == 0 && told.kind == MCF_ACCEPTED_FLOW);
+    }
+    told.low = 6;
+    CHECK(14, mcf_check_arcs(supplies, 3, arcs, 3, flow, 3, prices, 3, &told) == 1 && told.kind == MCF_BAD_COST);
+    told.high = UINT64_MAX;
+    CHECK(15, mcf_check_arcs(supplies, 3, arcs, 3, flow, 3, prices, 3, &told) == 1 && told.kind == MCF_BAD_COST);
+    told.low = 5;
+    told.high = 0;
+    flow[2] = 2;
+    CHECK(16, mcf_check_arcs(supplies, 3, arcs, 3, flow, 3, prices, 3, &told) == 1 && told.kind == MCF_BAD_NODE && told.low == 1);
+    flow[2] = 10;
+    CHECK(17, mcf_check_arcs(supplies, 3, arcs, 3, flow, 3, prices, 3, &told) == 1 && told.kind == MCF_BAD_ARC && told.low == 3);
+    choice = standard;
+    CHECK(18, mcf_solve_arcs(supplies, 3, arcs, 3, &choice, flow, 2, prices, 3, &told) == MCF_NO_ROOM);
+    CHECK(19, mcf_check_arcs(supplies, 3, arcs, 3, flow, 3, prices, 2, &told) == MCF_NO_ROOM);
+    choice.pricing = 4;
+    CHECK(20, mcf_solve_arcs(supplies, 3, arcs, 3, &choice, flow, 3, prices, 3, &told) == MCF_NO_CHOICE);
+    choice = standard;
+    CHECK(21, mcf_solve_arcs(more, 3, arcs, 3, &choice, flow, 3, prices, 3, &told) == MCF_BLOCKED);
+    CHECK(22, told.code == MCF_SEND && told.low >= 1 && prices[0] + prices[1] + prices[2] == (int64_t)told.low);
+    memcpy(other, arcs, sizeof arcs);
+    other[1].low = 4;
+    CHECK(23, mcf_solve_arcs(supplies, 3, other, 3, &choice, flow, 3, prices, 3, &told) == MCF_REFUSED);
+    CHECK(24, told.code == MCF_ORDER && told.low == 2 && told.kind == MCF_ACCEPTED_REFUSAL);
+    CHECK(25, mcf_check_arcs(supplies, 3, other, 3, flow, 3, prices, 3, &told) == MCF_REFUSED && told.code == MCF_ORDER);
+    CHECK(26, mcf_solve_arcs(supplies, 0, arcs, 0, &choice, flow, 0, prices, 0, &told) == MCF_FLOW && told.low == 0);
+    return 0;
+}
+
+static int check_pairs(void) {
+    static const struct mcf_pair pairs[5] = {{1, 1, 4}, {1, 2, 1}, {2, 1, 2}, {2, 2, -3}, {1, 2, 0}};
+    static const struct mcf_pair wrong[1] = {{3, 1, 0}};
+    int64_t flow[5], prices[4];
+    struct mcf_verdict told;
+    CHECK(31, mcf_solve_pairs(2, 2, pairs, 5, &standard, flow, 5, prices, 4, &told) == MCF_FLOW);
+    CHECK(32, flow[0] == 1 && flow[1] == 0 && flow[2] == 0 && flow[3] == 1 && flow[4] == 0 && told.low == 1 && told.negative == 0);
+    CHECK(33, mcf_check_pairs(2, 2, pairs, 5, flow, 5, prices, 4, &told) == 0);
+    flow[3] = 0;
+    CHECK(34, mcf_check_pairs(2, 2, pairs, 5, flow, 5, prices, 4, &told) == 1);
+    CHECK(35, mcf_solve_pairs(2, 2, pairs, 2, &standard, flow, 2, prices, 4, &told) == MCF_BLOCKED);
+    CHECK(36, mcf_solve_pairs(2, 2, wrong, 1, &standard, flow, 1, prices, 4, &told) == MCF_REFUSED && told.low == 1 && told.code == MCF_SIDE);
+    CHECK(37, mcf_solve_pairs(2, 2, pairs, 5, &standard, flow, 5, prices, 3, &told) == MCF_NO_ROOM);
+    CHECK(38, mcf_check_pairs(2, 2, wrong, 1, flow, 1, prices, 4, &told) == MCF_REFUSED);
+    return 0;
+}
+
+int main(int count, char **words) {
+    int place, status = check_arcs();
+    if (status == 0) status = check_pairs();
+    for (place = 1; status == 0 && place + 1 < count; place += 2) status = check_text(words[place + 1], (uint32_t)atoi(words[place]));
+    return status;
+}

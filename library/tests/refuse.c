@@ -1,0 +1,132 @@
+/* Each allocation of each call refused in turn: the status says so, nothing is written, and nothing is lost. The words are instance
+   texts. Link with -Wl,--wrap=malloc,--wrap=realloc,--wrap=free. */
+#include "mcf.h"
+
+#include <stdio.h>
+#include <stdlib.h>
+#include <string.h>
+
+void *__real_malloc(size_t size);
+void *__real_realloc(void *block, size_t size);
+void __real_free(void *block);
+
+static long left = -1, live, refusals;
+
+static int is_refused(void) {
+    if (left == 0) return 1;
+    if (left > 0) left--;
+    return 0;
+}
+
+void *__wrap_malloc(size_t size) {
+    void *block;
+    if (is_refused()) return NULL;
+    block = __real_malloc(size);
+    live += block != NULL;
+    return block;
+}
+
+void *__wrap_realloc(void *block, size_t size) {
+    void *grown;
+    if (is_refused()) return NULL;
+    grown = __real_realloc(block, size);
+    live += block == NULL && grown != NULL;
+    return grown;
+}
+
+void __wrap_free(void *block) {
+    live -= block != NULL;
+    __real_free(block);
+}
+
+enum { SIZE = 1 << 20, MANY = 4096 };
+
+static uint8_t input[SIZE], room[SIZE], untouched[SIZE];
+static int64_t supplies[MANY], flow[MANY], prices[MANY], sevens[MANY];
+static struct mcf_arc arcs[MANY];
+static struct mcf_pair pairs[MANY];
+static size_t length, used, nodes, arc_count;
+static struct mcf_choice choice;
+static struct mcf_verdict told, before;
+
+/* The calls, by number; each writes only where its status says so. */
+static uint32_t call(int number) {
+    switch (number) {
+    case 0: return mcf_solve(input, length, &choice, room, sizeof room, &used);
+    case 1: return mcf_check(input, length, untouched, used, &told);
+    case 2: return mcf_solve_arcs(supplies, nodes, arcs, arc_count, &choice, flow, arc_count, prices, nodes, &told);
+    case 3: return mcf_check_arcs(supplies, nodes, arcs, arc_count, flow, arc_count, prices, nodes, &told);
+    case 4: return mcf_solve_pairs(20, 20, pairs, 400, &choice, flow, 400, prices, 40, &told);
+    default: return mcf_check_pairs(20, 20, pairs, 400, flow, 400, prices, 40, &told);
+    }
+}
+
+/* Refuses the first allocation of a call, and then the second, until one goes through. */
+static int refuse_each(int number) {
+    long step;
+    for (step = 0;; step++) {
+        uint32_t status;
+        int solves = number == 2 || number == 4;
+        memset(&told, 9, sizeof told);
+        if (number == 0) memset(room, 7, sizeof room);
+        if (solves) memset(flow, 7, sizeof flow), memset(prices, 7, sizeof prices);
+        before = told;
+        left = step;
+        live = 0;
+        status = call(number);
+        left = -1;
+        if (live != 0) return printf("refuse: call %d, refusal %ld: %ld blocks are lost\n", number, step, live);
+        if (status != MCF_NO_MEMORY) return 0;
+        refusals++;
+        if (memcmp(&told, &before, sizeof told) != 0) return printf("refuse: call %d: the verdict is written\n", number);
+        if (number == 0 && (used != 0 || room[0] != 7 || memcmp(room, room + 1, sizeof room - 1) != 0)) return printf("refuse: the room is written\n");
+        if (solves && (memcmp(flow, sevens, sizeof flow) != 0 || memcmp(prices, sevens, sizeof prices) != 0))
+            return printf("refuse: call %d: a room is written\n", number);
+    }
+}
+
+/* A problem that looks like none in particular. */
+static void make_arrays(void) {
+    uint32_t place, state = 12345;
+    nodes = 30;
+    arc_count = 200;
+    for (place = 0; place < 200; place++) {
+        state = state * 1103515245u + 12345u;
+        arcs[place].src = 1 + (place % 30);
+        arcs[place].dst = 1 + (state >> 16) % 30;
+        arcs[place].low = 0;
+        arcs[place].cap = 1 + (state >> 8) % 20;
+        arcs[place].cost = (int64_t)((state >> 4) % 100);
+    }
+    supplies[0] = 5;
+    supplies[29] = -5;
+    for (place = 0; place < 400; place++) {
+        state = state * 1103515245u + 12345u;
+        pairs[place].row = 1 + place / 20;
+        pairs[place].column = 1 + place % 20;
+        pairs[place].cost = (int64_t)((state >> 4) % 100);
+    }
+}
+
+int main(int count, char **words) {
+    int place, number;
+    memset(sevens, 7, sizeof sevens);
+    make_arrays();
+    for (choice.engine = 0; choice.engine < 5; choice.engine++)
+        for (number = 2; number < 6; number++)
+            if (refuse_each(number)) return 1;
+    for (place = 1; place < count; place++) {
+        FILE *file = fopen(words[place], "rb");
+        if (!file) return 90;
+        length = fread(input, 1, sizeof input, file);
+        fclose(file);
+        for (choice.engine = 0; choice.engine < 5; choice.engine++) {
+            choice.form = choice.engine & 1;
+            if (refuse_each(0)) return 1;
+            memcpy(untouched, room, sizeof room);
+            if (refuse_each(1)) return 1;
+        }
+    }
+    printf("%ld refusals, each told, nothing written and nothing lost\n", refusals);
+    return 0;
+}

@@ -1,0 +1,19 @@
+#!/bin/sh
+# Proves and builds the crate mcf_c with all below it, where that isn't done, and links what it exports: bin/libmcf.so, bin/libmcf.a and
+# bin/mcf.h. It needs rt and a C compiler. The allocator comes from the kit; all names but those of mcf.h stay inside.
+set -eu
+cd "$(dirname "$0")/.."
+kit=$(dirname "$(rt doc)")
+built=crates/mcf_c/out/libmcf_c.a
+mkdir -p bin
+
+for crate in $(sed -n '/^mcf_c /q; s/^\([a-z_]*\):.*/\1/p' crates.txt) mcf_c; do
+    test -f "crates/$crate/src/lib.rt" || continue
+    (cd "crates/$crate" && rt lib > "../../bin/$crate.log" 2>&1) || { echo "make library: $crate isn't proved; see bin/$crate.log" >&2; exit 1; }
+done
+cc -shared -o bin/libmcf.so.1 -Wl,-soname,libmcf.so.1 -Wl,-z,text,-z,defs,-z,relro,-z,now -Wl,--version-script=library/libmcf.map \
+    -Wl,--whole-archive "$built" -Wl,--no-whole-archive "$kit/c/liblibc_c.a"
+ln -sf libmcf.so.1 bin/libmcf.so
+rm -f bin/libmcf.a
+printf 'create bin/libmcf.a\naddlib %s\naddlib %s\nsave\nend\n' "$built" "$kit/c/liblibc_c.a" | ar -M
+cp library/mcf.h bin/mcf.h

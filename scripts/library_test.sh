@@ -1,0 +1,44 @@
+#!/bin/sh
+# The tests of the library from C, C++ and Rust, where a compiler is there; they may take four minutes. It says what is skipped. The library stands in bin/, as make library leaves it.
+set -u
+cd "$(dirname "$0")/.." || exit 1
+top=$PWD
+out=$top/bin/library
+flags='-g -O1 -Wall -Wextra -Werror -pedantic -Ilibrary'
+failed=0
+
+has() { command -v "$1" > /dev/null 2>&1 || { echo "library-test: skipped: $2: there is no $1"; return 1; }; }
+
+# Runs a step of at most a minute, and tells where it fails.
+step() {
+    what=$1
+    shift
+    timeout 60 "$@" > "$out/log" 2>&1 && { said=$(tail -n 1 "$out/log"); echo "library-test: $what: ${said:-passed}"; return; }
+    echo "library-test: $what: failed (status $?; 124 is a minute)"
+    tail -n 20 "$out/log"
+    failed=1
+}
+
+# The examples, each after the status of its answer.
+texts() {
+    for file in examples/*.min examples/*.asn; do
+        case $(head -c 1 "${file%.*}.ans") in s | v) echo 0 ;; i) echo 1 ;; *) echo 2 ;; esac
+        echo "$file"
+    done
+}
+
+[ -f bin/libmcf.so ] && [ -f bin/libmcf.a ] || { echo "library-test: skipped: the library isn't built (make library builds it)"; exit 0; }
+mkdir -p "$out"
+if has cc C; then
+    cc -std=c89 $flags -o "$out/calls" library/tests/calls.c -Lbin -lmcf -Wl,-rpath,"$top/bin" || failed=1
+    cc -std=c99 $flags -o "$out/calls_static" library/tests/calls.c bin/libmcf.a || failed=1
+    cc -std=c99 $flags -o "$out/refuse" library/tests/refuse.c bin/libmcf.a -Wl,--wrap=malloc,--wrap=realloc,--wrap=free || failed=1
+    step "calls from C, shared" "$out/calls" $(texts)
+    step "calls from C, static" "$out/calls_static" $(texts)
+    step "refused memory" "$out/refuse" examples/*.min examples/*.asn
+    has valgrind "C under valgrind" && step "C under valgrind" valgrind -q --error-exitcode=9 --leak-check=full "$out/calls" $(texts)
+    step "exported names" sh -c "nm -D --defined-only bin/libmcf.so | awk '\$2 != \"A\" && \$3 !~ /^mcf_[a-z_]*@@MCF_1\$/ {print; bad = 1} END {exit bad}'"
+fi
+has c++ C++ && step "the header in C++" c++ -std=c++98 -Wall -Wextra -Werror -Wno-long-long -x c++ -fsyntax-only library/mcf.h
+has cargo Rust && step "Rust" env MCF_LIB_DIR="$top/bin" CARGO_TARGET_DIR="$out/rust" cargo test --offline --quiet --manifest-path library/rust/Cargo.toml
+exit $failed
