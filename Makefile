@@ -5,7 +5,7 @@
 # make bench  the measurements of bench/
 # make tools-test   the tests of python/ and tools/, on the plans of examples/plans/ too: needs the programs of bin/ and Python 3.8; a part of make test
 # make library      proves and builds the library for C: bin/libmcf.so, bin/libmcf.a and bin/mcf.h
-# make library-test the library called from C, C++ and Rust, where these are there; four minutes at most
+# make library-test the library called from C, C++, Rust and Python, where these are there; four minutes at most
 # make install      puts the programs, the tools and the manual pages under PREFIX (and DESTDIR before it); make uninstall removes just these
 
 .PHONY: all kit test memory-test clean bench tools-test library library-test install uninstall

@@ -1,5 +1,6 @@
 #!/bin/sh
-# The tests of the library from C, C++ and Rust, where a compiler is there; they may take four minutes. It says what is skipped. The library stands in bin/, as make library leaves it.
+# The tests of the library from C, C++, Rust and Python, where a compiler or an interpreter is there; they may take four minutes. It says what
+# is skipped. The library stands in bin/, as make library leaves it.
 set -u
 cd "$(dirname "$0")/.." || exit 1
 top=$PWD
@@ -41,4 +42,5 @@ if has cc C; then
 fi
 has c++ C++ && step "the header in C++" c++ -std=c++98 -Wall -Wextra -Werror -Wno-long-long -x c++ -fsyntax-only library/mcf.h
 has cargo Rust && step "Rust" env MCF_LIB_DIR="$top/bin" CARGO_TARGET_DIR="$out/rust" cargo test --offline --quiet --manifest-path library/rust/Cargo.toml
+has python3 Python && step "Python" env MCF_LIBRARY="$top/bin/libmcf.so" python3 python/tests/library.py
 exit $failed

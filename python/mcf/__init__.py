@@ -1,0 +1,36 @@
+"""Minimum-cost flow with proved answers.
+
+`solve` takes supplies and arcs, `linear_sum_assignment` a matrix, `SimpleMinCostFlow` has the shape of OR-tools' class, and `mcf.nx` takes
+the graphs of networkx. `solve_text` and `check_text` take texts in the DIMACS formats. Each answer is judged by the checker before it is
+shown, unless `check=False`.
+"""
+from typing import Optional, Tuple
+
+from . import _library
+from ._library import Verdict
+from ._solving import Flow, Infeasible, MCFError, NotAccepted, Refused, Unbounded, solve
+from .assignment import linear_sum_assignment
+from .simple import SimpleMinCostFlow
+
+__all__ = ["Flow", "Infeasible", "MCFError", "NotAccepted", "Refused", "SimpleMinCostFlow", "Unbounded", "Verdict", "check_text",
+           "linear_sum_assignment", "solve", "solve_text"]
+__version__ = "1.0.0"
+
+
+def solve_text(text: bytes, *, engine: str = "auto", pricing: str = "block", block: Optional[int] = None, form: int = 1) -> Tuple[str, bytes]:
+    """The kind of the answer ('flow', 'blocked' or 'refusal') and the answer text of an instance text.
+
+    >>> solve_text(b"p min 2 1")
+    ('refusal', b'r 2 missing\\n')
+    """
+    status, answer = _library.solve_text(text, _library.choice_of(engine, pricing, block, form))
+    return _library.VERDICTS[status], answer
+
+
+def check_text(text: bytes, answer: bytes) -> Verdict:
+    """The checker's verdict on an answer text for an instance text.
+
+    >>> check_text(b"p min 2 1", b"r 2 missing")
+    Verdict(accepted=True, kind='refusal', number=2, code='missing')
+    """
+    return _library.check_text(text, answer)

@@ -1,0 +1,176 @@
+"""libmcf in this process, by ctypes. Calls of several threads run at once: ctypes lets go of the interpreter's lock."""
+import ctypes
+import ctypes.util
+import os
+from array import array
+from typing import List, NamedTuple, Optional, Tuple
+
+FLOW, BLOCKED, REFUSED, NO_MEMORY, NO_ROOM, NO_CHOICE, WIDE = range(7)
+ENGINES = {"auto": 0, "cancel": 1, "simplex": 2, "scaling": 3, "sap": 4}
+PRICINGS = {"block": 0, "first": 1, "best": 2, "wide": 3}
+CODES = ("", "kind", "fields", "problem", "number", "second-p", "before-p", "size", "node", "late-n", "twice", "supply", "bound",
+         "order", "cost", "extra", "side", "total", "no-p", "missing")
+VERDICTS = ("flow", "blocked", "refusal", "bad-shape", "bad-kind", "bad-refusal", "bad-arc", "bad-node", "bad-price", "bad-cost",
+            "bad-set")
+SIDES = ("send", "take")
+
+
+class Choice(ctypes.Structure):
+    _fields_ = [("engine", ctypes.c_uint32), ("pricing", ctypes.c_uint32), ("block", ctypes.c_uint32), ("form", ctypes.c_uint32)]
+
+
+class Told(ctypes.Structure):
+    _fields_ = [("kind", ctypes.c_uint32), ("code", ctypes.c_uint32), ("negative", ctypes.c_uint32), ("low", ctypes.c_uint64),
+                ("high", ctypes.c_uint64)]
+
+    @property
+    def number(self) -> int:
+        size = self.low + (self.high << 64)
+        return -size if self.negative else size
+
+
+class Verdict(NamedTuple):
+    """What the checker says: whether it accepts, of what kind, with which number and code."""
+    accepted: bool
+    kind: str
+    number: int
+    code: str
+
+    def __bool__(self) -> bool:
+        return self.accepted
+
+
+def _path() -> str:
+    here = os.path.dirname(os.path.abspath(__file__))
+    up = os.path.dirname
+    beside = [os.path.join(here, "libmcf.so"), os.path.join(up(up(here)), "bin", "libmcf.so"),
+              os.path.join(up(up(up(up(here)))), "lib", "libmcf.so")]
+    named = os.environ.get("MCF_LIBRARY")
+    for path in [named] if named else beside + [ctypes.util.find_library("mcf")]:
+        if path and (os.sep not in path or os.path.exists(path)):
+            return path
+    raise ImportError("libmcf.so isn't found: MCF_LIBRARY names it, or it stands beside the package mcf or where the linker looks")
+
+
+def _load() -> ctypes.CDLL:
+    library = ctypes.CDLL(_path())
+    size, word, at = ctypes.c_size_t, ctypes.c_uint32, ctypes.c_void_p
+    told = ctypes.POINTER(Told)
+    choice = ctypes.POINTER(Choice)
+    rooms = [at, size, at, size]
+    library.mcf_solve.argtypes = [ctypes.c_char_p, size, choice, at, size, ctypes.POINTER(size)]
+    library.mcf_check.argtypes = [ctypes.c_char_p, size, ctypes.c_char_p, size, told]
+    library.mcf_solve_arcs.argtypes = [at, size, at, size, choice] + rooms + [told]
+    library.mcf_check_arcs.argtypes = [at, size, at, size] + rooms + [told]
+    library.mcf_solve_pairs.argtypes = [word, word, at, size, choice] + rooms + [told]
+    library.mcf_check_pairs.argtypes = [word, word, at, size] + rooms + [told]
+    for function in (library.mcf_solve, library.mcf_check, library.mcf_solve_arcs, library.mcf_check_arcs, library.mcf_solve_pairs,
+                     library.mcf_check_pairs):
+        function.restype = word
+    return library
+
+
+_lib = _load()
+
+
+def choice_of(engine: str, pricing: str, block: Optional[int], form: int = 1) -> Choice:
+    try:
+        return Choice(ENGINES[engine], PRICINGS[pricing], block or 0, form)
+    except KeyError as error:
+        raise ValueError("no such engine or pricing rule: %s" % error) from None
+
+
+def _failed(status: int) -> Exception:
+    if status == NO_MEMORY:
+        return MemoryError("mcf")
+    if status == NO_CHOICE:
+        return ValueError("a block has 1 to 1000000 arcs")
+    if status == WIDE:
+        return OverflowError("a price of the flow doesn't fit 64 bits")
+    return AssertionError("mcf: status %d" % status)
+
+
+def solve_text(text: bytes, choice: Choice) -> Tuple[int, bytes]:
+    """The status and the answer text of an instance text."""
+    used = ctypes.c_size_t()
+    room = 4096 + 6 * len(text)
+    while True:
+        buffer = ctypes.create_string_buffer(room)
+        status = _lib.mcf_solve(text, len(text), choice, buffer, room, used)
+        if status != NO_ROOM:
+            break
+        room = used.value
+    if status > REFUSED:
+        raise _failed(status)
+    return status, ctypes.string_at(buffer, used.value)
+
+
+def check_text(text: bytes, answer: bytes) -> Verdict:
+    """The verdict of the checker on an answer text."""
+    told = Told()
+    status = _lib.mcf_check(text, len(text), answer, len(answer), told)
+    if status == NO_MEMORY:
+        raise _failed(status)
+    return Verdict(status == 0, VERDICTS[told.kind], told.number, CODES[told.code])
+
+
+class Arrays:
+    """A problem in arrays, with rooms for its answer: `flow` by arc and `prices` by node."""
+    __slots__ = ("problem", "flow", "prices", "told", "_rooms", "_kept", "_solve", "_check")
+
+    def solve(self, choice: Choice) -> int:
+        """The status: FLOW, BLOCKED or REFUSED, with what is told of it."""
+        status = self._solve(*self.problem, choice, *self._rooms, self.told)
+        if status > REFUSED:
+            raise _failed(status)
+        return status
+
+    def check(self) -> Verdict:
+        """The verdict of the checker on the flow, the prices and the cost that is told."""
+        told = Told(0, 0, self.told.negative, self.told.low, self.told.high)
+        status = self._check(*self.problem, *self._rooms, told)
+        if status > 1:
+            raise _failed(status)
+        return Verdict(status == 0, VERDICTS[told.kind], told.number, "")
+
+    def _room(self, arcs: int, nodes: int) -> None:
+        self.flow = array("q", bytes(8 * arcs))
+        self.prices = array("q", bytes(8 * nodes))
+        self.told = Told()
+        self._rooms = (at(self.flow), arcs, at(self.prices), nodes)
+
+
+def at(buffer) -> int:
+    """Where a buffer lies; one without bytes needs only not to lie at 0."""
+    if isinstance(buffer, array):
+        return buffer.buffer_info()[0] or 8
+    if isinstance(buffer, bytes):
+        return ctypes.cast(ctypes.c_char_p(buffer), ctypes.c_void_p).value or 8
+    return buffer.ctypes.data or 8
+
+
+class ArcArrays(Arrays):
+    """A flow problem: supplies of 8 bytes each, and arcs of 32 bytes each as `struct mcf_arc`."""
+    __slots__ = ()
+
+    def __init__(self, supplies, nodes: int, arcs, arc_count: int):
+        self._kept = (supplies, arcs)
+        self.problem = (at(supplies), nodes, at(arcs), arc_count)
+        self._solve, self._check = _lib.mcf_solve_arcs, _lib.mcf_check_arcs
+        self._room(arc_count, nodes)
+
+
+class PairArrays(Arrays):
+    """An assignment problem: pairs of 16 bytes each as `struct mcf_pair`."""
+    __slots__ = ()
+
+    def __init__(self, rows: int, columns: int, pairs, pair_count: int):
+        self._kept = pairs
+        self.problem = (rows, columns, at(pairs), pair_count)
+        self._solve, self._check = _lib.mcf_solve_pairs, _lib.mcf_check_pairs
+        self._room(pair_count, rows + columns)
+
+
+def marked(marks: array) -> List[int]:
+    """The places that are marked."""
+    return [place for place, mark in enumerate(marks) if mark]

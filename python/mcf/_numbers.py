@@ -1,0 +1,46 @@
+"""Numbers made whole, exactly: a float is the decimal that it prints as."""
+from fractions import Fraction
+from math import gcd
+from operator import index
+from typing import Iterable, Union
+
+Whole = Union[int, Fraction]
+
+
+def exact(value) -> Whole:
+    """A number as an int or a Fraction."""
+    if type(value) is int:
+        return value
+    try:
+        return index(value)
+    except TypeError:
+        pass
+    if isinstance(value, Fraction):
+        number = value
+    elif isinstance(value, float):
+        number = Fraction(repr(float(value)))
+    else:
+        number = Fraction(str(value))
+    return number.numerator if number.denominator == 1 else number
+
+
+def scale_of(values: Iterable[Whole]) -> int:
+    """The least number that makes all of them whole."""
+    scale = 1
+    for value in values:
+        if type(value) is not int:
+            scale = scale // gcd(scale, value.denominator) * value.denominator
+    return scale
+
+
+def unscaled(value: int, scale: int) -> Union[int, float]:
+    """What a scaled number was."""
+    if scale == 1:
+        return value
+    number = Fraction(value, scale)
+    return number.numerator if number.denominator == 1 else float(number)
+
+
+def limited(value: int, limit: int) -> int:
+    """The number, or one just past its limit, which fits 64 bits and is refused for the same reason."""
+    return value if -limit <= value <= limit else (limit + 1 if value > 0 else -limit - 1)

@@ -1,0 +1,221 @@
+"""Flow problems solved, and every answer judged."""
+import struct
+from array import array
+from itertools import chain
+from typing import Any, Dict, Hashable, Iterable, List, Optional, Sequence, Tuple, Union
+
+from ._library import BLOCKED, CODES, REFUSED, SIDES, ArcArrays, Verdict, choice_of, marked
+from ._numbers import exact, limited, scale_of, unscaled
+
+BOUND, COST, NODE = 10 ** 18, 10 ** 15, 2 ** 32 - 2
+
+Number = Union[int, float]
+Arc = Tuple[int, int, int, Optional[int], int]
+
+
+class MCFError(Exception):
+    """What this package raises of an instance."""
+
+
+class Refused(MCFError, ValueError):
+    """The instance is beyond the limits: `arc` or `node` is the place of the first fault, from 0, and `reason` what is wrong: size,
+    supply, node, bound, order, cost or total."""
+
+    def __init__(self, arc: Optional[int], node: Any, reason: str):
+        where = "arc %d: " % arc if arc is not None else "node %r: " % (node,) if node is not None else ""
+        super().__init__(where + reason)
+        self.arc, self.node, self.reason = arc, node, reason
+
+
+class Infeasible(MCFError):
+    """No flow is feasible: `nodes` must `side` ('send' or 'take') `must` units and can `can` at most, over the arcs of the places
+    `arcs`, which limit it."""
+
+    def __init__(self, nodes: List[Any], side: str, must: Number, can: Number, arcs: List[int]):
+        super().__init__("%d node(s) must %s %s and can %s %s" % (len(nodes), side, must, side, can))
+        self.nodes, self.side, self.must, self.can, self.arcs = nodes, side, must, can, arcs
+
+
+class Unbounded(MCFError):
+    """Costs have no least value: `cycle` has the places of the arcs of a cycle of negative cost without limits."""
+
+    def __init__(self, cycle: List[int]):
+        super().__init__("a cycle of negative cost has no limit")
+        self.cycle = cycle
+
+
+class NotAccepted(MCFError):
+    """The checker doesn't accept the answer, so it isn't shown: that would be a bug outside the proofs."""
+
+
+class Flow:
+    """A least-cost flow: `cost`, `flow` by arc, `prices` by node, which show that no flow costs less, and the checker's `verdict`."""
+    __slots__ = ("cost", "flow", "verdict", "_prices", "_labels", "_scale")
+
+    def __init__(self, cost: Number, flow: List[Number], verdict: Optional[Verdict], prices: Sequence[int],
+                 labels: Optional[List[Hashable]], scale: int):
+        self.cost, self.flow, self.verdict = cost, flow, verdict
+        self._prices, self._labels, self._scale = prices, labels, scale
+
+    @property
+    def prices(self) -> Union[List[Number], Dict[Hashable, Number]]:
+        values = [unscaled(price, self._scale) for price in self._prices]
+        return values if self._labels is None else dict(zip(self._labels, values))
+
+    def __repr__(self) -> str:
+        return "Flow(cost=%r, flow=%r)" % (self.cost, self.flow)
+
+
+def _packed(arcs: List[Arc]) -> bytes:
+    """The arcs as the library has them; what is past a limit stays past it."""
+    try:
+        numbers = [(u + 1, v + 1, low, cap, cost) for u, v, low, cap, cost in arcs]
+        return struct.pack("=" + "IIqqq" * len(arcs), *chain.from_iterable(numbers))
+    except struct.error:
+        numbers = [(u + 1 if 0 <= u <= NODE else 0, v + 1 if 0 <= v <= NODE else 0, limited(low, BOUND), limited(cap, BOUND), limited(cost, COST))
+                   for u, v, low, cap, cost in arcs]
+        return struct.pack("=" + "IIqqq" * len(arcs), *chain.from_iterable(numbers))
+
+
+def _supplied(supplies: List[int]) -> array:
+    try:
+        return array("q", supplies)
+    except OverflowError:
+        return array("q", [limited(b, BOUND) for b in supplies])
+
+
+def _must_and_can(supplies: Sequence[int], arcs: List[Arc], nodes: List[int], side: str) -> Tuple[int, int, List[int]]:
+    """What the set must send or take, what it can at most, and the arcs that limit it."""
+    inside = set(nodes)
+    sends = side == "send"
+    must, can, limiting = sum(supplies[v] for v in inside), 0, []
+    if not sends:
+        must = -must
+    for place, (u, v, low, cap, _) in enumerate(arcs):
+        if (u in inside) != (v in inside):
+            if (u in inside) == sends:
+                can += cap
+                limiting.append(place)
+            else:
+                must += low
+    return must, can, limiting
+
+
+def _negative_cycle(arcs: List[Arc], unlimited: List[int], flow: Sequence[int], prices: Sequence[int], most: int) -> List[int]:
+    """A cycle of arcs without limits, all of reduced cost 0 or less and one below."""
+    out: Dict[int, List[int]] = {}
+    for k in unlimited:
+        if flow[k] > arcs[k][2]:
+            out.setdefault(arcs[k][0], []).append(k)
+    for k in unlimited:
+        u, v, _, _, cost = arcs[k]
+        if flow[k] != most or cost - prices[u] + prices[v] >= 0:
+            continue
+        came: Dict[int, Optional[int]] = {v: None}
+        stack = [v]
+        while stack:
+            w = stack.pop()
+            if w == u:
+                cycle = []
+                while came[w] is not None:
+                    cycle.append(came[w])
+                    w = arcs[came[w]][0]
+                return [k] + cycle[::-1]
+            for j in out.get(w, ()):
+                if arcs[j][1] not in came:
+                    came[arcs[j][1]] = j
+                    stack.append(arcs[j][1])
+    raise NotAccepted("a flow without limits goes round no cycle")
+
+
+def solve_whole(supplies: List[int], arcs: List[Arc], choice, check: bool) -> Tuple[ArcArrays, Optional[Verdict]]:
+    """Solves an instance of whole numbers whose nodes are numbered from 0; a cap of None is none.
+
+    An arc without limit gets one that is greater than any least flow needs. The prices tell whether it mattered: where each such arc
+    has a reduced cost of 0 or more, they show that the flow is least without the limits too; and where one is below 0, there is a
+    cycle of negative cost without limits.
+    """
+    unlimited = [place for place, arc in enumerate(arcs) if arc[3] is None]
+    if unlimited:
+        most = 1 + sum(b for b in supplies if b > 0)
+        most += sum(abs(low) + abs(cap or 0) for _, _, low, cap, _ in arcs)
+        arcs = [arc if arc[3] is not None else (arc[0], arc[1], arc[2], most, arc[4]) for arc in arcs]
+    problem = ArcArrays(_supplied(supplies), len(supplies), _packed(arcs), len(arcs))
+    status = problem.solve(choice)
+    told = problem.told
+    if status == REFUSED:
+        reason = CODES[told.code]
+        place = told.number - 1
+        raise Refused(None if reason in ("size", "supply") else place, place if reason == "supply" else None, reason)
+    if status == BLOCKED:
+        nodes, side = marked(problem.prices), SIDES[told.code]
+        must, can, limiting = _must_and_can(supplies, arcs, nodes, side)
+        if check and must <= can:
+            raise NotAccepted("a set of nodes doesn't block")
+        raise Infeasible(nodes, side, must, can, limiting)
+    verdict = problem.check() if check else None
+    if verdict is not None and not verdict:
+        raise NotAccepted(repr(verdict))
+    if unlimited:
+        flow, prices = problem.flow, problem.prices
+        if any(flow[k] == most and arcs[k][4] - prices[arcs[k][0]] + prices[arcs[k][1]] < 0 for k in unlimited):
+            raise Unbounded(_negative_cycle(arcs, unlimited, flow, prices, most))
+    return problem, verdict
+
+
+def _listed(values):
+    """Rows of numpy, or any iterable, as a list."""
+    return values.tolist() if hasattr(values, "tolist") else list(values)
+
+
+def _numbered(supplies: Dict[Hashable, Any], arcs: List[tuple]) -> Tuple[List[Hashable], List[Any], List[tuple]]:
+    """Labels in the order in which they come, and the instance by their numbers."""
+    number: Dict[Hashable, int] = {label: place for place, label in enumerate(supplies)}
+    ends = [(number.setdefault(arc[0], len(number)), number.setdefault(arc[1], len(number))) for arc in arcs]
+    labels = list(number)
+    return labels, [supplies.get(label, 0) for label in labels], [end + tuple(arc[2:]) for end, arc in zip(ends, arcs)]
+
+
+def solve(supplies: Union[int, Sequence[Any], Dict[Hashable, Any]], arcs: Iterable[Sequence[Any]], *, engine: str = "auto",
+          pricing: str = "block", block: Optional[int] = None, check: bool = True) -> Flow:
+    """Solves a minimum-cost flow problem.
+
+    `supplies` is a list by node (nodes are 0, 1, ..), a dict by label, or a number of nodes without supply; a supply is above 0 where
+    the node sends. `arcs` are (from, to, cap, cost) or (from, to, low, cap, cost); a cap of None is none. Arrays of numpy serve for
+    both. Numbers that aren't whole are scaled to whole ones, exactly: a float is the decimal that it prints as.
+
+    Raises Infeasible, Unbounded or Refused.
+
+    >>> r = solve({"mill": 4, "shop": -4}, [("mill", "depot", 2, 1), ("mill", "shop", None, 5), ("depot", "shop", 3, 1)])
+    >>> r.cost, r.flow, r.prices
+    (14, [2, 2, 2], {'mill': 0, 'shop': -5, 'depot': -4})
+    >>> solve([1, -1], [(1, 0, 5, 3)])
+    Traceback (most recent call last):
+      ..
+    mcf._solving.Infeasible: 1 node(s) must send 1 and can send 0
+    """
+    rows = [tuple(arc) if len(arc) == 5 else (arc[0], arc[1], 0, arc[2], arc[3]) for arc in _listed(arcs)]
+    labels: Optional[List[Hashable]] = None
+    if isinstance(supplies, dict):
+        labels, given, rows = _numbered(supplies, rows)
+    else:
+        given = [0] * supplies if isinstance(supplies, int) else _listed(supplies)
+    amounts = [exact(b) for b in given]
+    exacts = [(u, v, exact(low), None if cap is None else exact(cap), exact(cost)) for u, v, low, cap, cost in rows]
+    units = scale_of(chain(amounts, (a[2] for a in exacts), (a[3] for a in exacts if a[3] is not None)))
+    costs = scale_of(a[4] for a in exacts)
+    if units != 1 or costs != 1:
+        amounts = [int(b * units) for b in amounts]
+        exacts = [(u, v, int(low * units), None if cap is None else int(cap * units), int(cost * costs)) for u, v, low, cap, cost in exacts]
+    try:
+        problem, verdict = solve_whole(amounts, exacts, choice_of(engine, pricing, block), check)
+    except Infeasible as error:
+        nodes = error.nodes if labels is None else [labels[v] for v in error.nodes]
+        raise Infeasible(nodes, error.side, unscaled(error.must, units), unscaled(error.can, units), error.arcs) from None
+    except Refused as error:
+        node = error.node if labels is None or error.node is None else labels[error.node]
+        raise Refused(error.arc, node, error.reason) from None
+    flow = problem.flow.tolist()
+    if units != 1:
+        flow = [unscaled(f, units) for f in flow]
+    return Flow(unscaled(problem.told.number, units * costs), flow, verdict, problem.prices, labels, costs)

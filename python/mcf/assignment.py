@@ -1,0 +1,136 @@
+"""Assignments, as scipy.optimize.linear_sum_assignment gives them."""
+import math
+import sys
+from array import array
+from functools import lru_cache
+from itertools import chain
+from typing import Any, List, Optional, Tuple
+
+from ._library import BLOCKED, CODES, FLOW, PairArrays, choice_of
+from ._numbers import exact, limited, scale_of
+from ._solving import COST, Infeasible, NotAccepted, Refused, solve_whole
+
+
+def linear_sum_assignment(cost_matrix, maximize: bool = False, *, engine: str = "auto", check: bool = True):
+    """Matches rows with columns at least cost, or at greatest: the row indices, ascending, and the column of each.
+
+    Arrays of numpy where the matrix is one, and else lists. An infinite entry is a pair that can't be matched. Entries that aren't whole
+    are scaled, exactly: a float is the decimal that it prints as.
+
+    >>> linear_sum_assignment([[4, 1, 3], [2, 0, 5], [3, 2, 2]])
+    ([0, 1, 2], [1, 0, 2])
+    """
+    cells, height, width, numpy = _cells(cost_matrix, maximize)
+    if height == width:
+        columns = _square(cells, height, engine, check)
+        pairs = list(enumerate(columns))
+    elif height < width:
+        pairs = _wide(cells, height, width, engine, check)
+    else:
+        turned = [cells[i * width + j] for j in range(width) for i in range(height)]
+        pairs = sorted((i, j) for j, i in _wide(turned, width, height, engine, check))
+    first, second = [i for i, _ in pairs], [j for _, j in pairs]
+    if numpy is not None:
+        return numpy.array(first, dtype=numpy.intp), numpy.array(second, dtype=numpy.intp)
+    return first, second
+
+
+def _cells(matrix, maximize: bool):
+    """The entries row by row in whole numbers, None where one is infinite; how many rows and columns; numpy where the answer is its."""
+    numpy = sys.modules.get("numpy") if hasattr(matrix, "__array__") else None
+    if numpy is not None:
+        table = numpy.asarray(matrix)
+        if table.ndim != 2:
+            raise ValueError("expected a matrix (2-D array), got a %d array" % table.ndim)
+        if table.dtype.kind not in "buifO":
+            raise TypeError("Cannot cast array data from %r to dtype('float64') according to the rule 'safe'" % table.dtype)
+        height, width = table.shape
+        if table.dtype.kind == "i" and table.dtype.itemsize <= 8 and not maximize:
+            cells = array("q")
+            cells.frombytes(numpy.ascontiguousarray(table, dtype=numpy.int64).tobytes())
+            return cells, height, width, numpy
+        flat = table.ravel().tolist()
+    else:
+        rows = list(matrix)
+        if not all(hasattr(row, "__len__") for row in rows):
+            raise ValueError("expected a matrix (2-D array), got a 1 array")
+        height, width = len(rows), len(rows[0]) if rows else 0
+        if any(len(row) != width for row in rows):
+            raise ValueError("expected a matrix: its rows have one length")
+        flat = list(chain.from_iterable(rows))
+    try:
+        return array("q", [-c for c in flat] if maximize else flat), height, width, numpy
+    except (TypeError, OverflowError):
+        return _whole(flat, maximize), height, width, numpy
+
+
+def _whole(flat: list, maximize: bool):
+    """The entries in whole numbers, and None where one is infinite."""
+    if set(map(type, flat)) == {float} and all(map(float.is_integer, flat)):
+        flat = list(map(int, flat))
+    else:
+        worst = -math.inf if maximize else math.inf
+        if any(isinstance(c, float) and (math.isnan(c) or c == -worst) for c in flat):
+            raise ValueError("matrix contains invalid numeric entries")
+        exacts = [None if isinstance(c, float) and c == worst else exact(c) for c in flat]
+        scale = scale_of(c for c in exacts if c is not None)
+        flat = [None if c is None else int(c * scale) for c in exacts]
+    return [None if c is None else -c for c in flat] if maximize else flat
+
+
+@lru_cache(maxsize=8)
+def _template(n: int) -> array:
+    """The pairs of a square matrix of n rows, without their costs."""
+    pairs = array("q", bytes(16 * n * n))
+    for row in range(n):
+        pairs[2 * row * n:2 * (row + 1) * n:2] = array("q", [row + 1 + ((column + 1) << 32) for column in range(n)])
+    return pairs
+
+
+def _square(cells, n: int, engine: str, check: bool) -> List[int]:
+    """The column of each row."""
+    if n == 0:
+        return []
+    try:
+        costs = cells if isinstance(cells, array) else array("q", cells)
+        where = None
+        pairs = _template(n)[:]
+        pairs[1::2] = costs
+    except (TypeError, OverflowError):
+        where = [place for place, c in enumerate(cells) if c is not None]
+        pairs = array("q", chain.from_iterable((place // n + 1 + ((place % n + 1) << 32), limited(cells[place], COST)) for place in where))
+    problem = PairArrays(n, n, pairs, len(pairs) // 2)
+    status = problem.solve(choice_of(engine, "block", None))
+    if status != FLOW:
+        raise _why(status, problem, where, n)
+    if check and not problem.check():
+        raise NotAccepted("an assignment isn't shown to be least")
+    return _columns(problem.flow, where, n)
+
+
+def _columns(flow: array, where: Optional[List[int]], n: int) -> List[int]:
+    if where is not None:
+        return [where[k] % n for k, f in enumerate(flow) if f]
+    columns, data, end = [], flow.tobytes(), 8 * n
+    for start in range(0, 8 * n * n, end):
+        columns.append((data.index(1, start) - start) // 8)
+    return columns
+
+
+def _why(status: int, problem, where: Optional[List[int]], n: int) -> Exception:
+    if status == BLOCKED:
+        return ValueError("cost matrix is infeasible")
+    place = problem.told.number - 1
+    return Refused(place if where is None or place < 0 else where[place], None, CODES[problem.told.code])
+
+
+def _wide(cells, n: int, m: int, engine: str, check: bool) -> List[Tuple[int, int]]:
+    """The pairs of n rows with more columns: each row sends 1, and each column passes on 1 at most to a last node."""
+    where = [place for place, c in enumerate(cells) if c is not None]
+    arcs = [(place // m, n + place % m, 0, 1, cells[place]) for place in where]
+    arcs += [(n + column, n + m, 0, 1, 0) for column in range(m)]
+    try:
+        problem, _ = solve_whole([1] * n + [0] * m + [-n], arcs, choice_of(engine, "block", None), check)
+    except Infeasible:
+        raise ValueError("cost matrix is infeasible") from None
+    return [divmod(place, m) for place, f in zip(where, problem.flow) if f]

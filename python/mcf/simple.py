@@ -1,0 +1,99 @@
+"""The shape of OR-tools' SimpleMinCostFlow, answered by mcf."""
+from typing import List, Optional, Sequence
+
+from ._solving import Flow, Infeasible, MCFError, Refused, solve
+
+
+class SimpleMinCostFlow:
+    """Collects arcs and supplies by number, and solves them, as ortools.graph.python.min_cost_flow.SimpleMinCostFlow does.
+
+    >>> smcf = SimpleMinCostFlow()
+    >>> arcs = smcf.add_arcs_with_capacity_and_unit_cost([0, 0, 1], [1, 2, 2], [4, 3, 4], [1, 5, 1])
+    >>> smcf.set_nodes_supplies([0, 2], [5, -5])
+    >>> smcf.solve() == smcf.OPTIMAL, smcf.optimal_cost(), smcf.flows(arcs)
+    (True, 13, [4, 1, 4])
+    """
+    NOT_SOLVED, OPTIMAL, FEASIBLE, INFEASIBLE, UNBALANCED, BAD_RESULT, BAD_COST_RANGE, BAD_CAPACITY_RANGE = range(8)
+
+    def __init__(self) -> None:
+        self._arcs: List[tuple] = []
+        self._supplies: List[int] = []
+        self._answer: Optional[Flow] = None
+        self.error: Optional[MCFError] = None
+
+    def _reach(self, *nodes: int) -> None:
+        most = max(nodes) + 1
+        if len(self._supplies) < most:
+            self._supplies += [0] * (most - len(self._supplies))
+
+    def add_arc_with_capacity_and_unit_cost(self, tail: int, head: int, capacity: int, unit_cost: int) -> int:
+        self._reach(tail, head)
+        self._arcs.append((int(tail), int(head), int(capacity), int(unit_cost)))
+        return len(self._arcs) - 1
+
+    def add_arcs_with_capacity_and_unit_cost(self, tails: Sequence[int], heads: Sequence[int], capacities: Sequence[int],
+                                             unit_costs: Sequence[int]) -> List[int]:
+        return [self.add_arc_with_capacity_and_unit_cost(*arc) for arc in zip(tails, heads, capacities, unit_costs)]
+
+    def set_node_supply(self, node: int, supply: int) -> None:
+        self._reach(node)
+        self._supplies[node] = int(supply)
+
+    def set_nodes_supplies(self, nodes: Sequence[int], supplies: Sequence[int]) -> None:
+        for node, supply in zip(nodes, supplies):
+            self.set_node_supply(node, supply)
+
+    def num_nodes(self) -> int:
+        return len(self._supplies)
+
+    def num_arcs(self) -> int:
+        return len(self._arcs)
+
+    def tail(self, arc: int) -> int:
+        return self._arcs[arc][0]
+
+    def head(self, arc: int) -> int:
+        return self._arcs[arc][1]
+
+    def capacity(self, arc: int) -> int:
+        return self._arcs[arc][2]
+
+    def unit_cost(self, arc: int) -> int:
+        return self._arcs[arc][3]
+
+    def supply(self, node: int) -> int:
+        return self._supplies[node]
+
+    def solve(self) -> int:
+        """The status; `error` then tells which nodes block, or what was refused."""
+        self._answer = self.error = None
+        if sum(self._supplies) != 0:
+            return self.UNBALANCED
+        try:
+            self._answer = solve(self._supplies, self._arcs)
+        except Infeasible as error:
+            self.error = error
+            return self.INFEASIBLE
+        except Refused as error:
+            self.error = error
+            return self.BAD_COST_RANGE if error.reason in ("cost", "total") else self.BAD_CAPACITY_RANGE
+        return self.OPTIMAL
+
+    def _solved(self) -> Flow:
+        if self._answer is None:
+            raise RuntimeError("nothing is solved to optimality")
+        return self._answer
+
+    def optimal_cost(self) -> int:
+        return self._solved().cost
+
+    def maximum_flow(self) -> int:
+        self._solved()
+        return sum(b for b in self._supplies if b > 0)
+
+    def flow(self, arc: int) -> int:
+        return self._solved().flow[arc]
+
+    def flows(self, arcs: Sequence[int]) -> List[int]:
+        flow = self._solved().flow
+        return [flow[arc] for arc in arcs]

@@ -1,0 +1,183 @@
+"""The tests of the package mcf, with the standard library alone; those of networkx and scipy where they are installed. MCF_LIBRARY names the library."""
+import doctest
+import importlib
+import os
+import random
+import sys
+import threading
+import unittest
+from decimal import Decimal
+from fractions import Fraction
+
+sys.path.insert(0, os.path.dirname(os.path.dirname(os.path.abspath(__file__))))
+import mcf
+import mcf._library
+import mcf._solving
+import mcf.assignment
+import mcf.simple
+
+
+def load_tests(loader, tests, pattern):
+    """The examples of the docstrings are tests."""
+    for module in (mcf, mcf._solving, mcf.assignment, mcf.simple):
+        tests.addTests(doctest.DocTestSuite(module, optionflags=doctest.ELLIPSIS | doctest.IGNORE_EXCEPTION_DETAIL))
+    return tests
+
+
+class Solving(unittest.TestCase):
+    def test_flow(self):
+        r = mcf.solve({"s": 4, "t": -4}, [("s", "a", 2, 1), ("s", "t", None, 5), ("a", "t", 3, -1)])
+        self.assertEqual((r.cost, r.flow, r.prices), (10, [2, 2, 2], {"s": 0, "t": -5, "a": -6}))
+        self.assertTrue(r.verdict.accepted and r.verdict.number == 10)
+
+    def test_lows_and_negative_costs(self):
+        r = mcf.solve([0, 0], [(0, 1, 2, 5, -3), (1, 0, -4, 9, 1)])
+        self.assertEqual((r.cost, r.flow), (-10, [5, 5]))
+        self.assertEqual(mcf.solve(0, []).cost, 0)
+        self.assertEqual(mcf.solve(3, []).prices, [0, 0, 0])
+
+    def test_blocked(self):
+        with self.assertRaises(mcf.Infeasible) as c:
+            mcf.solve({"x": 1, "y": -1}, [("y", "x", 5, 3)])
+        e = c.exception
+        self.assertEqual((e.nodes, e.side, e.must, e.can, e.arcs), (["x"], "send", 1, 0, []))
+        with self.assertRaises(mcf.Infeasible) as c:
+            mcf.solve([3, -3], [(0, 1, 2, 1)])
+        self.assertEqual((c.exception.must, c.exception.can, c.exception.arcs), (3, 2, [0]))
+        with self.assertRaises(mcf.Infeasible):
+            mcf.solve([1, 1], [])
+
+    def test_unbounded(self):
+        with self.assertRaises(mcf.Unbounded) as c:
+            mcf.solve([0, 0, 0], [(0, 1, 4, 9), (1, 2, None, -3), (2, 1, None, 2)])
+        self.assertEqual(sorted(c.exception.cycle), [1, 2])
+
+    def test_zero_cycles_without_limits(self):
+        self.assertEqual(mcf.solve([1, 0, -1], [(0, 1, None, 2), (1, 0, None, -2), (1, 2, None, 1)]).cost, 3)
+
+    def test_refused(self):
+        for arcs, place, reason in (([(0, 1, 1, 1), (0, 1, 10 ** 19, 1)], 1, "bound"), ([(0, 1, 5, 10 ** 16)], 0, "cost"),
+                                    ([(0, 2, 1, 1)], 0, "node"), ([(-1, 1, 1, 1)], 0, "node"), ([(0, 2 ** 40, 1, 1)], 0, "node"),
+                                    ([(0, 1, 5, 4, 1)], 0, "order")):
+            with self.assertRaises(mcf.Refused) as c:
+                mcf.solve([0, 0], arcs)
+            self.assertEqual((c.exception.arc, c.exception.node, c.exception.reason), (place, None, reason))
+        for supplies, node in (([0, 10 ** 19], 1), ({"x": 10 ** 18 + 1}, "x")):
+            with self.assertRaises(mcf.Refused) as c:
+                mcf.solve(supplies, [])
+            self.assertEqual((c.exception.arc, c.exception.node, c.exception.reason), (None, node, "supply"))
+
+    def test_decimals(self):
+        r = mcf.solve([0.3, -0.3], [(0, 1, 0.1, 1.5), (0, 1, Decimal("0.2"), 2), (0, 1, 9, Fraction(7, 2))])
+        self.assertEqual((r.flow, r.cost), ([0.1, 0.2, 0], 0.55))
+
+    def test_engines(self):
+        for engine in ("auto", "cancel", "simplex", "scaling", "sap"):
+            for pricing in ("first", "best", "block", "wide"):
+                r = mcf.solve([5, 0, -5], [(0, 1, 9, 1), (1, 2, 9, 1), (0, 2, 3, 1)], engine=engine, pricing=pricing, block=2)
+                self.assertEqual(r.cost, 7)
+        for options in ({"engine": "none"}, {"pricing": "none"}, {"block": 1000001}):
+            with self.assertRaises(ValueError):
+                mcf.solve([0], [], **options)
+
+    def test_great_costs(self):
+        r = mcf.solve([10 ** 18, -10 ** 18], [(0, 1, 10 ** 18, 10 ** 15)])
+        self.assertEqual((r.cost, r.verdict.number), (10 ** 33, 10 ** 33))
+        self.assertEqual(mcf.solve([10 ** 18, -10 ** 18], [(0, 1, 10 ** 18, -10 ** 15)]).cost, -10 ** 33)
+
+    def test_assignment(self):
+        C = [[4, 1, 3], [2, 0, 5], [3, 2, 2]]
+        self.assertEqual(mcf.linear_sum_assignment(C), ([0, 1, 2], [1, 0, 2]))
+        self.assertEqual(mcf.linear_sum_assignment(C, maximize=True), ([0, 1, 2], [0, 2, 1]))
+        self.assertEqual(mcf.linear_sum_assignment([[4, 1, 2], [2, 0, 9]]), ([0, 1], [2, 1]))
+        self.assertEqual(mcf.linear_sum_assignment([[4, 2], [1, 0], [5, 9]]), ([0, 1], [1, 0]))
+        self.assertEqual(mcf.linear_sum_assignment([[1.5, 0.25], [0.5, 0.75]]), ([0, 1], [1, 0]))
+        self.assertEqual(mcf.linear_sum_assignment([[float("inf"), 2.0], [1.0, 9.0]]), ([0, 1], [1, 0]))
+        for wrong in ([[1, float("inf")], [2, float("inf")]], [[float("nan")]], [[1, 2], [3]]):
+            with self.assertRaises(ValueError):
+                mcf.linear_sum_assignment(wrong)
+        self.assertEqual(mcf.linear_sum_assignment([]), ([], []))
+        with self.assertRaises(mcf.Refused) as c:
+            mcf.linear_sum_assignment([[1, 2], [10 ** 20, 3]])
+        self.assertEqual((c.exception.arc, c.exception.reason), (2, "cost"))
+
+    def test_random_matrices(self):
+        chance = random.Random(5)
+        for _ in range(60):
+            n = chance.randrange(1, 6)
+            C = [[chance.randrange(-9, 10) for _ in range(n)] for _ in range(n)]
+            least = min(sum(C[i][p[i]] for i in range(n)) for p in _orders(n))
+            rows, columns = mcf.linear_sum_assignment(C)
+            self.assertEqual(sum(C[i][j] for i, j in zip(rows, columns)), least)
+            arcs = [(i, n + j, 1, C[i][j]) for i in range(n) for j in range(n)]
+            self.assertEqual(mcf.solve([1] * n + [-1] * n, arcs).cost, least)
+
+    def test_texts(self):
+        self.assertEqual(mcf.solve_text(b"p min 2 1\n"), ("refusal", b"r 2 missing\n"))
+        v = mcf.check_text(b"p min 2 1\na 1 2 0 1 1\n", b"s 1\nf 1 2 0\ny 1 0\ny 2 0\n")
+        self.assertEqual((v.accepted, v.kind), (False, "bad-cost"))
+        kind, answer = mcf.solve_text(b"p min 300000 0\n")
+        self.assertEqual((kind, answer.count(b"\n")), ("flow", 300001))
+        self.assertEqual(mcf.solve_text(b"")[1], b"r 1 no-p\n")
+
+    def test_wrong_answers_are_not_accepted(self):
+        problem = mcf._library.ArcArrays(mcf._solving._supplied([2, -2]), 2, mcf._solving._packed([(0, 1, 0, 3, 5), (0, 1, 0, 1, 1)]), 2)
+        self.assertEqual(problem.solve(mcf._library.choice_of("auto", "block", None)), mcf._library.FLOW)
+        self.assertTrue(problem.check())
+        problem.told.low += 1
+        self.assertEqual(problem.check().kind, "bad-cost")
+        problem.told.low -= 1
+        problem.flow[0], problem.flow[1] = 2, 0
+        self.assertEqual(problem.check().kind, "bad-price")
+
+    def test_threads(self):
+        wrong = []
+
+        def work(k):
+            for _ in range(20):
+                if mcf.solve([k, -k], [(0, 1, k, 3)]).cost != 3 * k:
+                    wrong.append(k)
+        threads = [threading.Thread(target=work, args=(k,)) for k in range(1, 9)]
+        [t.start() for t in threads], [t.join() for t in threads]
+        self.assertEqual(wrong, [])
+
+
+def _orders(n):
+    import itertools
+    return itertools.permutations(range(n))
+
+
+def _installed(name):
+    try:
+        return importlib.import_module(name)
+    except ImportError:
+        return None
+
+
+@unittest.skipUnless(_installed("numpy"), "numpy isn't installed")
+class WithNumpy(unittest.TestCase):
+    def test_arrays(self):
+        import numpy as np
+        r = mcf.solve(np.array([4, 0, -4]), np.array([[0, 1, 3, 1], [1, 2, 3, -1], [0, 2, 9, 5]]))
+        self.assertEqual((r.cost, r.flow), (5, [3, 3, 1]))
+        rows, columns = mcf.linear_sum_assignment(np.array([[4, 1, 3], [2, 0, 5], [3, 2, 2]]))
+        self.assertEqual((rows.tolist(), columns.tolist()), ([0, 1, 2], [1, 0, 2]))
+
+
+@unittest.skipUnless(_installed("networkx"), "networkx isn't installed")
+class WithNetworkx(unittest.TestCase):
+    def test_graph(self):
+        import networkx as nx
+        import mcf.nx
+        G = nx.DiGraph()
+        G.add_node("a", demand=-4)
+        G.add_node("d", demand=4)
+        G.add_edge("a", "b", weight=3, capacity=4)
+        G.add_edge("a", "c", weight=6, capacity=10)
+        G.add_edge("b", "d", weight=1, capacity=9)
+        G.add_edge("c", "d", weight=2, capacity=5)
+        self.assertEqual(mcf.nx.network_simplex(G), nx.network_simplex(G))
+
+
+if __name__ == "__main__":
+    unittest.main(argv=[sys.argv[0]], verbosity=0)
