@@ -6,9 +6,9 @@
 # make tools-test   the tests of python/ and tools/, on the plans of examples/plans/ too: needs the programs of bin/ and Python 3.8; a part of make test
 # make library      proves and builds the library for C: bin/libmcf.so, bin/libmcf.a and bin/mcf.h
 # make library-test the library called from C, C++, Rust and Python, where these are there; four minutes at most
-# make install      puts the programs, the tools and the manual pages under PREFIX (and DESTDIR before it); make uninstall removes just these
+# make install      puts the programs, the tools and the manual pages, and the library and its Python package where it is built, under PREFIX (and DESTDIR before it); make uninstall removes just these
 
-.PHONY: all kit test memory-test clean bench tools-test library library-test install uninstall
+.PHONY: all kit test memory-test clean bench tools-test library library-test install install-library uninstall
 .NOTPARALLEL:
 
 # The programs among the crates that crates.txt lists; the logs are bin/NAME.log.
@@ -53,6 +53,8 @@ MAN = $(DESTDIR)$(PREFIX)/share/man/man1
 TOOLS = mcf_plan mcf_explain mcf_one
 PACKAGES = mcf_plan mcf_explain
 PYTHON = $(DESTDIR)$(PREFIX)/share/mcf/python
+LIB = $(DESTDIR)$(PREFIX)/lib
+INCLUDE = $(DESTDIR)$(PREFIX)/include
 
 # Nothing is built here, so that what was proved by one user can be installed by another.
 install:
@@ -61,9 +63,20 @@ install:
 	install -m 755 bin/mcf bin/mcfcheck $(TOOLS:%=tools/%) "$(BIN)"
 	for package in $(PACKAGES); do install -m 644 python/$$package/*.* "$(PYTHON)/$$package" || exit 1; done
 	install -m 644 man/mcf.1 man/mcfcheck.1 $(TOOLS:%=man/%.1) "$(MAN)"
+	@if test -f bin/libmcf.so.1; then $(MAKE) --no-print-directory install-library; else echo "make install: the library isn't built (make library), and is left out"; fi
+
+install-library:
+	install -d "$(LIB)/pkgconfig" "$(INCLUDE)" "$(PYTHON)/mcf"
+	install -m 755 bin/libmcf.so.1 "$(LIB)"
+	ln -sf libmcf.so.1 "$(LIB)/libmcf.so"
+	install -m 644 bin/libmcf.a "$(LIB)"
+	install -m 644 library/mcf.h "$(INCLUDE)"
+	sed 's|@PREFIX@|$(PREFIX)|' library/mcf.pc.in > "$(LIB)/pkgconfig/mcf.pc"
+	install -m 644 python/mcf/*.* "$(PYTHON)/mcf"
 
 uninstall:
 	rm -f "$(BIN)/mcf" "$(BIN)/mcfcheck" $(TOOLS:%="$(BIN)/%")
 	rm -f "$(MAN)/mcf.1" "$(MAN)/mcfcheck.1" $(TOOLS:%="$(MAN)/%.1")
-	rm -rf $(PACKAGES:%="$(PYTHON)/%")
+	rm -rf $(PACKAGES:%="$(PYTHON)/%") "$(PYTHON)/mcf"
+	rm -f "$(LIB)/libmcf.so.1" "$(LIB)/libmcf.so" "$(LIB)/libmcf.a" "$(LIB)/pkgconfig/mcf.pc" "$(INCLUDE)/mcf.h"
 	-rmdir -p "$(PYTHON)" 2> /dev/null
