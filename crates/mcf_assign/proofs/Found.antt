@@ -1,5 +1,5 @@
 -- A search that is over and found a column that isn't matched.
-use Rattle.std.proofs.Common.{◌≡◌, ℕ, ◌+◌, ◌-◌, ◌^◌, ◌≤◌, true, List, length, Some, ℤ, ◌≤ℤ◌, refl, subst, arith, length-set}
+use Rattle.std.proofs.Common.{◌≡◌, ℕ, ◌+◌, ◌-◌, ◌≤◌, true, List, length, Some, ℤ, ◌≤ℤ◌, refl, subst, arith, length-set}
 use Rattle.std.proofs.lemmas.Int.{ints}
 use Rattle.mcf_instance.specs.Blocking.{in_table}
 use Rattle.mcf_instance.specs.Network.{IsArcNumber, IsNode, at_node, node_count}
@@ -16,6 +16,7 @@ use Rattle.mcf_assign.proofs.Nearest.{not_true}
 use Rattle.mcf_assign.proofs.PairLaws.{column_is}
 use Rattle.mcf_assign.proofs.Raised.{link_tight, raised_ok, target_tight}
 use Rattle.mcf_assign.proofs.Stepping.{reach_small}
+use Rattle.mcf_assign.specs.Private.Reaches.{price_reach, target_reach}
 
 module _ (s : Pseudoflow) (y : List ℤ) (q : Search) (source : ℕ) (order : List ℕ) (t : Target) (ok : IsPartialMatching s) (shown : AreMatchingPrices s y)
     (entries : HasEntries (node_count s.net) q) (ended : IsEnded s y q source order) (best : q.best ≡ Some t) where
@@ -80,15 +81,15 @@ module _ (s : Pseudoflow) (y : List ℤ) (q : Search) (source : ℕ) (order : Li
 
   -- ---- no distance is far from 0
 
-  module _ (small : (v : ℕ) → IsNode (node_count s.net) v → IsUpTo (10 ^ 29) (at_node y v)) where
-    pub found_near : (v : ℕ) → IsNode (node_count s.net) v → Settled q v → IsUpTo (10 ^ 32) (dist_at q v)
+  module _ (small : (v : ℕ) → IsNode (node_count s.net) v → IsUpTo price_reach (at_node y v)) where
+    pub found_near : (v : ℕ) → IsNode (node_count s.net) v → Settled q v → IsUpTo target_reach (dist_at q v)
     found_near v n h =
         let near = (reach_small s y q source ok entries ended.near).settled v n h in
         let a = small source ended.search.is_row.0 in
         let b = small v n in
         (omega (arith, ints, near, a, b), omega (arith, ints, near, a, b))
 
-    pub found_dist : IsUpTo (10 ^ 32) t.dist
+    pub found_dist : IsUpTo target_reach t.dist
     found_dist =
         let near = (reach_small s y q source ok entries ended.near).best t best in
         let a = small source ended.search.is_row.0 in

@@ -1,5 +1,5 @@
 -- What a matching keeps, and what a search did to it.
-use Rattle.std.proofs.Common.{◌≡◌, ◌+◌, ◌≢◌, ℕ, ◌-◌, ◌^◌, ◌<◌, ◌≤◌, Bool, true, ltb, List, [], ◌∷◌, ◌++◌, length, get_or, take, replicate, None, Some, ℤ, pos, refl}
+use Rattle.std.proofs.Common.{◌≡◌, ◌+◌, ◌≢◌, ℕ, ◌-◌, ◌<◌, ◌≤◌, Bool, true, ltb, List, [], ◌∷◌, ◌++◌, length, get_or, take, replicate, None, Some, ℤ, pos, refl}
 use Rattle.std.proofs.Common.{false, sym, ◌∙◌, ap, subst, arith, ◌⊎◌, inl, inr, vec_capacity}
 use Rattle.std.specs.List.{All, Contains}
 use Rattle.std.proofs.lemmas.Int.{ints}
@@ -34,6 +34,7 @@ use Rattle.mcf_assign.proofs.Orders.{forth_room}
 use Rattle.mcf_assign.proofs.PairLaws.{column_is, row_is}
 use Rattle.mcf_assign.proofs.Raised.{settled_or_not}
 use Rattle.mcf_assign.proofs.Surpluses.{row_or_column}
+use Rattle.mcf_assign.specs.Private.Reaches.{price_reach}
 
 -- what a mutable slice of a whole vector leaves
 pub written : {X : Type 0} (n : ℕ) (xs ys : List X) → n ≡ length xs → take n (xs ++ ys) ≡ xs
@@ -47,7 +48,7 @@ shown_kept s y mates tables reached kept m ef ep =
     record { matching = ok; shown = shown; least = least_matching m.flow m.prices ok shown }
 
 -- prices near 0 are small enough for a search
-pub near_small : (s : Pseudoflow) (y y' : List ℤ) → AreNearZero s y → y' ≡ y → (v : ℕ) → IsNode (node_count s.net) v → IsUpTo (10 ^ 29) (at_node y' v)
+pub near_small : (s : Pseudoflow) (y y' : List ℤ) → AreNearZero s y → y' ≡ y → (v : ℕ) → IsNode (node_count s.net) v → IsUpTo price_reach (at_node y' v)
 near_small s y y' near e v n =
     let x = near v n in
     let same = ap (λ z. at_node z v) e in

@@ -1,5 +1,5 @@
 -- Runs of searches: which rows they match, and what is left to send or to take when all rows are matched.
-use Rattle.std.proofs.Common.{◌≡◌, ℕ, zero, suc, ◌+◌, ◌-◌, ◌^◌, ◌≤◌, Bool, true, false, cond, List, [], ◌∷◌, ◌++◌, length, get_or, ℤ, pos, ◌≤ℤ◌, refl, sym, ◌∙◌}
+use Rattle.std.proofs.Common.{◌≡◌, ℕ, zero, suc, ◌+◌, ◌-◌, ◌≤◌, Bool, true, false, cond, List, [], ◌∷◌, ◌++◌, length, get_or, ℤ, pos, ◌≤ℤ◌, refl, sym, ◌∙◌}
 use Rattle.std.proofs.Common.{ap, subst, arith, ◌⊎◌, inl, inr}
 use Rattle.std.specs.List.{All, Contains, filter, range_with_len}
 use Rattle.std.proofs.lemmas.Bool.{cases_eq}
@@ -23,7 +23,7 @@ use Rattle.mcf_prices.proofs.NearLaws.{shown_near}
 use Rattle.mcf_assign.specs.declared.extended.Extended.{Extended}
 use Rattle.mcf_assign.specs.declared.extended.Extended.TheVariants.{Matched, Blocked}
 use Rattle.mcf_assign.specs.Extending.{Assigned, IsExtension, IsShownMatching}
-use Rattle.mcf_assign.specs.Matchings.{IsMatchedRow, IsPartialMatching, IsRow}
+use Rattle.mcf_assign.specs.Matchings.{IsMatchedRow, IsPartialMatching, IsRow, price_limit}
 use Rattle.mcf_assign.specs.Private.Keeping.{AreNearZero}
 use Rattle.mcf_assign.specs.Private.Offering.{AreOffered}
 use Rattle.mcf_assign.specs.Runs.{IsBlockedAtRow, IsMatchedByRows, Run, more, start, is_source, sources, sources_to}
@@ -251,24 +251,24 @@ end_blocked g table searches at balanced =
 
 -- ---- prices
 
-pub near_all : (s : Pseudoflow) (y : List ℤ) → length y ≡ node_count s.net → AreNearZero s y → All (IsUpTo (10 ^ 22)) y
+pub near_all : (s : Pseudoflow) (y : List ℤ) → length y ≡ node_count s.net → AreNearZero s y → All (IsUpTo price_limit) y
 near_all s y count near =
-    All-from_get_or (IsUpTo (10 ^ 22)) y (pos 0) (λ i l.
+    All-from_get_or (IsUpTo price_limit) y (pos 0) (λ i l.
     let here : i + 1 - 1 ≡ i = omega arith in
-    subst (λ j. IsUpTo (10 ^ 22) (get_or y j (pos 0))) here (near (i + 1) (omega arith, omega (arith, l, count))))
+    subst (λ j. IsUpTo price_limit (get_or y j (pos 0))) here (near (i + 1) (omega arith, omega (arith, l, count))))
 
 -- the prices of a matching show it
 pub priced_near : (m : Assigned) (s : Pseudoflow) (y : List ℤ) → IsShownMatching m → s ≡ m.flow → y ≡ m.prices
-    → All (IsUpTo (10 ^ 22)) m.prices → AreNearPrices s 1 0 y
+    → All (IsUpTo price_limit) m.prices → AreNearPrices s 1 0 y
 priced_near m s y ok flow prices small =
     let matching = ok.matching in
     let shown = ok.shown in
-    let near = shown_near m.flow m.prices matching.flow shown.count (All-weaker (IsUpTo (10 ^ 22)) (IsUpTo near_limit) wider m.prices small)
+    let near = shown_near m.flow m.prices matching.flow shown.count (All-weaker (IsUpTo price_limit) (IsUpTo near_limit) wider m.prices small)
     (matching_shown m.flow m.prices matching shown)
     in
     subst (λ z. AreNearPrices s 1 0 z) (sym prices) (subst (λ t. AreNearPrices t 1 0 m.prices) (sym flow) near)
   where
-    wider : (z : ℤ) → IsUpTo (10 ^ 22) z → IsUpTo near_limit z
+    wider : (z : ℤ) → IsUpTo price_limit z → IsUpTo near_limit z
     wider z (low, high) = (omega (arith, ints, low), omega (arith, ints, high))
 
 pub priced_shown : (m : Assigned) (s : Pseudoflow) (y z : List ℤ) → s ≡ m.flow → z ≡ y → AreStatePrices s.net s y → AreStatePrices m.flow.net s z

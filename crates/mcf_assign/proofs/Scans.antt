@@ -1,6 +1,6 @@
 -- A search while it scans rows: what one arc changes, one row, and one row more settled.
 use Rattle.std.proofs.Common.{◌≡◌, ◌≢◌, ℕ, ◌+◌, ◌-◌, ◌*◌, ◌<◌, ◌≤◌, true, false, List, [], ◌∷◌, ◌++◌, length, get_or, Some, ℤ, ◌≤ℤ◌, ◌-ℤ◌, ◌⊎◌, refl, sym}
-use Rattle.std.proofs.Common.{◌∙◌, ap, subst, arith, inl, inr, ◌^◌, set, length-set}
+use Rattle.std.proofs.Common.{◌∙◌, ap, subst, arith, inl, inr, set, length-set}
 use Rattle.std.specs.List.{Contains, range_with_len}
 use Rattle.std.proofs.lemmas.Bool.{cases_eq, cases_lt, true≢false}
 use Rattle.std.proofs.lemmas.Int.{ints}
@@ -27,6 +27,7 @@ use Rattle.mcf_assign.proofs.Relaxing.{relaxed_lower}
 use Rattle.mcf_assign.proofs.RowLists.{IsPassing, pass_end, pass_leaves, pass_more, pass_start}
 use Rattle.mcf_assign.proofs.Scanning.{row_near}
 use Rattle.mcf_assign.proofs.Stepping.{IsStepped, reach_small, settled_pair_is, stepped_pair, waiting_is}
+use Rattle.mcf_assign.specs.Private.Reaches.{price_reach, row_reach}
 
 abbrev forward : ℕ → Rid
 forward k = record { arc = k; back = false }
@@ -165,7 +166,7 @@ step_last s y q q' order order' row arcs step node settled last u n h =
 
 -- the row whose arcs are relaxed, as it was read
 pub row_read : (s : Pseudoflow) (y : List ℤ) (q : Search) (row : Row) (v : ℕ) → row.id ≡ v → row.level ≡ dist_at q v → row.base ≡ dist_at q v -ℤ at_node y v
-    → IsNode (node_count s.net) v → Settled q v → IsLast s q v → IsUpTo (10 ^ 30) (dist_at q v) → IsFarthestRow s y q row
+    → IsNode (node_count s.net) v → Settled q v → IsLast s q v → IsUpTo row_reach (dist_at q v) → IsFarthestRow s y q row
 row_read s y q row v at level base node settled last near =
     record {
       node = subst (λ u. IsNode (node_count s.net) u) (sym at) node;
@@ -173,7 +174,7 @@ row_read s y q row v at level base node settled last near =
       last = subst (λ u. IsLast s q u) (sym at) last;
       level = level ∙ ap (dist_at q) (sym at);
       base = (let price = ap (at_node y) at in omega (arith, ints, base, level, price));
-      near = subst (λ x. IsUpTo (10 ^ 30) x) (sym level) near;
+      near = subst (λ x. IsUpTo row_reach x) (sym level) near;
     }
 
 -- it is as it was after some of its arcs
@@ -446,8 +447,8 @@ rows_idle s y q source order ok sound v row waits =
 
 -- a settled row is near
 pub sound_near : (s : Pseudoflow) (y : List ℤ) (q : Search) (source row : ℕ) (order : List ℕ) → IsPartialMatching s → IsSound s y q source order
-    → IsNode (node_count s.net) row → Settled q row → ((v : ℕ) → IsNode (node_count s.net) v → IsUpTo (10 ^ 29) (at_node y v))
-    → IsUpTo (10 ^ 30) (dist_at q row)
+    → IsNode (node_count s.net) row → Settled q row → ((v : ℕ) → IsNode (node_count s.net) v → IsUpTo price_reach (at_node y v))
+    → IsUpTo row_reach (dist_at q row)
 sound_near s y q source row order ok sound node settled small =
     row_near s y q source row sound.search.is_row.0 node (reach_small s y q source ok sound.entries sound.near) settled small
 

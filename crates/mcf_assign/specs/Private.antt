@@ -1,4 +1,5 @@
 -- What the proofs of this crate alone need: no public clause names it.
+pub mod Reaches
 pub mod RowLists
 pub mod Scenes
 pub mod Searches

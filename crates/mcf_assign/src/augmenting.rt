@@ -12,6 +12,7 @@ ghost use Rattle.mcf_assign.specs.Matchings.{AreMatchingPrices, IsMatchedRow, Is
 ghost use Rattle.mcf_assign.specs.Private.Scenes.{IsScene};
 ghost use Rattle.mcf_assign.specs.Private.Searches.{AreRaised, HasEntries, Settled, search_of};
 ghost use Rattle.mcf_assign.specs.Private.Turning.{IsExtended};
+ghost use Rattle.mcf_assign.specs.Private.Reaches.{price_reach};
 
 use crate::prices::Prices;
 use crate::rows::RowArc;
@@ -85,7 +86,7 @@ impl Tables {
         requires entries { HasEntries (node_count state.old.net) (search_of self.old) }
         requires best { self.old.best ≡ Some target }
         requires ended { (source : ℕ) × IsEnded state.old prices.old (search_of self.old) source self.old.order.items }
-        requires small { (v : ℕ) → IsNode (node_count state.old.net) v → IsUpTo (10 ^ 29) (at_node prices.old v) }
+        requires small { (v : ℕ) → IsNode (node_count state.old.net) v → IsUpTo price_reach (at_node prices.old v) }
         requires room { node_count state.old.net ≤ vec_capacity self.old.order }
         ensures raised { AreRaised state.old (search_of self.old) target.dist prices.old prices.new }
         ensures extended { (source : ℕ) → IsEnded state.old prices.old (search_of self.old) source self.old.order.items

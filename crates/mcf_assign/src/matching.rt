@@ -7,7 +7,7 @@ ghost use Rattle.mcf_instance.specs.WellFormed.{IsUpTo};
 ghost use Rattle.mcf_network.specs.NodeSets.{no_nodes};
 ghost use Rattle.mcf_prices.specs.Heaps.{NoneWaits};
 ghost use Rattle.mcf_assign.specs.Extending.{IsExtension, IsMatched, IsShownMatching};
-ghost use Rattle.mcf_assign.specs.Matchings.{IsMatchedRow, IsRow};
+ghost use Rattle.mcf_assign.specs.Matchings.{IsMatchedRow, IsRow, price_limit};
 ghost use Rattle.mcf_assign.specs.Private.Updating.{IsRepriced};
 
 use crate::augmenting::fill;
@@ -213,7 +213,7 @@ impl<'n> Matching<'n> {
     pub fn into_parts(self) -> (State<'n>, Vec<i128>)
         ensures state { result.0 ≡ self.entry.flow }
         ensures prices { result.1.items ≡ self.entry.prices }
-        ensures small { All (IsUpTo (10 ^ 22)) self.entry.prices }
+        ensures small { All (IsUpTo price_limit) self.entry.prices }
         ensures shown { IsShownMatching self.entry }
     {
         let Matching {
@@ -233,7 +233,7 @@ impl<'n> Matching<'n> {
     pub(crate) fn into_all_parts(self) -> (State<'n>, Vec<i128>, Heap, Count)
         ensures state { result.0 ≡ self.entry.flow }
         ensures prices { result.1.items ≡ self.entry.prices }
-        ensures small { All (IsUpTo (10 ^ 22)) self.entry.prices }
+        ensures small { All (IsUpTo price_limit) self.entry.prices }
         ensures shown { IsShownMatching self.entry }
         ensures none { NoneWaits result.2 }
         ensures nodes { length result.2.waiting ≡ node_count self.entry.flow.net }

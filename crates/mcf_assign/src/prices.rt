@@ -5,6 +5,7 @@ ghost use Rattle.mcf_instance.specs.Network.{IsNode, at_node, node_count};
 ghost use Rattle.mcf_instance.specs.WellFormed.{IsUpTo};
 ghost use Rattle.mcf_assign.specs.Private.Keeping.{AreFirstPrices};
 ghost use Rattle.mcf_assign.specs.Private.Lows.{AreLows, IsLow, lies_inside, low_inside, whole_prices};
+ghost use Rattle.mcf_assign.specs.Private.Reaches.{rise_reach, target_reach};
 
 use mcf_network::Net;
 use mcf_text::{NoMemory, NodeId, copies};
@@ -85,8 +86,8 @@ impl Prices {
     #[inline(always)]
     pub(crate) fn rise(&mut self, v: NodeId, more: i128)
         requires node { IsNode (length self.old) v }
-        requires price { IsUpTo (10 ^ 32) (at_node self.old v) }
-        requires more { IsUpTo (10 ^ 33) more }
+        requires price { IsUpTo target_reach (at_node self.old v) }
+        requires more { IsUpTo rise_reach more }
         ensures { self.new ≡ set self.old (v - 1) (at_node self.old v +ℤ more) }
     {
         let i = v.place();

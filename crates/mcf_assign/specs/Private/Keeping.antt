@@ -1,5 +1,5 @@
 -- What a matching keeps between searches, and what a search that is over has shown.
-use Rattle.std.specs.Prelude.{◌≡◌, ℕ, ◌<◌, ◌≤◌, ◌^◌, Bool, List, [], length, ℤ, pos, neg_ℤ, ◌<ℤ◌, ◌≤ℤ◌, vec_capacity}
+use Rattle.std.specs.Prelude.{◌≡◌, ℕ, ◌<◌, ◌≤◌, Bool, List, [], length, ℤ, pos, neg_ℤ, ◌<ℤ◌, ◌≤ℤ◌, vec_capacity}
 use Rattle.std.specs.List.{All, Contains}
 use Rattle.mcf_instance.specs.Limits.{limits}
 use Rattle.mcf_instance.specs.Network.{Network, IsNode, at_node, node_count}
@@ -7,7 +7,7 @@ use Rattle.mcf_instance.specs.WellFormed.{IsUpTo}
 use Rattle.mcf_network.specs.States.{Pseudoflow}
 use Rattle.mcf_assign.specs.declared.search.Tables.{Tables}
 use Rattle.mcf_assign.specs.Private.Forests.{AreMates, IsOrder}
-use Rattle.mcf_assign.specs.Matchings.{AreMatchingPrices, IsMatchedRow, IsPartialMatching, IsRow}
+use Rattle.mcf_assign.specs.Matchings.{AreMatchingPrices, IsMatchedRow, IsPartialMatching, IsRow, price_limit}
 use Rattle.mcf_assign.specs.Private.Searches.{HasEntries, IsNear, IsOver, IsSearch, Search, Settled, reach_of, search_of}
 
 -- tables for so many nodes: what is settled is listed, and there is room to list every node
@@ -24,12 +24,9 @@ pub record IsEnded (s : Pseudoflow) (y : List ℤ) (q : Search) (source : ℕ) (
   pub near : IsNear s y q source (reach_of q)
   pub order_ok : IsOrder s q source order
 
--- how far from 0 a price may lie: twice the length of the longest walk of a search, and some more
-abbrev pub reach_limit : ℕ
-reach_limit = 10 ^ 22
-
+-- each price is that of a matching
 abbrev pub AreNearZero : Pseudoflow → List ℤ → Type 0
-AreNearZero s y = (v : ℕ) → IsNode (node_count s.net) v → IsUpTo reach_limit (at_node y v)
+AreNearZero s y = (v : ℕ) → IsNode (node_count s.net) v → IsUpTo price_limit (at_node y v)
 
 -- the price with which each row begins: so far below 0 that no arc has a negative reduced cost
 abbrev pub first_price : ℤ

@@ -1,5 +1,5 @@
 -- What a search reads and doesn't change, and the row whose arcs it relaxes.
-use Rattle.std.specs.Prelude.{◌≡◌, ℕ, ◌^◌, List, ℤ, ◌-ℤ◌}
+use Rattle.std.specs.Prelude.{◌≡◌, ℕ, List, ℤ, ◌-ℤ◌}
 use Rattle.mcf_instance.specs.Network.{IsNode, at_node, node_count}
 use Rattle.mcf_instance.specs.WellFormed.{IsUpTo}
 use Rattle.mcf_network.specs.States.{Pseudoflow}
@@ -9,6 +9,7 @@ use Rattle.mcf_assign.specs.Matchings.{AreMatchingPrices, IsPartialMatching}
 use Rattle.mcf_assign.specs.Private.Forests.{AreMates}
 use Rattle.mcf_assign.specs.Private.RowLists.{AreRows}
 use Rattle.mcf_assign.specs.Private.Searches.{IsLast, Search, Settled, dist_at}
+use Rattle.mcf_assign.specs.Private.Reaches.{price_reach, row_reach}
 
 -- a partial matching with the arcs of its rows and the mates, and prices that show it and are near 0
 pub record IsScene (s : Pseudoflow) (arcs : Rows) (y : List ℤ) (table : List ℕ) : Type 0 where
@@ -16,7 +17,7 @@ pub record IsScene (s : Pseudoflow) (arcs : Rows) (y : List ℤ) (table : List �
   pub rows : AreRows s.net arcs
   pub prices : AreMatchingPrices s y
   pub mates : AreMates s table
-  pub small : (v : ℕ) → IsNode (node_count s.net) v → IsUpTo (10 ^ 29) (at_node y v)
+  pub small : (v : ℕ) → IsNode (node_count s.net) v → IsUpTo price_reach (at_node y v)
 
 -- a settled row than which no settled node is farther, with its distance, and what its arcs offer but for their costs and
 -- the prices of their columns
@@ -26,4 +27,4 @@ pub record IsFarthestRow (s : Pseudoflow) (y : List ℤ) (q : Search) (row : Row
   pub last : IsLast s q row.id
   pub level : row.level ≡ dist_at q row.id
   pub base : row.base ≡ row.level -ℤ at_node y row.id
-  pub near : IsUpTo (10 ^ 30) row.level
+  pub near : IsUpTo row_reach row.level

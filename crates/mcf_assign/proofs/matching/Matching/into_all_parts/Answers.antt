@@ -1,16 +1,17 @@
-use Rattle.std.proofs.Common.{◌^◌, List, ℤ, ap, sym, subst}
+use Rattle.std.proofs.Common.{List, ℤ, ap, sym, subst}
 use Rattle.std.specs.List.{All}
 use Rattle.mcf_instance.specs.WellFormed.{IsUpTo}
 use Rattle.mcf_assign.specs.Extending.{Assigned}
 use Rattle.mcf_assign.proofs.Kept.{shown_kept}
 use Rattle.mcf_assign.proofs.RunLaws.{near_all}
 use Rattle.mcf_assign.proofs.matching.Matching.into_all_parts.Goals as goal
+use Rattle.mcf_assign.specs.Matchings.{price_limit}
 
 pub returns-clause-small : goal.returns-clause-small
 returns-clause-small c =
     let i = c.self.inside in
     let k = c.self.invariant.0 in
-    subst (λ (y : List ℤ). All (IsUpTo (10 ^ 22)) y) (ap (λ (m : Assigned). m.prices) c.self.view_is) (near_all i.state i.prices k.shown.count k.near)
+    subst (λ (y : List ℤ). All (IsUpTo price_limit) y) (ap (λ (m : Assigned). m.prices) c.self.view_is) (near_all i.state i.prices k.shown.count k.near)
 
 pub returns-clause-shown : goal.returns-clause-shown
 returns-clause-shown c =

@@ -1,0 +1,22 @@
+-- How far from 0 the numbers of a search lie: bounds within which its sums fit 128 bits, each for what is made of those before it.
+use Rattle.std.specs.Prelude.{ℕ, ◌^◌}
+
+-- the price of a node, while a search runs
+abbrev pub price_reach : ℕ
+price_reach = 10 ^ 29
+
+-- the distance of a row whose arcs are relaxed
+abbrev pub row_reach : ℕ
+row_reach = 10 ^ 30
+
+-- that distance less the price of the row
+abbrev pub base_reach : ℕ
+base_reach = 10 ^ 31
+
+-- a distance at which a search ends, and a price that is to rise
+abbrev pub target_reach : ℕ
+target_reach = 10 ^ 32
+
+-- by how much a price rises
+abbrev pub rise_reach : ℕ
+rise_reach = 10 ^ 33
