@@ -25,11 +25,8 @@ use mcf_text::{ArcId, NoMemory, NodeId, copies};
 use std::alloc::Global;
 
 impl Tables {
-    /// The tables for a net, with all the room that its searches need but that of a heap for its nodes, which is given.
-    pub(crate) fn new(alloc: Global, net: &Net, heap: Heap) -> Result<Tables, NoMemory>
-        requires none { NoneWaits heap }
-        requires nodes { length heap.waiting ≡ node_count net.now }
-        requires keys { length heap.keys ≡ node_count net.now }
+    /// The tables for a net, with all the room that its searches need.
+    pub(crate) fn new(alloc: Global, net: &Net) -> Result<Tables, NoMemory>
         ensures idle { IfOk result (IsIdle (node_count net.now)) }
         ensures order { IfOk result (λ tables. tables.order.items ≡ []) }
         ensures searches { IfOk result (λ tables. tables.searches.number ≡ 0) }
@@ -37,7 +34,7 @@ impl Tables {
     {
         let nodes = net.node_count() as usize;
         Ok(Tables {
-            heap,
+            heap: Heap::new(alloc, net)?,
             marks: copies(alloc, nodes, false)?,
             links: copies(alloc, nodes, 0)?,
             best: None,
@@ -104,15 +101,12 @@ impl Tables {
         self.order.push_reserved(column);
     }
 
-    /// The heap, in which no node waits, and the count of the searches.
-    pub(crate) fn into_parts(self) -> (Heap, Count)
-        ensures none { NoneWaits result.0 }
-        ensures nodes { length result.0.waiting ≡ length self.heap.waiting }
-        ensures keys { length result.0.keys ≡ length self.heap.keys }
-        ensures searches { result.1.number ≡ self.searches.number }
+    /// The count of the searches.
+    pub(crate) fn into_searches(self) -> Count
+        ensures { result.number ≡ self.searches.number }
     {
         let Tables {
-            mut heap,
+            heap: _,
             marks: _,
             links: _,
             best: _,
@@ -120,8 +114,7 @@ impl Tables {
             searches,
             pairs: _,
         } = self;
-        heap.clear();
-        (heap, searches)
+        searches
     }
 
     // Takes back what the search before left, in time of what it settled.

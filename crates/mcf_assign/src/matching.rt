@@ -5,7 +5,6 @@ ghost use Rattle.mcf_instance.specs.declared.problem.Problem.TheVariants.{Asn};
 ghost use Rattle.mcf_instance.specs.Network.{IsNode, at_node, node_count};
 ghost use Rattle.mcf_instance.specs.WellFormed.{IsUpTo};
 ghost use Rattle.mcf_network.specs.NodeSets.{no_nodes};
-ghost use Rattle.mcf_prices.specs.Heaps.{NoneWaits};
 ghost use Rattle.mcf_assign.specs.Extending.{IsExtension, IsMatched, IsShownMatching};
 ghost use Rattle.mcf_assign.specs.Matchings.{IsMatchedRow, IsRow, price_limit};
 ghost use Rattle.mcf_assign.specs.Private.Updating.{IsRepriced};
@@ -20,7 +19,6 @@ use crate::search::Tables;
 use crate::update::Update;
 use mcf_counts::Count;
 use mcf_network::{Net, NodeSet, State};
-use mcf_prices::Heap;
 use mcf_text::{NoMemory, NodeId, copies};
 use std::alloc::Global;
 use std::marker::Model;
@@ -76,23 +74,6 @@ impl<'n> Matching<'n> {
         ensures searches { IfOk result (λ m. m.searches ≡ 0) }
         ensures wants { OnErr result (1 ≤ node_count net.now) }
     {
-        let heap = Heap::new(alloc, net)?;
-        Matching::over(alloc, net, heap)
-    }
-
-    /// The same over a heap for the nodes of the net, which another search may have had before.
-    pub(crate) fn over(alloc: Global, net: &'n Net, heap: Heap) -> Result<Matching<'n>, NoMemory>
-        requires assignment { net.now.problem ≡ Asn }
-        requires none { NoneWaits heap }
-        requires nodes { length heap.waiting ≡ node_count net.now }
-        requires keys { length heap.keys ≡ node_count net.now }
-        ensures value { IfOk result (λ m. m.flow ≡ record { net = net.now; amounts = replicate (length net.now.arcs) (pos 0) }) }
-        ensures shown { IfOk result IsShownMatching }
-        ensures settled { IfOk result (λ m. m.settled ≡ []) }
-        ensures reached { IfOk result (λ m. m.reached ≡ no_nodes (node_count net.now)) }
-        ensures searches { IfOk result (λ m. m.searches ≡ 0) }
-        ensures wants { OnErr result (1 ≤ node_count net.now) }
-    {
         let state = State::zero(alloc, net)?;
         let rows = Rows::new(alloc, net)?;
         let prices = Prices::new(alloc, net)?;
@@ -104,7 +85,7 @@ impl<'n> Matching<'n> {
             prices,
             mates,
             picks: copies(alloc, most, NO_ARC)?,
-            tables: Tables::new(alloc, net, heap)?,
+            tables: Tables::new(alloc, net)?,
             reached: NodeSet::new(alloc, net)?,
             update: Update::new(alloc, net)?,
         })
@@ -216,29 +197,17 @@ impl<'n> Matching<'n> {
         ensures small { All (IsUpTo price_limit) self.entry.prices }
         ensures shown { IsShownMatching self.entry }
     {
-        let Matching {
-            state,
-            rows: _,
-            prices,
-            mates: _,
-            picks: _,
-            tables: _,
-            reached: _,
-            update: _,
-        } = self;
-        (state, prices.into_wide())
+        let (state, prices, _) = self.into_counted_parts();
+        (state, prices)
     }
 
-    /// The state and the prices, with the heap, in which no node waits any more, and the count of the searches.
-    pub(crate) fn into_all_parts(self) -> (State<'n>, Vec<i128>, Heap, Count)
+    /// The state and the prices, and the count of the searches.
+    pub(crate) fn into_counted_parts(self) -> (State<'n>, Vec<i128>, Count)
         ensures state { result.0 ≡ self.entry.flow }
         ensures prices { result.1.items ≡ self.entry.prices }
         ensures small { All (IsUpTo price_limit) self.entry.prices }
         ensures shown { IsShownMatching self.entry }
-        ensures none { NoneWaits result.2 }
-        ensures nodes { length result.2.waiting ≡ node_count self.entry.flow.net }
-        ensures keys { length result.2.keys ≡ node_count self.entry.flow.net }
-        ensures searches { result.3.number ≡ self.entry.searches }
+        ensures searches { result.2.number ≡ self.entry.searches }
     {
         let Matching {
             state,
@@ -250,8 +219,7 @@ impl<'n> Matching<'n> {
             reached: _,
             update: _,
         } = self;
-        let (heap, searches) = tables.into_parts();
-        (state, prices.into_wide(), heap, searches)
+        (state, prices.into_wide(), tables.into_searches())
     }
 
     /// The set that the last search reached that found no path, and the count of the searches.
@@ -269,7 +237,6 @@ impl<'n> Matching<'n> {
             reached,
             update: _,
         } = self;
-        let (_, searches) = tables.into_parts();
-        (reached, searches)
+        (reached, tables.into_searches())
     }
 }

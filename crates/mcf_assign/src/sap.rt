@@ -14,7 +14,7 @@ use mcf_counts::Count;
 use mcf_feas::unbalanced;
 use mcf_instance::{Problem, Side};
 use mcf_network::{Net, State};
-use mcf_prices::{Engine, Heap, Outcome, Pricer};
+use mcf_prices::{Engine, Outcome, Pricer};
 use mcf_text::{NoMemory, NodeId};
 use std::alloc::Global;
 use std::marker::Model;
@@ -100,8 +100,7 @@ fn assign<'n>(alloc: Global, net: &'n Net) -> Result<(Outcome<'n>, Count), NoMem
     ensures wants { OnErr result (1 ≤ node_count net.now) }
 {
     let pricer = Pricer::start(alloc, net)?;
-    let heap = Heap::new(alloc, net)?;
-    let mut matching = Matching::over(alloc, net, heap)?;
+    let mut matching = Matching::start(alloc, net)?;
     match match_rows(&mut matching, net) {
         Extended::Matched => {
             let (state, prices, searches) = priced(pricer, matching);
@@ -156,7 +155,7 @@ fn priced<'n>(mut pricer: Pricer, matching: Matching<'n>) -> (State<'n>, Vec<i12
     ensures shown { IsShownMatching matching.entry }
     ensures searches { result.2.number ≡ matching.entry.searches }
 {
-    let (state, mut prices, _, searches) = matching.into_all_parts();
+    let (state, mut prices, searches) = matching.into_counted_parts();
     pricer.raise(&state, 1, 0, prices.as_mut_slice());
     (state, prices, searches)
 }

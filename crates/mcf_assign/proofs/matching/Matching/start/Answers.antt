@@ -6,7 +6,7 @@ use Rattle.mcf_assign.specs.Private.Keeping.{AreFirstPrices, IsKept}
 use Rattle.mcf_assign.specs.Private.RowLists.{AreRows}
 use Rattle.mcf_assign.specs.Private.Updating.{HasTables}
 use Rattle.mcf_assign.proofs.Kept.{kept_first, shown_kept}
-use Rattle.mcf_assign.proofs.matching.Matching.over.Goals as goal
+use Rattle.mcf_assign.proofs.matching.Matching.start.Goals as goal
 
 pub invariant_of-result-3 : goal.invariant_of-result-3
 invariant_of-result-3 c =
@@ -18,7 +18,7 @@ invariant_of-result-3 c =
     let g = c.args.net.now in
     let kept_at = λ (y : List ℤ) (e : y ≡ c.in_ok-prices.prices). subst (λ (s : Pseudoflow). IsKept s y c.in_ok-mates.mates.items c.in_ok-new.field-0
     c.in_ok-new-2.field-0) (sym inside)
-    (kept_first g y c.in_ok-mates.mates.items c.in_ok-new.field-0 c.in_ok-new-2.field-0 valid c.requires.assignment
+    (kept_first g y c.in_ok-mates.mates.items c.in_ok-new.field-0 c.in_ok-new-2.field-0 valid c.requires
     (subst (λ (z : List ℤ). AreFirstPrices g z (node_count g)) (sym e) c.in_ok-prices.ensures.prices) mates c.in_ok-new.ensures.idle count) in
     let kept = kept_at _ c.prices.view_is in
     let tables = subst (λ (s : Pseudoflow). HasTables s.net c.in_ok-new-3.field-0) (sym inside) c.in_ok-new-3.ensures.tables in
@@ -31,6 +31,6 @@ returns-clause-shown c =
     let valid = subst (λ (s : Pseudoflow). IsPseudoflow s) value c.in_ok-state.ensures.valid in
     let mates : c.in_ok-mates.mates.items ≡ replicate (node_count c.args.net.now) 0 = search rules in
     let count = ap (λ (t : List Bool). length t) c.in_ok-new-2.ensures.value ∙ length-replicate (node_count c.args.net.now) false in
-    let kept = kept_first c.args.net.now c.in_ok-prices.prices c.in_ok-mates.mates.items c.in_ok-new.field-0 c.in_ok-new-2.field-0 valid c.requires.assignment
+    let kept = kept_first c.args.net.now c.in_ok-prices.prices c.in_ok-mates.mates.items c.in_ok-new.field-0 c.in_ok-new-2.field-0 valid c.requires
     c.in_ok-prices.ensures.prices mates c.in_ok-new.ensures.idle count in
     shown_kept _ c.in_ok-prices.prices c.in_ok-mates.mates.items c.in_ok-new.field-0 c.in_ok-new-2.field-0 kept _ inside c.prices.view_is

@@ -4,7 +4,7 @@ use Rattle.mcf_instance.specs.WellFormed.{IsUpTo}
 use Rattle.mcf_assign.specs.Extending.{Assigned}
 use Rattle.mcf_assign.proofs.Kept.{shown_kept}
 use Rattle.mcf_assign.proofs.RunLaws.{near_all}
-use Rattle.mcf_assign.proofs.matching.Matching.into_parts.Goals as goal
+use Rattle.mcf_assign.proofs.matching.Matching.into_counted_parts.Goals as goal
 use Rattle.mcf_assign.specs.Matchings.{price_limit}
 
 pub returns-clause-small : goal.returns-clause-small
