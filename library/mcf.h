@@ -28,13 +28,13 @@ enum mcf_status {
 
 /* How an instance is solved and answered. All 0 is what suits. */
 struct mcf_choice {
-    uint32_t engine;  /* MCF_AUTO to MCF_SAP */
+    uint32_t engine;  /* MCF_AUTO to MCF_AUGMENT */
     uint32_t pricing; /* of the network simplex, MCF_BLOCK to MCF_WIDE_BLOCKS */
     uint32_t block;   /* arcs of a block of MCF_BLOCK: 1 to 1000000, or 0 for 256 */
     uint32_t form;    /* of an answer text: 1, or 2, which names the arcs alone that don't carry their low; or 0 for 1 */
 };
 
-enum mcf_engine { MCF_AUTO = 0, MCF_CANCEL = 1, MCF_SIMPLEX = 2, MCF_SCALING = 3, MCF_SAP = 4 };
+enum mcf_engine { MCF_AUTO = 0, MCF_CANCEL = 1, MCF_SIMPLEX = 2, MCF_SCALING = 3, MCF_SAP = 4, MCF_AUGMENT = 5 };
 
 enum mcf_pricing { MCF_BLOCK = 0, MCF_FIRST = 1, MCF_BEST = 2, MCF_WIDE_BLOCKS = 3 };
 

@@ -48,7 +48,7 @@ static int check_text(const char *path, uint32_t want) {
     choice.engine = 0;
     choice.block = 1000001;
     CHECK(6, mcf_solve(input, length, &choice, room, used, &again) == MCF_NO_CHOICE);
-    for (choice.engine = 0; choice.engine < 5; choice.engine++)
+    for (choice.engine = 0; choice.engine < 6; choice.engine++)
         for (choice.pricing = 0; choice.pricing < 4; choice.pricing++)
             for (choice.form = 0; choice.form < 3; choice.form++) {
                 choice.block = choice.pricing;
@@ -67,7 +67,7 @@ static int check_arcs(void) {
     int64_t flow[3], prices[3], more[3] = {4, 4, -4};
     struct mcf_choice choice = standard;
     struct mcf_verdict told;
-    for (choice.engine = 0; choice.engine < 5; choice.engine++) {
+    for (choice.engine = 0; choice.engine < 6; choice.engine++) {
         CHECK(11, mcf_solve_arcs(supplies, 3, arcs, 3, &choice, flow, 3, prices, 3, &told) == MCF_FLOW);
         CHECK(12, flow[0] == 3 && flow[1] == 3 && flow[2] == 1 && told.low == 5 && told.high == 0 && told.negative == 0);
         CHECK(13, mcf_check_arcs(supplies, 3, arcs, 3, flow, 3, prices, 3, &told) == 0 && told.kind == MCF_ACCEPTED_FLOW);

@@ -112,7 +112,7 @@ int main(int count, char **words) {
     int place, number;
     memset(sevens, 7, sizeof sevens);
     make_arrays();
-    for (choice.engine = 0; choice.engine < 5; choice.engine++)
+    for (choice.engine = 0; choice.engine < 6; choice.engine++)
         for (number = 2; number < 6; number++)
             if (refuse_each(number)) return 1;
     for (place = 1; place < count; place++) {
@@ -120,7 +120,7 @@ int main(int count, char **words) {
         if (!file) return 90;
         length = fread(input, 1, sizeof input, file);
         fclose(file);
-        for (choice.engine = 0; choice.engine < 5; choice.engine++) {
+        for (choice.engine = 0; choice.engine < 6; choice.engine++) {
             choice.form = choice.engine & 1;
             if (refuse_each(0)) return 1;
             memcpy(untouched, room, sizeof room);

@@ -6,7 +6,7 @@ from array import array
 from typing import List, NamedTuple, Optional, Tuple
 
 FLOW, BLOCKED, REFUSED, NO_MEMORY, NO_ROOM, NO_CHOICE, WIDE = range(7)
-ENGINES = {"auto": 0, "cancel": 1, "simplex": 2, "scaling": 3, "sap": 4}
+ENGINES = {"auto": 0, "cancel": 1, "simplex": 2, "scaling": 3, "sap": 4, "augment": 5}
 PRICINGS = {"block": 0, "first": 1, "best": 2, "wide": 3}
 CODES = ("", "kind", "fields", "problem", "number", "second-p", "before-p", "size", "node", "late-n", "twice", "supply", "bound",
          "order", "cost", "extra", "side", "total", "no-p", "missing")

@@ -1,7 +1,6 @@
 -- Flows in arrays, as answers have them.
-use Rattle.std.proofs.Common.{◌≡◌, ◌+◌, ◌*◌, ◌<◌, ◌≤◌, ◌++◌, ◌∷◌, [], ℕ, zero, suc, List, length, map, take, get_or, refl, sym, ◌∙◌, ap, subst, arith, inl, inr, Bool, true, false, cond, ℤ, Some}
+use Rattle.std.proofs.Common.{◌≡◌, ◌+◌, ◌*◌, ◌<◌, ◌≤◌, ◌++◌, ◌∷◌, [], ℕ, List, length, map, take, get_or, refl, sym, ◌∙◌, ap, subst, arith, inl, inr, Bool, true, false, cond, ℤ, Some}
 use Rattle.std.specs.Prelude.{◌↔◌, ◌⊎◌, ◌^◌, ◌==◌, nat_le, neg_ℤ, pos, slice_get, zip}
-use Rattle.std.specs.List.{All}
 use Rattle.std.proofs.lemmas.Int.{ints}
 use Rattle.std.proofs.lemmas.List.{get_or-map, length-map, take_more}
 use Rattle.std.proofs.lemmas.Option.{get_or_from_slice_get, slice_get_within}

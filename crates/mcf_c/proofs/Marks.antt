@@ -1,12 +1,12 @@
 -- Node sets by marks.
-use Rattle.std.proofs.Common.{◌≡◌, ◌-◌, ◌<◌, ℕ, Bool, true, false, List, map, length, get_or, refl, sym, ◌∙◌, ap, arith, ℤ}
+use Rattle.std.proofs.Common.{◌≡◌, ◌-◌, ℕ, Bool, true, false, List, map, length, refl, sym, ◌∙◌, ap, arith, ℤ}
 use Rattle.std.specs.Prelude.{pos}
 use Rattle.std.specs.List.{All}
 use Rattle.std.specs.Ordering.{int_eq}
 use Rattle.std.proofs.lemmas.List.{get_or-map}
 use Rattle.mcf_c.specs.Handing.{mark_of, marked}
 use Rattle.mcf_instance.specs.Blocking.{Blocks, in_list, in_table}
-use Rattle.mcf_instance.specs.Network.{IsNode, Network, at_node, node_count}
+use Rattle.mcf_instance.specs.Network.{IsNode, Network, node_count}
 use Rattle.mcf_instance.specs.WellFormed.{HasEnds}
 use Rattle.mcf_instance.specs.declared.problem.Side.{Side}
 use Rattle.mcf_instance.proofs.SameSets.{Blocks-same}

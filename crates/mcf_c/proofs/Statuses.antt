@@ -1,5 +1,5 @@
 -- What was made of arrays, by the status that came of it.
-use Rattle.std.proofs.Common.{◌≡◌, ◌≤◌, ℕ, Bool, true, refl, subst, arith, inl, inr, Ok, Err, Some, None}
+use Rattle.std.proofs.Common.{◌≡◌, ◌≤◌, ℕ, Bool, true, subst, arith, inl, inr, Ok, Err, Some, None}
 use Rattle.std.specs.Prelude.{◌⊎◌, IfOk, Option, Result, is_ok}
 use Rattle.mcf_instance.specs.Arrays.{array_fault, made_of_arrays, made_unless}
 use Rattle.mcf_instance.specs.Limits.{limits}

@@ -1,6 +1,6 @@
 -- What is judged of arrays.
 -- Source: own
-use Rattle.std.specs.Prelude.{ℕ, ◌+◌, ◌*◌, ◌^◌, nat_le, List, map, zip, ℤ, pos, if◌then◌else◌}
+use Rattle.std.specs.Prelude.{◌+◌, ◌*◌, ◌^◌, nat_le, List, map, zip, ℤ, pos, if◌then◌else◌}
 use Rattle.mcf_answer.specs.Ranges.{amount_limit}
 use Rattle.mcf_answer.specs.Solution.{Solution}
 use Rattle.mcf_answer.specs.declared.answers.Sent.{Sent}

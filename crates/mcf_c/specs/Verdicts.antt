@@ -93,7 +93,7 @@ fault_code (FaultyArc k code) = code_number code
 abbrev pub fault_place : ArrayFault → ℕ
 fault_place FaultySize = 0
 fault_place (FaultySupply v) = v
-fault_place (FaultyArc k code) = k
+fault_place (FaultyArc k _) = k
 
 -- the numbers of a fault of arrays
 pub record TellsFault (fault : ArrayFault) (c : McfVerdict) : Type 0 where

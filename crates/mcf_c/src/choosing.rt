@@ -24,6 +24,7 @@ fn engine_of(number: u32) -> Option<EngineChoice>
         2 => Some(EngineChoice::Simplex),
         3 => Some(EngineChoice::Scaling),
         4 => Some(EngineChoice::Sap),
+        5 => Some(EngineChoice::Augment),
         _ => None,
     }
 }

@@ -22,13 +22,13 @@ fn texts() {
     assert!(!check(TEXT, b"s 4\n").unwrap().accepted);
     assert_eq!(solve(b"p min 2 1\n", Choice::default()).unwrap(), (Kind::Refused, b"r 2 missing\n".to_vec()));
     assert_eq!(solve(b"p min 2 0\nn 1 1\nn 2 -1\n", Choice::default()).unwrap().0, Kind::Blocked);
-    assert_eq!(solve(TEXT, engine(5)), Err(Error::NoChoice));
+    assert_eq!(solve(TEXT, engine(6)), Err(Error::NoChoice));
     assert_eq!(solve(b"", Choice::default()).unwrap().0, Kind::Refused);
 }
 
 #[test]
 fn arrays() {
-    for number in 0..5 {
+    for number in 0..6 {
         let Ok(Answer::Flow { cost, flow, prices }) = solve_arcs(&[4, 0, -4], &ARCS, engine(number)) else { panic!() };
         assert_eq!((cost, &flow[..]), (5, &[3, 3, 1][..]));
         assert!(check_arcs(&[4, 0, -4], &ARCS, &flow, &prices, 5).unwrap().unwrap().accepted);
@@ -51,7 +51,7 @@ fn assignments() {
 #[test]
 fn threads_at_once() {
     std::thread::scope(|scope| {
-        for number in 0..5 {
+        for number in 0..6 {
             scope.spawn(move || {
                 for _ in 0..1000 {
                     assert_eq!(solve(TEXT, engine(number)).unwrap().0, Kind::Flow);

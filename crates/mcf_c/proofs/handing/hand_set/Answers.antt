@@ -1,4 +1,4 @@
-use Rattle.std.proofs.Common.{◌≡◌, ◌∙◌, ap, sym, subst, length, map}
+use Rattle.std.proofs.Common.{◌∙◌, ap, sym, subst, length, map}
 use Rattle.mcf_c.specs.Handing.{mark_of}
 use Rattle.mcf_instance.specs.Blocking.{in_list}
 use Rattle.mcf_instance.specs.Network.{IsNode}

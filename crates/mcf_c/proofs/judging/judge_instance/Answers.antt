@@ -1,9 +1,9 @@
-use Rattle.std.proofs.Common.{◌≡◌, ◌∙◌, ap, sym, subst, refl, arith, rules, to_z, of_z, true, false, ℤ}
+use Rattle.std.proofs.Common.{◌≡◌, ◌∙◌, ap, sym, subst, refl, arith, rules, to_z, of_z, ℤ}
 use Rattle.std.specs.Int.{w128}
 use Rattle.std.proofs.lemmas.Int.{to_z-of_z}
 use Rattle.std.proofs.lemmas.Bool.{false≢true}
 use Rattle.mcf_answer.specs.Solution.{Solution}
-use Rattle.mcf_c.specs.Judged.{answer_along, claimed_cost}
+use Rattle.mcf_c.specs.Judged.{answer_along}
 use Rattle.mcf_checker.specs.Correct.{IsRightSolution, amounts}
 use Rattle.mcf_instance.specs.Flow.{IsLeast}
 use Rattle.mcf_c.proofs.Judges.{amounts-sent_along, judged_exactly}

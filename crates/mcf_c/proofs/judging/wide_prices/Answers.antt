@@ -1,4 +1,4 @@
-use Rattle.std.proofs.Common.{◌≡◌, ◌++◌, ◌∷◌, [], ◌∙◌, ap, sym, subst, rules, to_z, of_z, get_or, take, ℤ, List}
+use Rattle.std.proofs.Common.{◌≡◌, ◌++◌, ◌∷◌, [], ◌∙◌, ap, sym, subst, rules, to_z, of_z, get_or, ℤ, List}
 use Rattle.std.specs.Prelude.{pos}
 use Rattle.std.specs.Int.{w64, w128}
 use Rattle.std.specs.List.{All}
