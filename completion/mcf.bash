@@ -1,0 +1,63 @@
+# Completion of mcf, mcfcheck, mcf_plan, mcf_explain and mcf_one for bash: source it, or put it where bash-completion looks. Where it has nothing to
+# say, names of files come. _mcf has the same words for zsh; python/tests/test_completion.py compares both with what the commands say themselves.
+
+# What may come after an option.
+_mcf_values()
+{
+    case $1 in
+        --engine) echo auto cancel simplex scaling augment sap ;;
+        --pricing) echo first best block wide ;;
+        --form) echo 1 2 ;;
+        --unused | --short) echo allow refuse ;;
+        --each) echo who what both ;;
+        --decimal) echo , . ;;
+    esac
+}
+
+# The options of a command, or of one of its subcommands.
+_mcf_options()
+{
+    local solve="--engine --pricing --block --form"
+    local plan="-o --output --programs --decimal --encoding --map --xlsx --title --currency --unit --guard-formulas"
+    case $1:$2 in
+        mcf:solve) echo -h --help "$solve" ;;
+        mcf:*) echo -h --help -V --version ;;
+        mcf_one:*) echo "$solve" ;;
+        mcf_plan:flow) echo -h --help "$plan" --unused --short --most-flow --penalty --no-picture ;;
+        mcf_plan:pairs) echo -h --help "$plan" --each --maximise --maximize ;;
+        mcf_plan:diff) echo -h --help --all --programs ;;
+        mcf_plan:*) echo -h --help ;;
+        mcf_explain:*) echo -h --help --programs ;;
+    esac
+}
+
+# The subcommands of a command.
+_mcf_subcommands()
+{
+    case $1 in
+        mcf) echo solve help ;;
+        mcf_plan) echo flow pairs diff ;;
+    esac
+}
+
+_mcf()
+{
+    local command=${1##*/} word=${COMP_WORDS[COMP_CWORD]} before=${COMP_WORDS[COMP_CWORD - 1]} words
+    # Bash takes --engine=sap for three words.
+    if [ "$word" = "=" ]; then
+        word=
+    elif [ "$before" = "=" ]; then
+        before=${COMP_WORDS[COMP_CWORD - 2]}
+    fi
+    words=$(_mcf_values "$before")
+    if [ -z "$words" ]; then
+        case $COMP_CWORD:$word in
+            1:-*) words=$(_mcf_options "$command") ;;
+            1:*) words=$(_mcf_subcommands "$command") ;;
+            *:-*) words=$(_mcf_options "$command" "${COMP_WORDS[1]}") ;;
+        esac
+    fi
+    COMPREPLY=($(compgen -W "$words" -- "$word"))
+}
+
+complete -o bashdefault -o default -F _mcf mcf mcfcheck mcf_plan mcf_explain mcf_one
