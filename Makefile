@@ -6,9 +6,11 @@
 # make tools-test   the tests of python/ and tools/, on the plans of examples/plans/ too: needs the programs of bin/ and Python 3.8; a part of make test
 # make library      proves and builds the library for C: bin/libmcf.so, bin/libmcf.a and bin/mcf.h
 # make library-test the library called from C, C++, Rust and Python, where these are there; four minutes at most
+# make dist         packs programs, tools, library and Python module into bin/dist/, as a .deb, a wheel and a tar.gz
+# make dist-test    installs these packages where nothing of the repository is, and runs them: needs debootstrap and root for the .deb
 # make install      puts the programs, the tools and the manual pages, and the library and its Python package where it is built, under PREFIX (and DESTDIR before it); make uninstall removes just these
 
-.PHONY: all kit test memory-test clean bench tools-test library library-test install install-library uninstall
+.PHONY: all kit test memory-test clean bench tools-test library library-test dist dist-test install install-library uninstall
 .NOTPARALLEL:
 
 # The programs among the crates that crates.txt lists; the logs are bin/NAME.log.
@@ -47,6 +49,13 @@ library: kit
 library-test:
 	@scripts/library_test.sh
 
+# Nothing is built here either: what `make` and `make library` left in bin/ is packed.
+dist:
+	@scripts/dist.py
+
+dist-test:
+	@scripts/dist_test.sh
+
 PREFIX = /usr/local
 BIN = $(DESTDIR)$(PREFIX)/bin
 MAN = $(DESTDIR)$(PREFIX)/share/man/man1
@@ -55,6 +64,7 @@ PACKAGES = mcf_plan mcf_explain
 PYTHON = $(DESTDIR)$(PREFIX)/share/mcf/python
 LIB = $(DESTDIR)$(PREFIX)/lib
 INCLUDE = $(DESTDIR)$(PREFIX)/include
+VERSION = $(shell sed -n 's/.*"mcf \([0-9.]*\).*/\1/p' crates/mcf_suite/src/version.rt)
 
 # Nothing is built here, so that what was proved by one user can be installed by another.
 install:
@@ -71,7 +81,7 @@ install-library:
 	ln -sf libmcf.so.1 "$(LIB)/libmcf.so"
 	install -m 644 bin/libmcf.a "$(LIB)"
 	install -m 644 library/mcf.h "$(INCLUDE)"
-	sed 's|@PREFIX@|$(PREFIX)|' library/mcf.pc.in > "$(LIB)/pkgconfig/mcf.pc"
+	sed 's|@PREFIX@|$(PREFIX)|; s|@VERSION@|$(VERSION)|' library/mcf.pc.in > "$(LIB)/pkgconfig/mcf.pc"
 	install -m 644 python/mcf/*.* "$(PYTHON)/mcf"
 
 uninstall:

@@ -1,0 +1,184 @@
+#!/usr/bin/env python3
+"""Packs what `make` and `make library` left in bin/: a tar.gz, a .deb where dpkg-deb is, and a wheel, with PROVENANCE and SHA256SUMS beside them.
+
+Nothing is built here. What is packed is what `make install` puts, and the completion of the shells; the texts of the packages stand in packaging/. The
+same commit with the same programs and the same tools gives the same bytes: times are the commit's, owners are root, files come in order.
+
+Usage: scripts/dist.py [FOLDER]      into bin/dist, which is made anew, or into a folder that isn't there yet
+"""
+import base64
+import gzip
+import hashlib
+import os
+import pathlib
+import platform
+import re
+import shutil
+import subprocess
+import sys
+import tarfile
+import time
+import zipfile
+
+TOP = pathlib.Path(__file__).resolve().parent.parent
+BIN = TOP / "bin"
+PACKAGING = TOP / "packaging"
+PROGRAMS, LIBRARIES = ("mcf", "mcfcheck"), ("libmcf.so.1", "libmcf.a")
+COMPLETED = ("mcfcheck", "mcf_plan", "mcf_explain", "mcf_one")
+
+
+def stop(why):
+    sys.exit(f"make dist: {why}")
+
+
+def git(*words):
+    """What git says of this repository."""
+    try:
+        return subprocess.run(["git", "-C", str(TOP), *words], stdout=subprocess.PIPE, check=True).stdout.decode().strip()
+    except (OSError, subprocess.CalledProcessError):
+        return stop("packages say of which commit they are: git and the repository have to be there")
+
+
+def read_version():
+    """The version, and the line that says what it was proved with. Other files that have the version must have this one."""
+    found = re.search(r'"mcf ([\d.]+)\\n(proved with [^\\]+)\\n"', (TOP / "crates/mcf_suite/src/version.rt").read_text())
+    version, proved = found.groups()
+    for place, pattern in (("python/mcf/__init__.py", "__version__ = "), ("library/rust/Cargo.toml", "version = ")):
+        if f'\n{pattern}"{version}"\n' not in (TOP / place).read_text():
+            stop(f"{place} has another version than crates/mcf_suite/src/version.rt, {version}")
+    return version, proved
+
+
+def look(version, proved):
+    """Stops where bin/ lacks something, or has what can't be of this commit."""
+    if (platform.system(), platform.machine()) != ("Linux", "x86_64"):
+        stop("packages are for Linux on x86-64, and made there")
+    changed = int(git("log", "-1", "--format=%ct", "--", "crates"))
+    for names, target in ((PROGRAMS, "make"), (LIBRARIES, "make library")):
+        for name in names:
+            if not (BIN / name).is_file():
+                stop(f"bin/{name} isn't there; run {target} first")
+            if (BIN / name).stat().st_mtime < changed:
+                stop(f"bin/{name} is older than the last change of crates/; run {target} again")
+    said = subprocess.run([str(BIN / "mcf"), "--version"], stdout=subprocess.PIPE).stdout.decode()
+    if said != f"mcf {version}\n{proved}\n":
+        stop("bin/mcf says another version or prover than crates/mcf_suite/src/version.rt; run make again")
+
+
+def libc(*paths):
+    """The least C library, as 2.N, that has each symbol which these files ask of it."""
+    return max(int(n) for path in paths for n in re.findall(rb"GLIBC_2\.(\d+)", path.read_bytes()))
+
+
+def filled(path, **words):
+    """A text of packaging/ with its words put in."""
+    return re.sub(r"@(\w+)@", lambda found: str(words[found.group(1)]), (PACKAGING / path).read_text())
+
+
+def put(path, text):
+    """Writes a file, and makes its folder."""
+    path.parent.mkdir(parents=True, exist_ok=True)
+    path.write_text(text)
+
+
+def stage(tree, version, provenance):
+    """Installs all into a folder, as below /usr."""
+    shared = tree / "usr/share"
+    words = ["make", "--no-print-directory", "-C", str(TOP), "install", f"DESTDIR={tree}", "PREFIX=/usr"]
+    subprocess.run(words, stdout=subprocess.DEVNULL, check=True)
+    put(shared / "doc/yokdelm/PROVENANCE", provenance)
+    put(shared / "bash-completion/completions/mcf", (TOP / "completion/mcf.bash").read_text())
+    for name in COMPLETED:
+        (shared / "bash-completion/completions" / name).symlink_to("mcf")
+    put(shared / "zsh/site-functions/_mcf", (TOP / "completion/_mcf").read_text())
+
+
+def pack_tar(tree, path, top, at):
+    """A tar.gz of what is below usr/, in a folder of its own, which may stand anywhere."""
+    pc = tree / "lib/pkgconfig/mcf.pc"
+    installed = pc.read_text()
+    pc.write_text(installed.replace("prefix=/usr\n", "prefix=${pcfiledir}/../..\n"))
+
+    def settled(entry):
+        entry.uid = entry.gid = 0
+        entry.uname = entry.gname = "root"
+        entry.mtime, entry.mode = at, 0o755 if entry.isdir() or entry.mode & 0o100 else 0o644
+        return entry
+
+    with open(path, "wb") as file, gzip.GzipFile("", "wb", 9, file, at) as packed:
+        with tarfile.open(mode="w", fileobj=packed, format=tarfile.GNU_FORMAT) as tar:
+            for member in [tree, *sorted(tree.rglob("*"))]:
+                tar.add(member, pathlib.PurePath(top, member.relative_to(tree)), recursive=False, filter=settled)
+    pc.write_text(installed)
+
+
+def pack_deb(tree, path, version, at):
+    """A Debian package: Python's module and zsh's words go where Debian looks for them."""
+    packages = tree / "usr/lib/python3/dist-packages"
+    packages.mkdir(parents=True)
+    (tree / "usr/share/mcf/python/mcf").rename(packages / "mcf")
+    for name in ("METADATA", "entry_points.txt"):
+        put(packages / f"yokdelm-{version}.dist-info" / name, filled(f"python/{name}", VERSION=version))
+    (tree / "usr/share/zsh/site-functions").rename(tree / "usr/share/zsh/vendor-completions")
+    size = sum(file.lstat().st_size for file in tree.rglob("*") if file.is_file())
+    needed = libc(*(BIN / name for name in (*PROGRAMS, "libmcf.so.1")))
+    control = filled("debian/control", VERSION=version, MAINTAINER=git("log", "-1", "--format=%an <%ae>"), SIZE=size // 1024 + 1, LIBC=f"2.{needed}")
+    put(tree / "DEBIAN/control", control)
+    for name in ("prerm", "triggers"):
+        put(tree / "DEBIAN" / name, filled(f"debian/{name}"))
+    (tree / "DEBIAN/prerm").chmod(0o755)
+    words = ["dpkg-deb", "--root-owner-group", "-Zgzip", "--build", str(tree), str(path)]
+    subprocess.run(words, stdout=subprocess.DEVNULL, check=True, env={**os.environ, "SOURCE_DATE_EPOCH": str(at)})
+
+
+def pack_wheel(folder, version, provenance, at):
+    """A wheel of the module with the library beside it. Answers its path."""
+    needed = libc(BIN / "libmcf.so.1")
+    tag = f"py3-none-{'manylinux2014' if needed <= 17 else f'manylinux_2_{needed}'}_x86_64"
+    about = f"yokdelm-{version}.dist-info"
+    files = {f"mcf/{file.name}": file.read_bytes() for file in sorted((TOP / "python/mcf").glob("*.*"))}
+    files["mcf/libmcf.so"] = (BIN / "libmcf.so.1").read_bytes()
+    for name in ("METADATA", "WHEEL", "entry_points.txt"):
+        files[f"{about}/{name}"] = filled(f"python/{name}", VERSION=version, TAG=tag).encode()
+    files[f"{about}/PROVENANCE"] = provenance.encode()
+    sums = {name: base64.urlsafe_b64encode(hashlib.sha256(data).digest()).rstrip(b"=").decode() for name, data in files.items()}
+    record = [f"{name},sha256={sums[name]},{len(data)}\n" for name, data in files.items()] + [f"{about}/RECORD,,\n"]
+    files[f"{about}/RECORD"] = "".join(record).encode()
+    path = folder / f"yokdelm-{version}-{tag}.whl"
+    with zipfile.ZipFile(path, "w", zipfile.ZIP_DEFLATED) as wheel:
+        for name, data in files.items():
+            entry = zipfile.ZipInfo(name, time.gmtime(at)[:6])
+            entry.compress_type, entry.create_system, entry.external_attr = zipfile.ZIP_DEFLATED, 3, 0o100644 << 16
+            wheel.writestr(entry, data)
+    return path
+
+
+def main(folder):
+    """Makes all packages."""
+    os.umask(0o022)
+    version, proved = read_version()
+    look(version, proved)
+    at, tree = int(git("log", "-1", "--format=%ct")), folder / "tree"
+    changes = ", and changes that aren't committed" if git("status", "--porcelain") else ""
+    provenance = f"yokdelm {version}\ncommit {git('rev-parse', 'HEAD')}{changes}\n{proved}\n"
+    if folder == BIN / "dist":
+        shutil.rmtree(folder, ignore_errors=True)
+    elif folder.exists():
+        stop(f"{folder} is there already")
+    folder.mkdir(parents=True)
+    stage(tree, version, provenance)
+    name = f"yokdelm-{version}-linux-x86_64"
+    pack_tar(tree / "usr", folder / f"{name}.tar.gz", name, at)
+    if shutil.which("dpkg-deb"):
+        pack_deb(tree, folder / f"yokdelm_{version}_amd64.deb", version, at)
+    else:
+        print("make dist: the .deb is left out: there is no dpkg-deb")
+    pack_wheel(folder, version, provenance, at)
+    shutil.rmtree(tree)
+    put(folder / "PROVENANCE", provenance)
+    made = sorted(folder.iterdir())
+    put(folder / "SHA256SUMS", "".join(f"{hashlib.sha256(file.read_bytes()).hexdigest()}  {file.name}\n" for file in made))
+    print("\n".join(f"make dist: {file}" for file in made))
+
+
+main(pathlib.Path(sys.argv[1] if len(sys.argv) > 1 else BIN / "dist").resolve())
