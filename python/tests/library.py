@@ -92,6 +92,7 @@ class Solving(unittest.TestCase):
         self.assertEqual(mcf.linear_sum_assignment([[4, 1, 2], [2, 0, 9]]), ([0, 1], [2, 1]))
         self.assertEqual(mcf.linear_sum_assignment([[4, 2], [1, 0], [5, 9]]), ([0, 1], [1, 0]))
         self.assertEqual(mcf.linear_sum_assignment([[1.5, 0.25], [0.5, 0.75]]), ([0, 1], [1, 0]))
+        self.assertEqual(mcf.linear_sum_assignment([[Decimal("1.5"), Decimal("1.25")], [1, 1]]), ([0, 1], [1, 0]))
         self.assertEqual(mcf.linear_sum_assignment([[float("inf"), 2.0], [1.0, 9.0]]), ([0, 1], [1, 0]))
         for wrong in ([[1, float("inf")], [2, float("inf")]], [[float("nan")]], [[1, 2], [3]]):
             with self.assertRaises(ValueError):
