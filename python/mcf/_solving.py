@@ -176,6 +176,17 @@ def _numbered(supplies: Dict[Hashable, Any], arcs: List[tuple]) -> Tuple[List[Ha
     return labels, [supplies.get(label, 0) for label in labels], [end + tuple(arc[2:]) for end, arc in zip(ends, arcs)]
 
 
+def _scaled(amounts: list, rows: List[tuple]) -> Tuple[List[int], List[Arc], int, int]:
+    """Supplies and arcs in whole numbers, and how many times as great amounts and costs are."""
+    exacts = [(u, v, exact(low), None if cap is None else exact(cap), exact(cost)) for u, v, low, cap, cost in rows]
+    units = scale_of(chain(amounts, (a[2] for a in exacts), (a[3] for a in exacts if a[3] is not None)))
+    costs = scale_of(a[4] for a in exacts)
+    if units != 1 or costs != 1:
+        amounts = [int(b * units) for b in amounts]
+        exacts = [(u, v, int(low * units), None if cap is None else int(cap * units), int(cost * costs)) for u, v, low, cap, cost in exacts]
+    return amounts, exacts, units, costs
+
+
 def solve(supplies: Union[int, Sequence[Any], Dict[Hashable, Any]], arcs: Iterable[Sequence[Any]], *, engine: str = "auto",
           pricing: str = "block", block: Optional[int] = None, check: bool = True) -> Flow:
     """Solves a minimum-cost flow problem.
@@ -200,13 +211,7 @@ def solve(supplies: Union[int, Sequence[Any], Dict[Hashable, Any]], arcs: Iterab
         labels, given, rows = _numbered(supplies, rows)
     else:
         given = [0] * supplies if isinstance(supplies, int) else _listed(supplies)
-    amounts = [exact(b) for b in given]
-    exacts = [(u, v, exact(low), None if cap is None else exact(cap), exact(cost)) for u, v, low, cap, cost in rows]
-    units = scale_of(chain(amounts, (a[2] for a in exacts), (a[3] for a in exacts if a[3] is not None)))
-    costs = scale_of(a[4] for a in exacts)
-    if units != 1 or costs != 1:
-        amounts = [int(b * units) for b in amounts]
-        exacts = [(u, v, int(low * units), None if cap is None else int(cap * units), int(cost * costs)) for u, v, low, cap, cost in exacts]
+    amounts, exacts, units, costs = _scaled([exact(b) for b in given], rows)
     try:
         problem, verdict = solve_whole(amounts, exacts, choice_of(engine, pricing, block), check)
     except Infeasible as error:

@@ -74,6 +74,11 @@ def network_simplex(G, demand="demand", capacity="capacity", weight="weight", *,
         unbounded = nx.NetworkXUnbounded("negative cycle with infinite capacity found")
         unbounded.cycle = [edges[k][:-1] for k in error.cycle or ()]
         raise unbounded from None
+    return cost, _by_edge(G, nodes, edges, flow)
+
+
+def _by_edge(G, nodes, edges, flow):
+    """The flows as networkx has them: by tail, by head, and by key where there are several edges."""
     flows = {u: {} for u in nodes}
     if G.is_multigraph():
         for e, f in zip(edges, flow):
@@ -81,7 +86,7 @@ def network_simplex(G, demand="demand", capacity="capacity", weight="weight", *,
     else:
         for e, f in zip(edges, flow):
             flows[e[0]][e[1]] = f
-    return cost, flows
+    return flows
 
 
 def min_cost_flow_cost(G, demand="demand", capacity="capacity", weight="weight", **options):
