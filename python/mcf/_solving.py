@@ -4,10 +4,12 @@ from array import array
 from itertools import chain
 from typing import Any, Dict, Hashable, Iterable, List, Optional, Sequence, Tuple, Union
 
-from ._library import BLOCKED, CODES, REFUSED, SIDES, ArcArrays, Verdict, choice_of, marked
+from ._library import BLOCKED, CODES, REFUSED, SIDES, ArcArrays, Choice, Verdict, choice_of, marked
 from ._numbers import exact, limited, scale_of, unscaled
 
 BOUND, COST, NODE = 10 ** 18, 10 ** 15, 2 ** 32 - 2
+# A flow problem of more nodes than this is solved with blocks that grow with it: docs/BENCH.md, "Flow problems".
+LARGE = 2 ** 15
 
 Number = Union[int, float]
 Arc = Tuple[int, int, int, Optional[int], int]
@@ -64,6 +66,11 @@ class Flow:
 
     def __repr__(self) -> str:
         return "Flow(cost=%r, flow=%r)" % (self.cost, self.flow)
+
+
+def suited(nodes: int, engine: str = "auto", pricing: Optional[str] = None, block: Optional[int] = None) -> Choice:
+    """What solves a flow problem of so many nodes: what is asked, and by its size where nothing is."""
+    return choice_of(engine, pricing or ("wide" if nodes > LARGE and block is None else "block"), block)
 
 
 def _packed(arcs: List[Arc]) -> bytes:
@@ -188,8 +195,8 @@ def _scaled(amounts: list, rows: List[tuple]) -> Tuple[List[int], List[Arc], int
 
 
 def solve(supplies: Union[int, Sequence[Any], Dict[Hashable, Any]], arcs: Iterable[Sequence[Any]], *, engine: str = "auto",
-          pricing: str = "block", block: Optional[int] = None, check: bool = True) -> Flow:
-    """Solves a minimum-cost flow problem.
+          pricing: Optional[str] = None, block: Optional[int] = None, check: bool = True) -> Flow:
+    """Solves a minimum-cost flow problem, by what suits its size where no engine, pricing rule or block is asked.
 
     `supplies` is a list by node (nodes are 0, 1, ..), a dict by label, or a number of nodes without supply; a supply is above 0 where
     the node sends. `arcs` are (from, to, cap, cost) or (from, to, low, cap, cost); a cap of None is none. Arrays of numpy serve for
@@ -213,7 +220,7 @@ def solve(supplies: Union[int, Sequence[Any], Dict[Hashable, Any]], arcs: Iterab
         given = [0] * supplies if isinstance(supplies, int) else _listed(supplies)
     amounts, exacts, units, costs = _scaled([exact(b) for b in given], rows)
     try:
-        problem, verdict = solve_whole(amounts, exacts, choice_of(engine, pricing, block), check)
+        problem, verdict = solve_whole(amounts, exacts, suited(len(amounts), engine, pricing, block), check)
     except Infeasible as error:
         nodes = error.nodes if labels is None else [labels[v] for v in error.nodes]
         raise Infeasible(nodes, error.side, unscaled(error.must, units), unscaled(error.can, units), error.arcs) from None

@@ -9,7 +9,7 @@ from typing import Any, List, Optional, Tuple
 
 from ._library import BLOCKED, CODES, FLOW, PairArrays, choice_of
 from ._numbers import exact, limited, scale_of
-from ._solving import COST, Infeasible, NotAccepted, Refused, solve_whole
+from ._solving import COST, Infeasible, NotAccepted, Refused, solve_whole, suited
 
 
 def linear_sum_assignment(cost_matrix, maximize: bool = False, *, engine: str = "auto", check: bool = True):
@@ -132,7 +132,7 @@ def _wide(cells, n: int, m: int, engine: str, check: bool) -> List[Tuple[int, in
     arcs = [(place // m, n + place % m, 0, 1, cells[place]) for place in where]
     arcs += [(n + column, n + m, 0, 1, 0) for column in range(m)]
     try:
-        problem, _ = solve_whole([1] * n + [0] * m + [-n], arcs, choice_of(engine, "block", None), check)
+        problem, _ = solve_whole([1] * n + [0] * m + [-n], arcs, suited(n + m + 1, engine), check)
     except Infeasible:
         raise ValueError("cost matrix is infeasible") from None
     return [divmod(place, m) for place, f in zip(where, problem.flow) if f]

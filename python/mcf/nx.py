@@ -8,9 +8,8 @@ from math import isinf
 import networkx as nx
 from networkx.utils import not_implemented_for
 
-from ._library import choice_of
 from ._numbers import exact, scale_of, unscaled
-from ._solving import Infeasible, Unbounded, solve_whole
+from ._solving import Infeasible, Unbounded, solve_whole, suited
 
 __all__ = ["network_simplex", "min_cost_flow", "min_cost_flow_cost", "max_flow_min_cost", "maximum_flow_value"]
 
@@ -32,7 +31,7 @@ def _solve(nodes, demands, ends, caps, costs, engine, check):
     if prices != 1:
         costs = [int(w * prices) for w in costs]
     arcs = [(u, v, 0, cap, cost) for (u, v), cap, cost in zip(ends, caps, costs)]
-    problem, _ = solve_whole([-d for d in demands], arcs, choice_of(engine, "block", None), check)
+    problem, _ = solve_whole([-d for d in demands], arcs, suited(len(demands), engine), check)
     flow = problem.flow.tolist()
     if units != 1:
         flow = [unscaled(f, units) for f in flow]

@@ -30,8 +30,9 @@ class Blocked:
     def remaining(self, programs, folder):
         """What blocks beside the balance."""
         instance, answer = folder / "instance.min", folder / "answer.ans"
-        instance.write_text(self.eased.instance().text())
-        status = programs.solve(instance, answer)
+        eased = self.eased.instance()
+        instance.write_text(eased.text())
+        status = programs.solve(instance, answer, *programs.suited(eased))
         programs.verdict(instance, answer)
         return bottlenecks_of(programs, instance, self.eased, self.eased.hub) if status == 1 else []
 

@@ -80,6 +80,15 @@ class Solving(unittest.TestCase):
             with self.assertRaises(ValueError):
                 mcf.solve([0], [], **options)
 
+    def test_what_suits_a_size(self):
+        many, suited = 2 ** 15 + 1, mcf._solving.suited
+        for choice, engine, pricing, block in ((suited(many - 1), 0, 0, 0), (suited(many), 0, 3, 0), (suited(many, block=64), 0, 0, 64),
+                                               (suited(many, "scaling", "first"), 3, 1, 0)):
+            self.assertEqual((choice.engine, choice.pricing, choice.block), (engine, pricing, block))
+        arcs = [(0, k, 1, k % 7) for k in range(1, many)]
+        r = mcf.solve([many - 1] + [-1] * (many - 1), arcs)
+        self.assertEqual((r.cost, r.verdict.accepted), (sum(arc[3] for arc in arcs), True))
+
     def test_great_costs(self):
         r = mcf.solve([10 ** 18, -10 ** 18], [(0, 1, 10 ** 18, 10 ** 15)])
         self.assertEqual((r.cost, r.verdict.number), (10 ** 33, 10 ** 33))

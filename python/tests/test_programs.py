@@ -1,6 +1,8 @@
 """Programs that are missing, that fail, or that say what isn't so."""
 import shutil
+from unittest import mock
 
+from mcf_plan import solve
 from mcf_plan.solve import Programs as Found
 from support import COMPARED, PLACES, ROUTES, WithFolder, script
 
@@ -52,3 +54,34 @@ class Programs(WithFolder):
         status, said, told = self.flow(PLACES, ROUTES, "--programs", self.folder)
         self.assertEqual((status, said), (3, ""))
         self.assertIn("MCFCHECK SAYS NO: rejected node", told)
+
+    def words_for(self, large, told):
+        """The options that `mcf` is given for a plan of three places, where so many are not large, and this is its help."""
+        words = self.folder / "words"
+        words.unlink(missing_ok=True)
+        script(
+            self.folder / "mcf",
+            f"[ \"$2\" != --help ] || exec echo '{told}'\n[ $# = 2 ] || echo \"$2 $3\" >> '{words}'\n"
+            f"for file; do :; done; exec '{Found(None).solver}' solve \"$file\"",
+        )
+        shutil.copy(Found(None).checker, self.folder / "mcfcheck")
+        with mock.patch.object(solve, "LARGE", large):
+            self.assertEqual(self.flow(PLACES, ROUTES, "--programs", self.folder)[0], 0)
+        return words.read_text() if words.exists() else ""
+
+    def test_a_large_plan_goes_to_the_search_that_is_judged(self):
+        self.assertEqual(self.words_for(2, "  augment  a fast search"), "--engine augment\n")
+        self.assertEqual(self.words_for(2, "  scaling  cost scaling"), "")
+        self.assertEqual(self.words_for(3, "  augment  a fast search"), "")
+
+    def test_which_engine_suits_a_size(self):
+        for line, engine in (
+            (f"p min {2**15} {2**18}", None),
+            (f"p min {2**15 + 1} {2**18}", "augment"),
+            (f"p min {2**16} {2**22}", "augment"),
+            (f"p min {2**16} {2**22 + 1}", None),
+            (f"p asn {2**17} {2**18}", None),
+        ):
+            instance = solve.Instance("min")
+            instance.add(["c a remark", line])
+            self.assertEqual(instance.engine(), engine, line)
