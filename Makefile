@@ -3,7 +3,7 @@
 # make memory-test   refuses each allocation of the tests of six worked rows in turn, with ALL=1 of every test
 # make clean  takes away what was proved and built: bin/, and out/ of each crate
 # make bench  the measurements of bench/
-# make tools-test   the tests of python/ and tools/, on the plans of examples/plans/ too: needs the programs of bin/ and Python 3.8; a part of make test
+# make tools-test   the tests of python/ and tools/, on the plans of examples/plans/ too, and of make install and make uninstall: needs the programs of bin/ and Python 3.8; a part of make test
 # make library      proves and builds the library for C: bin/libmcf.so, bin/libmcf.a and bin/mcf.h
 # make library-test the library called from C, C++, Rust and Python, where these are there; four minutes at most
 # make dist         packs programs, tools, library and Python module into bin/dist/, as a .deb, a wheel and a tar.gz
@@ -42,6 +42,7 @@ bench:
 
 tools-test:
 	@scripts/tools_test.sh
+	@timeout 120 scripts/install_test.sh
 
 library: kit
 	@scripts/library.sh
@@ -89,4 +90,4 @@ uninstall:
 	rm -f "$(MAN)/mcf.1" "$(MAN)/mcfcheck.1" $(TOOLS:%="$(MAN)/%.1")
 	rm -rf $(PACKAGES:%="$(PYTHON)/%") "$(PYTHON)/mcf"
 	rm -f "$(LIB)/libmcf.so.1" "$(LIB)/libmcf.so" "$(LIB)/libmcf.a" "$(LIB)/pkgconfig/mcf.pc" "$(INCLUDE)/mcf.h"
-	-rmdir -p "$(PYTHON)" 2> /dev/null
+	@rmdir "$(PYTHON)" "$(DESTDIR)$(PREFIX)/share/mcf" 2> /dev/null || true
