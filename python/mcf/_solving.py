@@ -8,7 +8,7 @@ from ._library import BLOCKED, CODES, REFUSED, SIDES, ArcArrays, Choice, Verdict
 from ._numbers import exact, limited, scale_of, unscaled
 
 BOUND, COST, NODE = 10 ** 18, 10 ** 15, 2 ** 32 - 2
-# A flow problem of more nodes than this is solved with blocks that grow with it: docs/BENCH.md, "Flow problems".
+# A flow problem of more nodes than this goes to the search that is judged: docs/BENCH.md, "Flow problems".
 LARGE = 2 ** 15
 
 Number = Union[int, float]
@@ -70,7 +70,8 @@ class Flow:
 
 def suited(nodes: int, engine: str = "auto", pricing: Optional[str] = None, block: Optional[int] = None) -> Choice:
     """What solves a flow problem of so many nodes: what is asked, and by its size where nothing is."""
-    return choice_of(engine, pricing or ("wide" if nodes > LARGE and block is None else "block"), block)
+    is_asked = engine != "auto" or pricing is not None or block is not None
+    return choice_of("augment" if nodes > LARGE and not is_asked else engine, pricing or "block", block)
 
 
 def _packed(arcs: List[Arc]) -> bytes:

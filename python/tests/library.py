@@ -72,7 +72,7 @@ class Solving(unittest.TestCase):
         self.assertEqual((r.flow, r.cost), ([0.1, 0.2, 0], 0.55))
 
     def test_engines(self):
-        for engine in ("auto", "cancel", "simplex", "scaling", "sap"):
+        for engine in ("auto", "cancel", "simplex", "scaling", "sap", "augment"):
             for pricing in ("first", "best", "block", "wide"):
                 r = mcf.solve([5, 0, -5], [(0, 1, 9, 1), (1, 2, 9, 1), (0, 2, 3, 1)], engine=engine, pricing=pricing, block=2)
                 self.assertEqual(r.cost, 7)
@@ -82,7 +82,7 @@ class Solving(unittest.TestCase):
 
     def test_what_suits_a_size(self):
         many, suited = 2 ** 15 + 1, mcf._solving.suited
-        for choice, engine, pricing, block in ((suited(many - 1), 0, 0, 0), (suited(many), 0, 3, 0), (suited(many, block=64), 0, 0, 64),
+        for choice, engine, pricing, block in ((suited(many - 1), 0, 0, 0), (suited(many), 5, 0, 0), (suited(many, block=64), 0, 0, 64),
                                                (suited(many, "scaling", "first"), 3, 1, 0)):
             self.assertEqual((choice.engine, choice.pricing, choice.block), (engine, pricing, block))
         arcs = [(0, k, 1, k % 7) for k in range(1, many)]
