@@ -5,6 +5,9 @@
 
 PART
   answer    parses an answer of a million arcs and writes it anew
+  augment   solves nets of four families and of rising size by the engine `augment`, beside the simplex and the better of
+            LEMON's network simplex and cost scaling, as whole processes, with the peak of their memory (left out where
+            LEMON isn't there)
   assign    solves assignments by the engine `sap`, beside dlib and LEMON, as whole processes; a library that isn't
             there is skipped with a word
   check     judges such an answer for its instance
@@ -171,7 +174,7 @@ REPEATED = {"feasible", "net", "raise", "recover"}
 # the parts that have LEMON for a peer: the word by which its driver knows the algorithm, and the greatest ratio
 LEMON = {"scaling": ("cs", 9), "simplex": ("ns", 2.5)}
 # the parts that have modules of their own
-WHOLE = ("assign", "pieces", "table")
+WHOLE = ("assign", "augment", "pieces", "table")
 # the parts that have no other
 LEMON_ALONE = {"simplex"}
 # the seconds that are left out beside a peer of our own
@@ -272,6 +275,8 @@ def measure(part, words):
     """Runs each case of a part beside its peer, and says whether each figure is within the part's limit."""
     if part == "assign":
         return assignments.measure(words)
+    if part == "augment":
+        return measure_augment(words)
     if part == "pieces":
         return pieces.measure(words)
     if part == "table":
@@ -307,6 +312,14 @@ def measure(part, words):
     if part == "simplex":
         within = processes.measure(words, peers[-1].command[0], family_file) and within
     return within
+
+
+def measure_augment(words):
+    """The part `augment`, which is skipped where LEMON isn't there."""
+    if not has_lemon():
+        print("augment: left out, as LEMON isn't there (liblemon-dev)")
+        return True
+    return processes.measure_augment(words, lemon_program(), family_file)
 
 
 def net_bytes(name, program, paths):

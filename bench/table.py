@@ -60,12 +60,12 @@ def cost_of(lines):
     return None
 
 
-def measured(commands):
-    """Runs the commands in turn, and answers what was measured of each."""
+def measured(commands, most=MOST_RUNS, fewest=FEWEST, seconds=SECONDS):
+    """Runs the commands in turn, and answers what was measured of each: runs go on for so many seconds, within their numbers."""
     runs = {name: Run() for name in commands}
     start = time.monotonic()
-    for turn in range(MOST_RUNS):
-        if turn >= FEWEST and time.monotonic() - start > SECONDS:
+    for turn in range(most):
+        if turn >= fewest and time.monotonic() - start > seconds:
             break
         for name, command in commands.items():
             runs[name].again(command)
