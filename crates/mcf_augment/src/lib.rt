@@ -12,6 +12,7 @@ mod phase;
 mod refinement;
 mod search;
 mod sorting;
+mod spreading;
 mod star;
 mod tables;
 mod update;

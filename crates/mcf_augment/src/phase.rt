@@ -77,42 +77,67 @@ impl Search {
     /// Fills what is far from optimal, and augments the flow until no node is active. It says no where some surplus can't go anywhere, and
     /// where it takes too long.
     pub(crate) fn run_phase(&mut self) -> bool {
-        self.fill();
-        self.reset_currents();
-        self.enqueue_active();
+        self.fill_all();
         self.meter.relabels = 0;
-        'steps: for _ in 0..u64::MAX {
-            if self.meter.is_spent() {
-                return false;
-            }
-            let Some(node) = self.queue.first() else {
+        'nodes: for _ in 0..u64::MAX {
+            let Some(node) = self.queue.pop() else {
                 return true;
             };
-            if at(&self.surpluses, node as usize, 0) <= 0 {
-                self.queue.pop();
-            } else if !self.step(node) {
+            if !self.discharge(node) {
                 return false;
             }
         }
         false
     }
 
-    // Augments along one path from an active node. After an update that node goes to the end of the queue, so that none starves the others.
-    fn step(&mut self, node: u32) -> bool {
-        let mut path = Path::at(node);
-        if !self.extend(&mut path) {
-            return false;
+    // Fills each residual arc whose reduced cost is further below 0 than the slack, and lets each node begin with its first arc. The nodes with a
+    // surplus wait then.
+    fn fill_all(&mut self) {
+        self.meter.pay_readings(1);
+        'nodes: for node in 0..self.node_count() {
+            let first = self.view().first(node);
+            put(&mut self.currents, node as usize, first);
+            self.fill(node);
+            if at(&self.surpluses, node as usize, 0) > 0 {
+                self.queue.push(node);
+            }
         }
-        self.augment(&path);
-        if !self.meter.is_update_due() {
-            return true;
+    }
+
+    // Fills those that leave a node.
+    fn fill(&mut self, node: u32) {
+        let least = self.scale.slack().wrapping_neg();
+        let view = self.view();
+        let (first, end, price) = (view.first(node), view.end(node), view.price(node));
+        'places: for i in first..end {
+            let Some((head, reduced)) = self.view().rated(i, price) else {
+                continue;
+            };
+            if reduced < least {
+                let room = self.star.room(i);
+                self.push(i, node, head, room);
+            }
         }
-        self.meter.relabels = 0;
-        if !self.update_prices() {
-            return false;
+    }
+
+    // Augments along paths from a node until it isn't active. After an update it goes to the end of the queue, so that none starves the others.
+    fn discharge(&mut self, node: u32) -> bool {
+        'paths: for _ in 0..u64::MAX {
+            if at(&self.surpluses, node as usize, 0) <= 0 {
+                return true;
+            }
+            let mut path = Path::at(node);
+            if self.meter.is_spent() || !self.extend(&mut path) {
+                return false;
+            }
+            self.augment(&path);
+            if self.meter.is_update_due() {
+                self.meter.relabels = 0;
+                self.queue.push(node);
+                return self.update_prices();
+            }
         }
-        self.queue.rotate();
-        true
+        false
     }
 
     // Extends a path by admissible arcs, and relabels where there is none.
@@ -124,7 +149,7 @@ impl Search {
                 return true;
             }
             self.meter.pay(2);
-            let view = View::new(&self.star, &self.prices, self.scale);
+            let view = self.view();
             let current = at(&self.currents, tip as usize, 0);
             let (place, least) = seek(view, view.price(tip), current, view.end(tip));
             if place == NOWHERE {
@@ -145,88 +170,48 @@ impl Search {
     // Takes the last arc off a path, and lowers the price of its last node, which no admissible arc leaves, by the slack and the least reduced
     // cost; the way back counts only where there is no other.
     fn relabel(&mut self, path: &mut Path, tip: u32, current: u32, least: i64) -> bool {
-        let view = View::new(&self.star, &self.prices, self.scale);
-        let (first, price) = (view.first(tip), view.price(tip));
+        let view = self.view();
+        let (first, end, price) = (view.first(tip), view.end(tip), view.price(tip));
         let mut least = seek(view, price, first, current).1.min(least);
-        let last = path.step_back();
+        let way_back = path.step_back();
         if least == NOTHING {
-            let Some(place) = last else {
+            let Some(place) = way_back else {
                 return false;
             };
             let before = view.price(path.tip());
             least = view.reduced(view.place(place), before).wrapping_neg();
         }
         let lowered = price.wrapping_sub(least).wrapping_sub(self.scale.slack());
-        self.meter.pay(view.end(tip).wrapping_sub(first));
+        self.meter.pay(end.wrapping_sub(first));
         self.meter.relabels = self.meter.relabels.wrapping_add(1);
         put(&mut self.prices, tip as usize, lowered);
         put(&mut self.currents, tip as usize, first);
         lowered >= LIMIT.wrapping_neg()
     }
 
-    // Pushes along each arc of a path in turn.
+    // Pushes along each arc of a path in turn, as much as its tail has and it has room for.
     fn augment(&mut self, path: &Path) {
         'arcs: for i in 0..path.len {
             let place = at(&path.places, i, NOWHERE);
             let from = at(&path.nodes, i, NOWHERE);
             let to = at(&path.nodes, i.wrapping_add(1), NOWHERE);
-            self.push(place, from, to);
+            let surplus = at(&self.surpluses, from as usize, 0);
+            let amount = surplus.min(self.star.room(place));
+            if amount > 0 {
+                self.push(place, from, to, amount);
+            }
         }
     }
 
-    // Pushes the lesser of the surplus of its tail and its room along a residual arc.
-    fn push(&mut self, place: u32, from: u32, to: u32) {
-        let surplus = at(&self.surpluses, from as usize, 0);
-        let amount = surplus.min(self.star.room(place));
-        if amount <= 0 {
-            return;
-        }
-        self.shift_surplus(from, to, amount);
-        self.star.send(place, amount);
-        if at(&self.surpluses, to as usize, 0) > 0 {
-            self.queue.push(to);
-        }
-    }
-
-    // Moves surplus from one node to another.
-    fn shift_surplus(&mut self, from: u32, to: u32, amount: i64) {
+    // Pushes an amount along a residual arc. Its head waits then if it has a surplus.
+    fn push(&mut self, place: u32, from: u32, to: u32, amount: i64) {
         let left = at(&self.surpluses, from as usize, 0).wrapping_sub(amount);
         put(&mut self.surpluses, from as usize, left);
         let more = at(&self.surpluses, to as usize, 0).wrapping_add(amount);
         put(&mut self.surpluses, to as usize, more);
-    }
-
-    // Fills each residual arc whose reduced cost is further below 0 than the slack.
-    fn fill(&mut self) {
-        self.meter.pay_readings(&self.star, 1);
-        'nodes: for node in 0..self.node_count() {
-            self.fill_from(node);
-        }
-    }
-
-    // Fills those that leave a node.
-    fn fill_from(&mut self, node: u32) {
-        let least = self.scale.slack().wrapping_neg();
-        let view = View::new(&self.star, &self.prices, self.scale);
-        let (first, end, price) = (view.first(node), view.end(node), view.price(node));
-        'places: for i in first..end {
-            let view = View::new(&self.star, &self.prices, self.scale);
-            let place = view.place(i);
-            if place.has_room() && view.reduced(place, price) < least {
-                let room = self.star.room(i);
-                self.shift_surplus(node, place.node(), room);
-                self.star.send(i, room);
-            }
-        }
-    }
-
-    // Lets each node with a surplus wait.
-    fn enqueue_active(&mut self) {
-        self.queue.clear();
-        'nodes: for node in 0..self.node_count() {
-            if at(&self.surpluses, node as usize, 0) > 0 {
-                self.queue.push(node);
-            }
+        self.star.send(place, amount);
+        if more > 0 {
+            self.queue.push(to);
         }
     }
 }

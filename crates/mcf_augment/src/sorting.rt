@@ -1,150 +1,170 @@
-//! Depth-first searches along residual arcs of low reduced cost, and the cycles that they close.
+//! Depth-first searches along residual arcs of low reduced cost, and the negative cycles that they close.
 
 use crate::columns::{at, put};
 use crate::search::Search;
 use crate::star::NOWHERE;
-use crate::view::View;
 
-// How far a search is with a node, in the lower bits of its mark: it is at the node, or has left it.
-const STATE: u8 = 3;
-
-const ENTERED: u8 = 1;
-
-const LEFT: u8 = 2;
-
-/// The bit of a node that an arc of negative reduced cost may leave.
-pub(crate) const LABELLED: u8 = 4;
-
-/// What a search goes along: arcs of negative reduced cost alone, where it ends at the first cycle; or those of reduced cost 0, too, where it goes on.
+/// How far a search is with a node: it may begin with it, is at it, or has left it.
 #[derive(Clone, Copy, PartialEq, Eq)]
-pub(crate) enum Along {
-    Negative,
-    NotPositive,
+pub(crate) enum Mark {
+    Quiet,
+    Labelled,
+    Entered,
+    Left,
+}
+
+/// Where a search came to a node: from which, how deep it is, and how deep above it the last arc of negative reduced cost ends.
+#[derive(Clone, Copy)]
+pub(crate) struct Visit {
+    parent: u32,
+    depth: u32,
+    deepest: u32,
+}
+
+/// Stands for the visit of a node where there is none.
+pub(crate) const NO_VISIT: Visit = Visit {
+    parent: NOWHERE,
+    depth: 0,
+    deepest: 0,
+};
+
+// A step that a search takes: the place of a residual arc, its head, and its reduced cost.
+#[derive(Clone, Copy)]
+struct Step {
+    place: u32,
+    head: u32,
+    reduced: i64,
 }
 
 impl Search {
-    /// Whether no search was at a node yet.
-    pub(crate) fn is_new(&self, node: u32) -> bool {
-        at(&self.marks, node as usize, LEFT) & STATE == 0
-    }
-
-    /// Lists the nodes that are reached from a node, as the search leaves them, and cancels the negative cycles that it meets. It says whether it
-    /// came to its end.
-    pub(crate) fn sort_reached(&mut self, root: u32, along: Along) -> bool {
-        self.enter(root, NOWHERE, 1, 0);
-        let mut tip = root;
-        'steps: for _ in 0..u64::MAX {
-            if tip == NOWHERE {
-                break;
+    /// Lists the nodes that are reached from the labelled ones along arcs of reduced costs up to `most`, as the search leaves them, where an arc of
+    /// negative reduced cost leaves the first. It cancels the negative cycles that it meets; where `most` is negative, too, it ends at the first,
+    /// and says no.
+    pub(crate) fn sort_labelled(&mut self, most: i64) -> bool {
+        self.order.count = 0;
+        'roots: for root in 0..self.node_count() {
+            if self.mark(root) != Mark::Labelled {
+                continue;
             }
-            let place = self.next_step(tip, along);
-            let head = self.star.place(place).node();
-            if place == self.star.end(tip) {
-                tip = self.leave(tip);
-            } else if self.is_new(head) {
-                self.descend(tip, place);
-                tip = head;
-            } else {
-                tip = self.cancel(head, tip);
-                if along == Along::Negative {
-                    return false;
-                }
+            self.meter.pay(4);
+            if !self.view().has_negative(root) {
+                put(&mut self.marks, root as usize, Mark::Quiet);
+            } else if !self.sort_reached(root, most) {
+                return false;
             }
         }
         true
     }
 
-    // Goes from a node to a new one by the residual arc at a place.
-    fn descend(&mut self, tip: u32, place: u32) {
-        let view = View::new(&self.star, &self.prices, self.scale);
-        let place = view.place(place);
-        let is_negative = view.reduced(place, view.price(tip)) < 0;
-        let depth = at(&self.depths, tip as usize, 0).wrapping_add(1);
-        let above = at(&self.deepest, tip as usize, 0);
-        let deepest = if is_negative { depth } else { above };
-        self.enter(place.node(), tip, depth, deepest);
+    // Lists the nodes that are reached from one of them.
+    fn sort_reached(&mut self, root: u32, most: i64) -> bool {
+        self.enter(root, NOWHERE, false);
+        let mut tip = root;
+        'steps: for _ in 0..u64::MAX {
+            let Some(step) = self.next_step(tip, most) else {
+                put(&mut self.marks, tip as usize, Mark::Left);
+                self.order.push(tip);
+                tip = self.visit(tip).parent;
+                if tip == NOWHERE {
+                    break;
+                }
+                continue;
+            };
+            put(&mut self.currents, tip as usize, step.place);
+            if self.mark(step.head) != Mark::Entered {
+                self.enter(step.head, tip, step.reduced < 0);
+                tip = step.head;
+                continue;
+            }
+            tip = self.cancel(step.head, tip);
+            if most < 0 {
+                return false;
+            }
+        }
+        true
     }
 
     // Begins with a node.
-    fn enter(&mut self, node: u32, parent: u32, depth: u32, deepest: u32) {
-        let mark = at(&self.marks, node as usize, 0) & LABELLED | ENTERED;
-        let first = at(&self.star.firsts, node as usize, 0);
-        put(&mut self.marks, node as usize, mark);
-        put(&mut self.parents, node as usize, parent);
-        put(&mut self.depths, node as usize, depth);
-        put(&mut self.deepest, node as usize, deepest);
+    fn enter(&mut self, node: u32, parent: u32, is_negative: bool) {
+        let above = self.visit(parent);
+        let depth = above.depth.wrapping_add(1);
+        let visit = Visit {
+            parent,
+            depth,
+            deepest: if is_negative { depth } else { above.deepest },
+        };
+        let view = self.view();
+        let (first, end) = (view.first(node), view.end(node));
+        self.meter.pay(end.wrapping_sub(first).wrapping_add(1));
+        put(&mut self.visits, node as usize, visit);
+        put(&mut self.marks, node as usize, Mark::Entered);
         put(&mut self.currents, node as usize, first);
     }
 
-    // Ends with a node, and goes back to that from which it was reached.
-    fn leave(&mut self, node: u32) -> u32 {
-        let mark = at(&self.marks, node as usize, 0) & LABELLED | LEFT;
-        put(&mut self.marks, node as usize, mark);
-        self.order.push(node);
-        let parent = self.parent(node);
-        let next = self.current(parent).wrapping_add(1);
-        put(&mut self.currents, parent as usize, next);
-        parent
-    }
-
-    // The place, which then is the current one of a node, of the first arc from the current one on that has room and a reduced cost as low as is
-    // asked, and leads to a node that is new, or closes a negative cycle; the end where there is none.
-    fn next_step(&mut self, node: u32, along: Along) -> u32 {
-        let current = self.current(node);
-        let place = self.scan_steps(node, current, along);
-        put(&mut self.currents, node as usize, place);
-        self.meter.pay(place.wrapping_sub(current).wrapping_add(1));
-        place
-    }
-
-    // Seeks that arc.
+    // The first arc of a node, from the current one on, that has room and a reduced cost up to `most`, and leads to a node that is new, or closes a
+    // negative cycle.
     #[inline(always)]
-    fn scan_steps(&self, node: u32, current: u32, along: Along) -> u32 {
-        let view = View::new(&self.star, &self.prices, self.scale);
-        let (price, end) = (view.price(node), view.end(node));
-        let deepest = at(&self.deepest, node as usize, 0);
-        let most = if along == Along::Negative { -1 } else { 0 };
-        'places: for i in current..end {
-            let Some((head, reduced)) = view.rated(i, price) else {
+    fn next_step(&self, node: u32, most: i64) -> Option<Step> {
+        let view = self.view();
+        let price = view.price(node);
+        let deepest = self.visit(node).deepest;
+        'places: for place in self.current(node)..view.end(node) {
+            let Some((head, reduced)) = view.rated(place, price) else {
                 continue;
             };
-            let state = at(&self.marks, head as usize, LEFT) & STATE;
-            if reduced > most || state == LEFT {
+            let mark = self.mark(head);
+            if reduced > most || mark == Mark::Left {
                 continue;
             }
-            if state == 0 || reduced < 0 || deepest > at(&self.depths, head as usize, 0) {
-                return i;
+            if mark != Mark::Entered || reduced < 0 || deepest > self.visit(head).depth {
+                return Some(Step {
+                    place,
+                    head,
+                    reduced,
+                });
             }
         }
-        end
+        None
+    }
+
+    // The mark of a node.
+    #[inline(always)]
+    fn mark(&self, node: u32) -> Mark {
+        at(&self.marks, node as usize, Mark::Left)
+    }
+
+    // Where the search came to a node.
+    #[inline(always)]
+    fn visit(&self, node: u32) -> Visit {
+        at(&self.visits, node as usize, NO_VISIT)
     }
 
     // The current arc of a node.
+    #[inline(always)]
     fn current(&self, node: u32) -> u32 {
         at(&self.currents, node as usize, NOWHERE)
     }
 
-    // The node from which the search came to a node.
-    fn parent(&self, node: u32) -> u32 {
-        at(&self.parents, node as usize, NOWHERE)
-    }
-
     // Cancels a negative cycle: from a node down to another, and back by the current arc of that. It goes back to the tail of the highest arc
-    // that is full then.
+    // that is full then, and labels the nodes below.
     fn cancel(&mut self, top: u32, tip: u32) -> u32 {
         let narrow = self.narrowest(top, tip);
         let amount = self.star.room(self.current(narrow));
-        self.send_round(top, tip, amount);
         let mut node = tip;
-        'nodes: for _ in 0..self.node_count() {
-            if node == narrow {
+        let mut is_below = true;
+        'nodes: for _ in 0..=self.node_count() {
+            let place = self.current(node);
+            self.star.send(place, amount);
+            is_below = is_below && node != narrow;
+            if is_below {
+                put(&mut self.marks, node as usize, Mark::Labelled);
+            }
+            if node == top {
                 break;
             }
-            let mark = at(&self.marks, node as usize, 0) & LABELLED;
-            put(&mut self.marks, node as usize, mark);
-            node = self.parent(node);
+            node = self.visit(node).parent;
         }
-        node
+        narrow
     }
 
     // The node of a cycle whose current arc can carry least; of several such the highest in the search.
@@ -154,25 +174,12 @@ impl Search {
             if node == top {
                 break;
             }
-            node = self.parent(node);
+            node = self.visit(node).parent;
             self.meter.pay(1);
             if self.star.room(self.current(node)) <= self.star.room(self.current(narrow)) {
                 narrow = node;
             }
         }
         narrow
-    }
-
-    // Sends an amount round a cycle.
-    fn send_round(&mut self, top: u32, tip: u32, amount: i64) {
-        let mut node = tip;
-        'nodes: for _ in 0..=self.node_count() {
-            let place = self.current(node);
-            self.star.send(place, amount);
-            if node == top {
-                break;
-            }
-            node = self.parent(node);
-        }
     }
 }

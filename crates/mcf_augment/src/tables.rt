@@ -5,10 +5,10 @@ use crate::star::NOWHERE;
 use mcf_text::{NoMemory, copies};
 use std::alloc::Global;
 
-/// A list of nodes in room that was made for so many; what finds no room is not listed.
+/// A list of nodes, from which the last is taken, in room that was made for so many; what finds no room is not listed.
 #[derive(Drop)]
 pub(crate) struct Listed {
-    pub(crate) nodes: Vec<u32>,
+    nodes: Vec<u32>,
     pub(crate) count: usize,
 }
 
@@ -21,20 +21,19 @@ impl Listed {
         })
     }
 
-    /// The node at a place of the list.
-    pub(crate) fn get(&self, place: usize) -> u32 {
-        at(&self.nodes, place, NOWHERE)
-    }
-
-    /// The node at a place of the list, counted from its end.
-    pub(crate) fn get_back(&self, place: usize) -> u32 {
-        self.get(self.count.wrapping_sub(place).wrapping_sub(1))
-    }
-
     /// Puts a node at the end.
     pub(crate) fn push(&mut self, node: u32) {
         put(&mut self.nodes, self.count, node);
         self.count = self.count.wrapping_add(1);
+    }
+
+    /// Takes the node at the end off, if there is one.
+    pub(crate) fn pop(&mut self) -> Option<u32> {
+        if self.count == 0 {
+            return None;
+        }
+        self.count -= 1;
+        Some(at(&self.nodes, self.count, NOWHERE))
     }
 }
 
@@ -58,13 +57,6 @@ impl Queue {
         })
     }
 
-    /// Lets no node wait.
-    pub(crate) fn clear(&mut self) {
-        put_all(&mut self.waiting, false);
-        self.front = 0;
-        self.count = 0;
-    }
-
     /// Puts a node at the end, if it doesn't wait.
     pub(crate) fn push(&mut self, node: u32) {
         if at(&self.waiting, node as usize, true) {
@@ -82,41 +74,29 @@ impl Queue {
         self.count = self.count.wrapping_add(1);
     }
 
-    /// The first node, if one waits.
-    pub(crate) fn first(&self) -> Option<u32> {
+    /// Takes the first node off, if one waits.
+    pub(crate) fn pop(&mut self) -> Option<u32> {
         if self.count == 0 {
             return None;
         }
-        Some(at(&self.nodes, self.front, NOWHERE))
-    }
-
-    /// Takes the first node off.
-    pub(crate) fn pop(&mut self) {
         let node = at(&self.nodes, self.front, NOWHERE);
         put(&mut self.waiting, node as usize, false);
         let next = self.front.wrapping_add(1);
         self.front = if next < self.nodes.len() { next } else { 0 };
-        self.count = self.count.wrapping_sub(1);
-    }
-
-    /// Puts the first node at the end.
-    pub(crate) fn rotate(&mut self) {
-        if let Some(node) = self.first() {
-            self.pop();
-            self.push(node);
-        }
+        self.count -= 1;
+        Some(node)
     }
 }
 
-/// For each node a rank, and for each rank a bucket: a list of nodes, linked both ways (Dial).
+/// For each node a rank, and for each rank above 0 a bucket: a list of nodes, linked both ways (Dial). Nodes of rank 0 are in none.
 #[derive(Drop)]
 pub(crate) struct Buckets {
-    pub(crate) ranks: Vec<u32>,
+    ranks: Vec<u32>,
     heads: Vec<u32>,
     nexts: Vec<u32>,
     befores: Vec<u32>,
-    // the greatest rank whose bucket was used
-    pub(crate) top: u32,
+    // the nodes that have or had a bucket
+    pub(crate) ranked: Listed,
 }
 
 // There are at least so many buckets.
@@ -127,41 +107,51 @@ impl Buckets {
     pub(crate) fn start(alloc: Global, nodes: u32) -> Result<Buckets, NoMemory> {
         let most = nodes.max(LEAST_BUCKETS);
         Ok(Buckets {
-            ranks: copies(alloc, nodes as usize, most)?,
-            heads: copies(alloc, most as usize, NOWHERE)?,
+            ranks: copies(alloc, nodes as usize, 0)?,
+            heads: copies(alloc, most as usize + 1, NOWHERE)?,
             nexts: copies(alloc, nodes as usize, NOWHERE)?,
             befores: copies(alloc, nodes as usize, NOWHERE)?,
-            top: 0,
+            ranked: Listed::start(alloc, nodes as usize)?,
         })
     }
 
-    /// How many buckets there are, which is the rank of a node in none.
+    /// Gives each node the rank 0.
+    pub(crate) fn clear(&mut self) {
+        put_all(&mut self.ranks, 0);
+        put_all(&mut self.heads, NOWHERE);
+        self.ranked.count = 0;
+    }
+
+    /// The greatest rank.
     pub(crate) fn most(&self) -> u32 {
-        self.nexts
-            .len()
-            .max(LEAST_BUCKETS as usize)
-            .min(NOWHERE as usize) as u32
+        self.heads.len().saturating_sub(1).min(NOWHERE as usize) as u32
     }
 
     /// The rank of a node.
+    #[inline(always)]
     pub(crate) fn rank(&self, node: u32) -> u32 {
         at(&self.ranks, node as usize, 0)
     }
 
-    /// Puts a node that is in no bucket into that of a rank.
+    /// Gives a node a greater rank, and so another bucket.
     #[inline(always)]
-    pub(crate) fn link(&mut self, node: u32, rank: u32) {
+    pub(crate) fn raise(&mut self, node: u32, rank: u32) {
+        let old = self.rank(node);
+        if old == 0 {
+            self.ranked.push(node);
+        } else {
+            self.unlink(node, old);
+        }
         let next = at(&self.heads, rank as usize, NOWHERE);
         put(&mut self.nexts, node as usize, next);
         put(&mut self.befores, next as usize, node);
         put(&mut self.heads, rank as usize, node);
         put(&mut self.ranks, node as usize, rank);
-        self.top = self.top.max(rank);
     }
 
-    /// Takes a node out of the bucket of its rank.
+    // Takes a node out of the bucket of its rank.
     #[inline(always)]
-    pub(crate) fn unlink(&mut self, node: u32, rank: u32) {
+    fn unlink(&mut self, node: u32, rank: u32) {
         let next = at(&self.nexts, node as usize, NOWHERE);
         let before = at(&self.befores, node as usize, NOWHERE);
         if at(&self.heads, rank as usize, NOWHERE) == node {
@@ -172,7 +162,7 @@ impl Buckets {
         put(&mut self.befores, next as usize, before);
     }
 
-    /// Takes a node off the bucket of a rank, if it holds one.
+    /// Takes a node off the bucket of a rank, if it holds one. It keeps its rank.
     pub(crate) fn pop(&mut self, rank: u32) -> Option<u32> {
         let node = at(&self.heads, rank as usize, NOWHERE);
         if node == NOWHERE {
@@ -181,16 +171,5 @@ impl Buckets {
         let next = at(&self.nexts, node as usize, NOWHERE);
         put(&mut self.heads, rank as usize, next);
         Some(node)
-    }
-
-    /// Empties the buckets from a rank on.
-    pub(crate) fn empty_from(&mut self, rank: u32) {
-        'ranks: for r in rank..self.most() {
-            if r > self.top {
-                break;
-            }
-            put(&mut self.heads, r as usize, NOWHERE);
-        }
-        self.top = 0;
     }
 }

@@ -10,15 +10,7 @@ pub(crate) struct Scale {
     pub(crate) power: u32,
 }
 
-// At a slack of 2 to this power units a phase is followed by a try at prices that are exact.
-const FINE: u32 = 2;
-
 impl Scale {
-    /// Whether the slack is a few units at most.
-    pub(crate) fn is_fine(self) -> bool {
-        self.power <= self.shift.saturating_add(FINE)
-    }
-
     /// The slack that a phase leaves.
     pub(crate) fn slack(self) -> i64 {
         1 << (self.power % 64)
@@ -29,11 +21,6 @@ impl Scale {
     pub(crate) fn slacks(self, number: i64) -> i64 {
         number >> (self.power % 64)
     }
-
-    /// So many slacks.
-    pub(crate) fn times_slack(self, count: u32) -> i64 {
-        i64::from(count) << (self.power % 64)
-    }
 }
 
 /// The residual arcs as they lie and the prices, to be scanned.
@@ -42,7 +29,7 @@ pub(crate) struct View<'a> {
     firsts: &'a [u32],
     places: &'a [Place],
     prices: &'a [i64],
-    shift: u32,
+    pub(crate) scale: Scale,
 }
 
 impl<'a> View<'a> {
@@ -53,11 +40,12 @@ impl<'a> View<'a> {
             firsts: star.firsts.as_slice(),
             places: star.places.as_slice(),
             prices,
-            shift: scale.shift % 64,
+            scale,
         }
     }
 
     /// Where the places of a node begin.
+    #[inline(always)]
     pub(crate) fn first(self, node: u32) -> u32 {
         at(self.firsts, node as usize, 0)
     }
@@ -78,6 +66,19 @@ impl<'a> View<'a> {
         Some((place.node(), self.reduced(place, price)))
     }
 
+    /// Whether an arc with room and negative reduced cost leaves a node.
+    pub(crate) fn has_negative(self, node: u32) -> bool {
+        let price = self.price(node);
+        'places: for i in self.first(node)..self.end(node) {
+            if let Some((_, reduced)) = self.rated(i, price) {
+                if reduced < 0 {
+                    return true;
+                }
+            }
+        }
+        false
+    }
+
     /// What stands at a place.
     #[inline(always)]
     pub(crate) fn place(self, place: u32) -> Place {
@@ -93,7 +94,7 @@ impl<'a> View<'a> {
     /// Its reduced cost, where the price of its tail is given.
     #[inline(always)]
     pub(crate) fn reduced(self, place: Place, price: i64) -> i64 {
-        (place.cost << (self.shift % 64))
+        (place.cost << (self.scale.shift % 64))
             .wrapping_add(price)
             .wrapping_sub(self.price(place.node()))
     }
