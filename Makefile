@@ -8,9 +8,10 @@
 # make library-test the library called from C, C++, Rust and Python, where these are there; four minutes at most
 # make dist         packs programs, tools, library and Python module into bin/dist/, as a .deb, a wheel and a tar.gz
 # make dist-test    installs these packages where nothing of the repository is, and runs them: needs debootstrap and root for the .deb
+# make page         the page that solves, bin/mcf.html: needs rt, Binaryen and LLVM's library of builtins for wasm64
 # make install      puts the programs, the tools and the manual pages, and the library and its Python package where it is built, under PREFIX (and DESTDIR before it); make uninstall removes just these
 
-.PHONY: all kit test memory-test clean bench tools-test library library-test dist dist-test install install-library uninstall
+.PHONY: all kit test memory-test clean bench tools-test library library-test dist dist-test page install install-library uninstall
 .NOTPARALLEL:
 
 # The programs among the crates that crates.txt lists; the logs are bin/NAME.log.
@@ -28,6 +29,7 @@ test: kit
 	rt ci
 	@python3 scripts/refuse_memory.py --built --only six_rows --minutes 4 $(WITH_TESTS)
 	@$(MAKE) --no-print-directory tools-test
+	@scripts/page_test.sh
 
 # Each allocation refused in turn on six worked rows, and with ALL=1 in every test: the tests are proved and built first, which takes as long as make.
 WITH_TESTS = mcf_text_tests mcf_tests mcf_engine_tests mcf_suite
@@ -56,6 +58,9 @@ dist:
 
 dist-test:
 	@scripts/dist_test.sh
+
+page: kit
+	@page/build.sh
 
 PREFIX = /usr/local
 BIN = $(DESTDIR)$(PREFIX)/bin

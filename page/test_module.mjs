@@ -1,0 +1,71 @@
+// What the module answers to each example, in both forms and by each engine, and what it says of answers that were changed.
+import fs from 'node:fs';
+import os from 'node:os';
+import path from 'node:path';
+import { spawnSync } from 'node:child_process';
+import { fileURLToPath } from 'node:url';
+import { Instance } from './module.js';
+
+const top = path.join(path.dirname(fileURLToPath(import.meta.url)), '..'), examples = path.join(top, 'examples');
+const programs = process.env.MCF_BIN ?? path.join(top, 'bin'), mcfcheck = path.join(programs, 'mcfcheck');
+// Of an answer's bytes every so many is changed for mcfcheck, which is a process each time.
+const EVERY = 16;
+
+export function loaded() {
+  const module = new WebAssembly.Module(fs.readFileSync(path.join(top, 'bin', 'mcf.wasm')));
+  if (WebAssembly.Module.imports(module).length) throw Error('the module asks its host for something');
+  return module;
+}
+
+export default function test(expect) {
+  const module = loaded(), scratch = fs.mkdtempSync(path.join(os.tmpdir(), 'mcf-page-')), checks = fs.existsSync(mcfcheck);
+  for (const name of fs.readdirSync(examples).filter((file) => /\.(min|asn)$/.test(file)).sort()) {
+    const file = path.join(examples, name), bytes = fs.readFileSync(file), stem = file.replace(/\.\w+$/, '');
+    const statuses = { ans: 1, two: 2 };
+    for (const end of Object.keys(statuses).filter((ending) => fs.existsSync(`${stem}.${ending}`))) {
+      const wanted = fs.readFileSync(`${stem}.${end}`), instance = new Instance(module), text = instance.lend(bytes);
+      const found = instance.solve(text, 'auto', statuses[end]);
+      expect(Buffer.from(instance.bytes(found.at, found.size)).equals(wanted), `${name}: form ${statuses[end]} has another answer`);
+      expect(instance.check(text, instance.lend(wanted)).accepted, `${name}: the answer isn't accepted`);
+      const short = instance.solve(text, 'auto', statuses[end], 3);
+      expect(short.status === 'room' && short.size === wanted.length, `${name}: three bytes are too few`);
+      changed(module, bytes, wanted, (bad, verdict, k) => {
+        if (checks && k % EVERY === 0) expect(verdict.line === said(scratch, file, bad), `${name}: byte ${k} changed: ${verdict.line}`);
+        if (verdict.accepted) expect(mayPass(wanted, bad, k), `${name}: byte ${k} changed, and it passes`);
+        else expect(verdict.line.startsWith('rejected '), `${name}: ${verdict.line}`);
+      });
+    }
+    for (const engine of ['cancel', 'simplex', 'scaling', 'sap']) {
+      const instance = new Instance(module), text = instance.lend(bytes), found = instance.solve(text, engine);
+      expect(instance.check(text, found).accepted, `${name}: ${engine}`);
+    }
+  }
+  let refused = false;
+  try { new Instance(module).room(2 ** 40); } catch (error) { refused = error instanceof RangeError; }
+  expect(refused, 'a room that no memory has');
+  fs.rmSync(scratch, { recursive: true });
+  return checks ? '' : `not compared with mcfcheck, which isn't built in ${programs}`;
+}
+
+// Each byte of an answer changed, one at a time.
+function changed(module, bytes, wanted, judge) {
+  const instance = new Instance(module), text = instance.lend(bytes), answer = instance.lend(wanted);
+  for (let k = 0; k < wanted.length; k++) {
+    const bad = Buffer.from(wanted);
+    bad[k] = bad[k] === 49 ? 50 : 49;
+    instance.bytes(answer.at, bad.length).set(bad);
+    judge(bad, instance.check(text, answer), k);
+  }
+}
+
+// An answer may be right after a change where other prices show the same flow, or another set blocks.
+function mayPass(wanted, bad, k) {
+  const line = bad.subarray(0, k + 1).toString('latin1').split('\n').pop();
+  return line.startsWith('y') || line.startsWith('x') || wanted[k] === 10;
+}
+
+function said(scratch, file, answer) {
+  const other = path.join(scratch, 'answer');
+  fs.writeFileSync(other, answer);
+  return spawnSync(mcfcheck, [file, other]).stdout.toString().trim();
+}

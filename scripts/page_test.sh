@@ -1,0 +1,12 @@
+#!/bin/sh
+# The tests of the page that need node alone, over the module that page/build.sh makes. It says what is skipped, and why.
+set -u
+cd "$(dirname "$0")/.." || exit 1
+
+if ! command -v node > /dev/null; then
+    echo "page: skipped: node isn't there"
+elif ! lacking=$(page/build.sh --needs 2>&1); then
+    echo "page: skipped: the module can't be built: ${lacking#page: }"
+else
+    page/build.sh && node page/test.mjs
+fi
