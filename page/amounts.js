@@ -1,0 +1,172 @@
+// Numbers as tables have them: whole or with decimals, after a point or a comma, with or without marks between thousands. All are
+// exact: a number is a whole one of so many decimals, and has none at its end that is 0.
+import { at, shown } from './faults.js';
+
+const BLANK = "[ \\u00a0\\u2009\\u202f'’_]";
+const WHOLE = /^[+-]?[0-9]{1,1000}$/;
+const SPACED = new RegExp(`^([+-]?[0-9]{1,3}(?:${BLANK}[0-9]{3})+)([.,][0-9]{1,1000})?$`);
+// One mark with three digits after it, which may stand between thousands or before decimals.
+const EITHER = /^[+-]?[1-9][0-9]{0,2}[.,][0-9]{3}$/;
+const ONE_MARK = /^[+-]?[0-9]*([.,])[0-9]+$/;
+const EXPONENT = /^[+-]?[0-9]+(?:[.,][0-9]*)?[eE][+-]?[0-9]+$/;
+const OTHER = { ',': '.', '.': ',' };
+export const NO_LIMIT = ['', 'inf', '∞'];
+export const ZERO = { digits: 0n, decimals: 0 };
+
+const withoutBlanks = (cell) => (SPACED.test(cell) ? cell.replace(new RegExp(BLANK, 'g'), '') : cell);
+
+// The mark before decimals, if a cell settles it; blanks between thousands leave a mark no other meaning.
+function markIn(cell) {
+  if (WHOLE.test(cell)) return null;
+  const spaced = SPACED.exec(cell);
+  if (spaced) return spaced[2] ? spaced[2][0] : null;
+  if (EITHER.test(cell)) return null;
+  const found = ONE_MARK.exec(cell);
+  if (found) return found[1];
+  for (const [mark, other] of Object.entries(OTHER)) {
+    const thousands = `[+-]?[0-9]{1,3}(?:\\${other}[0-9]{3})`;
+    if (new RegExp(`^(?:${thousands}+\\${mark}[0-9]+|${thousands}{2,})$`).test(cell)) return mark;
+  }
+  return null;
+}
+
+const VALUES = Object.fromEntries(Object.entries(OTHER).map(([mark, other]) => [mark, new RegExp(
+  `^[+-]?(?:[0-9]{1,1000}|[0-9]{1,3}(?:\\${other}[0-9]{3})+|(?=\\${mark}))(?:\\${mark}[0-9]{1,1000})?$`)]));
+
+// The value of a cell whose decimals stand after a mark; null where it is no such number.
+export function valueOf(cell, mark) {
+  const plain = withoutBlanks(cell);
+  if (!VALUES[mark].test(plain)) return null;
+  const [whole, decimals = ''] = plain.replaceAll(OTHER[mark], '').replace('+', '').split(mark);
+  let digits = BigInt((whole + decimals).replace('-', '') || 0), count = decimals.length;
+  while (count && digits % 10n === 0n) { digits /= 10n; count--; }
+  return { digits: whole.startsWith('-') ? -digits : digits, decimals: count };
+}
+
+// A number in parts of which 10^decimals make one.
+export const scaled = (number, decimals) => number.digits * 10n ** BigInt(decimals - number.decimals);
+export const decimalsOf = (numbers) => numbers.reduce((most, number) => Math.max(most, number.decimals), 0);
+
+export function compare(one, two) {
+  const decimals = decimalsOf([one, two]), a = scaled(one, decimals), b = scaled(two, decimals);
+  return a < b ? -1 : a > b ? 1 : 0;
+}
+
+// How the numbers of some tables are written: which mark stands before decimals, as was said or as cells show.
+export class Numbers {
+  constructor(mark = null) { Object.assign(this, { mark, shownBy: new Map(), settled: null }); }
+
+  // Looks which mark the cells of some columns show.
+  look(table, columns) {
+    for (const { line, cells } of table.rows) {
+      for (const column of columns) {
+        const mark = column < cells.length ? markIn(cells[column]) : null;
+        if (mark && !this.shownBy.has(mark)) this.shownBy.set(mark, { table, line, cell: cells[column] });
+      }
+    }
+  }
+
+  // Settles the mark, where cells show one and nothing else was said.
+  settle(faults) {
+    if (!this.mark && this.shownBy.size === 2) {
+      const [first, other] = this.shownBy.values();
+      faults.add(at(other.table, other.line), 'both marks', `decimals stand after a point and after a comma: ${shown(first.cell)} `
+        + `(${first.table.name}, line ${first.line}) and ${shown(other.cell)}; write them in one way, or say --decimal`);
+    }
+    this.mark = this.mark || [...this.shownBy.keys()][0] || null;
+  }
+
+  // The number that a cell has.
+  read(table, line, head, cell, faults) {
+    if (WHOLE.test(cell)) return { digits: BigInt(cell.replace('+', '')), decimals: 0 };
+    if (!this.mark && EITHER.test(withoutBlanks(cell))) {
+      faults.add(at(table, line, head), 'either', `${shown(cell)} may be ${cell.replace(/[.,]/g, '')} or a number with three decimals: `
+        + 'say --decimal , or --decimal . (what stands before decimals)', cell);
+      return ZERO;
+    }
+    const value = valueOf(cell, this.mark || '.');
+    if (!value) {
+      faults.add(at(table, line, head), ...this.fault(cell), cell);
+      return ZERO;
+    }
+    if (EITHER.test(cell) && !this.settled) {
+      this.settled = `${shown(cell)} (${table.name}, line ${line}) is read as ${decimalText(value.digits, value.decimals)}`;
+    }
+    return value;
+  }
+
+  // What is wrong with a cell that should be a number: its kind, and a text.
+  fault(cell) {
+    if (!cell) return ['empty', 'the number is empty; write 0 for none'];
+    if (EXPONENT.test(cell)) return ['exponent', `${shown(cell)} is written with an exponent; write all its digits`];
+    const mark = this.mark || '.', other = this.shownBy.get(mark);
+    if (valueOf(cell, OTHER[mark]) && other) {
+      return [
+        'other mark',
+        `${shown(cell)} isn't written as other numbers are, such as ${shown(other.cell)} (${other.table.name}, line ${other.line})`,
+      ];
+    }
+    if (valueOf(cell, OTHER[mark])) return [
+      'other mark', `${shown(cell)} isn't written with ${shown(mark)} before decimals, as --decimal says`,
+    ];
+    return ['no number', `${shown(cell)} is no number`];
+  }
+
+  // A line on how a number was read that could be read otherwise, where there is one.
+  told() {
+    if (!this.settled) return [];
+    const by = this.shownBy.get(this.mark);
+    if (!by) return [`${this.settled}, as --decimal says.`];
+    return [`${this.settled}, since ${shown(by.cell)} (${by.table.name}, line ${by.line}) has decimals after ${shown(this.mark)}.`];
+  }
+}
+
+// Where a place stands: a number that may have decimals.
+export function coordinateIn(table, line, head, cell, faults) {
+  const text = cell.includes('.') ? cell : cell.replace(',', '.');
+  const number = /^[+-]?(\d+\.?\d*|\.\d+)([eE][+-]?\d+)?$/.test(text) ? Number(text) : NaN;
+  if (!Number.isFinite(number)) {
+    faults.add(
+      at(table, line, head), 'no spot', `${shown(cell)} is no number (either all places have x and y, or leave the columns out)`, cell
+    );
+  }
+  return number;
+}
+
+// A number of parts of which 10^decimals make one, as text without zeros at its end.
+export function decimalText(number, decimals) {
+  if (!decimals) return String(number);
+  const digits = String(number < 0n ? -number : number).padStart(decimals + 1, '0');
+  const part = digits.slice(-decimals).replace(/0+$/, '');
+  return (number < 0n ? '-' : '') + digits.slice(0, -decimals) + (part && `.${part}`);
+}
+
+// What whole numbers of an instance are in the units of the tables. Costs may be told with another sign than they have there.
+export class Units {
+  constructor(amounts, costs, sign = 1n) { Object.assign(this, { amounts, costs, sign }); }
+
+  // An amount, as text; no limit is empty.
+  amount(number) { return number === null ? '' : decimalText(number, this.amounts); }
+
+  rate(number) { return decimalText(this.sign * number, this.costs); }
+
+  total(number) { return decimalText(this.sign * number, this.amounts + this.costs); }
+
+  comment() {
+    return `c amounts here are ${10 ** this.amounts} times those of the tables, costs of a unit ${Number(this.sign) * 10 ** this.costs} times`;
+  }
+}
+
+// The same in sentences: with the tables' mark before decimals.
+export class Said {
+  constructor(units, mark) { Object.assign(this, { units, mark: mark || '.' }); }
+
+  text(figure) { return figure.replace('.', this.mark); }
+
+  amount(number) { return this.text(this.units.amount(number)); }
+
+  rate(number) { return this.text(this.units.rate(number)); }
+
+  total(number) { return this.text(this.units.total(number)); }
+}
+

@@ -1,0 +1,59 @@
+// The faults of tables by their kinds, which are told together before anything is run, and some words.
+
+// How many cells of one kind are named beside the first, and how many names a sentence has.
+const TOLD_CELLS = 4;
+export const TOLD_NAMES = 8;
+
+// What ends a run without a plan: tables that can't be read as meant.
+export class BadTable extends Error {
+  constructor(lines) {
+    super(lines.join('\n'));
+    this.lines = lines;
+  }
+}
+
+// Where a cell stands: its table, its line, and its column by its head or by its number from 1; or a whole line.
+export const at = (table, line, column = '') => ({ table, line, column });
+
+// A cell between quotes, short, with what can't be printed spelt out.
+export function shown(cell) {
+  const letters = [...cell], short = letters.length <= 40 ? letters : [...letters.slice(0, 37), '...'];
+  return `'${short.map((c) => (/^(?:[\p{C}\p{Zl}\p{Zp}]|(?! )\p{Zs})$/u.test(c) ? `\\x${(c.codePointAt(0) & 255).toString(16).padStart(2, '0')}` : c)).join('')}'`;
+}
+
+export class Faults {
+  constructor() { this.kinds = new Map(); }
+
+  // Notes what is wrong somewhere in a table: one line for each kind.
+  add({ table, line, column }, kind, text, cell = '') {
+    const key = JSON.stringify([table.name, kind, typeof column === 'string' ? column : null]);
+    if (!this.kinds.has(key)) {
+      this.kinds.set(
+        key, { table, kind, count: 0, more: new Map(), text: `${table.name}, line ${line}${column ? `, column ${column}` : ''}: ${text}` }
+      );
+    }
+    const found = this.kinds.get(key);
+    found.count++;
+    if (found.count > 1 && found.more.size < TOLD_CELLS && !found.more.has(cell)) found.more.set(cell, line);
+  }
+
+  has(table, kind) { return [...this.kinds.values()].some((found) => found.table.name === table.name && found.kind === kind); }
+
+  end() {
+    if (this.kinds.size) throw new BadTable([...this.kinds.values()].map(told));
+  }
+}
+
+function told({ text, count, more }) {
+  if (count === 1) return text;
+  const cells = [...more].map(([cell, line]) => `${cell ? `${shown(cell)} ` : ''}in line ${line}`);
+  return `${text} (${count} such cells; also ${cells.join(', ')})`;
+}
+
+// Some texts with commas between them, and how many more there are.
+export function listed(texts) {
+  const more = texts.length - TOLD_NAMES;
+  return texts.slice(0, TOLD_NAMES).join(', ') + (more > 0 ? ` and ${more} more` : '');
+}
+
+export const countOf = (number, one, many) => `${number} ${number === 1 ? one : many}`;

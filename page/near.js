@@ -1,0 +1,42 @@
+// The name that is nearly another one, as difflib of Python finds it.
+
+// Of how many names one is looked for, and how much of a name has to agree.
+const MOST = 10000, CUTOFF = 0.6;
+
+// The longest part that two texts have in common within some bounds: where it begins in each, and how long it is.
+function longest(a, b, places, [alow, ahigh, blow, bhigh]) {
+  let best = [alow, blow, 0], lengths = new Map();
+  for (let i = alow; i < ahigh; i++) {
+    const next = new Map();
+    for (const j of places.get(a[i]) || []) {
+      if (j < blow || j >= bhigh) continue;
+      const length = (lengths.get(j - 1) || 0) + 1;
+      next.set(j, length);
+      if (length > best[2]) best = [i - length + 1, j - length + 1, length];
+    }
+    lengths = next;
+  }
+  return best;
+}
+
+function agreeing(a, b, places, bounds) {
+  const [i, j, length] = longest(a, b, places, bounds), [alow, ahigh, blow, bhigh] = bounds;
+  if (!length) return 0;
+  return length + agreeing(a, b, places, [alow, i, blow, j]) + agreeing(a, b, places, [i + length, ahigh, j + length, bhigh]);
+}
+
+// The names, of some thousands, that are nearly a name: those that differ in capitals alone, else the nearest one.
+export function nearTo(name, names, fold) {
+  const same = names.filter((other) => fold(other) === fold(name));
+  if (same.length) return same;
+  const b = [...name], places = new Map();
+  b.forEach((c, j) => (places.has(c) ? places.get(c).push(j) : places.set(c, [j])));
+  let best = null, most = CUTOFF;
+  for (const other of names.slice(0, MOST)) {
+    const a = [...other], total = a.length + b.length;
+    if (2 * Math.min(a.length, b.length) < most * total) continue;
+    const ratio = 2 * agreeing(a, b, places, [0, a.length, 0, b.length]) / total;
+    if (ratio > most || (ratio === most && (best === null || other > best))) { best = other; most = ratio; }
+  }
+  return best === null ? [] : [best];
+}

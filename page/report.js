@@ -1,0 +1,153 @@
+// What is said of a flow, and its tables: as mcf_plan says and writes them.
+import { MISSING, STAYS, THROUGH } from './flownet.js';
+import { TOLD_NAMES, countOf, listed } from './faults.js';
+import { cellAt } from './tables.js';
+
+// The heads of results, in groups.
+const FLOW_RESULTS = ['carries', 'total', 'free', 'one_more_saves', 'exact'];
+const PLACE_RESULTS = ['one_more_costs', 'group'];
+const THROUGH_RESULTS = ['passes', 'passing_costs', 'free', 'one_more_saves', 'exact'];
+
+// A table of another's columns, and of groups of results after them; the last columns are figures.
+function after(name, like, results, rows) {
+  const places = like.kept(...results), heads = [...places.map((place) => like.titles[place]), ...results.flat()];
+  return { name, like, heads, rows: rows.map(([cells, more]) => [...places.map((place) => cellAt(cells, place)), ...more]),
+    figures: heads.map((_, k) => k).slice(places.length) };
+}
+
+// The routes in their order, with the columns that they had; then what stays and what is missing.
+export function flowsTable(plan) {
+  const { problem } = plan, { units } = problem, rows = problem.routes.map((route, k) => [route.cells, cellsOf(plan, plan.routes[k])]);
+  for (const isSupply of [true, false]) {
+    for (const [place, amount] of plan.unmet(isSupply)) {
+      const ends = isSupply ? { from: place.name, to: STAYS } : { from: MISSING, to: place.name };
+      rows.push(
+        [problem.routeTable.heads.map((head) => ends[head] || ''), [units.amount(amount), isSupply ? units.total(0n) : '', '', '', '']]
+      );
+    }
+  }
+  return after('flows', problem.routeTable, [FLOW_RESULTS], rows);
+}
+
+function cellsOf(plan, { carries, cost, free, saves, isExact }) {
+  const { units } = plan.problem;
+  return [units.amount(carries), units.total(cost), units.amount(free), plan.rate(saves), isExact ? 'yes' : 'no'];
+}
+
+// The places in their order, with the columns that they had. What a unit costs at a place is minus its price.
+export function pricesTable(plan) {
+  const hasBounds = plan.problem.places.some((place) => place.bounds);
+  const rows = plan.problem.places.map((place, k) => {
+    const { price, group, through } = plan.places[k];
+    return [place.cells, [plan.rate(price), String(group), ...(!hasBounds ? [] : through ? cellsOf(plan, through) : ['', '', '', '', ''])]];
+  });
+  return after('prices', plan.problem.placeTable, hasBounds ? [PLACE_RESULTS, THROUGH_RESULTS] : [PLACE_RESULTS], rows);
+}
+
+// Of each bottleneck the column must adds up to what must be sent (or taken), the column can to what can be.
+export function bottleneckTable(net, bottlenecks) {
+  const { amount } = net.problem.units, said = (number) => amount.call(net.problem.units, number), rows = [];
+  bottlenecks.forEach((found, k) => {
+    const sign = found.side === 'send' ? 1n : -1n, supplies = new Map(), begin = [String(k + 1), found.side];
+    for (const node of found.nodes) supplies.set(
+      net.nodeName(node), (supplies.get(net.nodeName(node)) || 0n) + sign * net.supplies[node - 1]
+    );
+    for (const [name, supply] of supplies) rows.push([...begin, 'place', name, '', '', said(supply), '']);
+    for (const [arc, least] of net.amounts(found.forcing, 'least')) rows.push([...begin, ...arcCells(net, arc), said(least), '']);
+    for (const [arc, most] of net.amounts(found.limiting, 'most')) rows.push([...begin, ...arcCells(net, arc), '', said(most)]);
+  });
+  return {
+    name: 'bottleneck',
+    like: net.problem.routeTable,
+    heads: ['bottleneck', 'side', 'kind', 'name', 'from', 'to', 'must', 'can'],
+    rows,
+    figures: [0, 6, 7],
+  };
+}
+
+const arcCells = (net, k) => (net.uses[k].kind === 'through' ? ['through', net.ends(k)[0], '', ''] : ['route', '', ...net.ends(k)]);
+
+// A table as CSV, with the separator and the byte-order mark of the one that it is like, and its mark before decimals.
+export function csvOf({ heads, rows, like, figures }, mark) {
+  const quoted = (value) => (/["\n\r]/.test(value) || value.includes(like.separator) ? `"${value.replaceAll('"', '""')}"` : value);
+  const text = (row) => row.map(
+    (value, k) => quoted(figures.includes(k) ? String(value).replace('.', mark || '.') : String(value))
+  ).join(like.separator);
+  return `${like.mark ? '\ufeff' : ''}${[heads.map(quoted).join(like.separator), ...rows.map(text)].join('\n')}\n`;
+}
+
+// The sums of supplies and of demands.
+export function balanceOf({ places }) {
+  return [1n, -1n].map((sign) => places.reduce((sum, place) => (sign * place.supply > 0n ? sum + sign * place.supply : sum), 0n));
+}
+
+// What is wrong where supplies and demands don't agree.
+export function balanceSentence(problem) {
+  const [supply, demand] = balanceOf(problem), said = (number) => problem.said.amount(number);
+  const [more, less, cure] = supply > demand ? ['supply', 'demand', '--unused allow lets it stay']
+    : ['demand', 'supply', '--short allow lets it be short'];
+  const gap = supply > demand ? supply - demand : demand - supply;
+  return `${more} exceeds ${less} by ${said(gap)}: the supplies add to ${said(supply)}, the demands to ${said(demand)}, and they must be equal (${cure}).`;
+}
+
+// These places must send (or take) N, and can only M, over these routes: short by N - M.
+export function bottleneckSentence(net, found) {
+  const said = (number) => net.problem.said.amount(number), places = [...new Set(found.nodes.map((node) => net.nodeName(node)))];
+  const routes = (arcs, bound) => listed(net.amounts(arcs, bound).map(([k, number]) => (
+    `${net.uses[k].kind === 'through' ? `through ${net.ends(k)[0]}` : net.ends(k).join(' -> ')} (${said(number)})`)));
+  let must = `${listed(places)}${places.length > 1 ? ' together' : ''} must ${found.side} ${said(found.must)}`;
+  if (found.forcing.length) must += ` (with the least of ${routes(found.forcing, 'least')})`;
+  if (!found.limiting.length) return `${must}, and no route ${found.side === 'send' ? 'leads away' : 'leads there'}.`;
+  return `${must}, and can ${found.side} only ${said(found.can)}, over ${routes(found.limiting, 'most')}. Short by ${said(found.must - found.can)}.`;
+}
+
+// Why there is no plan.
+export function blockedSummary({ net, eased, isUnbalanced, bottlenecks }) {
+  const lines = ['No plan exists, as mcf found and mcfcheck accepted:'];
+  if (isUnbalanced) lines.push(`  ${balanceSentence(net.problem)}`);
+  if (isUnbalanced && bottlenecks.length) {
+    lines.push(`Even if that ${net.total() > 0n ? 'stays' : 'is short'}, no plan exists, as mcf found and mcfcheck accepted:`);
+  }
+  return [...lines, ...bottlenecks.slice(0, TOLD_NAMES).map((found) => `  ${bottleneckSentence(eased, found)}`)];
+}
+
+// What a person wants to know of a plan first.
+export function flowSummary(plan) {
+  const { problem } = plan;
+  const carrying = plan.routes.filter((result) => result.carries).length;
+  const full = plan.routes.filter((result) => result.free === 0n).length;
+  const passing = plan.places.reduce((sum, { through }) => (through ? sum + through.cost : sum), 0n), saving = savingsOf(plan);
+  const lines = [`A least-cost plan, written by mcf and accepted by mcfcheck: cost ${problem.said.total(plan.cost)}.`,
+    `${countOf(problem.places.length, 'place', 'places')}, ${countOf(problem.routes.length, 'route', 'routes')}: `
+      + `${carrying} ${carrying === 1 ? 'carries' : 'carry'} something, ${full} ${full === 1 ? 'is' : 'are'} full.`, ...unmetLines(plan)];
+  if (passing) lines.push(`Passing through places costs ${problem.said.total(passing)} of that.`);
+  if (saving.length) lines.push('One more unit of room would save most on:');
+  return [...lines, ...saving.slice(0, 5).map(({ ends, result }) => `  ${ends.join(' -> ')}: ${savedText(plan, result)}`)];
+}
+
+export const savedText = (plan, { saves, isExact }) => `${isExact ? '' : 'at most '}${plan.problem.said.text(plan.rate(saves))}`;
+
+// The routes and the places where more room would save, the greatest savings first.
+export function savingsOf(plan) {
+  const { problem } = plan, found = problem.routes.map((route, k) => ({ ends: problem.ends(route), result: plan.routes[k] }));
+  problem.places.forEach(
+    (place, k) => { if (plan.places[k].through) found.push({ ends: [place.name, THROUGH], result: plan.places[k].through }); }
+  );
+  return found.filter(({ result }) => result.saves).sort(
+    (a, b) => (a.result.saves < b.result.saves ? 1 : a.result.saves > b.result.saves ? -1 : 0)
+  );
+}
+
+// What stays and what is missing.
+function unmetLines(plan) {
+  const { amount } = plan.problem.said, said = (number) => amount.call(plan.problem.said, number), { policy } = plan.net, lines = [];
+  for (const isSupply of [true, false]) {
+    if (!policy[isSupply ? 'unused' : 'short']) continue;
+    const found = plan.unmet(isSupply), total = said(found.reduce((sum, [, unmet]) => sum + unmet, 0n));
+    const where = listed(found.map(([place, unmet]) => `${place.name} ${said(unmet)}`));
+    lines.push(
+      found.length ? `${total} ${isSupply ? 'stay' : 'are missing'} at: ${where}.` : `Nothing ${isSupply ? 'stays' : 'is missing'}.`
+    );
+  }
+  return lines;
+}

@@ -1,0 +1,126 @@
+// Persons, things and the pairs of them that may be, as tables have them: a list with the columns who, what and cost, or a matrix.
+import { Numbers, Said, Units, decimalsOf, scaled } from './amounts.js';
+import { Faults, at, shown } from './faults.js';
+import { Table, cellAt, checkHeads, fold, keyOf, nameIn, once } from './tables.js';
+
+export const PAIR_HEADS = ['who', 'what', 'cost'];
+// What stands in place of a cost where a pair is forbidden.
+const FORBIDDEN = ['', 'x', '-', '–', '—'];
+const RANGE = /^([0-9]{1,18})(?:\s*(?:-|–|\.\.|to|bis)\s*([0-9]{1,18}))?$/;
+
+// The persons, or the things, each numbered from 1 in the order in which they come; how many each may have, where that is said.
+class Side {
+  constructor(head) { Object.assign(this, { head, names: [], numbers: new Map(), said: new Map() }); }
+
+  // The number of a name, which is new or was there.
+  number(name) {
+    const key = keyOf(name);
+    if (!this.numbers.has(key)) this.numbers.set(key, this.names.push(name));
+    return this.numbers.get(key);
+  }
+
+  // Notes how many one may have, in a cell that isn't empty; what was said before must be the same.
+  say(where, number, cell, faults) {
+    if (!cell) return;
+    const found = RANGE.exec(cell);
+    if (!found || BigInt(found[1]) > BigInt(found[2] || found[1])) {
+      faults.add(where, 'range', `${shown(cell)} is no number, and no range such as 2..3${
+        /[0-9]{4}-|\.\s?\w{3}/.test(cell) ? '; was it taken for a date?' : ''}`, cell);
+      return;
+    }
+    const before = this.said.get(number);
+    if (!before) this.said.set(number, found.slice(1));
+    else if (before[0] !== found[1] || before[1] !== found[2]) {
+      faults.add(where, 'two ranges', `${shown(this.names[number - 1])} has two different numbers: this is ${shown(cell)}`, cell);
+    }
+  }
+
+  // How many one gets, at least and at most: just one of those that each have to, else at most one; or what was said. One number alone is
+  // all that a thing needs, and the most that a person takes.
+  rangeOf(number, isEach) {
+    const said = this.said.get(number);
+    if (!said) return [isEach ? 1n : 0n, 1n];
+    if (said[1] !== undefined) return said.map(BigInt);
+    const most = BigInt(said[0]);
+    return [this.head === 'needs' ? most : isEach && most > 0n ? 1n : 0n, most];
+  }
+}
+
+// The pairs of a table { name, text } or { name, bytes }, their costs in whole numbers, and how many each person takes and each thing needs.
+export class Roster {
+  constructor(source, reading = {}, each = null, maximise = false) {
+    const faults = new Faults();
+    this.numbers = new Numbers(reading.decimal);
+    this.table = new Table(source, PAIR_HEADS, reading, faults);
+    checkHeads([this.table], reading, faults);
+    this.table.checkWidths(faults);
+    this.persons = new Side('takes');
+    this.things = new Side('needs');
+    this.isList = this.table.has(PAIR_HEADS);
+    const found = this.isList ? this.listed(faults) : this.matrix(faults), sign = maximise ? -1n : 1n;
+    faults.end();
+    this.units = new Units(0, decimalsOf(found.map((pair) => pair.cost)), sign);
+    this.said = new Said(this.units, this.numbers.mark);
+    this.pairs = found.map((pair) => ({ ...pair, cost: sign * scaled(pair.cost, this.units.costs) }));
+    const side = each || (this.persons.said.size || this.things.said.size ? 'what' : 'who');
+    this.takes = this.persons.names.map((_, k) => this.persons.rangeOf(k + 1, side !== 'what'));
+    this.needs = this.things.names.map((_, k) => this.things.rangeOf(k + 1, side !== 'who'));
+  }
+
+  listed(faults) {
+    const { table } = this;
+    const columns = table.columns(PAIR_HEADS);
+    const takes = table.perhaps('takes');
+    const needs = table.perhaps('needs');
+    const pairs = [];
+    const seen = new Map();
+    this.numbers.look(table, columns.slice(2));
+    this.numbers.settle(faults);
+    for (const { line, cells } of table.rows) {
+      const [who, what, cost] = columns.map((column) => cellAt(cells, column));
+      nameIn(table, line, 'who', who, faults);
+      nameIn(table, line, 'what', what, faults);
+      const ends = [this.persons.number(who), this.things.number(what)];
+      if (who && what) once(at(table, line, 'what'), ends.join(' '), `the pair of ${shown(who)} and ${shown(what)}`, seen, faults, '');
+      this.persons.say(at(table, line, 'takes'), ends[0], cellAt(cells, takes), faults);
+      this.things.say(at(table, line, 'needs'), ends[1], cellAt(cells, needs), faults);
+      if (FORBIDDEN.includes(fold(cost))) continue;
+      pairs.push({ who: ends[0], what: ends[1], cost: this.numbers.read(table, line, 'cost', cost, faults), line, column: 'cost', cells });
+    }
+    return pairs;
+  }
+
+  // A person each row, a thing each column; perhaps a column takes and a row needs.
+  matrix(faults) {
+    const { table } = this, takes = table.perhaps('takes'), things = this.matrixThings(faults), pairs = [], seen = new Map();
+    this.numbers.look(table, things.map(({ place }) => place));
+    this.numbers.settle(faults);
+    for (const { line, cells } of table.rows) {
+      if (fold(cells[0]) === 'needs') {
+        for (const { place, what } of things) this.things.say(at(table, line, place + 1), what, cellAt(cells, place), faults);
+        continue;
+      }
+      const name = nameIn(table, line, 1, cells[0], faults);
+      once(at(table, line, 1), keyOf(name), `a person ${shown(name)}`, seen, faults);
+      const who = this.persons.number(name);
+      this.persons.say(at(table, line, 'takes'), who, cellAt(cells, takes), faults);
+      for (const { place, what } of things) {
+        if (FORBIDDEN.includes(fold(cellAt(cells, place)))) continue;
+        pairs.push({ who, what, cost: this.numbers.read(table, line, place + 1, cells[place], faults), line, column: place + 1 });
+      }
+    }
+    return pairs;
+  }
+
+  // The columns of the matrix that have a thing, each with its number.
+  matrixThings(faults) {
+    const { table } = this, found = [], seen = new Map();
+    table.titles.forEach((title, place) => {
+      if (!place || table.heads[place] === 'takes' || !(title || table.rows.some(({ cells }) => cellAt(cells, place)))) return;
+      nameIn(table, table.headLine, place + 1, title, faults);
+      once(at(table, table.headLine, place + 1), keyOf(title), `a thing ${shown(title)}`, seen, faults);
+      found.push({ place, what: this.things.number(title) });
+    });
+    return found;
+  }
+}

@@ -1,0 +1,183 @@
+// Tables: read from files or pasted, and found by the heads of their columns.
+import { BadTable, Faults, at, shown } from './faults.js';
+
+const SEPARATOR_LINE = /^"?sep=(.)"?\s*$/i;
+// What other files begin with.
+const OTHER_FILES = [
+  [[0x1f, 0x8b], 'this is compressed (gzip): unpack it first'],
+  [[0xd0, 0xcf, 0x11, 0xe0], 'this is an old Excel workbook: save it as .xlsx, or as CSV UTF-8'],
+  [[0x25, 0x50, 0x44, 0x46], 'this is a PDF; a table is a workbook or CSV'],
+];
+const ZIP = [0x50, 0x4b, 0x03, 0x04];
+
+const begins = (bytes, head) => head.every((byte, k) => bytes[k] === byte);
+export const fold = (text) => text.toLowerCase().replace(/ß/g, 'ss');
+// What a name is compared by: accents written in two ways are the same.
+export const keyOf = (name) => name.normalize('NFC');
+// A cell of a row, empty where the row is shorter or there is no such place.
+export const cellAt = (cells, place) => (place >= 0 && place !== null && place < cells.length ? cells[place] : '');
+
+// The text of a file. What isn't UTF-8 is read as Windows-1252 with a fault: that it isn't.
+export function textOf(name, bytes, encoding = null) {
+  for (const [head, words] of OTHER_FILES) if (begins(bytes, head)) throw new BadTable([`${name}: ${words}`]);
+  if (begins(bytes, ZIP)) throw new BadTable(
+    [`${name}: this is a workbook: select a sheet's cells there, copy them and paste them here; or save it as CSV UTF-8`]
+  );
+  if (begins(bytes, [0xff, 0xfe]) || begins(bytes, [0xfe, 0xff])) {
+    return { text: new TextDecoder(bytes[0] === 0xff ? 'utf-16le' : 'utf-16be').decode(bytes), mark: true };
+  }
+  try {
+    return { text: new TextDecoder(encoding || 'utf-8', { fatal: true }).decode(bytes), mark: begins(bytes, [0xef, 0xbb, 0xbf]) };
+  } catch {
+    if (encoding || bytes.includes(0)) throw new BadTable(
+      [`${name}: this isn't text in ${encoding || 'UTF-8'}; save the table as CSV in UTF-8`]
+    );
+  }
+  const text = new TextDecoder('windows-1252').decode(bytes), good = new TextDecoder().decode(bytes).indexOf('\ufffd');
+  const line = text.slice(0, good).split('\n').length;
+  return { text, mark: false, wrong: { line, text: `this isn't in UTF-8, but perhaps in Windows-1252 (ANSI), which reads ${
+    shown(text.split('\n')[line - 1].trim())}: in Excel, save as CSV UTF-8; or say --encoding windows-1252` } };
+}
+
+// The records of a text that aren't blank, each with the number of its first line.
+function recordsOf(text, separator, name) {
+  const records = [], bad = (what) => { throw new BadTable([`${name}, line ${begun}: ${what}`]); };
+  let cells = [], cell = '', state = 'start', line = 1, begun = 1;
+  const endCell = () => { cells.push(cell.trim()); cell = ''; state = 'start'; };
+  const endRecord = () => {
+    endCell();
+    if (cells.some(Boolean)) records.push({ line: begun, cells });
+    cells = [];
+    begun = ++line;
+  };
+  for (const c of text) {
+    if (state === 'quoted') {
+      if (c === '"') state = 'after';
+      else { cell += c; line += c === '\n'; }
+    } else if (c === separator) endCell();
+    else if (c === '\n') endRecord();
+    else if (state === 'after') {
+      if (c !== '"') bad('something after the closing quote (a quote within quotes is written twice)');
+      cell += c;
+      state = 'quoted';
+    } else if (state === 'start' && c === '"') state = 'quoted';
+    else if (state !== 'start' || c !== ' ') { cell += c; state = 'plain'; }
+  }
+  if (state === 'quoted') bad("a quote that isn't closed");
+  endRecord();
+  return records;
+}
+
+// How well a separator suits the line of the heads.
+function rankOf(line, separator, known) {
+  const heads = line.split(separator).map((head) => fold(head.trim().replace(/^"+|"+$/g, '')));
+  return [new Set(heads.filter((head) => known.has(head))).size, heads.length];
+}
+
+// A table: its heads, and its rows as lines and cells. `heads` of a reading are own heads by those that are wanted.
+export class Table {
+  // Source: a name, and a text or bytes.
+  constructor({ name, text, bytes }, wanted, reading, faults) {
+    const read = bytes ? textOf(name, bytes, reading.encoding) : { text: text.replace(/^\ufeff/, ''), mark: false };
+    const lines = (whole) => whole.split('\n').find((line) => line.trim()) || '';
+    let whole = read.text.replace(/\r\n?/g, '\n'), first = lines(whole);
+    const named = SEPARATOR_LINE.exec(first), heads = reading.heads || {};
+    if (named) {
+      whole = whole.replace(first, () => '');
+      first = lines(whole);
+    }
+    const known = new Set([...wanted, ...Object.values(heads).map(fold)]);
+    const ranks = [',', ';', '\t'].map((mark) => [mark, rankOf(first, mark, known)]);
+    const separator = named ? named[1] : ranks.reduce(
+      (best, one) => (one[1][0] > best[1][0] || (one[1][0] === best[1][0] && one[1][1] > best[1][1]) ? one : best)
+    )[0];
+    const records = recordsOf(whole, separator, name);
+    Object.assign(this, { name, separator, mark: read.mark });
+    if (!records.length) throw new BadTable([`${name}, line 1: the table is empty; its first line has the heads of the columns`]);
+    this.headLine = records[0].line;
+    this.titles = records[0].cells;
+    this.rows = records.slice(1);
+    this.heads = this.titles.map(fold);
+    for (const [head, own] of Object.entries(heads)) {
+      const place = this.heads.indexOf(fold(own));
+      if (place < 0) continue;
+      this.heads = this.heads.map((it) => (it === head ? '' : it));
+      this.heads[place] = head;
+    }
+    if (read.wrong) faults.add(at(this, read.wrong.line), 'encoding', read.wrong.text);
+  }
+
+  // Notes the columns that are wanted and aren't there, or are there twice.
+  need(wanted, faults, hint = 'wanted are') {
+    const lacking = wanted.filter((head) => !this.heads.includes(head));
+    if (lacking.length) {
+      faults.add(
+        at(this, this.headLine, lacking[0]),
+        'no column',
+        `there is no such column among ${this.titles.map(shown).join(', ')} `
+          + `(split at ${shown(this.separator)}); ${hint} ${wanted.join(', ')}; where a head has another name, say so: --map ${lacking[0]}=NAME`
+      );
+    }
+    for (const head of wanted) {
+      if (this.heads.filter((it) => it === head).length > 1) faults.add(
+        at(this, this.headLine, head), 'two columns', 'there are two such columns'
+      );
+    }
+  }
+
+  // The places of the columns with these heads, each of which has to be there once.
+  columns(wanted) {
+    const faults = new Faults();
+    this.need(wanted, faults);
+    faults.end();
+    return wanted.map((head) => this.heads.indexOf(head));
+  }
+
+  // The place of a column that may be there, or null.
+  perhaps(head) { return this.heads.includes(head) ? this.columns([head])[0] : null; }
+
+  has(wanted) { return wanted.every((head) => this.heads.includes(head)); }
+
+  // Notes the cells that stand beyond the last head.
+  checkWidths(faults) {
+    for (const { line, cells } of this.rows) {
+      for (let place = this.titles.length; place < cells.length; place++) {
+        if (cells[place]) faults.add(
+          at(this, line, place + 1), 'beyond', `a cell beyond the last head: ${shown(cells[place])}`, cells[place]
+        );
+      }
+    }
+  }
+
+  // The places of the columns that results are written after: all but those of earlier results, which are there as a whole if they are.
+  kept(...results) {
+    const titles = this.titles.map(fold), gone = new Set(results.filter((heads) => heads.every((head) => titles.includes(head))).flat());
+    return titles.map((_, place) => place).filter((place) => !gone.has(titles[place]));
+  }
+}
+
+// Notes own heads that no table has.
+export function checkHeads(tables, reading, faults) {
+  const titles = new Set(tables.flatMap((table) => table.titles.map(fold)));
+  for (const [head, own] of Object.entries(reading.heads || {})) {
+    if (!titles.has(fold(own))) {
+      const last = tables[tables.length - 1];
+      faults.add(at(last, last.headLine, own), 'map', `there is no such column, which --map ${head}=${own} names`, own);
+    }
+  }
+}
+
+// The name that a cell has: any text of one line that isn't empty.
+export function nameIn(table, line, head, cell, faults) {
+  if (!cell) faults.add(at(table, line, head), 'empty name', 'the name is empty');
+  else if (/[\x00-\x1f\x7f-\x9f]/.test(cell)) {
+    faults.add(at(table, line, head), 'control', `the name ${shown(cell)} has a line break or another control character`, cell);
+  }
+  return cell;
+}
+
+// Notes a fault where the key was seen on an earlier line; else remembers it.
+export function once(where, key, text, seen, faults, cell = key) {
+  if (seen.has(key)) faults.add(where, 'twice', `${text} stands on line ${seen.get(key)} already`, cell);
+  else seen.set(key, where.line);
+}

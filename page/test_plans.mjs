@@ -1,0 +1,114 @@
+// The plans of examples/plans: the page's reading, solving, words and tables beside what mcf_plan says and writes.
+import fs from 'node:fs';
+import path from 'node:path';
+import { fileURLToPath } from 'node:url';
+import { BadTable } from './faults.js';
+import { FlowNet, FlowPlan } from './flownet.js';
+import { Problem } from './model.js';
+import { accepts, judged } from './module.js';
+import { RosterNet, chosenOf, pairsSummary, pairsTable, rivalsLines, rivalsTable } from './pairs.js';
+import { blockedSummary, bottleneckTable, csvOf, flowSummary, flowsTable, pricesTable } from './report.js';
+import { Roster } from './roster.js';
+import { allBottlenecks, blockedOf, bottlenecksOf, solve } from './solving.js';
+import { loaded } from './test_module.mjs';
+
+const plans = path.join(path.dirname(fileURLToPath(import.meta.url)), '..', 'examples', 'plans');
+
+// A solver over the module in this process.
+export function solverOf(module) {
+  const bytes = (text) => new TextEncoder().encode(text);
+  return {
+    solve: async (text, engine) => {
+      const result = judged(module, bytes(text), engine);
+      return { ...result, answer: result.answer && new TextDecoder().decode(result.answer) };
+    },
+    check: async (text, answer) => accepts(module, bytes(text), bytes(answer)),
+  };
+}
+
+// What the page says of a flow, and its tables.
+async function flow(solver, sources, { reading, policy }) {
+  const problem = new Problem(sources, reading);
+  const net = new FlowNet(problem, policy);
+  const { text, plan } = await solve(solver, net.instance(), net);
+  if (plan) {
+    const found = new FlowPlan(net, plan);
+    return {
+      said: [...flowSummary(found), ...problem.numbers.told()],
+      status: 0,
+      mark: problem.numbers.mark,
+      tables: [flowsTable(found), pricesTable(found)],
+    };
+  }
+  const blocked = await blockedOf(solver, text, net);
+  return {
+    said: [...blockedSummary(blocked), ...problem.numbers.told()],
+    status: 1,
+    mark: problem.numbers.mark,
+    tables: [bottleneckTable(blocked.eased, allBottlenecks(blocked))],
+  };
+}
+
+// The same of pairs.
+async function roster(solver, source, { reading, each, maximise }) {
+  const read = new Roster(source, reading, each, maximise);
+  const net = new RosterNet(read);
+  const { text, plan } = await solve(solver, net.instance(), net);
+  const { mark } = read.numbers;
+  if (plan) {
+    const chosen = chosenOf(read, plan);
+    return {
+      said: [...pairsSummary(read, chosen, plan.cost), ...read.numbers.told()], status: 0, mark, tables: [pairsTable(read, chosen)],
+    };
+  }
+  const found = await bottlenecksOf(solver, text, net, net.hub, (one) => net.whole(one));
+  return { said: [...rivalsLines(net, found), ...read.numbers.told()], status: 1, mark, tables: [rivalsTable(net, found)] };
+}
+
+// What words of mcf_plan's command line ask of the page: the files that they name, how these are read, and choices.
+export function asked(words) {
+  const found = { files: [], reading: { heads: {} }, policy: {}, each: null, maximise: false };
+  for (let k = 0; k < words.length; k++) {
+    const word = words[k];
+    if (word === '--maximise') found.maximise = true;
+    else if (word === '--map') {
+      const [head, own] = words[++k].split('=');
+      found.reading.heads[head] = own;
+    } else if (word === '--unused' || word === '--short') found.policy[word.slice(2)] = words[++k] === 'allow';
+    else if (word === '--each') found.each = words[++k];
+    else if (word.startsWith('--')) found.reading[word.slice(2)] = words[++k];
+    else found.files.push(word);
+  }
+  return found;
+}
+
+// What is said of tables, as mcf_plan says it.
+export async function told(kind, solver, sources, choices) {
+  try {
+    const found = kind === 'flow' ? await flow(solver, sources, choices) : await roster(solver, sources[0], choices);
+    return { ...found, said: `${found.said.join('\n')}\n` };
+  } catch (error) {
+    if (!(error instanceof BadTable)) throw error;
+    return { said: error.lines.map((line) => `mcf_plan: ${line}\n`).join(''), status: 2, tables: [] };
+  }
+}
+
+export default async function test(expect) {
+  const solver = solverOf(loaded());
+  for (const name of fs.readdirSync(plans).filter((one) => fs.existsSync(path.join(plans, one, 'expected')))) {
+    const folder = path.join(plans, name);
+    const stored = (file) => fs.readFileSync(path.join(folder, 'expected', file), 'utf8');
+    const has = (file) => fs.existsSync(path.join(folder, file));
+    const [kind, ...words] = has('call.txt') ? fs.readFileSync(path.join(folder, 'call.txt'), 'utf8').trim().split(/\s+/)
+      : has('places.csv') ? ['flow', 'places.csv', 'routes.csv']
+      : ['pairs', 'costs.csv'];
+    const choices = asked(words), sources = choices.files.map((file) => ({ name: file, bytes: fs.readFileSync(path.join(folder, file)) }));
+    const found = await told(kind, solver, sources, choices), said = `${found.said}status ${found.status}\n`;
+    expect(said === stored('said.txt'), `${name}: it says\n${said}and not\n${stored('said.txt')}`);
+    expect(found.tables.length === fs.readdirSync(path.join(folder, 'expected')).length - 1, `${name}: it has other tables`);
+    for (const table of found.tables) {
+      const text = csvOf(table, found.mark).replace(/^\ufeff/, ''), wanted = stored(`${table.name}.csv`);
+      expect(text === wanted, `${name}: ${table.name}.csv is\n${text.slice(0, 600)}and not\n${wanted.slice(0, 600)}`);
+    }
+  }
+}
