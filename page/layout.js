@@ -1,0 +1,157 @@
+// Where boxes and curves stand in a picture: on a map by x and y, else in columns by how far places are from those that send.
+
+// How far the places of a map stand apart: boxes, and dots; what boxes keep between them, and in how many rounds that is sought.
+const SPREAD = 235, APART = 14, ROUNDS = 60;
+export const DOTS_SPREAD = 26;
+// How often the order within columns is made anew.
+const SWEEPS = 6;
+
+// A task has the sizes of boxes, spots on a map or null, links by their nodes from 0, and the nodes that send. A layout has boxes by their
+// centres, for each link its curve of cubic pieces, and the middle of its label.
+export function laidOut(task) {
+  const boxes = task.spots ? parted(mapBoxes(task, SPREAD)) : columnBoxes(task), curves = straight(boxes, task.links);
+  return { boxes, curves, labels: curves.map(middleOf) };
+}
+
+// Boxes on a map, y going up.
+export function mapBoxes({ sizes, spots }, spread) {
+  const xs = spots.map(([x]) => x), ys = spots.map(([, y]) => y), [left, right, low, high] = [least(xs), most(xs), least(ys), most(ys)];
+  const wide = spread * Math.sqrt(xs.length) + 200;
+  const scale = left === right && low === high ? 1 : Math.min(wide / ((right - left) || 1e-9), wide * 0.72 / ((high - low) || 1e-9));
+  return spots.map(([x, y], k) => ({ x: (x - left) * scale, y: (high - y) * scale, width: sizes[k][0], height: sizes[k][1] }));
+}
+
+export const least = (numbers) => numbers.reduce((a, b) => Math.min(a, b), Infinity);
+export const most = (numbers) => numbers.reduce((a, b) => Math.max(a, b), -Infinity);
+
+// The same boxes, moved apart where they overlap.
+function parted(boxes) {
+  for (let round = 0, moved = true; round < ROUNDS && moved; round++) {
+    moved = false;
+    for (let i = 0; i < boxes.length; i++) {
+      for (let j = 0; j < i; j++) {
+        const [a, b] = [boxes[i], boxes[j]];
+        const dx = (a.width + b.width) / 2 + APART - Math.abs(a.x - b.x);
+        const dy = (a.height + b.height) / 2 + APART - Math.abs(a.y - b.y);
+        if (dx <= 0.1 || dy <= 0.1) continue;
+        const axis = dy <= dx ? 'y' : 'x', step = Math.min(dx, dy) / 2 * (a[axis] < b[axis] ? -1 : 1);
+        a[axis] += step;
+        b[axis] -= step;
+        moved = true;
+      }
+    }
+  }
+  return boxes;
+}
+
+// For each node how many links lead to it from the nearest start; what isn't reached begins anew.
+export function levelsOf(count, links, starts) {
+  const after = Array.from({ length: count }, () => []), levels = new Array(count).fill(-1);
+  for (const { tail, head } of links) after[tail].push(head);
+  const reach = (begins) => {
+    const waiting = begins.map((node) => [node, 0]);
+    for (const [node, level] of waiting) {
+      if (levels[node] >= 0) continue;
+      levels[node] = level;
+      for (const head of after[node]) waiting.push([head, level + 1]);
+    }
+  };
+  reach(starts);
+  for (let node = 0; node < count; node++) reach([node]);
+  return levels;
+}
+
+// Boxes in columns, ordered so that links cross little: each after the middle of those that it is linked with in the column before or after.
+function columnBoxes({ sizes, links, starts }) {
+  const levels = levelsOf(sizes.length, links, starts), columns = Array.from({ length: most([-1, ...levels]) + 1 }, () => []);
+  levels.forEach((level, node) => columns[level].push(node));
+  const near = sizes.map(() => []), place = new Array(sizes.length).fill(0);
+  for (const { tail, head } of links) {
+    near[tail].push(head);
+    near[head].push(tail);
+  }
+  const number = (column) => column.forEach((node, k) => { place[node] = (k + 0.5) / column.length; });
+  columns.forEach(number);
+  for (let sweep = 0; sweep < SWEEPS; sweep++) {
+    const forth = sweep % 2 === 0;
+    for (const level of forth ? columns.keys() : [...columns.keys()].reverse()) {
+      const middle = new Map(columns[level].map((node) => {
+        const others = near[node].filter((other) => (forth ? levels[other] < level : levels[other] > level));
+        return [node, others.length ? others.reduce((sum, other) => sum + place[other], 0) / others.length : place[node]];
+      }));
+      columns[level].sort((a, b) => middle.get(a) - middle.get(b) || a - b);
+      number(columns[level]);
+    }
+  }
+  const tallest = most([0, ...columns.map((column) => column.length)]), boxes = [];
+  let across = 0;
+  for (const column of columns) {
+    const wide = most(column.map((node) => sizes[node][0])), step = 62 * Math.min(3, Math.max(1, tallest / column.length * 0.8));
+    column.forEach(
+      (node, k) => {
+        boxes[node] = { x: across + wide / 2, y: (k - (column.length - 1) / 2) * step, width: sizes[node][0], height: sizes[node][1] };
+      }
+    );
+    across += wide + 170;
+  }
+  return boxes;
+}
+
+// Lines between boxes, which are bowed where several join the same ones.
+function straight(boxes, links) {
+  const seen = new Map();
+  return links.map(({ tail, head }) => {
+    const key = Math.min(tail, head) * boxes.length + Math.max(tail, head), nth = seen.get(key) || 0;
+    seen.set(key, nth + 1);
+    const past = around(boxes, boxes[tail], boxes[head]);
+    const bow = past ? past + nth * 26 : Math.floor((nth + 1) / 2) * 26 * (nth % 2 ? 1 : -1) * (tail < head ? 1 : -1);
+    return tail === head ? loopAt(boxes[tail]) : bowed(boxes[tail], boxes[head], bow);
+  });
+}
+
+// How far a link between two boxes, one above the other, goes round those between them.
+function around(boxes, a, b) {
+  const between = boxes.filter((box) => (box.y - a.y) * (box.y - b.y) < 0 && Math.abs(box.x - (a.x + b.x) / 2) < box.width / 2);
+  return Math.abs(a.x - b.x) < (a.width + b.width) / 2 && between.length ? most(between.map((box) => box.width)) / 2 + 20 : 0;
+}
+
+// The curve of a link from a box to itself, at its right upper corner.
+function loopAt({ x, y, width, height }) {
+  const right = x + width / 2, top = y - height / 2;
+  return [[right - 14, top], [right - 14, top - 34], [right + 34, top + 10], [right, top + 10]];
+}
+
+// A curve from one box to another that stands off the straight line by `bow` in its middle.
+function bowed(tail, head, bow) {
+  const dx = head.x - tail.x, dy = head.y - tail.y, far = Math.hypot(dx, dy) || 1;
+  const over = [tail.x + dx / 2 - dy / far * bow * 2, tail.y + dy / 2 + dx / far * bow * 2];
+  const begin = edgeOf(tail, over);
+  const end = edgeOf(head, over);
+  const towards = ([x, y]) => [x + (over[0] - x) * 2 / 3, y + (over[1] - y) * 2 / 3];
+  return [begin, towards(begin), towards(end), end];
+}
+
+// Where the line from the middle of a box to a point leaves the box.
+function edgeOf(box, to) {
+  const dx = to[0] - box.x, dy = to[1] - box.y;
+  const part = Math.min(dx ? box.width / 2 / Math.abs(dx) : Infinity, dy ? box.height / 2 / Math.abs(dy) : Infinity, 1);
+  return [box.x + dx * part, box.y + dy * part];
+}
+
+// Points along a curve of cubic pieces.
+export function samples(points, count = 24) {
+  const found = [];
+  for (let begin = 0; begin < points.length - 3; begin += 3) {
+    for (let step = 0; step < count; step++) {
+      const part = step / count, rest = 1 - part, weights = [rest ** 3, 3 * rest * rest * part, 3 * rest * part * part, part ** 3];
+      found.push([0, 1].map((axis) => weights.reduce((sum, weight, k) => sum + weight * points[begin + k][axis], 0)));
+    }
+  }
+  return [...found, points[points.length - 1]];
+}
+
+// A point a little before the middle of a curve.
+export function middleOf(points) {
+  const along = samples(points, 12);
+  return along[Math.floor(0.45 * (along.length - 1))];
+}

@@ -1,0 +1,102 @@
+// What is drawn of a plan, or of what blocks one. A node has a name, a note, whether it sends, takes or passes on, and its spot; a link its
+// ends from 0, how wide it is, its kind, its label and what is told of it; groups are sets of nodes that block.
+import { size } from './model.js';
+import { allBottlenecks } from './solving.js';
+import { balanceOf } from './report.js';
+
+// Of more routes than this, those that carry nothing are left out; where no plan exists, of more places than this those that block are
+// drawn, and those next to them.
+const ALL_ROUTES = 90, NEAR = 60;
+
+// All routes if they aren't many, else those that carry something or are shut.
+export function planScene(plan) {
+  const { problem } = plan, said = (number) => problem.said.amount(number), links = [];
+  const widest = plan.routes.reduce((most, { carries }) => (size(carries) > most ? size(carries) : most), 0n);
+  problem.routes.forEach((route, k) => {
+    const result = plan.routes[k];
+    if (problem.routes.length > ALL_ROUTES && !result.carries && route.most !== 0n) return;
+    // A route that is used its other way leads there.
+    const turned = route.both && result.carries < 0n, carries = turned ? -result.carries : result.carries, names = problem.ends(route);
+    links.push(
+      {
+        tail: (turned ? route.head : route.tail) - 1,
+        head: (turned ? route.tail : route.head) - 1,
+        width: carries ? 1.4 + 7.6 * Number(size(carries)) / Number(widest) : 1,
+        kind: plan.isFull(k) ? 'full' : carries ? 'flowing' : 'idle',
+        label: carries ? said(carries) : '',
+        title: `${(turned ? names.reverse() : names).join(' -> ')}: ${said(carries)} of ${limitsText(problem, route)}, cost ${problem.said.total(result.cost)}`,
+      }
+    );
+  });
+  const idle = problem.routes.length - links.length;
+  return { heading: `A least-cost plan: cost ${problem.said.total(plan.cost)}${idle ? ` (${idle} idle routes aren't drawn)` : ''}`,
+    nodes: problem.places.map((place, k) => nodeOf(problem, place, plan.places[k].unmet)), links, groups: [],
+    notes: { flowing: `as wide as it carries (widest ${said(widest)})`, full: 'full' } };
+}
+
+// The bottlenecks, and of many places just those and what is next to them.
+export function blockedScene(blocked) {
+  const net = blocked.eased, { problem } = net, said = (number) => problem.said.amount(number), marked = new Map();
+  const key = ({ kind, number, sign }) => `${kind} ${number} ${sign}`;
+  for (const found of blocked.bottlenecks) {
+    for (const k of found.forcing) marked.set(key(net.uses[k]), 'forces');
+    for (const k of found.limiting) marked.set(key(net.uses[k]), 'limits');
+  }
+  const links = problem.routes.map((route, number) => {
+    const kind = marked.get(`route ${number} 1`) || marked.get(`route ${number} -1`) || 'other';
+    return {
+      tail: route.tail - 1,
+      head: route.head - 1,
+      width: kind === 'other' ? 1.2 : 2.6,
+      kind,
+      label: { limits: `≤ ${said(route.most)}`, forces: `≥ ${said(route.least)}`, other: '' }[kind],
+      title: `${problem.ends(route).join(' -> ')}: ${limitsText(problem, route)}`,
+    };
+  });
+  const nodes = problem.places.map((place, k) => {
+    const node = nodeOf(problem, place), limit = marked.has(`through ${k} 1`) ? `≤ ${said(place.bounds.most)} pass` : '';
+    return { ...node, note: [node.note, limit].filter(Boolean).join(', ') };
+  });
+  const [supply, demand] = balanceOf(problem);
+  const shorts = allBottlenecks(blocked).slice(0, 3).map((found) => `short by ${said(found.must - found.can)}`);
+  const heading = blocked.isUnbalanced ? `No plan exists: supply ${said(supply)}, demand ${said(demand)}`
+    : `No plan exists: ${shorts.join('; ')}`;
+  const groups = blocked.bottlenecks.map((found) => new Set(found.nodes.map((node) => net.placeOf[node - 1])));
+  const scene = { heading, nodes, links, groups, notes: marked.size ? { limits: 'limits them' } : {} };
+  return nodes.length > NEAR && groups.length ? nearScene(scene) : scene;
+}
+
+// The places of a scene that block, and those that a route joins with them.
+function nearScene(scene) {
+  const blocking = new Set(scene.groups.flatMap((group) => [...group])), near = new Set(blocking);
+  for (const { tail, head } of scene.links) {
+    if (blocking.has(tail) || blocking.has(head)) near.add(tail).add(head);
+  }
+  const order = [...near].sort((a, b) => a - b);
+  const numbers = new Map(order.map((node, k) => [node, k]));
+  const left = scene.nodes.length - order.length;
+  return {
+    ...scene,
+    heading: scene.heading + (left ? ` (${left} places farther off aren't drawn)` : ''),
+    nodes: order.map((node) => scene.nodes[node]),
+    links: scene.links.filter(({ tail, head }) => near.has(tail) && near.has(head)).map(
+      (link) => ({ ...link, tail: numbers.get(link.tail), head: numbers.get(link.head) })
+    ),
+    groups: scene.groups.map((group) => new Set([...group].map((node) => numbers.get(node)))),
+  };
+}
+
+function nodeOf(problem, place, unmet = 0n) {
+  const kind = place.supply > 0n ? 'sends' : place.supply < 0n ? 'takes' : 'passes', said = (number) => problem.said.amount(number);
+  const note = place.supply ? `${kind} ${said(size(place.supply))}` : '';
+  return {
+    name: place.name, note: note + (unmet ? `, ${said(unmet)} ${place.supply > 0n ? 'stays' : 'missing'}` : ''), kind, spot: place.spot,
+  };
+}
+
+// What a route carries at least and at most.
+function limitsText(problem, route) {
+  const least = problem.said.amount(route.least), most = problem.said.amount(route.most);
+  if (route.both) return `${most || 'any amount'}, either way`;
+  return most ? `${least} to ${most}` : `${least} or more`;
+}

@@ -1,0 +1,52 @@
+// Pictures: all places and routes are drawn, on a map as in columns; no boxes overlap; many places are dots.
+import fs from 'node:fs';
+import path from 'node:path';
+import { fileURLToPath } from 'node:url';
+import { FlowNet, FlowPlan } from './flownet.js';
+import { laidOut } from './layout.js';
+import { Problem } from './model.js';
+import { svgOf } from './picture.js';
+import { blockedScene, planScene } from './scene.js';
+import { blockedOf, solve } from './solving.js';
+import { loaded } from './test_module.mjs';
+import { solverOf } from './test_plans.mjs';
+
+const plans = path.join(path.dirname(fileURLToPath(import.meta.url)), '..', 'examples', 'plans');
+const count = (text, part) => text.split(part).length - 1;
+
+async function sceneOf(solver, sources) {
+  const problem = new Problem(sources), net = new FlowNet(problem), { text, plan } = await solve(solver, net.instance(), net);
+  return plan ? planScene(new FlowPlan(net, plan)) : blockedScene(await blockedOf(solver, text, net));
+}
+
+function drawn(expect, name, scene) {
+  const svg = svgOf(scene);
+  expect(!/NaN|undefined|null/.test(svg), `${name}: what isn't a number`);
+  for (const { name: place } of scene.nodes) expect(
+    svg.includes(`<title>${place.replace(/&/g, '&amp;')}`), `${name}: ${place} isn't drawn`
+  );
+  expect(count(svg, '<') === count(svg, '>'), `${name}: marks that aren't closed`);
+}
+
+export default async function test(expect) {
+  const solver = solverOf(loaded());
+  for (const name of ['transport', 'blocked', 'network', 'network-blocked', 'models', 'two-causes', 'unbalanced', 'degenerate']) {
+    const sources = ['places.csv', 'routes.csv'].map((file) => ({ name: file, bytes: fs.readFileSync(path.join(plans, name, file)) }));
+    const scene = await sceneOf(solver, sources);
+    drawn(expect, name, scene);
+    expect(scene.groups.length > 0 === (name === 'two-causes' || name.includes('blocked')), `${name}: groups that block`);
+  }
+  for (const spots of [null, Array.from({ length: 60 }, (_, k) => [k % 7, k % 11])]) {
+    const links = Array.from({ length: 59 }, (_, k) => ({ tail: k, head: k + 1 - (k % 3) }));
+    const { boxes } = laidOut({ sizes: Array.from({ length: 60 }, (_, k) => [60 + 2 * k, 38]), spots, links, starts: [0] });
+    const over = (a, b) => Math.abs(a.x - b.x) < (a.width + b.width) / 2 && Math.abs(a.y - b.y) < (a.height + b.height) / 2;
+    expect(!boxes.some((a, i) => boxes.some((b, j) => j < i && over(a, b))), `boxes overlap ${spots ? 'on a map' : 'in columns'}`);
+  }
+  const rows = Array.from({ length: 400 }, (_, k) => k);
+  const [places, routes] = [rows.map((k) => `P${k},${k < 200 ? 1 : -1}\n`), rows.slice(0, 200).map((k) => `P${k},P${k + 200},1,1\n`)];
+  const scene = await sceneOf(
+    solver, [{ name: 'places', text: `name,supply\n${places.join('')}` }, { name: 'routes', text: `from,to,most,cost\n${routes.join('')}` }]
+  );
+  drawn(expect, 'dots', scene);
+  expect(count(svgOf(scene), '<circle') === 403, 'many places are dots, and three of the legend');
+}
