@@ -9,9 +9,10 @@
 # make dist         packs programs, tools, library and Python module into bin/dist/, as a .deb, a wheel and a tar.gz
 # make dist-test    installs these packages where nothing of the repository is, and runs them: needs debootstrap and root for the .deb
 # make page         the page that solves, bin/mcf.html: needs rt, Binaryen and LLVM's library of builtins for wasm64
+# make page-test    clicks through that page in headless Chromium and Firefox, where these are there, by node: a minute
 # make install      puts the programs, the tools and the manual pages, and the library and its Python package where it is built, under PREFIX (and DESTDIR before it); make uninstall removes just these
 
-.PHONY: all kit test memory-test clean bench tools-test library library-test dist dist-test page install install-library uninstall
+.PHONY: all kit test memory-test clean bench tools-test library library-test dist dist-test page page-test install install-library uninstall
 .NOTPARALLEL:
 
 # The programs among the crates that crates.txt lists; the logs are bin/NAME.log.
@@ -60,7 +61,12 @@ dist-test:
 	@scripts/dist_test.sh
 
 page: kit
-	@page/build.sh
+	@page/build.sh && python3 page/pack.py
+
+page-test:
+	@test -f bin/mcf.html || { echo "make page-test: bin/mcf.html isn't there; run make page first" >&2; exit 1; }
+	@command -v node > /dev/null || { echo "make page-test: node isn't there" >&2; exit 1; }
+	@node page/click.mjs
 
 PREFIX = /usr/local
 BIN = $(DESTDIR)$(PREFIX)/bin

@@ -1,5 +1,5 @@
 #!/bin/sh
-# The tests of the page that need node alone, over the module that page/build.sh makes. It says what is skipped, and why.
+# The tests of the page that need node alone, over the module that page/build.sh makes; the page is packed, too. It says what is skipped, and why.
 set -u
 cd "$(dirname "$0")/.." || exit 1
 
@@ -8,5 +8,5 @@ if ! command -v node > /dev/null; then
 elif ! lacking=$(page/build.sh --needs 2>&1); then
     echo "page: skipped: the module can't be built: ${lacking#page: }"
 else
-    page/build.sh && node page/test.mjs
+    page/build.sh && python3 page/pack.py && node page/test.mjs
 fi

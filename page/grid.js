@@ -1,0 +1,188 @@
+// Tables of which the rows in sight alone are made, so that a hundred thousand scroll. A sheet has a title, columns with a head, what it
+// means, whether it has numbers and, where its cells may be changed, the head of the input; a count, and row(k), which gives the kind and
+// the cells of the k-th row as texts.
+import { compare, valueOf } from './amounts.js';
+import { el, grouped } from './view.js';
+
+// How high a row is, how many are made beyond those in sight, and of how many a table is printed.
+const HIGH = 31, BEYOND = 12, PRINTED = 5000;
+// More rows than this are beyond what browsers scroll.
+const MOST_ROWS = 500000;
+
+// What was sorted, filtered and scrolled, by the titles of sheets: it stays when a plan is made anew.
+const kept = new Map();
+
+export class Grid {
+  constructor(sheet, { mark, change }) {
+    Object.assign(
+      this, { sheet, mark, change, state: kept.get(sheet.title) || { by: null, down: false, filter: '', used: false, top: 0 } }
+    );
+    kept.set(sheet.title, this.state);
+    this.heads = sheet.columns.map(
+      (column, k) => el(
+        'th',
+        {
+          class: column.number ? 'number' : null,
+          title: column.meaning || null,
+          tabindex: 0,
+          scope: 'col',
+          onclick: () => this.sortBy(k),
+          onkeydown: (event) => { if (event.key === 'Enter' || event.key === ' ') { event.preventDefault(); this.sortBy(k); } },
+        },
+        column.head
+      )
+    );
+    this.body = el('tbody');
+    const foot = sheet.totals ? [
+      el(
+        'tfoot',
+        {},
+        el('tr', {}, sheet.totals.map((cell, k) => el('td', { class: sheet.columns[k].number ? 'number' : null }, grouped(cell, mark))))
+      )
+    ] : [];
+    this.table = el(
+      'table', { 'aria-label': sheet.title, 'aria-rowcount': sheet.count + 1 },
+      el('thead', {}, el('tr', { 'aria-rowindex': 1 }, this.heads)), this.body, ...foot
+    );
+    this.box = el(
+      'div', { class: 'sheet', tabindex: 0, role: 'region', 'aria-label': sheet.title, onscroll: () => this.scrolled() }, this.table
+    );
+    this.count = el('span', { class: 'soft count', role: 'status' });
+    this.element = el(
+      'section', {}, el('h2', {}, sheet.title), sheet.note ? el('p', { class: 'soft' }, sheet.note) : '', this.tools(), this.box
+    );
+    this.order = null;
+    this.arrange();
+  }
+
+  tools() {
+    if (this.sheet.count <= 5) return '';
+    const search = el(
+      'input',
+      {
+        type: 'search',
+        placeholder: 'filter',
+        'aria-label': `filter ${this.sheet.title}`,
+        value: this.state.filter,
+        oninput: () => { this.state.filter = search.value; this.state.top = 0; this.arrange(); },
+      }
+    );
+    const box = el('input', { type: 'checkbox', onchange: () => { this.state.used = box.checked; this.state.top = 0; this.arrange(); } });
+    box.checked = this.state.used;
+    return el(
+      'div', { class: 'tools' }, search, this.sheet.hasIdle ? el('label', {}, box, ' only what carries something') : '', this.count
+    );
+  }
+
+  sortBy(column) {
+    const first = this.sheet.columns[column].number;
+    this.state.down = this.state.by === column ? !this.state.down : Boolean(first);
+    this.state.by = column;
+    this.arrange();
+  }
+
+  // Which rows are shown, and in which order.
+  arrange() {
+    const { sheet, state } = this, words = state.filter.toLowerCase().split(/\s+/).filter(Boolean);
+    let order = Array.from({ length: Math.min(sheet.count, MOST_ROWS) }, (_, k) => k);
+    if (words.length || state.used) {
+      order = order.filter((k) => {
+        const { kind, cells } = sheet.row(k), text = words.length ? cells.join(' ').toLowerCase() : '';
+        return words.every((word) => text.includes(word)) && !(state.used && kind === 'idle');
+      });
+    }
+    if (state.by !== null && state.by < sheet.columns.length) order = sorted(
+      order, (k) => sheet.row(k).cells[state.by], sheet.columns[state.by].number, state.down
+    );
+    this.heads.forEach(
+      (head, k) => (
+        k === state.by ? head.setAttribute('aria-sort', state.down ? 'descending' : 'ascending') : head.removeAttribute('aria-sort')
+      )
+    );
+    this.order = order;
+    this.count.textContent = order.length === sheet.count ? `${grouped(String(sheet.count))} lines`
+      : `${grouped(String(order.length))} of ${grouped(String(sheet.count))} lines`;
+    this.fill(true);
+  }
+
+  scrolled() {
+    this.state.top = this.box.scrollTop;
+    this.fill(false);
+  }
+
+  // Puts the scrolling back to where it was, once the table is in the page.
+  settle() {
+    this.box.scrollTop = this.state.top;
+    this.fill(true);
+  }
+
+  // Makes the rows in sight, or all of a table that is printed.
+  fill(anew, all = false) {
+    const seen = Math.ceil((this.box.clientHeight || 700) / HIGH);
+    const begin = all ? 0 : Math.max(0, Math.floor(this.box.scrollTop / HIGH) - BEYOND);
+    const end = Math.min(this.order.length, all ? PRINTED : begin + seen + 2 * BEYOND);
+    if (!anew && begin === this.begin && end === this.end) return;
+    Object.assign(this, { begin, end });
+    const gap = (rows) => (
+      rows > 0 ? [
+        el(
+          'tr', { class: 'gap', 'aria-hidden': 'true' }, el('td', { colspan: this.sheet.columns.length, style: `height: ${rows * HIGH}px` })
+        )
+      ] : []
+    );
+    this.body.replaceChildren(
+      ...gap(begin),
+      ...this.order.slice(begin, end).map((k, nth) => this.rowOf(k, begin + nth)),
+      ...(all ? [] : gap(this.order.length - end))
+    );
+  }
+
+  rowOf(k, nth) {
+    const { kind, cells } = this.sheet.row(k);
+    return el(
+      'tr',
+      { class: kind || null, 'aria-rowindex': nth + 2 },
+      this.sheet.columns.map((column, c) => this.cellOf(k, column, cells[c] ?? '', cells))
+    );
+  }
+
+  cellOf(k, column, text, cells) {
+    if (column.edit && this.change && text !== null) {
+      const field = el(
+        'input',
+        {
+          class: 'cell',
+          value: text.replace('.', this.mark || '.'),
+          'aria-label': `${column.head} of ${cells[0]}${column.of ? ` to ${cells[1]}` : ''}`,
+          'data-key': `${this.sheet.title} ${k} ${column.edit}`,
+          onchange: () => this.change(this.sheet, k, column.edit, field.value),
+        }
+      );
+      return el('td', { class: 'number' }, field);
+    }
+    if (column.share) return el(
+      'td',
+      { class: 'number' },
+      text === '' ? '' : el('span', { class: 'share', style: `--part: ${text}%` }),
+      text === '' ? '' : `${text} %`
+    );
+    return el('td', column.number ? { class: 'number' } : { title: text }, column.number ? grouped(text, this.mark) : text);
+  }
+}
+
+// Rows by the texts of a column: numbers by what they are worth, what is empty last.
+function sorted(order, text, isNumber, down) {
+  const sign = down ? -1 : 1, keys = new Map(order.map((k) => [k, isNumber ? numberOf(text(k)) : text(k)]));
+  const letters = new Intl.Collator();
+  const byWorth = (a, b) => (a.near !== b.near ? (a.near < b.near ? -1 : 1) : compare(a.exact, b.exact));
+  return order.sort((i, j) => {
+    const [a, b] = [keys.get(i), keys.get(j)];
+    if (a === null || b === null) return (a === null) - (b === null) || i - j;
+    return sign * (isNumber ? byWorth(a, b) : letters.compare(a, b)) || i - j;
+  });
+}
+
+function numberOf(text) {
+  const exact = valueOf(text, '.');
+  return exact && { near: Number(text), exact };
+}

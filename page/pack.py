@@ -1,0 +1,72 @@
+#!/usr/bin/env python3
+"""Packs the page into one file, bin/mcf.html: its sources, the look of mcf_plan's pages, the examples and the module.
+
+The sources are modules for the tests; here they follow one another in one scope, so that no two may declare the same name.
+"""
+import base64
+import gzip
+import json
+import pathlib
+import re
+
+HERE = pathlib.Path(__file__).resolve().parent
+TOP = HERE.parent
+PLANS = TOP / "examples" / "plans"
+IMPORT = re.compile(r"^import \{[^}]*\} from '\./(\w+)\.js';\n", re.M)
+DECLARED = re.compile(r"^(?:export )?(?:async )?(?:function|class|const|let) (\w+)", re.M)
+
+
+def script(begin):
+    """A source with all that it imports, each once and after what it stands on, without imports and exports."""
+    seen, parts, declared = set(), [], {}
+
+    def add(name):
+        if name in seen:
+            return
+        seen.add(name)
+        text = (HERE / f"{name}.js").read_text(encoding="utf-8")
+        for below in IMPORT.findall(text):
+            add(below)
+        for word in DECLARED.findall(text):
+            assert declared.setdefault(word, name) == name, f"{word} is declared in {declared[word]}.js and in {name}.js"
+        parts.append(re.sub(r"^export ", "", IMPORT.sub("", text), flags=re.M))
+
+    add(begin)
+    return "\n".join(parts)
+
+
+def examples():
+    """The plans of examples/plans/: the tables, and what the call in call.txt says."""
+    found = []
+    for folder in sorted(path.parent for path in PLANS.glob("*/expected")):
+        call = folder / "call.txt"
+        words = ["flow", "places.csv", "routes.csv"] if (folder / "places.csv").exists() else ["pairs", "costs.csv"]
+        words = call.read_text(encoding="utf-8").split() if call.exists() else words
+        heads = " ".join(words[k + 1] for k, word in enumerate(words) if word == "--map")
+        files = [word for word in words[1:] if word.endswith(".csv")]
+        texts = [(folder / file).read_text(encoding="utf-8-sig") for file in files]
+        found.append({"name": folder.name, "kind": words[0], "texts": texts, "heads": heads, "unused": "--unused" in words})
+    return found
+
+
+def main():
+    """Writes the page."""
+    module = (TOP / "bin" / "mcf.wasm").read_bytes()
+    style = (TOP / "python" / "mcf_plan" / "page.css").read_text(encoding="utf-8") + (HERE / "page.css").read_text(encoding="utf-8")
+    parts = {
+        "STYLE": style,
+        "EXAMPLES": json.dumps(examples(), ensure_ascii=False).replace("<", "\\u003c"),
+        "MODULE": base64.b64encode(gzip.compress(module, 9, mtime=0)).decode(),
+        "WORKER": script("worker"),
+        "PAGE": script("page"),
+    }
+    page = (HERE / "page.html").read_text(encoding="utf-8")
+    for name, part in parts.items():
+        assert "</script" not in part and "@" + name + "@" in page, name
+        page = page.replace(f"@{name}@", part)
+    (TOP / "bin" / "mcf.html").write_text(page, encoding="utf-8")
+    print(f"bin/mcf.html: {len(page.encode())} bytes")
+
+
+if __name__ == "__main__":
+    main()

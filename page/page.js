@@ -1,0 +1,263 @@
+// The page: what is put in, what is shown, and what is done between.
+import { Client } from './client.js';
+import { BadTable } from './faults.js';
+import { Grid } from './grid.js';
+import { svgOf } from './picture.js';
+import { csvOf } from './report.js';
+import { runFlow, runPairs, runText } from './running.js';
+import { changesShown } from './sheets.js';
+import { textOf } from './tables.js';
+import { el, grouped, pictureOf, saver } from './view.js';
+import { pageWords } from './words.js';
+
+const $ = (id) => document.getElementById(id);
+const WHY = {
+  memory: 'The memory that this browser gives isn’t enough for it.',
+  rejected: 'The answer was not accepted, so nothing of it is shown.',
+  failed: 'The run failed.',
+  stopped: 'Stopped.',
+  room: 'The run failed.',
+  choice: 'The run failed.',
+};
+// Of longer files the text isn't put into its field.
+const FIELD = 400000;
+const FIELDS = { places: 'Places', routes: 'Routes', costs: 'Costs', dimacs: 'Instance' };
+
+let solver, busy = false, plan = null, grids = [];
+// What fields have that isn't their text: the name and the bytes of a file.
+const files = {};
+
+// ---- What is put in
+
+const kindOf = () => document.querySelector('input[name=kind]:checked').value;
+
+function chooseKind(kind) {
+  document.querySelector(`input[name=kind][value=${kind}]`).checked = true;
+  for (const part of document.querySelectorAll('[data-kind]')) part.hidden = part.dataset.kind !== kind;
+}
+
+function put(id, text, file = null) {
+  $(id).value = text;
+  files[id] = file;
+}
+
+function sourceOf(id) {
+  const file = files[id];
+  if (file && file.bytes) return { name: file.name, bytes: file.bytes };
+  return { name: file ? file.name : FIELDS[id], text: $(id).value };
+}
+
+function choices() {
+  const heads = Object.fromEntries(
+    $('heads').value.split(/\s+(?=\w+=)/).map((pair) => pair.split('=')).filter(([head, own]) => head && own).map(
+      ([head, own]) => [head.trim(), own.trim()]
+    )
+  );
+  return {
+    reading: { decimal: $('decimal').value || null, encoding: $('encoding').value || null, heads },
+    policy: { unused: $('unused').checked, short: $('short').checked },
+    each: $('each').value || null,
+    maximise: $('maximise').checked,
+    engine: $('engine').value,
+  };
+}
+
+// Files that were chosen or dropped: which of the fields they are for, their beginning says.
+async function take(list) {
+  for (const file of list) {
+    const bytes = new Uint8Array(await file.arrayBuffer());
+    const begin = new TextDecoder().decode(bytes.subarray(0, 4096));
+    const first = begin.split('\n').find((line) => line.trim()) || '';
+    let id = 'places';
+    if (/^[ \t]*(c([ \t].*)?\r?\n[ \t]*)*p[ \t]/.test(begin) || /\.(min|asn|dimacs)$/i.test(file.name)) id = 'dimacs';
+    else if (/\b(from|von|most|both)\b/i.test(first)) id = 'routes';
+    else if (!/\b(name|supply|ort|angebot)\b/i.test(first)) id = kindOf() === 'flow'
+      && /route|strecke|lane|kante/i.test(file.name) ? 'routes'
+      : kindOf() === 'flow' && /place|ort|node/i.test(file.name)
+      ? 'places' : 'costs';
+    chooseKind({ dimacs: 'text', costs: 'pairs' }[id] || 'flow');
+    let text = `(${file.name}, ${grouped(String(bytes.length))} bytes)`;
+    if (bytes.length < FIELD) {
+      try { text = textOf(file.name, bytes, $('encoding').value || null).text; } catch { /* told when it is read */ }
+    }
+    put(id, text, { name: file.name, bytes });
+  }
+}
+
+function example(number) {
+  const { kind, texts, heads, unused } = JSON.parse($('examples').textContent)[number];
+  chooseKind(kind);
+  (kind === 'flow' ? ['places', 'routes'] : ['costs']).forEach((id, k) => put(id, texts[k]));
+  $('heads').value = heads;
+  $('unused').checked = unused;
+  $('short').checked = false;
+  $('decimal').value = $('encoding').value = $('each').value = '';
+}
+
+// ---- Running
+
+async function go(change = null) {
+  if (busy) return solver.stop();
+  const kind = kindOf(), before = change && plan, asked = choices(), begun = performance.now();
+  busy = true;
+  document.body.classList.add('busy');
+  $('go').textContent = 'Stop';
+  document.body.dataset.status = 'running';
+  let status;
+  try {
+    const run = { flow: () => runFlow(solver, [sourceOf('places'), sourceOf('routes')], asked), pairs: () => runPairs(solver, sourceOf('costs'), asked), text: () => {
+      const source = sourceOf('dimacs');
+      return runText(solver, source.bytes || new TextEncoder().encode(source.text), asked);
+    } };
+    const shown = await run[kind]();
+    plan = shown.plan || before;
+    show(shown, change, before);
+    status = shown.result.status;
+  } catch (error) {
+    status = error instanceof BadTable ? 'unread' : error.status || 'failed';
+    showTrouble(error, change);
+  }
+  busy = false;
+  document.body.classList.remove('busy');
+  $('go').textContent = 'Find the plan';
+  Object.assign(document.body.dataset, { status, took: (performance.now() - begun).toFixed(0) });
+}
+
+// A cell that was changed: the table is written anew, and solved.
+function changed({ from: table, field }, k, head, text) {
+  const { cells } = table.rows[k], place = table.heads.indexOf(head), cell = (name) => cells[table.heads.indexOf(name)];
+  const old = Object.fromEntries(['places', 'routes'].map((id) => [id, { text: $(id).value, file: files[id] }]));
+  const where = field === 'places' ? cell('name') : `${cell('from')} -> ${cell('to')}`, now = text.trim();
+  const what = `${head} of ${where}: ${cells[place] || 'empty'} is now ${now || 'empty'}.`;
+  while (cells.length <= place) cells.push('');
+  cells[place] = now;
+  put(
+    field,
+    csvOf({ heads: table.titles, rows: table.rows.map((row) => row.cells), like: { ...table, mark: false }, figures: [] }),
+    files[field] && { name: files[field].name }
+  );
+  const undo = () => {
+    for (const [id, { text: was, file }] of Object.entries(old)) put(id, was, file);
+    go({ what: `Taken back: ${what}`, undo: null });
+  };
+  go({ what, undo });
+}
+
+// ---- What is shown
+
+function replaceResult(...parts) {
+  const focused = document.activeElement && document.activeElement.dataset ? document.activeElement.dataset.key : null;
+  $('result').replaceChildren(...parts.flat().filter(Boolean));
+  $('result').hidden = false;
+  for (const grid of grids) grid.settle();
+  const field = focused && [...document.querySelectorAll('input.cell')].find((it) => it.dataset.key === focused);
+  if (field) field.focus({ preventScroll: true });
+}
+
+const paragraph = (text, className = null) => el('p', className ? { class: className } : {}, pageWords(text));
+
+function show(shown, change, before) {
+  const { result, instance, mark } = shown, [words, figure] = shown.headline, settings = { mark, change: changed };
+  const drawn = shown.scene && svgOf(shown.scene());
+  const differs = change && changeParts(shown, change, before);
+  grids = [...shown.sheets, ...(differs ? differs.sheets : [])].map((sheet) => new Grid(sheet, settings));
+  const apart = grids.splice(shown.sheets.length).map((grid) => { grids.unshift(grid); return grid.element; });
+  const ms = (time) => `${time < 10 ? time.toFixed(1) : time.toFixed(0)} ms`;
+  replaceResult(
+    el('h2', { class: shown.isPlan ? null : 'none', role: 'status', tabindex: -1 }, words, grouped(figure, mark)),
+    el('p', { class: 'soft', id: 'seal' }, `✓ ${result.verdict}: so says the proved checker in this page, of this very answer.`),
+    shown.lead.map((line) => paragraph(line)),
+    differs && el('div', { class: 'changed' }, differs.parts, apart),
+    shown.facts.length ? el(
+      'ul', { class: 'facts' }, shown.facts.map(([value, what]) => el('li', {}, el('b', {}, grouped(String(value), mark)), what))
+    ) : null,
+    shown.findings.map(findingOf),
+    drawn && [el('h2', {}, 'Picture'), pictureOf(drawn)],
+    grids.filter((grid) => !apart.includes(grid.element)).map((grid) => grid.element),
+    saves(shown, instance, drawn),
+    el(
+      'p',
+      { class: 'soft small' },
+      `Solved in ${ms(result.solving)}, checked in ${ms(result.judging)}, ${(result.peak / 2 ** 20).toFixed(1)} MB at most.`
+    )
+  );
+}
+
+function findingOf({ figures, sentence, cure }) {
+  const numbers = figures.flatMap(
+    ([words, number], k) => [k ? ' · ' : '', el('b', words === 'short by' ? { class: 'short' } : {}, `${words} ${number}`)]
+  );
+  return el('div', { class: 'finding' }, el('p', {}, numbers), paragraph(sentence), cure ? paragraph(cure, 'soft') : '');
+}
+
+// What a change made of the plan before.
+function changeParts(shown, { what, undo }, before) {
+  const back = undo ? el('button', { type: 'button', onclick: undo }, 'Take it back') : '';
+  if (!shown.plan || !before) return {
+    parts: [paragraph(what), before ? paragraph(`Before, a plan cost ${before.problem.said.total(before.cost)}.`) : '', back], sheets: [],
+  };
+  const { text, sheets } = changesShown(before, shown.plan);
+  return { parts: [paragraph(what), paragraph(text), back], sheets };
+}
+
+function saves(shown, instance, drawn) {
+  const { problem } = shown.plan || {}, mark = problem ? problem.numbers.mark : shown.mark;
+  return el(
+    'section',
+    { class: 'saves' },
+    el('h2', {}, 'To save'),
+    el('p', { class: 'soft' }, `Elsewhere, mcfcheck ${instance.name} answer.ans judges this answer again.`),
+    el(
+      'div',
+      { class: 'tools' },
+      saver(instance.name, () => instance.text),
+      saver('answer.ans', () => shown.result.bytes),
+      shown.tables().map(
+        (table) => saver(`${table.name}.csv`, () => csvOf({ ...table, like: { ...table.like, mark: true } }, mark), 'text/csv')
+      ),
+      drawn ? saver('plan.svg', () => drawn, 'image/svg+xml') : '',
+      el('button', { type: 'button', onclick: () => print() }, 'Print')
+    )
+  );
+}
+
+function showTrouble(error, change) {
+  const lines = error instanceof BadTable ? error.lines : [
+    WHY[error.status] || 'The run failed.', ...(error.message && error.message !== error.status ? [error.message] : [])
+  ];
+  const back = change && change.undo ? el('button', { type: 'button', onclick: change.undo }, 'Take it back') : null;
+  grids = [];
+  replaceResult(
+    el(
+      'h2', { class: 'none', role: 'status', tabindex: -1 }, error instanceof BadTable ? 'The tables can’t be read as meant' : 'No answer'
+    ),
+    change && paragraph(change.what),
+    lines.map((line) => el('div', { class: 'finding' }, paragraph(line))),
+    back
+  );
+  if (!(error instanceof BadTable) && !WHY[error.status]) console.error(error);
+}
+
+// ---- The beginning
+
+function begin() {
+  JSON.parse($('examples').textContent).forEach(({ name }, k) => $('example').append(el('option', { value: k }, name)));
+  $('example').onchange = () => { if ($('example').value !== '') { example(Number($('example').value)); go(); } };
+  for (const radio of document.querySelectorAll('input[name=kind]')) radio.onchange = () => chooseKind(radio.value);
+  for (const id of Object.keys(FIELDS)) $(id).oninput = () => { files[id] = files[id] && { name: files[id].name }; };
+  $('input').onsubmit = (event) => { event.preventDefault(); go(); };
+  $('files').onchange = () => take($('files').files);
+  addEventListener('dragover', (event) => { event.preventDefault(); document.body.classList.add('over'); });
+  addEventListener('dragleave', (event) => { if (!event.relatedTarget) document.body.classList.remove('over'); });
+  addEventListener('drop', (event) => { event.preventDefault(); document.body.classList.remove('over'); take(event.dataTransfer.files); });
+  addEventListener('keydown', (event) => { if (event.key === 'Enter' && (event.ctrlKey || event.metaKey) && !busy) go(); });
+  addEventListener('beforeprint', () => grids.forEach((grid) => grid.fill(true, true)));
+  addEventListener('afterprint', () => grids.forEach((grid) => grid.settle()));
+  example(JSON.parse($('examples').textContent).findIndex(({ name }) => name === 'transport'));
+  try {
+    solver = new Client($('worker').textContent, $('module').textContent.trim());
+    solver.ready.then(() => { document.body.dataset.ready = 'yes'; }, () => { $('support').hidden = false; });
+  } catch { $('support').hidden = false; }
+}
+
+begin();

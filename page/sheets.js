@@ -1,0 +1,394 @@
+// What is shown of an answer: a headline, what leads to it, facts, findings, a scene, and tables to look at and to save.
+import { pairsSummary, pairsTable, rivalsLines, rivalsTable } from './pairs.js';
+import { balanceOf, bottleneckSentence, bottleneckTable, flowSummary, flowsTable, pricesTable, savingsOf } from './report.js';
+import { listed } from './faults.js';
+import { size } from './model.js';
+import { allBottlenecks } from './solving.js';
+import { cellAt } from './tables.js';
+import { blockedScene, planScene } from './scene.js';
+
+const column = (head, meaning = '', more = {}) => ({ head, meaning, ...more });
+const number = (head, meaning, more = {}) => column(head, meaning, { number: true, ...more });
+// Heads of columns that are shown anyway.
+const USED = ['from', 'to', 'least', 'most', 'cost', 'name', 'supply', 'x', 'y'];
+
+// A sheet of rows that are there.
+const sheetOf = (title, columns, rows, more = {}) => (
+  { title, columns, count: rows.length, row: (k) => rows[k], hasIdle: rows.some(({ kind }) => kind === 'idle'), ...more }
+);
+
+// The columns of a table that are the planner's own.
+const ownColumns = (table) => table.heads.map((_, place) => place).filter((place) => !USED.includes(table.heads[place]));
+const ownOf = (table) => ownColumns(table).map((place) => column(table.titles[place]));
+
+export function planShown(plan) {
+  const { problem } = plan, { units, said } = problem, carrying = plan.routes.filter((result) => result.carries).length;
+  const full = plan.routes.filter((_, k) => plan.isFull(k)).length;
+  const facts = [[problem.places.length, 'places'], [problem.routes.length, 'routes'], [carrying, 'carry something'], [full, 'are full']];
+  for (const [isSupply, words] of [[true, 'stay'], [false, 'are missing']]) {
+    const unmet = plan.unmet(isSupply).reduce((sum, [, amount]) => sum + amount, 0n);
+    if (unmet) facts.push([units.amount(unmet), words]);
+  }
+  return {
+    isPlan: true,
+    headline: ['Least cost: ', units.total(plan.cost)],
+    mark: said.mark,
+    lead: [
+      'No plan for these tables costs less.',
+      ...flowSummary(plan).slice(2).filter((line) => /stay|missing|Passing/.test(line)),
+      ...problem.numbers.told()
+    ],
+    facts,
+    findings: [],
+    scene: () => planScene(plan),
+    sheets: [...savingsSheet(plan), routesSheet(plan), placesSheet(plan)],
+    tables: () => [flowsTable(plan), pricesTable(plan)],
+  };
+}
+
+function savingsSheet(plan) {
+  const rows = savingsOf(plan).slice(0, 50).map(
+    ({ ends, result }) => ({ kind: 'full', cells: [...ends, result.isExact ? 'exactly' : 'at most', plan.rate(result.saves)] })
+  );
+  return rows.length ? [
+    sheetOf(
+      'What one more unit of room saves',
+      [column('from'), column('to'), column('exact', 'whether it saves just that'), number('one more unit saves')],
+      rows
+    )
+  ] : [];
+}
+
+function routesSheet(plan) {
+  const { problem } = plan;
+  const { units, routeTable } = problem;
+  const own = ownColumns(routeTable);
+  const plain = problem.routes.every(({ steps }) => steps.length === 1);
+  const may = (head) => (plain && routeTable.heads.includes(head) ? { edit: head, of: true } : {});
+  const columns = [
+    column('from', 'where the route begins'),
+    column('to', 'where it ends'),
+    number('least', 'it carries no less', may('least')),
+    number('most', 'it carries no more; empty: no limit', may('most')),
+    number('cost', 'of each unit', may('cost')),
+    number('carries', 'in this plan'),
+    number('total', 'cost of what it carries'),
+    number('of its room', 'what it carries of its most', { share: true }),
+    number('one more saves', 'what one more unit of room saves'),
+    column('exact', 'whether it saves just that'),
+    ...ownOf(routeTable)
+  ];
+  const row = (k) => {
+    const route = problem.routes[k], { carries, cost, saves, isExact } = plan.routes[k];
+    const share = route.most ? String(Math.round(100 * Number(size(carries)) / Number(size(route.most)))) : '';
+    return {
+      kind: plan.isFull(k) ? 'full' : carries ? '' : 'idle',
+      cells: [
+        ...problem.ends(route), units.amount(route.least), units.amount(route.most),
+        route.steps.map((step) => units.rate(step.cost)).join(', '), units.amount(carries), units.total(cost), share,
+        saves ? plan.rate(saves) : '', saves ? (isExact ? 'exactly' : 'at most') : '', ...own.map((place) => cellAt(route.cells, place))
+      ],
+    };
+  };
+  const total = units.total(plan.routes.reduce((sum, { cost }) => sum + cost, 0n));
+  const totals = columns.map(({ head }) => (head === 'total' ? total : ''));
+  return {
+    title: 'Routes',
+    columns,
+    count: problem.routes.length,
+    row,
+    hasIdle: plan.routes.some(({ carries }) => !carries),
+    totals,
+    from: routeTable,
+    field: 'routes',
+    note: plain ? 'A change of least, most or cost makes the plan anew.' : '',
+  };
+}
+
+function placesSheet(plan) {
+  const { problem } = plan;
+  const { units, placeTable } = problem;
+  const own = ownColumns(placeTable);
+  const hasBounds = problem.places.some(({ bounds }) => bounds);
+  const hasUnmet = plan.net.hub !== null;
+  const columns = [
+    column('name'),
+    number('supply', 'above 0 it sends, below 0 it takes', { edit: 'supply' }),
+    number('one more costs', 'what one more unit costs there'),
+    number('group', 'among places of one group that is exact'),
+    ...(hasUnmet ? [number('unmet', 'what stays, or is missing')] : []),
+    ...(
+      hasBounds ? [
+        number('passes', 'what comes in and what is sent there'), number('passes at most', 'empty: no limit'),
+        number('passing costs', 'in this plan'), number('one more saves', 'what one more unit of room saves'),
+      ] : []
+    ),
+    ...ownOf(placeTable)
+  ];
+  const row = (k) => {
+    const place = problem.places[k], { price, group, unmet, through } = plan.places[k];
+    const passing = through ? [
+      units.amount(through.carries), units.amount(place.bounds.most), units.total(through.cost),
+      through.saves ? plan.rate(through.saves) : '',
+    ] : ['', '', '', ''];
+    return {
+      kind: '',
+      cells: [
+        place.name, units.amount(place.supply), plan.rate(price), String(group), ...(hasUnmet ? [unmet ? units.amount(unmet) : ''] : []),
+        ...(hasBounds ? passing : []), ...own.map((place_) => cellAt(place.cells, place_))
+      ],
+    };
+  };
+  return { title: 'Places', columns, count: problem.places.length, row, from: placeTable, field: 'places' };
+}
+
+export function blockedShown(blocked) {
+  const { problem } = blocked.net, said = (amount) => problem.said.amount(amount), [supply, demand] = balanceOf(problem);
+  const headline = blocked.isUnbalanced ? `supply ${said(supply)}, demand ${said(demand)}`
+    : blocked.bottlenecks.slice(0, 3).map((found) => `short by ${said(found.must - found.can)}`).join(', ');
+  const findings = blocked.bottlenecks.map((found) => bottleneckFinding(blocked.eased, found));
+  if (blocked.isUnbalanced) {
+    findings.unshift(
+      {
+        figures: [['supply', said(supply)], ['demand', said(demand)], ['short by', said(size(supply - demand))]],
+        sentence: 'Supplies and demands must be equal.',
+        cure: `Make them equal; or choose that what is too much may ${supply > demand ? 'stay' : 'be short'}.`,
+      }
+    );
+  }
+  return {
+    isPlan: false,
+    headline: ['No plan exists: ', headline],
+    mark: problem.said.mark,
+    lead: ['Whatever way amounts go, these places must send or take more than the routes around them carry.', ...problem.numbers.told()],
+    facts: [],
+    findings,
+    scene: () => blockedScene(blocked),
+    sheets: [...limitingSheet(blocked), ...inputSheets(problem)],
+    tables: () => [bottleneckTable(blocked.eased, allBottlenecks(blocked))],
+  };
+}
+
+function bottleneckFinding(net, found) {
+  const said = (amount) => net.problem.said.amount(amount);
+  const short = said(found.must - found.can);
+  const routes = net.amounts(found.limiting, 'most').map(([k]) => net.ends(k).join(' -> '));
+  const raise = routes.length ? `Give ${listed(routes)} ${short} more room${routes.length > 1 ? ' together' : ''}, or`
+    : 'Give them a route, or';
+  return {
+    figures: [['must', said(found.must)], ['can', said(found.can)], ['short by', short]],
+    sentence: bottleneckSentence(net, found),
+    cure: `${raise} move ${short} of ${found.side === 'take' ? 'demand' : 'supply'} elsewhere.`,
+  };
+}
+
+function limitingSheet(blocked) {
+  const net = blocked.eased, { units } = net.problem, rows = [];
+  blocked.bottlenecks.forEach((found, k) => {
+    for (const [arc, most] of net.amounts(found.limiting, 'most')) rows.push(
+      { kind: 'full', cells: [`${k + 1}.`, ...net.ends(arc), units.amount(most), ''] }
+    );
+    for (const [arc, least] of net.amounts(found.forcing, 'least')) rows.push(
+      { kind: '', cells: [`${k + 1}.`, ...net.ends(arc), '', units.amount(least)] }
+    );
+  });
+  return rows.length ? [
+    sheetOf(
+      'Routes that limit them',
+      [
+        column('bottleneck'), column('from'), column('to'), number('most', 'so the route limits the places'),
+        number('least', 'so it forces that upon them'),
+      ],
+      rows
+    )
+  ] : [];
+}
+
+// What may be changed where no plan exists.
+function inputSheets({ routes, places, units, routeTable, placeTable }) {
+  const may = (head) => (
+    routes.every(({ steps }) => steps.length === 1) && routeTable.heads.includes(head) ? { edit: head, of: true } : {}
+  );
+  const name = (node) => places[node - 1].name;
+  return [
+    {
+      title: 'Routes',
+      columns: [
+        column('from'), column('to'), number('least', '', may('least')), number('most', 'empty: no limit', may('most')),
+        number('cost', '', may('cost')),
+      ],
+      count: routes.length,
+      from: routeTable,
+      field: 'routes',
+      note: 'A change of least, most or supply makes the plan anew.',
+      row: (k) => (
+        {
+          kind: '',
+          cells: [
+            name(routes[k].tail), name(routes[k].head), units.amount(routes[k].least), units.amount(routes[k].most),
+            routes[k].steps.map((step) => units.rate(step.cost)).join(', '),
+          ],
+        }
+      ),
+    },
+    {
+      title: 'Places',
+      columns: [column('name'), number('supply', 'above 0 it sends, below 0 it takes', { edit: 'supply' })],
+      count: places.length,
+      from: placeTable,
+      field: 'places',
+      row: (k) => ({ kind: '', cells: [places[k].name, units.amount(places[k].supply)] }),
+    },
+  ];
+}
+
+// ---- Persons and things
+
+export function pairsShown(roster, chosen, cost) {
+  const { persons, things, units } = roster, word = units.sign < 0n ? 'Greatest value: ' : 'Least cost: ';
+  const rows = chosen.map(
+    (pair) => ({ kind: '', cells: [persons.names[pair.who - 1], things.names[pair.what - 1], units.rate(pair.cost)] })
+  );
+  return {
+    isPlan: true,
+    headline: [word, units.total(cost)],
+    mark: roster.said.mark,
+    lead: [...pairsSummary(roster, chosen, cost).slice(2), ...roster.numbers.told()],
+    facts: [[persons.names.length, 'persons'], [things.names.length, 'things'], [chosen.length, 'pairs']],
+    findings: [],
+    scene: null,
+    sheets: [sheetOf('Pairs', [column('who'), column('what'), number(units.sign < 0n ? 'value' : 'cost')], rows)],
+    tables: () => [pairsTable(roster, chosen)],
+  };
+}
+
+export function pairsBlocked(net, bottlenecks) {
+  const lines = rivalsLines(net, bottlenecks), found = lines.slice(1, 1 + bottlenecks.length).map((line) => line.trim());
+  const findings = found.map(
+    (sentence, k) => (
+      {
+        figures: [
+          ['must', bottlenecks[k].must], ['can', bottlenecks[k].can], ['short by', bottlenecks[k].must - bottlenecks[k].can],
+        ].map(([words, many]) => [words, String(many)]),
+        sentence,
+        cure: '',
+      }
+    )
+  );
+  return {
+    isPlan: false,
+    headline: ['No such pairs exist', ''],
+    mark: net.roster.said.mark,
+    lead: [...lines.slice(1 + found.length), ...net.roster.numbers.told()],
+    facts: [],
+    findings,
+    scene: null,
+    sheets: [],
+    tables: () => [rivalsTable(net, bottlenecks)],
+  };
+}
+
+// ---- A DIMACS text
+
+export function textShown(network, plan) {
+  const { arcs, supplies } = network, full = (k) => plan.flows[k] === arcs[k].most && plan.flows[k] !== 0n;
+  const saves = ({ tail, head, cost }) => {
+    const saved = plan.prices[tail - 1] - plan.prices[head - 1] - cost;
+    return saved > 0n ? saved : 0n;
+  };
+  const carrying = plan.flows.reduce((count, flow) => count + (flow !== 0n), 0);
+  const row = (k) => {
+    const arc = arcs[k], flow = plan.flows[k], saved = saves(arc);
+    return {
+      kind: full(k) ? 'full' : flow ? '' : 'idle',
+      cells: [
+        String(k + 1), String(arc.tail), String(arc.head), String(arc.least), String(arc.most), String(arc.cost), String(flow),
+        String(flow * arc.cost), saved ? String(saved) : '',
+      ],
+    };
+  };
+  const columns = [
+    number('arc'), number('from'), number('to'), number('least'), number('most'), number('cost'), number('carries'), number('total'),
+    number('one more saves', 'what one more unit of room saves at most'),
+  ];
+  const nodes = {
+    title: 'Nodes',
+    columns: [number('node'), number('supply'), number('one more costs', 'minus its price')],
+    count: supplies.length,
+    row: (k) => ({ kind: '', cells: [String(k + 1), String(supplies[k]), String(-plan.prices[k])] }),
+  };
+  return {
+    isPlan: true,
+    headline: ['Least cost: ', String(plan.cost)],
+    mark: '.',
+    lead: [],
+    facts: [[supplies.length, 'nodes'], [arcs.length, 'arcs'], [carrying, 'carry something']],
+    findings: [],
+    scene: null,
+    sheets: [{ title: 'Arcs', columns, count: arcs.length, row, hasIdle: carrying < arcs.length }, nodes],
+    tables: () => [],
+  };
+}
+
+export function textBlocked(network, bottlenecks) {
+  const name = ({ tail, head, most }) => `${tail} -> ${head} (${most})`;
+  const findings = bottlenecks.map(
+    (found) => (
+      {
+        figures: [['must', String(found.must)], ['can', String(found.can)], ['short by', String(found.must - found.can)]],
+        cure: '',
+        sentence: `Nodes ${listed(found.nodes.map(String))} must ${found.side} ${found.must}, and can ${found.side} only ${found.can}${found.limiting.length ? `, over ${listed(found.limiting.map((k) => name(network.arcs[k])))}` : ''}.`,
+      }
+    )
+  );
+  const rows = bottlenecks.flatMap(
+    (found, k) => found.limiting.map(
+      (arc) => (
+        {
+          kind: 'full', cells: [`${k + 1}.`, String(network.arcs[arc].tail), String(network.arcs[arc].head), String(network.arcs[arc].most)],
+        }
+      )
+    )
+  );
+  return {
+    isPlan: false,
+    headline: ['No flow exists', ''],
+    mark: '.',
+    lead: [],
+    facts: [],
+    findings,
+    scene: null,
+    tables: () => [],
+    sheets: rows.length ? [sheetOf('Arcs that limit them', [column('bottleneck'), number('from'), number('to'), number('most')], rows)] : [],
+  };
+}
+
+// ---- What changed
+
+// What differs between two plans: by the ends of routes, and of several with the same ends by their order.
+export function changesShown(before, plan) {
+  const { units } = plan.problem, rows = [], now = carriedBy(plan), was = carriedBy(before), old = before.problem.units;
+  for (const key of new Set([...was.keys(), ...now.keys()])) {
+    const [a, b] = [was.get(key), now.get(key)], texts = [a ? old.amount(a.carries) : '', b ? units.amount(b.carries) : ''];
+    if (texts[0] !== texts[1]) rows.push({ kind: '', cells: [...(b || a).ends, ...texts] });
+  }
+  const [cost, other] = [before.problem.said.total(before.cost), plan.problem.said.total(plan.cost)];
+  const sheets = rows.length ? [
+    sheetOf('Routes that carry something else than before', [column('from'), column('to'), number('before'), number('now')], rows)
+  ] : [];
+  return {
+    text: `Cost before ${cost}, now ${other}; ${rows.length === 1 ? '1 route carries' : `${rows.length} routes carry`} something else.`,
+    sheets,
+  };
+}
+
+function carriedBy(plan) {
+  const found = new Map();
+  plan.problem.routes.forEach((route, k) => {
+    const ends = plan.problem.ends(route);
+    let key = JSON.stringify(ends), nth = 0;
+    while (found.has(key)) key = JSON.stringify([...ends, ++nth]);
+    found.set(key, { ends, carries: plan.routes[k].carries });
+  });
+  return found;
+}
