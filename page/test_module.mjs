@@ -4,7 +4,7 @@ import os from 'node:os';
 import path from 'node:path';
 import { spawnSync } from 'node:child_process';
 import { fileURLToPath } from 'node:url';
-import { Instance } from './module.js';
+import { Instance, judged } from './module.js';
 
 const top = path.join(path.dirname(fileURLToPath(import.meta.url)), '..'), examples = path.join(top, 'examples');
 const programs = process.env.MCF_BIN ?? path.join(top, 'bin'), mcfcheck = path.join(programs, 'mcfcheck');
@@ -40,6 +40,7 @@ export default function test(expect) {
       expect(instance.check(text, found).accepted, `${name}: ${engine}`);
     }
   }
+  spoilt(expect, module, fs.readFileSync(path.join(examples, 'transport.min')));
   let refused = false;
   try { new Instance(module).room(2 ** 40); } catch (error) { refused = error instanceof RangeError; }
   expect(refused, 'a room that no memory has');
@@ -68,4 +69,25 @@ function said(scratch, file, answer) {
   const other = path.join(scratch, 'answer');
   fs.writeFileSync(other, answer);
   return spawnSync(mcfcheck, [file, other]).stdout.toString().trim();
+}
+
+// What a solver that answers wrongly would have the page show: nothing.
+function spoilt(expect, module, bytes) {
+  const { solve } = Instance.prototype;
+  const ways = {
+    'another cost': (instance, found) => {
+      instance.bytes(found.at, found.size)[instance.bytes(found.at, found.size).indexOf(115) + 2] ^= 1;
+      return found;
+    },
+    'a line less': (instance, found) => ({ ...found, size: found.size - 6 }),
+    'another status': (instance, found) => ({ ...found, status: 'blocked' }),
+    'no answer': (instance, found) => ({ ...found, size: 0 }),
+  };
+  for (const [name, change] of Object.entries(ways)) {
+    Instance.prototype.solve = function wrongly(...words) { return change(this, solve.apply(this, words)); };
+    const result = judged(module, bytes, 'auto');
+    expect(result.status === 'rejected' && !result.answer, `${name}: ${result.status}, ${result.verdict}`);
+  }
+  Instance.prototype.solve = solve;
+  expect(judged(module, bytes, 'auto').status === 'flow', 'the answer as it is');
 }

@@ -93,8 +93,17 @@ export async function told(kind, solver, sources, choices) {
   }
 }
 
+// A set that the checker doesn't accept isn't told.
+async function unaccepted(expect, solver) {
+  const sources = ['places.csv', 'routes.csv'].map((name) => ({ name, bytes: fs.readFileSync(path.join(plans, 'blocked', name)) }));
+  const denying = { ...solver, check: async () => ({ accepted: false, line: 'rejected set' }) };
+  const status = await told('flow', denying, sources, asked([])).then(() => 'told', (error) => error.status);
+  expect(status === 'rejected', `a set that isn't accepted: ${status}`);
+}
+
 export default async function test(expect) {
   const solver = solverOf(loaded());
+  await unaccepted(expect, solver);
   for (const name of fs.readdirSync(plans).filter((one) => fs.existsSync(path.join(plans, one, 'expected')))) {
     const folder = path.join(plans, name);
     const stored = (file) => fs.readFileSync(path.join(folder, 'expected', file), 'utf8');
