@@ -18,8 +18,9 @@ OUT = BENCH / "out"
 CRATE = BENCH.parent / "crates" / "mcf"
 PROGRAM = CRATE / "out" / "mcf"
 
-DENSE = (256, 512, 1024, 2048)
-SPARSE = (2 ** 12, 2 ** 14, 2 ** 16)
+# the rows of the instances, and the greatest ratio to the peer
+DENSE = dict.fromkeys((256, 512, 1024, 2048), 0.85)
+SPARSE = {2 ** 12: 0.6, 2 ** 14: 0.5, 2 ** 16: 0.4}
 # how many instances of a size there are, where it isn't one
 INSTANCES = {2 ** 12: 12}
 DEGREE = 8
@@ -58,10 +59,10 @@ def sparse(rows, seed=None):
             yield i, j, rnd.randrange(1, MAX_COST + 1)
 
 
-# of each kind: the peer's source, the library that it is linked with, the greatest ratio, and the instances
+# of each kind: the peer's source, the library that it is linked with, and the instances
 KINDS = {
-    "dlib": ("dense.cc", [], 1.0, [("uniform", uniform, DENSE), ("mod", multiples, DENSE)]),
-    "LEMON": ("sparse.cc", ["-llemon"], 0.5, [("sparse", sparse, SPARSE)]),
+    "dlib": ("dense.cc", [], [("uniform", uniform, DENSE), ("mod", multiples, DENSE)]),
+    "LEMON": ("sparse.cc", ["-llemon"], [("sparse", sparse, SPARSE)]),
 }
 
 
@@ -116,14 +117,14 @@ def measure(words, engine="sap"):
         return True
     runs = max(5, words.runs)
     within = True
-    for library, (source, libraries, limit, families) in KINDS.items():
+    for library, (source, libraries, families) in KINDS.items():
         peer = build(source, libraries)
         if peer is None:
             print(f"assign: skipped beside {library}, which is not there")
             continue
         print(f"assign: {runs} runs of each, whole processes, beside {library}")
         for name, arcs, sizes in families:
-            for rows in sizes:
+            for rows, limit in sizes.items():
                 ratios = []
                 for path in instances(name, arcs, rows):
                     ours, peers = compare(
