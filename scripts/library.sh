@@ -13,7 +13,8 @@ for crate in $(sed -n '/^mcf_c /q; s/^\([a-z_]*\):.*/\1/p' crates.txt) mcf_c; do
 done
 cc -shared -o bin/libmcf.so.1 -Wl,-soname,libmcf.so.1 -Wl,-z,text,-z,defs,-z,relro,-z,now -Wl,--version-script=library/libmcf.map \
     -Wl,--whole-archive "$built" -Wl,--no-whole-archive "$kit/c/liblibc_c.a"
-ln -sf libmcf.so.1 bin/libmcf.so
+# A copy and no link: the gate takes no links in the repository's folder.
+rm -f bin/libmcf.so && cp bin/libmcf.so.1 bin/libmcf.so
 rm -f bin/libmcf.a
 printf 'create bin/libmcf.a\naddlib %s\naddlib %s\nsave\nend\n' "$built" "$kit/c/liblibc_c.a" | ar -M
 cp library/mcf.h bin/mcf.h
