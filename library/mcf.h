@@ -84,14 +84,21 @@ struct mcf_arc {
     int64_t low, cap, cost;
 };
 
-/* Solves a flow problem: the supplies by node and the arcs, in order. `flow` has room for a number for each arc, and `prices`
+/* A flow problem: the supplies by node and the arcs, in order. */
+struct mcf_flow_problem {
+    const int64_t *supplies;
+    size_t nodes;
+    const struct mcf_arc *arcs;
+    size_t arc_count;
+};
+
+/* Solves a flow problem. `flow` has room for a number for each arc, and `prices`
    for one for each node. MCF_FLOW: the flow, the prices, and `told` the cost. MCF_BLOCKED: `prices` marks by 1 the nodes of a set
    that must send or take (`told.code`) more than it can, and by 0 all others. MCF_REFUSED: `told` the first fault, exactly where
    the arrays are beyond the limits: at most 1,000,000 nodes and 10,000,000 arcs; supplies and bounds at most 10^18 from 0, costs
    10^15; low at most cap; and the sizes of cost times bound at most 10^36 in sum. From 2 to 5 both rooms are as they were. */
-uint32_t mcf_solve_arcs(const int64_t *supplies, size_t nodes, const struct mcf_arc *arcs, size_t arc_count,
-                        const struct mcf_choice *choice, int64_t *flow, size_t flow_length, int64_t *prices, size_t prices_length,
-                        struct mcf_verdict *told);
+uint32_t mcf_solve_arcs(const struct mcf_flow_problem *problem, const struct mcf_choice *choice, int64_t *flow, size_t flow_length,
+                        int64_t *prices, size_t prices_length, struct mcf_verdict *told);
 
 /* A pair that may be assigned: its row from 1, its column from 1, and its cost. */
 struct mcf_pair {
@@ -99,22 +106,28 @@ struct mcf_pair {
     int64_t cost;
 };
 
+/* An assignment problem: how many rows and columns there are, and the pairs, in order. */
+struct mcf_assignment {
+    uint32_t rows, columns;
+    const struct mcf_pair *pairs;
+    size_t pair_count;
+};
+
 /* Solves an assignment problem: as many of its pairs as there are rows, and columns, of least cost in sum. `flow` has room for a
    number for each pair, which becomes 1 where it is assigned and else 0, and `prices` for the rows and then the columns. What it
    answers is what mcf_solve_arcs answers, with the rows and then the columns as nodes. */
-uint32_t mcf_solve_pairs(uint32_t rows, uint32_t columns, const struct mcf_pair *pairs, size_t pair_count,
-                         const struct mcf_choice *choice, int64_t *flow, size_t flow_length, int64_t *prices, size_t prices_length,
-                         struct mcf_verdict *told);
+uint32_t mcf_solve_pairs(const struct mcf_assignment *problem, const struct mcf_choice *choice, int64_t *flow, size_t flow_length,
+                         int64_t *prices, size_t prices_length, struct mcf_verdict *told);
 
 /* Judges a flow by arc with prices by node for a flow problem, whoever made them: 0, 1, MCF_REFUSED (`told` the first fault of the
    arrays), MCF_NO_MEMORY, or MCF_NO_ROOM, where an array hasn't the right length. `told` holds the cost that is claimed, and becomes
    the verdict: it accepts exactly where the flow is feasible, has that cost, and is shown by the prices to be least. */
-uint32_t mcf_check_arcs(const int64_t *supplies, size_t nodes, const struct mcf_arc *arcs, size_t arc_count, const int64_t *flow,
-                        size_t flow_length, const int64_t *prices, size_t prices_length, struct mcf_verdict *told);
+uint32_t mcf_check_arcs(const struct mcf_flow_problem *problem, const int64_t *flow, size_t flow_length, const int64_t *prices,
+                        size_t prices_length, struct mcf_verdict *told);
 
 /* The same of an assignment problem. */
-uint32_t mcf_check_pairs(uint32_t rows, uint32_t columns, const struct mcf_pair *pairs, size_t pair_count, const int64_t *flow,
-                         size_t flow_length, const int64_t *prices, size_t prices_length, struct mcf_verdict *told);
+uint32_t mcf_check_pairs(const struct mcf_assignment *problem, const int64_t *flow, size_t flow_length, const int64_t *prices,
+                         size_t prices_length, struct mcf_verdict *told);
 
 #ifdef __cplusplus
 }

@@ -63,56 +63,58 @@ static int check_text(const char *path, uint32_t want) {
 static int check_arcs(void) {
     static const int64_t supplies[3] = {4, 0, -4};
     static const struct mcf_arc arcs[3] = {{1, 2, 0, 3, 1}, {2, 3, 0, 3, -1}, {1, 3, 0, 9, 5}};
-    struct mcf_arc other[3];
-    int64_t flow[3], prices[3], more[3] = {4, 4, -4};
+    static const int64_t more[3] = {4, 4, -4};
+    static const struct mcf_arc other[3] = {{1, 2, 0, 3, 1}, {2, 3, 4, 3, -1}, {1, 3, 0, 9, 5}};
+    static const struct mcf_flow_problem problem = {supplies, 3, arcs, 3}, richer = {more, 3, arcs, 3};
+    static const struct mcf_flow_problem faulty = {supplies, 3, other, 3}, nothing = {supplies, 0, arcs, 0};
+    int64_t flow[3], prices[3];
     struct mcf_choice choice = standard;
     struct mcf_verdict told;
     for (choice.engine = 0; choice.engine < 6; choice.engine++) {
-        CHECK(11, mcf_solve_arcs(supplies, 3, arcs, 3, &choice, flow, 3, prices, 3, &told) == MCF_FLOW);
+        CHECK(11, mcf_solve_arcs(&problem, &choice, flow, 3, prices, 3, &told) == MCF_FLOW);
         CHECK(12, flow[0] == 3 && flow[1] == 3 && flow[2] == 1 && told.low == 5 && told.high == 0 && told.negative == 0);
-        CHECK(13, mcf_check_arcs(supplies, 3, arcs, 3, flow, 3, prices, 3, &told) == 0 && told.kind == MCF_ACCEPTED_FLOW);
+        CHECK(13, mcf_check_arcs(&problem, flow, 3, prices, 3, &told) == 0 && told.kind == MCF_ACCEPTED_FLOW);
     }
     told.low = 6;
-    CHECK(14, mcf_check_arcs(supplies, 3, arcs, 3, flow, 3, prices, 3, &told) == 1 && told.kind == MCF_BAD_COST);
+    CHECK(14, mcf_check_arcs(&problem, flow, 3, prices, 3, &told) == 1 && told.kind == MCF_BAD_COST);
     told.high = UINT64_MAX;
-    CHECK(15, mcf_check_arcs(supplies, 3, arcs, 3, flow, 3, prices, 3, &told) == 1 && told.kind == MCF_BAD_COST);
+    CHECK(15, mcf_check_arcs(&problem, flow, 3, prices, 3, &told) == 1 && told.kind == MCF_BAD_COST);
     told.low = 5;
     told.high = 0;
     flow[2] = 2;
-    CHECK(16, mcf_check_arcs(supplies, 3, arcs, 3, flow, 3, prices, 3, &told) == 1 && told.kind == MCF_BAD_NODE && told.low == 1);
+    CHECK(16, mcf_check_arcs(&problem, flow, 3, prices, 3, &told) == 1 && told.kind == MCF_BAD_NODE && told.low == 1);
     flow[2] = 10;
-    CHECK(17, mcf_check_arcs(supplies, 3, arcs, 3, flow, 3, prices, 3, &told) == 1 && told.kind == MCF_BAD_ARC && told.low == 3);
+    CHECK(17, mcf_check_arcs(&problem, flow, 3, prices, 3, &told) == 1 && told.kind == MCF_BAD_ARC && told.low == 3);
     choice = standard;
-    CHECK(18, mcf_solve_arcs(supplies, 3, arcs, 3, &choice, flow, 2, prices, 3, &told) == MCF_NO_ROOM);
-    CHECK(19, mcf_check_arcs(supplies, 3, arcs, 3, flow, 3, prices, 2, &told) == MCF_NO_ROOM);
+    CHECK(18, mcf_solve_arcs(&problem, &choice, flow, 2, prices, 3, &told) == MCF_NO_ROOM);
+    CHECK(19, mcf_check_arcs(&problem, flow, 3, prices, 2, &told) == MCF_NO_ROOM);
     choice.pricing = 4;
-    CHECK(20, mcf_solve_arcs(supplies, 3, arcs, 3, &choice, flow, 3, prices, 3, &told) == MCF_NO_CHOICE);
+    CHECK(20, mcf_solve_arcs(&problem, &choice, flow, 3, prices, 3, &told) == MCF_NO_CHOICE);
     choice = standard;
-    CHECK(21, mcf_solve_arcs(more, 3, arcs, 3, &choice, flow, 3, prices, 3, &told) == MCF_BLOCKED);
+    CHECK(21, mcf_solve_arcs(&richer, &choice, flow, 3, prices, 3, &told) == MCF_BLOCKED);
     CHECK(22, told.code == MCF_SEND && told.low >= 1 && prices[0] + prices[1] + prices[2] == (int64_t)told.low);
-    memcpy(other, arcs, sizeof arcs);
-    other[1].low = 4;
-    CHECK(23, mcf_solve_arcs(supplies, 3, other, 3, &choice, flow, 3, prices, 3, &told) == MCF_REFUSED);
+    CHECK(23, mcf_solve_arcs(&faulty, &choice, flow, 3, prices, 3, &told) == MCF_REFUSED);
     CHECK(24, told.code == MCF_ORDER && told.low == 2 && told.kind == MCF_ACCEPTED_REFUSAL);
-    CHECK(25, mcf_check_arcs(supplies, 3, other, 3, flow, 3, prices, 3, &told) == MCF_REFUSED && told.code == MCF_ORDER);
-    CHECK(26, mcf_solve_arcs(supplies, 0, arcs, 0, &choice, flow, 0, prices, 0, &told) == MCF_FLOW && told.low == 0);
+    CHECK(25, mcf_check_arcs(&faulty, flow, 3, prices, 3, &told) == MCF_REFUSED && told.code == MCF_ORDER);
+    CHECK(26, mcf_solve_arcs(&nothing, &choice, flow, 0, prices, 0, &told) == MCF_FLOW && told.low == 0);
     return 0;
 }
 
 static int check_pairs(void) {
     static const struct mcf_pair pairs[5] = {{1, 1, 4}, {1, 2, 1}, {2, 1, 2}, {2, 2, -3}, {1, 2, 0}};
     static const struct mcf_pair wrong[1] = {{3, 1, 0}};
+    static const struct mcf_assignment problem = {2, 2, pairs, 5}, narrow = {2, 2, pairs, 2}, faulty = {2, 2, wrong, 1};
     int64_t flow[5], prices[4];
     struct mcf_verdict told;
-    CHECK(31, mcf_solve_pairs(2, 2, pairs, 5, &standard, flow, 5, prices, 4, &told) == MCF_FLOW);
+    CHECK(31, mcf_solve_pairs(&problem, &standard, flow, 5, prices, 4, &told) == MCF_FLOW);
     CHECK(32, flow[0] == 1 && flow[1] == 0 && flow[2] == 0 && flow[3] == 1 && flow[4] == 0 && told.low == 1 && told.negative == 0);
-    CHECK(33, mcf_check_pairs(2, 2, pairs, 5, flow, 5, prices, 4, &told) == 0);
+    CHECK(33, mcf_check_pairs(&problem, flow, 5, prices, 4, &told) == 0);
     flow[3] = 0;
-    CHECK(34, mcf_check_pairs(2, 2, pairs, 5, flow, 5, prices, 4, &told) == 1);
-    CHECK(35, mcf_solve_pairs(2, 2, pairs, 2, &standard, flow, 2, prices, 4, &told) == MCF_BLOCKED);
-    CHECK(36, mcf_solve_pairs(2, 2, wrong, 1, &standard, flow, 1, prices, 4, &told) == MCF_REFUSED && told.low == 1 && told.code == MCF_SIDE);
-    CHECK(37, mcf_solve_pairs(2, 2, pairs, 5, &standard, flow, 5, prices, 3, &told) == MCF_NO_ROOM);
-    CHECK(38, mcf_check_pairs(2, 2, wrong, 1, flow, 1, prices, 4, &told) == MCF_REFUSED);
+    CHECK(34, mcf_check_pairs(&problem, flow, 5, prices, 4, &told) == 1);
+    CHECK(35, mcf_solve_pairs(&narrow, &standard, flow, 2, prices, 4, &told) == MCF_BLOCKED);
+    CHECK(36, mcf_solve_pairs(&faulty, &standard, flow, 1, prices, 4, &told) == MCF_REFUSED && told.low == 1 && told.code == MCF_SIDE);
+    CHECK(37, mcf_solve_pairs(&problem, &standard, flow, 5, prices, 3, &told) == MCF_NO_ROOM);
+    CHECK(38, mcf_check_pairs(&faulty, flow, 1, prices, 4, &told) == MCF_REFUSED);
     return 0;
 }
 

@@ -51,13 +51,17 @@ static struct mcf_verdict told, before;
 
 /* The calls, by number; each writes only where its status says so. */
 static uint32_t call(int number) {
+    static struct mcf_flow_problem problem = {supplies, 0, arcs, 0};
+    static const struct mcf_assignment assignment = {20, 20, pairs, 400};
+    problem.nodes = nodes;
+    problem.arc_count = arc_count;
     switch (number) {
     case 0: return mcf_solve(input, length, &choice, room, sizeof room, &used);
     case 1: return mcf_check(input, length, untouched, used, &told);
-    case 2: return mcf_solve_arcs(supplies, nodes, arcs, arc_count, &choice, flow, arc_count, prices, nodes, &told);
-    case 3: return mcf_check_arcs(supplies, nodes, arcs, arc_count, flow, arc_count, prices, nodes, &told);
-    case 4: return mcf_solve_pairs(20, 20, pairs, 400, &choice, flow, 400, prices, 40, &told);
-    default: return mcf_check_pairs(20, 20, pairs, 400, flow, 400, prices, 40, &told);
+    case 2: return mcf_solve_arcs(&problem, &choice, flow, arc_count, prices, nodes, &told);
+    case 3: return mcf_check_arcs(&problem, flow, arc_count, prices, nodes, &told);
+    case 4: return mcf_solve_pairs(&assignment, &choice, flow, 400, prices, 40, &told);
+    default: return mcf_check_pairs(&assignment, flow, 400, prices, 40, &told);
     }
 }
 

@@ -29,6 +29,14 @@ class Told(ctypes.Structure):
         return -size if self.negative else size
 
 
+class FlowProblem(ctypes.Structure):
+    _fields_ = [("supplies", ctypes.c_void_p), ("nodes", ctypes.c_size_t), ("arcs", ctypes.c_void_p), ("arc_count", ctypes.c_size_t)]
+
+
+class Assignment(ctypes.Structure):
+    _fields_ = [("rows", ctypes.c_uint32), ("columns", ctypes.c_uint32), ("pairs", ctypes.c_void_p), ("pair_count", ctypes.c_size_t)]
+
+
 class Verdict(NamedTuple):
     """What the checker says: whether it accepts, of what kind, with which number and code."""
     accepted: bool
@@ -58,12 +66,13 @@ def _load() -> ctypes.CDLL:
     told = ctypes.POINTER(Told)
     choice = ctypes.POINTER(Choice)
     rooms = [at, size, at, size]
+    flow_problem, assignment = ctypes.POINTER(FlowProblem), ctypes.POINTER(Assignment)
     library.mcf_solve.argtypes = [ctypes.c_char_p, size, choice, at, size, ctypes.POINTER(size)]
     library.mcf_check.argtypes = [ctypes.c_char_p, size, ctypes.c_char_p, size, told]
-    library.mcf_solve_arcs.argtypes = [at, size, at, size, choice] + rooms + [told]
-    library.mcf_check_arcs.argtypes = [at, size, at, size] + rooms + [told]
-    library.mcf_solve_pairs.argtypes = [word, word, at, size, choice] + rooms + [told]
-    library.mcf_check_pairs.argtypes = [word, word, at, size] + rooms + [told]
+    library.mcf_solve_arcs.argtypes = [flow_problem, choice] + rooms + [told]
+    library.mcf_check_arcs.argtypes = [flow_problem] + rooms + [told]
+    library.mcf_solve_pairs.argtypes = [assignment, choice] + rooms + [told]
+    library.mcf_check_pairs.argtypes = [assignment] + rooms + [told]
     for function in (library.mcf_solve, library.mcf_check, library.mcf_solve_arcs, library.mcf_check_arcs, library.mcf_solve_pairs,
                      library.mcf_check_pairs):
         function.restype = word
@@ -120,7 +129,7 @@ class Arrays:
 
     def solve(self, choice: Choice) -> int:
         """The status: FLOW, BLOCKED or REFUSED, with what is told of it."""
-        status = self._solve(*self.problem, choice, *self._rooms, self.told)
+        status = self._solve(self.problem, choice, *self._rooms, self.told)
         if status > REFUSED:
             raise _failed(status)
         return status
@@ -128,7 +137,7 @@ class Arrays:
     def check(self) -> Verdict:
         """The verdict of the checker on the flow, the prices and the cost that is told."""
         told = Told(0, 0, self.told.negative, self.told.low, self.told.high)
-        status = self._check(*self.problem, *self._rooms, told)
+        status = self._check(self.problem, *self._rooms, told)
         if status > 1:
             raise _failed(status)
         return Verdict(status == 0, VERDICTS[told.kind], told.number, "")
@@ -155,7 +164,7 @@ class ArcArrays(Arrays):
 
     def __init__(self, supplies, nodes: int, arcs, arc_count: int):
         self._kept = (supplies, arcs)
-        self.problem = (at(supplies), nodes, at(arcs), arc_count)
+        self.problem = FlowProblem(at(supplies), nodes, at(arcs), arc_count)
         self._solve, self._check = _lib.mcf_solve_arcs, _lib.mcf_check_arcs
         self._room(arc_count, nodes)
 
@@ -166,7 +175,7 @@ class PairArrays(Arrays):
 
     def __init__(self, rows: int, columns: int, pairs, pair_count: int):
         self._kept = pairs
-        self.problem = (rows, columns, at(pairs), pair_count)
+        self.problem = Assignment(rows, columns, at(pairs), pair_count)
         self._solve, self._check = _lib.mcf_solve_pairs, _lib.mcf_check_pairs
         self._room(pair_count, rows + columns)
 

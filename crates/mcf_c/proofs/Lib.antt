@@ -1,4 +1,4 @@
 pub mod Judges
 pub mod Marks
-pub mod Statuses
+pub mod MadeOfArrays
 pub mod Stored

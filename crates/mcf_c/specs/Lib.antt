@@ -9,4 +9,5 @@ pub mod Calls
 pub mod Choices
 pub mod Handing
 pub mod Judged
+pub mod Problems
 pub mod Verdicts

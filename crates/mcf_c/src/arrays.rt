@@ -2,27 +2,20 @@
 ghost use Rattle.std.specs.Prelude.{◌≡◌, ◌≢◌, ◌≤◌, ◌<◌, ◌⊎◌, ◌↔◌, ◌+◌, IfErr, IfOk, IfSome, None, is_ok, length, true, false};
 ghost use Rattle.mcf_c.specs.Choices.{choice_of};
 ghost use Rattle.mcf_c.specs.Handing.{HandsFault, HandsFlow, HandsSet, HasWideNumber, TakesMemory};
+ghost use Rattle.mcf_c.specs.Problems.{assignment_network, flow_network};
 ghost use Rattle.mcf_c.specs.Verdicts.{TellsFault};
-ghost use Rattle.mcf_instance.specs.Arrays.{assignment_problem, flow_problem, made_of_arrays};
 ghost use Rattle.mcf_instance.specs.Limits.{limits};
 ghost use Rattle.mcf_instance.specs.Network.{node_count};
 ghost use Rattle.mcf_instance.specs.WellFormed.{IsWellFormed};
 
 use crate::choosing::{McfChoice, choice_of};
 use crate::handing::answer_instance;
+use crate::problems::{McfAssignment, McfFlowProblem, node_count};
+use crate::statuses::{NO_CHOICE, NO_MEMORY, NO_ROOM, REFUSED};
 use crate::verdicts::{McfVerdict, fault_numbers};
-use mcf_instance::{ArrayFault, Instance, RawArc, RawPair, assignment_problem, flow_problem};
+use mcf_instance::{ArrayFault, Instance, assignment_problem, flow_problem};
 use mcf_solver::Choice;
 use std::alloc::Global;
-
-// What a call answers where the arrays have a fault, memory is wanting, a room has another length, and the numbers mean no choice.
-const REFUSED: u32 = 2;
-
-const NO_MEMORY: u32 = 3;
-
-const NO_ROOM: u32 = 4;
-
-const NO_CHOICE: u32 = 5;
 
 // Answers what was made of arrays that stand for a network.
 fn answer_made(
@@ -54,7 +47,7 @@ fn answer_made(
     }
 }
 
-/// Solves the flow problem of these supplies and arcs, and writes its flow by arc and its prices by node.
+/// Solves a flow problem, and writes its flow by arc and its prices by node.
 ///
 /// The status is 0 for a least-cost flow, 1 where a node set blocks, whose nodes `prices` marks by 1 and all others by 0, 2
 /// where the arrays have a fault, 3 where memory is wanting, 4 where a room hasn't the length of the arrays, 5 where the
@@ -63,22 +56,21 @@ fn answer_made(
 #[unsafe(no_mangle)]
 pub extern "C" fn mcf_solve_arcs(
     alloc: Global,
-    supplies: &[i64],
-    arcs: &[RawArc],
+    problem: &McfFlowProblem<'_>,
     choice: &McfChoice,
     flow: &mut [i64],
     prices: &mut [i64],
     told: &mut McfVerdict,
 ) -> u32
     ensures statuses { result ≤ 6 }
-    ensures flow { result ≡ 0 → HandsFlow (flow_problem supplies.now arcs.now) flow.new prices.new told.new }
-    ensures set { result ≡ 1 → HandsSet (flow_problem supplies.now arcs.now) prices.new told.new }
-    ensures fault { result ≡ 2 → HandsFault (flow_problem supplies.now arcs.now) told.new }
-    ensures within { (result ≤ 1) ⊎ (result ≡ 6) → IsWellFormed limits (flow_problem supplies.now arcs.now) }
-    ensures memory { result ≡ 3 → IfSome (choice_of choice.now) (λ c. TakesMemory c.engine (flow_problem supplies.now arcs.now)) }
-    ensures room { result ≡ 4 → (length flow.old ≢ length arcs.now) ⊎ (length prices.old ≢ length supplies.now) }
+    ensures flow { result ≡ 0 → HandsFlow (flow_network problem.now) flow.new prices.new told.new }
+    ensures set { result ≡ 1 → HandsSet (flow_network problem.now) prices.new told.new }
+    ensures fault { result ≡ 2 → HandsFault (flow_network problem.now) told.new }
+    ensures within { (result ≤ 1) ⊎ (result ≡ 6) → IsWellFormed limits (flow_network problem.now) }
+    ensures memory { result ≡ 3 → IfSome (choice_of choice.now) (λ c. TakesMemory c.engine (flow_network problem.now)) }
+    ensures room { result ≡ 4 → (length flow.old ≢ length (flow_network problem.now).arcs) ⊎ (length prices.old ≢ node_count (flow_network problem.now)) }
     ensures choice { (result ≡ 5) ↔ (choice_of choice.now ≡ None) }
-    ensures wide { result ≡ 6 → HasWideNumber (flow_problem supplies.now arcs.now) }
+    ensures wide { result ≡ 6 → HasWideNumber (flow_network problem.now) }
     ensures flow_stays { (2 ≤ result) × (result ≤ 5) → flow.new ≡ flow.old }
     ensures prices_stay { (2 ≤ result) × (result ≤ 5) → prices.new ≡ prices.old }
     ensures told_stays { (3 ≤ result) × (result ≤ 5) → told.new ≡ told.old }
@@ -86,10 +78,10 @@ pub extern "C" fn mcf_solve_arcs(
     let Some(choice) = choice_of(choice) else {
         return NO_CHOICE;
     };
-    if !are_rooms(flow, arcs.len(), prices, supplies.len()) {
+    if !are_rooms(flow, problem.arcs.len(), prices, problem.supplies.len()) {
         return NO_ROOM;
     }
-    let Ok(made) = flow_problem(alloc, supplies, arcs) else {
+    let Ok(made) = flow_problem(alloc, problem.supplies, problem.arcs) else {
         return NO_MEMORY;
     };
     answer_made(alloc, made, choice, flow, prices, told)
@@ -103,30 +95,28 @@ pub(crate) fn are_rooms(flow: &[i64], arcs: usize, prices: &[i64], nodes: usize)
     flow.len() == arcs && prices.len() == nodes
 }
 
-/// Solves the assignment problem of so many rows and columns and of these pairs, and writes which pairs are assigned, by 1
-/// and else 0, and the prices of the rows and then of the columns.
+/// Solves an assignment problem, and writes which pairs are assigned, by 1 and else 0, and the prices of the rows and then of the
+/// columns.
 ///
 /// The statuses are those of `mcf_solve_arcs`, with the rows and then the columns as nodes and the pairs as arcs.
 #[unsafe(no_mangle)]
 pub extern "C" fn mcf_solve_pairs(
     alloc: Global,
-    rows: u32,
-    columns: u32,
-    pairs: &[RawPair],
+    problem: &McfAssignment<'_>,
     choice: &McfChoice,
     flow: &mut [i64],
     prices: &mut [i64],
     told: &mut McfVerdict,
 ) -> u32
     ensures statuses { result ≤ 6 }
-    ensures flow { result ≡ 0 → HandsFlow (assignment_problem rows columns pairs.now) flow.new prices.new told.new }
-    ensures set { result ≡ 1 → HandsSet (assignment_problem rows columns pairs.now) prices.new told.new }
-    ensures fault { result ≡ 2 → HandsFault (assignment_problem rows columns pairs.now) told.new }
-    ensures within { (result ≤ 1) ⊎ (result ≡ 6) → IsWellFormed limits (assignment_problem rows columns pairs.now) }
-    ensures memory { result ≡ 3 → IfSome (choice_of choice.now) (λ c. TakesMemory c.engine (assignment_problem rows columns pairs.now)) }
-    ensures room { result ≡ 4 → (length flow.old ≢ length pairs.now) ⊎ (length prices.old ≢ rows + columns) }
+    ensures flow { result ≡ 0 → HandsFlow (assignment_network problem.now) flow.new prices.new told.new }
+    ensures set { result ≡ 1 → HandsSet (assignment_network problem.now) prices.new told.new }
+    ensures fault { result ≡ 2 → HandsFault (assignment_network problem.now) told.new }
+    ensures within { (result ≤ 1) ⊎ (result ≡ 6) → IsWellFormed limits (assignment_network problem.now) }
+    ensures memory { result ≡ 3 → IfSome (choice_of choice.now) (λ c. TakesMemory c.engine (assignment_network problem.now)) }
+    ensures room { result ≡ 4 → (length flow.old ≢ length (assignment_network problem.now).arcs) ⊎ (length prices.old ≢ node_count (assignment_network problem.now)) }
     ensures choice { (result ≡ 5) ↔ (choice_of choice.now ≡ None) }
-    ensures wide { result ≡ 6 → HasWideNumber (assignment_problem rows columns pairs.now) }
+    ensures wide { result ≡ 6 → HasWideNumber (assignment_network problem.now) }
     ensures flow_stays { (2 ≤ result) × (result ≤ 5) → flow.new ≡ flow.old }
     ensures prices_stay { (2 ≤ result) × (result ≤ 5) → prices.new ≡ prices.old }
     ensures told_stays { (3 ≤ result) × (result ≤ 5) → told.new ≡ told.old }
@@ -134,10 +124,10 @@ pub extern "C" fn mcf_solve_pairs(
     let Some(choice) = choice_of(choice) else {
         return NO_CHOICE;
     };
-    if !are_rooms(flow, pairs.len(), prices, rows as usize + columns as usize) {
+    if !are_rooms(flow, problem.pairs.len(), prices, node_count(problem)) {
         return NO_ROOM;
     }
-    let Ok(made) = assignment_problem(alloc, rows, columns, pairs) else {
+    let Ok(made) = assignment_problem(alloc, problem.rows, problem.columns, problem.pairs) else {
         return NO_MEMORY;
     };
     answer_made(alloc, made, choice, flow, prices, told)

@@ -9,21 +9,13 @@ ghost use Rattle.mcf_instance.specs.Blocking.{in_list, in_table};
 ghost use Rattle.mcf_instance.specs.Network.{IsNode, Network, node_count};
 ghost use Rattle.mcf_solver.specs.Answering.{IsNoFlowProof, IsOwed};
 
+use crate::statuses::{BLOCKED, FLOW, NO_MEMORY, WIDE};
 use crate::verdicts::{McfVerdict, numbers, set_numbers};
 use mcf_answer::{Answer, BlockedAnswer, FlowAnswer, Sent};
 use mcf_checker::Verdict;
 use mcf_instance::{Instance, table_of};
 use mcf_solver::{Choice, Form, solve_instance};
 use std::alloc::Global;
-
-// What a call answers where it hands out a flow, a node set, no memory, or no flow for a number beyond 64 bits.
-const FLOW: u32 = 0;
-
-const BLOCKED: u32 = 1;
-
-const NO_MEMORY: u32 = 3;
-
-const WIDE: u32 = 6;
 
 // Whether a number fits 64 bits.
 fn fits(n: i128) -> bool

@@ -5,33 +5,24 @@ ghost use Rattle.mcf_answer.specs.Ranges.{IsAmount, amount_limit};
 ghost use Rattle.mcf_answer.specs.Solution.{IsSent};
 ghost use Rattle.mcf_c.specs.Handing.{HandsFault};
 ghost use Rattle.mcf_c.specs.Judged.{answer_along, claimed_cost, sent_along, sent_by};
+ghost use Rattle.mcf_c.specs.Problems.{assignment_network, flow_network};
 ghost use Rattle.mcf_c.specs.Verdicts.{Tells, number};
 ghost use Rattle.mcf_checker.specs.Correct.{IsRightFlow};
 ghost use Rattle.mcf_checker.specs.Judging.{accepts, solution_verdict};
-ghost use Rattle.mcf_instance.specs.Arrays.{assignment_problem, flow_problem};
 ghost use Rattle.mcf_instance.specs.Flow.{IsLeast};
 ghost use Rattle.mcf_instance.specs.Limits.{limits, node_limit};
 ghost use Rattle.mcf_instance.specs.Network.{node_count};
 ghost use Rattle.mcf_instance.specs.WellFormed.{HasEnds, IsWellFormed};
 
 use crate::arrays::are_rooms;
+use crate::problems::{McfAssignment, McfFlowProblem, node_count};
+use crate::statuses::{ACCEPTED, NO_MEMORY, NO_ROOM, REFUSED, REJECTED};
 use crate::verdicts::{McfVerdict, fault_numbers, numbers};
 use mcf_answer::{FlowAnswer, PriceList, Sent, SentList};
 use mcf_checker::{Verdict, check_flow};
-use mcf_instance::{Arc, Instance, RawArc, RawPair, assignment_problem, flow_problem};
+use mcf_instance::{Arc, Instance, assignment_problem, flow_problem};
 use mcf_text::{ArcId, NoMemory};
 use std::alloc::Global;
-
-// What a call answers where the answer is accepted, isn't, the arrays have a fault, memory is wanting, and an array has another length.
-const ACCEPTED: u32 = 0;
-
-const REJECTED: u32 = 1;
-
-const REFUSED: u32 = 2;
-
-const NO_MEMORY: u32 = 3;
-
-const NO_ROOM: u32 = 4;
 
 // How far from 0 a cost that is judged may lie. No flow costs as much.
 const COST_LIMIT: u128 = 10_000_000_000_000_000_000_000_000_000_000_000_000;
@@ -187,34 +178,33 @@ fn accepts(verdict: &Verdict) -> bool
     }
 }
 
-/// Judges a flow by arc and prices by node for the flow problem of these supplies and arcs, whoever made them. `told` holds the
-/// cost that is claimed, and becomes the verdict.
+/// Judges a flow by arc and prices by node for a flow problem, whoever made them. `told` holds the cost that is claimed, and
+/// becomes the verdict.
 ///
 /// The status is 0 where they are accepted, 1 where they aren't, 2 where the arrays have a fault, which `told` becomes, 3 where
 /// memory is wanting, and 4 where an array hasn't the length of the others.
 #[unsafe(no_mangle)]
 pub extern "C" fn mcf_check_arcs(
     alloc: Global,
-    supplies: &[i64],
-    arcs: &[RawArc],
+    problem: &McfFlowProblem<'_>,
     flow: &[i64],
     prices: &[i64],
     told: &mut McfVerdict,
 ) -> u32
     ensures statuses { result ≤ 4 }
-    ensures verdict { result ≤ 1 → Tells (solution_verdict (flow_problem supplies.now arcs.now)
-        (answer_along (flow_problem supplies.now arcs.now) (claimed_cost told.old) flow.now prices.now)) told.new }
-    ensures exact { result ≤ 1 → (result ≡ 0) ↔ IsRightFlow (flow_problem supplies.now arcs.now) (number told.old) prices.now flow.now }
-    ensures least { result ≡ 0 → IsLeast (flow_problem supplies.now arcs.now) flow.now }
-    ensures fault { result ≡ 2 → HandsFault (flow_problem supplies.now arcs.now) told.new }
-    ensures memory { result ≡ 3 → 1 ≤ length supplies.now }
-    ensures lengths { result ≡ 4 → (length flow.now ≢ length arcs.now) ⊎ (length prices.now ≢ length supplies.now) }
+    ensures verdict { result ≤ 1 → Tells (solution_verdict (flow_network problem.now)
+        (answer_along (flow_network problem.now) (claimed_cost told.old) flow.now prices.now)) told.new }
+    ensures exact { result ≤ 1 → (result ≡ 0) ↔ IsRightFlow (flow_network problem.now) (number told.old) prices.now flow.now }
+    ensures least { result ≡ 0 → IsLeast (flow_network problem.now) flow.now }
+    ensures fault { result ≡ 2 → HandsFault (flow_network problem.now) told.new }
+    ensures memory { result ≡ 3 → 1 ≤ node_count (flow_network problem.now) }
+    ensures lengths { result ≡ 4 → (length flow.now ≢ length (flow_network problem.now).arcs) ⊎ (length prices.now ≢ node_count (flow_network problem.now)) }
     ensures untouched { (3 ≤ result) × (result ≤ 4) → told.new ≡ told.old }
 {
-    if !are_rooms(flow, arcs.len(), prices, supplies.len()) {
+    if !are_rooms(flow, problem.arcs.len(), prices, problem.supplies.len()) {
         return NO_ROOM;
     }
-    let Ok(made) = flow_problem(alloc, supplies, arcs) else {
+    let Ok(made) = flow_problem(alloc, problem.supplies, problem.arcs) else {
         return NO_MEMORY;
     };
     match made {
@@ -226,34 +216,32 @@ pub extern "C" fn mcf_check_arcs(
     }
 }
 
-/// Judges which pairs are assigned and the prices of the rows and then the columns, for the assignment problem of so many rows and
-/// columns and of these pairs, whoever made them. `told` holds the cost that is claimed, and becomes the verdict.
+/// Judges which pairs are assigned and the prices of the rows and then the columns for an assignment problem, whoever made them.
+/// `told` holds the cost that is claimed, and becomes the verdict.
 ///
 /// The statuses are those of `mcf_check_arcs`.
 #[unsafe(no_mangle)]
 pub extern "C" fn mcf_check_pairs(
     alloc: Global,
-    rows: u32,
-    columns: u32,
-    pairs: &[RawPair],
+    problem: &McfAssignment<'_>,
     flow: &[i64],
     prices: &[i64],
     told: &mut McfVerdict,
 ) -> u32
     ensures statuses { result ≤ 4 }
-    ensures verdict { result ≤ 1 → Tells (solution_verdict (assignment_problem rows columns pairs.now)
-        (answer_along (assignment_problem rows columns pairs.now) (claimed_cost told.old) flow.now prices.now)) told.new }
-    ensures exact { result ≤ 1 → (result ≡ 0) ↔ IsRightFlow (assignment_problem rows columns pairs.now) (number told.old) prices.now flow.now }
-    ensures least { result ≡ 0 → IsLeast (assignment_problem rows columns pairs.now) flow.now }
-    ensures fault { result ≡ 2 → HandsFault (assignment_problem rows columns pairs.now) told.new }
-    ensures memory { result ≡ 3 → 1 ≤ rows + columns }
-    ensures lengths { result ≡ 4 → (length flow.now ≢ length pairs.now) ⊎ (length prices.now ≢ rows + columns) }
+    ensures verdict { result ≤ 1 → Tells (solution_verdict (assignment_network problem.now)
+        (answer_along (assignment_network problem.now) (claimed_cost told.old) flow.now prices.now)) told.new }
+    ensures exact { result ≤ 1 → (result ≡ 0) ↔ IsRightFlow (assignment_network problem.now) (number told.old) prices.now flow.now }
+    ensures least { result ≡ 0 → IsLeast (assignment_network problem.now) flow.now }
+    ensures fault { result ≡ 2 → HandsFault (assignment_network problem.now) told.new }
+    ensures memory { result ≡ 3 → 1 ≤ node_count (assignment_network problem.now) }
+    ensures lengths { result ≡ 4 → (length flow.now ≢ length (assignment_network problem.now).arcs) ⊎ (length prices.now ≢ node_count (assignment_network problem.now)) }
     ensures untouched { (3 ≤ result) × (result ≤ 4) → told.new ≡ told.old }
 {
-    if !are_rooms(flow, pairs.len(), prices, rows as usize + columns as usize) {
+    if !are_rooms(flow, problem.pairs.len(), prices, node_count(problem)) {
         return NO_ROOM;
     }
-    let Ok(made) = assignment_problem(alloc, rows, columns, pairs) else {
+    let Ok(made) = assignment_problem(alloc, problem.rows, problem.columns, problem.pairs) else {
         return NO_MEMORY;
     };
     match made {

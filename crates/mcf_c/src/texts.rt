@@ -11,20 +11,12 @@ ghost use Rattle.mcf_instance.specs.Memory.{NamesNodes};
 ghost use Rattle.mcf_solver.specs.Answering.{HasFault};
 
 use crate::choosing::{McfChoice, choice_of};
+use crate::statuses::{ACCEPTED, BLOCKED, FLOW, NO_CHOICE, NO_MEMORY, NO_ROOM, REFUSED, REJECTED};
 use crate::verdicts::{McfVerdict, numbers};
 use mcf_checker::check;
 use mcf_solver::{Choice, Kind, solve_text};
 use mcf_text::NoMemory;
 use std::alloc::Global;
-
-// No memory.
-const NO_MEMORY: u32 = 3;
-
-// The room is too short.
-const NO_ROOM: u32 = 4;
-
-// The numbers mean no choice.
-const NO_CHOICE: u32 = 5;
 
 // The status of an answer of a kind.
 fn kind_status(kind: Kind) -> u32
@@ -34,9 +26,9 @@ fn kind_status(kind: Kind) -> u32
     ensures refused { (result ≡ 2) ↔ (kind ≡ Kind.Refused) }
 {
     match kind {
-        Kind::Flow => 0,
-        Kind::Blocked => 1,
-        Kind::Refused => 2,
+        Kind::Flow => FLOW,
+        Kind::Blocked => BLOCKED,
+        Kind::Refused => REFUSED,
     }
 }
 
@@ -111,5 +103,5 @@ pub extern "C" fn mcf_check(
         return NO_MEMORY;
     };
     *told = numbers(&verdict);
-    if told.kind <= 2 { 0 } else { 1 }
+    if told.kind <= 2 { ACCEPTED } else { REJECTED }
 }

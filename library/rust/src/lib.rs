@@ -84,7 +84,7 @@ pub fn solve_arcs(supplies: &[i64], arcs: &[Arc], choice: Choice) -> Result<Answ
 pub fn solve_pairs(rows: u32, columns: u32, pairs: &[Pair], choice: Choice) -> Result<Answer, Error> {
     let nodes = rows as usize + columns as usize;
     let (mut flow, mut prices, mut told) = (vec![0; pairs.len()], vec![0; nodes], raw::Told::default());
-    let status = raw::solve_pairs(rows, columns, pairs, &choice, &mut flow, &mut prices, &mut told);
+    let status = raw::solve_pairs((rows, columns), pairs, &choice, &mut flow, &mut prices, &mut told);
     answer_of(status, flow, prices, told)
 }
 

@@ -61,18 +61,42 @@ impl Told {
     }
 }
 
+/// A flow problem, as `mcf.h` has it.
+#[repr(C)]
+struct FlowProblem {
+    supplies: *const i64,
+    nodes: usize,
+    arcs: *const Arc,
+    arc_count: usize,
+}
+
+impl FlowProblem {
+    fn of(supplies: &[i64], arcs: &[Arc]) -> FlowProblem {
+        FlowProblem { supplies: supplies.as_ptr(), nodes: supplies.len(), arcs: arcs.as_ptr(), arc_count: arcs.len() }
+    }
+}
+
+/// An assignment problem, as `mcf.h` has it.
+#[repr(C)]
+struct Assignment {
+    rows: u32,
+    columns: u32,
+    pairs: *const Pair,
+    pair_count: usize,
+}
+
 mod exports {
-    use super::{Arc, Choice, Pair, Told};
+    use super::{Assignment, Choice, FlowProblem, Told};
 
     #[rustfmt::skip]
     unsafe extern "C" {
         pub fn mcf_solve(input: *const u8, input_length: usize, choice: *const Choice, room: *mut u8, room_length: usize, used: *mut usize) -> u32;
         pub fn mcf_check(input: *const u8, input_length: usize, answer: *const u8, answer_length: usize, told: *mut Told) -> u32;
-        pub fn mcf_solve_arcs(supplies: *const i64, nodes: usize, arcs: *const Arc, arc_count: usize, choice: *const Choice,
+        pub fn mcf_solve_arcs(problem: *const FlowProblem, choice: *const Choice,
             flow: *mut i64, flow_length: usize, prices: *mut i64, prices_length: usize, told: *mut Told) -> u32;
-        pub fn mcf_check_arcs(supplies: *const i64, nodes: usize, arcs: *const Arc, arc_count: usize,
+        pub fn mcf_check_arcs(problem: *const FlowProblem,
             flow: *const i64, flow_length: usize, prices: *const i64, prices_length: usize, told: *mut Told) -> u32;
-        pub fn mcf_solve_pairs(rows: u32, columns: u32, pairs: *const Pair, pair_count: usize, choice: *const Choice,
+        pub fn mcf_solve_pairs(problem: *const Assignment, choice: *const Choice,
             flow: *mut i64, flow_length: usize, prices: *mut i64, prices_length: usize, told: *mut Told) -> u32;
     }
 }
@@ -91,19 +115,16 @@ pub fn check(input: &[u8], answer: &[u8], told: &mut Told) -> u32 {
 }
 
 pub fn solve_arcs(supplies: &[i64], arcs: &[Arc], choice: &Choice, flow: &mut [i64], prices: &mut [i64], told: &mut Told) -> u32 {
-    unsafe {
-        exports::mcf_solve_arcs(supplies.as_ptr(), supplies.len(), arcs.as_ptr(), arcs.len(), choice, flow.as_mut_ptr(), flow.len(), prices.as_mut_ptr(), prices.len(), told)
-    }
+    let problem = FlowProblem::of(supplies, arcs);
+    unsafe { exports::mcf_solve_arcs(&problem, choice, flow.as_mut_ptr(), flow.len(), prices.as_mut_ptr(), prices.len(), told) }
 }
 
 pub fn check_arcs(supplies: &[i64], arcs: &[Arc], flow: &[i64], prices: &[i64], told: &mut Told) -> u32 {
-    unsafe {
-        exports::mcf_check_arcs(supplies.as_ptr(), supplies.len(), arcs.as_ptr(), arcs.len(), flow.as_ptr(), flow.len(), prices.as_ptr(), prices.len(), told)
-    }
+    let problem = FlowProblem::of(supplies, arcs);
+    unsafe { exports::mcf_check_arcs(&problem, flow.as_ptr(), flow.len(), prices.as_ptr(), prices.len(), told) }
 }
 
-pub fn solve_pairs(rows: u32, columns: u32, pairs: &[Pair], choice: &Choice, flow: &mut [i64], prices: &mut [i64], told: &mut Told) -> u32 {
-    unsafe {
-        exports::mcf_solve_pairs(rows, columns, pairs.as_ptr(), pairs.len(), choice, flow.as_mut_ptr(), flow.len(), prices.as_mut_ptr(), prices.len(), told)
-    }
+pub fn solve_pairs(sides: (u32, u32), pairs: &[Pair], choice: &Choice, flow: &mut [i64], prices: &mut [i64], told: &mut Told) -> u32 {
+    let problem = Assignment { rows: sides.0, columns: sides.1, pairs: pairs.as_ptr(), pair_count: pairs.len() };
+    unsafe { exports::mcf_solve_pairs(&problem, choice, flow.as_mut_ptr(), flow.len(), prices.as_mut_ptr(), prices.len(), told) }
 }

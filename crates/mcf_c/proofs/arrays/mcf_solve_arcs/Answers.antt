@@ -1,5 +1,5 @@
 use Rattle.std.specs.Prelude.{is_ok}
-use Rattle.mcf_c.proofs.Statuses.{was_made}
+use Rattle.mcf_c.proofs.MadeOfArrays.{was_made}
 use Rattle.mcf_c.proofs.arrays.mcf_solve_arcs.Goals as goal
 
 pub returns-clause-within : goal.returns-clause-within

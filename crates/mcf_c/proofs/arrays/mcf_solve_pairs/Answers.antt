@@ -1,8 +1,8 @@
 use Rattle.std.specs.Prelude.{is_ok}
 use Rattle.mcf_c.specs.Handing.{HandsFlow}
-use Rattle.mcf_instance.specs.Arrays.{assignment_problem}
+use Rattle.mcf_c.specs.Problems.{assignment_network}
 use Rattle.mcf_instance.specs.Network.{Network}
-use Rattle.mcf_c.proofs.Statuses.{made_is, was_made}
+use Rattle.mcf_c.proofs.MadeOfArrays.{made_is, was_made}
 use Rattle.mcf_c.proofs.arrays.mcf_solve_pairs.Goals as goal
 
 pub returns-clause-within : goal.returns-clause-within
@@ -13,7 +13,7 @@ returns-clause-within c = λ status.
 
 pub returns-clause-flow : goal.returns-clause-flow
 returns-clause-flow c = λ zero.
-    let g = assignment_problem c.args.rows c.args.columns c.args.pairs.now in
+    let g = assignment_network c.args.problem.now in
     let new = c.answer_made.new in
     let handed = c.answer_made.ensures.flow zero in
     made_is g c.in-Ok.made (λ (x : Network). HandsFlow x new.flow new.prices new.told) c.in-Ok.ensures.exact handed.1 handed.0

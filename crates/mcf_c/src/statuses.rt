@@ -1,0 +1,28 @@
+//! What the calls answer.
+
+/// A flow.
+pub(crate) const FLOW: u32 = 0;
+
+/// A node set that blocks.
+pub(crate) const BLOCKED: u32 = 1;
+
+/// What was judged is accepted.
+pub(crate) const ACCEPTED: u32 = 0;
+
+/// What was judged isn't accepted.
+pub(crate) const REJECTED: u32 = 1;
+
+/// The text or the arrays have a fault.
+pub(crate) const REFUSED: u32 = 2;
+
+/// Memory is wanting.
+pub(crate) const NO_MEMORY: u32 = 3;
+
+/// A room is too short, or an array hasn't the length of the others.
+pub(crate) const NO_ROOM: u32 = 4;
+
+/// The numbers mean no choice.
+pub(crate) const NO_CHOICE: u32 = 5;
+
+/// A flow or a price doesn't fit 64 bits.
+pub(crate) const WIDE: u32 = 6;
