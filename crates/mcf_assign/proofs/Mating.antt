@@ -6,7 +6,7 @@ use Rattle.mcf_instance.specs.Network.{Network, IsArcNumber, IsNode, node_count}
 use Rattle.mcf_network.specs.Residual.{arc_at}
 use Rattle.mcf_network.specs.States.{Pseudoflow, amount_at, pushed, room_of}
 use Rattle.mcf_network.proofs.StateLaws.{rid}
-use Rattle.mcf_prices.proofs.Marks.{read_node}
+use Rattle.mcf_engine.proofs.Marks.{read_node}
 use Rattle.mcf_assign.specs.Matchings.{IsColumn, IsMatchedColumn, IsMatchedRow, IsPair, IsPartialMatching, IsRow, column_of, row_of}
 use Rattle.mcf_assign.specs.Private.Forests.{AreMates}
 use Rattle.mcf_assign.proofs.PairLaws.{column_is, pairing_at, row_column, row_is}

@@ -16,10 +16,10 @@ use Rattle.mcf_network.specs.States.{Pseudoflow, HasNoSurplus, surplus_at}
 use Rattle.mcf_feas.specs.Chosen.{IsChosenBlock, supply_total}
 use Rattle.mcf_feas.specs.Feasible.{IsFeasibleState}
 use Rattle.mcf_feas.proofs.Wholes.{settled}
-use Rattle.mcf_prices.specs.NearPrices.{AreNearPrices, near_limit}
-use Rattle.mcf_prices.specs.Outcomes.{AreStatePrices, IsLeastState}
-use Rattle.mcf_prices.proofs.Cancelling.{least_from_prices}
-use Rattle.mcf_prices.proofs.NearLaws.{shown_near}
+use Rattle.mcf_engine.specs.NearPrices.{AreNearPrices, near_limit}
+use Rattle.mcf_engine.specs.Outcomes.{AreStatePrices, IsLeastState}
+use Rattle.mcf_engine.proofs.StatePrices.{least_from_prices}
+use Rattle.mcf_engine.proofs.NearLaws.{shown_near}
 use Rattle.mcf_assign.specs.declared.extended.Extended.{Extended}
 use Rattle.mcf_assign.specs.declared.extended.Extended.TheVariants.{Matched, Blocked}
 use Rattle.mcf_assign.specs.Extending.{Assigned, IsExtension, IsShownMatching}

@@ -7,8 +7,8 @@ use Rattle.mcf_instance.specs.Network.{Network, at_node, node_count}
 use Rattle.mcf_network.specs.NodeSets.{no_nodes}
 use Rattle.mcf_network.specs.States.{Pseudoflow}
 use Rattle.mcf_feas.specs.Chosen.{supply_total}
-use Rattle.mcf_prices.specs.declared.engine.Outcome.{Outcome}
-use Rattle.mcf_prices.specs.declared.engine.Outcome.TheVariants.{Least, Blocked as NoFlow}
+use Rattle.mcf_engine.specs.declared.engine.Outcome.{Outcome}
+use Rattle.mcf_engine.specs.declared.engine.Outcome.TheVariants.{Least, Blocked as NoFlow}
 use Rattle.mcf_assign.specs.declared.extended.Extended.TheVariants.{Matched, Blocked}
 use Rattle.mcf_assign.specs.Extending.{Assigned, IsExtension, IsShownMatching}
 use Rattle.mcf_assign.specs.Matchings.{IsMatchedRow, IsRow}

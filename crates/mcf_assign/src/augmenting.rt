@@ -5,7 +5,7 @@ ghost use Rattle.std.specs.List.{All, Contains};
 ghost use Rattle.mcf_instance.specs.Blocking.{in_table};
 ghost use Rattle.mcf_instance.specs.Network.{IsNode, at_node, node_count};
 ghost use Rattle.mcf_instance.specs.WellFormed.{IsUpTo};
-ghost use Rattle.mcf_prices.specs.Heaps.{NoneWaits};
+ghost use Rattle.mcf_engine.specs.Heaps.{NoneWaits};
 ghost use Rattle.mcf_assign.specs.Private.Forests.{AreMates, IsChangedWithin};
 ghost use Rattle.mcf_assign.specs.Private.Keeping.{IsEnded, IsIdle};
 ghost use Rattle.mcf_assign.specs.Matchings.{AreMatchingPrices, IsMatchedRow, IsPartialMatching, IsRow, column_of};
@@ -19,8 +19,8 @@ use crate::rows::RowArc;
 use crate::scene::Scene;
 use crate::search::{Tables, Target};
 use mcf_counts::Count;
+use mcf_engine::Heap;
 use mcf_network::{Net, NodeSet, State};
-use mcf_prices::Heap;
 use mcf_text::{ArcId, NoMemory, NodeId, copies};
 use std::alloc::Global;
 

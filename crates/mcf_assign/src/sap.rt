@@ -3,7 +3,7 @@ ghost use Rattle.std.specs.Prelude.{◌≡◌, ◌-◌, ◌≤◌, IfOk, OnErr, 
 ghost use Rattle.mcf_feas.specs.Chosen.{supply_total};
 ghost use Rattle.mcf_instance.specs.declared.problem.Problem.TheVariants.{Asn};
 ghost use Rattle.mcf_instance.specs.Network.{IsNode, node_count};
-ghost use Rattle.mcf_prices.specs.Outcomes.{AreStatePrices, IsOutcome};
+ghost use Rattle.mcf_engine.specs.Outcomes.{AreStatePrices, IsOutcome};
 ghost use Rattle.mcf_assign.specs.Extending.{IsShownMatching};
 ghost use Rattle.mcf_assign.specs.Private.Offering.{AreOffered};
 ghost use Rattle.mcf_assign.specs.Runs.{IsMatchedByRows, IsReachedSet, IsStart, Run, is_source, sources_to};
@@ -11,10 +11,10 @@ ghost use Rattle.mcf_assign.specs.Runs.{IsMatchedByRows, IsReachedSet, IsStart, 
 use crate::extended::Extended;
 use crate::matching::Matching;
 use mcf_counts::Count;
+use mcf_engine::{Engine, Outcome, Pricer};
 use mcf_feas::unbalanced;
 use mcf_instance::{Problem, Side};
 use mcf_network::{Net, State};
-use mcf_prices::{Engine, Outcome, Pricer};
 use mcf_text::{NoMemory, NodeId};
 use std::alloc::Global;
 use std::marker::Model;

@@ -16,9 +16,9 @@ use Rattle.mcf_network.specs.Residual.{no_arc, arc_at}
 use Rattle.mcf_network.specs.States.{HasNoSurplus, IsPseudoflow, Pseudoflow, amount_at}
 use Rattle.mcf_network.proofs.ArcLaws.{amount_count, net_arc_at}
 use Rattle.mcf_network.proofs.StuckLaws.{feasible_of_state}
-use Rattle.mcf_prices.specs.NearPrices.{AreNearPrices, near_limit}
-use Rattle.mcf_prices.specs.Outcomes.{IsLeastState}
-use Rattle.mcf_prices.proofs.NearLaws.{shown_near}
+use Rattle.mcf_engine.specs.NearPrices.{AreNearPrices, near_limit}
+use Rattle.mcf_engine.specs.Outcomes.{IsLeastState}
+use Rattle.mcf_engine.proofs.NearLaws.{shown_near}
 
 -- a fact of each number up to one, and of the next
 pub every_next : (P : ℕ → Type 0) (n m : ℕ) → m ≡ n + 1 → ((v : ℕ) → IsNode n v → P v) → P m → (v : ℕ) → IsNode (n + 1) v → P v

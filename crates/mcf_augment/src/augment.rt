@@ -3,14 +3,14 @@ ghost use Rattle.std.specs.Prelude.{◌≡◌, ◌≤◌, IfOk, IfSome, OnErr, l
 ghost use Rattle.std.specs.List.{All};
 ghost use Rattle.mcf_instance.specs.Network.{node_count};
 ghost use Rattle.mcf_instance.specs.WellFormed.{IsUpTo};
-ghost use Rattle.mcf_prices.specs.NearPrices.{near_limit};
-ghost use Rattle.mcf_prices.specs.Outcomes.{AreStatePrices, IsLeastState, IsOutcome};
+ghost use Rattle.mcf_engine.specs.NearPrices.{near_limit};
+ghost use Rattle.mcf_engine.specs.Outcomes.{AreStatePrices, IsLeastState, IsOutcome};
 
 use crate::judging::judge;
 use crate::search::Search;
 use crate::star::LIMIT;
+use mcf_engine::{Engine, Outcome, Pricer};
 use mcf_network::{Net, State};
-use mcf_prices::{Cancel, Engine, Outcome, Pricer};
 use mcf_simplex::{Block, Simplex};
 use mcf_text::{ArcId, NoMemory, copies};
 use std::alloc::Global;
@@ -88,7 +88,7 @@ impl Engine for Augment {
         ensures same { self.new ≡ self.old }
     {
         if net.node_count() == 0 {
-            return Cancel::new().solve(alloc, net);
+            return without_nodes(alloc, net);
         }
         if suits(net) {
             if let Some(outcome) = by_search(alloc, net, self.readings)? {
@@ -97,6 +97,16 @@ impl Engine for Augment {
         }
         by_simplex(alloc, net)
     }
+}
+
+// The answer to a net without nodes, which wants no memory: the state without any flow, and no prices.
+fn without_nodes<'n>(alloc: Global, net: &'n Net) -> Result<Outcome<'n>, NoMemory>
+    requires { node_count net.now ≡ 0 }
+    ensures outcome { IfOk result (IsOutcome (λ _. ⊤) net.now) }
+    ensures wants { OnErr result (1 ≤ node_count net.now) }
+{
+    let state = State::zero(alloc, net)?;
+    Ok(Outcome::Least(state, Vec::new(alloc)))
 }
 
 // Whether the search is for a net: it has few arcs a node, and all widths together fit.

@@ -6,8 +6,8 @@ ghost use Rattle.mcf_instance.specs.Network.{IsArcNumber, IsNode, at_node, node_
 ghost use Rattle.mcf_instance.specs.WellFormed.{IsUpTo};
 ghost use Rattle.mcf_network.specs.Residual.{arc_at};
 ghost use Rattle.mcf_network.specs.States.{HasNoSurplus, IsPseudoflow, amount_at, surplus_at};
-ghost use Rattle.mcf_prices.specs.NearPrices.{AreNearPrices, near_limit};
-ghost use Rattle.mcf_prices.specs.Outcomes.{IsLeastState};
+ghost use Rattle.mcf_engine.specs.NearPrices.{AreNearPrices, near_limit};
+ghost use Rattle.mcf_engine.specs.Outcomes.{IsLeastState};
 
 use crate::columns::at;
 use crate::search::Search;

@@ -2,7 +2,7 @@
 
 //! An engine for large nets: a fast search, of which nothing is proved but that it is safe and ends, and a proved judge of what it finds.
 //!
-//! It stands on `mcf_network`, `mcf_feas`, `mcf_prices` and `mcf_simplex`.
+//! It stands on `mcf_network`, `mcf_feas`, `mcf_engine` and `mcf_simplex`.
 
 mod augment;
 mod columns;

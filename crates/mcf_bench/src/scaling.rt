@@ -1,9 +1,9 @@
 //! Solves a net by cost scaling.
 use crate::reading::net_of;
 use crate::tell_time;
+use mcf_engine::{Engine, Outcome};
 use mcf_feas::feasible;
 use mcf_network::{Net, State};
-use mcf_prices::{Engine, Outcome};
 use mcf_scaling::Scaling;
 use mcf_text::{ArcId, NoMemory};
 use std::alloc::Global;

@@ -2,7 +2,7 @@
 use crate::reading::net_of;
 use crate::scaling::tell;
 use crate::tell_time;
-use mcf_prices::Engine;
+use mcf_engine::Engine;
 use mcf_simplex::{Simplex, Wide};
 use std::io;
 use std::time::Instant;

@@ -1,8 +1,9 @@
 //! Solves an instance, timed without its engine.
 use crate::reading::net_of;
 use crate::tell_time;
+use mcf_engine::Engine;
 use mcf_network::Net;
-use mcf_prices::{Cancel, Engine};
+use mcf_prices::Cancel;
 use mcf_solver::{Choice, Kind, solve_text};
 use std::io;
 use std::time::{Duration, Instant};

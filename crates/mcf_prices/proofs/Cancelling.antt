@@ -2,10 +2,9 @@
 use Rattle.std.proofs.Common.{◌≡◌, ℕ, ◌<◌, List, ℤ, pos, nat_abs, ◌+ℤ◌, ◌≤ℤ◌, ◌<ℤ◌, ap, sym, subst, ◌∙◌, arith}
 use Rattle.std.specs.List.{All, Any}
 use Rattle.std.proofs.lemmas.Int.{ints}
-use Rattle.mcf_instance.specs.Flow.{AreGreatestPrices, IsFeasible, IsLeast, cost}
+use Rattle.mcf_instance.specs.Flow.{IsFeasible, cost}
 use Rattle.mcf_instance.specs.Network.{Network, node_count}
 use Rattle.mcf_instance.proofs.Bounds.{cost_up_to}
-use Rattle.mcf_instance.proofs.Duality.{shown_flows_are_least_lem}
 use Rattle.mcf_instance.proofs.IntLaws.{mul_below_zero}
 use Rattle.mcf_network.specs.declared.rid.Rid.{Rid}
 use Rattle.mcf_network.specs.Nets.{net_total_limit}
@@ -15,11 +14,9 @@ use Rattle.mcf_network.specs.Walks.{CanPushAlong, pushed_along, walk_cost}
 use Rattle.mcf_network.proofs.StuckLaws.{feasible_of_state}
 use Rattle.mcf_network.proofs.WalkLaws.{along_ok, along_net, moves_along, cost_along}
 use Rattle.mcf_feas.specs.Feasible.{IsFeasibleState}
-use Rattle.mcf_prices.specs.NegativeCycles.{IsCancelled, IsNegativeCycle}
-use Rattle.mcf_prices.specs.Outcomes.{AreStatePrices, IsLeastState}
-use Rattle.mcf_prices.specs.Recovering.{AreSmallPrices}
-use Rattle.mcf_prices.proofs.PriceFloors.{greatest_are_small}
-use Rattle.mcf_prices.proofs.Cycles.{nat_abs_falls}
+use Rattle.mcf_engine.specs.NegativeCycles.{IsCancelled, IsNegativeCycle}
+use Rattle.mcf_engine.specs.Outcomes.{IsLeastState}
+use Rattle.mcf_engine.proofs.Falling.{nat_abs_falls}
 
 pub cycle_positive : (s : Pseudoflow) (walk : List Rid) (x : ℤ) → IsNegativeCycle s walk → Any (λ r. x ≡ room_of s r) walk → pos 0 <ℤ x
 cycle_positive s walk x cycle (k, r, h, at, is) =
@@ -78,22 +75,6 @@ module _ (s s' : Pseudoflow) (walk : List Rid) (cycle : IsNegativeCycle s walk) 
 
   pub cancelled_falls : IsPseudoflow s → cost_height s' < cost_height s
   cancelled_falls ok = subst (λ (t : Pseudoflow). cost_height t < cost_height s) (sym done.pushed) (cost_height_falls s walk done.amount ok cycle can positive)
-
--- prices that show the amounts of a state without surplus
-pub least_from_prices : (g : Network) (s : Pseudoflow) (ys : List ℤ) → IsFeasibleState g s → AreGreatestPrices s.net ys s.amounts → IsLeastState g s
-least_from_prices g s ys ok prices =
-    record {
-      feasible = ok;
-      least = subst (λ n. IsLeast n s.amounts) ok.of_net (shown_flows_are_least_lem s.net ys s.amounts ok.flow.of_net.ends
-          (feasible_of_state s ok.flow ok.no_surplus) prices.low.show_flow);
-    }
-
-pub state_prices : (g : Network) (s : Pseudoflow) (ys : List ℤ) → IsFeasibleState g s → AreGreatestPrices s.net ys s.amounts → AreStatePrices g s ys
-state_prices g s ys ok greatest =
-    record {
-      greatest = subst (λ n. AreGreatestPrices n ys s.amounts) ok.of_net greatest;
-      small = subst (λ n. AreSmallPrices n ys) ok.of_net (greatest_are_small s ys ok.flow greatest);
-    }
 
 -- there is room for 1 along a negative cycle
 pub cycle_by_one : (s : Pseudoflow) (walk : List Rid) → IsNegativeCycle s walk → CanPushAlong s walk (pos 1)

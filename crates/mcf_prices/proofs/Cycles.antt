@@ -1,5 +1,5 @@
 -- The search for a cycle of links over all nodes, and the measure of the rounds.
-use Rattle.std.proofs.Common.{◌≡◌, ℕ, suc, ◌<◌, ◌≤◌, ◌+◌, ◌-◌, ◌*◌, List, [], ◌∷◌, length, Bool, true, ℤ, pos, negsuc, nat_abs, ◌+ℤ◌, neg_ℤ, ◌≤ℤ◌, ◌<ℤ◌}
+use Rattle.std.proofs.Common.{◌≡◌, ℕ, suc, ◌<◌, ◌≤◌, ◌+◌, ◌-◌, ◌*◌, List, [], ◌∷◌, length, Bool, true, ℤ, pos, nat_abs, ◌+ℤ◌, neg_ℤ, ◌≤ℤ◌, ◌<ℤ◌}
 use Rattle.std.proofs.Common.{sym, ap, subst, ◌∙◌, arith, ◌⊎◌, inl, inr}
 use Rattle.std.proofs.lemmas.Int.{ints}
 use Rattle.std.proofs.lemmas.Bool.{cases_eq}
@@ -8,9 +8,11 @@ use Rattle.mcf_instance.specs.Network.{Network, IsNode, at_node, node_count}
 use Rattle.mcf_network.specs.declared.rid.Rid.{Rid}
 use Rattle.mcf_network.specs.NodeSets.{member_count}
 use Rattle.mcf_network.specs.Walks.{IsWalk}
-use Rattle.mcf_prices.specs.Private.Labels.{Labels, IsLabelling, AreAtLeast, cost_limit, total}
+use Rattle.mcf_prices.specs.Private.Labels.{Labels, IsLabelling, total}
+use Rattle.mcf_engine.specs.Respecting.{AreAtLeast, cost_limit}
 use Rattle.mcf_prices.specs.Private.Trails.{HasTail, IsTrail, IsDone, IsSettled}
 use Rattle.mcf_network.proofs.Marks.{count_small}
+use Rattle.mcf_engine.proofs.Falling.{nat_abs_falls}
 
 -- after v nodes: no path is under way, each node that was seen is settled, and so is each node up to v
 pub record CycleAt (l : Labels) (seen done : List Bool) (v : ℕ) : Type 0 where
@@ -89,11 +91,6 @@ total_floor (y ∷ ys) f floor =
 -- how far the total is above the floor
 abbrev pub height : ℕ → List ℤ → ℕ
 height f ys = nat_abs (total ys +ℤ pos (f * length ys))
-
-pub nat_abs_falls : (a b : ℤ) → pos 0 ≤ℤ a → a <ℤ b → nat_abs a < nat_abs b
-nat_abs_falls (pos a) (pos b) l h = omega (arith, ints)
-nat_abs_falls (pos a) (negsuc b) l h = absurd (omega (arith, ints))
-nat_abs_falls (negsuc a) b l h = absurd (omega (arith, ints))
 
 pub height_falls : (f : ℕ) (ys zs : List ℤ) → length zs ≡ length ys → AreAtLeast f zs → total zs <ℤ total ys → height f zs < height f ys
 height_falls f ys zs n floor less =

@@ -10,7 +10,7 @@ use Rattle.mcf_network.specs.declared.rid.Rid.{Rid}
 use Rattle.mcf_network.specs.Residual.{tail, head, unit_cost}
 use Rattle.mcf_network.specs.Walks.{IsWalk, walk_cost}
 use Rattle.mcf_prices.specs.Private.Labels.{Labels, IsLabelling, offer}
-use Rattle.mcf_prices.specs.NegativeCycles.{IsNegativeCycle}
+use Rattle.mcf_engine.specs.NegativeCycles.{IsNegativeCycle}
 use Rattle.mcf_prices.specs.Private.Trails.{IsStep}
 
 pub IsWalk-push : (g : Network) (path : List Rid) (r : Rid) (u w : ℕ) → IsWalk g u path w → tail g r ≡ w → IsWalk g u (path ++ r ∷ []) (head g r)

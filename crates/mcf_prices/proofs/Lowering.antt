@@ -13,9 +13,10 @@ use Rattle.mcf_network.specs.Residual.{tail, head}
 use Rattle.mcf_network.specs.States.{Pseudoflow, IsPseudoflow}
 use Rattle.mcf_network.specs.Walks.{HasRoom}
 use Rattle.mcf_network.proofs.ArcLaws.{tail_is_node, head_is_node}
-use Rattle.mcf_prices.specs.Private.Labels.{Labels, IsLabelling, IsLinked, IsLink, offer, lowered, AreAtLeast, Respects, cost_limit, total}
-use Rattle.mcf_prices.proofs.Marks.{read_node}
-use Rattle.mcf_prices.proofs.Showing.{respects_from_shows, cost_small}
+use Rattle.mcf_prices.specs.Private.Labels.{Labels, IsLabelling, IsLinked, IsLink, offer, lowered, total}
+use Rattle.mcf_engine.specs.Respecting.{AreAtLeast, Respects, cost_limit}
+use Rattle.mcf_engine.proofs.Marks.{read_node}
+use Rattle.mcf_engine.proofs.Showing.{respects_from_shows, cost_small}
 
 module _ (l : Labels) (r : Rid) (ok : IsLabelling l) (room : HasRoom l.flow r) (less : offer l r <ℤ at_node l.prices (tail l.flow.net r)) where
   from_in : IsNode (length l.prices) (tail l.flow.net r)

@@ -7,8 +7,9 @@ use Rattle.mcf_instance.specs.WellFormed.{IsUpTo}
 use Rattle.mcf_network.specs.declared.rid.Rid.{Rid}
 use Rattle.mcf_network.specs.Residual.{head, unit_cost}
 use Rattle.mcf_network.proofs.ArcLaws.{head_is_node}
-use Rattle.mcf_prices.specs.Private.Labels.{Labels, IsLabelling, AreAtLeast, arc_depth, cost_limit, offer, link_at}
-use Rattle.mcf_prices.proofs.Showing.{cost_small}
+use Rattle.mcf_prices.specs.Private.Labels.{Labels, IsLabelling, arc_depth, offer, link_at}
+use Rattle.mcf_engine.specs.Respecting.{AreAtLeast, cost_limit}
+use Rattle.mcf_engine.proofs.Showing.{cost_small}
 
 -- the price of a node, as a read gives it
 pub read_price : (l l' : Labels) (k v : ℕ) (x : ℤ) → l ≡ l' → IsLabelling l → IsNode (node_count l'.flow.net) v → k ≡ v - 1 → x ≡ get_or l.prices k x

@@ -14,12 +14,13 @@ use Rattle.mcf_network.specs.declared.rid.Rid.{Rid}
 use Rattle.mcf_network.specs.NodeSets.{member_count, with_node}
 use Rattle.mcf_network.specs.Residual.{tail, head}
 use Rattle.mcf_network.specs.Walks.{IsWalk}
-use Rattle.mcf_prices.specs.Private.Labels.{Labels, IsLabelling, cost_limit, link_at}
+use Rattle.mcf_prices.specs.Private.Labels.{Labels, IsLabelling, link_at}
+use Rattle.mcf_engine.specs.Respecting.{cost_limit}
 use Rattle.mcf_prices.specs.Private.Trails.{IsStep, HasTail, IsTrail, IsDone}
 use Rattle.mcf_prices.proofs.LinkWalks.{IsWalk-pop, step_falls}
 use Rattle.mcf_network.proofs.Marks.{marked_new, marked_still, counted_new}
-use Rattle.mcf_prices.proofs.Marks.{read_node, counted_more}
-use Rattle.mcf_prices.proofs.Showing.{cost_small}
+use Rattle.mcf_engine.proofs.Marks.{read_node, counted_more}
+use Rattle.mcf_engine.proofs.Showing.{cost_small}
 
 HasTail-push : (g : Network) (path : List Rid) (r : Rid) (v : ℕ) → HasTail g path v → HasTail g (path ++ r ∷ []) v
 HasTail-push g path r v leaves =

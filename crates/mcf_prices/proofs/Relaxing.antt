@@ -12,13 +12,14 @@ use Rattle.mcf_network.specs.States.{Pseudoflow}
 use Rattle.mcf_network.specs.Walks.{HasRoom}
 use Rattle.mcf_network.proofs.ArcLaws.{tail_is_node, head_is_node}
 use Rattle.mcf_network.proofs.Lists.{Contains-cons}
-use Rattle.mcf_prices.specs.Private.Labels.{Labels, IsLabelling, IsLowering, IsKeeping, Respects, cost_limit, lowered}
+use Rattle.mcf_prices.specs.Private.Labels.{Labels, IsLabelling, IsLowering, IsKeeping, lowered}
+use Rattle.mcf_engine.specs.Respecting.{Respects, cost_limit, reverse}
 use Rattle.mcf_prices.specs.Private.Queues.{Waiting, IsQueue, queued}
-use Rattle.mcf_prices.specs.Private.Raisings.{reverse}
 use Rattle.mcf_prices.specs.Private.Rounds.{IsHandled, IsProgress}
 use Rattle.mcf_prices.proofs.Lowering.{lowered_ok, lowered_other, lowered_no_rise, lowered_total, offer_low, lowered_floor, lowered_respects}
 use Rattle.mcf_prices.proofs.QueueLaws.{IsQueued, queued_ok}
-use Rattle.mcf_prices.proofs.Showing.{no_loop}
+use Rattle.mcf_engine.proofs.Reverses.{reversed}
+use Rattle.mcf_engine.proofs.Showing.{no_loop}
 
 -- while the residual arcs that enter node w are relaxed, of which those that remain are the reverses of a list
 pub record IsEntering (old new : Labels) (before after : Waiting) (w : ℕ) (rest : List Rid) : Type 0 where
@@ -70,14 +71,6 @@ handled_lowered l q q' r p ok low queued' room (inl respects) =
 handled_self : (l : Labels) (q' : Waiting) (r : Rid) → IsLabelling l → IsLowering l (lowered l r) r → IsHandled (lowered l r) q' r
 handled_self l q' r ok low =
     inl (lowered_respects l r ok low.has_room low.less (λ e. no_loop l.flow r.arc r.back ok.flow low.has_room (sym e)))
-
-reverse_twice : (k : ℕ) (b : Bool) → reverse (reverse (record { arc = k; back = b })) ≡ record { arc = k; back = b }
-reverse_twice k true = refl
-reverse_twice k false = refl
-
--- the next of the list, the other way
-pub reversed : (q r : Rid) → q ≡ reverse r → reverse q ≡ r
-reversed q r e = ap reverse e ∙ reverse_twice r.arc r.back
 
 -- an empty list has no elements
 pub empty_lacks : (xs : List ℕ) (v : ℕ) → xs ≡ [] → Contains xs v → ⊥

@@ -13,12 +13,13 @@ use Rattle.mcf_network.specs.Residual.{head}
 use Rattle.mcf_network.specs.States.{Pseudoflow}
 use Rattle.mcf_network.specs.Walks.{HasRoom}
 use Rattle.mcf_network.proofs.ArcLaws.{head_is_node}
-use Rattle.mcf_prices.specs.Private.Labels.{Labels, IsLabelling, AreAtLeast, cost_limit, round_depth, round_fall, total}
+use Rattle.mcf_prices.specs.Private.Labels.{Labels, IsLabelling, round_depth, round_fall, total}
+use Rattle.mcf_engine.specs.Respecting.{AreAtLeast, cost_limit}
 use Rattle.mcf_prices.specs.Private.Queues.{Waiting, IsQueue, no_queue}
 use Rattle.mcf_prices.specs.Private.Rounds.{IsHandled, IsProgress}
 use Rattle.mcf_network.proofs.Marks.{count_small}
 use Rattle.mcf_prices.proofs.Relaxing.{empty_lacks, progress_none}
-use Rattle.mcf_prices.proofs.Showing.{shows_from_respects}
+use Rattle.mcf_engine.proofs.Showing.{shows_from_respects}
 
 -- one progress after another
 pub progress_join : (a b c : Labels) (p q r : Waiting) (d e f : ℕ) → d + e ≡ f → IsProgress a b p q d → IsProgress b c q r e → IsProgress a c p r f

@@ -1,3 +1,9 @@
+pub use Rattle.mcf_engine.specs.Heaps
+pub use Rattle.mcf_engine.specs.Laws as EngineLaws
+pub use Rattle.mcf_engine.specs.NearPrices
+pub use Rattle.mcf_engine.specs.NegativeCycles
+pub use Rattle.mcf_engine.specs.Outcomes
+pub use Rattle.mcf_engine.specs.SmallPrices
 pub use Rattle.mcf_feas.specs.Chosen
 pub use Rattle.mcf_feas.specs.Feasible
 pub use Rattle.mcf_instance.specs.Blocking
@@ -8,10 +14,6 @@ pub use Rattle.mcf_network.specs.NodeSets
 pub use Rattle.mcf_network.specs.Residual
 pub use Rattle.mcf_network.specs.States
 pub use Rattle.mcf_network.specs.Walks
-pub mod Heaps
 pub mod Laws
-pub mod NearPrices
-pub mod NegativeCycles
-pub mod Outcomes
 pub mod Recovering
 pub mod Private

@@ -3,6 +3,3 @@ pub mod Labels
 pub mod Queues
 pub mod Rounds
 pub mod Trails
-pub mod Raisings
-pub mod ItemHeaps
-pub mod Shortlists

@@ -2,11 +2,11 @@
 ghost use Rattle.std.specs.Prelude.{◌≡◌, ◌≤◌, IfOk, OnErr, ⊤};
 ghost use Rattle.mcf_feas.specs.Feasible.{IsFeasibleState};
 ghost use Rattle.mcf_instance.specs.Network.{node_count};
-ghost use Rattle.mcf_prices.specs.NegativeCycles.{IsCancelled, IsNegativeCycle};
-ghost use Rattle.mcf_prices.specs.Outcomes.{AreStatePrices, IsLeastState, IsOutcome};
+ghost use Rattle.mcf_engine.specs.NegativeCycles.{IsCancelled, IsNegativeCycle};
+ghost use Rattle.mcf_engine.specs.Outcomes.{AreStatePrices, IsLeastState, IsOutcome};
 
-use crate::engine::{Engine, Outcome};
 use crate::recovered::{Recovered, recover};
+use mcf_engine::{Engine, Outcome};
 use mcf_feas::{Feas, feasible};
 use mcf_network::{Net, Rid, State, push_along, room_along};
 use mcf_text::NoMemory;

@@ -8,9 +8,10 @@ ghost use Rattle.mcf_instance.specs.Network.{IsArcNumber, IsNode, at_node, node_
 ghost use Rattle.mcf_network.specs.NodeSets.{member_count};
 ghost use Rattle.mcf_network.specs.Residual.{head, tail};
 ghost use Rattle.mcf_network.specs.Walks.{HasRoom, IsWalk};
-ghost use Rattle.mcf_prices.specs.Private.Labels.{AreAtLeast, IsLabelling, IsRelaxing, arc_depth, cost_limit, link_at, lowered, node_depth};
+ghost use Rattle.mcf_prices.specs.Private.Labels.{IsLabelling, IsRelaxing, arc_depth, link_at, lowered, node_depth};
+ghost use Rattle.mcf_engine.specs.Respecting.{AreAtLeast, cost_limit};
 ghost use Rattle.mcf_prices.specs.Private.Labels.{offer, round_depth, round_fall};
-ghost use Rattle.mcf_prices.specs.NegativeCycles.{IsNegativeCycle};
+ghost use Rattle.mcf_engine.specs.NegativeCycles.{IsNegativeCycle};
 ghost use Rattle.mcf_prices.specs.Private.Queues.{IsQueue};
 ghost use Rattle.mcf_prices.specs.Private.Rounds.{IsHandled, IsProgress};
 ghost use Rattle.mcf_prices.specs.Private.Trails.{IsDone, IsSettled, IsStep, IsTrail, HasTail};

@@ -19,7 +19,7 @@ use Rattle.mcf_network.specs.Walks.{CanPushAlong}
 use Rattle.mcf_network.proofs.ArcLaws.{head_is_node, tail_is_node}
 use Rattle.mcf_network.proofs.StateLaws.{pushed_surplus, rid, surplus_small}
 use Rattle.mcf_network.proofs.WalkLaws.{cost_along}
-use Rattle.mcf_prices.proofs.Cycles.{nat_abs_falls}
+use Rattle.mcf_engine.proofs.Falling.{nat_abs_falls}
 use Rattle.mcf_scaling.specs.Laws.{PhasesEnd}
 use Rattle.mcf_scaling.specs.Optimality.{ceiling, scaled_cost, scaled_reduced}
 use Rattle.mcf_scaling.specs.Phases.{IsPush, IsRelabel}

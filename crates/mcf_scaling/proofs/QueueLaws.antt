@@ -11,7 +11,7 @@ use Rattle.mcf_instance.specs.Blocking.{in_table}
 use Rattle.mcf_instance.specs.Network.{Network, IsArcNumber, IsNode, node_count, when}
 use Rattle.mcf_network.proofs.Lists.{Contains-cons}
 use Rattle.mcf_network.proofs.Marks.{counted_new, count_none, count_small, unmarked, marked_new, marked_still}
-use Rattle.mcf_prices.proofs.Marks.{read_node}
+use Rattle.mcf_engine.proofs.Marks.{read_node}
 use Rattle.std.specs.Prelude.{◌<ℤ◌, ℤ, pos, ◌≤ℤ◌}
 use Rattle.std.proofs.lemmas.Int.{ints}
 use Rattle.std.specs.Int.{int_min}

@@ -6,8 +6,8 @@ use Rattle.mcf_instance.specs.Network.{Network, IsNode, node_count}
 use Rattle.mcf_network.specs.declared.rid.Rid.{Rid}
 use Rattle.mcf_network.specs.States.{Pseudoflow, surplus_at}
 use Rattle.mcf_feas.specs.Feasible.{IsFeasibleState}
-use Rattle.mcf_prices.specs.Outcomes.{AreStatePrices, IsLeastState}
-use Rattle.mcf_prices.proofs.Cancelling.{least_from_prices}
+use Rattle.mcf_engine.specs.Outcomes.{AreStatePrices, IsLeastState}
+use Rattle.mcf_engine.proofs.StatePrices.{least_from_prices}
 use Rattle.mcf_scaling.specs.Made.{IsScaled}
 use Rattle.mcf_scaling.specs.Optimality.{IsOptimalWithin}
 use Rattle.mcf_scaling.specs.Phases.{EachPhaseSettles, IsBegun, IsBounded, IsBoundedThroughout, IsDone, IsPush, IsRelabel, IsSettled, Run}

@@ -14,8 +14,8 @@ use Rattle.mcf_network.specs.Nets.{IsNet}
 use Rattle.mcf_network.specs.Residual.{head, tail, unit_cost}
 use Rattle.mcf_network.specs.States.{Pseudoflow, IsPseudoflow}
 use Rattle.mcf_network.proofs.ArcLaws.{head_is_node, tail_is_node}
-use Rattle.mcf_prices.specs.NearPrices.{near_limit}
-use Rattle.mcf_prices.proofs.Showing.{cost_small}
+use Rattle.mcf_engine.specs.NearPrices.{near_limit}
+use Rattle.mcf_engine.proofs.Showing.{cost_small}
 use Rattle.mcf_scaling.specs.Optimality.{AreSmallPrices, IsLeastReduced, ceiling, scaled_reduced}
 use Rattle.mcf_scaling.specs.Refinements.{Refinement, IsRefinement, within}
 use Rattle.mcf_scaling.proofs.ScaleLaws.{power_small}

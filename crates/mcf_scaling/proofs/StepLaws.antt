@@ -14,7 +14,7 @@ use Rattle.mcf_network.specs.States.{Pseudoflow, IsPseudoflow, HasNoSurplus, amo
 use Rattle.mcf_network.specs.Walks.{HasRoom}
 use Rattle.mcf_network.proofs.ArcLaws.{amount_of, head_is_node, tail_is_node}
 use Rattle.mcf_network.proofs.StateLaws.{pushed_surplus, read_written, rid}
-use Rattle.mcf_prices.proofs.Showing.{no_loop}
+use Rattle.mcf_engine.proofs.Showing.{no_loop}
 use Rattle.mcf_scaling.specs.Optimality.{IsFilled, IsOptimalWithin, scaled_reduced}
 
 -- ---- a push

@@ -4,7 +4,7 @@ use Rattle.std.specs.Prelude.{◌≡◌, ℕ, ◌+◌, ◌*◌, ◌<◌, ◌≤�
 use Rattle.mcf_instance.specs.Network.{IsNode, at_node, node_count}
 use Rattle.mcf_network.specs.declared.rid.Rid.{Rid}
 use Rattle.mcf_network.specs.States.{Pseudoflow, IsPseudoflow, HasNoSurplus, surplus_at}
-use Rattle.mcf_prices.specs.NegativeCycles.{IsNegativeCycle}
+use Rattle.mcf_engine.specs.NegativeCycles.{IsNegativeCycle}
 use Rattle.mcf_scaling.specs.Optimality.{IsOptimalWithin}
 use Rattle.mcf_scaling.specs.Phases.{IsPush, IsRelabel, Run, relabels}
 use Rattle.mcf_scaling.specs.Refinements.{Refinement, IsNodeOf, IsRefinement}

@@ -7,8 +7,8 @@ pub use Rattle.mcf_network.specs.Nets
 pub use Rattle.mcf_network.specs.Residual
 pub use Rattle.mcf_network.specs.States
 pub use Rattle.mcf_network.specs.Walks
-pub use Rattle.mcf_prices.specs.NegativeCycles
-pub use Rattle.mcf_prices.specs.Outcomes
+pub use Rattle.mcf_engine.specs.NegativeCycles
+pub use Rattle.mcf_engine.specs.Outcomes
 pub mod Laws
 pub mod Optimality
 pub mod Phases

@@ -5,7 +5,7 @@ use Rattle.mcf_feas.specs.Feasible.{IsFeasibleState}
 use Rattle.mcf_instance.specs.Network.{Network}
 use Rattle.mcf_network.specs.declared.rid.Rid.{Rid}
 use Rattle.mcf_network.specs.States.{Pseudoflow}
-use Rattle.mcf_prices.specs.NegativeCycles.{IsNegativeCycle}
+use Rattle.mcf_engine.specs.NegativeCycles.{IsNegativeCycle}
 use Rattle.mcf_scaling.specs.Phases.{EachPhaseSettles, IsBoundedThroughout, IsDone, IsSettled, Run}
 use Rattle.mcf_scaling.specs.Refinements.{Refinement, StepCounts}
 use Rattle.mcf_scaling.specs.Scales.{ArePhases, IsStart}

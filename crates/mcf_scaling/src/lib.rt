@@ -2,7 +2,7 @@
 
 //! Cost scaling, an engine for every net (Goldberg and Tarjan; Ahuja, Magnanti and Orlin, Network Flows, section 10.3).
 //!
-//! It stands on `mcf_network`, `mcf_feas` and `mcf_prices`. Definitions stand in `specs/`: `Refinements` and
+//! It stands on `mcf_network`, `mcf_feas` and `mcf_engine`. Definitions stand in `specs/`: `Refinements` and
 //! `Optimality` say what a refinement holds and keeps, `Phases` what its steps do and what runs of them are, `Scales`
 //! how many phases a net takes, `Made` how the engine made a state, `Laws` what holds of steps and phases, and
 //! `Currents`, `Places` and `Queues` what the current arcs, the tables and the queue of a refinement keep.

@@ -3,7 +3,7 @@ ghost use Rattle.std.specs.Prelude.{◌≡◌, ◌≤◌, ◌⊎◌, ℕ, ℤ, I
 ghost use Rattle.mcf_feas.specs.Feasible.{IsFeasibleState};
 ghost use Rattle.mcf_instance.specs.Network.{node_count};
 ghost use Rattle.mcf_network.specs.declared.rid.Rid.{Rid};
-ghost use Rattle.mcf_prices.specs.Outcomes.{AreStatePrices, IfBlocked, IsLeastState, IsOutcome};
+ghost use Rattle.mcf_engine.specs.Outcomes.{AreStatePrices, IfBlocked, IsLeastState, IsOutcome};
 ghost use Rattle.mcf_scaling.specs.Made.{IsScaled};
 ghost use Rattle.mcf_network.specs.States.{IsPseudoflow};
 ghost use Rattle.mcf_scaling.specs.Optimality.{AreSmallPrices, IsOptimalWithin};
@@ -13,9 +13,9 @@ ghost use Rattle.mcf_scaling.specs.Scales.{IsStart};
 
 use crate::refine::Refine;
 use crate::steps::Steps;
+use mcf_engine::{Engine, Outcome, Pricer, optimal_prices_are_near};
 use mcf_feas::{Feas, feasible};
 use mcf_network::{Net, Rid, State};
-use mcf_prices::{Engine, Outcome, Pricer, optimal_prices_are_near};
 use mcf_text::{NoMemory, NodeId};
 use std::alloc::Global;
 use std::marker::Model;

@@ -10,11 +10,11 @@ use Rattle.mcf_instance.specs.WellFormed.{IsUpTo}
 use Rattle.mcf_instance.proofs.Duality.{shown_flows_are_least_lem}
 use Rattle.mcf_network.specs.States.{Pseudoflow, IsPseudoflow}
 use Rattle.mcf_network.proofs.StuckLaws.{no_surplus_of_feasible}
-use Rattle.mcf_prices.specs.declared.engine.Outcome.{Outcome}
-use Rattle.mcf_prices.specs.declared.engine.Outcome.TheVariants.{Least, Blocked}
-use Rattle.mcf_prices.specs.NearPrices.{AreNearPrices, near_limit}
-use Rattle.mcf_prices.specs.Outcomes.{IsLeastState, IsOutcome}
-use Rattle.mcf_prices.proofs.NearLaws.{shown_near}
+use Rattle.mcf_engine.specs.declared.engine.Outcome.{Outcome}
+use Rattle.mcf_engine.specs.declared.engine.Outcome.TheVariants.{Least, Blocked}
+use Rattle.mcf_engine.specs.NearPrices.{AreNearPrices, near_limit}
+use Rattle.mcf_engine.specs.Outcomes.{IsLeastState, IsOutcome}
+use Rattle.mcf_engine.proofs.NearLaws.{shown_near}
 use Rattle.mcf_basis.specs.Bases.{IsBasis}
 use Rattle.mcf_basis.specs.Laws.{HasNoArtificial}
 use Rattle.mcf_basis.specs.Ranks.{IsBounded}

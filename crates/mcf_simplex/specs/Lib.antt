@@ -7,7 +7,7 @@ pub use Rattle.mcf_basis.specs.Violations
 pub use Rattle.mcf_network.specs.Nets
 pub use Rattle.mcf_network.specs.States
 pub use Rattle.mcf_network.specs.TreeSolutions
-pub use Rattle.mcf_prices.specs.Outcomes
+pub use Rattle.mcf_engine.specs.Outcomes
 pub mod Picking
 pub mod Blocks
 pub mod Stretches

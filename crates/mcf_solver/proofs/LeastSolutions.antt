@@ -15,8 +15,8 @@ use Rattle.mcf_network.specs.Removal.{net_of}
 use Rattle.mcf_network.specs.Restoring.{restored}
 use Rattle.mcf_network.specs.States.{Pseudoflow}
 use Rattle.mcf_network.proofs.RestoringLaws.{net_of-arc_count, restored_all}
-use Rattle.mcf_prices.specs.Outcomes.{IsLeastState}
-use Rattle.mcf_prices.specs.Recovering.{price_limit}
+use Rattle.mcf_engine.specs.Outcomes.{IsLeastState}
+use Rattle.mcf_engine.specs.SmallPrices.{price_limit}
 use Rattle.mcf_solver.specs.Answering.{IsLeastFlow}
 use Rattle.mcf_solver.specs.ChosenSolutions.{IsLoopSettled}
 use Rattle.mcf_solver.proofs.LoopFlows.{loops_settled}

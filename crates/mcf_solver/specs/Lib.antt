@@ -12,7 +12,7 @@ pub use Rattle.mcf_network.specs.Removal
 pub use Rattle.mcf_network.specs.Restoring
 pub use Rattle.mcf_network.specs.States
 pub use Rattle.mcf_network.specs.TreeSolutions
-pub use Rattle.mcf_prices.specs.Outcomes
+pub use Rattle.mcf_engine.specs.Outcomes
 pub use Rattle.mcf_scaling.specs.Made
 pub use Rattle.mcf_simplex.specs.Blocks as BlockPicks
 pub use Rattle.mcf_simplex.specs.Picking

@@ -13,7 +13,7 @@ use Rattle.mcf_network.specs.Removal.{net_of}
 use Rattle.mcf_network.specs.Restoring.{restored}
 use Rattle.mcf_network.specs.States.{Pseudoflow}
 use Rattle.mcf_network.specs.TreeSolutions.{IsTreeSolution}
-use Rattle.mcf_prices.specs.Outcomes.{IsLeastState}
+use Rattle.mcf_engine.specs.Outcomes.{IsLeastState}
 use Rattle.mcf_simplex.specs.Blocks.{BlockRule, IsBlockPick}
 use Rattle.mcf_simplex.specs.Picking.{IsBestPick, IsFirstPick}
 use Rattle.mcf_simplex.specs.Runs.{IsMadeByRun, RuleState}

@@ -13,17 +13,17 @@ ghost use Rattle.mcf_instance.specs.WellFormed.{IsWellFormed};
 ghost use Rattle.mcf_network.specs.Removal.{net_of};
 ghost use Rattle.mcf_network.specs.Restoring.{restored};
 ghost use Rattle.mcf_network.specs.States.{amount_at};
-ghost use Rattle.mcf_prices.specs.Outcomes.{AreStatePrices, IsLeastState};
+ghost use Rattle.mcf_engine.specs.Outcomes.{AreStatePrices, IsLeastState};
 ghost use Rattle.mcf_solver.specs.Answering.{IsLeastSparse};
 ghost use Rattle.mcf_solver.specs.Forms.{moved_arc, moved_of};
 ghost use Rattle.mcf_solver.specs.Private.MovedArcs.{AreMovedOf};
 
 use mcf_answer::{MovedList, PriceList, SparseAnswer};
+use mcf_engine::greatest_prices_are_small;
 use mcf_instance::{Arc, Instance, Problem};
 use mcf_network::{
     State, greatest_prices_carry_over, restored_amount, restored_least_flows_are_least,
 };
-use mcf_prices::greatest_prices_are_small;
 use mcf_text::{ArcId, NoMemory};
 use std::alloc::Global;
 

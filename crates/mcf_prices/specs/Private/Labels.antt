@@ -1,23 +1,19 @@
 -- The labels of a search for prices: a price for each node, and the residual arc that gave it.
-use Rattle.std.specs.Prelude.{◌≡◌, ℕ, ◌<◌, ◌≤◌, ◌-◌, ◌^◌, List, [], ◌∷◌, length, Bool, Option, Some, None, ℤ, pos, neg_ℤ, ◌+ℤ◌, ◌≤ℤ◌, ◌<ℤ◌, ◌⊎◌, slice_index_or}
+use Rattle.std.specs.Prelude.{◌≡◌, ℕ, ◌<◌, ◌≤◌, ◌-◌, ◌^◌, List, [], ◌∷◌, length, Bool, Option, Some, None, ℤ, pos, ◌+ℤ◌, ◌≤ℤ◌, ◌<ℤ◌, ◌⊎◌, slice_index_or}
 use Rattle.std.specs.Prelude.{slice_set}
 use Rattle.std.specs.Bool.{MatchBool}
 use Rattle.mcf_instance.specs.Flow.{AreLowPrices, AreNotAboveZero}
-use Rattle.mcf_instance.specs.Limits.{limits}
 use Rattle.mcf_instance.specs.Network.{IsNode, at_node, node_count}
 use Rattle.mcf_network.specs.declared.rid.Rid.{Rid}
 use Rattle.mcf_network.specs.Residual.{tail, head, unit_cost}
 use Rattle.mcf_network.specs.States.{Pseudoflow, IsPseudoflow}
 use Rattle.mcf_network.specs.Walks.{HasRoom}
+use Rattle.mcf_engine.specs.Respecting.{Respects}
 
 pub record Labels : Type 0 where
   pub flow : Pseudoflow
   pub prices : List ℤ
   pub links : List (Option Rid)
-
--- the greatest size of the cost of an arc
-abbrev pub cost_limit : ℕ
-cost_limit = limits.cost
 
 -- how far below 0 a price lies at most where a round begins, where a node relaxes in it, and where one arc does
 abbrev pub round_depth : ℕ
@@ -72,18 +68,9 @@ pub record IsLabelling (l : Labels) : Type 0 where
       → at_node others v ≤ℤ at_node l.prices v
   pub linked : IsLinked l
 
--- no price is below -f
-abbrev pub AreAtLeast : ℕ → List ℤ → Type 0
-AreAtLeast f prices = (v : ℕ) → IsNode (length prices) v → neg_ℤ (pos f) ≤ℤ at_node prices v
-
 abbrev pub total : List ℤ → ℤ
 total [] = pos 0
 total (y ∷ ys) = y +ℤ total ys
-
--- with room, a residual arc offers its tail no lower price
-abbrev pub Respects : Pseudoflow → List ℤ → Rid → Type 0
-Respects s prices r =
-    HasRoom s r → at_node prices (tail s.net r) ≤ℤ (unit_cost s.net r +ℤ at_node prices (head s.net r))
 
 -- a residual arc with room lowered the price of its tail
 pub record IsLowering (old new : Labels) (r : Rid) : Type 0 where

@@ -4,7 +4,8 @@ use Rattle.std.specs.List.{Contains}
 use Rattle.mcf_network.specs.declared.rid.Rid.{Rid}
 use Rattle.mcf_network.specs.Residual.{head}
 use Rattle.mcf_network.specs.Walks.{HasRoom}
-use Rattle.mcf_prices.specs.Private.Labels.{Labels, IsLabelling, AreAtLeast, Respects, total}
+use Rattle.mcf_prices.specs.Private.Labels.{Labels, IsLabelling, total}
+use Rattle.mcf_engine.specs.Respecting.{AreAtLeast, Respects}
 use Rattle.mcf_prices.specs.Private.Queues.{Waiting, IsQueue}
 
 -- a residual arc is respected, or its head waits

@@ -7,7 +7,8 @@ use Rattle.mcf_network.specs.declared.rid.Rid.{Rid}
 use Rattle.mcf_network.specs.NodeSets.{member_count}
 use Rattle.mcf_network.specs.Residual.{tail}
 use Rattle.mcf_network.specs.Walks.{HasRoom}
-use Rattle.mcf_prices.specs.Private.Labels.{Labels, cost_limit, link_at}
+use Rattle.mcf_prices.specs.Private.Labels.{Labels, link_at}
+use Rattle.mcf_engine.specs.Respecting.{cost_limit}
 
 -- the residual arc is the link of its tail
 pub record IsStep (l : Labels) (r : Rid) : Type 0 where

@@ -1,4 +1,5 @@
-use Rattle.mcf_prices.proofs.Cancelling.{cancelled_falls, cancelled_feasible, least_from_prices, state_prices}
+use Rattle.mcf_prices.proofs.Cancelling.{cancelled_falls, cancelled_feasible}
+use Rattle.mcf_engine.proofs.StatePrices.{least_from_prices, state_prices}
 use Rattle.mcf_prices.proofs.cancel.cancel_cycles.Goals as goal
 
 pub returns-in-Prices-clause-least : goal.returns-in-Prices-clause-least

@@ -4,10 +4,10 @@ use Rattle.std.proofs.lemmas.List.{length-replicate}
 use Rattle.mcf_instance.specs.Network.{Network, node_count}
 use Rattle.mcf_network.specs.States.{Pseudoflow, IsPseudoflow}
 use Rattle.mcf_network.specs.Walks.{HasRoom}
-use Rattle.mcf_prices.specs.Private.Labels.{AreAtLeast, cost_limit}
+use Rattle.mcf_engine.specs.Respecting.{AreAtLeast, cost_limit}
 use Rattle.mcf_prices.specs.Private.Queues.{Waiting, no_queue}
 use Rattle.mcf_prices.proofs.Cycles.{height_falls}
-use Rattle.mcf_prices.proofs.PriceFloors.{greatest_are_small}
+use Rattle.mcf_engine.proofs.PriceFloors.{greatest_are_small}
 use Rattle.mcf_prices.proofs.Rounding.{start_floor, all_wait, floor_between, recovered_prices, round_falls}
 use Rattle.mcf_prices.proofs.recovered.recover.Goals as goal
 

@@ -2,7 +2,8 @@ use Rattle.std.proofs.Common.{◌≡◌, ◌*◌, length}
 use Rattle.mcf_instance.specs.Network.{node_count}
 use Rattle.mcf_network.specs.declared.rid.Rid.{Rid}
 use Rattle.mcf_network.specs.Walks.{HasRoom}
-use Rattle.mcf_prices.specs.Private.Labels.{AreAtLeast, IsLabelling, cost_limit}
+use Rattle.mcf_prices.specs.Private.Labels.{IsLabelling}
+use Rattle.mcf_engine.specs.Respecting.{AreAtLeast, cost_limit}
 use Rattle.mcf_prices.specs.Private.Queues.{IsQueue, no_queue}
 use Rattle.mcf_prices.specs.Private.Rounds.{IsHandled}
 use Rattle.mcf_prices.proofs.Cycles.{height}

@@ -1,5 +1,5 @@
 use Rattle.std.proofs.Common.{List, ℤ, drop, length, ap, sym, subst, arith}
-use Rattle.mcf_prices.specs.Outcomes.{AreStatePrices}
+use Rattle.mcf_engine.specs.Outcomes.{AreStatePrices}
 use Rattle.mcf_simplex.proofs.Ending.{written}
 use Rattle.mcf_simplex.proofs.simplex.finish.Goals as goal
 

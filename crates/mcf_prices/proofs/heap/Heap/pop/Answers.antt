@@ -1,6 +1,0 @@
-use Rattle.mcf_prices.proofs.HeapViews.{none_waits}
-use Rattle.mcf_prices.proofs.heap.Heap.pop.Goals as goal
-
-pub returns-in_default-clause-none : goal.returns-in_default-clause-none
-returns-in_default-clause-none c =
-    rw (← c.self.view_is) (none_waits c.self.inside.items c.self.invariant c.in_default.ensures.none)

@@ -1,5 +1,0 @@
-use Rattle.mcf_prices.proofs.NearLaws.{optimal_near}
-use Rattle.mcf_prices.proofs.pricer.optimal_prices_are_near.Goals as goal
-
-pub returns : goal.returns
-returns c = optimal_near

@@ -1,5 +1,0 @@
-use Rattle.mcf_prices.proofs.RaisingLoops.{AreRoundedUpTo}
-use Rattle.mcf_prices.proofs.pricer.round_all.Given as goal
-
-abbrev pub invariant-nodes : goal.invariant-nodes
-invariant-nodes l = AreRoundedUpTo l.fn.scale l.fn.prices l.heap l.prices l.i

@@ -1,5 +1,0 @@
-use Rattle.mcf_prices.proofs.NearLaws.{shown_near}
-use Rattle.mcf_prices.proofs.pricer.shown_prices_are_near.Goals as goal
-
-pub returns : goal.returns
-returns c = shown_near

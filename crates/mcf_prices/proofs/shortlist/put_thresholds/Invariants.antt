@@ -1,5 +1,0 @@
-use Rattle.std.proofs.Common.{◌≡◌, length}
-use Rattle.mcf_prices.proofs.shortlist.put_thresholds.Given as goal
-
-abbrev pub invariant-nodes : goal.invariant-nodes
-invariant-nodes l = length l.passed.items ≡ length l.fn.passed.items
