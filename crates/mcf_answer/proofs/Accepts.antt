@@ -32,8 +32,8 @@ use Rattle.mcf_answer.proofs.SaidLemmas.{cost_said-line, member_said-line, moved
 use Rattle.mcf_answer.proofs.SaidLemmas.{version_said-line}
 use Rattle.mcf_answer.proofs.Simulation.{outcome-parsing, run-rows, run_rows}
 use Rattle.mcf_instance.specs.Fault.{Fault}
-use Rattle.mcf_instance.specs.Limits.{node_limit, line_limit}
-use Rattle.mcf_instance.specs.declared.problem.Side.{Side}
+use Rattle.mcf_flows.specs.Limits.{node_limit, line_limit}
+use Rattle.mcf_flows.specs.declared.problem.Side.{Side}
 use Rattle.mcf_text.specs.Lines.{numbered_lines}
 use Rattle.mcf_text.specs.Row.{Row, line_after, rows}
 

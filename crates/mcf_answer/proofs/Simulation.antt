@@ -23,7 +23,7 @@ use Rattle.mcf_answer.specs.declared.draft.Draft.{Draft}
 use Rattle.mcf_answer.specs.declared.draft.Draft.TheVariants.{Empty, Flow, Sparse, Blocked}
 use Rattle.mcf_answer.proofs.LinesRead.{announced_filled, filled, draft_of, answer_or, outcome}
 use Rattle.mcf_answer.proofs.SaidLemmas.{moved_said-some, sent_said-some}
-use Rattle.mcf_instance.specs.declared.problem.Side.{Side}
+use Rattle.mcf_flows.specs.declared.problem.Side.{Side}
 use Rattle.mcf_text.specs.Fields.{is_kept}
 use Rattle.mcf_text.specs.Lines.{numbered_lines}
 use Rattle.mcf_text.specs.Row.{Row, line_after, row_of, rows, with_earlier}

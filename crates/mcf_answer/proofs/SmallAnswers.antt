@@ -10,7 +10,7 @@ use Rattle.mcf_answer.specs.Written.{written}
 use Rattle.mcf_answer.specs.declared.answers.Answer.{Answer}
 use Rattle.mcf_answer.specs.declared.answers.Answer.TheVariants.{Flow, Sparse, Blocked, Refused}
 use Rattle.mcf_instance.specs.declared.code.Code.TheVariants.{LateN}
-use Rattle.mcf_instance.specs.declared.problem.Side.TheVariants.{Send, Take}
+use Rattle.mcf_flows.specs.declared.problem.Side.TheVariants.{Send, Take}
 
 -- the lines, each with its end
 abbrev text_of : List (List ℕ) → List ℕ

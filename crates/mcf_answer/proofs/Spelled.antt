@@ -37,8 +37,8 @@ use Rattle.mcf_answer.proofs.SaidLemmas.{cost_said-some, map-some, member_said-s
 use Rattle.mcf_answer.proofs.SaidLemmas.{set_said-some, version_said-some}
 use Rattle.mcf_answer.proofs.Simulation.{outcome-parsing, run-rows, run_rows}
 use Rattle.mcf_instance.specs.Fault.{Fault}
-use Rattle.mcf_instance.specs.Limits.{line_limit}
-use Rattle.mcf_instance.specs.declared.problem.Side.{Side}
+use Rattle.mcf_flows.specs.Limits.{line_limit}
+use Rattle.mcf_flows.specs.declared.problem.Side.{Side}
 use Rattle.mcf_text.specs.Lines.{numbered_lines}
 use Rattle.mcf_text.specs.Row.{Row, line_after, rows}
 

@@ -20,9 +20,9 @@ use Rattle.mcf_answer.specs.declared.answers.Answer.{Answer}
 use Rattle.mcf_answer.specs.declared.answers.Answer.TheVariants.{Flow, Sparse, Blocked, Refused}
 use Rattle.mcf_answer.specs.declared.answers.Sent.{Sent}
 use Rattle.mcf_instance.specs.Fault.{Fault, code_word}
-use Rattle.mcf_instance.specs.Limits.{node_limit, line_limit}
-use Rattle.mcf_instance.specs.declared.problem.Side.{Side}
-use Rattle.mcf_instance.specs.declared.problem.Side.TheVariants.{Send, Take}
+use Rattle.mcf_flows.specs.Limits.{node_limit, line_limit}
+use Rattle.mcf_flows.specs.declared.problem.Side.{Side}
+use Rattle.mcf_flows.specs.declared.problem.Side.TheVariants.{Send, Take}
 use Rattle.mcf_answer.proofs.Words.{is_plain_byte, is_plain_word, plain_code_word}
 use Rattle.mcf_text.specs.Fields.{HasFields, IsRun, begins_kept, fields_of, is_blank, is_kept}
 use Rattle.mcf_text.specs.Lines.{IsOneLine, line_feed, lines_of}

@@ -3,8 +3,8 @@
 use Rattle.std.specs.Prelude.{ℕ, ◌≤◌, List, length, All}
 use Rattle.std.specs.List.Sorted.{IsStrictlyIncreasing}
 use Rattle.mcf_answer.specs.Ranges.{IsNodeInRange}
-use Rattle.mcf_instance.specs.Limits.{node_limit}
-use Rattle.mcf_instance.specs.declared.problem.Side.{Side}
+use Rattle.mcf_flows.specs.Limits.{node_limit}
+use Rattle.mcf_flows.specs.declared.problem.Side.{Side}
 
 -- a set of nodes, with the side by which it blocks
 pub record BlockingSet : Type 0 where

@@ -1,9 +1,9 @@
 -- The ranges of the numbers of answers.
 -- Source: own
 use Rattle.std.specs.Prelude.{ℕ, ◌≤◌, ◌^◌, ℤ}
-use Rattle.mcf_instance.specs.Limits.{arc_limit, node_limit}
-use Rattle.mcf_instance.specs.Network.{IsNode}
-use Rattle.mcf_instance.specs.WellFormed.{IsUpTo}
+use Rattle.mcf_flows.specs.Limits.{arc_limit, node_limit}
+use Rattle.mcf_flows.specs.Network.{IsNode}
+use Rattle.mcf_flows.specs.WellFormed.{IsUpTo}
 
 -- how far from 0 a cost, a flow and a price may lie
 abbrev pub amount_limit : ℕ

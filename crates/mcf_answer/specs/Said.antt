@@ -7,10 +7,10 @@ use Rattle.mcf_answer.specs.Spelling.{side_word}
 use Rattle.mcf_answer.specs.Token.{Token, Word, Number, is_word}
 use Rattle.mcf_answer.specs.declared.answers.Sent.{Sent}
 use Rattle.mcf_instance.specs.Fault.{Fault, code_of_word}
-use Rattle.mcf_instance.specs.Limits.{node_limit, arc_limit, line_limit}
+use Rattle.mcf_flows.specs.Limits.{node_limit, arc_limit, line_limit}
 use Rattle.mcf_instance.specs.declared.code.Code.{Code}
-use Rattle.mcf_instance.specs.declared.problem.Side.{Side}
-use Rattle.mcf_instance.specs.declared.problem.Side.TheVariants.{Send, Take}
+use Rattle.mcf_flows.specs.declared.problem.Side.{Side}
+use Rattle.mcf_flows.specs.declared.problem.Side.TheVariants.{Send, Take}
 use Rattle.mcf_text.specs.Row.{natural}
 use Rattle.mcf_text.specs.Whole.{is_within}
 

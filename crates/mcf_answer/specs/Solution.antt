@@ -3,7 +3,7 @@
 use Rattle.std.specs.Prelude.{◌≤◌, List, length, ℤ, All}
 use Rattle.mcf_answer.specs.Ranges.{IsAmount, IsNodeInRange}
 use Rattle.mcf_answer.specs.declared.answers.Sent.{Sent}
-use Rattle.mcf_instance.specs.Limits.{node_limit}
+use Rattle.mcf_flows.specs.Limits.{node_limit}
 
 -- a flow with its cost and prices: what each arc carries, in the order of the arcs, and the price of each
 -- node from node 1 on

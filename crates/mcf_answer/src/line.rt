@@ -7,7 +7,7 @@ ghost use Rattle.mcf_answer.specs.SparseSolution.{IsMoved};
 ghost use Rattle.mcf_answer.specs.Token.{is_word, token_of, tokens_of};
 ghost use Rattle.mcf_text.specs.Fields.{fields_of};
 ghost use Rattle.mcf_text.specs.Whole.{is_whole};
-ghost use Rattle.mcf_instance.specs.Limits.{line_limit};
+ghost use Rattle.mcf_flows.specs.Limits.{line_limit};
 
 use crate::answers::Sent;
 use mcf_instance::{Code, Refusal, Side};

@@ -8,10 +8,10 @@ use Rattle.std.proofs.lemmas.Int.{ints}
 use Rattle.std.proofs.lemmas.List.{append-nil, length-append}
 use Rattle.std.proofs.lemmas.List.Elements.{All-from_get_or, All-weaker, Contains-append_cases, Contains-append_left, Contains-push, Contains-push_cases}
 use Rattle.std.proofs.lemmas.List.Elements.{filter-append}
-use Rattle.mcf_instance.specs.declared.problem.Side.TheVariants.{Send}
-use Rattle.mcf_instance.specs.Network.{Network, IsNode, at_node, node_count}
-use Rattle.mcf_instance.specs.Blocking.{Blocks, in_table}
-use Rattle.mcf_instance.specs.WellFormed.{IsUpTo}
+use Rattle.mcf_flows.specs.declared.problem.Side.TheVariants.{Send}
+use Rattle.mcf_flows.specs.Network.{Network, IsNode, at_node, node_count}
+use Rattle.mcf_flows.specs.Blocking.{Blocks, in_table}
+use Rattle.mcf_flows.specs.WellFormed.{IsUpTo}
 use Rattle.mcf_network.specs.States.{Pseudoflow, HasNoSurplus, surplus_at}
 use Rattle.mcf_feas.specs.Chosen.{IsChosenBlock, supply_total}
 use Rattle.mcf_feas.specs.Feasible.{IsFeasibleState}

@@ -3,8 +3,8 @@ use Rattle.std.proofs.Common.{◌≡◌, ℕ, ◌-◌, ◌<◌, Bool, List, ℤ,
 use Rattle.std.proofs.Common.{inl, inr}
 use Rattle.std.proofs.lemmas.Int.{ints}
 use Rattle.std.proofs.lemmas.Bool.{cases_eq}
-use Rattle.mcf_instance.specs.Flow.{reduced_cost}
-use Rattle.mcf_instance.specs.Network.{IsArcNumber, at_node}
+use Rattle.mcf_flows.specs.Flow.{reduced_cost}
+use Rattle.mcf_flows.specs.Network.{IsArcNumber, at_node}
 use Rattle.mcf_network.specs.Residual.{arc_at}
 use Rattle.mcf_network.specs.States.{Pseudoflow}
 use Rattle.mcf_assign.specs.declared.search.Tables.{Tables}

@@ -7,9 +7,9 @@ use Rattle.std.proofs.lemmas.Int.{ints, by_lt_z}
 use Rattle.std.proofs.lemmas.List.{ext_get_or, get_or-set_other, get_or_default}
 use Rattle.std.proofs.lemmas.List.Elements.{All-from_get_or}
 use Rattle.std.proofs.lemmas.List.FromFn.{get_or-map-range_with_len, length-map-range_with_len}
-use Rattle.mcf_instance.specs.Limits.{limits}
-use Rattle.mcf_instance.specs.Network.{Network, IsNode, at_node, node_count}
-use Rattle.mcf_instance.specs.WellFormed.{IsUpTo}
+use Rattle.mcf_flows.specs.Limits.{limits}
+use Rattle.mcf_flows.specs.Network.{Network, IsNode, at_node, node_count}
+use Rattle.mcf_flows.specs.WellFormed.{IsUpTo}
 use Rattle.mcf_assign.specs.Private.Keeping.{AreFirstPrices}
 use Rattle.mcf_assign.specs.Private.Lows.{AreLows, IsLow, lies_inside, low_inside, low_reach, whole_price, whole_prices}
 use Rattle.mcf_assign.proofs.CutPrices.{low_is, lows_same, lows_set}

@@ -2,9 +2,9 @@
 -- Source: AMO 12.4
 use Rattle.std.specs.Prelude.{◌≡◌, ◌≢◌, ◌↔◌, ℕ, ◌+◌, Bool, true, List, ◌∷◌, length, ℤ, pos, ◌⊎◌}
 use Rattle.std.specs.List.{All, AllPairs, Contains}
-use Rattle.mcf_instance.specs.declared.problem.Side.TheVariants.{Send}
-use Rattle.mcf_instance.specs.Blocking.{Blocks, in_table}
-use Rattle.mcf_instance.specs.Network.{IsArcNumber, IsNode, node_count}
+use Rattle.mcf_flows.specs.declared.problem.Side.TheVariants.{Send}
+use Rattle.mcf_flows.specs.Blocking.{Blocks, in_table}
+use Rattle.mcf_flows.specs.Network.{IsArcNumber, IsNode, node_count}
 use Rattle.mcf_network.specs.declared.rid.Rid.{Rid}
 use Rattle.mcf_network.specs.Residual.{head, tail}
 use Rattle.mcf_network.specs.States.{Pseudoflow, amount_at}

@@ -3,7 +3,7 @@
 use Rattle.std.specs.Prelude.{◌≡◌, ◌≢◌, ℕ, ◌+◌, Bool, List, [], ◌∷◌, ◌++◌, length, replicate, pos, ◌⊎◌}
 use Rattle.std.specs.List.{filter, range_with_len}
 use Rattle.std.specs.Ordering.{int_eq}
-use Rattle.mcf_instance.specs.Network.{Network, at_node, node_count}
+use Rattle.mcf_flows.specs.Network.{Network, at_node, node_count}
 use Rattle.mcf_network.specs.NodeSets.{no_nodes}
 use Rattle.mcf_network.specs.States.{Pseudoflow}
 use Rattle.mcf_feas.specs.Chosen.{supply_total}

@@ -2,9 +2,9 @@
 ghost use Rattle.std.specs.Prelude.{◌≡◌, ◌≢◌, ◌+◌, ◌-◌, ◌^◌, ◌<◌, ◌≤◌, ◌∷◌, ◌++◌, ◌↔◌, ℕ, ℤ, Bool, List, [], None, Some, false, true, IfOk, OnErr, length, pos};
 ghost use Rattle.std.specs.Prelude.{vec_capacity};
 ghost use Rattle.std.specs.List.{All, Contains};
-ghost use Rattle.mcf_instance.specs.Blocking.{in_table};
-ghost use Rattle.mcf_instance.specs.Network.{IsNode, at_node, node_count};
-ghost use Rattle.mcf_instance.specs.WellFormed.{IsUpTo};
+ghost use Rattle.mcf_flows.specs.Blocking.{in_table};
+ghost use Rattle.mcf_flows.specs.Network.{IsNode, at_node, node_count};
+ghost use Rattle.mcf_flows.specs.WellFormed.{IsUpTo};
 ghost use Rattle.mcf_engine.specs.Heaps.{NoneWaits};
 ghost use Rattle.mcf_assign.specs.Private.Forests.{AreMates, IsChangedWithin};
 ghost use Rattle.mcf_assign.specs.Private.Keeping.{IsEnded, IsIdle};

@@ -1,9 +1,9 @@
 //! Partial matchings, made greater row by row.
 ghost use Rattle.std.specs.Prelude.{◌≡◌, ◌+◌, ◌-◌, ◌^◌, ◌≤◌, ◌↔◌, ℕ, [], IfOk, IsTrue, OnErr, length, pos, neg_ℤ, replicate};
 ghost use Rattle.std.specs.List.{All};
-ghost use Rattle.mcf_instance.specs.declared.problem.Problem.TheVariants.{Asn};
-ghost use Rattle.mcf_instance.specs.Network.{IsNode, at_node, node_count};
-ghost use Rattle.mcf_instance.specs.WellFormed.{IsUpTo};
+ghost use Rattle.mcf_flows.specs.declared.problem.Problem.TheVariants.{Asn};
+ghost use Rattle.mcf_flows.specs.Network.{IsNode, at_node, node_count};
+ghost use Rattle.mcf_flows.specs.WellFormed.{IsUpTo};
 ghost use Rattle.mcf_network.specs.NodeSets.{no_nodes};
 ghost use Rattle.mcf_assign.specs.Extending.{IsExtension, IsMatched, IsShownMatching};
 ghost use Rattle.mcf_assign.specs.Matchings.{IsMatchedRow, IsRow, price_limit};
@@ -49,7 +49,7 @@ impl<'n> Model for Matching<'n> {
 
     ghost view = { λ a. record { flow = a.state; prices = a.prices; settled = a.tables.order.items; reached = a.reached; searches = a.tables.searches.number } };
 
-    ghost use Rattle.mcf_instance.specs.Network.{node_count};
+    ghost use Rattle.mcf_flows.specs.Network.{node_count};
     ghost use Rattle.mcf_assign.specs.Private.RowLists.{AreRows};
     ghost use Rattle.mcf_assign.specs.Private.Updating.{HasTables};
 

@@ -1,8 +1,8 @@
 //! The prices of the nodes, cut to 64 bits where searches read them.
 ghost use Rattle.std.specs.Prelude.{◌≡◌, ◌-◌, ◌^◌, ◌≤◌, ◌+ℤ◌, ℤ, List, IfOk, IfSome, OnErr, length, set, true};
 ghost use Rattle.std.specs.List.{All};
-ghost use Rattle.mcf_instance.specs.Network.{IsNode, at_node, node_count};
-ghost use Rattle.mcf_instance.specs.WellFormed.{IsUpTo};
+ghost use Rattle.mcf_flows.specs.Network.{IsNode, at_node, node_count};
+ghost use Rattle.mcf_flows.specs.WellFormed.{IsUpTo};
 ghost use Rattle.mcf_assign.specs.Private.Keeping.{AreFirstPrices};
 ghost use Rattle.mcf_assign.specs.Private.Lows.{AreLows, IsLow, lies_inside, low_inside, whole_prices};
 ghost use Rattle.mcf_assign.specs.Private.Reaches.{rise_reach, target_reach};

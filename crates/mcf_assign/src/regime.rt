@@ -2,7 +2,7 @@
 //! measures each of them; no clause speaks of any.
 ghost use Rattle.std.specs.Prelude.{◌≡◌, ◌≤◌};
 ghost use Rattle.mcf_assign.specs.declared.regime.Regime.TheVariants.{Sparse};
-ghost use Rattle.mcf_instance.specs.Network.{node_count};
+ghost use Rattle.mcf_flows.specs.Network.{node_count};
 
 use mcf_network::Net;
 

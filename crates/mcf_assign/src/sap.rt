@@ -1,8 +1,8 @@
 //! The engine.
 ghost use Rattle.std.specs.Prelude.{◌≡◌, ◌-◌, ◌≤◌, IfOk, OnErr, pos};
 ghost use Rattle.mcf_feas.specs.Chosen.{supply_total};
-ghost use Rattle.mcf_instance.specs.declared.problem.Problem.TheVariants.{Asn};
-ghost use Rattle.mcf_instance.specs.Network.{IsNode, node_count};
+ghost use Rattle.mcf_flows.specs.declared.problem.Problem.TheVariants.{Asn};
+ghost use Rattle.mcf_flows.specs.Network.{IsNode, node_count};
 ghost use Rattle.mcf_engine.specs.Outcomes.{AreStatePrices, IsOutcome};
 ghost use Rattle.mcf_assign.specs.Extending.{IsShownMatching};
 ghost use Rattle.mcf_assign.specs.Private.Offering.{AreOffered};
@@ -13,7 +13,7 @@ use crate::matching::Matching;
 use mcf_counts::Count;
 use mcf_engine::{Engine, Outcome, Pricer};
 use mcf_feas::unbalanced;
-use mcf_instance::{Problem, Side};
+use mcf_flows::{Problem, Side};
 use mcf_network::{Net, State};
 use mcf_text::{NoMemory, NodeId};
 use std::alloc::Global;
@@ -51,7 +51,7 @@ impl Sap {
 
 impl Engine for Sap {
     ghost use Rattle.std.specs.Prelude.{◌≡◌};
-    ghost use Rattle.mcf_instance.specs.declared.problem.Problem.TheVariants.{Asn};
+    ghost use Rattle.mcf_flows.specs.declared.problem.Problem.TheVariants.{Asn};
     ghost use Rattle.mcf_assign.specs.Runs.{IsMatchedByRows};
 
     ghost Takes = { λ g. g.problem ≡ Asn };

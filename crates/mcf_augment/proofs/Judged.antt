@@ -5,12 +5,12 @@ use Rattle.std.proofs.lemmas.Int.{ints}
 use Rattle.std.specs.List.{All}
 use Rattle.std.proofs.lemmas.List.{get_or_default}
 use Rattle.std.proofs.lemmas.Bool.{cases_eq}
-use Rattle.mcf_instance.specs.declared.arc.Arc.{Arc}
-use Rattle.mcf_instance.specs.Flow.{IsComplementary, Shows, reduced_cost}
-use Rattle.mcf_instance.specs.Network.{Network, IsArcNumber, IsNode, node_count}
-use Rattle.mcf_instance.specs.WellFormed.{IsUpTo}
-use Rattle.mcf_instance.proofs.AllZips.{AllZip_from}
-use Rattle.mcf_instance.proofs.Duality.{shown_flows_are_least_lem}
+use Rattle.mcf_flows.specs.declared.arc.Arc.{Arc}
+use Rattle.mcf_flows.specs.Flow.{IsComplementary, Shows, reduced_cost}
+use Rattle.mcf_flows.specs.Network.{Network, IsArcNumber, IsNode, node_count}
+use Rattle.mcf_flows.specs.WellFormed.{IsUpTo}
+use Rattle.mcf_flows.proofs.AllZips.{AllZip_from}
+use Rattle.mcf_flows.proofs.Duality.{shown_flows_are_least_lem}
 use Rattle.mcf_network.specs.Nets.{IsNet, IsNetArc}
 use Rattle.mcf_network.specs.Residual.{no_arc, arc_at}
 use Rattle.mcf_network.specs.States.{HasNoSurplus, IsPseudoflow, Pseudoflow, amount_at}

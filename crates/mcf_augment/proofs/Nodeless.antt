@@ -1,7 +1,7 @@
 -- A net without nodes: a state of it is least, and has no prices.
 use Rattle.std.proofs.Common.{◌≡◌, refl, sym, arith, []}
-use Rattle.mcf_instance.specs.Flow.{AreGreatestPrices}
-use Rattle.mcf_instance.specs.Network.{node_count}
+use Rattle.mcf_flows.specs.Flow.{AreGreatestPrices}
+use Rattle.mcf_flows.specs.Network.{node_count}
 use Rattle.mcf_network.specs.States.{Pseudoflow, IsPseudoflow}
 use Rattle.mcf_network.proofs.ArcLaws.{tail_is_node}
 use Rattle.mcf_feas.specs.Feasible.{IsFeasibleState}

@@ -1,8 +1,8 @@
 //! The engine.
 ghost use Rattle.std.specs.Prelude.{◌≡◌, ◌≤◌, IfOk, IfSome, OnErr, length, true, ⊤};
 ghost use Rattle.std.specs.List.{All};
-ghost use Rattle.mcf_instance.specs.Network.{node_count};
-ghost use Rattle.mcf_instance.specs.WellFormed.{IsUpTo};
+ghost use Rattle.mcf_flows.specs.Network.{node_count};
+ghost use Rattle.mcf_flows.specs.WellFormed.{IsUpTo};
 ghost use Rattle.mcf_engine.specs.NearPrices.{near_limit};
 ghost use Rattle.mcf_engine.specs.Outcomes.{AreStatePrices, IsLeastState, IsOutcome};
 

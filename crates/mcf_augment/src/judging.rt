@@ -1,9 +1,9 @@
 //! The judge of what the search found: whether it is a flow without surplus that its prices show.
 ghost use Rattle.std.specs.Prelude.{◌≡◌, ◌+ℤ◌, ◌-ℤ◌, ◌<ℤ◌, ◌≤ℤ◌, length, pos, true};
 ghost use Rattle.std.specs.List.{All};
-ghost use Rattle.mcf_instance.specs.Flow.{IsComplementary, Shows, reduced_cost};
-ghost use Rattle.mcf_instance.specs.Network.{IsArcNumber, IsNode, at_node, node_count};
-ghost use Rattle.mcf_instance.specs.WellFormed.{IsUpTo};
+ghost use Rattle.mcf_flows.specs.Flow.{IsComplementary, Shows, reduced_cost};
+ghost use Rattle.mcf_flows.specs.Network.{IsArcNumber, IsNode, at_node, node_count};
+ghost use Rattle.mcf_flows.specs.WellFormed.{IsUpTo};
 ghost use Rattle.mcf_network.specs.Residual.{arc_at};
 ghost use Rattle.mcf_network.specs.States.{HasNoSurplus, IsPseudoflow, amount_at, surplus_at};
 ghost use Rattle.mcf_engine.specs.NearPrices.{AreNearPrices, near_limit};

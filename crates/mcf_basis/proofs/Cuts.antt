@@ -9,17 +9,17 @@ use Rattle.std.proofs.lemmas.Int.{ints}
 use Rattle.std.proofs.lemmas.List.{get_or-drop, get_or-map, get_or-set_other, length-drop, length-map}
 use Rattle.std.proofs.lemmas.List.FromFn.{length-map-range_with_len}
 use Rattle.std.proofs.lemmas.List.Sums.{sum_by-set}
-use Rattle.mcf_instance.specs.declared.arc.Arc.{Arc}
-use Rattle.mcf_instance.specs.declared.problem.Side.TheVariants.{Send}
-use Rattle.mcf_instance.specs.Blocking.{Blocks, cap_leaving, enters, leaves, low_entering, supply_in}
-use Rattle.mcf_instance.specs.Flow.{inflow, net, outflow}
-use Rattle.mcf_instance.specs.Network.{Network, IsArcNumber, IsNode, at_node, flow_sum, node_count, node_sum, when}
-use Rattle.mcf_instance.specs.WellFormed.{HasEnds, IsUpTo, weight}
-use Rattle.mcf_instance.proofs.AllZips.{AllZip_from}
-use Rattle.mcf_instance.proofs.ArcSums.{arc_sum-same, arc_sum-zero, flow_sum-arc_sum, flow_sum-same_at, flow_sum-zero}
-use Rattle.mcf_instance.proofs.Bounds.{up_to_size, weight-le-sum}
-use Rattle.mcf_instance.proofs.Hoffman.{nets_across}
-use Rattle.mcf_instance.proofs.NodeSums.{nets_cancel, node_sum-add, node_sum-same, node_sum-sub, node_sum_above_zero}
+use Rattle.mcf_flows.specs.declared.arc.Arc.{Arc}
+use Rattle.mcf_flows.specs.declared.problem.Side.TheVariants.{Send}
+use Rattle.mcf_flows.specs.Blocking.{Blocks, cap_leaving, enters, leaves, low_entering, supply_in}
+use Rattle.mcf_flows.specs.Flow.{inflow, net, outflow}
+use Rattle.mcf_flows.specs.Network.{Network, IsArcNumber, IsNode, at_node, flow_sum, node_count, node_sum, when}
+use Rattle.mcf_flows.specs.WellFormed.{HasEnds, IsUpTo, weight}
+use Rattle.mcf_flows.proofs.AllZips.{AllZip_from}
+use Rattle.mcf_flows.proofs.ArcSums.{arc_sum-same, arc_sum-zero, flow_sum-arc_sum, flow_sum-same_at, flow_sum-zero}
+use Rattle.mcf_flows.proofs.Bounds.{up_to_size, weight-le-sum}
+use Rattle.mcf_flows.proofs.Hoffman.{nets_across}
+use Rattle.mcf_flows.proofs.NodeSums.{nets_cancel, node_sum-add, node_sum-same, node_sum-sub, node_sum_above_zero}
 use Rattle.mcf_links.specs.Rooted.{climb}
 use Rattle.mcf_links.proofs.Depths.{climb_apart}
 use Rattle.mcf_links.proofs.Paths.{above_root, climb-add, climb-suc, climb-within, depth-climb, root_from_depth}

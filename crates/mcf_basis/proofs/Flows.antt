@@ -4,10 +4,10 @@ use Rattle.std.proofs.Common.{◌+ℤ◌}
 use Rattle.std.specs.List.{range_with_len}
 use Rattle.std.proofs.lemmas.Int.{ints}
 use Rattle.std.proofs.lemmas.List.{get_or-take, get_or-drop, take-append-drop, length-take-le, length-drop}
-use Rattle.mcf_instance.specs.declared.arc.Arc.{Arc}
-use Rattle.mcf_instance.specs.Flow.{net, outflow, inflow}
-use Rattle.mcf_instance.specs.Network.{Network, IsArcNumber, flow_sum, node_count, when}
-use Rattle.mcf_instance.proofs.ArcSums.{flow_sum-append}
+use Rattle.mcf_flows.specs.declared.arc.Arc.{Arc}
+use Rattle.mcf_flows.specs.Flow.{net, outflow, inflow}
+use Rattle.mcf_flows.specs.Network.{Network, IsArcNumber, flow_sum, node_count, when}
+use Rattle.mcf_flows.proofs.ArcSums.{flow_sum-append}
 use Rattle.mcf_network.proofs.StateLaws.{when-zero}
 use Rattle.mcf_basis.specs.Artificial.{artificial_arc, with_artificial}
 use Rattle.mcf_basis.specs.Bases.{IsBasis}

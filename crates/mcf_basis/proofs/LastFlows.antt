@@ -6,15 +6,15 @@ use Rattle.std.specs.List.{All}
 use Rattle.std.proofs.Math.Nat.{le-max_right}
 use Rattle.std.proofs.lemmas.Int.{ints}
 use Rattle.std.proofs.lemmas.List.Elements.{All-head, All-tail}
-use Rattle.mcf_instance.specs.declared.arc.Arc.{Arc}
-use Rattle.mcf_instance.specs.Flow.{CanCarry, IsComplementary, IsFeasible, IsWithinBounds, cost, net, reduced_cost}
-use Rattle.mcf_instance.specs.Network.{IsNode, at_node, flow_sum, node_count, node_sum}
-use Rattle.mcf_instance.specs.WellFormed.{HasEnds, IsUpTo, weight}
-use Rattle.mcf_instance.proofs.ArcSums.{flow_sum-le_two, flow_sum-same, flow_sum-sub}
-use Rattle.mcf_instance.proofs.Bounds.{mul_up_to, sum-weights, up_to_size}
-use Rattle.mcf_instance.proofs.Duality.{reduced_total}
-use Rattle.mcf_instance.proofs.IntLaws.{mul-anti, mul-mono, mul-neg, mul-one, mul-sub, neg-mul, sub-mul}
-use Rattle.mcf_instance.proofs.NodeSums.{node_sum-mul, node_sum-net, node_sum-same, node_sum-sub, node_sum_above_zero}
+use Rattle.mcf_flows.specs.declared.arc.Arc.{Arc}
+use Rattle.mcf_flows.specs.Flow.{CanCarry, IsComplementary, IsFeasible, IsWithinBounds, cost, net, reduced_cost}
+use Rattle.mcf_flows.specs.Network.{IsNode, at_node, flow_sum, node_count, node_sum}
+use Rattle.mcf_flows.specs.WellFormed.{HasEnds, IsUpTo, weight}
+use Rattle.mcf_flows.proofs.ArcSums.{flow_sum-le_two, flow_sum-same, flow_sum-sub}
+use Rattle.mcf_flows.proofs.Bounds.{mul_up_to, sum-weights, up_to_size}
+use Rattle.mcf_flows.proofs.Duality.{reduced_total}
+use Rattle.mcf_flows.proofs.IntLaws.{mul-anti, mul-mono, mul-neg, mul-one, mul-sub, neg-mul, sub-mul}
+use Rattle.mcf_flows.proofs.NodeSums.{node_sum-mul, node_sum-net, node_sum-same, node_sum-sub, node_sum_above_zero}
 use Rattle.mcf_network.specs.Nets.{IsNetArc}
 use Rattle.mcf_basis.specs.Artificial.{artificial_cost}
 use Rattle.mcf_basis.specs.Bases.{IsBasis}

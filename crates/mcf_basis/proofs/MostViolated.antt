@@ -1,7 +1,7 @@
 -- The most violated arc is that of the first least offer.
 use Rattle.std.proofs.Common.{◌≡◌, ℕ, ◌+◌, ◌-◌, ◌≤◌, None, length, get_or, arith, subst, pos, neg_ℤ, ◌<ℤ◌}
 use Rattle.std.proofs.lemmas.Int.{ints}
-use Rattle.mcf_instance.specs.Network.{IsArcNumber, node_count}
+use Rattle.mcf_flows.specs.Network.{IsArcNumber, node_count}
 use Rattle.mcf_basis.specs.Pivots.{IsEligible}
 use Rattle.mcf_basis.specs.Private.Layouts.{Layout, IsLaidOut, basis_in, no_offer, offer_at}
 use Rattle.mcf_basis.specs.Private.Offered.{CanCompare, HasPricedEnds, IsFirstLeast, IsLeastOffer, reduced_of}

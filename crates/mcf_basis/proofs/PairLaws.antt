@@ -5,10 +5,10 @@ use Rattle.std.specs.Prelude.{int_lt}
 use Rattle.std.proofs.Math.IntN.{◌*ℤ◌, *ℤ_comm}
 use Rattle.std.proofs.lemmas.Bool.{cases_Bool, cases_eq, both_ways}
 use Rattle.std.proofs.lemmas.Int.{ints}
-use Rattle.mcf_instance.specs.Flow.{cost}
-use Rattle.mcf_instance.specs.Network.{Network, IsNode, node_count, node_sum, when}
-use Rattle.mcf_instance.proofs.IntLaws.{mul_below_zero, zero-mul}
-use Rattle.mcf_instance.proofs.NodeSums.{node_sum-sub, node_sum_above_zero}
+use Rattle.mcf_flows.specs.Flow.{cost}
+use Rattle.mcf_flows.specs.Network.{Network, IsNode, node_count, node_sum, when}
+use Rattle.mcf_flows.proofs.IntLaws.{mul_below_zero, zero-mul}
+use Rattle.mcf_flows.proofs.NodeSums.{node_sum-sub, node_sum_above_zero}
 use Rattle.mcf_network.specs.declared.rid.Rid.{Rid}
 use Rattle.mcf_network.specs.Residual.{head, tail, unit_cost}
 use Rattle.mcf_links.specs.Rooted.{climb}

@@ -1,6 +1,6 @@
 -- A pivot keeps a basis a basis.
 use Rattle.std.proofs.Common.{◌≡◌, length, List, refl, sym, ap, ◌∙◌, subst, ℕ, ℤ}
-use Rattle.mcf_instance.specs.Network.{Network}
+use Rattle.mcf_flows.specs.Network.{Network}
 use Rattle.mcf_network.specs.Nets.{IsNet}
 use Rattle.mcf_network.specs.States.{Pseudoflow, HasNoSurplus}
 use Rattle.mcf_network.specs.Walks.{pushed_along}

@@ -7,7 +7,7 @@ use Rattle.std.proofs.lemmas.Bool.{cases_eq, cond-true, cond-false, eq-eqb, ne_e
 use Rattle.std.proofs.lemmas.Int.{ints}
 use Rattle.std.proofs.lemmas.List.{length-set}
 use Rattle.std.proofs.lemmas.List.Elements.{All-append, All-cons, All-head, All-nil, All-push, All-tail, All-weaker}
-use Rattle.mcf_instance.specs.Network.{Network, IsNode, node_count, when}
+use Rattle.mcf_flows.specs.Network.{Network, IsNode, node_count, when}
 use Rattle.mcf_links.specs.Rooted.{climb, IsRooted}
 use Rattle.mcf_links.proofs.Paths.{above_root, climb-within, depth-climb}
 use Rattle.mcf_network.specs.declared.rid.Rid.{Rid}

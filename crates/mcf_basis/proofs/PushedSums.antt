@@ -7,11 +7,11 @@ use Rattle.std.proofs.Math.IntN.{◌*ℤ◌, *ℤ_comm}
 use Rattle.std.proofs.lemmas.Bool.{cases_eq, eq-eqb, ne_eqb, lt-ltb}
 use Rattle.std.proofs.lemmas.Int.{ints}
 use Rattle.std.proofs.lemmas.List.Elements.{All-head, All-tail}
-use Rattle.mcf_instance.specs.Flow.{cost, net}
-use Rattle.mcf_instance.specs.Network.{Network, IsArcNumber, IsNode, node_count, when}
-use Rattle.mcf_instance.proofs.ArcSums.{flow_sum-set}
-use Rattle.mcf_instance.proofs.IntLaws.{mul-add, mul-sub, neg-mul, add-mul, zero-mul}
-use Rattle.mcf_instance.proofs.NodeSums.{when-neg}
+use Rattle.mcf_flows.specs.Flow.{cost, net}
+use Rattle.mcf_flows.specs.Network.{Network, IsArcNumber, IsNode, node_count, when}
+use Rattle.mcf_flows.proofs.ArcSums.{flow_sum-set}
+use Rattle.mcf_flows.proofs.IntLaws.{mul-add, mul-sub, neg-mul, add-mul, zero-mul}
+use Rattle.mcf_flows.proofs.NodeSums.{when-neg}
 use Rattle.mcf_links.specs.Rooted.{climb}
 use Rattle.mcf_links.proofs.Paths.{above_root}
 use Rattle.mcf_network.specs.declared.rid.Rid.{Rid}

@@ -6,12 +6,12 @@ use Rattle.std.specs.List.{range_with_len}
 use Rattle.std.proofs.lemmas.Int.{ints}
 use Rattle.std.proofs.lemmas.List.{get_or-drop}
 use Rattle.std.proofs.lemmas.List.FromFn.{get_or-map-range_with_len, length-map-range_with_len}
-use Rattle.mcf_instance.specs.declared.arc.Arc.{Arc}
-use Rattle.mcf_instance.specs.Flow.{cost}
-use Rattle.mcf_instance.specs.Network.{IsNode, flow_sum, node_count}
-use Rattle.mcf_instance.specs.WellFormed.{IsUpTo, weight}
-use Rattle.mcf_instance.proofs.Bounds.{cost_up_to}
-use Rattle.mcf_instance.proofs.IntLaws.{mul-mono_left, mul_at_least_zero, neg-mul}
+use Rattle.mcf_flows.specs.declared.arc.Arc.{Arc}
+use Rattle.mcf_flows.specs.Flow.{cost}
+use Rattle.mcf_flows.specs.Network.{IsNode, flow_sum, node_count}
+use Rattle.mcf_flows.specs.WellFormed.{IsUpTo, weight}
+use Rattle.mcf_flows.proofs.Bounds.{cost_up_to}
+use Rattle.mcf_flows.proofs.IntLaws.{mul-mono_left, mul_at_least_zero, neg-mul}
 use Rattle.mcf_network.specs.Residual.{no_arc}
 use Rattle.mcf_basis.specs.Artificial.{artificial_arc, artificial_cost}
 use Rattle.mcf_basis.specs.Bases.{IsBasis}

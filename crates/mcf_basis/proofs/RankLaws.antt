@@ -1,10 +1,10 @@
 -- The pair of the cost and the sum of the prices as one number.
 use Rattle.std.proofs.Common.{◌≡◌, ℕ, ◌+◌, ◌*◌, inl, inr, sym, ap, ◌∙◌, arith, subst, ℤ, pos, ◌+ℤ◌, ◌-ℤ◌, ◌*ℤ◌, ◌<ℤ◌, ◌≤ℤ◌}
 use Rattle.std.proofs.lemmas.Int.{ints}
-use Rattle.mcf_instance.specs.Network.{Network, node_count}
-use Rattle.mcf_instance.specs.WellFormed.{IsUpTo}
-use Rattle.mcf_instance.proofs.Bounds.{node_sum_up_to}
-use Rattle.mcf_instance.proofs.IntLaws.{add-mul, mul-add, mul-mono_left, mul-one, one-mul, sub-mul}
+use Rattle.mcf_flows.specs.Network.{Network, node_count}
+use Rattle.mcf_flows.specs.WellFormed.{IsUpTo}
+use Rattle.mcf_flows.proofs.Bounds.{node_sum_up_to}
+use Rattle.mcf_flows.proofs.IntLaws.{add-mul, mul-add, mul-mono_left, mul-one, one-mul, sub-mul}
 use Rattle.mcf_basis.specs.Bases.{IsBasis, IsFullFlow}
 use Rattle.mcf_basis.specs.Laws.{RanksBoundPivots, RanksFall}
 use Rattle.mcf_basis.specs.Pivots.{PairFalls, full_cost, price_sum}

@@ -8,11 +8,11 @@ use Rattle.std.proofs.lemmas.Bool.{cases_Bool, cases_lt, cond-true, cond-false, 
 use Rattle.std.proofs.lemmas.List.{ext_get_or, get_or_append_left, get_or-append-add, get_or-replicate, length-replicate}
 use Rattle.std.proofs.lemmas.List.FromFn.{get_or-map-range_with_len, length-map-range_with_len, map-range_with_len_more}
 use Rattle.std.proofs.lemmas.Nat.{mul-le}
-use Rattle.mcf_instance.specs.declared.arc.Arc.{Arc}
-use Rattle.mcf_instance.specs.Network.{Network, IsArcNumber, IsNode, at_node, node_count}
-use Rattle.mcf_instance.specs.WellFormed.{weight}
-use Rattle.mcf_instance.proofs.Bounds.{size_up_to, sum-weights}
-use Rattle.mcf_instance.specs.Limits.{limits}
+use Rattle.mcf_flows.specs.declared.arc.Arc.{Arc}
+use Rattle.mcf_flows.specs.Network.{Network, IsArcNumber, IsNode, at_node, node_count}
+use Rattle.mcf_flows.specs.WellFormed.{weight}
+use Rattle.mcf_flows.proofs.Bounds.{size_up_to, sum-weights}
+use Rattle.mcf_flows.specs.Limits.{limits}
 use Rattle.mcf_network.specs.Nets.{IsNet, IsNetArc, width_limit}
 use Rattle.mcf_network.specs.Residual.{arc_at}
 use Rattle.mcf_network.proofs.ArcLaws.{net_arc_at}

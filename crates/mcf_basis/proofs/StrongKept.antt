@@ -5,7 +5,7 @@ use Rattle.std.specs.Prelude.{nat_le, slice_index, slice_index_or, int_lt, if◌
 use Rattle.std.proofs.lemmas.Bool.{and_from, and_parts, cases_Bool, cases_eq, cases_lt, eq-eqb, eqb-true, le-leb, leb-true, ne_eqb, true≢false}
 use Rattle.std.proofs.lemmas.Int.{ints}
 use Rattle.std.proofs.lemmas.List.{get_or_past}
-use Rattle.mcf_instance.specs.Network.{Network, IsNode, node_count}
+use Rattle.mcf_flows.specs.Network.{Network, IsNode, node_count}
 use Rattle.mcf_links.specs.Rooted.{climb, IsOnPath, IsRelabelled, IsTurned}
 use Rattle.mcf_links.proofs.Paths.{above_root, climb-within, depth-climb}
 use Rattle.mcf_network.specs.declared.rid.Rid.{Rid}

@@ -6,11 +6,11 @@ use Rattle.std.specs.List.{All}
 use Rattle.std.proofs.lemmas.Int.{ints}
 use Rattle.std.proofs.Math.Nat.{mul-le-mul, mul-le-mul_left}
 use Rattle.std.proofs.lemmas.Bool.{cases_eq}
-use Rattle.mcf_instance.specs.declared.arc.Arc.{Arc}
-use Rattle.mcf_instance.specs.Limits.{limits, node_limit}
-use Rattle.mcf_instance.specs.Network.{Network, IsArcNumber, node_count}
-use Rattle.mcf_instance.specs.WellFormed.{IsUpTo, weight}
-use Rattle.mcf_instance.proofs.Bounds.{size_up_to, up_to_size}
+use Rattle.mcf_flows.specs.declared.arc.Arc.{Arc}
+use Rattle.mcf_flows.specs.Limits.{limits, node_limit}
+use Rattle.mcf_flows.specs.Network.{Network, IsArcNumber, node_count}
+use Rattle.mcf_flows.specs.WellFormed.{IsUpTo, weight}
+use Rattle.mcf_flows.proofs.Bounds.{size_up_to, up_to_size}
 use Rattle.mcf_network.specs.Nets.{IsNet, IsNetArc, net_total_limit}
 use Rattle.mcf_network.specs.Residual.{no_arc, arc_at}
 use Rattle.mcf_tree.specs.SpanningTree.{depth_of, label_of, parent_of, size_of}

@@ -4,9 +4,9 @@
 -- Source: AMO 11.5
 use Rattle.std.specs.Prelude.{ℕ, ◌+◌, ◌++◌, Bool, map, sum, pos, int_le, if◌then◌else◌}
 use Rattle.std.specs.List.{range_with_len}
-use Rattle.mcf_instance.specs.declared.arc.Arc.{Arc}
-use Rattle.mcf_instance.specs.Network.{Network, IsArcNumber, at_node, node_count}
-use Rattle.mcf_instance.specs.WellFormed.{weight}
+use Rattle.mcf_flows.specs.declared.arc.Arc.{Arc}
+use Rattle.mcf_flows.specs.Network.{Network, IsArcNumber, at_node, node_count}
+use Rattle.mcf_flows.specs.WellFormed.{weight}
 
 -- the cost of an artificial arc: one more than all arcs of the net together can cost or earn, so that one artificial unit is dearer than all that they can save
 abbrev pub artificial_cost : Network → ℕ

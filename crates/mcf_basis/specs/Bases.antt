@@ -2,7 +2,7 @@
 -- Source: AMO 11.2, 11.6
 use Rattle.std.specs.Prelude.{◌≡◌, ℕ, ◌+◌, ◌≤◌, ◌⊎◌, length, ℤ, pos, ◌≤ℤ◌}
 use Rattle.std.specs.List.{All}
-use Rattle.mcf_instance.specs.Network.{Network, IsNode, node_count}
+use Rattle.mcf_flows.specs.Network.{Network, IsNode, node_count}
 use Rattle.mcf_network.specs.Nets.{IsNet}
 use Rattle.mcf_network.specs.Residual.{arc_at}
 use Rattle.mcf_network.specs.States.{Pseudoflow, HasNoSurplus, amount_at}

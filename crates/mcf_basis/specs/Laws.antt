@@ -1,8 +1,8 @@
 -- Laws of bases.
 -- Source: AMO 11
 use Rattle.std.specs.Prelude.{◌≡◌, ℕ, ◌+◌, ◌<◌, List, drop, length, ℤ, pos, ◌+ℤ◌, ◌-ℤ◌, ◌≤ℤ◌, ◌<ℤ◌}
-use Rattle.mcf_instance.specs.Flow.{IsFeasible, Shows}
-use Rattle.mcf_instance.specs.Network.{IsNode, node_count}
+use Rattle.mcf_flows.specs.Flow.{IsFeasible, Shows}
+use Rattle.mcf_flows.specs.Network.{IsNode, node_count}
 use Rattle.mcf_basis.specs.Bases.{IsBasis}
 use Rattle.mcf_basis.specs.Pivots.{IsPivot, PairFalls}
 use Rattle.mcf_basis.specs.Ranks.{IsFloor, pivot_bound, rank_above, rank_of}

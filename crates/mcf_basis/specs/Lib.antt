@@ -1,5 +1,5 @@
-pub use Rattle.mcf_instance.specs.Flow
-pub use Rattle.mcf_instance.specs.Network
+pub use Rattle.mcf_flows.specs.Flow
+pub use Rattle.mcf_flows.specs.Network
 pub use Rattle.mcf_network.specs.Nets
 pub use Rattle.mcf_network.specs.Residual
 pub use Rattle.mcf_network.specs.States

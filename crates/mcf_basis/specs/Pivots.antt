@@ -3,8 +3,8 @@
 -- Source: AMO 11.5, 11.6
 use Rattle.std.specs.Prelude.{◌≡◌, ℕ, ◌+◌, ◌≤◌, ◌⊎◌, List, ◌∷◌, ◌++◌, length, ℤ, pos, ◌+ℤ◌, ◌<ℤ◌, int_lt}
 use Rattle.std.specs.List.{All}
-use Rattle.mcf_instance.specs.Flow.{cost}
-use Rattle.mcf_instance.specs.Network.{IsArcNumber, IsNode, node_count, node_sum, when}
+use Rattle.mcf_flows.specs.Flow.{cost}
+use Rattle.mcf_flows.specs.Network.{IsArcNumber, IsNode, node_count, node_sum, when}
 use Rattle.mcf_network.specs.declared.rid.Rid.{Rid}
 use Rattle.mcf_network.specs.Residual.{arc_at, head, tail}
 use Rattle.mcf_network.specs.Walks.{pushed_along}

@@ -1,9 +1,9 @@
 -- How many pivots there can be: the pair of the cost and the sum of the prices as one number, and its bounds.
 -- Source: AMO 11.6, constants own
 use Rattle.std.specs.Prelude.{ℕ, ◌+◌, ◌*◌, max, List, [], ◌∷◌, ℤ, pos, ◌+ℤ◌, ◌-ℤ◌, ◌*ℤ◌, ◌≤ℤ◌, unsigned_abs}
-use Rattle.mcf_instance.specs.declared.arc.Arc.{Arc}
-use Rattle.mcf_instance.specs.Flow.{cost}
-use Rattle.mcf_instance.specs.Network.{Network, node_count}
+use Rattle.mcf_flows.specs.declared.arc.Arc.{Arc}
+use Rattle.mcf_flows.specs.Flow.{cost}
+use Rattle.mcf_flows.specs.Network.{Network, node_count}
 use Rattle.mcf_network.specs.States.{Pseudoflow}
 use Rattle.mcf_basis.specs.Artificial.{artificial_cost}
 use Rattle.mcf_basis.specs.Bases.{IsFullFlow}

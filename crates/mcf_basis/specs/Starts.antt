@@ -2,7 +2,7 @@
 -- Source: AMO 11.5
 use Rattle.std.specs.Prelude.{◌≡◌, ℕ, ◌++◌, ◌∷◌, List, length, map, replicate, ℤ, pos, neg_ℤ, unsigned_abs, if◌then◌else◌}
 use Rattle.std.specs.List.{range_with_len}
-use Rattle.mcf_instance.specs.Network.{Network, at_node, node_count}
+use Rattle.mcf_flows.specs.Network.{Network, at_node, node_count}
 use Rattle.mcf_tree.specs.SpanningTree.{IsStar}
 use Rattle.mcf_basis.specs.Artificial.{artificial_cost, is_sender}
 use Rattle.mcf_basis.specs.Bases.{IsBasis}

@@ -1,7 +1,7 @@
 //! Bases.
 ghost use Rattle.std.specs.Prelude.{◌≡◌, ◌+◌, ◌*◌, ◌^◌, ◌≤◌, ◌<ℤ◌, IsTrue, length, neg_ℤ, pos, ◌↔◌};
-ghost use Rattle.mcf_instance.specs.Network.{IsArcNumber, IsNode, node_count};
-ghost use Rattle.mcf_instance.specs.WellFormed.{IsUpTo};
+ghost use Rattle.mcf_flows.specs.Network.{IsArcNumber, IsNode, node_count};
+ghost use Rattle.mcf_flows.specs.WellFormed.{IsUpTo};
 ghost use Rattle.mcf_basis.specs.Bases.{IsBasis};
 ghost use Rattle.mcf_basis.specs.Pivots.{IsEligible};
 ghost use Rattle.mcf_basis.specs.Structures.{price_at, reduced_at, price_limit, reduced_limit};

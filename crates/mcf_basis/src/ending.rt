@@ -2,10 +2,10 @@
 ghost use Rattle.std.specs.Prelude.{◌≡◌, ◌≢◌, ℕ, ◌+◌, ◌-◌, ◌*◌, ◌^◌, ◌<◌, ◌≤◌, ◌==◌, ◌↔◌, Bool, IsTrue, drop, if◌then◌else◌, int_lt, length, pos};
 ghost use Rattle.std.specs.Prelude.{slice_index_or, slice_set, true, ◌≤ℤ◌};
 ghost use Rattle.std.specs.List.{All};
-ghost use Rattle.mcf_instance.specs.Blocking.{Blocks, in_table, supply_in};
-ghost use Rattle.mcf_instance.specs.declared.problem.Side.TheVariants.{Send};
-ghost use Rattle.mcf_instance.specs.Network.{IsArcNumber, IsNode, node_count};
-ghost use Rattle.mcf_instance.specs.WellFormed.{IsUpTo};
+ghost use Rattle.mcf_flows.specs.Blocking.{Blocks, in_table, supply_in};
+ghost use Rattle.mcf_flows.specs.declared.problem.Side.TheVariants.{Send};
+ghost use Rattle.mcf_flows.specs.Network.{IsArcNumber, IsNode, node_count};
+ghost use Rattle.mcf_flows.specs.WellFormed.{IsUpTo};
 ghost use Rattle.mcf_network.specs.NodeSets.{with_node};
 ghost use Rattle.mcf_network.specs.Residual.{arc_at};
 ghost use Rattle.mcf_network.specs.States.{IsPseudoflow, amount_at};

@@ -1,8 +1,8 @@
 //! One pivot of the network simplex.
 ghost use Rattle.std.specs.Prelude.{◌≡◌, ℕ, ◌-◌, ◌<◌, ◌≤◌, ◌<ℤ◌, ◌+ℤ◌, ◌-ℤ◌, ℤ, length, pos, unsigned_abs};
-ghost use Rattle.mcf_instance.specs.Limits.{limits};
-ghost use Rattle.mcf_instance.specs.Network.{IsArcNumber};
-ghost use Rattle.mcf_instance.specs.WellFormed.{IsUpTo};
+ghost use Rattle.mcf_flows.specs.Limits.{limits};
+ghost use Rattle.mcf_flows.specs.Network.{IsArcNumber};
+ghost use Rattle.mcf_flows.specs.WellFormed.{IsUpTo};
 ghost use Rattle.mcf_network.specs.Residual.{arc_at};
 ghost use Rattle.mcf_tree.specs.SpanningTree.{size_of};
 ghost use Rattle.mcf_basis.specs.declared.pivot.Step.TheVariants.{Moved, Still};

@@ -1,7 +1,7 @@
 //! Raises prices that show a state to the greatest such prices.
 ghost use Rattle.std.specs.Prelude.{◌≡◌};
-ghost use Rattle.mcf_instance.specs.Flow.{AreGreatestPrices};
-ghost use Rattle.mcf_instance.specs.Network.{node_count};
+ghost use Rattle.mcf_flows.specs.Flow.{AreGreatestPrices};
+ghost use Rattle.mcf_flows.specs.Network.{node_count};
 
 use crate::recovering::total;
 use crate::tell_time;

@@ -1,6 +1,6 @@
 //! Recovers prices from the state of an answer, or raises such prices.
 ghost use Rattle.std.specs.Prelude.{◌≡◌};
-ghost use Rattle.mcf_instance.specs.Network.{IsArcNumber};
+ghost use Rattle.mcf_flows.specs.Network.{IsArcNumber};
 
 use crate::reading::net_of;
 use crate::{raising, tell_time};

@@ -11,12 +11,12 @@ use Rattle.mcf_c.specs.Judged.{answer_along, claimed_cost, sent_along, sent_by}
 use Rattle.mcf_c.specs.Verdicts.{number}
 use Rattle.mcf_c.specs.declared.verdicts.McfVerdict.{McfVerdict}
 use Rattle.mcf_checker.specs.Correct.{IsRightFlow, IsRightSolution, amounts, sent_ends}
-use Rattle.mcf_instance.specs.Limits.{limits, node_limit, total_limit}
-use Rattle.mcf_instance.specs.Flow.{IsFeasible, cost}
-use Rattle.mcf_instance.specs.Network.{Network, node_count}
-use Rattle.mcf_instance.specs.WellFormed.{HasEnds, IsUpTo, IsWellFormed}
-use Rattle.mcf_instance.specs.declared.arc.Arc.{Arc}
-use Rattle.mcf_instance.proofs.Bounds.{cost_up_to}
+use Rattle.mcf_flows.specs.Limits.{limits, node_limit, total_limit}
+use Rattle.mcf_flows.specs.Flow.{IsFeasible, cost}
+use Rattle.mcf_flows.specs.Network.{Network, node_count}
+use Rattle.mcf_flows.specs.WellFormed.{HasEnds, IsUpTo, IsWellFormed}
+use Rattle.mcf_flows.specs.declared.arc.Arc.{Arc}
+use Rattle.mcf_flows.proofs.Bounds.{cost_up_to}
 
 -- an arc of an instance has ends
 pub ends_of : (g : Network) (place : ℕ) (a : Arc) → IsWellFormed limits g → slice_get g.arcs place ≡ Some a → HasEnds node_limit a × (1 ≤ node_count g)

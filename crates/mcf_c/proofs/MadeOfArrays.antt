@@ -2,8 +2,8 @@
 use Rattle.std.proofs.Common.{◌≡◌, ◌≤◌, ℕ, Bool, true, subst, arith, inl, inr, Ok, Err, Some, None}
 use Rattle.std.specs.Prelude.{◌⊎◌, IfOk, Option, Result, is_ok}
 use Rattle.mcf_instance.specs.Arrays.{array_fault, made_of_arrays, made_unless}
-use Rattle.mcf_instance.specs.Limits.{limits}
-use Rattle.mcf_instance.specs.Network.{Network}
+use Rattle.mcf_flows.specs.Limits.{limits}
+use Rattle.mcf_flows.specs.Network.{Network}
 use Rattle.mcf_instance.specs.declared.arrays.ArrayFault.{ArrayFault}
 
 -- a fact of the instance that was made is one of the network

@@ -5,11 +5,11 @@ use Rattle.std.specs.List.{All}
 use Rattle.std.specs.Ordering.{int_eq}
 use Rattle.std.proofs.lemmas.List.{get_or-map}
 use Rattle.mcf_c.specs.Handing.{mark_of, marked}
-use Rattle.mcf_instance.specs.Blocking.{Blocks, in_list, in_table}
-use Rattle.mcf_instance.specs.Network.{IsNode, Network, node_count}
-use Rattle.mcf_instance.specs.WellFormed.{HasEnds}
-use Rattle.mcf_instance.specs.declared.problem.Side.{Side}
-use Rattle.mcf_instance.proofs.SameSets.{Blocks-same}
+use Rattle.mcf_flows.specs.Blocking.{Blocks, in_list, in_table}
+use Rattle.mcf_flows.specs.Network.{IsNode, Network, node_count}
+use Rattle.mcf_flows.specs.WellFormed.{HasEnds}
+use Rattle.mcf_flows.specs.declared.problem.Side.{Side}
+use Rattle.mcf_flows.proofs.SameSets.{Blocks-same}
 
 mark_says : (b : Bool) → int_eq (mark_of b) (pos 1) ≡ b
 mark_says true = refl

@@ -10,13 +10,13 @@ use Rattle.mcf_c.specs.declared.verdicts.McfVerdict.{McfVerdict}
 use Rattle.mcf_checker.specs.Correct.{IsRightFlow, amounts}
 use Rattle.mcf_checker.specs.declared.verdict.Verdict.TheVariants.{Flow}
 use Rattle.mcf_instance.specs.Arrays.{array_fault}
-use Rattle.mcf_instance.specs.Blocking.{Blocks}
-use Rattle.mcf_instance.specs.Flow.{IsFeasible}
-use Rattle.mcf_instance.specs.Limits.{limits}
-use Rattle.mcf_instance.specs.Network.{Network, at_node, node_count}
+use Rattle.mcf_flows.specs.Blocking.{Blocks}
+use Rattle.mcf_flows.specs.Flow.{IsFeasible}
+use Rattle.mcf_flows.specs.Limits.{limits}
+use Rattle.mcf_flows.specs.Network.{Network, at_node, node_count}
 use Rattle.mcf_instance.specs.declared.arrays.ArrayFault.{ArrayFault}
-use Rattle.mcf_instance.specs.declared.problem.Problem.TheVariants.{Min}
-use Rattle.mcf_instance.specs.declared.problem.Side.{Side}
+use Rattle.mcf_flows.specs.declared.problem.Problem.TheVariants.{Min}
+use Rattle.mcf_flows.specs.declared.problem.Side.{Side}
 use Rattle.mcf_solver.specs.Answering.{IsLeastFlow, IsLeastSolution}
 use Rattle.mcf_solver.specs.Making.{meant, suited}
 use Rattle.mcf_solver.specs.declared.choice.EngineChoice.{EngineChoice}

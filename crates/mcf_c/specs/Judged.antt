@@ -6,8 +6,8 @@ use Rattle.mcf_answer.specs.Solution.{Solution}
 use Rattle.mcf_answer.specs.declared.answers.Sent.{Sent}
 use Rattle.mcf_c.specs.Verdicts.{number}
 use Rattle.mcf_c.specs.declared.verdicts.McfVerdict.{McfVerdict}
-use Rattle.mcf_instance.specs.Network.{Network}
-use Rattle.mcf_instance.specs.declared.arc.Arc.{Arc}
+use Rattle.mcf_flows.specs.Network.{Network}
+use Rattle.mcf_flows.specs.declared.arc.Arc.{Arc}
 
 -- what an arc carries, with its ends
 abbrev pub sent_by : Arc × ℤ → Sent

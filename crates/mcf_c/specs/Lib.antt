@@ -1,7 +1,7 @@
 pub use Rattle.mcf_checker.specs.Correct
 pub use Rattle.mcf_checker.specs.Judging
 pub use Rattle.mcf_instance.specs.Arrays
-pub use Rattle.mcf_instance.specs.Blocking
+pub use Rattle.mcf_flows.specs.Blocking
 pub use Rattle.mcf_instance.specs.Memory
 pub use Rattle.mcf_solver.specs.Answering
 pub use Rattle.mcf_solver.specs.Making

@@ -3,7 +3,7 @@
 use Rattle.mcf_c.specs.declared.problems.McfAssignment.{McfAssignment}
 use Rattle.mcf_c.specs.declared.problems.McfFlowProblem.{McfFlowProblem}
 use Rattle.mcf_instance.specs.Arrays.{assignment_problem, flow_problem}
-use Rattle.mcf_instance.specs.Network.{Network}
+use Rattle.mcf_flows.specs.Network.{Network}
 
 -- the flow problem of the supplies and arcs
 abbrev pub flow_network : McfFlowProblem → Network

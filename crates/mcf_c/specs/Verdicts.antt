@@ -9,8 +9,8 @@ use Rattle.mcf_instance.specs.declared.arrays.ArrayFault.TheVariants.{Size as Fa
 use Rattle.mcf_instance.specs.declared.code.Code.{Code}
 use Rattle.mcf_instance.specs.declared.code.Code.TheVariants.{Kind, Fields, Problem, Number, SecondP, BeforeP, Size, Node, LateN, Twice, Supply, Bound, Order}
 use Rattle.mcf_instance.specs.declared.code.Code.TheVariants.{Cost, Extra, Side, Total, NoP, Missing}
-use Rattle.mcf_instance.specs.declared.problem.Side.{Side as TheSide}
-use Rattle.mcf_instance.specs.declared.problem.Side.TheVariants.{Send, Take}
+use Rattle.mcf_flows.specs.declared.problem.Side.{Side as TheSide}
+use Rattle.mcf_flows.specs.declared.problem.Side.TheVariants.{Send, Take}
 
 -- the number of a kind of verdict; the first three accept
 abbrev pub kind_number : Verdict → ℕ

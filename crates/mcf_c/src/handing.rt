@@ -5,8 +5,8 @@ ghost use Rattle.std.specs.List.{All};
 ghost use Rattle.mcf_c.specs.Handing.{FitWords, HandsFlow, HandsSet, HasWideNumber, TakesMemory, mark_of, marked};
 ghost use Rattle.mcf_c.specs.Verdicts.{Tells, TellsSet};
 ghost use Rattle.mcf_checker.specs.Correct.{amounts};
-ghost use Rattle.mcf_instance.specs.Blocking.{in_list, in_table};
-ghost use Rattle.mcf_instance.specs.Network.{IsNode, Network, node_count};
+ghost use Rattle.mcf_flows.specs.Blocking.{in_list, in_table};
+ghost use Rattle.mcf_flows.specs.Network.{IsNode, Network, node_count};
 ghost use Rattle.mcf_solver.specs.Answering.{IsNoFlowProof, IsOwed};
 
 use crate::statuses::{BLOCKED, FLOW, NO_MEMORY, WIDE};

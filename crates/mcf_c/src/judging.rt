@@ -9,10 +9,10 @@ ghost use Rattle.mcf_c.specs.Problems.{assignment_network, flow_network};
 ghost use Rattle.mcf_c.specs.Verdicts.{Tells, number};
 ghost use Rattle.mcf_checker.specs.Correct.{IsRightFlow};
 ghost use Rattle.mcf_checker.specs.Judging.{accepts, solution_verdict};
-ghost use Rattle.mcf_instance.specs.Flow.{IsLeast};
-ghost use Rattle.mcf_instance.specs.Limits.{limits, node_limit};
-ghost use Rattle.mcf_instance.specs.Network.{node_count};
-ghost use Rattle.mcf_instance.specs.WellFormed.{HasEnds, IsWellFormed};
+ghost use Rattle.mcf_flows.specs.Flow.{IsLeast};
+ghost use Rattle.mcf_flows.specs.Limits.{limits, node_limit};
+ghost use Rattle.mcf_flows.specs.Network.{node_count};
+ghost use Rattle.mcf_flows.specs.WellFormed.{HasEnds, IsWellFormed};
 
 use crate::arrays::are_rooms;
 use crate::problems::{McfAssignment, McfFlowProblem, node_count};

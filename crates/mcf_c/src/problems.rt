@@ -1,6 +1,6 @@
 //! Problems in arrays.
 ghost use Rattle.std.specs.Prelude.{◌≡◌, length};
-ghost use Rattle.mcf_instance.specs.Network.{node_count};
+ghost use Rattle.mcf_flows.specs.Network.{node_count};
 ghost use Rattle.mcf_c.specs.Problems.{assignment_network};
 
 use mcf_instance::{RawArc, RawPair};

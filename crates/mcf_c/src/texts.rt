@@ -6,7 +6,7 @@ ghost use Rattle.mcf_c.specs.Choices.{choice_of};
 ghost use Rattle.mcf_c.specs.Verdicts.{Tells, number};
 ghost use Rattle.mcf_checker.specs.Correct.{GivesLeastFlow, HasNoFlow, IsCorrect};
 ghost use Rattle.mcf_checker.specs.Judging.{verdict};
-ghost use Rattle.mcf_instance.specs.Limits.{limits};
+ghost use Rattle.mcf_flows.specs.Limits.{limits};
 ghost use Rattle.mcf_instance.specs.Memory.{NamesNodes};
 ghost use Rattle.mcf_solver.specs.Answering.{HasFault};
 

@@ -7,15 +7,15 @@ use Rattle.std.proofs.lemmas.Bool.{and_parts, and_from, eq-eqb, eqb-true, not_fr
 use Rattle.std.proofs.lemmas.List.{length-map}
 use Rattle.std.proofs.lemmas.Option.{slice_get_past, slice_get_read, slice_get-get_or}
 use Rattle.mcf_answer.specs.declared.answers.Sent.{Sent}
-use Rattle.mcf_instance.proofs.Ranges.{at_most, at_most_passes}
+use Rattle.mcf_flows.proofs.IntLaws.{at_most, at_most_passes}
 use Rattle.mcf_checker.specs.Correct.{amounts, arc_ends, sent_ends}
 use Rattle.mcf_checker.specs.Judging.{arc_agrees, bad_arc}
 use Rattle.mcf_checker.proofs.LeastNumbers.{least_none, least_none-each, least_some}
-use Rattle.mcf_instance.specs.declared.arc.Arc.{Arc}
-use Rattle.mcf_instance.specs.Flow.{CanCarry, IsWithinBounds}
-use Rattle.mcf_instance.specs.Network.{Network}
-use Rattle.mcf_instance.proofs.AllZips.{length-AllZip}
-use Rattle.mcf_instance.proofs.ArcSums.{no_arc}
+use Rattle.mcf_flows.specs.declared.arc.Arc.{Arc}
+use Rattle.mcf_flows.specs.Flow.{CanCarry, IsWithinBounds}
+use Rattle.mcf_flows.specs.Network.{Network}
+use Rattle.mcf_flows.proofs.AllZips.{length-AllZip}
+use Rattle.mcf_flows.proofs.ArcSums.{no_arc}
 
 -- the arc and the flow line at a place, from 0, are both there and agree, or are both missing
 abbrev pub agreement : List Arc → List Sent → ℕ → Bool

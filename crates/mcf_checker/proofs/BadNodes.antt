@@ -7,8 +7,8 @@ use Rattle.std.proofs.lemmas.Bool.{or_left, or_parts, or_right, true≢false}
 use Rattle.std.proofs.lemmas.Bool.Decides.{Decides-int_eq}
 use Rattle.mcf_checker.specs.Judging.{bad_node, least_up_to}
 use Rattle.mcf_checker.proofs.LeastNumbers.{least-same, least_none, least_none-each, least_some}
-use Rattle.mcf_instance.specs.Flow.{net, AreNets}
-use Rattle.mcf_instance.specs.Network.{IsNode, Network, at_node, node_count}
+use Rattle.mcf_flows.specs.Flow.{net, AreNets}
+use Rattle.mcf_flows.specs.Network.{IsNode, Network, at_node, node_count}
 
 -- v is the number of no node or of no price, or the net there isn't the supply
 abbrev pub is_unmet : (ℕ → ℤ) → List ℤ → ℕ → ℕ → Bool

@@ -7,9 +7,9 @@ use Rattle.std.proofs.lemmas.Int.{ints}
 use Rattle.std.proofs.lemmas.Option.{none-some}
 use Rattle.mcf_checker.specs.Judging.{bad_price, is_loose, option_is_loose}
 use Rattle.mcf_checker.proofs.LeastNumbers.{least_none, least_none-each, least_some}
-use Rattle.mcf_instance.specs.declared.arc.Arc.{Arc}
-use Rattle.mcf_instance.specs.Flow.{IsWithinBounds, Shows, reduced_cost}
-use Rattle.mcf_instance.specs.Network.{Network}
+use Rattle.mcf_flows.specs.declared.arc.Arc.{Arc}
+use Rattle.mcf_flows.specs.Flow.{IsWithinBounds, Shows, reduced_cost}
+use Rattle.mcf_flows.specs.Network.{Network}
 
 -- the arc at a place, from 0, is there, and the prices don't show its flow
 abbrev pub looseness : List ℤ → List Arc → List ℤ → ℕ → Bool

@@ -7,13 +7,13 @@ use Rattle.std.proofs.Math.Seq.{take-length}
 use Rattle.std.proofs.lemmas.Bool.{cases_lt}
 use Rattle.std.proofs.lemmas.List.{get_or-replicate, length-replicate}
 use Rattle.std.proofs.lemmas.Option.{get_or_from_slice_get, none-some, slice_get_past, slice_get_within}
-use Rattle.mcf_instance.specs.declared.arc.Arc.{Arc}
-use Rattle.mcf_instance.specs.Flow.{IsWithinBounds, AreNets}
-use Rattle.mcf_instance.specs.Limits.{arc_limit, total_limit, limits}
-use Rattle.mcf_instance.specs.Network.{at_node}
-use Rattle.mcf_instance.specs.WellFormed.{HasEnds, IsArcWithinLimits, weight}
-use Rattle.mcf_instance.proofs.Bounds.{CostStep, cost_step}
-use Rattle.mcf_instance.proofs.NetSteps.{NetStep, NetStepSecond, net_step, net_step_second}
+use Rattle.mcf_flows.specs.declared.arc.Arc.{Arc}
+use Rattle.mcf_flows.specs.Flow.{IsWithinBounds, AreNets}
+use Rattle.mcf_flows.specs.Limits.{arc_limit, total_limit, limits}
+use Rattle.mcf_flows.specs.Network.{at_node}
+use Rattle.mcf_flows.specs.WellFormed.{HasEnds, IsArcWithinLimits, weight}
+use Rattle.mcf_flows.proofs.Bounds.{CostStep, cost_step}
+use Rattle.mcf_flows.proofs.NetSteps.{NetStep, NetStepSecond, net_step, net_step_second}
 
 -- what holds of each arc holds of one that is read
 pub arc_has : (P : Arc → Type 0) (arcs : List Arc) (i : ℕ) (a : Arc) → slice_get arcs i ≡ Some a → All P arcs → P a

@@ -9,10 +9,10 @@ use Rattle.mcf_answer.specs.BlockingSet.{BlockingSet}
 use Rattle.mcf_checker.specs.Correct.{IsRightSet}
 use Rattle.mcf_checker.specs.Judging.{accepts, exceeds, set_verdict}
 use Rattle.mcf_checker.specs.declared.verdict.Verdict.TheVariants.{BadSet, Blocked as SetAccepted}
-use Rattle.mcf_instance.specs.Blocking.{Blocks, can_send, can_take, in_list, must_send, must_take}
-use Rattle.mcf_instance.specs.Network.{Network, node_count}
-use Rattle.mcf_instance.specs.declared.problem.Side.{Side}
-use Rattle.mcf_instance.specs.declared.problem.Side.TheVariants.{Send, Take}
+use Rattle.mcf_flows.specs.Blocking.{Blocks, can_send, can_take, in_list, must_send, must_take}
+use Rattle.mcf_flows.specs.Network.{Network, node_count}
+use Rattle.mcf_flows.specs.declared.problem.Side.{Side}
+use Rattle.mcf_flows.specs.declared.problem.Side.TheVariants.{Send, Take}
 
 int_lt-true : (x y : ℤ) → int_lt x y ≡ true → x <ℤ y
 int_lt-true x y h = grind (arith, ints)

@@ -12,8 +12,8 @@ use Rattle.mcf_checker.specs.declared.verdict.Verdict.TheVariants.{BadArc, BadCo
 use Rattle.mcf_checker.proofs.BadArcs.{AllAgree-from_none, none-from_AllAgree}
 use Rattle.mcf_checker.proofs.BadNodes.{AllMet-from_none, none-from_AllMet}
 use Rattle.mcf_checker.proofs.BadPrices.{Shows-from_none, none-from_Shows}
-use Rattle.mcf_instance.specs.Flow.{IsWithinBounds, cost}
-use Rattle.mcf_instance.specs.Network.{Network}
+use Rattle.mcf_flows.specs.Flow.{IsWithinBounds, cost}
+use Rattle.mcf_flows.specs.Network.{Network}
 
 -- ---- at each case
 

@@ -16,10 +16,10 @@ use Rattle.mcf_checker.specs.declared.verdict.Verdict.TheVariants.{BadArc}
 use Rattle.mcf_checker.proofs.OrderedArcs.{HasOrder}
 use Rattle.mcf_checker.proofs.Solutions.{IsRightFlow-from_accepts, at_right_flow, no_bad_arc}
 use Rattle.mcf_checker.proofs.StatedLines.{find_here, find_nowhere, next_at_start}
-use Rattle.mcf_instance.proofs.Ranges.{at_most, at_most_passes}
-use Rattle.mcf_instance.specs.declared.arc.Arc.{Arc}
-use Rattle.mcf_instance.specs.Flow.{CanCarry, IsWithinBounds}
-use Rattle.mcf_instance.specs.Network.{Network}
+use Rattle.mcf_flows.proofs.IntLaws.{at_most, at_most_passes}
+use Rattle.mcf_flows.specs.declared.arc.Arc.{Arc}
+use Rattle.mcf_flows.specs.Flow.{CanCarry, IsWithinBounds}
+use Rattle.mcf_flows.specs.Network.{Network}
 
 -- each line is of an arc that is there, and can carry its flow
 abbrev pub AllAgreeBefore : List Arc → List (ℕ × ℤ) → ℕ → Type 0

@@ -14,9 +14,9 @@ use Rattle.mcf_checker.specs.Correct.{amounts, spread, stated_or_low}
 use Rattle.mcf_checker.specs.Private.StatedFlows.{AreArcsInOrder, HasLine, IsFlowAt, IsInOrder, IsNext, IsNextLine, flow_if_of, flow_stated}
 use Rattle.mcf_checker.specs.declared.stated.Stated.{Stated}
 use Rattle.mcf_checker.specs.declared.stated.Stated.TheVariants.{Each, Moved}
-use Rattle.mcf_instance.proofs.AllZips.{length-AllZip}
-use Rattle.mcf_instance.specs.declared.arc.Arc.{Arc}
-use Rattle.mcf_instance.specs.Flow.{CanCarry, IsWithinBounds}
+use Rattle.mcf_flows.proofs.AllZips.{length-AllZip}
+use Rattle.mcf_flows.specs.declared.arc.Arc.{Arc}
+use Rattle.mcf_flows.specs.Flow.{CanCarry, IsWithinBounds}
 
 -- ---- the flow at a place
 

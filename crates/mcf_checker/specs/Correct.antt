@@ -10,12 +10,12 @@ use Rattle.mcf_answer.specs.Spelling.{Spells}
 use Rattle.mcf_answer.specs.declared.answers.Answer.{Answer}
 use Rattle.mcf_answer.specs.declared.answers.Answer.TheVariants.{Flow, Sparse, Blocked, Refused}
 use Rattle.mcf_answer.specs.declared.answers.Sent.{Sent}
-use Rattle.mcf_instance.specs.Blocking.{Blocks, in_list}
-use Rattle.mcf_instance.specs.declared.arc.Arc.{Arc}
+use Rattle.mcf_flows.specs.Blocking.{Blocks, in_list}
+use Rattle.mcf_flows.specs.declared.arc.Arc.{Arc}
 use Rattle.mcf_instance.specs.Fault.{Fault}
-use Rattle.mcf_instance.specs.Flow.{IsFeasible, IsLeast, Shows, cost}
-use Rattle.mcf_instance.specs.Limits.{limits}
-use Rattle.mcf_instance.specs.Network.{Network, node_count}
+use Rattle.mcf_flows.specs.Flow.{IsFeasible, IsLeast, Shows, cost}
+use Rattle.mcf_flows.specs.Limits.{limits}
+use Rattle.mcf_flows.specs.Network.{Network, node_count}
 use Rattle.mcf_instance.specs.Reading.{reading}
 
 -- the flow that an answer gives: what each arc carries, in order

@@ -17,15 +17,15 @@ use Rattle.mcf_checker.specs.Correct.{amounts, spread}
 use Rattle.mcf_checker.specs.declared.verdict.Verdict.{Verdict}
 use Rattle.mcf_checker.specs.declared.verdict.Verdict.TheVariants.{BadShape, BadKind, BadRefusal, Refused as RefusalAccepted, BadArc, BadNode, BadPrice}
 use Rattle.mcf_checker.specs.declared.verdict.Verdict.TheVariants.{BadCost, Flow as FlowAccepted, BadSet, Blocked as SetAccepted}
-use Rattle.mcf_instance.specs.Blocking.{can_send, can_take, in_list, must_send, must_take}
+use Rattle.mcf_flows.specs.Blocking.{can_send, can_take, in_list, must_send, must_take}
 use Rattle.mcf_instance.specs.Fault.{Fault, code_word}
-use Rattle.mcf_instance.specs.Flow.{cost, net, reduced_cost}
-use Rattle.mcf_instance.specs.Limits.{limits}
-use Rattle.mcf_instance.specs.Network.{Network, at_node, node_count}
+use Rattle.mcf_flows.specs.Flow.{cost, net, reduced_cost}
+use Rattle.mcf_flows.specs.Limits.{limits}
+use Rattle.mcf_flows.specs.Network.{Network, at_node, node_count}
 use Rattle.mcf_instance.specs.Reading.{reading}
-use Rattle.mcf_instance.specs.declared.arc.Arc.{Arc}
-use Rattle.mcf_instance.specs.declared.problem.Side.{Side}
-use Rattle.mcf_instance.specs.declared.problem.Side.TheVariants.{Send, Take}
+use Rattle.mcf_flows.specs.declared.arc.Arc.{Arc}
+use Rattle.mcf_flows.specs.declared.problem.Side.{Side}
+use Rattle.mcf_flows.specs.declared.problem.Side.TheVariants.{Send, Take}
 
 -- the least number from 1 to n that passes
 abbrev pub least_up_to : ℕ → (ℕ → Bool) → Option ℕ

@@ -1,8 +1,8 @@
 pub use Rattle.mcf_answer.specs.Parsing
 pub use Rattle.mcf_answer.specs.Spelling
 pub use Rattle.mcf_instance.specs.Fault
-pub use Rattle.mcf_instance.specs.Flow
-pub use Rattle.mcf_instance.specs.Limits
+pub use Rattle.mcf_flows.specs.Flow
+pub use Rattle.mcf_flows.specs.Limits
 pub use Rattle.mcf_instance.specs.Memory
 pub use Rattle.mcf_instance.specs.Reading
 pub use Rattle.mcf_text.specs.Row

@@ -3,11 +3,11 @@ ghost use Rattle.std.specs.Prelude.{◌≡◌, ◌≤◌, ◌↔◌, ◌⊎◌, 
 ghost use Rattle.mcf_answer.specs.Parsing.{has_item_line};
 ghost use Rattle.mcf_checker.specs.Correct.{GivesLeastFlow, HasNoFlow, IsCorrect, IsRightSolution, amounts};
 ghost use Rattle.mcf_checker.specs.Judging.{accepts, judged, same_fault, solution_verdict, verdict};
-ghost use Rattle.mcf_instance.specs.Flow.{IsLeast};
-ghost use Rattle.mcf_instance.specs.Limits.{limits};
+ghost use Rattle.mcf_flows.specs.Flow.{IsLeast};
+ghost use Rattle.mcf_flows.specs.Limits.{limits};
 ghost use Rattle.mcf_instance.specs.Memory.{NamesNodes};
-ghost use Rattle.mcf_instance.specs.Network.{node_count};
-ghost use Rattle.mcf_instance.specs.WellFormed.{IsWellFormed};
+ghost use Rattle.mcf_flows.specs.Network.{node_count};
+ghost use Rattle.mcf_flows.specs.WellFormed.{IsWellFormed};
 
 use crate::set::set_verdict;
 use crate::solution::solution_verdict;

@@ -2,7 +2,7 @@
 ghost use Rattle.std.specs.Prelude.{◌≡◌, ◌≤◌, IfOk, OnErr, nat_le};
 ghost use Rattle.std.specs.List.{list_all};
 ghost use Rattle.mcf_checker.specs.Judging.{set_verdict};
-ghost use Rattle.mcf_instance.specs.Network.{node_count};
+ghost use Rattle.mcf_flows.specs.Network.{node_count};
 
 use crate::verdict::Verdict;
 use mcf_answer::BlockedAnswer;

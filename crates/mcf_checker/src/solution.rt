@@ -5,10 +5,10 @@ ghost use Rattle.std.specs.Ordering.{int_eq};
 ghost use Rattle.mcf_answer.specs.Ranges.{IsAmount};
 ghost use Rattle.mcf_checker.specs.Judging.{arc_agrees, bad_arc, bad_node, bad_price, flow_verdict, is_loose, least_up_to, solution_verdict};
 ghost use Rattle.mcf_checker.specs.Private.StatedFlows.{IsInOrder, flow_stated};
-ghost use Rattle.mcf_instance.specs.Flow.{IsWithinBounds, cost, reduced_cost, AreNets};
-ghost use Rattle.mcf_instance.specs.Limits.{limits};
-ghost use Rattle.mcf_instance.specs.Network.{at_node, node_count};
-ghost use Rattle.mcf_instance.specs.WellFormed.{HasEnds, IsArcWithinLimits, IsWellFormed};
+ghost use Rattle.mcf_flows.specs.Flow.{IsWithinBounds, cost, reduced_cost, AreNets};
+ghost use Rattle.mcf_flows.specs.Limits.{limits};
+ghost use Rattle.mcf_flows.specs.Network.{at_node, node_count};
+ghost use Rattle.mcf_flows.specs.WellFormed.{HasEnds, IsArcWithinLimits, IsWellFormed};
 
 use crate::stated::{Stated, flow_at};
 use crate::verdict::Verdict;

@@ -2,9 +2,9 @@
 ghost use Rattle.std.specs.Prelude.{◌≡◌, ◌≤◌, IfOk, OnErr, Some};
 ghost use Rattle.std.specs.List.{All};
 ghost use Rattle.mcf_checker.specs.Judging.{bad_moved, can_carry, moved_agrees, sparse_verdict};
-ghost use Rattle.mcf_instance.specs.Limits.{limits};
-ghost use Rattle.mcf_instance.specs.Network.{node_count};
-ghost use Rattle.mcf_instance.specs.WellFormed.{IsWellFormed};
+ghost use Rattle.mcf_flows.specs.Limits.{limits};
+ghost use Rattle.mcf_flows.specs.Network.{node_count};
+ghost use Rattle.mcf_flows.specs.WellFormed.{IsWellFormed};
 
 use crate::solution::flow_verdict;
 use crate::stated::Stated;

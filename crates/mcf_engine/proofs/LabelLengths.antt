@@ -2,10 +2,10 @@
 use Rattle.std.proofs.Common.{◌≡◌, ℕ, ◌+◌, ◌*◌, ◌<◌, ◌≤◌, ℤ, pos, ◌+ℤ◌, ◌*ℤ◌, ◌≤ℤ◌, ◌<ℤ◌, arith}
 use Rattle.std.proofs.lemmas.Int.{ints, by_lt_z}
 use Rattle.std.proofs.Math.Nat.{mul-le-mul_left}
-use Rattle.mcf_instance.specs.Limits.{node_limit}
-use Rattle.mcf_instance.specs.WellFormed.{IsUpTo}
-use Rattle.mcf_instance.proofs.Bounds.{mul_up_to}
-use Rattle.mcf_instance.proofs.IntLaws.{add-mul, mul-mono_left, one-mul, zero-mul}
+use Rattle.mcf_flows.specs.Limits.{node_limit}
+use Rattle.mcf_flows.specs.WellFormed.{IsUpTo}
+use Rattle.mcf_flows.proofs.Bounds.{mul_up_to}
+use Rattle.mcf_flows.proofs.IntLaws.{add-mul, mul-mono_left, one-mul, zero-mul}
 use Rattle.mcf_engine.specs.Respecting.{cost_limit}
 use Rattle.mcf_engine.specs.Private.Raisings.{IsLength, IsRoundedDown, label_limit}
 

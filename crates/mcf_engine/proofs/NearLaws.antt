@@ -2,7 +2,7 @@
 -- than the count of nodes.
 use Rattle.std.proofs.Common.{arith}
 use Rattle.std.proofs.lemmas.Int.{ints}
-use Rattle.mcf_instance.proofs.IntLaws.{mul-one}
+use Rattle.mcf_flows.proofs.IntLaws.{mul-one}
 use Rattle.mcf_network.specs.Residual.{unit_cost}
 use Rattle.mcf_engine.specs.NearPrices.{OptimalPricesAreNear, ShownPricesAreNear}
 use Rattle.mcf_engine.proofs.Showing.{respects_from_shows}

@@ -4,9 +4,9 @@ use Rattle.std.proofs.Common.{inr}
 use Rattle.std.proofs.lemmas.Int.{ints}
 use Rattle.std.proofs.lemmas.List.{get_or_default}
 use Rattle.std.specs.Prelude.{unsigned_abs}
-use Rattle.mcf_instance.specs.Flow.{AreGreatestPrices, AreNotAboveZero}
-use Rattle.mcf_instance.specs.Network.{IsNode, at_node, node_count}
-use Rattle.mcf_instance.proofs.IntLaws.{neg-mul, add-mul, one-mul}
+use Rattle.mcf_flows.specs.Flow.{AreGreatestPrices, AreNotAboveZero}
+use Rattle.mcf_flows.specs.Network.{IsNode, at_node, node_count}
+use Rattle.mcf_flows.proofs.IntLaws.{neg-mul, add-mul, one-mul}
 use Rattle.mcf_network.specs.declared.rid.Rid.{Rid}
 use Rattle.mcf_network.specs.NodeSets.{member_count}
 use Rattle.mcf_network.specs.Residual.{tail, head, unit_cost}

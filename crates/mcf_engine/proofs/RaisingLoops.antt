@@ -3,8 +3,8 @@ use Rattle.std.proofs.Common.{◌≡◌, ◌≢◌, ℕ, ◌+◌, ◌-◌, ◌<�
 use Rattle.std.proofs.Common.{inr, length-set}
 use Rattle.std.proofs.lemmas.Bool.{true≢false}
 use Rattle.std.proofs.lemmas.Int.{ints}
-use Rattle.mcf_instance.specs.Blocking.{in_table}
-use Rattle.mcf_instance.specs.Network.{IsNode, at_node}
+use Rattle.mcf_flows.specs.Blocking.{in_table}
+use Rattle.mcf_flows.specs.Network.{IsNode, at_node}
 use Rattle.mcf_network.proofs.Marks.{unmarked}
 use Rattle.mcf_engine.specs.Heaps.{Keyed, NoneWaits, Waits, waiting_with}
 use Rattle.mcf_engine.specs.Private.Raisings.{AreRounded, IsReady, IsRoundedDown, Settled, label}

@@ -2,10 +2,10 @@
 use Rattle.std.proofs.Common.{◌≡◌, ◌≢◌, ℕ, ◌<◌, ◌+◌, ◌-◌, List, length, get_or, Bool, true, false, ℤ, pos, ap, sym, ◌∙◌, arith}
 use Rattle.std.proofs.lemmas.Int.{ints, by_lt_z}
 use Rattle.std.proofs.lemmas.List.{get_or_default}
-use Rattle.mcf_instance.specs.Flow.{IsComplementary, Shows, reduced_cost}
-use Rattle.mcf_instance.specs.Network.{Network, IsArcNumber}
-use Rattle.mcf_instance.specs.WellFormed.{IsUpTo}
-use Rattle.mcf_instance.proofs.AllZips.{AllZip-at, AllZip_from}
+use Rattle.mcf_flows.specs.Flow.{IsComplementary, Shows, reduced_cost}
+use Rattle.mcf_flows.specs.Network.{Network, IsArcNumber}
+use Rattle.mcf_flows.specs.WellFormed.{IsUpTo}
+use Rattle.mcf_flows.proofs.AllZips.{AllZip-at, AllZip_from}
 use Rattle.mcf_network.specs.declared.rid.Rid.{Rid}
 use Rattle.mcf_network.specs.Nets.{IsNet}
 use Rattle.mcf_network.specs.Residual.{no_arc, arc_at, tail, head, unit_cost}

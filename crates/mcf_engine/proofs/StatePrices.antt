@@ -1,8 +1,8 @@
 -- Greatest prices of a state without surplus: it is least, and they are small.
 use Rattle.std.proofs.Common.{List, ℤ, subst}
-use Rattle.mcf_instance.specs.Flow.{AreGreatestPrices, IsLeast}
-use Rattle.mcf_instance.specs.Network.{Network}
-use Rattle.mcf_instance.proofs.Duality.{shown_flows_are_least_lem}
+use Rattle.mcf_flows.specs.Flow.{AreGreatestPrices, IsLeast}
+use Rattle.mcf_flows.specs.Network.{Network}
+use Rattle.mcf_flows.proofs.Duality.{shown_flows_are_least_lem}
 use Rattle.mcf_network.specs.States.{Pseudoflow}
 use Rattle.mcf_network.proofs.StuckLaws.{feasible_of_state}
 use Rattle.mcf_feas.specs.Feasible.{IsFeasibleState}

@@ -1,8 +1,8 @@
 -- A priority queue of the nodes of a net (Cormen et al., Introduction to Algorithms, 6.5): each has a key, and some wait, by key and then by number.
 -- Source: own
 use Rattle.std.specs.Prelude.{◌≡◌, ℕ, ◌-◌, ◌≤◌, Bool, true, false, List, length, replicate, slice_set, ℤ, pos, ◌<ℤ◌, ◌⊎◌}
-use Rattle.mcf_instance.specs.Blocking.{in_table}
-use Rattle.mcf_instance.specs.Network.{IsNode, at_node}
+use Rattle.mcf_flows.specs.Blocking.{in_table}
+use Rattle.mcf_flows.specs.Network.{IsNode, at_node}
 use Rattle.mcf_network.specs.NodeSets.{no_nodes, with_node}
 
 -- the keys of the nodes, and the table of the nodes that wait

@@ -2,8 +2,8 @@
 -- Source: own
 use Rattle.std.specs.Prelude.{List, ℤ}
 use Rattle.std.specs.List.{All}
-use Rattle.mcf_instance.specs.Flow.{AreGreatestPrices}
-use Rattle.mcf_instance.specs.WellFormed.{IsUpTo}
+use Rattle.mcf_flows.specs.Flow.{AreGreatestPrices}
+use Rattle.mcf_flows.specs.WellFormed.{IsUpTo}
 use Rattle.mcf_network.specs.States.{Pseudoflow, IsPseudoflow}
 use Rattle.mcf_engine.specs.SmallPrices.{AreSmallPrices, price_limit}
 

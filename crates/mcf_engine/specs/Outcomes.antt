@@ -1,8 +1,8 @@
 -- What an engine answers.
 -- Source: own
 use Rattle.std.specs.Prelude.{⊤, ℤ, List}
-use Rattle.mcf_instance.specs.Flow.{AreGreatestPrices, IsLeast}
-use Rattle.mcf_instance.specs.Network.{Network}
+use Rattle.mcf_flows.specs.Flow.{AreGreatestPrices, IsLeast}
+use Rattle.mcf_flows.specs.Network.{Network}
 use Rattle.mcf_network.specs.States.{Pseudoflow}
 use Rattle.mcf_feas.specs.Chosen.{IsChosenBlock}
 use Rattle.mcf_feas.specs.Feasible.{IsFeasibleState}

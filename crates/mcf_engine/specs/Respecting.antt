@@ -1,8 +1,8 @@
 -- Prices that no residual arc with room lowers (Ahuja, Magnanti and Orlin, Network Flows, section 9.3).
 -- Source: AMO 9.3
 use Rattle.std.specs.Prelude.{ℕ, List, length, not, ℤ, pos, neg_ℤ, ◌+ℤ◌, ◌≤ℤ◌}
-use Rattle.mcf_instance.specs.Limits.{limits}
-use Rattle.mcf_instance.specs.Network.{IsNode, at_node}
+use Rattle.mcf_flows.specs.Limits.{limits}
+use Rattle.mcf_flows.specs.Network.{IsNode, at_node}
 use Rattle.mcf_network.specs.declared.rid.Rid.{Rid}
 use Rattle.mcf_network.specs.Residual.{tail, head, unit_cost}
 use Rattle.mcf_network.specs.States.{Pseudoflow}

@@ -2,8 +2,8 @@
 -- Source: own
 use Rattle.std.specs.Prelude.{ℕ, ◌*◌, ◌-◌, ◌^◌, List, ℤ}
 use Rattle.std.specs.List.{All}
-use Rattle.mcf_instance.specs.Network.{Network, node_count}
-use Rattle.mcf_instance.specs.WellFormed.{IsUpTo}
+use Rattle.mcf_flows.specs.Network.{Network, node_count}
+use Rattle.mcf_flows.specs.WellFormed.{IsUpTo}
 
 -- the cost of no arc is of a greater size
 abbrev pub AreCostsUpTo : ℕ → Network → Type 0

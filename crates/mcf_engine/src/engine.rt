@@ -1,10 +1,10 @@
 //! What every engine is.
 ghost use Rattle.std.specs.Prelude.{◌≡◌, ◌≤◌, IfOk, IsTrue, OnErr, ◌↔◌};
-ghost use Rattle.mcf_instance.specs.Network.{Network, node_count};
+ghost use Rattle.mcf_flows.specs.Network.{Network, node_count};
 ghost use Rattle.mcf_network.specs.States.{Pseudoflow};
 ghost use Rattle.mcf_engine.specs.Outcomes.{IsOutcome};
 
-use mcf_instance::Side;
+use mcf_flows::Side;
 use mcf_network::{Net, NodeSet, State};
 use mcf_text::NoMemory;
 use std::alloc::Global;

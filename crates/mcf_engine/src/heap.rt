@@ -1,6 +1,6 @@
 //! An indexed binary heap of the nodes of a net.
 ghost use Rattle.std.specs.Prelude.{◌≡◌, ◌≤◌, ◌<ℤ◌, ◌≤ℤ◌, true, false, IfNone, IfOk, IfSome, IsTrue, OnErr, length, ◌↔◌};
-ghost use Rattle.mcf_instance.specs.Network.{IsNode, at_node, node_count};
+ghost use Rattle.mcf_flows.specs.Network.{IsNode, at_node, node_count};
 ghost use Rattle.mcf_network.specs.NodeSets.{no_nodes};
 ghost use Rattle.mcf_engine.specs.Heaps.{IsFirst, Keyed, NoneWaits, Waits, no_keys, waiting_with, with_key, without};
 

@@ -1,11 +1,13 @@
 #![tactic(auto)]
 
-//! What every engine is, and what engines share: the greatest prices that show a state, from prices that nearly show it, and a heap.
+//! What every engine is, and what engines share: the greatest prices that show a state, from prices that nearly show it, and
+//! a heap.
 //!
-//! It stands on `mcf_network` and `mcf_feas`. Definitions stand in `specs/`: `Outcomes` says what an engine answers, `NegativeCycles` along
-//! what a least state would get cheaper, `NearPrices` from which prices `Pricer::raise` begins, `SmallPrices` how far from 0 its prices lie,
-//! `Heaps` what a heap of nodes holds, `Laws` what follows, `Respecting` which prices no residual arc lowers, and `Private/` what the search
-//! keeps, how a heap is laid out and what a list of the arcs that may lower a price has.
+//! It stands on `mcf_network` and `mcf_feas`. Definitions stand in `specs/`: `Outcomes` says what an engine answers,
+//! `NegativeCycles` along what a state would get cheaper, `NearPrices` from which prices `Pricer::raise` begins, `SmallPrices`
+//! how far from 0 its prices lie, `Heaps` what a heap of nodes holds, `Laws` what follows, `Respecting` which prices no
+//! residual arc lowers, and `Private/` what the search keeps, how a heap is laid out and what a list of the arcs that may
+//! lower a price has.
 
 mod engine;
 mod heap;

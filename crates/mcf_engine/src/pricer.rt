@@ -2,9 +2,9 @@
 ghost use Rattle.std.specs.Prelude.{◌≡◌, ◌+◌, ◌*◌, ◌^◌, ◌<◌, ◌≤◌, ◌≤ℤ◌, ℕ, IfOk, OnErr};
 ghost use Rattle.std.specs.Prelude.{length, neg_ℤ, pos};
 ghost use Rattle.std.specs.List.{All};
-ghost use Rattle.mcf_instance.specs.Limits.{node_limit};
-ghost use Rattle.mcf_instance.specs.Network.{IsNode, at_node, node_count};
-ghost use Rattle.mcf_instance.specs.WellFormed.{IsUpTo};
+ghost use Rattle.mcf_flows.specs.Limits.{node_limit};
+ghost use Rattle.mcf_flows.specs.Network.{IsNode, at_node, node_count};
+ghost use Rattle.mcf_flows.specs.WellFormed.{IsUpTo};
 ghost use Rattle.mcf_engine.specs.Heaps.{NoneWaits};
 ghost use Rattle.mcf_engine.specs.NearPrices.{AreNearPrices, OptimalPricesAreNear, ShownPricesAreNear, near_limit};
 ghost use Rattle.mcf_engine.specs.Outcomes.{AreStatePrices};

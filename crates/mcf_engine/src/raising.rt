@@ -1,9 +1,9 @@
 //! The search for the greatest prices that show a state.
 ghost use Rattle.std.specs.Prelude.{◌≡◌, ◌+◌, ◌≤◌, ◌+ℤ◌, ◌-ℤ◌, ◌*ℤ◌, ◌≤ℤ◌, ◌∷◌, pos, ℕ, List, [], false, true, IfNone, IfSome};
 ghost use Rattle.std.specs.List.{All};
-ghost use Rattle.mcf_instance.specs.Limits.{node_limit};
-ghost use Rattle.mcf_instance.specs.Network.{IsArcNumber, node_count};
-ghost use Rattle.mcf_instance.specs.WellFormed.{IsUpTo};
+ghost use Rattle.mcf_flows.specs.Limits.{node_limit};
+ghost use Rattle.mcf_flows.specs.Network.{IsArcNumber, node_count};
+ghost use Rattle.mcf_flows.specs.WellFormed.{IsUpTo};
 ghost use Rattle.mcf_network.specs.declared.rid.Rid.{Rid};
 ghost use Rattle.mcf_network.specs.NodeSets.{member_count};
 ghost use Rattle.mcf_network.specs.Residual.{tail};

@@ -2,7 +2,7 @@
 ghost use Rattle.std.specs.Prelude.{◌≡◌, ◌++◌, ◌∷◌, ◌+◌, ◌-◌, ◌^◌, ◌<◌, ◌≤◌, ◌≤ℤ◌, ℕ, ℤ, List, [], false, true, pos, length, slice_index_or, slice_set, vec_capacity};
 ghost use Rattle.std.specs.Prelude.{OnErr};
 ghost use Rattle.std.specs.List.{All};
-ghost use Rattle.mcf_instance.specs.Network.{IsArcNumber, IsNode, at_node, node_count};
+ghost use Rattle.mcf_flows.specs.Network.{IsArcNumber, IsNode, at_node, node_count};
 ghost use Rattle.mcf_network.specs.declared.rid.Rid.{Rid};
 ghost use Rattle.mcf_network.specs.Residual.{head};
 ghost use Rattle.mcf_network.specs.States.{room_of};
@@ -12,7 +12,7 @@ ghost use Rattle.mcf_engine.specs.Private.Shortlists.{AreChains, IsFilled, IsPut
 
 use crate::near_state::NearState;
 use crate::pricer::passing_cost;
-use mcf_instance::Problem;
+use mcf_flows::Problem;
 use mcf_network::{Net, Rid, State};
 use mcf_text::{ArcId, NoMemory, NodeId, copies};
 use std::alloc::Global;

@@ -1,7 +1,7 @@
 -- Rows that are offered to a matching.
 use Rattle.std.proofs.Common.{◌≡◌, ℕ, Bool, true, false, pos, sym, ◌∙◌, ap, subst, inl, true≢false}
 use Rattle.std.proofs.lemmas.Bool.Decides.{Decides-int_eq}
-use Rattle.mcf_instance.specs.Network.{Network, IsNode, at_node, node_count}
+use Rattle.mcf_flows.specs.Network.{Network, IsNode, at_node, node_count}
 use Rattle.mcf_network.specs.States.{Pseudoflow}
 use Rattle.mcf_assign.specs.declared.extended.Extended.{Extended}
 use Rattle.mcf_assign.specs.declared.extended.Extended.TheVariants.{Matched, Blocked}

@@ -1,6 +1,6 @@
 //! Searches, least assignments and blocking sets of worked nets, by shortest augmenting paths.
 ghost use Rattle.std.specs.Prelude.{◌≡◌};
-ghost use Rattle.mcf_instance.specs.Network.{IsNode, node_count};
+ghost use Rattle.mcf_flows.specs.Network.{IsNode, node_count};
 ghost use Rattle.mcf_assign.specs.Runs.{is_source};
 
 use crate::feasibility::is_set_of;

@@ -1,6 +1,6 @@
 //! The basis with which the simplex begins, and what a basis writes at the end, on worked nets.
 ghost use Rattle.std.specs.Prelude.{◌≡◌, length};
-ghost use Rattle.mcf_instance.specs.Network.{node_count};
+ghost use Rattle.mcf_flows.specs.Network.{node_count};
 
 use crate::networks::net_of;
 use mcf_basis::Basis;

@@ -1,6 +1,6 @@
 //! What small instances are answered with.
 ghost use Rattle.std.specs.Prelude.{◌≡◌, length};
-ghost use Rattle.mcf_instance.specs.Network.{node_count};
+ghost use Rattle.mcf_flows.specs.Network.{node_count};
 
 use crate::networks::{instance_of, net_of};
 use mcf_feas::{Feas, answers_are_exact, blocked_has_no_state, feasible, unbalanced};

@@ -1,7 +1,7 @@
 //! Least flows of worked nets, by the plain engine and by a second one.
 ghost use Rattle.std.specs.Prelude.{◌≤◌, IfOk, OnErr, ⊤};
 ghost use Rattle.mcf_feas.specs.Feasible.{IsFeasibleState};
-ghost use Rattle.mcf_instance.specs.Network.{node_count};
+ghost use Rattle.mcf_flows.specs.Network.{node_count};
 ghost use Rattle.mcf_engine.specs.Outcomes.{AreStatePrices, IsLeastState, IsOutcome};
 
 use mcf_feas::{Feas, feasible};
@@ -45,7 +45,7 @@ struct ByOne;
 
 impl Engine for ByOne {
     ghost use Rattle.std.specs.Prelude.{◌≡◌, ⊤};
-    ghost use Rattle.mcf_instance.specs.declared.problem.Problem.TheVariants.{Min};
+    ghost use Rattle.mcf_flows.specs.declared.problem.Problem.TheVariants.{Min};
 
     ghost Takes = { λ g. g.problem ≡ Min };
 

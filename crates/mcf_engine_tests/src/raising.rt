@@ -1,7 +1,7 @@
 //! Greatest prices from known ones, and the heap by which they are found.
 ghost use Rattle.std.specs.Prelude.{◌≡◌};
-ghost use Rattle.mcf_instance.specs.Flow.{AreGreatestPrices};
-ghost use Rattle.mcf_instance.specs.Network.{node_count};
+ghost use Rattle.mcf_flows.specs.Flow.{AreGreatestPrices};
+ghost use Rattle.mcf_flows.specs.Network.{node_count};
 
 use mcf_instance::read;
 use mcf_network::{Net, State};

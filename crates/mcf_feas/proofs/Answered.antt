@@ -1,9 +1,9 @@
 -- What an answer says.
 use Rattle.std.proofs.Common.{subst}
-use Rattle.mcf_instance.specs.Blocking.{in_table}
-use Rattle.mcf_instance.specs.Flow.{IsFeasible}
-use Rattle.mcf_instance.specs.Network.{Network}
-use Rattle.mcf_instance.proofs.Hoffman.{blocked_has_no_flow_lem}
+use Rattle.mcf_flows.specs.Blocking.{in_table}
+use Rattle.mcf_flows.specs.Flow.{IsFeasible}
+use Rattle.mcf_flows.specs.Network.{Network}
+use Rattle.mcf_flows.proofs.Hoffman.{blocked_has_no_flow_lem}
 use Rattle.mcf_network.specs.Nets.{IsNet}
 use Rattle.mcf_network.specs.States.{Pseudoflow}
 use Rattle.mcf_feas.specs.declared.feas.Feas.TheVariants.{Flow as WithFlow, Blocked}

@@ -2,8 +2,8 @@
 use Rattle.std.proofs.Common.{◌≡◌, ℕ, ◌<◌, true, eqb, refl, ap, ◌∙◌, arith, ℤ, pos, negsuc, ◌+ℤ◌, ◌-ℤ◌, ◌≤ℤ◌, ◌<ℤ◌, inl, inr}
 use Rattle.std.proofs.lemmas.Int.{ints, by_lt_z}
 use Rattle.std.proofs.lemmas.Bool.{cases_eq}
-use Rattle.mcf_instance.specs.Network.{Network, IsNode, node_count, node_sum, when}
-use Rattle.mcf_instance.proofs.NodeSums.{node_sum-add, node_sum-in, node_sum-le, node_sum-same, node_sum-sub, node_sum_at_least_zero}
+use Rattle.mcf_flows.specs.Network.{Network, IsNode, node_count, node_sum, when}
+use Rattle.mcf_flows.proofs.NodeSums.{node_sum-add, node_sum-in, node_sum-le, node_sum-same, node_sum-sub, node_sum_at_least_zero}
 use Rattle.mcf_network.specs.States.{Pseudoflow, IsPseudoflow, MovesSurplus, surplus_at}
 use Rattle.mcf_network.proofs.StateLaws.{when-same, when-other}
 use Rattle.mcf_feas.specs.Private.Pushing.{IsPushedOn, above_zero, excess}

@@ -7,8 +7,8 @@ use Rattle.std.proofs.lemmas.Int.{ints, by_lt_z}
 use Rattle.std.proofs.lemmas.Bool.{cases_eq, eq-eqb, ne_eqb, false≢true}
 use Rattle.std.proofs.lemmas.List.Elements.{All-head, All-tail}
 use Rattle.std.proofs.lemmas.List.{get_or_append_left, get_or_push, get_or-set_other, length_push}
-use Rattle.mcf_instance.specs.Blocking.{in_table}
-use Rattle.mcf_instance.specs.Network.{IsNode, node_count}
+use Rattle.mcf_flows.specs.Blocking.{in_table}
+use Rattle.mcf_flows.specs.Network.{IsNode, node_count}
 use Rattle.mcf_network.specs.declared.rid.Rid.{Rid}
 use Rattle.mcf_network.specs.NodeSets.{with_node}
 use Rattle.mcf_network.specs.Residual.{tail, head}

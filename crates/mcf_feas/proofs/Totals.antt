@@ -1,9 +1,9 @@
 -- Sums of the supplies of the first nodes.
 use Rattle.std.proofs.Common.{ℕ, ◌^◌, ◌≤◌, arith}
 use Rattle.std.proofs.lemmas.Int.{ints}
-use Rattle.mcf_instance.specs.Network.{Network, at_node, node_count, node_sum}
-use Rattle.mcf_instance.specs.WellFormed.{IsUpTo}
-use Rattle.mcf_instance.proofs.Bounds.{node_sum_up_to}
+use Rattle.mcf_flows.specs.Network.{Network, at_node, node_count, node_sum}
+use Rattle.mcf_flows.specs.WellFormed.{IsUpTo}
+use Rattle.mcf_flows.proofs.Bounds.{node_sum_up_to}
 use Rattle.mcf_network.specs.Nets.{IsNet, supply_limit}
 use Rattle.mcf_network.proofs.ArcLaws.{supply_at}
 

@@ -1,13 +1,13 @@
 -- All nodes of a net: they block where the net is out of balance, and else their surpluses cancel.
 use Rattle.std.proofs.Common.{◌≡◌, ℕ, Bool, true, sym, ◌∙◌, arith, pos, ◌-ℤ◌, ◌≤ℤ◌, ◌<ℤ◌}
 use Rattle.std.proofs.lemmas.Int.{ints, by_lt_z}
-use Rattle.mcf_instance.specs.declared.problem.Side.TheVariants.{Send, Take}
-use Rattle.mcf_instance.specs.Blocking.{Blocks}
-use Rattle.mcf_instance.specs.Flow.{net}
-use Rattle.mcf_instance.specs.Network.{Network, IsNode, at_node, node_count, node_sum}
-use Rattle.mcf_instance.proofs.ArcSums.{arc_sum-zero}
-use Rattle.mcf_instance.proofs.NodeSums.{nets_cancel, node_sum-same, node_sum-sub, node_sum_above_zero}
-use Rattle.mcf_instance.proofs.SameSets.{Blocks-same}
+use Rattle.mcf_flows.specs.declared.problem.Side.TheVariants.{Send, Take}
+use Rattle.mcf_flows.specs.Blocking.{Blocks}
+use Rattle.mcf_flows.specs.Flow.{net}
+use Rattle.mcf_flows.specs.Network.{Network, IsNode, at_node, node_count, node_sum}
+use Rattle.mcf_flows.proofs.ArcSums.{arc_sum-zero}
+use Rattle.mcf_flows.proofs.NodeSums.{nets_cancel, node_sum-same, node_sum-sub, node_sum_above_zero}
+use Rattle.mcf_flows.proofs.SameSets.{Blocks-same}
 use Rattle.mcf_network.specs.Nets.{IsNet}
 use Rattle.mcf_network.specs.States.{Pseudoflow, HasNoSurplus, IsPseudoflow, surplus_at}
 use Rattle.mcf_feas.specs.Chosen.{supply_total}

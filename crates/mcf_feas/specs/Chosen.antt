@@ -1,10 +1,10 @@
 -- Which node set is named, and by which side, where no flow is feasible.
 -- Source: own
 use Rattle.std.specs.Prelude.{◌≡◌, ◌≢◌, ℕ, Bool, true, List, length, ℤ, pos, ◌<ℤ◌, ◌↔◌}
-use Rattle.mcf_instance.specs.declared.problem.Side.{Side}
-use Rattle.mcf_instance.specs.declared.problem.Side.TheVariants.{Take}
-use Rattle.mcf_instance.specs.Blocking.{Blocks, in_table, supply_in}
-use Rattle.mcf_instance.specs.Network.{Network, IsNode, node_count}
+use Rattle.mcf_flows.specs.declared.problem.Side.{Side}
+use Rattle.mcf_flows.specs.declared.problem.Side.TheVariants.{Take}
+use Rattle.mcf_flows.specs.Blocking.{Blocks, in_table, supply_in}
+use Rattle.mcf_flows.specs.Network.{Network, IsNode, node_count}
 
 -- what the supplies of all nodes add up to
 abbrev pub supply_total : Network → ℤ

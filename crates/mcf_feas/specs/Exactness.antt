@@ -1,10 +1,10 @@
 -- What an answer says.
 -- Source: AMO 6.7, Hoffman
 use Rattle.std.specs.Prelude.{◌↔◌, ℕ, Bool, List, ℤ}
-use Rattle.mcf_instance.specs.declared.problem.Side.{Side}
-use Rattle.mcf_instance.specs.Blocking.{Blocks}
-use Rattle.mcf_instance.specs.Flow.{IsFeasible}
-use Rattle.mcf_instance.specs.Network.{Network}
+use Rattle.mcf_flows.specs.declared.problem.Side.{Side}
+use Rattle.mcf_flows.specs.Blocking.{Blocks}
+use Rattle.mcf_flows.specs.Flow.{IsFeasible}
+use Rattle.mcf_flows.specs.Network.{Network}
 use Rattle.mcf_network.specs.Nets.{IsNet}
 use Rattle.mcf_network.specs.States.{Pseudoflow}
 use Rattle.mcf_feas.specs.declared.feas.Feas.{Feas}

@@ -1,7 +1,7 @@
 -- What a net is answered with: a state without surplus, or a node set that blocks.
 -- Source: own
 use Rattle.std.specs.Prelude.{◌≡◌}
-use Rattle.mcf_instance.specs.Network.{Network}
+use Rattle.mcf_flows.specs.Network.{Network}
 use Rattle.mcf_network.specs.States.{Pseudoflow, HasNoSurplus, IsPseudoflow}
 use Rattle.mcf_feas.specs.declared.feas.Feas.{Feas}
 use Rattle.mcf_feas.specs.declared.feas.Feas.TheVariants.{Flow as WithFlow, Blocked}

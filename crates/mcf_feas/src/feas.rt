@@ -1,8 +1,8 @@
 //! A feasible state of a net, or a node set that blocks.
 ghost use Rattle.std.specs.Bool.{MatchBool};
 ghost use Rattle.std.specs.Prelude.{◌≡◌, ◌≤◌, ◌≤ℤ◌, ℕ, IfOk, OnErr, length, vec_capacity, pos};
-ghost use Rattle.mcf_instance.specs.Blocking.{in_table};
-ghost use Rattle.mcf_instance.specs.Network.{IsNode, node_count};
+ghost use Rattle.mcf_flows.specs.Blocking.{in_table};
+ghost use Rattle.mcf_flows.specs.Network.{IsNode, node_count};
 ghost use Rattle.mcf_network.specs.States.{IsPseudoflow, surplus_at};
 ghost use Rattle.mcf_network.specs.Stuck.{IsStuck};
 ghost use Rattle.mcf_feas.specs.Feasible.{IsFeas};
@@ -10,7 +10,7 @@ ghost use Rattle.mcf_feas.specs.Feasible.{IsFeas};
 use crate::path_search::PathSearch;
 use crate::preflow::round;
 use crate::supplies::unbalanced;
-use mcf_instance::Side;
+use mcf_flows::Side;
 use mcf_network::{Net, NodeSet, State};
 use mcf_text::{NoMemory, NodeId, copies};
 use std::alloc::Global;

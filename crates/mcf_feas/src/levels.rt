@@ -1,6 +1,6 @@
 //! Levels: how far each node is from the nodes that take, along residual arcs with room.
 ghost use Rattle.std.specs.Prelude.{◌≡◌, length};
-ghost use Rattle.mcf_instance.specs.Network.{IsArcNumber, IsNode, node_count};
+ghost use Rattle.mcf_flows.specs.Network.{IsArcNumber, IsNode, node_count};
 
 use crate::waiting::{next_waiting, wait};
 use mcf_network::{Rid, State};

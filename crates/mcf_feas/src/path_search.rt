@@ -2,8 +2,8 @@
 ghost use Rattle.std.specs.Prelude.{◌≡◌, ℕ, ◌∷◌, ◌++◌, [], ◌<◌, ◌≤◌, true, IfOk};
 ghost use Rattle.std.specs.Prelude.{IfNone, IfSome, OnErr, OnOk, length, vec_capacity, pos, ◌+◌, ◌≤ℤ◌, ◌-◌};
 ghost use Rattle.std.specs.Bool.{MatchBool};
-ghost use Rattle.mcf_instance.specs.Blocking.{in_table};
-ghost use Rattle.mcf_instance.specs.Network.{IsArcNumber, IsNode, node_count};
+ghost use Rattle.mcf_flows.specs.Blocking.{in_table};
+ghost use Rattle.mcf_flows.specs.Network.{IsArcNumber, IsNode, node_count};
 ghost use Rattle.mcf_network.specs.States.{IsPseudoflow, room_of, surplus_at};
 ghost use Rattle.mcf_network.specs.NodeSets.{with_node};
 ghost use Rattle.mcf_network.specs.Stuck.{IsStuck};

@@ -1,6 +1,6 @@
 //! Pushes of surplus from node to node, down the levels.
 ghost use Rattle.std.specs.Prelude.{◌≡◌, ◌≤◌, ◌≤ℤ◌, ◌<ℤ◌, length, pos};
-ghost use Rattle.mcf_instance.specs.Network.{IsArcNumber, IsNode, node_count};
+ghost use Rattle.mcf_flows.specs.Network.{IsArcNumber, IsNode, node_count};
 ghost use Rattle.mcf_network.specs.Residual.{tail};
 ghost use Rattle.mcf_network.specs.States.{IsPseudoflow, room_of, surplus_at};
 ghost use Rattle.mcf_feas.specs.Private.Pushing.{IsPushedOn};

@@ -1,11 +1,11 @@
 //! The supplies of a net, and the set of its nodes.
 ghost use Rattle.std.specs.Prelude.{◌≡◌, ◌≢◌, ◌≤◌, ℕ, true, pos, IfNone, IfOk, IfSome, OnErr, length};
-ghost use Rattle.mcf_instance.specs.Blocking.{in_table};
-ghost use Rattle.mcf_instance.specs.Network.{IsNode, node_count};
+ghost use Rattle.mcf_flows.specs.Blocking.{in_table};
+ghost use Rattle.mcf_flows.specs.Network.{IsNode, node_count};
 ghost use Rattle.mcf_network.specs.Nets.{IsNet};
 ghost use Rattle.mcf_feas.specs.Chosen.{IsChosenBlock, supply_total};
 
-use mcf_instance::Side;
+use mcf_flows::Side;
 use mcf_network::{Net, NodeSet};
 use mcf_text::{NoMemory, NodeId};
 use std::alloc::Global;

@@ -1,6 +1,6 @@
 //! Nodes that wait, first in, first out.
 ghost use Rattle.std.specs.Prelude.{IfSome};
-ghost use Rattle.mcf_instance.specs.Network.{IsNode, node_count};
+ghost use Rattle.mcf_flows.specs.Network.{IsNode, node_count};
 
 use mcf_network::State;
 use mcf_text::NodeId;

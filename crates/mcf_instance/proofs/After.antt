@@ -8,7 +8,7 @@ use Rattle.mcf_instance.specs.declared.code.Code.TheVariants.{Kind, Fields, Numb
 use Rattle.mcf_text.specs.Row.{Row, node, number, field}
 use Rattle.mcf_instance.specs.Fault.{is_p, is_n, is_a, has_p, header, header_of, is_listed, is_node_number, node_places, fault_of_line, applies, table}
 use Rattle.mcf_instance.specs.Fault.{has_field_count, has_numbers, is_counted, of_min}
-use Rattle.mcf_instance.specs.Limits.{Limits, limits}
+use Rattle.mcf_flows.specs.Limits.{Limits, limits}
 use Rattle.mcf_instance.specs.Reading.{arc_of}
 use Rattle.mcf_instance.specs.ReadOn.{Holds, StateData}
 use Rattle.mcf_instance.specs.declared.reader.line.Item.{Item}

@@ -4,15 +4,15 @@ use Rattle.std.proofs.Common.{None, arith}
 use Rattle.std.specs.Prelude.{Option, ℤ, pos, slice_index_or, ◌==◌, int_lt, nat_le, unsigned_abs}
 use Rattle.mcf_instance.specs.declared.code.Code.{Code}
 use Rattle.mcf_instance.specs.declared.code.Code.TheVariants.{Node, Bound, Order, Cost, Extra, Side, Total}
-use Rattle.mcf_instance.specs.declared.problem.Problem.TheVariants.{Min, Asn}
+use Rattle.mcf_flows.specs.declared.problem.Problem.TheVariants.{Min, Asn}
 use Rattle.mcf_instance.specs.declared.reader.line.Header.{Header}
-use Rattle.mcf_instance.specs.declared.arc.PackedArc.{PackedArc}
+use Rattle.mcf_flows.specs.declared.arc.PackedArc.{PackedArc}
 use Rattle.mcf_text.specs.Row.{Row, natural}
 use Rattle.mcf_text.specs.Whole.{is_whole, is_within, whole_value}
-use Rattle.mcf_instance.specs.declared.arc.Arc.{Arc}
-use Rattle.mcf_instance.specs.Blocking.{in_table}
+use Rattle.mcf_flows.specs.declared.arc.Arc.{Arc}
+use Rattle.mcf_flows.specs.Blocking.{in_table}
 use Rattle.mcf_instance.specs.Fault.{fault_of_line, has_p, header, is_up_to, arc_lines, is_listed, is_counted, passes, total_of}
-use Rattle.mcf_instance.specs.Limits.{limits, node_limit}
+use Rattle.mcf_flows.specs.Limits.{limits, node_limit}
 use Rattle.mcf_instance.specs.Reading.{arc_of}
 use Rattle.mcf_instance.specs.Private.LineReader.{clamped, arc_line, arc_tests, number_at}
 use Rattle.mcf_instance.specs.ReadOn.{header_seen}

@@ -11,36 +11,37 @@ use Rattle.std.proofs.lemmas.List.Elements.{All-append, All-replicate}
 use Rattle.std.proofs.lemmas.List.Sums.{sum-map, sum_by-take-drop}
 use Rattle.std.proofs.lemmas.Bool.Decides.{Decides-int_eq}
 use Rattle.std.proofs.lemmas.Option.{none-some}
-use Rattle.mcf_instance.specs.declared.arc.Arc.{Arc}
-use Rattle.mcf_instance.specs.declared.arc.PackedArc.{PackedArc}
+use Rattle.mcf_flows.specs.declared.arc.Arc.{Arc}
+use Rattle.mcf_flows.specs.declared.arc.PackedArc.{PackedArc}
 use Rattle.mcf_instance.specs.declared.arrays.ArrayFault.{ArrayFault}
 use Rattle.mcf_instance.specs.declared.arrays.ArrayFault.TheVariants.{Size, Supply as FaultySupply, Arc as FaultyArc}
 use Rattle.mcf_instance.specs.declared.arrays.RawPair.{RawPair}
 use Rattle.mcf_instance.specs.declared.code.Code.{Code}
 use Rattle.mcf_instance.specs.declared.code.Code.TheVariants.{Bound, Order, Cost, Side, Total}
-use Rattle.mcf_instance.specs.declared.problem.Problem.{Problem as Format}
-use Rattle.mcf_instance.specs.declared.problem.Problem.TheVariants.{Min, Asn}
+use Rattle.mcf_flows.specs.declared.problem.Problem.{Problem as Format}
+use Rattle.mcf_flows.specs.declared.problem.Problem.TheVariants.{Min, Asn}
 use Rattle.mcf_instance.specs.declared.reader.line.ArcNumbers.{ArcNumbers}
 use Rattle.mcf_instance.specs.declared.reader.line.Header.{Header}
 use Rattle.mcf_instance.specs.Arrays.{arc_fault, arc_of_pair, array_fault, assignment_problem, code_of_arc, first_found, is_row_to_column, made_of_arrays, made_unless, sizes_fit, supply_fault}
-use Rattle.mcf_instance.specs.Assignment.{OnAssignment, IsAssignment, IsPairing}
-use Rattle.mcf_instance.specs.Blocking.{in_table}
+use Rattle.mcf_flows.specs.Assignment.{OnAssignment, IsAssignment, IsPairing}
+use Rattle.mcf_flows.specs.Blocking.{in_table}
 use Rattle.mcf_instance.specs.Fault.{is_min, is_up_to, passes}
-use Rattle.mcf_instance.specs.Limits.{limits, arc_limit, node_limit, total_limit}
-use Rattle.mcf_instance.specs.Network.{Network, at_node, node_count}
-use Rattle.mcf_instance.specs.Packed.{unpacked}
+use Rattle.mcf_flows.specs.Limits.{limits, arc_limit, node_limit, total_limit}
+use Rattle.mcf_flows.specs.Network.{Network, at_node, node_count}
+use Rattle.mcf_flows.specs.Packed.{unpacked}
 use Rattle.mcf_instance.specs.Private.ArrayStates.{HoldsArcs, Offered, numbers_of, sizes}
 use Rattle.mcf_instance.specs.Private.LineReader.{arc_tests, is_wrong_side}
 use Rattle.mcf_instance.specs.Private.ReaderSound.{IsSound, IsSoundAssignment, header_nodes, side_supply}
 use Rattle.mcf_instance.specs.Private.ReaderState.{network_of, problem_or_min}
 use Rattle.mcf_instance.specs.ReadOn.{StateData}
-use Rattle.mcf_instance.specs.WellFormed.{HasEnds, IsUpTo, IsWellFormed, weight}
+use Rattle.mcf_flows.specs.WellFormed.{HasEnds, IsUpTo, IsWellFormed, weight}
 use Rattle.mcf_text.specs.Whole.{is_within}
 use Rattle.mcf_instance.proofs.ArcLines.{packed}
 use Rattle.mcf_instance.proofs.FirstFound.{first_found-longer, first_found-none, first_found-some, nothing_found}
 use Rattle.mcf_instance.proofs.LineSteps.{unless_fault-amount_fault}
 use Rattle.mcf_instance.proofs.NodeLines.{ok_unless, ok_unless_test}
-use Rattle.mcf_instance.proofs.Ranges.{at_most_passes, up_to_is}
+use Rattle.mcf_instance.proofs.Ranges.{up_to_is}
+use Rattle.mcf_flows.proofs.IntLaws.{at_most_passes}
 use Rattle.mcf_instance.proofs.SoundStates.{flag_supply, map-replicate, weights_push}
 
 -- a row and a column, by flags

@@ -4,9 +4,9 @@ use Rattle.std.specs.Prelude.{◌≡◌, ℕ, List, [], ◌∷◌, codes, map, t
 use Rattle.std.specs.List.{range_with_len}
 use Rattle.mcf_instance.specs.declared.code.Code.{Code}
 use Rattle.mcf_instance.specs.declared.code.Code.TheVariants.{Fields, Missing, NoP, Number}
-use Rattle.mcf_instance.specs.declared.problem.Problem.TheVariants.{Min}
+use Rattle.mcf_flows.specs.declared.problem.Problem.TheVariants.{Min}
 use Rattle.mcf_instance.specs.Fault.{Fault, fault_at_end, fault_of_line, faults, first_fault, first_fault_of_lines, total_of}
-use Rattle.mcf_instance.specs.Limits.{limits}
+use Rattle.mcf_flows.specs.Limits.{limits}
 use Rattle.mcf_instance.specs.Reading.{instance_of_lines, reading}
 
 abbrev text : List ℕ

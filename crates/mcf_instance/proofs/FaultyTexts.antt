@@ -4,7 +4,7 @@ use Rattle.mcf_instance.specs.declared.code.Code.{Code}
 use Rattle.mcf_instance.specs.declared.code.Code.TheVariants.{BeforeP, Bound, Cost, Extra, Fields, Kind, LateN, Missing, NoP, Node, Number, Order, Problem}
 use Rattle.mcf_instance.specs.declared.code.Code.TheVariants.{SecondP, Side, Size, Supply, Twice}
 use Rattle.mcf_instance.specs.Fault.{Fault, fault_at_end, fault_of_line, faults, first_fault, first_fault_of_lines, total_of}
-use Rattle.mcf_instance.specs.Limits.{limits}
+use Rattle.mcf_flows.specs.Limits.{limits}
 
 -- the lines, each with its end
 abbrev text_of : List (List ℕ) → List ℕ

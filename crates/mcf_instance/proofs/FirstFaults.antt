@@ -7,7 +7,7 @@ use Rattle.std.proofs.lemmas.List.{append-nil, append_assoc}
 use Rattle.std.proofs.lemmas.List.Elements.{All-cons, All-filter, All-head, All-map, All-nil, All-tail, All-weaker}
 use Rattle.mcf_instance.specs.declared.code.Code.{Code}
 use Rattle.mcf_instance.specs.Fault.{Fault, as_fault, fault_at_end, fault_of_line, faults, first_fault, first_fault_of_lines}
-use Rattle.mcf_instance.specs.Limits.{limits}
+use Rattle.mcf_flows.specs.Limits.{limits}
 use Rattle.mcf_text.specs.Fields.{is_kept}
 use Rattle.mcf_text.specs.Row.{Row, line_after, row_of, rows}
 use Rattle.mcf_instance.specs.ReadOn.{kept_rows}

@@ -3,26 +3,26 @@ use Rattle.std.proofs.Common.{◌≡◌, ℕ, ◌+◌, ◌<◌, ◌≤◌, Bool,
 use Rattle.std.specs.Prelude.{Option, Result, ℤ, pos, ◌≤ℤ◌, bytes_eq, codes, slice_index_or, nat_lt, nat_le, int_lt, ◌==◌, is_some, IfOk}
 use Rattle.std.proofs.lemmas.Int.{ints}
 use Rattle.std.proofs.lemmas.Result.{IfOk-at_ok}
-use Rattle.mcf_instance.specs.declared.arc.PackedArc.{PackedArc}
+use Rattle.mcf_flows.specs.declared.arc.PackedArc.{PackedArc}
 use Rattle.mcf_instance.specs.declared.code.Code.{Code}
 use Rattle.mcf_instance.specs.declared.code.Code.TheVariants.{Fields}
-use Rattle.mcf_instance.specs.declared.problem.Problem.{Problem as Format}
-use Rattle.mcf_instance.specs.declared.problem.Problem.TheVariants.{Min, Asn}
+use Rattle.mcf_flows.specs.declared.problem.Problem.{Problem as Format}
+use Rattle.mcf_flows.specs.declared.problem.Problem.TheVariants.{Min, Asn}
 use Rattle.mcf_instance.specs.declared.reader.line.ArcNumbers.{ArcNumbers}
 use Rattle.mcf_instance.specs.declared.reader.line.Header.{Header}
 use Rattle.mcf_instance.specs.declared.reader.line.Item.{Item}
 use Rattle.mcf_instance.specs.declared.reader.line.Item.TheVariants.{Link}
-use Rattle.mcf_instance.specs.Assignment.{OnAssignment}
-use Rattle.mcf_instance.specs.Blocking.{in_table}
+use Rattle.mcf_flows.specs.Assignment.{OnAssignment}
+use Rattle.mcf_flows.specs.Blocking.{in_table}
 use Rattle.mcf_instance.specs.Fault.{is_up_to}
-use Rattle.mcf_instance.specs.Limits.{limits, node_limit, arc_limit, total_limit}
+use Rattle.mcf_flows.specs.Limits.{limits, node_limit, arc_limit, total_limit}
 use Rattle.mcf_instance.specs.Private.LineReader.{◌>>=◌, arc_count_fits, arc_line, arc_numbers, arc_tests, is_wrong_side, checked_node, node_count_fits}
 use Rattle.mcf_instance.specs.Private.LineReader.{node_line, node_numbers, node_tests, number_at, problem_at, problem_line, passes_total, with_header}
-use Rattle.mcf_instance.specs.Packed.{unpacked}
+use Rattle.mcf_flows.specs.Packed.{unpacked}
 use Rattle.mcf_instance.specs.ReadOn.{StateData}
 use Rattle.mcf_instance.specs.Private.ReaderState.{item_of, problem_or_min}
 use Rattle.mcf_instance.specs.Private.ReaderSound.{IsFlaggedPair, ItemFits, OnMin, header_arcs, header_nodes}
-use Rattle.mcf_instance.specs.WellFormed.{HasEnds, IsArcWithinLimits, IsUpTo, weight}
+use Rattle.mcf_flows.specs.WellFormed.{HasEnds, IsArcWithinLimits, IsUpTo, weight}
 use Rattle.mcf_text.specs.Row.{natural}
 use Rattle.mcf_text.specs.Whole.{is_within}
 use Rattle.std.proofs.lemmas.Bool.{and_parts, eqb-true, ltb-false, leb-false, ne_eqb, not-false, or_parts}

@@ -2,9 +2,9 @@
 use Rattle.std.proofs.Common.{◌≡◌, ◌≤◌, ◌∙◌, Option, Some, None, Ok, List, ℕ, ap, refl, subst, sym}
 use Rattle.std.proofs.lemmas.List.FromFn.{length-map-range_with_len}
 use Rattle.mcf_instance.specs.Fault.{Fault, first_fault, header}
-use Rattle.mcf_instance.specs.Limits.{limits}
+use Rattle.mcf_flows.specs.Limits.{limits}
 use Rattle.mcf_instance.specs.Memory.{NamesNodes}
-use Rattle.mcf_instance.specs.Network.{Network, node_count}
+use Rattle.mcf_flows.specs.Network.{Network, node_count}
 use Rattle.mcf_instance.specs.Reading.{instance_of_lines, reading, reading_of, supply_of}
 use Rattle.mcf_text.specs.Row.{rows}
 use Rattle.mcf_instance.proofs.NamedNodes.{names_nodes_without_fault}

@@ -5,13 +5,13 @@ use Rattle.std.proofs.lemmas.Slice.Eq.{bytes_eq-Decides}
 use Rattle.std.proofs.lemmas.List.{length-map}
 use Rattle.std.proofs.lemmas.List.FromFn.{get_or-map-range_with_len}
 use Rattle.mcf_instance.specs.declared.code.Code.{Code}
-use Rattle.mcf_instance.specs.declared.problem.Problem.{Problem as Format}
-use Rattle.mcf_instance.specs.declared.problem.Problem.TheVariants.{Min, Asn}
+use Rattle.mcf_flows.specs.declared.problem.Problem.{Problem as Format}
+use Rattle.mcf_flows.specs.declared.problem.Problem.TheVariants.{Min, Asn}
 use Rattle.mcf_text.specs.Row.{Row, node, field}
-use Rattle.mcf_instance.specs.Blocking.{in_table}
+use Rattle.mcf_flows.specs.Blocking.{in_table}
 use Rattle.mcf_instance.specs.Fault.{is_p, is_n, is_a, has_p, header, header_of, arc_lines, is_listed, is_min, fault_of_line}
-use Rattle.mcf_instance.specs.Limits.{limits}
-use Rattle.mcf_instance.specs.Packed.{unpacked}
+use Rattle.mcf_flows.specs.Limits.{limits}
+use Rattle.mcf_flows.specs.Packed.{unpacked}
 use Rattle.mcf_instance.specs.Reading.{arc_of}
 use Rattle.mcf_instance.specs.ReadOn.{header_seen, Holds, StateData}
 use Rattle.mcf_instance.specs.declared.reader.line.Item.{Item}

@@ -9,7 +9,7 @@ use Rattle.mcf_text.specs.declared.number.Whole.TheVariants.{Value, NotWhole, Ou
 use Rattle.mcf_instance.specs.Fault.{is_up_to}
 use Rattle.mcf_instance.specs.declared.reader.line.Header.{Header}
 use Rattle.mcf_instance.specs.declared.reader.line.ArcNumbers.{ArcNumbers}
-use Rattle.mcf_instance.specs.Limits.{limits}
+use Rattle.mcf_flows.specs.Limits.{limits}
 use Rattle.mcf_instance.specs.Private.LineReader.{clamped, kept_size, number_at, amount_fault, unless_fault, node_line, node_tests, node_count_fits}
 use Rattle.mcf_instance.specs.Private.LineReader.{checked_node, node_numbers, arc_line, arc_tests, arc_count_fits, arc_numbers}
 

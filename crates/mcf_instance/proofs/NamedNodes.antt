@@ -12,7 +12,7 @@ use Rattle.mcf_instance.specs.declared.code.Code.{Code}
 use Rattle.mcf_instance.specs.declared.reader.line.Item.{Item}
 use Rattle.mcf_instance.specs.declared.reader.line.Item.TheVariants.{Problem, Supply, Link}
 use Rattle.mcf_instance.specs.Fault.{as_fault, fault_of_line, faults, first_fault, has_p, header, header_of, is_p, no_header}
-use Rattle.mcf_instance.specs.Limits.{limits}
+use Rattle.mcf_flows.specs.Limits.{limits}
 use Rattle.mcf_instance.specs.Memory.{NamesNodes}
 use Rattle.mcf_instance.specs.Private.ReaderSound.{LinkFits, header_nodes}
 use Rattle.mcf_instance.specs.ReadOn.{StateData, Holds, Stands, header_seen, kept_rows, HasRead}

@@ -4,13 +4,13 @@ use Rattle.std.proofs.Common.{nat_lt}
 use Rattle.std.specs.Prelude.{Option, Result, ℤ, pos, slice_index_or, find, ◌==◌}
 use Rattle.mcf_instance.specs.declared.code.Code.{Code}
 use Rattle.mcf_instance.specs.declared.code.Code.TheVariants.{Node, LateN, Twice, Supply}
-use Rattle.mcf_instance.specs.declared.problem.Problem.TheVariants.{Min, Asn}
+use Rattle.mcf_flows.specs.declared.problem.Problem.TheVariants.{Min, Asn}
 use Rattle.mcf_instance.specs.declared.reader.line.Header.{Header}
 use Rattle.mcf_text.specs.Row.{Row, node, number, natural}
 use Rattle.mcf_text.specs.Whole.{is_whole, is_within, whole_value}
-use Rattle.mcf_instance.specs.Blocking.{in_table}
+use Rattle.mcf_flows.specs.Blocking.{in_table}
 use Rattle.mcf_instance.specs.Fault.{fault_of_line, has_p, header, header_of, no_header, is_good_header, size_fits, is_p, is_up_to, arc_lines, is_listed}
-use Rattle.mcf_instance.specs.Limits.{limits, node_limit}
+use Rattle.mcf_flows.specs.Limits.{limits, node_limit}
 use Rattle.mcf_instance.specs.Private.LineReader.{clamped, node_line, node_tests, number_at}
 use Rattle.std.specs.Option.{option_map_or}
 use Rattle.mcf_instance.specs.ReadOn.{header_seen}

@@ -21,16 +21,17 @@ use Rattle.mcf_text.proofs.FieldsLemmas.{fields_of-blank, fields_of-run, is_kept
 use Rattle.mcf_text.proofs.LinesLemmas.{lines_of-at}
 use Rattle.mcf_text.proofs.LeadingLemmas.{begins_with_digits, begins_with_minus, ends_at_blank, ends_at_end}
 use Rattle.mcf_text.proofs.WholeLemmas.{model}
-use Rattle.mcf_instance.specs.declared.arc.PackedArc.{PackedArc}
+use Rattle.mcf_flows.specs.declared.arc.PackedArc.{PackedArc}
 use Rattle.mcf_instance.specs.declared.code.Code.{Code}
-use Rattle.mcf_instance.specs.declared.problem.Problem.TheVariants.{Min, Asn}
+use Rattle.mcf_flows.specs.declared.problem.Problem.TheVariants.{Min, Asn}
 use Rattle.mcf_instance.specs.declared.reader.line.Header.{Header}
 use Rattle.mcf_instance.specs.declared.reader.plain.PlainArc.{PlainArc}
-use Rattle.mcf_instance.specs.Limits.{limits}
+use Rattle.mcf_flows.specs.Limits.{limits}
 use Rattle.mcf_instance.specs.Private.LineReader.{arc_line, arc_numbers, arc_tests, clamped, kept_size, number_at}
 use Rattle.mcf_instance.specs.Private.PlainLines.{BeginsArc, BlankAt, EndsField, EndsLine, HasDigits, HasField, HasLastField, HasLine, HasNumber, IsClear, SaysArc}
 use Rattle.mcf_instance.proofs.LineSteps.{arc_line_at}
-use Rattle.mcf_instance.proofs.Ranges.{at_most_passes, clamped_up_to}
+use Rattle.mcf_instance.proofs.Ranges.{clamped_up_to}
+use Rattle.mcf_flows.proofs.IntLaws.{at_most_passes}
 
 -- ---- one number
 

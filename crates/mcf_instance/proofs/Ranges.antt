@@ -7,15 +7,10 @@ use Rattle.mcf_text.specs.Row.{natural}
 use Rattle.mcf_text.specs.Whole.{is_within}
 use Rattle.mcf_instance.specs.Fault.{is_up_to}
 use Rattle.mcf_instance.specs.Private.LineReader.{clamped, kept_size}
-use Rattle.mcf_instance.specs.WellFormed.{IsUpTo}
+use Rattle.mcf_flows.specs.WellFormed.{IsUpTo}
+use Rattle.mcf_flows.proofs.IntLaws.{at_most, at_most_passes}
 
 -- ---- a number
-
-pub at_most : (x y : ℤ) → int_le x y ≡ true → x ≤ℤ y
-at_most x y h = grind (arith, ints)
-
-pub at_most_passes : (x y : ℤ) → x ≤ℤ y → int_le x y ≡ true
-at_most_passes x y h = grind (arith, ints)
 
 pub up_to_is : (b : ℕ) (z : ℤ) → is_up_to b z ≡ true → IsUpTo b z
 up_to_is b z e =

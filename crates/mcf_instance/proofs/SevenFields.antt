@@ -4,7 +4,7 @@ use Rattle.std.specs.Prelude.{Option, slice_index_or, ◌==◌, IsTrue}
 use Rattle.std.proofs.lemmas.List.{length-map}
 use Rattle.mcf_instance.specs.declared.reader.line.Header.{Header}
 use Rattle.mcf_instance.specs.Fault.{is_min}
-use Rattle.mcf_instance.specs.Limits.{limits}
+use Rattle.mcf_flows.specs.Limits.{limits}
 use Rattle.mcf_instance.specs.Private.LineReader.{problem_line, node_line, arc_line, node_count_fits, arc_count_fits}
 use Rattle.std.specs.Borrow.{Bor}
 use Rattle.mcf_instance.specs.ReadOn.{StateData}

@@ -7,7 +7,7 @@ use Rattle.std.proofs.lemmas.List.Elements.{filter_map-append}
 use Rattle.mcf_instance.specs.declared.code.Code.{Code}
 use Rattle.mcf_text.specs.Row.{Row}
 use Rattle.mcf_instance.specs.Fault.{Fault, as_fault, fault_at_end, fault_of_line, faults, first_fault_of_lines, has_p, header, arc_lines, total_of}
-use Rattle.mcf_instance.specs.Limits.{Limits, limits}
+use Rattle.mcf_flows.specs.Limits.{Limits, limits}
 use Rattle.mcf_instance.specs.Reading.{instance_of_lines, reading_of}
 use Rattle.mcf_instance.specs.ReadOn.{header_seen, Holds, Stands, StateData}
 use Rattle.mcf_instance.specs.declared.reader.line.Item.{Item}

@@ -9,22 +9,22 @@ use Rattle.std.proofs.lemmas.List.{length-map, length-set, length-replicate, map
 use Rattle.std.proofs.lemmas.List.Elements.{All-nil, All-replicate, All-set, All-push, All-map}
 use Rattle.std.proofs.lemmas.List.Sums.{sum_by-append, sum_by-le, sum-map}
 use Rattle.std.proofs.Math.Nat.{mul-le-mul}
-use Rattle.mcf_instance.specs.declared.arc.Arc.{Arc}
-use Rattle.mcf_instance.specs.declared.arc.PackedArc.{PackedArc}
-use Rattle.mcf_instance.specs.declared.problem.Problem.{Problem as Format}
-use Rattle.mcf_instance.specs.declared.problem.Problem.TheVariants.{Min, Asn}
+use Rattle.mcf_flows.specs.declared.arc.Arc.{Arc}
+use Rattle.mcf_flows.specs.declared.arc.PackedArc.{PackedArc}
+use Rattle.mcf_flows.specs.declared.problem.Problem.{Problem as Format}
+use Rattle.mcf_flows.specs.declared.problem.Problem.TheVariants.{Min, Asn}
 use Rattle.mcf_instance.specs.declared.reader.line.Header.{Header}
-use Rattle.mcf_instance.specs.Assignment.{OnAssignment, IsAssignment, IsPairing}
-use Rattle.mcf_instance.specs.Blocking.{in_table}
-use Rattle.mcf_instance.specs.Limits.{limits, total_limit, node_limit, arc_limit}
-use Rattle.mcf_instance.specs.Network.{at_node}
-use Rattle.mcf_instance.specs.Packed.{unpacked}
+use Rattle.mcf_flows.specs.Assignment.{OnAssignment, IsAssignment, IsPairing}
+use Rattle.mcf_flows.specs.Blocking.{in_table}
+use Rattle.mcf_flows.specs.Limits.{limits, total_limit, node_limit, arc_limit}
+use Rattle.mcf_flows.specs.Network.{at_node}
+use Rattle.mcf_flows.specs.Packed.{unpacked}
 use Rattle.mcf_instance.specs.Private.ReaderState.{default_supply, problem_or_min}
 use Rattle.mcf_instance.specs.Private.ReaderSound.{HeaderFits, IsFlaggedPair, IsSound, IsSoundAssignment, LinkFits, OnMin, SupplyFits, header_arcs}
 use Rattle.mcf_instance.specs.Private.ReaderSound.{header_nodes}
 use Rattle.mcf_instance.specs.Private.ReaderSound.{side_supply}
-use Rattle.mcf_instance.specs.WellFormed.{HasEnds, IsArcWithinLimits, IsUpTo, IsWellFormed, weight}
-use Rattle.mcf_instance.proofs.Bounds.{size_up_to}
+use Rattle.mcf_flows.specs.WellFormed.{HasEnds, IsArcWithinLimits, IsUpTo, IsWellFormed, weight}
+use Rattle.mcf_flows.proofs.Bounds.{size_up_to}
 use Rattle.mcf_instance.proofs.Totals.{sum_one}
 
 -- ---- a problem line

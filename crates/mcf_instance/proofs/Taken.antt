@@ -10,19 +10,19 @@ use Rattle.std.proofs.lemmas.Bool.{eq-eqb, ne_eqb, or_right}
 use Rattle.std.proofs.lemmas.List.{append-nil, map-append}
 use Rattle.std.proofs.lemmas.List.Elements.{filter-append}
 use Rattle.std.proofs.lemmas.List.Folds.{list_any-append, find-append}
-use Rattle.mcf_instance.specs.declared.problem.Problem.{Problem as Format}
-use Rattle.mcf_instance.specs.declared.problem.Problem.TheVariants.{Min, Asn}
+use Rattle.mcf_flows.specs.declared.problem.Problem.{Problem as Format}
+use Rattle.mcf_flows.specs.declared.problem.Problem.TheVariants.{Min, Asn}
 use Rattle.mcf_text.specs.Row.{Row, node, number}
 use Rattle.mcf_instance.specs.declared.reader.line.Header.{Header}
 use Rattle.mcf_instance.specs.Fault.{is_p, is_n, is_a, is_min, has_p, header, header_of, no_header, is_listed, of_min, has_field_count, has_numbers}
 use Rattle.mcf_instance.specs.Fault.{is_counted, line_weight, total_of}
-use Rattle.mcf_instance.specs.Packed.{unpacked}
+use Rattle.mcf_flows.specs.Packed.{unpacked}
 use Rattle.mcf_instance.specs.Reading.{arc_of, supply_of}
 use Rattle.mcf_instance.specs.ReadOn.{header_seen, Holds, StateData}
 use Rattle.mcf_instance.proofs.ArcLines.{packed}
 use Rattle.mcf_instance.specs.declared.reader.line.Item.TheVariants.{Problem, Supply, Link}
 use Rattle.mcf_instance.specs.Private.ReaderState.{with_item, default_supply}
-use Rattle.mcf_instance.specs.WellFormed.{weight}
+use Rattle.mcf_flows.specs.WellFormed.{weight}
 use Rattle.mcf_instance.proofs.Totals.{total-append_counted, total-append_other}
 
 option_or_none : {X : Type 0} (o : Option X) → option_or o None ≡ o

@@ -8,11 +8,11 @@ use Rattle.mcf_text.specs.Fields.{fields_of}
 use Rattle.mcf_text.specs.Lines.{lines_of, numbered_lines}
 use Rattle.mcf_text.specs.Row.{row_of}
 use Rattle.mcf_text.proofs.LinesLemmas.{length-numbered_lines}
-use Rattle.mcf_instance.specs.declared.arc.PackedArc.{PackedArc}
+use Rattle.mcf_flows.specs.declared.arc.PackedArc.{PackedArc}
 use Rattle.mcf_instance.specs.declared.reader.line.Header.{Header}
 use Rattle.mcf_instance.specs.declared.reader.plain.PlainArc.{PlainArc}
 use Rattle.mcf_instance.specs.declared.reader.line.Item.TheVariants.{Link}
-use Rattle.mcf_instance.specs.Limits.{limits}
+use Rattle.mcf_flows.specs.Limits.{limits}
 use Rattle.mcf_instance.specs.Memory.{NamesNodes}
 use Rattle.mcf_instance.specs.ReadOn.{HasRead, HasReadPieces, Stands, StateData}
 use Rattle.mcf_instance.specs.Private.LineReader.{arc_line}

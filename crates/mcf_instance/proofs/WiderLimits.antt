@@ -17,13 +17,14 @@ use Rattle.mcf_instance.specs.Fault.{has_field_count, has_numbers, has_p, header
 use Rattle.mcf_instance.specs.Fault.{line_weight}
 use Rattle.mcf_instance.specs.Fault.{no_header, of_min, passes, size_fits, table, total_of}
 use Rattle.mcf_instance.specs.Laws.{FormerInstancesStay}
-use Rattle.mcf_instance.specs.Limits.{arc_limit, former_limits, limits, node_limit}
+use Rattle.mcf_flows.specs.Limits.{arc_limit, former_limits, limits, node_limit}
 use Rattle.mcf_instance.specs.Reading.{reading}
 use Rattle.mcf_text.specs.Row.{Row, number, rows}
 use Rattle.mcf_text.specs.Whole.{is_within}
 use Rattle.mcf_instance.proofs.After.{applies_not}
-use Rattle.mcf_instance.proofs.Bounds.{size_up_to}
-use Rattle.mcf_instance.proofs.Ranges.{at_most_passes, natural_most, up_to_is}
+use Rattle.mcf_flows.proofs.Bounds.{size_up_to}
+use Rattle.mcf_instance.proofs.Ranges.{natural_most, up_to_is}
+use Rattle.mcf_flows.proofs.IntLaws.{at_most_passes}
 use Rattle.mcf_instance.proofs.Simulation.{first_fault_more}
 use Rattle.mcf_instance.proofs.Totals.{total-append_counted, total-append_other}
 use Rattle.mcf_instance.proofs.WholeTexts.{first_fault_stays}

@@ -4,18 +4,18 @@ use Rattle.std.specs.Prelude.{ℕ, ◌+◌, nat_le, Bool, false, not, ◌&&◌, 
 use Rattle.std.specs.Prelude.{ℤ, pos, neg_ℤ, int_lt, Option, Some, None, option_map, Result, Ok, Err}
 use Rattle.std.specs.Option.{option_or}
 use Rattle.std.specs.Ordering.{int_eq}
-use Rattle.mcf_instance.specs.declared.arc.Arc.{Arc}
+use Rattle.mcf_flows.specs.declared.arc.Arc.{Arc}
 use Rattle.mcf_instance.specs.declared.arrays.ArrayFault.{ArrayFault}
 use Rattle.mcf_instance.specs.declared.arrays.ArrayFault.TheVariants.{Size, Supply as FaultySupply, Arc as FaultyArc}
 use Rattle.mcf_instance.specs.declared.arrays.RawArc.{RawArc}
 use Rattle.mcf_instance.specs.declared.arrays.RawPair.{RawPair}
 use Rattle.mcf_instance.specs.declared.code.Code.{Code}
 use Rattle.mcf_instance.specs.declared.code.Code.TheVariants.{Node, Bound, Order, Cost, Side, Total}
-use Rattle.mcf_instance.specs.declared.problem.Problem.TheVariants.{Min, Asn}
+use Rattle.mcf_flows.specs.declared.problem.Problem.TheVariants.{Min, Asn}
 use Rattle.mcf_instance.specs.Fault.{is_min, is_up_to, passes}
-use Rattle.mcf_instance.specs.Limits.{Limits, node_limit, arc_limit}
-use Rattle.mcf_instance.specs.Network.{Network, at_node, node_count}
-use Rattle.mcf_instance.specs.WellFormed.{weight}
+use Rattle.mcf_flows.specs.Limits.{Limits, node_limit, arc_limit}
+use Rattle.mcf_flows.specs.Network.{Network, at_node, node_count}
+use Rattle.mcf_flows.specs.WellFormed.{weight}
 use Rattle.mcf_text.specs.Row.{with_earlier}
 use Rattle.mcf_text.specs.Whole.{is_within}
 

@@ -7,10 +7,10 @@ use Rattle.std.specs.Option.{option_or, option_map_or}
 use Rattle.mcf_instance.specs.declared.code.Code.{Code}
 use Rattle.mcf_instance.specs.declared.code.Code.TheVariants.{Kind, Fields, Problem, Number, SecondP, BeforeP, Size, Node, LateN, Twice, Supply, Bound, Order}
 use Rattle.mcf_instance.specs.declared.code.Code.TheVariants.{Cost, Extra, Side, Total, NoP, Missing}
-use Rattle.mcf_instance.specs.declared.problem.Problem.{Problem as Format}
-use Rattle.mcf_instance.specs.declared.problem.Problem.TheVariants.{Min, Asn}
+use Rattle.mcf_flows.specs.declared.problem.Problem.{Problem as Format}
+use Rattle.mcf_flows.specs.declared.problem.Problem.TheVariants.{Min, Asn}
 use Rattle.mcf_instance.specs.declared.reader.line.Header.{Header}
-use Rattle.mcf_instance.specs.Limits.{Limits, node_limit, arc_limit}
+use Rattle.mcf_flows.specs.Limits.{Limits, node_limit, arc_limit}
 use Rattle.mcf_text.specs.Row.{Row, rows, field, begins, number, natural, node, with_earlier, line_after}
 use Rattle.mcf_text.specs.Whole.{is_whole, is_within}
 

@@ -1,7 +1,7 @@
 -- Instance texts that come in pieces.
 -- Source: own
 use Rattle.std.specs.Prelude.{◌≡◌, ◌⊎◌, ◌≤◌, ℕ, false, List, ◌++◌, length, Option, None}
-use Rattle.mcf_instance.specs.Limits.{Limits}
+use Rattle.mcf_flows.specs.Limits.{Limits}
 use Rattle.mcf_instance.specs.Memory.{NamesNodes}
 use Rattle.mcf_instance.specs.ReadOn.{HasReadOn, StateData}
 use Rattle.mcf_text.specs.Feed.{Feed}

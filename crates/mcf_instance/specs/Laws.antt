@@ -1,27 +1,10 @@
--- The two laws on which a certificate rests, and that of the limits.
--- Source: AMO 9.3, 9.4
-use Rattle.std.specs.Prelude.{◌≡◌, ℕ, Bool, List, ℤ, Ok}
-use Rattle.std.specs.List.{All}
-use Rattle.mcf_instance.specs.declared.problem.Side.{Side}
-use Rattle.mcf_instance.specs.Blocking.{Blocks}
-use Rattle.mcf_instance.specs.Flow.{IsFeasible, IsLeast, Shows}
-use Rattle.mcf_instance.specs.Limits.{limits, former_limits}
-use Rattle.mcf_instance.specs.Network.{Network, node_count}
+-- The law of the limits.
+-- Source: own
+use Rattle.std.specs.Prelude.{◌≡◌, ℕ, List, Ok}
+use Rattle.mcf_flows.specs.Limits.{limits, former_limits}
+use Rattle.mcf_flows.specs.Network.{Network}
 use Rattle.mcf_instance.specs.Reading.{reading}
-use Rattle.mcf_instance.specs.WellFormed.{HasEnds}
-
--- a feasible flow that some prices show is least (weak duality)
-abbrev pub ShownFlowsAreLeast : Type 0
-ShownFlowsAreLeast =
-    (g : Network) (prices flow : List ℤ) → All (HasEnds (node_count g)) g.arcs → IsFeasible g flow → Shows g.arcs prices flow → IsLeast g flow
-
--- where a set blocks, by either side, no flow is feasible (the easy half of Hoffman's theorem)
--- Source: AMO 6.7, Hoffman
-abbrev pub BlockedHasNoFlow : Type 0
-BlockedHasNoFlow =
-    (g : Network) (set : ℕ → Bool) (side : Side) (flow : List ℤ) → All (HasEnds (node_count g)) g.arcs → Blocks g set side → ¬ IsFeasible g flow
 
 -- a text without a fault under the former limits has none under those of today, and is the same instance
--- Source: own
 abbrev pub FormerInstancesStay : Type 0
 FormerInstancesStay = (text : List ℕ) (g : Network) → reading former_limits text ≡ Ok g → reading limits text ≡ Ok g

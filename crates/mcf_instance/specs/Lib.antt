@@ -1,17 +1,18 @@
+pub use Rattle.mcf_flows.specs.Assignment
+pub use Rattle.mcf_flows.specs.Blocking
+pub use Rattle.mcf_flows.specs.Flow
+pub use Rattle.mcf_flows.specs.Laws as FlowLaws
+pub use Rattle.mcf_flows.specs.Limits
+pub use Rattle.mcf_flows.specs.Network
+pub use Rattle.mcf_flows.specs.Packed
+pub use Rattle.mcf_flows.specs.WellFormed
 pub use Rattle.mcf_text.specs.Row
 pub use Rattle.mcf_text.specs.Whole
 pub mod Arrays
-pub mod Assignment
-pub mod Blocking
 pub mod Fault
 pub mod Feeding
-pub mod Flow
 pub mod Laws
-pub mod Limits
 pub mod Memory
-pub mod Network
-pub mod Packed
 pub mod ReadOn
 pub mod Reading
-pub mod WellFormed
 pub mod Private

@@ -2,7 +2,7 @@
 -- Source: own
 use Rattle.std.specs.Prelude.{◌≡◌, ℕ, ◌≤◌, ◌<◌, List, find, Some}
 use Rattle.mcf_instance.specs.Fault.{Fault, first_fault, header, is_p}
-use Rattle.mcf_instance.specs.Limits.{Limits}
+use Rattle.mcf_flows.specs.Limits.{Limits}
 use Rattle.mcf_text.specs.Row.{Row, rows}
 
 -- the first problem line is good, names a node, and comes before the first fault

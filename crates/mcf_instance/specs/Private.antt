@@ -4,6 +4,4 @@ pub mod LineReader
 pub mod PlainLines
 pub mod ReaderSound
 pub mod ReaderState
-pub mod StoredArcs
-pub mod Sums
 pub mod TakenArcs

@@ -2,11 +2,11 @@
 -- Source: own
 use Rattle.std.specs.Prelude.{◌≡◌, ℕ, ◌+◌, if◌then◌else◌, Bool, true, List, [], ◌++◌, map, length, filter, slice_get, IsTrue, ℤ, Option, Some, None, Err}
 use Rattle.std.specs.List.{range_with_len}
-use Rattle.mcf_instance.specs.declared.arc.PackedArc.{PackedArc}
+use Rattle.mcf_flows.specs.declared.arc.PackedArc.{PackedArc}
 use Rattle.mcf_instance.specs.declared.reader.line.Header.{Header}
 use Rattle.mcf_instance.specs.Fault.{Fault, arc_lines, faults, has_p, header, is_listed, of_min, total_of}
-use Rattle.mcf_instance.specs.Limits.{Limits}
-use Rattle.mcf_instance.specs.Packed.{unpacked}
+use Rattle.mcf_flows.specs.Limits.{Limits}
+use Rattle.mcf_flows.specs.Packed.{unpacked}
 use Rattle.mcf_instance.specs.Reading.{arc_of, reading, supply_of}
 use Rattle.mcf_text.specs.Feed.{Feed}
 use Rattle.mcf_text.specs.Fields.{is_kept}

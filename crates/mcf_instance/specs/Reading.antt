@@ -3,12 +3,12 @@
 use Rattle.std.specs.Prelude.{ℕ, ◌==◌, if◌then◌else◌, List, map, filter, find, ℤ, pos, neg_ℤ, Option, Some, None, Result, Ok, Err}
 use Rattle.std.specs.List.{range_with_len}
 use Rattle.std.specs.Option.{option_map_or}
-use Rattle.mcf_instance.specs.declared.arc.Arc.{Arc}
-use Rattle.mcf_instance.specs.declared.problem.Problem.{Problem}
-use Rattle.mcf_instance.specs.declared.problem.Problem.TheVariants.{Min, Asn}
+use Rattle.mcf_flows.specs.declared.arc.Arc.{Arc}
+use Rattle.mcf_flows.specs.declared.problem.Problem.{Problem}
+use Rattle.mcf_flows.specs.declared.problem.Problem.TheVariants.{Min, Asn}
 use Rattle.mcf_instance.specs.Fault.{Fault, arc_lines, first_fault, header, is_listed, is_n}
-use Rattle.mcf_instance.specs.Limits.{Limits}
-use Rattle.mcf_instance.specs.Network.{Network}
+use Rattle.mcf_flows.specs.Limits.{Limits}
+use Rattle.mcf_flows.specs.Network.{Network}
 use Rattle.mcf_text.specs.Row.{Row, rows, number, node}
 
 -- the arc of an arc line; one of an assignment carries 0 or 1

@@ -1,16 +1,15 @@
 //! Instances made of arrays, with no text.
 ghost use Rattle.std.specs.Prelude.{◌≡◌, ◌↔◌, ◌≤◌, ◌+◌, ◌++◌, [], IfErr, IfOk, List, OnErr, length, map, neg_ℤ, pos, replicate, true, false, None, Some, is_ok, nat_le, ◌&&◌};
 ghost use Rattle.mcf_instance.specs.Arrays.{arc_of_numbers, arc_of_pair, assignment_problem, first_found, flow_problem, made_of_arrays, supply_fault};
-ghost use Rattle.mcf_instance.specs.Limits.{limits, arc_limit, node_limit};
-ghost use Rattle.mcf_instance.specs.Network.{Network};
+ghost use Rattle.mcf_flows.specs.Limits.{limits, arc_limit, node_limit};
+ghost use Rattle.mcf_flows.specs.Network.{Network};
 ghost use Rattle.mcf_instance.specs.Private.ArrayStates.{HoldsArcs, TookArcs, numbers_of};
-ghost use Rattle.mcf_instance.specs.WellFormed.{IsWellFormed};
+ghost use Rattle.mcf_flows.specs.WellFormed.{IsWellFormed};
 
 use crate::code::Code;
-use crate::instances::Instance;
-use crate::problem::Problem;
 use crate::reader::line::{ArcNumbers, Header, SUPPLY_LIMIT, is_up_to};
 use crate::reader::state::State;
+use mcf_flows::{Instance, Problem};
 use mcf_text::{ArcId, NoMemory, NodeId, copies};
 use std::alloc::Global;
 

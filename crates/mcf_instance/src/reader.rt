@@ -1,6 +1,6 @@
 //! The one-pass reader of instance texts.
 ghost use Rattle.std.specs.Prelude.{◌≡◌, IfOk, OnErr};
-ghost use Rattle.mcf_instance.specs.Limits.{limits};
+ghost use Rattle.mcf_flows.specs.Limits.{limits};
 ghost use Rattle.mcf_instance.specs.Memory.{NamesNodes};
 ghost use Rattle.mcf_instance.specs.Reading.{reading};
 
@@ -11,10 +11,10 @@ mod pieces;
 mod plain;
 pub(crate) mod state;
 
-use crate::instances::Instance;
 use crate::reader::lines::{read_line, take_arcs};
 use crate::reader::state::State;
 use crate::refusal::Refusal;
+use mcf_flows::Instance;
 use mcf_text::{NoMemory, split_line};
 pub use pieces::Reader;
 use std::alloc::Global;

@@ -2,18 +2,18 @@
 use Rattle.std.proofs.Common.{◌≡◌, ℕ, ◌-◌, ◌<◌, ◌≤◌, Bool, true, false, List, length, get_or, refl, ap, sym, arith, subst, ℤ, pos, ◌-ℤ◌, ◌≤ℤ◌}
 use Rattle.std.specs.List.{All}
 use Rattle.std.proofs.lemmas.Int.{ints}
-use Rattle.mcf_instance.specs.declared.arc.Arc.{Arc}
-use Rattle.mcf_instance.specs.Flow.{CanCarry}
-use Rattle.mcf_instance.specs.Network.{Network, IsArcNumber, IsNode, at_node, node_count}
-use Rattle.mcf_instance.specs.WellFormed.{IsUpTo, HasEnds}
-use Rattle.mcf_instance.specs.declared.problem.Problem.{Problem}
+use Rattle.mcf_flows.specs.declared.arc.Arc.{Arc}
+use Rattle.mcf_flows.specs.Flow.{CanCarry}
+use Rattle.mcf_flows.specs.Network.{Network, IsArcNumber, IsNode, at_node, node_count}
+use Rattle.mcf_flows.specs.WellFormed.{IsUpTo, HasEnds}
+use Rattle.mcf_flows.specs.declared.problem.Problem.{Problem}
 use Rattle.mcf_network.specs.declared.rid.Rid.{Rid}
 use Rattle.mcf_network.specs.declared.stored.Link.{Link}
 use Rattle.mcf_network.specs.Stored.{stored_arc, stored_net, width_at}
 use Rattle.mcf_network.specs.Nets.{IsNet, IsNetArc, width_limit, supply_limit}
 use Rattle.mcf_network.specs.Residual.{no_arc, arc_at, tail, head}
 use Rattle.mcf_network.specs.States.{Pseudoflow, IsPseudoflow, amount_at, room_of}
-use Rattle.mcf_instance.proofs.AllZips.{AllZip-at, length-AllZip}
+use Rattle.mcf_flows.proofs.AllZips.{AllZip-at, length-AllZip}
 use Rattle.mcf_network.proofs.StoredLaws.{get_or-stored_arcs, length-stored_arcs, some_link}
 
 pub arcs_need_nodes : (nodes : ℕ) (arcs : List Arc) → All (HasEnds nodes) arcs → 1 ≤ length arcs → 1 ≤ nodes

@@ -11,16 +11,16 @@ use Rattle.std.proofs.lemmas.Option.{get_or_from_slice_get}
 use Rattle.std.proofs.lemmas.Simd.{map-map}
 use Rattle.std.proofs.lemmas.List.Elements.{All-head, All-tail, All-map}
 use Rattle.std.proofs.lemmas.List.FromFn.{get_or-map-range_with_len, length-map-range_with_len}
-use Rattle.mcf_instance.specs.declared.arc.Arc.{Arc}
-use Rattle.mcf_instance.specs.declared.problem.Problem.{Problem}
-use Rattle.mcf_instance.specs.declared.problem.Problem.TheVariants.{Min, Asn}
-use Rattle.mcf_instance.specs.Assignment.{IsAssignment, IsPairing, OnAssignment}
-use Rattle.mcf_instance.specs.Flow.{IsWithinBounds, net}
-use Rattle.mcf_instance.specs.Limits.{limits, total_limit}
-use Rattle.mcf_instance.specs.Network.{Network, IsNode, at_node, flow_sum, node_count, when}
-use Rattle.mcf_instance.specs.WellFormed.{HasEnds, IsArcWithinLimits, IsUpTo, IsWellFormed, weight}
-use Rattle.mcf_instance.proofs.Bounds.{sum-weights-le, width_weight}
-use Rattle.mcf_instance.proofs.NetSteps.{net_more, net_up_to}
+use Rattle.mcf_flows.specs.declared.arc.Arc.{Arc}
+use Rattle.mcf_flows.specs.declared.problem.Problem.{Problem}
+use Rattle.mcf_flows.specs.declared.problem.Problem.TheVariants.{Min, Asn}
+use Rattle.mcf_flows.specs.Assignment.{IsAssignment, IsPairing, OnAssignment}
+use Rattle.mcf_flows.specs.Flow.{IsWithinBounds, net}
+use Rattle.mcf_flows.specs.Limits.{limits, total_limit}
+use Rattle.mcf_flows.specs.Network.{Network, IsNode, at_node, flow_sum, node_count, when}
+use Rattle.mcf_flows.specs.WellFormed.{HasEnds, IsArcWithinLimits, IsUpTo, IsWellFormed, weight}
+use Rattle.mcf_flows.proofs.Bounds.{sum-weights-le, width_weight}
+use Rattle.mcf_flows.proofs.NetSteps.{net_more, net_up_to}
 use Rattle.mcf_network.specs.Nets.{IsNet, IsNetArc, net_total_limit, supply_limit}
 use Rattle.mcf_network.specs.Removal.{lows, net_of, supply_left, width_of, without_low}
 use Rattle.mcf_network.specs.declared.stored.Link.{Link}

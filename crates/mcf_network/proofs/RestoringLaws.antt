@@ -10,17 +10,17 @@ use Rattle.std.proofs.lemmas.List.{length-map, take_all}
 use Rattle.std.proofs.lemmas.Option.{get_or_from_slice_get, slice_get-get_or, slice_get_within}
 use Rattle.std.proofs.lemmas.List.Elements.{All-head, All-tail}
 use Rattle.std.proofs.lemmas.List.FromFn.{length-map-range_with_len}
-use Rattle.mcf_instance.specs.declared.arc.Arc.{Arc}
-use Rattle.mcf_instance.specs.declared.problem.Side.TheVariants.{Send, Take}
-use Rattle.mcf_instance.specs.Blocking.{enters, leaves, supply_in}
-use Rattle.mcf_instance.specs.Flow.{AreLowPrices, CanCarry, IsFeasible, IsComplementary, IsWithinBounds, Shows, cost, net, reduced_cost}
-use Rattle.mcf_instance.specs.Network.{Network, IsNode, arc_sum, at_node, flow_sum, node_count, node_sum, when}
-use Rattle.mcf_instance.specs.Limits.{limits}
-use Rattle.mcf_instance.specs.WellFormed.{HasEnds, IsWellFormed}
-use Rattle.mcf_instance.proofs.AllZips.{length-AllZip}
-use Rattle.mcf_instance.proofs.Hoffman.{nets_across}
-use Rattle.mcf_instance.proofs.IntLaws.{mul-add, mul-anti, mul-mono, mul-sub, mul-zero}
-use Rattle.mcf_instance.proofs.NodeSums.{node_sum-same, node_sum-sub}
+use Rattle.mcf_flows.specs.declared.arc.Arc.{Arc}
+use Rattle.mcf_flows.specs.declared.problem.Side.TheVariants.{Send, Take}
+use Rattle.mcf_flows.specs.Blocking.{enters, leaves, supply_in}
+use Rattle.mcf_flows.specs.Flow.{AreLowPrices, CanCarry, IsFeasible, IsComplementary, IsWithinBounds, Shows, cost, net, reduced_cost}
+use Rattle.mcf_flows.specs.Network.{Network, IsNode, arc_sum, at_node, flow_sum, node_count, node_sum, when}
+use Rattle.mcf_flows.specs.Limits.{limits}
+use Rattle.mcf_flows.specs.WellFormed.{HasEnds, IsWellFormed}
+use Rattle.mcf_flows.proofs.AllZips.{length-AllZip}
+use Rattle.mcf_flows.proofs.Hoffman.{nets_across}
+use Rattle.mcf_flows.proofs.IntLaws.{mul-add, mul-anti, mul-mono, mul-sub, mul-zero}
+use Rattle.mcf_flows.proofs.NodeSums.{node_sum-same, node_sum-sub}
 use Rattle.mcf_network.specs.Laws.{GreatestPricesCarryOver, NetFlowsCostNoMore, NetsBlockAlike, RestoredLeastFlowsAreLeast}
 use Rattle.mcf_network.specs.Removal.{is_loop, lows, net_of, supply_left, width_of, without_low}
 use Rattle.mcf_network.specs.Residual.{no_arc}

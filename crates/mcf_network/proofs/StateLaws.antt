@@ -9,14 +9,14 @@ use Rattle.std.proofs.lemmas.Bool.{cases_eq, eq-eqb, ne_eqb}
 use Rattle.std.proofs.lemmas.List.{get_or-set_other, get_or_read}
 use Rattle.std.proofs.lemmas.List.Elements.{All-head, All-tail}
 use Rattle.std.proofs.lemmas.Grind.{get_or-set_at}
-use Rattle.mcf_instance.specs.declared.arc.Arc.{Arc}
-use Rattle.mcf_instance.specs.Flow.{CanCarry, IsWithinBounds, net}
-use Rattle.mcf_instance.specs.Network.{Network, IsArcNumber, IsNode, at_node, flow_sum, node_count, when}
-use Rattle.mcf_instance.specs.WellFormed.{IsUpTo}
-use Rattle.mcf_instance.proofs.AllZips.{AllZip-set, AllZip-with}
-use Rattle.mcf_instance.proofs.ArcSums.{flow_sum-set}
-use Rattle.mcf_instance.proofs.Bounds.{flow_sum_up_to, when_up_to}
-use Rattle.mcf_instance.proofs.NodeSums.{when-neg}
+use Rattle.mcf_flows.specs.declared.arc.Arc.{Arc}
+use Rattle.mcf_flows.specs.Flow.{CanCarry, IsWithinBounds, net}
+use Rattle.mcf_flows.specs.Network.{Network, IsArcNumber, IsNode, at_node, flow_sum, node_count, when}
+use Rattle.mcf_flows.specs.WellFormed.{IsUpTo}
+use Rattle.mcf_flows.proofs.AllZips.{AllZip-set, AllZip-with}
+use Rattle.mcf_flows.proofs.ArcSums.{flow_sum-set}
+use Rattle.mcf_flows.proofs.Bounds.{flow_sum_up_to, when_up_to}
+use Rattle.mcf_flows.proofs.NodeSums.{when-neg}
 use Rattle.mcf_network.specs.declared.rid.Rid.{Rid}
 use Rattle.mcf_network.specs.Nets.{IsNet, IsNetArc, surplus_limit, width_limit}
 use Rattle.mcf_network.specs.Private.StoredAmounts.{HaveWidthsUpTo}

@@ -5,14 +5,14 @@ use Rattle.std.specs.List.{AllZip}
 use Rattle.std.proofs.lemmas.Int.{ints, by_lt_z}
 use Rattle.std.proofs.lemmas.Bool.{false≢true}
 use Rattle.std.proofs.lemmas.List.{get_or_default}
-use Rattle.mcf_instance.specs.declared.arc.Arc.{Arc}
-use Rattle.mcf_instance.specs.Blocking.{can_send, must_send, enters, leaves, supply_in}
-use Rattle.mcf_instance.specs.Flow.{IsFeasible, net}
-use Rattle.mcf_instance.specs.Network.{IsArcNumber, at_node, flow_sum, node_count, node_sum, when}
-use Rattle.mcf_instance.proofs.AllZips.{AllZip_from}
-use Rattle.mcf_instance.proofs.ArcSums.{flow_sum-arc_sum, flow_sum-same_at}
-use Rattle.mcf_instance.proofs.Hoffman.{nets_across}
-use Rattle.mcf_instance.proofs.NodeSums.{node_sum-same, node_sum-sub, node_sum_above_zero}
+use Rattle.mcf_flows.specs.declared.arc.Arc.{Arc}
+use Rattle.mcf_flows.specs.Blocking.{can_send, must_send, enters, leaves, supply_in}
+use Rattle.mcf_flows.specs.Flow.{IsFeasible, net}
+use Rattle.mcf_flows.specs.Network.{IsArcNumber, at_node, flow_sum, node_count, node_sum, when}
+use Rattle.mcf_flows.proofs.AllZips.{AllZip_from}
+use Rattle.mcf_flows.proofs.ArcSums.{flow_sum-arc_sum, flow_sum-same_at}
+use Rattle.mcf_flows.proofs.Hoffman.{nets_across}
+use Rattle.mcf_flows.proofs.NodeSums.{node_sum-same, node_sum-sub, node_sum_above_zero}
 use Rattle.mcf_network.specs.Laws.{FeasibleFlowsAreStates, StuckSetsBlock}
 use Rattle.mcf_network.specs.Residual.{no_arc, arc_at}
 use Rattle.mcf_network.specs.States.{Pseudoflow, IsPseudoflow, HasNoSurplus, amount_at, room_of, surplus_at}

@@ -4,9 +4,9 @@ use Rattle.std.proofs.lemmas.Int.{ints}
 use Rattle.std.proofs.lemmas.Bool.{cases_eq}
 use Rattle.std.proofs.lemmas.List.{get_or-map, length-map}
 use Rattle.std.proofs.lemmas.List.FromFn.{length-map-range_with_len}
-use Rattle.mcf_instance.specs.declared.arc.Arc.{Arc}
-use Rattle.mcf_instance.specs.Flow.{net}
-use Rattle.mcf_instance.specs.Network.{Network, flow_sum, node_count, when}
+use Rattle.mcf_flows.specs.declared.arc.Arc.{Arc}
+use Rattle.mcf_flows.specs.Flow.{net}
+use Rattle.mcf_flows.specs.Network.{Network, flow_sum, node_count, when}
 use Rattle.mcf_network.specs.Laws.{RestoredTreeSolutionsAreTreeSolutions}
 use Rattle.mcf_network.specs.Removal.{net_of, supply_left, without_low}
 use Rattle.mcf_network.specs.Residual.{no_arc, arc_at}

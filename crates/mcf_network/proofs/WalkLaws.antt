@@ -7,10 +7,10 @@ use Rattle.std.proofs.lemmas.Bool.{cases_eq}
 use Rattle.std.proofs.lemmas.List.{at_drop_all, get_or_default}
 use Rattle.std.specs.Int.{int_min}
 use Rattle.std.proofs.lemmas.Int.{by_lt_z, clamps, ints}
-use Rattle.mcf_instance.specs.Flow.{cost}
-use Rattle.mcf_instance.specs.Network.{IsArcNumber, when}
-use Rattle.mcf_instance.proofs.ArcSums.{flow_sum-set}
-use Rattle.mcf_instance.proofs.IntLaws.{mul-add, mul-sub, neg-mul, add-mul, zero-mul}
+use Rattle.mcf_flows.specs.Flow.{cost}
+use Rattle.mcf_flows.specs.Network.{IsArcNumber, when}
+use Rattle.mcf_flows.proofs.ArcSums.{flow_sum-set}
+use Rattle.mcf_flows.proofs.IntLaws.{mul-add, mul-sub, neg-mul, add-mul, zero-mul}
 use Rattle.mcf_network.specs.declared.rid.Rid.{Rid}
 use Rattle.mcf_network.specs.Residual.{no_arc, arc_at, head, unit_cost}
 use Rattle.mcf_network.specs.States.{Pseudoflow, IsPseudoflow, amount_at, pushed, room_of, surplus_at}

@@ -2,12 +2,12 @@
 -- Source: AMO 2.4
 use Rattle.std.specs.Prelude.{◌≡◌, ℕ, Bool, List, length, ℤ, ◌+ℤ◌, ◌≤ℤ◌, ◌↔◌}
 use Rattle.std.specs.List.{All}
-use Rattle.mcf_instance.specs.declared.problem.Side.{Side}
-use Rattle.mcf_instance.specs.declared.problem.Side.TheVariants.{Send}
-use Rattle.mcf_instance.specs.Blocking.{Blocks}
-use Rattle.mcf_instance.specs.Flow.{AreGreatestPrices, IsFeasible, IsLeast, cost}
-use Rattle.mcf_instance.specs.Network.{Network, node_count}
-use Rattle.mcf_instance.specs.WellFormed.{HasEnds}
+use Rattle.mcf_flows.specs.declared.problem.Side.{Side}
+use Rattle.mcf_flows.specs.declared.problem.Side.TheVariants.{Send}
+use Rattle.mcf_flows.specs.Blocking.{Blocks}
+use Rattle.mcf_flows.specs.Flow.{AreGreatestPrices, IsFeasible, IsLeast, cost}
+use Rattle.mcf_flows.specs.Network.{Network, node_count}
+use Rattle.mcf_flows.specs.WellFormed.{HasEnds}
 use Rattle.mcf_network.specs.Nets.{IsNet}
 use Rattle.mcf_network.specs.Removal.{net_of}
 use Rattle.mcf_network.specs.Restoring.{fixed_cost, restored}

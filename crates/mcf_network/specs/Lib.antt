@@ -1,9 +1,9 @@
-pub use Rattle.mcf_instance.specs.Assignment
-pub use Rattle.mcf_instance.specs.Blocking
-pub use Rattle.mcf_instance.specs.Flow
-pub use Rattle.mcf_instance.specs.Limits
-pub use Rattle.mcf_instance.specs.Network
-pub use Rattle.mcf_instance.specs.WellFormed
+pub use Rattle.mcf_flows.specs.Assignment
+pub use Rattle.mcf_flows.specs.Blocking
+pub use Rattle.mcf_flows.specs.Flow
+pub use Rattle.mcf_flows.specs.Limits
+pub use Rattle.mcf_flows.specs.Network
+pub use Rattle.mcf_flows.specs.WellFormed
 pub mod Laws
 pub mod Nets
 pub mod NodeSets

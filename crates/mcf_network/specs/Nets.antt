@@ -2,11 +2,11 @@
 -- Source: own
 use Rattle.std.specs.Prelude.{◌≡◌, ℕ, ◌*◌, ◌^◌, ◌≤◌, map, length, sum, pos, ◌≤ℤ◌}
 use Rattle.std.specs.List.{All}
-use Rattle.mcf_instance.specs.declared.arc.Arc.{Arc}
-use Rattle.mcf_instance.specs.Assignment.{OnAssignment, IsAssignment}
-use Rattle.mcf_instance.specs.Limits.{limits, node_limit, arc_limit}
-use Rattle.mcf_instance.specs.Network.{Network, node_count}
-use Rattle.mcf_instance.specs.WellFormed.{IsUpTo, HasEnds, weight}
+use Rattle.mcf_flows.specs.declared.arc.Arc.{Arc}
+use Rattle.mcf_flows.specs.Assignment.{OnAssignment, IsAssignment}
+use Rattle.mcf_flows.specs.Limits.{limits, node_limit, arc_limit}
+use Rattle.mcf_flows.specs.Network.{Network, node_count}
+use Rattle.mcf_flows.specs.WellFormed.{IsUpTo, HasEnds, weight}
 
 -- the greatest width
 abbrev pub width_limit : ℕ

@@ -2,9 +2,9 @@
 -- Source: AMO 2.4
 use Rattle.std.specs.Prelude.{ℕ, ◌==◌, Bool, List, map, ℤ, pos, ◌-ℤ◌, if◌then◌else◌}
 use Rattle.std.specs.List.{range_with_len}
-use Rattle.mcf_instance.specs.declared.arc.Arc.{Arc}
-use Rattle.mcf_instance.specs.Flow.{net}
-use Rattle.mcf_instance.specs.Network.{Network, at_node, node_count}
+use Rattle.mcf_flows.specs.declared.arc.Arc.{Arc}
+use Rattle.mcf_flows.specs.Flow.{net}
+use Rattle.mcf_flows.specs.Network.{Network, at_node, node_count}
 
 -- both ends are one node
 -- Source: own

@@ -2,8 +2,8 @@
 -- backward.
 -- Source: AMO 2.4
 use Rattle.std.specs.Prelude.{ℕ, ◌-◌, ℤ, pos, neg_ℤ, if◌then◌else◌, slice_index_or}
-use Rattle.mcf_instance.specs.declared.arc.Arc.{Arc}
-use Rattle.mcf_instance.specs.Network.{Network}
+use Rattle.mcf_flows.specs.declared.arc.Arc.{Arc}
+use Rattle.mcf_flows.specs.Network.{Network}
 use Rattle.mcf_network.specs.declared.rid.Rid.{Rid}
 
 -- the arc that a number past the end would name

@@ -1,8 +1,8 @@
 -- The flow of a network for which a state of its net stands.
 -- Source: AMO 2.4, loops own
 use Rattle.std.specs.Prelude.{Bool, ◌&&◌, List, [], ◌∷◌, ℤ, pos, ◌+ℤ◌, ◌-ℤ◌, ◌*ℤ◌, int_lt, if◌then◌else◌}
-use Rattle.mcf_instance.specs.declared.arc.Arc.{Arc}
-use Rattle.mcf_instance.specs.Network.{arc_sum, when}
+use Rattle.mcf_flows.specs.declared.arc.Arc.{Arc}
+use Rattle.mcf_flows.specs.Network.{arc_sum, when}
 use Rattle.mcf_network.specs.Removal.{is_loop}
 
 -- whether an arc is a loop that earns by what it carries

@@ -2,7 +2,7 @@
 -- Source: AMO 2.3
 use Rattle.std.specs.Prelude.{◌≡◌, ◌≢◌, ℕ, ◌+◌, ◌-◌, ◌≤◌, List, length, slice_index, slice_range}
 use Rattle.std.specs.List.{All, AllPairs, Contains}
-use Rattle.mcf_instance.specs.Network.{Network, IsArcNumber, IsNode, node_count}
+use Rattle.mcf_flows.specs.Network.{Network, IsArcNumber, IsNode, node_count}
 use Rattle.mcf_network.specs.declared.rid.Rid.{Rid}
 use Rattle.mcf_network.specs.Residual.{tail}
 

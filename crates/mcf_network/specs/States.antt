@@ -1,8 +1,8 @@
 -- States: an amount for each arc of a net, and what each node has left to send.
 -- Source: AMO 9.7
 use Rattle.std.specs.Prelude.{◌≡◌, ℕ, ◌-◌, ◌==◌, List, length, ℤ, pos, ◌+ℤ◌, ◌-ℤ◌, if◌then◌else◌, slice_index_or, slice_set}
-use Rattle.mcf_instance.specs.Flow.{IsWithinBounds, net}
-use Rattle.mcf_instance.specs.Network.{Network, IsNode, at_node, node_count, when}
+use Rattle.mcf_flows.specs.Flow.{IsWithinBounds, net}
+use Rattle.mcf_flows.specs.Network.{Network, IsNode, at_node, node_count, when}
 use Rattle.mcf_network.specs.declared.rid.Rid.{Rid}
 use Rattle.mcf_network.specs.Nets.{IsNet}
 use Rattle.mcf_network.specs.Residual.{arc_at}

@@ -1,7 +1,7 @@
 -- Sets that no surplus can leave (Ahuja, Magnanti and Orlin, Network Flows, section 6.5).
 -- Source: AMO 6.5
 use Rattle.std.specs.Prelude.{◌≡◌, ℕ, Bool, true, pos, ◌≤ℤ◌, ◌<ℤ◌}
-use Rattle.mcf_instance.specs.Network.{IsNode, node_count}
+use Rattle.mcf_flows.specs.Network.{IsNode, node_count}
 use Rattle.mcf_network.specs.declared.rid.Rid.{Rid}
 use Rattle.mcf_network.specs.Residual.{tail, head}
 use Rattle.mcf_network.specs.States.{Pseudoflow, surplus_at}

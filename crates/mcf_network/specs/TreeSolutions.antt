@@ -1,9 +1,9 @@
 -- Tree solutions (the cycle free solutions of Ahuja, Magnanti and Orlin, Network Flows, section 11.2): the arcs whose flow is at neither bound hold no cycle.
 -- Source: AMO 11.2
 use Rattle.std.specs.Prelude.{◌≡◌, ◌⊎◌, ℕ, ◌-◌, List, length, ℤ, pos, slice_index_or}
-use Rattle.mcf_instance.specs.declared.arc.Arc.{Arc}
-use Rattle.mcf_instance.specs.Flow.{net}
-use Rattle.mcf_instance.specs.Network.{Network, IsArcNumber, IsNode, node_count}
+use Rattle.mcf_flows.specs.declared.arc.Arc.{Arc}
+use Rattle.mcf_flows.specs.Flow.{net}
+use Rattle.mcf_flows.specs.Network.{Network, IsArcNumber, IsNode, node_count}
 use Rattle.mcf_network.specs.Residual.{arc_at}
 
 -- the entry for arc k of a list that has one for each arc

@@ -2,7 +2,7 @@
 -- Source: AMO 2.2
 use Rattle.std.specs.Prelude.{◌≡◌, ◌≢◌, ℕ, List, [], ◌∷◌, ℤ, pos, ◌+ℤ◌, ◌≤ℤ◌, ◌<ℤ◌}
 use Rattle.std.specs.List.{All, AllPairs}
-use Rattle.mcf_instance.specs.Network.{Network, IsArcNumber}
+use Rattle.mcf_flows.specs.Network.{Network, IsArcNumber}
 use Rattle.mcf_network.specs.declared.rid.Rid.{Rid}
 use Rattle.mcf_network.specs.Residual.{tail, head, unit_cost}
 use Rattle.mcf_network.specs.States.{Pseudoflow, room_of, pushed}

@@ -2,7 +2,7 @@
 
 //! Nets, which are networks without lower bounds, and the residual states of flows on them.
 //!
-//! It stands on `mcf_instance`, and speaks of a net as of an instance: a network whose lows are 0 and
+//! It stands on `mcf_flows`, and speaks of a net as of an instance: a network whose lows are 0 and
 //! whose caps are the widths. Definitions stand in `specs/`: `Nets` says what every net keeps, `Residual`
 //! and `Stars` what leaves a node, `Stored` how a net is kept, `States` and `Walks` what a push does, `NodeSets` and `Stuck` what a
 //! search reaches, `TreeSolutions` which flows have no cycle of free arcs, `Removal` and `Restoring` how the

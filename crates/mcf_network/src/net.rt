@@ -1,6 +1,6 @@
 //! Networks without lower bounds.
 ghost use Rattle.std.specs.Prelude.{◌≡◌, length};
-ghost use Rattle.mcf_instance.specs.Network.{IsArcNumber, IsNode, at_node, node_count};
+ghost use Rattle.mcf_flows.specs.Network.{IsArcNumber, IsNode, at_node, node_count};
 ghost use Rattle.mcf_network.specs.Nets.{IsNet};
 ghost use Rattle.mcf_network.specs.Residual.{arc_at, head, tail, unit_cost};
 ghost use Rattle.mcf_network.specs.Stars.{ListsLeaving};
@@ -9,7 +9,7 @@ use crate::leaving::Leaving;
 use crate::rid::{PackedRid, Rid};
 use crate::stored::Link;
 use crate::widths::width_at;
-use mcf_instance::Problem;
+use mcf_flows::Problem;
 use mcf_text::{ArcId, NodeId};
 use std::marker::Model;
 
@@ -31,7 +31,7 @@ pub struct Net {
 
 impl Model for Net {
     ghost use Rattle.std.specs.Prelude.{◌≤◌, length};
-    ghost use Rattle.mcf_instance.specs.Network.{Network};
+    ghost use Rattle.mcf_flows.specs.Network.{Network};
 
     ghost Value = { Network };
 

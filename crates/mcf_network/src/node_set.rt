@@ -1,8 +1,8 @@
 //! Sets of nodes.
 ghost use Rattle.std.specs.Prelude.{◌≡◌, ◌≤◌, IfOk, OnErr, length};
-ghost use Rattle.mcf_instance.specs.Blocking.{in_table};
-ghost use Rattle.mcf_instance.specs.Limits.{node_limit};
-ghost use Rattle.mcf_instance.specs.Network.{IsNode, node_count};
+ghost use Rattle.mcf_flows.specs.Blocking.{in_table};
+ghost use Rattle.mcf_flows.specs.Limits.{node_limit};
+ghost use Rattle.mcf_flows.specs.Network.{IsNode, node_count};
 ghost use Rattle.mcf_network.specs.NodeSets.{member_count, no_nodes, with_node};
 
 use crate::net::Net;
@@ -19,7 +19,7 @@ pub struct NodeSet {
 
 impl Model for NodeSet {
     ghost use Rattle.std.specs.Prelude.{◌≡◌, ◌≤◌, Bool, List, length};
-    ghost use Rattle.mcf_instance.specs.Limits.{node_limit};
+    ghost use Rattle.mcf_flows.specs.Limits.{node_limit};
     ghost use Rattle.mcf_network.specs.NodeSets.{member_count};
 
     ghost Value = { List Bool };

@@ -1,9 +1,9 @@
 //! Lower bounds taken away.
 ghost use Rattle.std.specs.Prelude.{◌≡◌, ◌≤◌, IfOk, OnErr, OnOk, length, map};
 ghost use Rattle.std.specs.List.{range_with_len};
-ghost use Rattle.mcf_instance.specs.Limits.{limits};
-ghost use Rattle.mcf_instance.specs.Network.{node_count};
-ghost use Rattle.mcf_instance.specs.WellFormed.{IsArcWithinLimits};
+ghost use Rattle.mcf_flows.specs.Limits.{limits};
+ghost use Rattle.mcf_flows.specs.Network.{node_count};
+ghost use Rattle.mcf_flows.specs.WellFormed.{IsArcWithinLimits};
 ghost use Rattle.mcf_network.specs.Nets.{IsNet};
 ghost use Rattle.mcf_network.specs.Removal.{net_of, supply_left, without_low};
 ghost use Rattle.mcf_network.specs.Stored.{stored_arc, stored_arcs};
@@ -13,7 +13,7 @@ use crate::star::{forward_star, gap_for};
 use crate::stored::Link;
 use crate::surplus::move_surplus;
 use crate::widths::put_width;
-use mcf_instance::{Arc, Instance};
+use mcf_flows::{Arc, Instance};
 use mcf_text::{ArcId, NoMemory, NodeId};
 use std::alloc::Global;
 

@@ -1,16 +1,16 @@
 //! Lower bounds put back.
 ghost use Rattle.std.specs.Prelude.{◌≡◌, ◌+ℤ◌, ◌≤◌, ◌≤ℤ◌, ◌↔◌, ◌-◌, ℤ, List, IfOk, OnErr, Some, length, pos, slice_get};
-ghost use Rattle.mcf_instance.specs.Flow.{IsFeasible, Shows, cost};
-ghost use Rattle.mcf_instance.specs.Limits.{limits};
-ghost use Rattle.mcf_instance.specs.Network.{IsArcNumber};
-ghost use Rattle.mcf_instance.specs.WellFormed.{IsArcWithinLimits};
+ghost use Rattle.mcf_flows.specs.Flow.{IsFeasible, Shows, cost};
+ghost use Rattle.mcf_flows.specs.Limits.{limits};
+ghost use Rattle.mcf_flows.specs.Network.{IsArcNumber};
+ghost use Rattle.mcf_flows.specs.WellFormed.{IsArcWithinLimits};
 ghost use Rattle.mcf_network.specs.Nets.{width_limit};
 ghost use Rattle.mcf_network.specs.Removal.{net_of};
 ghost use Rattle.mcf_network.specs.Restoring.{fixed_cost, restored, restored_flow};
 ghost use Rattle.mcf_network.specs.States.{HasNoSurplus};
 
 use crate::state::State;
-use mcf_instance::{Arc, Instance};
+use mcf_flows::{Arc, Instance};
 use mcf_text::{ArcId, NoMemory};
 use std::alloc::Global;
 

@@ -1,7 +1,7 @@
 //! Residual states.
 ghost use Rattle.std.specs.Prelude.{◌≡◌, ◌+ℤ◌, ◌-ℤ◌, ◌*◌, ◌^◌, ◌≤◌, ◌≤ℤ◌, IfOk, OnErr, if◌then◌else◌, length, pos, replicate};
-ghost use Rattle.mcf_instance.specs.Network.{IsArcNumber, IsNode, node_count};
-ghost use Rattle.mcf_instance.specs.WellFormed.{IsUpTo};
+ghost use Rattle.mcf_flows.specs.Network.{IsArcNumber, IsNode, node_count};
+ghost use Rattle.mcf_flows.specs.WellFormed.{IsUpTo};
 ghost use Rattle.mcf_network.specs.Nets.{surplus_limit, width_limit};
 ghost use Rattle.mcf_network.specs.Residual.{arc_at, head, tail};
 ghost use Rattle.mcf_network.specs.States.{IsPseudoflow, MovesSurplus, amount_at, pushed, room_of, surplus_at};

@@ -1,7 +1,7 @@
 //! What the nodes have left to send.
 ghost use Rattle.std.specs.Prelude.{◌≡◌, ◌+ℤ◌, ◌-ℤ◌, ◌*◌, ◌==◌, ℕ, length};
-ghost use Rattle.mcf_instance.specs.Network.{IsNode, at_node, when};
-ghost use Rattle.mcf_instance.specs.WellFormed.{IsUpTo};
+ghost use Rattle.mcf_flows.specs.Network.{IsNode, at_node, when};
+ghost use Rattle.mcf_flows.specs.WellFormed.{IsUpTo};
 ghost use Rattle.mcf_network.specs.Private.Surpluses.{surplus_reach};
 
 use mcf_text::NodeId;

@@ -1,7 +1,7 @@
 //! Walks of residual arcs.
 ghost use Rattle.std.specs.Prelude.{◌≡◌, ◌<◌, ◌+ℤ◌, ◌*ℤ◌, ◌≤ℤ◌, ℕ, All, Any, length};
-ghost use Rattle.mcf_instance.specs.Flow.{cost};
-ghost use Rattle.mcf_instance.specs.Network.{IsArcNumber};
+ghost use Rattle.mcf_flows.specs.Flow.{cost};
+ghost use Rattle.mcf_flows.specs.Network.{IsArcNumber};
 ghost use Rattle.mcf_network.specs.States.{IsPseudoflow, MovesSurplus, room_of};
 ghost use Rattle.mcf_network.specs.Walks.{CanPushAlong, IsWalk, pushed_along, walk_cost};
 

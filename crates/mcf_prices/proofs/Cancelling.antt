@@ -2,10 +2,10 @@
 use Rattle.std.proofs.Common.{◌≡◌, ℕ, ◌<◌, List, ℤ, pos, nat_abs, ◌+ℤ◌, ◌≤ℤ◌, ◌<ℤ◌, ap, sym, subst, ◌∙◌, arith}
 use Rattle.std.specs.List.{All, Any}
 use Rattle.std.proofs.lemmas.Int.{ints}
-use Rattle.mcf_instance.specs.Flow.{IsFeasible, cost}
-use Rattle.mcf_instance.specs.Network.{Network, node_count}
-use Rattle.mcf_instance.proofs.Bounds.{cost_up_to}
-use Rattle.mcf_instance.proofs.IntLaws.{mul_below_zero}
+use Rattle.mcf_flows.specs.Flow.{IsFeasible, cost}
+use Rattle.mcf_flows.specs.Network.{Network, node_count}
+use Rattle.mcf_flows.proofs.Bounds.{cost_up_to}
+use Rattle.mcf_flows.proofs.IntLaws.{mul_below_zero}
 use Rattle.mcf_network.specs.declared.rid.Rid.{Rid}
 use Rattle.mcf_network.specs.Nets.{net_total_limit}
 use Rattle.mcf_network.specs.Residual.{tail}

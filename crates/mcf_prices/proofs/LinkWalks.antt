@@ -5,7 +5,7 @@ use Rattle.std.specs.List.{All, AllPairs, HoldsAt}
 use Rattle.std.proofs.lemmas.Int.{ints}
 use Rattle.std.proofs.lemmas.List.{get_or-drop}
 use Rattle.std.proofs.lemmas.List.Elements.{All-drop}
-use Rattle.mcf_instance.specs.Network.{Network, at_node}
+use Rattle.mcf_flows.specs.Network.{Network, at_node}
 use Rattle.mcf_network.specs.declared.rid.Rid.{Rid}
 use Rattle.mcf_network.specs.Residual.{tail, head, unit_cost}
 use Rattle.mcf_network.specs.Walks.{IsWalk, walk_cost}

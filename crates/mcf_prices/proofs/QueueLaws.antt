@@ -4,8 +4,8 @@ use Rattle.std.specs.List.{Contains}
 use Rattle.std.proofs.lemmas.Bool.{cases_eq}
 use Rattle.std.proofs.lemmas.List.{length_push}
 use Rattle.std.proofs.lemmas.List.Elements.{All-push, Contains-append_left, Contains-push}
-use Rattle.mcf_instance.specs.Blocking.{in_table}
-use Rattle.mcf_instance.specs.Network.{IsNode}
+use Rattle.mcf_flows.specs.Blocking.{in_table}
+use Rattle.mcf_flows.specs.Network.{IsNode}
 use Rattle.mcf_network.specs.NodeSets.{with_node}
 use Rattle.mcf_prices.specs.Private.Queues.{Waiting, IsQueue, queued}
 use Rattle.mcf_network.proofs.Marks.{counted_new}

@@ -3,8 +3,8 @@ use Rattle.std.proofs.Common.{◌≡◌, ℕ, ◌+◌, List, [], ◌∷◌, leng
 use Rattle.std.specs.List.{All, Contains}
 use Rattle.std.proofs.lemmas.Int.{ints}
 use Rattle.std.proofs.lemmas.Bool.{cases_eq}
-use Rattle.mcf_instance.specs.Blocking.{in_table}
-use Rattle.mcf_instance.specs.Network.{Network, IsNode, at_node, node_count}
+use Rattle.mcf_flows.specs.Blocking.{in_table}
+use Rattle.mcf_flows.specs.Network.{Network, IsNode, at_node, node_count}
 use Rattle.mcf_network.specs.declared.rid.Rid.{Rid}
 use Rattle.mcf_network.specs.Residual.{tail, head}
 use Rattle.mcf_network.specs.Stars.{Leaves, ListsLeaving}

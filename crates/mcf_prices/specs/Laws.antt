@@ -1,7 +1,7 @@
 -- A law of least states.
 -- Source: AMO 9.3
 use Rattle.std.specs.Prelude.{List}
-use Rattle.mcf_instance.specs.Network.{Network}
+use Rattle.mcf_flows.specs.Network.{Network}
 use Rattle.mcf_network.specs.declared.rid.Rid.{Rid}
 use Rattle.mcf_network.specs.States.{Pseudoflow}
 use Rattle.mcf_engine.specs.NegativeCycles.{IsNegativeCycle}

@@ -6,9 +6,9 @@ pub use Rattle.mcf_engine.specs.Outcomes
 pub use Rattle.mcf_engine.specs.SmallPrices
 pub use Rattle.mcf_feas.specs.Chosen
 pub use Rattle.mcf_feas.specs.Feasible
-pub use Rattle.mcf_instance.specs.Blocking
-pub use Rattle.mcf_instance.specs.Flow
-pub use Rattle.mcf_instance.specs.Network
+pub use Rattle.mcf_flows.specs.Blocking
+pub use Rattle.mcf_flows.specs.Flow
+pub use Rattle.mcf_flows.specs.Network
 pub use Rattle.mcf_network.specs.Nets
 pub use Rattle.mcf_network.specs.NodeSets
 pub use Rattle.mcf_network.specs.Residual

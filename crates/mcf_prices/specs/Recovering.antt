@@ -1,7 +1,7 @@
 -- What is recovered from a state.
 -- Source: own
-use Rattle.mcf_instance.specs.Flow.{AreGreatestPrices}
-use Rattle.mcf_instance.specs.Network.{Network}
+use Rattle.mcf_flows.specs.Flow.{AreGreatestPrices}
+use Rattle.mcf_flows.specs.Network.{Network}
 use Rattle.mcf_network.specs.States.{Pseudoflow}
 use Rattle.mcf_prices.specs.declared.recovered.Recovered.{Recovered}
 use Rattle.mcf_prices.specs.declared.recovered.Recovered.TheVariants.{Prices, Cycle}

@@ -2,8 +2,8 @@
 
 //! The greatest prices that show a flow, or a negative cycle, and the plain engine, which cancels such cycles.
 //!
-//! It stands on `mcf_network`, `mcf_feas` and `mcf_engine`, whose names it hands on. Definitions stand in `specs/`: `Recovering` says what
-//! `recover` answers, `Laws` what follows, and `Private/` what the search for prices keeps.
+//! It stands on `mcf_network`, `mcf_feas` and `mcf_engine`, whose names it hands on. Definitions stand in `specs/`:
+//! `Recovering` says what `recover` answers, `Laws` what follows, and `Private/` what the search for prices keeps.
 
 mod cancel;
 mod laws;

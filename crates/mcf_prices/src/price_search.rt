@@ -3,8 +3,8 @@ ghost use Rattle.std.specs.Prelude.{◌≡◌, ◌<◌, ◌≤◌, ◌*◌, ◌�
 ghost use Rattle.std.specs.Prelude.{length, neg_ℤ, pos, replicate};
 ghost use Rattle.std.specs.Bool.{OnFalse, OnTrue};
 ghost use Rattle.std.specs.List.{All, HoldsAt};
-ghost use Rattle.mcf_instance.specs.Blocking.{in_table};
-ghost use Rattle.mcf_instance.specs.Network.{IsArcNumber, IsNode, at_node, node_count};
+ghost use Rattle.mcf_flows.specs.Blocking.{in_table};
+ghost use Rattle.mcf_flows.specs.Network.{IsArcNumber, IsNode, at_node, node_count};
 ghost use Rattle.mcf_network.specs.NodeSets.{member_count};
 ghost use Rattle.mcf_network.specs.Residual.{head, tail};
 ghost use Rattle.mcf_network.specs.Walks.{HasRoom, IsWalk};

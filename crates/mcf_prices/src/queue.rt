@@ -1,7 +1,7 @@
 //! The nodes that wait for the next round of a search.
 ghost use Rattle.std.specs.Prelude.{◌≡◌, ◌≤◌, ℕ, IfOk, IsTrue, OnOk, OnErr, [], length, ◌↔◌};
 ghost use Rattle.std.specs.List.{Contains};
-ghost use Rattle.mcf_instance.specs.Network.{IsNode, node_count};
+ghost use Rattle.mcf_flows.specs.Network.{IsNode, node_count};
 ghost use Rattle.mcf_prices.specs.Private.Queues.{IsQueue, no_queue, queued};
 
 use mcf_network::{Net, NodeSet};

@@ -1,6 +1,6 @@
 //! Prices or a negative cycle, recovered from a state.
 ghost use Rattle.std.specs.Prelude.{◌≤◌, IfOk, OnErr};
-ghost use Rattle.mcf_instance.specs.Network.{node_count};
+ghost use Rattle.mcf_flows.specs.Network.{node_count};
 ghost use Rattle.mcf_prices.specs.Recovering.{HasSmallPrices, IsRecovered};
 
 use crate::price_search::PriceSearch;

@@ -6,7 +6,7 @@ use Rattle.std.specs.List.{All, Contains}
 use Rattle.std.proofs.lemmas.Int.{ints}
 use Rattle.std.proofs.lemmas.Bool.{cases_eq}
 use Rattle.std.proofs.lemmas.List.{get_or_default, get_or-set_other, get_or-set_same, get_or_append_left, get_or_push, length_push}
-use Rattle.mcf_instance.specs.Network.{Network, IsArcNumber, IsNode, at_node, node_count}
+use Rattle.mcf_flows.specs.Network.{Network, IsArcNumber, IsNode, at_node, node_count}
 use Rattle.mcf_network.specs.declared.rid.Rid.{Rid}
 use Rattle.mcf_network.specs.Residual.{head, tail}
 use Rattle.mcf_network.specs.Stars.{Leaves, ListsLeaving}

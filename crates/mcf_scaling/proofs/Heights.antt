@@ -5,12 +5,12 @@ use Rattle.std.specs.Int.{int_min}
 use Rattle.std.proofs.Math.IntN.{◌*ℤ◌, *ℤ_comm}
 use Rattle.std.proofs.lemmas.Int.{ints}
 use Rattle.std.proofs.lemmas.Bool.{eq-eqb, ne_eqb}
-use Rattle.mcf_instance.specs.Flow.{cost}
-use Rattle.mcf_instance.specs.Network.{IsArcNumber, IsNode, at_node, node_count, node_sum, when}
-use Rattle.mcf_instance.proofs.Bounds.{cost_up_to}
-use Rattle.mcf_instance.proofs.IntLaws.{add-mul, mul-add, mul-mono, mul-mono_left, mul-sub, mul-one, mul-zero, mul_above_zero, mul_below_zero, sub-mul}
-use Rattle.mcf_instance.proofs.IntLaws.{zero-mul}
-use Rattle.mcf_instance.proofs.NodeSums.{node_sum-add, node_sum-at, node_sum-same, node_sum-sub}
+use Rattle.mcf_flows.specs.Flow.{cost}
+use Rattle.mcf_flows.specs.Network.{IsArcNumber, IsNode, at_node, node_count, node_sum, when}
+use Rattle.mcf_flows.proofs.Bounds.{cost_up_to}
+use Rattle.mcf_flows.proofs.IntLaws.{add-mul, mul-add, mul-mono, mul-mono_left, mul-sub, mul-one, mul-zero, mul_above_zero, mul_below_zero, sub-mul}
+use Rattle.mcf_flows.proofs.IntLaws.{zero-mul}
+use Rattle.mcf_flows.proofs.NodeSums.{node_sum-add, node_sum-at, node_sum-same, node_sum-sub}
 use Rattle.mcf_network.specs.declared.rid.Rid.{Rid}
 use Rattle.mcf_network.specs.Nets.{net_total_limit}
 use Rattle.mcf_network.specs.Residual.{head, tail, unit_cost}

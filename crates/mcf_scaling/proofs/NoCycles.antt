@@ -5,9 +5,9 @@ use Rattle.std.specs.List.{All, AllPairs}
 use Rattle.std.proofs.Math.IntN.{◌*ℤ◌}
 use Rattle.std.proofs.lemmas.Int.{ints}
 use Rattle.std.proofs.lemmas.Bool.{cases_eq, eq-eqb, ne_eqb}
-use Rattle.mcf_instance.specs.Network.{Network, IsNode, at_node, node_count, when}
-use Rattle.mcf_instance.proofs.IntLaws.{add-mul, mul-mono_left}
-use Rattle.mcf_instance.proofs.NodeSums.{node_sum-add, node_sum-at, node_sum-le}
+use Rattle.mcf_flows.specs.Network.{Network, IsNode, at_node, node_count, when}
+use Rattle.mcf_flows.proofs.IntLaws.{add-mul, mul-mono_left}
+use Rattle.mcf_flows.proofs.NodeSums.{node_sum-add, node_sum-at, node_sum-le}
 use Rattle.mcf_network.specs.declared.rid.Rid.{Rid}
 use Rattle.mcf_network.specs.Residual.{tail, head, unit_cost}
 use Rattle.mcf_network.specs.States.{Pseudoflow}

@@ -7,8 +7,8 @@ use Rattle.std.proofs.lemmas.List.{length_push}
 use Rattle.std.proofs.lemmas.List.Elements.{All-head, All-push, Contains-append_left, Contains-push}
 use Rattle.std.proofs.lemmas.List.Quantifiers.{all_pairs_push}
 use Rattle.std.proofs.lemmas.List.Sums.{sum_by-set}
-use Rattle.mcf_instance.specs.Blocking.{in_table}
-use Rattle.mcf_instance.specs.Network.{Network, IsArcNumber, IsNode, node_count, when}
+use Rattle.mcf_flows.specs.Blocking.{in_table}
+use Rattle.mcf_flows.specs.Network.{Network, IsArcNumber, IsNode, node_count, when}
 use Rattle.mcf_network.proofs.Lists.{Contains-cons}
 use Rattle.mcf_network.proofs.Marks.{counted_new, count_none, count_small, unmarked, marked_new, marked_still}
 use Rattle.mcf_engine.proofs.Marks.{read_node}
@@ -16,7 +16,7 @@ use Rattle.std.specs.Prelude.{◌<ℤ◌, ℤ, pos, ◌≤ℤ◌}
 use Rattle.std.proofs.lemmas.Int.{ints}
 use Rattle.std.specs.Int.{int_min}
 use Rattle.std.proofs.lemmas.List.{length-replicate}
-use Rattle.mcf_instance.specs.Limits.{node_limit}
+use Rattle.mcf_flows.specs.Limits.{node_limit}
 use Rattle.mcf_network.specs.declared.rid.Rid.{Rid}
 use Rattle.mcf_network.specs.Residual.{head, tail}
 use Rattle.mcf_network.specs.States.{Pseudoflow, IsPseudoflow, HasNoSurplus, pushed, room_of, surplus_at}

@@ -5,13 +5,13 @@ use Rattle.std.specs.Prelude.{◌<ℤ◌, int_lt}
 use Rattle.std.proofs.Math.IntN.{◌*ℤ◌}
 use Rattle.std.proofs.lemmas.Int.{ints, by_lt_z}
 use Rattle.std.proofs.lemmas.Bool.{true≢false}
-use Rattle.mcf_instance.specs.declared.arc.Arc.{Arc}
-use Rattle.mcf_instance.specs.Blocking.{enters, leaves}
-use Rattle.mcf_instance.specs.Flow.{net}
-use Rattle.mcf_instance.specs.Network.{IsArcNumber, IsNode, at_node, flow_sum, node_count, node_sum, when}
-use Rattle.mcf_instance.proofs.Hoffman.{nets_across}
-use Rattle.mcf_instance.proofs.IntLaws.{neg-mul}
-use Rattle.mcf_instance.proofs.NodeSums.{node_sum-same, node_sum-sub, node_sum_above_zero}
+use Rattle.mcf_flows.specs.declared.arc.Arc.{Arc}
+use Rattle.mcf_flows.specs.Blocking.{enters, leaves}
+use Rattle.mcf_flows.specs.Flow.{net}
+use Rattle.mcf_flows.specs.Network.{IsArcNumber, IsNode, at_node, flow_sum, node_count, node_sum, when}
+use Rattle.mcf_flows.proofs.Hoffman.{nets_across}
+use Rattle.mcf_flows.proofs.IntLaws.{neg-mul}
+use Rattle.mcf_flows.proofs.NodeSums.{node_sum-same, node_sum-sub, node_sum_above_zero}
 use Rattle.mcf_network.specs.Residual.{no_arc, arc_at}
 use Rattle.mcf_network.specs.States.{Pseudoflow, IsPseudoflow, HasNoSurplus, amount_at, surplus_at}
 use Rattle.mcf_network.proofs.ArcLaws.{amount_count, amount_of, ends_at}

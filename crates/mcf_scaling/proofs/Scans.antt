@@ -6,8 +6,8 @@ use Rattle.std.specs.List.{All, Contains}
 use Rattle.std.specs.Option.{IfSome, IfNone}
 use Rattle.std.proofs.lemmas.Int.{by_lt_z, clamps, ints}
 use Rattle.std.proofs.lemmas.List.Elements.{All-head, All-tail}
-use Rattle.mcf_instance.specs.Network.{at_node}
-use Rattle.mcf_instance.specs.WellFormed.{IsUpTo}
+use Rattle.mcf_flows.specs.Network.{at_node}
+use Rattle.mcf_flows.specs.WellFormed.{IsUpTo}
 use Rattle.mcf_network.specs.declared.rid.Rid.{Rid}
 use Rattle.mcf_network.specs.Residual.{tail}
 use Rattle.mcf_network.specs.Stars.{Leaves, ListsLeaving}

@@ -2,7 +2,7 @@
 use Rattle.std.proofs.Common.{◌≡◌, ℕ, zero, suc, ◌+◌, ◌^◌, ◌<◌, ◌≤◌, List, refl, sym, ap, ◌∙◌, arith, subst, ℤ, pos, ◌⊎◌, inl, inr}
 use Rattle.std.specs.Prelude.{◌<ℤ◌}
 use Rattle.std.proofs.lemmas.Int.{ints}
-use Rattle.mcf_instance.specs.Network.{Network, IsNode, node_count}
+use Rattle.mcf_flows.specs.Network.{Network, IsNode, node_count}
 use Rattle.mcf_network.specs.declared.rid.Rid.{Rid}
 use Rattle.mcf_network.specs.States.{Pseudoflow, surplus_at}
 use Rattle.mcf_feas.specs.Feasible.{IsFeasibleState}

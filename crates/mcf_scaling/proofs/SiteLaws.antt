@@ -7,7 +7,7 @@ use Rattle.std.proofs.lemmas.List.{get_or-drop, get_or-map, get_or-set_other, ge
 use Rattle.std.proofs.lemmas.Map.Made.{IsDistinct-from_AllPairs}
 use Rattle.std.proofs.lemmas.Map.Steps.{length-le_from_distinct_below}
 use Rattle.std.proofs.lemmas.Map.Views.{Contains-from_any}
-use Rattle.mcf_instance.specs.Network.{Network, IsNode, node_count}
+use Rattle.mcf_flows.specs.Network.{Network, IsNode, node_count}
 use Rattle.mcf_network.specs.declared.rid.Rid.{Rid}
 use Rattle.mcf_network.specs.Nets.{IsNet}
 use Rattle.mcf_network.specs.Residual.{tail}

@@ -6,9 +6,9 @@ use Rattle.std.proofs.Math.IntN.{◌*ℤ◌}
 use Rattle.std.specs.List.{All}
 use Rattle.std.proofs.lemmas.Int.{ints}
 use Rattle.std.proofs.lemmas.List.Elements.{All-from_get_or}
-use Rattle.mcf_instance.specs.Network.{Network, IsArcNumber, node_count}
-use Rattle.mcf_instance.specs.WellFormed.{IsUpTo}
-use Rattle.mcf_instance.proofs.Bounds.{mul_up_to}
+use Rattle.mcf_flows.specs.Network.{Network, IsArcNumber, node_count}
+use Rattle.mcf_flows.specs.WellFormed.{IsUpTo}
+use Rattle.mcf_flows.proofs.Bounds.{mul_up_to}
 use Rattle.mcf_network.specs.declared.rid.Rid.{Rid}
 use Rattle.mcf_network.specs.Nets.{IsNet}
 use Rattle.mcf_network.specs.Residual.{head, tail, unit_cost}

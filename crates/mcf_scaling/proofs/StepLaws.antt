@@ -4,10 +4,10 @@ use Rattle.std.proofs.Common.{◌-ℤ◌, ◌≤ℤ◌, ◌⊎◌, inl, inr}
 use Rattle.std.specs.Prelude.{◌<ℤ◌}
 use Rattle.std.proofs.lemmas.Int.{by_lt_z, ints}
 use Rattle.std.proofs.lemmas.Bool.{cases_eq, eq-eqb, ne_eqb}
-use Rattle.mcf_instance.specs.Flow.{net}
-use Rattle.mcf_instance.specs.Network.{Network, IsArcNumber, IsNode, at_node, node_count, node_sum, when}
-use Rattle.mcf_instance.proofs.IntLaws.{neg-mul}
-use Rattle.mcf_instance.proofs.NodeSums.{nets_cancel, node_sum-same, node_sum-sub, node_sum_above_zero, node_sum-zero}
+use Rattle.mcf_flows.specs.Flow.{net}
+use Rattle.mcf_flows.specs.Network.{Network, IsArcNumber, IsNode, at_node, node_count, node_sum, when}
+use Rattle.mcf_flows.proofs.IntLaws.{neg-mul}
+use Rattle.mcf_flows.proofs.NodeSums.{nets_cancel, node_sum-same, node_sum-sub, node_sum_above_zero, node_sum-zero}
 use Rattle.mcf_network.specs.declared.rid.Rid.{Rid}
 use Rattle.mcf_network.specs.Residual.{arc_at, head, tail}
 use Rattle.mcf_network.specs.States.{Pseudoflow, IsPseudoflow, HasNoSurplus, amount_at, pushed, room_of, surplus_at}

@@ -1,7 +1,7 @@
 -- Laws of cost scaling.
 -- Source: AMO lemmas 10.2, 10.4; the measure own
 use Rattle.std.specs.Prelude.{◌≡◌, ℕ, ◌+◌, ◌*◌, ◌<◌, ◌≤◌, List, ℤ, pos, ◌-ℤ◌, ◌≤ℤ◌, ◌<ℤ◌}
-use Rattle.mcf_instance.specs.Network.{IsNode, at_node, node_count}
+use Rattle.mcf_flows.specs.Network.{IsNode, at_node, node_count}
 use Rattle.mcf_network.specs.declared.rid.Rid.{Rid}
 use Rattle.mcf_network.specs.States.{Pseudoflow, IsPseudoflow, HasNoSurplus, surplus_at}
 use Rattle.mcf_engine.specs.NegativeCycles.{IsNegativeCycle}

@@ -2,7 +2,7 @@
 -- Source: AMO 10.3
 use Rattle.std.specs.Prelude.{◌≡◌, ℕ, List}
 use Rattle.mcf_feas.specs.Feasible.{IsFeasibleState}
-use Rattle.mcf_instance.specs.Network.{Network}
+use Rattle.mcf_flows.specs.Network.{Network}
 use Rattle.mcf_network.specs.declared.rid.Rid.{Rid}
 use Rattle.mcf_network.specs.States.{Pseudoflow}
 use Rattle.mcf_engine.specs.NegativeCycles.{IsNegativeCycle}

@@ -2,7 +2,7 @@
 -- Source: AMO 10.3, Goldberg and Tarjan
 use Rattle.std.specs.Prelude.{◌≡◌, ℕ, suc, ◌-◌, ◌*◌, ◌==◌, ◌≤◌, ℤ, pos, ◌+ℤ◌, ◌-ℤ◌, ◌≤ℤ◌, if◌then◌else◌, slice_set}
 use Rattle.std.specs.Int.{int_min}
-use Rattle.mcf_instance.specs.Network.{at_node, node_count}
+use Rattle.mcf_flows.specs.Network.{at_node, node_count}
 use Rattle.mcf_network.specs.declared.rid.Rid.{Rid}
 use Rattle.mcf_network.specs.Residual.{tail}
 use Rattle.mcf_network.specs.States.{HasNoSurplus, pushed, room_of, surplus_at}

@@ -1,7 +1,7 @@
 -- What a refinement holds, and what it keeps (Goldberg and Tarjan; Ahuja, Magnanti and Orlin, Network Flows, section 10.3).
 -- Source: AMO 10.3
 use Rattle.std.specs.Prelude.{◌≡◌, ℕ, ◌*◌, ◌^◌, ◌≤◌, List, length, ℤ, pos, ◌+ℤ◌, ◌-ℤ◌, ◌≤ℤ◌, ◌<ℤ◌}
-use Rattle.mcf_instance.specs.Network.{IsNode, at_node, node_count}
+use Rattle.mcf_flows.specs.Network.{IsNode, at_node, node_count}
 use Rattle.mcf_network.specs.declared.rid.Rid.{Rid}
 use Rattle.mcf_network.specs.States.{Pseudoflow, IsPseudoflow, HasNoSurplus, surplus_at}
 use Rattle.mcf_scaling.specs.Optimality.{IsOptimalWithin, ceiling, scaled_reduced}

@@ -1,8 +1,8 @@
 -- The scale of the first phase.
 -- Source: AMO 10.3, constant own
 use Rattle.std.specs.Prelude.{◌≡◌, ℕ, ◌+◌, ◌*◌, ◌^◌, ◌≤◌, List, [], ◌∷◌, max, unsigned_abs, pos, replicate}
-use Rattle.mcf_instance.specs.declared.arc.Arc.{Arc}
-use Rattle.mcf_instance.specs.Network.{Network, node_count}
+use Rattle.mcf_flows.specs.declared.arc.Arc.{Arc}
+use Rattle.mcf_flows.specs.Network.{Network, node_count}
 use Rattle.mcf_network.specs.States.{Pseudoflow}
 use Rattle.mcf_scaling.specs.Refinements.{Refinement, no_steps}
 

@@ -1,7 +1,7 @@
 //! The residual arcs of a node that are still to be looked at: those from its current place on.
 ghost use Rattle.std.specs.Prelude.{◌≡◌, ◌≤◌, ◌⊎◌, [], IfNone, IfOk, IfSome, OnErr};
 ghost use Rattle.std.specs.List.{All, Contains};
-ghost use Rattle.mcf_instance.specs.Network.{IsNode, node_count};
+ghost use Rattle.mcf_flows.specs.Network.{IsNode, node_count};
 ghost use Rattle.mcf_network.specs.declared.rid.Rid.{Rid};
 ghost use Rattle.mcf_network.specs.Stars.{Leaves};
 ghost use Rattle.mcf_scaling.specs.Private.Currents.{AreFirsts, rest_from};

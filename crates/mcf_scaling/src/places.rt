@@ -1,7 +1,7 @@
 //! The residual arcs that leave each node, side by side, as a scan reads them, and the place of each.
 ghost use Rattle.std.specs.Prelude.{◌≡◌, ◌-◌, ◌*◌, ◌^◌, ◌<◌, ◌≤◌, [], IfOk, OnErr, length, take};
 ghost use Rattle.std.specs.List.{All};
-ghost use Rattle.mcf_instance.specs.Network.{IsArcNumber, IsNode, node_count};
+ghost use Rattle.mcf_flows.specs.Network.{IsArcNumber, IsNode, node_count};
 ghost use Rattle.mcf_network.specs.Stars.{ListsLeaving};
 ghost use Rattle.mcf_scaling.specs.Private.Places.{AreSites, AreSitesUpTo, IsPlace, IsStarOf, place_at, residual_of, residuals, site_of, span_of};
 

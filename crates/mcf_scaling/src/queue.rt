@@ -1,6 +1,6 @@
 //! Nodes that wait, first in, first out.
 ghost use Rattle.std.specs.Prelude.{◌≡◌, ◌∷◌, ◌≤◌, ◌<ℤ◌, [], ℕ, List, IfNone, IfOk, IfSome, OnErr, length, pos};
-ghost use Rattle.mcf_instance.specs.Network.{IsNode, node_count};
+ghost use Rattle.mcf_flows.specs.Network.{IsNode, node_count};
 ghost use Rattle.std.specs.List.{Contains};
 ghost use Rattle.mcf_network.specs.States.{surplus_at};
 ghost use Rattle.mcf_scaling.specs.Private.Queues.{HoldsActive, IsQueue, IsPopped, IsQueueOf, queued, no_queue};

@@ -1,7 +1,7 @@
 //! A mark for each place of a residual arc, which tells whether that has room.
 ghost use Rattle.std.specs.Prelude.{◌≡◌, ◌≤◌, IfOk, OnErr, length};
 ghost use Rattle.std.specs.Bool.{OnFalse, OnTrue};
-ghost use Rattle.mcf_instance.specs.Network.{IsArcNumber, node_count};
+ghost use Rattle.mcf_flows.specs.Network.{IsArcNumber, node_count};
 ghost use Rattle.mcf_network.specs.Walks.{HasRoom};
 ghost use Rattle.mcf_scaling.specs.Private.Places.{AreRooms, AreSites, IsMarked, IsStarOf};
 

@@ -1,7 +1,7 @@
 //! The engine.
 ghost use Rattle.std.specs.Prelude.{◌≡◌, ◌≤◌, ◌⊎◌, ℕ, ℤ, IfNone, IfOk, IfSome, OnErr};
 ghost use Rattle.mcf_feas.specs.Feasible.{IsFeasibleState};
-ghost use Rattle.mcf_instance.specs.Network.{node_count};
+ghost use Rattle.mcf_flows.specs.Network.{node_count};
 ghost use Rattle.mcf_network.specs.declared.rid.Rid.{Rid};
 ghost use Rattle.mcf_engine.specs.Outcomes.{AreStatePrices, IfBlocked, IsLeastState, IsOutcome};
 ghost use Rattle.mcf_scaling.specs.Made.{IsScaled};

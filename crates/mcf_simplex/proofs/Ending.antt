@@ -5,9 +5,9 @@ use Rattle.std.specs.List.{All}
 use Rattle.std.proofs.lemmas.Int.{ints}
 use Rattle.std.proofs.Math.Seq.{take-append_seam}
 use Rattle.std.proofs.lemmas.List.Elements.{All-weaker}
-use Rattle.mcf_instance.specs.Network.{Network, node_count}
-use Rattle.mcf_instance.specs.WellFormed.{IsUpTo}
-use Rattle.mcf_instance.proofs.Duality.{shown_flows_are_least_lem}
+use Rattle.mcf_flows.specs.Network.{Network, node_count}
+use Rattle.mcf_flows.specs.WellFormed.{IsUpTo}
+use Rattle.mcf_flows.proofs.Duality.{shown_flows_are_least_lem}
 use Rattle.mcf_network.specs.States.{Pseudoflow, IsPseudoflow}
 use Rattle.mcf_network.proofs.StuckLaws.{no_surplus_of_feasible}
 use Rattle.mcf_engine.specs.declared.engine.Outcome.{Outcome}

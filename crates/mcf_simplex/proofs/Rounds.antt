@@ -1,7 +1,7 @@
 -- The round of the arcs, block by block.
 use Rattle.std.proofs.Common.{◌≡◌, ℕ, ◌+◌, ◌-◌, ◌*◌, ◌<◌, ◌≤◌, min, inl, inr, length, Option, Some, None, sym, ap, ◌∙◌, arith, subst}
 use Rattle.std.proofs.lemmas.Bool.{cases_lt, cond-true, cond-false, le-leb, lt-leb}
-use Rattle.mcf_instance.specs.Network.{IsArcNumber}
+use Rattle.mcf_flows.specs.Network.{IsArcNumber}
 use Rattle.mcf_basis.specs.Pivots.{IsEligible}
 use Rattle.mcf_basis.specs.Structures.{TreeStructure}
 use Rattle.mcf_basis.specs.Violations.{HasNoEligible, HasNoneIn, IsMostViolated, IsMostViolatedPick, violation}

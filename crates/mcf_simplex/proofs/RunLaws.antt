@@ -1,6 +1,6 @@
 -- The state that a run made is a tree solution.
 use Rattle.std.proofs.Common.{◌≡◌, ℕ, refl, sym, ◌∙◌, subst, Option}
-use Rattle.mcf_instance.specs.Network.{Network}
+use Rattle.mcf_flows.specs.Network.{Network}
 use Rattle.mcf_network.specs.States.{Pseudoflow}
 use Rattle.mcf_network.specs.TreeSolutions.{IsTreeSolution}
 use Rattle.mcf_basis.specs.Structures.{TreeStructure, state_of}

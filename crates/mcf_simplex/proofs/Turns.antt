@@ -4,7 +4,7 @@ use Rattle.std.specs.Int.{div_ceil}
 use Rattle.std.proofs.lemmas.Bool.{cases_lt, cond-true, cond-false, le-leb, lt-leb}
 use Rattle.std.proofs.lemmas.Grind.{div_ceil_times}
 use Rattle.std.proofs.lemmas.Nat.{div-add-mod', div-mul-add, div_below, mod-mul-add, mod_below, mul-le}
-use Rattle.mcf_instance.specs.Network.{IsArcNumber}
+use Rattle.mcf_flows.specs.Network.{IsArcNumber}
 use Rattle.mcf_basis.specs.Pivots.{IsEligible}
 use Rattle.mcf_basis.specs.Structures.{TreeStructure}
 use Rattle.mcf_basis.specs.Violations.{HasNoEligible, IsMostViolated, IsMostViolatedPick}

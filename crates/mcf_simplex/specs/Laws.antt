@@ -1,7 +1,7 @@
 -- Laws of runs.
 -- Source: AMO 11.5
 use Rattle.std.specs.Prelude.{ℕ, Option}
-use Rattle.mcf_instance.specs.Network.{Network}
+use Rattle.mcf_flows.specs.Network.{Network}
 use Rattle.mcf_network.specs.Nets.{IsNet}
 use Rattle.mcf_network.specs.States.{Pseudoflow}
 use Rattle.mcf_network.specs.TreeSolutions.{IsTreeSolution}

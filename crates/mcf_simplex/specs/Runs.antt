@@ -1,7 +1,7 @@
 -- Runs of the network simplex: the rule is asked at each basis in turn, and the arc that it picks enters.
 -- Source: AMO 11.5
 use Rattle.std.specs.Prelude.{◌≡◌, ℕ, ◌+◌, ℤ, Option, Some, None}
-use Rattle.mcf_instance.specs.Network.{Network}
+use Rattle.mcf_flows.specs.Network.{Network}
 use Rattle.mcf_network.specs.States.{Pseudoflow}
 use Rattle.mcf_basis.specs.Bases.{IsBasis}
 use Rattle.mcf_basis.specs.Pivots.{IsPivot, PairFalls}

@@ -1,6 +1,6 @@
 //! Blocks of arcs, one after another.
 ghost use Rattle.std.specs.Prelude.{◌≡◌, ◌+◌, ◌^◌, ◌<◌, ◌≤◌, IfNone, IfSome, length};
-ghost use Rattle.mcf_instance.specs.Network.{IsArcNumber};
+ghost use Rattle.mcf_flows.specs.Network.{IsArcNumber};
 ghost use Rattle.mcf_basis.specs.Pivots.{IsEligible};
 ghost use Rattle.mcf_basis.specs.Violations.{HasNoEligible};
 ghost use Rattle.mcf_simplex.specs.Blocks.{IsBlockPick, IsMoreViolated, IsRoundPick, arc_in_round, block_end, start_arc};

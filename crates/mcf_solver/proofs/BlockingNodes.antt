@@ -6,16 +6,16 @@ use Rattle.std.specs.Prelude.{◌↔◌, ◌<ℤ◌, ℤ}
 use Rattle.std.proofs.lemmas.Int.{ints}
 use Rattle.mcf_answer.specs.BlockingSet.{IsBlockingSet}
 use Rattle.mcf_feas.specs.Chosen.{IsChosenBlock, supply_total}
-use Rattle.mcf_instance.specs.declared.problem.Side.{Side}
-use Rattle.mcf_instance.specs.declared.problem.Side.TheVariants.{Send, Take}
-use Rattle.mcf_instance.specs.Blocking.{Blocks, in_list, in_table}
-use Rattle.mcf_instance.specs.Laws.{BlockedHasNoFlow}
-use Rattle.mcf_instance.specs.Limits.{limits}
-use Rattle.mcf_instance.specs.Network.{Network, IsNode, node_count}
-use Rattle.mcf_instance.specs.WellFormed.{IsWellFormed}
-use Rattle.mcf_instance.proofs.ArcSums.{arc_sum-zero}
-use Rattle.mcf_instance.proofs.NodeSums.{node_sum-zero}
-use Rattle.mcf_instance.proofs.SameSets.{Blocks-same}
+use Rattle.mcf_flows.specs.declared.problem.Side.{Side}
+use Rattle.mcf_flows.specs.declared.problem.Side.TheVariants.{Send, Take}
+use Rattle.mcf_flows.specs.Blocking.{Blocks, in_list, in_table}
+use Rattle.mcf_flows.specs.Laws.{BlockedHasNoFlow}
+use Rattle.mcf_flows.specs.Limits.{limits}
+use Rattle.mcf_flows.specs.Network.{Network, IsNode, node_count}
+use Rattle.mcf_flows.specs.WellFormed.{IsWellFormed}
+use Rattle.mcf_flows.proofs.ArcSums.{arc_sum-zero}
+use Rattle.mcf_flows.proofs.NodeSums.{node_sum-zero}
+use Rattle.mcf_flows.proofs.SameSets.{Blocks-same}
 use Rattle.mcf_network.specs.Laws.{NetsBlockAlike}
 use Rattle.mcf_network.specs.Removal.{net_of}
 use Rattle.mcf_network.proofs.RemovalLaws.{net_of-node_count}

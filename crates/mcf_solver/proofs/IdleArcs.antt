@@ -4,14 +4,14 @@ use Rattle.std.specs.List.{cons_option}
 use Rattle.std.specs.Ordering.{int_eq}
 use Rattle.std.proofs.lemmas.Int.{ints}
 use Rattle.std.proofs.lemmas.List.{append-nil, get_or_default}
-use Rattle.mcf_instance.specs.Assignment.{IsAssignment, IsPairing, OnAssignment}
-use Rattle.mcf_instance.specs.declared.arc.Arc.{Arc}
-use Rattle.mcf_instance.specs.declared.problem.Problem.TheVariants.{Asn}
-use Rattle.mcf_instance.specs.Flow.{IsWithinBounds}
-use Rattle.mcf_instance.specs.Limits.{limits}
-use Rattle.mcf_instance.specs.Network.{Network, at_node}
-use Rattle.mcf_instance.specs.WellFormed.{IsWellFormed}
-use Rattle.mcf_instance.proofs.Bounds.{cost_step}
+use Rattle.mcf_flows.specs.Assignment.{IsAssignment, IsPairing, OnAssignment}
+use Rattle.mcf_flows.specs.declared.arc.Arc.{Arc}
+use Rattle.mcf_flows.specs.declared.problem.Problem.TheVariants.{Asn}
+use Rattle.mcf_flows.specs.Flow.{IsWithinBounds}
+use Rattle.mcf_flows.specs.Limits.{limits}
+use Rattle.mcf_flows.specs.Network.{Network, at_node}
+use Rattle.mcf_flows.specs.WellFormed.{IsWellFormed}
+use Rattle.mcf_flows.proofs.Bounds.{cost_step}
 use Rattle.mcf_network.specs.Residual.{no_arc}
 use Rattle.mcf_network.specs.Restoring.{restored}
 use Rattle.mcf_network.proofs.RestoringLaws.{get_or-restored, length-restored, restored_plain}

@@ -5,11 +5,11 @@ use Rattle.std.proofs.lemmas.Int.{ints}
 use Rattle.mcf_answer.specs.Ranges.{IsAmount}
 use Rattle.mcf_checker.specs.Correct.{IsRightFlow}
 use Rattle.mcf_feas.specs.Feasible.{IsFeasibleState}
-use Rattle.mcf_instance.specs.Flow.{AreGreatestPrices, CanCarry, IsWithinBounds, cost}
-use Rattle.mcf_instance.specs.Limits.{limits}
-use Rattle.mcf_instance.specs.Network.{Network}
-use Rattle.mcf_instance.specs.WellFormed.{IsUpTo, IsWellFormed}
-use Rattle.mcf_instance.proofs.AllZips.{length-AllZip}
+use Rattle.mcf_flows.specs.Flow.{AreGreatestPrices, CanCarry, IsWithinBounds, cost}
+use Rattle.mcf_flows.specs.Limits.{limits}
+use Rattle.mcf_flows.specs.Network.{Network}
+use Rattle.mcf_flows.specs.WellFormed.{IsUpTo, IsWellFormed}
+use Rattle.mcf_flows.proofs.AllZips.{length-AllZip}
 use Rattle.mcf_network.specs.Laws.{GreatestPricesCarryOver, RestoredLeastFlowsAreLeast}
 use Rattle.mcf_network.specs.Removal.{net_of}
 use Rattle.mcf_network.specs.Restoring.{restored}

@@ -1,7 +1,7 @@
 -- What the loops of a restored flow carry.
 use Rattle.std.proofs.Common.{◌≡◌, List, [], ◌∷◌, length, arith, ℤ}
 use Rattle.std.specs.List.{AllZip}
-use Rattle.mcf_instance.specs.declared.arc.Arc.{Arc}
+use Rattle.mcf_flows.specs.declared.arc.Arc.{Arc}
 use Rattle.mcf_network.specs.Restoring.{restored}
 use Rattle.mcf_network.proofs.RestoringLaws.{restored_loop}
 use Rattle.mcf_solver.specs.ChosenSolutions.{IsLoopSettled}

@@ -4,9 +4,9 @@ use Rattle.std.specs.Prelude.{Result, Ok, Err, IfOk}
 use Rattle.std.proofs.lemmas.Option.{IfSome_then}
 use Rattle.mcf_answer.specs.declared.answers.Answer.{Answer}
 use Rattle.mcf_checker.specs.Correct.{flow_given}
-use Rattle.mcf_instance.specs.Network.{Network}
-use Rattle.mcf_instance.specs.declared.problem.Problem.{Problem}
-use Rattle.mcf_instance.specs.declared.problem.Problem.TheVariants.{Min, Asn}
+use Rattle.mcf_flows.specs.Network.{Network}
+use Rattle.mcf_flows.specs.declared.problem.Problem.{Problem}
+use Rattle.mcf_flows.specs.declared.problem.Problem.TheVariants.{Min, Asn}
 use Rattle.mcf_network.specs.Removal.{net_of}
 use Rattle.mcf_network.specs.States.{Pseudoflow}
 use Rattle.mcf_network.proofs.RestoringLaws.{net_of-arc_count}

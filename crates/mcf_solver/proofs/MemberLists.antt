@@ -7,8 +7,8 @@ use Rattle.std.proofs.Math.Bool.{or-false, or-true}
 use Rattle.std.proofs.lemmas.List.{get_or_append_left, get_or_push, length-append}
 use Rattle.std.proofs.lemmas.List.Elements.{All-push}
 use Rattle.std.proofs.lemmas.List.Folds.{list_any-append, list_any_none}
-use Rattle.mcf_instance.specs.Blocking.{in_list, in_table}
-use Rattle.mcf_instance.specs.Network.{IsNode}
+use Rattle.mcf_flows.specs.Blocking.{in_list, in_table}
+use Rattle.mcf_flows.specs.Network.{IsNode}
 
 -- the members among the first nodes, ascending
 pub record AreMembersUpTo (set : List Bool) (i : ℕ) (list : List ℕ) : Type 0 where

@@ -14,13 +14,13 @@ use Rattle.std.proofs.lemmas.Option.{get_or_from_slice_get}
 use Rattle.mcf_answer.specs.Ranges.{IsAmount}
 use Rattle.mcf_answer.specs.SparseSolution.{arc_numbers}
 use Rattle.mcf_checker.specs.Correct.{spread, stated_or_low}
-use Rattle.mcf_instance.specs.declared.arc.Arc.{Arc}
-use Rattle.mcf_instance.specs.Flow.{CanCarry, IsWithinBounds, cost}
-use Rattle.mcf_instance.specs.Limits.{limits}
-use Rattle.mcf_instance.specs.Network.{Network}
-use Rattle.mcf_instance.specs.WellFormed.{IsWellFormed}
-use Rattle.mcf_instance.proofs.AllZips.{AllZip-at, length-AllZip}
-use Rattle.mcf_instance.proofs.Bounds.{IsPlaced, each_placed, flow_up_to}
+use Rattle.mcf_flows.specs.declared.arc.Arc.{Arc}
+use Rattle.mcf_flows.specs.Flow.{CanCarry, IsWithinBounds, cost}
+use Rattle.mcf_flows.specs.Limits.{limits}
+use Rattle.mcf_flows.specs.Network.{Network}
+use Rattle.mcf_flows.specs.WellFormed.{IsWellFormed}
+use Rattle.mcf_flows.proofs.AllZips.{AllZip-at, length-AllZip}
+use Rattle.mcf_flows.proofs.Bounds.{IsPlaced, each_placed, flow_up_to}
 use Rattle.mcf_solver.specs.Forms.{moved_arc, moved_of}
 use Rattle.mcf_solver.specs.Private.MovedArcs.{AreMovedOf}
 

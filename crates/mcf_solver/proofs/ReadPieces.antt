@@ -10,8 +10,8 @@ use Rattle.mcf_checker.specs.Correct.{IsCorrect, IsRight}
 use Rattle.mcf_checker.specs.Laws.{CorrectAnswersAreAccepted}
 use Rattle.mcf_instance.specs.Fault.{Fault}
 use Rattle.mcf_instance.specs.Feeding.{ReaderData, StandsFor}
-use Rattle.mcf_instance.specs.Limits.{limits}
-use Rattle.mcf_instance.specs.Network.{Network}
+use Rattle.mcf_flows.specs.Limits.{limits}
+use Rattle.mcf_flows.specs.Network.{Network}
 use Rattle.mcf_instance.specs.Reading.{reading}
 use Rattle.mcf_text.specs.declared.fault.FeedFault.{FeedFault}
 use Rattle.mcf_text.specs.declared.fault.FeedFault.TheVariants.{TooLong}

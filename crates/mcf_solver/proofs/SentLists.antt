@@ -10,13 +10,13 @@ use Rattle.mcf_answer.specs.Ranges.{IsAmount}
 use Rattle.mcf_answer.specs.Solution.{IsSent}
 use Rattle.mcf_answer.specs.declared.answers.Sent.{Sent}
 use Rattle.mcf_checker.specs.Correct.{amounts, arc_ends, sent_ends}
-use Rattle.mcf_instance.specs.declared.arc.Arc.{Arc}
-use Rattle.mcf_instance.specs.Flow.{IsWithinBounds, CanCarry, cost}
-use Rattle.mcf_instance.specs.Limits.{limits, total_limit}
-use Rattle.mcf_instance.specs.Network.{Network, node_count}
-use Rattle.mcf_instance.specs.WellFormed.{HasEnds, IsUpTo, IsWellFormed}
-use Rattle.mcf_instance.proofs.AllZips.{AllZip-at, length-AllZip}
-use Rattle.mcf_instance.proofs.Bounds.{CostStep, IsPlaced, cost_part_up_to, cost_step, each_placed, flow_up_to}
+use Rattle.mcf_flows.specs.declared.arc.Arc.{Arc}
+use Rattle.mcf_flows.specs.Flow.{IsWithinBounds, CanCarry, cost}
+use Rattle.mcf_flows.specs.Limits.{limits, total_limit}
+use Rattle.mcf_flows.specs.Network.{Network, node_count}
+use Rattle.mcf_flows.specs.WellFormed.{HasEnds, IsUpTo, IsWellFormed}
+use Rattle.mcf_flows.proofs.AllZips.{AllZip-at, length-AllZip}
+use Rattle.mcf_flows.proofs.Bounds.{CostStep, IsPlaced, cost_part_up_to, cost_step, each_placed, flow_up_to}
 
 -- the lines of the first arcs
 pub record IsSentUpTo (g : Network) (flow : List ℤ) (i : ℕ) (sent : List Sent) : Type 0 where

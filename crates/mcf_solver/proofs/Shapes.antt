@@ -3,9 +3,9 @@ use Rattle.std.proofs.Common.{◌≡◌, ◌∙◌, ℕ, List, ℤ, length, refl
 use Rattle.std.specs.Prelude.{Option, Ok, Err}
 use Rattle.std.proofs.lemmas.Option.{IfSome_then}
 use Rattle.mcf_checker.specs.Correct.{flow_given}
-use Rattle.mcf_instance.specs.Flow.{CanCarry}
-use Rattle.mcf_instance.specs.Network.{Network}
-use Rattle.mcf_instance.proofs.AllZips.{length-AllZip}
+use Rattle.mcf_flows.specs.Flow.{CanCarry}
+use Rattle.mcf_flows.specs.Network.{Network}
+use Rattle.mcf_flows.proofs.AllZips.{length-AllZip}
 use Rattle.mcf_network.specs.Laws.{RestoredTreeSolutionsAreTreeSolutions}
 use Rattle.mcf_network.specs.Nets.{IsNet}
 use Rattle.mcf_network.specs.Removal.{net_of}

@@ -4,10 +4,10 @@ use Rattle.std.specs.List.{All, range_with_len}
 use Rattle.std.proofs.lemmas.Int.{ints}
 use Rattle.std.proofs.lemmas.List.FromFn.{length-map-range_with_len}
 use Rattle.mcf_feas.specs.Chosen.{supply_total}
-use Rattle.mcf_instance.specs.Flow.{net}
-use Rattle.mcf_instance.specs.Network.{Network, at_node, node_count, node_sum}
-use Rattle.mcf_instance.specs.WellFormed.{HasEnds}
-use Rattle.mcf_instance.proofs.NodeSums.{nets_cancel, node_sum-same, node_sum-sub}
+use Rattle.mcf_flows.specs.Flow.{net}
+use Rattle.mcf_flows.specs.Network.{Network, at_node, node_count, node_sum}
+use Rattle.mcf_flows.specs.WellFormed.{HasEnds}
+use Rattle.mcf_flows.proofs.NodeSums.{nets_cancel, node_sum-same, node_sum-sub}
 use Rattle.mcf_network.specs.Removal.{lows, net_of, supply_left}
 use Rattle.mcf_network.proofs.RemovalLaws.{net_supply}
 

@@ -1,7 +1,7 @@
 -- Where memory can be wanting: an instance with arcs has nodes.
 use Rattle.std.proofs.Common.{◌≡◌, ◌≤◌, ◌∙◌, ◌⊎◌, inl, inr, length, refl, ap, subst, arith, Result, Ok, Err}
 use Rattle.std.specs.Prelude.{OnErr}
-use Rattle.mcf_instance.specs.Network.{Network, node_count}
+use Rattle.mcf_flows.specs.Network.{Network, node_count}
 use Rattle.mcf_network.specs.Nets.{IsNet}
 use Rattle.mcf_network.specs.Removal.{net_of}
 use Rattle.mcf_network.proofs.ArcLaws.{arcs_need_nodes}

@@ -12,11 +12,11 @@ use Rattle.mcf_answer.specs.declared.answers.Answer.TheVariants.{Flow, Sparse, B
 use Rattle.mcf_checker.specs.Correct.{IsCorrect, IsRightSet, IsRightSolution, IsRightSparse, amounts, spread}
 use Rattle.mcf_checker.specs.Judging.{accepts, verdict}
 use Rattle.mcf_feas.specs.Chosen.{IsChosen}
-use Rattle.mcf_instance.specs.Blocking.{in_list}
+use Rattle.mcf_flows.specs.Blocking.{in_list}
 use Rattle.mcf_instance.specs.Fault.{Fault, header}
-use Rattle.mcf_instance.specs.Flow.{IsFeasible, IsLeast}
-use Rattle.mcf_instance.specs.Limits.{limits}
-use Rattle.mcf_instance.specs.Network.{Network}
+use Rattle.mcf_flows.specs.Flow.{IsFeasible, IsLeast}
+use Rattle.mcf_flows.specs.Limits.{limits}
+use Rattle.mcf_flows.specs.Network.{Network}
 use Rattle.mcf_instance.specs.Reading.{reading}
 use Rattle.mcf_text.specs.Row.{rows}
 use Rattle.mcf_solver.specs.declared.choice.Meant.TheVariants.{BySimplex}

@@ -2,9 +2,9 @@
 -- Source: own
 use Rattle.std.specs.Prelude.{◌≡◌, List, ℤ, pos, int_lt, if◌then◌else◌}
 use Rattle.std.specs.List.{AllZip}
-use Rattle.mcf_instance.specs.declared.arc.Arc.{Arc}
-use Rattle.mcf_instance.specs.Flow.{AreGreatestPrices}
-use Rattle.mcf_instance.specs.Network.{Network}
+use Rattle.mcf_flows.specs.declared.arc.Arc.{Arc}
+use Rattle.mcf_flows.specs.Flow.{AreGreatestPrices}
+use Rattle.mcf_flows.specs.Network.{Network}
 
 -- a loop of negative cost carries its cap, every other loop its low
 abbrev pub IsLoopSettled : Arc → ℤ → Type 0

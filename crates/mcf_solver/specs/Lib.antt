@@ -5,8 +5,8 @@ pub use Rattle.mcf_checker.specs.Correct
 pub use Rattle.mcf_checker.specs.Judging
 pub use Rattle.mcf_feas.specs.Chosen
 pub use Rattle.mcf_instance.specs.Fault
-pub use Rattle.mcf_instance.specs.Flow
-pub use Rattle.mcf_instance.specs.Limits
+pub use Rattle.mcf_flows.specs.Flow
+pub use Rattle.mcf_flows.specs.Limits
 pub use Rattle.mcf_instance.specs.Reading
 pub use Rattle.mcf_network.specs.Removal
 pub use Rattle.mcf_network.specs.Restoring

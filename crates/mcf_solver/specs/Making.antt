@@ -6,9 +6,9 @@ use Rattle.mcf_checker.specs.Correct.{flow_given}
 use Rattle.mcf_assign.specs.Runs.{IsMatchedByRows}
 use Rattle.mcf_basis.specs.Structures.{TreeStructure}
 use Rattle.mcf_instance.specs.Fault.{Fault}
-use Rattle.mcf_instance.specs.Network.{Network}
-use Rattle.mcf_instance.specs.declared.problem.Problem.{Problem}
-use Rattle.mcf_instance.specs.declared.problem.Problem.TheVariants.{Min, Asn}
+use Rattle.mcf_flows.specs.Network.{Network}
+use Rattle.mcf_flows.specs.declared.problem.Problem.{Problem}
+use Rattle.mcf_flows.specs.declared.problem.Problem.TheVariants.{Min, Asn}
 use Rattle.mcf_network.specs.Removal.{net_of}
 use Rattle.mcf_network.specs.Restoring.{restored}
 use Rattle.mcf_network.specs.States.{Pseudoflow}

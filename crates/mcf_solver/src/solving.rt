@@ -8,8 +8,8 @@ ghost use Rattle.mcf_solver.specs.Forms.{HasForm};
 ghost use Rattle.mcf_solver.specs.Making.{HasMadeFlow, IsMadeBy, IsMadeBySimplex, meant, suited};
 ghost use Rattle.mcf_solver.specs.declared.choice.Meant.TheVariants.{BySimplex};
 ghost use Rattle.mcf_solver.specs.Private.Shaping.{MadeFlowsAreShaped};
-ghost use Rattle.mcf_instance.specs.Limits.{limits};
-ghost use Rattle.mcf_instance.specs.Network.{node_count};
+ghost use Rattle.mcf_flows.specs.Limits.{limits};
+ghost use Rattle.mcf_flows.specs.Network.{node_count};
 ghost use Rattle.mcf_instance.specs.Reading.{reading};
 ghost use Rattle.std.specs.Prelude.{Ok};
 

@@ -2,7 +2,7 @@
 use Rattle.std.specs.Prelude.{ℕ, ◌≤◌, List, length, All}
 use Rattle.std.specs.List.Sorted.{IsStrictlyIncreasing}
 use Rattle.mcf_answer.specs.Ranges.{IsNodeInRange}
-use Rattle.mcf_instance.specs.declared.problem.Side.{Side}
+use Rattle.mcf_flows.specs.declared.problem.Side.{Side}
 
 -- the side, how many nodes there are, and the nodes so far
 pub record PartialSet : Type 0 where

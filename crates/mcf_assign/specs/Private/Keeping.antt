@@ -1,9 +1,9 @@
 -- What a matching keeps between searches, and what a search that is over has shown.
 use Rattle.std.specs.Prelude.{◌≡◌, ℕ, ◌<◌, ◌≤◌, Bool, List, [], length, ℤ, pos, neg_ℤ, ◌<ℤ◌, ◌≤ℤ◌, vec_capacity}
 use Rattle.std.specs.List.{All, Contains}
-use Rattle.mcf_instance.specs.Limits.{limits}
-use Rattle.mcf_instance.specs.Network.{Network, IsNode, at_node, node_count}
-use Rattle.mcf_instance.specs.WellFormed.{IsUpTo}
+use Rattle.mcf_flows.specs.Limits.{limits}
+use Rattle.mcf_flows.specs.Network.{Network, IsNode, at_node, node_count}
+use Rattle.mcf_flows.specs.WellFormed.{IsUpTo}
 use Rattle.mcf_network.specs.States.{Pseudoflow}
 use Rattle.mcf_assign.specs.declared.search.Tables.{Tables}
 use Rattle.mcf_assign.specs.Private.Forests.{AreMates, IsOrder}

@@ -1,9 +1,9 @@
 -- Prices cut to 64 bits, and by what they tell that an arc is no news.
 use Rattle.std.specs.Prelude.{Bool, true, ◌&&◌, if◌then◌else◌, ◌⊎◌, ℕ, ◌-◌, ◌^◌, ◌<◌, List, Option, length, map, ℤ, pos, neg_ℤ, int_lt, ◌≤ℤ◌, ◌+ℤ◌, ◌≡◌, slice_index_or}
 use Rattle.std.specs.List.{Contains, range_with_len}
-use Rattle.mcf_instance.specs.Blocking.{in_table}
-use Rattle.mcf_instance.specs.Network.{at_node}
-use Rattle.mcf_instance.specs.WellFormed.{IsUpTo}
+use Rattle.mcf_flows.specs.Blocking.{in_table}
+use Rattle.mcf_flows.specs.Network.{at_node}
+use Rattle.mcf_flows.specs.WellFormed.{IsUpTo}
 use Rattle.mcf_assign.specs.declared.rows.RowArc.{RowArc}
 use Rattle.mcf_assign.specs.declared.search.Target.{Target}
 use Rattle.mcf_assign.specs.Private.Searches.{IsBestUpTo}

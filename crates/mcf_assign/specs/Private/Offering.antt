@@ -1,6 +1,6 @@
 -- What the engine keeps while it offers the rows.
 use Rattle.std.specs.Prelude.{ℕ}
-use Rattle.mcf_instance.specs.Network.{Network}
+use Rattle.mcf_flows.specs.Network.{Network}
 use Rattle.mcf_assign.specs.declared.extended.Extended.{Extended}
 use Rattle.mcf_assign.specs.declared.extended.Extended.TheVariants.{Matched, Blocked}
 use Rattle.mcf_assign.specs.Extending.{Assigned}

@@ -1,7 +1,7 @@
 -- What a search keeps while it scans rows, several of which may be settled and not scanned yet.
 use Rattle.std.specs.Prelude.{◌≡◌, ℕ, ◌+◌, ◌*◌, ◌<◌, ◌≤◌, false, List, ◌++◌, length, map, ℤ, ◌⊎◌, slice_index_or}
 use Rattle.std.specs.List.{Contains, range_with_len}
-use Rattle.mcf_instance.specs.Network.{Network, IsArcNumber, IsNode, node_count}
+use Rattle.mcf_flows.specs.Network.{Network, IsArcNumber, IsNode, node_count}
 use Rattle.mcf_network.specs.declared.rid.Rid.{Rid}
 use Rattle.mcf_network.specs.States.{Pseudoflow}
 use Rattle.mcf_assign.specs.Matchings.{IsColumn, IsRow, row_of}

@@ -1,7 +1,7 @@
 -- What a search reads and doesn't change, and the row whose arcs it relaxes.
 use Rattle.std.specs.Prelude.{◌≡◌, ℕ, List, ℤ, ◌-ℤ◌}
-use Rattle.mcf_instance.specs.Network.{IsNode, at_node, node_count}
-use Rattle.mcf_instance.specs.WellFormed.{IsUpTo}
+use Rattle.mcf_flows.specs.Network.{IsNode, at_node, node_count}
+use Rattle.mcf_flows.specs.WellFormed.{IsUpTo}
 use Rattle.mcf_network.specs.States.{Pseudoflow}
 use Rattle.mcf_assign.specs.declared.rows.Rows.{Rows}
 use Rattle.mcf_assign.specs.declared.scene.Row.{Row}

@@ -5,7 +5,7 @@ use Rattle.std.specs.List.Sorted.{IsStrictlyIncreasing}
 use Rattle.mcf_checker.specs.Correct.{amounts, spread, stated_or_low}
 use Rattle.mcf_checker.specs.declared.stated.Stated.{Stated}
 use Rattle.mcf_checker.specs.declared.stated.Stated.TheVariants.{Each, Moved}
-use Rattle.mcf_instance.specs.declared.arc.Arc.{Arc}
+use Rattle.mcf_flows.specs.declared.arc.Arc.{Arc}
 
 -- the flow that the lines give
 abbrev pub flow_stated : List Arc → Stated → List ℤ

@@ -1,6 +1,6 @@
 -- What pushes of surplus from node to node keep.
 use Rattle.std.specs.Prelude.{◌≡◌, ℕ, ◌≤◌, ℤ, pos, negsuc}
-use Rattle.mcf_instance.specs.Network.{node_count, node_sum}
+use Rattle.mcf_flows.specs.Network.{node_count, node_sum}
 use Rattle.mcf_network.specs.States.{Pseudoflow, IsPseudoflow, surplus_at}
 
 -- x where it is above 0, and else 0

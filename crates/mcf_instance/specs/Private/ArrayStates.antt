@@ -1,23 +1,23 @@
 -- The reader's state, as arrays are taken into it.
 use Rattle.std.specs.Prelude.{◌≡◌, ◌≤◌, Bool, List, length, map, ℤ, pos, Option, Some, None, Ok, Err}
 use Rattle.std.specs.List.{All}
-use Rattle.mcf_instance.specs.declared.arc.Arc.{Arc}
-use Rattle.mcf_instance.specs.declared.arc.PackedArc.{PackedArc}
+use Rattle.mcf_flows.specs.declared.arc.Arc.{Arc}
+use Rattle.mcf_flows.specs.declared.arc.PackedArc.{PackedArc}
 use Rattle.mcf_instance.specs.declared.arrays.ArrayFault.{ArrayFault}
 use Rattle.mcf_instance.specs.declared.code.Code.{Code}
 use Rattle.mcf_instance.specs.declared.reader.line.ArcNumbers.{ArcNumbers}
 use Rattle.mcf_instance.specs.declared.reader.line.Header.{Header}
 use Rattle.mcf_instance.specs.declared.reader.line.Item.TheVariants.{Link}
 use Rattle.mcf_instance.specs.Arrays.{arc_fault, first_found}
-use Rattle.mcf_instance.specs.Assignment.{OnAssignment}
-use Rattle.mcf_instance.specs.Limits.{limits, node_limit, arc_limit}
-use Rattle.mcf_instance.specs.Network.{Network, node_count}
-use Rattle.mcf_instance.specs.Packed.{unpacked}
+use Rattle.mcf_flows.specs.Assignment.{OnAssignment}
+use Rattle.mcf_flows.specs.Limits.{limits, node_limit, arc_limit}
+use Rattle.mcf_flows.specs.Network.{Network, node_count}
+use Rattle.mcf_flows.specs.Packed.{unpacked}
 use Rattle.mcf_instance.specs.Private.LineReader.{arc_tests}
 use Rattle.mcf_instance.specs.Private.ReaderSound.{side_supply}
 use Rattle.mcf_instance.specs.Private.ReaderState.{with_item}
 use Rattle.mcf_instance.specs.ReadOn.{StateData}
-use Rattle.mcf_instance.specs.WellFormed.{IsUpTo}
+use Rattle.mcf_flows.specs.WellFormed.{IsUpTo}
 
 -- a network's sizes as a problem line says them
 abbrev pub sizes : Network → Header

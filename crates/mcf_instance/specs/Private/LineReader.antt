@@ -1,19 +1,19 @@
 -- What a line says, read in the order of the reader's tests.
 use Rattle.std.specs.Prelude.{ℕ, ◌+◌, ◌^◌, ◌==◌, nat_le, nat_lt, Bool, not, ◌&&◌, ◌||◌, if◌then◌else◌, List, [], length, bytes_eq, codes, slice_index_or, ℤ}
 use Rattle.std.specs.Prelude.{pos, int_lt, Option, Some, None, Result, Ok, Err}
-use Rattle.mcf_instance.specs.declared.arc.PackedArc.{PackedArc}
+use Rattle.mcf_flows.specs.declared.arc.PackedArc.{PackedArc}
 use Rattle.mcf_instance.specs.declared.code.Code.{Code}
 use Rattle.mcf_instance.specs.declared.code.Code.TheVariants.{Fields, Problem, Number, SecondP, BeforeP, Size, Node, LateN, Twice, Supply, Bound, Order, Cost}
 use Rattle.mcf_instance.specs.declared.code.Code.TheVariants.{Extra, Side, Total}
-use Rattle.mcf_instance.specs.declared.problem.Problem.{Problem as Format}
-use Rattle.mcf_instance.specs.declared.problem.Problem.TheVariants.{Min, Asn}
+use Rattle.mcf_flows.specs.declared.problem.Problem.{Problem as Format}
+use Rattle.mcf_flows.specs.declared.problem.Problem.TheVariants.{Min, Asn}
 use Rattle.mcf_instance.specs.declared.reader.line.Header.{Header}
 use Rattle.mcf_instance.specs.declared.reader.line.ArcNumbers.{ArcNumbers}
-use Rattle.mcf_instance.specs.Blocking.{in_table}
+use Rattle.mcf_flows.specs.Blocking.{in_table}
 use Rattle.mcf_instance.specs.Fault.{is_min, is_up_to, passes}
-use Rattle.mcf_instance.specs.Limits.{Limits, node_limit, arc_limit}
-use Rattle.mcf_instance.specs.Packed.{unpacked}
-use Rattle.mcf_instance.specs.WellFormed.{weight}
+use Rattle.mcf_flows.specs.Limits.{Limits, node_limit, arc_limit}
+use Rattle.mcf_flows.specs.Packed.{unpacked}
+use Rattle.mcf_flows.specs.WellFormed.{weight}
 use Rattle.mcf_text.specs.Row.{natural}
 use Rattle.mcf_text.specs.Whole.{is_whole, is_within, whole_value}
 

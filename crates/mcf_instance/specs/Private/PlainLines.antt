@@ -3,9 +3,9 @@ use Rattle.std.specs.Prelude.{◌≡◌, ◌≢◌, ℕ, ◌+◌, ◌<◌, ◌�
 use Rattle.mcf_text.specs.Fields.{EndsRun, fields_of, is_blank, is_kept}
 use Rattle.mcf_text.specs.Lines.{line_feed, lines_of}
 use Rattle.mcf_text.specs.Whole.{is_whole, whole_value}
-use Rattle.mcf_instance.specs.declared.arc.PackedArc.{PackedArc}
+use Rattle.mcf_flows.specs.declared.arc.PackedArc.{PackedArc}
 use Rattle.mcf_instance.specs.declared.reader.line.Header.{Header}
-use Rattle.mcf_instance.specs.Limits.{limits}
+use Rattle.mcf_flows.specs.Limits.{limits}
 use Rattle.mcf_instance.specs.Private.LineReader.{arc_line, clamped}
 
 -- the text begins with the letter `a` and a blank

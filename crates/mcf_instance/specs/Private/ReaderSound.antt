@@ -1,19 +1,19 @@
 -- What every state of the reader keeps, and what a line must say for it to stay so.
 use Rattle.std.specs.Prelude.{◌≡◌, ℕ, ◌+◌, ◌<◌, ◌≤◌, Bool, true, false, if◌then◌else◌, List, [], map, length, sum, ℤ, pos, neg_ℤ, Option, Some, None}
 use Rattle.std.specs.List.{All}
-use Rattle.mcf_instance.specs.declared.arc.PackedArc.{PackedArc}
-use Rattle.mcf_instance.specs.declared.problem.Problem.{Problem as Format}
-use Rattle.mcf_instance.specs.declared.problem.Problem.TheVariants.{Min, Asn}
+use Rattle.mcf_flows.specs.declared.arc.PackedArc.{PackedArc}
+use Rattle.mcf_flows.specs.declared.problem.Problem.{Problem as Format}
+use Rattle.mcf_flows.specs.declared.problem.Problem.TheVariants.{Min, Asn}
 use Rattle.mcf_instance.specs.declared.reader.line.Header.{Header}
 use Rattle.mcf_instance.specs.declared.reader.line.Item.{Item}
 use Rattle.mcf_instance.specs.declared.reader.line.Item.TheVariants.{Problem, Supply, Link}
-use Rattle.mcf_instance.specs.Assignment.{OnAssignment, IsPairing}
-use Rattle.mcf_instance.specs.Blocking.{in_table}
-use Rattle.mcf_instance.specs.Limits.{Limits, node_limit, arc_limit, total_limit}
-use Rattle.mcf_instance.specs.Packed.{unpacked}
+use Rattle.mcf_flows.specs.Assignment.{OnAssignment, IsPairing}
+use Rattle.mcf_flows.specs.Blocking.{in_table}
+use Rattle.mcf_flows.specs.Limits.{Limits, node_limit, arc_limit, total_limit}
+use Rattle.mcf_flows.specs.Packed.{unpacked}
 use Rattle.mcf_instance.specs.ReadOn.{StateData}
 use Rattle.mcf_instance.specs.Private.ReaderState.{problem_or_min}
-use Rattle.mcf_instance.specs.WellFormed.{HasEnds, IsArcWithinLimits, IsUpTo, weight}
+use Rattle.mcf_flows.specs.WellFormed.{HasEnds, IsArcWithinLimits, IsUpTo, weight}
 
 -- the count of nodes of a header, 0 without one
 abbrev pub header_nodes : Option Header → ℕ

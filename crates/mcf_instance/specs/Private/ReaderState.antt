@@ -4,19 +4,19 @@ use Rattle.std.specs.Prelude.{slice_index_or, replicate, ℤ, pos, neg_ℤ, Opti
 use Rattle.std.specs.Option.{option_or}
 use Rattle.mcf_instance.specs.declared.code.Code.{Code}
 use Rattle.mcf_instance.specs.declared.code.Code.TheVariants.{Kind, NoP, Missing}
-use Rattle.mcf_instance.specs.declared.problem.Problem.{Problem as Format}
-use Rattle.mcf_instance.specs.declared.problem.Problem.TheVariants.{Min, Asn}
+use Rattle.mcf_flows.specs.declared.problem.Problem.{Problem as Format}
+use Rattle.mcf_flows.specs.declared.problem.Problem.TheVariants.{Min, Asn}
 use Rattle.mcf_instance.specs.declared.reader.line.Header.{Header}
 use Rattle.mcf_instance.specs.declared.reader.line.Item.{Item}
 use Rattle.mcf_instance.specs.declared.reader.line.Item.TheVariants.{Problem, Supply, Link}
 use Rattle.mcf_instance.specs.Fault.{Fault}
-use Rattle.mcf_instance.specs.Limits.{Limits}
+use Rattle.mcf_flows.specs.Limits.{Limits}
 use Rattle.mcf_instance.specs.Private.LineReader.{◌>>=◌, problem_line, node_line, arc_line}
-use Rattle.mcf_instance.specs.Network.{Network}
-use Rattle.mcf_instance.specs.Packed.{unpacked}
+use Rattle.mcf_flows.specs.Network.{Network}
+use Rattle.mcf_flows.specs.Packed.{unpacked}
 use Rattle.mcf_instance.specs.ReadOn.{StateData}
 use Rattle.mcf_instance.specs.Reading.{reading_of}
-use Rattle.mcf_instance.specs.WellFormed.{weight}
+use Rattle.mcf_flows.specs.WellFormed.{weight}
 use Rattle.mcf_text.specs.Row.{Row}
 
 -- the state before the first line

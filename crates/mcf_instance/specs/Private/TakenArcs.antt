@@ -2,9 +2,9 @@
 use Rattle.std.specs.Prelude.{◌≡◌, ℕ, ◌+◌, true, List, ◌++◌, take, Option, None, Some, Ok}
 use Rattle.mcf_text.specs.Fields.{fields_of, is_kept}
 use Rattle.mcf_text.specs.Lines.{numbered_lines}
-use Rattle.mcf_instance.specs.declared.arc.PackedArc.{PackedArc}
+use Rattle.mcf_flows.specs.declared.arc.PackedArc.{PackedArc}
 use Rattle.mcf_instance.specs.declared.reader.line.Item.TheVariants.{Link}
-use Rattle.mcf_instance.specs.Limits.{limits}
+use Rattle.mcf_flows.specs.Limits.{limits}
 use Rattle.mcf_instance.specs.Memory.{NamesNodes}
 use Rattle.mcf_instance.specs.ReadOn.{HasRead, StateData}
 use Rattle.mcf_instance.specs.Private.PlainLines.{HasLine}

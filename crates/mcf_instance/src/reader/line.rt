@@ -1,17 +1,16 @@
 //! What one line says: the tests of its fields, in the order in which faults are looked for.
 ghost use Rattle.std.specs.Prelude.{◌≡◌, ◌≤ℤ◌, ◌<ℤ◌, map, length, bytes_eq, pos, ◌<◌, ◌^◌, ◌≤◌, ◌&&◌, IfSome, IfOk};
-ghost use Rattle.mcf_instance.specs.Blocking.{in_table};
+ghost use Rattle.mcf_flows.specs.Blocking.{in_table};
 ghost use Rattle.mcf_instance.specs.Fault.{is_up_to};
-ghost use Rattle.mcf_instance.specs.Limits.{arc_limit, limits, node_limit, total_limit};
+ghost use Rattle.mcf_flows.specs.Limits.{arc_limit, limits, node_limit, total_limit};
 ghost use Rattle.mcf_instance.specs.Private.LineReader.{number_at, problem_at, problem_line, node_count_fits, node_numbers, node_tests, checked_node};
 ghost use Rattle.mcf_instance.specs.Private.LineReader.{node_line, arc_count_fits, arc_numbers, is_wrong_side, amount_fault, passes_total, within_total};
 ghost use Rattle.mcf_instance.specs.Private.LineReader.{arc_tests, arc_line};
 ghost use Rattle.mcf_text.specs.Row.{natural};
 ghost use Rattle.mcf_text.specs.Whole.{is_within};
 
-use crate::arc::PackedArc;
 use crate::code::Code;
-use crate::problem::Problem;
+use mcf_flows::{PackedArc, Problem};
 use mcf_text::{Whole, whole};
 
 // How many nodes and arcs there may be.

@@ -1,6 +1,6 @@
 //! Lines taken in one after another: arc lines in a row, as far as they are good and plain, and any line.
 ghost use Rattle.std.specs.Prelude.{◌≡◌, ◌+◌, ◌≤◌, ◌∷◌, ℕ, List, drop, None, Some, IfOk, OnErr, OnOk};
-ghost use Rattle.mcf_instance.specs.Limits.{limits, line_limit};
+ghost use Rattle.mcf_flows.specs.Limits.{limits, line_limit};
 ghost use Rattle.mcf_instance.specs.Memory.{NamesNodes};
 ghost use Rattle.mcf_instance.specs.Private.TakenArcs.{ReadsLines, WantsForLines};
 ghost use Rattle.mcf_instance.specs.ReadOn.{HasRead};

@@ -1,15 +1,15 @@
 //! The reader of instance texts that come in pieces.
 ghost use Rattle.std.specs.Prelude.{◌≡◌, ◌≢◌, ◌+◌, ◌<◌, ◌≤◌, ◌++◌, ◌∷◌, [], ℕ, List, false, length, None, IfErr, IfOk, IfSome, IsTrue, OnErr, OnOk};
 ghost use Rattle.mcf_instance.specs.Feeding.{StandsFor, WantsMemory};
-ghost use Rattle.mcf_instance.specs.Limits.{limits, line_limit};
+ghost use Rattle.mcf_flows.specs.Limits.{limits, line_limit};
 ghost use Rattle.mcf_instance.specs.Memory.{NamesNodes};
 ghost use Rattle.mcf_instance.specs.ReadOn.{HasReadOn, HasReadPieces};
 ghost use Rattle.mcf_text.specs.Feed.{byte_limit};
 
-use crate::instances::Instance;
 use crate::reader::lines::{read_line, take_arcs};
 use crate::reader::state::State;
 use crate::refusal::Refusal;
+use mcf_flows::Instance;
 use mcf_text::{FeedFault, LineFeed, NoMemory};
 use std::alloc::Global;
 use std::marker::Model;

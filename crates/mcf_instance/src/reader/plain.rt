@@ -2,14 +2,13 @@
 //! numbers of at most eighteen digits, each with one blank before it, and at most one at the end. Other lines,
 //! and lines with a fault, go another way, and are read as these are.
 ghost use Rattle.std.specs.Prelude.{◌≡◌, ◌<◌, ◌≤◌, IfSome, IsTrue, Ok, length};
-ghost use Rattle.mcf_instance.specs.Limits.{total_limit};
+ghost use Rattle.mcf_flows.specs.Limits.{total_limit};
 ghost use Rattle.mcf_instance.specs.Private.PlainLines.{BeginsArc, BlankAt, EndsLine, HasDigits, HasField, HasLastField, SaysArc};
 ghost use Rattle.mcf_text.specs.Fields.{is_blank};
 
-use crate::arc::PackedArc;
 use crate::code::Code;
-use crate::problem::Problem;
 use crate::reader::line::{ArcNumbers, Header, arc_tests};
+use mcf_flows::{PackedArc, Problem};
 use mcf_text::leading_digits;
 
 // A number, and a place behind it.

@@ -1,28 +1,25 @@
 //! The reader's state: what the lines so far say.
 ghost use Rattle.std.specs.Prelude.{◌≡◌, ◌++◌, ◌∷◌, [], List, map, length, slice_get, None, Some, OnOk, OnErr, ◌≤◌, IfOk, IfSome, IsTrue};
 ghost use Rattle.mcf_instance.specs.Fault.{faults, header};
-ghost use Rattle.mcf_instance.specs.Limits.{limits, line_limit};
+ghost use Rattle.mcf_flows.specs.Limits.{limits, line_limit};
 ghost use Rattle.mcf_instance.specs.Private.ArrayStates.{CarriesOne, NodesFit, Offered};
 ghost use Rattle.mcf_instance.specs.Private.LineReader.{arc_tests};
 ghost use Rattle.mcf_instance.specs.Private.ReaderSound.{IsSound, ItemFits};
 ghost use Rattle.mcf_instance.specs.Private.ReaderState.{empty, item_of, with_item, item_grows, network_of, outcome_grows, after_row, refusal_after, finished};
 ghost use Rattle.mcf_instance.specs.Private.TakenArcs.{BeginsWithArc, TakesArc, WantsArc};
 ghost use Rattle.mcf_instance.specs.ReadOn.{Stands};
-ghost use Rattle.mcf_instance.specs.WellFormed.{IsWellFormed};
+ghost use Rattle.mcf_flows.specs.WellFormed.{IsWellFormed};
 ghost use Rattle.mcf_text.specs.Fields.{fields_of, is_kept};
 ghost use Rattle.mcf_text.specs.Row.{Row, row_of};
 
-use crate::arc::PackedArc;
-use crate::arc_table::ArcTable;
 use crate::code::Code;
-use crate::instances::Instance;
-use crate::problem::Problem;
 use crate::reader::fields::first_fields;
 use crate::reader::line::{
     ArcNumbers, Header, Item, arc_line, arc_tests, is_word, node_line, problem_line,
 };
 use crate::reader::plain::{PlainArc, plain_arc};
 use crate::refusal::Refusal;
+use mcf_flows::{ArcTable, Instance, PackedArc, Problem};
 use mcf_text::{NoMemory, copies};
 use std::alloc::Global;
 use std::marker::Model;
@@ -39,7 +36,7 @@ pub(crate) struct State {
 }
 
 impl Model for State {
-    ghost use Rattle.mcf_instance.specs.Limits.{limits};
+    ghost use Rattle.mcf_flows.specs.Limits.{limits};
     ghost use Rattle.mcf_instance.specs.Private.ReaderSound.{IsSound};
     ghost use Rattle.mcf_instance.specs.ReadOn.{StateData};
 
@@ -333,11 +330,7 @@ impl State {
             refusal: _,
         } = self;
         match header {
-            Some(header) => Ok(Instance {
-                problem: header.problem,
-                arcs,
-                supplies,
-            }),
+            Some(header) => Ok(Instance::of(header.problem, arcs, supplies)),
             None => unreachable!(),
         }
     }
@@ -356,10 +349,6 @@ impl State {
             total: _,
             refusal: _,
         } = self;
-        Instance {
-            problem: header.problem,
-            arcs,
-            supplies,
-        }
+        Instance::of(header.problem, arcs, supplies)
     }
 }

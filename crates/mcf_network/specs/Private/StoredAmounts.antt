@@ -1,7 +1,7 @@
 -- The amounts of a state as they are stored: in a byte each where no width is above 1, or in eight.
 use Rattle.std.specs.Prelude.{ℕ, List, ℤ, map, pos, ◌≤ℤ◌}
 use Rattle.std.specs.List.{All}
-use Rattle.mcf_instance.specs.declared.arc.Arc.{Arc}
+use Rattle.mcf_flows.specs.declared.arc.Arc.{Arc}
 use Rattle.mcf_network.specs.declared.amounts.Amounts.{Amounts}
 use Rattle.mcf_network.specs.declared.amounts.Amounts.TheVariants.{Small, Large}
 use Rattle.mcf_network.specs.Nets.{width_limit}

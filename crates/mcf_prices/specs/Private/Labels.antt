@@ -2,8 +2,8 @@
 use Rattle.std.specs.Prelude.{◌≡◌, ℕ, ◌<◌, ◌≤◌, ◌-◌, ◌^◌, List, [], ◌∷◌, length, Bool, Option, Some, None, ℤ, pos, ◌+ℤ◌, ◌≤ℤ◌, ◌<ℤ◌, ◌⊎◌, slice_index_or}
 use Rattle.std.specs.Prelude.{slice_set}
 use Rattle.std.specs.Bool.{MatchBool}
-use Rattle.mcf_instance.specs.Flow.{AreLowPrices, AreNotAboveZero}
-use Rattle.mcf_instance.specs.Network.{IsNode, at_node, node_count}
+use Rattle.mcf_flows.specs.Flow.{AreLowPrices, AreNotAboveZero}
+use Rattle.mcf_flows.specs.Network.{IsNode, at_node, node_count}
 use Rattle.mcf_network.specs.declared.rid.Rid.{Rid}
 use Rattle.mcf_network.specs.Residual.{tail, head, unit_cost}
 use Rattle.mcf_network.specs.States.{Pseudoflow, IsPseudoflow}

@@ -1,9 +1,9 @@
 -- The nodes whose price fell, which wait for the next round.
 use Rattle.std.specs.Prelude.{◌≡◌, ℕ, ◌≤◌, Bool, true, List, [], ◌∷◌, ◌++◌, length, if◌then◌else◌}
 use Rattle.std.specs.List.{All, Contains}
-use Rattle.mcf_instance.specs.Blocking.{in_table}
-use Rattle.mcf_instance.specs.Limits.{node_limit}
-use Rattle.mcf_instance.specs.Network.{IsNode}
+use Rattle.mcf_flows.specs.Blocking.{in_table}
+use Rattle.mcf_flows.specs.Limits.{node_limit}
+use Rattle.mcf_flows.specs.Network.{IsNode}
 use Rattle.mcf_network.specs.NodeSets.{member_count, no_nodes, with_node}
 
 -- a table of the nodes, and a list of those that wait

@@ -1,9 +1,9 @@
 -- Nodes that wait, first in, first out.
 use Rattle.std.specs.Prelude.{◌≡◌, ◌≢◌, ℕ, ◌-◌, ◌≤◌, Bool, true, false, List, [], ◌∷◌, ◌++◌, length, if◌then◌else◌, slice_set, pos, ◌<ℤ◌}
 use Rattle.std.specs.List.{All, AllPairs, Contains}
-use Rattle.mcf_instance.specs.Blocking.{in_table}
-use Rattle.mcf_instance.specs.Limits.{node_limit}
-use Rattle.mcf_instance.specs.Network.{IsNode, node_count}
+use Rattle.mcf_flows.specs.Blocking.{in_table}
+use Rattle.mcf_flows.specs.Limits.{node_limit}
+use Rattle.mcf_flows.specs.Network.{IsNode, node_count}
 use Rattle.mcf_network.specs.States.{Pseudoflow, surplus_at}
 use Rattle.mcf_network.specs.NodeSets.{member_count, no_nodes, with_node}
 

@@ -1,5 +1,5 @@
 use Rattle.std.proofs.Common.{◌∙◌, ap, sym}
-use Rattle.mcf_instance.specs.Network.{Network, node_count}
+use Rattle.mcf_flows.specs.Network.{Network, node_count}
 use Rattle.mcf_assign.proofs.RunLaws.{end_blocked, end_least, end_made, end_prices, run_net}
 use Rattle.mcf_assign.specs.Runs.{sources}
 use Rattle.mcf_assign.proofs.sap.assign.Goals as goal

@@ -1,5 +1,5 @@
 use Rattle.std.proofs.Common.{List, ℤ, drop, length, ap, sym, subst, arith}
-use Rattle.mcf_instance.specs.Network.{Network}
+use Rattle.mcf_flows.specs.Network.{Network}
 use Rattle.mcf_network.specs.States.{Pseudoflow}
 use Rattle.mcf_engine.specs.Outcomes.{AreStatePrices, IsLeastState}
 use Rattle.mcf_simplex.proofs.Ending.{written}

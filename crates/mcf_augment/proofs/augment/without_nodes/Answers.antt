@@ -1,5 +1,5 @@
 use Rattle.std.proofs.Common.{◌≡◌, ◌∙◌, List, ℤ, [], ap, subst, sym}
-use Rattle.mcf_instance.specs.Network.{Network, node_count}
+use Rattle.mcf_flows.specs.Network.{Network, node_count}
 use Rattle.mcf_network.specs.States.{Pseudoflow}
 use Rattle.mcf_engine.specs.Outcomes.{AreStatePrices, IsLeastState}
 use Rattle.mcf_augment.proofs.Nodeless.{nodeless_least, nodeless_prices}

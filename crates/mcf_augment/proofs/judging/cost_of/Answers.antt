@@ -1,7 +1,7 @@
 use Rattle.std.proofs.Common.{◌≡◌, ℤ, rules, subst, sym, to_z, of_z}
 use mir.Syntax.{w128}
 use Rattle.std.proofs.lemmas.Int.{to_z-of_z}
-use Rattle.mcf_instance.specs.WellFormed.{IsUpTo}
+use Rattle.mcf_flows.specs.WellFormed.{IsUpTo}
 use Rattle.mcf_engine.specs.NearPrices.{near_limit}
 use Rattle.mcf_augment.proofs.Judged.{cost_near}
 use Rattle.mcf_augment.proofs.judging.cost_of.Goals as goal

@@ -1,5 +1,5 @@
 use Rattle.std.proofs.Common.{◌≡◌, ℕ, ◌∙◌, ap, arith, pos}
-use Rattle.mcf_instance.specs.Network.{Network, node_count}
+use Rattle.mcf_flows.specs.Network.{Network, node_count}
 use Rattle.mcf_network.specs.States.{surplus_at}
 use Rattle.mcf_augment.proofs.Judged.{every_next}
 use Rattle.mcf_augment.proofs.judging.has_no_surplus.Goals as goal

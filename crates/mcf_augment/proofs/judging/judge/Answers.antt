@@ -1,5 +1,5 @@
 use Rattle.std.proofs.Common.{◌≡◌, ◌∙◌, ap, subst, sym, length}
-use Rattle.mcf_instance.specs.Network.{Network, node_count}
+use Rattle.mcf_flows.specs.Network.{Network, node_count}
 use Rattle.mcf_engine.specs.Outcomes.{IsLeastState}
 use Rattle.mcf_augment.proofs.Judged.{least_judged, near_judged}
 use Rattle.mcf_augment.proofs.judging.judge.Goals as goal

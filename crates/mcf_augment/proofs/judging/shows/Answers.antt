@@ -1,6 +1,6 @@
 use Rattle.std.proofs.Common.{ℕ, ◌∙◌, ap, arith, length}
-use Rattle.mcf_instance.specs.Flow.{IsComplementary}
-use Rattle.mcf_instance.specs.Network.{Network}
+use Rattle.mcf_flows.specs.Flow.{IsComplementary}
+use Rattle.mcf_flows.specs.Network.{Network}
 use Rattle.mcf_network.specs.Residual.{arc_at}
 use Rattle.mcf_network.specs.States.{amount_at}
 use Rattle.mcf_augment.proofs.Judged.{every_next, shown_everywhere}

@@ -1,6 +1,6 @@
 use Rattle.std.proofs.Common.{ℕ}
-use Rattle.mcf_instance.specs.Flow.{IsComplementary}
-use Rattle.mcf_instance.specs.Network.{IsNode}
+use Rattle.mcf_flows.specs.Flow.{IsComplementary}
+use Rattle.mcf_flows.specs.Network.{IsNode}
 use Rattle.mcf_network.specs.Residual.{arc_at}
 use Rattle.mcf_network.specs.States.{amount_at}
 use Rattle.mcf_augment.proofs.judging.shows.Given as goal

@@ -1,5 +1,5 @@
 use Rattle.std.proofs.Common.{◌≡◌, ℕ, ◌≤◌}
-use Rattle.mcf_instance.specs.Network.{IsArcNumber}
+use Rattle.mcf_flows.specs.Network.{IsArcNumber}
 use Rattle.mcf_network.specs.States.{amount_at}
 use Rattle.mcf_basis.proofs.Endings.{outside_by}
 use Rattle.mcf_basis.proofs.ending.write_outside.Given as goal

@@ -1,5 +1,5 @@
 use Rattle.std.proofs.Common.{arith}
-use Rattle.mcf_instance.specs.Network.{IsNode, node_count}
+use Rattle.mcf_flows.specs.Network.{IsNode, node_count}
 use Rattle.mcf_basis.proofs.Endings.{tree_next}
 use Rattle.mcf_basis.proofs.ending.write_tree.Goals as goal
 

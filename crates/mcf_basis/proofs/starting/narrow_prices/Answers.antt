@@ -2,7 +2,7 @@ use Rattle.std.proofs.Common.{◌≡◌, ◌+◌, ◌∷◌, ◌++◌, [], ap, p
 use Rattle.std.specs.Prelude.{if◌then◌else◌, int_le}
 use mir.Syntax.{w64, w128}
 use Rattle.std.proofs.lemmas.Int.{to_z-of_z}
-use Rattle.mcf_instance.specs.Network.{at_node}
+use Rattle.mcf_flows.specs.Network.{at_node}
 use Rattle.mcf_basis.specs.Artificial.{artificial_cost}
 use Rattle.mcf_basis.specs.Starts.{start_price}
 use Rattle.mcf_basis.proofs.StartLayouts.{made_behind}

@@ -2,7 +2,7 @@ use Rattle.std.proofs.Common.{◌≡◌, ◌*◌, ap, arith, refl, rules, ◌∙
 use Rattle.std.specs.Prelude.{unsigned_abs}
 use mir.Syntax.{w128}
 use Rattle.std.proofs.lemmas.Int.{to_z-of_z}
-use Rattle.mcf_instance.specs.Network.{node_count}
+use Rattle.mcf_flows.specs.Network.{node_count}
 use Rattle.mcf_basis.specs.Artificial.{artificial_cost}
 use Rattle.mcf_basis.specs.Ranks.{greatest_cost}
 use Rattle.mcf_basis.proofs.TreePrices.{reach_small}

@@ -2,7 +2,7 @@ use Rattle.std.proofs.Common.{◌≡◌, ◌+◌, ◌∷◌, ◌++◌, [], ap, r
 use Rattle.std.specs.Prelude.{int_le, pos, unsigned_abs}
 use mir.Syntax.{w128}
 use Rattle.std.proofs.lemmas.Int.{to_z-of_z}
-use Rattle.mcf_instance.specs.Network.{at_node}
+use Rattle.mcf_flows.specs.Network.{at_node}
 use Rattle.mcf_basis.specs.Private.Layouts.{artificial_rooms, no_rooms}
 use Rattle.mcf_basis.proofs.StartLayouts.{made_behind, star_rooms}
 use Rattle.mcf_basis.proofs.starting.star_rooms.Goals as goal

@@ -1,6 +1,6 @@
 use Rattle.std.proofs.Common.{◌≡◌}
-use Rattle.mcf_instance.specs.Flow.{AreGreatestPrices}
-use Rattle.mcf_instance.specs.Network.{node_count}
+use Rattle.mcf_flows.specs.Flow.{AreGreatestPrices}
+use Rattle.mcf_flows.specs.Network.{node_count}
 use Rattle.mcf_bench.proofs.raising.raise_times.Given as goal
 
 abbrev pub invariant-loop : goal.invariant-loop

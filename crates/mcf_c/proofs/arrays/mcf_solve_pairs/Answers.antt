@@ -1,7 +1,7 @@
 use Rattle.std.specs.Prelude.{is_ok}
 use Rattle.mcf_c.specs.Handing.{HandsFlow}
 use Rattle.mcf_c.specs.Problems.{assignment_network}
-use Rattle.mcf_instance.specs.Network.{Network}
+use Rattle.mcf_flows.specs.Network.{Network}
 use Rattle.mcf_c.proofs.MadeOfArrays.{made_is, was_made}
 use Rattle.mcf_c.proofs.arrays.mcf_solve_pairs.Goals as goal
 

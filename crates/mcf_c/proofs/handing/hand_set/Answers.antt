@@ -1,7 +1,7 @@
 use Rattle.std.proofs.Common.{◌∙◌, ap, sym, subst, length, map}
 use Rattle.mcf_c.specs.Handing.{mark_of}
-use Rattle.mcf_instance.specs.Blocking.{in_list}
-use Rattle.mcf_instance.specs.Network.{IsNode}
+use Rattle.mcf_flows.specs.Blocking.{in_list}
+use Rattle.mcf_flows.specs.Network.{IsNode}
 use Rattle.mcf_c.proofs.Marks.{marks_block}
 use Rattle.mcf_c.proofs.handing.hand_set.Goals as goal
 

@@ -4,7 +4,7 @@ use Rattle.std.specs.List.{All}
 use Rattle.std.proofs.lemmas.Int.{to_z-of_z}
 use Rattle.mcf_answer.specs.Ranges.{IsAmount}
 use Rattle.mcf_answer.specs.Solution.{IsSent}
-use Rattle.mcf_instance.specs.Limits.{node_limit}
+use Rattle.mcf_flows.specs.Limits.{node_limit}
 use Rattle.mcf_c.proofs.judging.answer_along.Goals as goal
 
 pub invariant_of-result : goal.invariant_of-result

@@ -5,7 +5,7 @@ use Rattle.std.proofs.lemmas.Bool.{false≢true}
 use Rattle.mcf_answer.specs.Solution.{Solution}
 use Rattle.mcf_c.specs.Judged.{answer_along}
 use Rattle.mcf_checker.specs.Correct.{IsRightSolution, amounts}
-use Rattle.mcf_instance.specs.Flow.{IsLeast}
+use Rattle.mcf_flows.specs.Flow.{IsLeast}
 use Rattle.mcf_c.proofs.Judges.{amounts-sent_along, judged_exactly}
 use Rattle.mcf_c.proofs.judging.judge_instance.Goals as goal
 

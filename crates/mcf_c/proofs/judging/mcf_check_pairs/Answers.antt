@@ -1,7 +1,7 @@
 use Rattle.std.proofs.Common.{◌≡◌, ◌∙◌, sym, refl, Ok}
 use Rattle.std.specs.Prelude.{◌↔◌}
-use Rattle.mcf_instance.specs.Flow.{IsLeast}
-use Rattle.mcf_instance.specs.Network.{Network}
+use Rattle.mcf_flows.specs.Flow.{IsLeast}
+use Rattle.mcf_flows.specs.Network.{Network}
 use Rattle.mcf_checker.specs.Correct.{IsRightFlow}
 use Rattle.mcf_c.specs.Problems.{assignment_network}
 use Rattle.mcf_c.specs.Verdicts.{number}

@@ -4,7 +4,7 @@ use Rattle.std.specs.Prelude.{◌↔◌}
 use Rattle.std.proofs.lemmas.Result.{IfOk-weaker, on_err_weaker}
 use Rattle.mcf_answer.specs.Parsing.{parsing}
 use Rattle.mcf_instance.proofs.HeaderNodes.{instance_names_nodes}
-use Rattle.mcf_instance.specs.Limits.{limits}
+use Rattle.mcf_flows.specs.Limits.{limits}
 use Rattle.mcf_instance.specs.Reading.{reading}
 use Rattle.mcf_checker.specs.Correct.{GivesLeastFlow, HasNoFlow, IsCorrect}
 use Rattle.mcf_checker.specs.Judging.{accepts, judged, verdict}

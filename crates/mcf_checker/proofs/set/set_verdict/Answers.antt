@@ -1,8 +1,8 @@
 use Rattle.std.proofs.Common.{◌≡◌, ap, sym, ◌∙◌}
 use Rattle.std.proofs.lemmas.Bool.{both_ways}
 use Rattle.mcf_answer.specs.BlockingSet.{BlockingSet}
-use Rattle.mcf_instance.proofs.SameSets.{Blocks-table}
-use Rattle.mcf_instance.specs.Network.{node_count}
+use Rattle.mcf_flows.proofs.SameSets.{Blocks-table}
+use Rattle.mcf_flows.specs.Network.{node_count}
 use Rattle.mcf_checker.proofs.Sets.{at_blocking, at_not_blocking, at_strangers}
 use Rattle.mcf_checker.proofs.set.set_verdict.Goals as goal
 

@@ -2,8 +2,8 @@ use Rattle.std.proofs.Common.{refl, ap, arith, ◌∙◌, List}
 use Rattle.std.proofs.lemmas.Int.{ints}
 use Rattle.std.proofs.lemmas.Option.{slice_get_within}
 use Rattle.mcf_checker.specs.Private.StatedFlows.{flow_stated}
-use Rattle.mcf_instance.specs.Flow.{cost}
-use Rattle.mcf_instance.specs.declared.arc.Arc.{Arc}
+use Rattle.mcf_flows.specs.Flow.{cost}
+use Rattle.mcf_flows.specs.declared.arc.Arc.{Arc}
 use Rattle.mcf_checker.proofs.FlowLines.{cost_at, take_whole}
 use Rattle.mcf_checker.proofs.StatedLines.{flow_read, has_line, starts}
 use Rattle.mcf_checker.proofs.solution.cost_of.Goals as goal

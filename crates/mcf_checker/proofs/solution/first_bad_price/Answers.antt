@@ -4,8 +4,8 @@ use Rattle.std.specs.Prelude.{FitsSigned}
 use Rattle.std.proofs.lemmas.Int.{to_z-of_z}
 use Rattle.std.proofs.lemmas.Option.{slice_get_within}
 use Rattle.mcf_checker.specs.Private.StatedFlows.{flow_stated}
-use Rattle.mcf_instance.specs.Limits.{limits}
-use Rattle.mcf_instance.specs.WellFormed.{HasEnds, IsArcWithinLimits}
+use Rattle.mcf_flows.specs.Limits.{limits}
+use Rattle.mcf_flows.specs.WellFormed.{HasEnds, IsArcWithinLimits}
 use Rattle.mcf_checker.proofs.BadPrices.{looseness_read, bad_price-some, bad_price-none}
 use Rattle.mcf_checker.proofs.FlowLines.{arc_has}
 use Rattle.mcf_checker.proofs.StatedLines.{flow_read, has_line, starts}

@@ -1,5 +1,5 @@
 use Rattle.std.proofs.Common.{◌≡◌, ℕ, ◌+◌, ◌<◌, false}
-use Rattle.mcf_instance.specs.Network.{at_node}
+use Rattle.mcf_flows.specs.Network.{at_node}
 use Rattle.mcf_checker.proofs.BadNodes.{is_unmet}
 use Rattle.mcf_checker.proofs.solution.first_unmet.Given as goal
 

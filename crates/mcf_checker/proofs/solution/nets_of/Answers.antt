@@ -3,10 +3,10 @@ use Rattle.std.specs.Prelude.{replicate}
 use Rattle.std.proofs.lemmas.Int.{ints}
 use Rattle.std.proofs.lemmas.Option.{slice_get_within}
 use Rattle.mcf_checker.specs.Private.StatedFlows.{flow_stated}
-use Rattle.mcf_instance.specs.declared.arc.Arc.{Arc}
-use Rattle.mcf_instance.specs.Flow.{AreNets}
-use Rattle.mcf_instance.specs.Network.{node_count}
-use Rattle.mcf_instance.specs.WellFormed.{HasEnds}
+use Rattle.mcf_flows.specs.declared.arc.Arc.{Arc}
+use Rattle.mcf_flows.specs.Flow.{AreNets}
+use Rattle.mcf_flows.specs.Network.{node_count}
+use Rattle.mcf_flows.specs.WellFormed.{HasEnds}
 use Rattle.mcf_checker.proofs.FlowLines.{arc_has, net_at, net_at_second, nets_at_start, take_whole}
 use Rattle.mcf_checker.proofs.StatedLines.{flow_read, has_line, starts}
 use Rattle.mcf_checker.proofs.solution.nets_of.Goals as goal

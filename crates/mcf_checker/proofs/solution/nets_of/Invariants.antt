@@ -1,7 +1,7 @@
 use Rattle.std.proofs.Common.{take}
 use Rattle.mcf_checker.specs.Private.StatedFlows.{IsNext, flow_stated}
-use Rattle.mcf_instance.specs.Flow.{AreNets}
-use Rattle.mcf_instance.specs.Network.{node_count}
+use Rattle.mcf_flows.specs.Flow.{AreNets}
+use Rattle.mcf_flows.specs.Network.{node_count}
 use Rattle.mcf_checker.proofs.solution.nets_of.Given as goal
 
 abbrev pub invariant-loop-place : goal.invariant-loop-place

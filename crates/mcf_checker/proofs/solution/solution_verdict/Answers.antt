@@ -8,7 +8,7 @@ use Rattle.mcf_answer.specs.declared.answers.Sent.{Sent}
 use Rattle.mcf_checker.specs.Correct.{amounts}
 use Rattle.mcf_checker.specs.Judging.{bad_arc, flow_verdict, solution_verdict}
 use Rattle.mcf_checker.specs.declared.verdict.Verdict.{Verdict}
-use Rattle.mcf_instance.specs.Flow.{IsWithinBounds}
+use Rattle.mcf_flows.specs.Flow.{IsWithinBounds}
 use Rattle.mcf_checker.proofs.BadArcs.{AllAgree-from_none}
 use Rattle.mcf_checker.proofs.Solutions.{at_bad_arc, past_arcs}
 use Rattle.mcf_checker.proofs.solution.solution_verdict.Goals as goal

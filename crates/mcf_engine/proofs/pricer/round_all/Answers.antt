@@ -1,7 +1,7 @@
 use Rattle.std.proofs.Common.{◌≡◌, ◌-◌, sym, subst, arith, pos, rules, to_z, of_z}
 use mir.Syntax.{w128}
 use Rattle.std.proofs.lemmas.Int.{ints, to_z-of_z}
-use Rattle.mcf_instance.specs.WellFormed.{IsUpTo}
+use Rattle.mcf_flows.specs.WellFormed.{IsUpTo}
 use Rattle.mcf_engine.specs.NearPrices.{near_limit}
 use Rattle.mcf_engine.specs.Private.Raisings.{IsRoundedDown}
 use Rattle.mcf_engine.proofs.RaisingLoops.{label_next, round_end, round_next, round_start}

@@ -1,5 +1,5 @@
 use Rattle.std.proofs.lemmas.List.Elements.{All-head, All-tail}
-use Rattle.mcf_instance.specs.Network.{IsArcNumber}
+use Rattle.mcf_flows.specs.Network.{IsArcNumber}
 use Rattle.mcf_network.specs.declared.rid.Rid.{Rid}
 use Rattle.mcf_engine.proofs.RaisingSteps.{passed_more}
 use Rattle.mcf_engine.proofs.raising.next_offer.Goals as goal

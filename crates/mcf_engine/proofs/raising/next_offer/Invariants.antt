@@ -1,6 +1,6 @@
 use Rattle.std.specs.Prelude.{length}
 use Rattle.std.specs.List.{All}
-use Rattle.mcf_instance.specs.Network.{IsArcNumber}
+use Rattle.mcf_flows.specs.Network.{IsArcNumber}
 use Rattle.mcf_network.specs.declared.rid.Rid.{Rid}
 use Rattle.mcf_engine.specs.Private.Raisings.{ArePassed}
 use Rattle.mcf_engine.proofs.raising.next_offer.Given as goal

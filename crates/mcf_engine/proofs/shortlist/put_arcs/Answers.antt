@@ -1,5 +1,5 @@
 use Rattle.std.proofs.Common.{◌∙◌, ap, arith, length}
-use Rattle.mcf_instance.specs.Network.{Network}
+use Rattle.mcf_flows.specs.Network.{Network}
 use Rattle.mcf_engine.proofs.Shortlists.{listed_all, listed_next, listed_none}
 use Rattle.mcf_engine.proofs.shortlist.put_arcs.Goals as goal
 

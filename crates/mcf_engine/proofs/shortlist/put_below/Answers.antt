@@ -1,6 +1,6 @@
 use Rattle.std.proofs.Common.{◌≡◌, ◌∙◌, ap, refl, subst, sym}
 use Rattle.std.specs.Prelude.{not, slice_index_or}
-use Rattle.mcf_instance.specs.Network.{Network, IsNode, node_count}
+use Rattle.mcf_flows.specs.Network.{Network, IsNode, node_count}
 use Rattle.mcf_network.specs.Residual.{head}
 use Rattle.mcf_engine.proofs.RaisingSteps.{tail_reversed}
 use Rattle.mcf_engine.proofs.Shortlists.{put_one}

@@ -1,6 +1,6 @@
 use Rattle.std.proofs.Common.{◌≡◌, ◌∙◌, ap, sym, subst, pos}
-use Rattle.mcf_instance.specs.declared.problem.Side.TheVariants.{Send}
-use Rattle.mcf_instance.specs.Network.{Network, node_count}
+use Rattle.mcf_flows.specs.declared.problem.Side.TheVariants.{Send}
+use Rattle.mcf_flows.specs.Network.{Network, node_count}
 use Rattle.mcf_network.specs.States.{Pseudoflow}
 use Rattle.mcf_feas.specs.Chosen.{IsChosenBlock, supply_total}
 use Rattle.mcf_feas.proofs.Choices.{chosen_stuck}

@@ -1,5 +1,5 @@
 use Rattle.std.proofs.Common.{◌∙◌, ap, arith, sym}
-use Rattle.mcf_instance.specs.Network.{node_count}
+use Rattle.mcf_flows.specs.Network.{node_count}
 use Rattle.mcf_feas.proofs.Excess.{excess_falls}
 use Rattle.mcf_feas.proofs.feas.push_in_rounds.Goals as goal
 

@@ -1,5 +1,5 @@
 use Rattle.std.proofs.Common.{◌≡◌, ◌≤◌, length, vec_capacity}
-use Rattle.mcf_instance.specs.Network.{node_count}
+use Rattle.mcf_flows.specs.Network.{node_count}
 use Rattle.mcf_network.specs.States.{IsPseudoflow}
 use Rattle.mcf_feas.specs.Private.Pushing.{excess}
 use Rattle.mcf_feas.proofs.feas.push_in_rounds.Given as goal

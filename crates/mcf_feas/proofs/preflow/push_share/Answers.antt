@@ -1,7 +1,7 @@
 use Rattle.std.proofs.Common.{◌≡◌, ap, arith, ◌∙◌, to_z, of_z, rules}
 use mir.Syntax.{w128}
 use Rattle.std.proofs.lemmas.Int.{ints, to_z-of_z}
-use Rattle.mcf_instance.specs.Network.{Network}
+use Rattle.mcf_flows.specs.Network.{Network}
 use Rattle.mcf_network.specs.Residual.{tail, head}
 use Rattle.mcf_network.specs.States.{Pseudoflow, surplus_at}
 use Rattle.mcf_network.proofs.ArcLaws.{head_is_node, tail_is_node}

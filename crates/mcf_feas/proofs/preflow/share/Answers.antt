@@ -1,6 +1,6 @@
 use Rattle.std.proofs.Common.{◌≡◌, ap, arith, pos, ◌<ℤ◌, ◌∙◌}
 use Rattle.std.proofs.lemmas.Int.{clamps, ints}
-use Rattle.mcf_instance.specs.Network.{Network}
+use Rattle.mcf_flows.specs.Network.{Network}
 use Rattle.mcf_network.specs.Residual.{tail}
 use Rattle.mcf_network.specs.States.{surplus_at}
 use Rattle.mcf_network.proofs.StateLaws.{rid}

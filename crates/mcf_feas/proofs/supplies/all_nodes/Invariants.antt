@@ -1,6 +1,6 @@
 use Rattle.std.proofs.Common.{◌≡◌, ℕ, ◌≤◌, true, length}
-use Rattle.mcf_instance.specs.Blocking.{in_table}
-use Rattle.mcf_instance.specs.Network.{IsNode, node_count}
+use Rattle.mcf_flows.specs.Blocking.{in_table}
+use Rattle.mcf_flows.specs.Network.{IsNode, node_count}
 use Rattle.mcf_feas.proofs.supplies.all_nodes.Given as goal
 
 abbrev pub invariant-loop-number : goal.invariant-loop-number

@@ -1,7 +1,7 @@
 use Rattle.std.proofs.Common.{arith, ap}
 use Rattle.std.proofs.lemmas.Int.{ints}
-use Rattle.mcf_instance.specs.Network.{IsNode, at_node, node_count}
-use Rattle.mcf_instance.proofs.NodeSums.{node_sum_next}
+use Rattle.mcf_flows.specs.Network.{IsNode, at_node, node_count}
+use Rattle.mcf_flows.proofs.NodeSums.{node_sum_next}
 use Rattle.mcf_network.proofs.ArcLaws.{supply_at}
 use Rattle.mcf_feas.proofs.Totals.{total_small}
 use Rattle.mcf_feas.proofs.supplies.supply_total.Goals as goal

@@ -1,5 +1,5 @@
 use Rattle.std.proofs.Common.{◌≡◌}
-use Rattle.mcf_instance.specs.Network.{at_node, node_sum}
+use Rattle.mcf_flows.specs.Network.{at_node, node_sum}
 use Rattle.mcf_feas.proofs.supplies.supply_total.Given as goal
 
 abbrev pub invariant-loop-number : goal.invariant-loop-number

@@ -3,7 +3,7 @@ use Rattle.std.specs.Prelude.{pos}
 use mir.Syntax.{w64}
 use Rattle.std.proofs.lemmas.Int.{to_z-of_z}
 use Rattle.mcf_instance.specs.Fault.{is_up_to}
-use Rattle.mcf_instance.specs.Limits.{limits}
+use Rattle.mcf_flows.specs.Limits.{limits}
 use Rattle.mcf_instance.proofs.ArrayFaults.{supply_none, supply_some}
 use Rattle.mcf_instance.proofs.arrays.faulty_supply.Goals as goal
 

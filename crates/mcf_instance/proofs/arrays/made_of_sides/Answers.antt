@@ -3,10 +3,10 @@ use Rattle.std.specs.Prelude.{Bool, Option, nat_le, pos, neg_ℤ}
 use Rattle.std.proofs.lemmas.Bool.{and_parts}
 use Rattle.mcf_instance.specs.declared.arrays.ArrayFault.{ArrayFault}
 use Rattle.mcf_instance.specs.declared.arrays.RawPair.{RawPair}
-use Rattle.mcf_instance.specs.declared.problem.Problem.TheVariants.{Asn}
+use Rattle.mcf_flows.specs.declared.problem.Problem.TheVariants.{Asn}
 use Rattle.mcf_instance.specs.Arrays.{arc_of_pair, assignment_problem}
-use Rattle.mcf_instance.specs.Limits.{arc_limit, node_limit}
-use Rattle.mcf_instance.specs.Network.{Network}
+use Rattle.mcf_flows.specs.Limits.{arc_limit, node_limit}
+use Rattle.mcf_flows.specs.Network.{Network}
 use Rattle.mcf_instance.specs.Private.ArrayStates.{HoldsArcs, TookArcs}
 use Rattle.mcf_instance.specs.ReadOn.{StateData}
 use Rattle.mcf_instance.proofs.ArrayFaults.{arc_refused_at_end, holds_none, made_at_end, sides_are, sides_count, sides_fit, sides_within, sized_sides}

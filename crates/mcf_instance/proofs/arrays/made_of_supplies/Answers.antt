@@ -6,10 +6,10 @@ use Rattle.mcf_instance.specs.ReadOn.{StateData}
 use Rattle.std.specs.Prelude.{nat_le}
 use Rattle.std.proofs.lemmas.Bool.{and_parts}
 use Rattle.std.proofs.lemmas.List.{length-map, length-replicate}
-use Rattle.mcf_instance.specs.declared.problem.Problem.TheVariants.{Min}
+use Rattle.mcf_flows.specs.declared.problem.Problem.TheVariants.{Min}
 use Rattle.mcf_instance.specs.Arrays.{arc_of_numbers, flow_problem}
-use Rattle.mcf_instance.specs.Limits.{arc_limit, node_limit}
-use Rattle.mcf_instance.specs.Network.{Network}
+use Rattle.mcf_flows.specs.Limits.{arc_limit, node_limit}
+use Rattle.mcf_flows.specs.Network.{Network}
 use Rattle.mcf_instance.specs.Private.ArrayStates.{HoldsArcs, TookArcs, sizes}
 use Rattle.mcf_instance.proofs.ArrayFaults.{arc_refused_at_end, holds_none, made_at_end, sizes_refused, supplies_within, supply_refused}
 use Rattle.mcf_instance.proofs.arrays.made_of_supplies.Goals as goal

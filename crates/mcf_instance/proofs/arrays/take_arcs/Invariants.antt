@@ -1,6 +1,6 @@
 use Rattle.std.proofs.Common.{◌≡◌, Some, [], map, take}
 use Rattle.mcf_instance.specs.Arrays.{arc_of_numbers}
-use Rattle.mcf_instance.specs.Network.{Network}
+use Rattle.mcf_flows.specs.Network.{Network}
 use Rattle.mcf_instance.specs.Private.ArrayStates.{HoldsArcs}
 use Rattle.mcf_instance.proofs.arrays.take_arcs.Given as goal
 

@@ -1,5 +1,5 @@
 use Rattle.std.proofs.Common.{◌≡◌, None, length}
-use Rattle.mcf_instance.specs.Limits.{limits}
+use Rattle.mcf_flows.specs.Limits.{limits}
 use Rattle.mcf_instance.specs.ReadOn.{HasRead}
 use Rattle.mcf_text.specs.Lines.{numbered_lines}
 use Rattle.mcf_instance.proofs.reader.read.Given as goal

@@ -1,7 +1,7 @@
 use Rattle.std.proofs.Common.{◌≡◌, ◌<◌, ◌+◌, ◌-◌, length, arith, rules, ap, ◌∙◌, to_z, of_z}
 use mir.Syntax.{w128}
 use Rattle.std.proofs.lemmas.Int.{to_z-of_z}
-use Rattle.mcf_instance.specs.Network.{Network}
+use Rattle.mcf_flows.specs.Network.{Network}
 use Rattle.mcf_network.specs.Restoring.{restored}
 use Rattle.mcf_network.proofs.ArcLaws.{amount_count}
 use Rattle.mcf_network.proofs.RestoringLaws.{restored_all, restored_done, restored_next, net_of-arc_count}

@@ -2,7 +2,7 @@ use Rattle.std.proofs.Common.{◌≡◌, ◌+◌, ◌-◌, ◌<◌, ◌∙◌, S
 use Rattle.std.specs.Prelude.{slice_get}
 use mir.Syntax.{w128}
 use Rattle.std.proofs.lemmas.Int.{ints, to_z-of_z}
-use Rattle.mcf_instance.specs.Network.{Network}
+use Rattle.mcf_flows.specs.Network.{Network}
 use Rattle.mcf_network.proofs.ArcLaws.{amount_count, amount_of}
 use Rattle.mcf_network.proofs.RemovalLaws.{arc_of}
 use Rattle.mcf_network.proofs.RestoringLaws.{net_of-arc_count, restored_read}

@@ -1,8 +1,8 @@
 use Rattle.std.proofs.Common.{◌≡◌, ◌-◌, arith, rules, pos}
 use Rattle.std.proofs.lemmas.Int.{ints}
 use Rattle.std.proofs.lemmas.List.{get_or_read}
-use Rattle.mcf_instance.specs.Network.{at_node}
-use Rattle.mcf_instance.proofs.NetSteps.{add_at_node}
+use Rattle.mcf_flows.specs.Network.{at_node}
+use Rattle.mcf_flows.proofs.NetSteps.{add_at_node}
 use Rattle.mcf_network.proofs.surplus.add_surplus.Goals as goal
 
 pub overflow_add-more : goal.overflow_add-more

@@ -1,7 +1,7 @@
 use Rattle.std.proofs.Common.{◌≡◌, arith, eqb, pos, ◌-ℤ◌, neg_ℤ, to_z, of_z}
 use mir.Syntax.{w128}
 use Rattle.std.proofs.lemmas.Int.{ints}
-use Rattle.mcf_instance.proofs.NodeSums.{when-neg}
+use Rattle.mcf_flows.proofs.NodeSums.{when-neg}
 use Rattle.mcf_network.proofs.surplus.move_surplus.Goals as goal
 
 pub returns-clause-each : goal.returns-clause-each

@@ -1,5 +1,5 @@
 use Rattle.std.proofs.Common.{◌≡◌, ◌*◌, length}
-use Rattle.mcf_instance.specs.Network.{node_count}
+use Rattle.mcf_flows.specs.Network.{node_count}
 use Rattle.mcf_network.specs.declared.rid.Rid.{Rid}
 use Rattle.mcf_network.specs.Walks.{HasRoom}
 use Rattle.mcf_prices.specs.Private.Labels.{IsLabelling}

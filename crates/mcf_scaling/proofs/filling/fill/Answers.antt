@@ -1,5 +1,5 @@
 use Rattle.std.proofs.Common.{◌+◌, arith, ap, ◌∙◌, length}
-use Rattle.mcf_instance.specs.Network.{Network, IsArcNumber}
+use Rattle.mcf_flows.specs.Network.{Network, IsArcNumber}
 use Rattle.mcf_scaling.proofs.Fillings.{filled_start, filled_next, filled_end}
 use Rattle.mcf_scaling.proofs.filling.fill.Goals as goal
 

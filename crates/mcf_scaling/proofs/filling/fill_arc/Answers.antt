@@ -1,6 +1,6 @@
 use Rattle.std.proofs.Common.{◌≡◌, arith, ap, ◌∙◌, false}
 use Rattle.std.proofs.lemmas.Int.{ints}
-use Rattle.mcf_instance.specs.Network.{Network}
+use Rattle.mcf_flows.specs.Network.{Network}
 use Rattle.mcf_network.proofs.StateLaws.{rid}
 use Rattle.mcf_scaling.specs.Optimality.{scaled_reduced}
 use Rattle.mcf_scaling.proofs.Fillings.{filled_back, filled_forward, filled_none}

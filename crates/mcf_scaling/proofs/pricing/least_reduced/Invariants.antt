@@ -1,4 +1,4 @@
-use Rattle.mcf_instance.specs.Network.{at_node}
+use Rattle.mcf_flows.specs.Network.{at_node}
 use Rattle.mcf_scaling.specs.Private.Currents.{rest_from}
 use Rattle.mcf_scaling.proofs.Scans.{IsScanned}
 use Rattle.mcf_scaling.proofs.pricing.least_reduced.Given as goal

@@ -1,5 +1,5 @@
 use Rattle.std.proofs.Common.{arith, ap, ◌∙◌}
-use Rattle.mcf_instance.specs.Network.{Network, node_count}
+use Rattle.mcf_flows.specs.Network.{Network, node_count}
 use Rattle.mcf_scaling.proofs.QueueLaws.{queued_all}
 use Rattle.mcf_scaling.proofs.queue.enqueue_all.Goals as goal
 

@@ -1,7 +1,7 @@
 use Rattle.std.proofs.Common.{◌≡◌, ℕ, pos, length}
 use Rattle.std.specs.Prelude.{◌<ℤ◌}
 use Rattle.std.specs.List.{Contains}
-use Rattle.mcf_instance.specs.Network.{IsNode, node_count}
+use Rattle.mcf_flows.specs.Network.{IsNode, node_count}
 use Rattle.mcf_network.specs.States.{surplus_at}
 use Rattle.mcf_scaling.specs.Private.Queues.{IsQueue}
 use Rattle.mcf_scaling.proofs.queue.enqueue_all.Given as goal

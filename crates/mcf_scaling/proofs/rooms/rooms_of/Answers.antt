@@ -1,5 +1,5 @@
 use Rattle.std.proofs.Common.{◌≤◌}
-use Rattle.mcf_instance.specs.Network.{node_count}
+use Rattle.mcf_flows.specs.Network.{node_count}
 use Rattle.mcf_scaling.proofs.PlaceLaws.{on_err, places_want}
 use Rattle.mcf_scaling.proofs.rooms.rooms_of.Goals as goal
 

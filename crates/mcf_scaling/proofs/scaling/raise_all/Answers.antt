@@ -1,5 +1,5 @@
 use Rattle.std.proofs.Common.{◌≡◌, rules}
-use Rattle.mcf_instance.specs.Network.{node_count}
+use Rattle.mcf_flows.specs.Network.{node_count}
 use Rattle.mcf_scaling.proofs.Sizes.{small_near}
 use Rattle.mcf_scaling.proofs.scaling.raise_all.Goals as goal
 

@@ -1,5 +1,5 @@
 use Rattle.std.proofs.Common.{ap, sym, ◌∙◌}
-use Rattle.mcf_instance.specs.Network.{Network, node_count}
+use Rattle.mcf_flows.specs.Network.{Network, node_count}
 use Rattle.mcf_scaling.proofs.Settling.{end_feasible, end_least, end_prices, end_scaled, under_way_next, under_way_start}
 use Rattle.mcf_scaling.proofs.scaling.run_phases.Goals as goal
 

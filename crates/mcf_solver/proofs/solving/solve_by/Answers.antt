@@ -1,5 +1,5 @@
 use Rattle.std.proofs.Common.{◌≤◌, ◌⊎◌, inl, inr, rules, subst}
-use Rattle.mcf_instance.specs.Network.{node_count}
+use Rattle.mcf_flows.specs.Network.{node_count}
 use Rattle.mcf_network.specs.Removal.{net_of}
 use Rattle.mcf_solver.proofs.WantedMemory.{arcs_have_nodes}
 use Rattle.mcf_solver.proofs.solving.solve_by.Goals as goal

@@ -3,10 +3,10 @@ use Rattle.std.specs.List.{All}
 use Rattle.std.specs.Int.{w128}
 use Rattle.mcf_answer.specs.Ranges.{IsAmount, amount_limit}
 use Rattle.mcf_checker.specs.Correct.{spread}
-use Rattle.mcf_instance.specs.Flow.{AreGreatestPrices, CanCarry, cost}
-use Rattle.mcf_instance.specs.Network.{Network}
-use Rattle.mcf_instance.proofs.AllZips.{length-AllZip}
-use Rattle.mcf_instance.proofs.Bounds.{read_back}
+use Rattle.mcf_flows.specs.Flow.{AreGreatestPrices, CanCarry, cost}
+use Rattle.mcf_flows.specs.Network.{Network}
+use Rattle.mcf_flows.proofs.AllZips.{length-AllZip}
+use Rattle.mcf_flows.proofs.Bounds.{read_back}
 use Rattle.mcf_network.specs.Removal.{net_of}
 use Rattle.mcf_network.specs.Restoring.{restored}
 use Rattle.mcf_solver.specs.Forms.{moved_of}

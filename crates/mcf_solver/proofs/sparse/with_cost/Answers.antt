@@ -2,7 +2,7 @@ use Rattle.std.proofs.Common.{◌≡◌, ◌*◌, ◌+ℤ◌, ◌*ℤ◌, arith,
 use Rattle.std.specs.Int.{w128}
 use Rattle.std.proofs.lemmas.Int.{ints, to_z-of_z}
 use Rattle.mcf_answer.specs.Ranges.{amount_limit}
-use Rattle.mcf_instance.proofs.Bounds.{read_back}
+use Rattle.mcf_flows.proofs.Bounds.{read_back}
 use Rattle.mcf_solver.proofs.sparse.with_cost.Goals as goal
 
 pub returns : goal.returns

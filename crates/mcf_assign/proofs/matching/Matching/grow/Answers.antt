@@ -1,6 +1,6 @@
 use Rattle.std.proofs.Common.{ℕ, List, length, drop, ap, sym, subst, ◌∙◌, arith, refl}
 use Rattle.std.specs.List.{All}
-use Rattle.mcf_instance.specs.Network.{Network, IsNode}
+use Rattle.mcf_flows.specs.Network.{Network, IsNode}
 use Rattle.mcf_assign.specs.Extending.{Assigned, IsGrown, IsStopped}
 use Rattle.mcf_assign.specs.Private.Forests.{AreMates}
 use Rattle.mcf_assign.specs.Private.Keeping.{IsKept}

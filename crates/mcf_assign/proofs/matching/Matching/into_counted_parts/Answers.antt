@@ -1,6 +1,6 @@
 use Rattle.std.proofs.Common.{List, ℤ, ap, sym, subst}
 use Rattle.std.specs.List.{All}
-use Rattle.mcf_instance.specs.WellFormed.{IsUpTo}
+use Rattle.mcf_flows.specs.WellFormed.{IsUpTo}
 use Rattle.mcf_assign.specs.Extending.{Assigned}
 use Rattle.mcf_assign.proofs.Kept.{shown_kept}
 use Rattle.mcf_assign.proofs.RunLaws.{near_all}

@@ -1,5 +1,5 @@
 use Rattle.std.proofs.Common.{ap, sym, subst}
-use Rattle.mcf_instance.specs.Network.{IsNode, node_count}
+use Rattle.mcf_flows.specs.Network.{IsNode, node_count}
 use Rattle.mcf_network.specs.States.{Pseudoflow}
 use Rattle.std.proofs.Common.{◌≡◌, ltb, true}
 use Rattle.mcf_assign.specs.Extending.{Assigned, IsMatched}

@@ -1,6 +1,6 @@
 use Rattle.std.proofs.Common.{◌≡◌, false, replicate, rules, Bool, List, ℤ, ap, sym, subst, ◌∙◌, length}
 use Rattle.std.proofs.lemmas.List.{length-replicate}
-use Rattle.mcf_instance.specs.Network.{node_count}
+use Rattle.mcf_flows.specs.Network.{node_count}
 use Rattle.mcf_network.specs.States.{Pseudoflow, IsPseudoflow}
 use Rattle.mcf_assign.specs.Private.Keeping.{AreFirstPrices, IsKept}
 use Rattle.mcf_assign.specs.Private.RowLists.{AreRows}

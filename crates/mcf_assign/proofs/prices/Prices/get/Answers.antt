@@ -1,7 +1,7 @@
 use Rattle.std.proofs.Common.{◌≡◌, ◌∙◌, true, false, List, ℤ, length, to_z, of_z, rules, ap, sym, subst}
 use mir.Syntax.{w64, w128}
 use Rattle.std.proofs.lemmas.Int.{to_z-of_z}
-use Rattle.mcf_instance.specs.Network.{IsNode, at_node}
+use Rattle.mcf_flows.specs.Network.{IsNode, at_node}
 use Rattle.mcf_assign.specs.Private.Lows.{lies_inside}
 use Rattle.mcf_assign.proofs.WholePrices.{whole_get_low, whole_get_wide}
 use Rattle.mcf_assign.proofs.prices.Prices.get.Goals as goal

@@ -1,6 +1,6 @@
 use Rattle.std.proofs.Common.{◌≡◌, ◌∙◌, List, ℤ, length, replicate, pos, ap, sym, subst, rules}
 use Rattle.std.proofs.lemmas.List.{length-replicate}
-use Rattle.mcf_instance.specs.Network.{node_count}
+use Rattle.mcf_flows.specs.Network.{node_count}
 use Rattle.mcf_assign.specs.Private.Keeping.{AreFirstPrices}
 use Rattle.mcf_assign.proofs.WholePrices.{first_cut, first_whole}
 use Rattle.mcf_assign.proofs.prices.Prices.new.Goals as goal

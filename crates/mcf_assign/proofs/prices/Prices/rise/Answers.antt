@@ -1,7 +1,7 @@
 use Rattle.std.proofs.Common.{◌≡◌, ◌∙◌, ◌-◌, ◌+ℤ◌, List, ℤ, length, to_z, of_z, rules, ap, sym, subst, set, arith}
 use mir.Syntax.{w64, w128}
 use Rattle.std.proofs.lemmas.Int.{ints, to_z-of_z}
-use Rattle.mcf_instance.specs.Network.{IsNode, at_node}
+use Rattle.mcf_flows.specs.Network.{IsNode, at_node}
 use Rattle.mcf_assign.specs.Private.Lows.{lies_inside}
 use Rattle.mcf_assign.proofs.WholePrices.{low_risen}
 use Rattle.mcf_assign.proofs.prices.Prices.rise.Goals as goal

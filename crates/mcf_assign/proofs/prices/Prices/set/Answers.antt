@@ -1,7 +1,7 @@
 use Rattle.std.proofs.Common.{◌≡◌, ◌∙◌, ◌-◌, List, ℤ, length, to_z, of_z, rules, ap, sym, subst, set, refl}
 use mir.Syntax.{w64, w128}
 use Rattle.std.proofs.lemmas.Int.{to_z-of_z}
-use Rattle.mcf_instance.specs.Network.{IsNode}
+use Rattle.mcf_flows.specs.Network.{IsNode}
 use Rattle.mcf_assign.proofs.CutPrices.{low_is}
 use Rattle.mcf_assign.proofs.WholePrices.{both_set, low_set}
 use Rattle.mcf_assign.proofs.prices.Prices.set.Goals as goal

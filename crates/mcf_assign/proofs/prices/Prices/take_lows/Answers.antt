@@ -1,6 +1,6 @@
 use Rattle.std.proofs.Common.{◌≡◌, ◌∙◌, List, ℤ, length, ap, sym, subst, arith}
 use Rattle.std.specs.List.{All}
-use Rattle.mcf_instance.specs.WellFormed.{IsUpTo}
+use Rattle.mcf_flows.specs.WellFormed.{IsUpTo}
 use Rattle.mcf_assign.specs.Private.Lows.{low_inside}
 use Rattle.mcf_assign.proofs.WholePrices.{inside_cut, inside_whole, whole_count}
 use Rattle.mcf_assign.proofs.prices.Prices.take_lows.Goals as goal

@@ -1,7 +1,7 @@
 use Rattle.std.proofs.Common.{◌≡◌, ◌∷◌, ◌++◌, [], ap, sym, ◌∙◌, subst, arith, rules, length, to_z, of_z}
 use mir.Syntax.{w128}
 use Rattle.std.proofs.lemmas.Int.{ints, to_z-of_z}
-use Rattle.mcf_instance.specs.Network.{Network, IsArcNumber}
+use Rattle.mcf_flows.specs.Network.{Network, IsArcNumber}
 use Rattle.mcf_network.specs.Residual.{arc_at}
 use Rattle.mcf_assign.specs.Private.Forests.{IsChangedWithin, IsTightArc}
 use Rattle.mcf_assign.specs.Matchings.{IsMatchedColumn, column_of}

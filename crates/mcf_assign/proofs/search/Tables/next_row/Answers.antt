@@ -1,5 +1,5 @@
 use Rattle.std.proofs.Common.{subst, arith}
-use Rattle.mcf_instance.specs.Network.{IsNode}
+use Rattle.mcf_flows.specs.Network.{IsNode}
 use Rattle.mcf_assign.specs.Private.Scans.{all_forward}
 use Rattle.mcf_assign.specs.Private.Searches.{IsNearest, IsOver, Settled, search_of}
 use Rattle.mcf_assign.proofs.Scans.{going_settled, pair_room, rows_idle, settled_next}

@@ -1,7 +1,7 @@
 use Rattle.std.proofs.lemmas.Int.{to_z-of_z}
 use mir.Syntax.{w64, w128}
 use Rattle.std.proofs.Common.{rules, ℕ, List, [], ◌∷◌, ◌≡◌, false, Option, to_z, of_z, ◌∙◌, refl, subst, sym}
-use Rattle.mcf_instance.specs.Network.{IsArcNumber, Network}
+use Rattle.mcf_flows.specs.Network.{IsArcNumber, Network}
 use Rattle.mcf_network.specs.declared.rid.Rid.{Rid}
 use Rattle.mcf_network.specs.Residual.{arc_at}
 use Rattle.mcf_network.specs.Stars.{ListsLeaving}

@@ -2,7 +2,7 @@ use Rattle.std.proofs.Common.{◌≡◌, ◌<◌, ℕ, Bool, List, arith, get_or
 use mir.Syntax.{w64, w128}
 use Rattle.std.proofs.lemmas.Int.{to_z-of_z}
 use Rattle.std.proofs.lemmas.List.Elements.{All-from_get_or}
-use Rattle.mcf_instance.specs.WellFormed.{IsUpTo}
+use Rattle.mcf_flows.specs.WellFormed.{IsUpTo}
 use Rattle.mcf_assign.specs.declared.rows.RowArc.{RowArc}
 use Rattle.mcf_assign.specs.Private.Lows.{IsGap, IsIdleArc, IsPicked, low_reach}
 use Rattle.mcf_assign.specs.Private.RowLists.{IsRowArc}

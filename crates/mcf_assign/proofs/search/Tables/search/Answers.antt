@@ -1,4 +1,4 @@
-use Rattle.mcf_instance.specs.Network.{node_count}
+use Rattle.mcf_flows.specs.Network.{node_count}
 use Rattle.mcf_assign.proofs.search.Tables.search.Goals as goal
 
 pub begin-requires-clause-entries : goal.begin-requires-clause-entries

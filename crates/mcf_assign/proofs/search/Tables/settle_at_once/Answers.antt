@@ -2,7 +2,7 @@ use Rattle.std.proofs.Common.{◌≡◌, ◌-◌, ◌<◌, ap, sym, ◌∙◌, a
 use Rattle.std.proofs.Common.{length-set}
 use mir.Syntax.{w128}
 use Rattle.std.proofs.lemmas.Int.{to_z-of_z}
-use Rattle.mcf_instance.specs.Blocking.{in_table}
+use Rattle.mcf_flows.specs.Blocking.{in_table}
 use Rattle.mcf_engine.specs.Heaps.{Keyed}
 use Rattle.mcf_assign.specs.Private.Searches.{lowered, search_of, settled_pair}
 use Rattle.mcf_assign.proofs.Nearest.{not_true, once_value}

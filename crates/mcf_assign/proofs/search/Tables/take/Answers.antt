@@ -1,7 +1,7 @@
 use Rattle.std.proofs.Common.{◌≡◌, ◌<◌, Some, inl, inr, arith, to_z, of_z, rules, ◌∙◌, ap, sym, subst, refl, ◌-◌, ◌≤ℤ◌, [], ◌∷◌, get_or}
 use mir.Syntax.{w128}
 use Rattle.std.proofs.lemmas.Int.{ints, to_z-of_z}
-use Rattle.mcf_instance.specs.Network.{IsNode, node_count}
+use Rattle.mcf_flows.specs.Network.{IsNode, node_count}
 use Rattle.mcf_assign.specs.Matchings.{IsColumn, IsMatchedColumn, column_of, row_of}
 use Rattle.mcf_assign.specs.Private.RowLists.{forward_of}
 use Rattle.mcf_assign.specs.Private.Scans.{IsStep}

@@ -1,6 +1,6 @@
 use Rattle.std.proofs.Common.{◌≡◌, sym, ap, subst, ◌∙◌, get_or, arith}
 use Rattle.std.proofs.lemmas.List.{get_or_default}
-use Rattle.mcf_instance.specs.Network.{Network, IsArcNumber, node_count}
+use Rattle.mcf_flows.specs.Network.{Network, IsArcNumber, node_count}
 use Rattle.mcf_network.specs.States.{Pseudoflow}
 use Rattle.mcf_assign.specs.Private.Forests.{IsChangedWithin}
 use Rattle.mcf_assign.specs.Matchings.{IsMatchedColumn, IsMatchedRow, IsPartialMatching, column_of, row_of}

@@ -2,7 +2,7 @@ use Rattle.std.proofs.Common.{◌≡◌, arith, ap, subst, sym, ◌∙◌, rules
 use Rattle.std.specs.Prelude.{int_lt, pos}
 use mir.Syntax.{w128}
 use Rattle.std.proofs.lemmas.Int.{to_z-of_z}
-use Rattle.mcf_instance.specs.Network.{node_count}
+use Rattle.mcf_flows.specs.Network.{node_count}
 use Rattle.mcf_network.specs.NodeSets.{no_nodes}
 use Rattle.mcf_basis.specs.Structures.{price_at}
 use Rattle.mcf_basis.specs.Private.Layouts.{Layout}

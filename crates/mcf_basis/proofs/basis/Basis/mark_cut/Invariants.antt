@@ -1,5 +1,5 @@
 use Rattle.std.specs.Prelude.{int_lt, pos}
-use Rattle.mcf_instance.specs.Network.{node_count}
+use Rattle.mcf_flows.specs.Network.{node_count}
 use Rattle.mcf_basis.specs.Structures.{price_at}
 use Rattle.mcf_basis.proofs.Endings.{IsMarkedTo}
 use Rattle.mcf_basis.proofs.basis.Basis.mark_cut.Given as goal

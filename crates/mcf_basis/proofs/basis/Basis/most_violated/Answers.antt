@@ -1,5 +1,5 @@
 use Rattle.std.proofs.Common.{◌≡◌, ◌+◌, ◌≤◌, None, ap, arith, length, subst}
-use Rattle.mcf_instance.specs.Network.{Network}
+use Rattle.mcf_flows.specs.Network.{Network}
 use Rattle.mcf_basis.specs.Private.Layouts.{Layout}
 use Rattle.mcf_basis.specs.Violations.{IsMostViolated, IsMostViolatedPick}
 use Rattle.mcf_basis.proofs.MostViolated.{can_compare, most_violated_none, most_violated_some}

@@ -1,6 +1,6 @@
 use Rattle.std.proofs.Common.{sym, arith, subst}
 use Rattle.std.proofs.lemmas.Int.{ints}
-use Rattle.mcf_instance.specs.Network.{Network, IsArcNumber, IsNode, node_count}
+use Rattle.mcf_flows.specs.Network.{Network, IsArcNumber, IsNode, node_count}
 use Rattle.mcf_basis.specs.Private.Layouts.{Layout}
 use Rattle.mcf_basis.proofs.Offers.{reduced_read}
 use Rattle.mcf_basis.proofs.Views.{view_net, view_basis}

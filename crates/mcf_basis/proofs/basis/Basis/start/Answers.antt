@@ -1,6 +1,6 @@
 use Rattle.std.proofs.Common.{◌≡◌, ◌∷◌, length, map, pos}
 use Rattle.std.specs.List.{range_with_len}
-use Rattle.mcf_instance.specs.Network.{node_count}
+use Rattle.mcf_flows.specs.Network.{node_count}
 use Rattle.mcf_basis.specs.Private.Layouts.{Layout, no_rooms}
 use Rattle.mcf_basis.proofs.StartLayouts.{IsStarStored, star_amount, star_laid_out, star_offer, star_rooms, star_starts}
 use Rattle.mcf_basis.proofs.basis.Basis.start.Goals as goal

@@ -1,6 +1,6 @@
 use Rattle.std.proofs.Common.{arith, length-drop, sym, subst, ◌∙◌}
 use Rattle.std.specs.List.{All}
-use Rattle.mcf_instance.specs.WellFormed.{IsUpTo}
+use Rattle.mcf_flows.specs.WellFormed.{IsUpTo}
 use Rattle.mcf_basis.specs.Private.Layouts.{Layout}
 use Rattle.mcf_basis.proofs.Endings.{read_prices}
 use Rattle.mcf_basis.proofs.basis.Basis.write_prices.Goals as goal

@@ -1,7 +1,7 @@
 use Rattle.std.proofs.Common.{◌≡◌, ◌∙◌, ap, arith, rules, to_z, of_z}
 use mir.Syntax.{w128}
 use Rattle.std.proofs.lemmas.Int.{ints, to_z-of_z}
-use Rattle.mcf_instance.specs.Network.{Network, at_node}
+use Rattle.mcf_flows.specs.Network.{Network, at_node}
 use Rattle.mcf_network.specs.Residual.{tail}
 use Rattle.mcf_engine.proofs.RaisingSteps.{offer_taken, relax_respected, relax_settles, scanned}
 use Rattle.mcf_engine.proofs.near_state.NearState.relax_last.Goals as goal

@@ -1,7 +1,7 @@
 use Rattle.std.proofs.Common.{◌≡◌, ◌-◌, ◌∙◌, [], ap, arith, map, refl, rules, to_z, of_z}
 use mir.Syntax.{w128}
 use Rattle.std.proofs.lemmas.Int.{to_z-of_z}
-use Rattle.mcf_instance.specs.Network.{node_count}
+use Rattle.mcf_flows.specs.Network.{node_count}
 use Rattle.mcf_engine.specs.declared.shortlist.Entry.{Entry}
 use Rattle.mcf_engine.specs.Private.Shortlists.{out_of}
 use Rattle.mcf_engine.proofs.ChainScans.{IsNext, chain_end, next_entry}

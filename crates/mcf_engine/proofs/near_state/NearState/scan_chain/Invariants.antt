@@ -1,5 +1,5 @@
 use Rattle.std.specs.Prelude.{List}
-use Rattle.mcf_instance.specs.Network.{node_count}
+use Rattle.mcf_flows.specs.Network.{node_count}
 use Rattle.mcf_network.specs.declared.rid.Rid.{Rid}
 use Rattle.mcf_engine.specs.Private.Raisings.{IsLastSettled, IsRaising, KeepsSettled}
 use Rattle.mcf_engine.specs.Private.Shortlists.{HasChain, IsChain}

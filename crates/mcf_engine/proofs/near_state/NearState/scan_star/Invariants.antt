@@ -1,5 +1,5 @@
 use Rattle.std.specs.Prelude.{length}
-use Rattle.mcf_instance.specs.Network.{node_count}
+use Rattle.mcf_flows.specs.Network.{node_count}
 use Rattle.mcf_engine.specs.Private.Raisings.{KeepsSettled}
 use Rattle.mcf_engine.proofs.RaisingSteps.{IsFound}
 use Rattle.mcf_engine.proofs.near_state.NearState.scan_star.Given as goal

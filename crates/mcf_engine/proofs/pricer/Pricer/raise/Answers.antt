@@ -1,5 +1,5 @@
 use Rattle.std.proofs.Common.{◌∙◌, ap, sym, arith}
-use Rattle.mcf_instance.specs.Network.{Network, node_count}
+use Rattle.mcf_flows.specs.Network.{Network, node_count}
 use Rattle.mcf_engine.proofs.RaisedPrices.{raised}
 use Rattle.mcf_engine.proofs.RaisingSteps.{label_small, started}
 use Rattle.mcf_engine.proofs.pricer.Pricer.raise.Goals as goal

@@ -1,5 +1,5 @@
 use Rattle.std.proofs.Common.{◌-◌, ◌<◌, ◌≤◌, length, vec_capacity}
-use Rattle.mcf_instance.specs.Network.{node_count}
+use Rattle.mcf_flows.specs.Network.{node_count}
 use Rattle.mcf_feas.specs.Private.Searching.{IsScanned}
 use Rattle.mcf_feas.proofs.path_search.PathSearch.run.Given as goal
 

@@ -1,7 +1,7 @@
 use Rattle.std.proofs.Common.{◌∙◌, ap, arith, sym, pos, ◌≤ℤ◌}
 use Rattle.std.specs.Prelude.{◌<ℤ◌}
 use Rattle.std.proofs.lemmas.Int.{ints}
-use Rattle.mcf_instance.specs.Blocking.{in_table}
+use Rattle.mcf_flows.specs.Blocking.{in_table}
 use Rattle.mcf_network.specs.States.{surplus_at}
 use Rattle.mcf_feas.proofs.Searches.{scanning_closed, scanning_end, scanning_found, scanning_marked, scanning_push, search_room}
 use Rattle.mcf_feas.proofs.path_search.PathSearch.scan.Goals as goal

@@ -1,5 +1,5 @@
 use Rattle.std.proofs.Common.{◌≤◌, vec_capacity}
-use Rattle.mcf_instance.specs.Network.{node_count}
+use Rattle.mcf_flows.specs.Network.{node_count}
 use Rattle.mcf_feas.proofs.Searches.{IsScanning}
 use Rattle.mcf_feas.proofs.path_search.PathSearch.scan.Given as goal
 

@@ -1,7 +1,7 @@
 use Rattle.std.proofs.Common.{arith, ap, pos}
 use Rattle.std.proofs.lemmas.Int.{ints}
 use Rattle.std.specs.Prelude.{◌<ℤ◌, ◌≤ℤ◌}
-use Rattle.mcf_instance.specs.Network.{IsNode, node_count}
+use Rattle.mcf_flows.specs.Network.{IsNode, node_count}
 use Rattle.mcf_network.specs.States.{surplus_at}
 use Rattle.mcf_feas.proofs.Searches.{search_room, started_end, started_push, started_skip}
 use Rattle.mcf_feas.proofs.path_search.PathSearch.start.Goals as goal

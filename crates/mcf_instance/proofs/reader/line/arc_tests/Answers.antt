@@ -3,7 +3,7 @@ use Rattle.std.specs.Prelude.{nat_le}
 use Rattle.std.proofs.lemmas.Int.{to_z-of_z}
 use mir.Syntax.{w64}
 use mir.Val.{SFits}
-use Rattle.mcf_instance.specs.Limits.{limits}
+use Rattle.mcf_flows.specs.Limits.{limits}
 use Rattle.mcf_instance.specs.Private.LineReader.{amount_fault}
 use Rattle.mcf_instance.proofs.LineSteps.{arc_tests_extra}
 use Rattle.mcf_instance.proofs.reader.line.arc_tests.Goals as goal

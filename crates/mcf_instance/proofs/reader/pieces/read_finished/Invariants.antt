@@ -1,5 +1,5 @@
 use Rattle.std.proofs.Common.{◌≡◌, ℕ, List, None, length}
-use Rattle.mcf_instance.specs.Limits.{limits}
+use Rattle.mcf_flows.specs.Limits.{limits}
 use Rattle.mcf_instance.specs.ReadOn.{HasReadOn, HasReadPieces}
 use Rattle.mcf_instance.proofs.reader.pieces.read_finished.Given as goal
 

@@ -1,6 +1,6 @@
 use Rattle.std.proofs.Common.{arith, ap}
 use Rattle.std.proofs.lemmas.Int.{ints}
-use Rattle.mcf_instance.specs.declared.arc.Arc.{Arc}
+use Rattle.mcf_flows.specs.declared.arc.Arc.{Arc}
 use Rattle.mcf_network.proofs.ArcLaws.{link_in_range, stored_arc_at}
 use Rattle.mcf_network.proofs.net.Net.cost.Goals as goal
 

@@ -1,5 +1,5 @@
 use Rattle.std.proofs.Common.{◌∙◌, ap, arith, sym}
-use Rattle.mcf_instance.specs.declared.arc.Arc.{Arc}
+use Rattle.mcf_flows.specs.declared.arc.Arc.{Arc}
 use Rattle.mcf_network.proofs.ArcLaws.{link_in_range, stored_arc_at}
 use Rattle.mcf_network.proofs.net.Net.ends.Goals as goal
 

@@ -1,6 +1,6 @@
 use Rattle.std.proofs.Common.{◌≡◌, ◌-◌, ◌≤◌, arith, length, take, drop, get_or, subst, sym}
 use Rattle.std.proofs.lemmas.List.{get_or_read}
-use Rattle.mcf_instance.specs.Network.{Network, IsNode, node_count}
+use Rattle.mcf_flows.specs.Network.{Network, IsNode, node_count}
 use Rattle.mcf_network.specs.Stars.{ListsLeaving}
 use Rattle.mcf_network.specs.Stored.{stored_net}
 use Rattle.mcf_network.proofs.net.Net.leaving.Goals as goal

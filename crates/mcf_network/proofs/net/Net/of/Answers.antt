@@ -1,5 +1,5 @@
 use Rattle.std.proofs.Common.{◌≡◌, ◌≤◌, ◌∙◌, ap, arith, rules, subst, sym}
-use Rattle.mcf_instance.specs.Network.{node_count}
+use Rattle.mcf_flows.specs.Network.{node_count}
 use Rattle.mcf_network.specs.Nets.{IsNet}
 use Rattle.mcf_network.specs.Stored.{stored_arcs, stored_net}
 use Rattle.mcf_network.proofs.ArcLaws.{arcs_need_nodes}

@@ -1,6 +1,6 @@
 use Rattle.std.proofs.Common.{◌≡◌, arith, false, rules, sym}
 use Rattle.std.proofs.lemmas.List.{length-replicate}
-use Rattle.mcf_instance.specs.Network.{node_count}
+use Rattle.mcf_flows.specs.Network.{node_count}
 use Rattle.mcf_network.specs.NodeSets.{no_nodes}
 use Rattle.mcf_network.proofs.Marks.{count_none}
 use Rattle.mcf_network.proofs.node_set.NodeSet.new.Goals as goal

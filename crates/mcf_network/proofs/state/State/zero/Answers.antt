@@ -1,5 +1,5 @@
 use Rattle.std.proofs.Common.{◌≡◌, ◌==◌, ◌≤◌, ◌∙◌, List, ap, arith, rules, if◌then◌else◌, ℤ, pos, length, replicate, subst, sym}
-use Rattle.mcf_instance.specs.Network.{Network, node_count}
+use Rattle.mcf_flows.specs.Network.{Network, node_count}
 use Rattle.mcf_network.specs.Nets.{width_limit}
 use Rattle.mcf_network.specs.Private.StoredAmounts.{amounts_in, limit_of, small_limit}
 use Rattle.mcf_network.specs.States.{KeepsSurplus, Pseudoflow}

@@ -1,5 +1,5 @@
 use Rattle.std.proofs.Common.{arith, subst, ap, ◌∙◌}
-use Rattle.mcf_instance.specs.Network.{Network, node_count}
+use Rattle.mcf_flows.specs.Network.{Network, node_count}
 use Rattle.std.proofs.lemmas.Bool.{OnFalse_at}
 use Rattle.mcf_prices.specs.Private.Labels.{Labels, IsLabelling}
 use Rattle.mcf_prices.proofs.LinkWalks.{cycle_from_path}

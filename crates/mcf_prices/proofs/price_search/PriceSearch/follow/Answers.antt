@@ -1,6 +1,6 @@
 use Rattle.std.proofs.Common.{◌≡◌, ◌++◌, ◌∷◌, [], rules, subst, ap, ◌∙◌, false}
-use Rattle.mcf_instance.specs.Network.{Network, IsNode, node_count}
-use Rattle.mcf_instance.specs.Blocking.{in_table}
+use Rattle.mcf_flows.specs.Network.{Network, IsNode, node_count}
+use Rattle.mcf_flows.specs.Blocking.{in_table}
 use Rattle.mcf_network.specs.Residual.{head}
 use Rattle.mcf_prices.specs.Private.Labels.{Labels}
 use Rattle.mcf_prices.proofs.LinkWalks.{IsWalk-push}

@@ -1,7 +1,7 @@
 use Rattle.std.proofs.Common.{◌≡◌, ◌-◌, to_z, of_z, ◌<ℤ◌, subst, sym, ap, ◌∙◌}
 use mir.Syntax.{w128}
 use Rattle.std.proofs.lemmas.Int.{to_z-of_z}
-use Rattle.mcf_instance.specs.Network.{Network, at_node}
+use Rattle.mcf_flows.specs.Network.{Network, at_node}
 use Rattle.mcf_network.specs.Residual.{tail}
 use Rattle.mcf_network.specs.Walks.{HasRoom}
 use Rattle.mcf_prices.specs.Private.Labels.{Labels, offer}

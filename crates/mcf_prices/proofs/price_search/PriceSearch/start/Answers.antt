@@ -1,5 +1,5 @@
 use Rattle.std.proofs.Common.{◌≡◌, rules, pos, replicate, None}
-use Rattle.mcf_instance.specs.Network.{node_count}
+use Rattle.mcf_flows.specs.Network.{node_count}
 use Rattle.mcf_prices.proofs.Lowering.{start_ok}
 use Rattle.mcf_prices.proofs.price_search.PriceSearch.start.Goals as goal
 

@@ -1,6 +1,6 @@
 use Rattle.std.proofs.Common.{◌≡◌, ◌+◌, arith, length, refl, rules, ◌∙◌}
-use Rattle.mcf_instance.specs.Network.{IsNode}
-use Rattle.mcf_instance.specs.Blocking.{in_table}
+use Rattle.mcf_flows.specs.Network.{IsNode}
+use Rattle.mcf_flows.specs.Blocking.{in_table}
 use Rattle.mcf_prices.specs.Private.Queues.{queued}
 use Rattle.mcf_prices.proofs.QueueLaws.{queued_ok, queued_more}
 use Rattle.mcf_prices.proofs.queue.Queue.all.Goals as goal

@@ -1,6 +1,6 @@
 use Rattle.std.proofs.Common.{◌≡◌, ℕ, length}
 use Rattle.std.specs.List.{Contains}
-use Rattle.mcf_instance.specs.Network.{IsNode, node_count}
+use Rattle.mcf_flows.specs.Network.{IsNode, node_count}
 use Rattle.mcf_prices.specs.Private.Queues.{IsQueue}
 use Rattle.mcf_prices.proofs.queue.Queue.all.Given as goal
 

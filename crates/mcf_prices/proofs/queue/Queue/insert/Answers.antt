@@ -1,6 +1,6 @@
 use Rattle.std.proofs.Common.{◌≡◌, ◌++◌, ◌∷◌, [], sym, rules, false, length, subst}
-use Rattle.mcf_instance.specs.Network.{IsNode}
-use Rattle.mcf_instance.specs.Blocking.{in_table}
+use Rattle.mcf_flows.specs.Network.{IsNode}
+use Rattle.mcf_flows.specs.Blocking.{in_table}
 use Rattle.mcf_prices.specs.Private.Queues.{Waiting}
 use Rattle.mcf_prices.proofs.QueueLaws.{push_ok}
 use Rattle.mcf_prices.proofs.queue.Queue.insert.Goals as goal

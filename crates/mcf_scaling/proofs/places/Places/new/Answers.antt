@@ -1,7 +1,7 @@
 use Rattle.std.proofs.Common.{◌≡◌, ℕ, ◌*◌, ◌∙◌, ◌≤◌, length, rules, arith, sym, ap}
 use Rattle.std.proofs.lemmas.Bool.{true≢false}
 use Rattle.std.proofs.lemmas.List.{length-replicate}
-use Rattle.mcf_instance.specs.Network.{node_count}
+use Rattle.mcf_flows.specs.Network.{node_count}
 use Rattle.mcf_scaling.proofs.PlaceLaws.{arcs_want, on_err, star_next}
 use Rattle.mcf_scaling.proofs.SiteLaws.{whole_few, whole_sites, whole_star}
 use Rattle.mcf_scaling.proofs.places.Places.new.Goals as goal

@@ -1,6 +1,6 @@
 use Rattle.std.proofs.Common.{◌≡◌, ◌++◌, ◌∷◌, [], true, false, length, length-set, sym, subst, rules, arith, deque_len}
-use Rattle.mcf_instance.specs.Blocking.{in_table}
-use Rattle.mcf_instance.specs.Network.{IsNode}
+use Rattle.mcf_flows.specs.Blocking.{in_table}
+use Rattle.mcf_flows.specs.Network.{IsNode}
 use Rattle.mcf_scaling.specs.Private.Queues.{Waiting}
 use Rattle.mcf_scaling.proofs.QueueLaws.{queue_push, queue_room}
 use Rattle.mcf_scaling.proofs.queue.Queue.insert.Goals as goal

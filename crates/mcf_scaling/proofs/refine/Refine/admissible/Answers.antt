@@ -1,5 +1,5 @@
 use Rattle.std.proofs.Common.{List, ℤ, sym, subst}
-use Rattle.mcf_instance.specs.Network.{node_count}
+use Rattle.mcf_flows.specs.Network.{node_count}
 use Rattle.mcf_scaling.specs.Optimality.{AreSmallPrices}
 use Rattle.mcf_scaling.specs.Refinements.{Refinement}
 use Rattle.mcf_scaling.proofs.CurrentLaws.{entry_current, entry_leaves, entry_none, entry_within}

@@ -1,5 +1,5 @@
 use Rattle.std.proofs.Common.{◌≡◌, rules, sym, subst}
-use Rattle.mcf_instance.specs.Network.{Network}
+use Rattle.mcf_flows.specs.Network.{Network}
 use Rattle.mcf_scaling.specs.Private.Places.{AreSites, IsStarOf}
 use Rattle.mcf_scaling.proofs.CurrentLaws.{begin_current}
 use Rattle.mcf_scaling.proofs.Methods.{begun_made}

@@ -1,5 +1,5 @@
 use Rattle.std.proofs.Common.{◌∙◌, sym, ap, subst}
-use Rattle.mcf_instance.specs.Network.{Network, IsArcNumber}
+use Rattle.mcf_flows.specs.Network.{Network, IsArcNumber}
 use Rattle.mcf_network.specs.States.{Pseudoflow}
 use Rattle.mcf_scaling.specs.Private.Places.{AreSites, IsStarOf}
 use Rattle.mcf_scaling.proofs.RoomLaws.{pushed_rooms}

@@ -1,7 +1,7 @@
 use Rattle.std.proofs.Common.{◌≡◌, ℕ, rules, refl, sym, ap, ◌∙◌, subst, ℤ, ◌+ℤ◌, ◌-◌, set, to_z, of_z}
 use mir.Syntax.{w128}
 use Rattle.std.proofs.lemmas.Int.{to_z-of_z}
-use Rattle.mcf_instance.specs.Network.{at_node}
+use Rattle.mcf_flows.specs.Network.{at_node}
 use Rattle.mcf_scaling.proofs.CurrentLaws.{relabel_current}
 use Rattle.mcf_scaling.proofs.Methods.{active_not_shut, relabel_raised, relabel_rises, relabel_stepped}
 use Rattle.mcf_scaling.proofs.Sizes.{small_prices}

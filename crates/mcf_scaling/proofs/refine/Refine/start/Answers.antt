@@ -1,5 +1,5 @@
 use Rattle.std.proofs.Common.{◌≡◌, sym, subst, rules, pos, replicate}
-use Rattle.mcf_instance.specs.Network.{Network, node_count}
+use Rattle.mcf_flows.specs.Network.{Network, node_count}
 use Rattle.mcf_scaling.proofs.CurrentLaws.{all_current}
 use Rattle.mcf_scaling.proofs.QueueLaws.{start_queue}
 use Rattle.mcf_scaling.proofs.Methods.{start_made}

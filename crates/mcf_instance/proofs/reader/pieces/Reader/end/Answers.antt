@@ -2,7 +2,7 @@ use Rattle.std.proofs.Common.{◌≡◌, ◌∙◌, [], None, ap, subst, sym}
 use Rattle.std.specs.Prelude.{is_some}
 use Rattle.std.proofs.lemmas.Result.{err_from_is_err_and}
 use Rattle.mcf_instance.specs.Feeding.{StandsFor}
-use Rattle.mcf_instance.specs.Limits.{limits}
+use Rattle.mcf_flows.specs.Limits.{limits}
 use Rattle.mcf_instance.specs.ReadOn.{HasReadOn}
 use Rattle.mcf_instance.proofs.Pieces.{none_given, on_end, on_finished, some_otherwise}
 use Rattle.mcf_instance.proofs.reader.pieces.Reader.end.Goals as goal

@@ -1,6 +1,6 @@
 use Rattle.std.proofs.Common.{◌++◌, ◌∷◌, [], subst, sym}
 use Rattle.std.proofs.lemmas.Result.{on_err_weaker, on_ok_weaker}
-use Rattle.mcf_instance.specs.Limits.{limits}
+use Rattle.mcf_flows.specs.Limits.{limits}
 use Rattle.mcf_instance.specs.ReadOn.{Stands}
 use Rattle.mcf_instance.proofs.NamedNodes.{step_names_nodes}
 use Rattle.mcf_text.specs.Row.{row_of}

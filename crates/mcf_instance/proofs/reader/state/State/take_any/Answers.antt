@@ -1,6 +1,6 @@
 use Rattle.std.proofs.Common.{◌∙◌, ap, sym}
 use Rattle.std.proofs.lemmas.Result.{on_err_weaker, on_ok_weaker}
-use Rattle.mcf_instance.specs.Limits.{limits}
+use Rattle.mcf_flows.specs.Limits.{limits}
 use Rattle.mcf_instance.specs.Private.ReaderState.{item_of, outcome_grows}
 use Rattle.mcf_text.specs.Fields.{fields_of}
 use Rattle.mcf_instance.proofs.SevenFields.{item_of-take, after_row-take, some_field}

@@ -1,0 +1,12 @@
+pub mod AllZips
+pub mod ArcSums
+pub mod Bounds
+pub mod Comparing
+pub mod Duality
+pub mod Hoffman
+pub mod IntLaws
+pub mod NetSteps
+pub mod NodeSums
+pub mod PackedArcs
+pub mod SameSets
+pub mod Tables

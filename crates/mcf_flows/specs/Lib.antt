@@ -1,0 +1,9 @@
+pub mod Assignment
+pub mod Blocking
+pub mod Flow
+pub mod Laws
+pub mod Limits
+pub mod Network
+pub mod Packed
+pub mod WellFormed
+pub mod Private

@@ -1,0 +1,110 @@
+//! Instances within the limits.
+ghost use Rattle.std.specs.Prelude.{◌≡◌, ◌-◌, length, map, slice_get, Some};
+ghost use Rattle.mcf_flows.specs.Network.{Network, IsArcNumber, IsNode, at_node, node_count};
+ghost use Rattle.mcf_flows.specs.Limits.{limits};
+ghost use Rattle.mcf_flows.specs.Packed.{unpacked};
+ghost use Rattle.mcf_flows.specs.WellFormed.{IsWellFormed};
+
+use crate::arc::Arc;
+use crate::arc_table::ArcTable;
+use crate::problem::Problem;
+use mcf_text::{ArcId, NodeId};
+use std::marker::Model;
+
+/// A minimum-cost flow problem or an assignment problem, within the limits: supplies and bounds at most 10^18 from 0, costs at
+/// most 10^15, and the total over the arcs, of the size of the cost times that of the greater bound, at most 10^36.
+///
+/// Nodes and arcs are numbered from 1. A clause sees the network: its problem, its arcs in order and
+/// the supplies of its nodes in order.
+#[derive(Drop)]
+pub struct Instance {
+    problem: Problem,
+    arcs: ArcTable,
+    supplies: Vec<i64>,
+}
+
+impl Model for Instance {
+    ghost use Rattle.std.specs.Prelude.{map};
+    ghost use Rattle.mcf_flows.specs.Limits.{limits};
+    ghost use Rattle.mcf_flows.specs.Network.{Network};
+    ghost use Rattle.mcf_flows.specs.Packed.{unpacked};
+    ghost use Rattle.mcf_flows.specs.WellFormed.{IsWellFormed};
+
+    ghost Value = { Network };
+
+    ghost view = { λ i. record { problem = i.problem; arcs = map unpacked i.arcs; supplies = i.supplies.items } };
+
+    ghost invariant = { λ i. IsWellFormed limits (record { problem = i.problem; arcs = map unpacked i.arcs; supplies = i.supplies.items }) };
+}
+
+impl Instance {
+    /// The instance of a problem, of arcs in order and of the supplies of its nodes in order, which are within the limits.
+    pub fn of(problem: Problem, arcs: ArcTable, supplies: Vec<i64>) -> Instance
+        requires { IsWellFormed limits (record { problem = problem; arcs = map unpacked arcs; supplies = supplies.items }) }
+        ensures { result ≡ record { problem = problem; arcs = map unpacked arcs; supplies = supplies.items } }
+    {
+        Instance {
+            problem,
+            arcs,
+            supplies,
+        }
+    }
+
+    /// The problem that the instance states.
+    pub fn problem(&self) -> Problem
+        ensures value { result ≡ self.now.problem }
+        ensures well_formed { IsWellFormed limits self.now }
+    {
+        self.problem
+    }
+
+    /// How many nodes there are, at most 1,000,000.
+    pub fn node_count(&self) -> u32
+        ensures value { result ≡ node_count self.now }
+        ensures well_formed { IsWellFormed limits self.now }
+    {
+        self.supplies.len() as u32
+    }
+
+    /// How many arcs there are, at most 10,000,000.
+    pub fn arc_count(&self) -> u32
+        ensures value { result ≡ length self.now.arcs }
+        ensures well_formed { IsWellFormed limits self.now }
+    {
+        self.arcs.len() as u32
+    }
+
+    /// The arc of this number.
+    pub fn arc(&self, k: ArcId) -> Arc
+        requires { IsArcNumber self.now k }
+        ensures value { slice_get self.now.arcs (k - 1) ≡ Some result }
+        ensures well_formed { IsWellFormed limits self.now }
+    {
+        self.arcs.get(k.get() as usize - 1).unpack()
+    }
+
+    /// The supply of the node of this number: what it sends, less what it takes.
+    pub fn supply(&self, v: NodeId) -> i128
+        requires { IsNode (node_count self.now) v }
+        ensures value { result ≡ at_node self.now.supplies v }
+        ensures well_formed { IsWellFormed limits self.now }
+    {
+        i128::from(self.supplies[v.get() as usize - 1])
+    }
+
+    /// The arcs as they are stored, in order.
+    pub(crate) fn packed_arcs(&self) -> &ArcTable
+        ensures value { map unpacked result.now ≡ self.now.arcs }
+        ensures well_formed { IsWellFormed limits self.now }
+    {
+        &self.arcs
+    }
+
+    /// The supplies as they are stored, in the order of their nodes.
+    pub(crate) fn packed_supplies(&self) -> &[i64]
+        ensures value { result.now ≡ self.now.supplies }
+        ensures well_formed { IsWellFormed limits self.now }
+    {
+        &self.supplies
+    }
+}

@@ -1,0 +1,20 @@
+#![tactic(auto)]
+
+//! The vocabulary of flows: networks, flows, prices and node sets, and instances as they are stored.
+//!
+//! It stands on `mcf_text`. Definitions stand in `specs/`: `Network`, `Flow`, `Blocking`, `Assignment` and `Laws` say what networks,
+//! flows, prices and node sets are, `Limits` and `WellFormed` what every instance keeps, and `Packed` what is stored.
+
+mod arc;
+mod arc_table;
+mod blocking;
+mod instances;
+mod laws;
+mod problem;
+
+pub use arc::{Arc, PackedArc};
+pub use arc_table::ArcTable;
+pub use blocking::{blocks, table_of};
+pub use instances::Instance;
+pub use laws::{blocked_has_no_flow, shown_flows_are_least};
+pub use problem::{Problem, Side};

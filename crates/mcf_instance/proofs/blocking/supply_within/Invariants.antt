@@ -1,7 +1,0 @@
-use Rattle.std.proofs.Common.{◌≡◌}
-use Rattle.mcf_instance.specs.Blocking.{in_table}
-use Rattle.mcf_instance.specs.Network.{at_node, node_sum, when}
-use Rattle.mcf_instance.proofs.blocking.supply_within.Given as goal
-
-abbrev pub invariant-loop-place : goal.invariant-loop-place
-invariant-loop-place l = l.total ≡ node_sum (λ v. when (in_table l.table v) (at_node l.supplies v)) l.place

@@ -1,5 +1,0 @@
-use Rattle.mcf_instance.proofs.Hoffman.{blocked_has_no_flow_lem}
-use Rattle.mcf_instance.proofs.laws.blocked_has_no_flow.Goals as goal
-
-pub returns : goal.returns
-returns c = blocked_has_no_flow_lem
