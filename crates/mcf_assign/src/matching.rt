@@ -51,10 +51,8 @@ impl<'n> Model for Matching<'n> {
 
     ghost use Rattle.mcf_flows.specs.Network.{node_count};
     ghost use Rattle.mcf_assign.specs.Private.RowLists.{AreRows};
-    ghost use Rattle.mcf_assign.specs.Private.Updating.{HasTables};
 
-    ghost invariant = { λ a. IsKept a.state a.prices a.mates.items a.tables a.reached × AreRows a.state.net a.rows
-        × HasTables a.state.net a.update };
+    ghost invariant = { λ a. IsKept a.state a.prices a.mates.items a.tables a.reached × AreRows a.state.net a.rows };
 }
 
 impl<'n> Matching<'n> {

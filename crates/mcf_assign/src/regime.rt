@@ -43,10 +43,10 @@ pub(crate) const SETTLED_PART: u32 = 3;
 /// How many buckets of offers an update has. Sparse, 2^12 rows: an update takes half of the time that it takes with a heap.
 pub(crate) const BUCKETS: u32 = 64;
 
-/// In the first update a bucket is so narrow that so many hold the greatest cost. Sparse, 2^12 rows, as above.
+/// A bucket is so narrow that so many hold the greatest cost. Sparse, 2^12 rows, as above.
 pub(crate) const BUCKETS_IN_COST: u64 = 1024;
 
-/// Of how many arcs of a row or a column those may be picked at once that may be news. Sparse, 2^12 rows: a branch at each arc is
+/// Of how many arcs of a row those may be picked at once that may be news. Sparse, 2^12 rows: a branch at each arc is
 /// guessed wrong 190,000 times.
 pub(crate) const MOST_PICKS: usize = 64;
 

@@ -6,7 +6,6 @@ use Rattle.mcf_assign.specs.Private.Forests.{AreMates}
 use Rattle.mcf_assign.specs.Private.Keeping.{IsKept}
 use Rattle.mcf_assign.specs.Matchings.{IsRow}
 use Rattle.mcf_assign.specs.Private.RowLists.{AreRows}
-use Rattle.mcf_assign.specs.Private.Updating.{HasTables}
 use Rattle.mcf_assign.specs.Private.Searches.{Search, search_of}
 use Rattle.mcf_assign.proofs.Kept.{grown_from, kept_grown, near_small, shown_kept, stopped_from, written}
 use Rattle.mcf_assign.proofs.matching.Matching.grow.Goals as goal
@@ -47,11 +46,8 @@ invariant_of-self c =
     let vm = ap (λ (l : List ℕ). length l) c.as_mut_slice-mates.ensures.value in
     let wm = written i.mates.len c.augment.new.mates (drop (length c.augment.new.mates) i.mates.items) (omega (arith, i.mates.ok.0, lm, vm)) in
     let grown = subst (λ (m : List ℕ). IsKept c.augment.new.state c.augment.new.prices m c.augment.new.self i.reached) (sym wm) kept in
-    let net = (e.extended c.args.row s.ended).net in (
-      grown,
-      subst (λ (g : Network). AreRows g i.rows) (sym net) c.self.invariant.1,
-      subst (λ (g : Network). HasTables g i.update) (sym net) c.self.invariant.2,
-    )
+    let net = (e.extended c.args.row s.ended).net in
+    (grown, subst (λ (g : Network). AreRows g i.rows) (sym net) c.self.invariant.1)
 
 pub returns-in-Some-clause-extended : goal.returns-in-Some-clause-extended
 returns-in-Some-clause-extended c =

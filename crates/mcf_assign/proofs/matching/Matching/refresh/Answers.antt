@@ -2,7 +2,6 @@ use Rattle.std.proofs.Common.{List, ℤ, ℕ, refl, subst, sym, ◌∙◌}
 use Rattle.mcf_assign.specs.Extending.{Assigned, IsShownMatching}
 use Rattle.mcf_assign.specs.Private.Forests.{AreMates}
 use Rattle.mcf_assign.specs.Private.Keeping.{IsKept}
-use Rattle.mcf_assign.specs.Private.Updating.{AreUpdated}
 use Rattle.mcf_assign.proofs.Kept.{near_small, shown_kept}
 use Rattle.mcf_assign.proofs.Updated.{kept_counted, kept_updated}
 use Rattle.mcf_assign.proofs.matching.Matching.refresh.Goals as goal
@@ -15,34 +14,24 @@ returns-then-not-is_due-clause-shown c =
     (record { flow = i.state; prices = i.prices; settled = i.tables.order.items; reached = i.reached; searches = i.tables.searches.number }) refl refl)
 
 pub take_lows-requires-clause-count : goal.take_lows-requires-clause-count
-take_lows-requires-clause-count c = c.run.ensures.tables.lows ∙ sym c.self.invariant.0.shown.count
+take_lows-requires-clause-count c = (c.run.ensures.updated c.if-run.true).count ∙ sym c.self.invariant.0.shown.count
 
 pub take_lows-requires-clause-near : goal.take_lows-requires-clause-near
-take_lows-requires-clause-near c =
-    let i = c.self.inside in
-    let new = subst (λ (l : List ℕ). AreUpdated i.state l i.prices c.run.new.self.lows.items) c.as_slice-mates.ensures.value
-    (c.run.ensures.updated c.if-run.true) in
-    new.near
+take_lows-requires-clause-near c = (c.run.ensures.updated c.if-run.true).near
 
 pub invariant_of-self : goal.invariant_of-self
 invariant_of-self c =
     let i = c.self.inside in
-    let k = c.self.invariant.0 in
-    let new = subst (λ (l : List ℕ). AreUpdated i.state l i.prices c.run.new.self.lows.items) c.as_slice-mates.ensures.value
-    (c.run.ensures.updated c.if-run.true) in
     let kept = kept_counted i.state c.run.new.self.lows.items i.mates.items i.tables i.reached 0
-    (kept_updated i.state i.prices c.run.new.self.lows.items i.mates.items i.tables i.reached k new) in
-    let tables = c.run.ensures.tables in (
+    (kept_updated i.state i.prices c.run.new.self.lows.items i.mates.items i.tables i.reached c.self.invariant.0 (c.run.ensures.updated c.if-run.true)) in (
       subst (λ (y : List ℤ). IsKept i.state y i.mates.items (record i.tables { pairs = 0 }) i.reached) (sym c.take_lows.ensures.prices) kept,
       c.self.invariant.1,
-      record { columns = tables.columns; spread = tables.spread; free = tables.free; lows = c.take_lows.ensures.count ∙ k.shown.count },
     )
 
 pub returns-then-run-clause-shown : goal.returns-then-run-clause-shown
 returns-then-run-clause-shown c =
     let i = c.self.inside in
-    let new = subst (λ (l : List ℕ). AreUpdated i.state l i.prices c.run.new.self.lows.items) c.as_slice-mates.ensures.value
-    (c.run.ensures.updated c.if-run.true) in
+    let new = c.run.ensures.updated c.if-run.true in
     shown_kept i.state c.run.new.self.lows.items i.mates.items i.tables i.reached
     (kept_updated i.state i.prices c.run.new.self.lows.items i.mates.items i.tables i.reached c.self.invariant.0 new)
     (record { flow = i.state; prices = c.take_lows.new.self; settled = i.tables.order.items; reached = i.reached; searches = i.tables.searches.number }) refl c.take_lows.ensures.prices
@@ -53,14 +42,16 @@ returns-else-run-clause-shown c =
     shown_kept i.state i.prices i.mates.items i.tables i.reached c.self.invariant.0
     (record { flow = i.state; prices = i.prices; settled = i.tables.order.items; reached = i.reached; searches = i.tables.searches.number }) refl refl
 
-pub run-requires-clause-scene : goal.run-requires-clause-scene
-run-requires-clause-scene c =
+pub run-requires : goal.run-requires
+run-requires c =
     let i = c.self.inside in
     let k = c.self.invariant.0 in
     record {
-      matching = k.matching;
-      rows = c.self.invariant.1;
-      prices = k.shown;
-      mates = subst (λ (l : List ℕ). AreMates i.state l) (sym c.as_slice-mates.ensures.value) k.mated;
-      small = near_small i.state i.prices i.prices k.near refl;
+      scene = record {
+        matching = k.matching;
+        rows = c.self.invariant.1;
+        prices = k.shown;
+        mates = subst (λ (l : List ℕ). AreMates i.state l) (sym c.as_slice-mates.ensures.value) k.mated;
+        small = near_small i.state i.prices i.prices k.near refl;
+      };
     }

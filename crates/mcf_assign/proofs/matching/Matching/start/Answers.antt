@@ -4,7 +4,6 @@ use Rattle.mcf_flows.specs.Network.{node_count}
 use Rattle.mcf_network.specs.States.{Pseudoflow, IsPseudoflow}
 use Rattle.mcf_assign.specs.Private.Keeping.{AreFirstPrices, IsKept}
 use Rattle.mcf_assign.specs.Private.RowLists.{AreRows}
-use Rattle.mcf_assign.specs.Private.Updating.{HasTables}
 use Rattle.mcf_assign.proofs.Kept.{kept_first, shown_kept}
 use Rattle.mcf_assign.proofs.matching.Matching.start.Goals as goal
 
@@ -21,8 +20,7 @@ invariant_of-result-3 c =
     (kept_first g y c.in_ok-mates.mates.items c.in_ok-new.field-0 c.in_ok-new-2.field-0 valid c.requires
     (subst (λ (z : List ℤ). AreFirstPrices g z (node_count g)) (sym e) c.in_ok-prices.ensures.prices) mates c.in_ok-new.ensures.idle count) in
     let kept = kept_at _ c.prices.view_is in
-    let tables = subst (λ (s : Pseudoflow). HasTables s.net c.in_ok-new-3.field-0) (sym inside) c.in_ok-new-3.ensures.tables in
-    (kept, subst (λ (s : Pseudoflow). AreRows s.net c.in_ok-rows.rows) (sym inside) c.in_ok-rows.ensures.rows, tables)
+    (kept, subst (λ (s : Pseudoflow). AreRows s.net c.in_ok-rows.rows) (sym inside) c.in_ok-rows.ensures.rows)
 
 pub returns-clause-shown : goal.returns-clause-shown
 returns-clause-shown c =

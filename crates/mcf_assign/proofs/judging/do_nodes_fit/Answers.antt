@@ -1,0 +1,30 @@
+use Rattle.std.proofs.Common.{◌≡◌, ◌+◌, ◌-◌, ◌∙◌, pos, ap, arith, rules, get_or, to_z, of_z, subst, sym, inl, inr}
+use mir.Syntax.{w64}
+use Rattle.std.proofs.lemmas.Int.{to_z-of_z}
+use Rattle.std.proofs.lemmas.Bool.{cases_eq}
+use Rattle.mcf_flows.specs.Network.{Network, at_node, node_count}
+use Rattle.mcf_assign.specs.Private.Updating.{DoesNodeFit}
+use Rattle.mcf_assign.proofs.judging.do_nodes_fit.Goals as goal
+
+pub nodes-preserved : goal.nodes-preserved
+nodes-preserved c v h =
+    let s = c.args.scene.now.state.now in
+    let mates = c.args.scene.now.mates.now in
+    let y = c.args.scene.now.prices.now in
+    let z = c.args.prices.now in
+    let x = get_or z c.nodes.number (pos 0) in
+    let t : to_z w64 (of_z w64 x) ≡ x = search (rules, to_z-of_z) in
+    elim (cases_eq v (c.nodes.number + 1)) [
+      | inl e ↦ (
+          let back : c.nodes.number ≡ v - 1 = omega (arith, e) in
+          subst (λ u. DoesNodeFit s mates y u (at_node z v)) (c.at.ensures ∙ sym e)
+          (subst (λ a. DoesNodeFit s mates y c.at.result a) (t ∙ ap (λ i. get_or z i (pos 0)) back) (c.does_node_fit.ensures c.if-not-does_node_fit.false)))
+      | inr m ↦ c.nodes.invariant v (omega (arith, h), omega (arith, h, m))
+    ]
+
+pub returns : goal.returns
+returns c _ v h =
+    let test = c.nodes-test.false in
+    let end = c.node_count-number-end.ensures.value in
+    let same = ap (λ (g : Network). node_count g) c.net.ensures.value in
+    c.nodes.invariant v (omega (arith, h), omega (arith, h, test, end, same))
