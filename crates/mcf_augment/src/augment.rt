@@ -95,7 +95,8 @@ impl Engine for Augment {
                 return Ok(outcome);
             }
         }
-        by_simplex(alloc, net)
+        let mut simplex = Simplex::new(Block::new(BLOCK_ARCS));
+        simplex.solve(alloc, net)
     }
 }
 
@@ -151,20 +152,9 @@ fn find(
     ensures least { result ≡ true → IsLeastState state.old.net state.new }
     ensures prices { result ≡ true → AreStatePrices state.old.net state.new prices.new }
 {
-    if !search.run() {
-        return false;
-    }
-    if !judge(search, state, prices) {
+    if !search.run() || !judge(search, state, prices) {
         return false;
     }
     pricer.raise(state, 1, 0, prices);
     true
-}
-
-// The answer of the network simplex.
-fn by_simplex<'n>(alloc: Global, net: &'n Net) -> Result<Outcome<'n>, NoMemory>
-    ensures { IfOk result (IsOutcome (λ _. ⊤) net.now) }
-{
-    let mut simplex = Simplex::new(Block::new(BLOCK_ARCS));
-    simplex.solve(alloc, net)
 }

@@ -15,7 +15,7 @@ use mcf_network::{Net, Rid, State};
 use mcf_text::{ArcId, NodeId};
 
 /// Writes down what a search ended with, and says whether it is a least flow that the prices show.
-pub(crate) fn judge(search: &Search, state: &mut State<'_>, prices: &mut [i128]) -> bool
+pub(crate) fn judge(search: &mut Search, state: &mut State<'_>, prices: &mut [i128]) -> bool
     requires count { length prices.old ≡ node_count state.old.net }
     requires small { All (IsUpTo near_limit) prices.old }
     ensures net { state.new.net ≡ state.old.net }
@@ -29,13 +29,17 @@ pub(crate) fn judge(search: &Search, state: &mut State<'_>, prices: &mut [i128])
 }
 
 // Lets each arc carry what the search lets it carry.
-fn carry_all(search: &Search, state: &mut State<'_>)
+fn carry_all(search: &mut Search, state: &mut State<'_>)
     ensures net { state.new.net ≡ state.old.net }
     ensures flow { IsPseudoflow state.new }
 {
     let net = state.net();
     'arcs: for number in 0..net.arc_count() {
-        carry(state, ArcId::at(number), search.star.amount(number));
+        let arc = ArcId::at(number);
+        let (src, dst) = net.ends(arc);
+        if src != dst {
+            carry(state, arc, search.next_amount(src.get() - 1));
+        }
     }
 }
 
@@ -58,7 +62,8 @@ fn write_prices(search: &Search, prices: &mut [i128])
     ensures small { All (IsUpTo near_limit) prices.new }
 {
     'nodes: for i in 0..prices.len() {
-        prices[i] = -i128::from(at(&search.prices, i, 0));
+        let number = i.min(u32::MAX as usize) as u32;
+        prices[i] = -i128::from(at(&search.star.prices, number, 0));
     }
 }
 
@@ -133,11 +138,7 @@ fn reduced_of(net: &Net, prices: &[i128], k: ArcId) -> i128
     ensures { result ≡ reduced_cost prices.now (arc_at net.now k) }
 {
     let (src, dst) = net.ends(k);
-    less_fall(
-        cost_of(net, k),
-        price_of(prices, src),
-        price_of(prices, dst),
-    )
+    cost_of(net, k) - price_of(prices, src) + price_of(prices, dst)
 }
 
 // The cost of an arc.
@@ -147,16 +148,6 @@ fn cost_of(net: &Net, k: ArcId) -> i128
     ensures small { IsUpTo near_limit result }
 {
     net.cost(k)
-}
-
-// A cost less one price plus another.
-fn less_fall(cost: i128, from: i128, to: i128) -> i128
-    requires cost { IsUpTo near_limit cost }
-    requires from { IsUpTo near_limit from }
-    requires to { IsUpTo near_limit to }
-    ensures { result ≡ cost -ℤ from +ℤ to }
-{
-    cost - from + to
 }
 
 // The price of a node.

@@ -15,7 +15,5 @@ mod sorting;
 mod spreading;
 mod star;
 mod tables;
-mod update;
-mod view;
 
 pub use augment::Augment;

@@ -2,75 +2,52 @@
 
 use crate::columns::{at, put};
 use crate::search::Search;
-use crate::star::{LIMIT, NOWHERE};
-use crate::view::View;
+use crate::star::{LIMIT, NOWHERE, Star, Step};
 
 // How many arcs a path has at most.
-const MOST_ARCS: usize = 4;
+const MOST_ARCS: u32 = 4;
 
 // More than any reduced cost: there is none.
 const NOTHING: i64 = 1 << 62;
 
-// A path from an active node.
+// A path from an active node: its residual arcs, by their places, and the nodes that they leave and enter.
 #[derive(Drop)]
 struct Path {
     places: [u32; 4],
     nodes: [u32; 5],
-    len: usize,
+    len: u32,
 }
 
 impl Path {
-    // The path that begins and ends at a node.
-    fn at(node: u32) -> Path {
-        Path {
-            places: [NOWHERE; 4],
-            nodes: [node; 5],
-            len: 0,
-        }
-    }
-
     // The last node.
     fn tip(&self) -> u32 {
         at(&self.nodes, self.len, NOWHERE)
     }
 
-    // Puts a residual arc to a node behind it, and says whether that node was on it already.
-    fn push(&mut self, place: u32, node: u32) -> bool {
-        let mut seen = false;
-        'nodes: for i in 0..MOST_ARCS {
-            seen = seen || i <= self.len && at(&self.nodes, i, NOWHERE) == node;
-        }
+    // Puts a residual arc to a node behind it.
+    fn push(&mut self, place: u32, node: u32) {
         put(&mut self.places, self.len, place);
         self.len = self.len.wrapping_add(1);
         put(&mut self.nodes, self.len, node);
-        seen
-    }
-
-    // Takes the last residual arc off and gives its place, if it has one.
-    fn step_back(&mut self) -> Option<u32> {
-        if self.len == 0 {
-            return None;
-        }
-        self.len -= 1;
-        Some(at(&self.places, self.len, NOWHERE))
     }
 }
 
-// Seeks an admissible arc, one with room and a negative reduced cost, among some places of a node: its place, or none, and the least reduced
-// cost of those with room before it.
+// Seeks an admissible arc, one with room and a negative reduced cost, among some places of a node; and the least reduced cost of those with room
+// before it.
 #[inline(always)]
-fn seek(view: View<'_>, price: i64, first: u32, end: u32) -> (u32, i64) {
+fn seek(star: &Star, node: u32, first: u32, end: u32) -> (Option<Step>, i64) {
+    let price = star.price(node);
     let mut least = NOTHING;
-    'places: for i in first..end {
-        let Some((_, reduced)) = view.rated(i, price) else {
+    'places: for place in first..end {
+        let Some(step) = star.step(place, price) else {
             continue;
         };
-        if reduced < 0 {
-            return (i, least);
+        if step.reduced < 0 {
+            return (Some(step), least);
         }
-        least = least.min(reduced);
+        least = least.min(step.reduced);
     }
-    (NOWHERE, least)
+    (None, least)
 }
 
 impl Search {
@@ -78,7 +55,8 @@ impl Search {
     /// where it takes too long.
     pub(crate) fn run_phase(&mut self) -> bool {
         self.fill_all();
-        self.meter.relabels = 0;
+        self.queue_active();
+        self.relabels = 0;
         'nodes: for _ in 0..u64::MAX {
             let Some(node) = self.queue.pop() else {
                 return true;
@@ -90,15 +68,19 @@ impl Search {
         false
     }
 
-    // Fills each residual arc whose reduced cost is further below 0 than the slack, and lets each node begin with its first arc. The nodes with a
-    // surplus wait then.
+    // Fills each residual arc whose reduced cost is further below 0 than the slack, and lets each node begin with its first arc.
     fn fill_all(&mut self) {
-        self.meter.pay_readings(1);
+        self.star.write_firsts(&mut self.currents, 0);
         'nodes: for node in 0..self.node_count() {
-            let first = self.view().first(node);
-            put(&mut self.currents, node as usize, first);
             self.fill(node);
-            if at(&self.surpluses, node as usize, 0) > 0 {
+        }
+    }
+
+    // Lets the nodes with a surplus wait, in their order, and no others.
+    fn queue_active(&mut self) {
+        self.queue.clear();
+        'nodes: for node in 0..self.node_count() {
+            if at(&self.surpluses, node, 0) > 0 {
                 self.queue.push(node);
             }
         }
@@ -106,33 +88,36 @@ impl Search {
 
     // Fills those that leave a node.
     fn fill(&mut self, node: u32) {
-        let least = self.scale.slack().wrapping_neg();
-        let view = self.view();
-        let (first, end, price) = (view.first(node), view.end(node), view.price(node));
-        'places: for i in first..end {
-            let Some((head, reduced)) = self.view().rated(i, price) else {
-                continue;
+        let least = self.star.slack().wrapping_neg();
+        let mut from = self.star.first(node);
+        self.pay_degree(node);
+        'arcs: for _ in 0..u32::MAX {
+            let Some(step) = self.star.first_below(node, from, least) else {
+                break;
             };
-            if reduced < least {
-                let room = self.star.room(i);
-                self.push(i, node, head, room);
-            }
+            let room = self.star.room(step.place);
+            self.push(step.place, node, step.head, room);
+            from = step.place.wrapping_add(1);
         }
     }
 
     // Augments along paths from a node until it isn't active. After an update it goes to the end of the queue, so that none starves the others.
     fn discharge(&mut self, node: u32) -> bool {
         'paths: for _ in 0..u64::MAX {
-            if at(&self.surpluses, node as usize, 0) <= 0 {
+            if at(&self.surpluses, node, 0) <= 0 {
                 return true;
             }
-            let mut path = Path::at(node);
-            if self.meter.is_spent() || !self.extend(&mut path) {
+            let mut path = Path {
+                places: [NOWHERE; 4],
+                nodes: [node; 5],
+                len: 0,
+            };
+            if self.work > self.budget || !self.extend(&mut path) {
                 return false;
             }
             self.augment(&path);
-            if self.meter.is_update_due() {
-                self.meter.relabels = 0;
+            if self.relabels > self.most_relabels {
+                self.relabels = 0;
                 self.queue.push(node);
                 return self.update_prices();
             }
@@ -144,48 +129,40 @@ impl Search {
     fn extend(&mut self, path: &mut Path) -> bool {
         'arcs: for _ in 0..u32::MAX {
             let tip = path.tip();
-            let is_over = path.len >= MOST_ARCS || self.meter.is_update_due();
-            if is_over || at(&self.surpluses, tip as usize, 0) < 0 {
+            let is_over = path.len >= MOST_ARCS || self.relabels > self.most_relabels;
+            if is_over || at(&self.surpluses, tip, 0) < 0 {
                 return true;
             }
-            self.meter.pay(2);
-            let view = self.view();
-            let current = at(&self.currents, tip as usize, 0);
-            let (place, least) = seek(view, view.price(tip), current, view.end(tip));
-            if place == NOWHERE {
-                if !self.relabel(path, tip, current, least) {
+            self.pay_degree(tip);
+            let current = at(&self.currents, tip, 0);
+            let (found, least) = seek(&self.star, tip, current, self.star.end(tip));
+            if let Some(step) = found {
+                put(&mut self.currents, tip, step.place);
+                path.push(step.place, step.head);
+            } else {
+                let (_, before) = seek(&self.star, tip, self.star.first(tip), current);
+                if !self.relabel(path, least.min(before)) {
                     return false;
                 }
-                continue;
-            }
-            let head = view.place(place).node();
-            put(&mut self.currents, tip as usize, place);
-            if path.push(place, head) {
-                return true;
             }
         }
         true
     }
 
     // Takes the last arc off a path, and lowers the price of its last node, which no admissible arc leaves, by the slack and the least reduced
-    // cost; the way back counts only where there is no other.
-    fn relabel(&mut self, path: &mut Path, tip: u32, current: u32, least: i64) -> bool {
-        let view = self.view();
-        let (first, end, price) = (view.first(tip), view.end(tip), view.price(tip));
-        let mut least = seek(view, price, first, current).1.min(least);
-        let way_back = path.step_back();
-        if least == NOTHING {
-            let Some(place) = way_back else {
-                return false;
-            };
-            let before = view.price(path.tip());
-            least = view.reduced(view.place(place), before).wrapping_neg();
+    // cost, or by the slack alone where there is only the way back. The node begins with its first arc then.
+    fn relabel(&mut self, path: &mut Path, least: i64) -> bool {
+        if least == NOTHING && path.len == 0 {
+            return false;
         }
-        let lowered = price.wrapping_sub(least).wrapping_sub(self.scale.slack());
-        self.meter.pay(end.wrapping_sub(first));
-        self.meter.relabels = self.meter.relabels.wrapping_add(1);
-        put(&mut self.prices, tip as usize, lowered);
-        put(&mut self.currents, tip as usize, first);
+        let tip = path.tip();
+        path.len = path.len.saturating_sub(1);
+        let fall = if least == NOTHING { 0 } else { least };
+        let (first, price) = (self.star.first(tip), self.star.price(tip));
+        let lowered = price.wrapping_sub(fall).wrapping_sub(self.star.slack());
+        self.relabels = self.relabels.wrapping_add(1);
+        put(&mut self.star.prices, tip, lowered);
+        put(&mut self.currents, tip, first);
         lowered >= LIMIT.wrapping_neg()
     }
 
@@ -195,8 +172,7 @@ impl Search {
             let place = at(&path.places, i, NOWHERE);
             let from = at(&path.nodes, i, NOWHERE);
             let to = at(&path.nodes, i.wrapping_add(1), NOWHERE);
-            let surplus = at(&self.surpluses, from as usize, 0);
-            let amount = surplus.min(self.star.room(place));
+            let amount = at(&self.surpluses, from, 0).min(self.star.room(place));
             if amount > 0 {
                 self.push(place, from, to, amount);
             }
@@ -205,10 +181,10 @@ impl Search {
 
     // Pushes an amount along a residual arc. Its head waits then if it has a surplus.
     fn push(&mut self, place: u32, from: u32, to: u32, amount: i64) {
-        let left = at(&self.surpluses, from as usize, 0).wrapping_sub(amount);
-        put(&mut self.surpluses, from as usize, left);
-        let more = at(&self.surpluses, to as usize, 0).wrapping_add(amount);
-        put(&mut self.surpluses, to as usize, more);
+        let left = at(&self.surpluses, from, 0).wrapping_sub(amount);
+        put(&mut self.surpluses, from, left);
+        let more = at(&self.surpluses, to, 0).wrapping_add(amount);
+        put(&mut self.surpluses, to, more);
         self.star.send(place, amount);
         if more > 0 {
             self.queue.push(to);

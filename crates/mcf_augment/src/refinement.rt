@@ -1,10 +1,8 @@
 //! Price refinement: an attempt to make the flow optimal within the slack by prices alone.
 
-use crate::columns::put_all;
 use crate::search::Search;
 use crate::sorting::Mark;
 use crate::spreading::{Way, spread};
-use crate::view::View;
 
 // No more rounds than this are made.
 const MOST_ROUNDS: u32 = 30;
@@ -14,36 +12,35 @@ impl Search {
     /// negative reduced costs that it meets is cancelled, and ends the attempt.
     pub(crate) fn refine_prices(&mut self) -> bool {
         'rounds: for _ in 0..MOST_ROUNDS {
-            put_all(&mut self.marks, Mark::Labelled);
-            if self.meter.is_spent() || !self.sort_labelled(-1) || !self.rank_all() {
+            self.marks.as_mut_slice().fill(Mark::Labelled);
+            if self.work > self.budget || !self.sort_labelled(-1) {
                 return false;
             }
-            if self.buckets.ranked.count == 0 {
+            let greatest = self.rank_all();
+            if greatest == 0 {
                 return true;
             }
-            self.spread_all(Way::Heads, 1, 0);
-            if !self.change_prices(0, Way::Heads) {
+            self.spread_all(greatest, Way::Heads, 1, 0);
+            if greatest >= self.buckets.most() || !self.change_prices(0, Way::Heads) {
                 return false;
             }
         }
         false
     }
 
-    // Gives each node the greatest number of slacks by which a walk of negative reduced costs to it lies below 0, and what spreads from that. It
-    // says no where a number doesn't fit.
-    fn rank_all(&mut self) -> bool {
+    // Gives each node the greatest number of slacks by which a walk of negative reduced costs to it lies below 0, and what spreads from that,
+    // and gives the greatest.
+    fn rank_all(&mut self) -> u32 {
         let most = self.buckets.most();
-        let mut fits = true;
-        self.meter.pay_readings(2);
+        let mut greatest = 0;
         self.buckets.clear();
         'nodes: for _ in 0..u32::MAX {
-            let Some(node) = self.order.pop() else {
+            let Some(node) = self.pop_sorted() else {
                 break;
             };
-            let view = View::new(&self.star, &self.prices, self.scale);
-            spread(&mut self.buckets, view, node, most, Way::Heads);
-            fits = fits && self.buckets.rank(node) < most;
+            spread(&mut self.buckets, &self.star, node, most, Way::Heads);
+            greatest = self.buckets.rank(node).max(greatest);
         }
-        fits
+        greatest
     }
 }

@@ -2,7 +2,7 @@
 
 use crate::columns::{at, put};
 use crate::search::Search;
-use crate::star::NOWHERE;
+use crate::star::{LIMIT, NOWHERE, Step};
 
 /// How far a search is with a node: it may begin with it, is at it, or has left it.
 #[derive(Clone, Copy, PartialEq, Eq)]
@@ -13,42 +13,36 @@ pub(crate) enum Mark {
     Left,
 }
 
-/// Where a search came to a node: from which, how deep it is, and how deep above it the last arc of negative reduced cost ends.
+/// Where a search came to a node: from which, how deep it is, and how deep above it the last arc of negative reduced cost ends. Of a node that
+/// the search has left, which node it had left before.
 #[derive(Clone, Copy)]
 pub(crate) struct Visit {
-    parent: u32,
+    before: u32,
     depth: u32,
     deepest: u32,
 }
 
 /// Stands for the visit of a node where there is none.
 pub(crate) const NO_VISIT: Visit = Visit {
-    parent: NOWHERE,
+    before: NOWHERE,
     depth: 0,
     deepest: 0,
 };
-
-// A step that a search takes: the place of a residual arc, its head, and its reduced cost.
-#[derive(Clone, Copy)]
-struct Step {
-    place: u32,
-    head: u32,
-    reduced: i64,
-}
 
 impl Search {
     /// Lists the nodes that are reached from the labelled ones along arcs of reduced costs up to `most`, as the search leaves them, where an arc of
     /// negative reduced cost leaves the first. It cancels the negative cycles that it meets; where `most` is negative, too, it ends at the first,
     /// and says no.
     pub(crate) fn sort_labelled(&mut self, most: i64) -> bool {
-        self.order.count = 0;
+        self.sorted = NOWHERE;
         'roots: for root in 0..self.node_count() {
-            if self.mark(root) != Mark::Labelled {
+            if at(&self.marks, root, Mark::Left) != Mark::Labelled {
                 continue;
             }
-            self.meter.pay(4);
-            if !self.view().has_negative(root) {
-                put(&mut self.marks, root as usize, Mark::Quiet);
+            self.pay_degree(root);
+            let first = self.star.first(root);
+            if self.star.first_below(root, first, 0).is_none() {
+                put(&mut self.marks, root, Mark::Quiet);
             } else if !self.sort_reached(root, most) {
                 return false;
             }
@@ -62,124 +56,120 @@ impl Search {
         let mut tip = root;
         'steps: for _ in 0..u64::MAX {
             let Some(step) = self.next_step(tip, most) else {
-                put(&mut self.marks, tip as usize, Mark::Left);
-                self.order.push(tip);
-                tip = self.visit(tip).parent;
+                tip = self.leave(tip);
                 if tip == NOWHERE {
                     break;
                 }
                 continue;
             };
-            put(&mut self.currents, tip as usize, step.place);
-            if self.mark(step.head) != Mark::Entered {
+            put(&mut self.currents, tip, step.place);
+            if at(&self.marks, step.head, Mark::Left) != Mark::Entered {
                 self.enter(step.head, tip, step.reduced < 0);
-                tip = step.head;
-                continue;
+            } else {
+                self.cancel(step.head, tip);
+                if most < 0 {
+                    return false;
+                }
             }
-            tip = self.cancel(step.head, tip);
-            if most < 0 {
-                return false;
-            }
+            tip = step.head;
         }
         true
     }
 
     // Begins with a node.
-    fn enter(&mut self, node: u32, parent: u32, is_negative: bool) {
-        let above = self.visit(parent);
+    fn enter(&mut self, node: u32, before: u32, is_negative: bool) {
+        let above = self.visit(before);
         let depth = above.depth.wrapping_add(1);
         let visit = Visit {
-            parent,
+            before,
             depth,
             deepest: if is_negative { depth } else { above.deepest },
         };
-        let view = self.view();
-        let (first, end) = (view.first(node), view.end(node));
-        self.meter.pay(end.wrapping_sub(first).wrapping_add(1));
-        put(&mut self.visits, node as usize, visit);
-        put(&mut self.marks, node as usize, Mark::Entered);
-        put(&mut self.currents, node as usize, first);
+        let first = self.star.first(node);
+        self.pay_degree(node);
+        put(&mut self.visits, node, visit);
+        put(&mut self.marks, node, Mark::Entered);
+        put(&mut self.currents, node, first);
+    }
+
+    // Leaves a node, which is the last of the list then, and gives the node from which the search came to it.
+    fn leave(&mut self, node: u32) -> u32 {
+        let mut visit = self.visit(node);
+        let before = visit.before;
+        visit.before = self.sorted;
+        put(&mut self.visits, node, visit);
+        put(&mut self.marks, node, Mark::Left);
+        self.sorted = node;
+        before
+    }
+
+    /// Takes the last node off the list, if there is one.
+    pub(crate) fn pop_sorted(&mut self) -> Option<u32> {
+        let node = self.sorted;
+        if node == NOWHERE {
+            return None;
+        }
+        self.sorted = self.visit(node).before;
+        Some(node)
     }
 
     // The first arc of a node, from the current one on, that has room and a reduced cost up to `most`, and leads to a node that is new, or closes a
     // negative cycle.
-    #[inline(always)]
     fn next_step(&self, node: u32, most: i64) -> Option<Step> {
-        let view = self.view();
-        let price = view.price(node);
         let deepest = self.visit(node).deepest;
-        'places: for place in self.current(node)..view.end(node) {
-            let Some((head, reduced)) = view.rated(place, price) else {
-                continue;
+        let mut from = self.current(node);
+        'arcs: for _ in 0..u32::MAX {
+            let step = self.star.first_below(node, from, most.wrapping_add(1))?;
+            let is_taken = match at(&self.marks, step.head, Mark::Left) {
+                Mark::Left => false,
+                Mark::Entered => step.reduced < 0 || deepest > self.visit(step.head).depth,
+                _ => true,
             };
-            let mark = self.mark(head);
-            if reduced > most || mark == Mark::Left {
-                continue;
+            if is_taken {
+                return Some(step);
             }
-            if mark != Mark::Entered || reduced < 0 || deepest > self.visit(head).depth {
-                return Some(Step {
-                    place,
-                    head,
-                    reduced,
-                });
-            }
+            from = step.place.wrapping_add(1);
         }
         None
     }
 
-    // The mark of a node.
-    #[inline(always)]
-    fn mark(&self, node: u32) -> Mark {
-        at(&self.marks, node as usize, Mark::Left)
-    }
-
     // Where the search came to a node.
-    #[inline(always)]
     fn visit(&self, node: u32) -> Visit {
-        at(&self.visits, node as usize, NO_VISIT)
+        at(&self.visits, node, NO_VISIT)
     }
 
     // The current arc of a node.
-    #[inline(always)]
     fn current(&self, node: u32) -> u32 {
-        at(&self.currents, node as usize, NOWHERE)
+        at(&self.currents, node, NOWHERE)
     }
 
-    // Cancels a negative cycle: from a node down to another, and back by the current arc of that. It goes back to the tail of the highest arc
-    // that is full then, and labels the nodes below.
-    fn cancel(&mut self, top: u32, tip: u32) -> u32 {
-        let narrow = self.narrowest(top, tip);
-        let amount = self.star.room(self.current(narrow));
+    // Cancels a negative cycle: from a node down to another, and back by the current arc of that. The search goes back to the first, and the nodes
+    // below are labelled.
+    fn cancel(&mut self, top: u32, tip: u32) {
+        let amount = self.room_of(top, tip);
         let mut node = tip;
-        let mut is_below = true;
         'nodes: for _ in 0..=self.node_count() {
             let place = self.current(node);
             self.star.send(place, amount);
-            is_below = is_below && node != narrow;
-            if is_below {
-                put(&mut self.marks, node as usize, Mark::Labelled);
-            }
             if node == top {
                 break;
             }
-            node = self.visit(node).parent;
+            put(&mut self.marks, node, Mark::Labelled);
+            node = self.visit(node).before;
         }
-        narrow
     }
 
-    // The node of a cycle whose current arc can carry least; of several such the highest in the search.
-    fn narrowest(&mut self, top: u32, tip: u32) -> u32 {
-        let (mut node, mut narrow) = (tip, tip);
-        'nodes: for _ in 0..self.node_count() {
+    // The room of a cycle.
+    fn room_of(&self, top: u32, tip: u32) -> i64 {
+        let mut node = tip;
+        let mut least = LIMIT;
+        'nodes: for _ in 0..=self.node_count() {
+            least = least.min(self.star.room(self.current(node)));
             if node == top {
                 break;
             }
-            node = self.visit(node).parent;
-            self.meter.pay(1);
-            if self.star.room(self.current(node)) <= self.star.room(self.current(narrow)) {
-                narrow = node;
-            }
+            node = self.visit(node).before;
         }
-        narrow
+        least
     }
 }

@@ -1,13 +1,15 @@
-//! Ranks of nodes that spread along residual arcs, from the greatest down (Dial), and prices that change by them.
+//! Ranks of nodes that spread along residual arcs, from the greatest down (Dial), and prices that change by them: global price updates.
 
 use crate::columns::{at, put};
 use crate::search::Search;
-use crate::star::LIMIT;
+use crate::star::{FULL, LIMIT, Star};
 use crate::tables::Buckets;
-use crate::view::View;
+
+// An update stops when all but one in so many of the active nodes are reached.
+const LEFT_PART: u32 = 5;
 
 /// Which nodes have a rank from that of a node: the heads of the residual arcs that leave it, whose prices fall, or the tails of those that enter
-/// it, whose prices rise. Tails that are far have rank 1 at least, so that it is known which are reached.
+/// it, whose prices rise. Tails that are far have rank 1 at least, so that they are reached at the end.
 #[derive(Clone, Copy, PartialEq, Eq)]
 pub(crate) enum Way {
     Heads,
@@ -15,14 +17,40 @@ pub(crate) enum Way {
 }
 
 impl Search {
-    /// Spreads the ranks from the greatest down, until a few of the active nodes are left, and gives the rank where that came about, or 0.
-    pub(crate) fn spread_all(&mut self, way: Way, active: u32, few: u32) -> u32 {
+    /// Raises prices by how far nodes are from the deficits, counted in slacks, up to the distance at which most active nodes are reached. Each
+    /// node begins with its first arc then. It says no where some surplus can't reach a deficit, and where a price doesn't fit.
+    pub(crate) fn update_prices(&mut self) -> bool {
+        let active = self.rank_deficits();
         let most = self.buckets.most();
+        let rank = self.spread_all(most, Way::Tails, active, active / LEFT_PART);
+        self.star.write_firsts(&mut self.currents, 0);
+        rank > 0 && self.change_prices(rank, Way::Tails)
+    }
+
+    // Gives the nodes with a deficit the greatest rank, and says how many have a surplus.
+    fn rank_deficits(&mut self) -> u32 {
+        let most = self.buckets.most();
+        let mut active = 0u32;
+        self.buckets.clear();
+        'nodes: for node in 0..self.node_count() {
+            let surplus = at(&self.surpluses, node, 0);
+            if surplus > 0 {
+                active = active.wrapping_add(1);
+            } else if surplus < 0 {
+                self.buckets.raise(node, most);
+            }
+        }
+        active
+    }
+
+    /// Spreads the ranks from a greatest one down, until a few of the active nodes are left, and gives the rank where that came about, or 0.
+    pub(crate) fn spread_all(&mut self, greatest: u32, way: Way, active: u32, few: u32) -> u32 {
         let mut left = active;
-        'ranks: for below in 0..most {
-            left = self.spread_bucket(most - below, way, left, few);
+        'ranks: for below in 0..greatest {
+            let rank = greatest - below;
+            left = self.spread_bucket(rank, way, left, few);
             if left <= few {
-                return most - below;
+                return rank;
             }
         }
         0
@@ -35,14 +63,12 @@ impl Search {
             let Some(node) = self.buckets.pop(rank) else {
                 break;
             };
-            let view = View::new(&self.star, &self.prices, self.scale);
-            self.meter
-                .pay(view.end(node).wrapping_sub(view.first(node)));
+            self.pay_degree(node);
             match way {
-                Way::Heads => spread(&mut self.buckets, view, node, rank, Way::Heads),
-                Way::Tails => spread(&mut self.buckets, view, node, rank, Way::Tails),
+                Way::Heads => spread(&mut self.buckets, &self.star, node, rank, Way::Heads),
+                Way::Tails => spread(&mut self.buckets, &self.star, node, rank, Way::Tails),
             }
-            if at(&self.surpluses, node as usize, 0) > 0 {
+            if at(&self.surpluses, node, 0) > 0 {
                 left = left.wrapping_sub(1);
             }
             if left <= few {
@@ -52,26 +78,20 @@ impl Search {
         left
     }
 
-    /// Changes the price of each node that has a rank by as many slacks as its rank is above another, and lets it begin with its first arc. It
-    /// says no where a price doesn't fit.
+    /// Changes the price of each node by as many slacks as its rank is above another. It says no where a price doesn't fit.
     pub(crate) fn change_prices(&mut self, rank: u32, way: Way) -> bool {
+        let most = LIMIT >> (self.star.power % 64);
         let mut fits = true;
-        'nodes: for _ in 0..u32::MAX {
-            let Some(node) = self.buckets.ranked.pop() else {
-                break;
-            };
+        'nodes: for node in 0..self.node_count() {
             let steps = i64::from(self.buckets.rank(node).saturating_sub(rank));
-            let change = steps << (self.scale.power % 64);
-            let price = at(&self.prices, node as usize, 0);
+            let change = steps << (self.star.power % 64);
+            let price = at(&self.star.prices, node, 0);
             let changed = match way {
                 Way::Heads => price.wrapping_sub(change),
                 Way::Tails => price.wrapping_add(change),
             };
-            let is_small = changed <= LIMIT && changed >= LIMIT.wrapping_neg();
-            fits = fits && is_small && steps <= self.scale.slacks(LIMIT);
-            put(&mut self.prices, node as usize, changed);
-            let first = at(&self.star.firsts, node as usize, 0);
-            put(&mut self.currents, node as usize, first);
+            fits = fits && steps <= most && changed <= LIMIT && changed >= LIMIT.wrapping_neg();
+            put(&mut self.star.prices, node, changed);
         }
         fits
     }
@@ -80,37 +100,35 @@ impl Search {
 /// Raises the ranks of the nodes at the other ends of the residual arcs at a node, up to a greatest rank: each is as far below that of the node
 /// as the arc has slacks in its reduced cost, rounded up beyond them.
 #[inline(always)]
-pub(crate) fn spread(buckets: &mut Buckets, view: View<'_>, node: u32, greatest: u32, way: Way) {
-    let price = view.price(node);
+pub(crate) fn spread(buckets: &mut Buckets, star: &Star, node: u32, greatest: u32, way: Way) {
+    let price = star.price(node);
     let rank = i64::from(buckets.rank(node));
-    'places: for i in view.first(node)..view.end(node) {
-        let place = view.place(i);
+    'places: for i in star.first(node)..star.end(node) {
+        let place = star.place(i);
         let (is_open, least) = match way {
-            Way::Heads => (place.has_room(), 0),
-            Way::Tails => (place.has_way_back(), 1),
+            Way::Heads => (place.head < FULL, 0),
+            Way::Tails => (place.reverse < FULL, 1),
         };
-        let other = place.node();
-        let old = buckets.rank(other);
-        if !is_open || old >= greatest {
+        if !is_open {
             continue;
         }
-        let along = view.reduced(place, price);
+        let other = place.node();
+        let old = buckets.rank(other);
+        if old >= greatest {
+            continue;
+        }
+        let along = place
+            .cost
+            .wrapping_add(price.wrapping_sub(star.price(other)));
         let reduced = match way {
             Way::Heads => along,
             Way::Tails => along.wrapping_neg(),
         };
-        let new = rank
-            .wrapping_sub(view.scale.slacks(reduced))
-            .wrapping_sub(1);
-        let new = bounded(new, greatest).max(least);
+        let slacks = reduced >> (star.power % 64);
+        let new = rank.wrapping_sub(slacks).wrapping_sub(1);
+        let new = u32::try_from(new).unwrap_or(0).min(greatest).max(least);
         if new > old {
             buckets.raise(other, new);
         }
     }
-}
-
-// A number as a rank, up to a greatest one.
-#[inline(always)]
-fn bounded(number: i64, greatest: u32) -> u32 {
-    number.max(0).min(i64::from(greatest)) as u32
 }

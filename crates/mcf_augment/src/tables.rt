@@ -1,89 +1,57 @@
-//! Tables of the nodes that a search passes through: a list, a queue, and buckets.
+//! Tables of the nodes that a search passes through: a queue, and buckets.
 
-use crate::columns::{at, put, put_all};
+use crate::columns::{at, put};
 use crate::star::NOWHERE;
 use mcf_text::{NoMemory, copies};
 use std::alloc::Global;
 
-/// A list of nodes, from which the last is taken, in room that was made for so many; what finds no room is not listed.
-#[derive(Drop)]
-pub(crate) struct Listed {
-    nodes: Vec<u32>,
-    pub(crate) count: usize,
-}
-
-impl Listed {
-    /// The empty list.
-    pub(crate) fn start(alloc: Global, nodes: usize) -> Result<Listed, NoMemory> {
-        Ok(Listed {
-            nodes: copies(alloc, nodes, NOWHERE)?,
-            count: 0,
-        })
-    }
-
-    /// Puts a node at the end.
-    pub(crate) fn push(&mut self, node: u32) {
-        put(&mut self.nodes, self.count, node);
-        self.count = self.count.wrapping_add(1);
-    }
-
-    /// Takes the node at the end off, if there is one.
-    pub(crate) fn pop(&mut self) -> Option<u32> {
-        if self.count == 0 {
-            return None;
-        }
-        self.count -= 1;
-        Some(at(&self.nodes, self.count, NOWHERE))
-    }
-}
-
-/// A queue of nodes, each once, first in, first out.
+/// A queue of nodes, each once, first in, first out: a list linked forward, whose last node leads to itself.
 #[derive(Drop)]
 pub(crate) struct Queue {
-    nodes: Vec<u32>,
-    waiting: Vec<bool>,
-    front: usize,
-    count: usize,
+    pub(crate) nexts: Vec<u32>,
+    first: u32,
+    last: u32,
 }
 
 impl Queue {
     /// The empty queue.
     pub(crate) fn start(alloc: Global, nodes: usize) -> Result<Queue, NoMemory> {
         Ok(Queue {
-            nodes: copies(alloc, nodes, NOWHERE)?,
-            waiting: copies(alloc, nodes, false)?,
-            front: 0,
-            count: 0,
+            nexts: copies(alloc, nodes, NOWHERE)?,
+            first: NOWHERE,
+            last: NOWHERE,
         })
+    }
+
+    /// Lets none wait.
+    pub(crate) fn clear(&mut self) {
+        self.nexts.as_mut_slice().fill(NOWHERE);
+        self.first = NOWHERE;
     }
 
     /// Puts a node at the end, if it doesn't wait.
     pub(crate) fn push(&mut self, node: u32) {
-        if at(&self.waiting, node as usize, true) {
+        if at(&self.nexts, node, node) != NOWHERE {
             return;
         }
-        put(&mut self.waiting, node as usize, true);
-        let end = self.front.wrapping_add(self.count);
-        let size = self.nodes.len();
-        let place = if end < size {
-            end
+        if self.first == NOWHERE {
+            self.first = node;
         } else {
-            end.wrapping_sub(size)
-        };
-        put(&mut self.nodes, place, node);
-        self.count = self.count.wrapping_add(1);
+            put(&mut self.nexts, self.last, node);
+        }
+        put(&mut self.nexts, node, node);
+        self.last = node;
     }
 
     /// Takes the first node off, if one waits.
     pub(crate) fn pop(&mut self) -> Option<u32> {
-        if self.count == 0 {
+        let node = self.first;
+        if node == NOWHERE {
             return None;
         }
-        let node = at(&self.nodes, self.front, NOWHERE);
-        put(&mut self.waiting, node as usize, false);
-        let next = self.front.wrapping_add(1);
-        self.front = if next < self.nodes.len() { next } else { 0 };
-        self.count -= 1;
+        let next = at(&self.nexts, node, node);
+        self.first = if next == node { NOWHERE } else { next };
+        put(&mut self.nexts, node, NOWHERE);
         Some(node)
     }
 }
@@ -95,8 +63,6 @@ pub(crate) struct Buckets {
     heads: Vec<u32>,
     nexts: Vec<u32>,
     befores: Vec<u32>,
-    // the nodes that have or had a bucket
-    pub(crate) ranked: Listed,
 }
 
 // There are at least so many buckets.
@@ -111,15 +77,13 @@ impl Buckets {
             heads: copies(alloc, most as usize + 1, NOWHERE)?,
             nexts: copies(alloc, nodes as usize, NOWHERE)?,
             befores: copies(alloc, nodes as usize, NOWHERE)?,
-            ranked: Listed::start(alloc, nodes as usize)?,
         })
     }
 
     /// Gives each node the rank 0.
     pub(crate) fn clear(&mut self) {
-        put_all(&mut self.ranks, 0);
-        put_all(&mut self.heads, NOWHERE);
-        self.ranked.count = 0;
+        self.ranks.as_mut_slice().fill(0);
+        self.heads.as_mut_slice().fill(NOWHERE);
     }
 
     /// The greatest rank.
@@ -128,48 +92,44 @@ impl Buckets {
     }
 
     /// The rank of a node.
-    #[inline(always)]
     pub(crate) fn rank(&self, node: u32) -> u32 {
-        at(&self.ranks, node as usize, 0)
+        at(&self.ranks, node, 0)
     }
 
     /// Gives a node a greater rank, and so another bucket.
     #[inline(always)]
     pub(crate) fn raise(&mut self, node: u32, rank: u32) {
         let old = self.rank(node);
-        if old == 0 {
-            self.ranked.push(node);
-        } else {
+        if old > 0 {
             self.unlink(node, old);
         }
-        let next = at(&self.heads, rank as usize, NOWHERE);
-        put(&mut self.nexts, node as usize, next);
-        put(&mut self.befores, next as usize, node);
-        put(&mut self.heads, rank as usize, node);
-        put(&mut self.ranks, node as usize, rank);
+        let next = at(&self.heads, rank, NOWHERE);
+        put(&mut self.nexts, node, next);
+        put(&mut self.befores, next, node);
+        put(&mut self.heads, rank, node);
+        put(&mut self.ranks, node, rank);
     }
 
     // Takes a node out of the bucket of its rank.
-    #[inline(always)]
     fn unlink(&mut self, node: u32, rank: u32) {
-        let next = at(&self.nexts, node as usize, NOWHERE);
-        let before = at(&self.befores, node as usize, NOWHERE);
-        if at(&self.heads, rank as usize, NOWHERE) == node {
-            put(&mut self.heads, rank as usize, next);
+        let next = at(&self.nexts, node, NOWHERE);
+        let before = at(&self.befores, node, NOWHERE);
+        if at(&self.heads, rank, NOWHERE) == node {
+            put(&mut self.heads, rank, next);
         } else {
-            put(&mut self.nexts, before as usize, next);
+            put(&mut self.nexts, before, next);
         }
-        put(&mut self.befores, next as usize, before);
+        put(&mut self.befores, next, before);
     }
 
     /// Takes a node off the bucket of a rank, if it holds one. It keeps its rank.
     pub(crate) fn pop(&mut self, rank: u32) -> Option<u32> {
-        let node = at(&self.heads, rank as usize, NOWHERE);
+        let node = at(&self.heads, rank, NOWHERE);
         if node == NOWHERE {
             return None;
         }
-        let next = at(&self.nexts, node as usize, NOWHERE);
-        put(&mut self.heads, rank as usize, next);
+        let next = at(&self.nexts, node, NOWHERE);
+        put(&mut self.heads, rank, next);
         Some(node)
     }
 }
