@@ -7,6 +7,7 @@ use Rattle.mcf_flows.specs.WellFormed.{IsUpTo}
 use Rattle.mcf_network.specs.NodeSets.{with_node}
 use Rattle.mcf_network.specs.States.{Pseudoflow}
 use Rattle.mcf_network.proofs.Marks.{count_small, counted_new}
+use Rattle.mcf_assign.specs.declared.offers.Offer.{Offer}
 use Rattle.mcf_assign.specs.declared.search.Target.{Target}
 use Rattle.mcf_assign.specs.Private.Forests.{IsForest, IsTightArc}
 use Rattle.mcf_assign.specs.Private.Keeping.{IsEnded}
@@ -44,8 +45,8 @@ module _ (s : Pseudoflow) (y : List ℤ) (q : Search) (source : ℕ) (order : Li
       let tally = ended.order_ok.tally in
       omega (arith, more, few, same, tally, count)
 
-  nearest : (w : ℕ) → IsNode (node_count s.net) w → Waits q w → t.dist ≤ℤ dist_at q w
-  nearest w n h = subst (λ b. IsBestUpTo b (dist_at q w)) best (ended.over w n h)
+  nearest : (o : Offer) → Waits q o → t.dist ≤ℤ o.dist
+  nearest o h = subst (λ b. IsBestUpTo b o.dist) best (ended.over o h)
 
   pub found_prices : (z : List ℤ) → AreRaised s q t.dist y z → AreMatchingPrices s z
   found_prices z raised = raised_ok s y z q source t ok ended.search shown best nearest raised

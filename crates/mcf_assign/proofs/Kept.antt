@@ -1,5 +1,5 @@
 -- What a matching keeps, and what a search did to it.
-use Rattle.std.proofs.Common.{◌≡◌, ◌+◌, ◌≢◌, ℕ, ◌-◌, ◌<◌, ◌≤◌, Bool, true, ltb, List, [], ◌∷◌, ◌++◌, length, get_or, take, replicate, None, Some, ℤ, pos, refl}
+use Rattle.std.proofs.Common.{◌≡◌, ◌+◌, ◌*◌, ◌≢◌, ℕ, ◌-◌, ◌<◌, ◌≤◌, Bool, true, ltb, List, [], ◌∷◌, ◌++◌, length, get_or, take, replicate, None, Some, ℤ, pos, refl}
 use Rattle.std.proofs.Common.{false, sym, ◌∙◌, ap, subst, arith, ◌⊎◌, inl, inr, vec_capacity}
 use Rattle.std.specs.List.{All, Contains}
 use Rattle.std.proofs.lemmas.Int.{ints}
@@ -25,6 +25,7 @@ use Rattle.mcf_assign.specs.Extending.{Assigned, IsGrown, IsMatched, IsReachable
 use Rattle.mcf_assign.specs.Private.Forests.{AreMates, IsChangedWithin, IsOrder}
 use Rattle.mcf_assign.specs.Private.Keeping.{AreFirstPrices, AreNearZero, FreeRowsAreFirst, IsEnded, IsIdle, IsKept, first_price}
 use Rattle.mcf_assign.specs.Matchings.{AreMatchingPrices, IsColumn, IsMatchedRow, IsPair, IsPartialMatching, IsRow, column_of, row_of}
+use Rattle.mcf_assign.specs.Private.Queues.{Queue}
 use Rattle.mcf_assign.specs.Private.Searches.{AreRaised, HasEntries, Search, Settled, search_of}
 use Rattle.mcf_assign.specs.Private.Turning.{IsExtended}
 use Rattle.mcf_assign.proofs.Beginning.{over_stuck}
@@ -191,26 +192,27 @@ module _ (s : Pseudoflow) (y z : List ℤ) (q : Search) (row : ℕ) (order : Lis
           raised.others v is.0 unsettled ∙ first v is (λ m. none (ext.rows_kept v m))
 
   idle_more : (tables tables' : Tables) → search_of tables ≡ q → order ≡ tables.order.items → node_count s.net ≤ vec_capacity tables.order
-      → search_of tables' ≡ search_of tables → tables'.order.items ≡ tables.order.items ++ c ∷ [] → vec_capacity tables'.order ≡ vec_capacity tables.order
-      → IsIdle (node_count s.net) tables'
-  idle_more tables tables' eq eo room es el ec =
+      → 2 * length s.net.arcs ≤ tables.offers.room → search_of tables' ≡ search_of tables → tables'.order.items ≡ tables.order.items ++ c ∷ []
+      → vec_capacity tables'.order ≡ vec_capacity tables.order → tables'.offers ≡ tables.offers → IsIdle s.net tables'
+  idle_more tables tables' eq eo room queue es el ec eq' =
       let same = es ∙ eq in
       let list : tables'.order.items ≡ order ++ c ∷ [] = el ∙ ap (λ l. l ++ c ∷ []) (sym eo) in
       record {
         entries = subst (λ (x : Search). HasEntries (node_count s.net) x) (sym same) entries;
         room = omega (arith, room, ec);
+        queue = subst (λ (x : Queue). 2 * length s.net.arcs ≤ x.room) (sym eq') queue;
         each = subst (λ (l : List ℕ). All (IsNode (node_count s.net)) l) (sym list) settled_more.each;
         listed = λ v n h. subst (λ (l : List ℕ). Contains l v) (sym list) (listed_more v n (subst (λ (x : Search). Settled x v) same h));
       }
 
 pub kept_grown : (s s' : Pseudoflow) (y z : List ℤ) (mates' : List ℕ) (tables tables' : Tables) (reached : List Bool) (row : ℕ) (t : Target)
     → IsPartialMatching s → AreMatchingPrices s y → AreNearZero s y → FreeRowsAreFirst s y → length reached ≡ node_count s.net
-    → HasEntries (node_count s.net) (search_of tables) → node_count s.net ≤ vec_capacity tables.order → IsRow s row
+    → HasEntries (node_count s.net) (search_of tables) → node_count s.net ≤ vec_capacity tables.order → 2 * length s.net.arcs ≤ tables.offers.room → IsRow s row
     → IsEnded s y (search_of tables) row tables.order.items → tables.best ≡ Some t → AreRaised s (search_of tables) t.dist y z
     → IsExtended s s' z row (column_of s t.arc) → AreMates s' mates' → search_of tables' ≡ search_of tables
     → tables'.order.items ≡ tables.order.items ++ column_of s t.arc ∷ [] → vec_capacity tables'.order ≡ vec_capacity tables.order
-    → IsKept s' z mates' tables' reached
-kept_grown s s' y z mates' tables tables' reached row t ok shown near first count entries room is ended best raised ext mated es el ec =
+    → tables'.offers ≡ tables.offers → IsKept s' z mates' tables' reached
+kept_grown s s' y z mates' tables tables' reached row t ok shown near first count entries room queue is ended best raised ext mated es el ec eq =
     let at_net : Network → Pseudoflow = λ (n : Network). record { net = n; amounts = s'.amounts } in
     let P : Network → Type 0 = λ (n : Network). IsExtended s (record { net = n; amounts = s'.amounts }) z row (column_of s t.arc) → AreMates
     (record { net = n; amounts = s'.amounts }) mates' → IsKept (record { net = n; amounts = s'.amounts }) z mates' tables' reached in
@@ -218,7 +220,7 @@ kept_grown s s' y z mates' tables tables' reached row t ok shown near first coun
       matching = x.matching;
       shown = shown_now s y z (search_of tables) row tables.order.items t ok shown entries ended best raised near first is s'.amounts x;
       mated = m;
-      idle = idle_more s y z (search_of tables) row tables.order.items t ok shown entries ended best raised tables tables' refl refl room es el ec;
+      idle = idle_more s y z (search_of tables) row tables.order.items t ok shown entries ended best raised tables tables' refl refl room queue es el ec eq;
       near = near_now s y z (search_of tables) row tables.order.items t ok shown entries ended best raised near first is;
       free_rows = first_now s y z (search_of tables) row tables.order.items t ok shown entries ended best raised near first is s'.amounts x;
       count = count;
@@ -276,7 +278,7 @@ no_pair g k p =
     omega (arith, ints, one, zero_at)
 
 pub kept_first : (g : Network) (y : List ℤ) (mates : List ℕ) (tables : Tables) (reached : List Bool) → IsPseudoflow (first_state g) → g.problem ≡ Asn
-    → AreFirstPrices g y (node_count g) → mates ≡ replicate (node_count g) 0 → IsIdle (node_count g) tables → length reached ≡ node_count g
+    → AreFirstPrices g y (node_count g) → mates ≡ replicate (node_count g) 0 → IsIdle g tables → length reached ≡ node_count g
     → IsKept (first_state g) y mates tables reached
 kept_first g y mates tables reached flow asn first em idle count =
     record {

@@ -18,7 +18,8 @@ use Rattle.mcf_network.proofs.StateLaws.{rid}
 use Rattle.mcf_assign.specs.Extending.{IsReachable}
 use Rattle.mcf_assign.specs.Private.Forests.{IsOrder, place}
 use Rattle.mcf_assign.specs.Matchings.{IsColumn, IsMatchedRow, IsPair, IsPartialMatching, IsRow, column_of, row_of}
-use Rattle.mcf_assign.specs.Private.Searches.{IsSearch, IsSettling, Search, Settled, Waits, link_at, settled_pair}
+use Rattle.mcf_assign.specs.declared.offers.Offer.{Offer}
+use Rattle.mcf_assign.specs.Private.Searches.{IsDue, IsSearch, IsSettling, Search, Settled, link_at, paired}
 use Rattle.mcf_assign.proofs.Nearest.{not_true}
 use Rattle.mcf_assign.proofs.PairLaws.{column_is, pairing_at, row_column, row_is}
 
@@ -132,10 +133,13 @@ ordered_kept s q q' source order order' same settled links was =
 
 -- ---- one pair more
 
-module _ (s : Pseudoflow) (y : List ℤ) (q q' : Search) (source c r k0 : ℕ) (order : List ℕ) (rest0 : List Rid) (ok : IsPartialMatching s)
-    (search : IsSearch s y q source rest0)
-    (was : IsOrder s q source order) (step : IsSettling s q q' c r) (pair : IsPair s k0) (at_column : column_of s k0 ≡ c) (at_row : row_of s k0 ≡ r)
-    (waits : Waits q c) (more : member_count q'.settled ≡ member_count q.settled + 2) where
+module _ (s : Pseudoflow) (y : List ℤ) (q q' : Search) (source : ℕ) (o : Offer) (r k0 : ℕ) (order : List ℕ) (rest0 : List Rid) (ok : IsPartialMatching s)
+    (search : IsSearch s y q source rest0) (was : IsOrder s q source order) (step : IsSettling s q q' o r) (pair : IsPair s k0)
+    (at_column : column_of s k0 ≡ o.column) (at_row : row_of s k0 ≡ r) (due : IsDue s y q o)
+    (more : member_count q'.settled ≡ member_count q.settled + 2) where
+  abbrev c : ℕ
+  c = o.column
+
   abbrev longer : List ℕ
   longer = (order ++ c ∷ []) ++ r ∷ []
 
@@ -146,14 +150,11 @@ module _ (s : Pseudoflow) (y : List ℤ) (q q' : Search) (source c r k0 : ℕ) (
   r_is = subst (λ v. IsRow s v) at_row (row_is s k0 ok pair.arc)
 
   c_new : ¬ Settled q c
-  c_new = search.apart c c_is.0 waits
+  c_new = due.fresh
 
   r_new : ¬ Settled q r
   r_new h =
       c_new (subst (λ v. Settled q v) at_column (search.pairs k0 pair (subst (λ v. Settled q v) (sym at_row) h)).0)
-
-  links_same : (v : ℕ) → link_at q' v ≡ link_at q v
-  links_same v = ap (λ l. get_or l (v - 1) 0) step.links
 
   has_was : (v : ℕ) → Contains order v → Contains longer v
   has_was v h =
@@ -185,10 +186,10 @@ module _ (s : Pseudoflow) (y : List ℤ) (q q' : Search) (source c r k0 : ℕ) (
 
   reach_c : IsReachable s source c
   reach_c set closed has =
-      let l = (search.waiting_columns c c_is.0 waits).1 in
-      let row = row_is s (link_at q c) ok l.arc in
-      let from = was.reachable (row_of s (link_at q c)) row.0 l.from set closed has in
-      subst (λ v. set v ≡ true) l.to (closed (rid (link_at q c) false) (forth_room s (link_at q c) ok l.arc l.idle) from)
+      let l = due.link in
+      let row = row_is s o.arc ok l.arc in
+      let from = was.reachable (row_of s o.arc) row.0 l.from set closed has in
+      subst (λ v. set v ≡ true) l.to (closed (rid o.arc false) (forth_room s o.arc ok l.arc l.idle) from)
 
   reach_r : IsReachable s source r
   reach_r set closed has =
@@ -270,9 +271,10 @@ module _ (s : Pseudoflow) (y : List ℤ) (q q' : Search) (source c r k0 : ℕ) (
 
       links_now : (v : ℕ) → IsColumn s v → Settled q' v → place longer (row_of s (link_at q' v)) < place longer v
       links_now v column h =
-          let same = ap (λ k. place longer (row_of s k)) (links_same v) in
           elim (step.settled v column.0 h) [
             | inl before ↦ (
+                let other = step.links v column.0 (λ e. c_new (subst (λ u. Settled q u) e before)) in
+                let same = ap (λ k. place longer (row_of s k)) other in
                 let l = (search.settled_columns v column before).1 in
                 let row = row_is s (link_at q v) ok l.arc in
                 let a = place_was (row_of s (link_at q v)) (was.listed (row_of s (link_at q v)) row.0 l.from) in
@@ -280,14 +282,14 @@ module _ (s : Pseudoflow) (y : List ℤ) (q q' : Search) (source c r k0 : ℕ) (
                 let less = was.links v column before in
                 omega (arith, a, b, less, same))
             | inr (inl e) ↦ (
-                let l = (search.waiting_columns c c_is.0 waits).1 in
-                let row = row_is s (link_at q c) ok l.arc in
-                let has = was.listed (row_of s (link_at q c)) row.0 l.from in
-                let a = place_was (row_of s (link_at q c)) has in
-                let inside = place_in order (row_of s (link_at q c)) has in
+                let l = due.link in
+                let row = row_is s o.arc ok l.arc in
+                let has = was.listed (row_of s o.arc) row.0 l.from in
+                let a = place_was (row_of s o.arc) has in
+                let inside = place_in order (row_of s o.arc) has in
                 let b = ap (place longer) e ∙ place_c in
-                let at = ap (λ u. place longer (row_of s (link_at q u))) e in
-                omega (arith, a, b, inside, same, at))
+                let at = ap (λ k. place longer (row_of s k)) (ap (link_at q') e ∙ step.link) in
+                omega (arith, a, b, inside, at))
             | inr (inr e) ↦ absurd (row_column s r v r_is column (sym e))
           ]
 
@@ -321,10 +323,11 @@ begun_order s q q' source i order ok row free count unsettled ei settled listed 
     subst (λ o. IsOrder s q' source o) (sym listed) (ordered_start s q' source ok row only here one free)
 
 -- a pair that is settled counts two more
-pub two_more : (s : Pseudoflow) (y : List ℤ) (q : Search) (source c r k0 : ℕ) (rest : List Rid) → IsPartialMatching s → length q.settled ≡ node_count s.net
-    → IsSearch s y q source rest → IsPair s k0 → column_of s k0 ≡ c → row_of s k0 ≡ r → ¬ Settled q c
-    → member_count (settled_pair q c r).settled ≡ member_count q.settled + 2
-two_more s y q source c r k0 rest ok count search pair at_column at_row c_new =
+pub two_more : (s : Pseudoflow) (y : List ℤ) (q : Search) (source : ℕ) (o : Offer) (r k0 : ℕ) (rest : List Rid) → IsPartialMatching s
+    → length q.settled ≡ node_count s.net → IsSearch s y q source rest → IsPair s k0 → column_of s k0 ≡ o.column → row_of s k0 ≡ r
+    → ¬ Settled q o.column → member_count (paired q o r).settled ≡ member_count q.settled + 2
+two_more s y q source o r k0 rest ok count search pair at_column at_row c_new =
+    let c = o.column in
     let c_is : IsColumn s c = subst (λ v. IsColumn s v) at_column (column_is s k0 ok pair.arc) in
     let r_is : IsRow s r = subst (λ v. IsRow s v) at_row (row_is s k0 ok pair.arc) in
     let r_new : ¬ Settled q r = λ (h : Settled q r). c_new

@@ -1,32 +1,36 @@
 -- A search while it scans rows: what one arc changes, one row, and one row more settled.
-use Rattle.std.proofs.Common.{◌≡◌, ◌≢◌, ℕ, ◌+◌, ◌-◌, ◌*◌, ◌<◌, ◌≤◌, true, false, List, [], ◌∷◌, ◌++◌, length, get_or, Some, ℤ, ◌≤ℤ◌, ◌-ℤ◌, ◌⊎◌, refl, sym}
+use Rattle.std.proofs.Common.{◌≡◌, ◌≢◌, ℕ, ◌+◌, ◌-◌, ◌*◌, ◌<◌, ◌≤◌, true, false, List, [], ◌∷◌, ◌++◌, length, get_or, Option, None, Some, ℤ, pos, ◌≤ℤ◌, ◌-ℤ◌, ◌⊎◌, refl, sym}
 use Rattle.std.proofs.Common.{◌∙◌, ap, subst, arith, inl, inr, set, length-set}
-use Rattle.std.specs.List.{Contains, range_with_len}
-use Rattle.std.proofs.lemmas.Bool.{cases_eq, cases_lt, true≢false}
+use Rattle.std.specs.List.{All, AllPairs, Contains}
+use Rattle.std.proofs.lemmas.Bool.{cases_eq, cases_lt}
 use Rattle.std.proofs.lemmas.Int.{ints}
-use Rattle.std.proofs.lemmas.List.{append-nil, append_assoc, get_or_append_left, get_or_default, get_or_push, length-append, length-map, length_push}
-use Rattle.std.proofs.lemmas.List.Elements.{Contains-append_left, Contains-append_right, Contains-get_or, Contains-push}
-use Rattle.std.proofs.lemmas.List.FromFn.{get_or-map-range_with_len, length-range_with_len}
-use Rattle.mcf_flows.specs.Network.{Network, IsArcNumber, IsNode, at_node, node_count}
+use Rattle.std.proofs.lemmas.List.{append-nil, append_assoc, get_or_append_left, get_or_default, get_or_push, length-append, length_push}
+use Rattle.std.proofs.lemmas.List.Elements.{All-nil, All-push, Contains-append_left, Contains-append_right, Contains-get_or, Contains-push, Contains-push_cases}
+use Rattle.std.proofs.lemmas.List.Quantifiers.{all_pairs_push}
+use Rattle.mcf_flows.specs.Network.{IsArcNumber, IsNode, at_node, node_count}
 use Rattle.mcf_flows.specs.WellFormed.{IsUpTo}
 use Rattle.mcf_network.specs.declared.rid.Rid.{Rid}
 use Rattle.mcf_network.specs.Stars.{Leaves, ListsLeaving}
-use Rattle.mcf_network.specs.States.{Pseudoflow}
+use Rattle.mcf_network.specs.States.{Pseudoflow, amount_at}
 use Rattle.mcf_network.proofs.Marks.{count_small}
 use Rattle.mcf_assign.specs.Matchings.{AreMatchingPrices, IsColumn, IsMatchedColumn, IsPair, IsPartialMatching, IsRow, column_of, row_of}
+use Rattle.mcf_assign.specs.declared.offers.Offer.{Offer}
 use Rattle.mcf_assign.specs.declared.scene.Row.{Row}
 use Rattle.mcf_assign.specs.Private.Forests.{IsOrder}
-use Rattle.mcf_assign.specs.Private.Scans.{AreTurns, HasNewArcs, HasPending, IsGoing, IsNextRow, IsSound, IsStep, all_forward}
+use Rattle.mcf_assign.specs.Private.Rooms.{out_count}
+use Rattle.mcf_assign.specs.Private.Scans.{AreTurns, HasNewArcs, HasPending, IsGoing, IsSound, IsStep, all_forward}
 use Rattle.mcf_assign.specs.Private.Scenes.{IsFarthestRow}
-use Rattle.mcf_assign.specs.Private.Searches.{HasEntries, HasForward, IsLast, IsLowering, IsNear, IsNearest, IsReady, IsSearch, IsSettling, Search, Settled, Waits}
-use Rattle.mcf_assign.specs.Private.Searches.{dist_at, lowered, offer, reach_of, settled_pair}
-use Rattle.mcf_assign.proofs.Near.{near_best, near_lowered}
+use Rattle.mcf_assign.specs.Private.Searches.{HasEntries, HasForward, IsDue, IsLast, IsLink, IsNear, IsNext, IsReady, IsSearch, IsSettling, IsTaken, Search, Settled}
+use Rattle.mcf_assign.specs.Private.Searches.{Waits, dist_at, offer, offer_of, paired, queued, reach_of}
+use Rattle.mcf_assign.proofs.Near.{near_best}
+use Rattle.mcf_assign.proofs.Nearest.{due_now, no_offer, taken_ok}
 use Rattle.mcf_assign.proofs.Orders.{ordered_kept, ordered_more, two_more}
-use Rattle.mcf_assign.proofs.PairLaws.{column_is, row_column, row_is}
-use Rattle.mcf_assign.proofs.Relaxing.{relaxed_lower}
-use Rattle.mcf_assign.proofs.RowLists.{IsPassing, pass_end, pass_leaves, pass_more, pass_start}
-use Rattle.mcf_assign.proofs.Scanning.{row_near}
-use Rattle.mcf_assign.proofs.Stepping.{IsStepped, reach_small, settled_pair_is, stepped_pair, waiting_is}
+use Rattle.mcf_assign.proofs.PairLaws.{amount_is, column_is, row_column, row_is}
+use Rattle.mcf_assign.proofs.Rooms.{IsOut, all_has, outs_few}
+use Rattle.mcf_assign.proofs.RowLists.{IsPassing, pass_back, pass_end, pass_fresh, pass_leaves, pass_more, pass_start}
+use Rattle.mcf_assign.proofs.Scanning.{leaves_from, row_near}
+use Rattle.mcf_assign.proofs.Settling.{none_contained}
+use Rattle.mcf_assign.proofs.Stepping.{IsStepped, paired_is, reach_small, stepped_pair}
 use Rattle.mcf_assign.specs.Private.Reaches.{price_reach, row_reach}
 
 abbrev forward : ℕ → Rid
@@ -34,22 +38,12 @@ forward k = record { arc = k; back = false }
 
 -- ---- lists of arcs
 
-pub all_has : (g : Network) (k : ℕ) → IsArcNumber g k → Contains (all_forward g) (forward k)
-all_has g k h =
-    let within = h.1 in
-    let from = h.0 in (
-      k - 1,
-      omega (arith, within, from, length-map (range_with_len 1 (length g.arcs)) forward, length-range_with_len 1 (length g.arcs)),
-      get_or-map-range_with_len forward 1 (length g.arcs) (k - 1) k (forward k) (omega (arith, within, from)) (omega (arith, from)),
-    )
-
 -- a list with all arcs will do
 pub to_list : (s : Pseudoflow) (y : List ℤ) (q : Search) (source : ℕ) (rest list : List Rid) → ((k : ℕ) → IsArcNumber s.net k → Contains list (forward k))
     → IsSearch s y q source rest → IsSearch s y q source list
 to_list s y q source rest list all search =
     record {
       dist_count = search.dist_count;
-      waiting_count = search.waiting_count;
       settled_count = search.settled_count;
       link_count = search.link_count;
       is_row = search.is_row;
@@ -58,8 +52,7 @@ to_list s y q source rest list all search =
       pairs = search.pairs;
       partners = search.partners;
       settled_columns = search.settled_columns;
-      waiting_columns = search.waiting_columns;
-      apart = search.apart;
+      waiting = search.waiting;
       level = search.level;
       best = search.best;
       offers = λ k arc h. inr (all k arc);
@@ -205,6 +198,9 @@ pub record IsScanned (s : Pseudoflow) (y : List ℤ) (old : Search) (before : Li
   pub list : List Rid
   pub step : IsStep s y old before new after row list
   pub passing : IsPassing s.net row (λ k. Contains list (record { arc = k; back = false })) rest
+  pub each : All (IsOut s.net row) list
+  pub once : AllPairs (λ r q. r ≢ q) list
+  pub few : length new.queue ≤ length old.queue + length list
 
 pub scan_start : (s : Pseudoflow) (y : List ℤ) (q : Search) (order : List ℕ) (row : ℕ) (rest : List Rid) → ListsLeaving s.net row rest
     → IsScanned s y q order q order row rest
@@ -212,7 +208,10 @@ scan_start s y q order row rest lists =
     record {
       list = [];
       step = idle_step s y q order row [] (λ source more search. search);
-      passing = pass_start s.net row (λ k. Contains [] (forward k)) rest lists;
+      passing = pass_start s.net row (λ k. Contains [] (forward k)) rest lists (λ k has. none_contained (forward k) has);
+      each = All-nil (IsOut s.net row);
+      once = λ i j d l m. absurd (omega (arith, m));
+      few = omega arith;
     }
 
 pub scan_leaves : (s : Pseudoflow) (y : List ℤ) (p q : Search) (a b : List ℕ) (row : ℕ) (r : Rid) (rest : List Rid) → IsScanned s y p a q b row (r ∷ rest)
@@ -226,29 +225,78 @@ scan_none s y p q a b row r rest scanned back =
     record {
       list = scanned.list;
       step = scanned.step;
-      passing = pass_more s.net row (λ k. Contains scanned.list (forward k)) (λ k. Contains scanned.list (forward k)) r rest scanned.passing (λ k was. was)
-          (λ e. absurd (true≢false (sym back ∙ e)));
+      passing = pass_back s.net row (λ k. Contains scanned.list (forward k)) r rest scanned.passing back;
+      each = scanned.each;
+      once = scanned.once;
+      few = scanned.few;
     }
 
--- a forward arc was relaxed
-pub scan_more : (s : Pseudoflow) (y : List ℤ) (p q q' : Search) (a b c : List ℕ) (row : ℕ) (r : Rid) (rest : List Rid) → IsPartialMatching s
-    → IsNode (node_count s.net) row → Settled p row → IsScanned s y p a q b row (r ∷ rest)
-    → IsStep s y q b q' c row (record { arc = r.arc; back = false } ∷ []) → IsScanned s y p a q' c row rest
-scan_more s y p q q' a b c row r rest ok node settled scanned step =
-    record {
-      list = scanned.list ++ forward r.arc ∷ [];
-      step = steps s y p q q' a b c row scanned.list (forward r.arc ∷ []) ok node settled scanned.step step;
-      passing = pass_more s.net row (λ k. Contains scanned.list (forward k)) (λ k. Contains (scanned.list ++ forward r.arc ∷ []) (forward k)) r rest
-          scanned.passing (λ k was. Contains-append_left scanned.list (forward r.arc ∷ []) (forward k) was)
-          (λ _. Contains-push scanned.list (forward r.arc));
-    }
+module _ (s : Pseudoflow) (y : List ℤ) (p q : Search) (a b : List ℕ) (row : ℕ) (r : Rid) (rest : List Rid) (scanned : IsScanned s y p a q b row (r ∷ rest))
+    (out : r.back ≡ false) where
+  abbrev more : List Rid
+  more = scanned.list ++ forward r.arc ∷ []
+
+  each_more : All (IsOut s.net row) more
+  each_more =
+      let leaves = pass_leaves s.net row (λ k. Contains scanned.list (forward k)) r rest scanned.passing in
+      All-push (IsOut s.net row) scanned.list (forward r.arc) scanned.each
+      (record { arc = leaves.arc; forth = refl; from = leaves_from s.net row r leaves out })
+
+  once_more : AllPairs (λ r q. r ≢ q) more
+  once_more =
+      all_pairs_push (λ r q. r ≢ q) scanned.list (forward r.arc) scanned.once
+      (λ k d l e. pass_fresh s.net row (λ k. Contains scanned.list (forward k)) r rest scanned.passing out
+      (subst (λ x. Contains scanned.list x) e (Contains-get_or scanned.list k d l)))
+
+  -- fewer arcs were relaxed than leave the row
+  pub scan_few : length scanned.list < out_count s.net (row ∷ [])
+  scan_few =
+      let few = outs_few s.net row more each_more once_more in
+      let longer = length_push scanned.list (forward r.arc) in
+      omega (arith, few, longer)
+
+  -- a forward arc was relaxed
+  pub scan_more : (q' : Search) (c : List ℕ) → IsPartialMatching s → IsNode (node_count s.net) row → Settled p row
+      → IsStep s y q b q' c row (record { arc = r.arc; back = false } ∷ []) → length q'.queue ≤ length q.queue + 1 → IsScanned s y p a q' c row rest
+  scan_more q' c ok node settled step one =
+      record {
+        list = more;
+        step = steps s y p q q' a b c row scanned.list (forward r.arc ∷ []) ok node settled scanned.step step;
+        passing = pass_more s.net row (λ k. Contains scanned.list (forward k)) (λ k. Contains more (forward k)) r rest scanned.passing
+            (λ k was. Contains-append_left scanned.list (forward r.arc ∷ []) (forward k) was)
+            (λ _. Contains-push scanned.list (forward r.arc))
+            (λ k has. elim (Contains-push_cases scanned.list (forward r.arc) (forward k) has) [
+              | inl was ↦ inl was
+              | inr e ↦ inr (out, ap (λ (x : Rid). x.arc) e)
+            ]);
+        each = each_more;
+        once = once_more;
+        few = (let was = scanned.few in let longer = length_push scanned.list (forward r.arc) in omega (arith, was, one, longer));
+      }
 
 pub scan_end : (s : Pseudoflow) (y : List ℤ) (p q : Search) (a b : List ℕ) (row : ℕ) → IsScanned s y p a q b row []
     → (list : List Rid) × HasForward s.net row list × IsStep s y p a q b row list
 scan_end s y p q a b row scanned =
     (scanned.list, pass_end s.net row (λ k. Contains scanned.list (forward k)) scanned.passing, scanned.step)
 
+-- as many offers more wait as arcs leave the row at most
+pub scan_all_few : (s : Pseudoflow) (y : List ℤ) (p q : Search) (a b : List ℕ) (row : ℕ) (rest : List Rid) → IsScanned s y p a q b row rest
+    → length q.queue ≤ length p.queue + out_count s.net (row ∷ [])
+scan_all_few s y p q a b row rest scanned =
+    let few = outs_few s.net row scanned.list scanned.each scanned.once in
+    let was = scanned.few in
+    omega (arith, few, was)
+
 -- ---- one arc
+
+-- an offer as it is made
+pub offer_is : (s : Pseudoflow) (y : List ℤ) (q : Search) (k : ℕ) (x : ℤ) (c : ℕ) → x ≡ offer s y q k → c ≡ column_of s k
+    → record { dist = x; column = c; arc = k } ≡ offer_of s y q k
+offer_is s y q k x c ex ec =
+    ap (λ z. made z c) ex ∙ ap (λ v. made (offer s y q k) v) ec
+  where
+    made : ℤ → ℕ → Offer
+    made z v = record { dist = z; column = v; arc = k }
 
 module _ (s : Pseudoflow) (y : List ℤ) (q : Search) (order : List ℕ) (k : ℕ) (ok : IsPartialMatching s) (arc : IsArcNumber s.net k)
     (settled : Settled q (row_of s k)) where
@@ -262,7 +310,6 @@ module _ (s : Pseudoflow) (y : List ℤ) (q : Search) (order : List ℕ) (k : �
         sound = λ source h. record {
           entries = record {
             dist_count = h.entries.dist_count;
-            waiting_count = h.entries.waiting_count;
             settled_count = h.entries.settled_count;
             link_count = h.entries.link_count;
           };
@@ -279,171 +326,143 @@ module _ (s : Pseudoflow) (y : List ℤ) (q : Search) (order : List ℕ) (k : �
         longer = sym (append-nil order);
       }
 
-  module _ (c : ℕ) (x : ℤ) (fresh : ¬ Settled q (column_of s k)) (lowering : IsLowering s y q (lowered q c k x) k) where
-    abbrev low : Search
-    low = lowered q c k x
-
-    low_entries : HasEntries (node_count s.net) q → HasEntries (node_count s.net) low
-    low_entries h =
-        record {
-          dist_count = lowering.dist_count ∙ h.dist_count;
-          waiting_count = lowering.waiting_count ∙ h.waiting_count;
-          settled_count = h.settled_count;
-          link_count = lowering.link_count ∙ h.link_count;
-        }
-
-    low_order : (source : ℕ) → IsOrder s q source order → IsOrder s low source order
-    low_order source h =
-        ordered_kept s q low source order order refl refl (λ v n was. lowering.links v n (λ e. fresh (subst (λ u. Settled q u) e was))) h
-
-    low_near : (source : ℕ) → IsNear s y q source (reach_of q) → IsNear s y low source (reach_of low)
-    low_near source h = near_lowered s y q low source (reach_of q) k ok h arc settled fresh lowering
-
-    low_dist : (v : ℕ) → IsNode (node_count s.net) v → Settled q v → dist_at low v ≡ dist_at q v
-    low_dist v n h = lowering.dist v n (λ e. fresh (subst (λ u. Settled q u) e h))
-
-    -- a column that waits
-    pub lower_step : ((source : ℕ) (rest : List Rid) → IsSearch s y q source (forward k ∷ rest) → IsSearch s y low source rest)
-        → IsStep s y q order low order (row_of s k) (forward k ∷ [])
-    lower_step relaxes =
-        record {
-          sound = λ source h. record {
-            entries = low_entries h.entries;
-            search = relaxes source (all_forward s.net) (to_all s y q source (all_forward s.net) (forward k ∷ []) h.search);
-            order_ok = low_order source h.order_ok;
-            near = low_near source h.near;
-            turns = h.turns;
+  -- an offer that waits
+  pub queued_step : (list : List Offer) → ((source : ℕ) (rest : List Rid) → IsSearch s y q source (forward k ∷ rest) → IsSearch s y (queued q list) source rest)
+      → IsStep s y q order (queued q list) order (row_of s k) (forward k ∷ [])
+  queued_step list relaxes =
+      record {
+        sound = λ source h. record {
+          entries = record {
+            dist_count = h.entries.dist_count;
+            settled_count = h.entries.settled_count;
+            link_count = h.entries.link_count;
           };
-          search = λ source rest new search. relaxes source rest search;
-          kept = λ v n h. (h, low_dist v n h);
-          fresh = λ v n h. inl h;
-          number = refl;
-          more = [];
-          longer = sym (append-nil order);
+          search = relaxes source (all_forward s.net) (to_all s y q source (all_forward s.net) (forward k ∷ []) h.search);
+          order_ok = ordered_kept s q (queued q list) source order order refl refl (λ v n w. refl) h.order_ok;
+          near = record { settled = h.near.settled; best = h.near.best };
+          turns = h.turns;
+        };
+        search = λ source rest new search. relaxes source rest search;
+        kept = λ v n h. (h, refl);
+        fresh = λ v n h. inl h;
+        number = refl;
+        more = [];
+        longer = sym (append-nil order);
+      }
+
+  -- a column at the level of the row, settled at once with its own row
+  module _ (o : Offer) (r k0 : ℕ) (shown : AreMatchingPrices s y) (entries : HasEntries (node_count s.net) q) (fresh : ¬ Settled q (column_of s k))
+      (is : o ≡ offer_of s y q k) (level : offer s y q k ≤ℤ dist_at q (row_of s k)) (last : IsLast s q (row_of s k))
+      (matched : IsMatchedColumn s (column_of s k)) (pair : IsPair s k0) (at_column : column_of s k0 ≡ o.column) (at_row : row_of s k0 ≡ r) where
+    abbrev new : Search
+    new = paired q o r
+
+    abbrev longer : List ℕ
+    longer = (order ++ o.column ∷ []) ++ r ∷ []
+
+    row : IsRow s (row_of s k)
+    row = row_is s k ok arc
+
+    c_is : IsColumn s o.column
+    c_is = subst (λ v. IsColumn s v) at_column (column_is s k0 ok pair.arc)
+
+    r_is : IsRow s r
+    r_is = subst (λ v. IsRow s v) at_row (row_is s k0 ok pair.arc)
+
+    settling : IsSettling s q new o r
+    settling = paired_is s q o r entries c_is.0 r_is.0 (λ e. row_column s r o.column r_is c_is (sym e))
+
+    c_new : ¬ Settled q o.column
+    c_new h = fresh (subst (λ v. Settled q v) (ap (λ (p : Offer). p.column) is) h)
+
+    -- the column is as far as the row
+    c_far : o.dist ≡ dist_at q (row_of s k)
+    c_far =
+        let d = ap (λ (p : Offer). p.dist) is in
+        let above = shown.low k arc in
+        omega (arith, ints, d, above, level)
+
+    first : (source : ℕ) (rest : List Rid) → IsSearch s y q source rest → IsDue s y q o
+    first source rest search =
+        let far = c_far in
+        let idle : amount_at s k ≡ pos 0 = elim (amount_is s k ok arc) [
+          | inl e ↦ e
+          | inr p ↦ absurd (fresh (search.pairs k p settled).0)
+        ] in
+        record {
+          matched = subst (λ v. IsMatchedColumn s v) (ap (λ (p : Offer). p.column) (sym is)) matched;
+          fresh = c_new;
+          link = subst (λ (p : Offer). IsLink s y q p.arc p.column p.dist) (sym is)
+              (record { arc = arc; idle = idle; from = settled; to = refl; gives = refl });
+          farthest = λ u n h. (let more = last u n h in omega (arith, ints, far, more));
+          nearest = λ p waits. (let more = search.level (row_of s k) p row.0 settled waits in omega (arith, ints, far, more));
+          before_best = λ t e. (let more = (search.best t e).2 (row_of s k) row.0 settled in omega (arith, ints, far, more));
         }
 
-    -- a column at the level of the row, settled at once with its own row
-    module _ (r k0 : ℕ) (shown : AreMatchingPrices s y) (entries : HasEntries (node_count s.net) q) (is : c ≡ column_of s k)
-        (level : offer s y q k ≤ℤ dist_at q (row_of s k)) (last : IsLast s q (row_of s k)) (matched : IsMatchedColumn s (column_of s k)) (pair : IsPair s k0)
-        (at_column : column_of s k0 ≡ c) (at_row : row_of s k0 ≡ r) where
-      abbrev new : Search
-      new = settled_pair low c r
+    r_new : (source : ℕ) (rest : List Rid) → IsSearch s y q source rest → ¬ Settled q r
+    r_new source rest search h =
+        c_new (subst (λ v. Settled q v) at_column (search.pairs k0 pair (subst (λ v. Settled q v) (sym at_row) h)).0)
 
-      abbrev longer : List ℕ
-      longer = (order ++ c ∷ []) ++ r ∷ []
+    stepped : (source : ℕ) (rest : List Rid) → IsSearch s y q source (forward k ∷ rest) → IsStepped s y q new source r rest
+    stepped source rest search =
+        stepped_pair s y q source o r k0 rest ok shown entries
+        (subst (λ j. IsSearch s y q source (forward j ∷ rest)) (ap (λ (p : Offer). p.arc) (sym is)) search)
+        (first source (forward k ∷ rest) search) pair at_column at_row
 
-      row : IsRow s (row_of s k)
-      row = row_is s k ok arc
+    once_search : (source : ℕ) (rest : List Rid) → HasNewArcs s q new rest → IsSearch s y q source (forward k ∷ rest) → IsSearch s y new source rest
+    once_search source rest arcs search =
+        (stepped source rest search).search rest (λ j a e. elim (arcs j a (subst (λ v. Settled new v) (sym e) settling.row)) [
+          | inl was ↦ absurd (r_new source (forward k ∷ rest) search (subst (λ v. Settled q v) e was))
+          | inr has ↦ has
+        ]) (λ x has. has)
 
-      c_is : IsColumn s c
-      c_is = subst (λ v. IsColumn s v) at_column (column_is s k0 ok pair.arc)
+    pub once_sound : (source : ℕ) → IsSound s y q source order → IsSound s y new source longer
+    once_sound source h =
+        let all = all_forward s.net in
+        let search = to_all s y q source all (forward k ∷ []) h.search in
+        let done = stepped source all search in
+        let more = two_more s y q source o r k0 all ok entries.settled_count h.search pair at_column at_row c_new in
+        record {
+          entries = done.entries;
+          search = done.search all (λ j a e. all_has s.net j a) (λ x has. has);
+          order_ok = ordered_more s y q new source o r k0 order all ok h.search h.order_ok settling pair at_column at_row (first source all h.search) more;
+          near = done.near h.near;
+          turns = turns_more s order o.column r h.turns c_is r_is;
+        }
 
-      r_is : IsRow s r
-      r_is = subst (λ v. IsRow s v) at_row (row_is s k0 ok pair.arc)
-
-      apart : c ≢ r
-      apart e = row_column s r c r_is c_is (sym e)
-
-      settling : IsSettling s low new c r
-      settling = settled_pair_is s low c r (low_entries entries) c_is.0 r_is.0 apart
-
-      c_waits : Waits low c
-      c_waits = subst (λ v. Waits low v) (sym is) lowering.here
-
-      c_new : ¬ Settled q c
-      c_new h = fresh (subst (λ v. Settled q v) is h)
-
-      -- the column is as far as the row
-      c_far : dist_at low c ≡ dist_at q (row_of s k)
-      c_far =
-          let at = ap (dist_at low) is in
-          let here = lowering.at_column in
-          let above = shown.low k arc in
-          omega (arith, ints, at, here, above, level)
-
-      low_search : (source : ℕ) (rest : List Rid) → IsSearch s y q source (forward k ∷ rest) → IsSearch s y low source rest
-      low_search = relaxed_lower s y q k ok shown arc settled last low matched fresh lowering
-
-      first : (source : ℕ) (rest : List Rid) → IsSearch s y low source rest → IsNearest (node_count s.net) low c
-      first source rest search =
-          let here = low_dist (row_of s k) row.0 settled in
-          let far = c_far in
-          record {
-            node = c_is.0;
-            waits = c_waits;
-            nearest = λ w n waits. (let more = search.level (row_of s k) w row.0 n settled waits in omega (arith, ints, here, far, more));
-            before_best = λ t e. (let more = (search.best t e).2 (row_of s k) row.0 settled in omega (arith, ints, here, far, more));
-          }
-
-      r_new : (source : ℕ) (rest : List Rid) → IsSearch s y low source rest → ¬ Settled q r
-      r_new source rest search h =
-          c_new (subst (λ v. Settled q v) at_column (search.pairs k0 pair (subst (λ v. Settled q v) (sym at_row) h)).0)
-
-      stepped : (source : ℕ) (rest : List Rid) → IsSearch s y low source rest → IsStepped s y low new source r rest
-      stepped source rest search =
-          stepped_pair s y low source c r k0 rest ok shown (low_entries entries) search (first source rest search) pair at_column at_row
-
-      once_search : (source : ℕ) (rest : List Rid) → HasNewArcs s q new rest → IsSearch s y q source (forward k ∷ rest) → IsSearch s y new source rest
-      once_search source rest arcs search =
-          let h = low_search source rest search in
-          (stepped source rest h).search rest (λ j a e. elim (arcs j a (subst (λ v. Settled new v) (sym e) settling.row)) [
-            | inl was ↦ absurd (r_new source rest h (subst (λ v. Settled q v) e was))
-            | inr has ↦ has
-          ]) (λ o has. has)
-
-      pub once_sound : (source : ℕ) → IsSound s y q source order → IsSound s y new source longer
-      once_sound source h =
-          let search = low_search source (all_forward s.net) (to_all s y q source (all_forward s.net) (forward k ∷ []) h.search) in
-          let done = stepped source (all_forward s.net) search in
-          let more = two_more s y low source c r k0 (all_forward s.net) ok (low_entries entries).settled_count search pair at_column at_row c_new in
-          record {
-            entries = done.entries;
-            search = done.search (all_forward s.net) (λ j a e. all_has s.net j a) (λ o has. has);
-            order_ok = ordered_more s y low new source c r k0 order (all_forward s.net) ok search (low_order source h.order_ok) settling pair at_column at_row
-                c_waits more;
-            near = done.near (low_near source h.near);
-            turns = turns_more s order c r h.turns c_is r_is;
-          }
-
-      r_apart : (source : ℕ) → IsSound s y q source order → (v : ℕ) → Settled q v → v ≢ r
-      r_apart source h v was e =
-          r_new source (all_forward s.net) (low_search source (all_forward s.net) (to_all s y q source (all_forward s.net) (forward k ∷ []) h.search))
-          (subst (λ u. Settled q u) e was)
-
-      pub once_step : (source : ℕ) → IsSound s y q source order → IsStep s y q order new longer (row_of s k) (forward k ∷ [])
-      once_step source h =
-          record {
-            sound = once_sound;
-            search = once_search;
-            kept = λ v n was. (settling.kept v n was, settling.dist v n (r_apart source h v was) ∙ low_dist v n was);
-            fresh = λ v n now. elim (settling.settled v n now) [
-              | inl was ↦ inl was
-              | inr (inl e) ↦ inr (ap (dist_at new) e ∙ settling.dist c c_is.0 apart ∙ c_far)
-              | inr (inr e) ↦ inr (ap (dist_at new) e ∙ settling.at_row ∙ c_far)
-            ];
-            number = refl;
-            more = c ∷ r ∷ [];
-            longer = append_assoc order (c ∷ []) (r ∷ []);
-          }
+    pub once_step : (source : ℕ) → IsSound s y q source order → IsStep s y q order new longer (row_of s k) (forward k ∷ [])
+    once_step source h =
+        record {
+          sound = once_sound;
+          search = once_search;
+          kept = λ v n was. (
+            settling.kept v n was,
+            settling.dist v n (λ e. c_new (subst (λ u. Settled q u) e was))
+                (λ e. r_new source (all_forward s.net) h.search (subst (λ u. Settled q u) e was)),
+          );
+          fresh = λ v n now. elim (settling.settled v n now) [
+            | inl was ↦ inl was
+            | inr (inl e) ↦ inr (ap (dist_at new) e ∙ settling.at_column ∙ c_far)
+            | inr (inr e) ↦ inr (ap (dist_at new) e ∙ settling.at_row ∙ c_far)
+          ];
+          number = refl;
+          more = o.column ∷ r ∷ [];
+          longer = append_assoc order (o.column ∷ []) (r ∷ []);
+        }
 
 -- ---- what the code asks
 
 -- there is room to list a pair that is not settled
-pub pair_room : (s : Pseudoflow) (y : List ℤ) (q : Search) (source k0 : ℕ) (order : List ℕ) → IsPartialMatching s → IsSound s y q source order → IsPair s k0
-    → ¬ Settled q (column_of s k0) → length order + 2 ≤ node_count s.net
-pair_room s y q source k0 order ok sound pair fresh =
+pub pair_room : (s : Pseudoflow) (y : List ℤ) (q : Search) (source : ℕ) (o : Offer) (k0 : ℕ) (order : List ℕ) → IsPartialMatching s
+    → IsSound s y q source order → IsPair s k0 → column_of s k0 ≡ o.column → ¬ Settled q o.column → length order + 2 ≤ node_count s.net
+pair_room s y q source o k0 order ok sound pair at_column fresh =
+    let r = row_of s k0 in
     let count = sound.entries.settled_count in
-    let more = two_more s y q source (column_of s k0) (row_of s k0) k0 (all_forward s.net) ok count sound.search pair refl refl fresh in
-    let few = count_small (settled_pair q (column_of s k0) (row_of s k0)).settled in
-    let n = length-set (set q.settled (column_of s k0 - 1) true) (row_of s k0 - 1) true ∙ length-set q.settled (column_of s k0 - 1) true in
+    let more = two_more s y q source o r k0 (all_forward s.net) ok count sound.search pair at_column refl fresh in
+    let few = count_small (paired q o r).settled in
+    let n = length-set (set q.settled (o.column - 1) true) (r - 1) true ∙ length-set q.settled (o.column - 1) true in
     let tally = sound.order_ok.tally in
     omega (arith, more, few, n, tally, count)
-
--- no row waits
-pub rows_idle : (s : Pseudoflow) (y : List ℤ) (q : Search) (source : ℕ) (order : List ℕ) → IsPartialMatching s → IsSound s y q source order → (v : ℕ)
-    → IsRow s v → ¬ Waits q v
-rows_idle s y q source order ok sound v row waits =
-    row_column s v v row (waiting_is s y q source v (all_forward s.net) ok sound.search row.0 waits) refl
 
 -- a settled row is near
 pub sound_near : (s : Pseudoflow) (y : List ℤ) (q : Search) (source row : ℕ) (order : List ℕ) → IsPartialMatching s → IsSound s y q source order
@@ -492,63 +511,93 @@ going_few s y q source order sound =
     let few = count_small q.settled in
     omega (arith, tally, count, few)
 
--- the row settled with the nearest waiting column is the next one
-pub settled_next : (s : Pseudoflow) (y : List ℤ) (q : Search) (source c r : ℕ) (order order' : List ℕ) (next : ℕ) → IsGoing s y q source order next
-    → length order ≤ next → order' ≡ (order ++ c ∷ []) ++ r ∷ [] → IsNextRow order' next r
-settled_next s y q source c r order order' next going over eo =
-    let odd = going.sound.turns.odd in
-    let even = going.even in
-    let within = going.within in
-    let one = length_push order c in
-    let two = length_push (order ++ c ∷ []) r in
-    let all = ap (λ o. length o) eo in
+-- offers were taken out
+pub sound_taken : (s : Pseudoflow) (y : List ℤ) (q q' : Search) (source : ℕ) (order : List ℕ) (found : Option Offer) → IsPartialMatching s
+    → IsSound s y q source order → IsTaken q q' found → ((o : Offer) → found ≡ Some o → Waits q o) → IsSound s y q' source order
+sound_taken s y q q' source order found ok sound taken waited =
     record {
-      inside = omega (arith, odd, even, within, one, two, all, over);
-      at = ap (λ o. get_or o next 0) eo ∙ get_or_push (order ++ c ∷ []) r 0 next (omega (arith, odd, even, within, one, over));
+      entries = subst (λ (x : Search). HasEntries (node_count s.net) x) (sym taken.same) (record {
+        dist_count = sound.entries.dist_count;
+        settled_count = sound.entries.settled_count;
+        link_count = sound.entries.link_count;
+      });
+      search = taken_ok s y q q' source (all_forward s.net) ok sound.search found taken (all_forward s.net) (λ r has. has)
+          (λ o e. (let w = waited o e in all_has s.net o.arc (sound.search.waiting o w).1.arc));
+      order_ok = subst (λ (x : Search). IsOrder s x source order) (sym taken.same)
+          (ordered_kept s q (queued q q'.queue) source order order refl refl (λ v n w. refl) sound.order_ok);
+      near = subst (λ (x : Search). IsNear s y x source (reach_of x)) (sym taken.same) (record { settled = sound.near.settled; best = sound.near.best });
+      turns = sound.turns;
     }
 
--- the nearest waiting column is settled, and its row is to be scanned
-pub going_settled : (s : Pseudoflow) (y : List ℤ) (q q' : Search) (source c r : ℕ) (order order' : List ℕ) (next : ℕ) → IsPartialMatching s
-    → AreMatchingPrices s y → IsGoing s y q source order next → length order ≤ next → IsNearest (node_count s.net) q c → q' ≡ settled_pair q c r
-    → ((k : ℕ) × IsPair s k × (column_of s k ≡ c) × (row_of s k ≡ r)) → order' ≡ (order ++ c ∷ []) ++ r ∷ [] → IsGoing s y q' source order' next
-going_settled s y q q' source c r order order' next ok shown going over first value (k, pair, at_column, at_row) eo =
-    subst (λ (x : Search). IsGoing s y x source order' next) (sym value) (subst (λ o. IsGoing s y (settled_pair q c r) source o next) (sym eo) now)
+-- where all rows are scanned
+pub going_taken : (s : Pseudoflow) (y : List ℤ) (q q' : Search) (source : ℕ) (order : List ℕ) (next : ℕ) → IsPartialMatching s → IsGoing s y q source order next
+    → length order ≤ next → IsTaken q q' None → IsGoing s y q' source order next
+going_taken s y q q' source order next ok going over taken =
+    record {
+      sound = sound_taken s y q q' source order None ok going.sound taken (λ o e. absurd (no_offer o e));
+      half = going.half;
+      even = going.even;
+      within = going.within;
+      search = λ list pending. taken_ok s y q q' source list ok (going.search list pending) None taken list (λ r has. has)
+          (λ o e. absurd (no_offer o e));
+      last = λ i from l. absurd (omega (arith, from, l, over));
+    }
+
+pub same_offer : (o p : Offer) → Some o ≡ Some p → o ≡ p
+same_offer o p e = cc
+
+-- one was found whose column is settled now, and its row is to be scanned
+pub going_settled : (s : Pseudoflow) (y : List ℤ) (q p q' : Search) (source : ℕ) (o : Offer) (r : ℕ) (order order' : List ℕ) (next : ℕ) → IsPartialMatching s
+    → AreMatchingPrices s y → IsGoing s y q source order next → length order ≤ next → IsTaken q p (Some o) → Waits q o → IsNext p o
+    → q' ≡ paired p o r → ((k : ℕ) × IsPair s k × (column_of s k ≡ o.column) × (row_of s k ≡ r)) → order' ≡ (order ++ o.column ∷ []) ++ r ∷ []
+    → IsGoing s y q' source order' next
+going_settled s y q p q' source o r order order' next ok shown going over taken waited first value (k, pair, at_column, at_row) eo =
+    subst (λ (x : Search). IsGoing s y x source order' next) (sym value) (subst (λ l. IsGoing s y (paired p o r) source l next) (sym eo) now)
   where
-    search : IsSearch s y q source (all_forward s.net)
-    search = going.sound.search
+    all : List Rid
+    all = all_forward s.net
 
-    stepped : (list : List Rid) → IsSearch s y q source list → IsStepped s y q (settled_pair q c r) source r list
-    stepped list h = stepped_pair s y q source c r k list ok shown going.sound.entries h first pair at_column at_row
+    sound : IsSound s y p source order
+    sound = sound_taken s y q p source order (Some o) ok going.sound taken (λ x e. subst (λ z. Waits q z) (same_offer o x e) waited)
 
-    done : IsStepped s y q (settled_pair q c r) source r (all_forward s.net)
-    done = stepped (all_forward s.net) search
+    nothing : IsSearch s y q source []
+    nothing = going_over s y q source order next [] going over
 
-    c_is : IsColumn s c
+    popped : (list : List Rid) → IsSearch s y p source (forward o.arc ∷ list)
+    popped list =
+        taken_ok s y q p source [] ok nothing (Some o) taken (forward o.arc ∷ list) (λ x has. absurd (none_contained x has))
+        (λ x e. subst (λ (z : Offer). Contains (forward o.arc ∷ list) (forward z.arc)) (same_offer o x e)
+        (Contains-append_left (forward o.arc ∷ []) list (forward o.arc) (Contains-push [] (forward o.arc))))
+
+    due : IsDue s y p o
+    due = due_now s y q p source [] ok nothing (Some o) taken o waited first
+
+    stepped : (list : List Rid) → IsStepped s y p (paired p o r) source r list
+    stepped list = stepped_pair s y p source o r k list ok shown sound.entries (popped list) due pair at_column at_row
+
+    done : IsStepped s y p (paired p o r) source r all
+    done = stepped all
+
+    c_is : IsColumn s o.column
     c_is = subst (λ v. IsColumn s v) at_column (column_is s k ok pair.arc)
 
-    settling : IsSettling s q (settled_pair q c r) c r
-    settling = settled_pair_is s q c r going.sound.entries c_is.0 done.is_row.0 (λ e. row_column s r c done.is_row c_is (sym e))
+    settling : IsSettling s p (paired p o r) o r
+    settling = paired_is s p o r sound.entries c_is.0 done.is_row.0 (λ e. row_column s r o.column done.is_row c_is (sym e))
 
-    -- the row wasn't settled before its column
-    r_new : (v : ℕ) → Settled q v → v ≢ r
-    r_new v h e =
-        search.apart c c_is.0 first.waits
-        (subst (λ u. Settled q u) at_column (search.pairs k pair (subst (λ u. Settled q u) (e ∙ sym at_row) h)).0)
+    one : length (order ++ o.column ∷ []) ≡ length order + 1
+    one = length_push order o.column
 
-    one : length (order ++ c ∷ []) ≡ length order + 1
-    one = length_push order c
+    two : length ((order ++ o.column ∷ []) ++ r ∷ []) ≡ length (order ++ o.column ∷ []) + 1
+    two = length_push (order ++ o.column ∷ []) r
 
-    two : length ((order ++ c ∷ []) ++ r ∷ []) ≡ length (order ++ c ∷ []) + 1
-    two = length_push (order ++ c ∷ []) r
-
-    here : (i : ℕ) → next ≤ i → i < length ((order ++ c ∷ []) ++ r ∷ []) → get_or ((order ++ c ∷ []) ++ r ∷ []) i 0 ≡ r
+    here : (i : ℕ) → next ≤ i → i < length ((order ++ o.column ∷ []) ++ r ∷ []) → get_or ((order ++ o.column ∷ []) ++ r ∷ []) i 0 ≡ r
     here i from l =
         let odd = going.sound.turns.odd in
         let even = going.even in
         let within = going.within in
-        get_or_push (order ++ c ∷ []) r 0 i (omega (arith, from, l, odd, even, within, one, two, over))
+        get_or_push (order ++ o.column ∷ []) r 0 i (omega (arith, from, l, odd, even, within, one, two, over))
 
-    now : IsGoing s y (settled_pair q c r) source ((order ++ c ∷ []) ++ r ∷ []) next
+    now : IsGoing s y (paired p o r) source ((order ++ o.column ∷ []) ++ r ∷ []) next
     now =
         let odd = going.sound.turns.odd in
         let even = going.even in
@@ -556,19 +605,18 @@ going_settled s y q q' source c r order order' next ok shown going over first va
         record {
           sound = record {
             entries = done.entries;
-            search = done.search (all_forward s.net) (λ j a e. all_has s.net j a) (λ o has. has);
-            order_ok = ordered_more s y q (settled_pair q c r) source c r k order (all_forward s.net) ok search going.sound.order_ok
-                settling pair at_column at_row
-                first.waits (two_more s y q source c r k (all_forward s.net) ok going.sound.entries.settled_count search pair at_column at_row (search.apart c c_is.0 first.waits));
-            near = done.near going.sound.near;
-            turns = turns_more s order c r going.sound.turns c_is done.is_row;
+            search = done.search all (λ j a e. all_has s.net j a) (λ x has. has);
+            order_ok = ordered_more s y p (paired p o r) source o r k order all ok sound.search sound.order_ok settling pair at_column at_row due
+                (two_more s y p source o r k all ok sound.entries.settled_count sound.search pair at_column at_row due.fresh);
+            near = done.near sound.near;
+            turns = turns_more s order o.column r going.sound.turns c_is done.is_row;
           };
           half = going.half;
           even = even;
           within = omega (arith, within, one, two);
-          search = λ list pending. (stepped list (going_over s y q source order next list going over)).search list (λ j a e. pending j (length order + 1) a (omega (arith, within)) (omega (arith, one, two))
-              (here (length order + 1) (omega (arith, within)) (omega (arith, one, two)) ∙ sym e)) (λ o has. has);
-          last = λ i from l. subst (λ v. IsLast s (settled_pair q c r) v) (sym (here i from l)) done.last;
+          search = λ list pending. (stepped list).search list (λ j a e. pending j (length order + 1) a (omega (arith, within)) (omega (arith, one, two))
+              (here (length order + 1) (omega (arith, within)) (omega (arith, one, two)) ∙ sym e)) (λ x has. has);
+          last = λ i from l. subst (λ v. IsLast s (paired p o r) v) (sym (here i from l)) done.last;
         }
 
 -- a row was scanned

@@ -96,7 +96,7 @@ kept_counted s y mates tables reached n kept =
       matching = kept.matching;
       shown = kept.shown;
       mated = kept.mated;
-      idle = record { entries = idle.entries; room = idle.room; each = idle.each; listed = idle.listed };
+      idle = record { entries = idle.entries; room = idle.room; queue = idle.queue; each = idle.each; listed = idle.listed };
       near = kept.near;
       free_rows = kept.free_rows;
       count = kept.count;

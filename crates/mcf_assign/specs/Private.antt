@@ -5,6 +5,8 @@ pub mod Scenes
 pub mod Searches
 pub mod Lows
 pub mod Scans
+pub mod Queues
+pub mod Rooms
 pub mod Turning
 pub mod Forests
 pub mod Keeping

@@ -1,25 +1,24 @@
 //! A whole search, and the matching made greater by what it found.
-ghost use Rattle.std.specs.Prelude.{◌≡◌, ◌≢◌, ◌+◌, ◌-◌, ◌^◌, ◌<◌, ◌≤◌, ◌∷◌, ◌++◌, ◌↔◌, ℕ, ℤ, Bool, List, [], None, Some, false, true, IfOk, OnErr, length, pos};
+ghost use Rattle.std.specs.Prelude.{◌≡◌, ◌≢◌, ◌+◌, ◌-◌, ◌*◌, ◌^◌, ◌<◌, ◌≤◌, ◌∷◌, ◌++◌, ◌↔◌, ℕ, ℤ, Bool, List, [], None, Some, false, true, IfOk, OnErr, length, pos};
 ghost use Rattle.std.specs.Prelude.{vec_capacity};
 ghost use Rattle.std.specs.List.{All, Contains};
 ghost use Rattle.mcf_flows.specs.Blocking.{in_table};
 ghost use Rattle.mcf_flows.specs.Network.{IsNode, at_node, node_count};
 ghost use Rattle.mcf_flows.specs.WellFormed.{IsUpTo};
-ghost use Rattle.mcf_engine.specs.Heaps.{NoneWaits};
 ghost use Rattle.mcf_assign.specs.Private.Forests.{AreMates, IsChangedWithin};
 ghost use Rattle.mcf_assign.specs.Private.Keeping.{IsEnded, IsIdle};
 ghost use Rattle.mcf_assign.specs.Matchings.{AreMatchingPrices, IsMatchedRow, IsPartialMatching, IsRow, column_of};
+ghost use Rattle.mcf_assign.specs.Private.Rooms.{HasRoom, KeepsRoom};
 ghost use Rattle.mcf_assign.specs.Private.Scenes.{IsScene};
 ghost use Rattle.mcf_assign.specs.Private.Searches.{AreRaised, HasEntries, Settled, search_of};
 ghost use Rattle.mcf_assign.specs.Private.Turning.{IsExtended};
 ghost use Rattle.mcf_assign.specs.Private.Reaches.{price_reach};
 
+use crate::offers::Offers;
 use crate::prices::Prices;
-use crate::rows::RowArc;
 use crate::scene::Scene;
 use crate::search::{Tables, Target};
 use mcf_counts::Count;
-use mcf_engine::Heap;
 use mcf_network::{Net, NodeSet, State};
 use mcf_text::{ArcId, NoMemory, NodeId, copies};
 use std::alloc::Global;
@@ -27,14 +26,15 @@ use std::alloc::Global;
 impl Tables {
     /// The tables for a net, with all the room that its searches need.
     pub(crate) fn new(alloc: Global, net: &Net) -> Result<Tables, NoMemory>
-        ensures idle { IfOk result (IsIdle (node_count net.now)) }
+        ensures idle { IfOk result (IsIdle net.now) }
         ensures order { IfOk result (λ tables. tables.order.items ≡ []) }
         ensures searches { IfOk result (λ tables. tables.searches.number ≡ 0) }
         ensures wants { OnErr result (1 ≤ node_count net.now) }
     {
         let nodes = net.node_count() as usize;
         Ok(Tables {
-            heap: Heap::new(alloc, net)?,
+            offers: Offers::new(alloc, net.arc_count() as usize * 2)?,
+            dists: copies(alloc, nodes, 0)?,
             marks: copies(alloc, nodes, false)?,
             links: copies(alloc, nodes, 0)?,
             best: None,
@@ -45,25 +45,21 @@ impl Tables {
     }
 
     /// Searches for a shortest augmenting path from a row that is not matched, and gives its last arc if there is one.
-    pub(crate) fn search(
-        &mut self,
-        scene: &Scene<'_, '_>,
-        picks: &mut [RowArc],
-        source: NodeId,
-    ) -> Option<Target>
+    pub(crate) fn search(&mut self, scene: &Scene<'_, '_>, source: NodeId) -> Option<Target>
         requires scene { IsScene scene.now.state.now scene.now.rows.now scene.now.prices.now scene.now.mates.now }
-        requires idle { IsIdle (node_count scene.now.state.now.net) self.old }
+        requires idle { IsIdle scene.now.state.now.net self.old }
         requires row { IsRow scene.now.state.now source }
         requires free { ¬ IsMatchedRow scene.now.state.now source }
         ensures entries { HasEntries (node_count scene.now.state.now.net) (search_of self.new) }
         ensures room { node_count scene.now.state.now.net ≤ vec_capacity self.new.order }
+        ensures queue { self.old.offers.room ≤ self.new.offers.room }
         ensures ended { IsEnded scene.now.state.now scene.now.prices.now (search_of self.new) source self.new.order.items }
         ensures best { result ≡ self.new.best }
         ensures counted { self.new.searches.number ≡ self.old.searches.number + 1 }
     {
         self.reset();
         self.begin(scene.state, source);
-        self.run(scene, picks, source);
+        self.run(scene, source);
         self.pairs = self.pairs.saturating_add(self.order.len() as u64 / 2);
         self.best
     }
@@ -92,6 +88,7 @@ impl Tables {
         ensures changed { IsChangedWithin state.old state.new (search_of self.old) (column_of state.old target.arc) }
         ensures order { self.new.order.items ≡ self.old.order.items ++ column_of state.old target.arc ∷ [] }
         ensures room { vec_capacity self.new.order ≡ vec_capacity self.old.order }
+        ensures queue { self.new.offers ≡ self.old.offers }
         ensures tables { search_of self.new ≡ search_of self.old }
     {
         let arc = ArcId::new(target.arc);
@@ -106,7 +103,8 @@ impl Tables {
         ensures { result.number ≡ self.searches.number }
     {
         let Tables {
-            heap: _,
+            offers: _,
+            dists: _,
             marks: _,
             links: _,
             best: _,
@@ -121,14 +119,14 @@ impl Tables {
     fn reset(&mut self)
         requires each { All (IsNode (length self.old.marks.items)) self.old.order.items }
         requires listed { (v : ℕ) → IsNode (length self.old.marks.items) v → Settled (search_of self.old) v → Contains self.old.order.items v }
-        ensures empty { NoneWaits self.new.heap }
+        ensures empty { self.new.offers.items ≡ [] }
         ensures entries { (nodes : ℕ) → HasEntries nodes (search_of self.old) → HasEntries nodes (search_of self.new) }
         ensures unsettled { (v : ℕ) → in_table self.new.marks.items v ≡ false }
         ensures none { self.new.order.items ≡ [] }
         ensures number { self.new.searches.number ≡ self.old.searches.number }
-        ensures room { vec_capacity self.new.order ≡ vec_capacity self.old.order }
+        ensures room { KeepsRoom 0 self.old self.new }
     {
-        self.heap.clear();
+        self.offers.clear();
         unmark(self.marks.as_mut_slice(), self.order.as_slice());
         self.order.clear();
     }

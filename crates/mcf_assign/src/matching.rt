@@ -12,8 +12,8 @@ ghost use Rattle.mcf_assign.specs.Private.Updating.{IsRepriced};
 use crate::augmenting::fill;
 use crate::extended::Extended;
 use crate::prices::Prices;
-use crate::regime::{MOST_PICKS, NODES_PER_PAIR};
-use crate::rows::{NO_ARC, RowArc, Rows};
+use crate::regime::NODES_PER_PAIR;
+use crate::rows::Rows;
 use crate::scene::Scene;
 use crate::search::Tables;
 use crate::update::Update;
@@ -34,7 +34,6 @@ pub struct Matching<'n> {
     rows: Rows,
     prices: Prices,
     mates: Vec<u32>,
-    picks: Vec<RowArc>,
     tables: Tables,
     reached: NodeSet,
     update: Update,
@@ -76,13 +75,11 @@ impl<'n> Matching<'n> {
         let rows = Rows::new(alloc, net)?;
         let prices = Prices::new(alloc, net)?;
         let mates = copies(alloc, net.node_count() as usize, 0)?;
-        let most = if net.node_count() > 0 { MOST_PICKS } else { 0 };
         Ok(Matching {
             state,
             rows,
             prices,
             mates,
-            picks: copies(alloc, most, NO_ARC)?,
             tables: Tables::new(alloc, net)?,
             reached: NodeSet::new(alloc, net)?,
             update: Update::new(alloc, net)?,
@@ -119,8 +116,7 @@ impl<'n> Matching<'n> {
             prices: &self.prices,
             mates,
         };
-        let picks = self.picks.as_mut_slice();
-        let found = self.tables.search(&scene, picks, row);
+        let found = self.tables.search(&scene, row);
         match found {
             Some(target) => {
                 let mates = self.mates.as_mut_slice();
@@ -212,7 +208,6 @@ impl<'n> Matching<'n> {
             rows: _,
             prices,
             mates: _,
-            picks: _,
             tables,
             reached: _,
             update: _,
@@ -230,7 +225,6 @@ impl<'n> Matching<'n> {
             rows: _,
             prices: _,
             mates: _,
-            picks: _,
             tables,
             reached,
             update: _,

@@ -46,10 +46,6 @@ pub(crate) const BUCKETS: u32 = 64;
 /// A bucket is so narrow that so many hold the greatest cost. Sparse, 2^12 rows, as above.
 pub(crate) const BUCKETS_IN_COST: u64 = 1024;
 
-/// Of how many arcs of a row those may be picked at once that may be news. Sparse, 2^12 rows: a branch at each arc is
-/// guessed wrong 190,000 times.
-pub(crate) const MOST_PICKS: usize = 64;
-
 /// How many arcs of a dense row are looked at to tell what is cheap in it. Dense, 1,024 rows: with the cheapest arcs first searches
 /// take 0.026 s in place of 0.19.
 pub(crate) const SAMPLE: usize = 32;

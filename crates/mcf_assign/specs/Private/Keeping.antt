@@ -1,5 +1,5 @@
 -- What a matching keeps between searches, and what a search that is over has shown.
-use Rattle.std.specs.Prelude.{◌≡◌, ℕ, ◌<◌, ◌≤◌, Bool, List, [], length, ℤ, pos, neg_ℤ, ◌<ℤ◌, ◌≤ℤ◌, vec_capacity}
+use Rattle.std.specs.Prelude.{◌≡◌, ℕ, ◌*◌, ◌<◌, ◌≤◌, Bool, List, [], length, ℤ, pos, neg_ℤ, ◌<ℤ◌, ◌≤ℤ◌, vec_capacity}
 use Rattle.std.specs.List.{All, Contains}
 use Rattle.mcf_flows.specs.Limits.{limits}
 use Rattle.mcf_flows.specs.Network.{Network, IsNode, at_node, node_count}
@@ -10,17 +10,18 @@ use Rattle.mcf_assign.specs.Private.Forests.{AreMates, IsOrder}
 use Rattle.mcf_assign.specs.Matchings.{AreMatchingPrices, IsMatchedRow, IsPartialMatching, IsRow, price_limit}
 use Rattle.mcf_assign.specs.Private.Searches.{HasEntries, IsNear, IsOver, IsSearch, Search, Settled, reach_of, search_of}
 
--- tables for so many nodes: what is settled is listed, and there is room to list every node
-pub record IsIdle (nodes : ℕ) (tables : Tables) : Type 0 where
-  pub entries : HasEntries nodes (search_of tables)
-  pub room : nodes ≤ vec_capacity tables.order
-  pub each : All (IsNode nodes) tables.order.items
-  pub listed : (v : ℕ) → IsNode nodes v → Settled (search_of tables) v → Contains tables.order.items v
+-- tables for a net: what is settled is listed, and there is room to list every node, and to queue an offer of every arc twice
+pub record IsIdle (g : Network) (tables : Tables) : Type 0 where
+  pub entries : HasEntries (node_count g) (search_of tables)
+  pub room : node_count g ≤ vec_capacity tables.order
+  pub queue : 2 * length g.arcs ≤ tables.offers.room
+  pub each : All (IsNode (node_count g)) tables.order.items
+  pub listed : (v : ℕ) → IsNode (node_count g) v → Settled (search_of tables) v → Contains tables.order.items v
 
 -- a search that is over, with the list of what it settled
 pub record IsEnded (s : Pseudoflow) (y : List ℤ) (q : Search) (source : ℕ) (order : List ℕ) : Type 0 where
   pub search : IsSearch s y q source []
-  pub over : IsOver (node_count s.net) q
+  pub over : IsOver q
   pub near : IsNear s y q source (reach_of q)
   pub order_ok : IsOrder s q source order
 
@@ -46,7 +47,7 @@ pub record IsKept (s : Pseudoflow) (y : List ℤ) (mates : List ℕ) (tables : T
   pub matching : IsPartialMatching s
   pub shown : AreMatchingPrices s y
   pub mated : AreMates s mates
-  pub idle : IsIdle (node_count s.net) tables
+  pub idle : IsIdle s.net tables
   pub near : AreNearZero s y
   pub free_rows : FreeRowsAreFirst s y
   pub count : length reached ≡ node_count s.net

@@ -1,10 +1,7 @@
 -- Prices cut to 64 bits, and by what they tell that an arc is no news.
-use Rattle.std.specs.Prelude.{Bool, true, ◌&&◌, if◌then◌else◌, ◌⊎◌, ℕ, ◌-◌, ◌^◌, ◌<◌, List, Option, length, map, ℤ, pos, neg_ℤ, int_lt, ◌≤ℤ◌, ◌+ℤ◌, ◌≡◌, slice_index_or}
-use Rattle.std.specs.List.{Contains, range_with_len}
-use Rattle.mcf_flows.specs.Blocking.{in_table}
-use Rattle.mcf_flows.specs.Network.{at_node}
+use Rattle.std.specs.Prelude.{Bool, ◌&&◌, if◌then◌else◌, ℕ, ◌-◌, ◌^◌, ◌<◌, List, Option, length, map, ℤ, pos, neg_ℤ, int_lt, ◌≤ℤ◌, ◌+ℤ◌, ◌≡◌, slice_index_or}
+use Rattle.std.specs.List.{range_with_len}
 use Rattle.mcf_flows.specs.WellFormed.{IsUpTo}
-use Rattle.mcf_assign.specs.declared.rows.RowArc.{RowArc}
 use Rattle.mcf_assign.specs.declared.search.Target.{Target}
 use Rattle.mcf_assign.specs.Private.Searches.{IsBestUpTo}
 
@@ -42,12 +39,3 @@ whole_prices lows wide = map (λ i. whole_price (slice_index_or lows i (pos 0)) 
 -- what arcs offer from a row, less its base, is of no use where it is no less than the gap
 abbrev pub IsGap : Option Target → ℤ → ℤ → Type 0
 IsGap best base gap = (x : ℤ) → IsUpTo (2 ^ 62) x → gap ≤ℤ x → IsBestUpTo best (base +ℤ x)
-
--- an arc of a row that is no news: it offers no less than the gap, or its column is settled
-abbrev pub IsIdleArc : List ℤ → List Bool → ℤ → RowArc → Type 0
-IsIdleArc lows marks gap a = (gap ≤ℤ (a.cost +ℤ at_node lows a.column)) ⊎ (in_table marks a.column ≡ true)
-
--- items of a list, and all of it but what is idle
-pub record IsPicked (Item : Type 0) (Idle : Item → Type 0) (list picked : List Item) : Type 0 where
-  pub some : (a : Item) → Contains picked a → Contains list a
-  pub all : (a : Item) → Contains list a → Contains picked a ⊎ Idle a

@@ -1,4 +1,4 @@
-use Rattle.std.proofs.Common.{ℕ, List, length, drop, ap, sym, subst, ◌∙◌, arith, refl}
+use Rattle.std.proofs.Common.{◌*◌, ◌≤◌, ℕ, List, length, drop, ap, sym, subst, ◌∙◌, arith, refl}
 use Rattle.std.specs.List.{All}
 use Rattle.mcf_flows.specs.Network.{Network, IsNode}
 use Rattle.mcf_assign.specs.Extending.{Assigned, IsGrown, IsStopped}
@@ -39,9 +39,11 @@ invariant_of-self c =
     let t = c.in-Some.target in
     let s = c.search-found.ensures in
     let row = subst (λ (m : Assigned). IsRow m.flow c.args.row) (sym c.self.view_is) c.requires.row in
+    let queue : 2 * length i.state.net.arcs ≤ c.search-found.new.self.offers.room =
+    (let room = k.idle.queue in let more = s.queue in omega (arith, room, more)) in
     let kept = kept_grown i.state c.augment.new.state i.prices c.augment.new.prices c.augment.new.mates c.search-found.new.self c.augment.new.self
-    i.reached c.args.row t k.matching k.shown k.near k.free_rows k.count s.entries s.room row s.ended (sym c.in-Some.ensures.best) e.raised
-    (e.extended c.args.row s.ended) e.mates e.tables e.order e.room in
+    i.reached c.args.row t k.matching k.shown k.near k.free_rows k.count s.entries s.room queue row s.ended (sym c.in-Some.ensures.best) e.raised
+    (e.extended c.args.row s.ended) e.mates e.tables e.order e.room e.queue in
     let lm = c.augment.auto.mates in
     let vm = ap (λ (l : List ℕ). length l) c.as_mut_slice-mates.ensures.value in
     let wm = written i.mates.len c.augment.new.mates (drop (length c.augment.new.mates) i.mates.items) (omega (arith, i.mates.ok.0, lm, vm)) in
@@ -71,9 +73,11 @@ returns-in-Some-clause-shown c =
     let t = c.in-Some.target in
     let s = c.search-found.ensures in
     let row = subst (λ (m : Assigned). IsRow m.flow c.args.row) (sym c.self.view_is) c.requires.row in
+    let queue : 2 * length i.state.net.arcs ≤ c.search-found.new.self.offers.room =
+    (let room = k.idle.queue in let more = s.queue in omega (arith, room, more)) in
     let kept = kept_grown i.state c.augment.new.state i.prices c.augment.new.prices c.augment.new.mates c.search-found.new.self c.augment.new.self
-    i.reached c.args.row t k.matching k.shown k.near k.free_rows k.count s.entries s.room row s.ended (sym c.in-Some.ensures.best) e.raised
-    (e.extended c.args.row s.ended) e.mates e.tables e.order e.room in
+    i.reached c.args.row t k.matching k.shown k.near k.free_rows k.count s.entries s.room queue row s.ended (sym c.in-Some.ensures.best) e.raised
+    (e.extended c.args.row s.ended) e.mates e.tables e.order e.room e.queue in
     shown_kept c.augment.new.state c.augment.new.prices c.augment.new.mates c.augment.new.self i.reached kept
     (record { flow = c.augment.new.state; prices = c.augment.new.prices; settled = c.augment.new.self.order.items; reached = i.reached; searches = c.augment.new.self.searches.number }) refl refl
 

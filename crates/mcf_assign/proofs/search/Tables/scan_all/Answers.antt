@@ -1,6 +1,6 @@
 use Rattle.std.proofs.lemmas.Int.{to_z-of_z}
 use mir.Syntax.{w64, w128}
-use Rattle.std.proofs.Common.{rules, ℕ, List, [], ◌∷◌, ◌≡◌, false, Option, to_z, of_z, ◌∙◌, refl, subst, sym}
+use Rattle.std.proofs.Common.{arith, rules, ℕ, List, [], ◌∷◌, ◌≡◌, false, Option, to_z, of_z, ◌∙◌, refl, subst, sym}
 use Rattle.mcf_flows.specs.Network.{IsArcNumber, Network}
 use Rattle.mcf_network.specs.declared.rid.Rid.{Rid}
 use Rattle.mcf_network.specs.Residual.{arc_at}
@@ -9,7 +9,7 @@ use Rattle.mcf_assign.specs.Private.RowLists.{IsRowArc}
 use Rattle.mcf_assign.specs.Private.Scans.{IsStep}
 use Rattle.mcf_assign.specs.Private.Searches.{search_of}
 use Rattle.mcf_assign.proofs.Scanning.{leaves_from}
-use Rattle.mcf_assign.proofs.Scans.{IsScanned, scan_end, scan_leaves, scan_more, scan_none, scan_start, row_kept}
+use Rattle.mcf_assign.proofs.Scans.{IsScanned, scan_end, scan_leaves, scan_all_few, scan_few, scan_more, scan_none, scan_start, row_kept}
 use Rattle.mcf_assign.specs.declared.search.Target.{Target}
 use Rattle.mcf_assign.specs.Private.Lows.{IsGap}
 use Rattle.mcf_assign.proofs.CutPrices.{gap_at}
@@ -26,7 +26,8 @@ arcs-init c =
           c.into_iter-leaving-iterator.result
           (subst (λ (g : Network). ListsLeaving g c.args.row.now.id c.into_iter-leaving-iterator.result) c.net.ensures.value lists);
       gap = gap_at _ _ _ c.gap-gap.result _ c.gap-gap.ensures (sym b) (search (rules, to_z-of_z));
-      room = refl;
+      order = refl;
+      room = omega arith;
     }
 
 pub arcs-preserved-then-back : goal.arcs-preserved-then-back
@@ -42,6 +43,7 @@ arcs-preserved-then-back c =
       is_finite = tt;
       scanned = scan_none s y p q c.args.self.now.order.items c.arcs.self.order.items c.args.row.now.id c.in-Some.leaving c.next.new.self scanned c.if-back.true;
       gap = c.arcs.invariant.gap;
+      order = c.arcs.invariant.order;
       room = c.arcs.invariant.room;
     }
 
@@ -59,10 +61,12 @@ arcs-preserved c =
     record {
       can_next = tt;
       is_finite = tt;
-      scanned = scan_more s y p q (search_of c.relax-found.new.self) c.args.self.now.order.items c.arcs.self.order.items c.relax-found.new.self.order.items
-          c.args.row.now.id c.in-Some.leaving c.next.new.self c.requires.scene.matching c.requires.row.node c.requires.row.settled scanned step;
+      scanned = scan_more s y p q c.args.self.now.order.items c.arcs.self.order.items c.args.row.now.id c.in-Some.leaving c.next.new.self scanned c.if-back.false
+          (search_of c.relax-found.new.self) c.relax-found.new.self.order.items c.requires.scene.matching c.requires.row.node c.requires.row.settled step
+          c.relax-found.ensures.room.few;
       gap = gap_at _ _ _ c.gap_after-gap.result _ c.gap_after-gap.ensures (sym b) (search (rules, to_z-of_z));
-      room = c.relax-found.ensures.room ∙ c.arcs.invariant.room;
+      order = c.relax-found.ensures.room.order ∙ c.arcs.invariant.order;
+      room = (let more = c.relax-found.ensures.room.room in let was = c.arcs.invariant.room in omega (arith, more, was));
     }
 
 pub returns-clause-step : goal.returns-clause-step
@@ -74,6 +78,33 @@ returns-clause-step c =
     scan_end s y p q c.args.self.now.order.items c.arcs.self.order.items c.args.row.now.id
     (subst (λ (xs : List Rid). IsScanned s y p c.args.self.now.order.items q c.arcs.self.order.items c.args.row.now.id xs) c.in-None.ensures.steps.0
     c.arcs.invariant.scanned)
+
+pub returns-clause-room : goal.returns-clause-room
+returns-clause-room c =
+    let s = c.args.scene.now.state.now in
+    let y = c.args.scene.now.prices.now in
+    record {
+      order = c.arcs.invariant.order;
+      room = c.arcs.invariant.room;
+      few = scan_all_few s y (search_of c.args.self.now) (search_of c.arcs.self) c.args.self.now.order.items c.arcs.self.order.items c.args.row.now.id
+          c.arcs.leaving-iterator c.arcs.invariant.scanned;
+    }
+
+pub relax-found-requires-clause-room : goal.relax-found-requires-clause-room
+relax-found-requires-clause-room c =
+    let s = c.args.scene.now.state.now in
+    let y = c.args.scene.now.prices.now in
+    let p = search_of c.args.self.now in
+    let q = search_of c.arcs.self in
+    let scanned = subst (λ (xs : List Rid). IsScanned s y p c.args.self.now.order.items q c.arcs.self.order.items c.args.row.now.id xs) c.in-Some.ensures.steps
+    c.arcs.invariant.scanned in
+    let few = scan_few s y p q c.args.self.now.order.items c.arcs.self.order.items c.args.row.now.id c.in-Some.leaving c.next.new.self scanned c.if-back.false in
+    let was = scanned.few in
+    let order = c.arcs.invariant.order in
+    let room = c.arcs.invariant.room in
+    let nodes = c.requires.room.order in
+    let queue = c.requires.room.queue in
+    record { order = omega (arith, order, nodes); queue = omega (arith, few, was, room, queue) }
 
 pub relax-found-requires-clause-sound : goal.relax-found-requires-clause-sound
 relax-found-requires-clause-sound c =

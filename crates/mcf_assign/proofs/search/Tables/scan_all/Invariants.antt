@@ -1,4 +1,4 @@
-use Rattle.std.proofs.Common.{◌≡◌, vec_capacity}
+use Rattle.std.proofs.Common.{◌≡◌, ◌≤◌, vec_capacity}
 use Rattle.mcf_assign.specs.Private.Lows.{IsGap}
 use Rattle.mcf_assign.specs.Private.Searches.{search_of}
 use Rattle.mcf_assign.proofs.Scans.{IsScanned}
@@ -11,5 +11,6 @@ invariant-arcs l =
       is_finite : (goal.iterator-arcs).is_finite l.leaving-iterator;
       scanned : IsScanned l.fn.scene.state.now l.fn.scene.prices.now (search_of l.fn.self) l.fn.self.order.items (search_of l.self) l.self.order.items l.fn.row.id l.leaving-iterator;
       gap : IsGap l.self.best l.row.base l.gap;
-      room : vec_capacity l.self.order ≡ vec_capacity l.fn.self.order;
+      order : vec_capacity l.self.order ≡ vec_capacity l.fn.self.order;
+      room : l.fn.self.offers.room ≤ l.self.offers.room;
     }

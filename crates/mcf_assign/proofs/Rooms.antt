@@ -1,0 +1,199 @@
+-- How many arcs leave the rows of a search.
+use Rattle.std.proofs.Common.{◌≡◌, ◌≢◌, ◌||◌, ℕ, zero, suc, ◌+◌, ◌-◌, ◌<◌, ◌≤◌, Bool, cond, eqb, true, false, List, [], ◌∷◌, ◌++◌, length, map, take, get_or, refl, sym, ◌∙◌, ap, subst, arith, inl, inr}
+use Rattle.std.specs.Prelude.{Result, Ok, Err, OnErr}
+use Rattle.std.specs.List.{All, AllPairs, Contains, count_by, list_any, range_with_len, remove}
+use Rattle.std.proofs.lemmas.Bool.{cases_lt, eq-eqb, eqb-true}
+use Rattle.std.proofs.lemmas.List.{get_or_default, get_or-take, length-map, length-take-le, take_all, take-append-le, take_more}
+use Rattle.std.proofs.Math.Seq.{take-append-add}
+use Rattle.std.proofs.lemmas.List.Elements.{All-head, All-tail}
+use Rattle.std.proofs.lemmas.List.FromFn.{get_or-map-range_with_len, length-range_with_len}
+use Rattle.std.proofs.lemmas.List.Folds.{list_any-append}
+use Rattle.std.proofs.lemmas.Map.Views.{Contains-from_any}
+use Rattle.std.proofs.lemmas.List.Sorted.{Contains-permutation, IsPermutation-remove, sum_by-IsPermutation}
+use Rattle.std.proofs.lemmas.List.Sums.{count_by-le-length, sum_by-cons}
+use Rattle.mcf_flows.specs.Network.{Network, IsArcNumber}
+use Rattle.mcf_network.specs.declared.rid.Rid.{Rid}
+use Rattle.mcf_network.specs.Residual.{arc_at}
+use Rattle.mcf_network.proofs.Lists.{Contains-cons}
+use Rattle.mcf_assign.specs.declared.rows.RowArc.{RowArc}
+use Rattle.mcf_assign.specs.Private.Rooms.{out_count}
+use Rattle.mcf_assign.specs.Private.RowLists.{IsRowArc, forward_of}
+use Rattle.mcf_assign.specs.Private.Scans.{all_forward}
+
+abbrev forward : ℕ → Rid
+forward k = record { arc = k; back = false }
+
+pub all_has : (g : Network) (k : ℕ) → IsArcNumber g k → Contains (all_forward g) (forward k)
+all_has g k h =
+    let within = h.1 in
+    let from = h.0 in (
+      k - 1,
+      omega (arith, within, from, length-map (range_with_len 1 (length g.arcs)) forward, length-range_with_len 1 (length g.arcs)),
+      get_or-map-range_with_len forward 1 (length g.arcs) (k - 1) k (forward k) (omega (arith, within, from)) (omega (arith, from)),
+    )
+
+-- ---- counts
+
+-- items of a list that pass a test, each once, are no more than pass it in the list
+once_few : {X : Type 0} (p : X → Bool) (xs ys : List X) → AllPairs (λ x y. x ≢ y) xs → All (λ x. p x ≡ true) xs → ((x : X) → Contains xs x → Contains ys x)
+    → length xs ≤ count_by p ys
+once_few p [] ys once each within = omega arith
+once_few p (x ∷ xs) ys once each within =
+    let at = within x (0, omega arith, refl) in
+    let out = IsPermutation-remove ys at.0 x at.1 (sym at.2) in
+    let rest = once_few p xs (remove ys at.0) (λ i j d l m. once (suc i) (suc j) d (omega (arith, l)) (omega (arith, m)))
+    (All-tail (λ x. p x ≡ true) x xs each)
+    (λ z has. elim (Contains-cons x (remove ys at.0) z (Contains-permutation ys (x ∷ remove ys at.0) z out (within z (let (i, h, e) = has in (suc i, omega (arith, h), e))))) [
+      | inl e ↦ absurd (let (i, h, f) = has in once 0 (suc i) z (omega arith) (omega (arith, h)) (e ∙ sym f))
+      | inr more ↦ more
+    ]) in
+    let same = sum_by-IsPermutation (λ z. cond (p z) 1 0) ys (x ∷ remove ys at.0) out in
+    let cons = sum_by-cons (λ z. cond (p z) 1 0) x (remove ys at.0) in
+    let one : cond {A = ℕ} (p x) 1 0 ≡ 1 = ap (λ b. cond {A = ℕ} b 1 0) (All-head (λ x. p x ≡ true) x xs each) in
+    omega (arith, rest, same, cons, one)
+
+-- what passes one of two tests that exclude each other passes a third
+apart_few : {X : Type 0} (p q r : X → Bool) (xs : List X) → ((x : X) → cond (p x) 1 0 + cond (q x) 1 0 ≤ cond (r x) 1 0) → count_by p xs + count_by q xs ≤ count_by r xs
+apart_few p q r [] few = omega arith
+apart_few p q r (x ∷ xs) few =
+    let rest = apart_few p q r xs few in
+    let here = few x in
+    let a = sum_by-cons (λ z. cond (p z) 1 0) x xs in
+    let b = sum_by-cons (λ z. cond (q z) 1 0) x xs in
+    let c = sum_by-cons (λ z. cond (r z) 1 0) x xs in
+    omega (arith, rest, here, a, b, c)
+
+-- ---- arcs that leave nodes
+
+-- a forward arc that leaves the node
+pub record IsOut (g : Network) (v : ℕ) (r : Rid) : Type 0 where
+  pub arc : IsArcNumber g r.arc
+  pub forth : r.back ≡ false
+  pub from : (arc_at g r.arc).src ≡ v
+
+rid_is : (r : Rid) → r.back ≡ false → forward r.arc ≡ r
+rid_is r e = ap (λ b. rid_of b) (sym e)
+  where
+    rid_of : Bool → Rid
+    rid_of b = record { arc = r.arc; back = b }
+
+pub outs_few : (g : Network) (v : ℕ) (list : List Rid) → All (IsOut g v) list → AllPairs (λ r q. r ≢ q) list → length list ≤ out_count g (v ∷ [])
+unfolding out_count
+outs_few g v list each once =
+    once_few (λ (r : Rid). list_any (λ u. eqb (arc_at g r.arc).src u) (v ∷ [])) list (all_forward g) once
+    (λ i d h. let is = each i d h in ap (λ b. b || false) (eq-eqb (arc_at g (get_or list i d).arc).src v is.from))
+    (λ r has. let (i, h, e) = has in
+    let is = subst (λ x. IsOut g v x) e (each i r h) in
+    subst (λ x. Contains (all_forward g) x) (rid_is r is.forth) (all_has g r.arc is.arc))
+
+-- no more arcs are kept of a row than leave it
+pub kept_few : (g : Network) (v : ℕ) (kept : List RowArc) → All (IsRowArc g v) kept → AllPairs (λ r q. r ≢ q) (map forward_of kept)
+    → length kept ≤ out_count g (v ∷ [])
+kept_few g v kept each once =
+    let few = outs_few g v (map forward_of kept) (each_out kept each) once in
+    let same = length-map kept forward_of in
+    omega (arith, few, same)
+  where
+    each_out : (list : List RowArc) → All (IsRowArc g v) list → All (IsOut g v) (map forward_of list)
+    each_out [] each i d h = absurd (omega (arith, h))
+    each_out (a ∷ list) each zero d h = (let is = All-head (IsRowArc g v) a list each in record { arc = is.arc; forth = refl; from = is.from })
+    each_out (a ∷ list) each (suc i) d h = each_out list (All-tail (IsRowArc g v) a list each) i d (omega (arith, h))
+
+-- there are no more than arcs
+pub out_all : (g : Network) (nodes : List ℕ) → out_count g nodes ≤ length g.arcs
+unfolding out_count
+out_all g nodes =
+    let few = count_by-le-length (λ (r : Rid). list_any (λ u. eqb (arc_at g r.arc).src u) nodes) (all_forward g) in
+    let a = length-map (range_with_len 1 (length g.arcs)) forward in
+    let b = length-range_with_len 1 (length g.arcs) in
+    omega (arith, few, a, b)
+
+or_few : (a b : Bool) → (a ≡ true → b ≡ true → ⊥) → cond a 1 0 + cond b 1 0 ≤ cond (a || b) 1 0
+or_few true true apart = absurd (apart refl refl)
+or_few true false apart = omega arith
+or_few false true apart = omega arith
+or_few false false apart = omega arith
+
+-- more nodes, no fewer arcs
+pub out_more : (g : Network) (xs ys : List ℕ) → out_count g xs ≤ out_count g (xs ++ ys)
+unfolding out_count
+out_more g xs ys =
+    let few = apart_few (λ (r : Rid). list_any (eqb (arc_at g r.arc).src) xs) (λ r. false) (λ (r : Rid). list_any (eqb (arc_at g r.arc).src) (xs ++ ys))
+    (all_forward g) (λ r. more (list_any (eqb (arc_at g r.arc).src) xs) (list_any (eqb (arc_at g r.arc).src) ys) (list_any (eqb (arc_at g r.arc).src) (xs ++ ys))
+    (list_any-append (eqb (arc_at g r.arc).src) xs ys)) in
+    omega (arith, few)
+  where
+    more : (a b c : Bool) → c ≡ (a || b) → cond a 1 0 + cond false 1 0 ≤ cond c 1 0
+    more true b c e = let one : cond {A = ℕ} c 1 0 ≡ 1 = ap (λ z. cond {A = ℕ} z 1 0) e in omega (arith, one)
+    more false b c e = omega arith
+
+-- one node more that wasn't among them
+pub out_push : (g : Network) (xs : List ℕ) (v : ℕ) → ¬ Contains xs v → out_count g xs + out_count g (v ∷ []) ≤ out_count g (xs ++ v ∷ [])
+unfolding out_count
+out_push g xs v fresh =
+    apart_few (λ (r : Rid). list_any (eqb (arc_at g r.arc).src) xs) (λ (r : Rid). list_any (eqb (arc_at g r.arc).src) (v ∷ []))
+    (λ (r : Rid). list_any (eqb (arc_at g r.arc).src) (xs ++ v ∷ [])) (all_forward g)
+    (λ r. let u = (arc_at g r.arc).src in
+    subst (λ c. cond (list_any (eqb u) xs) 1 0 + cond (list_any (eqb u) (v ∷ [])) 1 0 ≤ cond c 1 0) (sym (list_any-append (eqb u) xs (v ∷ [])))
+    (or_few (list_any (eqb u) xs) (list_any (eqb u) (v ∷ [])) (λ a b. fresh (subst (λ w. Contains xs w) (only u b) (listed u xs a)))))
+  where
+    listed : (u : ℕ) (list : List ℕ) → list_any (eqb u) list ≡ true → Contains list u
+    listed u list h = Contains-from_any eqb-true u list h
+
+    only : (u : ℕ) → list_any (eqb u) (v ∷ []) ≡ true → u ≡ v
+    only u h =
+        elim (Contains-cons v [] u (listed u (v ∷ []) h)) [
+          | inl e ↦ sym e
+          | inr none ↦ absurd (let (i, l, e) = none in omega (arith, l))
+        ]
+
+-- ---- rows that were scanned
+
+-- a list that got longer
+pub out_longer : (g : Network) (xs ys more : List ℕ) (i : ℕ) → ys ≡ xs ++ more → out_count g (take i xs) ≤ out_count g (take i ys)
+out_longer g xs ys more i e = elim (cases_lt i (length xs)) [
+  | inl l ↦ (
+      let same = ap (λ z. out_count g z) (ap (λ z. take i z) e ∙ take-append-le i xs more (omega (arith, l))) in
+      omega (arith, same))
+  | inr m ↦ (
+      let all : take i ys ≡ take i xs ++ take (i - length xs) more = ap (λ z. take i z) e
+      ∙ ap (λ j. take j (xs ++ more)) (let f : i ≡ length xs + (i - length xs) = omega (arith, m) in f)
+      ∙ take-append-add xs more (i - length xs)
+      ∙ ap (λ z. z ++ take (i - length xs) more) (sym (take_all i xs m)) in
+      subst (λ z. out_count g (take i xs) ≤ out_count g z) (sym all) (out_more g (take i xs) (take (i - length xs) more)))
+]
+
+-- one row more of the order, and the column behind it
+pub out_scanned : (g : Network) (order : List ℕ) (i v : ℕ) → AllPairs (λ u w. u ≢ w) order → i < length order → get_or order i 0 ≡ v
+    → out_count g (take i order) + out_count g (v ∷ []) ≤ out_count g (take (i + 2) order)
+out_scanned g order i v once inside at =
+    let one : take (i + 1) order ≡ take i order ++ v ∷ [] = take_more order i 0 inside ∙ ap (λ w. take i order ++ w ∷ []) at in
+    let two : out_count g (take (i + 1) order) ≤ out_count g (take (i + 2) order) = next in
+    let here = out_push g (take i order) v fresh in
+    let same = ap (λ l. out_count g l) one in
+    omega (arith, two, here, same)
+  where
+    fresh : ¬ Contains (take i order) v
+    fresh (j, l, e) =
+        let before : j < i = omega (arith, l, length-take-le i order (omega (arith, inside))) in
+        once j i v before inside (sym (get_or-take i order j v before) ∙ e ∙ sym (get_or_default order i v 0 inside ∙ at))
+
+    next : out_count g (take (i + 1) order) ≤ out_count g (take (i + 2) order)
+    next = elim (cases_lt (i + 1) (length order)) [
+      | inl l ↦ (
+          let two : i + 2 ≡ i + 1 + 1 = omega arith in
+          subst (λ (xs : List ℕ). out_count g (take (i + 1) order) ≤ out_count g xs) (sym (ap (λ j. take j order) two ∙ take_more order (i + 1) 0 l))
+          (out_more g (take (i + 1) order) (get_or order (i + 1) 0 ∷ [])))
+      | inr m ↦ (
+          let a = take_all (i + 1) order (omega (arith, m)) in
+          let b = take_all (i + 2) order (omega (arith, m)) in
+          let same = ap (λ l. out_count g l) (a ∙ sym b) in
+          omega (arith, same))
+    ]
+
+-- ---- want of memory
+
+-- whatever comes of it
+pub on_err : {T E : Type 0} (r : Result T E) (P : Type 0) → P → OnErr r P
+on_err (Ok x) P h = tt
+on_err (Err e) P h = h
