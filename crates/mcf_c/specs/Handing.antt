@@ -18,8 +18,10 @@ use Rattle.mcf_instance.specs.declared.arrays.ArrayFault.{ArrayFault}
 use Rattle.mcf_flows.specs.declared.problem.Problem.TheVariants.{Min}
 use Rattle.mcf_flows.specs.declared.problem.Side.{Side}
 use Rattle.mcf_solver.specs.Answering.{IsLeastFlow, IsLeastSolution}
-use Rattle.mcf_solver.specs.Making.{meant, suited}
+use Rattle.mcf_solver.specs.Making.{IsMadeBy, StandsForMade, meant, suited}
+use Rattle.mcf_solver.specs.declared.choice.Choice.{Choice}
 use Rattle.mcf_solver.specs.declared.choice.EngineChoice.{EngineChoice}
+use Rattle.mcf_solver.specs.declared.choice.Form.TheVariants.{One}
 
 -- a flow by arc that no feasible flow undercuts, its cost, and prices by node that show it
 pub record HandsFlow (g : Network) (flow prices : List ℤ) (told : McfVerdict) : Type 0 where
@@ -27,6 +29,14 @@ pub record HandsFlow (g : Network) (flow prices : List ℤ) (told : McfVerdict) 
   pub right : IsRightFlow g cost prices flow
   pub least : IsLeastFlow g prices flow
   pub tells : Tells (Flow cost) told
+
+-- the flow is what a least state stands for that was made by a new engine, the one that the choice means for the problem
+abbrev pub IsMadeFlow : Choice → Network → List ℤ → Type 0
+IsMadeFlow choice g flow = StandsForMade (IsMadeBy choice) g flow
+
+-- the choice with the first form
+abbrev pub in_one_form : Choice → Choice
+in_one_form c = record { engine = c.engine; pricing = c.pricing; block = c.block; form = One }
 
 -- the nodes that are marked by 1
 abbrev pub marked : List ℤ → ℕ → Bool

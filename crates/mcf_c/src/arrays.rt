@@ -1,7 +1,7 @@
 //! Flow problems and assignment problems solved in arrays, with no text.
 ghost use Rattle.std.specs.Prelude.{◌≡◌, ◌≢◌, ◌≤◌, ◌<◌, ◌⊎◌, ◌↔◌, ◌+◌, IfErr, IfOk, IfSome, None, is_ok, length, true, false};
 ghost use Rattle.mcf_c.specs.Choices.{choice_of};
-ghost use Rattle.mcf_c.specs.Handing.{HandsFault, HandsFlow, HandsSet, HasWideNumber, TakesMemory};
+ghost use Rattle.mcf_c.specs.Handing.{HandsFault, HandsFlow, HandsSet, HasWideNumber, IsMadeFlow, TakesMemory};
 ghost use Rattle.mcf_c.specs.Problems.{assignment_network, flow_network};
 ghost use Rattle.mcf_c.specs.Verdicts.{TellsFault};
 ghost use Rattle.mcf_flows.specs.Limits.{limits};
@@ -30,6 +30,7 @@ fn answer_made(
     requires prices { IfOk made (λ g. length prices.old ≡ node_count g) }
     ensures statuses { (result ≤ 3) ⊎ (result ≡ 6) }
     ensures flow { result ≡ 0 → IfOk made (λ g. HandsFlow g flow.new prices.new told.new) × (is_ok made ≡ true) }
+    ensures made { result ≡ 0 → IfOk made (λ g. IsMadeFlow choice g flow.new) }
     ensures set { result ≡ 1 → IfOk made (λ g. HandsSet g prices.new told.new) × (is_ok made ≡ true) }
     ensures fault { result ≡ 2 → IfErr made (λ fault. TellsFault fault told.new) × (is_ok made ≡ false) }
     ensures memory { result ≡ 3 → IfOk made (λ g. TakesMemory choice.engine g) × (is_ok made ≡ true) }
@@ -64,6 +65,7 @@ pub extern "C" fn mcf_solve_arcs(
 ) -> u32
     ensures statuses { result ≤ 6 }
     ensures flow { result ≡ 0 → HandsFlow (flow_network problem.now) flow.new prices.new told.new }
+    ensures made { result ≡ 0 → IfSome (choice_of choice.now) (λ c. IsMadeFlow c (flow_network problem.now) flow.new) }
     ensures set { result ≡ 1 → HandsSet (flow_network problem.now) prices.new told.new }
     ensures fault { result ≡ 2 → HandsFault (flow_network problem.now) told.new }
     ensures within { (result ≤ 1) ⊎ (result ≡ 6) → IsWellFormed limits (flow_network problem.now) }
@@ -110,6 +112,7 @@ pub extern "C" fn mcf_solve_pairs(
 ) -> u32
     ensures statuses { result ≤ 6 }
     ensures flow { result ≡ 0 → HandsFlow (assignment_network problem.now) flow.new prices.new told.new }
+    ensures made { result ≡ 0 → IfSome (choice_of choice.now) (λ c. IsMadeFlow c (assignment_network problem.now) flow.new) }
     ensures set { result ≡ 1 → HandsSet (assignment_network problem.now) prices.new told.new }
     ensures fault { result ≡ 2 → HandsFault (assignment_network problem.now) told.new }
     ensures within { (result ≤ 1) ⊎ (result ≡ 6) → IsWellFormed limits (assignment_network problem.now) }

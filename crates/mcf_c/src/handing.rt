@@ -2,7 +2,7 @@
 ghost use Rattle.std.specs.Prelude.{◌≡◌, ◌≢◌, ◌≤◌, ◌<◌, ◌⊎◌, ◌↔◌, FitsSigned, IfOk, List, Ok, OnErr, length, map, set, true, false, ℤ, ℕ, pos};
 ghost use Rattle.std.specs.Int.{w64};
 ghost use Rattle.std.specs.List.{All};
-ghost use Rattle.mcf_c.specs.Handing.{FitWords, HandsFlow, HandsSet, HasWideNumber, TakesMemory, mark_of, marked};
+ghost use Rattle.mcf_c.specs.Handing.{FitWords, HandsFlow, HandsSet, HasWideNumber, IsMadeFlow, TakesMemory, in_one_form, mark_of, marked};
 ghost use Rattle.mcf_c.specs.Verdicts.{Tells, TellsSet};
 ghost use Rattle.mcf_checker.specs.Correct.{amounts};
 ghost use Rattle.mcf_flows.specs.Blocking.{in_list, in_table};
@@ -158,6 +158,7 @@ pub(crate) fn answer_instance(
     requires prices { length prices.old ≡ node_count instance.now }
     ensures statuses { (result ≤ 1) ⊎ ((result ≡ 3) ⊎ (result ≡ 6)) }
     ensures flow { result ≡ 0 → HandsFlow instance.now flow.new prices.new told.new }
+    ensures made { result ≡ 0 → IsMadeFlow choice instance.now flow.new }
     ensures set { result ≡ 1 → HandsSet instance.now prices.new told.new }
     ensures memory { result ≡ 3 → TakesMemory choice.engine instance.now }
     ensures wide { result ≡ 6 → HasWideNumber instance.now }
@@ -178,8 +179,7 @@ pub(crate) fn answer_instance(
 
 // The choice with the first form.
 fn in_one_form(choice: Choice) -> Choice
-    ensures form { result.form ≡ Form.One }
-    ensures engine { result.engine ≡ choice.engine }
+    ensures { result ≡ in_one_form choice }
 {
     Choice {
         engine: choice.engine,
