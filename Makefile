@@ -10,7 +10,7 @@
 # make dist-test    installs these packages where nothing of the repository is, and runs them: needs debootstrap and root for the .deb
 # make page         the page that solves, bin/mcf.html: needs rt, Binaryen and LLVM's library of builtins for wasm64
 # make page-test    clicks through that page in headless Chromium and Firefox, where these are there, by node: a minute
-# make install      puts the programs, the tools and the manual pages, and the library and its Python package where it is built, under PREFIX (and DESTDIR before it); make uninstall removes just these
+# make install      puts the programs, the tools, the manual pages and the completion of the shells, and the library, its Python package and the page where they are built, under PREFIX (and DESTDIR before it); make uninstall removes just these
 
 .PHONY: all kit test memory-test clean bench tools-test library library-test dist dist-test page page-test install install-library uninstall
 .NOTPARALLEL:
@@ -73,7 +73,10 @@ BIN = $(DESTDIR)$(PREFIX)/bin
 MAN = $(DESTDIR)$(PREFIX)/share/man/man1
 TOOLS = mcf_plan mcf_explain mcf_one
 PACKAGES = mcf_plan mcf_explain
-PYTHON = $(DESTDIR)$(PREFIX)/share/mcf/python
+BASH = $(DESTDIR)$(PREFIX)/share/bash-completion/completions
+ZSH = $(DESTDIR)$(PREFIX)/share/zsh/site-functions
+SHARED = $(DESTDIR)$(PREFIX)/share/mcf
+PYTHON = $(SHARED)/python
 LIB = $(DESTDIR)$(PREFIX)/lib
 INCLUDE = $(DESTDIR)$(PREFIX)/include
 VERSION = $(shell sed -n 's/.*"mcf \([0-9.]*\).*/\1/p' crates/mcf_suite/src/version.rt)
@@ -81,10 +84,14 @@ VERSION = $(shell sed -n 's/.*"mcf \([0-9.]*\).*/\1/p' crates/mcf_suite/src/vers
 # Nothing is built here, so that what was proved by one user can be installed by another.
 install:
 	@test -x bin/mcf && test -x bin/mcfcheck || { echo "make install: bin/mcf and bin/mcfcheck aren't there; run make first" >&2; exit 1; }
-	install -d "$(BIN)" "$(MAN)" $(PACKAGES:%="$(PYTHON)/%")
+	install -d "$(BIN)" "$(MAN)" "$(BASH)" "$(ZSH)" $(PACKAGES:%="$(PYTHON)/%")
 	install -m 755 bin/mcf bin/mcfcheck $(TOOLS:%=tools/%) "$(BIN)"
 	for package in $(PACKAGES); do install -m 644 python/$$package/*.* "$(PYTHON)/$$package" || exit 1; done
 	install -m 644 man/mcf.1 man/mcfcheck.1 $(TOOLS:%=man/%.1) "$(MAN)"
+	install -m 644 completion/mcf.bash "$(BASH)/mcf"
+	for command in mcfcheck $(TOOLS); do ln -sf mcf "$(BASH)/$$command" || exit 1; done
+	install -m 644 completion/_mcf "$(ZSH)"
+	@if test -f bin/mcf.html; then install -m 644 bin/mcf.html "$(SHARED)"; else echo "make install: the page isn't built (make page), and is left out"; fi
 	@if test -f bin/libmcf.so.1; then $(MAKE) --no-print-directory install-library; else echo "make install: the library isn't built (make library), and is left out"; fi
 
 install-library:
@@ -99,6 +106,7 @@ install-library:
 uninstall:
 	rm -f "$(BIN)/mcf" "$(BIN)/mcfcheck" $(TOOLS:%="$(BIN)/%")
 	rm -f "$(MAN)/mcf.1" "$(MAN)/mcfcheck.1" $(TOOLS:%="$(MAN)/%.1")
+	rm -f "$(BASH)/mcf" "$(BASH)/mcfcheck" $(TOOLS:%="$(BASH)/%") "$(ZSH)/_mcf" "$(SHARED)/mcf.html"
 	rm -rf $(PACKAGES:%="$(PYTHON)/%") "$(PYTHON)/mcf"
 	rm -f "$(LIB)/libmcf.so.1" "$(LIB)/libmcf.so" "$(LIB)/libmcf.a" "$(LIB)/pkgconfig/mcf.pc" "$(INCLUDE)/mcf.h"
-	@rmdir "$(PYTHON)" "$(DESTDIR)$(PREFIX)/share/mcf" 2> /dev/null || true
+	@rmdir "$(PYTHON)" "$(SHARED)" 2> /dev/null || true

@@ -1,8 +1,8 @@
 #!/usr/bin/env python3
 """Packs what `make` and `make library` left in bin/: a tar.gz, a .deb where dpkg-deb is, and a wheel, with PROVENANCE and SHA256SUMS beside them.
 
-Nothing is built here. What is packed is what `make install` puts, and the completion of the shells; the texts of the packages stand in packaging/. The
-same commit with the same programs and the same tools gives the same bytes: times are the commit's, owners are root, files come in order.
+Nothing is built here. What is packed is what `make install` puts; the texts of the packages stand in packaging/. The same commit with the same
+programs and the same tools gives the same bytes: times are the commit's, owners are root, files come in order.
 
 Usage: scripts/dist.py [FOLDER]      into bin/dist, which is made anew, or into a folder that isn't there yet
 """
@@ -23,8 +23,9 @@ import zipfile
 TOP = pathlib.Path(__file__).resolve().parent.parent
 BIN = TOP / "bin"
 PACKAGING = TOP / "packaging"
-PROGRAMS, LIBRARIES = ("mcf", "mcfcheck"), ("libmcf.so.1", "libmcf.a")
-COMPLETED = ("mcfcheck", "mcf_plan", "mcf_explain", "mcf_one")
+# What is packed of bin/, the target that makes it, and what it is made of. The page alone may be left out.
+BUILT = {"mcf": ("make", "crates/"), "mcfcheck": ("make", "crates/"), "libmcf.so.1": ("make library", "crates/"), "libmcf.a": ("make library", "crates/"),
+         "mcf.html": ("make page", "crates/", "page/")}
 
 
 def stop(why):
@@ -53,13 +54,13 @@ def look(version, proved):
     """Stops where bin/ lacks something, or has what can't be of this commit."""
     if (platform.system(), platform.machine()) != ("Linux", "x86_64"):
         stop("packages are for Linux on x86-64, and made there")
-    changed = int(git("log", "-1", "--format=%ct", "--", "crates"))
-    for names, target in ((PROGRAMS, "make"), (LIBRARIES, "make library")):
-        for name in names:
-            if not (BIN / name).is_file():
-                stop(f"bin/{name} isn't there; run {target} first")
-            if (BIN / name).stat().st_mtime < changed:
-                stop(f"bin/{name} is older than the last change of crates/; run {target} again")
+    for name, (target, *sources) in BUILT.items():
+        if not (BIN / name).is_file():
+            if name == "mcf.html":
+                continue
+            stop(f"bin/{name} isn't there; run {target} first")
+        if (BIN / name).stat().st_mtime < int(git("log", "-1", "--format=%ct", "--", *sources)):
+            stop(f"bin/{name} is older than the last change of {' and '.join(sources)}; run {target} again")
     said = subprocess.run([str(BIN / "mcf"), "--version"], stdout=subprocess.PIPE).stdout.decode()
     if said != f"mcf {version}\n{proved}\n":
         stop("bin/mcf says another version or prover than crates/mcf_suite/src/version.rt; run make again")
@@ -81,16 +82,12 @@ def put(path, text):
     path.write_text(text)
 
 
-def stage(tree, version, provenance):
+def stage(tree, provenance):
     """Installs all into a folder, as below /usr."""
     shared = tree / "usr/share"
     words = ["make", "--no-print-directory", "-C", str(TOP), "install", f"DESTDIR={tree}", "PREFIX=/usr"]
     subprocess.run(words, stdout=subprocess.DEVNULL, check=True)
     put(shared / "doc/yokdelm/PROVENANCE", provenance)
-    put(shared / "bash-completion/completions/mcf", (TOP / "completion/mcf.bash").read_text())
-    for name in COMPLETED:
-        (shared / "bash-completion/completions" / name).symlink_to("mcf")
-    put(shared / "zsh/site-functions/_mcf", (TOP / "completion/_mcf").read_text())
 
 
 def pack_tar(tree, path, top, at):
@@ -121,7 +118,7 @@ def pack_deb(tree, path, version, at):
         put(packages / f"yokdelm-{version}.dist-info" / name, filled(f"python/{name}", VERSION=version))
     (tree / "usr/share/zsh/site-functions").rename(tree / "usr/share/zsh/vendor-completions")
     size = sum(file.lstat().st_size for file in tree.rglob("*") if file.is_file())
-    needed = libc(*(BIN / name for name in (*PROGRAMS, "libmcf.so.1")))
+    needed = libc(*(BIN / name for name in ("mcf", "mcfcheck", "libmcf.so.1")))
     control = filled("debian/control", VERSION=version, MAINTAINER=git("log", "-1", "--format=%an <%ae>"), SIZE=size // 1024 + 1, LIBC=f"2.{needed}")
     put(tree / "DEBIAN/control", control)
     for name in ("prerm", "triggers"):
@@ -166,7 +163,7 @@ def main(folder):
     elif folder.exists():
         stop(f"{folder} is there already")
     folder.mkdir(parents=True)
-    stage(tree, version, provenance)
+    stage(tree, provenance)
     name = f"yokdelm-{version}-linux-x86_64"
     pack_tar(tree / "usr", folder / f"{name}.tar.gz", name, at)
     if shutil.which("dpkg-deb"):

@@ -1,6 +1,6 @@
 #!/bin/sh
 # Installs what is built into a folder of its own, runs each tool from there with nothing of the repository on the path, shows the
-# manual pages, and takes all away again, in some three seconds. It says what is skipped.
+# manual pages, has the shells complete, and takes all away again, in some three seconds. It says what is skipped.
 set -u
 cd "$(dirname "$0")/.." || exit 1
 top=$PWD
@@ -53,6 +53,19 @@ print(r.cost, r.flow)'
     step 0 "" env LD_LIBRARY_PATH="$root/usr/lib" ./c
 }
 
+# What the shells load for each command.
+completion() {
+    for command in mcf mcfcheck mcf_plan mcf_explain mcf_one; do
+        step 0 "-F _mcf $command" bash -c '. "$1" && complete -p "$2"' bash "$root/usr/share/bash-completion/completions/$command" "$command"
+    done
+    if command -v zsh > /dev/null; then
+        step 0 "_mcf _mcf _mcf _mcf _mcf" zsh -fc 'fpath=($1 $fpath); autoload -Uz compinit; compinit -u -D
+            echo $_comps[mcf] $_comps[mcfcheck] $_comps[mcf_plan] $_comps[mcf_explain] $_comps[mcf_one]; autoload +X _mcf' zsh "$root/usr/share/zsh/site-functions"
+    else
+        skip "the completion of zsh: there is no zsh"
+    fi
+}
+
 # Each page at the widths of a narrow, a usual and a wide terminal.
 pages() {
     for page in "$root"/usr/share/man/man1/*.1; do
@@ -78,6 +91,8 @@ grep -rqF "$top" "$root" && fail "what is installed names the folder of the repo
 programs
 if [ -n "$python" ]; then tools; else skip "mcf_plan and mcf_explain: there is no Python 3.8 or newer"; fi
 if [ ! -e "$root/usr/lib/libmcf.so.1" ]; then skip "the library isn't built (make library builds it)"; elif [ -n "$python" ]; then library; fi
+if command -v bash > /dev/null; then completion; else skip "completion: there is no bash"; fi
+if [ -f bin/mcf.html ]; then cmp bin/mcf.html "$root/usr/share/mcf/mcf.html" || fail "the page"; else skip "the page isn't built (make page builds it)"; fi
 if command -v man > /dev/null; then pages; else skip "the manual pages: there is no man"; fi
 echo kept > "$root/usr/share/mcf/kept"
 made uninstall
