@@ -88,6 +88,7 @@ def stage(tree, provenance):
     words = ["make", "--no-print-directory", "-C", str(TOP), "install", f"DESTDIR={tree}", "PREFIX=/usr"]
     subprocess.run(words, stdout=subprocess.DEVNULL, check=True)
     put(shared / "doc/yokdelm/PROVENANCE", provenance)
+    put(shared / "doc/yokdelm/copyright", (PACKAGING / "copyright").read_text())
 
 
 def pack_tar(tree, path, top, at):
@@ -138,6 +139,7 @@ def pack_wheel(folder, version, provenance, at):
     for name in ("METADATA", "WHEEL", "entry_points.txt"):
         files[f"{about}/{name}"] = filled(f"python/{name}", VERSION=version, TAG=tag).encode()
     files[f"{about}/PROVENANCE"] = provenance.encode()
+    files[f"{about}/copyright"] = (PACKAGING / "copyright").read_bytes()
     sums = {name: base64.urlsafe_b64encode(hashlib.sha256(data).digest()).rstrip(b"=").decode() for name, data in files.items()}
     record = [f"{name},sha256={sums[name]},{len(data)}\n" for name, data in files.items()] + [f"{about}/RECORD,,\n"]
     files[f"{about}/RECORD"] = "".join(record).encode()

@@ -59,6 +59,7 @@ deb() {
 import importlib.metadata
 assert importlib.metadata.version('yokdelm') == mcf.__version__
 assert any(e.name == 'mcf' for e in importlib.metadata.entry_points()['networkx.backends'])"
+    step "what is said of licences" grep -q "no licence has been chosen yet" "$root/usr/share/doc/yokdelm/copyright"
     step "the linker finds the library" chroot "$root" sh -c "ldconfig -p | grep -q 'libmcf.so.1 '"
     step "manual pages" chroot "$root" sh -ec 'for page in mcf mcfcheck mcf_plan mcf_explain mcf_one; do man "$page" | grep -q "^NAME"; done'
     step "completion" chroot "$root" env MCF_BIN=/usr/bin python3 /src/python/tests/run.py test_completion
