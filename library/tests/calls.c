@@ -100,6 +100,26 @@ static int check_arcs(void) {
     return 0;
 }
 
+/* A chain of more than 9223 arcs that cost 10^15 each and carry 1: the last price is below all that 64 bits hold. */
+static int check_wide(void) {
+    enum { COUNT = 9224 };
+    static struct mcf_arc arcs[COUNT];
+    static int64_t supplies[COUNT + 1], flow[COUNT], prices[COUNT + 1];
+    static const struct mcf_flow_problem problem = {supplies, COUNT + 1, arcs, COUNT};
+    struct mcf_verdict told;
+    uint32_t place;
+    for (place = 0; place < COUNT; place++) {
+        arcs[place].src = place + 1;
+        arcs[place].dst = place + 2;
+        arcs[place].cap = 2;
+        arcs[place].cost = INT64_C(1000000000000000);
+    }
+    supplies[0] = 1;
+    supplies[COUNT] = -1;
+    CHECK(41, mcf_solve_arcs(&problem, &standard, flow, COUNT, prices, COUNT + 1, &told) == MCF_WIDE);
+    return 0;
+}
+
 static int check_pairs(void) {
     static const struct mcf_pair pairs[5] = {{1, 1, 4}, {1, 2, 1}, {2, 1, 2}, {2, 2, -3}, {1, 2, 0}};
     static const struct mcf_pair wrong[1] = {{3, 1, 0}};
@@ -120,6 +140,7 @@ static int check_pairs(void) {
 
 int main(int count, char **words) {
     int place, status = check_arcs();
+    if (status == 0) status = check_wide();
     if (status == 0) status = check_pairs();
     for (place = 1; status == 0 && place + 1 < count; place += 2) status = check_text(words[place + 1], (uint32_t)atoi(words[place]));
     return status;

@@ -94,6 +94,15 @@ class Solving(unittest.TestCase):
         self.assertEqual((r.cost, r.verdict.number), (10 ** 33, 10 ** 33))
         self.assertEqual(mcf.solve([10 ** 18, -10 ** 18], [(0, 1, 10 ** 18, -10 ** 15)]).cost, -10 ** 33)
 
+    def test_a_price_beyond_64_bits(self):
+        for count in (9223, 9224):
+            chain = [1] + [0] * (count - 1) + [-1], [(k, k + 1, 2, 10 ** 15) for k in range(count)]
+            if count == 9223:
+                r = mcf.solve(*chain)
+                self.assertEqual((r.cost, r.prices[-1]), (count * 10 ** 15, -count * 10 ** 15))
+            else:
+                self.assertRaisesRegex(OverflowError, "64 bits", mcf.solve, *chain)
+
     def test_assignment(self):
         C = [[4, 1, 3], [2, 0, 5], [3, 2, 2]]
         self.assertEqual(mcf.linear_sum_assignment(C), ([0, 1, 2], [1, 0, 2]))
