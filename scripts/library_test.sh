@@ -1,6 +1,6 @@
 #!/bin/sh
-# The tests of the library from C, C++, Rust and Python, where a compiler or an interpreter is there; they may take four minutes. It says what
-# is skipped. The library stands in bin/, as make library leaves it.
+# The tests of the library from C, C++, Rust and Python, where a compiler or an interpreter is there, those of networkx and scipy among them, where
+# these are installed; they may take four minutes. It says what is skipped. The library stands in bin/, as make library leaves it.
 set -u
 cd "$(dirname "$0")/.." || exit 1
 top=$PWD
@@ -28,6 +28,16 @@ texts() {
     done
 }
 
+# What a package of Python's tests of itself, by the first interpreter that has it and pytest.
+others() {
+    for python in python3 /usr/bin/python3; do
+        "$python" -c "import $1, pytest" > /dev/null 2>&1 || continue
+        step "what $1 tests of itself" env MCF_LIBRARY="$top/bin/libmcf.so" "$python" python/tests/foreign.py "$1"
+        return
+    done
+    echo "library-test: skipped: what $1 tests of itself: no Python here has $1 and pytest"
+}
+
 [ -f bin/libmcf.so ] && [ -f bin/libmcf.a ] || { echo "library-test: skipped: the library isn't built (make library builds it)"; exit 0; }
 mkdir -p "$out"
 if has cc C; then
@@ -43,4 +53,6 @@ fi
 has c++ C++ && step "the header in C++" c++ -std=c++98 -Wall -Wextra -Werror -Wno-long-long -x c++ -fsyntax-only library/mcf.h
 has cargo Rust && step "Rust" env MCF_LIB_DIR="$top/bin" CARGO_TARGET_DIR="$out/rust" cargo test --offline --quiet --manifest-path library/rust/Cargo.toml
 has python3 Python && step "Python" env MCF_LIBRARY="$top/bin/libmcf.so" python3 python/tests/library.py
+others networkx
+others scipy
 exit $failed
