@@ -121,6 +121,10 @@ async function planner(page, { set, act, go, kind, example, ended }) {
   await set('dimacs', fs.readFileSync(path.join(top, 'examples', 'transport.min'), 'utf8'));
   ({ text } = await go());
   expect(text.includes('Least cost: 14') && text.includes('accepted flow 14'), 'a text');
+  await set('engine', 'augment');
+  ({ text } = await go());
+  expect(await page.run("document.getElementById('engine').value") === 'augment' && text.includes('accepted flow 14'), 'a text by another engine');
+  await set('engine', 'auto');
   await ended();
 }
 

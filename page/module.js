@@ -10,7 +10,15 @@ const CODES = [
   '', 'kind', 'fields', 'problem', 'number', 'second-p', 'before-p', 'size', 'node', 'late-n', 'twice', 'supply', 'bound', 'order', 'cost',
   'extra', 'side', 'total', 'no-p', 'missing',
 ];
-const ENGINES = ['auto', 'cancel', 'simplex', 'scaling', 'sap'];
+const ENGINES = ['auto', 'cancel', 'simplex', 'scaling', 'sap', 'augment'];
+// A flow problem of more nodes goes to the search that is judged, where no engine is asked.
+const LARGE = 2 ** 15;
+
+// The engine that suits a text by its size, where its beginning has the problem line.
+function suited(bytes) {
+  const line = /^[ \t]*p[ \t]+min[ \t]+(\d+)/m.exec(new TextDecoder().decode(bytes.subarray(0, 4096)));
+  return line && Number(line[1]) > LARGE ? 'augment' : 'auto';
+}
 
 // An instance, with what lends it bytes and reads from its memory.
 export class Instance {
@@ -61,7 +69,7 @@ export class Instance {
 // Solves a text and has the answer judged before it is handed out: a status of flow, blocked or refused comes with an accepted answer.
 export function judged(module, bytes, engine) {
   const instance = new Instance(module), text = instance.lend(bytes), begun = performance.now();
-  const found = instance.solve(text, engine), solved = performance.now();
+  const found = instance.solve(text, engine === 'auto' ? suited(bytes) : engine), solved = performance.now();
   if (STATUS.indexOf(found.status) > 2) return { status: found.status };
   const verdict = instance.check(text, found);
   if (!verdict) return { status: 'memory' };

@@ -33,39 +33,23 @@ export async function runPairs(solver, source, { reading, each, maximise, engine
   return { ...shown, result, instance: { name: instance.name, text } };
 }
 
+// What is told of a text without tables.
+const withoutTables = (isPlan, headline, line, result, instance) => (
+  { isPlan, headline, lead: [line], facts: [], findings: [], scene: null, sheets: [], tables: () => [], result, instance }
+);
+
 // A DIMACS text, as bytes.
 export async function runText(solver, bytes, { engine }) {
   const result = await solver.solve(bytes, engine), instance = { name: 'instance.min', text: bytes };
   if (result.status === 'rejected') throw new NoAnswer('rejected', result.verdict);
   if (result.status === 'refused') {
     const [line, code] = linesOf(result.answer, 'r')[0];
-    return {
-      isPlan: false,
-      headline: ['This text is refused', ''],
-      lead: [`Line ${line}: ${CODES[code] || code} (${code}).`],
-      facts: [],
-      findings: [],
-      scene: null,
-      sheets: [],
-      tables: () => [],
-      result,
-      instance,
-    };
+    return withoutTables(false, ['This text is refused', ''], `Line ${line}: ${CODES[code] || code} (${code}).`, result, instance);
   }
   if (bytes.length > TABLES) {
     const cost = linesOf(result.answer, 's')[0];
-    return {
-      isPlan: Boolean(cost),
-      headline: cost ? ['Least cost: ', cost[0]] : ['No flow exists', ''],
-      lead: ['It is too large for tables here; the answer is a text.'],
-      facts: [],
-      findings: [],
-      scene: null,
-      sheets: [],
-      tables: () => [],
-      result,
-      instance,
-    };
+    const headline = cost ? ['Least cost: ', cost[0]] : ['No flow exists', ''];
+    return withoutTables(Boolean(cost), headline, 'It is too large for tables here; the answer is a text.', result, instance);
   }
   const network = networkOf(new TextDecoder().decode(bytes));
   if (network.isAssignment) instance.name = 'instance.asn';

@@ -35,12 +35,13 @@ export default function test(expect) {
         else expect(verdict.line.startsWith('rejected '), `${name}: ${verdict.line}`);
       });
     }
-    for (const engine of ['cancel', 'simplex', 'scaling', 'sap']) {
+    for (const engine of ['cancel', 'simplex', 'scaling', 'sap', 'augment']) {
       const instance = new Instance(module), text = instance.lend(bytes), found = instance.solve(text, engine);
       expect(instance.check(text, found).accepted, `${name}: ${engine}`);
     }
   }
   spoilt(expect, module, fs.readFileSync(path.join(examples, 'transport.min')));
+  sized(expect, module);
   let refused = false;
   try { new Instance(module).room(2 ** 40); } catch (error) { refused = error instanceof RangeError; }
   expect(refused, 'a room that no memory has');
@@ -69,6 +70,22 @@ function said(scratch, file, answer) {
   const other = path.join(scratch, 'answer');
   fs.writeFileSync(other, answer);
   return spawnSync(mcfcheck, [file, other]).stdout.toString().trim();
+}
+
+// Which engine is asked, by the size of a text and by what is asked.
+function sized(expect, module) {
+  const { solve } = Instance.prototype, asked = [];
+  Instance.prototype.solve = function heard(text, engine, ...words) { asked.push(engine); return solve.call(this, text, engine, ...words); };
+  for (
+    const [text, engine, wanted] of [
+      ['c p min 99999 0\np min 32768 0\n', 'auto', 'auto'], [' p  min\t32769 0\n', 'auto', 'augment'], ['p min 32769 0\n', 'scaling', 'scaling'],
+      ['p asn 40000 0\n', 'auto', 'auto'],
+    ]
+  ) {
+    const { status } = judged(module, Buffer.from(text), engine);
+    expect(asked.pop() === wanted && (status === 'flow' || text.includes('asn')), `${text.trim()} by ${engine}: another engine than ${wanted}, or ${status}`);
+  }
+  Instance.prototype.solve = solve;
 }
 
 // What a solver that answers wrongly would have the page show: nothing.
