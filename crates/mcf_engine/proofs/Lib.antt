@@ -1,16 +1,10 @@
 pub mod ChainScans
 pub mod Falling
-pub mod HeapGaps
-pub mod HeapLowered
-pub mod HeapOrder
-pub mod HeapPlaces
-pub mod HeapRising
-pub mod HeapTaken
-pub mod HeapViews
 pub mod LabelLengths
 pub mod Marks
 pub mod NearLaws
 pub mod PriceFloors
+pub mod Queues
 pub mod RaisedPrices
 pub mod RaisingLoops
 pub mod RaisingSteps

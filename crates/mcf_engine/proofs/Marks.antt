@@ -1,5 +1,5 @@
 -- Tables of marks, and lists with an entry for each node.
-use Rattle.std.proofs.Common.{◌≡◌, ◌≢◌, ℕ, cond, ◌-◌, ◌≤◌, Bool, true, false, List, length, get_or, set, ap, arith, ◌⊎◌, inl, inr}
+use Rattle.std.proofs.Common.{◌≡◌, ◌≢◌, ℕ, cond, ◌+◌, ◌-◌, ◌<◌, ◌≤◌, count_by, Bool, true, false, List, length, get_or, set, ap, arith, ◌⊎◌, inl, inr}
 use Rattle.std.proofs.lemmas.Bool.{cases_eq}
 use Rattle.std.proofs.lemmas.Grind.{get_or-set_at}
 use Rattle.std.proofs.lemmas.List.{get_or-set_other}
@@ -17,6 +17,20 @@ read_node xs i v a d h low =
       | inl e ↦ (let same : v - 1 ≡ i - 1 = ap (λ k. k - 1) e in inl (e, get_or-set_at xs (i - 1) (v - 1) a d same (omega arith)))
       | inr n ↦ (let other : v - 1 ≢ i - 1 = omega arith in inr (n, get_or-set_other xs (i - 1) (v - 1) a d other))
     ]
+
+-- a read after a write
+pub read_set : {X : Type 0} (xs : List X) (i v : ℕ) (a d : X) → i < length xs
+    → ((v ≡ i) × (get_or (set xs i a) v d ≡ a)) ⊎ ((v ≢ i) × (get_or (set xs i a) v d ≡ get_or xs v d))
+read_set xs i v a d l =
+    elim (cases_eq v i) [
+      | inl e ↦ inl (e, get_or-set_at xs i v a d e l)
+      | inr n ↦ inr (n, get_or-set_other xs i v a d n)
+    ]
+
+-- how many are marked after one mark is taken away
+pub count_less : (table : List Bool) (v : ℕ) → v < length table → get_or table v false ≡ true
+    → count_by (λ b. b) (set table v false) + 1 ≡ count_by (λ b. b) table
+count_less table v l e = omega (arith, sum_by-set (λ b. cond b 1 0) table v false false l, ap {B = ℕ} (λ b. cond b 1 0) e)
 
 -- a mark that was there counts as before
 pub counted_again : (table : List Bool) (v : ℕ) → IsNode (length table) v → in_table table v ≡ true → member_count (with_node table v) ≡ member_count table

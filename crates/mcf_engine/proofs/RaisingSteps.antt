@@ -27,9 +27,8 @@ use Rattle.mcf_engine.specs.Private.Raisings.{ArePassed, CostsAtLeast, IsLastSet
 use Rattle.mcf_engine.specs.Private.Raisings.{label, label_reach, step}
 use Rattle.mcf_engine.specs.Respecting.{reverse}
 use Rattle.mcf_engine.specs.declared.near_state.NearState.{NearState}
-use Rattle.mcf_engine.proofs.HeapPlaces.{count_less}
 use Rattle.mcf_engine.proofs.LabelLengths.{length_fewer, length_next, length_zero}
-use Rattle.mcf_engine.proofs.Marks.{read_node}
+use Rattle.mcf_engine.proofs.Marks.{count_less, read_node}
 use Rattle.mcf_engine.proofs.Reverses.{reversed}
 use Rattle.mcf_engine.proofs.Showing.{cost_small, respects_from_shows}
 

@@ -1,4 +1,4 @@
 -- What the proofs of this crate alone need: no public clause names it.
 pub mod Raisings
-pub mod ItemHeaps
+pub mod Queues
 pub mod Shortlists

@@ -1,24 +1,36 @@
-//! An indexed binary heap of the nodes of a net.
-ghost use Rattle.std.specs.Prelude.{◌≡◌, ◌≤◌, ◌<ℤ◌, ◌≤ℤ◌, true, false, IfNone, IfOk, IfSome, IsTrue, OnErr, length, ◌↔◌};
+//! A priority queue of the nodes of a net.
+ghost use Rattle.std.specs.Prelude.{◌≡◌, ◌+◌, ◌*◌, ◌<◌, ◌≤◌, ◌<ℤ◌, ◌≤ℤ◌, ℕ, true, false, IfNone, IfOk, IfSome, IsTrue, OnErr, length, ◌↔◌};
+ghost use Rattle.std.specs.BinaryHeap.{IsHeap, heap_capacity, heap_items, heap_len};
+ghost use Rattle.std.specs.Bool.{MatchBool};
 ghost use Rattle.mcf_flows.specs.Network.{IsNode, at_node, node_count};
-ghost use Rattle.mcf_network.specs.NodeSets.{no_nodes};
 ghost use Rattle.mcf_engine.specs.Heaps.{IsFirst, Keyed, NoneWaits, Waits, no_keys, waiting_with, with_key, without};
+ghost use Rattle.mcf_engine.specs.Private.Queues.{IsCurrent, IsOneMore, IsQueue, by_key};
 
-use crate::item_heap::ItemHeap;
 use mcf_network::Net;
-use mcf_text::{NoMemory, NodeId};
+use mcf_text::{NoMemory, NodeId, copies};
 use std::alloc::Global;
+use std::cmp::Reverse;
+use std::collections::BinaryHeap;
 use std::marker::Model;
 
+/// A key with which a node was let wait; nodes are counted from 0 here.
+#[derive(Clone, Copy, PartialEq, Eq, PartialOrd, Ord)]
+pub(crate) struct Entry {
+    key: i128,
+    item: u32,
+}
+
 /// A priority queue of nodes, each of which has a key and may wait: the one with the least key comes first, and
-/// of equal keys the least number (an indexed binary heap; Cormen, Leiserson, Rivest and Stein, Introduction to
-/// Algorithms, sections 6.5 and 24.3).
+/// of equal keys the least number (Cormen, Leiserson, Rivest and Stein, Introduction to Algorithms, sections 6.5 and 24.3).
 ///
-/// It knows the place of each node that waits, so that a key is lowered in time that grows with the logarithm of
-/// how many wait. Only `new` takes memory. A clause sees the keys of all nodes, and the table of those that wait.
+/// Each key with which a node was let wait has an entry in a binary heap. An entry whose node waits no more, or with another
+/// key, is passed over when its turn comes; where there is no room for one more, all such are thrown away. Only `new` takes
+/// memory. A clause sees the keys of all nodes, and the table of those that wait.
 #[derive(Drop)]
 pub struct Heap {
-    items: ItemHeap,
+    keys: Vec<i128>,
+    waiting: Vec<bool>,
+    entries: BinaryHeap<Reverse<Entry>>,
 }
 
 impl Model for Heap {
@@ -26,11 +38,13 @@ impl Model for Heap {
 
     ghost Value = { Keyed };
 
-    ghost use Rattle.mcf_engine.specs.Private.ItemHeaps.{IsHeap, view_of};
+    ghost use Rattle.mcf_engine.specs.Private.Queues.{IsQueue};
 
-    ghost view = { λ h. view_of h.items };
+    ghost view = { λ h. record { keys = h.keys.items; waiting = h.waiting.items } };
 
-    ghost invariant = { λ h. IsHeap h.items };
+    ghost use Rattle.std.specs.BinaryHeap.{heap_capacity, heap_items};
+
+    ghost invariant = { λ h. IsQueue (record { keys = h.keys.items; waiting = h.waiting.items }) (heap_items h.entries) (heap_capacity h.entries) };
 }
 
 impl Heap {
@@ -44,8 +58,14 @@ impl Heap {
         ensures wants { OnErr result (1 ≤ node_count net.now) }
     {
         let nodes = net.node_count() as usize;
+        let keys = copies(alloc, nodes, 0)?;
+        let waiting = copies(alloc, nodes, false)?;
+        let mut entries = BinaryHeap::new(alloc);
+        entries.reserve(nodes * 2)?;
         Ok(Heap {
-            items: ItemHeap::new(alloc, nodes)?,
+            keys,
+            waiting,
+            entries,
         })
     }
 
@@ -54,7 +74,7 @@ impl Heap {
         requires { IsNode (length self.now.keys) v }
         ensures { result ≡ at_node self.now.keys v }
     {
-        self.items.key(v.get() - 1)
+        self.keys[v.place()]
     }
 
     /// Whether a node waits.
@@ -62,7 +82,7 @@ impl Heap {
         requires { IsNode (length self.now.waiting) v }
         ensures { IsTrue result ↔ Waits self.now v }
     {
-        self.items.waits(v.get() - 1)
+        self.waiting[v.place()]
     }
 
     /// Lets a node wait with a key, unless it waits with one that is no greater, and says whether it waits with this one from
@@ -74,27 +94,19 @@ impl Heap {
         ensures same { result ≡ false → self.new ≡ self.old }
         ensures waits { result ≡ false → Waits self.old v × (at_node self.old.keys v ≤ℤ key) }
     {
-        self.items.offer(v.get() - 1, key)
-    }
-
-    /// Gives a key to a node that does not wait, and still does not.
-    pub fn set_key(&mut self, v: NodeId, key: i128)
-        requires node { IsNode (length self.old.waiting) v }
-        requires idle { ¬ Waits self.old v }
-        ensures { self.new ≡ with_key self.old v key }
-    {
-        self.items.set_key(v.get() - 1, key);
-    }
-
-    /// The node that comes first, or none if none waits.
-    pub fn first(&self) -> Option<NodeId>
-        ensures first { IfSome result (IsFirst self.now) }
-        ensures none { IfNone result (NoneWaits self.now) }
-    {
-        let Some(item) = self.items.first() else {
-            return None;
-        };
-        Some(NodeId::at(item))
+        let i = v.place();
+        if self.waiting[i] && self.keys[i] <= key {
+            return false;
+        }
+        make_room(
+            &mut self.entries,
+            self.keys.as_slice(),
+            self.waiting.as_slice(),
+        );
+        put(&mut self.entries, key, i as u32);
+        self.keys[i] = key;
+        self.waiting[i] = true;
+        true
     }
 
     /// Takes out the node that comes first, or none if none waits. It keeps its key.
@@ -104,29 +116,72 @@ impl Heap {
         ensures none { IfNone result (NoneWaits self.old) }
         ensures same { IfNone result (self.new ≡ self.old) }
     {
-        let Some(item) = self.items.pop() else {
-            return None;
-        };
-        Some(NodeId::at(item))
+        'entries: loop {
+            let Reverse(entry) = self.entries.pop()?;
+            if is_current(self.keys.as_slice(), self.waiting.as_slice(), entry) {
+                self.waiting[entry.item as usize] = false;
+                return Some(NodeId::at(entry.item));
+            }
+        }
     }
 
-    /// Gives a node that waits a key, with which it waits no more: it is taken out wherever it stands. That takes time that
-    /// grows with the logarithm of how many wait, and mostly constant time, since most stand near the bottom.
+    /// Gives a node that waits a key, with which it waits no more: it is taken out wherever it stands.
     pub fn settle(&mut self, v: NodeId, key: i128)
         requires node { IsNode (length self.old.waiting) v }
         requires waits { Waits self.old v }
         ensures { self.new ≡ without (with_key self.old v key) v }
     {
-        let item = v.get() - 1;
-        self.items.remove(item);
-        self.items.set_key(item, key);
+        let place = v.place();
+        self.keys[place] = key;
+        self.waiting[place] = false;
     }
+}
 
-    /// Takes all nodes out, in time that grows with how many wait and not with how many there are. They keep
-    /// their keys.
-    pub fn clear(&mut self)
-        ensures { self.new ≡ record self.old { waiting = no_nodes (length self.old.waiting) } }
-    {
-        self.items.clear();
+// Whether the node of an entry waits with the key of the entry.
+fn is_current(keys: &[i128], waiting: &[bool], entry: Entry) -> bool
+    requires key { entry.item < length keys.now }
+    requires mark { entry.item < length waiting.now }
+    ensures { MatchBool result (IsCurrent (record { keys = keys.now; waiting = waiting.now }) entry) (¬ IsCurrent (record { keys = keys.now; waiting = waiting.now }) entry) }
+{
+    let i = entry.item as usize;
+    waiting[i] && keys[i] == entry.key
+}
+
+// Makes room for one entry more.
+fn make_room(entries: &mut BinaryHeap<Reverse<Entry>>, keys: &[i128], waiting: &[bool])
+    requires queue { IsQueue (record { keys = keys.now; waiting = waiting.now }) (heap_items entries.old) (heap_capacity entries.old) }
+    requires some { 1 ≤ length waiting.now }
+    ensures queue { IsQueue (record { keys = keys.now; waiting = waiting.now }) (heap_items entries.new) (heap_capacity entries.new) }
+    ensures room { heap_len entries.new < heap_capacity entries.new }
+{
+    if entries.len() < entries.capacity() {
+        return;
     }
+    queue_anew(entries, keys, waiting);
+}
+
+// Makes one entry for each node that waits, in place of all that were there.
+fn queue_anew(entries: &mut BinaryHeap<Reverse<Entry>>, keys: &[i128], waiting: &[bool])
+    requires queue { IsQueue (record { keys = keys.now; waiting = waiting.now }) (heap_items entries.old) (heap_capacity entries.old) }
+    ensures queue { IsQueue (record { keys = keys.now; waiting = waiting.now }) (heap_items entries.new) (heap_capacity entries.new) }
+    ensures few { heap_len entries.new ≤ length waiting.now }
+{
+    entries.clear();
+    'items: for i in 0..waiting.len() {
+        if waiting[i] {
+            put(entries, keys[i], i as u32);
+        }
+    }
+}
+
+// Adds an entry, for which there is room.
+fn put(entries: &mut BinaryHeap<Reverse<Entry>>, key: i128, item: u32)
+    requires room { heap_len entries.old < heap_capacity entries.old }
+    requires heap { IsHeap by_key (heap_items entries.old) }
+    ensures heap { IsHeap by_key (heap_items entries.new) }
+    ensures one { IsOneMore key item (heap_items entries.old) (heap_items entries.new) }
+    ensures len { heap_len entries.new ≡ heap_len entries.old + 1 }
+    ensures room { heap_capacity entries.old ≤ heap_capacity entries.new }
+{
+    let _ = entries.push(Reverse(Entry { key, item }));
 }

@@ -1,17 +1,16 @@
 #![tactic(auto)]
 
 //! What every engine is, and what engines share: the greatest prices that show a state, from prices that nearly show it, and
-//! a heap.
+//! a priority queue of nodes.
 //!
 //! It stands on `mcf_network` and `mcf_feas`. Definitions stand in `specs/`: `Outcomes` says what an engine answers,
 //! `NegativeCycles` along what a state would get cheaper, `NearPrices` from which prices `Pricer::raise` begins, `SmallPrices`
-//! how far from 0 its prices lie, `Heaps` what a heap of nodes holds, `Laws` what follows, `Respecting` which prices no
-//! residual arc lowers, and `Private/` what the search keeps, how a heap is laid out and what a list of the arcs that may
+//! how far from 0 its prices lie, `Heaps` what such a queue holds, `Laws` what follows, `Respecting` which prices no
+//! residual arc lowers, and `Private/` what the search keeps, which entries a queue has and what a list of the arcs that may
 //! lower a price has.
 
 mod engine;
 mod heap;
-mod item_heap;
 mod laws;
 mod near_state;
 mod pricer;

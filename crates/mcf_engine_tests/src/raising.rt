@@ -56,26 +56,11 @@ fn takes_nodes_out_by_key_and_number(rt: HostRuntime) -> Result<(), Fail> {
     heap.offer(NodeId::new(1), 5);
     heap.offer(NodeId::new(3), 9);
     assert!(rt; heap.waits(NodeId::new(1)));
-    assert_eq!(rt; heap.first().map(|v| v.get()), Some(1));
     heap.offer(NodeId::new(3), 4);
     assert_eq!(rt; heap.pop().map(|v| v.get()), Some(3));
     assert_eq!(rt; heap.pop().map(|v| v.get()), Some(1));
-    heap.clear();
+    assert_eq!(rt; heap.pop().map(|v| v.get()), Some(2));
     assert_eq!(rt; heap.pop().map(|v| v.get()), None);
-    Ok(())
-}
-
-#[test]
-fn gives_a_key_to_a_node_that_waits_no_more(rt: HostRuntime) -> Result<(), Fail> {
-    let alloc = rt.alloc();
-    let net = net_of(alloc, CHAIN)?;
-    assert_eq!(rt; net.node_count(), 3);
-    let mut heap = Heap::new(alloc, &net)?;
-    heap.offer(NodeId::new(3), 4);
-    assert_eq!(rt; heap.pop().map(|v| v.get()), Some(3));
-    assert_eq!(rt; heap.key(NodeId::new(3)), 4);
-    heap.set_key(NodeId::new(3), 7);
-    assert_eq!(rt; heap.key(NodeId::new(3)), 7);
     Ok(())
 }
 
