@@ -1,9 +1,9 @@
 #!/usr/bin/env python3
 """Proves the crates that the programs stand on, and builds the programs into bin/.
 
-Crates that don't stand on one another are proved at the same time, as many as processors and memory allow, those with the longest chain above
-them first; the first of all may take every processor, and the others run beside it at a lower priority. One line says which are at work and how
-many are left, and one that a program is ready, as soon as it is. A check keeps others out of its crate and of all below it, so that each has a
+Crates that don't stand on one another are proved at the same time, as many as processors and memory allow: first those below `mcfcheck`, so that
+it is soon there, then those with the longest chain above them. The first of all may take every processor, and the others run beside it at a lower
+priority. One line says which are at work and how many are left, and one that a program is ready, as soon as it is. A check keeps others out of its crate and of all below it, so that each has a
 copy of these to itself, by links, in bin/proofs/; what it keeps is then put where it belongs. `rt run` builds each program in such a copy and runs
 it on an example. It is the judge, and looks for itself at what has changed: where nothing has since the last time, nothing but it is called.
 
@@ -25,7 +25,7 @@ EXAMPLE = "../../examples/transport"
 WORDS = {"mcfcheck": [EXAMPLE + ".min", EXAMPLE + ".ans"], "mcf": ["solve", EXAMPLE + ".min"]}
 # What one check may take, in kilobytes.
 CHECK_MEMORY = 4 << 20
-# How much nicer a check is than the one with the longest chain above it.
+# How much nicer a check is than the first of those at work.
 BESIDE = 5
 
 
@@ -65,8 +65,10 @@ def stamp(names):
     return sum_.hexdigest()
 
 
-def heights(below, names):
-    """How many bytes of sources stand in the longest chain from each crate to the top: what takes longest begins first."""
+def ranks(below, names):
+    """What begins first has the greatest rank: what the first program stands on comes before the rest, and of both the crate from which the
+    longest chain leads to the top, by the bytes of its sources."""
+    first = closure(below, [n for n in WORDS if n in names][:1])
     above = {n: [a for a in names if n in below[a]] for n in names}
     sizes = {n: sum(p.stat().st_size for p in sources(n)) for n in names}
     found = {}
@@ -76,7 +78,7 @@ def heights(below, names):
             found[name] = sizes[name] + max((height(a) for a in above[name]), default=0)
         return found[name]
 
-    return {n: height(n) for n in names}
+    return {n: (n in first, height(n)) for n in names}
 
 
 def places():
@@ -144,12 +146,12 @@ def end(name):
 
 def prove(below, names, progress):
     """Proves crates, each after those on which it stands. Answers the crate that isn't proved, if there is one."""
-    rank, left, running = heights(below, names), set(names), {}
+    rank, left, running = ranks(below, names), set(names), {}
     room = places()
     jobs = min(room, 8)
     while left or running:
         unproved = left | running.keys()
-        ready = sorted((n for n in left if unproved.isdisjoint(below[n])), key=lambda n: -rank[n])
+        ready = sorted((n for n in left if unproved.isdisjoint(below[n])), key=rank.get, reverse=True)
         begins = ready[: room - len(running)]
         for name in begins:
             left.remove(name)
