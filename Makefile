@@ -23,10 +23,10 @@ all: kit
 kit:
 	@command -v rt >/dev/null || { echo "make: rt isn't on the path; it comes with the Rattle kit, whose first page is START-HERE.md at the top of the kit's folder" >&2; exit 1; }
 
-# First, whether docs/ says what the code and the spec files say, and whether `mcf --version` names the prover that is used.
+# First, whether docs/ says what the code and the spec files say, and whether `mcf --version` names the logic of the kit that is used.
 test: kit
 	@scripts/documents.py check
-	@grep -qF "$$(rt version)" crates/mcf_suite/src/version.rt || { echo "make test: crates/mcf_suite/src/version.rt names another prover than: $$(rt version)" >&2; exit 1; }
+	@grep -qF "with Rattle, $$(rt version | sed 's/.* logic /logic /')\\n" crates/mcf_suite/src/version.rt || { echo "make test: crates/mcf_suite/src/version.rt names another logic than: $$(rt version)" >&2; exit 1; }
 	rt ci
 	@python3 scripts/refuse_memory.py --built --only six_rows --minutes 4 $(WITH_TESTS)
 	@$(MAKE) --no-print-directory tools-test

@@ -70,3 +70,4 @@ wasm=(--target=wasm64-unknown-unknown -mcpu=lime1 -mllvm -expand-div-rem-bits=64
     "$scratch/module.o" "$scratch/heap.o" "$builtins") || stop "the module can't be linked"
 wasm-opt "$scratch/mcf64.wasm" --enable-memory64 --enable-bulk-memory --enable-sign-ext --enable-nontrapping-float-to-int \
     --enable-mutable-globals --enable-multivalue --memory64-lowering -o bin/mcf.wasm
+rt version > bin/page.kit

@@ -56,9 +56,14 @@ def sources(name):
     return sorted(p for part in ("src", "specs", "proofs") for p in (folder / part).rglob("*") if p.is_file())
 
 
+def kit():
+    """The line of the kit."""
+    return subprocess.run(["rt", "version"], capture_output=True, check=True).stdout
+
+
 def stamp(names):
     """A hash of the sources of crates, and of what proves them."""
-    sum_ = hashlib.sha256(subprocess.run(["rt", "version"], capture_output=True, check=True).stdout)
+    sum_ = hashlib.sha256(kit())
     for name in sorted(names):
         for path in sources(name):
             sum_.update(str(path.relative_to(TOP)).encode() + b"\0" + path.read_bytes())
@@ -211,6 +216,7 @@ def build(programs):
     for name in programs:
         put(name)
     kept.write_text(now)
+    (BIN / "programs.kit").write_bytes(kit())
     return True
 
 

@@ -23,9 +23,11 @@ import zipfile
 TOP = pathlib.Path(__file__).resolve().parent.parent
 BIN = TOP / "bin"
 PACKAGING = TOP / "packaging"
-# What is packed of bin/, the target that makes it, and what it is made of. The page alone may be left out.
-BUILT = {"mcf": ("make", "crates/"), "mcfcheck": ("make", "crates/"), "libmcf.so.1": ("make library", "crates/"), "libmcf.a": ("make library", "crates/"),
-         "mcf.html": ("make page", "crates/", "page/")}
+# The targets that leave something in bin/, each with the line of its kit in bin/PART.kit.
+TARGETS = {"programs": "make", "library": "make library", "page": "make page"}
+# What is packed of bin/, the part that it is of, and what it is made of. The page alone may be left out.
+BUILT = {"mcf": ("programs", "crates/"), "mcfcheck": ("programs", "crates/"), "libmcf.so.1": ("library", "crates/"), "libmcf.a": ("library", "crates/"),
+         "mcf.html": ("page", "crates/", "page/")}
 
 
 def stop(why):
@@ -41,7 +43,7 @@ def git(*words):
 
 
 def read_version():
-    """The version, and the line that says what it was proved with. Other files that have the version must have this one."""
+    """The version, and the line that says by which logic it was proved. Other files that have the version must have this one."""
     found = re.search(r'"mcf ([\d.]+)\\n(proved with [^\\]+)\\n"', (TOP / "crates/mcf_suite/src/version.rt").read_text())
     version, proved = found.groups()
     for place, pattern in (("python/mcf/__init__.py", "__version__ = "), ("library/rust/Cargo.toml", "version = ")):
@@ -54,16 +56,28 @@ def look(version, proved):
     """Stops where bin/ lacks something, or has what can't be of this commit."""
     if (platform.system(), platform.machine()) != ("Linux", "x86_64"):
         stop("packages are for Linux on x86-64, and made there")
-    for name, (target, *sources) in BUILT.items():
+    for name, (part, *sources) in BUILT.items():
         if not (BIN / name).is_file():
             if name == "mcf.html":
                 continue
-            stop(f"bin/{name} isn't there; run {target} first")
+            stop(f"bin/{name} isn't there; run {TARGETS[part]} first")
         if (BIN / name).stat().st_mtime < int(git("log", "-1", "--format=%ct", "--", *sources)):
-            stop(f"bin/{name} is older than the last change of {' and '.join(sources)}; run {target} again")
+            stop(f"bin/{name} is older than the last change of {' and '.join(sources)}; run {TARGETS[part]} again")
     said = subprocess.run([str(BIN / "mcf"), "--version"], stdout=subprocess.PIPE).stdout.decode()
     if said != f"mcf {version}\n{proved}\n":
-        stop("bin/mcf says another version or prover than crates/mcf_suite/src/version.rt; run make again")
+        stop("bin/mcf says another version or logic than crates/mcf_suite/src/version.rt; run make again")
+
+
+def kits(proved):
+    """A line for each part that is packed, with the line of the kit that built it; its logic is the one that proved."""
+    said = []
+    for part in sorted({part for name, (part, *_) in BUILT.items() if (BIN / name).is_file()}):
+        file = BIN / f"{part}.kit"
+        line = file.read_text().strip() if file.is_file() else ""
+        if not line.endswith(proved[proved.index(" logic "):]):
+            stop(f"bin/{part}.kit doesn't name a kit with the logic of crates/mcf_suite/src/version.rt; run {TARGETS[part]} again")
+        said.append(f"{part} built with {line}\n")
+    return "".join(said)
 
 
 def libc(*paths):
@@ -159,7 +173,7 @@ def main(folder):
     look(version, proved)
     at, tree = int(git("log", "-1", "--format=%ct")), folder / "tree"
     changes = ", and changes that aren't committed" if git("status", "--porcelain") else ""
-    provenance = f"yokdelm {version}\ncommit {git('rev-parse', 'HEAD')}{changes}\n{proved}\n"
+    provenance = f"yokdelm {version}\ncommit {git('rev-parse', 'HEAD')}{changes}\n{proved}\n{kits(proved)}"
     if folder == BIN / "dist":
         shutil.rmtree(folder, ignore_errors=True)
     elif folder.exists():

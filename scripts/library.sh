@@ -18,3 +18,4 @@ rm -f bin/libmcf.so && cp bin/libmcf.so.1 bin/libmcf.so
 rm -f bin/libmcf.a
 printf 'create bin/libmcf.a\naddlib %s\naddlib %s\nsave\nend\n' "$built" "$kit/c/liblibc_c.a" | ar -M
 cp library/mcf.h bin/mcf.h
+rt version > bin/library.kit
