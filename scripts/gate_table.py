@@ -1,7 +1,7 @@
 #!/usr/bin/env python3
 """Runs the gate and puts what each crate took of it into the table of docs/GATE.md.
 
-    scripts/gate_table.py [WORD ..]     the words are those of `rt ci`: names of crates, --anew
+    scripts/gate_table.py [WORD ..]     the words are those of `rt ci`, where the kit takes any: names of crates, --anew
 
 A crate's seconds of a processor are those of the processes that work for it, read from /proc while they run: proofs (of its tests
 too), and tries of its edits. Printed is what `rt ci` prints, each line behind the minutes that have passed. The table is written
