@@ -43,10 +43,12 @@ mkdir -p "$out"
 if has cc C; then
     cc -std=c89 $flags -o "$out/calls" library/tests/calls.c -Lbin -lmcf -Wl,-rpath,"$top/bin" || failed=1
     cc -std=c99 $flags -o "$out/calls_static" library/tests/calls.c bin/libmcf.a || failed=1
+    cc -std=c99 $flags -o "$out/hostile" library/tests/hostile.c -Lbin -lmcf -Wl,-rpath,"$top/bin" || failed=1
     cc -std=c99 $flags -o "$out/refuse" library/tests/refuse.c bin/libmcf.a -Wl,--wrap=malloc,--wrap=realloc,--wrap=free || failed=1
     step "calls from C, shared" "$out/calls" $(texts)
     step "calls from C, static" "$out/calls_static" $(texts)
     step "refused memory" "$out/refuse" examples/*.min examples/*.asn
+    step "hostile calls" "$out/hostile" 20000 examples/*.min examples/*.asn
     has valgrind "C under valgrind" && step "C under valgrind" valgrind -q --error-exitcode=9 --leak-check=full "$out/calls" $(texts)
     step "exported names" sh -c "nm -D --defined-only bin/libmcf.so | awk '\$2 != \"A\" && \$3 !~ /^mcf_[a-z_]*@@MCF_1\$/ {print; bad = 1} END {exit bad}'"
 fi

@@ -1,0 +1,401 @@
+/* Hostile texts and arrays: whatever is lent lies at the edge of memory that may be touched; texts are noise, examples cut off or changed, and
+   arrays have numbers at the limits and past them. What comes back is held against the definitions, which stand here once more. The first word is
+   a number of rounds, and the others are instance texts. Ends with 0, or names the line of the first check that fails. */
+#define _DEFAULT_SOURCE
+#include "mcf.h"
+
+#include <stdio.h>
+#include <stdlib.h>
+#include <string.h>
+#include <sys/mman.h>
+
+#define CHECK(holds)                                                                \
+    do {                                                                            \
+        if (!(holds)) {                                                             \
+            fprintf(stderr, "hostile: line %d, round %ld\n", __LINE__, round_now);  \
+            exit(1);                                                                \
+        }                                                                           \
+    } while (0)
+
+__extension__ typedef __int128 wide;
+
+enum { MANY = 6, SIZE = 1 << 20, ROOM = 1 << 26, PAGE = 1 << 16 };
+
+static const int64_t BOUND = INT64_C(1000000000000000000), COST = INT64_C(1000000000000000);
+static const struct mcf_choice standard = {0, 0, 0, 0};
+static long round_now, outcomes[8];
+
+static uint64_t chance(uint64_t below) {
+    static uint64_t state = 88172645463325252u;
+    state ^= state << 13;
+    state ^= state >> 7;
+    state ^= state << 17;
+    return below == 0 ? 0 : (state >> 11) % below;
+}
+
+/* The end of at least so many bytes; what comes after them can't be touched. */
+static uint8_t *edge(size_t size) {
+    size_t whole = (size + PAGE - 1) / PAGE * PAGE;
+    uint8_t *begin = mmap(NULL, whole + PAGE, PROT_READ | PROT_WRITE, MAP_PRIVATE | MAP_ANONYMOUS | MAP_NORESERVE, -1, 0);
+    CHECK(begin != MAP_FAILED && mprotect(begin + whole, PAGE, PROT_NONE) == 0);
+    return begin + whole;
+}
+
+static void *at_edge(uint8_t *end, const void *bytes, size_t length) {
+    return memcpy(end - length, bytes, length);
+}
+
+/* ---- texts */
+
+static uint8_t text[SIZE], *input_end, *room_end, *answer_end;
+
+/* A text is answered, the room has just the length that is lacking, and the checker accepts the answer; others it judges. */
+static void try_text(size_t length) {
+    const uint8_t *input = at_edge(input_end, text, length);
+    struct mcf_verdict told;
+    size_t used = 0, again = 0;
+    uint8_t *room, *other;
+    uint32_t status;
+    int change;
+    CHECK(mcf_check(input, length, input, length, &told) <= 1);
+    CHECK(mcf_solve(input, length, &standard, room_end, 0, &used) == MCF_NO_ROOM && used > 0);
+    if (used > ROOM) return;
+    room = room_end - used;
+    memset(room, 7, used);
+    CHECK(mcf_solve(input, length, &standard, room + 1, used - 1, &again) == MCF_NO_ROOM && again == used);
+    CHECK(room[0] == 7 && memcmp(room, room + 1, used - 1) == 0);
+    status = mcf_solve(input, length, &standard, room, used, &again);
+    CHECK(status <= MCF_REFUSED && again == used);
+    CHECK(mcf_check(input, length, room, used, &told) == 0 && told.kind == status);
+    outcomes[status]++;
+    if (used > SIZE) return;
+    for (change = 0; change < 3; change++) {
+        size_t cut = change == 0 ? used - 1 - chance(used) : used;
+        other = at_edge(answer_end, room, cut);
+        if (cut > 0 && change > 0) other[chance(cut)] = (uint8_t)chance(256);
+        CHECK(mcf_check(input, length, other, cut, &told) == (told.kind > MCF_ACCEPTED_REFUSAL));
+    }
+}
+
+static size_t read_text(const char *path) {
+    FILE *file = fopen(path, "rb");
+    size_t length;
+    CHECK(file != NULL);
+    length = fread(text, 1, SIZE, file);
+    fclose(file);
+    return length;
+}
+
+/* An example cut off, with bytes changed, or with a great number in it. */
+static void try_changed(const char *path) {
+    static const char *const numbers[] = {"-1", "0", "1000000", "1000001", "4294967296", "9223372036854775808", "1000000000000000001",
+                                          "99999999999999999999999999999999999999999", "1.5", "+1", "-", "\t", "\r\n", "p", "1e3"};
+    size_t length = read_text(path), place, count;
+    const char *number = numbers[chance(sizeof numbers / sizeof *numbers)];
+    if (length == 0 || length > 4096) return;
+    place = chance(length);
+    count = strlen(number);
+    switch (chance(4)) {
+    case 0: length = place; break;
+    case 1: text[place] = (uint8_t)chance(256); break;
+    case 2: text[place] = (uint8_t) "0123456789 -\npna"[chance(16)]; break;
+    default:
+        memmove(text + place + count, text + place, length - place);
+        memcpy(text + place, number, count);
+        length += count;
+    }
+    try_text(length);
+}
+
+/* A million bytes drawn from an alphabet, behind a beginning. */
+static void try_noise(const char *begin, const char *alphabet) {
+    size_t place = strlen(begin), count = strlen(alphabet);
+    memcpy(text, begin, place);
+    for (; place < 1000000; place++) text[place] = (uint8_t)(count ? alphabet[chance(count)] : (int)chance(256));
+    try_text(1000000);
+}
+
+/* ---- arrays */
+
+struct problem {
+    size_t nodes, arcs, rows;
+    int is_pairs;
+    int64_t supplies[MANY];
+    uint64_t src[MANY], dst[MANY];
+    int64_t low[MANY], cap[MANY], cost[MANY];
+};
+
+static struct problem now;
+static uint8_t *supply_end, *arc_end, *flow_end, *price_end, *other_flow_end, *other_price_end;
+
+static int64_t bound(void) {
+    static const int64_t values[] = {0, 1, 2, 7, 30, -1, -5, 0, 1000000000000000000, 999999999999999999, -1000000000000000000,
+                                     1000000000000000001, -1000000000000000001, INT64_MAX, INT64_MIN};
+    return values[chance(chance(3) ? 8 : chance(4) ? 11 : 15)];
+}
+
+static int64_t cost(void) {
+    static const int64_t values[] = {0, 1, 2, 30, -1, -7, 1000000000000000, 999999999999999, -1000000000000000, 1000000000000001, -1000000000000001,
+                                     INT64_MAX, INT64_MIN};
+    return values[chance(chance(3) ? 6 : chance(4) ? 9 : 13)];
+}
+
+static uint32_t end_of(size_t most) {
+    return chance(40) ? 1 + (uint32_t)chance(most) : chance(2) ? (uint32_t)(most + chance(3)) : chance(2) ? 0 : UINT32_MAX - (uint32_t)chance(3);
+}
+
+static wide size_of(int64_t n) { return n < 0 ? -(wide)n : n; }
+
+static int is_up_to(int64_t limit, int64_t n) { return size_of(n) <= limit; }
+
+/* The first fault: its code and its place, or 0. */
+static uint32_t first_fault(uint64_t *place) {
+    wide total = 0, limit = (wide)BOUND * BOUND;
+    size_t k;
+    for (k = 0; k < now.nodes; k++) {
+        *place = k + 1;
+        if (!is_up_to(BOUND, now.supplies[k])) return MCF_SUPPLY;
+    }
+    for (k = 0; k < now.arcs; k++) {
+        wide low = size_of(now.low[k]), cap = size_of(now.cap[k]);
+        *place = k + 1;
+        if (now.src[k] < 1 || now.src[k] > now.nodes || now.dst[k] < 1 || now.dst[k] > now.nodes) return MCF_NODE;
+        if (!is_up_to(BOUND, now.low[k]) || !is_up_to(BOUND, now.cap[k])) return MCF_BOUND;
+        if (now.cap[k] < now.low[k]) return MCF_ORDER;
+        if (!is_up_to(COST, now.cost[k])) return MCF_COST;
+        if (now.is_pairs && (now.src[k] > now.rows || now.dst[k] <= now.rows)) return MCF_SIDE;
+        total += size_of(now.cost[k]) * (low < cap ? cap : low);
+        if (!now.is_pairs && total > limit) return MCF_TOTAL;
+    }
+    return 0;
+}
+
+/* Whether a flow is feasible, has this cost, and is shown by the prices to be least. */
+static int is_right(const int64_t *flow, const int64_t *prices, wide claimed) {
+    wide left[MANY], spent = 0;
+    size_t k;
+    for (k = 0; k < now.nodes; k++) left[k] = now.supplies[k];
+    for (k = 0; k < now.arcs; k++) {
+        size_t u = now.src[k] - 1, v = now.dst[k] - 1;
+        wide reduced = (wide)now.cost[k] - prices[u] + prices[v];
+        if (flow[k] < now.low[k] || flow[k] > now.cap[k]) return 0;
+        if ((flow[k] < now.cap[k] && reduced < 0) || (flow[k] > now.low[k] && reduced > 0)) return 0;
+        left[u] -= flow[k];
+        left[v] += flow[k];
+        spent += (wide)now.cost[k] * flow[k];
+    }
+    for (k = 0; k < now.nodes; k++)
+        if (left[k] != 0) return 0;
+    return spent == claimed;
+}
+
+/* Whether the marked nodes must send, or take, more than they can. */
+static int blocks(const int64_t *marks, uint32_t side, uint64_t count) {
+    wide must = 0, can = 0;
+    uint64_t marked = 0;
+    size_t k;
+    for (k = 0; k < now.nodes; k++) {
+        if (marks[k] != 0 && marks[k] != 1) return 0;
+        if (marks[k] == 1) must += side == MCF_SEND ? now.supplies[k] : -(wide)now.supplies[k];
+        marked += marks[k] == 1;
+    }
+    for (k = 0; k < now.arcs; k++) {
+        int64_t leaves = marks[now.src[k] - 1] - marks[now.dst[k] - 1];
+        if (leaves == (side == MCF_SEND ? 1 : -1)) can += now.cap[k];
+        if (leaves == (side == MCF_SEND ? -1 : 1)) must += now.low[k];
+    }
+    return marked == count && must > can;
+}
+
+static void make_flow_problem(void) {
+    size_t k;
+    wide sum = 0;
+    now.is_pairs = 0;
+    now.nodes = chance(MANY + 1);
+    now.arcs = now.nodes == 0 && chance(8) ? 0 : chance(MANY + 1);
+    for (k = 0; k < now.nodes; k++) {
+        now.supplies[k] = bound();
+        if (k + 1 == now.nodes && chance(4) && is_up_to(BOUND, (int64_t)-sum)) now.supplies[k] = (int64_t)-sum;
+        sum += now.supplies[k];
+    }
+    for (k = 0; k < now.arcs; k++) {
+        now.src[k] = end_of(now.nodes);
+        now.dst[k] = end_of(now.nodes);
+        now.low[k] = chance(2) ? 0 : bound();
+        now.cap[k] = bound();
+        if (now.cap[k] < now.low[k] && chance(10)) now.cap[k] = now.low[k];
+        now.cost[k] = cost();
+    }
+}
+
+static void make_assignment(void) {
+    size_t k, columns;
+    now.is_pairs = 1;
+    now.rows = chance(4);
+    columns = chance(3) ? now.rows : chance(4);
+    if (now.rows + columns > MANY) columns = MANY - now.rows;
+    now.nodes = now.rows + columns;
+    now.arcs = chance(MANY + 1);
+    for (k = 0; k < now.nodes; k++) now.supplies[k] = k < now.rows ? 1 : -1;
+    for (k = 0; k < now.arcs; k++) {
+        now.src[k] = end_of(now.rows);
+        now.dst[k] = (uint64_t)now.rows + end_of(columns);
+        now.low[k] = 0;
+        now.cap[k] = 1;
+        now.cost[k] = cost();
+    }
+}
+
+/* The arrays that stand for the problem, each at its edge. */
+static const void *arcs_at_edge(void) {
+    struct mcf_arc arcs[MANY];
+    struct mcf_pair pairs[MANY];
+    size_t k;
+    for (k = 0; k < now.arcs; k++) {
+        pairs[k].row = arcs[k].src = (uint32_t)now.src[k];
+        pairs[k].column = (uint32_t)(now.dst[k] - now.rows);
+        arcs[k].dst = (uint32_t)now.dst[k];
+        arcs[k].low = now.low[k];
+        arcs[k].cap = now.cap[k];
+        pairs[k].cost = arcs[k].cost = now.cost[k];
+    }
+    return now.is_pairs ? at_edge(arc_end, pairs, now.arcs * sizeof *pairs) : at_edge(arc_end, arcs, now.arcs * sizeof *arcs);
+}
+
+static const void *lent_arcs;
+
+static uint32_t solve(const struct mcf_choice *choice, int64_t *flow, size_t flow_length, int64_t *prices, size_t prices_length, struct mcf_verdict *told) {
+    struct mcf_flow_problem flows;
+    struct mcf_assignment pairs;
+    flows.supplies = (const int64_t *)(const void *)(supply_end - now.nodes * sizeof(int64_t));
+    flows.nodes = now.nodes;
+    flows.arcs = lent_arcs;
+    flows.arc_count = now.arcs;
+    pairs.rows = (uint32_t)now.rows;
+    pairs.columns = (uint32_t)(now.nodes - now.rows);
+    pairs.pairs = lent_arcs;
+    pairs.pair_count = now.arcs;
+    if (choice == NULL)
+        return now.is_pairs ? mcf_check_pairs(&pairs, flow, flow_length, prices, prices_length, told)
+                            : mcf_check_arcs(&flows, flow, flow_length, prices, prices_length, told);
+    return now.is_pairs ? mcf_solve_pairs(&pairs, choice, flow, flow_length, prices, prices_length, told)
+                        : mcf_solve_arcs(&flows, choice, flow, flow_length, prices, prices_length, told);
+}
+
+static wide number_of(const struct mcf_verdict *told) {
+    wide size = (wide)told->low + ((wide)told->high << 64);
+    return told->negative ? -size : size;
+}
+
+/* The checker says what the definitions say, of a flow that is right and of changed ones. */
+static void try_judge(const int64_t *flow, const int64_t *prices, const struct mcf_verdict *found) {
+    int64_t *other = at_edge(other_flow_end, flow, now.arcs * sizeof *flow), *others = at_edge(other_price_end, prices, now.nodes * sizeof *prices);
+    int change;
+    for (change = 0; change < 6; change++) {
+        struct mcf_verdict told = *found;
+        int right;
+        if (change > 1 && now.arcs) other[chance(now.arcs)] = chance(3) ? (int64_t)chance(3) : bound();
+        if (change > 2 && now.nodes) others[chance(now.nodes)] = chance(3) ? -(int64_t)chance(9) : cost();
+        if (change > 3) told.low ^= chance(2), told.negative = (uint32_t)chance(2);
+        right = is_right(other, others, number_of(&told));
+        CHECK(solve(NULL, other, now.arcs, others, now.nodes, &told) == (right ? 0u : 1u));
+        CHECK((told.kind == MCF_ACCEPTED_FLOW) == right && told.kind != MCF_ACCEPTED_SET && told.kind != MCF_ACCEPTED_REFUSAL);
+    }
+}
+
+static void try_arrays(void) {
+    int64_t *flow = (int64_t *)(void *)(flow_end - now.arcs * sizeof(int64_t)), *prices = (int64_t *)(void *)(price_end - now.nodes * sizeof(int64_t));
+    int64_t sevens[MANY];
+    struct mcf_choice choice = {0, 0, 0, 0};
+    struct mcf_verdict told;
+    uint64_t place = 0;
+    uint32_t fault = first_fault(&place), status;
+    memset(sevens, 7, sizeof sevens);
+    at_edge(supply_end, now.supplies, now.nodes * sizeof(int64_t));
+    lent_arcs = arcs_at_edge();
+    at_edge(flow_end, sevens, now.arcs * sizeof *flow);
+    at_edge(price_end, sevens, now.nodes * sizeof *prices);
+    choice.engine = (uint32_t)chance(6);
+    choice.pricing = (uint32_t)chance(4);
+    choice.block = (uint32_t)chance(3);
+    status = solve(&choice, flow, now.arcs, prices, now.nodes, &told);
+    outcomes[3 + (status < 3 ? status : 3)]++;
+    CHECK(status == MCF_FLOW || status == MCF_BLOCKED || status == MCF_REFUSED);
+    CHECK((status == MCF_REFUSED) == (fault != 0));
+    if (status == MCF_FLOW) {
+        CHECK(told.kind == MCF_ACCEPTED_FLOW && is_right(flow, prices, number_of(&told)));
+        try_judge(flow, prices, &told);
+    } else if (status == MCF_BLOCKED) {
+        CHECK(told.kind == MCF_ACCEPTED_SET && blocks(prices, told.code, told.low) && told.high == 0);
+    } else {
+        CHECK(told.kind == MCF_ACCEPTED_REFUSAL && told.code == fault && told.low == place && told.high == 0 && told.negative == 0);
+        CHECK(memcmp(flow, sevens, now.arcs * sizeof *flow) == 0 && memcmp(prices, sevens, now.nodes * sizeof *prices) == 0);
+        CHECK(solve(NULL, flow, now.arcs, prices, now.nodes, &told) == MCF_REFUSED && told.code == fault && told.low == place);
+    }
+    CHECK(solve(&choice, flow - 1, now.arcs + 1, prices, now.nodes, &told) == MCF_NO_ROOM);
+    CHECK(solve(NULL, flow, now.arcs, prices - 1, now.nodes + 1, &told) == MCF_NO_ROOM);
+    choice.engine = UINT32_MAX - (uint32_t)chance(9);
+    CHECK(solve(&choice, flow, now.arcs, prices, now.nodes, &told) == MCF_NO_CHOICE);
+}
+
+/* Numbers of nodes and arcs at the limits and past them, in memory that nobody wrote to. */
+static void try_sizes(void) {
+    enum { NODES = 1000001, ARCS = 10000001 };
+    const void *zeros = edge((size_t)ARCS * sizeof(struct mcf_arc)) - (size_t)ARCS * sizeof(struct mcf_arc);
+    int64_t *flow = (int64_t *)(void *)(edge((size_t)ARCS * 8) - (size_t)ARCS * 8), *prices = (int64_t *)(void *)(edge((size_t)NODES * 8) - (size_t)NODES * 8);
+    struct mcf_flow_problem problem;
+    struct mcf_assignment pairs;
+    struct mcf_verdict told;
+    problem.supplies = zeros;
+    problem.nodes = NODES;
+    problem.arcs = zeros;
+    problem.arc_count = 0;
+    CHECK(mcf_solve_arcs(&problem, &standard, flow, 0, prices, NODES, &told) == MCF_REFUSED && told.code == MCF_SIZE && told.low == 0);
+    problem.nodes = NODES - 1;
+    CHECK(mcf_solve_arcs(&problem, &standard, flow, 0, prices, NODES - 1, &told) == MCF_FLOW && told.low == 0);
+    CHECK(mcf_check_arcs(&problem, flow, 0, prices, NODES - 1, &told) == 0);
+    problem.nodes = 1;
+    problem.arc_count = ARCS;
+    CHECK(mcf_solve_arcs(&problem, &standard, flow, ARCS, prices, 1, &told) == MCF_REFUSED && told.code == MCF_SIZE);
+    CHECK(mcf_check_arcs(&problem, flow, ARCS, prices, 1, &told) == MCF_REFUSED && told.code == MCF_SIZE);
+    problem.arc_count = ARCS - 1;
+    CHECK(mcf_solve_arcs(&problem, &standard, flow, ARCS - 1, prices, 1, &told) == MCF_REFUSED && told.code == MCF_NODE && told.low == 1);
+    pairs.pairs = zeros;
+    pairs.pair_count = 0;
+    pairs.rows = pairs.columns = UINT32_MAX;
+    CHECK(mcf_solve_pairs(&pairs, &standard, flow, 0, prices, NODES, &told) == MCF_NO_ROOM);
+    CHECK(mcf_solve_pairs(&pairs, &standard, flow, 0, prices, 0, &told) == MCF_NO_ROOM);
+    CHECK(mcf_check_pairs(&pairs, flow, 0, prices, UINT32_MAX - UINT32_MAX, &told) == MCF_NO_ROOM);
+    pairs.rows = 1;
+    pairs.columns = NODES - 1;
+    CHECK(mcf_solve_pairs(&pairs, &standard, flow, 0, prices, NODES, &told) == MCF_REFUSED && told.code == MCF_SIZE);
+    CHECK(mcf_check_pairs(&pairs, flow, 0, prices, NODES, &told) == MCF_REFUSED && told.code == MCF_SIZE);
+}
+
+int main(int count, char **words) {
+    long rounds = count > 1 ? atol(words[1]) : 0;
+    input_end = edge(SIZE);
+    room_end = edge(ROOM);
+    answer_end = edge(SIZE);
+    supply_end = edge(PAGE), arc_end = edge(PAGE), flow_end = edge(PAGE), price_end = edge(PAGE);
+    other_flow_end = edge(PAGE), other_price_end = edge(PAGE);
+    try_text(0);
+    try_sizes();
+    try_noise("", "");
+    try_noise("", "\n");
+    try_noise("", "0123456789");
+    try_noise("p min 9 9\n", "0123456789 -\npna");
+    try_noise("c", " \tc");
+    try_noise("p min 1000000 10000000\n", "a 12\n");
+    for (round_now = 1; round_now <= rounds; round_now++) {
+        make_flow_problem();
+        now.rows = 0;
+        try_arrays();
+        make_assignment();
+        try_arrays();
+        if (count > 2) try_changed(words[2 + chance((uint64_t)count - 2)]);
+    }
+    printf("texts: %ld flows, %ld sets, %ld refusals; arrays: %ld flows, %ld sets, %ld faults\n", outcomes[0], outcomes[1], outcomes[2], outcomes[3],
+           outcomes[4], outcomes[5]);
+    return 0;
+}
