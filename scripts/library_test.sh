@@ -28,9 +28,14 @@ texts() {
     done
 }
 
+# Python as the path has it, and the system's, which may have other packages.
+interpreters() {
+    for python in python3 /usr/bin/python3; do "$python" -c 'import sys; print(sys.executable)' 2> /dev/null; done | sort -u
+}
+
 # What a package of Python's tests of itself, by the first interpreter that has it and pytest.
 others() {
-    for python in python3 /usr/bin/python3; do
+    for python in $(interpreters); do
         "$python" -c "import $1, pytest" > /dev/null 2>&1 || continue
         step "what $1 tests of itself" env MCF_LIBRARY="$top/bin/libmcf.so" "$python" python/tests/foreign.py "$1"
         return
@@ -54,7 +59,11 @@ if has cc C; then
 fi
 has c++ C++ && step "the header in C++" c++ -std=c++98 -Wall -Wextra -Werror -Wno-long-long -x c++ -fsyntax-only library/mcf.h
 has cargo Rust && step "Rust" env MCF_LIB_DIR="$top/bin" CARGO_TARGET_DIR="$out/rust" cargo test --offline --quiet --manifest-path library/rust/Cargo.toml
-has python3 Python && step "Python" env MCF_LIBRARY="$top/bin/libmcf.so" python3 python/tests/library.py
+has python3 Python
+for python in $(interpreters); do
+    version=$("$python" -V)
+    step "$version" env MCF_LIBRARY="$top/bin/libmcf.so" "$python" python/tests/library.py
+done
 others networkx
 others scipy
 exit $failed
