@@ -63,6 +63,7 @@ has python3 Python
 for python in $(interpreters); do
     version=$("$python" -V)
     step "$version" env MCF_LIBRARY="$top/bin/libmcf.so" "$python" python/tests/library.py
+    step "$version, hostile arguments" env MCF_LIBRARY="$top/bin/libmcf.so" "$python" python/tests/hostile.py
 done
 others networkx
 others scipy

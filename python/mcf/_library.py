@@ -83,6 +83,10 @@ _lib = _load()
 
 
 def choice_of(engine: str, pricing: str, block: Optional[int], form: int = 1) -> Choice:
+    if block is not None and not 1 <= block <= 1000000:
+        raise ValueError("a block has 1 to 1000000 arcs")
+    if form not in (1, 2):
+        raise ValueError("a form is 1 or 2")
     try:
         return Choice(ENGINES[engine], PRICINGS[pricing], block or 0, form)
     except KeyError as error:
@@ -92,15 +96,19 @@ def choice_of(engine: str, pricing: str, block: Optional[int], form: int = 1) ->
 def _failed(status: int) -> Exception:
     if status == NO_MEMORY:
         return MemoryError("mcf")
-    if status == NO_CHOICE:
-        return ValueError("a block has 1 to 1000000 arcs")
     if status == WIDE:
         return OverflowError("a price of the flow doesn't fit 64 bits")
     return AssertionError("mcf: status %d" % status)
 
 
+def _bytes(text) -> bytes:
+    """A text as bytes, of anything that holds bytes."""
+    return text if isinstance(text, bytes) else memoryview(text).tobytes()
+
+
 def solve_text(text: bytes, choice: Choice) -> Tuple[int, bytes]:
     """The status and the answer text of an instance text."""
+    text = _bytes(text)
     used = ctypes.c_size_t()
     room = 4096 + 6 * len(text)
     while True:
@@ -116,6 +124,7 @@ def solve_text(text: bytes, choice: Choice) -> Tuple[int, bytes]:
 
 def check_text(text: bytes, answer: bytes) -> Verdict:
     """The verdict of the checker on an answer text."""
+    text, answer = _bytes(text), _bytes(answer)
     told = Told()
     status = _lib.mcf_check(text, len(text), answer, len(answer), told)
     if status == NO_MEMORY:

@@ -8,7 +8,7 @@ Whole = Union[int, Fraction]
 
 
 def exact(value) -> Whole:
-    """A number as an int or a Fraction."""
+    """A number as an int or a Fraction. An exponent of more than three digits is past all limits, and isn't multiplied out."""
     if type(value) is int:
         return value
     try:
@@ -17,10 +17,12 @@ def exact(value) -> Whole:
         pass
     if isinstance(value, Fraction):
         number = value
-    elif isinstance(value, float):
-        number = Fraction(repr(float(value)))
     else:
-        number = Fraction(str(value))
+        text = repr(float(value)) if isinstance(value, float) else str(value)
+        try:
+            number = Fraction(text if len(text.upper().partition("E")[2].lstrip("+-0")) <= 3 else "")
+        except ValueError:
+            raise ValueError("%r is no number within reach" % (value,)) from None
     return number.numerator if number.denominator == 1 else number
 
 

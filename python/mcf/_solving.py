@@ -2,12 +2,14 @@
 import struct
 from array import array
 from itertools import chain
-from typing import Any, Dict, Hashable, Iterable, List, Optional, Sequence, Tuple, Union
+from operator import index
+from typing import Any, Dict, Hashable, Iterable, List, Mapping, Optional, Sequence, Tuple, Union
 
 from ._library import BLOCKED, CODES, REFUSED, SIDES, ArcArrays, Choice, Verdict, choice_of, marked
 from ._numbers import exact, limited, scale_of, unscaled
 
 BOUND, COST, NODE = 10 ** 18, 10 ** 15, 2 ** 32 - 2
+INFINITE = float("inf")
 # A flow problem of more nodes than this goes to the search that is judged: docs/BENCH.md, "Flow problems".
 LARGE = 2 ** 15
 
@@ -176,7 +178,7 @@ def _listed(values):
     return values.tolist() if hasattr(values, "tolist") else list(values)
 
 
-def _numbered(supplies: Dict[Hashable, Any], arcs: List[tuple]) -> Tuple[List[Hashable], List[Any], List[tuple]]:
+def _numbered(supplies: Mapping[Hashable, Any], arcs: List[tuple]) -> Tuple[List[Hashable], List[Any], List[tuple]]:
     """Labels in the order in which they come, and the instance by their numbers."""
     number: Dict[Hashable, int] = {label: place for place, label in enumerate(supplies)}
     ends = [(number.setdefault(arc[0], len(number)), number.setdefault(arc[1], len(number))) for arc in arcs]
@@ -184,9 +186,25 @@ def _numbered(supplies: Dict[Hashable, Any], arcs: List[tuple]) -> Tuple[List[Ha
     return labels, [supplies.get(label, 0) for label in labels], [end + tuple(arc[2:]) for end, arc in zip(ends, arcs)]
 
 
+def _without_low(arc: Sequence[Any]) -> tuple:
+    """An arc of four values with the lower bound 0."""
+    if len(arc) != 4:
+        raise ValueError("an arc has 4 or 5 values, and not %r" % (arc,))
+    return arc[0], arc[1], 0, arc[2], arc[3]
+
+
+def _node(value) -> int:
+    """The number of a node, which an array of floats has as a float."""
+    try:
+        return int(value) if isinstance(value, float) and value.is_integer() else index(value)
+    except TypeError:
+        raise TypeError("a node has a number from 0, where supplies are no dict, and not %r" % (value,)) from None
+
+
 def _scaled(amounts: list, rows: List[tuple]) -> Tuple[List[int], List[Arc], int, int]:
     """Supplies and arcs in whole numbers, and how many times as great amounts and costs are."""
-    exacts = [(u, v, exact(low), None if cap is None else exact(cap), exact(cost)) for u, v, low, cap, cost in rows]
+    exacts = [(u if type(u) is int else _node(u), v if type(v) is int else _node(v), exact(low),
+               None if cap is None or cap == INFINITE else exact(cap), exact(cost)) for u, v, low, cap, cost in rows]
     units = scale_of(chain(amounts, (a[2] for a in exacts), (a[3] for a in exacts if a[3] is not None)))
     costs = scale_of(a[4] for a in exacts)
     if units != 1 or costs != 1:
@@ -195,13 +213,13 @@ def _scaled(amounts: list, rows: List[tuple]) -> Tuple[List[int], List[Arc], int
     return amounts, exacts, units, costs
 
 
-def solve(supplies: Union[int, Sequence[Any], Dict[Hashable, Any]], arcs: Iterable[Sequence[Any]], *, engine: str = "auto",
+def solve(supplies: Union[int, Sequence[Any], Mapping[Hashable, Any]], arcs: Iterable[Sequence[Any]], *, engine: str = "auto",
           pricing: Optional[str] = None, block: Optional[int] = None, check: bool = True) -> Flow:
     """Solves a minimum-cost flow problem, by what suits its size where no engine, pricing rule or block is asked.
 
     `supplies` is a list by node (nodes are 0, 1, ..), a dict by label, or a number of nodes without supply; a supply is above 0 where
-    the node sends. `arcs` are (from, to, cap, cost) or (from, to, low, cap, cost); a cap of None is none. Arrays of numpy serve for
-    both. Numbers that aren't whole are scaled to whole ones, exactly: a float is the decimal that it prints as.
+    the node sends. `arcs` are (from, to, cap, cost) or (from, to, low, cap, cost); a cap of None, or an infinite one, is none. Arrays of
+    numpy serve for both. Numbers that aren't whole are scaled to whole ones, exactly: a float is the decimal that it prints as.
 
     Raises Infeasible, Unbounded or Refused.
 
@@ -213,10 +231,12 @@ def solve(supplies: Union[int, Sequence[Any], Dict[Hashable, Any]], arcs: Iterab
       ..
     mcf._solving.Infeasible: 1 node(s) must send 1 and can send 0
     """
-    rows = [tuple(arc) if len(arc) == 5 else (arc[0], arc[1], 0, arc[2], arc[3]) for arc in _listed(arcs)]
+    rows = [tuple(arc) if len(arc) == 5 else _without_low(arc) for arc in _listed(arcs)]
     labels: Optional[List[Hashable]] = None
-    if isinstance(supplies, dict):
+    if isinstance(supplies, Mapping):
         labels, given, rows = _numbered(supplies, rows)
+    elif isinstance(supplies, int) and supplies < 0:
+        raise ValueError("there are no %d nodes" % supplies)
     else:
         given = [0] * supplies if isinstance(supplies, int) else _listed(supplies)
     amounts, exacts, units, costs = _scaled([exact(b) for b in given], rows)

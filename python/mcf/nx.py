@@ -3,13 +3,11 @@
 Where several flows have the least cost, another one may come than networkx gives. An exception has more to tell than its words: of
 an unfeasible graph `nodes`, `side`, `must` and `can`, and of an unbounded one the `cycle`.
 """
-from math import isinf
-
 import networkx as nx
 from networkx.utils import not_implemented_for
 
 from ._numbers import exact, scale_of, unscaled
-from ._solving import Infeasible, Unbounded, solve_whole, suited
+from ._solving import INFINITE, Infeasible, Unbounded, solve_whole, suited
 
 __all__ = ["network_simplex", "min_cost_flow", "min_cost_flow_cost", "max_flow_min_cost", "maximum_flow_value"]
 
@@ -21,7 +19,7 @@ def _edges(G):
 def _solve(nodes, demands, ends, caps, costs, engine, check):
     """Cost and flows; caps may be infinite, and ends are numbers of nodes."""
     demands = [exact(d) for d in demands]
-    caps = [None if isinf(c) else exact(c) for c in caps]
+    caps = [None if c == INFINITE else exact(c) for c in caps]
     costs = [exact(w) for w in costs]
     units = scale_of(demands + [c for c in caps if c is not None])
     prices = scale_of(costs)
@@ -43,20 +41,19 @@ def network_simplex(G, demand="demand", capacity="capacity", weight="weight", *,
     """networkx.network_simplex, solved by mcf, each answer judged by its checker."""
     if len(G) == 0:
         raise nx.NetworkXError("graph has no nodes")
-    inf = float("inf")
     nodes = list(G)
     number = {u: k for k, u in enumerate(nodes)}
     demands = [G.nodes[u].get(demand, 0) for u in nodes]
     edges = list(_edges(G))
-    caps = [e[-1].get(capacity, inf) for e in edges]
+    caps = [e[-1].get(capacity, INFINITE) for e in edges]
     costs = [e[-1].get(weight, 0) for e in edges]
     for u, d in zip(nodes, demands):
-        if abs(d) == inf:
+        if abs(d) == INFINITE:
             raise nx.NetworkXError(f"node {u!r} has infinite demand")
     for e, w in zip(edges, costs):
-        if abs(w) == inf:
+        if abs(w) == INFINITE:
             raise nx.NetworkXError(f"edge {e[:-1]!r} has infinite weight")
-    if sum(demands) != 0:
+    if sum(map(exact, demands)) != 0:
         raise nx.NetworkXUnfeasible("total node demand is not zero")
     for e, c in zip(edges, caps):
         if c < 0:
@@ -107,17 +104,16 @@ def maximum_flow_value(G, s, t, capacity="capacity", *, engine="auto", check=Tru
             raise nx.NetworkXError(f"node {v!s} not in graph")
     if s == t:
         raise nx.NetworkXError("source and sink are the same node")
-    inf = float("inf")
     nodes = list(G)
     number = {u: k for k, u in enumerate(nodes)}
-    edges = [e for e in G.edges(data=True) if e[0] != e[1] and e[-1].get(capacity, inf) > 0]
+    edges = [e for e in G.edges(data=True) if e[0] != e[1] and e[-1].get(capacity, INFINITE) > 0]
     ends = [(number[e[0]], number[e[1]]) for e in edges]
-    caps = [e[-1].get(capacity, inf) for e in edges]
+    caps = [e[-1].get(capacity, INFINITE) for e in edges]
     if not G.is_directed():
         ends += [(v, u) for u, v in ends]
         caps += caps
     ends.append((number[t], number[s]))
-    caps.append(inf)
+    caps.append(INFINITE)
     try:
         cost, flow = _solve(nodes, [0] * len(nodes), ends, caps, [0] * (len(ends) - 1) + [-1], engine, check)
     except Unbounded:

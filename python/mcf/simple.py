@@ -1,7 +1,18 @@
 """The shape of OR-tools' SimpleMinCostFlow, answered by mcf."""
-from typing import List, Optional, Sequence
+from operator import index
+from typing import Iterable, List, Optional, Sequence
 
 from ._solving import Flow, Infeasible, MCFError, Refused, solve
+
+# How many nodes there may be.
+NODES = 1000000
+
+
+def _together(*columns: Sequence[int]) -> Iterable[tuple]:
+    """The rows of columns of one length."""
+    if len(set(map(len, columns))) != 1:
+        raise ValueError("the sequences have one length")
+    return zip(*columns)
 
 
 class SimpleMinCostFlow:
@@ -21,26 +32,26 @@ class SimpleMinCostFlow:
         self._answer: Optional[Flow] = None
         self.error: Optional[MCFError] = None
 
-    def _reach(self, *nodes: int) -> None:
-        most = max(nodes) + 1
-        if len(self._supplies) < most:
-            self._supplies += [0] * (most - len(self._supplies))
+    def _reach(self, node: int) -> int:
+        number = index(node)
+        if not 0 <= number < NODES:
+            raise ValueError("a node has a number from 0 to %d, and not %d" % (NODES - 1, number))
+        self._supplies += [0] * (number + 1 - len(self._supplies))
+        return number
 
     def add_arc_with_capacity_and_unit_cost(self, tail: int, head: int, capacity: int, unit_cost: int) -> int:
-        self._reach(tail, head)
-        self._arcs.append((int(tail), int(head), int(capacity), int(unit_cost)))
+        self._arcs.append((self._reach(tail), self._reach(head), index(capacity), index(unit_cost)))
         return len(self._arcs) - 1
 
     def add_arcs_with_capacity_and_unit_cost(self, tails: Sequence[int], heads: Sequence[int], capacities: Sequence[int],
                                              unit_costs: Sequence[int]) -> List[int]:
-        return [self.add_arc_with_capacity_and_unit_cost(*arc) for arc in zip(tails, heads, capacities, unit_costs)]
+        return [self.add_arc_with_capacity_and_unit_cost(*arc) for arc in _together(tails, heads, capacities, unit_costs)]
 
     def set_node_supply(self, node: int, supply: int) -> None:
-        self._reach(node)
-        self._supplies[node] = int(supply)
+        self._supplies[self._reach(node)] = index(supply)
 
     def set_nodes_supplies(self, nodes: Sequence[int], supplies: Sequence[int]) -> None:
-        for node, supply in zip(nodes, supplies):
+        for node, supply in _together(nodes, supplies):
             self.set_node_supply(node, supply)
 
     def num_nodes(self) -> int:

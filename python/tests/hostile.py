@@ -1,0 +1,246 @@
+"""What the package mcf makes of hostile arguments: noise, numbers at the limits and past them, arrays of all kinds of numpy, things that are no
+numbers. Each call has to answer what is right, or to raise what says why not. MCF_LIBRARY names the library."""
+import os
+import random
+import sys
+import unittest
+from decimal import Decimal
+from fractions import Fraction
+from types import MappingProxyType
+
+sys.path.insert(0, os.path.dirname(os.path.dirname(os.path.abspath(__file__))))
+import mcf
+
+try:
+    import numpy as np
+except ImportError:
+    np = None
+
+BOUND, COST = 10 ** 18, 10 ** 15
+AMOUNTS = (0, 1, 2, 7, 30, -1, -5, BOUND, BOUND - 1, -BOUND, BOUND + 1, -BOUND - 1, 2 ** 63 - 1, 2 ** 63, -2 ** 63, -2 ** 63 - 1, 2 ** 64, 10 ** 40)
+COSTS = (0, 1, 2, 30, -1, -7, COST, COST - 1, -COST, COST + 1, -COST - 1, 2 ** 63, -2 ** 63, 2 ** 64 + 1, -10 ** 40)
+
+
+def fault(supplies, arcs):
+    """The first fault: the arc, the node and the reason, as Refused has them."""
+    total = 0
+    for node, supply in enumerate(supplies):
+        if abs(supply) > BOUND:
+            return None, node, "supply"
+    for place, (u, v, low, cap, cost) in enumerate(arcs):
+        total += abs(cost) * max(abs(low), abs(cap))
+        if not (0 <= u < len(supplies) and 0 <= v < len(supplies)):
+            return place, None, "node"
+        for reason, holds in (("bound", max(abs(low), abs(cap)) > BOUND), ("order", cap < low), ("cost", abs(cost) > COST), ("total", total > 10 ** 36)):
+            if holds:
+                return place, None, reason
+    return None
+
+
+def least(supplies, arcs, answer):
+    """Whether an answer is a flow of its cost that its prices show to be least."""
+    left, flow, prices = list(supplies), answer.flow, answer.prices
+    for (u, v, low, cap, cost), f in zip(arcs, flow):
+        reduced = cost - prices[u] + prices[v]
+        if not low <= f <= cap or f < cap and reduced < 0 or f > low and reduced > 0:
+            return False
+        left[u] -= f
+        left[v] += f
+    return not any(left) and answer.cost == sum(arc[4] * f for arc, f in zip(arcs, flow))
+
+
+class Numbers(unittest.TestCase):
+    def test_random_problems(self):
+        chance, seen = random.Random(1), {}
+        for _ in range(4000):
+            n, wild = chance.randrange(5), chance.randrange(3)
+            amounts, costs = (AMOUNTS[:(6, 10, 18)[wild]], COSTS[:(6, 9, 15)[wild]])
+            supplies = [chance.choice(amounts) for _ in range(n)]
+            if n and chance.randrange(4):
+                supplies[-1] -= sum(supplies)
+            ends = [-1, n, 2 ** 32 - 1, 2 ** 32, 2 ** 70] if wild == 2 and chance.randrange(3) == 0 else []
+            ends += list(range(n)) * 3
+            arcs = []
+            for _ in range(chance.randrange(6) if ends else 0):
+                bounds = sorted(chance.choice(amounts) for _ in range(2)) if chance.randrange(9) else [9, 8]
+                arcs.append((chance.choice(ends), chance.choice(ends), *bounds, chance.choice(costs)))
+            try:
+                answer = mcf.solve(supplies, arcs, engine=chance.choice(("auto", "scaling", "augment", "cancel")))
+                kind = "flow"
+                self.assertTrue(fault(supplies, arcs) is None and least(supplies, arcs, answer), (supplies, arcs, answer))
+            except mcf.Refused as e:
+                kind = e.reason
+                self.assertEqual((e.arc, e.node, e.reason), fault(supplies, arcs), (supplies, arcs))
+            except mcf.Infeasible as e:
+                kind = "blocked"
+                self.assertTrue(fault(supplies, arcs) is None and e.must > e.can, (supplies, arcs))
+            seen[kind] = seen.get(kind, 0) + 1
+        self.assertTrue(all(seen[kind] > 20 for kind in ("flow", "blocked", "supply", "node", "bound", "order", "cost")), seen)
+
+    def test_totals(self):
+        arcs = [(0, 1, BOUND, COST)] * 1000
+        self.assertEqual(mcf.solve([0, 0], arcs).cost, 0)
+        for more in ((0, 1, 1, 1), (0, 1, None, -1), (1, 0, -1, 0, 1)):
+            with self.assertRaises(mcf.Refused) as c:
+                mcf.solve([0, 0], arcs + [more])
+            self.assertEqual((c.exception.arc, c.exception.node), (1000, None))
+
+    def test_what_is_no_number(self):
+        nan, inf = float("nan"), float("inf")
+        for wrong in (nan, inf, -inf, "x", "", None, [], {}, 1j, Decimal("nan"), Decimal("inf"), Decimal("1e999999999"), "1e999999999", "1e-999999999", b"1"):
+            for arguments in (([wrong, 0], []), ([0, 0], [(0, 1, 5, wrong)]), ([0, 0], [(0, 1, wrong, 5, 1)]), ({"a": wrong}, [])):
+                with self.assertRaises((ValueError, TypeError), msg=repr(arguments)):
+                    mcf.solve(*arguments)
+            with self.assertRaises((ValueError, TypeError), msg=repr(wrong)):
+                mcf.linear_sum_assignment([[1, wrong], [wrong, 1]] if wrong != inf else [[inf]])
+            if wrong is not None and wrong != inf:
+                with self.assertRaises((ValueError, TypeError), msg=repr(wrong)):
+                    mcf.solve([0, 0], [(0, 1, wrong, 5)])
+            with self.assertRaises((ValueError, TypeError), msg=repr(wrong)):
+                mcf.solve([0, 0], [(0, wrong, 5, 1)])
+
+    def test_shapes(self):
+        for arguments in (([0, 0], [()]), ([0, 0], [(0, 1, 5)]), ([0, 0], [(0, 1, 0, 5, 1, 1)]), ([0, 0], [5]), ([0, 0], 5), (-1, []), (2.0, []), (None, [])):
+            with self.assertRaises((ValueError, TypeError), msg=repr(arguments)):
+                mcf.solve(*arguments)
+        for wrong in ([1, 2], [[1, 2], [3]], [[1], 2], 5, None, [[[1]]], "ab", {1: 2}):
+            with self.assertRaises((ValueError, TypeError), msg=repr(wrong)):
+                mcf.linear_sum_assignment(wrong)
+        for empty in ([], [[]], [[], []], ()):
+            self.assertEqual(mcf.linear_sum_assignment(empty), ([], []))
+        self.assertEqual(mcf.solve(MappingProxyType({"a": 1, "b": -1}), iter([("a", "b", 1, 1)])).flow, [1])
+        self.assertEqual(mcf.solve([], []).flow, [])
+        self.assertEqual(mcf.solve({}, []).prices, {})
+
+    def test_choices(self):
+        for options in ({"block": 0}, {"block": -1}, {"block": 2 ** 32 + 1}, {"block": "2"}, {"engine": None}, {"engine": []}, {"pricing": 3}):
+            with self.assertRaises((ValueError, TypeError), msg=repr(options)):
+                mcf.solve([0], [], **options)
+        for form in (0, 3, 2 ** 32 + 1, -1, None):
+            with self.assertRaises((ValueError, TypeError), msg=form):
+                mcf.solve_text(b"p min 1 0", form=form)
+
+    def test_decimals(self):
+        least_float = 5e-324
+        self.assertEqual(mcf.solve([0.1, 0.2, -0.3], [(0, 2, None, 1), (1, 2, float("inf"), 0.1)]).cost, 0.12)
+        self.assertEqual(mcf.solve([Fraction(1, 3), Fraction(-1, 3)], [(0, 1, 1, 3)]).cost, 1)
+        for supplies, arcs in (([least_float, -least_float, 1, -1], [(0, 1, 1, 1), (2, 3, 1, 1)]), ([0, 0], [(0, 1, 1e300, 1)]), ([0, 0], [(0, 1, 1, 1e300)])):
+            self.assertRaises(mcf.Refused, mcf.solve, supplies, arcs)
+        self.assertEqual(mcf.solve([least_float, -least_float], [(0, 1, least_float, 7)]).flow, [least_float])
+
+    def test_without_limits(self):
+        self.assertEqual(mcf.solve([BOUND - 1, 1 - BOUND], [(0, 1, None, COST)]).cost, (BOUND - 1) * COST)
+        self.assertRaises(mcf.Refused, mcf.solve, [BOUND, -BOUND], [(0, 1, None, 1)])
+        self.assertRaises(mcf.Unbounded, mcf.solve, [0], [(0, 0, None, -1)])
+        self.assertRaises(mcf.Refused, mcf.solve, [0, 0], [(0, 5, None, -1)])
+
+    def test_simple(self):
+        problem = mcf.SimpleMinCostFlow()
+        for wrong in (-1, 10 ** 6, 10 ** 12, 1.5, "1", None):
+            self.assertRaises((ValueError, TypeError), problem.set_node_supply, wrong, 1)
+            self.assertRaises((ValueError, TypeError), problem.add_arc_with_capacity_and_unit_cost, 0, wrong, 1, 1)
+        for wrong in (1.5, "1", None):
+            self.assertRaises((ValueError, TypeError), problem.set_node_supply, 0, wrong)
+            self.assertRaises((ValueError, TypeError), problem.add_arc_with_capacity_and_unit_cost, 0, 1, wrong, 1)
+        self.assertRaises(ValueError, problem.add_arcs_with_capacity_and_unit_cost, [0], [1], [1, 2], [3])
+        self.assertEqual(problem.num_arcs(), 0)
+        problem = mcf.SimpleMinCostFlow()
+        self.assertEqual((problem.solve(), problem.optimal_cost()), (problem.OPTIMAL, 0))
+        problem.add_arc_with_capacity_and_unit_cost(0, 1, 10 ** 19, 10 ** 16)
+        self.assertEqual(problem.solve(), problem.BAD_CAPACITY_RANGE)
+        self.assertRaises(RuntimeError, problem.optimal_cost)
+
+
+class Texts(unittest.TestCase):
+    def test_noise(self):
+        chance = random.Random(2)
+        for alphabet in (bytes(range(256)), b"\n", b"0123456789", b"p min 1\n", b"\0"):
+            noise = bytes(chance.choices(alphabet, k=10 ** 6))
+            for text in (noise, b"p min 3 9\n" + noise, b"c " + noise):
+                kind, answer = mcf.solve_text(text)
+                self.assertTrue(kind == "refusal" and mcf.check_text(text, answer))
+            self.assertFalse(mcf.check_text(b"p min 2 1\na 1 2 0 1 1\n", noise))
+
+    def test_changed_texts(self):
+        chance = random.Random(3)
+        begin = b"p min 4 5\nn 1 4\nn 4 -4\na 1 2 0 4 2\na 1 3 0 2 2\na 2 3 0 2 1\na 2 4 0 3 3\na 3 4 0 5 1\n"
+        for _ in range(3000):
+            text = bytearray(begin)
+            for _ in range(chance.randrange(1, 4)):
+                place = chance.randrange(len(text))
+                text[place:place + chance.randrange(2)] = chance.choice((b"", b"-", b"9", b" ", b"\n", b"0", b"\xff", b"1000000000000000000"))
+            kind, answer = mcf.solve_text(text, engine=chance.choice(("auto", "augment", "scaling")), form=chance.choice((1, 2)))
+            verdict = mcf.check_text(text, answer)
+            self.assertTrue(verdict and verdict.kind == kind, bytes(text))
+
+    def test_kinds_of_bytes(self):
+        text = b"p min 1 0\n"
+        for other in (bytearray(text), memoryview(text), memoryview(text + text)[:len(text)]) + ((np.frombuffer(text, "u1"),) if np else ()):
+            self.assertEqual(mcf.solve_text(other), mcf.solve_text(text))
+            self.assertTrue(mcf.check_text(other, bytearray(mcf.solve_text(text)[1])))
+        for wrong in ("p min 1 0\n", 10, None, [1]):
+            self.assertRaises(TypeError, mcf.solve_text, wrong)
+            self.assertRaises(TypeError, mcf.check_text, text, wrong)
+
+
+@unittest.skipUnless(np, "numpy isn't installed")
+class Arrays(unittest.TestCase):
+    def test_kinds_of_matrices(self):
+        chance = random.Random(4)
+        for _ in range(200):
+            n, m = chance.randrange(1, 6), chance.randrange(1, 6)
+            base = np.array([[chance.randrange(50) for _ in range(m)] for _ in range(n)])
+            rows, columns = mcf.linear_sum_assignment(base)
+            best = base[rows, columns].sum()
+            great = -mcf_sum(-base)
+            wide = np.full((2 * n, 3 * m), 99)
+            wide[::2, ::3] = base
+            kinds = [np.asfortranarray(base), wide[::2, ::3], base[::-1, ::-1], base.astype(">i4"), base[:, ::-1].astype("u1")]
+            kinds += [base.astype(kind) for kind in ("i1", "i2", "u2", "i4", "u4", "u8", "f2", "f4", "f8", "g", "O")]
+            for kind in kinds:
+                self.assertEqual(mcf_sum(kind), best, kind)
+                self.assertEqual(mcf_sum(kind, maximize=True), great, kind)
+            base.setflags(write=False)
+            self.assertEqual(mcf_sum(base), best)
+            self.assertEqual(mcf_sum(base.T), best)
+            self.assertEqual(mcf_sum(np.asmatrix(base)), best)
+
+    def test_what_is_no_matrix(self):
+        for wrong in (np.zeros(3), np.zeros((2, 2, 2)), np.array(1), np.array([["a"]]), np.zeros((2, 2), "c16"), np.zeros((1, 1), "M8[s]"),
+                      np.array([[np.nan]]), np.array([[-np.inf]]), np.full((2, 2), np.inf), np.array([[None]]), np.array([[np.nan]], "O")):
+            with self.assertRaises((ValueError, TypeError), msg=repr(wrong)):
+                mcf.linear_sum_assignment(wrong)
+        for shape in ((0, 0), (0, 3), (3, 0)):
+            rows, columns = mcf.linear_sum_assignment(np.zeros(shape))
+            self.assertEqual((rows.size, columns.size, rows.dtype), (0, 0, np.intp))
+        for wrong in (np.full((2, 2), 2 ** 63 - 1), np.full((2, 2), -2 ** 63), np.full((2, 2), 2 ** 64 - 1, "u8"), np.full((2, 2), 1e300)):
+            for maximize in (False, True):
+                self.assertRaises(mcf.Refused, mcf.linear_sum_assignment, wrong, maximize)
+
+    def test_kinds_of_arcs(self):
+        arcs = np.array([[0, 1, 3, 1], [1, 2, 3, -1], [0, 2, 9, 5]])
+        supplies = np.array([4, 0, -4])
+        wide = np.zeros((6, 8), int)
+        wide[::2, ::2] = arcs
+        for kind in (arcs.astype("i1"), arcs.astype(">i8"), arcs.astype("f8"), arcs.astype("O"), wide[::2, ::2], np.asfortranarray(arcs), list(arcs)):
+            for amounts in (supplies, supplies.astype("f4"), np.repeat(supplies, 2)[::2], list(supplies)):
+                answer = mcf.solve(amounts, kind)
+                self.assertEqual((answer.cost, answer.flow), (5, [3, 3, 1]))
+        answer = mcf.solve(np.array([0.5, -0.5]), np.array([[0, 1, np.inf, 1.5]]))
+        self.assertEqual((answer.cost, answer.flow), (0.75, [0.5]))
+        for wrong in (np.array([[0, np.nan, 3, 1]]), np.array([[0, 1, np.nan, 1]]), np.array([[0, 1, 3, np.inf]]), np.array([[0.5, 1, 3, 1]]), np.zeros(4), np.zeros((2, 3))):
+            with self.assertRaises((ValueError, TypeError), msg=repr(wrong)):
+                mcf.solve([0, 0], wrong)
+        self.assertEqual(mcf.solve([0, 0], np.zeros((0, 4))).flow, [])
+
+
+def mcf_sum(matrix, **options):
+    """What an assignment of least cost costs, of a matrix that is as it was after."""
+    before = np.array(matrix)
+    rows, columns = mcf.linear_sum_assignment(matrix, **options)
+    assert np.array_equal(before, matrix) and len(set(columns.tolist())) == len(rows) == min(before.shape)
+    return int(before[rows, columns].astype("i8").sum())
+
+
+if __name__ == "__main__":
+    unittest.main(argv=[sys.argv[0]], verbosity=0)
