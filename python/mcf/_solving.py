@@ -23,12 +23,12 @@ class MCFError(Exception):
 
 class Refused(MCFError, ValueError):
     """The instance is beyond the limits: `arc` or `node` is the place of the first fault, from 0, and `reason` what is wrong: size,
-    supply, node, bound, order, cost or total."""
+    supply, node, bound, order, cost or total. `scale` is what numbers of its kind were multiplied by, to be whole."""
 
-    def __init__(self, arc: Optional[int], node: Any, reason: str):
+    def __init__(self, arc: Optional[int], node: Any, reason: str, scale: int = 1):
         where = "arc %d: " % arc if arc is not None else "node %r: " % (node,) if node is not None else ""
-        super().__init__(where + reason)
-        self.arc, self.node, self.reason = arc, node, reason
+        super().__init__(where + reason + (" (in whole numbers, by a factor of %d)" % scale if scale != 1 else ""))
+        self.arc, self.node, self.reason, self.scale = arc, node, reason, scale
 
 
 class Infeasible(MCFError):
@@ -247,7 +247,7 @@ def solve(supplies: Union[int, Sequence[Any], Mapping[Hashable, Any]], arcs: Ite
         raise Infeasible(nodes, error.side, unscaled(error.must, units), unscaled(error.can, units), error.arcs) from None
     except Refused as error:
         node = error.node if labels is None or error.node is None else labels[error.node]
-        raise Refused(error.arc, node, error.reason) from None
+        raise Refused(error.arc, node, error.reason, {"cost": costs, "total": units * costs}.get(error.reason, units)) from None
     flow = problem.flow.tolist()
     if units != 1:
         flow = [unscaled(f, units) for f in flow]

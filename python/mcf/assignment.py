@@ -16,7 +16,7 @@ def linear_sum_assignment(cost_matrix, maximize: bool = False, *, engine: str = 
     """Matches rows with columns at least cost, or at greatest: the row indices, ascending, and the column of each.
 
     Arrays of numpy where the matrix is one, and else lists. An infinite entry is a pair that can't be matched. Entries that aren't whole
-    are scaled, exactly: a float is the decimal that it prints as.
+    are scaled, exactly: a float is the decimal that it prints as. Whole, they may be up to 10^15: floats of 16 digits are refused.
 
     >>> linear_sum_assignment([[4, 1, 3], [2, 0, 5], [3, 2, 2]])
     ([0, 1, 2], [1, 0, 2])
@@ -77,6 +77,9 @@ def _whole(flat: list, maximize: bool):
         exacts = [None if isinstance(c, float) and c == worst else exact(c) for c in flat]
         scale = scale_of(c for c in exacts if c is not None)
         flat = [None if c is None else int(c * scale) for c in exacts]
+        past = next((place for place, c in enumerate(flat) if c is not None and abs(c) > COST), None)
+        if past is not None:
+            raise Refused(past, None, "cost", scale)
     return [None if c is None else -c for c in flat] if maximize else flat
 
 

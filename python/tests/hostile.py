@@ -128,6 +128,19 @@ class Numbers(unittest.TestCase):
             self.assertRaises(mcf.Refused, mcf.solve, supplies, arcs)
         self.assertEqual(mcf.solve([least_float, -least_float], [(0, 1, least_float, 7)]).flow, [least_float])
 
+    def test_digits(self):
+        chance = random.Random(6)
+        matrix = [[chance.random() for _ in range(9)] for _ in range(9)]
+        with self.assertRaises(mcf.Refused) as c:
+            mcf.linear_sum_assignment(matrix)
+        self.assertTrue(c.exception.reason == "cost" and c.exception.scale >= 10 ** 15 and str(c.exception.scale) in str(c.exception))
+        rounded = [[round(cost, 9) for cost in row] for row in matrix]
+        whole = [[round(cost * 10 ** 9) for cost in row] for row in matrix]
+        self.assertEqual(mcf.linear_sum_assignment(rounded), mcf.linear_sum_assignment(whole))
+        with self.assertRaises(mcf.Refused) as c:
+            mcf.solve([0.5, -0.5], [(0, 1, 1, 0.1234567890123456), (0, 1, 1, 0.5000000000000001)])
+        self.assertEqual((c.exception.arc, c.exception.reason, c.exception.scale), (0, "cost", 10 ** 16))
+
     def test_without_limits(self):
         self.assertEqual(mcf.solve([BOUND - 1, 1 - BOUND], [(0, 1, None, COST)]).cost, (BOUND - 1) * COST)
         self.assertRaises(mcf.Refused, mcf.solve, [BOUND, -BOUND], [(0, 1, None, 1)])
