@@ -33,14 +33,16 @@ interpreters() {
     for python in python3 /usr/bin/python3; do "$python" -c 'import sys; print(sys.executable)' 2> /dev/null; done | sort -u
 }
 
-# What a package of Python's tests of itself, by the first interpreter that has it and pytest.
+# The first interpreter that has packages.
+having() {
+    for python in $(interpreters); do "$python" -c "import $1" > /dev/null 2>&1 && { echo "$python"; return; }; done
+    echo "library-test: skipped: $2: no Python here has $1" >&2
+    return 1
+}
+
+# What a package of Python's tests of itself.
 others() {
-    for python in $(interpreters); do
-        "$python" -c "import $1, pytest" > /dev/null 2>&1 || continue
-        step "what $1 tests of itself" env MCF_LIBRARY="$top/bin/libmcf.so" "$python" python/tests/foreign.py "$1"
-        return
-    done
-    echo "library-test: skipped: what $1 tests of itself: no Python here has $1 and pytest"
+    python=$(having "$1, pytest" "what $1 tests of itself") && step "what $1 tests of itself" env MCF_LIBRARY="$top/bin/libmcf.so" "$python" python/tests/foreign.py "$1"
 }
 
 [ -f bin/libmcf.so ] && [ -f bin/libmcf.a ] || { echo "library-test: skipped: the library isn't built (make library builds it)"; exit 0; }
@@ -65,6 +67,7 @@ for python in $(interpreters); do
     step "$version" env MCF_LIBRARY="$top/bin/libmcf.so" "$python" python/tests/library.py
     step "$version, hostile arguments" env MCF_LIBRARY="$top/bin/libmcf.so" "$python" python/tests/hostile.py
 done
+python=$(having mypy "types of the module") && step "types of the module" "$python" -m mypy --ignore-missing-imports --cache-dir=/dev/null python/mcf
 others networkx
 others scipy
 exit $failed

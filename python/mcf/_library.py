@@ -3,7 +3,7 @@ import ctypes
 import ctypes.util
 import os
 from array import array
-from typing import List, NamedTuple, Optional, Tuple
+from typing import Any, List, NamedTuple, Optional, Tuple, Union
 
 FLOW, BLOCKED, REFUSED, NO_MEMORY, NO_ROOM, NO_CHOICE, WIDE = range(7)
 ENGINES = {"auto": 0, "cancel": 1, "simplex": 2, "scaling": 3, "sap": 4, "augment": 5}
@@ -54,9 +54,13 @@ def _path() -> str:
     beside = [os.path.join(here, "libmcf.so"), os.path.join(up(up(here)), "bin", "libmcf.so"),
               os.path.join(up(up(up(up(here)))), "lib", "libmcf.so")]
     named = os.environ.get("MCF_LIBRARY")
-    for path in [named] if named else beside + [ctypes.util.find_library("mcf")]:
-        if path and (os.sep not in path or os.path.exists(path)):
+    for path in [named] if named else beside:
+        if os.sep not in path or os.path.exists(path):
             return path
+    # Asked last: it runs the linker's own programs.
+    installed = None if named else ctypes.util.find_library("mcf")
+    if installed:
+        return installed
     raise ImportError("libmcf.so isn't found: MCF_LIBRARY names it, or it stands beside the package mcf or where the linker looks")
 
 
@@ -65,7 +69,7 @@ def _load() -> ctypes.CDLL:
     size, word, at = ctypes.c_size_t, ctypes.c_uint32, ctypes.c_void_p
     told = ctypes.POINTER(Told)
     choice = ctypes.POINTER(Choice)
-    rooms = [at, size, at, size]
+    rooms: List[Any] = [at, size, at, size]
     flow_problem, assignment = ctypes.POINTER(FlowProblem), ctypes.POINTER(Assignment)
     library.mcf_solve.argtypes = [ctypes.c_char_p, size, choice, at, size, ctypes.POINTER(size)]
     library.mcf_check.argtypes = [ctypes.c_char_p, size, ctypes.c_char_p, size, told]
@@ -135,6 +139,12 @@ def check_text(text: bytes, answer: bytes) -> Verdict:
 class Arrays:
     """A problem in arrays, with rooms for its answer: `flow` by arc and `prices` by node."""
     __slots__ = ("problem", "flow", "prices", "told", "_rooms", "_kept", "_solve", "_check")
+    problem: Union[FlowProblem, Assignment]
+    flow: array
+    prices: array
+    _kept: Any
+    _solve: Any
+    _check: Any
 
     def solve(self, choice: Choice) -> int:
         """The status: FLOW, BLOCKED or REFUSED, with what is told of it."""

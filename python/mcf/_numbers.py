@@ -2,12 +2,12 @@
 from fractions import Fraction
 from math import gcd
 from operator import index
-from typing import Iterable, Union
+from typing import Any, Iterable, Union
 
 Whole = Union[int, Fraction]
 
 
-def exact(value) -> Whole:
+def exact(value: Any) -> Whole:
     """A number as an int or a Fraction. An exponent of more than three digits is past all limits, and isn't multiplied out."""
     if type(value) is int:
         return value
@@ -35,7 +35,7 @@ def scale_of(values: Iterable[Whole]) -> int:
     return scale
 
 
-def unscaled(value: int, scale: int) -> Union[int, float]:
+def unscaled(value: Any, scale: int) -> Union[int, float]:
     """What a scaled number was."""
     if scale == 1:
         return value

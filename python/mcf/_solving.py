@@ -14,7 +14,8 @@ INFINITE = float("inf")
 LARGE = 2 ** 15
 
 Number = Union[int, float]
-Arc = Tuple[int, int, int, Optional[int], int]
+# The ends, low, cap and cost; a cap may be None where nothing is solved yet.
+Arc = Tuple[int, int, int, Any, int]
 
 
 class MCFError(Exception):
@@ -121,13 +122,13 @@ def _negative_cycle(arcs: List[Arc], unlimited: List[int], flow: Sequence[int], 
         u, v, _, _, cost = arcs[k]
         if flow[k] != most or cost - prices[u] + prices[v] >= 0:
             continue
-        came: Dict[int, Optional[int]] = {v: None}
+        came = {v: -1}
         stack = [v]
         while stack:
             w = stack.pop()
             if w == u:
                 cycle = []
-                while came[w] is not None:
+                while came[w] >= 0:
                     cycle.append(came[w])
                     w = arcs[came[w]][0]
                 return [k] + cycle[::-1]
@@ -201,7 +202,7 @@ def _node(value) -> int:
         raise TypeError("a node has a number from 0, where supplies are no dict, and not %r" % (value,)) from None
 
 
-def _scaled(amounts: list, rows: List[tuple]) -> Tuple[List[int], List[Arc], int, int]:
+def _scaled(amounts: list, rows: List[tuple]) -> Tuple[List[int], List[Any], int, int]:
     """Supplies and arcs in whole numbers, and how many times as great amounts and costs are."""
     exacts = [(u if type(u) is int else _node(u), v if type(v) is int else _node(v), exact(low),
                None if cap is None or cap == INFINITE else exact(cap), exact(cost)) for u, v, low, cap, cost in rows]

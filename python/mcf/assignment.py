@@ -12,7 +12,7 @@ from ._numbers import exact, limited, scale_of
 from ._solving import COST, Infeasible, NotAccepted, Refused, solve_whole, suited
 
 
-def linear_sum_assignment(cost_matrix, maximize: bool = False, *, engine: str = "auto", check: bool = True):
+def linear_sum_assignment(cost_matrix: Any, maximize: bool = False, *, engine: str = "auto", check: bool = True) -> Tuple[Any, Any]:
     """Matches rows with columns at least cost, or at greatest: the row indices, ascending, and the column of each.
 
     Arrays of numpy where the matrix is one, and else lists. An infinite entry is a pair that can't be matched. Entries that aren't whole

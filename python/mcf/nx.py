@@ -3,11 +3,13 @@
 Where several flows have the least cost, another one may come than networkx gives. An exception has more to tell than its words: of
 an unfeasible graph `nodes`, `side`, `must` and `can`, and of an unbounded one the `cycle`.
 """
+from typing import Any, Dict, Tuple
+
 import networkx as nx
 from networkx.utils import not_implemented_for
 
 from ._numbers import exact, scale_of, unscaled
-from ._solving import INFINITE, Infeasible, Unbounded, solve_whole, suited
+from ._solving import INFINITE, Infeasible, Number, Unbounded, solve_whole, suited
 
 __all__ = ["network_simplex", "min_cost_flow", "min_cost_flow_cost", "max_flow_min_cost", "maximum_flow_value"]
 
@@ -37,7 +39,8 @@ def _solve(nodes, demands, ends, caps, costs, engine, check):
 
 
 @not_implemented_for("undirected")
-def network_simplex(G, demand="demand", capacity="capacity", weight="weight", *, engine="auto", check=True):
+def network_simplex(G: Any, demand: str = "demand", capacity: str = "capacity", weight: str = "weight", *, engine: str = "auto",
+                    check: bool = True) -> Tuple[Number, Dict[Any, Dict[Any, Any]]]:
     """networkx.network_simplex, solved by mcf, each answer judged by its checker."""
     if len(G) == 0:
         raise nx.NetworkXError("graph has no nodes")
@@ -85,17 +88,17 @@ def _by_edge(G, nodes, edges, flow):
     return flows
 
 
-def min_cost_flow_cost(G, demand="demand", capacity="capacity", weight="weight", **options):
+def min_cost_flow_cost(G: Any, demand: str = "demand", capacity: str = "capacity", weight: str = "weight", **options: Any) -> Number:
     """networkx.min_cost_flow_cost, solved by mcf."""
     return network_simplex(G, demand=demand, capacity=capacity, weight=weight, **options)[0]
 
 
-def min_cost_flow(G, demand="demand", capacity="capacity", weight="weight", **options):
+def min_cost_flow(G: Any, demand: str = "demand", capacity: str = "capacity", weight: str = "weight", **options: Any) -> Dict[Any, Dict[Any, Any]]:
     """networkx.min_cost_flow, solved by mcf."""
     return network_simplex(G, demand=demand, capacity=capacity, weight=weight, **options)[1]
 
 
-def maximum_flow_value(G, s, t, capacity="capacity", *, engine="auto", check=True):
+def maximum_flow_value(G: Any, s: Any, t: Any, capacity: str = "capacity", *, engine: str = "auto", check: bool = True) -> Number:
     """The greatest flow from s to t: the least cost, turned round, where an arc from t to s earns 1 a unit."""
     if G.is_multigraph():
         raise nx.NetworkXError("MultiGraph and MultiDiGraph not supported (yet).")
@@ -121,7 +124,7 @@ def maximum_flow_value(G, s, t, capacity="capacity", *, engine="auto", check=Tru
     return flow[-1]
 
 
-def max_flow_min_cost(G, s, t, capacity="capacity", weight="weight", **options):
+def max_flow_min_cost(G: Any, s: Any, t: Any, capacity: str = "capacity", weight: str = "weight", **options: Any) -> Dict[Any, Dict[Any, Any]]:
     """networkx.max_flow_min_cost, solved by mcf."""
     value = maximum_flow_value(G, s, t, capacity=capacity, **options)
     H = nx.DiGraph(G)

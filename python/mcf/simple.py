@@ -96,15 +96,15 @@ class SimpleMinCostFlow:
         return self._answer
 
     def optimal_cost(self) -> int:
-        return self._solved().cost
+        return int(self._solved().cost)
 
     def maximum_flow(self) -> int:
         self._solved()
         return sum(b for b in self._supplies if b > 0)
 
     def flow(self, arc: int) -> int:
-        return self._solved().flow[arc]
+        return int(self._solved().flow[arc])
 
     def flows(self, arcs: Sequence[int]) -> List[int]:
         flow = self._solved().flow
-        return [flow[arc] for arc in arcs]
+        return [int(flow[arc]) for arc in arcs]
