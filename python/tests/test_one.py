@@ -25,7 +25,7 @@ class One(WithFolder):
             **{name: str(value) for name, value in variables.items()},
         }
         done = subprocess.run(
-            [self.shell, TOOL, *map(str, words)],
+            [self.shell, self.tool, *map(str, words)],
             stdout=subprocess.PIPE,
             stderr=subprocess.PIPE,
             env=environment,
@@ -35,7 +35,7 @@ class One(WithFolder):
 
     def setUp(self):
         super().setUp()
-        self.shell = "/bin/sh"
+        self.shell, self.tool = "/bin/sh", TOOL
 
     def test_statuses(self):
         for shell in filter(None, map(shutil.which, ("dash", "bash"))):
@@ -56,6 +56,18 @@ class One(WithFolder):
                     answer.unlink()
             self.assertEqual(self.run_one(self.folder / "none.min")[0], 3)
             self.assertEqual(self.run_one()[0], 3)
+
+    def test_where_the_programs_are(self):
+        path = self.put("a.min", FLOW)
+        for programs in ("beside/tools", "be low/bin"):
+            folder = self.folder / programs
+            tools = folder.parent / "tools"
+            folder.mkdir(parents=True)
+            tools.mkdir(exist_ok=True)
+            self.tool = shutil.copy(TOOL, tools)
+            for program in (Programs(None).solver, Programs(None).checker):
+                shutil.copy(program, folder)
+            self.assertEqual(self.run_one(path, MCF_BIN="", PATH="/usr/bin:/bin"), (0, f"0 {path} accepted flow 15\n"))
 
     def test_options_go_to_mcf(self):
         path = self.put("a.min", FLOW)
