@@ -56,7 +56,10 @@ if has cc C; then
     step "calls from C, static" "$out/calls_static" $(texts)
     step "refused memory" "$out/refuse" examples/*.min examples/*.asn
     step "hostile calls" "$out/hostile" 20000 examples/*.min examples/*.asn
-    has valgrind "C under valgrind" && step "C under valgrind" valgrind -q --error-exitcode=9 --leak-check=full "$out/calls" $(texts)
+    if has valgrind "C under valgrind"; then
+        step "calls under valgrind" valgrind -q --error-exitcode=9 --leak-check=full "$out/calls" $(texts)
+        step "hostile calls under valgrind" valgrind -q --error-exitcode=9 --leak-check=full "$out/hostile" 60 examples/*.min examples/*.asn
+    fi
     step "exported names" sh -c "nm -D --defined-only bin/libmcf.so | awk '\$2 != \"A\" && \$3 !~ /^mcf_[a-z_]*@@MCF_1\$/ {print; bad = 1} END {exit bad}'"
 fi
 has c++ C++ && step "the header in C++" c++ -std=c++98 -Wall -Wextra -Werror -Wno-long-long -x c++ -fsyntax-only library/mcf.h
