@@ -1,8 +1,9 @@
 -- A search while it scans rows: what one arc changes, one row, and one row more settled.
-use Rattle.std.proofs.Common.{◌≡◌, ◌≢◌, ℕ, ◌+◌, ◌-◌, ◌*◌, ◌<◌, ◌≤◌, true, false, List, [], ◌∷◌, ◌++◌, length, get_or, Option, None, Some, ℤ, pos, ◌≤ℤ◌, ◌-ℤ◌, ◌⊎◌, refl, sym}
+use Rattle.std.proofs.Common.{◌≡◌, ◌≢◌, ℕ, ◌+◌, ◌-◌, ◌*◌, ◌<◌, ◌≤◌, Bool, true, false, List, [], ◌∷◌, ◌++◌, length, get_or, Option, None, Some, ℤ, pos, ◌≤ℤ◌, ◌+ℤ◌, ◌-ℤ◌, ◌⊎◌, refl, sym}
 use Rattle.std.proofs.Common.{◌∙◌, ap, subst, arith, inl, inr, set, length-set}
 use Rattle.std.specs.List.{All, AllPairs, Contains}
-use Rattle.std.proofs.lemmas.Bool.{cases_eq, cases_lt}
+use Rattle.std.specs.List.Sorted.{IsPermutation}
+use Rattle.std.proofs.lemmas.Bool.{cases_eq, cases_lt, true≢false}
 use Rattle.std.proofs.lemmas.Int.{ints}
 use Rattle.std.proofs.lemmas.List.{append-nil, append_assoc, get_or_append_left, get_or_default, get_or_push, length-append, length_push}
 use Rattle.std.proofs.lemmas.List.Elements.{All-nil, All-push, Contains-append_left, Contains-append_right, Contains-get_or, Contains-push, Contains-push_cases}
@@ -15,23 +16,27 @@ use Rattle.mcf_network.specs.States.{Pseudoflow, amount_at}
 use Rattle.mcf_network.proofs.Marks.{count_small}
 use Rattle.mcf_assign.specs.Matchings.{AreMatchingPrices, IsColumn, IsMatchedColumn, IsPair, IsPartialMatching, IsRow, column_of, row_of}
 use Rattle.mcf_assign.specs.declared.offers.Offer.{Offer}
+use Rattle.mcf_assign.specs.declared.rows.RowArc.{RowArc}
+use Rattle.mcf_assign.specs.declared.rows.Rows.{Rows}
 use Rattle.mcf_assign.specs.declared.scene.Row.{Row}
+use Rattle.mcf_assign.specs.Private.RowLists.{IsRowArc, forward_of}
 use Rattle.mcf_assign.specs.Private.Forests.{IsOrder}
 use Rattle.mcf_assign.specs.Private.Rooms.{out_count}
 use Rattle.mcf_assign.specs.Private.Scans.{AreTurns, HasNewArcs, HasPending, IsGoing, IsSound, IsStep, all_forward}
-use Rattle.mcf_assign.specs.Private.Scenes.{IsFarthestRow}
-use Rattle.mcf_assign.specs.Private.Searches.{HasEntries, HasForward, IsDue, IsLast, IsLink, IsNear, IsNext, IsReady, IsSearch, IsSettling, IsTaken, Search, Settled}
+use Rattle.mcf_assign.specs.Private.Scenes.{IsFarthestRow, IsScene}
+use Rattle.mcf_assign.specs.Private.Searches.{HasEntries, HasForward, IsDue, IsBestUpTo, IsLast, IsLink, IsNear, IsNext, IsReady, IsSearch, IsSettling, IsTaken, Search, Settled}
 use Rattle.mcf_assign.specs.Private.Searches.{Waits, dist_at, offer, offer_of, paired, queued, reach_of}
 use Rattle.mcf_assign.proofs.Near.{near_best}
 use Rattle.mcf_assign.proofs.Nearest.{due_now, no_offer, taken_ok}
 use Rattle.mcf_assign.proofs.Orders.{ordered_kept, ordered_more, two_more}
 use Rattle.mcf_assign.proofs.PairLaws.{amount_is, column_is, row_column, row_is}
+use Rattle.mcf_assign.proofs.Relaxing.{read_mark, relaxed_best, relaxed_queued, relaxed_settled, relaxed_worse}
 use Rattle.mcf_assign.proofs.Rooms.{IsOut, all_has, outs_few}
 use Rattle.mcf_assign.proofs.RowLists.{IsPassing, pass_back, pass_end, pass_fresh, pass_leaves, pass_more, pass_start}
 use Rattle.mcf_assign.proofs.Scanning.{leaves_from, row_near}
 use Rattle.mcf_assign.proofs.Settling.{none_contained}
 use Rattle.mcf_assign.proofs.Stepping.{IsStepped, paired_is, reach_small, stepped_pair}
-use Rattle.mcf_assign.specs.Private.Reaches.{price_reach, row_reach}
+use Rattle.mcf_assign.specs.Private.Reaches.{base_reach, price_reach, row_reach}
 
 abbrev forward : ℕ → Rid
 forward k = record { arc = k; back = false }
@@ -159,7 +164,7 @@ step_last s y q q' order order' row arcs step node settled last u n h =
 
 -- the row whose arcs are relaxed, as it was read
 pub row_read : (s : Pseudoflow) (y : List ℤ) (q : Search) (row : Row) (v : ℕ) → row.id ≡ v → row.level ≡ dist_at q v → row.base ≡ dist_at q v -ℤ at_node y v
-    → IsNode (node_count s.net) v → Settled q v → IsLast s q v → IsUpTo row_reach (dist_at q v) → IsFarthestRow s y q row
+    → IsNode (node_count s.net) v → Settled q v → IsLast s q v → IsUpTo base_reach row.base → IsFarthestRow s y q row
 row_read s y q row v at level base node settled last near =
     record {
       node = subst (λ u. IsNode (node_count s.net) u) (sym at) node;
@@ -167,7 +172,7 @@ row_read s y q row v at level base node settled last near =
       last = subst (λ u. IsLast s q u) (sym at) last;
       level = level ∙ ap (dist_at q) (sym at);
       base = (let price = ap (at_node y) at in omega (arith, ints, base, level, price));
-      near = subst (λ x. IsUpTo row_reach x) (sym level) near;
+      near = near;
     }
 
 -- it is as it was after some of its arcs
@@ -470,6 +475,105 @@ pub sound_near : (s : Pseudoflow) (y : List ℤ) (q : Search) (source row : ℕ)
     → IsUpTo row_reach (dist_at q row)
 sound_near s y q source row order ok sound node settled small =
     row_near s y q source row sound.search.is_row.0 node (reach_small s y q source ok sound.entries sound.near) settled small
+
+-- ---- what the code does with an arc of a row
+
+module _ {s : Pseudoflow} {arcs : Rows} {y : List ℤ} {table order : List ℕ} {q : Search} {row : Row} {a : RowArc} (scene : IsScene s arcs y table)
+    (sound : (source : ℕ) × IsSound s y q source order) (farthest : IsFarthestRow s y q row) (is : IsRowArc s.net row.id a) where
+  abbrev StepsTo : Search → List ℕ → Type 0
+  StepsTo new after = IsStep s y q order new after row.id (forward_of a ∷ [])
+
+  at : Settled q (row_of s a.arc) × IsLast s q (row_of s a.arc) × (row.level ≡ dist_at q (row_of s a.arc))
+      × (row.base ≡ dist_at q (row_of s a.arc) -ℤ at_node y (row_of s a.arc))
+  at = row_at s y q row (row_of s a.arc) is.from farthest
+
+  pub arc_column : IsColumn s a.column
+  arc_column = subst (λ v. IsColumn s v) is.to (column_is s a.arc scene.matching is.arc)
+
+  -- a number is what it offers
+  abbrev IsOffer : ℤ → Type 0
+  IsOffer x = x ≡ row.base +ℤ a.cost +ℤ at_node y a.column
+
+  arc_offer : (x : ℤ) → IsOffer x → x ≡ offer s y q a.arc
+  arc_offer x e =
+      let base = at.3 in
+      let cost = is.cost in
+      let price = ap (at_node y) is.to in
+      omega (arith, ints, e, base, cost, price)
+
+  pub arc_worse : (x : ℤ) → IsOffer x → IsBestUpTo q.best x → StepsTo q order
+  arc_worse x is_offer worse =
+      idle_step s y q order row.id (forward_of a ∷ [])
+      (relaxed_worse s y q a.arc scene.matching scene.prices is.arc at.0 at.1 (subst (λ z. IsBestUpTo q.best z) (arc_offer x is_offer) worse))
+
+  mark : (b : Bool) (i : ℕ) → b ≡ get_or q.settled i b → i ≡ a.column - 1 → get_or q.settled (column_of s a.arc - 1) false ≡ b
+  mark b i e place =
+      let node = is.head in
+      let count = sound.1.entries.settled_count in
+      read_mark q.settled i (column_of s a.arc) b e (place ∙ ap (λ v. v - 1) (sym is.to)) (omega (arith, node, count, place))
+
+  pub arc_settled : (b : Bool) (i : ℕ) → b ≡ get_or q.settled i b → i ≡ a.column - 1 → b ≡ true → StepsTo q order
+  arc_settled b i e place marked =
+      idle_step s y q order row.id (forward_of a ∷ [])
+      (relaxed_settled s y q a.arc scene.matching scene.prices is.arc at.0 at.1 (mark b i e place ∙ marked))
+
+  pub arc_fresh : (b : Bool) (i : ℕ) → b ≡ get_or q.settled i b → i ≡ a.column - 1 → b ≡ false → ¬ Settled q (column_of s a.arc)
+  arc_fresh b i e place unmarked h = absurd (true≢false (sym h ∙ mark b i e place ∙ unmarked))
+
+  pub arc_best : (x : ℤ) (i : ℕ) → IsOffer x → i ≡ a.column - 1 → get_or table i 0 ≡ 0 → ((z : ℤ) → IsBestUpTo q.best z → x ≤ℤ z)
+      → StepsTo (record q { best = Some (record { arc = a.arc; dist = x }) }) order
+  arc_best x i is_offer place none better =
+      let gives = arc_offer x is_offer in
+      let free = scene.mates.no_column (column_of s a.arc) (column_is s a.arc scene.matching is.arc)
+      (ap (λ j. get_or table j 0) (ap (λ v. v - 1) is.to ∙ sym place) ∙ none) in
+      subst (λ v. IsStep s y q order (record q { best = Some (record { arc = a.arc; dist = x }) }) order v (forward_of a ∷ [])) is.from
+      (best_step s y q order a.arc scene.matching is.arc at.0 a.arc x refl gives
+      (relaxed_best s y q a.arc scene.matching scene.prices is.arc at.0 at.1 a.arc x refl gives free better))
+
+  -- its column is matched
+  module _ (x : ℤ) (i : ℕ) (is_offer : IsOffer x) (place : i ≡ a.column - 1) (some : 0 < get_or table i 0) (fresh : ¬ Settled q (column_of s a.arc)) where
+    abbrev o : Offer
+    o = record { dist = x; column = a.column; arc = a.arc }
+
+    pair : IsPair s (get_or table i 0) × (column_of s (get_or table i 0) ≡ column_of s a.arc)
+    pair =
+        subst (λ j. IsPair s (get_or table j 0) × (column_of s (get_or table j 0) ≡ column_of s a.arc)) (ap (λ v. v - 1) is.to ∙ sym place)
+        (scene.mates.column (column_of s a.arc) (column_is s a.arc scene.matching is.arc)
+        (subst (λ j. 0 < get_or table j 0) (place ∙ ap (λ v. v - 1) (sym is.to)) some))
+
+    gives : x ≡ offer s y q a.arc
+    gives = arc_offer x is_offer
+
+    offered_is : o ≡ offer_of s y q a.arc
+    offered_is = offer_is s y q a.arc x a.column gives (sym is.to)
+
+    matched : IsMatchedColumn s (column_of s a.arc)
+    matched = (get_or table i 0, pair.0, pair.1)
+
+    pub arc_matched : IsMatchedColumn s a.column
+    arc_matched = subst (λ v. IsMatchedColumn s v) is.to matched
+
+    pub arc_room : length order + 2 ≤ node_count s.net
+    arc_room = pair_room s y q sound.0 (offer_of s y q a.arc) (get_or table i 0) order scene.matching sound.1 pair.0 pair.1 fresh
+
+    pub arc_once : (r : ℕ) (new : Search) (after : List ℕ) → x ≤ℤ row.level → ((k : ℕ) × IsPair s k × (column_of s k ≡ a.column) × (row_of s k ≡ r))
+        → new ≡ paired q o r → after ≡ (order ++ a.column ∷ []) ++ r ∷ [] → StepsTo new after
+    arc_once r q' after near (k, own, at_column, at_row) value listed =
+        let far = at.2 in
+        let e = gives in
+        let level : offer s y q a.arc ≤ℤ dist_at q (row_of s a.arc) = omega (arith, ints, near, e, far) in
+        subst (λ v. IsStep s y q order q' after v (forward_of a ∷ [])) is.from
+        (subst (λ (z : Search). IsStep s y q order z after (row_of s a.arc) (forward_of a ∷ [])) (sym value)
+        (subst (λ z. IsStep s y q order (paired q o r) z (row_of s a.arc) (forward_of a ∷ [])) (sym listed)
+        (once_step s y q order a.arc scene.matching is.arc at.0 o r k scene.prices sound.1.entries fresh offered_is level at.1 matched own at_column at_row sound.0
+        sound.1)))
+
+    pub arc_queued : (list : List Offer) → IsPermutation (o ∷ q.queue) list → StepsTo (queued q list) order
+    arc_queued list put =
+        subst (λ v. IsStep s y q order (queued q list) order v (forward_of a ∷ [])) is.from
+        (queued_step s y q order a.arc scene.matching is.arc at.0 list
+        (relaxed_queued s y q a.arc scene.matching scene.prices is.arc at.0 at.1 list matched fresh
+        (subst (λ (z : Offer). IsPermutation (z ∷ q.queue) list) offered_is put)))
 
 -- ---- rows that are to be scanned
 

@@ -10,7 +10,7 @@ use Rattle.mcf_assign.specs.declared.search.Tables.{Tables}
 use Rattle.mcf_assign.specs.Matchings.{AreMatchingPrices, IsColumn, IsMatchedColumn, IsMatchedRow, IsPair, IsPartialMatching, IsRow}
 use Rattle.mcf_assign.specs.Private.Forests.{AreMates}
 use Rattle.mcf_assign.specs.Private.Keeping.{AreNearZero, IsKept}
-use Rattle.mcf_assign.specs.Private.Lows.{low_inside}
+use Rattle.mcf_assign.specs.Private.Reaches.{update_reach}
 use Rattle.mcf_assign.specs.Private.Updating.{AreUpdated, DoesArcFit, DoesNodeFit, mate_at}
 use Rattle.mcf_assign.proofs.PairLaws.{assignment_of}
 
@@ -74,7 +74,7 @@ module _ (s : Pseudoflow) (mates : List ℕ) (y z : List ℤ) (mated : AreMates 
             let here = (nodes (i + 1) (omega arith, omega (arith, inside, count))).near in
             let back : i + 1 - 1 ≡ i = omega arith in
             let same : at_node z (i + 1) ≡ get_or z i d = ap (λ j. get_or z j (pos 0)) back ∙ get_or_default z i (pos 0) d inside in
-            subst (λ a. IsUpTo low_inside a) same here;
+            subst (λ a. IsUpTo update_reach a) same here;
         shown = judged;
         free_rows = λ v row free. (nodes v row.0).free (no_row_mate v row free);
       }

@@ -3,7 +3,6 @@ pub mod Reaches
 pub mod RowLists
 pub mod Scenes
 pub mod Searches
-pub mod Lows
 pub mod Scans
 pub mod Queues
 pub mod Rooms

@@ -5,7 +5,7 @@ ghost use Rattle.mcf_flows.specs.Flow.{reduced_cost};
 ghost use Rattle.mcf_flows.specs.Network.{IsArcNumber, IsNode, at_node, node_count};
 ghost use Rattle.mcf_flows.specs.WellFormed.{IsUpTo};
 ghost use Rattle.mcf_network.specs.Residual.{arc_at};
-ghost use Rattle.mcf_assign.specs.Private.Lows.{low_inside};
+ghost use Rattle.mcf_assign.specs.Private.Reaches.{update_reach};
 ghost use Rattle.mcf_assign.specs.Private.Scenes.{IsScene};
 ghost use Rattle.mcf_assign.specs.Private.Updating.{AreUpdated, DoesArcFit, DoesNodeFit};
 
@@ -55,7 +55,7 @@ fn does_node_fit(scene: &Scene<'_, '_>, v: NodeId, price: i64) -> bool
         return false;
     }
     if scene.mates[v.place()] == 0 {
-        if price != scene.prices.lows()[v.place()] {
+        if i128::from(price) != scene.prices.get(v) {
             return false;
         }
         return true;
@@ -72,7 +72,7 @@ fn does_node_fit(scene: &Scene<'_, '_>, v: NodeId, price: i64) -> bool
 // Whether new prices fit each arc.
 fn do_arcs_fit(state: &State<'_>, prices: &[i64]) -> bool
     requires count { length prices.now ≡ node_count state.now.net }
-    requires near { (v : ℕ) → IsNode (node_count state.now.net) v → IsUpTo low_inside (at_node prices.now v) }
+    requires near { (v : ℕ) → IsNode (node_count state.now.net) v → IsUpTo update_reach (at_node prices.now v) }
     ensures { result ≡ true → (k : ℕ) → IsArcNumber state.now.net k → DoesArcFit state.now prices.now k }
 {
     'arcs: for number in 0..state.net().arc_count() {
@@ -87,7 +87,7 @@ fn do_arcs_fit(state: &State<'_>, prices: &[i64]) -> bool
 #[inline(always)]
 fn does_arc_fit(state: &State<'_>, prices: &[i64], k: ArcId) -> bool
     requires count { length prices.now ≡ node_count state.now.net }
-    requires near { (v : ℕ) → IsNode (node_count state.now.net) v → IsUpTo low_inside (at_node prices.now v) }
+    requires near { (v : ℕ) → IsNode (node_count state.now.net) v → IsUpTo update_reach (at_node prices.now v) }
     requires arc { IsArcNumber state.now.net k }
     ensures { result ≡ true → DoesArcFit state.now prices.now k }
 {
@@ -108,7 +108,7 @@ fn does_arc_fit(state: &State<'_>, prices: &[i64], k: ArcId) -> bool
 #[inline(always)]
 fn reduced(net: &Net, prices: &[i64], k: ArcId) -> i64
     requires count { length prices.now ≡ node_count net.now }
-    requires near { (v : ℕ) → IsNode (node_count net.now) v → IsUpTo low_inside (at_node prices.now v) }
+    requires near { (v : ℕ) → IsNode (node_count net.now) v → IsUpTo update_reach (at_node prices.now v) }
     requires arc { IsArcNumber net.now k }
     ensures { result ≡ reduced_cost prices.now (arc_at net.now k) }
 {

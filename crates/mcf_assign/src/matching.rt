@@ -148,7 +148,7 @@ impl<'n> Matching<'n> {
             mates,
         };
         if self.update.run(&scene) {
-            self.prices.take_lows(&mut self.update.lows);
+            self.prices.take_narrow(&mut self.update.lows);
         }
     }
 

@@ -1,11 +1,9 @@
-//! The prices of the nodes, cut to 64 bits where searches read them.
-ghost use Rattle.std.specs.Prelude.{◌≡◌, ◌-◌, ◌^◌, ◌≤◌, ◌+ℤ◌, ℤ, List, IfOk, IfSome, OnErr, length, set, true};
-ghost use Rattle.std.specs.List.{All};
+//! The prices of the nodes: all of 64 bits, or all of 128.
+ghost use Rattle.std.specs.Prelude.{◌≡◌, ◌-◌, ◌≤◌, ℤ, List, IfOk, IfSome, OnErr, length, set, true};
 ghost use Rattle.mcf_flows.specs.Network.{IsNode, at_node, node_count};
 ghost use Rattle.mcf_flows.specs.WellFormed.{IsUpTo};
 ghost use Rattle.mcf_assign.specs.Private.Keeping.{AreFirstPrices};
-ghost use Rattle.mcf_assign.specs.Private.Lows.{AreLows, IsLow, lies_inside, low_inside, whole_prices};
-ghost use Rattle.mcf_assign.specs.Private.Reaches.{rise_reach, target_reach};
+ghost use Rattle.mcf_assign.specs.Private.Reaches.{update_reach};
 
 use mcf_network::Net;
 use mcf_text::{NoMemory, NodeId, copies};
@@ -13,24 +11,22 @@ use std::alloc::Global;
 use std::marker::Model;
 use std::mem::swap;
 
-/// The prices of the nodes: each cut to 64 bits, and beside it whole where that isn't the price itself.
-///
-/// A price that wasn't cut stands there alone: what stands beside it is of no account, and is neither read nor written.
+/// The prices of the nodes. They stand in 64 bits until one doesn't fit there, and all of them in 128 from then on.
 #[derive(Drop)]
 pub(crate) struct Prices {
-    lows: Vec<i64>,
+    narrow: Vec<i64>,
     wide: Vec<i128>,
+    is_wide: bool,
 }
 
 impl Model for Prices {
-    ghost use Rattle.std.specs.Prelude.{◌≡◌, ℤ, List, length};
-    ghost use Rattle.mcf_assign.specs.Private.Lows.{AreLows, whole_prices};
+    ghost use Rattle.std.specs.Prelude.{◌≡◌, ℤ, List, length, if◌then◌else◌};
 
     ghost Value = { List ℤ };
 
-    ghost view = { λ a. whole_prices a.lows.items a.wide.items };
+    ghost view = { λ a. if a.is_wide then a.wide.items else a.narrow.items };
 
-    ghost invariant = { λ a. (length a.wide.items ≡ length a.lows.items) × AreLows (whole_prices a.lows.items a.wide.items) a.lows.items };
+    ghost invariant = { λ a. length a.wide.items ≡ length a.narrow.items };
 }
 
 impl Prices {
@@ -42,17 +38,23 @@ impl Prices {
         ensures prices { IfOk result (λ prices. AreFirstPrices net.now prices (node_count net.now)) }
         ensures wants { OnErr result (1 ≤ node_count net.now) }
     {
-        let lows = first_lows(alloc, net)?;
+        let narrow = first_prices(alloc, net)?;
         let wide = copies(alloc, net.node_count() as usize, 0)?;
-        Ok(Prices { lows, wide })
+        Ok(Prices {
+            narrow,
+            wide,
+            is_wide: false,
+        })
     }
 
-    /// The prices cut to 64 bits.
-    #[inline(always)]
-    pub(crate) fn lows(&self) -> &[i64]
-        ensures { AreLows self.now result.now }
+    /// The prices, if they are of 64 bits.
+    pub(crate) fn narrow(&self) -> Option<&[i64]>
+        ensures { IfSome result (λ prices. prices.now ≡ self.now) }
     {
-        self.lows.as_slice()
+        if self.is_wide {
+            return None;
+        }
+        Some(self.narrow.as_slice())
     }
 
     /// The price of a node.
@@ -61,11 +63,11 @@ impl Prices {
         requires { IsNode (length self.now) v }
         ensures { result ≡ at_node self.now v }
     {
-        let low = self.lows[v.place()];
-        if is_inside(low) {
-            return i128::from(low);
+        let i = v.place();
+        if self.is_wide {
+            return self.wide[i];
         }
-        self.wide[v.place()]
+        i128::from(self.narrow[i])
     }
 
     /// Writes the price of a node.
@@ -75,114 +77,82 @@ impl Prices {
         ensures { self.new ≡ set self.old (v - 1) price }
     {
         let i = v.place();
-        let low = low_of(price);
-        self.lows[i] = low;
-        if !is_inside(low) {
+        if self.is_wide {
             self.wide[i] = price;
-        }
-    }
-
-    /// Raises the price of a node by so much, or lowers it where that is below 0.
-    #[inline(always)]
-    pub(crate) fn rise(&mut self, v: NodeId, more: i128)
-        requires node { IsNode (length self.old) v }
-        requires price { IsUpTo target_reach (at_node self.old v) }
-        requires more { IsUpTo rise_reach more }
-        ensures { self.new ≡ set self.old (v - 1) (at_node self.old v +ℤ more) }
-    {
-        let i = v.place();
-        if let Some(low) = risen(self.lows[i], more) {
-            self.lows[i] = low;
             return;
         }
-        let price = self.get(v) + more;
-        self.set(v, price);
+        if let Ok(narrow) = i64::try_from(price) {
+            self.narrow[i] = narrow;
+            return;
+        }
+        widen(self.wide.as_mut_slice(), self.narrow.as_slice());
+        self.wide[i] = price;
+        self.is_wide = true;
     }
 
-    /// Takes the prices out of a table of 64 bits, as many and so near 0 that none is cut, and leaves there the prices of before, cut.
-    pub(crate) fn take_lows(&mut self, lows: &mut Vec<i64>)
-        requires count { length lows.old.items ≡ length self.old }
-        requires near { All (IsUpTo low_inside) lows.old.items }
-        ensures prices { self.new ≡ lows.old.items }
-        ensures count { length lows.new.items ≡ length self.old }
+    /// Takes the prices out of a table of 64 bits, and leaves there one as long.
+    pub(crate) fn take_narrow(&mut self, prices: &mut Vec<i64>)
+        requires { length prices.old.items ≡ length self.old }
+        ensures prices { self.new ≡ prices.old.items }
+        ensures count { length prices.new.items ≡ length self.old }
     {
-        swap(&mut self.lows, lows);
+        swap(&mut self.narrow, prices);
+        self.is_wide = false;
     }
 
     /// The prices, each in 128 bits.
     pub(crate) fn into_wide(self) -> Vec<i128>
         ensures { result.items ≡ self }
     {
-        let Prices { lows, mut wide } = self;
-        widen_whole(wide.as_mut_slice(), lows.as_slice());
+        let Prices {
+            narrow,
+            mut wide,
+            is_wide,
+        } = self;
+        if is_wide {
+            return wide;
+        }
+        widen(wide.as_mut_slice(), narrow.as_slice());
         wide
     }
 }
 
 // The first prices.
-fn first_lows(alloc: Global, net: &Net) -> Result<Vec<i64>, NoMemory>
+fn first_prices(alloc: Global, net: &Net) -> Result<Vec<i64>, NoMemory>
     ensures prices { IfOk result (λ made. AreFirstPrices net.now made.items (node_count net.now)) }
     ensures wants { OnErr result (1 ≤ node_count net.now) }
 {
     let nodes = net.node_count();
-    let mut lows = copies(alloc, nodes as usize, 0)?;
+    let mut prices = copies(alloc, nodes as usize, 0)?;
     'nodes: for number in 0..nodes {
         if net.supply(NodeId::at(number)) > 0 {
-            lows[number as usize] = FIRST_PRICE;
+            prices[number as usize] = FIRST_PRICE;
         }
     }
-    Ok(lows)
+    Ok(prices)
 }
 
-/// Whether a price was not cut.
+/// Whether a price lies so near 0 that the sums of an update fit 64 bits.
 #[inline(always)]
-pub(crate) fn is_inside(low: i64) -> bool
-    ensures value { result ≡ lies_inside low }
-    ensures near { result ≡ true → IsUpTo low_inside low }
+pub(crate) fn is_inside(price: i64) -> bool
+    ensures { result ≡ true → IsUpTo update_reach price }
 {
-    -LOW_REACH < low && low < LOW_REACH
+    -UPDATE_REACH < price && price < UPDATE_REACH
 }
 
-// A price of 64 bits that rises by so much, if neither that nor what comes of it is cut.
-#[inline(always)]
-fn risen(low: i64, more: i128) -> Option<i64>
-    ensures { IfSome result (λ price. (lies_inside low ≡ true) × (lies_inside price ≡ true) × (price ≡ low +ℤ more)) }
+// Writes each price in 128 bits.
+#[cold]
+fn widen(wide: &mut [i128], narrow: &[i64])
+    requires { length wide.old ≡ length narrow.now }
+    ensures { wide.new ≡ narrow.now }
 {
-    if !is_inside(low) || more < 0 || more > LOW_CUT {
-        return None;
-    }
-    let price = low + more as i64;
-    if !is_inside(price) {
-        return None;
-    }
-    Some(price)
-}
-
-// Writes whole the prices that weren't cut.
-fn widen_whole(wide: &mut [i128], lows: &[i64])
-    requires { length wide.old ≡ length lows.now }
-    ensures { wide.new ≡ whole_prices lows.now wide.old }
-{
-    'nodes: for i in 0..lows.len() {
-        let low = lows[i];
-        if is_inside(low) {
-            wide[i] = i128::from(low);
-        }
+    'nodes: for i in 0..narrow.len() {
+        wide[i] = i128::from(narrow[i]);
     }
 }
 
-// A price cut to 64 bits.
-fn low_of(price: i128) -> i64
-    ensures { IsLow price result }
-{
-    price.max(-LOW_CUT).min(LOW_CUT) as i64
-}
-
-/// How far from 0 a price of 64 bits may lie.
-pub(crate) const LOW_REACH: i64 = 1 << 61;
-
-// How far from 0 a price is cut.
-const LOW_CUT: i128 = LOW_REACH as i128;
+// How far from 0 the prices lie that an update makes.
+const UPDATE_REACH: i64 = 1 << 61;
 
 // The price with which a row begins: no cost is further below 0.
 const FIRST_PRICE: i64 = -1_000_000_000_000_000;

@@ -1,7 +1,12 @@
 //! What a search reads and doesn't change, and the row whose arcs it relaxes.
+ghost use Rattle.std.specs.Prelude.{◌≡◌, ◌+ℤ◌, length};
+ghost use Rattle.mcf_flows.specs.Limits.{limits};
+ghost use Rattle.mcf_flows.specs.Network.{IsNode, at_node};
+ghost use Rattle.mcf_flows.specs.WellFormed.{IsUpTo};
+ghost use Rattle.mcf_assign.specs.Private.Reaches.{base_reach, price_reach};
 
 use crate::prices::Prices;
-use crate::rows::Rows;
+use crate::rows::{RowArc, Rows};
 use mcf_network::State;
 use mcf_text::NodeId;
 
@@ -20,4 +25,18 @@ pub(crate) struct Row {
     pub(crate) id: NodeId,
     pub(crate) level: i128,
     pub(crate) base: i128,
+}
+
+impl Row {
+    /// The distance that an arc of the row offers to its column.
+    #[inline(always)]
+    pub(crate) fn offered(&self, prices: &Prices, a: RowArc) -> i128
+        requires base { IsUpTo base_reach self.now.base }
+        requires cost { IsUpTo limits.cost a.cost }
+        requires column { IsNode (length prices.now) a.column }
+        requires price { IsUpTo price_reach (at_node prices.now a.column) }
+        ensures { result ≡ self.now.base +ℤ a.cost +ℤ at_node prices.now a.column }
+    {
+        self.base + i128::from(a.cost) + prices.get(NodeId::new(a.column))
+    }
 }

@@ -1,11 +1,11 @@
 -- How far from 0 the numbers of a search lie: bounds within which its sums fit 128 bits, each for what is made of those before it.
-use Rattle.std.specs.Prelude.{ℕ, ◌^◌}
+use Rattle.std.specs.Prelude.{ℕ, ◌-◌, ◌^◌}
 
 -- the price of a node, while a search runs
 abbrev pub price_reach : ℕ
 price_reach = 10 ^ 29
 
--- the distance of a row whose arcs are relaxed
+-- the distance of a settled row
 abbrev pub row_reach : ℕ
 row_reach = 10 ^ 30
 
@@ -17,6 +17,6 @@ base_reach = 10 ^ 31
 abbrev pub target_reach : ℕ
 target_reach = 10 ^ 32
 
--- by how much a price rises
-abbrev pub rise_reach : ℕ
-rise_reach = 10 ^ 33
+-- a price that an update makes
+abbrev pub update_reach : ℕ
+update_reach = 2 ^ 61 - 1

@@ -9,7 +9,7 @@ use Rattle.mcf_assign.specs.Matchings.{AreMatchingPrices, IsPartialMatching}
 use Rattle.mcf_assign.specs.Private.Forests.{AreMates}
 use Rattle.mcf_assign.specs.Private.RowLists.{AreRows}
 use Rattle.mcf_assign.specs.Private.Searches.{IsLast, Search, Settled, dist_at}
-use Rattle.mcf_assign.specs.Private.Reaches.{price_reach, row_reach}
+use Rattle.mcf_assign.specs.Private.Reaches.{base_reach, price_reach}
 
 -- a partial matching with the arcs of its rows and the mates, and prices that show it and are near 0
 pub record IsScene (s : Pseudoflow) (arcs : Rows) (y : List ℤ) (table : List ℕ) : Type 0 where
@@ -27,4 +27,4 @@ pub record IsFarthestRow (s : Pseudoflow) (y : List ℤ) (q : Search) (row : Row
   pub last : IsLast s q row.id
   pub level : row.level ≡ dist_at q row.id
   pub base : row.base ≡ row.level -ℤ at_node y row.id
-  pub near : IsUpTo row_reach row.level
+  pub near : IsUpTo base_reach row.base

@@ -6,7 +6,7 @@ use Rattle.mcf_flows.specs.WellFormed.{IsUpTo}
 use Rattle.mcf_network.specs.States.{Pseudoflow}
 use Rattle.mcf_assign.specs.Extending.{Assigned}
 use Rattle.mcf_assign.specs.Matchings.{AreMatchingPrices, IsMatchedRow, IsPair, IsRow, reduced}
-use Rattle.mcf_assign.specs.Private.Lows.{low_inside}
+use Rattle.mcf_assign.specs.Private.Reaches.{update_reach}
 
 -- the arc with which a node is matched, or 0
 abbrev pub mate_at : List ℕ → ℕ → ℕ
@@ -14,7 +14,7 @@ mate_at mates v = slice_index_or mates (v - 1) 0
 
 -- a new price x fits a node: it is near 0, that of a free node is as before, and that of a matched column isn't below 0
 pub record DoesNodeFit (s : Pseudoflow) (mates : List ℕ) (y : List ℤ) (v : ℕ) (x : ℤ) : Type 0 where
-  pub near : IsUpTo low_inside x
+  pub near : IsUpTo update_reach x
   pub free : mate_at mates v ≡ 0 → x ≡ at_node y v
   pub column : 0 < mate_at mates v → at_node s.net.supplies v <ℤ pos 0 → pos 0 ≤ℤ x
 
@@ -34,6 +34,6 @@ pub record IsRepriced (old new : Assigned) : Type 0 where
 -- new prices z are near 0 and show the matching, and the rows that aren't matched keep theirs
 pub record AreUpdated (s : Pseudoflow) (y z : List ℤ) : Type 0 where
   pub count : length z ≡ node_count s.net
-  pub near : All (IsUpTo low_inside) z
+  pub near : All (IsUpTo update_reach) z
   pub shown : AreMatchingPrices s z
   pub free_rows : (v : ℕ) → IsRow s v → ¬ IsMatchedRow s v → at_node z v ≡ at_node y v

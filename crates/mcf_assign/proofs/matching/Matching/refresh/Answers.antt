@@ -13,18 +13,15 @@ returns-then-not-is_due-clause-shown c =
     (shown_kept i.state i.prices i.mates.items i.tables i.reached c.self.invariant.0
     (record { flow = i.state; prices = i.prices; settled = i.tables.order.items; reached = i.reached; searches = i.tables.searches.number }) refl refl)
 
-pub take_lows-requires-clause-count : goal.take_lows-requires-clause-count
-take_lows-requires-clause-count c = (c.run.ensures.updated c.if-run.true).count ∙ sym c.self.invariant.0.shown.count
-
-pub take_lows-requires-clause-near : goal.take_lows-requires-clause-near
-take_lows-requires-clause-near c = (c.run.ensures.updated c.if-run.true).near
+pub take_narrow-requires : goal.take_narrow-requires
+take_narrow-requires c = (c.run.ensures.updated c.if-run.true).count ∙ sym c.self.invariant.0.shown.count
 
 pub invariant_of-self : goal.invariant_of-self
 invariant_of-self c =
     let i = c.self.inside in
     let kept = kept_counted i.state c.run.new.self.lows.items i.mates.items i.tables i.reached 0
     (kept_updated i.state i.prices c.run.new.self.lows.items i.mates.items i.tables i.reached c.self.invariant.0 (c.run.ensures.updated c.if-run.true)) in (
-      subst (λ (y : List ℤ). IsKept i.state y i.mates.items (record i.tables { pairs = 0 }) i.reached) (sym c.take_lows.ensures.prices) kept,
+      subst (λ (y : List ℤ). IsKept i.state y i.mates.items (record i.tables { pairs = 0 }) i.reached) (sym c.take_narrow.ensures.prices) kept,
       c.self.invariant.1,
     )
 
@@ -34,7 +31,7 @@ returns-then-run-clause-shown c =
     let new = c.run.ensures.updated c.if-run.true in
     shown_kept i.state c.run.new.self.lows.items i.mates.items i.tables i.reached
     (kept_updated i.state i.prices c.run.new.self.lows.items i.mates.items i.tables i.reached c.self.invariant.0 new)
-    (record { flow = i.state; prices = c.take_lows.new.self; settled = i.tables.order.items; reached = i.reached; searches = i.tables.searches.number }) refl c.take_lows.ensures.prices
+    (record { flow = i.state; prices = c.take_narrow.new.self; settled = i.tables.order.items; reached = i.reached; searches = i.tables.searches.number }) refl c.take_narrow.ensures.prices
 
 pub returns-else-run-clause-shown : goal.returns-else-run-clause-shown
 returns-else-run-clause-shown c =

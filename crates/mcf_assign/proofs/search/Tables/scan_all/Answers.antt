@@ -1,6 +1,4 @@
-use Rattle.std.proofs.lemmas.Int.{to_z-of_z}
-use mir.Syntax.{w64, w128}
-use Rattle.std.proofs.Common.{arith, rules, ℕ, List, [], ◌∷◌, ◌≡◌, false, Option, to_z, of_z, ◌∙◌, refl, subst, sym}
+use Rattle.std.proofs.Common.{arith, ℕ, List, [], ◌∷◌, ◌≡◌, false, ◌∙◌, refl, subst, sym}
 use Rattle.mcf_flows.specs.Network.{IsArcNumber, Network}
 use Rattle.mcf_network.specs.declared.rid.Rid.{Rid}
 use Rattle.mcf_network.specs.Residual.{arc_at}
@@ -10,14 +8,10 @@ use Rattle.mcf_assign.specs.Private.Scans.{IsStep}
 use Rattle.mcf_assign.specs.Private.Searches.{search_of}
 use Rattle.mcf_assign.proofs.Scanning.{leaves_from}
 use Rattle.mcf_assign.proofs.Scans.{IsScanned, scan_end, scan_leaves, scan_all_few, scan_few, scan_more, scan_none, scan_start, row_kept}
-use Rattle.mcf_assign.specs.declared.search.Target.{Target}
-use Rattle.mcf_assign.specs.Private.Lows.{IsGap}
-use Rattle.mcf_assign.proofs.CutPrices.{gap_at}
 use Rattle.mcf_assign.proofs.search.Tables.scan_all.Goals as goal
 
 pub arcs-init : goal.arcs-init
 arcs-init c =
-    let b : to_z w128 (of_z w128 c.args.row.now.base) ≡ c.args.row.now.base = search (rules, to_z-of_z) in
     let lists = rw (← c.into_iter-leaving-iterator.ensures.into_iter_gives) at c.leaving-leaving-items.ensures in
     record {
       can_next = tt;
@@ -25,7 +19,6 @@ arcs-init c =
       scanned = scan_start c.args.scene.now.state.now c.args.scene.now.prices.now (search_of c.args.self.now) c.args.self.now.order.items c.args.row.now.id
           c.into_iter-leaving-iterator.result
           (subst (λ (g : Network). ListsLeaving g c.args.row.now.id c.into_iter-leaving-iterator.result) c.net.ensures.value lists);
-      gap = gap_at _ _ _ c.gap-gap.result _ c.gap-gap.ensures (sym b) (search (rules, to_z-of_z));
       order = refl;
       room = omega arith;
     }
@@ -42,31 +35,28 @@ arcs-preserved-then-back c =
       can_next = tt;
       is_finite = tt;
       scanned = scan_none s y p q c.args.self.now.order.items c.arcs.self.order.items c.args.row.now.id c.in-Some.leaving c.next.new.self scanned c.if-back.true;
-      gap = c.arcs.invariant.gap;
       order = c.arcs.invariant.order;
       room = c.arcs.invariant.room;
     }
 
 pub arcs-preserved : goal.arcs-preserved
 arcs-preserved c =
-    let b : to_z w128 (of_z w128 c.args.row.now.base) ≡ c.args.row.now.base = search (rules, to_z-of_z) in
     let s = c.args.scene.now.state.now in
     let y = c.args.scene.now.prices.now in
     let p = search_of c.args.self.now in
     let q = search_of c.arcs.self in
     let scanned = subst (λ (xs : List Rid). IsScanned s y p c.args.self.now.order.items q c.arcs.self.order.items c.args.row.now.id xs) c.in-Some.ensures.steps
     c.arcs.invariant.scanned in
-    let step = subst (λ k. IsStep s y q c.arcs.self.order.items (search_of c.relax-found.new.self) c.relax-found.new.self.order.items c.args.row.now.id
-    (record { arc = k; back = false } ∷ [])) c.row_arc-a.ensures.number c.relax-found.ensures.step in
+    let step = subst (λ k. IsStep s y q c.arcs.self.order.items (search_of c.relax.new.self) c.relax.new.self.order.items c.args.row.now.id
+    (record { arc = k; back = false } ∷ [])) c.row_arc-a.ensures.number c.relax.ensures.step in
     record {
       can_next = tt;
       is_finite = tt;
       scanned = scan_more s y p q c.args.self.now.order.items c.arcs.self.order.items c.args.row.now.id c.in-Some.leaving c.next.new.self scanned c.if-back.false
-          (search_of c.relax-found.new.self) c.relax-found.new.self.order.items c.requires.scene.matching c.requires.row.node c.requires.row.settled step
-          c.relax-found.ensures.room.few;
-      gap = gap_at _ _ _ c.gap_after-gap.result _ c.gap_after-gap.ensures (sym b) (search (rules, to_z-of_z));
-      order = c.relax-found.ensures.room.order ∙ c.arcs.invariant.order;
-      room = (let more = c.relax-found.ensures.room.room in let was = c.arcs.invariant.room in omega (arith, more, was));
+          (search_of c.relax.new.self) c.relax.new.self.order.items c.requires.scene.matching c.requires.row.node c.requires.row.settled step
+          c.relax.ensures.room.few;
+      order = c.relax.ensures.room.order ∙ c.arcs.invariant.order;
+      room = (let more = c.relax.ensures.room.room in let was = c.arcs.invariant.room in omega (arith, more, was));
     }
 
 pub returns-clause-step : goal.returns-clause-step
@@ -90,8 +80,8 @@ returns-clause-room c =
           c.arcs.leaving-iterator c.arcs.invariant.scanned;
     }
 
-pub relax-found-requires-clause-room : goal.relax-found-requires-clause-room
-relax-found-requires-clause-room c =
+pub relax-requires-clause-room : goal.relax-requires-clause-room
+relax-requires-clause-room c =
     let s = c.args.scene.now.state.now in
     let y = c.args.scene.now.prices.now in
     let p = search_of c.args.self.now in
@@ -106,24 +96,18 @@ relax-found-requires-clause-room c =
     let queue = c.requires.room.queue in
     record { order = omega (arith, order, nodes); queue = omega (arith, few, was, room, queue) }
 
-pub relax-found-requires-clause-sound : goal.relax-found-requires-clause-sound
-relax-found-requires-clause-sound c =
+pub relax-requires-clause-sound : goal.relax-requires-clause-sound
+relax-requires-clause-sound c =
     let was = c.requires.sound in
     (was.0, c.arcs.invariant.scanned.step.sound was.0 was.1)
 
-pub gap_after-gap-requires : goal.gap_after-gap-requires
-gap_after-gap-requires c same =
-    let b : to_z w128 (of_z w128 c.args.row.now.base) ≡ c.args.row.now.base = search (rules, to_z-of_z) in
-    subst (λ (b : Option Target). IsGap b (to_z w128 (of_z w128 c.args.row.now.base)) (to_z w64 c.arcs.gap-bits)) (sym (c.relax-found.ensures.best same))
-    (gap_at _ _ _ _ _ c.arcs.invariant.gap b refl)
-
-pub relax-found-requires-clause-row : goal.relax-found-requires-clause-row
-relax-found-requires-clause-row c =
+pub relax-requires-clause-row : goal.relax-requires-clause-row
+relax-requires-clause-row c =
     row_kept c.args.scene.now.state.now c.args.scene.now.prices.now (search_of c.args.self.now) (search_of c.arcs.self) c.args.self.now.order.items
     c.arcs.self.order.items c.args.row.now _ c.arcs.invariant.scanned.step c.requires.row
 
-pub relax-found-requires-clause-arc : goal.relax-found-requires-clause-arc
-relax-found-requires-clause-arc c =
+pub relax-requires-clause-arc : goal.relax-requires-clause-arc
+relax-requires-clause-arc c =
     let s = c.args.scene.now.state.now in
     let y = c.args.scene.now.prices.now in
     let p = search_of c.args.self.now in
