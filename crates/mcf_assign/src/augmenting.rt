@@ -57,7 +57,6 @@ impl Tables {
         ensures best { result ≡ self.new.best }
         ensures counted { self.new.searches.number ≡ self.old.searches.number + 1 }
     {
-        self.reset();
         self.begin(scene.state, source);
         self.run(scene, source);
         self.pairs = self.pairs.saturating_add(self.order.len() as u64 / 2);
@@ -97,43 +96,10 @@ impl Tables {
         let (_, column) = state.net().ends(arc);
         self.order.push_reserved(column);
     }
-
-    /// The count of the searches.
-    pub(crate) fn into_searches(self) -> Count
-        ensures { result.number ≡ self.searches.number }
-    {
-        let Tables {
-            offers: _,
-            dists: _,
-            marks: _,
-            links: _,
-            best: _,
-            order: _,
-            searches,
-            pairs: _,
-        } = self;
-        searches
-    }
-
-    // Takes back what the search before left, in time of what it settled.
-    fn reset(&mut self)
-        requires each { All (IsNode (length self.old.marks.items)) self.old.order.items }
-        requires listed { (v : ℕ) → IsNode (length self.old.marks.items) v → Settled (search_of self.old) v → Contains self.old.order.items v }
-        ensures empty { self.new.offers.items ≡ [] }
-        ensures entries { (nodes : ℕ) → HasEntries nodes (search_of self.old) → HasEntries nodes (search_of self.new) }
-        ensures unsettled { (v : ℕ) → in_table self.new.marks.items v ≡ false }
-        ensures none { self.new.order.items ≡ [] }
-        ensures number { self.new.searches.number ≡ self.old.searches.number }
-        ensures room { KeepsRoom 0 self.old self.new }
-    {
-        self.offers.clear();
-        unmark(self.marks.as_mut_slice(), self.order.as_slice());
-        self.order.clear();
-    }
 }
 
-// Takes back the marks of listed nodes: all, where each marked node is listed.
-fn unmark(marks: &mut [bool], nodes: &[NodeId])
+/// Takes back the marks of listed nodes: all, where each marked node is listed.
+pub(crate) fn unmark(marks: &mut [bool], nodes: &[NodeId])
     requires each { All (IsNode (length marks.old)) nodes.now }
     requires listed { (v : ℕ) → IsNode (length marks.old) v → in_table marks.old v ≡ true → Contains nodes.now v }
     ensures { (v : ℕ) → in_table marks.new v ≡ false }

@@ -205,14 +205,12 @@ impl<'n> Matching<'n> {
     {
         let Matching {
             state,
-            rows: _,
             prices,
-            mates: _,
             tables,
-            reached: _,
-            update: _,
+            ..
         } = self;
-        (state, prices.into_wide(), tables.into_searches())
+        let Tables { searches, .. } = tables;
+        (state, prices.into_wide(), searches)
     }
 
     /// The set that the last search reached that found no path, and the count of the searches.
@@ -221,14 +219,11 @@ impl<'n> Matching<'n> {
         ensures searches { result.1.number ≡ self.entry.searches }
     {
         let Matching {
-            state: _,
-            rows: _,
-            prices: _,
-            mates: _,
             tables,
             reached,
-            update: _,
+            ..
         } = self;
-        (reached, tables.into_searches())
+        let Tables { searches, .. } = tables;
+        (reached, searches)
     }
 }

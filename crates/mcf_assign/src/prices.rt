@@ -38,8 +38,14 @@ impl Prices {
         ensures prices { IfOk result (λ prices. AreFirstPrices net.now prices (node_count net.now)) }
         ensures wants { OnErr result (1 ≤ node_count net.now) }
     {
-        let narrow = first_prices(alloc, net)?;
-        let wide = copies(alloc, net.node_count() as usize, 0)?;
+        let nodes = net.node_count();
+        let wide = copies(alloc, nodes as usize, 0)?;
+        let mut narrow = copies(alloc, nodes as usize, 0)?;
+        'nodes: for number in 0..nodes {
+            if net.supply(NodeId::at(number)) > 0 {
+                narrow[number as usize] = FIRST_PRICE;
+            }
+        }
         Ok(Prices {
             narrow,
             wide,
@@ -115,21 +121,6 @@ impl Prices {
         widen(wide.as_mut_slice(), narrow.as_slice());
         wide
     }
-}
-
-// The first prices.
-fn first_prices(alloc: Global, net: &Net) -> Result<Vec<i64>, NoMemory>
-    ensures prices { IfOk result (λ made. AreFirstPrices net.now made.items (node_count net.now)) }
-    ensures wants { OnErr result (1 ≤ node_count net.now) }
-{
-    let nodes = net.node_count();
-    let mut prices = copies(alloc, nodes as usize, 0)?;
-    'nodes: for number in 0..nodes {
-        if net.supply(NodeId::at(number)) > 0 {
-            prices[number as usize] = FIRST_PRICE;
-        }
-    }
-    Ok(prices)
 }
 
 /// Whether a price lies so near 0 that the sums of an update fit 64 bits.
