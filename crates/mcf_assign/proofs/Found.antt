@@ -19,7 +19,7 @@ use Rattle.mcf_assign.proofs.Raised.{link_tight, raised_ok, target_tight}
 use Rattle.mcf_assign.proofs.Stepping.{reach_small}
 use Rattle.mcf_assign.specs.Private.Reaches.{price_reach, target_reach}
 
-module _ (s : Pseudoflow) (y : List ℤ) (q : Search) (source : ℕ) (order : List ℕ) (t : Target) (ok : IsPartialMatching s) (shown : AreMatchingPrices s y)
+module _ {s : Pseudoflow} {y : List ℤ} {q : Search} {source : ℕ} {order : List ℕ} {t : Target} (ok : IsPartialMatching s) (shown : AreMatchingPrices s y)
     (entries : HasEntries (node_count s.net) q) (ended : IsEnded s y q source order) (best : q.best ≡ Some t) where
   pub found_arc : IsArcNumber s.net t.arc
   found_arc = (ended.search.best t best).0.arc

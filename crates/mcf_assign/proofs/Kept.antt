@@ -95,8 +95,8 @@ module _ (s : Pseudoflow) (y z : List ℤ) (q : Search) (row : ℕ) (order : Lis
   settled_more : IsSettledList (node_count s.net) row (order ++ c ∷ [])
   settled_more =
       let o = ended.order_ok in
-      let column = found_column s y q row order t ok shown entries ended best in
-      let fresh : ¬ Contains order c = λ (h : Contains order c). found_new s y q row order t ok shown entries ended best (o.members c h) in
+      let column = found_column ok shown entries ended best in
+      let fresh : ¬ Contains order c = λ (h : Contains order c). found_new ok shown entries ended best (o.members c h) in
       record {
         rest = o.rest ++ c ∷ [];
         first = ap (λ l. l ++ c ∷ []) o.first;
@@ -152,10 +152,10 @@ module _ (s : Pseudoflow) (y z : List ℤ) (q : Search) (row : ℕ) (order : Lis
   module _ (near : AreNearZero s y) (first : FreeRowsAreFirst s y) (row_is_row : IsRow s row) where
     near_now : AreNearZero s z
     near_now v n =
-        let column = found_column s y q row order t ok shown entries ended best in
+        let column = found_column ok shown entries ended best in
         let top = ended.near.best t best in
         let at_row = first row row_is_row ended.search.not_matched in
-        let at_column = shown.free c column (found_free s y q row order t ok shown entries ended best) in
+        let at_column = shown.free c column (found_free ok shown entries ended best) in
         let few = count_small q.settled in
         let count = entries.settled_count in
         let nodes = ok.flow.of_net.nodes in
@@ -174,7 +174,7 @@ module _ (s : Pseudoflow) (y z : List ℤ) (q : Search) (row : ℕ) (order : Lis
     module _ (amounts : List ℤ) (ext : IsExtended s (record { net = s.net; amounts = amounts }) z row c) where
       shown_now : AreMatchingPrices (record { net = s.net; amounts = amounts }) z
       shown_now =
-          let prices = found_prices s y q row order t ok shown entries ended best z raised in
+          let prices = found_prices ok shown entries ended best z raised in
           record {
             count = prices.count;
             low = prices.low;

@@ -91,9 +91,9 @@ impl Tables {
         ensures tables { search_of self.new ≡ search_of self.old }
     {
         let arc = ArcId::new(target.arc);
-        self.raise(prices, target.dist);
-        self.turn(state, mates, arc);
         let (_, column) = state.net().ends(arc);
+        self.raise(prices, target);
+        self.turn(state, mates, arc);
         self.order.push_reserved(column);
     }
 }
