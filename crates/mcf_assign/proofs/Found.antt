@@ -12,7 +12,7 @@ use Rattle.mcf_assign.specs.declared.search.Target.{Target}
 use Rattle.mcf_assign.specs.Private.Forests.{IsForest, IsTightArc}
 use Rattle.mcf_assign.specs.Private.Keeping.{IsEnded}
 use Rattle.mcf_assign.specs.Matchings.{AreMatchingPrices, IsColumn, IsMatchedColumn, IsPartialMatching, column_of}
-use Rattle.mcf_assign.specs.Private.Searches.{AreRaised, HasEntries, IsBestUpTo, Search, Settled, Waits, dist_at}
+use Rattle.mcf_assign.specs.Private.Searches.{AreRaised, IsBestUpTo, Search, Settled, Waits, dist_at}
 use Rattle.mcf_assign.proofs.Nearest.{not_true}
 use Rattle.mcf_assign.proofs.PairLaws.{column_is}
 use Rattle.mcf_assign.proofs.Raised.{link_tight, raised_ok, target_tight}
@@ -20,7 +20,7 @@ use Rattle.mcf_assign.proofs.Stepping.{reach_small}
 use Rattle.mcf_assign.specs.Private.Reaches.{price_reach, target_reach}
 
 module _ {s : Pseudoflow} {y : List ℤ} {q : Search} {source : ℕ} {order : List ℕ} {t : Target} (ok : IsPartialMatching s) (shown : AreMatchingPrices s y)
-    (entries : HasEntries (node_count s.net) q) (ended : IsEnded s y q source order) (best : q.best ≡ Some t) where
+    (ended : IsEnded s y q source order) (best : q.best ≡ Some t) where
   pub found_arc : IsArcNumber s.net t.arc
   found_arc = (ended.search.best t best).0.arc
 
@@ -36,7 +36,7 @@ module _ {s : Pseudoflow} {y : List ℤ} {q : Search} {source : ℕ} {order : Li
 
   pub found_room : length order + 1 ≤ node_count s.net
   found_room =
-      let count = entries.settled_count in
+      let count = ended.search.entries.settled_count in
       let n = found_column.0 in
       let node : IsNode (length q.settled) (column_of s t.arc) = (n.0, omega (arith, n, count)) in
       let more = counted_new q.settled (column_of s t.arc) node (not_true (in_table q.settled (column_of s t.arc)) found_new) in
@@ -85,14 +85,14 @@ module _ {s : Pseudoflow} {y : List ℤ} {q : Search} {source : ℕ} {order : Li
   module _ (small : (v : ℕ) → IsNode (node_count s.net) v → IsUpTo price_reach (at_node y v)) where
     pub found_near : (v : ℕ) → IsNode (node_count s.net) v → Settled q v → IsUpTo target_reach (dist_at q v)
     found_near v n h =
-        let near = (reach_small s y q source ok entries ended.near).settled v n h in
+        let near = (reach_small s y q source ok ended.search.entries ended.near).settled v n h in
         let a = small source ended.search.is_row.0 in
         let b = small v n in
         (omega (arith, ints, near, a, b), omega (arith, ints, near, a, b))
 
     pub found_dist : IsUpTo target_reach t.dist
     found_dist =
-        let near = (reach_small s y q source ok entries ended.near).best t best in
+        let near = (reach_small s y q source ok ended.search.entries ended.near).best t best in
         let a = small source ended.search.is_row.0 in
         let b = small (column_of s t.arc) found_column.0 in
         (omega (arith, ints, near, a, b), omega (arith, ints, near, a, b))

@@ -88,15 +88,15 @@ mates_tell s mates v i x ok mated n ei ex =
 -- ---- one row more
 
 module _ (s : Pseudoflow) (y z : List ℤ) (q : Search) (row : ℕ) (order : List ℕ) (t : Target) (ok : IsPartialMatching s) (shown : AreMatchingPrices s y)
-    (entries : HasEntries (node_count s.net) q) (ended : IsEnded s y q row order) (best : q.best ≡ Some t) (raised : AreRaised s q t.dist y z) where
+    (ended : IsEnded s y q row order) (best : q.best ≡ Some t) (raised : AreRaised s q t.dist y z) where
   abbrev c : ℕ
   c = column_of s t.arc
 
   settled_more : IsSettledList (node_count s.net) row (order ++ c ∷ [])
   settled_more =
       let o = ended.order_ok in
-      let column = found_column ok shown entries ended best in
-      let fresh : ¬ Contains order c = λ (h : Contains order c). found_new ok shown entries ended best (o.members c h) in
+      let column = found_column ok shown ended best in
+      let fresh : ¬ Contains order c = λ (h : Contains order c). found_new ok shown ended best (o.members c h) in
       record {
         rest = o.rest ++ c ∷ [];
         first = ap (λ l. l ++ c ∷ []) o.first;
@@ -152,12 +152,12 @@ module _ (s : Pseudoflow) (y z : List ℤ) (q : Search) (row : ℕ) (order : Lis
   module _ (near : AreNearZero s y) (first : FreeRowsAreFirst s y) (row_is_row : IsRow s row) where
     near_now : AreNearZero s z
     near_now v n =
-        let column = found_column ok shown entries ended best in
+        let column = found_column ok shown ended best in
         let top = ended.near.best t best in
         let at_row = first row row_is_row ended.search.not_matched in
-        let at_column = shown.free c column (found_free ok shown entries ended best) in
+        let at_column = shown.free c column (found_free ok shown ended best) in
         let few = count_small q.settled in
-        let count = entries.settled_count in
+        let count = ended.search.entries.settled_count in
         let nodes = ok.flow.of_net.nodes in
         let was = near v n in
         elim (settled_or_not q v) [
@@ -174,7 +174,7 @@ module _ (s : Pseudoflow) (y z : List ℤ) (q : Search) (row : ℕ) (order : Lis
     module _ (amounts : List ℤ) (ext : IsExtended s (record { net = s.net; amounts = amounts }) z row c) where
       shown_now : AreMatchingPrices (record { net = s.net; amounts = amounts }) z
       shown_now =
-          let prices = found_prices ok shown entries ended best z raised in
+          let prices = found_prices ok shown ended best z raised in
           record {
             count = prices.count;
             low = prices.low;
@@ -198,7 +198,7 @@ module _ (s : Pseudoflow) (y z : List ℤ) (q : Search) (row : ℕ) (order : Lis
       let same = es ∙ eq in
       let list : tables'.order.items ≡ order ++ c ∷ [] = el ∙ ap (λ l. l ++ c ∷ []) (sym eo) in
       record {
-        entries = subst (λ (x : Search). HasEntries (node_count s.net) x) (sym same) entries;
+        entries = subst (λ (x : Search). HasEntries (node_count s.net) x) (sym same) ended.search.entries;
         room = omega (arith, room, ec);
         queue = subst (λ (x : Queue). 2 * length s.net.arcs ≤ x.room) (sym eq') queue;
         each = subst (λ (l : List ℕ). All (IsNode (node_count s.net)) l) (sym list) settled_more.each;
@@ -207,22 +207,22 @@ module _ (s : Pseudoflow) (y z : List ℤ) (q : Search) (row : ℕ) (order : Lis
 
 pub kept_grown : (s s' : Pseudoflow) (y z : List ℤ) (mates' : List ℕ) (tables tables' : Tables) (reached : List Bool) (row : ℕ) (t : Target)
     → IsPartialMatching s → AreMatchingPrices s y → AreNearZero s y → FreeRowsAreFirst s y → length reached ≡ node_count s.net
-    → HasEntries (node_count s.net) (search_of tables) → node_count s.net ≤ vec_capacity tables.order → 2 * length s.net.arcs ≤ tables.offers.room → IsRow s row
+    → node_count s.net ≤ vec_capacity tables.order → 2 * length s.net.arcs ≤ tables.offers.room → IsRow s row
     → IsEnded s y (search_of tables) row tables.order.items → tables.best ≡ Some t → AreRaised s (search_of tables) t.dist y z
     → IsExtended s s' z row (column_of s t.arc) → AreMates s' mates' → search_of tables' ≡ search_of tables
     → tables'.order.items ≡ tables.order.items ++ column_of s t.arc ∷ [] → vec_capacity tables'.order ≡ vec_capacity tables.order
     → tables'.offers ≡ tables.offers → IsKept s' z mates' tables' reached
-kept_grown s s' y z mates' tables tables' reached row t ok shown near first count entries room queue is ended best raised ext mated es el ec eq =
+kept_grown s s' y z mates' tables tables' reached row t ok shown near first count room queue is ended best raised ext mated es el ec eq =
     let at_net : Network → Pseudoflow = λ (n : Network). record { net = n; amounts = s'.amounts } in
     let P : Network → Type 0 = λ (n : Network). IsExtended s (record { net = n; amounts = s'.amounts }) z row (column_of s t.arc) → AreMates
     (record { net = n; amounts = s'.amounts }) mates' → IsKept (record { net = n; amounts = s'.amounts }) z mates' tables' reached in
     subst P (sym ext.net) (λ x m. record {
       matching = x.matching;
-      shown = shown_now s y z (search_of tables) row tables.order.items t ok shown entries ended best raised near first is s'.amounts x;
+      shown = shown_now s y z (search_of tables) row tables.order.items t ok shown ended best raised near first is s'.amounts x;
       mated = m;
-      idle = idle_more s y z (search_of tables) row tables.order.items t ok shown entries ended best raised tables tables' refl refl room queue es el ec eq;
-      near = near_now s y z (search_of tables) row tables.order.items t ok shown entries ended best raised near first is;
-      free_rows = first_now s y z (search_of tables) row tables.order.items t ok shown entries ended best raised near first is s'.amounts x;
+      idle = idle_more s y z (search_of tables) row tables.order.items t ok shown ended best raised tables tables' refl refl room queue es el ec eq;
+      near = near_now s y z (search_of tables) row tables.order.items t ok shown ended best raised near first is;
+      free_rows = first_now s y z (search_of tables) row tables.order.items t ok shown ended best raised near first is s'.amounts x;
       count = count;
     }) ext mated
 

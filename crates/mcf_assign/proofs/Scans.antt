@@ -48,9 +48,7 @@ pub to_list : (s : Pseudoflow) (y : List ℤ) (q : Search) (source : ℕ) (rest 
     → IsSearch s y q source rest → IsSearch s y q source list
 to_list s y q source rest list all search =
     record {
-      dist_count = search.dist_count;
-      settled_count = search.settled_count;
-      link_count = search.link_count;
+      entries = search.entries;
       is_row = search.is_row;
       not_matched = search.not_matched;
       source_settled = search.source_settled;
@@ -313,11 +311,6 @@ module _ (s : Pseudoflow) (y : List ℤ) (q : Search) (order : List ℕ) (k : �
   best_step j x ej ex relaxes =
       record {
         sound = λ source h. record {
-          entries = record {
-            dist_count = h.entries.dist_count;
-            settled_count = h.entries.settled_count;
-            link_count = h.entries.link_count;
-          };
           search = relaxes source (all_forward s.net) (to_all s y q source (all_forward s.net) (forward k ∷ []) h.search);
           order_ok = ordered_kept s q (record q { best = Some (record { arc = j; dist = x }) }) source order order refl refl (λ v n w. refl) h.order_ok;
           near = near_best s y q source (reach_of q) k j x ok h.near arc settled ej ex;
@@ -337,11 +330,6 @@ module _ (s : Pseudoflow) (y : List ℤ) (q : Search) (order : List ℕ) (k : �
   queued_step list relaxes =
       record {
         sound = λ source h. record {
-          entries = record {
-            dist_count = h.entries.dist_count;
-            settled_count = h.entries.settled_count;
-            link_count = h.entries.link_count;
-          };
           search = relaxes source (all_forward s.net) (to_all s y q source (all_forward s.net) (forward k ∷ []) h.search);
           order_ok = ordered_kept s q (queued q list) source order order refl refl (λ v n w. refl) h.order_ok;
           near = record { settled = h.near.settled; best = h.near.best };
@@ -428,7 +416,6 @@ module _ (s : Pseudoflow) (y : List ℤ) (q : Search) (order : List ℕ) (k : �
         let done = stepped source all search in
         let more = two_more s y q source o r k0 all ok entries.settled_count h.search pair at_column at_row c_new in
         record {
-          entries = done.entries;
           search = done.search all (λ j a e. all_has s.net j a) (λ x has. has);
           order_ok = ordered_more s y q new source o r k0 order all ok h.search h.order_ok settling pair at_column at_row (first source all h.search) more;
           near = done.near h.near;
@@ -462,7 +449,7 @@ pub pair_room : (s : Pseudoflow) (y : List ℤ) (q : Search) (source : ℕ) (o :
     → IsSound s y q source order → IsPair s k0 → column_of s k0 ≡ o.column → ¬ Settled q o.column → length order + 2 ≤ node_count s.net
 pair_room s y q source o k0 order ok sound pair at_column fresh =
     let r = row_of s k0 in
-    let count = sound.entries.settled_count in
+    let count = sound.search.entries.settled_count in
     let more = two_more s y q source o r k0 (all_forward s.net) ok count sound.search pair at_column refl fresh in
     let few = count_small (paired q o r).settled in
     let n = length-set (set q.settled (o.column - 1) true) (r - 1) true ∙ length-set q.settled (o.column - 1) true in
@@ -474,7 +461,7 @@ pub sound_near : (s : Pseudoflow) (y : List ℤ) (q : Search) (source row : ℕ)
     → IsNode (node_count s.net) row → Settled q row → ((v : ℕ) → IsNode (node_count s.net) v → IsUpTo price_reach (at_node y v))
     → IsUpTo row_reach (dist_at q row)
 sound_near s y q source row order ok sound node settled small =
-    row_near s y q source row sound.search.is_row.0 node (reach_small s y q source ok sound.entries sound.near) settled small
+    row_near s y q source row sound.search.is_row.0 node (reach_small s y q source ok sound.search.entries sound.near) settled small
 
 -- ---- what the code does with an arc of a row
 
@@ -509,7 +496,7 @@ module _ {s : Pseudoflow} {arcs : Rows} {y : List ℤ} {table order : List ℕ} 
   mark : (b : Bool) (i : ℕ) → b ≡ get_or q.settled i b → i ≡ a.column - 1 → get_or q.settled (column_of s a.arc - 1) false ≡ b
   mark b i e place =
       let node = is.head in
-      let count = sound.1.entries.settled_count in
+      let count = sound.1.search.entries.settled_count in
       read_mark q.settled i (column_of s a.arc) b e (place ∙ ap (λ v. v - 1) (sym is.to)) (omega (arith, node, count, place))
 
   pub arc_settled : (b : Bool) (i : ℕ) → b ≡ get_or q.settled i b → i ≡ a.column - 1 → b ≡ true → StepsTo q order
@@ -565,7 +552,7 @@ module _ {s : Pseudoflow} {arcs : Rows} {y : List ℤ} {table order : List ℕ} 
         subst (λ v. IsStep s y q order q' after v (forward_of a ∷ [])) is.from
         (subst (λ (z : Search). IsStep s y q order z after (row_of s a.arc) (forward_of a ∷ [])) (sym value)
         (subst (λ z. IsStep s y q order (paired q o r) z (row_of s a.arc) (forward_of a ∷ [])) (sym listed)
-        (once_step s y q order a.arc scene.matching is.arc at.0 o r k scene.prices sound.1.entries fresh offered_is level at.1 matched own at_column at_row sound.0
+        (once_step s y q order a.arc scene.matching is.arc at.0 o r k scene.prices sound.1.search.entries fresh offered_is level at.1 matched own at_column at_row sound.0
         sound.1)))
 
     pub arc_queued : (list : List Offer) → IsPermutation (o ∷ q.queue) list → StepsTo (queued q list) order
@@ -582,7 +569,6 @@ pub going_start : (s : Pseudoflow) (y : List ℤ) (q : Search) (source : ℕ) (o
 going_start s y q source order ready listed e =
     record {
       sound = record {
-        entries = ready.entries;
         search = ready.search (all_forward s.net) (λ k arc from. all_has s.net k arc);
         order_ok = listed;
         near = ready.near;
@@ -611,7 +597,7 @@ going_over s y q source order next list going over =
 pub going_few : (s : Pseudoflow) (y : List ℤ) (q : Search) (source : ℕ) (order : List ℕ) → IsSound s y q source order → length order ≤ node_count s.net
 going_few s y q source order sound =
     let tally = sound.order_ok.tally in
-    let count = sound.entries.settled_count in
+    let count = sound.search.entries.settled_count in
     let few = count_small q.settled in
     omega (arith, tally, count, few)
 
@@ -620,11 +606,6 @@ pub sound_taken : (s : Pseudoflow) (y : List ℤ) (q q' : Search) (source : ℕ)
     → IsSound s y q source order → IsTaken q q' found → ((o : Offer) → found ≡ Some o → Waits q o) → IsSound s y q' source order
 sound_taken s y q q' source order found ok sound taken waited =
     record {
-      entries = subst (λ (x : Search). HasEntries (node_count s.net) x) (sym taken.same) (record {
-        dist_count = sound.entries.dist_count;
-        settled_count = sound.entries.settled_count;
-        link_count = sound.entries.link_count;
-      });
       search = taken_ok s y q q' source (all_forward s.net) ok sound.search found taken (all_forward s.net) (λ r has. has)
           (λ o e. (let w = waited o e in all_has s.net o.arc (sound.search.waiting o w).1.arc));
       order_ok = subst (λ (x : Search). IsOrder s x source order) (sym taken.same)
@@ -677,7 +658,7 @@ going_settled s y q p q' source o r order order' next ok shown going over taken 
     due = due_now s y q p source [] ok nothing (Some o) taken o waited first
 
     stepped : (list : List Rid) → IsStepped s y p (paired p o r) source r list
-    stepped list = stepped_pair s y p source o r k list ok shown sound.entries (popped list) due pair at_column at_row
+    stepped list = stepped_pair s y p source o r k list ok shown sound.search.entries (popped list) due pair at_column at_row
 
     done : IsStepped s y p (paired p o r) source r all
     done = stepped all
@@ -686,7 +667,7 @@ going_settled s y q p q' source o r order order' next ok shown going over taken 
     c_is = subst (λ v. IsColumn s v) at_column (column_is s k ok pair.arc)
 
     settling : IsSettling s p (paired p o r) o r
-    settling = paired_is s p o r sound.entries c_is.0 done.is_row.0 (λ e. row_column s r o.column done.is_row c_is (sym e))
+    settling = paired_is s p o r sound.search.entries c_is.0 done.is_row.0 (λ e. row_column s r o.column done.is_row c_is (sym e))
 
     one : length (order ++ o.column ∷ []) ≡ length order + 1
     one = length_push order o.column
@@ -708,10 +689,9 @@ going_settled s y q p q' source o r order order' next ok shown going over taken 
         let within = going.within in
         record {
           sound = record {
-            entries = done.entries;
             search = done.search all (λ j a e. all_has s.net j a) (λ x has. has);
             order_ok = ordered_more s y p (paired p o r) source o r k order all ok sound.search sound.order_ok settling pair at_column at_row due
-                (two_more s y p source o r k all ok sound.entries.settled_count sound.search pair at_column at_row due.fresh);
+                (two_more s y p source o r k all ok sound.search.entries.settled_count sound.search pair at_column at_row due.fresh);
             near = done.near sound.near;
             turns = turns_more s order o.column r going.sound.turns c_is done.is_row;
           };

@@ -50,7 +50,6 @@ impl Tables {
         requires idle { IsIdle scene.now.state.now.net self.old }
         requires row { IsRow scene.now.state.now source }
         requires free { ¬ IsMatchedRow scene.now.state.now source }
-        ensures entries { HasEntries (node_count scene.now.state.now.net) (search_of self.new) }
         ensures room { node_count scene.now.state.now.net ≤ vec_capacity self.new.order }
         ensures queue { self.old.offers.room ≤ self.new.offers.room }
         ensures ended { IsEnded scene.now.state.now scene.now.prices.now (search_of self.new) source self.new.order.items }
@@ -75,7 +74,6 @@ impl Tables {
         requires matching { IsPartialMatching state.old }
         requires prices { AreMatchingPrices state.old prices.old }
         requires mates { AreMates state.old mates.old }
-        requires entries { HasEntries (node_count state.old.net) (search_of self.old) }
         requires best { self.old.best ≡ Some target }
         requires ended { (source : ℕ) × IsEnded state.old prices.old (search_of self.old) source self.old.order.items }
         requires small { (v : ℕ) → IsNode (node_count state.old.net) v → IsUpTo price_reach (at_node prices.old v) }

@@ -6,7 +6,7 @@ use Rattle.mcf_network.specs.declared.rid.Rid.{Rid}
 use Rattle.mcf_network.specs.States.{Pseudoflow}
 use Rattle.mcf_assign.specs.Matchings.{IsColumn, IsRow, row_of}
 use Rattle.mcf_assign.specs.Private.Forests.{IsOrder}
-use Rattle.mcf_assign.specs.Private.Searches.{HasEntries, IsLast, IsNear, IsSearch, Search, Settled, dist_at, reach_of}
+use Rattle.mcf_assign.specs.Private.Searches.{IsLast, IsNear, IsSearch, Search, Settled, dist_at, reach_of}
 
 -- all arcs of a net, forward
 abbrev pub all_forward : Network → List Rid
@@ -26,7 +26,6 @@ pub record AreTurns (s : Pseudoflow) (order : List ℕ) : Type 0 where
 
 -- a search with the list of what it settled, whatever it has scanned
 pub record IsSound (s : Pseudoflow) (y : List ℤ) (q : Search) (source : ℕ) (order : List ℕ) : Type 0 where
-  pub entries : HasEntries (node_count s.net) q
   pub search : IsSearch s y q source (all_forward s.net)
   pub order_ok : IsOrder s q source order
   pub near : IsNear s y q source (reach_of q)

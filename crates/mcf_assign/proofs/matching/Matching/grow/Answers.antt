@@ -42,7 +42,7 @@ invariant_of-self c =
     let queue : 2 * length i.state.net.arcs ≤ c.search-found.new.self.offers.room =
     (let room = k.idle.queue in let more = s.queue in omega (arith, room, more)) in
     let kept = kept_grown i.state c.augment.new.state i.prices c.augment.new.prices c.augment.new.mates c.search-found.new.self c.augment.new.self
-    i.reached c.args.row t k.matching k.shown k.near k.free_rows k.count s.entries s.room queue row s.ended (sym c.in-Some.ensures.best) e.raised
+    i.reached c.args.row t k.matching k.shown k.near k.free_rows k.count s.room queue row s.ended (sym c.in-Some.ensures.best) e.raised
     (e.extended c.args.row s.ended) e.mates e.tables e.order e.room e.queue in
     let lm = c.augment.auto.mates in
     let vm = ap (λ (l : List ℕ). length l) c.as_mut_slice-mates.ensures.value in
@@ -61,7 +61,7 @@ returns-in-Some-clause-extended c =
     subst (λ (m : Assigned). IsGrown m c.args.row
     (record { flow = c.augment.new.state; prices = c.augment.new.prices; settled = c.augment.new.self.order.items; reached = i.reached; searches = c.augment.new.self.searches.number })) c.self.view_is
     (grown_from i.state i.prices c.augment.new.prices (search_of c.search-found.new.self) c.args.row c.search-found.new.self.order.items t k.matching
-    k.shown s.entries s.ended (sym c.in-Some.ensures.best) e.raised c.augment.new.state c.augment.new.prices i.tables.order.items
+    k.shown s.ended (sym c.in-Some.ensures.best) e.raised c.augment.new.state c.augment.new.prices i.tables.order.items
     c.augment.new.self.order.items i.reached i.tables.searches.number c.augment.new.self.searches.number (e.extended c.args.row s.ended) e.changed e.order
     (ap (λ (q : Search). q.number) e.tables ∙ s.counted))
 
@@ -76,7 +76,7 @@ returns-in-Some-clause-shown c =
     let queue : 2 * length i.state.net.arcs ≤ c.search-found.new.self.offers.room =
     (let room = k.idle.queue in let more = s.queue in omega (arith, room, more)) in
     let kept = kept_grown i.state c.augment.new.state i.prices c.augment.new.prices c.augment.new.mates c.search-found.new.self c.augment.new.self
-    i.reached c.args.row t k.matching k.shown k.near k.free_rows k.count s.entries s.room queue row s.ended (sym c.in-Some.ensures.best) e.raised
+    i.reached c.args.row t k.matching k.shown k.near k.free_rows k.count s.room queue row s.ended (sym c.in-Some.ensures.best) e.raised
     (e.extended c.args.row s.ended) e.mates e.tables e.order e.room e.queue in
     shown_kept c.augment.new.state c.augment.new.prices c.augment.new.mates c.augment.new.self i.reached kept
     (record { flow = c.augment.new.state; prices = c.augment.new.prices; settled = c.augment.new.self.order.items; reached = i.reached; searches = c.augment.new.self.searches.number }) refl refl

@@ -12,7 +12,7 @@ use Rattle.mcf_assign.proofs.search.Tables.augment.Goals as goal
 
 pub ends-column-requires : goal.ends-column-requires
 ends-column-requires c =
-    rw (c.net.ensures.value, c.new-arc.ensures) (found_arc c.requires.matching c.requires.prices c.requires.entries c.requires.ended.1 c.requires.best)
+    rw (c.net.ensures.value, c.new-arc.ensures) (found_arc c.requires.matching c.requires.prices c.requires.ended.1 c.requires.best)
 
 pub raise-requires-clause-listing : goal.raise-requires-clause-listing
 raise-requires-clause-listing c =
@@ -20,12 +20,12 @@ raise-requires-clause-listing c =
     (sym c.requires.prices.count) c.requires.ended.1.order_ok
 
 pub raise-requires-clause-target : goal.raise-requires-clause-target
-raise-requires-clause-target c = found_dist c.requires.matching c.requires.prices c.requires.entries c.requires.ended.1 c.requires.best c.requires.small
+raise-requires-clause-target c = found_dist c.requires.matching c.requires.prices c.requires.ended.1 c.requires.best c.requires.small
 
 pub raise-requires-clause-near : goal.raise-requires-clause-near
 raise-requires-clause-near c v n h =
     let count = c.requires.prices.count in
-    found_near c.requires.matching c.requires.prices c.requires.entries c.requires.ended.1 c.requires.best c.requires.small v
+    found_near c.requires.matching c.requires.prices c.requires.ended.1 c.requires.best c.requires.small v
     (n.0, omega (arith, n, count)) h
 
 pub raise-requires-clause-small : goal.raise-requires-clause-small
@@ -40,15 +40,15 @@ turn-requires-clause-forest c =
     let raised = c.raise.ensures.raised c.args.state.now (sym c.requires.prices.count) in (
       e.0,
       c.raise.new.prices,
-      found_forest c.requires.matching c.requires.prices c.requires.entries e.1 c.requires.best c.raise.new.prices raised,
+      found_forest c.requires.matching c.requires.prices e.1 c.requires.best c.raise.new.prices raised,
       subst (λ k. IsTightArc c.args.state.now (search_of c.args.self.now) c.raise.new.prices k (column_of c.args.state.now k)) (sym c.new-arc.ensures)
-          (found_tight c.requires.matching c.requires.prices c.requires.entries e.1 c.requires.best c.raise.new.prices raised),
+          (found_tight c.requires.matching c.requires.prices e.1 c.requires.best c.raise.new.prices raised),
     )
 
 pub turn-requires-clause-free : goal.turn-requires-clause-free
 turn-requires-clause-free c =
     subst (λ k. ¬ IsMatchedColumn c.args.state.now (column_of c.args.state.now k)) (sym c.new-arc.ensures)
-    (found_free c.requires.matching c.requires.prices c.requires.entries c.requires.ended.1 c.requires.best)
+    (found_free c.requires.matching c.requires.prices c.requires.ended.1 c.requires.best)
 
 pub returns-clause-raised : goal.returns-clause-raised
 returns-clause-raised c = c.raise.ensures.raised c.args.state.now (sym c.requires.prices.count)
@@ -57,9 +57,9 @@ pub returns-clause-extended : goal.returns-clause-extended
 returns-clause-extended c source ended =
     let raised = c.raise.ensures.raised c.args.state.now (sym c.requires.prices.count) in
     subst (λ k. IsExtended c.args.state.now c.turn.new.state c.raise.new.prices source (column_of c.args.state.now k)) c.new-arc.ensures
-    (c.turn.ensures.extended source c.raise.new.prices (found_forest c.requires.matching c.requires.prices c.requires.entries ended c.requires.best c.raise.new.prices raised)
+    (c.turn.ensures.extended source c.raise.new.prices (found_forest c.requires.matching c.requires.prices ended c.requires.best c.raise.new.prices raised)
     (subst (λ k. IsTightArc c.args.state.now (search_of c.args.self.now) c.raise.new.prices k (column_of c.args.state.now k)) (sym c.new-arc.ensures)
-    (found_tight c.requires.matching c.requires.prices c.requires.entries ended c.requires.best c.raise.new.prices raised)))
+    (found_tight c.requires.matching c.requires.prices ended c.requires.best c.raise.new.prices raised)))
 
 pub returns-clause-changed : goal.returns-clause-changed
 returns-clause-changed c =
@@ -68,7 +68,7 @@ returns-clause-changed c =
 
 pub push_reserved-requires : goal.push_reserved-requires
 push_reserved-requires c =
-    let room = found_room c.requires.matching c.requires.prices c.requires.entries c.requires.ended.1 c.requires.best in
+    let room = found_room c.requires.matching c.requires.prices c.requires.ended.1 c.requires.best in
     let fits = c.requires.room in
     omega (arith, room, fits, c.args.self.now.order.ok.0)
 
@@ -76,3 +76,9 @@ pub returns-clause-order : goal.returns-clause-order
 returns-clause-order c =
     c.push_reserved.ensures.items ∙ ap (λ v. c.args.self.now.order.items ++ v ∷ [])
     (c.ends-column.ensures.dst ∙ ap (λ (g : Network). (arc_at g c.new-arc.result).dst) c.net.ensures.value ∙ ap (column_of c.args.state.now) c.new-arc.ensures)
+
+pub turn-requires-clause-entries : goal.turn-requires-clause-entries
+turn-requires-clause-entries c = c.requires.ended.1.search.entries
+
+pub raise-requires-clause-entries : goal.raise-requires-clause-entries
+raise-requires-clause-entries c = rw c.requires.prices.count c.requires.ended.1.search.entries

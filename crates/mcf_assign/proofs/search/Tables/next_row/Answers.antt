@@ -15,7 +15,7 @@ nearest-requires c =
           let s = c.args.state.now in
           let sound = c.requires.going.3.sound in
           let l = (sound.search.waiting o w).1 in
-          let count = sound.entries.settled_count in
+          let count = sound.search.entries.settled_count in
           let node = subst (λ v. IsNode (node_count s.net) v) l.to (column_is s o.arc c.requires.matching l.arc).0 in
           (omega (arith, node), omega (arith, node, count));
     }

@@ -10,7 +10,7 @@ pub overflow_sub-base : goal.overflow_sub-base
 overflow_sub-base c =
     let s = c.args.scene.now.state.now in
     let q = search_of c.args.self.now in
-    let count = c.requires.sound.1.entries.dist_count in
+    let count = c.requires.sound.1.search.entries.dist_count in
     let node = c.requires.node in
     let level = dist_read q c.args.id c.place.result c.index-level.result.now c.index-level.ensures c.place.ensures (omega (arith, node, count)) in
     let near = sound_near s c.args.scene.now.prices.now q c.requires.sound.0 c.args.id c.args.self.now.order.items c.requires.scene.matching c.requires.sound.1
@@ -25,7 +25,7 @@ pub returns-clause-row : goal.returns-clause-row
 returns-clause-row c =
     let s = c.args.scene.now.state.now in
     let q = search_of c.args.self.now in
-    let count = c.requires.sound.1.entries.dist_count in
+    let count = c.requires.sound.1.search.entries.dist_count in
     let node = c.requires.node in
     let level = dist_read q c.args.id c.place.result c.index-level.result.now c.index-level.ensures c.place.ensures (omega (arith, node, count)) in
     let near = sound_near s c.args.scene.now.prices.now q c.requires.sound.0 c.args.id c.args.self.now.order.items c.requires.scene.matching c.requires.sound.1
