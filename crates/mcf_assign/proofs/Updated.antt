@@ -1,18 +1,29 @@
 -- New prices that were judged show the matching, and a matching keeps them.
-use Rattle.std.proofs.Common.{◌≡◌, ℕ, ◌+◌, ◌-◌, ◌<◌, Bool, List, get_or, length, ℤ, pos, ◌≤ℤ◌, sym, ◌∙◌, ap, subst, arith, inl, inr}
+use Rattle.std.proofs.Common.{◌≡◌, ℕ, ◌+◌, ◌-◌, ◌<◌, Bool, List, [], Option, None, Some, false, get_or, length, map, take, drop, ℤ, pos, ◌+ℤ◌, ◌≤ℤ◌, sym, ◌∙◌, ap, subst, arith, inl, inr}
+use Rattle.std.specs.List.{All, Contains}
+use Rattle.std.proofs.lemmas.List.Elements.{All-contains, All-map, Contains-append_cases}
 use Rattle.std.proofs.lemmas.Int.{ints}
-use Rattle.std.proofs.lemmas.Bool.{cases_eq}
+use Rattle.std.proofs.lemmas.Bool.{cases_eq, true≢false}
+use Rattle.std.specs.Option.{is_some}
+use Rattle.std.specs.Prelude.{slice_range}
 use Rattle.std.proofs.lemmas.List.{get_or_default}
-use Rattle.mcf_flows.specs.Network.{IsArcNumber, IsNode, at_node, node_count}
+use Rattle.mcf_flows.specs.Network.{Network, IsArcNumber, IsNode, at_node, node_count}
 use Rattle.mcf_flows.specs.WellFormed.{IsUpTo}
+use Rattle.mcf_network.specs.declared.rid.Rid.{Rid}
+use Rattle.mcf_network.specs.Residual.{arc_at}
 use Rattle.mcf_network.specs.States.{Pseudoflow}
+use Rattle.mcf_assign.specs.declared.rows.RowArc.{RowArc}
+use Rattle.mcf_assign.specs.declared.rows.Rows.{Rows}
+use Rattle.mcf_assign.specs.declared.rows.Span.{Span}
 use Rattle.mcf_assign.specs.declared.search.Tables.{Tables}
-use Rattle.mcf_assign.specs.Matchings.{AreMatchingPrices, IsColumn, IsMatchedColumn, IsMatchedRow, IsPair, IsPartialMatching, IsRow}
+use Rattle.mcf_assign.specs.Matchings.{AreMatchingPrices, IsColumn, IsMatchedColumn, IsMatchedRow, IsPair, IsPartialMatching, IsRow, reduced, row_of}
 use Rattle.mcf_assign.specs.Private.Forests.{AreMates}
 use Rattle.mcf_assign.specs.Private.Keeping.{AreNearZero, IsKept}
 use Rattle.mcf_assign.specs.Private.Reaches.{update_reach}
-use Rattle.mcf_assign.specs.Private.Updating.{AreUpdated, DoesArcFit, DoesNodeFit, mate_at}
-use Rattle.mcf_assign.proofs.PairLaws.{assignment_of}
+use Rattle.mcf_assign.specs.Private.RowLists.{AreRows, IsKeptRow, IsRowArc, forward_of, span_at}
+use Rattle.mcf_assign.specs.Private.Updating.{AreUpdated, DoesArcFit, DoesNodeFit, IsReadable, mate_at}
+use Rattle.mcf_assign.proofs.PairLaws.{assignment_of, row_is}
+use Rattle.mcf_assign.proofs.RowLists.{forward, kept_row}
 
 -- ---- mates
 
@@ -27,10 +38,96 @@ pair_read s mates v k ok mated n is some =
       | inr column ↦ (mated.column v (n, column) mate).0
     ])
 
+-- ---- the arcs of a row
+
+pub slice_none : (xs : List RowArc) (i j : ℕ) → i ≡ j → slice_range xs i j ≡ []
+slice_none xs i j e = let none : j - i ≡ 0 = omega (arith, e) in ap (λ n. take n (drop i xs)) none
+
+-- a row without others, as it was read
+pub whole_row : (g : Network) (rows : Rows) (v : ℕ) (x : Span) (list : List RowArc) → AreRows g rows → IsNode (node_count g) v
+    → x ≡ span_at rows.spans.items v → list ≡ slice_range rows.arcs.items x.start x.end → is_some x.others ≡ false → IsKeptRow g v list None
+whole_row g rows v x list are node at e none = alone x.others (kept_row g rows v x list are node at e) none
+  where
+    alone : (others : Option ℤ) → IsKeptRow g v list others → is_some others ≡ false → IsKeptRow g v list None
+    alone None row e = row
+    alone (Some bound) row e = absurd (true≢false e)
+
+module _ (g : Network) (v : ℕ) (kept : List RowArc) (row : IsKeptRow g v kept None) where
+  -- where there are no others
+  kept_has : (k : ℕ) → IsArcNumber g k → (arc_at g k).src ≡ v → Contains (map forward_of kept) (forward k)
+  kept_has k arc from =
+      elim (Contains-append_cases (map forward_of kept) (map forward_of row.others) (forward k) (row.every k arc from)) [
+        | inl has ↦ has
+        | inr other ↦ absurd (
+            let (i, h, e) = subst (λ (l : List RowArc). Contains (map forward_of l) (forward k)) row.dearer other in
+            omega (arith, h))
+      ]
+
+  pub none_leaves : kept ≡ [] → (k : ℕ) → IsArcNumber g k → (arc_at g k).src ≡ v → ⊥
+  none_leaves e k arc from =
+      let (i, h, same) = subst (λ (l : List RowArc). Contains (map forward_of l) (forward k)) e (kept_has k arc from) in
+      omega (arith, h)
+
+  module _ (z : List ℤ) (x : ℤ) (least : All (λ (a : RowArc). x ≤ℤ (a.cost +ℤ at_node z a.column)) kept) where
+    abbrev Low : Rid → Type 0
+    Low r = x ≤ℤ ((arc_at g r.arc).cost +ℤ at_node z (arc_at g r.arc).dst)
+
+    each_low : All (λ (a : RowArc). Low (forward_of a)) kept
+    each_low i d h =
+        let is = row.each i d h in
+        let low = least i d h in
+        let cost = is.cost in
+        let price = ap (at_node z) is.to in
+        omega (arith, ints, low, cost, price)
+
+    pub low_offer : (k : ℕ) → IsArcNumber g k → (arc_at g k).src ≡ v → x ≤ℤ ((arc_at g k).cost +ℤ at_node z (arc_at g k).dst)
+    low_offer k arc from = All-contains Low (map forward_of kept) (forward k) (All-map Low forward_of kept each_low) (kept_has k arc from)
+
+-- each of them can be read by prices that are near 0
+pub readable : (g : Network) (v : ℕ) (z : List ℤ) (kept : List RowArc) → All (IsRowArc g v) kept → length z ≡ node_count g
+    → ((u : ℕ) → IsNode (node_count g) u → IsUpTo update_reach (at_node z u)) → All (IsReadable z) kept
+readable g v z kept each count near i d h =
+    let is = each i d h in
+    let head = is.head in
+    record { column = (omega (arith, head), omega (arith, head, count)); cost = is.small; near = near _ head }
+
+-- the arc of a pair, as it was read, costs nothing where it offers no more than the price of its row
+pub pair_tight : (s : Pseudoflow) (g : Network) (z : List ℤ) (v k : ℕ) (a : RowArc) → g ≡ s.net → a.arc ≡ k → IsRowArc g (arc_at g k).src a → row_of s k ≡ v
+    → (a.cost +ℤ at_node z a.column) ≤ℤ at_node z v → reduced s z k ≤ℤ pos 0
+pair_tight s g z v k a net number is from below =
+    let cost = ap (λ (n : Network). (arc_at n k).cost) (sym net) ∙ ap (λ j. (arc_at g j).cost) (sym number) ∙ is.cost in
+    let to = ap (λ (n : Network). (arc_at n k).dst) (sym net) ∙ ap (λ j. (arc_at g j).dst) (sym number) ∙ is.to in
+    let price = ap (at_node z) to in
+    let at = ap (at_node z) from in
+    omega (arith, ints, cost, price, at, below)
+
+-- the arcs of a row fit where none offers less than the price of the row, and that of its pair no more
+pub row_fits : (s : Pseudoflow) (mates : List ℕ) (z : List ℤ) (v : ℕ) (kept : List RowArc) → IsPartialMatching s → AreMates s mates
+    → IsKeptRow s.net v kept None → All (λ (a : RowArc). at_node z v ≤ℤ (a.cost +ℤ at_node z a.column)) kept
+    → (IsRow s v → 0 < mate_at mates v → reduced s z (mate_at mates v) ≤ℤ pos 0) → (k : ℕ) → IsArcNumber s.net k → row_of s k ≡ v → DoesArcFit s z k
+row_fits s mates z v kept ok mated row least tight k arc from =
+    let offered = low_offer s.net v kept row z (at_node z v) least k arc from in
+    let at = ap (at_node z) from in
+    let low : pos 0 ≤ℤ reduced s z k = omega (arith, ints, offered, at) in
+    record {
+      low = low;
+      tight = λ p.
+          let is_row = subst (λ u. IsRow s u) from (row_is s k ok arc) in
+          elim (cases_eq (mate_at mates v) 0) [
+            | inl none ↦ absurd (mated.no_row v is_row none (k, p, from))
+            | inr some ↦ (
+                let here = mated.row v is_row (omega (arith, some)) in
+                let same = ok.once_in_row k (mate_at mates v) p here.0 (from ∙ sym here.1) in
+                let high = tight is_row (omega (arith, some)) in
+                let equal = ap (reduced s z) same in
+                omega (arith, ints, low, high, equal))
+          ];
+    }
+
 -- ---- judged prices
 
 module _ (s : Pseudoflow) (mates : List ℕ) (y z : List ℤ) (mated : AreMates s mates) (shown : AreMatchingPrices s y) (count : length z ≡ node_count s.net)
-    (nodes : (v : ℕ) → IsNode (node_count s.net) v → DoesNodeFit s mates y v (at_node z v))
+    (nodes : (v : ℕ) → IsNode (node_count s.net) v → DoesNodeFit mates y v (at_node z v))
     (arcs : (k : ℕ) → IsArcNumber s.net k → DoesArcFit s z k) where
   no_row_mate : (v : ℕ) → IsRow s v → ¬ IsMatchedRow s v → mate_at mates v ≡ 0
   no_row_mate v row free =
@@ -46,23 +143,13 @@ module _ (s : Pseudoflow) (mates : List ℕ) (y z : List ℤ) (mated : AreMates 
         | inr m ↦ absurd (let here = mated.column v column (omega (arith, m)) in free (mate_at mates v, here.0, here.1))
       ]
 
-  column_price : (v : ℕ) → IsColumn s v → pos 0 ≤ℤ at_node z v
-  column_price v column =
-      elim (cases_eq (mate_at mates v) 0) [
-        | inl none ↦ (
-            let same = (nodes v column.0).free none in
-            let old = shown.columns v column in
-            omega (arith, ints, same, old))
-        | inr m ↦ (let e = column.1 in (nodes v column.0).column (omega (arith, m)) (omega (arith, ints, e)))
-      ]
-
   judged : AreMatchingPrices s z
   judged =
       record {
         count = count;
         low = λ k arc. (arcs k arc).low;
         tight = λ k p. (arcs k p.arc).tight p;
-        columns = column_price;
+        columns = λ v column. let old = shown.columns v column in let above = (nodes v column.0).above in omega (arith, ints, old, above);
         free = λ v column none. (nodes v column.0).free (no_column_mate v column none) ∙ shown.free v column none;
       }
 

@@ -1,21 +1,22 @@
 //! Whether prices that were made for all nodes at once show a matching.
-ghost use Rattle.std.specs.Prelude.{◌≡◌, ◌+◌, ◌<◌, ◌≤◌, ℕ, length, pos, true, ◌≤ℤ◌};
+ghost use Rattle.std.specs.Prelude.{◌≡◌, ◌≤ℤ◌, ◌+ℤ◌, ℕ, length, true};
 ghost use Rattle.std.specs.List.{All};
-ghost use Rattle.mcf_flows.specs.Flow.{reduced_cost};
+ghost use Rattle.mcf_flows.specs.Limits.{limits};
 ghost use Rattle.mcf_flows.specs.Network.{IsArcNumber, IsNode, at_node, node_count};
 ghost use Rattle.mcf_flows.specs.WellFormed.{IsUpTo};
-ghost use Rattle.mcf_network.specs.Residual.{arc_at};
+ghost use Rattle.mcf_assign.specs.declared.rows.RowArc.{RowArc};
+ghost use Rattle.mcf_assign.specs.Matchings.{row_of};
 ghost use Rattle.mcf_assign.specs.Private.Reaches.{update_reach};
 ghost use Rattle.mcf_assign.specs.Private.Scenes.{IsScene};
-ghost use Rattle.mcf_assign.specs.Private.Updating.{AreUpdated, DoesArcFit, DoesNodeFit};
+ghost use Rattle.mcf_assign.specs.Private.Updating.{AreUpdated, DoesArcFit, DoesNodeFit, IsReadable};
 
 use crate::prices::is_inside;
-use crate::rows::row_arc;
+use crate::rows::{RowArc, row_arc};
 use crate::scene::Scene;
-use mcf_network::{Net, State};
 use mcf_text::{ArcId, NodeId};
 
-/// Whether new prices are near 0 and show the matching of a scene, and those of free nodes are as before.
+/// Whether new prices are near 0 and show the matching of a scene, none is less than before, and those of free nodes are as before.
+/// They are not where a row has arcs that aren't kept.
 pub(crate) fn are_shown(scene: &Scene<'_, '_>, prices: &[i64]) -> bool
     requires scene { IsScene scene.now.state.now scene.now.rows.now scene.now.prices.now scene.now.mates.now }
     ensures { result ≡ true → AreUpdated scene.now.state.now scene.now.prices.now prices.now }
@@ -23,7 +24,7 @@ pub(crate) fn are_shown(scene: &Scene<'_, '_>, prices: &[i64]) -> bool
     if prices.len() != scene.mates.len() || !do_nodes_fit(scene, prices) {
         return false;
     }
-    if !do_arcs_fit(scene.state, prices) {
+    if !do_rows_fit(scene, prices) {
         return false;
     }
     true
@@ -34,7 +35,7 @@ fn do_nodes_fit(scene: &Scene<'_, '_>, prices: &[i64]) -> bool
     requires scene { IsScene scene.now.state.now scene.now.rows.now scene.now.prices.now scene.now.mates.now }
     requires count { length prices.now ≡ node_count scene.now.state.now.net }
     ensures { result ≡ true → (v : ℕ) → IsNode (node_count scene.now.state.now.net) v
-        → DoesNodeFit scene.now.state.now scene.now.mates.now scene.now.prices.now v (at_node prices.now v) }
+        → DoesNodeFit scene.now.mates.now scene.now.prices.now v (at_node prices.now v) }
 {
     'nodes: for number in 0..scene.state.net().node_count() {
         if !does_node_fit(scene, NodeId::at(number), prices[number as usize]) {
@@ -44,74 +45,90 @@ fn do_nodes_fit(scene: &Scene<'_, '_>, prices: &[i64]) -> bool
     true
 }
 
-// Whether a new price fits a node: it is near 0, that of a free node is as before, and that of a matched column isn't below 0.
+// Whether a new price fits a node: it is near 0 and no less than before, and that of a free node is as before.
 #[inline(always)]
 fn does_node_fit(scene: &Scene<'_, '_>, v: NodeId, price: i64) -> bool
     requires scene { IsScene scene.now.state.now scene.now.rows.now scene.now.prices.now scene.now.mates.now }
     requires node { IsNode (node_count scene.now.state.now.net) v }
-    ensures { result ≡ true → DoesNodeFit scene.now.state.now scene.now.mates.now scene.now.prices.now v price }
+    ensures { result ≡ true → DoesNodeFit scene.now.mates.now scene.now.prices.now v price }
 {
-    if !is_inside(price) {
+    let old = scene.prices.get(v);
+    let new = i128::from(price);
+    if !is_inside(price) || new < old {
         return false;
     }
-    if scene.mates[v.place()] == 0 {
-        if i128::from(price) != scene.prices.get(v) {
-            return false;
-        }
+    if scene.mates[v.place()] > 0 {
         return true;
     }
-    if price >= 0 {
-        return true;
-    }
-    if scene.state.net().supply(v) < 0 {
+    if new > old {
         return false;
     }
     true
 }
 
-// Whether new prices fit each arc.
-fn do_arcs_fit(state: &State<'_>, prices: &[i64]) -> bool
-    requires count { length prices.now ≡ node_count state.now.net }
-    requires near { (v : ℕ) → IsNode (node_count state.now.net) v → IsUpTo update_reach (at_node prices.now v) }
-    ensures { result ≡ true → (k : ℕ) → IsArcNumber state.now.net k → DoesArcFit state.now prices.now k }
+// Whether new prices fit the arcs of each row.
+fn do_rows_fit(scene: &Scene<'_, '_>, prices: &[i64]) -> bool
+    requires scene { IsScene scene.now.state.now scene.now.rows.now scene.now.prices.now scene.now.mates.now }
+    requires count { length prices.now ≡ node_count scene.now.state.now.net }
+    requires near { (v : ℕ) → IsNode (node_count scene.now.state.now.net) v → IsUpTo update_reach (at_node prices.now v) }
+    ensures { result ≡ true → (k : ℕ) → IsArcNumber scene.now.state.now.net k → DoesArcFit scene.now.state.now prices.now k }
 {
-    'arcs: for number in 0..state.net().arc_count() {
-        if !does_arc_fit(state, prices, ArcId::at(number)) {
+    'nodes: for number in 0..scene.state.net().node_count() {
+        if !does_row_fit(scene, prices, NodeId::at(number)) {
             return false;
         }
     }
     true
 }
 
-// Whether new prices fit an arc: its reduced cost isn't below 0, and it is 0 if the arc has amount 1.
+// Whether new prices fit the arcs that leave a node: no reduced cost is below 0, and it is 0 for the arc with which the node is matched.
 #[inline(always)]
-fn does_arc_fit(state: &State<'_>, prices: &[i64], k: ArcId) -> bool
-    requires count { length prices.now ≡ node_count state.now.net }
-    requires near { (v : ℕ) → IsNode (node_count state.now.net) v → IsUpTo update_reach (at_node prices.now v) }
-    requires arc { IsArcNumber state.now.net k }
-    ensures { result ≡ true → DoesArcFit state.now prices.now k }
+fn does_row_fit(scene: &Scene<'_, '_>, prices: &[i64], v: NodeId) -> bool
+    requires scene { IsScene scene.now.state.now scene.now.rows.now scene.now.prices.now scene.now.mates.now }
+    requires count { length prices.now ≡ node_count scene.now.state.now.net }
+    requires near { (u : ℕ) → IsNode (node_count scene.now.state.now.net) u → IsUpTo update_reach (at_node prices.now u) }
+    requires node { IsNode (node_count scene.now.state.now.net) v }
+    ensures { result ≡ true → (k : ℕ) → IsArcNumber scene.now.state.now.net k → row_of scene.now.state.now k ≡ v → DoesArcFit scene.now.state.now prices.now k }
 {
-    let reduced = reduced(state.net(), prices, k);
-    if reduced < 0 {
+    let span = scene.rows.span(v);
+    if span.others.is_some() {
         return false;
     }
-    if reduced == 0 {
+    if span.start == span.end {
         return true;
     }
-    if state.amount(k) > 0 {
+    let price = prices[v.place()];
+    if least_offer(scene.rows.between(span.start, span.end), prices) < price {
+        return false;
+    }
+    let mate = scene.mates[v.place()];
+    if mate == 0 {
+        return true;
+    }
+    let pair = row_arc(scene.state.net(), ArcId::new(mate));
+    if offer(pair, prices) > price {
         return false;
     }
     true
 }
 
-// The reduced cost of an arc.
-#[inline(always)]
-fn reduced(net: &Net, prices: &[i64], k: ArcId) -> i64
-    requires count { length prices.now ≡ node_count net.now }
-    requires near { (v : ℕ) → IsNode (node_count net.now) v → IsUpTo update_reach (at_node prices.now v) }
-    requires arc { IsArcNumber net.now k }
-    ensures { result ≡ reduced_cost prices.now (arc_at net.now k) }
+// What arcs offer at least.
+fn least_offer(arcs: &[RowArc], prices: &[i64]) -> i64
+    requires { All (IsReadable prices.now) arcs.now }
+    ensures { All (λ (a : RowArc). result ≤ℤ (a.cost +ℤ at_node prices.now a.column)) arcs.now }
 {
-    let (row, column) = net.ends(k);
-    row_arc(net, k).cost - prices[row.place()] + prices[column.place()]
+    let mut least = i64::MAX;
+    'arcs: for a in arcs {
+        least = least.min(offer(*a, prices));
+    }
+    least
+}
+
+// What an arc offers its row: its cost and the price of its column.
+#[inline(always)]
+fn offer(a: RowArc, prices: &[i64]) -> i64
+    requires { IsReadable prices.now a }
+    ensures { result ≡ a.cost +ℤ at_node prices.now a.column }
+{
+    a.cost + prices[a.column as usize - 1]
 }

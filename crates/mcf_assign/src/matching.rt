@@ -12,7 +12,7 @@ ghost use Rattle.mcf_assign.specs.Private.Updating.{IsRepriced};
 use crate::augmenting::fill;
 use crate::extended::Extended;
 use crate::prices::Prices;
-use crate::regime::NODES_PER_PAIR;
+use crate::regime::{NODES_PER_PAIR, is_sparse};
 use crate::rows::Rows;
 use crate::scene::Scene;
 use crate::search::Tables;
@@ -154,8 +154,8 @@ impl<'n> Matching<'n> {
 
     // Whether an update of all prices pays now.
     fn is_due(&self) -> bool {
-        let nodes = u64::from(self.state.net().node_count());
-        self.update.pays() && self.tables.pairs > nodes / NODES_PER_PAIR
+        let net = self.state.net();
+        is_sparse(net) && self.tables.pairs > u64::from(net.node_count()) / NODES_PER_PAIR
     }
 
     /// Whether an arc of amount 1 has an end at a node.

@@ -1,31 +1,16 @@
 //! How a net is solved, by how many arcs it has a node, and the numbers on which its speed rests. `bench/run.py assign`
 //! measures each of them; no clause speaks of any.
-ghost use Rattle.std.specs.Prelude.{◌≡◌, ◌≤◌};
-ghost use Rattle.mcf_assign.specs.declared.regime.Regime.TheVariants.{Sparse};
+ghost use Rattle.std.specs.Prelude.{◌≡◌, ◌≤◌, true};
 ghost use Rattle.mcf_flows.specs.Network.{node_count};
 
 use mcf_network::Net;
 
-/// How many arcs a net has a node, as it is solved.
-#[derive(Clone, Copy)]
-pub(crate) enum Regime {
-    /// Few: rows are kept whole, and all prices are updated now and then.
-    Sparse,
-    /// Many: the cheapest arcs of each row are kept, and prices change by searches alone.
-    Dense,
-}
-
-impl Regime {
-    /// That of a net.
-    pub(crate) fn of(net: &Net) -> Regime
-        ensures nodes { result ≡ Sparse → 1 ≤ node_count net.now }
-    {
-        if net.arc_count() / ARCS_PER_NODE >= net.node_count() {
-            Regime::Dense
-        } else {
-            Regime::Sparse
-        }
-    }
+/// Whether a net has few arcs a node. Then rows are kept whole, and all prices are updated now and then; else the cheapest arcs of each
+/// row are kept, and prices change by searches alone.
+pub(crate) fn is_sparse(net: &Net) -> bool
+    ensures nodes { result ≡ true → 1 ≤ node_count net.now }
+{
+    net.arc_count() / ARCS_PER_NODE < net.node_count()
 }
 
 /// From so many arcs a node on a net is dense. Of `bench/run.py assign`, sparse rows have 4 arcs a node, dense ones 128 and more.
@@ -38,17 +23,17 @@ pub(crate) const NODES_PER_PAIR: u64 = 5;
 
 /// An update settles one in so many of the matched columns, the nearest to those that aren't matched. Sparse, 2^16 rows: updates
 /// look at 3.8 million arcs in place of 6.3 where they settle all, and searches at 11.2 in place of 13.8.
-pub(crate) const SETTLED_PART: u32 = 3;
+pub(crate) const SETTLED_PART: usize = 3;
 
 /// How many buckets of offers an update has. Sparse, 2^12 rows: an update takes half of the time that it takes with a heap.
-pub(crate) const BUCKETS: u32 = 64;
+pub(crate) const BUCKETS: usize = 64;
 
 /// A bucket is so narrow that so many hold the greatest cost. Sparse, 2^12 rows, as above.
 pub(crate) const BUCKETS_IN_COST: u64 = 1024;
 
 /// How many arcs of a dense row are looked at to tell what is cheap in it. Dense, 1,024 rows: with the cheapest arcs first searches
 /// take 0.026 s in place of 0.19.
-pub(crate) const SAMPLE: usize = 32;
+pub(crate) const SAMPLE: u32 = 32;
 
 /// For how many arcs of a node there is room to begin with. Dense, 256 rows and more.
 pub(crate) const FIRST_ARCS: usize = 32;
