@@ -99,11 +99,12 @@ fn assign<'n>(alloc: Global, net: &'n Net) -> Result<(Outcome<'n>, Count), NoMem
     ensures blocked { IfOk result (λ found. IsReachedSet net.now found.1.number found.0) }
     ensures wants { OnErr result (1 ≤ node_count net.now) }
 {
-    let pricer = Pricer::start(alloc, net)?;
+    let mut pricer = Pricer::start(alloc, net)?;
     let mut matching = Matching::start(alloc, net)?;
     match match_rows(&mut matching, net) {
         Extended::Matched => {
-            let (state, prices, searches) = priced(pricer, matching);
+            let (state, mut prices, searches) = matching.into_counted_parts();
+            pricer.raise(&state, 1, 0, prices.as_mut_slice());
             Ok((Outcome::Least(state, prices), searches))
         }
         Extended::Blocked => {
@@ -119,24 +120,16 @@ fn match_rows(matching: &mut Matching<'_>, net: &Net) -> Extended
     ensures { AreOffered net.now (node_count net.now) result matching.new }
 {
     'rows: for number in 0..net.node_count() {
-        match match_node(matching, net, NodeId::at(number)) {
+        let v = NodeId::at(number);
+        if !is_source(net, v) {
+            continue;
+        }
+        match matching.extend(v) {
             Extended::Matched => {}
             Extended::Blocked => return Extended::Blocked,
         }
     }
     Extended::Matched
-}
-
-// Matches a node if it is a row. The rows before it are matched.
-fn match_node(matching: &mut Matching<'_>, net: &Net, v: NodeId) -> Extended
-    requires node { IsNode (node_count net.now) v }
-    requires run { Run net.now (sources_to net.now (v - 1)) matching.old }
-    ensures { AreOffered net.now v result matching.new }
-{
-    if !is_source(net, v) {
-        return Extended::Matched;
-    }
-    matching.extend(v)
 }
 
 // Whether a node has supply 1.
@@ -145,17 +138,4 @@ fn is_source(net: &Net, v: NodeId) -> bool
     ensures { result ≡ is_source net.now v }
 {
     net.supply(v) == 1
-}
-
-// The state of a matching, the greatest prices that show it, and the count of its searches.
-fn priced<'n>(mut pricer: Pricer, matching: Matching<'n>) -> (State<'n>, Vec<i128>, Count)
-    requires room { pricer ≡ node_count matching.flow.net }
-    ensures state { result.0 ≡ matching.entry.flow }
-    ensures prices { AreStatePrices matching.entry.flow.net result.0 result.1.items }
-    ensures shown { IsShownMatching matching.entry }
-    ensures searches { result.2.number ≡ matching.entry.searches }
-{
-    let (state, mut prices, searches) = matching.into_counted_parts();
-    pricer.raise(&state, 1, 0, prices.as_mut_slice());
-    (state, prices, searches)
 }
