@@ -2,7 +2,7 @@
 use Rattle.std.proofs.Common.{◌≡◌, ℕ, ◌+◌, ◌-◌, ◌≤◌, true, List, length, Some, ℤ, ◌≤ℤ◌, refl, subst, arith, length-set}
 use Rattle.std.proofs.lemmas.Int.{ints}
 use Rattle.mcf_flows.specs.Blocking.{in_table}
-use Rattle.mcf_flows.specs.Network.{IsArcNumber, IsNode, at_node, node_count}
+use Rattle.mcf_flows.specs.Network.{IsArcNumber, IsNode, node_count}
 use Rattle.mcf_flows.specs.WellFormed.{IsUpTo}
 use Rattle.mcf_network.specs.NodeSets.{with_node}
 use Rattle.mcf_network.specs.States.{Pseudoflow}
@@ -10,14 +10,14 @@ use Rattle.mcf_network.proofs.Marks.{count_small, counted_new}
 use Rattle.mcf_assign.specs.declared.offers.Offer.{Offer}
 use Rattle.mcf_assign.specs.declared.search.Target.{Target}
 use Rattle.mcf_assign.specs.Private.Forests.{IsForest, IsTightArc}
-use Rattle.mcf_assign.specs.Private.Keeping.{IsEnded}
+use Rattle.mcf_assign.specs.Private.Keeping.{AreNearZero, IsEnded}
 use Rattle.mcf_assign.specs.Matchings.{AreMatchingPrices, IsColumn, IsMatchedColumn, IsPartialMatching, column_of}
 use Rattle.mcf_assign.specs.Private.Searches.{AreRaised, IsBestUpTo, Search, Settled, Waits, dist_at}
 use Rattle.mcf_assign.proofs.Nearest.{not_true}
 use Rattle.mcf_assign.proofs.PairLaws.{column_is}
 use Rattle.mcf_assign.proofs.Raised.{link_tight, raised_ok, target_tight}
 use Rattle.mcf_assign.proofs.Stepping.{reach_small}
-use Rattle.mcf_assign.specs.Private.Reaches.{price_reach, target_reach}
+use Rattle.mcf_assign.specs.Private.Reaches.{target_reach}
 
 module _ {s : Pseudoflow} {y : List ℤ} {q : Search} {source : ℕ} {order : List ℕ} {t : Target} (ok : IsPartialMatching s) (shown : AreMatchingPrices s y)
     (ended : IsEnded s y q source order) (best : q.best ≡ Some t) where
@@ -82,7 +82,7 @@ module _ {s : Pseudoflow} {y : List ℤ} {q : Search} {source : ℕ} {order : Li
 
   -- ---- no distance is far from 0
 
-  module _ (small : (v : ℕ) → IsNode (node_count s.net) v → IsUpTo price_reach (at_node y v)) where
+  module _ (small : AreNearZero s y) where
     pub found_near : (v : ℕ) → IsNode (node_count s.net) v → Settled q v → IsUpTo target_reach (dist_at q v)
     found_near v n h =
         let near = (reach_small s y q source ok ended.search.entries ended.near).settled v n h in

@@ -11,7 +11,6 @@ use Rattle.std.proofs.lemmas.List.Quantifiers.{all_pairs_push}
 use Rattle.mcf_flows.specs.declared.problem.Problem.TheVariants.{Asn}
 use Rattle.mcf_flows.specs.Blocking.{in_table}
 use Rattle.mcf_flows.specs.Network.{Network, IsNode, at_node, node_count}
-use Rattle.mcf_flows.specs.WellFormed.{IsUpTo}
 use Rattle.mcf_network.specs.Residual.{head, tail}
 use Rattle.mcf_network.specs.States.{Pseudoflow, IsPseudoflow}
 use Rattle.mcf_network.specs.Stuck.{IsStuck}
@@ -35,7 +34,6 @@ use Rattle.mcf_assign.proofs.Orders.{forth_room}
 use Rattle.mcf_assign.proofs.PairLaws.{column_is, row_is}
 use Rattle.mcf_assign.proofs.Raised.{settled_or_not}
 use Rattle.mcf_assign.proofs.Surpluses.{row_or_column}
-use Rattle.mcf_assign.specs.Private.Reaches.{price_reach}
 
 -- what a mutable slice of a whole vector leaves
 pub written : {X : Type 0} (n : ℕ) (xs ys : List X) → n ≡ length xs → take n (xs ++ ys) ≡ xs
@@ -49,12 +47,6 @@ shown_kept s y mates tables reached kept m ef ep =
     record { matching = ok; shown = shown; least = least_matching m.flow m.prices ok shown }
 
 -- prices near 0 are small enough for a search
-pub near_small : (s : Pseudoflow) (y y' : List ℤ) → AreNearZero s y → y' ≡ y → (v : ℕ) → IsNode (node_count s.net) v → IsUpTo price_reach (at_node y' v)
-near_small s y y' near e v n =
-    let x = near v n in
-    let same = ap (λ z. at_node z v) e in
-    (omega (arith, ints, x, same), omega (arith, ints, x, same))
-
 -- ---- whether a node is matched, as its mate tells
 
 pub mates_tell : (s : Pseudoflow) (mates : List ℕ) (v i x : ℕ) → IsPartialMatching s → AreMates s mates → IsNode (node_count s.net) v → i ≡ v - 1

@@ -1,5 +1,5 @@
 -- Runs of searches: which rows they match, and what is left to send or to take when all rows are matched.
-use Rattle.std.proofs.Common.{◌≡◌, ℕ, zero, suc, ◌+◌, ◌-◌, ◌≤◌, Bool, true, false, cond, List, [], ◌∷◌, ◌++◌, length, get_or, ℤ, pos, ◌≤ℤ◌, refl, sym, ◌∙◌}
+use Rattle.std.proofs.Common.{◌<◌, ◌≡◌, ℕ, zero, suc, ◌+◌, ◌-◌, ◌≤◌, Bool, true, false, cond, List, [], ◌∷◌, ◌++◌, length, get_or, ℤ, pos, ◌≤ℤ◌, refl, sym, ◌∙◌}
 use Rattle.std.proofs.Common.{ap, subst, arith, ◌⊎◌, inl, inr}
 use Rattle.std.specs.List.{All, Contains, filter, range_with_len}
 use Rattle.std.proofs.lemmas.Bool.{cases_eq}
@@ -141,45 +141,45 @@ run_searches g rows n (more {rows = before} {row = row} {m = m} run is_row free 
 
 -- ---- one node more
 
-module _ (g : Network) (v : ℕ) (m : Assigned) (node : IsNode (node_count g) v) (run : Run g (sources_to g (v - 1)) m) where
-  at : v ≡ v - 1 + 1
-  at = omega (arith, node)
+module _ {g : Network} {n v : ℕ} {m : Assigned} (at : v ≡ n + 1) (inside : n < node_count g) (run : Run g (sources_to g n) m) where
+  node : IsNode (node_count g) v
+  node = (omega (arith, at), omega (arith, at, inside))
 
   pub offered_none : is_source g v ≡ false → Run g (sources_to g v) m
-  offered_none other = subst (λ l. Run g l m) (sym (sources_without g (v - 1) v at other)) run
+  offered_none other = subst (λ l. Run g l m) (sym (sources_without g n v at other)) run
 
   pub offered_row : is_source g v ≡ true → IsRow m.flow v
   offered_row source =
-      let P : Network → Type 0 = λ (n : Network). IsNode (node_count n) v × (at_node n.supplies v ≡ pos 1) in
-      subst P (sym (run_net g (sources_to g (v - 1)) m run)) (node, source_is g v source)
+      let P : Network → Type 0 = λ (x : Network). IsNode (node_count x) v × (at_node x.supplies v ≡ pos 1) in
+      subst P (sym (run_net g (sources_to g n) m run)) (node, source_is g v source)
 
   pub offered_free : ¬ IsMatchedRow m.flow v
   offered_free matched =
-      let below = sources_below g (v - 1) v (run_listed g (sources_to g (v - 1)) m v run matched) in
+      let below = sources_below g n v (run_listed g (sources_to g n) m v run matched) in
       omega (arith, node, below)
 
-  pub offered_next : (found : Extended) (n : Assigned) → is_source g v ≡ true → IsExtension m v found n → IsShownMatching n
-      → AreOffered g v found n
-  offered_next Matched n source grown shown =
-      subst (λ l. Run g l n) (sym (sources_with g (v - 1) v at source)) (more run (offered_row source) offered_free grown shown)
-  offered_next Blocked n source stopped shown =
+  pub offered_next : (found : Extended) (m' : Assigned) → is_source g v ≡ true → IsExtension m v found m' → IsShownMatching m'
+      → AreOffered g v found m'
+  offered_next Matched m' source grown shown =
+      subst (λ l. Run g l m') (sym (sources_with g n v at source)) (more run (offered_row source) offered_free grown shown)
+  offered_next Blocked m' source stopped shown =
       let rest = filter (is_source g) (range_with_len (v + 1) (node_count g - v)) in
       record {
-        before = sources_to g (v - 1);
+        before = sources_to g n;
         row = v;
         rest = rest;
-        in_order = sources_split g (v - 1) (suc (node_count g - v)) (node_count g - v) (node_count g) v (omega (arith, node)) refl at
-            ∙ ap (λ b. sources_to g (v - 1) ++ cond b (v ∷ rest) rest) source;
+        in_order = sources_split g n (suc (node_count g - v)) (node_count g - v) (node_count g) v (omega (arith, at, inside)) refl at
+            ∙ ap (λ b. sources_to g n ++ cond b (v ∷ rest) rest) source;
         last = m;
         run = run;
         is_row = offered_row source;
         not_matched = offered_free;
-        blocked = n;
+        blocked = m';
         stopped = stopped;
         reached = refl;
         counted = refl;
-        once = let counted : n.searches ≡ m.searches + 1 = stopped.searches in
-            let was = run_searches g (sources_to g (v - 1)) m run in omega (arith, counted, was);
+        once = let counted : m'.searches ≡ m.searches + 1 = stopped.searches in
+            let was = run_searches g (sources_to g n) m run in omega (arith, counted, was);
       }
 
 -- ---- the end

@@ -36,7 +36,8 @@ use Rattle.mcf_assign.proofs.RowLists.{IsPassing, pass_back, pass_end, pass_fres
 use Rattle.mcf_assign.proofs.Scanning.{leaves_from, row_near}
 use Rattle.mcf_assign.proofs.Settling.{none_contained}
 use Rattle.mcf_assign.proofs.Stepping.{IsStepped, paired_is, reach_small, stepped_pair}
-use Rattle.mcf_assign.specs.Private.Reaches.{base_reach, price_reach, row_reach}
+use Rattle.mcf_assign.specs.Private.Reaches.{base_reach, row_reach}
+use Rattle.mcf_assign.specs.Private.Keeping.{AreNearZero}
 
 abbrev forward : ℕ → Rid
 forward k = record { arc = k; back = false }
@@ -458,7 +459,7 @@ pair_room s y q source o k0 order ok sound pair at_column fresh =
 
 -- a settled row is near
 pub sound_near : (s : Pseudoflow) (y : List ℤ) (q : Search) (source row : ℕ) (order : List ℕ) → IsPartialMatching s → IsSound s y q source order
-    → IsNode (node_count s.net) row → Settled q row → ((v : ℕ) → IsNode (node_count s.net) v → IsUpTo price_reach (at_node y v))
+    → IsNode (node_count s.net) row → Settled q row → AreNearZero s y
     → IsUpTo row_reach (dist_at q row)
 sound_near s y q source row order ok sound node settled small =
     row_near s y q source row sound.search.is_row.0 node (reach_small s y q source ok sound.search.entries sound.near) settled small

@@ -6,13 +6,12 @@ ghost use Rattle.mcf_flows.specs.Blocking.{in_table};
 ghost use Rattle.mcf_flows.specs.Network.{IsNode, at_node, node_count};
 ghost use Rattle.mcf_flows.specs.WellFormed.{IsUpTo};
 ghost use Rattle.mcf_assign.specs.Private.Forests.{AreMates, IsChangedWithin};
-ghost use Rattle.mcf_assign.specs.Private.Keeping.{IsEnded, IsIdle};
+ghost use Rattle.mcf_assign.specs.Private.Keeping.{AreNearZero, IsEnded, IsIdle};
 ghost use Rattle.mcf_assign.specs.Matchings.{AreMatchingPrices, IsMatchedRow, IsPartialMatching, IsRow, column_of};
 ghost use Rattle.mcf_assign.specs.Private.Rooms.{HasRoom, KeepsRoom};
 ghost use Rattle.mcf_assign.specs.Private.Scenes.{IsScene};
 ghost use Rattle.mcf_assign.specs.Private.Searches.{AreRaised, HasEntries, Settled, search_of};
 ghost use Rattle.mcf_assign.specs.Private.Turning.{IsExtended};
-ghost use Rattle.mcf_assign.specs.Private.Reaches.{price_reach};
 
 use crate::offers::Offers;
 use crate::prices::Prices;
@@ -76,7 +75,7 @@ impl Tables {
         requires mates { AreMates state.old mates.old }
         requires best { self.old.best ≡ Some target }
         requires ended { (source : ℕ) × IsEnded state.old prices.old (search_of self.old) source self.old.order.items }
-        requires small { (v : ℕ) → IsNode (node_count state.old.net) v → IsUpTo price_reach (at_node prices.old v) }
+        requires small { AreNearZero state.old prices.old }
         requires room { node_count state.old.net ≤ vec_capacity self.old.order }
         ensures raised { AreRaised state.old (search_of self.old) target.dist prices.old prices.new }
         ensures extended { (source : ℕ) → IsEnded state.old prices.old (search_of self.old) source self.old.order.items

@@ -3,7 +3,8 @@ ghost use Rattle.std.specs.Prelude.{◌≡◌, ◌+ℤ◌, length};
 ghost use Rattle.mcf_flows.specs.Limits.{limits};
 ghost use Rattle.mcf_flows.specs.Network.{IsNode, at_node};
 ghost use Rattle.mcf_flows.specs.WellFormed.{IsUpTo};
-ghost use Rattle.mcf_assign.specs.Private.Reaches.{base_reach, price_reach};
+ghost use Rattle.mcf_assign.specs.Matchings.{price_limit};
+ghost use Rattle.mcf_assign.specs.Private.Reaches.{base_reach};
 
 use crate::prices::Prices;
 use crate::rows::{RowArc, Rows};
@@ -34,7 +35,7 @@ impl Row {
         requires base { IsUpTo base_reach self.now.base }
         requires cost { IsUpTo limits.cost a.cost }
         requires column { IsNode (length prices.now) a.column }
-        requires price { IsUpTo price_reach (at_node prices.now a.column) }
+        requires price { IsUpTo price_limit (at_node prices.now a.column) }
         ensures { result ≡ self.now.base +ℤ a.cost +ℤ at_node prices.now a.column }
     {
         self.base + i128::from(a.cost) + prices.get(NodeId::new(a.column))

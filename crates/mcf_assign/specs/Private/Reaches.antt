@@ -1,7 +1,7 @@
 -- How far from 0 the numbers of a search lie: bounds within which its sums fit 128 bits, each for what is made of those before it.
 use Rattle.std.specs.Prelude.{ℕ, ◌-◌, ◌^◌}
 
--- the price of a node, while a search runs
+-- how far distances lie from the prices
 abbrev pub price_reach : ℕ
 price_reach = 10 ^ 29
 

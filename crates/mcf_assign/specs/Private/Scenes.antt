@@ -9,7 +9,8 @@ use Rattle.mcf_assign.specs.Matchings.{AreMatchingPrices, IsPartialMatching}
 use Rattle.mcf_assign.specs.Private.Forests.{AreMates}
 use Rattle.mcf_assign.specs.Private.RowLists.{AreRows}
 use Rattle.mcf_assign.specs.Private.Searches.{IsLast, Search, Settled, dist_at}
-use Rattle.mcf_assign.specs.Private.Reaches.{base_reach, price_reach}
+use Rattle.mcf_assign.specs.Private.Reaches.{base_reach}
+use Rattle.mcf_assign.specs.Private.Keeping.{AreNearZero}
 
 -- a partial matching with the arcs of its rows and the mates, and prices that show it and are near 0
 pub record IsScene (s : Pseudoflow) (arcs : Rows) (y : List ℤ) (table : List ℕ) : Type 0 where
@@ -17,7 +18,7 @@ pub record IsScene (s : Pseudoflow) (arcs : Rows) (y : List ℤ) (table : List �
   pub rows : AreRows s.net arcs
   pub prices : AreMatchingPrices s y
   pub mates : AreMates s table
-  pub small : (v : ℕ) → IsNode (node_count s.net) v → IsUpTo price_reach (at_node y v)
+  pub small : AreNearZero s y
 
 -- a settled row than which no settled node is farther, with its distance, and what its arcs offer but for their costs and
 -- the prices of their columns

@@ -7,7 +7,7 @@ use Rattle.mcf_assign.specs.Private.Keeping.{IsKept}
 use Rattle.mcf_assign.specs.Matchings.{IsRow}
 use Rattle.mcf_assign.specs.Private.RowLists.{AreRows}
 use Rattle.mcf_assign.specs.Private.Searches.{Search, search_of}
-use Rattle.mcf_assign.proofs.Kept.{grown_from, kept_grown, near_small, shown_kept, stopped_from, written}
+use Rattle.mcf_assign.proofs.Kept.{grown_from, kept_grown, shown_kept, stopped_from, written}
 use Rattle.mcf_assign.proofs.matching.Matching.grow.Goals as goal
 
 pub search-found-requires-clause-scene : goal.search-found-requires-clause-scene
@@ -19,11 +19,11 @@ search-found-requires-clause-scene c =
       rows = c.self.invariant.1;
       prices = k.shown;
       mates = subst (λ (l : List ℕ). AreMates i.state l) (sym c.as_slice-mates.ensures.value) k.mated;
-      small = near_small i.state i.prices i.prices k.near refl;
+      small = k.near;
     }
 
 pub augment-requires-clause-small : goal.augment-requires-clause-small
-augment-requires-clause-small c = near_small c.self.inside.state c.self.inside.prices c.self.inside.prices c.self.invariant.0.near refl
+augment-requires-clause-small c = c.self.invariant.0.near
 
 pub fill-requires : goal.fill-requires
 fill-requires c =

@@ -2,7 +2,7 @@ use Rattle.std.proofs.Common.{List, ℤ, ℕ, refl, subst, sym, ◌∙◌}
 use Rattle.mcf_assign.specs.Extending.{Assigned, IsShownMatching}
 use Rattle.mcf_assign.specs.Private.Forests.{AreMates}
 use Rattle.mcf_assign.specs.Private.Keeping.{IsKept}
-use Rattle.mcf_assign.proofs.Kept.{near_small, shown_kept}
+use Rattle.mcf_assign.proofs.Kept.{shown_kept}
 use Rattle.mcf_assign.proofs.Updated.{kept_counted, kept_updated}
 use Rattle.mcf_assign.proofs.matching.Matching.refresh.Goals as goal
 
@@ -49,6 +49,6 @@ run-requires c =
         rows = c.self.invariant.1;
         prices = k.shown;
         mates = subst (λ (l : List ℕ). AreMates i.state l) (sym c.as_slice-mates.ensures.value) k.mated;
-        small = near_small i.state i.prices i.prices k.near refl;
+        small = k.near;
       };
     }
