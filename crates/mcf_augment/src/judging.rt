@@ -38,20 +38,20 @@ fn carry_all(search: &mut Search, state: &mut State<'_>)
         let arc = ArcId::at(number);
         let (src, dst) = net.ends(arc);
         if src != dst {
-            carry(state, arc, search.next_amount(src.get() - 1));
+            leave(state, arc, search.next_room(src.get() - 1));
         }
     }
 }
 
-// Lets an arc carry so much more, as far as it can.
-fn carry(state: &mut State<'_>, arc: ArcId, amount: i64)
+// Lets an arc carry more until it has so much room left, as far as it can.
+fn leave(state: &mut State<'_>, arc: ArcId, left: i64)
     requires arc { IsArcNumber state.old.net arc }
     ensures net { state.new.net ≡ state.old.net }
     ensures flow { IsPseudoflow state.new }
 {
     let forward = Rid { arc, back: false };
     let room = state.room(forward);
-    let amount = i128::from(amount).max(0).min(room);
+    let amount = room.saturating_sub(i128::from(left)).max(0).min(room);
     state.push(Rid { arc, back: false }, amount);
 }
 

@@ -2,13 +2,10 @@
 
 use crate::columns::{at, put};
 use crate::search::Search;
-use crate::star::{LIMIT, NOWHERE, Star, Step};
+use crate::star::{LIMIT, NOTHING, NOWHERE};
 
 // How many arcs a path has at most.
 const MOST_ARCS: u32 = 4;
-
-// More than any reduced cost: there is none.
-const NOTHING: i64 = 1 << 62;
 
 // A path from an active node: its residual arcs, by their places, and the nodes that they leave and enter.
 #[derive(Drop)]
@@ -30,24 +27,6 @@ impl Path {
         self.len = self.len.wrapping_add(1);
         put(&mut self.nodes, self.len, node);
     }
-}
-
-// Seeks an admissible arc, one with room and a negative reduced cost, among some places of a node; and the least reduced cost of those with room
-// before it.
-#[inline(always)]
-fn seek(star: &Star, node: u32, first: u32, end: u32) -> (Option<Step>, i64) {
-    let price = star.price(node);
-    let mut least = NOTHING;
-    'places: for place in first..end {
-        let Some(step) = star.step(place, price) else {
-            continue;
-        };
-        if step.reduced < 0 {
-            return (Some(step), least);
-        }
-        least = least.min(step.reduced);
-    }
-    (None, least)
 }
 
 impl Search {
@@ -135,12 +114,12 @@ impl Search {
             }
             self.pay_degree(tip);
             let current = at(&self.currents, tip, 0);
-            let (found, least) = seek(&self.star, tip, current, self.star.end(tip));
+            let (found, least) = self.star.seek(tip, current, self.star.end(tip), 0);
             if let Some(step) = found {
                 put(&mut self.currents, tip, step.place);
                 path.push(step.place, step.head);
             } else {
-                let (_, before) = seek(&self.star, tip, self.star.first(tip), current);
+                let (_, before) = self.star.seek(tip, self.star.first(tip), current, 0);
                 if !self.relabel(path, least.min(before)) {
                     return false;
                 }

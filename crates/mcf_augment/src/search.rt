@@ -5,7 +5,7 @@ use crate::sorting::{Mark, NO_VISIT, Visit};
 use crate::star::{LIMIT, NOWHERE, Star, narrow};
 use crate::tables::{Buckets, Queue};
 use mcf_network::Net;
-use mcf_text::{NoMemory, NodeId, copies};
+use mcf_text::{ArcId, NoMemory, NodeId, copies};
 use std::alloc::Global;
 
 // The slack falls by 2 to this power from phase to phase.
@@ -33,8 +33,6 @@ pub(crate) struct Search {
     pub(crate) marks: Vec<Mark>,
     pub(crate) visits: Vec<Visit>,
     pub(crate) sorted: u32,
-    // costs and prices are taken times 2 to the power of this
-    shift: u32,
     // the greatest size of a cost, as the net has it
     greatest_cost: i64,
     // how many places were read, about, and how many may be
@@ -48,10 +46,11 @@ pub(crate) struct Search {
 impl Search {
     /// The search in a net, which may read all of it so many times. Only this takes memory.
     pub(crate) fn start(alloc: Global, net: &Net, readings: u32) -> Result<Search, NoMemory> {
+        let greatest_cost = greatest_cost(net);
         let count = net.node_count();
         let nodes = count as usize;
         let mut search = Search {
-            star: Star::start(alloc, net)?,
+            star: Star::start(alloc, net, greatest_cost)?,
             surpluses: copies(alloc, nodes, 0)?,
             currents: copies(alloc, nodes, 0)?,
             queue: Queue::start(alloc, nodes)?,
@@ -59,14 +58,13 @@ impl Search {
             marks: copies(alloc, nodes, Mark::Quiet)?,
             visits: copies(alloc, nodes, NO_VISIT)?,
             sorted: NOWHERE,
-            shift: 0,
-            greatest_cost: 0,
+            greatest_cost,
             work: 0,
             budget: u64::from(net.arc_count()).saturating_mul(2 * u64::from(readings)),
             relabels: 0,
             most_relabels: count / 5 * 2,
         };
-        search.greatest_cost = search
+        search
             .star
             .lay_out(net, &mut search.currents, &mut search.queue.nexts);
         search.queue.clear();
@@ -84,7 +82,7 @@ impl Search {
             if !is_refined && !self.run_phase() {
                 return false;
             }
-            if self.star.power < self.shift && self.finish_in_units() {
+            if self.star.power < self.star.shift && self.finish_in_units() {
                 return true;
             }
             if self.work > self.budget || !self.deepen() {
@@ -105,16 +103,16 @@ impl Search {
         self.work = self.work.wrapping_add(u64::from(degree)).wrapping_add(1);
     }
 
-    /// What the next arc of those that leave a node carries, in the order of the net.
-    pub(crate) fn next_amount(&mut self, node: u32) -> i64 {
+    /// The room that the next arc of those that leave a node has left, in the order of the net.
+    pub(crate) fn next_room(&mut self, node: u32) -> i64 {
         let place = count_up(&mut self.currents, node);
-        self.star.amount(place)
+        self.star.room(place)
     }
 
     // Seeks prices that are exact, at the costs as they are, from those of the phase rounded down. It may pay an eighth of what the search has paid
     // so far. With success each node begins with its first arc.
     fn finish_in_units(&mut self) -> bool {
-        let shift = self.shift;
+        let shift = self.star.shift;
         rescale(&mut self.star.prices, shift, shift);
         if !self.finish(self.work / 8) {
             return false;
@@ -127,11 +125,21 @@ impl Search {
     fn deepen(&mut self) -> bool {
         let more = FACTOR.saturating_sub(self.star.power);
         self.star.power = self.star.power.saturating_sub(FACTOR);
-        self.shift = self.shift.saturating_add(more);
-        self.star.enlarge_costs(more);
-        let most = LIMIT >> (self.shift % 64);
-        self.greatest_cost <= most && self.shift < 60 && rescale(&mut self.star.prices, 0, more)
+        self.star.shift = self.star.shift.saturating_add(more);
+        let shift = self.star.shift;
+        let most = LIMIT >> (shift % 64);
+        self.greatest_cost <= most && shift < 60 && rescale(&mut self.star.prices, 0, more)
     }
+}
+
+// The greatest size of a cost.
+fn greatest_cost(net: &Net) -> i64 {
+    let mut greatest = 0;
+    'arcs: for number in 0..net.arc_count() {
+        let cost = narrow(net.cost(ArcId::at(number)));
+        greatest = cost.max(cost.wrapping_neg()).max(greatest);
+    }
+    greatest
 }
 
 // Writes the supply of each node.

@@ -2,7 +2,7 @@
 
 use crate::columns::{at, put};
 use crate::search::Search;
-use crate::star::{FULL, LIMIT, Star};
+use crate::star::{EMPTY, FULL, LIMIT, Star};
 use crate::tables::Buckets;
 
 // An update stops when all but one in so many of the active nodes are reached.
@@ -105,11 +105,11 @@ pub(crate) fn spread(buckets: &mut Buckets, star: &Star, node: u32, greatest: u3
     let rank = i64::from(buckets.rank(node));
     'places: for i in star.first(node)..star.end(node) {
         let place = star.place(i);
-        let (is_open, least) = match way {
-            Way::Heads => (place.head < FULL, 0),
-            Way::Tails => (place.reverse < FULL, 1),
+        let (mark, least, sign) = match way {
+            Way::Heads => (FULL, 0, 1),
+            Way::Tails => (EMPTY, 1, -1),
         };
-        if !is_open {
+        if place.head & mark != 0 {
             continue;
         }
         let other = place.node();
@@ -117,14 +117,9 @@ pub(crate) fn spread(buckets: &mut Buckets, star: &Star, node: u32, greatest: u3
         if old >= greatest {
             continue;
         }
-        let along = place
-            .cost
-            .wrapping_add(price.wrapping_sub(star.price(other)));
-        let reduced = match way {
-            Way::Heads => along,
-            Way::Tails => along.wrapping_neg(),
-        };
-        let slacks = reduced >> (star.power % 64);
+        let fall = price.wrapping_sub(star.price(other));
+        let along = star.cost(i, place).wrapping_add(fall);
+        let slacks = along.wrapping_mul(sign) >> (star.power % 64);
         let new = rank.wrapping_sub(slacks).wrapping_sub(1);
         let new = u32::try_from(new).unwrap_or(0).min(greatest).max(least);
         if new > old {

@@ -1,4 +1,4 @@
-use Rattle.std.proofs.Common.{◌≡◌, ◌∙◌, ap, subst, sym, length}
+use Rattle.std.proofs.Common.{◌∙◌, ap, subst, sym}
 use Rattle.mcf_flows.specs.Network.{Network, node_count}
 use Rattle.mcf_engine.specs.Outcomes.{IsLeastState}
 use Rattle.mcf_augment.proofs.Judged.{least_judged, near_judged}
