@@ -1,0 +1,155 @@
+#!/usr/bin/env python3
+"""Builds the solver by plain `rustc`, without its contracts, in a quarter of a minute, to measure a change before it is proved.
+
+    bench/unproved/build.py PROGRAM [--of FOLDER] [--keep FOLDER] [-- FLAGS ..]
+    PROGRAM ENGINE FILE      solves the instance in FILE by an engine, and writes the answer, as `mcf solve --engine ENGINE --form 2 FILE`
+
+Contracts, ghost items and tactics are taken out of `mcf_solver` and the crates below it, and what is left is compiled as modules of one program
+over `kit.rs`, which stands for what of the kit's library differs from Rust's: what a crate newly uses of that is added there. `--of` names
+another checkout, to compare with, `--keep` a folder for what is compiled; flags are rustc's. Nothing is proved, and sums may wrap. The kit's compiler
+lays some structs out in another way, so that what decides between two forms is the proved program (`bench/run.py`).
+"""
+import argparse
+import pathlib
+import re
+import subprocess
+import sys
+import tempfile
+
+HERE = pathlib.Path(__file__).resolve().parent
+CHECKOUT = HERE.parents[1]
+# the crate that the program calls
+TOP = "mcf_solver"
+
+
+def tokens(text):
+    """Comments, strings, characters and all else, piece by piece: (kind, text)."""
+    shape = re.compile(r"""(?P<comment>//[^\n]*|/\*.*?\*/)|(?P<string>b?"(?:\\.|[^"\\])*"|b?'(?:\\.[^']*|[^'\\])')|(?P<word>[A-Za-z_][A-Za-z_0-9]*)|(?P<other>.)""", re.S)
+    for found in shape.finditer(text):
+        yield found.lastgroup, found.group()
+
+
+def closing(pieces, at):
+    """The place behind the bracket that closes the one at a place."""
+    depth = 0
+    while True:
+        kind, text = pieces[at]
+        if kind == "other":
+            depth += text in "([{"
+            depth -= text in ")]}"
+        at += 1
+        if depth == 0:
+            return at
+
+
+def next_solid(pieces, at):
+    """The place of the next piece that isn't blank."""
+    while at < len(pieces) and pieces[at][1].isspace():
+        at += 1
+    return at
+
+
+def lines_of(pieces):
+    """As many line ends as pieces have."""
+    return "\n" * sum(text.count("\n") for _, text in pieces)
+
+
+def strip(text):
+    """The same lines without comments, contracts and ghosts."""
+    pieces = [("other", "\n" * t.count("\n") or " ") if k == "comment" else (k, t) for k, t in tokens(text)]
+    made, at = [], 0
+    while at < len(pieces):
+        kind, piece = pieces[at]
+        start = at
+        if kind == "word" and piece in ("requires", "ensures"):
+            at = next_solid(pieces, at + 1)
+            if pieces[at][1] == "*":
+                at = next_solid(pieces, at + 1)
+            if pieces[at][0] == "word":
+                at = next_solid(pieces, at + 1)
+            at = closing(pieces, at)
+            made.append(lines_of(pieces[start:at]))
+            after = next_solid(pieces, at)
+            # a method of a trait without a body ends with its clauses
+            if pieces[after][1] not in ("{", ";", "requires", "ensures", ","):
+                made.append(";")
+        elif kind == "word" and piece == "prove" and pieces[at + 1][1] == "!":
+            at = closing(pieces, at + 2)
+            at = next_solid(pieces, at) + 1
+            made.append(lines_of(pieces[start:at]))
+        elif kind == "word" and piece == "ghost":
+            while pieces[at][1] not in (";", ","):
+                at = closing(pieces, at) if pieces[at][1] in "([{" else at + 1
+            at += 1
+            made.append(lines_of(pieces[start:at]))
+        else:
+            made.append(piece)
+            at += 1
+    return "".join(made)
+
+
+def translated(text, crate, crates):
+    """A module of a crate, as a module of the program."""
+    text = strip(text)
+    # a ghost field was public
+    text = re.sub(r"pub\s*(?=\n\s*\})", "", text)
+    text = re.sub(r"#!?\[tactic\([^\]]*\)\]", "", text)
+    text = re.sub(r"#\[error\([^\]]*\)\]", "", text)
+    text = re.sub(r"use std::marker::Model;|use thiserror::Error;", "", text)
+    text = re.sub(r"impl(<[^{>]*>)? Model for [^{]*\{\s*\}", lambda m: "\n" * m.group().count("\n"), text)
+    text = re.sub(r"#\[derive\(([^)]*)\)\]", lambda m: "#[derive(%s)]" % ", ".join(w for w in re.split(r",\s*", m.group(1)) if w not in ("Drop", "Error")), text)
+    text = re.sub(r"\.collect\(alloc\)", ".collect_in(alloc)", text)
+    text = re.sub(r"(?<![:\w])crate::", f"crate::{crate}::", text)
+    text = re.sub(r"(?<![:\w])(%s)::" % "|".join(crates), r"crate::\1::", text)
+    text = re.sub(r"(?<![:\w])(std|memchr|itoa)::", r"crate::kit::\1::", text)
+    return "use crate::kit::prelude::*; " + text
+
+
+def crates_below(checkout, top):
+    """The crates that one stands on, and itself, each after those below it."""
+    needs = {}
+    for line in (checkout / "crates.txt").read_text().splitlines():
+        name, _, rest = line.partition("#")[0].partition(":")
+        if name.strip():
+            needs[name.split()[0]] = rest.split()
+    found = []
+
+    def add(name):
+        if name in needs and name not in found:
+            for need in needs[name]:
+                add(need)
+            found.append(name)
+
+    add(top)
+    return found
+
+
+def generate(checkout, folder):
+    """Writes the sources of the program into a folder."""
+    crates = crates_below(checkout, TOP)
+    for crate in crates:
+        for source in (checkout / "crates" / crate / "src").rglob("*.rt"):
+            name = source.relative_to(checkout / "crates" / crate / "src").with_suffix(".rs")
+            path = folder / crate / ("mod.rs" if str(name) == "lib.rs" else name)
+            path.parent.mkdir(parents=True, exist_ok=True)
+            path.write_text(translated(source.read_text(), crate, crates))
+    (folder / "kit.rs").write_text((HERE / "kit.rs").read_text())
+    main = (HERE / "main.rs").read_text()
+    (folder / "main.rs").write_text(main + "".join(f"mod {crate};\n" for crate in crates))
+
+
+def main():
+    words = argparse.ArgumentParser(usage=__doc__.split("\n")[2].strip())
+    words.add_argument("program", type=pathlib.Path)
+    words.add_argument("--of", type=pathlib.Path, default=CHECKOUT)
+    words.add_argument("--keep", type=pathlib.Path)
+    at = sys.argv.index("--") if "--" in sys.argv else len(sys.argv)
+    given, flags = words.parse_args(sys.argv[1:at]), sys.argv[at + 1:]
+    with tempfile.TemporaryDirectory() as made:
+        folder = given.keep or pathlib.Path(made)
+        generate(given.of.resolve(), folder)
+        command = ["rustc", "--edition", "2021", "-O", "-C", "codegen-units=1", "-C", "panic=abort", "-A", "warnings", "-g"]
+        sys.exit(subprocess.run([*command, *flags, "-o", str(given.program), str(folder / "main.rs")]).returncode)
+
+
+main()

@@ -1,0 +1,301 @@
+// What of the kit's std differs from Rust's, as far as the crates use it.
+pub mod prelude {
+    pub use super::std::alloc::Global;
+    pub use super::{CollectIn, Drop, String, Vec};
+}
+
+pub trait Drop {}
+impl<T: ?Sized> Drop for T {}
+
+pub struct StdOut;
+impl ::std::io::Write for StdOut {
+    fn write(&mut self, piece: &[u8]) -> ::std::io::Result<usize> {
+        use ::std::os::fd::FromRawFd;
+        let mut file = ::std::mem::ManuallyDrop::new(unsafe { ::std::fs::File::from_raw_fd(1) });
+        file.write(piece)
+    }
+    fn flush(&mut self) -> ::std::io::Result<()> {
+        Ok(())
+    }
+}
+
+use self::std::alloc::{AllocError, AllocFailed, Global};
+use ::std::ops::{Deref, DerefMut, Index, IndexMut};
+use ::std::slice::SliceIndex;
+use ::std::vec::Vec as Rust;
+
+pub struct String(::std::string::String);
+impl String {
+    pub fn new() -> String {
+        String(::std::string::String::new())
+    }
+    pub fn as_str(&self) -> &str {
+        &self.0
+    }
+    pub fn as_bytes(&self) -> &[u8] {
+        self.0.as_bytes()
+    }
+}
+
+#[derive(Clone, Debug, PartialEq, Eq)]
+pub struct Vec<T>(pub Rust<T>);
+
+impl<T> Vec<T> {
+    pub fn new(_: Global) -> Vec<T> {
+        Vec(Rust::new())
+    }
+    pub fn with_capacity(_: Global, count: usize) -> Result<Vec<T>, AllocError> {
+        Ok(Vec(Rust::with_capacity(count)))
+    }
+    pub fn from_slice(_: Global, items: &[T]) -> Result<Vec<T>, AllocError>
+    where
+        T: Copy,
+    {
+        Ok(Vec(items.to_vec()))
+    }
+    pub fn push(&mut self, value: T) -> Result<(), AllocFailed<T>> {
+        self.0.push(value);
+        Ok(())
+    }
+    #[inline(always)]
+    pub fn push_reserved(&mut self, value: T) {
+        let len = self.0.len();
+        debug_assert!(len < self.0.capacity());
+        unsafe {
+            self.0.as_mut_ptr().add(len).write(value);
+            self.0.set_len(len + 1);
+        }
+    }
+    pub fn extend_from_slice(&mut self, items: &[T]) -> Result<(), AllocError>
+    where
+        T: Copy,
+    {
+        Ok(self.0.extend_from_slice(items))
+    }
+    pub fn resize(&mut self, count: usize, value: T) -> Result<(), AllocError>
+    where
+        T: Clone,
+    {
+        self.0.reserve_exact(count.saturating_sub(self.0.len()));
+        Ok(self.0.resize(count, value))
+    }
+    pub fn reserve(&mut self, more: usize) -> Result<(), AllocError> {
+        Ok(self.0.reserve(more))
+    }
+    pub fn reserve_exact(&mut self, more: usize) -> Result<(), AllocError> {
+        Ok(self.0.reserve_exact(more))
+    }
+    pub fn allocator(&self) -> &Global {
+        &Global
+    }
+    pub fn capacity(&self) -> usize {
+        self.0.capacity()
+    }
+    pub fn pop(&mut self) -> Option<T> {
+        self.0.pop()
+    }
+    pub fn truncate(&mut self, count: usize) {
+        self.0.truncate(count)
+    }
+    pub fn clear(&mut self) {
+        self.0.clear()
+    }
+    pub fn as_slice(&self) -> &[T] {
+        &self.0
+    }
+    pub fn as_mut_slice(&mut self) -> &mut [T] {
+        &mut self.0
+    }
+}
+
+impl<T> Deref for Vec<T> {
+    type Target = [T];
+    fn deref(&self) -> &[T] {
+        &self.0
+    }
+}
+impl<T> DerefMut for Vec<T> {
+    fn deref_mut(&mut self) -> &mut [T] {
+        &mut self.0
+    }
+}
+impl<T, I: SliceIndex<[T]>> Index<I> for Vec<T> {
+    type Output = I::Output;
+    #[inline(always)]
+    fn index(&self, at: I) -> &I::Output {
+        // each index was proved
+        unsafe { self.0.get_unchecked(at) }
+    }
+}
+impl<T, I: SliceIndex<[T]>> IndexMut<I> for Vec<T> {
+    #[inline(always)]
+    fn index_mut(&mut self, at: I) -> &mut I::Output {
+        unsafe { self.0.get_unchecked_mut(at) }
+    }
+}
+impl<T> IntoIterator for Vec<T> {
+    type Item = T;
+    type IntoIter = ::std::vec::IntoIter<T>;
+    fn into_iter(self) -> Self::IntoIter {
+        self.0.into_iter()
+    }
+}
+impl<'a, T> IntoIterator for &'a Vec<T> {
+    type Item = &'a T;
+    type IntoIter = ::std::slice::Iter<'a, T>;
+    fn into_iter(self) -> Self::IntoIter {
+        self.0.iter()
+    }
+}
+impl<'a, T> IntoIterator for &'a mut Vec<T> {
+    type Item = &'a mut T;
+    type IntoIter = ::std::slice::IterMut<'a, T>;
+    fn into_iter(self) -> Self::IntoIter {
+        self.0.iter_mut()
+    }
+}
+
+pub trait CollectIn: Iterator + Sized {
+    fn collect_in(self, _: Global) -> Result<Vec<Self::Item>, AllocError> {
+        Ok(Vec(self.collect()))
+    }
+}
+impl<I: Iterator> CollectIn for I {}
+
+pub mod memchr {
+    pub fn memchr(byte: u8, bytes: &[u8]) -> Option<usize> {
+        extern "C" {
+            fn memchr(bytes: *const u8, byte: i32, len: usize) -> *const u8;
+        }
+        let found = unsafe { memchr(bytes.as_ptr(), byte as i32, bytes.len()) };
+        if found.is_null() { None } else { Some(found as usize - bytes.as_ptr() as usize) }
+    }
+}
+
+pub mod itoa {
+    pub struct Buffer([u8; 40]);
+    impl Buffer {
+        pub fn new() -> Buffer {
+            Buffer([0; 40])
+        }
+        pub fn format(&mut self, number: i128) -> &str {
+            let mut at = 40;
+            let mut size = number.unsigned_abs();
+            while size > u64::MAX as u128 {
+                at -= 1;
+                self.0[at] = b'0' + (size % 10) as u8;
+                size /= 10;
+            }
+            let mut size = size as u64;
+            loop {
+                at -= 1;
+                self.0[at] = b'0' + (size % 10) as u8;
+                size /= 10;
+                if size == 0 {
+                    break;
+                }
+            }
+            if number < 0 {
+                at -= 1;
+                self.0[at] = b'-';
+            }
+            unsafe { ::std::str::from_utf8_unchecked(&self.0[at..]) }
+        }
+    }
+}
+
+pub mod std {
+    pub use ::std::{cmp, io, mem};
+    pub mod alloc {
+        #[derive(Clone, Copy, Debug)]
+        pub struct Global;
+        #[derive(Clone, Copy, Debug)]
+        pub struct AllocError;
+        #[derive(Clone, Copy, Debug)]
+        pub struct AllocFailed<T> {
+            pub value: T,
+        }
+    }
+    pub mod error {
+        pub trait Error {}
+    }
+    pub mod convert {
+        pub trait AsStr {
+            fn as_str(&self) -> &str;
+        }
+    }
+    pub mod fmt {
+        pub use ::std::fmt::{Debug, Result, Write};
+        pub struct Formatter<'a, W: Write>(&'a mut W);
+        impl<'a, W: Write> Formatter<'a, W> {
+            pub fn write_str(&mut self, text: &str) -> Result {
+                self.0.write_str(text)
+            }
+            pub fn write_fmt(&mut self, text: ::std::fmt::Arguments<'_>) -> Result {
+                self.0.write_fmt(text)
+            }
+        }
+        pub trait Display {
+            fn fmt<W: Write>(&self, f: &mut Formatter<W>) -> Result;
+        }
+    }
+    pub mod collections {
+        use super::alloc::{AllocError, AllocFailed, Global};
+        use ::std::collections as rust;
+        pub struct VecDeque<T>(rust::VecDeque<T>);
+        impl<T> VecDeque<T> {
+            pub fn new(_: Global) -> VecDeque<T> {
+                VecDeque(rust::VecDeque::new())
+            }
+            pub fn with_capacity(_: Global, count: usize) -> Result<VecDeque<T>, AllocError> {
+                Ok(VecDeque(rust::VecDeque::with_capacity(count)))
+            }
+            pub fn push_back(&mut self, value: T) -> Result<(), AllocFailed<T>> {
+                Ok(self.0.push_back(value))
+            }
+            pub fn push_back_reserved(&mut self, value: T) {
+                self.0.push_back(value)
+            }
+        }
+        impl<T> ::std::ops::Deref for VecDeque<T> {
+            type Target = rust::VecDeque<T>;
+            fn deref(&self) -> &rust::VecDeque<T> {
+                &self.0
+            }
+        }
+        impl<T> ::std::ops::DerefMut for VecDeque<T> {
+            fn deref_mut(&mut self) -> &mut rust::VecDeque<T> {
+                &mut self.0
+            }
+        }
+        pub struct BinaryHeap<T>(rust::BinaryHeap<T>);
+        impl<T: Ord> BinaryHeap<T> {
+            pub fn new(_: Global) -> BinaryHeap<T> {
+                BinaryHeap(rust::BinaryHeap::new())
+            }
+            pub fn with_capacity(_: Global, count: usize) -> Result<BinaryHeap<T>, AllocError> {
+                Ok(BinaryHeap(rust::BinaryHeap::with_capacity(count)))
+            }
+            pub fn reserve(&mut self, more: usize) -> Result<(), AllocError> {
+                Ok(self.0.reserve(more))
+            }
+            pub fn push(&mut self, value: T) -> Result<(), AllocFailed<T>> {
+                Ok(self.0.push(value))
+            }
+            pub fn push_reserved(&mut self, value: T) {
+                self.0.push(value)
+            }
+        }
+        impl<T> ::std::ops::Deref for BinaryHeap<T> {
+            type Target = rust::BinaryHeap<T>;
+            fn deref(&self) -> &rust::BinaryHeap<T> {
+                &self.0
+            }
+        }
+        impl<T> ::std::ops::DerefMut for BinaryHeap<T> {
+            fn deref_mut(&mut self) -> &mut rust::BinaryHeap<T> {
+                &mut self.0
+            }
+        }
+    }
+}
