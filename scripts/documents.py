@@ -458,7 +458,7 @@ class Page:
     def types(self, part, *more):
         """The types of the code that a part's definitions name, and these, but for the codes of faults and for constants."""
         earlier = list(PARTS)[:list(PARTS).index(part)]
-        known = {kind for other in earlier for kind in self.specs.types(other)} | {("mcf_instance", "code.Code")}
+        known = {kind for other in earlier for kind in self.specs.types(other)} | {("mcf_flows", "code.Code")}
         kinds = [kind for kind in self.specs.types(part) if kind not in known and kind[0] in crates() and not kind[1].endswith("TheConstants")]
         return fence("rust", "\n\n".join(type_text(*kind) for kind in kinds + [tuple(m.split("/")) for m in more]))
 
@@ -469,9 +469,9 @@ class Page:
 
     def codes(self):
         """The codes of faults with their words and what they say."""
-        text = self.specs.definitions["mcf_instance", "Fault", "code_word"].text
+        text = self.specs.definitions["mcf_flows", "Codes", "code_word"].text
         spelled = dict(re.findall(r'^code_word (\w+) = codes "(.*)"', text, re.M))
-        cases = re.findall(r"    /// (.*)\n    (\w+),", type_text("mcf_instance", "code.Code"))
+        cases = re.findall(r"    /// (.*)\n    (\w+),", type_text("mcf_flows", "code.Code"))
         rows = [row(f"`{case}`", f"`{spelled[case]}`", note) for note, case in cases]
         return "\n".join([row("Code", "Word", "What is wrong"), row("---", "---", "---")] + rows)
 

@@ -31,7 +31,7 @@ use Rattle.mcf_answer.proofs.LinesRead.{answer_or, outcome}
 use Rattle.mcf_answer.proofs.SaidLemmas.{cost_said-line, member_said-line, moved_said-line, price_said-line, refusal_said-line, sent_said-line, set_said-line}
 use Rattle.mcf_answer.proofs.SaidLemmas.{version_said-line}
 use Rattle.mcf_answer.proofs.Simulation.{outcome-parsing, run-rows, run_rows}
-use Rattle.mcf_instance.specs.Fault.{Fault}
+use Rattle.mcf_flows.specs.Codes.{Fault}
 use Rattle.mcf_flows.specs.Limits.{node_limit, line_limit}
 use Rattle.mcf_flows.specs.declared.problem.Side.{Side}
 use Rattle.mcf_text.specs.Lines.{numbered_lines}

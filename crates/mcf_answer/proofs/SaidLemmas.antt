@@ -10,12 +10,12 @@ use Rattle.mcf_answer.specs.SparseSolution.{IsMoved}
 use Rattle.mcf_answer.specs.Spelling.{cost_line, flow_line, member_line, moved_line, price_line, refusal_line, set_line, side_word, version_line}
 use Rattle.mcf_answer.specs.Token.{Token, Word, Number, is_word}
 use Rattle.mcf_answer.specs.declared.answers.Sent.{Sent}
-use Rattle.mcf_instance.specs.Fault.{Fault, code_word}
+use Rattle.mcf_flows.specs.Codes.{Fault, code_word}
 use Rattle.mcf_flows.specs.Limits.{node_limit, arc_limit, line_limit}
-use Rattle.mcf_instance.specs.declared.code.Code.{Code}
+use Rattle.mcf_flows.specs.declared.code.Code.{Code}
 use Rattle.mcf_flows.specs.declared.problem.Side.{Side}
 use Rattle.mcf_flows.specs.declared.problem.Side.TheVariants.{Send, Take}
-use Rattle.mcf_instance.proofs.Words.{code_of_word-known, code_of_word-code_word}
+use Rattle.mcf_flows.proofs.CodeWords.{code_of_word-known, code_of_word-code_word}
 use Rattle.mcf_text.specs.Row.{natural}
 use Rattle.mcf_text.specs.Whole.{is_within}
 

@@ -9,7 +9,7 @@ use Rattle.mcf_answer.specs.Token.{token_lines}
 use Rattle.mcf_answer.specs.Written.{written}
 use Rattle.mcf_answer.specs.declared.answers.Answer.{Answer}
 use Rattle.mcf_answer.specs.declared.answers.Answer.TheVariants.{Flow, Sparse, Blocked, Refused}
-use Rattle.mcf_instance.specs.declared.code.Code.TheVariants.{LateN}
+use Rattle.mcf_flows.specs.declared.code.Code.TheVariants.{LateN}
 use Rattle.mcf_flows.specs.declared.problem.Side.TheVariants.{Send, Take}
 
 -- the lines, each with its end

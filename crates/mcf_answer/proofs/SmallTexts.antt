@@ -6,7 +6,7 @@ use Rattle.mcf_answer.specs.Said.{cost_said, version_said, sent_said, moved_said
 use Rattle.mcf_answer.specs.declared.answers.Answer.{Answer}
 use Rattle.mcf_answer.specs.declared.answers.Answer.TheVariants.{Flow, Sparse, Refused}
 use Rattle.mcf_answer.specs.declared.shape.Shape.{Shape}
-use Rattle.mcf_instance.specs.declared.code.Code.TheVariants.{LateN}
+use Rattle.mcf_flows.specs.declared.code.Code.TheVariants.{LateN}
 
 -- what a text of these lines stands for, each with its end
 abbrev parsed : List (List ℕ) → Result Answer Shape

@@ -36,7 +36,7 @@ use Rattle.mcf_answer.proofs.LinesRead.{answer_or, outcome}
 use Rattle.mcf_answer.proofs.SaidLemmas.{cost_said-some, map-some, member_said-some, moved_said-some, price_said-some, refusal_said-some, sent_said-some}
 use Rattle.mcf_answer.proofs.SaidLemmas.{set_said-some, version_said-some}
 use Rattle.mcf_answer.proofs.Simulation.{outcome-parsing, run-rows, run_rows}
-use Rattle.mcf_instance.specs.Fault.{Fault}
+use Rattle.mcf_flows.specs.Codes.{Fault}
 use Rattle.mcf_flows.specs.Limits.{line_limit}
 use Rattle.mcf_flows.specs.declared.problem.Side.{Side}
 use Rattle.mcf_text.specs.Lines.{numbered_lines}

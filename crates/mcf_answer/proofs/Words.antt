@@ -8,9 +8,9 @@ use Rattle.std.proofs.lemmas.List.Sums.{AllPass-from_list_all}
 use Rattle.std.proofs.lemmas.Option.{get_or_from_slice_get, slice_get_within}
 use Rattle.mcf_answer.specs.Said.{code_of}
 use Rattle.mcf_answer.specs.Token.{Token, Word, token_of}
-use Rattle.mcf_instance.specs.Fault.{all_codes, code_of_word, code_word}
-use Rattle.mcf_instance.specs.declared.code.Code.{Code}
-use Rattle.mcf_instance.proofs.Words.{code_of_word-known, code_of_word-code_word}
+use Rattle.mcf_flows.specs.Codes.{all_codes, code_of_word, code_word}
+use Rattle.mcf_flows.specs.declared.code.Code.{Code}
+use Rattle.mcf_flows.proofs.CodeWords.{code_of_word-known, code_of_word-code_word}
 use Rattle.mcf_text.specs.Fields.{is_blank}
 use Rattle.mcf_text.specs.Whole.{is_whole, whole_value}
 

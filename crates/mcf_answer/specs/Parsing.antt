@@ -9,8 +9,8 @@ use Rattle.mcf_answer.specs.Token.{Token, token_lines, tokens}
 use Rattle.mcf_answer.specs.declared.answers.Answer.{Answer}
 use Rattle.mcf_answer.specs.declared.answers.Answer.TheVariants.{Flow, Sparse, Blocked, Refused}
 use Rattle.mcf_answer.specs.declared.shape.Shape.{Shape}
-use Rattle.mcf_instance.specs.Fault.{Fault}
-use Rattle.mcf_instance.specs.declared.code.Code.TheVariants.{Kind}
+use Rattle.mcf_flows.specs.Codes.{Fault}
+use Rattle.mcf_flows.specs.declared.code.Code.TheVariants.{Kind}
 use Rattle.mcf_text.specs.Row.{rows}
 
 -- what stands for a refusal where there is none

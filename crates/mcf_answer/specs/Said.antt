@@ -6,9 +6,9 @@ use Rattle.mcf_answer.specs.Ranges.{amount_limit}
 use Rattle.mcf_answer.specs.Spelling.{side_word}
 use Rattle.mcf_answer.specs.Token.{Token, Word, Number, is_word}
 use Rattle.mcf_answer.specs.declared.answers.Sent.{Sent}
-use Rattle.mcf_instance.specs.Fault.{Fault, code_of_word}
+use Rattle.mcf_flows.specs.Codes.{Fault, code_of_word}
 use Rattle.mcf_flows.specs.Limits.{node_limit, arc_limit, line_limit}
-use Rattle.mcf_instance.specs.declared.code.Code.{Code}
+use Rattle.mcf_flows.specs.declared.code.Code.{Code}
 use Rattle.mcf_flows.specs.declared.problem.Side.{Side}
 use Rattle.mcf_flows.specs.declared.problem.Side.TheVariants.{Send, Take}
 use Rattle.mcf_text.specs.Row.{natural}

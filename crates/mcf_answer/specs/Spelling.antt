@@ -9,7 +9,7 @@ use Rattle.mcf_answer.specs.Token.{Token, Word, Number, token_lines}
 use Rattle.mcf_answer.specs.declared.answers.Answer.{Answer}
 use Rattle.mcf_answer.specs.declared.answers.Answer.TheVariants.{Flow, Sparse, Blocked, Refused}
 use Rattle.mcf_answer.specs.declared.answers.Sent.{Sent}
-use Rattle.mcf_instance.specs.Fault.{Fault, code_word}
+use Rattle.mcf_flows.specs.Codes.{Fault, code_word}
 use Rattle.mcf_flows.specs.Limits.{line_limit}
 use Rattle.mcf_flows.specs.declared.problem.Side.{Side}
 use Rattle.mcf_flows.specs.declared.problem.Side.TheVariants.{Send, Take}

@@ -1,6 +1,6 @@
 //! The kinds of answers, and the two forms of a flow.
 use crate::lists::{MovedList, NodeList, PriceList, SentList};
-use mcf_instance::{Refusal, Side};
+use mcf_flows::{Refusal, Side};
 use mcf_text::NodeId;
 use std::marker::Model;
 

@@ -4,7 +4,7 @@ use crate::line::{
     cost_line, flow_line, member_line, moved_line, price_line, refusal_line, set_line, version_line,
 };
 use crate::lists::{MovedList, NodeList, PriceList, SentList};
-use mcf_instance::{Refusal, Side};
+use mcf_flows::{Refusal, Side};
 use mcf_text::{ArcId, NoMemory, NodeId};
 use std::alloc::Global;
 use std::marker::Model;

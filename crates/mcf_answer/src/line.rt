@@ -10,7 +10,7 @@ ghost use Rattle.mcf_text.specs.Whole.{is_whole};
 ghost use Rattle.mcf_flows.specs.Limits.{line_limit};
 
 use crate::answers::Sent;
-use mcf_instance::{Code, Refusal, Side};
+use mcf_flows::{Code, Refusal, Side};
 use mcf_text::{ArcId, NodeId, Whole, fields, whole};
 
 // How far from 0 a cost, a flow and a price may lie, and the greatest number of a line: 10^37.

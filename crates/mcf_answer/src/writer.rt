@@ -12,7 +12,7 @@ ghost use Rattle.mcf_answer.specs.Token.{Word, Number};
 ghost use Rattle.mcf_answer.specs.Written.{line_text, written};
 
 use crate::answers::{Answer, BlockedAnswer, FlowAnswer, Sent, SparseAnswer};
-use mcf_instance::{Refusal, Side};
+use mcf_flows::{Refusal, Side};
 use mcf_text::{ArcId, NoMemory, NodeId, put_number};
 
 /// Appends the text of an answer: fields with one blank between them, numbers in decimal without a plus

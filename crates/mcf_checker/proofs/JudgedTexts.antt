@@ -6,7 +6,7 @@ use Rattle.mcf_answer.specs.Said.{version_said, cost_said, sent_said, moved_said
 use Rattle.mcf_checker.specs.Judging.{flow_verdict, judged, set_verdict, solution_verdict, sparse_verdict, verdict}
 use Rattle.mcf_checker.specs.declared.verdict.Verdict.TheVariants.{BadShape, BadKind, BadRefusal, Refused as RefusalAccepted, BadArc, BadNode, BadPrice}
 use Rattle.mcf_checker.specs.declared.verdict.Verdict.TheVariants.{BadCost, Flow as FlowAccepted, BadSet, Blocked as SetAccepted}
-use Rattle.mcf_instance.specs.declared.code.Code.TheVariants.{LateN}
+use Rattle.mcf_flows.specs.declared.code.Code.TheVariants.{LateN}
 use Rattle.mcf_instance.specs.Fault.{fault_at_end, fault_of_line, faults, first_fault, first_fault_of_lines, total_of}
 use Rattle.mcf_instance.specs.Reading.{instance_of_lines, reading}
 

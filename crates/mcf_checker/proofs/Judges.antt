@@ -30,15 +30,15 @@ use Rattle.mcf_checker.proofs.Solutions.{IsRightSolution-from_accepts, accepts-f
 use Rattle.mcf_checker.proofs.SparseFlows.{IsRightSparse-from_accepts, accepts-from_IsRightSparse}
 use Rattle.mcf_flows.specs.Blocking.{in_list}
 use Rattle.mcf_flows.specs.Flow.{IsLeast, cost}
-use Rattle.mcf_instance.specs.Fault.{Fault, code_word}
+use Rattle.mcf_flows.specs.Codes.{Fault, code_word}
 use Rattle.mcf_flows.specs.Limits.{limits}
 use Rattle.mcf_flows.specs.Network.{Network}
 use Rattle.mcf_instance.specs.Reading.{reading}
 use Rattle.mcf_flows.specs.WellFormed.{IsWellFormed}
-use Rattle.mcf_instance.specs.declared.code.Code.{Code}
+use Rattle.mcf_flows.specs.declared.code.Code.{Code}
 use Rattle.mcf_flows.proofs.Duality.{shown_flows_are_least_lem}
 use Rattle.mcf_flows.proofs.Hoffman.{blocked_has_no_flow_lem}
-use Rattle.mcf_instance.proofs.Words.{code_of_word-known}
+use Rattle.mcf_flows.proofs.CodeWords.{code_of_word-known}
 
 -- ---- refusals
 

@@ -11,11 +11,12 @@ use Rattle.std.proofs.lemmas.List.Elements.{All-cons}
 use Rattle.std.proofs.lemmas.List.Folds.{find-append}
 use Rattle.std.proofs.lemmas.Option.{none-some}
 use Rattle.mcf_flows.specs.declared.arc.Arc.{Arc}
-use Rattle.mcf_instance.specs.declared.code.Code.{Code}
-use Rattle.mcf_instance.specs.declared.code.Code.TheVariants.{BeforeP, Order}
+use Rattle.mcf_flows.specs.declared.code.Code.{Code}
+use Rattle.mcf_flows.specs.declared.code.Code.TheVariants.{BeforeP, Order}
 use Rattle.mcf_flows.specs.declared.problem.Problem.{Problem}
 use Rattle.mcf_flows.specs.declared.problem.Problem.TheVariants.{Min, Asn}
-use Rattle.mcf_instance.specs.Fault.{Fault, as_fault, fault_at_end, fault_of_line, faults, first_fault, first_fault_of_lines, has_p, header}
+use Rattle.mcf_instance.specs.Fault.{as_fault, fault_at_end, fault_of_line, faults, first_fault, first_fault_of_lines, has_p, header}
+use Rattle.mcf_flows.specs.Codes.{Fault}
 use Rattle.mcf_instance.specs.Fault.{header_of, is_a, is_min}
 use Rattle.mcf_instance.specs.Fault.{is_p, no_header, of_min}
 use Rattle.mcf_flows.specs.Limits.{limits}

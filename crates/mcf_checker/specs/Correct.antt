@@ -12,7 +12,7 @@ use Rattle.mcf_answer.specs.declared.answers.Answer.TheVariants.{Flow, Sparse, B
 use Rattle.mcf_answer.specs.declared.answers.Sent.{Sent}
 use Rattle.mcf_flows.specs.Blocking.{Blocks, in_list}
 use Rattle.mcf_flows.specs.declared.arc.Arc.{Arc}
-use Rattle.mcf_instance.specs.Fault.{Fault}
+use Rattle.mcf_flows.specs.Codes.{Fault}
 use Rattle.mcf_flows.specs.Flow.{IsFeasible, IsLeast, Shows, cost}
 use Rattle.mcf_flows.specs.Limits.{limits}
 use Rattle.mcf_flows.specs.Network.{Network, node_count}

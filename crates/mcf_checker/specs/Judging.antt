@@ -18,7 +18,7 @@ use Rattle.mcf_checker.specs.declared.verdict.Verdict.{Verdict}
 use Rattle.mcf_checker.specs.declared.verdict.Verdict.TheVariants.{BadShape, BadKind, BadRefusal, Refused as RefusalAccepted, BadArc, BadNode, BadPrice}
 use Rattle.mcf_checker.specs.declared.verdict.Verdict.TheVariants.{BadCost, Flow as FlowAccepted, BadSet, Blocked as SetAccepted}
 use Rattle.mcf_flows.specs.Blocking.{can_send, can_take, in_list, must_send, must_take}
-use Rattle.mcf_instance.specs.Fault.{Fault, code_word}
+use Rattle.mcf_flows.specs.Codes.{Fault, code_word}
 use Rattle.mcf_flows.specs.Flow.{cost, net, reduced_cost}
 use Rattle.mcf_flows.specs.Limits.{limits}
 use Rattle.mcf_flows.specs.Network.{Network, at_node, node_count}

@@ -5,7 +5,7 @@ use Rattle.std.specs.Fmt.{decimal, signed_decimal}
 use Rattle.mcf_checker.specs.declared.verdict.Verdict.{Verdict}
 use Rattle.mcf_checker.specs.declared.verdict.Verdict.TheVariants.{BadShape, BadKind, BadRefusal, Refused, BadArc, BadNode, BadPrice, BadCost, Flow, BadSet}
 use Rattle.mcf_checker.specs.declared.verdict.Verdict.TheVariants.{Blocked}
-use Rattle.mcf_instance.specs.Fault.{code_word}
+use Rattle.mcf_flows.specs.Codes.{code_word}
 
 -- whether the answer is accepted or rejected, and as what, or why; numbers as in answers
 abbrev pub printed : Verdict → List ℕ

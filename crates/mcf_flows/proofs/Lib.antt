@@ -1,6 +1,7 @@
 pub mod AllZips
 pub mod ArcSums
 pub mod Bounds
+pub mod CodeWords
 pub mod Comparing
 pub mod Duality
 pub mod Hoffman

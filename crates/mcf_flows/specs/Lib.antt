@@ -1,5 +1,6 @@
 pub mod Assignment
 pub mod Blocking
+pub mod Codes
 pub mod Flow
 pub mod Laws
 pub mod Limits

@@ -3,18 +3,23 @@
 //! The vocabulary of flows: networks, flows, prices and node sets, and instances as they are stored.
 //!
 //! It stands on `mcf_text`. Definitions stand in `specs/`: `Network`, `Flow`, `Blocking`, `Assignment` and `Laws` say what networks,
-//! flows, prices and node sets are, `Limits` and `WellFormed` what every instance keeps, and `Packed` what is stored.
+//! flows, prices and node sets are, `Limits` and `WellFormed` what every instance keeps, `Packed` what is stored, and `Codes` what can
+//! be wrong with a text.
 
 mod arc;
 mod arc_table;
 mod blocking;
+mod code;
 mod instances;
 mod laws;
 mod problem;
+mod refusal;
 
 pub use arc::{Arc, PackedArc};
 pub use arc_table::ArcTable;
 pub use blocking::{blocks, table_of};
+pub use code::Code;
 pub use instances::Instance;
 pub use laws::{blocked_has_no_flow, shown_flows_are_least};
 pub use problem::{Problem, Side};
+pub use refusal::Refusal;

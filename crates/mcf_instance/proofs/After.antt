@@ -3,10 +3,11 @@ use Rattle.std.proofs.Common.{◌≡◌, ℕ, zero, suc, Bool, true, false, not,
 use Rattle.std.specs.Prelude.{Option, find, codes, ◌≢◌}
 use Rattle.std.specs.List.{list_all}
 use Rattle.std.proofs.lemmas.Slice.Eq.{bytes_eq-Decides}
-use Rattle.mcf_instance.specs.declared.code.Code.{Code}
-use Rattle.mcf_instance.specs.declared.code.Code.TheVariants.{Kind, Fields, Number, SecondP, BeforeP, Node, Twice}
+use Rattle.mcf_flows.specs.declared.code.Code.{Code}
+use Rattle.mcf_flows.specs.declared.code.Code.TheVariants.{Kind, Fields, Number, SecondP, BeforeP, Node, Twice}
 use Rattle.mcf_text.specs.Row.{Row, node, number, field}
-use Rattle.mcf_instance.specs.Fault.{is_p, is_n, is_a, has_p, header, header_of, is_listed, is_node_number, node_places, fault_of_line, applies, table}
+use Rattle.mcf_instance.specs.Fault.{is_p, is_n, is_a, has_p, header, header_of, is_listed, is_node_number, node_places, fault_of_line, applies}
+use Rattle.mcf_flows.specs.Codes.{table}
 use Rattle.mcf_instance.specs.Fault.{has_field_count, has_numbers, is_counted, of_min}
 use Rattle.mcf_flows.specs.Limits.{Limits, limits}
 use Rattle.mcf_instance.specs.Reading.{arc_of}

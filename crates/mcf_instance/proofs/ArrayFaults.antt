@@ -16,8 +16,8 @@ use Rattle.mcf_flows.specs.declared.arc.PackedArc.{PackedArc}
 use Rattle.mcf_instance.specs.declared.arrays.ArrayFault.{ArrayFault}
 use Rattle.mcf_instance.specs.declared.arrays.ArrayFault.TheVariants.{Size, Supply as FaultySupply, Arc as FaultyArc}
 use Rattle.mcf_instance.specs.declared.arrays.RawPair.{RawPair}
-use Rattle.mcf_instance.specs.declared.code.Code.{Code}
-use Rattle.mcf_instance.specs.declared.code.Code.TheVariants.{Bound, Order, Cost, Side, Total}
+use Rattle.mcf_flows.specs.declared.code.Code.{Code}
+use Rattle.mcf_flows.specs.declared.code.Code.TheVariants.{Bound, Order, Cost, Side, Total}
 use Rattle.mcf_flows.specs.declared.problem.Problem.{Problem as Format}
 use Rattle.mcf_flows.specs.declared.problem.Problem.TheVariants.{Min, Asn}
 use Rattle.mcf_instance.specs.declared.reader.line.ArcNumbers.{ArcNumbers}

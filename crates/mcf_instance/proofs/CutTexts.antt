@@ -2,10 +2,11 @@
 -- evaluated on the definitions.
 use Rattle.std.specs.Prelude.{◌≡◌, ℕ, List, [], ◌∷◌, codes, map, take, replicate, pos, negsuc, None, Some, Ok, Option, refl}
 use Rattle.std.specs.List.{range_with_len}
-use Rattle.mcf_instance.specs.declared.code.Code.{Code}
-use Rattle.mcf_instance.specs.declared.code.Code.TheVariants.{Fields, Missing, NoP, Number}
+use Rattle.mcf_flows.specs.declared.code.Code.{Code}
+use Rattle.mcf_flows.specs.declared.code.Code.TheVariants.{Fields, Missing, NoP, Number}
 use Rattle.mcf_flows.specs.declared.problem.Problem.TheVariants.{Min}
-use Rattle.mcf_instance.specs.Fault.{Fault, fault_at_end, fault_of_line, faults, first_fault, first_fault_of_lines, total_of}
+use Rattle.mcf_instance.specs.Fault.{fault_at_end, fault_of_line, faults, first_fault, first_fault_of_lines, total_of}
+use Rattle.mcf_flows.specs.Codes.{Fault}
 use Rattle.mcf_flows.specs.Limits.{limits}
 use Rattle.mcf_instance.specs.Reading.{instance_of_lines, reading}
 

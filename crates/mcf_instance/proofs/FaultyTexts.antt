@@ -1,9 +1,10 @@
 -- Small texts with a fault, evaluated on the definitions.
 use Rattle.std.specs.Prelude.{◌≡◌, ℕ, List, [], ◌∷◌, ◌++◌, flat_map, codes, None, Some, Option, refl}
-use Rattle.mcf_instance.specs.declared.code.Code.{Code}
-use Rattle.mcf_instance.specs.declared.code.Code.TheVariants.{BeforeP, Bound, Cost, Extra, Fields, Kind, LateN, Missing, NoP, Node, Number, Order, Problem}
-use Rattle.mcf_instance.specs.declared.code.Code.TheVariants.{SecondP, Side, Size, Supply, Twice}
-use Rattle.mcf_instance.specs.Fault.{Fault, fault_at_end, fault_of_line, faults, first_fault, first_fault_of_lines, total_of}
+use Rattle.mcf_flows.specs.declared.code.Code.{Code}
+use Rattle.mcf_flows.specs.declared.code.Code.TheVariants.{BeforeP, Bound, Cost, Extra, Fields, Kind, LateN, Missing, NoP, Node, Number, Order, Problem}
+use Rattle.mcf_flows.specs.declared.code.Code.TheVariants.{SecondP, Side, Size, Supply, Twice}
+use Rattle.mcf_instance.specs.Fault.{fault_at_end, fault_of_line, faults, first_fault, first_fault_of_lines, total_of}
+use Rattle.mcf_flows.specs.Codes.{Fault}
 use Rattle.mcf_flows.specs.Limits.{limits}
 
 -- the lines, each with its end

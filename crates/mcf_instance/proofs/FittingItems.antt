@@ -4,8 +4,8 @@ use Rattle.std.specs.Prelude.{Option, Result, ℤ, pos, ◌≤ℤ◌, bytes_eq, 
 use Rattle.std.proofs.lemmas.Int.{ints}
 use Rattle.std.proofs.lemmas.Result.{IfOk-at_ok}
 use Rattle.mcf_flows.specs.declared.arc.PackedArc.{PackedArc}
-use Rattle.mcf_instance.specs.declared.code.Code.{Code}
-use Rattle.mcf_instance.specs.declared.code.Code.TheVariants.{Fields}
+use Rattle.mcf_flows.specs.declared.code.Code.{Code}
+use Rattle.mcf_flows.specs.declared.code.Code.TheVariants.{Fields}
 use Rattle.mcf_flows.specs.declared.problem.Problem.{Problem as Format}
 use Rattle.mcf_flows.specs.declared.problem.Problem.TheVariants.{Min, Asn}
 use Rattle.mcf_instance.specs.declared.reader.line.ArcNumbers.{ArcNumbers}

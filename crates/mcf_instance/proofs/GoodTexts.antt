@@ -1,7 +1,8 @@
 -- Worked instances without a fault, evaluated on the definitions.
 use Rattle.std.specs.Prelude.{◌≡◌, ℕ, List, [], ◌∷◌, ◌++◌, flat_map, codes, pos, negsuc, Ok, Result, refl}
 use Rattle.mcf_flows.specs.declared.problem.Problem.TheVariants.{Min, Asn}
-use Rattle.mcf_instance.specs.Fault.{Fault, fault_at_end, fault_of_line, faults, first_fault, first_fault_of_lines, total_of}
+use Rattle.mcf_instance.specs.Fault.{fault_at_end, fault_of_line, faults, first_fault, first_fault_of_lines, total_of}
+use Rattle.mcf_flows.specs.Codes.{Fault}
 use Rattle.mcf_flows.specs.Limits.{limits}
 use Rattle.mcf_flows.specs.Network.{Network}
 use Rattle.mcf_instance.specs.Reading.{instance_of_lines, reading}

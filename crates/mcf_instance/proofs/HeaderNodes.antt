@@ -1,7 +1,8 @@
 -- An instance has as many nodes as the first problem line of its text names.
 use Rattle.std.proofs.Common.{◌≡◌, ◌≤◌, ◌∙◌, Option, Some, None, Ok, List, ℕ, ap, refl, subst, sym}
 use Rattle.std.proofs.lemmas.List.FromFn.{length-map-range_with_len}
-use Rattle.mcf_instance.specs.Fault.{Fault, first_fault, header}
+use Rattle.mcf_instance.specs.Fault.{first_fault, header}
+use Rattle.mcf_flows.specs.Codes.{Fault}
 use Rattle.mcf_flows.specs.Limits.{limits}
 use Rattle.mcf_instance.specs.Memory.{NamesNodes}
 use Rattle.mcf_flows.specs.Network.{Network, node_count}

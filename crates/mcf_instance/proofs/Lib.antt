@@ -26,4 +26,3 @@ pub mod TakenArcs
 pub mod Totals
 pub mod WiderLimits
 pub mod WholeTexts
-pub mod Words

@@ -1,8 +1,8 @@
 -- What a line says, past the test of its number of fields and the reading of its numbers.
 use Rattle.std.proofs.Common.{◌≡◌, ℕ, ◌+◌, Bool, true, false, not, cond, ◌&&◌, List, [], length, refl, ap, ◌∙◌, Some, None, Ok, Err}
 use Rattle.std.specs.Prelude.{Option, Result, ℤ, pos, neg_ℤ, int_lt, nat_le, slice_index_or}
-use Rattle.mcf_instance.specs.declared.code.Code.{Code}
-use Rattle.mcf_instance.specs.declared.code.Code.TheVariants.{Bound, Order, Cost, Extra, Number}
+use Rattle.mcf_flows.specs.declared.code.Code.{Code}
+use Rattle.mcf_flows.specs.declared.code.Code.TheVariants.{Bound, Order, Cost, Extra, Number}
 use Rattle.mcf_text.specs.Whole.{is_whole, whole_of, whole_value}
 use Rattle.mcf_text.specs.declared.number.Whole.{Whole}
 use Rattle.mcf_text.specs.declared.number.Whole.TheVariants.{Value, NotWhole, OutOfRange}

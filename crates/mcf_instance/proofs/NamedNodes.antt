@@ -8,7 +8,7 @@ use Rattle.std.proofs.lemmas.List.{append_assoc}
 use Rattle.std.proofs.lemmas.List.Elements.{All-weaker}
 use Rattle.std.proofs.lemmas.List.Folds.{find-append}
 use Rattle.std.proofs.lemmas.List.FromFn.{length-enumerate_from}
-use Rattle.mcf_instance.specs.declared.code.Code.{Code}
+use Rattle.mcf_flows.specs.declared.code.Code.{Code}
 use Rattle.mcf_instance.specs.declared.reader.line.Item.{Item}
 use Rattle.mcf_instance.specs.declared.reader.line.Item.TheVariants.{Problem, Supply, Link}
 use Rattle.mcf_instance.specs.Fault.{as_fault, fault_of_line, faults, first_fault, has_p, header, header_of, is_p, no_header}

@@ -3,7 +3,7 @@ use Rattle.std.proofs.Common.{◌≡◌, ℕ, ◌+◌, true, false, List, [], �
 use Rattle.std.specs.Prelude.{Bool, IsTrue, Option, is_some, not}
 use Rattle.std.specs.List.{enumerate_from}
 use Rattle.std.proofs.lemmas.Bool.{both_ways}
-use Rattle.mcf_instance.specs.Fault.{Fault}
+use Rattle.mcf_flows.specs.Codes.{Fault}
 use Rattle.mcf_flows.specs.Limits.{limits}
 use Rattle.mcf_instance.specs.Memory.{NamesNodes}
 use Rattle.mcf_instance.specs.Reading.{reading}

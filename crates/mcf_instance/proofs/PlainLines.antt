@@ -22,7 +22,7 @@ use Rattle.mcf_text.proofs.LinesLemmas.{lines_of-at}
 use Rattle.mcf_text.proofs.LeadingLemmas.{begins_with_digits, begins_with_minus, ends_at_blank, ends_at_end}
 use Rattle.mcf_text.proofs.WholeLemmas.{model}
 use Rattle.mcf_flows.specs.declared.arc.PackedArc.{PackedArc}
-use Rattle.mcf_instance.specs.declared.code.Code.{Code}
+use Rattle.mcf_flows.specs.declared.code.Code.{Code}
 use Rattle.mcf_flows.specs.declared.problem.Problem.TheVariants.{Min, Asn}
 use Rattle.mcf_instance.specs.declared.reader.line.Header.{Header}
 use Rattle.mcf_instance.specs.declared.reader.plain.PlainArc.{PlainArc}

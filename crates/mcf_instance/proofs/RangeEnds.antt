@@ -1,9 +1,10 @@
 -- Neighbouring faults of the table at one line, and the ends of the ranges, evaluated on the definitions.
 use Rattle.std.specs.Prelude.{◌≡◌, ℕ, List, [], ◌∷◌, ◌++◌, flat_map, codes, map, None, Some, Option, refl, replicate}
-use Rattle.mcf_instance.specs.declared.code.Code.{Code}
-use Rattle.mcf_instance.specs.declared.code.Code.TheVariants.{BeforeP, Bound, Cost, Extra, Fields, Kind, LateN, Missing, NoP, Node, Number, Order, Problem}
-use Rattle.mcf_instance.specs.declared.code.Code.TheVariants.{SecondP, Side, Size, Supply, Total, Twice}
-use Rattle.mcf_instance.specs.Fault.{Fault, fault_at_end, fault_of_line, faults, first_fault, first_fault_of_lines, total_of}
+use Rattle.mcf_flows.specs.declared.code.Code.{Code}
+use Rattle.mcf_flows.specs.declared.code.Code.TheVariants.{BeforeP, Bound, Cost, Extra, Fields, Kind, LateN, Missing, NoP, Node, Number, Order, Problem}
+use Rattle.mcf_flows.specs.declared.code.Code.TheVariants.{SecondP, Side, Size, Supply, Total, Twice}
+use Rattle.mcf_instance.specs.Fault.{fault_at_end, fault_of_line, faults, first_fault, first_fault_of_lines, total_of}
+use Rattle.mcf_flows.specs.Codes.{Fault}
 use Rattle.mcf_flows.specs.Limits.{Limits, limits}
 
 -- the first fault of a text of these lines, each with its end

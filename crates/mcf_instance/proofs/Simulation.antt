@@ -4,9 +4,10 @@ use Rattle.std.specs.Prelude.{Option, Result, option_map, slice_get, is_some}
 use Rattle.std.specs.List.{cons_option}
 use Rattle.std.specs.Option.{option_or}
 use Rattle.std.proofs.lemmas.List.Elements.{filter_map-append}
-use Rattle.mcf_instance.specs.declared.code.Code.{Code}
+use Rattle.mcf_flows.specs.declared.code.Code.{Code}
 use Rattle.mcf_text.specs.Row.{Row}
-use Rattle.mcf_instance.specs.Fault.{Fault, as_fault, fault_at_end, fault_of_line, faults, first_fault_of_lines, has_p, header, arc_lines, total_of}
+use Rattle.mcf_instance.specs.Fault.{as_fault, fault_at_end, fault_of_line, faults, first_fault_of_lines, has_p, header, arc_lines, total_of}
+use Rattle.mcf_flows.specs.Codes.{Fault}
 use Rattle.mcf_flows.specs.Limits.{Limits, limits}
 use Rattle.mcf_instance.specs.Reading.{instance_of_lines, reading_of}
 use Rattle.mcf_instance.specs.ReadOn.{header_seen, Holds, Stands, StateData}

@@ -6,7 +6,8 @@ use Rattle.std.specs.Option.{option_or}
 use Rattle.std.proofs.lemmas.List.{append-nil, append_assoc, length_push, map-append}
 use Rattle.std.proofs.lemmas.List.FromFn.{length-enumerate_from}
 use Rattle.std.proofs.lemmas.List.Elements.{filter-append}
-use Rattle.mcf_instance.specs.Fault.{Fault, as_fault, faults, first_fault, first_fault_of_lines}
+use Rattle.mcf_instance.specs.Fault.{as_fault, faults, first_fault, first_fault_of_lines}
+use Rattle.mcf_flows.specs.Codes.{Fault}
 use Rattle.mcf_flows.specs.Limits.{Limits, limits}
 use Rattle.mcf_instance.specs.Reading.{instance_of_lines, reading, reading_of}
 use Rattle.mcf_instance.specs.ReadOn.{StateData, Stands, kept_rows, HasRead}

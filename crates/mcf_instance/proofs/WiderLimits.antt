@@ -9,13 +9,15 @@ use Rattle.std.proofs.lemmas.Bool.{and_from, and_parts, false_from_ne_true, leb-
 use Rattle.std.proofs.lemmas.Int.{ints}
 use Rattle.std.proofs.lemmas.List.{append-nil, append_assoc, length_push}
 use Rattle.std.proofs.lemmas.List.Elements.{filter-append}
-use Rattle.mcf_instance.specs.declared.code.Code.{Code}
-use Rattle.mcf_instance.specs.declared.code.Code.TheVariants.{Kind, Fields, Problem, Number, SecondP, BeforeP, Size, Node, LateN, Twice, Supply, Bound, Order}
-use Rattle.mcf_instance.specs.declared.code.Code.TheVariants.{Cost, Extra, Side, Total, NoP, Missing}
-use Rattle.mcf_instance.specs.Fault.{Fault, applies, arc_lines, as_fault, cost_place, fault_at_end, fault_of_line, faults, first_fault, first_fault_of_lines}
+use Rattle.mcf_flows.specs.declared.code.Code.{Code}
+use Rattle.mcf_flows.specs.declared.code.Code.TheVariants.{Kind, Fields, Problem, Number, SecondP, BeforeP, Size, Node, LateN, Twice, Supply, Bound, Order}
+use Rattle.mcf_flows.specs.declared.code.Code.TheVariants.{Cost, Extra, Side, Total, NoP, Missing}
+use Rattle.mcf_instance.specs.Fault.{applies, arc_lines, as_fault, cost_place, fault_at_end, fault_of_line, faults, first_fault, first_fault_of_lines}
+use Rattle.mcf_flows.specs.Codes.{Fault}
 use Rattle.mcf_instance.specs.Fault.{has_field_count, has_numbers, has_p, header, header_of, is_a, is_counted, is_good_header, is_n, is_p, is_up_to}
 use Rattle.mcf_instance.specs.Fault.{line_weight}
-use Rattle.mcf_instance.specs.Fault.{no_header, of_min, passes, size_fits, table, total_of}
+use Rattle.mcf_instance.specs.Fault.{no_header, of_min, passes, size_fits, total_of}
+use Rattle.mcf_flows.specs.Codes.{table}
 use Rattle.mcf_instance.specs.Laws.{FormerInstancesStay}
 use Rattle.mcf_flows.specs.Limits.{arc_limit, former_limits, limits, node_limit}
 use Rattle.mcf_instance.specs.Reading.{reading}

@@ -9,8 +9,8 @@ use Rattle.mcf_instance.specs.declared.arrays.ArrayFault.{ArrayFault}
 use Rattle.mcf_instance.specs.declared.arrays.ArrayFault.TheVariants.{Size, Supply as FaultySupply, Arc as FaultyArc}
 use Rattle.mcf_instance.specs.declared.arrays.RawArc.{RawArc}
 use Rattle.mcf_instance.specs.declared.arrays.RawPair.{RawPair}
-use Rattle.mcf_instance.specs.declared.code.Code.{Code}
-use Rattle.mcf_instance.specs.declared.code.Code.TheVariants.{Node, Bound, Order, Cost, Side, Total}
+use Rattle.mcf_flows.specs.declared.code.Code.{Code}
+use Rattle.mcf_flows.specs.declared.code.Code.TheVariants.{Node, Bound, Order, Cost, Side, Total}
 use Rattle.mcf_flows.specs.declared.problem.Problem.TheVariants.{Min, Asn}
 use Rattle.mcf_instance.specs.Fault.{is_min, is_up_to, passes}
 use Rattle.mcf_flows.specs.Limits.{Limits, node_limit, arc_limit}

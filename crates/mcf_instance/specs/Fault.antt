@@ -4,20 +4,16 @@ use Rattle.std.specs.Prelude.{ℕ, ◌==◌, nat_le, nat_lt, Bool, true, false, 
 use Rattle.std.specs.Prelude.{find, bytes_eq, codes, drop, ℤ, pos, neg_ℤ, int_lt, Option, Some, None, option_map, slice_get, ◌*◌, max, sum, unsigned_abs}
 use Rattle.std.specs.List.{list_all, list_any}
 use Rattle.std.specs.Option.{option_or, option_map_or}
-use Rattle.mcf_instance.specs.declared.code.Code.{Code}
-use Rattle.mcf_instance.specs.declared.code.Code.TheVariants.{Kind, Fields, Problem, Number, SecondP, BeforeP, Size, Node, LateN, Twice, Supply, Bound, Order}
-use Rattle.mcf_instance.specs.declared.code.Code.TheVariants.{Cost, Extra, Side, Total, NoP, Missing}
+use Rattle.mcf_flows.specs.declared.code.Code.{Code}
+use Rattle.mcf_flows.specs.declared.code.Code.TheVariants.{Kind, Fields, Problem, Number, SecondP, BeforeP, Size, Node, LateN, Twice, Supply, Bound, Order}
+use Rattle.mcf_flows.specs.declared.code.Code.TheVariants.{Cost, Extra, Side, Total, NoP, Missing}
+use Rattle.mcf_flows.specs.Codes.{Fault, table}
 use Rattle.mcf_flows.specs.declared.problem.Problem.{Problem as Format}
 use Rattle.mcf_flows.specs.declared.problem.Problem.TheVariants.{Min, Asn}
 use Rattle.mcf_instance.specs.declared.reader.line.Header.{Header}
 use Rattle.mcf_flows.specs.Limits.{Limits, node_limit, arc_limit}
 use Rattle.mcf_text.specs.Row.{Row, rows, field, begins, number, natural, node, with_earlier, line_after}
 use Rattle.mcf_text.specs.Whole.{is_whole, is_within}
-
--- a fault: the number of the line, and what is wrong there
-pub record Fault : Type 0 where
-  pub line : ℕ
-  pub code : Code
 
 -- ---- the kinds of lines
 
@@ -184,10 +180,6 @@ applies allowed Total earlier row = is_a row && of_min earlier && passes allowed
 applies allowed NoP earlier row = false
 applies allowed Missing earlier row = false
 
--- the faults of a line, in the order in which they are looked for
-abbrev pub table : List Code
-table = Kind ∷ Fields ∷ Problem ∷ Number ∷ SecondP ∷ BeforeP ∷ Size ∷ Node ∷ LateN ∷ Twice ∷ Supply ∷ Bound ∷ Order ∷ Cost ∷ Extra ∷ Side ∷ Total ∷ []
-
 -- the fault of a line: the first of the table that applies
 unfoldable pub fault_of_line : Limits → List Row → Row → Option Code
 fault_of_line allowed earlier row = find (λ code. applies allowed code earlier row) table
@@ -215,35 +207,3 @@ first_fault_of_lines allowed after lines =
 -- the first fault of a text; that of the whole stands at the line after the last
 unfoldable pub first_fault : Limits → List ℕ → Option Fault
 first_fault allowed text = first_fault_of_lines allowed (line_after text) (rows text)
-
--- ---- words
-
--- the word of a code
-abbrev pub code_word : Code → List ℕ
-code_word Kind = codes "kind"
-code_word Fields = codes "fields"
-code_word Problem = codes "problem"
-code_word Number = codes "number"
-code_word SecondP = codes "second-p"
-code_word BeforeP = codes "before-p"
-code_word Size = codes "size"
-code_word Node = codes "node"
-code_word LateN = codes "late-n"
-code_word Twice = codes "twice"
-code_word Supply = codes "supply"
-code_word Bound = codes "bound"
-code_word Order = codes "order"
-code_word Cost = codes "cost"
-code_word Extra = codes "extra"
-code_word Side = codes "side"
-code_word Total = codes "total"
-code_word NoP = codes "no-p"
-code_word Missing = codes "missing"
-
--- the nineteen codes
-abbrev pub all_codes : List Code
-all_codes = table ++ NoP ∷ Missing ∷ []
-
--- the code with this word
-abbrev pub code_of_word : List ℕ → Option Code
-code_of_word word = find (λ code. bytes_eq (code_word code) word) all_codes

@@ -1,5 +1,6 @@
 pub use Rattle.mcf_flows.specs.Assignment
 pub use Rattle.mcf_flows.specs.Blocking
+pub use Rattle.mcf_flows.specs.Codes
 pub use Rattle.mcf_flows.specs.Flow
 pub use Rattle.mcf_flows.specs.Laws as FlowLaws
 pub use Rattle.mcf_flows.specs.Limits

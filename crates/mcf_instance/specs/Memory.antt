@@ -1,7 +1,8 @@
 -- Where reading a text takes memory.
 -- Source: own
 use Rattle.std.specs.Prelude.{◌≡◌, ℕ, ◌≤◌, ◌<◌, List, find, Some}
-use Rattle.mcf_instance.specs.Fault.{Fault, first_fault, header, is_p}
+use Rattle.mcf_instance.specs.Fault.{first_fault, header, is_p}
+use Rattle.mcf_flows.specs.Codes.{Fault}
 use Rattle.mcf_flows.specs.Limits.{Limits}
 use Rattle.mcf_text.specs.Row.{Row, rows}
 

@@ -4,7 +4,8 @@ use Rattle.std.specs.Prelude.{◌≡◌, ℕ, ◌+◌, if◌then◌else◌, Bool
 use Rattle.std.specs.List.{range_with_len}
 use Rattle.mcf_flows.specs.declared.arc.PackedArc.{PackedArc}
 use Rattle.mcf_instance.specs.declared.reader.line.Header.{Header}
-use Rattle.mcf_instance.specs.Fault.{Fault, arc_lines, faults, has_p, header, is_listed, of_min, total_of}
+use Rattle.mcf_instance.specs.Fault.{arc_lines, faults, has_p, header, is_listed, of_min, total_of}
+use Rattle.mcf_flows.specs.Codes.{Fault}
 use Rattle.mcf_flows.specs.Limits.{Limits}
 use Rattle.mcf_flows.specs.Packed.{unpacked}
 use Rattle.mcf_instance.specs.Reading.{arc_of, reading, supply_of}

@@ -6,7 +6,8 @@ use Rattle.std.specs.Option.{option_map_or}
 use Rattle.mcf_flows.specs.declared.arc.Arc.{Arc}
 use Rattle.mcf_flows.specs.declared.problem.Problem.{Problem}
 use Rattle.mcf_flows.specs.declared.problem.Problem.TheVariants.{Min, Asn}
-use Rattle.mcf_instance.specs.Fault.{Fault, arc_lines, first_fault, header, is_listed, is_n}
+use Rattle.mcf_instance.specs.Fault.{arc_lines, first_fault, header, is_listed, is_n}
+use Rattle.mcf_flows.specs.Codes.{Fault}
 use Rattle.mcf_flows.specs.Limits.{Limits}
 use Rattle.mcf_flows.specs.Network.{Network}
 use Rattle.mcf_text.specs.Row.{Row, rows, number, node}

@@ -6,10 +6,9 @@ ghost use Rattle.mcf_flows.specs.Network.{Network};
 ghost use Rattle.mcf_instance.specs.Private.ArrayStates.{HoldsArcs, TookArcs, numbers_of};
 ghost use Rattle.mcf_flows.specs.WellFormed.{IsWellFormed};
 
-use crate::code::Code;
 use crate::reader::line::{ArcNumbers, Header, SUPPLY_LIMIT, is_up_to};
 use crate::reader::state::State;
-use mcf_flows::{Instance, Problem};
+use mcf_flows::{Code, Instance, Problem};
 use mcf_text::{ArcId, NoMemory, NodeId, copies};
 use std::alloc::Global;
 

@@ -6,16 +6,13 @@
 //! say what a text stands for, `Arrays` what arrays stand for.
 
 mod arrays;
-mod code;
 mod laws;
 mod reader;
-mod refusal;
 
 pub use arrays::{ArrayFault, RawArc, RawPair, assignment_problem, flow_problem};
-pub use code::Code;
 pub use laws::former_instances_stay;
 pub use mcf_flows::{
-    Arc, Instance, Problem, Side, blocked_has_no_flow, blocks, shown_flows_are_least, table_of,
+    Arc, Code, Instance, Problem, Refusal, Side, blocked_has_no_flow, blocks,
+    shown_flows_are_least, table_of,
 };
 pub use reader::{Reader, read};
-pub use refusal::Refusal;

@@ -13,8 +13,7 @@ pub(crate) mod state;
 
 use crate::reader::lines::{read_line, take_arcs};
 use crate::reader::state::State;
-use crate::refusal::Refusal;
-use mcf_flows::Instance;
+use mcf_flows::{Instance, Refusal};
 use mcf_text::{NoMemory, split_line};
 pub use pieces::Reader;
 use std::alloc::Global;

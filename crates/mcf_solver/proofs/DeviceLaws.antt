@@ -4,7 +4,7 @@ use Rattle.std.proofs.Common.{append-nil, append_assoc, length-append, arith, â—
 use Rattle.std.proofs.Math.Seq.{take-add}
 use Rattle.std.proofs.lemmas.List.{take-append-drop, take_rest}
 use Rattle.std.specs.Io.KnownBytes.{Appends, Consumes, IsAtEnd, Keeps}
-use Rattle.mcf_instance.specs.Fault.{Fault}
+use Rattle.mcf_flows.specs.Codes.{Fault}
 use Rattle.mcf_flows.specs.Limits.{limits}
 use Rattle.mcf_flows.specs.Network.{Network}
 use Rattle.mcf_instance.specs.Reading.{reading}

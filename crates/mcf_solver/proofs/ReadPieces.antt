@@ -8,7 +8,7 @@ use Rattle.mcf_answer.specs.declared.answers.Answer.{Answer}
 use Rattle.mcf_answer.specs.declared.answers.Answer.TheVariants.{Flow, Sparse, Blocked, Refused}
 use Rattle.mcf_checker.specs.Correct.{IsCorrect, IsRight}
 use Rattle.mcf_checker.specs.Laws.{CorrectAnswersAreAccepted}
-use Rattle.mcf_instance.specs.Fault.{Fault}
+use Rattle.mcf_flows.specs.Codes.{Fault}
 use Rattle.mcf_instance.specs.Feeding.{ReaderData, StandsFor}
 use Rattle.mcf_flows.specs.Limits.{limits}
 use Rattle.mcf_flows.specs.Network.{Network}

@@ -13,7 +13,8 @@ use Rattle.mcf_checker.specs.Correct.{IsCorrect, IsRightSet, IsRightSolution, Is
 use Rattle.mcf_checker.specs.Judging.{accepts, verdict}
 use Rattle.mcf_feas.specs.Chosen.{IsChosen}
 use Rattle.mcf_flows.specs.Blocking.{in_list}
-use Rattle.mcf_instance.specs.Fault.{Fault, header}
+use Rattle.mcf_instance.specs.Fault.{header}
+use Rattle.mcf_flows.specs.Codes.{Fault}
 use Rattle.mcf_flows.specs.Flow.{IsFeasible, IsLeast}
 use Rattle.mcf_flows.specs.Limits.{limits}
 use Rattle.mcf_flows.specs.Network.{Network}

@@ -7,7 +7,7 @@ use Rattle.mcf_answer.specs.declared.answers.Answer.{Answer}
 use Rattle.mcf_answer.specs.declared.answers.Answer.TheVariants.{Flow, Sparse, Blocked, Refused}
 use Rattle.mcf_checker.specs.Correct.{spread}
 use Rattle.mcf_flows.specs.declared.arc.Arc.{Arc}
-use Rattle.mcf_instance.specs.Fault.{Fault}
+use Rattle.mcf_flows.specs.Codes.{Fault}
 use Rattle.mcf_flows.specs.Network.{Network}
 use Rattle.mcf_solver.specs.declared.choice.Form.{Form}
 use Rattle.mcf_solver.specs.declared.choice.Form.TheVariants.{One, Two}

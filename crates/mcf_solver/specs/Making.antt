@@ -5,7 +5,7 @@ use Rattle.mcf_answer.specs.declared.answers.Answer.{Answer}
 use Rattle.mcf_checker.specs.Correct.{flow_given}
 use Rattle.mcf_assign.specs.Runs.{IsMatchedByRows}
 use Rattle.mcf_basis.specs.Structures.{TreeStructure}
-use Rattle.mcf_instance.specs.Fault.{Fault}
+use Rattle.mcf_flows.specs.Codes.{Fault}
 use Rattle.mcf_flows.specs.Network.{Network}
 use Rattle.mcf_flows.specs.declared.problem.Problem.{Problem}
 use Rattle.mcf_flows.specs.declared.problem.Problem.TheVariants.{Min, Asn}

@@ -2,7 +2,7 @@
 -- Source: own
 use Rattle.std.specs.Prelude.{◌≡◌, ◌++◌, ◌^◌, ◌<◌, ◌≤◌, ℕ, List, length, Option, Result, IfSome, codes}
 use Rattle.std.specs.Io.KnownBytes.{Appends}
-use Rattle.mcf_instance.specs.Fault.{Fault}
+use Rattle.mcf_flows.specs.Codes.{Fault}
 use Rattle.mcf_flows.specs.Limits.{limits}
 use Rattle.mcf_flows.specs.Network.{Network}
 use Rattle.mcf_instance.specs.Reading.{reading}

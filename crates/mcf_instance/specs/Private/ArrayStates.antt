@@ -4,7 +4,7 @@ use Rattle.std.specs.List.{All}
 use Rattle.mcf_flows.specs.declared.arc.Arc.{Arc}
 use Rattle.mcf_flows.specs.declared.arc.PackedArc.{PackedArc}
 use Rattle.mcf_instance.specs.declared.arrays.ArrayFault.{ArrayFault}
-use Rattle.mcf_instance.specs.declared.code.Code.{Code}
+use Rattle.mcf_flows.specs.declared.code.Code.{Code}
 use Rattle.mcf_instance.specs.declared.reader.line.ArcNumbers.{ArcNumbers}
 use Rattle.mcf_instance.specs.declared.reader.line.Header.{Header}
 use Rattle.mcf_instance.specs.declared.reader.line.Item.TheVariants.{Link}

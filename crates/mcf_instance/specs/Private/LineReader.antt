@@ -2,9 +2,9 @@
 use Rattle.std.specs.Prelude.{ℕ, ◌+◌, ◌^◌, ◌==◌, nat_le, nat_lt, Bool, not, ◌&&◌, ◌||◌, if◌then◌else◌, List, [], length, bytes_eq, codes, slice_index_or, ℤ}
 use Rattle.std.specs.Prelude.{pos, int_lt, Option, Some, None, Result, Ok, Err}
 use Rattle.mcf_flows.specs.declared.arc.PackedArc.{PackedArc}
-use Rattle.mcf_instance.specs.declared.code.Code.{Code}
-use Rattle.mcf_instance.specs.declared.code.Code.TheVariants.{Fields, Problem, Number, SecondP, BeforeP, Size, Node, LateN, Twice, Supply, Bound, Order, Cost}
-use Rattle.mcf_instance.specs.declared.code.Code.TheVariants.{Extra, Side, Total}
+use Rattle.mcf_flows.specs.declared.code.Code.{Code}
+use Rattle.mcf_flows.specs.declared.code.Code.TheVariants.{Fields, Problem, Number, SecondP, BeforeP, Size, Node, LateN, Twice, Supply, Bound, Order, Cost}
+use Rattle.mcf_flows.specs.declared.code.Code.TheVariants.{Extra, Side, Total}
 use Rattle.mcf_flows.specs.declared.problem.Problem.{Problem as Format}
 use Rattle.mcf_flows.specs.declared.problem.Problem.TheVariants.{Min, Asn}
 use Rattle.mcf_instance.specs.declared.reader.line.Header.{Header}

@@ -9,8 +9,7 @@ ghost use Rattle.mcf_instance.specs.Private.LineReader.{arc_tests, arc_line};
 ghost use Rattle.mcf_text.specs.Row.{natural};
 ghost use Rattle.mcf_text.specs.Whole.{is_within};
 
-use crate::code::Code;
-use mcf_flows::{PackedArc, Problem};
+use mcf_flows::{Code, PackedArc, Problem};
 use mcf_text::{Whole, whole};
 
 // How many nodes and arcs there may be.

@@ -8,8 +8,7 @@ ghost use Rattle.mcf_text.specs.Feed.{byte_limit};
 
 use crate::reader::lines::{read_line, take_arcs};
 use crate::reader::state::State;
-use crate::refusal::Refusal;
-use mcf_flows::Instance;
+use mcf_flows::{Instance, Refusal};
 use mcf_text::{FeedFault, LineFeed, NoMemory};
 use std::alloc::Global;
 use std::marker::Model;

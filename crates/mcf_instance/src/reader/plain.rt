@@ -6,9 +6,8 @@ ghost use Rattle.mcf_flows.specs.Limits.{total_limit};
 ghost use Rattle.mcf_instance.specs.Private.PlainLines.{BeginsArc, BlankAt, EndsLine, HasDigits, HasField, HasLastField, SaysArc};
 ghost use Rattle.mcf_text.specs.Fields.{is_blank};
 
-use crate::code::Code;
 use crate::reader::line::{ArcNumbers, Header, arc_tests};
-use mcf_flows::{PackedArc, Problem};
+use mcf_flows::{Code, PackedArc, Problem};
 use mcf_text::leading_digits;
 
 // A number, and a place behind it.

@@ -12,14 +12,12 @@ ghost use Rattle.mcf_flows.specs.WellFormed.{IsWellFormed};
 ghost use Rattle.mcf_text.specs.Fields.{fields_of, is_kept};
 ghost use Rattle.mcf_text.specs.Row.{Row, row_of};
 
-use crate::code::Code;
 use crate::reader::fields::first_fields;
 use crate::reader::line::{
     ArcNumbers, Header, Item, arc_line, arc_tests, is_word, node_line, problem_line,
 };
 use crate::reader::plain::{PlainArc, plain_arc};
-use crate::refusal::Refusal;
-use mcf_flows::{ArcTable, Instance, PackedArc, Problem};
+use mcf_flows::{ArcTable, Code, Instance, PackedArc, Problem, Refusal};
 use mcf_text::{NoMemory, copies};
 use std::alloc::Global;
 use std::marker::Model;

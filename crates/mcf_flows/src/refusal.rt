@@ -11,7 +11,7 @@ pub struct Refusal {
 
 impl Model for Refusal {
     ghost use Rattle.std.specs.Prelude.{◌≤◌};
-    ghost use Rattle.mcf_instance.specs.Fault.{Fault};
+    ghost use Rattle.mcf_flows.specs.Codes.{Fault};
     ghost use Rattle.mcf_flows.specs.Limits.{line_limit};
 
     ghost Value = { Fault };

@@ -2,10 +2,10 @@
 use Rattle.std.proofs.Common.{◌≡◌, ℕ, Bool, true, false, cond, List, [], ◌∷◌, refl, sym, ◌∙◌, ap, Some}
 use Rattle.std.specs.Prelude.{◌↔◌, find, bytes_eq}
 use Rattle.std.proofs.lemmas.Slice.Eq.{bytes_eq-Decides}
-use Rattle.mcf_instance.specs.declared.code.Code.{Code}
-use Rattle.mcf_instance.specs.declared.code.Code.TheVariants.{Kind, Fields, Problem, Number, SecondP, BeforeP, Size, Node, LateN, Twice, Supply, Bound, Order}
-use Rattle.mcf_instance.specs.declared.code.Code.TheVariants.{Cost, Extra, Side, Total, NoP, Missing}
-use Rattle.mcf_instance.specs.Fault.{all_codes, code_of_word, code_word}
+use Rattle.mcf_flows.specs.declared.code.Code.{Code}
+use Rattle.mcf_flows.specs.declared.code.Code.TheVariants.{Kind, Fields, Problem, Number, SecondP, BeforeP, Size, Node, LateN, Twice, Supply, Bound, Order}
+use Rattle.mcf_flows.specs.declared.code.Code.TheVariants.{Cost, Extra, Side, Total, NoP, Missing}
+use Rattle.mcf_flows.specs.Codes.{all_codes, code_of_word, code_word}
 
 -- the code of its own word
 pub code_of_word-code_word : (code : Code) → code_of_word (code_word code) ≡ Some code

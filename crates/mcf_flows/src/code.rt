@@ -46,7 +46,7 @@ pub enum Code {
 
 impl Code {
     ghost use Rattle.std.specs.Prelude.{◌≡◌, ◌↔◌, Some, bytes_eq};
-    ghost use Rattle.mcf_instance.specs.Fault.{code_of_word, code_word};
+    ghost use Rattle.mcf_flows.specs.Codes.{code_of_word, code_word};
 
     /// The word of the code in refusals. No two codes share one.
     pub fn word(self) -> &'static str
