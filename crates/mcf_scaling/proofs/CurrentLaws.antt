@@ -14,8 +14,8 @@ use Rattle.mcf_network.specs.States.{Pseudoflow, IsPseudoflow, pushed, room_of, 
 use Rattle.mcf_network.proofs.ArcLaws.{head_is_node, tail_is_node}
 use Rattle.mcf_network.proofs.Lists.{Contains-cons}
 use Rattle.mcf_network.proofs.StateLaws.{rid}
-use Rattle.mcf_scaling.specs.Private.Currents.{AreCurrent, AreFirsts, current_of, rest_from, rest_of}
-use Rattle.mcf_scaling.specs.Private.Places.{Star, IsStarOf, span_of}
+use Rattle.mcf_scaling.specs.Private.CurrentArcs.{AreCurrentArcs, AreFirsts, current_of, rest_from, rest_of}
+use Rattle.mcf_scaling.specs.Private.Stars.{Star, IsStarOf, span_of}
 use Rattle.mcf_scaling.specs.Optimality.{IsAdmissible, IsFilled, scaled_reduced}
 use Rattle.std.specs.Int.{int_min}
 use Rattle.std.specs.Option.{IfNone}
@@ -42,24 +42,24 @@ looked_on s prices first rest more r e shut passed q inside =
 
 -- ---- the table: one entry written
 
-current_set : (currents : List ℕ) (v u new : ℕ) → IsNode (length currents) v → IsNode (length currents) u
-    → ((u ≡ v) × (current_of (set currents (v - 1) new) u ≡ new)) ⊎ ((u ≢ v) × (current_of (set currents (v - 1) new) u ≡ current_of currents u))
-current_set currents v u new h q =
+current_set : (current_arcs : List ℕ) (v u new : ℕ) → IsNode (length current_arcs) v → IsNode (length current_arcs) u
+    → ((u ≡ v) × (current_of (set current_arcs (v - 1) new) u ≡ new)) ⊎ ((u ≢ v) × (current_of (set current_arcs (v - 1) new) u ≡ current_of current_arcs u))
+current_set current_arcs v u new h q =
     elim (cases_eq u v) [
-      | inl e ↦ inl (e, ap (λ i. get_or (set currents (v - 1) new) (i - 1) 0) e ∙ get_or-set_same currents (v - 1) new 0 (omega arith))
-      | inr n ↦ inr (n, get_or-set_other currents (v - 1) (u - 1) new 0 (let apart : u - 1 ≢ v - 1 = omega (arith, h, q, n) in apart))
+      | inl e ↦ inl (e, ap (λ i. get_or (set current_arcs (v - 1) new) (i - 1) 0) e ∙ get_or-set_same current_arcs (v - 1) new 0 (omega arith))
+      | inr n ↦ inr (n, get_or-set_other current_arcs (v - 1) (u - 1) new 0 (let apart : u - 1 ≢ v - 1 = omega (arith, h, q, n) in apart))
     ]
 
 -- a look at the residual arcs of one node
-pub looked_current : (s : Pseudoflow) (prices : List ℤ) (star : Star) (currents : List ℕ) (v new : ℕ) → AreCurrent s prices star currents
+pub looked_current : (s : Pseudoflow) (prices : List ℤ) (star : Star) (current_arcs : List ℕ) (v new : ℕ) → AreCurrentArcs s prices star current_arcs
     → IsNode (node_count s.net) v → new ≤ (span_of star v).end → All (Leaves s.net v) (rest_from star v new)
-    → ((q : Rid) → Contains (rest_of star currents v) q → (¬ IsAdmissible s prices q) ⊎ Contains (rest_from star v new) q)
-    → AreCurrent s prices star (set currents (v - 1) new)
-looked_current s prices star currents v new ok h within leave passed =
-    let inside : IsNode (length currents) v = (h.0, omega (arith, h, ok.count)) in
-    let at = λ (u : ℕ) (q : IsNode (node_count s.net) u). current_set currents v u new inside (q.0, omega (arith, q, ok.count)) in
+    → ((q : Rid) → Contains (rest_of star current_arcs v) q → (¬ IsAdmissible s prices q) ⊎ Contains (rest_from star v new) q)
+    → AreCurrentArcs s prices star (set current_arcs (v - 1) new)
+looked_current s prices star current_arcs v new ok h within leave passed =
+    let inside : IsNode (length current_arcs) v = (h.0, omega (arith, h, ok.count)) in
+    let at = λ (u : ℕ) (q : IsNode (node_count s.net) u). current_set current_arcs v u new inside (q.0, omega (arith, q, ok.count)) in
     record {
-      count = length-set currents (v - 1) new ∙ ok.count;
+      count = length-set current_arcs (v - 1) new ∙ ok.count;
       within = λ u q. elim (at u q) [
         | inl (e, w) ↦ rw w (subst (λ (x : ℕ). new ≤ (span_of star x).end) (sym e) within)
         | inr (n, w) ↦ rw w (ok.within u q)
@@ -72,16 +72,16 @@ looked_current s prices star currents v new ok h within leave passed =
         | inl (e, w) ↦ rw w (elim (ok.passed u q r leaves) [
           | inl refused ↦ inl refused
           | inr waits ↦ subst (λ (x : ℕ). (¬ IsAdmissible s prices r) ⊎ Contains (rest_from star x new) r) (sym e)
-              (passed r (subst (λ (x : ℕ). Contains (rest_of star currents x) r) e waits))
+              (passed r (subst (λ (x : ℕ). Contains (rest_of star current_arcs x) r) e waits))
         ])
         | inr (n, w) ↦ rw w (ok.passed u q r leaves)
       ];
     }
 
 -- where nothing is left to be looked at, nothing is admissible
-pub none_current : (s : Pseudoflow) (prices : List ℤ) (star : Star) (currents : List ℕ) (v : ℕ) → AreCurrent s prices star currents
-    → IsNode (node_count s.net) v → rest_of star currents v ≡ [] → (r : Rid) → tail s.net r ≡ v → ¬ IsAdmissible s prices r
-none_current s prices star currents v ok h none r from opens =
+pub none_current : (s : Pseudoflow) (prices : List ℤ) (star : Star) (current_arcs : List ℕ) (v : ℕ) → AreCurrentArcs s prices star current_arcs
+    → IsNode (node_count s.net) v → rest_of star current_arcs v ≡ [] → (r : Rid) → tail s.net r ≡ v → ¬ IsAdmissible s prices r
+none_current s prices star current_arcs v ok h none r from opens =
     elim (ok.passed v h r (record { arc = opens.room.arc; from = from })) [
       | inl refused ↦ refused opens
       | inr waits ↦ nothing_in r (subst (λ (xs : List Rid). Contains xs r) none waits)
@@ -90,13 +90,13 @@ none_current s prices star currents v ok h none r from opens =
 -- ---- the steps
 
 -- what is admissible after a change was so before
-pub kept_current : (s t : Pseudoflow) (prices ys : List ℤ) (star : Star) (currents : List ℕ) → t.net ≡ s.net
-    → ((r : Rid) → IsAdmissible t ys r → IsAdmissible s prices r) → AreCurrent s prices star currents → AreCurrent t ys star currents
-kept_current s t prices ys star currents net back ok =
+pub kept_current : (s t : Pseudoflow) (prices ys : List ℤ) (star : Star) (current_arcs : List ℕ) → t.net ≡ s.net
+    → ((r : Rid) → IsAdmissible t ys r → IsAdmissible s prices r) → AreCurrentArcs s prices star current_arcs → AreCurrentArcs t ys star current_arcs
+kept_current s t prices ys star current_arcs net back ok =
     record {
       count = ok.count ∙ ap (λ (g : Network). node_count g) (sym net);
       within = λ v h. ok.within v (subst (λ (g : Network). IsNode (node_count g) v) net h);
-      leave = λ v h. subst (λ (g : Network). All (Leaves g v) (rest_of star currents v)) (sym net)
+      leave = λ v h. subst (λ (g : Network). All (Leaves g v) (rest_of star current_arcs v)) (sym net)
           (ok.leave v (subst (λ (g : Network). IsNode (node_count g) v) net h));
       passed = λ v h r leaves. elim (ok.passed v (subst (λ (g : Network). IsNode (node_count g) v) net h) r
           (subst (λ (g : Network). Leaves g v r) net leaves)) [
@@ -133,16 +133,16 @@ raise_admits s prices v rise ok count h low r other opens =
       ]
     ]
 
--- after a relabel, which sets the current place of its node back to the first
-pub raised_current : (s : Pseudoflow) (prices : List ℤ) (star : Star) (currents : List ℕ) (v : ℕ) (rise : ℤ) (new : ℕ) → IsPseudoflow s
+-- after a relabel, which sets the current arc of its node back to the first
+pub raised_current : (s : Pseudoflow) (prices : List ℤ) (star : Star) (current_arcs : List ℕ) (v : ℕ) (rise : ℤ) (new : ℕ) → IsPseudoflow s
     → length prices ≡ node_count s.net → IsNode (node_count s.net) v → pos 0 ≤ℤ rise → new ≤ (span_of star v).end
-    → ListsLeaving s.net v (rest_from star v new) → AreCurrent s prices star currents
-    → AreCurrent s (set prices (v - 1) (at_node prices v +ℤ rise)) star (set currents (v - 1) new)
-raised_current s prices star currents v rise new ok count h low within lists current =
-    let inside : IsNode (length currents) v = (h.0, omega (arith, h, current.count)) in
-    let at = λ (u : ℕ) (q : IsNode (node_count s.net) u). current_set currents v u new inside (q.0, omega (arith, q, current.count)) in
+    → ListsLeaving s.net v (rest_from star v new) → AreCurrentArcs s prices star current_arcs
+    → AreCurrentArcs s (set prices (v - 1) (at_node prices v +ℤ rise)) star (set current_arcs (v - 1) new)
+raised_current s prices star current_arcs v rise new ok count h low within lists current =
+    let inside : IsNode (length current_arcs) v = (h.0, omega (arith, h, current.count)) in
+    let at = λ (u : ℕ) (q : IsNode (node_count s.net) u). current_set current_arcs v u new inside (q.0, omega (arith, q, current.count)) in
     record {
-      count = length-set currents (v - 1) new ∙ current.count;
+      count = length-set current_arcs (v - 1) new ∙ current.count;
       within = λ u q. elim (at u q) [
         | inl (e, w) ↦ rw w (subst (λ (x : ℕ). new ≤ (span_of star x).end) (sym e) within)
         | inr (n, w) ↦ rw w (current.within u q)
@@ -162,34 +162,34 @@ raised_current s prices star currents v rise new ok count h low within lists cur
     }
 
 -- after the beginning of a phase nothing is admissible
-pub begun_current : (s t : Pseudoflow) (prices : List ℤ) (star : Star) (currents : List ℕ) → IsFilled s t prices → AreCurrent s prices star currents
-    → AreCurrent t prices star currents
-begun_current s t prices star currents filled ok =
-    kept_current s t prices prices star currents filled.net (λ r opens. absurd
+pub begun_current : (s t : Pseudoflow) (prices : List ℤ) (star : Star) (current_arcs : List ℕ) → IsFilled s t prices → AreCurrentArcs s prices star current_arcs
+    → AreCurrentArcs t prices star current_arcs
+begun_current s t prices star current_arcs filled ok =
+    kept_current s t prices prices star current_arcs filled.net (λ r opens. absurd
     (let low = filled_optimal s t prices 0 filled r opens.room in let less = opens.negative in omega (arith, ints, low, less))) ok
 
--- ---- the start: the first place of each node
+-- ---- the start: the first position of each node
 
 pub firsts_start : (star : Star) → AreFirsts star [] 0
 firsts_start star = record { count = refl; each = λ v h. absurd (omega (arith, h)) }
 
-pub firsts_next : (star : Star) (currents after : List ℕ) (n v first : ℕ) → AreFirsts star currents n → after ≡ currents ++ first ∷ [] → v ≡ n + 1
+pub firsts_next : (star : Star) (current_arcs after : List ℕ) (n v first : ℕ) → AreFirsts star current_arcs n → after ≡ current_arcs ++ first ∷ [] → v ≡ n + 1
     → first ≡ (span_of star v).first → AreFirsts star after (n + 1)
-firsts_next star currents after n v first all e is here =
+firsts_next star current_arcs after n v first all e is here =
     record {
-      count = ap (λ (xs : List ℕ). length xs) e ∙ omega (arith, length_push currents first, all.count);
+      count = ap (λ (xs : List ℕ). length xs) e ∙ omega (arith, length_push current_arcs first, all.count);
       each = λ u h. elim (cases_eq u v) [
-        | inl same ↦ ap (λ (xs : List ℕ). current_of xs u) e ∙ get_or_push currents first 0 (u - 1) (omega (arith, same, is, all.count)) ∙ here
+        | inl same ↦ ap (λ (xs : List ℕ). current_of xs u) e ∙ get_or_push current_arcs first 0 (u - 1) (omega (arith, same, is, all.count)) ∙ here
             ∙ ap (λ (w : ℕ). (span_of star w).first) (sym same)
-        | inr n' ↦ ap (λ (xs : List ℕ). current_of xs u) e ∙ get_or_append_left currents (first ∷ []) 0 (u - 1) (omega (arith, h, n', is, all.count))
+        | inr n' ↦ ap (λ (xs : List ℕ). current_of xs u) e ∙ get_or_append_left current_arcs (first ∷ []) 0 (u - 1) (omega (arith, h, n', is, all.count))
             ∙ all.each u (omega (arith, h), omega (arith, h, n', is))
       ];
     }
 
-pub all_current : (s : Pseudoflow) (g : Network) (prices : List ℤ) (star : Star) (currents : List ℕ) → s.net ≡ g → IsStarOf g star
-    → AreFirsts star currents (node_count g) → AreCurrent s prices star currents
-all_current s g prices star currents net ok all =
-    subst (λ (h : Network). AreCurrent (record s { net = h }) prices star currents) (sym net) (record {
+pub all_current : (s : Pseudoflow) (g : Network) (prices : List ℤ) (star : Star) (current_arcs : List ℕ) → s.net ≡ g → IsStarOf g star
+    → AreFirsts star current_arcs (node_count g) → AreCurrentArcs s prices star current_arcs
+all_current s g prices star current_arcs net ok all =
+    subst (λ (h : Network). AreCurrentArcs (record s { net = h }) prices star current_arcs) (sym net) (record {
       count = all.count;
       within = λ v h. rw (all.each v h) (ok.rises v h);
       leave = λ v h. rw (all.each v h) (ok.lists v h).each_leaves;
@@ -198,43 +198,43 @@ all_current s g prices star currents net ok all =
 
 -- ---- the methods
 
-pub push_current : (a b : Refinement) (r : Rid) (x : ℤ) (t : Pseudoflow) (star : Star) (currents : List ℕ) → a ≡ b → IsRefinement a
+pub push_current : (a b : Refinement) (r : Rid) (x : ℤ) (t : Pseudoflow) (star : Star) (current_arcs : List ℕ) → a ≡ b → IsRefinement a
     → IsAdmissible b.flow b.prices r → IsActive b (tail b.flow.net r) → t ≡ pushed a.flow r x
-    → x ≡ int_min (surplus_at a.flow (tail a.flow.net r)) (room_of a.flow r) → AreCurrent a.flow a.prices star currents
-    → AreCurrent t a.prices star currents
-push_current a b r x t star currents same ok admissible active is amount current =
+    → x ≡ int_min (surplus_at a.flow (tail a.flow.net r)) (room_of a.flow r) → AreCurrentArcs a.flow a.prices star current_arcs
+    → AreCurrentArcs t a.prices star current_arcs
+push_current a b r x t star current_arcs same ok admissible active is amount current =
     let here = subst (λ (z : Refinement). IsAdmissible z.flow z.prices r) (sym same) admissible in
     let some = subst (λ (z : Refinement). IsActive z (tail z.flow.net r)) (sym same) active in
     let part = share (surplus_at a.flow (tail a.flow.net r)) (room_of a.flow r) some.surplus here.room.room in
     let low = part.low in
-    subst (λ (p : Pseudoflow). AreCurrent p a.prices star currents) (sym is)
-    (kept_current a.flow (pushed a.flow r x) a.prices a.prices star currents refl
+    subst (λ (p : Pseudoflow). AreCurrentArcs p a.prices star current_arcs) (sym is)
+    (kept_current a.flow (pushed a.flow r x) a.prices a.prices star current_arcs refl
     (push_admits a.flow a.prices r.arc r.back x ok.flow here.room.arc (omega (arith, ints, low, amount)) here.negative) current)
 
-pub begin_current : (a : Refinement) (t : Pseudoflow) (ps : List ℤ) (star : Star) (currents : List ℕ) → IsFilled a.flow t ps → ps ≡ a.prices
-    → AreCurrent a.flow a.prices star currents → AreCurrent t a.prices star currents
-begin_current a t ps star currents filled is current =
-    begun_current a.flow t a.prices star currents (subst (λ (ys : List ℤ). IsFilled a.flow t ys) is filled) current
+pub begin_current : (a : Refinement) (t : Pseudoflow) (ps : List ℤ) (star : Star) (current_arcs : List ℕ) → IsFilled a.flow t ps → ps ≡ a.prices
+    → AreCurrentArcs a.flow a.prices star current_arcs → AreCurrentArcs t a.prices star current_arcs
+begin_current a t ps star current_arcs filled is current =
+    begun_current a.flow t a.prices star current_arcs (subst (λ (ys : List ℤ). IsFilled a.flow t ys) is filled) current
 
-pub relabel_current : (a b c : Refinement) (v : ℕ) (rise : ℤ) (ys : List ℤ) (star : Star) (currents : List ℕ) (first : ℕ) → IsRefinement a → a ≡ b
+pub relabel_current : (a b c : Refinement) (v : ℕ) (rise : ℤ) (ys : List ℤ) (star : Star) (current_arcs : List ℕ) (first : ℕ) → IsRefinement a → a ≡ b
     → IsRelabel b c v rise → ys ≡ set a.prices (v - 1) (at_node a.prices v +ℤ rise) → IsStarOf a.flow.net star → first ≡ (span_of star v).first
-    → AreCurrent a.flow a.prices star currents → AreCurrent a.flow ys star (set currents (v - 1) first)
-relabel_current a b c v rise ys star currents first ok same step raised places is current =
+    → AreCurrentArcs a.flow a.prices star current_arcs → AreCurrentArcs a.flow ys star (set current_arcs (v - 1) first)
+relabel_current a b c v rise ys star current_arcs first ok same step raised star_of is current =
     let most = rise_high b c v rise step in
     let node = (subst (λ (z : Refinement). IsActive z v) (sym same) step.active).node in
-    subst (λ (zs : List ℤ). AreCurrent a.flow zs star (set currents (v - 1) first)) (sym raised)
-    (raised_current a.flow a.prices star currents v rise first ok.flow ok.count node (omega (arith, ints, most))
-    (rw is (places.rises v node)) (rw is (places.lists v node)) current)
+    subst (λ (zs : List ℤ). AreCurrentArcs a.flow zs star (set current_arcs (v - 1) first)) (sym raised)
+    (raised_current a.flow a.prices star current_arcs v rise first ok.flow ok.count node (omega (arith, ints, most))
+    (rw is (star_of.rises v node)) (rw is (star_of.lists v node)) current)
 
--- a look at the residual arcs of a node, as the code makes it: its place is i, the entry is lent, and comes back as new
-module _ (a b : Refinement) (star : Star) (currents : List ℕ) (v i entry : ℕ) (same : a ≡ b) (node : IsNodeOf b v) (read : i ≡ v - 1)
-    (current : AreCurrent a.flow a.prices star currents) (lent : entry ≡ get_or currents i entry) where
+-- a look at the residual arcs of a node, as the code makes it: its current arc stands at i, the entry is lent, and comes back as new
+module _ (a b : Refinement) (star : Star) (current_arcs : List ℕ) (v i entry : ℕ) (same : a ≡ b) (node : IsNodeOf b v) (read : i ≡ v - 1)
+    (current : AreCurrentArcs a.flow a.prices star current_arcs) (lent : entry ≡ get_or current_arcs i entry) where
   here : IsNodeOf a v
   here = subst (λ (z : Refinement). IsNodeOf z v) (sym same) node
 
-  entry_is : entry ≡ current_of currents v
+  entry_is : entry ≡ current_of current_arcs v
   entry_is =
-      lent ∙ ap (λ (j : ℕ). get_or currents j entry) read ∙ get_or_default currents (v - 1) entry 0 (let n = here in omega (arith, n, current.count))
+      lent ∙ ap (λ (j : ℕ). get_or current_arcs j entry) read ∙ get_or_default current_arcs (v - 1) entry 0 (let n = here in omega (arith, n, current.count))
 
   pub entry_within : entry ≤ (span_of star v).end
   entry_within = rw entry_is (current.within v here)
@@ -244,10 +244,10 @@ module _ (a b : Refinement) (star : Star) (currents : List ℕ) (v i entry : ℕ
 
   pub entry_current : (new : ℕ) (ps : List ℤ) → ps ≡ a.prices → new ≤ (span_of star v).end → All (Leaves a.flow.net v) (rest_from star v new)
       → ((q : Rid) → Contains (rest_from star v entry) q → (¬ IsAdmissible a.flow ps q) ⊎ Contains (rest_from star v new) q)
-      → AreCurrent a.flow a.prices star (set currents i new)
+      → AreCurrentArcs a.flow a.prices star (set current_arcs i new)
   entry_current new ps is within leave passed =
-      subst (λ (j : ℕ). AreCurrent a.flow a.prices star (set currents j new)) (sym read)
-      (looked_current a.flow a.prices star currents v new current here within leave
+      subst (λ (j : ℕ). AreCurrentArcs a.flow a.prices star (set current_arcs j new)) (sym read)
+      (looked_current a.flow a.prices star current_arcs v new current here within leave
       (λ q inside. subst (λ (ys : List ℤ). (¬ IsAdmissible a.flow ys q) ⊎ Contains (rest_from star v new) q) is
       (passed q (subst (λ (j : ℕ). Contains (rest_from star v j) q) (sym entry_is) inside))))
 
@@ -258,9 +258,9 @@ module _ (a b : Refinement) (star : Star) (currents : List ℕ) (v i entry : ℕ
       → IfNone o (rest_from star v new ≡ []) → IfNone o ((r : Rid) → tail b.flow.net r ≡ v → ¬ IsAdmissible b.flow b.prices r)
   entry_none None new ps is within leave passed none =
       let set_back = entry_current new ps is within leave passed in
-      let inside : IsNode (length currents) v = (let n = here in (n.0, omega (arith, n, current.count))) in
-      let placed : current_of (set currents i new) v ≡ new = ap (λ (j : ℕ). current_of (set currents j new) v) read
-      ∙ get_or-set_same currents (v - 1) new 0 (let n = inside in omega (arith, n)) in
+      let inside : IsNode (length current_arcs) v = (let n = here in (n.0, omega (arith, n, current.count))) in
+      let placed : current_of (set current_arcs i new) v ≡ new = ap (λ (j : ℕ). current_of (set current_arcs j new) v) read
+      ∙ get_or-set_same current_arcs (v - 1) new 0 (let n = inside in omega (arith, n)) in
       subst (λ (z : Refinement). (r : Rid) → tail z.flow.net r ≡ v → ¬ IsAdmissible z.flow z.prices r) same
-      (none_current a.flow a.prices star (set currents i new) v set_back here (ap (rest_from star v) placed ∙ none))
+      (none_current a.flow a.prices star (set current_arcs i new) v set_back here (ap (rest_from star v) placed ∙ none))
   entry_none (Some r) new ps is within leave passed none = tt

@@ -1,5 +1,5 @@
 -- What the proofs of this crate alone need: no public clause names it.
-pub mod Currents
+pub mod CurrentArcs
 pub mod Leasts
-pub mod Places
 pub mod Queues
+pub mod Stars

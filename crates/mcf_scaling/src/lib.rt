@@ -5,18 +5,18 @@
 //! It stands on `mcf_network`, `mcf_feas` and `mcf_engine`. Definitions stand in `specs/`: `Refinements` and
 //! `Optimality` say what a refinement holds and keeps, `Phases` what its steps do and what runs of them are, `Scales`
 //! how many phases a net takes, `Made` how the engine made a state, `Laws` what holds of steps and phases, and
-//! `Currents`, `Places` and `Queues` what the current arcs, the tables and the queue of a refinement keep.
+//! `CurrentArcs`, `Stars` and `Queues` what the current arcs, the forward star and the queue of a refinement keep.
 
-mod currents;
+mod current_arcs;
 mod filling;
 mod laws;
-mod places;
+mod marks;
 mod pricing;
 mod queue;
 mod refine;
-mod rooms;
 mod scale;
 mod scaling;
+mod star;
 mod steps;
 
 pub use laws::{nearly_least_have_no_cycle, phases_end, prices_rise_little, runs_keep_bounds};

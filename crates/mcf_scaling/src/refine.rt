@@ -10,18 +10,18 @@ ghost use Rattle.mcf_network.specs.Residual.{tail};
 ghost use Rattle.mcf_network.specs.States.{IsPseudoflow, pushed, room_of, surplus_at};
 ghost use Rattle.mcf_scaling.specs.Optimality.{AreSmallPrices, IsAdmissible, IsLeastReduced, rise_reach};
 ghost use Rattle.mcf_network.specs.Walks.{HasRoom};
-ghost use Rattle.mcf_scaling.specs.Private.Places.{AreRooms, IsStarOf};
+ghost use Rattle.mcf_scaling.specs.Private.Stars.{AreCapacityMarks, IsStarOf};
 ghost use Rattle.mcf_scaling.specs.Phases.{IsBegun, IsDone, IsPush, IsRelabel};
 ghost use Rattle.mcf_scaling.specs.Refinements.{IsActive, IsNodeOf, IsRefinement, reduced, within};
 ghost use Rattle.mcf_scaling.specs.Scales.{IsStart};
 
-use crate::currents::{all_firsts, next_admissible};
+use crate::current_arcs::{all_firsts, next_admissible};
 use crate::filling::fill;
-use crate::places::Places;
+use crate::marks::{capacity_marks, mark, mark_all};
 use crate::pricing::{least_reduced, reduced_cost};
 use crate::queue::{Queue, enqueue, enqueue_all, tidy};
-use crate::rooms::{mark, mark_all, rooms_of};
 use crate::scale::{first_scale, power};
+use crate::star::ForwardStar;
 use crate::steps::Steps;
 use mcf_network::{Rid, State};
 use mcf_text::{ArcId, NoMemory, NodeId, copies};
@@ -45,12 +45,12 @@ pub struct Refine<'n> {
     before: Vec<i128>,
     // e is 2 to this power
     scale: u32,
-    // the residual arcs of the net, one node after another
-    places: Places,
-    // for each place whether what stands there has room
-    rooms: Vec<bool>,
-    // for each node the place of its current arc: none of those before it is admissible
-    currents: Vec<usize>,
+    // the residual arcs that leave each node
+    star: ForwardStar,
+    // for each position of the star whether the residual arc there has capacity
+    has_capacity: Vec<bool>,
+    // for each node the position of its current arc: none of those before it is admissible
+    current_arcs: Vec<usize>,
     // each active node, and the first is active
     queue: Queue,
     // the steps since the start
@@ -58,8 +58,8 @@ pub struct Refine<'n> {
 }
 
 impl<'n> Model for Refine<'n> {
-    ghost use Rattle.mcf_scaling.specs.Private.Currents.{AreCurrent};
-    ghost use Rattle.mcf_scaling.specs.Private.Places.{AreRooms, AreSites, IsStarOf};
+    ghost use Rattle.mcf_scaling.specs.Private.CurrentArcs.{AreCurrentArcs};
+    ghost use Rattle.mcf_scaling.specs.Private.Stars.{AreCapacityMarks, ArePositions, IsStarOf};
     ghost use Rattle.mcf_scaling.specs.Private.Queues.{IsQueueOf};
     ghost use Rattle.mcf_scaling.specs.Refinements.{IsRefinement, Refinement};
 
@@ -68,11 +68,11 @@ impl<'n> Model for Refine<'n> {
     ghost view = { λ a. record { flow = a.state; prices = a.prices.items; before = a.before.items; scale = a.scale; steps = a.steps } };
 
     ghost invariant = { λ a. IsRefinement (record { flow = a.state; prices = a.prices.items; before = a.before.items; scale = a.scale; steps = a.steps })
-        × AreCurrent a.state a.prices.items a.places a.currents.items
+        × AreCurrentArcs a.state a.prices.items a.star a.current_arcs.items
         × IsQueueOf a.state a.queue
-        × IsStarOf a.state.net a.places
-        × AreRooms a.state a.places a.rooms.items
-        × AreSites a.state.net a.places };
+        × IsStarOf a.state.net a.star
+        × AreCapacityMarks a.state a.star a.has_capacity.items
+        × ArePositions a.state.net a.star };
 }
 
 impl<'n> Refine<'n> {
@@ -93,18 +93,18 @@ impl<'n> Refine<'n> {
         let scale = first_scale(net);
         let prices = copies(alloc, nodes, 0)?;
         let before = copies(alloc, nodes, 0)?;
-        let places = Places::new(alloc, net)?;
-        let rooms = rooms_of(alloc, &state, &places)?;
-        let currents = all_firsts(alloc, net, &places)?;
+        let star = ForwardStar::new(alloc, net)?;
+        let has_capacity = capacity_marks(alloc, &state, &star)?;
+        let current_arcs = all_firsts(alloc, net, &star)?;
         let queue = Queue::new(alloc, net)?;
         Ok(Refine {
             state,
             prices,
             before,
             scale,
-            places,
-            rooms,
-            currents,
+            star,
+            has_capacity,
+            current_arcs,
             queue,
             steps: Steps::none(),
         })
@@ -167,10 +167,10 @@ impl<'n> Refine<'n> {
         next_admissible(
             &self.state,
             &self.prices,
-            &self.places,
-            &self.rooms,
+            &self.star,
+            &self.has_capacity,
             v,
-            &mut self.currents[i],
+            &mut self.current_arcs[i],
         )
     }
 
@@ -186,7 +186,7 @@ impl<'n> Refine<'n> {
         let (arc, back) = (r.arc, r.back);
         let (_, to) = self.state.net().route(Rid { arc, back });
         let amount = push_share(&mut self.state, arc, back);
-        mark(&self.state, &self.places, &mut self.rooms, arc);
+        mark(&self.state, &self.star, &mut self.has_capacity, arc);
         enqueue(&self.state, &mut self.queue, to);
         tidy(&self.state, &mut self.queue);
         self.steps.push();
@@ -205,14 +205,14 @@ impl<'n> Refine<'n> {
         let rise = rise_of(
             &self.state,
             &self.prices,
-            &self.places,
-            &self.rooms,
+            &self.star,
+            &self.has_capacity,
             v,
             self.scale,
         );
         raise(&mut self.prices, v, rise);
-        let span = self.places.span(v);
-        self.currents[v.place()] = span.first;
+        let span = self.star.span(v);
+        self.current_arcs[v.place()] = span.first;
         self.steps.relabel();
         rise
     }
@@ -225,7 +225,7 @@ impl<'n> Refine<'n> {
         ensures valid { IsRefinement self.new }
     {
         fill(&mut self.state, &self.prices);
-        mark_all(&self.state, &self.places, &mut self.rooms);
+        mark_all(&self.state, &self.star, &mut self.has_capacity);
         self.before.copy_from_slice(&self.prices);
         self.scale -= 1;
         enqueue_all(&self.state, &mut self.queue);
@@ -255,9 +255,9 @@ impl<'n> Refine<'n> {
             prices,
             before: _,
             scale: _,
-            places: _,
-            rooms: _,
-            currents: _,
+            star: _,
+            has_capacity: _,
+            current_arcs: _,
             queue: _,
             steps,
         } = self;
@@ -294,13 +294,13 @@ fn push_share(state: &mut State<'_>, arc: ArcId, back: bool) -> i128
 fn rise_of(
     state: &State<'_>,
     prices: &[i128],
-    places: &Places,
-    rooms: &[bool],
+    star: &ForwardStar,
+    has_capacity: &[bool],
     v: NodeId,
     scale: u32,
 ) -> i128
-    requires star { IsStarOf state.now.net places.now }
-    requires rooms { AreRooms state.now places.now rooms.now }
+    requires star { IsStarOf state.now.net star.now }
+    requires marks { AreCapacityMarks state.now star.now has_capacity.now }
     requires flow { IsPseudoflow state.now }
     requires prices { AreSmallPrices (node_count state.now.net) prices.now }
     requires node { IsNode (node_count state.now.net) v }
@@ -309,7 +309,7 @@ fn rise_of(
     ensures value { (least : ℤ) × IsLeastReduced state.now prices.now v least × (result ≡ least +ℤ pos (2 ^ scale)) }
     ensures small { IsUpTo rise_reach result }
 {
-    let Some(least) = least_reduced(state, prices, places, rooms, v) else {
+    let Some(least) = least_reduced(state, prices, star, has_capacity, v) else {
         unreachable!()
     };
     sum(least, power(scale))

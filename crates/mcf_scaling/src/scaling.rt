@@ -113,7 +113,7 @@ fn run_phases<'n>(mut refine: Refine<'n>, pricer: Pricer) -> (State<'n>, Vec<i12
 {
     'phases: while !refine.done() {
         refine.begin();
-        settle(&mut refine);
+        discharge_all(&mut refine);
     }
     priced(refine, pricer)
 }
@@ -146,7 +146,7 @@ fn raise_all(pricer: &mut Pricer, state: &State<'_>, prices: &mut Vec<i128>)
 
 // Takes steps until no node is active: depth first, from the node to which the last push led where that is active,
 // else from the first of the queue.
-fn settle(refine: &mut Refine<'_>)
+fn discharge_all(refine: &mut Refine<'_>)
     requires valid { IsRefinement refine.old }
     ensures run { (a : Refinement) (k : ℕ) → Run a refine.old k → Run a refine.new k }
     ensures rest { (v : ℕ) → ¬ IsActive refine.new v }

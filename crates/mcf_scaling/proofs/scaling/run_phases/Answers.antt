@@ -1,6 +1,6 @@
 use Rattle.std.proofs.Common.{ap, sym, ◌∙◌}
 use Rattle.mcf_flows.specs.Network.{Network, node_count}
-use Rattle.mcf_scaling.proofs.Settling.{end_feasible, end_least, end_prices, end_scaled, under_way_next, under_way_start}
+use Rattle.mcf_scaling.proofs.EngineSteps.{end_feasible, end_least, end_prices, end_scaled, under_way_next, under_way_start}
 use Rattle.mcf_scaling.proofs.scaling.run_phases.Goals as goal
 
 pub phases-init : goal.phases-init
@@ -9,8 +9,8 @@ phases-init c =
 
 pub phases-preserved : goal.phases-preserved
 phases-preserved c =
-    under_way_next c.args.refine.flow c.phases.refine c.begin.new.self c.settle.new.refine c.phases.invariant c.begin.ensures.step c.settle.ensures.run
-    c.settle.ensures.rest c.settle.ensures.valid
+    under_way_next c.args.refine.flow c.phases.refine c.begin.new.self c.discharge_all.new.refine c.phases.invariant c.begin.ensures.step c.discharge_all.ensures.run
+    c.discharge_all.ensures.rest c.discharge_all.ensures.valid
 
 pub priced-requires-clause-room : goal.priced-requires-clause-room
 priced-requires-clause-room c =

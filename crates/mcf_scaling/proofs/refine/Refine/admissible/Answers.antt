@@ -26,7 +26,7 @@ next_admissible-requires-clause-within c =
       scale = c.self.inside.scale;
       steps = c.self.inside.steps;
     } in
-    entry_within a c.args.self.now c.self.inside.places c.self.inside.currents.items c.args.v c.place-i.result c.index_mut.result.now c.self.view_is
+    entry_within a c.args.self.now c.self.inside.star c.self.inside.current_arcs.items c.args.v c.place-i.result c.index_mut.result.now c.self.view_is
     c.requires c.place-i.ensures c.self.invariant.1 c.index_mut.ensures.value
 
 pub next_admissible-requires-clause-leaves : goal.next_admissible-requires-clause-leaves
@@ -38,7 +38,7 @@ next_admissible-requires-clause-leaves c =
       scale = c.self.inside.scale;
       steps = c.self.inside.steps;
     } in
-    entry_leaves a c.args.self.now c.self.inside.places c.self.inside.currents.items c.args.v c.place-i.result c.index_mut.result.now c.self.view_is
+    entry_leaves a c.args.self.now c.self.inside.star c.self.inside.current_arcs.items c.args.v c.place-i.result c.index_mut.result.now c.self.view_is
     c.requires c.place-i.ensures c.self.invariant.1 c.index_mut.ensures.value
 
 pub invariant_of-self : goal.invariant_of-self
@@ -51,7 +51,7 @@ invariant_of-self c =
       steps = c.self.inside.steps;
     } in (
       c.self.invariant.0,
-      entry_current a c.args.self.now c.self.inside.places c.self.inside.currents.items c.args.v c.place-i.result c.index_mut.result.now c.self.view_is
+      entry_current a c.args.self.now c.self.inside.star c.self.inside.current_arcs.items c.args.v c.place-i.result c.index_mut.result.now c.self.view_is
           c.requires c.place-i.ensures c.self.invariant.1 c.index_mut.ensures.value c.next_admissible.new.current c.deref.result.now
           c.deref.ensures.value c.next_admissible.ensures.within c.next_admissible.ensures.leaves c.next_admissible.ensures.passed,
       c.self.invariant.2,
@@ -69,7 +69,7 @@ returns-clause-none c =
       scale = c.self.inside.scale;
       steps = c.self.inside.steps;
     } in
-    entry_none a c.args.self.now c.self.inside.places c.self.inside.currents.items c.args.v c.place-i.result c.index_mut.result.now c.self.view_is
+    entry_none a c.args.self.now c.self.inside.star c.self.inside.current_arcs.items c.args.v c.place-i.result c.index_mut.result.now c.self.view_is
     c.requires c.place-i.ensures c.self.invariant.1 c.index_mut.ensures.value c.next_admissible.result c.next_admissible.new.current
     c.deref.result.now c.deref.ensures.value c.next_admissible.ensures.within c.next_admissible.ensures.leaves c.next_admissible.ensures.passed
     c.next_admissible.ensures.none

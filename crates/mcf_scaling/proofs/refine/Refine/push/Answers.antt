@@ -1,8 +1,8 @@
 use Rattle.std.proofs.Common.{◌∙◌, sym, ap, subst}
 use Rattle.mcf_flows.specs.Network.{Network, IsArcNumber}
 use Rattle.mcf_network.specs.States.{Pseudoflow}
-use Rattle.mcf_scaling.specs.Private.Places.{AreSites, IsStarOf}
-use Rattle.mcf_scaling.proofs.RoomLaws.{pushed_rooms}
+use Rattle.mcf_scaling.specs.Private.Stars.{ArePositions, IsStarOf}
+use Rattle.mcf_scaling.proofs.MarkLaws.{pushed_marks}
 use Rattle.mcf_network.specs.Residual.{head}
 use Rattle.mcf_network.proofs.StateLaws.{rid}
 use Rattle.mcf_scaling.proofs.CurrentLaws.{push_current}
@@ -37,9 +37,9 @@ mark-requires-clause-arc c =
 pub mark-requires-clause-count : goal.mark-requires-clause-count
 mark-requires-clause-count c = c.self.invariant.4.count
 
-pub mark-requires-clause-sites : goal.mark-requires-clause-sites
-mark-requires-clause-sites c =
-    subst (λ (g : Network). AreSites g c.self.inside.places) (sym (ap (λ (p : Pseudoflow). p.net) c.push_share-amount.ensures.value)) c.self.invariant.5
+pub mark-requires-clause-positions : goal.mark-requires-clause-positions
+mark-requires-clause-positions c =
+    subst (λ (g : Network). ArePositions g c.self.inside.star) (sym (ap (λ (p : Pseudoflow). p.net) c.push_share-amount.ensures.value)) c.self.invariant.5
 
 pub invariant_of-self : goal.invariant_of-self
 invariant_of-self c =
@@ -53,15 +53,15 @@ invariant_of-self c =
       push_made a c.args.self.now c.args.r c.push_share-amount.result c.push_share-amount.new.state c.push.new.self c.self.view_is c.self.invariant.0
           c.requires.admissible c.requires.active c.push_share-amount.ensures.value c.push_share-amount.ensures.amount c.push.ensures,
       push_current a c.args.self.now
-          c.args.r c.push_share-amount.result c.push_share-amount.new.state c.self.inside.places c.self.inside.currents.items c.self.view_is c.self.invariant.0
+          c.args.r c.push_share-amount.result c.push_share-amount.new.state c.self.inside.star c.self.inside.current_arcs.items c.self.view_is c.self.invariant.0
           c.requires.admissible c.requires.active c.push_share-amount.ensures.value c.push_share-amount.ensures.amount c.self.invariant.1,
       c.tidy.ensures,
-      subst (λ (g : Network). IsStarOf g c.self.inside.places) (sym (ap (λ (p : Pseudoflow). p.net) c.push_share-amount.ensures.value)) c.self.invariant.3,
-      pushed_rooms a.flow c.push_share-amount.new.state c.args.r.arc c.args.r.back c.push_share-amount.result c.self.inside.places
-          c.self.inside.rooms.items c.mark.new.rooms.items c.self.invariant.0.flow
+      subst (λ (g : Network). IsStarOf g c.self.inside.star) (sym (ap (λ (p : Pseudoflow). p.net) c.push_share-amount.ensures.value)) c.self.invariant.3,
+      pushed_marks a.flow c.push_share-amount.new.state c.args.r.arc c.args.r.back c.push_share-amount.result c.self.inside.star
+          c.self.inside.has_capacity.items c.mark.new.has_capacity.items c.self.invariant.0.flow
           (arc_of a c.args.self.now c.args.r c.self.view_is c.requires.admissible) c.push_share-amount.ensures.value c.self.invariant.3
           c.self.invariant.4 c.mark.ensures,
-      subst (λ (g : Network). AreSites g c.self.inside.places) (sym (ap (λ (p : Pseudoflow). p.net) c.push_share-amount.ensures.value)) c.self.invariant.5,
+      subst (λ (g : Network). ArePositions g c.self.inside.star) (sym (ap (λ (p : Pseudoflow). p.net) c.push_share-amount.ensures.value)) c.self.invariant.5,
     )
 
 pub returns-clause-valid : goal.returns-clause-valid

@@ -6,8 +6,8 @@ use Rattle.mcf_scaling.proofs.CurrentLaws.{relabel_current}
 use Rattle.mcf_scaling.proofs.Methods.{active_not_shut, relabel_raised, relabel_rises, relabel_stepped}
 use Rattle.mcf_scaling.proofs.Sizes.{small_prices}
 use Rattle.mcf_scaling.specs.Optimality.{AreSmallPrices}
-use Rattle.mcf_scaling.specs.declared.places.Span.{Span}
-use Rattle.mcf_scaling.specs.Private.Currents.{AreCurrent}
+use Rattle.mcf_scaling.specs.declared.star.Span.{Span}
+use Rattle.mcf_scaling.specs.Private.CurrentArcs.{AreCurrentArcs}
 use Rattle.mcf_scaling.specs.Refinements.{Refinement}
 use Rattle.mcf_scaling.proofs.refine.Refine.relabel.Goals as goal
 
@@ -52,10 +52,10 @@ invariant_of-self c =
       relabel_raised a c.args.self.now c.args.v c.rise_of-rise.result c.deref.result.now c.raise.new.prices.items c.relabel.new.self c.self.view_is c.self.invariant.0
           c.requires.active c.requires.stuck c.deref.ensures.value c.rise_of-rise.ensures.value raised c.relabel.ensures,
       subst
-          (λ (n : ℕ). AreCurrent a.flow c.raise.new.prices.items c.self.inside.places (set c.self.inside.currents.items n c.span-span.result.first))
+          (λ (n : ℕ). AreCurrentArcs a.flow c.raise.new.prices.items c.self.inside.star (set c.self.inside.current_arcs.items n c.span-span.result.first))
           (sym c.place.ensures)
           (relabel_current a c.args.self.now (record a { prices = c.raise.new.prices.items; steps = c.relabel.new.self }) c.args.v c.rise_of-rise.result c.raise.new.prices.items
-          c.self.inside.places c.self.inside.currents.items c.span-span.result.first c.self.invariant.0 c.self.view_is step raised c.self.invariant.3
+          c.self.inside.star c.self.inside.current_arcs.items c.span-span.result.first c.self.invariant.0 c.self.view_is step raised c.self.invariant.3
           (ap (λ (s : Span). s.first) c.span-span.ensures) c.self.invariant.1),
       c.self.invariant.2,
       c.self.invariant.3,

@@ -3,7 +3,7 @@ use Rattle.mcf_flows.specs.Network.{Network, node_count}
 use Rattle.mcf_scaling.proofs.CurrentLaws.{all_current}
 use Rattle.mcf_scaling.proofs.QueueLaws.{start_queue}
 use Rattle.mcf_scaling.proofs.Methods.{start_made}
-use Rattle.mcf_scaling.specs.Private.Places.{AreSites, IsStarOf}
+use Rattle.mcf_scaling.specs.Private.Stars.{ArePositions, IsStarOf}
 use Rattle.mcf_scaling.specs.Scales.{ArePhases}
 use Rattle.mcf_scaling.proofs.refine.Refine.start.Goals as goal
 
@@ -14,22 +14,22 @@ invariant_of-result c =
     let before : c.in_ok-before.before.items ≡ replicate (node_count c.args.state.net) (pos 0) = search rules in (
       start_made c.args.state c.first_scale-scale.result c.in_ok-prices.prices.items c.in_ok-before.before.items c.none.result c.requires prices before phases
           c.first_scale-scale.ensures.small,
-      all_current c.args.state c.net-net.result.now c.in_ok-prices.prices.items c.in_ok-places.places c.in_ok-currents.currents.items
-          (sym c.net-net.ensures.value) c.in_ok-places.ensures.value c.in_ok-currents.ensures.value,
+      all_current c.args.state c.net-net.result.now c.in_ok-prices.prices.items c.in_ok-star.star c.in_ok-current_arcs.current_arcs.items
+          (sym c.net-net.ensures.value) c.in_ok-star.ensures.value c.in_ok-current_arcs.ensures.value,
       start_queue c.args.state c.net-net.result.now c.in_ok-queue.queue c.requires.flow
           c.requires.no_surplus c.net-net.ensures.value c.in_ok-queue.ensures.value,
-      subst (λ (g : Network). IsStarOf g c.in_ok-places.places) c.net-net.ensures.value c.in_ok-places.ensures.value,
-      c.in_ok-rooms.ensures.value,
-      subst (λ (g : Network). AreSites g c.in_ok-places.places) c.net-net.ensures.value c.in_ok-places.ensures.sites,
+      subst (λ (g : Network). IsStarOf g c.in_ok-star.star) c.net-net.ensures.value c.in_ok-star.ensures.value,
+      c.in_ok-has_capacity.ensures.value,
+      subst (λ (g : Network). ArePositions g c.in_ok-star.star) c.net-net.ensures.value c.in_ok-star.ensures.positions,
     )
 
-pub rooms_of-requires-clause-star : goal.rooms_of-requires-clause-star
-rooms_of-requires-clause-star c =
-    subst (λ (g : Network). IsStarOf g c.in_ok-places.places) c.net-net.ensures.value c.in_ok-places.ensures.value
+pub capacity_marks-requires-clause-star : goal.capacity_marks-requires-clause-star
+capacity_marks-requires-clause-star c =
+    subst (λ (g : Network). IsStarOf g c.in_ok-star.star) c.net-net.ensures.value c.in_ok-star.ensures.value
 
-pub rooms_of-requires-clause-sites : goal.rooms_of-requires-clause-sites
-rooms_of-requires-clause-sites c =
-    subst (λ (g : Network). AreSites g c.in_ok-places.places) c.net-net.ensures.value c.in_ok-places.ensures.sites
+pub capacity_marks-requires-clause-positions : goal.capacity_marks-requires-clause-positions
+capacity_marks-requires-clause-positions c =
+    subst (λ (g : Network). ArePositions g c.in_ok-star.star) c.net-net.ensures.value c.in_ok-star.ensures.positions
 
 pub returns-clause-valid : goal.returns-clause-valid
 returns-clause-valid c =
