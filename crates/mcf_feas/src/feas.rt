@@ -32,7 +32,7 @@ pub enum Feas<'n> {
 ///
 /// It pushes surplus down the levels of the nodes, first in, first out (Goldberg and Tarjan; Ahuja, Magnanti
 /// and Orlin, Network Flows, section 7.7), in rounds. A level is at most how far a node is from the nodes that take;
-/// where these are near it is found for three quarters of the nodes with a surplus, and the others are lifted as they
+/// where these are near it is found for three quarters of the nodes with a surplus, and the others are relabelled as they
 /// are visited. After each round a breadth-first search from the nodes with a surplus shows that none is left, or
 /// that none can leave the nodes reached, or finds an augmenting path (chapter 6). The time of a round is mostly
 /// linear in the nodes and arcs. The memory is linear in the nodes and arcs, and is taken before the first round.

@@ -8,7 +8,7 @@ use mcf_text::{ArcId, NodeId};
 use std::collections::VecDeque;
 
 // Up to which level it is enough that three quarters of the nodes with a surplus have theirs. Where more arcs lie
-// between, as on a map of roads, lifts one arc at a time would cost more than the search for the levels.
+// between, as on a map of roads, relabels one arc at a time would cost more than the search for the levels.
 const SHALLOW: u32 = 16;
 
 /// Sets the level of each node to the least number of residual arcs with room to a node that takes, by a

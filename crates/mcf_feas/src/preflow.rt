@@ -11,9 +11,9 @@ use mcf_network::{Rid, State};
 use mcf_text::{ArcId, NodeId};
 use std::collections::VecDeque;
 
-// As how many visits one counts that lifts a node: it goes over the residual arcs of the node in vain, and many of
+// As how many visits one counts that relabels its node: it goes over the residual arcs of the node in vain, and many of
 // them say that the levels are stale.
-const LIFT_COST: u32 = 4;
+const RELABEL_COST: u32 = 4;
 
 /// How often the surplus is pushed down before a search judges what is left.
 const PASSES: u32 = 4;
@@ -60,8 +60,8 @@ fn start(state: &State<'_>, queue: &mut VecDeque<NodeId>) -> u32 {
     senders
 }
 
-// Visits nodes that wait, until none does, or as many were visited as there are nodes, where a node that is lifted
-// counts as several.
+// Visits nodes that wait, until none does, or as many were visited as there are nodes, where one that relabels its
+// node counts as several.
 fn visit_all(state: &mut State<'_>, levels: &mut [u32], queue: &mut VecDeque<NodeId>)
     requires { length levels.old ≡ node_count state.old.net }
     ensures { IsPushedOn state.old state.new }
@@ -76,8 +76,8 @@ fn visit_all(state: &mut State<'_>, levels: &mut [u32], queue: &mut VecDeque<Nod
     }
 }
 
-// Pushes what a node has left to send to lower ones. Where they can't take all of it, lifts the node above the
-// lowest node to which it can push then, and lets it wait, if it isn't above every level. Says as how many visits
+// Pushes what a node has left to send to lower ones. Where they can't take all of it, relabels the node, to one
+// level above the lowest node to which it can push then, and lets it wait, if it isn't above every level. Says as how many visits
 // this counts.
 fn visit(
     state: &mut State<'_>,
@@ -99,7 +99,7 @@ fn visit(
     if level < far {
         wait(queue, node);
     }
-    LIFT_COST
+    RELABEL_COST
 }
 
 // Pushes what a node has left to send along its residual arcs to lower nodes. Where something is left, says the
@@ -187,8 +187,8 @@ fn share(state: &State<'_>, arc: ArcId, back: bool) -> i128
     }
 }
 
-// After a push to a node: it waits, if it had no surplus before and has one now, and is lifted, if it took
-// something before and takes nothing now.
+// After a push to a node: it waits, if it had no surplus before and has one now, and is relabelled, if it
+// took something before and takes nothing now.
 fn receive(
     state: &State<'_>,
     levels: &mut [u32],
@@ -203,13 +203,13 @@ fn receive(
         return;
     }
     if before < 0 && state.surplus(node) >= 0 {
-        lift(state, levels, node);
+        relabel(state, levels, node);
     }
     wake(state, queue, node);
 }
 
-// Lifts a node above the lowest node to which a residual arc with room leads from it.
-fn lift(state: &State<'_>, levels: &mut [u32], node: NodeId)
+// Relabels a node: sets its level to one above the lowest node to which a residual arc with room leads from it.
+fn relabel(state: &State<'_>, levels: &mut [u32], node: NodeId)
     requires levels { length levels.old ≡ node_count state.now.net }
     requires node { IsNode (node_count state.now.net) node }
 {

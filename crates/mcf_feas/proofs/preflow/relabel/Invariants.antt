@@ -1,6 +1,6 @@
 use Rattle.std.specs.List.{All}
 use Rattle.mcf_network.specs.Stars.{Leaves}
-use Rattle.mcf_feas.proofs.preflow.lift.Given as goal
+use Rattle.mcf_feas.proofs.preflow.relabel.Given as goal
 
 abbrev pub invariant-arcs : goal.invariant-arcs
 invariant-arcs l =

@@ -1,6 +1,6 @@
 use Rattle.std.proofs.lemmas.List.Elements.{All-tail}
 use Rattle.mcf_network.specs.Stars.{Leaves}
-use Rattle.mcf_feas.proofs.preflow.lift.Goals as goal
+use Rattle.mcf_feas.proofs.preflow.relabel.Goals as goal
 
 pub arcs-preserved : goal.arcs-preserved
 arcs-preserved c =
