@@ -1,5 +1,6 @@
 //! The offers of a search that wait.
-ghost use Rattle.std.specs.Prelude.{◌≡◌, ◌<◌, ◌≤◌, ◌≤ℤ◌, ◌∷◌, [], IfNone, IfOk, IfSome, OnErr, length};
+ghost use Rattle.std.specs.Prelude.{◌≡◌, ◌<◌, ◌≤◌, ◌≤ℤ◌, ◌∷◌, [], IfNone, IfOk, IfSome, IsSome, OnErr, length};
+ghost use Rattle.std.specs.Bool.{MatchBool};
 ghost use Rattle.std.proofs.Common.{refl, rules};
 ghost use Rattle.std.specs.Cmp.{partial_order_from_own_ties};
 ghost use Rattle.std.specs.Cmp.Rules.{comparing};
@@ -8,6 +9,7 @@ ghost use Rattle.std.specs.List.Sorted.{IsPermutation};
 ghost use Rattle.std.specs.Ordering.{as_partial_cmp, flip_args, int_cmp, int_eq, on};
 ghost use Rattle.mcf_assign.specs.declared.offers.Offer.{Offer};
 
+use crate::regime::NEAR_OFFERS;
 use mcf_text::NoMemory;
 use std::alloc::Global;
 use std::cmp::Ordering;
@@ -62,23 +64,29 @@ impl Ord for Offer {
 
 /// The offers of a search that wait: the nearest comes first.
 ///
+/// The nearest stand on a stack, the others in a heap: an offer that is no farther than the last of the stack goes onto it. After an
+/// update of the prices many arcs of a row have reduced cost 0, and what they offer is as near as the row itself: such an offer needn't
+/// go through the heap.
+///
 /// All the room that they need is made in `new`. A clause sees the offers in no order, and for how many there is room.
 #[derive(Drop)]
 pub(crate) struct Offers {
+    near: Vec<Offer>,
     heap: BinaryHeap<Offer>,
 }
 
 impl Model for Offers {
-    ghost use Rattle.mcf_assign.specs.Private.Queues.{Queue};
+    ghost use Rattle.mcf_assign.specs.Private.Queues.{IsStack, Queue};
 
     ghost Value = { Queue };
 
+    ghost use Rattle.std.specs.Prelude.{◌++◌};
     ghost use Rattle.std.specs.BinaryHeap.{IsHeap, heap_capacity, heap_items};
     ghost use Rattle.std.specs.Ordering.{flip_args, int_cmp, on};
 
-    ghost view = { λ q. record { items = heap_items q.heap; room = heap_capacity q.heap } };
+    ghost view = { λ q. record { items = q.near.items ++ heap_items q.heap; room = heap_capacity q.heap } };
 
-    ghost invariant = { λ q. IsHeap (flip_args (on (λ o. o.dist) int_cmp)) (heap_items q.heap) };
+    ghost invariant = { λ q. IsStack q.near.items × IsHeap (flip_args (on (λ o. o.dist) int_cmp)) (heap_items q.heap) };
 }
 
 impl Offers {
@@ -88,9 +96,10 @@ impl Offers {
         ensures room { IfOk result (λ q. room ≤ q.room) }
         ensures wants { OnErr result (1 ≤ room) }
     {
+        let near = Vec::with_capacity(alloc, NEAR_OFFERS.min(room))?;
         let mut heap = BinaryHeap::new(alloc);
         heap.reserve(room)?;
-        Ok(Offers { heap })
+        Ok(Offers { near, heap })
     }
 
     /// Lets an offer wait.
@@ -100,7 +109,12 @@ impl Offers {
         ensures items { IsPermutation (offer ∷ self.old.items) self.new.items }
         ensures room { self.old.room ≤ self.new.room }
     {
-        let _ = self.heap.push(offer);
+        let is_nearest = comes_before(&offer, self.near.last());
+        if is_nearest && self.near.len() < self.near.capacity() {
+            self.near.push_reserved(offer);
+        } else {
+            let _ = self.heap.push(offer);
+        }
     }
 
     /// Takes out the offer that comes first, if one waits.
@@ -111,7 +125,15 @@ impl Offers {
         ensures same { IfNone result (self.old.items ≡ []) }
         ensures room { self.old.room ≤ self.new.room }
     {
-        self.heap.pop()
+        let Some(top) = self.near.last() else {
+            return self.heap.pop();
+        };
+        let is_nearest = comes_before(top, self.heap.peek());
+        if is_nearest {
+            self.near.pop()
+        } else {
+            self.heap.pop()
+        }
     }
 
     /// Lets none wait.
@@ -119,6 +141,18 @@ impl Offers {
         ensures none { self.new.items ≡ [] }
         ensures room { self.old.room ≤ self.new.room }
     {
+        self.near.clear();
         self.heap.clear();
+    }
+}
+
+// Whether an offer is no farther than another, if there is one.
+#[inline(always)]
+fn comes_before(offer: &Offer, other: Option<&Offer>) -> bool
+    ensures { MatchBool result (IfSome other.entry (λ o. offer.now.dist ≤ℤ o.now.dist)) (IsSome other.entry × IfSome other.entry (λ o. o.now.dist ≤ℤ offer.now.dist)) }
+{
+    match other {
+        Some(other) => offer.dist <= other.dist,
+        None => true,
     }
 }
