@@ -69,7 +69,8 @@ enum mcf_code {
 enum mcf_side { MCF_SEND = 0, MCF_TAKE = 1 };
 
 /* Solves an instance text in a DIMACS format, and writes the answer text to the beginning of the room: MCF_FLOW to
-   MCF_NO_CHOICE. `used` becomes the length of the answer, also at MCF_NO_ROOM. From 3 on the room is as it was. */
+   MCF_NO_CHOICE. `used` becomes the length of the answer, also at MCF_NO_ROOM, and 0 where there is none. From 3 on the
+   room is as it was. */
 uint32_t mcf_solve(const uint8_t *input, size_t input_length, const struct mcf_choice *choice, uint8_t *room, size_t room_length,
                    size_t *used);
 

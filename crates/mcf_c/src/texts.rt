@@ -64,6 +64,7 @@ pub extern "C" fn mcf_solve(
     ensures room { result ≡ 4 → IfSome (choice_of choice.now) (λ c. LacksRoom c input.now room.old used.new) }
     ensures choice { (result ≡ 5) ↔ (choice_of choice.now ≡ None) }
     ensures untouched { 3 ≤ result → room.new ≡ room.old }
+    ensures unused { (result ≡ 3) ⊎ (result ≡ 5) → used.new ≡ 0 }
 {
     *used = 0;
     let Some(choice) = choice_of(choice) else {
