@@ -55,7 +55,7 @@ impl<'s, 'n> NearState<'s, 'n> {
         }
     }
 
-    // Relaxes the residual arcs that enter the node that was settled last: those of its list, where that serves at its label,
+    // Relaxes the residual arcs that enter the node that was settled last: those of its list, where that is complete at its label,
     // or else those of its star. It answers the node that was settled at once, if one was.
     fn scan(&self, heap: &mut Heap, short: &Shortlist, w: NodeId) -> Option<NodeId>
         requires list { IsFilled self.now short.now }
@@ -65,7 +65,7 @@ impl<'s, 'n> NearState<'s, 'n> {
     {
         let base = label_of(heap, self.prices, w);
         let passed = passing_cost(base, self.scale);
-        if short.serves(w, passed) {
+        if short.is_complete(w, passed) {
             let last = short.last_of(w);
             return self.scan_chain(heap, short.entries.as_slice(), w, base, last);
         }

@@ -45,7 +45,7 @@ const ENTRY_LIMIT: usize = 1 << 31;
 ///
 /// They are found by one walk over all arcs in their order, since the arcs that enter a node lie far apart in memory.
 /// Those of a node are a chain: its head says where the last of them stands, and each entry where the one before it does.
-/// Where there was no room for all, or the net is not dense, the list is not whole, and serves no node. Only `start` takes
+/// Where there was no room for all, or the net is not dense, the list is not whole, and complete for no node. Only `start` takes
 /// memory.
 #[derive(Drop)]
 pub(crate) struct Shortlist {
@@ -80,7 +80,7 @@ impl Shortlist {
     }
 
     /// Whether the list has all residual arcs with room that enter a node and cost less than `passed`.
-    pub(crate) fn serves(&self, w: NodeId, passed: i128) -> bool
+    pub(crate) fn is_complete(&self, w: NodeId, passed: i128) -> bool
         requires { self.now.whole ≡ true → IsNode (length self.now.passed.items) w }
         ensures whole { result ≡ true → self.now.whole ≡ true }
         ensures passed { result ≡ true → passed ≤ℤ at_node self.now.passed.items w }
