@@ -58,6 +58,22 @@ fn minus_digits(text: &[u8], start: usize) -> Option<PlainNumber>
     })
 }
 
+// The digits that begin at this place, with or without a minus sign before them, and the place behind them.
+#[inline(always)]
+fn digits_at(text: &[u8], start: usize) -> Option<PlainNumber>
+    requires { start ≤ length text.now }
+    ensures { IfSome result (λ n. HasDigits text.now start n.place n.value) }
+{
+    let digits = leading_digits(&text[start..]);
+    if digits.count == 0 {
+        return minus_digits(text, start);
+    }
+    Some(PlainNumber {
+        value: digits.value as i64,
+        place: start + digits.count,
+    })
+}
+
 // The place past the blank that stands here.
 #[inline(always)]
 fn past_blank(text: &[u8], stop: usize) -> Option<usize>
@@ -88,23 +104,7 @@ fn number_at(text: &[u8], start: usize) -> Option<PlainNumber>
     requires { start ≤ length text.now }
     ensures { IfSome result (λ n. HasField text.now start n.place n.value) }
 {
-    let digits = leading_digits(&text[start..]);
-    if digits.count == 0 {
-        return minus_number_at(text, start);
-    }
-    let place = past_blank(text, start + digits.count)?;
-    Some(PlainNumber {
-        value: digits.value as i64,
-        place,
-    })
-}
-
-#[inline(never)]
-fn minus_number_at(text: &[u8], start: usize) -> Option<PlainNumber>
-    requires { start ≤ length text.now }
-    ensures { IfSome result (λ n. HasField text.now start n.place n.value) }
-{
-    let digits = minus_digits(text, start)?;
+    let digits = digits_at(text, start)?;
     let place = past_blank(text, digits.place)?;
     Some(PlainNumber {
         value: digits.value,
@@ -143,23 +143,7 @@ fn last_number_at(text: &[u8], start: usize) -> Option<PlainNumber>
     requires { start ≤ length text.now }
     ensures { IfSome result (λ n. HasLastField text.now start n.place n.value) }
 {
-    let digits = leading_digits(&text[start..]);
-    if digits.count == 0 {
-        return minus_last_number_at(text, start);
-    }
-    let place = line_end(text, start + digits.count)?;
-    Some(PlainNumber {
-        value: digits.value as i64,
-        place,
-    })
-}
-
-#[inline(never)]
-fn minus_last_number_at(text: &[u8], start: usize) -> Option<PlainNumber>
-    requires { start ≤ length text.now }
-    ensures { IfSome result (λ n. HasLastField text.now start n.place n.value) }
-{
-    let digits = minus_digits(text, start)?;
+    let digits = digits_at(text, start)?;
     let place = line_end(text, digits.place)?;
     Some(PlainNumber {
         value: digits.value,

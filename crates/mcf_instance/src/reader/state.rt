@@ -319,16 +319,8 @@ impl State {
         if let Some(refusal) = self.refusal_after(line) {
             return Err(refusal);
         }
-        let State {
-            header,
-            listed: _,
-            supplies,
-            arcs,
-            total: _,
-            refusal: _,
-        } = self;
-        match header {
-            Some(header) => Ok(Instance::of(header.problem, arcs, supplies)),
+        match self.header {
+            Some(header) => Ok(self.into_instance(header)),
             None => unreachable!(),
         }
     }

@@ -1,18 +1,11 @@
-use Rattle.std.proofs.Common.{◌+◌, arith, subst, sym}
-use Rattle.std.proofs.lemmas.List.{take_rest}
-use Rattle.mcf_instance.specs.Private.PlainLines.{HasLastField}
-use Rattle.mcf_instance.proofs.PlainLines.{digits_from, last_field_from, plain_value}
+use Rattle.std.proofs.Common.{rules}
+use Rattle.std.proofs.lemmas.Int.{to_z-of_z}
+use mir.Syntax.{w64}
+use mir.Val.{SFits}
+use Rattle.mcf_instance.proofs.PlainLines.{last_field_from}
 use Rattle.mcf_instance.proofs.reader.plain.last_number_at.Goals as goal
 
 pub returns : goal.returns
 returns c =
-    let text = c.args.text.now in
-    let d = c.leading_digits-digits.ensures in
-    let value = c.leading_digits-digits.result.value in
-    let count = c.leading_digits-digits.result.count in
-    let digits = simp take_rest at d.digits in
-    let is = simp take_rest at d.value in
-    let few = simp take_rest at d.few in
-    let number = digits_from text c.args.start count value c.requires (omega (arith, c.if-digits-eq0.false)) (omega (arith, few)) digits is d.small in
-    subst (HasLastField text c.args.start c.in_ok-place.place) (sym (plain_value value d.small))
-    (last_field_from text c.args.start (c.args.start + count) _ _ number c.in_ok-place.ensures)
+    let f : SFits w64 c.in_ok-digits.digits.value = search rules in
+    simp to_z-of_z (last_field_from c.args.text.now c.args.start _ _ _ c.in_ok-digits.ensures c.in_ok-place.ensures)
