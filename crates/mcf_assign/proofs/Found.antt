@@ -1,5 +1,5 @@
 -- A search that is over and found a column that isn't matched.
-use Rattle.std.proofs.Common.{◌≡◌, ℕ, ◌+◌, ◌-◌, ◌≤◌, true, List, length, Some, ℤ, ◌≤ℤ◌, refl, subst, arith, length-set}
+use Rattle.std.proofs.Common.{◌≡◌, ℕ, ◌+◌, ◌-◌, ◌≤◌, true, List, [], length, Some, ℤ, ◌≤ℤ◌, refl, subst, arith, length-set}
 use Rattle.std.proofs.lemmas.Int.{ints}
 use Rattle.mcf_flows.specs.Blocking.{in_table}
 use Rattle.mcf_flows.specs.Network.{IsArcNumber, IsNode, node_count}
@@ -13,10 +13,10 @@ use Rattle.mcf_assign.specs.Private.Forests.{IsForest, IsTightArc}
 use Rattle.mcf_assign.specs.Private.Keeping.{AreNearZero, IsEnded}
 use Rattle.mcf_assign.specs.Matchings.{AreMatchingPrices, IsColumn, IsMatchedColumn, IsPartialMatching, column_of}
 use Rattle.mcf_assign.specs.Private.Searches.{AreRaised, IsBestUpTo, Search, Settled, Waits, dist_at}
-use Rattle.mcf_assign.proofs.Nearest.{not_true}
+use Rattle.mcf_assign.proofs.Settling.{not_true}
 use Rattle.mcf_assign.proofs.PairLaws.{column_is}
 use Rattle.mcf_assign.proofs.Raised.{link_tight, raised_ok, target_tight}
-use Rattle.mcf_assign.proofs.Stepping.{reach_small}
+use Rattle.mcf_assign.proofs.Near.{reach_small, row_near, target_near}
 use Rattle.mcf_assign.specs.Private.Reaches.{target_reach}
 
 module _ {s : Pseudoflow} {y : List ℤ} {q : Search} {source : ℕ} {order : List ℕ} {t : Target} (ok : IsPartialMatching s) (shown : AreMatchingPrices s y)
@@ -85,14 +85,13 @@ module _ {s : Pseudoflow} {y : List ℤ} {q : Search} {source : ℕ} {order : Li
   module _ (small : AreNearZero s y) where
     pub found_near : (v : ℕ) → IsNode (node_count s.net) v → Settled q v → IsUpTo target_reach (dist_at q v)
     found_near v n h =
-        let near = (reach_small s y q source ok ended.search.entries ended.near).settled v n h in
-        let a = small source ended.search.is_row.0 in
-        let b = small v n in
-        (omega (arith, ints, near, a, b), omega (arith, ints, near, a, b))
+        let near = row_near s y q source v [] ok ended.search n h small in
+        (omega (arith, ints, near), omega (arith, ints, near))
 
     pub found_dist : IsUpTo target_reach t.dist
     found_dist =
-        let near = (reach_small s y q source ok ended.search.entries ended.near).best t best in
+        let near = target_near s y q source [] t ok ended.search best in
+        let few = reach_small s y q source [] ok ended.search in
         let a = small source ended.search.is_row.0 in
         let b = small (column_of s t.arc) found_column.0 in
-        (omega (arith, ints, near, a, b), omega (arith, ints, near, a, b))
+        (omega (arith, ints, near, few, a, b), omega (arith, ints, near, few, a, b))

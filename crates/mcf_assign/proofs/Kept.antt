@@ -30,6 +30,7 @@ use Rattle.mcf_assign.specs.Private.Turning.{IsExtended}
 use Rattle.mcf_assign.proofs.Beginning.{over_stuck}
 use Rattle.mcf_assign.proofs.Found.{found_column, found_free, found_new, found_prices}
 use Rattle.mcf_assign.proofs.LeastMatchings.{least_matching}
+use Rattle.mcf_assign.proofs.Near.{target_near}
 use Rattle.mcf_assign.proofs.Orders.{forth_room}
 use Rattle.mcf_assign.proofs.PairLaws.{column_is, row_is}
 use Rattle.mcf_assign.proofs.Raised.{settled_or_not}
@@ -145,7 +146,7 @@ module _ (s : Pseudoflow) (y z : List ℤ) (q : Search) (row : ℕ) (order : Lis
     near_now : AreNearZero s z
     near_now v n =
         let column = found_column ok shown ended best in
-        let top = ended.near.best t best in
+        let top = target_near s y q row [] t ok ended.search best in
         let at_row = first row row_is_row ended.search.not_matched in
         let at_column = shown.free c column (found_free ok shown ended best) in
         let few = count_small q.settled in
@@ -155,7 +156,7 @@ module _ (s : Pseudoflow) (y z : List ℤ) (q : Search) (row : ℕ) (order : Lis
         elim (settled_or_not q v) [
           | inl h ↦ (
               let now = raised.settled v n h in
-              let far = ended.near.settled v n h in (
+              let far = ended.search.near v n h in (
                 omega (arith, ints, top, at_row, at_column, few, count, nodes, now, far),
                 omega
                     (arith, ints, top, at_row, at_column, few, count, nodes, now, far),

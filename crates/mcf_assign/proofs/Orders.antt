@@ -1,26 +1,26 @@
 -- The list of the settled nodes as a search begins, and with one pair more.
-use Rattle.std.proofs.Common.{◌≡◌, ◌≢◌, ℕ, ◌+◌, ◌-◌, ◌<◌, zero, suc, cond, Bool, true, false, List, [], ◌∷◌, ◌++◌, length, get_or, set, replicate, ℤ, pos, refl}
-use Rattle.std.proofs.Common.{sym, ◌∙◌, ap, subst, arith, ◌⊎◌, inl, inr, length-set}
+use Rattle.std.proofs.Common.{◌≡◌, ◌≢◌, ℕ, ◌+◌, ◌<◌, ◌≤◌, zero, suc, cond, true, false, List, [], ◌∷◌, ◌++◌, length, get_or, set, ℤ, pos, refl}
+use Rattle.std.proofs.Common.{sym, ◌∙◌, ap, subst, arith, ◌⊎◌, inl, inr}
 use Rattle.std.specs.List.{AllPairs, Contains}
-use Rattle.std.proofs.lemmas.Bool.{cases_eq, eq-eqb, ne_eqb, true≢false}
+use Rattle.std.proofs.lemmas.Bool.{cases_eq, eq-eqb, ne_eqb}
 use Rattle.std.proofs.lemmas.Int.{ints}
 use Rattle.std.proofs.lemmas.List.{length_push}
 use Rattle.std.proofs.lemmas.List.Elements.{All-contains, Contains-append_left, Contains-get_or, Contains-push, Contains-push_cases}
 use Rattle.std.proofs.lemmas.List.Quantifiers.{all_pairs_push}
-use Rattle.mcf_flows.specs.Blocking.{in_table}
 use Rattle.mcf_flows.specs.Network.{IsArcNumber, IsNode, node_count}
-use Rattle.mcf_network.specs.declared.rid.Rid.{Rid}
-use Rattle.mcf_network.specs.NodeSets.{member_count, with_node}
+use Rattle.mcf_network.specs.NodeSets.{member_count}
 use Rattle.mcf_network.specs.States.{Pseudoflow, amount_at}
 use Rattle.mcf_network.specs.Walks.{HasRoom}
-use Rattle.mcf_network.proofs.Marks.{count_none, counted_new, marked_new, marked_only}
+use Rattle.mcf_network.proofs.Marks.{count_small}
 use Rattle.mcf_network.proofs.StateLaws.{rid}
 use Rattle.mcf_assign.specs.Extending.{IsReachable}
 use Rattle.mcf_assign.specs.Private.Forests.{IsOrder, place}
-use Rattle.mcf_assign.specs.Matchings.{IsColumn, IsMatchedRow, IsPair, IsPartialMatching, IsRow, column_of, row_of}
+use Rattle.mcf_assign.specs.Matchings.{AreMatchingPrices, IsColumn, IsPair, IsPartialMatching, IsRow, column_of, row_of}
 use Rattle.mcf_assign.specs.declared.offers.Offer.{Offer}
-use Rattle.mcf_assign.specs.Private.Searches.{IsDue, IsSearch, IsSettling, Search, Settled, link_at, paired}
-use Rattle.mcf_assign.proofs.Nearest.{not_true}
+use Rattle.mcf_assign.specs.Private.Rooms.{out_count}
+use Rattle.mcf_assign.specs.Private.Searches.{IsDue, IsReady, IsSearch, KeepsLabels, Search, Settled, forward, link_at, paired}
+use Rattle.mcf_assign.proofs.Rooms.{out_more, out_push}
+use Rattle.mcf_assign.proofs.Settling.{IsSettling, paired_is, settled_ready, two_more}
 use Rattle.mcf_assign.proofs.PairLaws.{column_is, pairing_at, row_column, row_is}
 
 -- ---- places
@@ -75,66 +75,29 @@ forth_room s k ok arc none =
 back_room : (s : Pseudoflow) (k : ℕ) → IsPair s k → HasRoom s (rid k true)
 back_room s k pair = (let one = pair.one in record { arc = pair.arc; room = omega (arith, ints, one) })
 
--- ---- the search begins
+-- ---- the same list, while other offers wait
 
-pub ordered_start : (s : Pseudoflow) (q : Search) (source : ℕ) → IsPartialMatching s → IsRow s source
-    → ((v : ℕ) → IsNode (node_count s.net) v → Settled q v → v ≡ source) → Settled q source → member_count q.settled ≡ 1 → ¬ IsMatchedRow s source
-    → IsOrder s q source (source ∷ [])
-ordered_start s q source ok row only settled tally free =
-    record {
-      rest = [];
-      first = refl;
-      once = λ i j d l m. absurd (omega (arith, l, m));
-      nodes = λ k d l. one_node k d l;
-      listed = λ v n h. (zero, omega arith, sym (only v n h));
-      members = λ v (k, l, e). at_zero v k l e;
-      tally = sym tally;
-      reachable = λ v n h set closed has. subst (λ u. set u ≡ true) (sym (only v n h)) has;
-      rows = λ v r h. inl (only v r.0 h);
-      pairs = λ k p h. absurd (free (k, p, only (row_of s k) (row_is s k ok p.arc).0 h));
-      links = λ v column h. absurd (row_column s source v row column (sym (only v column.0 h)));
-    }
-  where
-    one_node : (k d : ℕ) → k < length (source ∷ []) → IsNode (node_count s.net) (get_or (source ∷ []) k d)
-    one_node zero d l = row.0
-    one_node (suc k) d l = absurd (omega (arith, l))
-
-    at_zero : (v k : ℕ) → k < length (source ∷ []) → get_or (source ∷ []) k v ≡ v → Settled q v
-    at_zero v zero l e = subst (λ u. Settled q u) e settled
-    at_zero v (suc k) l e = absurd (omega (arith, l))
-
--- the same list, while the links of the settled columns stay
-pub ordered_kept : (s : Pseudoflow) (q q' : Search) (source : ℕ) (order order' : List ℕ) → order' ≡ order → q'.settled ≡ q.settled
-    → ((v : ℕ) → IsNode (node_count s.net) v → Settled q v → link_at q' v ≡ link_at q v) → IsOrder s q source order → IsOrder s q' source order'
-ordered_kept s q q' source order order' same settled links was =
-    subst (λ o. IsOrder s q' source o) (sym same) now
-  where
-    back : (v : ℕ) → Settled q' v → Settled q v
-    back v h = sym (ap (λ t. get_or t (v - 1) false) settled) ∙ h
-
-    forth : (v : ℕ) → Settled q v → Settled q' v
-    forth v h = ap (λ t. get_or t (v - 1) false) settled ∙ h
-
-    now : IsOrder s q' source order
-    now =
-        record {
-          rest = was.rest;
-          first = was.first;
-          once = was.once;
-          nodes = was.nodes;
-          listed = λ v n h. was.listed v n (back v h);
-          members = λ v c. forth v (was.members v c);
-          tally = was.tally ∙ ap member_count (sym settled);
-          reachable = λ v n h. was.reachable v n (back v h);
-          rows = λ v r h. was.rows v r (back v h);
-          pairs = λ k p h. was.pairs k p (back (row_of s k) h);
-          links = λ v column h. subst (λ k. place order (row_of s k) < place order v) (sym (links v column.0 (back v h))) (was.links v column (back v h));
-        }
+pub order_kept : (s : Pseudoflow) (q q' : Search) (source : ℕ) (order order' : List ℕ) → KeepsLabels q q' → order' ≡ order → IsOrder s q source order
+    → IsOrder s q' source order'
+order_kept s q q' source order order' labels same was =
+    subst (λ (x : Search). IsOrder s x source order') (sym labels) (subst (λ l. IsOrder s (record q { queue = q'.queue; best = q'.best }) source l) (sym same) (record {
+      rest = was.rest;
+      first = was.first;
+      once = was.once;
+      nodes = was.nodes;
+      listed = was.listed;
+      members = was.members;
+      tally = was.tally;
+      reachable = was.reachable;
+      rows = was.rows;
+      pairs = was.pairs;
+      links = was.links;
+    }))
 
 -- ---- one pair more
 
-module _ (s : Pseudoflow) (y : List ℤ) (q q' : Search) (source : ℕ) (o : Offer) (r k0 : ℕ) (order : List ℕ) (rest0 : List Rid) (ok : IsPartialMatching s)
-    (search : IsSearch s y q source rest0) (was : IsOrder s q source order) (step : IsSettling s q q' o r) (pair : IsPair s k0)
+module _ (s : Pseudoflow) (y : List ℤ) (q q' : Search) (source : ℕ) (o : Offer) (r k0 : ℕ) (order : List ℕ) (ok : IsPartialMatching s)
+    (search : IsSearch s y q source (forward o.arc ∷ [])) (was : IsOrder s q source order) (step : IsSettling s q q' o r) (pair : IsPair s k0)
     (at_column : column_of s k0 ≡ o.column) (at_row : row_of s k0 ≡ r) (due : IsDue s y q o)
     (more : member_count q'.settled ≡ member_count q.settled + 2) where
   abbrev c : ℕ
@@ -219,6 +182,13 @@ module _ (s : Pseudoflow) (y : List ℤ) (q q' : Search) (source : ℕ) (o : Off
         | inr e ↦ subst (λ u. IsNode (node_count s.net) u) (sym e) r_is.0
       ]
 
+  -- as many arcs more leave the nodes of the list as leave the row
+  pub out_longer : out_count s.net order + out_count s.net (r ∷ []) ≤ out_count s.net longer
+  out_longer =
+      let first = out_more s.net order (c ∷ []) in
+      let last = out_push s.net (order ++ c ∷ []) r r_not_before in
+      omega (arith, first, last)
+
   pub ordered_more : IsOrder s q' source longer
   ordered_more =
       record {
@@ -293,52 +263,40 @@ module _ (s : Pseudoflow) (y : List ℤ) (q q' : Search) (source : ℕ) (o : Off
             | inr (inr e) ↦ absurd (row_column s r v r_is column (sym e))
           ]
 
--- ---- as the code writes it
+-- a pair that was settled: the search goes on with its row, which is listed behind its column
+pub record IsSettled (s : Pseudoflow) (y : List ℤ) (q : Search) (source : ℕ) (order : List ℕ) (o : Offer) (r : ℕ) : Type 0 where
+  pub ready : IsReady s y (paired q o r) source r
+  pub listed : IsOrder s (paired q o r) source ((order ++ o.column ∷ []) ++ r ∷ [])
+  pub few : length order + 2 ≤ node_count s.net
+  pub arcs : out_count s.net order + out_count s.net (r ∷ []) ≤ out_count s.net ((order ++ o.column ∷ []) ++ r ∷ [])
 
-all_false : (t : List Bool) → ((i : ℕ) → get_or t i false ≡ false) → t ≡ replicate (length t) false
-all_false [] h = refl
-all_false (b ∷ t) h = ap (λ x. x ∷ t) (h zero) ∙ ap (λ x. false ∷ x) (all_false t (λ i. h (suc i)))
+pub pair_settled : (s : Pseudoflow) (y : List ℤ) (q : Search) (source : ℕ) (order : List ℕ) (o : Offer) (r : ℕ) → IsPartialMatching s
+    → AreMatchingPrices s y → IsSearch s y q source (forward o.arc ∷ []) → IsOrder s q source order → IsDue s y q o
+    → (k : ℕ) × IsPair s k × (column_of s k ≡ o.column) × (row_of s k ≡ r) → IsSettled s y q source order o r
+pair_settled s y q source order o r ok shown search was due (k, pair, at_column, at_row) =
+    record {
+      ready = settled_ready s y q (paired q o r) source o r k ok search step pair at_column at_row due shown more;
+      listed = now;
+      few = (
+          let count = search.entries.settled_count in
+          let tally = was.tally in
+          let small = count_small (paired q o r).settled in
+          let same = step.settled_count in
+          omega (arith, more, tally, small, same, count));
+      arcs = out_longer s y q (paired q o r) source o r k order ok search was step pair at_column at_row due more;
+    }
+  where
+    c_is : IsColumn s o.column
+    c_is = subst (λ v. IsColumn s v) at_column (column_is s k ok pair.arc)
 
--- a table that marks nothing counts nothing
-pub none_counted : (t : List Bool) → ((v : ℕ) → in_table t v ≡ false) → member_count t ≡ 0
-none_counted t h =
-    ap member_count (all_false t (λ i. ap (λ j. get_or t j false) (let e : i ≡ i + 1 - 1 = omega arith in e) ∙ h (i + 1))) ∙ count_none (length t)
+    r_is : IsRow s r
+    r_is = subst (λ v. IsRow s v) at_row (row_is s k ok pair.arc)
 
-pub begun_order : (s : Pseudoflow) (q q' : Search) (source i : ℕ) (order : List ℕ) → IsPartialMatching s → IsRow s source → ¬ IsMatchedRow s source
-    → length q.settled ≡ node_count s.net → ((v : ℕ) → in_table q.settled v ≡ false) → i ≡ source - 1 → q'.settled ≡ set q.settled i true → order ≡ source ∷ []
-    → IsOrder s q' source order
-begun_order s q q' source i order ok row free count unsettled ei settled listed =
-    let at : q'.settled ≡ with_node q.settled source = settled ∙ ap (λ j. set q.settled j true) ei in
-    let node : IsNode (length q.settled) source = (let n = row.0 in (n.0, omega (arith, n, count))) in
-    let here : Settled q' source = ap (λ t. get_or t (source - 1) false) at ∙ marked_new q.settled source node in
-    let only : (v : ℕ) → IsNode (node_count s.net) v → Settled q' v → v ≡ source =
-    λ (v : ℕ) (n : IsNode (node_count s.net) v) (h : Settled q' v). elim
-    (marked_only q.settled source v node (n.0, omega (arith, n, count)) (sym (ap (λ t. get_or t (v - 1) false) at) ∙ h)) [
-      | inl e ↦ e
-      | inr was ↦ absurd (true≢false (sym was ∙ unsettled v))
-    ] in
-    let one : member_count q'.settled ≡ 1 =
-    (let a = ap member_count at in let b = counted_new q.settled source node (unsettled source) in let n = none_counted q.settled unsettled in omega
-    (arith, a, b, n)) in
-    subst (λ o. IsOrder s q' source o) (sym listed) (ordered_start s q' source ok row only here one free)
+    step : IsSettling s q (paired q o r) o r
+    step = paired_is s q o r search.entries c_is.0 r_is.0 (λ e. row_column s r o.column r_is c_is (sym e))
 
--- a pair that is settled counts two more
-pub two_more : (s : Pseudoflow) (y : List ℤ) (q : Search) (source : ℕ) (o : Offer) (r k0 : ℕ) (rest : List Rid) → IsPartialMatching s
-    → length q.settled ≡ node_count s.net → IsSearch s y q source rest → IsPair s k0 → column_of s k0 ≡ o.column → row_of s k0 ≡ r
-    → ¬ Settled q o.column → member_count (paired q o r).settled ≡ member_count q.settled + 2
-two_more s y q source o r k0 rest ok count search pair at_column at_row c_new =
-    let c = o.column in
-    let c_is : IsColumn s c = subst (λ v. IsColumn s v) at_column (column_is s k0 ok pair.arc) in
-    let r_is : IsRow s r = subst (λ v. IsRow s v) at_row (row_is s k0 ok pair.arc) in
-    let r_new : ¬ Settled q r = λ (h : Settled q r). c_new
-    (subst (λ v. Settled q v) at_column (search.pairs k0 pair (subst (λ v. Settled q v) (sym at_row) h)).0) in
-    let nc : IsNode (length q.settled) c = (let n = c_is.0 in (n.0, omega (arith, n, count))) in
-    let nr : IsNode (length q.settled) r = (let n = r_is.0 in (n.0, omega (arith, n, count))) in
-    let nr' : IsNode (length (with_node q.settled c)) r = (nr.0, omega (arith, nr, length-set q.settled (c - 1) true)) in
-    let r_still : in_table (with_node q.settled c) r ≡ true → ⊥ = λ (h : in_table (with_node q.settled c) r ≡ true). elim (marked_only q.settled c r nc nr h) [
-      | inl e ↦ row_column s r c r_is c_is e
-      | inr was ↦ r_new was
-    ] in
-    let one = counted_new q.settled c nc (not_true (in_table q.settled c) c_new) in
-    let two = counted_new (with_node q.settled c) r nr' (not_true (in_table (with_node q.settled c) r) r_still) in
-    omega (arith, one, two)
+    more : member_count (paired q o r).settled ≡ member_count q.settled + 2
+    more = two_more s y q source o r k (forward o.arc ∷ []) ok search.entries.settled_count search pair at_column at_row due.fresh
+
+    now : IsOrder s (paired q o r) source ((order ++ o.column ∷ []) ++ r ∷ [])
+    now = ordered_more s y q (paired q o r) source o r k order ok search was step pair at_column at_row due more

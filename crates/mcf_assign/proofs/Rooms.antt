@@ -1,10 +1,9 @@
 -- How many arcs leave the rows of a search.
-use Rattle.std.proofs.Common.{◌≡◌, ◌≢◌, ◌||◌, ℕ, zero, suc, ◌+◌, ◌-◌, ◌<◌, ◌≤◌, Bool, cond, eqb, true, false, List, [], ◌∷◌, ◌++◌, length, map, take, get_or, refl, sym, ◌∙◌, ap, subst, arith, inl, inr}
+use Rattle.std.proofs.Common.{◌≡◌, ◌≢◌, ◌||◌, ℕ, zero, suc, ◌+◌, ◌-◌, ◌≤◌, Bool, cond, eqb, true, false, List, [], ◌∷◌, ◌++◌, length, map, get_or, refl, sym, ◌∙◌, ap, subst, arith, inl, inr}
 use Rattle.std.specs.Prelude.{Result, Ok, Err, OnErr}
 use Rattle.std.specs.List.{All, AllPairs, Contains, count_by, list_any, range_with_len, remove}
-use Rattle.std.proofs.lemmas.Bool.{cases_lt, eq-eqb, eqb-true}
-use Rattle.std.proofs.lemmas.List.{get_or_default, get_or-take, length-map, length-take-le, take_all, take-append-le, take_more}
-use Rattle.std.proofs.Math.Seq.{take-append-add}
+use Rattle.std.proofs.lemmas.Bool.{eq-eqb, eqb-true}
+use Rattle.std.proofs.lemmas.List.{length-map}
 use Rattle.std.proofs.lemmas.List.Elements.{All-head, All-tail}
 use Rattle.std.proofs.lemmas.List.FromFn.{get_or-map-range_with_len, length-range_with_len}
 use Rattle.std.proofs.lemmas.List.Folds.{list_any-append}
@@ -16,12 +15,10 @@ use Rattle.mcf_network.specs.declared.rid.Rid.{Rid}
 use Rattle.mcf_network.specs.Residual.{arc_at}
 use Rattle.mcf_network.proofs.Lists.{Contains-cons}
 use Rattle.mcf_assign.specs.declared.rows.RowArc.{RowArc}
-use Rattle.mcf_assign.specs.Private.Rooms.{out_count}
+use Rattle.mcf_assign.specs.declared.search.Tables.{Tables}
+use Rattle.mcf_assign.specs.Private.Rooms.{HasRoom, KeepsRoom, all_forward, out_count}
 use Rattle.mcf_assign.specs.Private.RowLists.{IsRowArc, forward_of}
-use Rattle.mcf_assign.specs.Private.Scans.{all_forward}
-
-abbrev forward : ℕ → Rid
-forward k = record { arc = k; back = false }
+use Rattle.mcf_assign.specs.Private.Searches.{forward}
 
 pub all_has : (g : Network) (k : ℕ) → IsArcNumber g k → Contains (all_forward g) (forward k)
 all_has g k h =
@@ -147,49 +144,21 @@ out_push g xs v fresh =
           | inr none ↦ absurd (let (i, l, e) = none in omega (arith, l))
         ]
 
--- ---- rows that were scanned
+-- ---- one step after another
 
--- a list that got longer
-pub out_longer : (g : Network) (xs ys more : List ℕ) (i : ℕ) → ys ≡ xs ++ more → out_count g (take i xs) ≤ out_count g (take i ys)
-out_longer g xs ys more i e = elim (cases_lt i (length xs)) [
-  | inl l ↦ (
-      let same = ap (λ z. out_count g z) (ap (λ z. take i z) e ∙ take-append-le i xs more (omega (arith, l))) in
-      omega (arith, same))
-  | inr m ↦ (
-      let all : take i ys ≡ take i xs ++ take (i - length xs) more = ap (λ z. take i z) e
-      ∙ ap (λ j. take j (xs ++ more)) (let f : i ≡ length xs + (i - length xs) = omega (arith, m) in f)
-      ∙ take-append-add xs more (i - length xs)
-      ∙ ap (λ z. z ++ take (i - length xs) more) (sym (take_all i xs m)) in
-      subst (λ z. out_count g (take i xs) ≤ out_count g z) (sym all) (out_more g (take i xs) (take (i - length xs) more)))
-]
+pub room_after : (a b all : ℕ) (p q r : Tables) → KeepsRoom a p q → KeepsRoom b q r → a + b ≤ all → KeepsRoom all p r
+room_after a b all p q r first second fits =
+    let m = first.room in
+    let n = second.room in
+    let few = first.few in
+    let more = second.few in
+    record { order = second.order ∙ first.order; room = omega (arith, m, n); few = omega (arith, few, more, fits) }
 
--- one row more of the order, and the column behind it
-pub out_scanned : (g : Network) (order : List ℕ) (i v : ℕ) → AllPairs (λ u w. u ≢ w) order → i < length order → get_or order i 0 ≡ v
-    → out_count g (take i order) + out_count g (v ∷ []) ≤ out_count g (take (i + 2) order)
-out_scanned g order i v once inside at =
-    let one : take (i + 1) order ≡ take i order ++ v ∷ [] = take_more order i 0 inside ∙ ap (λ w. take i order ++ w ∷ []) at in
-    let two : out_count g (take (i + 1) order) ≤ out_count g (take (i + 2) order) = next in
-    let here = out_push g (take i order) v fresh in
-    let same = ap (λ l. out_count g l) one in
-    omega (arith, two, here, same)
-  where
-    fresh : ¬ Contains (take i order) v
-    fresh (j, l, e) =
-        let before : j < i = omega (arith, l, length-take-le i order (omega (arith, inside))) in
-        once j i v before inside (sym (get_or-take i order j v before) ∙ e ∙ sym (get_or_default order i v 0 inside ∙ at))
-
-    next : out_count g (take (i + 1) order) ≤ out_count g (take (i + 2) order)
-    next = elim (cases_lt (i + 1) (length order)) [
-      | inl l ↦ (
-          let two : i + 2 ≡ i + 1 + 1 = omega arith in
-          subst (λ (xs : List ℕ). out_count g (take (i + 1) order) ≤ out_count g xs) (sym (ap (λ j. take j order) two ∙ take_more order (i + 1) 0 l))
-          (out_more g (take (i + 1) order) (get_or order (i + 1) 0 ∷ [])))
-      | inr m ↦ (
-          let a = take_all (i + 1) order (omega (arith, m)) in
-          let b = take_all (i + 2) order (omega (arith, m)) in
-          let same = ap (λ l. out_count g l) (a ∙ sym b) in
-          omega (arith, same))
-    ]
+pub room_left : (a b all : ℕ) (p q : Tables) → KeepsRoom a p q → HasRoom all p → a + b ≤ all → HasRoom b q
+room_left a b all p q kept has fits =
+    let more = kept.room in
+    let few = kept.few in
+    omega (arith, more, few, has, fits)
 
 -- ---- want of memory
 

@@ -23,7 +23,8 @@ use Rattle.mcf_assign.specs.Private.Reaches.{update_reach}
 use Rattle.mcf_assign.specs.Private.RowLists.{AreRows, IsKeptRow, IsRowArc, forward_of, span_at}
 use Rattle.mcf_assign.specs.Private.Updating.{AreUpdated, DoesArcFit, DoesNodeFit, IsReadable, mate_at}
 use Rattle.mcf_assign.proofs.PairLaws.{assignment_of, row_is}
-use Rattle.mcf_assign.proofs.RowLists.{forward, kept_row}
+use Rattle.mcf_assign.proofs.RowLists.{kept_row}
+use Rattle.mcf_assign.specs.Private.Searches.{forward}
 
 -- ---- mates
 

@@ -3,7 +3,6 @@ pub mod Reaches
 pub mod RowLists
 pub mod Scenes
 pub mod Searches
-pub mod Scans
 pub mod Queues
 pub mod Rooms
 pub mod Turning

@@ -20,11 +20,11 @@ pub(crate) struct Scene<'a, 'n> {
     pub(crate) mates: &'a [u32],
 }
 
-/// A settled row whose arcs are relaxed: its distance, and what its arcs offer but for their costs and the prices of their columns.
+/// A settled row whose arcs are relaxed, and its distance less its price: what its arcs offer but for their costs and the prices of
+/// their columns.
 #[derive(Clone, Copy)]
 pub(crate) struct Row {
     pub(crate) id: NodeId,
-    pub(crate) level: i128,
     pub(crate) base: i128,
 }
 

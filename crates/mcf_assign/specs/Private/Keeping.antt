@@ -8,7 +8,7 @@ use Rattle.mcf_network.specs.States.{Pseudoflow}
 use Rattle.mcf_assign.specs.declared.search.Tables.{Tables}
 use Rattle.mcf_assign.specs.Private.Forests.{AreMates, IsOrder}
 use Rattle.mcf_assign.specs.Matchings.{AreMatchingPrices, IsMatchedRow, IsPartialMatching, IsRow, price_limit}
-use Rattle.mcf_assign.specs.Private.Searches.{HasEntries, IsNear, IsOver, IsSearch, Search, Settled, reach_of, search_of}
+use Rattle.mcf_assign.specs.Private.Searches.{HasEntries, IsOver, IsSearch, Search, Settled, search_of}
 
 -- tables for a net: what is settled is listed, and there is room to list every node, and to queue an offer of every arc twice
 pub record IsIdle (g : Network) (tables : Tables) : Type 0 where
@@ -22,7 +22,6 @@ pub record IsIdle (g : Network) (tables : Tables) : Type 0 where
 pub record IsEnded (s : Pseudoflow) (y : List ℤ) (q : Search) (source : ℕ) (order : List ℕ) : Type 0 where
   pub search : IsSearch s y q source []
   pub over : IsOver q
-  pub near : IsNear s y q source (reach_of q)
   pub order_ok : IsOrder s q source order
 
 -- each price is that of a matching

@@ -8,7 +8,7 @@ use Rattle.mcf_assign.specs.declared.scene.Row.{Row}
 use Rattle.mcf_assign.specs.Matchings.{AreMatchingPrices, IsPartialMatching}
 use Rattle.mcf_assign.specs.Private.Forests.{AreMates}
 use Rattle.mcf_assign.specs.Private.RowLists.{AreRows}
-use Rattle.mcf_assign.specs.Private.Searches.{IsLast, Search, Settled, dist_at}
+use Rattle.mcf_assign.specs.Private.Searches.{HasEntries, IsLast, Search, Settled, dist_at}
 use Rattle.mcf_assign.specs.Private.Reaches.{base_reach}
 use Rattle.mcf_assign.specs.Private.Keeping.{AreNearZero}
 
@@ -20,12 +20,13 @@ pub record IsScene (s : Pseudoflow) (arcs : Rows) (y : List ℤ) (table : List �
   pub mates : AreMates s table
   pub small : AreNearZero s y
 
--- a settled row than which no settled node is farther, with its distance, and what its arcs offer but for their costs and
--- the prices of their columns
-pub record IsFarthestRow (s : Pseudoflow) (y : List ℤ) (q : Search) (row : Row) : Type 0 where
+-- what holds while the arcs of a row are relaxed: it is settled, no settled node is farther, and its base is its distance less its
+-- price, so that an arc offers its column that base, its cost and the price of the column together
+pub record IsScannedRow (s : Pseudoflow) (arcs : Rows) (y : List ℤ) (table : List ℕ) (q : Search) (row : Row) : Type 0 where
+  pub scene : IsScene s arcs y table
+  pub entries : HasEntries (node_count s.net) q
   pub node : IsNode (node_count s.net) row.id
   pub settled : Settled q row.id
   pub last : IsLast s q row.id
-  pub level : row.level ≡ dist_at q row.id
-  pub base : row.base ≡ row.level -ℤ at_node y row.id
+  pub base : row.base ≡ dist_at q row.id -ℤ at_node y row.id
   pub near : IsUpTo base_reach row.base

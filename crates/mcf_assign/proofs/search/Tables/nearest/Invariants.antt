@@ -1,14 +1,17 @@
-use Rattle.std.proofs.Common.{◌≡◌, ◌≤◌, None, length}
-use Rattle.mcf_assign.specs.Private.Searches.{IsTaken, search_of}
+use Rattle.std.proofs.Common.{ℕ, ℤ, List, [], length}
+use Rattle.mcf_network.specs.States.{Pseudoflow}
+use Rattle.mcf_assign.specs.Matchings.{IsPartialMatching}
+use Rattle.mcf_assign.specs.Private.Rooms.{KeepsRoom}
+use Rattle.mcf_assign.specs.Private.Searches.{IsSearch, KeepsLabels, search_of}
 use Rattle.mcf_assign.proofs.search.Tables.nearest.Given as goal
 
 abbrev pub invariant-offers : goal.invariant-offers
 invariant-offers l =
     record {
-      taken : IsTaken (search_of l.fn.self) (search_of l.self) None;
-      order : l.self.order ≡ l.fn.self.order;
-      room : l.fn.self.offers.room ≤ l.self.offers.room;
-      few : length l.self.offers.items ≤ length l.fn.self.offers.items;
+      search : (s : Pseudoflow) (y : List ℤ) (source : ℕ) → IsPartialMatching s → IsSearch s y (search_of l.fn.self) source []
+          → IsSearch s y (search_of l.self) source [];
+      labels : KeepsLabels (search_of l.fn.self) (search_of l.self);
+      room : KeepsRoom 0 l.fn.self l.self;
     }
 
 abbrev pub decreases-offers : goal.decreases-offers
