@@ -3,9 +3,9 @@ use Rattle.std.proofs.Common.{◌≡◌, ◌+◌, ◌*◌, ◌≢◌, ℕ, ◌-�
 use Rattle.std.proofs.Common.{false, sym, ◌∙◌, ap, subst, arith, ◌⊎◌, inl, inr, vec_capacity}
 use Rattle.std.specs.List.{All, Contains}
 use Rattle.std.proofs.lemmas.Int.{ints}
-use Rattle.std.proofs.lemmas.Bool.{cases_eq, ltb-true, lt-ltb}
+use Rattle.std.proofs.lemmas.Bool.{ltb-true, lt-ltb}
 use Rattle.std.proofs.Math.Seq.{take-append_seam}
-use Rattle.std.proofs.lemmas.List.{get_or_default, get_or-replicate, length-replicate}
+use Rattle.std.proofs.lemmas.List.{get_or-replicate, length-replicate}
 use Rattle.std.proofs.lemmas.List.Elements.{All-contains, Contains-append_left, Contains-get_or, Contains-push, Contains-push_cases}
 use Rattle.std.proofs.lemmas.List.Quantifiers.{all_pairs_push}
 use Rattle.mcf_flows.specs.declared.problem.Problem.TheVariants.{Asn}
@@ -18,10 +18,11 @@ use Rattle.mcf_network.proofs.ArcLaws.{head_is_node, net_arc_at, tail_is_node}
 use Rattle.mcf_network.proofs.Marks.{count_small}
 use Rattle.mcf_network.proofs.StateLaws.{rid}
 use Rattle.mcf_network.proofs.StuckLaws.{stuck_sets_block_lem}
+use Rattle.mcf_assign.specs.declared.scene.Mate.{Mate}
 use Rattle.mcf_assign.specs.declared.search.Tables.{Tables}
 use Rattle.mcf_assign.specs.declared.search.Target.{Target}
 use Rattle.mcf_assign.specs.Extending.{Assigned, IsGrown, IsMatched, IsReachable, IsSettledList, IsShownMatching, IsStopped}
-use Rattle.mcf_assign.specs.Private.Forests.{AreMates, IsChangedWithin, IsOrder}
+use Rattle.mcf_assign.specs.Private.Forests.{AreMates, IsChangedWithin, IsOrder, mate, mate_at}
 use Rattle.mcf_assign.specs.Private.Keeping.{AreFirstPrices, AreNearZero, FreeRowsAreFirst, IsEnded, IsIdle, IsKept, first_price}
 use Rattle.mcf_assign.specs.Matchings.{AreMatchingPrices, IsColumn, IsMatchedRow, IsPair, IsPartialMatching, IsRow, column_of, row_of}
 use Rattle.mcf_assign.specs.Private.Queues.{Queue}
@@ -31,6 +32,7 @@ use Rattle.mcf_assign.proofs.Beginning.{over_stuck}
 use Rattle.mcf_assign.proofs.Found.{found_column, found_free, found_new, found_prices}
 use Rattle.mcf_assign.proofs.LeastMatchings.{least_matching}
 use Rattle.mcf_assign.proofs.Near.{target_near}
+use Rattle.mcf_assign.proofs.Mating.{mate_arc}
 use Rattle.mcf_assign.proofs.Orders.{forth_room}
 use Rattle.mcf_assign.proofs.PairLaws.{column_is, row_is}
 use Rattle.mcf_assign.proofs.Raised.{settled_or_not}
@@ -40,43 +42,20 @@ use Rattle.mcf_assign.proofs.Surpluses.{row_or_column}
 pub written : {X : Type 0} (n : ℕ) (xs ys : List X) → n ≡ length xs → take n (xs ++ ys) ≡ xs
 written n xs ys e = ap (λ k. take k (xs ++ ys)) e ∙ take-append_seam xs ys
 
-pub shown_kept : (s : Pseudoflow) (y : List ℤ) (mates : List ℕ) (tables : Tables) (reached : List Bool) → IsKept s y mates tables reached → (m : Assigned)
+pub shown_kept : (s : Pseudoflow) (y : List ℤ) (mates : List Mate) (tables : Tables) (reached : List Bool) → IsKept s y mates tables reached → (m : Assigned)
     → m.flow ≡ s → m.prices ≡ y → IsShownMatching m
 shown_kept s y mates tables reached kept m ef ep =
     let ok = subst IsPartialMatching (sym ef) kept.matching in
     let shown : AreMatchingPrices m.flow m.prices = subst (λ x. AreMatchingPrices m.flow x) (sym ep) (subst (λ x. AreMatchingPrices x y) (sym ef) kept.shown) in
     record { matching = ok; shown = shown; least = least_matching m.flow m.prices ok shown }
 
--- prices near 0 are small enough for a search
--- ---- whether a node is matched, as its mate tells
-
-pub mates_tell : (s : Pseudoflow) (mates : List ℕ) (v i x : ℕ) → IsPartialMatching s → AreMates s mates → IsNode (node_count s.net) v → i ≡ v - 1
-    → x ≡ get_or mates i x → (ltb 0 x ≡ true → IsMatched s v) × (IsMatched s v → ltb 0 x ≡ true)
-mates_tell s mates v i x ok mated n ei ex =
-    (λ h. forth (ltb-true 0 x h), λ h. lt-ltb 0 x (back h))
-  where
-    same : x ≡ get_or mates (v - 1) 0
-    same = (let count = mated.count in ex ∙ get_or_default mates i x 0 (omega (arith, n, ei, count)) ∙ ap (λ j. get_or mates j 0) ei)
-
-    forth : 0 < x → IsMatched s v
-    forth some =
-        let here : 0 < get_or mates (v - 1) 0 = omega (arith, same, some) in
-        elim (row_or_column s v ok n) [
-          | inl row ↦ (let p = mated.row v row here in (get_or mates (v - 1) 0, p.0, inl p.1))
-          | inr column ↦ (let p = mated.column v column here in (get_or mates (v - 1) 0, p.0, inr p.1))
-        ]
-
-    back : IsMatched s v → 0 < x
-    back (k, p, inl e) =
-        elim (cases_eq x 0) [
-          | inl none ↦ absurd (mated.no_row v (subst (λ u. IsRow s u) e (row_is s k ok p.arc)) (sym same ∙ none) (k, p, e))
-          | inr m ↦ omega (arith, m)
-        ]
-    back (k, p, inr e) =
-        elim (cases_eq x 0) [
-          | inl none ↦ absurd (mated.no_column v (subst (λ u. IsColumn s u) e (column_is s k ok p.arc)) (sym same ∙ none) (k, p, e))
-          | inr m ↦ omega (arith, m)
-        ]
+-- whether a node is matched, as its mate tells
+pub mates_tell : (s : Pseudoflow) (mates : List Mate) (v : ℕ) → AreMates s mates → IsNode (node_count s.net) v
+    → (ltb 0 (mate_at mates v).arc ≡ true → IsMatched s v) × (IsMatched s v → ltb 0 (mate_at mates v).arc ≡ true)
+mates_tell s mates v mated n = (
+  λ h. mated.matched v n (ltb-true 0 (mate_at mates v).arc h),
+  λ (k, p, at). lt-ltb 0 (mate_at mates v).arc (let is = mate_arc s mates mated v k p at in let arc = p.arc in omega (arith, is, arc)),
+)
 
 -- ---- one row more
 
@@ -198,7 +177,7 @@ module _ (s : Pseudoflow) (y z : List ℤ) (q : Search) (row : ℕ) (order : Lis
         listed = λ v n h. subst (λ (l : List ℕ). Contains l v) (sym list) (listed_more v n (subst (λ (x : Search). Settled x v) same h));
       }
 
-pub kept_grown : (s s' : Pseudoflow) (y z : List ℤ) (mates' : List ℕ) (tables tables' : Tables) (reached : List Bool) (row : ℕ) (t : Target)
+pub kept_grown : (s s' : Pseudoflow) (y z : List ℤ) (mates' : List Mate) (tables tables' : Tables) (reached : List Bool) (row : ℕ) (t : Target)
     → IsPartialMatching s → AreMatchingPrices s y → AreNearZero s y → FreeRowsAreFirst s y → length reached ≡ node_count s.net
     → node_count s.net ≤ vec_capacity tables.order → 2 * length s.net.arcs ≤ tables.offers.room → IsRow s row
     → IsEnded s y (search_of tables) row tables.order.items → tables.best ≡ Some t → AreRaised s (search_of tables) t.dist y z
@@ -270,8 +249,8 @@ no_pair g k p =
     let zero_at : get_or (replicate (length g.arcs) (pos 0)) (k - 1) (pos 0) ≡ pos 0 = get_or-replicate (length g.arcs) (k - 1) (pos 0) (pos 0) (omega arith) in
     omega (arith, ints, one, zero_at)
 
-pub kept_first : (g : Network) (y : List ℤ) (mates : List ℕ) (tables : Tables) (reached : List Bool) → IsPseudoflow (first_state g) → g.problem ≡ Asn
-    → AreFirstPrices g y (node_count g) → mates ≡ replicate (node_count g) 0 → IsIdle g tables → length reached ≡ node_count g
+pub kept_first : (g : Network) (y : List ℤ) (mates : List Mate) (tables : Tables) (reached : List Bool) → IsPseudoflow (first_state g) → g.problem ≡ Asn
+    → AreFirstPrices g y (node_count g) → mates ≡ replicate (node_count g) (mate 0 0) → IsIdle g tables → length reached ≡ node_count g
     → IsKept (first_state g) y mates tables reached
 kept_first g y mates tables reached flow asn first em idle count =
     record {
@@ -290,11 +269,10 @@ kept_first g y mates tables reached flow asn first em idle count =
         free = λ v column none. column_price v column;
       };
       mated = record {
-        count = ap (λ (l : List ℕ). length l) em ∙ length-replicate (node_count g) 0;
-        column = λ v h some. absurd (no_mate v h.0 some);
-        no_column = λ v h zero m. no_pair g m.0 m.1;
-        row = λ v h some. absurd (no_mate v h.0 some);
-        no_row = λ v h zero m. no_pair g m.0 m.1;
+        count = ap (λ (l : List Mate). length l) em ∙ length-replicate (node_count g) (mate 0 0);
+        at_row = λ k p. absurd (no_pair g k p);
+        at_column = λ k p. absurd (no_pair g k p);
+        matched = λ v n some. absurd (no_mate v n some);
       };
       idle = idle;
       near = λ v n. elim (row_or_column (first_state g) v ok n) [
@@ -320,8 +298,8 @@ kept_first g y mates tables reached flow asn first em idle count =
     column_price : (v : ℕ) → IsColumn (first_state g) v → at_node y v ≡ pos 0
     column_price v column = first.others v column.0 (let less = column.1 in omega (arith, ints, less))
 
-    no_mate : (v : ℕ) → IsNode (node_count g) v → 0 < get_or mates (v - 1) 0 → ⊥
+    no_mate : (v : ℕ) → IsNode (node_count g) v → 0 < (mate_at mates v).arc → ⊥
     no_mate v n some =
-        let at = ap (λ (l : List ℕ). get_or l (v - 1) 0) em in
-        let zero_at = get_or-replicate {A = ℕ} (node_count g) (v - 1) 0 0 (omega (arith, n)) in
-        omega (arith, at, zero_at, some)
+        let none = ap (λ (l : List Mate). (mate_at l v).arc) em
+        ∙ ap (λ (m : Mate). m.arc) (get_or-replicate (node_count g) (v - 1) (mate 0 0) (mate 0 0) (omega (arith, n))) in
+        omega (arith, none, some)

@@ -5,18 +5,20 @@ use Rattle.std.specs.List.{All}
 use Rattle.std.proofs.lemmas.Int.{ints}
 use Rattle.std.proofs.lemmas.List.Elements.{All-cons}
 use Rattle.std.proofs.lemmas.List.Kept.{AllPairs-cons}
-use Rattle.mcf_flows.specs.Network.{Network, IsArcNumber}
+use Rattle.std.proofs.lemmas.List.{get_or_default}
+use Rattle.mcf_flows.specs.Network.{Network, IsArcNumber, IsNode, node_count}
 use Rattle.mcf_network.specs.declared.rid.Rid.{Rid}
-use Rattle.mcf_network.specs.Residual.{arc_at}
 use Rattle.mcf_network.specs.States.{Pseudoflow, amount_at, pushed}
 use Rattle.mcf_network.specs.Walks.{HasRoomFor}
 use Rattle.mcf_network.proofs.StateLaws.{rid}
-use Rattle.mcf_assign.specs.Private.Forests.{AreMates, IsChangedWithin, IsForest, IsTightArc, IsTurning, place}
+use Rattle.mcf_assign.specs.declared.scene.Mate.{Mate}
+use Rattle.mcf_assign.specs.Private.Forests.{AreMates, IsChangedWithin, IsForest, IsTightArc, IsTurning, mate_at, place}
 use Rattle.mcf_assign.specs.Matchings.{IsColumn, IsMatchedColumn, IsMatchedRow, IsPair, IsPartialMatching, column_of, row_of}
-use Rattle.mcf_assign.specs.Private.Searches.{Search, Settled, link_at}
+use Rattle.mcf_assign.specs.Private.Searches.{HasEntries, Search, Settled, link_at}
 use Rattle.mcf_assign.specs.Extending.{IsAugmented}
 use Rattle.mcf_assign.specs.Private.Turning.{IsExtended, IsPushedFrom, IsTurned}
 use Rattle.mcf_assign.proofs.Augmented.{push_first}
+use Rattle.mcf_assign.proofs.Mating.{mate_none, row_mate}
 use Rattle.mcf_assign.proofs.PairLaws.{amount_is, column_is, pairing_at, row_is}
 use Rattle.mcf_assign.proofs.Pairing.{amount_pushed, paired_ok, unpaired_ok}
 use Rattle.mcf_assign.proofs.Turned.{free_idle, turned_end, turned_next, turned_start}
@@ -41,9 +43,9 @@ changed_more old amounts q t k b ok arc ends before i h =
       ]
     ]
 
-pub turning_start : (s : Pseudoflow) (mates : List ℕ) (q : Search) (order : List ℕ) (target source : ℕ) (z : List ℤ) → IsForest s q source order z
+pub turning_start : {s : Pseudoflow} {mates : List Mate} {q : Search} {order : List ℕ} {target source : ℕ} {z : List ℤ} → IsForest s q source order z
     → IsTightArc s q z target (column_of s target) → ¬ IsMatchedColumn s (column_of s target) → AreMates s mates → IsTurning s s mates q order target target
-turning_start s mates q order target source z forest tight free mated =
+turning_start {s} {mates} {q} {order} {target} {source} {z} forest tight free mated =
     record {
       net = refl;
       matching = forest.matching;
@@ -74,7 +76,20 @@ parted_row s j k ok pair from (i, p, e) =
 pub parted_column : (s : Pseudoflow) (j v : ℕ) → IsPartialMatching s → IsPair s j → ¬ IsMatchedColumn s v → ¬ IsMatchedColumn (parted s j) v
 parted_column s j v ok pair free (i, p, e) = free (i, ((unpaired_ok s j ok pair).was i p).0, e)
 
-module _ (old : Pseudoflow) (amounts : List ℤ) (mates : List ℕ) (q : Search) (order : List ℕ) (target k source : ℕ) (z : List ℤ)
+-- ---- one arc of the path
+
+-- what a turn may do: where the row of the arc is matched, exchange its pair for the arc and go on with the link of the column that is
+-- free then; else put the arc in and end
+pub record CanTurn (old s : Pseudoflow) (q : Search) (order : List ℕ) (target k : ℕ) : Type 0 where
+  pub free : ¬ IsMatchedColumn s (column_of s k)
+  pub next : (j : ℕ) → IsPair s j → row_of s j ≡ row_of s k → (mates : List Mate) → AreMates (joined (parted s j) k) mates
+      → IsTurning old (joined (parted s j) k) mates q order target (link_at q (column_of s j))
+      × (place order (row_of s (link_at q (column_of s j))) < place order (row_of s k))
+  pub end : ¬ IsMatchedRow s (row_of s k) → (source : ℕ) (z : List ℤ) → IsForest old q source order z → IsTightArc old q z target (column_of old target)
+      → IsExtended old (joined s k) z source (column_of old target)
+  pub changed : ¬ IsMatchedRow s (row_of s k) → IsChangedWithin old (joined s k) q (column_of old target)
+
+module _ {old : Pseudoflow} {amounts : List ℤ} {mates : List Mate} {q : Search} {order : List ℕ} {target k source : ℕ} {z : List ℤ}
     (forest : IsForest old q source order z) (end : IsTightArc old q z target (column_of old target))
     (turning : IsTurning old (record { net = old.net; amounts = amounts }) mates q order target k) where
   abbrev s : Pseudoflow
@@ -86,7 +101,7 @@ module _ (old : Pseudoflow) (amounts : List ℤ) (mates : List ℕ) (q : Search)
   here : IsTurned old s z (place order) (place order (row_of old k) + 1) t (column_of old k)
   here = (turning.turned source z forest end).1
 
-  pub free_at : ¬ IsMatchedColumn s (column_of s k)
+  free_at : ¬ IsMatchedColumn s (column_of s k)
   free_at = here.free
 
   -- ---- the path so far, and arc k before it
@@ -146,7 +161,7 @@ module _ (old : Pseudoflow) (amounts : List ℤ) (mates : List ℕ) (q : Search)
     next_arc : IsTightArc old q z next (column_of old j)
     next_arc = forest.links (column_of old j) column_j column_settled
 
-    pub falls_at : place order (row_of old next) < place order (row_of old k)
+    falls_at : place order (row_of old next) < place order (row_of old k)
     falls_at =
         let one = forest.earlier (column_of old j) column_j column_settled in
         let two = forest.pairs j was_pair row_settled in
@@ -215,7 +230,7 @@ module _ (old : Pseudoflow) (amounts : List ℤ) (mates : List ℕ) (q : Search)
               ∙ push_first (parted old j) path.walk (rid k false) (pos 1) (apart_from k turning.arc refl);
         }
 
-    pub next_at : (mates' : List ℕ) → AreMates done mates' → IsTurning old done mates' q order target next
+    next_at : (mates' : List Mate) → AreMates done mates' → IsTurning old done mates' q order target next
     next_at mates' mated =
         record {
           net = refl;
@@ -255,80 +270,61 @@ module _ (old : Pseudoflow) (amounts : List ℤ) (mates : List ℕ) (q : Search)
       turned = ap (λ (x : Pseudoflow). joined x k) path.turned ∙ push_first old path.walk (rid k false) (pos 1) (apart_from k turning.arc refl);
     }
 
-    pub end_at : (source' : ℕ) (z' : List ℤ) → IsForest old q source' order z' → IsTightArc old q z' target t → IsExtended old (joined s k) z' source' t
+    end_at : (source' : ℕ) (z' : List ℤ) → IsForest old q source' order z' → IsTightArc old q z' target t → IsExtended old (joined s k) z' source' t
     end_at source' z' forest' end' =
         let was = turning.turned source' z' forest' end' in
         subst (λ r. IsExtended old (joined s k) z' r t) (is_source source' z' forest')
         (turned_end old s z' (place order) (place order (row_of old k) + 1) t (column_of old k) k was.1 turning.arc refl was.0.tight single
         end_path)
 
-    pub changed_at : IsChangedWithin old (joined s k) q t
-    changed_at =
-        changed_more old amounts q t k false turning.matching turning.arc (turning.from, turning.to) turning.changed
+  can_turn : CanTurn old s q order target k
+  can_turn =
+      record {
+        free = free_at;
+        next = λ j pair from mates' mated. (next_at j pair from mates' mated, falls_at j pair from);
+        end = λ single source' z' forest' end'. end_at single source' z' forest' end';
+        changed = λ single. changed_more old amounts q t k false turning.matching turning.arc (turning.from, turning.to) turning.changed;
+      }
 
--- ---- the same of a state whose net is known to be the same
+-- the same of a state whose net is known to be the same
+pub turns : {old s : Pseudoflow} {mates : List Mate} {q : Search} {order : List ℕ} {target k source : ℕ} {z : List ℤ} → IsForest old q source order z
+    → IsTightArc old q z target (column_of old target) → IsTurning old s mates q order target k → CanTurn old s q order target k
+turns {old} {s} {mates} {q} {order} {target} {k} {source} {z} forest end turning =
+    let P : Network → Type 0 = λ n. IsTurning old (record { net = n; amounts = s.amounts }) mates q order target k
+    → CanTurn old (record { net = n; amounts = s.amounts }) q order target k in
+    subst P (sym turning.net) (λ x. can_turn forest end x) turning
 
-module _ (old s : Pseudoflow) (mates : List ℕ) (q : Search) (order : List ℕ) (target k source : ℕ) (z : List ℤ) (forest : IsForest old q source order z)
-    (end : IsTightArc old q z target (column_of old target)) (turning : IsTurning old s mates q order target k) where
-  abbrev at_net : Network → Pseudoflow
-  at_net n = record { net = n; amounts = s.amounts }
+-- the mate of the row of arc k, as it is read
+module _ {old s : Pseudoflow} {mates : List Mate} {q : Search} {order : List ℕ} {target k : ℕ} {m : Mate} (turning : IsTurning old s mates q order target k)
+    (read : m ≡ mate_at mates (row_of s k)) where
+  turning_arc : IsArcNumber s.net k
+  turning_arc = subst (λ (g : Network). IsArcNumber g k) (sym turning.net) turning.arc
 
-  pub turning_free : ¬ IsMatchedColumn s (column_of s k)
-  turning_free =
-      let P : Network → Type 0 = λ n. IsTurning old (at_net n) mates q order target k → ¬ IsMatchedColumn (at_net n) (column_of (at_net n) k) in
-      subst P (sym turning.net) (λ x. free_at old s.amounts mates q order target k source z forest end x) turning
+  pub turning_single : m.arc ≡ 0 → ¬ IsMatchedRow s (row_of s k)
+  turning_single none (i, p, e) = mate_none s mates turning.mated (row_of s k) (ap (λ (n : Mate). n.arc) (sym read) ∙ none) (i, p, inl e)
 
-  pub turning_next : (j : ℕ) → IsPair s j → row_of s j ≡ row_of s k → (mates' : List ℕ) → AreMates (joined (parted s j) k) mates'
-      → IsTurning old (joined (parted s j) k) mates' q order target (link_at q (column_of s j))
-  turning_next j pair from mates' mated =
-      let P : Network → Type 0 = λ n. IsTurning old (at_net n) mates q order target k → IsPair (at_net n) j → row_of (at_net n) j ≡ row_of (at_net n) k →
-      AreMates (joined (parted (at_net n) j) k) mates' → IsTurning old (joined (parted (at_net n) j) k) mates' q order target
-      (link_at q (column_of (at_net n) j)) in
-      subst P (sym turning.net) (λ x p f m. next_at old s.amounts mates q order target k source z forest end x j p f mates' m) turning pair from mated
+  pub turning_pair : m.arc ≢ 0 → IsPair s m.arc × (row_of s m.arc ≡ row_of s k) × (column_of s m.arc ≡ m.node)
+  turning_pair some =
+      let there : 0 < (mate_at mates (row_of s k)).arc = (let same = ap (λ (n : Mate). n.arc) read in omega (arith, some, same)) in
+      subst (λ (n : Mate). IsPair s n.arc × (row_of s n.arc ≡ row_of s k) × (column_of s n.arc ≡ n.node)) (sym read)
+      (row_mate s mates turning.mated (row_of s k) turning.matching (row_is s k turning.matching turning_arc) there)
 
-  pub turning_falls : (j : ℕ) → IsPair s j → row_of s j ≡ row_of s k → place order (row_of s (link_at q (column_of s j))) < place order (row_of s k)
-  turning_falls j pair from =
-      let P : Network → Type 0 = λ n. IsTurning old (at_net n) mates q order target k → IsPair (at_net n) j → row_of (at_net n) j ≡ row_of (at_net n) k → place
-      order (row_of (at_net n) (link_at q (column_of (at_net n) j))) < place order (row_of (at_net n) k) in
-      subst P (sym turning.net) (λ x p f. falls_at old s.amounts mates q order target k source z forest end x j p f) turning pair from
+  pub turning_node : m.arc ≢ 0 → IsNode (node_count old.net) m.node
+  turning_node some =
+      let (pair, from, to) = turning_pair some in
+      subst (λ (g : Network). IsNode (node_count g) m.node) turning.net (subst (λ v. IsNode (node_count s.net) v) to (column_is s m.arc turning.matching pair.arc).0)
 
-  pub turning_end : ¬ IsMatchedRow s (row_of s k) → (source' : ℕ) (z' : List ℤ) → IsForest old q source' order z'
-      → IsTightArc old q z' target (column_of old target) → IsExtended old (joined s k) z' source' (column_of old target)
-  turning_end single source' z' forest' end' =
-      let P : Network → Type 0 = λ n. IsTurning old (at_net n) mates q order target k → ¬ IsMatchedRow (at_net n) (row_of (at_net n) k) → IsExtended old
-      (joined (at_net n) k) z' source' (column_of old target) in
-      subst P (sym turning.net) (λ x f. end_at old s.amounts mates q order target k source z forest end x f source' z' forest' end') turning single
-
-  pub turning_changed : ¬ IsMatchedRow s (row_of s k) → IsChangedWithin old (joined s k) q (column_of old target)
-  turning_changed single =
-      let P : Network → Type 0 = λ n. IsTurning old (at_net n) mates q order target k → ¬ IsMatchedRow (at_net n) (row_of (at_net n) k) → IsChangedWithin old
-      (joined (at_net n) k) q (column_of old target) in
-      subst P (sym turning.net) (λ x f. changed_at old s.amounts mates q order target k source z forest end x f) turning single
-
-  pub turning_round : (j : ℕ) → IsPair s j → row_of s j ≡ row_of s k → (s' s'' : Pseudoflow) (g : Network) (mates' : List ℕ) (column i next : ℕ)
-      → s' ≡ parted s j → s'' ≡ joined s' k → AreMates s'' mates' → g ≡ s''.net → column ≡ (arc_at g j).dst → i ≡ column - 1 → next ≡ get_or q.links i 0
-      → IsTurning old s'' mates' q order target next × (place order (row_of s'' next) < place order (row_of s k))
-  turning_round j pair from s' s'' g mates' column i next e e' mated net dst ei en =
-      let same : s'' ≡ joined (parted s j) k = e' ∙ ap (λ x. joined x k) e in
-      let at : column ≡ column_of s j = dst ∙ ap (λ (n : Network). (arc_at n j).dst) (net ∙ ap (λ (x : Pseudoflow). x.net) same) in
-      let link : next ≡ link_at q (column_of s j) = en ∙ ap (λ v. get_or q.links v 0) (ei ∙ ap (λ v. v - 1) at) in
-      let P : Pseudoflow → Type 0 = λ x. IsTurning old x mates' q order target next × (place order (row_of x next) < place order (row_of s k)) in
-      let Q : ℕ → Type 0 = λ x. IsTurning old (joined (parted s j) k) mates' q order target x × (place order (row_of s x) < place order (row_of s k)) in
-      subst P (sym same) (subst Q (sym link) (turning_next j pair from mates' (subst (λ x. AreMates x mates') same mated), turning_falls j pair from))
-
--- the arc of amount 1 at the row of an arc
-pub mate_read : (s : Pseudoflow) (g : Network) (mates : List ℕ) (k row i : ℕ) → g ≡ s.net → row ≡ (arc_at g k).src → i ≡ row - 1
-    → get_or mates i 0 ≡ get_or mates (row_of s k - 1) 0
-mate_read s g mates k row i net src ei =
-    ap (λ v. get_or mates v 0) (ei ∙ ap (λ v. v - 1) (src ∙ ap (λ (n : Network). (arc_at n k).src) net))
-
-pub mate_none : (s : Pseudoflow) (g : Network) (mates : List ℕ) (k row i : ℕ) → IsPartialMatching s → AreMates s mates → IsArcNumber s.net k → g ≡ s.net
-    → row ≡ (arc_at g k).src → i ≡ row - 1 → get_or mates i 0 ≡ 0 → ¬ IsMatchedRow s (row_of s k)
-mate_none s g mates k row i ok mated arc net src ei none =
-    mated.no_row (row_of s k) (row_is s k ok arc) (sym (mate_read s g mates k row i net src ei) ∙ none)
-
-pub mate_some : (s : Pseudoflow) (g : Network) (mates : List ℕ) (k row i j : ℕ) → IsPartialMatching s → AreMates s mates → IsArcNumber s.net k → g ≡ s.net
-    → row ≡ (arc_at g k).src → i ≡ row - 1 → get_or mates i 0 ≢ 0 → j ≡ get_or mates i 0 → IsPair s j × (row_of s j ≡ row_of s k)
-mate_some s g mates k row i j ok mated arc net src ei some ej =
-    let same = mate_read s g mates k row i net src ei in
-    subst (λ x. IsPair s x × (row_of s x ≡ row_of s k)) (sym (ej ∙ same)) (mated.row (row_of s k) (row_is s k ok arc) (omega (arith, same, some)))
+  -- its pair was exchanged for arc k
+  pub turning_round : {source : ℕ} {z : List ℤ} {s' s'' : Pseudoflow} {mates' : List Mate} (j x d : ℕ) → IsForest old q source order z
+      → IsTightArc old q z target (column_of old target) → HasEntries (node_count old.net) q → m.arc ≢ 0 → j ≡ m.arc → s' ≡ parted s j → s'' ≡ joined s' k
+      → AreMates s'' mates' → x ≡ get_or q.links (m.node - 1) d
+      → IsTurning old s'' mates' q order target x × (place order (row_of s'' x) < place order (row_of s k))
+  turning_round {mates' = mates'} j x d forest end entries some ej e e' mated at =
+      let (pair, from, to) = turning_pair some in
+      let node = turning_node some in
+      let count = entries.link_count in
+      let link : x ≡ link_at q (column_of s m.arc) = at ∙ get_or_default q.links (m.node - 1) d 0 (omega (arith, node, count)) ∙ ap (link_at q) (sym to) in
+      let same = e' ∙ ap (λ (t : Pseudoflow). joined t k) (e ∙ ap (parted s) ej) in
+      subst (λ (t : Pseudoflow). IsTurning old t mates' q order target x × (place order (row_of t x) < place order (row_of s k))) (sym same)
+      (subst (λ v. IsTurning old (joined (parted s m.arc) k) mates' q order target v × (place order (row_of s v) < place order (row_of s k))) (sym link)
+      ((turns forest end turning).next m.arc pair from mates' (subst (λ (t : Pseudoflow). AreMates t mates') same mated)))

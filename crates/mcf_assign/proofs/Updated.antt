@@ -1,9 +1,9 @@
 -- New prices that were judged show the matching, and a matching keeps them.
-use Rattle.std.proofs.Common.{◌≡◌, ℕ, ◌+◌, ◌-◌, ◌<◌, Bool, List, [], Option, None, Some, false, get_or, length, map, take, drop, ℤ, pos, ◌+ℤ◌, ◌≤ℤ◌, sym, ◌∙◌, ap, subst, arith, inl, inr}
+use Rattle.std.proofs.Common.{◌≡◌, ℕ, ◌+◌, ◌-◌, Bool, List, [], Option, None, Some, false, get_or, length, map, take, drop, ℤ, pos, ◌+ℤ◌, ◌≤ℤ◌, sym, ◌∙◌, ap, subst, arith, inl, inr}
 use Rattle.std.specs.List.{All, Contains}
 use Rattle.std.proofs.lemmas.List.Elements.{All-contains, All-map, Contains-append_cases}
 use Rattle.std.proofs.lemmas.Int.{ints}
-use Rattle.std.proofs.lemmas.Bool.{cases_eq, true≢false}
+use Rattle.std.proofs.lemmas.Bool.{true≢false}
 use Rattle.std.specs.Option.{is_some}
 use Rattle.std.specs.Prelude.{slice_range}
 use Rattle.std.proofs.lemmas.List.{get_or_default}
@@ -15,29 +15,16 @@ use Rattle.mcf_network.specs.States.{Pseudoflow}
 use Rattle.mcf_assign.specs.declared.rows.RowArc.{RowArc}
 use Rattle.mcf_assign.specs.declared.rows.Rows.{Rows}
 use Rattle.mcf_assign.specs.declared.rows.Span.{Span}
+use Rattle.mcf_assign.specs.declared.scene.Mate.{Mate}
 use Rattle.mcf_assign.specs.declared.search.Tables.{Tables}
-use Rattle.mcf_assign.specs.Matchings.{AreMatchingPrices, IsColumn, IsMatchedColumn, IsMatchedRow, IsPair, IsPartialMatching, IsRow, reduced, row_of}
-use Rattle.mcf_assign.specs.Private.Forests.{AreMates}
+use Rattle.mcf_assign.specs.Matchings.{AreMatchingPrices, IsPair, IsPartialMatching, reduced, row_of}
 use Rattle.mcf_assign.specs.Private.Keeping.{AreNearZero, IsKept}
 use Rattle.mcf_assign.specs.Private.Reaches.{update_reach}
 use Rattle.mcf_assign.specs.Private.RowLists.{AreRows, IsKeptRow, IsRowArc, forward_of, span_at}
-use Rattle.mcf_assign.specs.Private.Updating.{AreUpdated, DoesArcFit, DoesNodeFit, IsReadable, mate_at}
-use Rattle.mcf_assign.proofs.PairLaws.{assignment_of, row_is}
+use Rattle.mcf_assign.specs.Private.Updating.{AreUpdated, DoesArcFit, DoesNodeFit, IsReadable}
+use Rattle.mcf_assign.proofs.PairLaws.{column_matched, row_matched}
 use Rattle.mcf_assign.proofs.RowLists.{kept_row}
 use Rattle.mcf_assign.specs.Private.Searches.{forward}
-
--- ---- mates
-
--- the arc that was read as the mate of a node
-pub pair_read : (s : Pseudoflow) (mates : List ℕ) (v k : ℕ) → IsPartialMatching s → AreMates s mates → IsNode (node_count s.net) v
-    → k ≡ mate_at mates v → 0 < k → IsPair s k
-pair_read s mates v k ok mated n is some =
-    let mate : 0 < mate_at mates v = omega (arith, is, some) in
-    subst (λ j. IsPair s j) (sym is)
-    (elim ((assignment_of s ok).each_supply (v - 1) (pos 0) (omega (arith, n))) [
-      | inl row ↦ (mated.row v (n, row) mate).0
-      | inr column ↦ (mated.column v (n, column) mate).0
-    ])
 
 -- ---- the arcs of a row
 
@@ -103,47 +90,20 @@ pair_tight s g z v k a net number is from below =
     omega (arith, ints, cost, price, at, below)
 
 -- the arcs of a row fit where none offers less than the price of the row, and that of its pair no more
-pub row_fits : (s : Pseudoflow) (mates : List ℕ) (z : List ℤ) (v : ℕ) (kept : List RowArc) → IsPartialMatching s → AreMates s mates
-    → IsKeptRow s.net v kept None → All (λ (a : RowArc). at_node z v ≤ℤ (a.cost +ℤ at_node z a.column)) kept
-    → (IsRow s v → 0 < mate_at mates v → reduced s z (mate_at mates v) ≤ℤ pos 0) → (k : ℕ) → IsArcNumber s.net k → row_of s k ≡ v → DoesArcFit s z k
-row_fits s mates z v kept ok mated row least tight k arc from =
+pub row_fits : (s : Pseudoflow) (z : List ℤ) (v : ℕ) (kept : List RowArc) → IsKeptRow s.net v kept None
+    → All (λ (a : RowArc). at_node z v ≤ℤ (a.cost +ℤ at_node z a.column)) kept → ((k : ℕ) → IsPair s k → row_of s k ≡ v → reduced s z k ≤ℤ pos 0)
+    → (k : ℕ) → IsArcNumber s.net k → row_of s k ≡ v → DoesArcFit s z k
+row_fits s z v kept row least tight k arc from =
     let offered = low_offer s.net v kept row z (at_node z v) least k arc from in
     let at = ap (at_node z) from in
     let low : pos 0 ≤ℤ reduced s z k = omega (arith, ints, offered, at) in
-    record {
-      low = low;
-      tight = λ p.
-          let is_row = subst (λ u. IsRow s u) from (row_is s k ok arc) in
-          elim (cases_eq (mate_at mates v) 0) [
-            | inl none ↦ absurd (mated.no_row v is_row none (k, p, from))
-            | inr some ↦ (
-                let here = mated.row v is_row (omega (arith, some)) in
-                let same = ok.once_in_row k (mate_at mates v) p here.0 (from ∙ sym here.1) in
-                let high = tight is_row (omega (arith, some)) in
-                let equal = ap (reduced s z) same in
-                omega (arith, ints, low, high, equal))
-          ];
-    }
+    record { low = low; tight = λ p. (let high = tight k p from in omega (arith, ints, low, high)) }
 
 -- ---- judged prices
 
-module _ (s : Pseudoflow) (mates : List ℕ) (y z : List ℤ) (mated : AreMates s mates) (shown : AreMatchingPrices s y) (count : length z ≡ node_count s.net)
-    (nodes : (v : ℕ) → IsNode (node_count s.net) v → DoesNodeFit mates y v (at_node z v))
+module _ (s : Pseudoflow) (y z : List ℤ) (ok : IsPartialMatching s) (shown : AreMatchingPrices s y) (count : length z ≡ node_count s.net)
+    (nodes : (v : ℕ) → IsNode (node_count s.net) v → DoesNodeFit s y v (at_node z v))
     (arcs : (k : ℕ) → IsArcNumber s.net k → DoesArcFit s z k) where
-  no_row_mate : (v : ℕ) → IsRow s v → ¬ IsMatchedRow s v → mate_at mates v ≡ 0
-  no_row_mate v row free =
-      elim (cases_eq (mate_at mates v) 0) [
-        | inl e ↦ e
-        | inr m ↦ absurd (let here = mated.row v row (omega (arith, m)) in free (mate_at mates v, here.0, here.1))
-      ]
-
-  no_column_mate : (v : ℕ) → IsColumn s v → ¬ IsMatchedColumn s v → mate_at mates v ≡ 0
-  no_column_mate v column free =
-      elim (cases_eq (mate_at mates v) 0) [
-        | inl e ↦ e
-        | inr m ↦ absurd (let here = mated.column v column (omega (arith, m)) in free (mate_at mates v, here.0, here.1))
-      ]
-
   judged : AreMatchingPrices s z
   judged =
       record {
@@ -151,7 +111,7 @@ module _ (s : Pseudoflow) (mates : List ℕ) (y z : List ℤ) (mated : AreMates 
         low = λ k arc. (arcs k arc).low;
         tight = λ k p. (arcs k p.arc).tight p;
         columns = λ v column. let old = shown.columns v column in let above = (nodes v column.0).above in omega (arith, ints, old, above);
-        free = λ v column none. (nodes v column.0).free (no_column_mate v column none) ∙ shown.free v column none;
+        free = λ v column none. (nodes v column.0).free (λ m. none (column_matched s v ok column m)) ∙ shown.free v column none;
       }
 
   pub judged_updated : AreUpdated s y z
@@ -164,7 +124,7 @@ module _ (s : Pseudoflow) (mates : List ℕ) (y z : List ℤ) (mated : AreMates 
             let same : at_node z (i + 1) ≡ get_or z i d = ap (λ j. get_or z j (pos 0)) back ∙ get_or_default z i (pos 0) d inside in
             subst (λ a. IsUpTo update_reach a) same here;
         shown = judged;
-        free_rows = λ v row free. (nodes v row.0).free (no_row_mate v row free);
+        free_rows = λ v row free. (nodes v row.0).free (λ m. free (row_matched s v ok row m));
       }
 
 -- ---- what a matching keeps
@@ -176,7 +136,7 @@ updated_near s y z new v n =
     (omega (arith, ints, here), omega (arith, ints, here))
 
 -- with another count of pairs
-pub kept_counted : (s : Pseudoflow) (y : List ℤ) (mates : List ℕ) (tables : Tables) (reached : List Bool) (n : ℕ)
+pub kept_counted : (s : Pseudoflow) (y : List ℤ) (mates : List Mate) (tables : Tables) (reached : List Bool) (n : ℕ)
     → IsKept s y mates tables reached → IsKept s y mates (record tables { pairs = n }) reached
 kept_counted s y mates tables reached n kept =
     let idle = kept.idle in
@@ -191,7 +151,7 @@ kept_counted s y mates tables reached n kept =
     }
 
 -- with new prices
-pub kept_updated : (s : Pseudoflow) (y z : List ℤ) (mates : List ℕ) (tables : Tables) (reached : List Bool)
+pub kept_updated : (s : Pseudoflow) (y z : List ℤ) (mates : List Mate) (tables : Tables) (reached : List Bool)
     → IsKept s y mates tables reached → AreUpdated s y z → IsKept s z mates tables reached
 kept_updated s y z mates tables reached kept new =
     record {

@@ -15,7 +15,7 @@ ghost use Rattle.mcf_assign.specs.Private.Turning.{IsExtended};
 
 use crate::offers::Offers;
 use crate::prices::Prices;
-use crate::scene::Scene;
+use crate::scene::{Mate, Scene};
 use crate::search::{Tables, Target};
 use mcf_counts::Count;
 use mcf_network::{Net, NodeSet, State};
@@ -67,7 +67,7 @@ impl Tables {
         &mut self,
         state: &mut State<'_>,
         prices: &mut Prices,
-        mates: &mut [u32],
+        mates: &mut [Mate],
         target: Target,
     )
         requires matching { IsPartialMatching state.old }

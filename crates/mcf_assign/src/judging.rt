@@ -35,7 +35,7 @@ fn do_nodes_fit(scene: &Scene<'_, '_>, prices: &[i64]) -> bool
     requires scene { IsScene scene.now.state.now scene.now.rows.now scene.now.prices.now scene.now.mates.now }
     requires count { length prices.now ≡ node_count scene.now.state.now.net }
     ensures { result ≡ true → (v : ℕ) → IsNode (node_count scene.now.state.now.net) v
-        → DoesNodeFit scene.now.mates.now scene.now.prices.now v (at_node prices.now v) }
+        → DoesNodeFit scene.now.state.now scene.now.prices.now v (at_node prices.now v) }
 {
     'nodes: for number in 0..scene.state.net().node_count() {
         if !does_node_fit(scene, NodeId::at(number), prices[number as usize]) {
@@ -50,14 +50,14 @@ fn do_nodes_fit(scene: &Scene<'_, '_>, prices: &[i64]) -> bool
 fn does_node_fit(scene: &Scene<'_, '_>, v: NodeId, price: i64) -> bool
     requires scene { IsScene scene.now.state.now scene.now.rows.now scene.now.prices.now scene.now.mates.now }
     requires node { IsNode (node_count scene.now.state.now.net) v }
-    ensures { result ≡ true → DoesNodeFit scene.now.mates.now scene.now.prices.now v price }
+    ensures { result ≡ true → DoesNodeFit scene.now.state.now scene.now.prices.now v price }
 {
     let old = scene.prices.get(v);
     let new = i128::from(price);
     if !is_inside(price) || new < old {
         return false;
     }
-    if scene.mates[v.place()] > 0 {
+    if scene.mates[v.place()].arc > 0 {
         return true;
     }
     if new > old {
@@ -101,7 +101,7 @@ fn does_row_fit(scene: &Scene<'_, '_>, prices: &[i64], v: NodeId) -> bool
     if least_offer(scene.rows.between(span.start, span.end), prices) < price {
         return false;
     }
-    let mate = scene.mates[v.place()];
+    let mate = scene.mates[v.place()].arc;
     if mate == 0 {
         return true;
     }

@@ -14,7 +14,7 @@ use crate::extended::Extended;
 use crate::prices::Prices;
 use crate::regime::{NODES_PER_PAIR, is_sparse};
 use crate::rows::Rows;
-use crate::scene::Scene;
+use crate::scene::{Mate, Scene};
 use crate::search::Tables;
 use crate::update::Update;
 use mcf_counts::Count;
@@ -33,7 +33,7 @@ pub struct Matching<'n> {
     state: State<'n>,
     rows: Rows,
     prices: Prices,
-    mates: Vec<u32>,
+    mates: Vec<Mate>,
     tables: Tables,
     reached: NodeSet,
     update: Update,
@@ -74,7 +74,7 @@ impl<'n> Matching<'n> {
         let state = State::zero(alloc, net)?;
         let rows = Rows::new(alloc, net)?;
         let prices = Prices::new(alloc, net)?;
-        let mates = copies(alloc, net.node_count() as usize, 0)?;
+        let mates = copies(alloc, net.node_count() as usize, Mate { arc: 0, node: 0 })?;
         Ok(Matching {
             state,
             rows,
@@ -164,7 +164,7 @@ impl<'n> Matching<'n> {
         ensures value { IsTrue result ↔ IsMatched self.now.flow v }
         ensures shown { IsShownMatching self.now }
     {
-        self.mates[v.place()] > 0
+        self.mates[v.place()].arc > 0
     }
 
     /// The nodes that the last search settled, none before the first: the row, by distance each matched column with its row, last the column of the path.

@@ -11,13 +11,20 @@ use crate::rows::{RowArc, Rows};
 use mcf_network::State;
 use mcf_text::NodeId;
 
-/// A matching with the arcs of its rows, prices that show it, and for each node the arc with which it is matched.
+/// The arc with which a node is matched, and the node at its other end. Both are 0 where the node is not matched.
+#[derive(Clone, Copy)]
+pub(crate) struct Mate {
+    pub(crate) arc: u32,
+    pub(crate) node: u32,
+}
+
+/// A matching with the arcs of its rows, prices that show it, and the mate of each node.
 #[derive(Clone, Copy)]
 pub(crate) struct Scene<'a, 'n> {
     pub(crate) state: &'a State<'n>,
     pub(crate) rows: &'a Rows,
     pub(crate) prices: &'a Prices,
-    pub(crate) mates: &'a [u32],
+    pub(crate) mates: &'a [Mate],
 }
 
 /// A settled row whose arcs are relaxed, and its distance less its price: what its arcs offer but for their costs and the prices of

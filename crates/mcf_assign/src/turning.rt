@@ -2,11 +2,12 @@
 ghost use Rattle.std.specs.Prelude.{◌≡◌, ℕ, ℤ, List, [], length, pos, true, false};
 ghost use Rattle.mcf_flows.specs.Network.{IsArcNumber, node_count};
 ghost use Rattle.mcf_network.specs.States.{pushed};
-ghost use Rattle.mcf_assign.specs.Private.Forests.{AreMates, IsChangedWithin, IsForest, IsTightArc};
+ghost use Rattle.mcf_assign.specs.Private.Forests.{AreMates, IsChangedWithin, IsForest, IsTightArc, mate_at};
 ghost use Rattle.mcf_assign.specs.Matchings.{IsMatchedColumn, IsMatchedRow, IsPair, IsPartialMatching, column_of, row_of};
 ghost use Rattle.mcf_assign.specs.Private.Searches.{HasEntries, search_of};
 ghost use Rattle.mcf_assign.specs.Private.Turning.{IsExtended};
 
+use crate::scene::Mate;
 use crate::search::Tables;
 use mcf_network::{Rid, State};
 use mcf_text::ArcId;
@@ -14,7 +15,7 @@ use mcf_text::ArcId;
 impl Tables {
     /// Turns the path that ends with an arc to a column that is not matched, from its end back to its row: each arc of
     /// amount 1 on it leaves the matching, and each of amount 0 comes in.
-    pub(crate) fn turn(&self, state: &mut State<'_>, mates: &mut [u32], target: ArcId)
+    pub(crate) fn turn(&self, state: &mut State<'_>, mates: &mut [Mate], target: ArcId)
         requires entries { HasEntries (node_count state.old.net) (search_of self.now) }
         requires forest { (source : ℕ) × (z : List ℤ) × IsForest state.old (search_of self.now) source self.now.order.items z
             × IsTightArc state.old (search_of self.now) z target (column_of state.old target) }
@@ -28,23 +29,30 @@ impl Tables {
     {
         let mut arc = target;
         'path: loop {
-            let (row, _) = state.net().ends(arc);
-            let mate = mates[row.place()];
-            if mate == 0 {
+            let mate = row_mate(state, mates, arc);
+            if mate.arc == 0 {
                 join(state, mates, arc);
                 return;
             }
-            let pair = ArcId::new(mate);
-            part(state, mates, pair);
+            part(state, mates, ArcId::new(mate.arc));
             join(state, mates, arc);
-            let (_, column) = state.net().ends(pair);
-            arc = ArcId::new(self.links[column.place()]);
+            arc = ArcId::new(self.links[mate.node as usize - 1]);
         }
     }
 }
 
+// The mate of the row of an arc.
+fn row_mate(state: &State<'_>, mates: &[Mate], k: ArcId) -> Mate
+    requires arc { IsArcNumber state.now.net k }
+    requires count { length mates.now ≡ node_count state.now.net }
+    ensures { result ≡ mate_at mates.now (row_of state.now k) }
+{
+    let (row, _) = state.net().ends(k);
+    mates[row.place()]
+}
+
 // Takes an arc of amount 1 out of a partial matching.
-fn part(state: &mut State<'_>, mates: &mut [u32], k: ArcId)
+fn part(state: &mut State<'_>, mates: &mut [Mate], k: ArcId)
     requires matching { IsPartialMatching state.old }
     requires mates { AreMates state.old mates.old }
     requires pair { IsPair state.old k }
@@ -54,12 +62,13 @@ fn part(state: &mut State<'_>, mates: &mut [u32], k: ArcId)
     let (row, column) = state.net().ends(k);
     let back = true;
     state.push(Rid { arc: k, back }, 1);
-    mates[row.place()] = 0;
-    mates[column.place()] = 0;
+    let none = Mate { arc: 0, node: 0 };
+    mates[row.place()] = none;
+    mates[column.place()] = none;
 }
 
 // Puts an arc between a row and a column that are not matched into a partial matching.
-fn join(state: &mut State<'_>, mates: &mut [u32], k: ArcId)
+fn join(state: &mut State<'_>, mates: &mut [Mate], k: ArcId)
     requires matching { IsPartialMatching state.old }
     requires mates { AreMates state.old mates.old }
     requires arc { IsArcNumber state.old.net k }
@@ -71,6 +80,13 @@ fn join(state: &mut State<'_>, mates: &mut [u32], k: ArcId)
     let (row, column) = state.net().ends(k);
     let back = false;
     state.push(Rid { arc: k, back }, 1);
-    mates[row.place()] = k.get();
-    mates[column.place()] = k.get();
+    let arc = k.get();
+    mates[row.place()] = Mate {
+        arc,
+        node: column.get(),
+    };
+    mates[column.place()] = Mate {
+        arc,
+        node: row.get(),
+    };
 }

@@ -5,20 +5,26 @@ use Rattle.std.specs.List.{All, AllPairs, Contains}
 use Rattle.mcf_flows.specs.Network.{IsArcNumber, IsNode, node_count}
 use Rattle.mcf_network.specs.NodeSets.{member_count}
 use Rattle.mcf_network.specs.States.{Pseudoflow, amount_at}
-use Rattle.mcf_assign.specs.Extending.{IsReachable}
-use Rattle.mcf_assign.specs.Matchings.{IsColumn, IsMatchedColumn, IsMatchedRow, IsPair, IsPartialMatching, IsRow, column_of, reduced, row_of}
+use Rattle.mcf_assign.specs.declared.scene.Mate.{Mate}
+use Rattle.mcf_assign.specs.Extending.{IsMatched, IsReachable}
+use Rattle.mcf_assign.specs.Matchings.{IsColumn, IsMatchedRow, IsPair, IsPartialMatching, IsRow, column_of, reduced, row_of}
 use Rattle.mcf_assign.specs.Private.Searches.{Search, Settled, link_at}
 use Rattle.mcf_assign.specs.Private.Turning.{IsPushedFrom, IsTurned}
 
--- for each node the arc of amount 1 at it, or 0 where there is none
-pub record AreMates (s : Pseudoflow) (mates : List ℕ) : Type 0 where
+-- an arc with the node at its other end
+abbrev pub mate : ℕ → ℕ → Mate
+mate k v = record { arc = k; node = v }
+
+-- the mate of a node
+abbrev pub mate_at : List Mate → ℕ → Mate
+mate_at mates v = slice_index_or mates (v - 1) (mate 0 0)
+
+-- each arc of amount 1 stands at its row, with its column, and at its column, with its row, and an arc stands only where a node is matched
+pub record AreMates (s : Pseudoflow) (mates : List Mate) : Type 0 where
   pub count : length mates ≡ node_count s.net
-  pub column : (v : ℕ) → IsColumn s v → 0 < slice_index_or mates (v - 1) 0
-      → IsPair s (slice_index_or mates (v - 1) 0) × (column_of s (slice_index_or mates (v - 1) 0) ≡ v)
-  pub no_column : (v : ℕ) → IsColumn s v → slice_index_or mates (v - 1) 0 ≡ 0 → ¬ IsMatchedColumn s v
-  pub row : (v : ℕ) → IsRow s v → 0 < slice_index_or mates (v - 1) 0
-      → IsPair s (slice_index_or mates (v - 1) 0) × (row_of s (slice_index_or mates (v - 1) 0) ≡ v)
-  pub no_row : (v : ℕ) → IsRow s v → slice_index_or mates (v - 1) 0 ≡ 0 → ¬ IsMatchedRow s v
+  pub at_row : (k : ℕ) → IsPair s k → mate_at mates (row_of s k) ≡ mate k (column_of s k)
+  pub at_column : (k : ℕ) → IsPair s k → mate_at mates (column_of s k) ≡ mate k (row_of s k)
+  pub matched : (v : ℕ) → IsNode (node_count s.net) v → 0 < (mate_at mates v).arc → IsMatched s v
 
 -- where a node stands in a list, from 0; the length of the list if it doesn't
 abbrev pub place : List ℕ → ℕ → ℕ
@@ -71,7 +77,7 @@ IsChangedWithin old s q t =
     (i : ℕ) → IsArcNumber old.net i → (amount_at s i ≡ amount_at old i) ⊎ (Settled q (row_of old i) × (Settled q (column_of old i) ⊎ (column_of old i ≡ t)))
 
 -- the path that ends with the target arc is turned from its end on as far as the column of arc k, which is free now
-pub record IsTurning (old s : Pseudoflow) (mates : List ℕ) (q : Search) (order : List ℕ) (target k : ℕ) : Type 0 where
+pub record IsTurning (old s : Pseudoflow) (mates : List Mate) (q : Search) (order : List ℕ) (target k : ℕ) : Type 0 where
   pub net : s.net ≡ old.net
   pub matching : IsPartialMatching s
   pub mated : AreMates s mates

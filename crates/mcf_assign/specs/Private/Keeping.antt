@@ -5,6 +5,7 @@ use Rattle.mcf_flows.specs.Limits.{limits}
 use Rattle.mcf_flows.specs.Network.{Network, IsNode, at_node, node_count}
 use Rattle.mcf_flows.specs.WellFormed.{IsUpTo}
 use Rattle.mcf_network.specs.States.{Pseudoflow}
+use Rattle.mcf_assign.specs.declared.scene.Mate.{Mate}
 use Rattle.mcf_assign.specs.declared.search.Tables.{Tables}
 use Rattle.mcf_assign.specs.Private.Forests.{AreMates, IsOrder}
 use Rattle.mcf_assign.specs.Matchings.{AreMatchingPrices, IsMatchedRow, IsPartialMatching, IsRow, price_limit}
@@ -42,7 +43,7 @@ pub record AreFirstPrices (g : Network) (y : List ℤ) (nodes : ℕ) : Type 0 wh
 abbrev pub FreeRowsAreFirst : Pseudoflow → List ℤ → Type 0
 FreeRowsAreFirst s y = (v : ℕ) → IsRow s v → ¬ IsMatchedRow s v → at_node y v ≡ first_price
 
-pub record IsKept (s : Pseudoflow) (y : List ℤ) (mates : List ℕ) (tables : Tables) (reached : List Bool) : Type 0 where
+pub record IsKept (s : Pseudoflow) (y : List ℤ) (mates : List Mate) (tables : Tables) (reached : List Bool) : Type 0 where
   pub matching : IsPartialMatching s
   pub shown : AreMatchingPrices s y
   pub mated : AreMates s mates

@@ -1,9 +1,10 @@
 -- What a search reads and doesn't change, and the row whose arcs it relaxes.
-use Rattle.std.specs.Prelude.{◌≡◌, ℕ, List, ℤ, ◌-ℤ◌}
+use Rattle.std.specs.Prelude.{◌≡◌, List, ℤ, ◌-ℤ◌}
 use Rattle.mcf_flows.specs.Network.{IsNode, at_node, node_count}
 use Rattle.mcf_flows.specs.WellFormed.{IsUpTo}
 use Rattle.mcf_network.specs.States.{Pseudoflow}
 use Rattle.mcf_assign.specs.declared.rows.Rows.{Rows}
+use Rattle.mcf_assign.specs.declared.scene.Mate.{Mate}
 use Rattle.mcf_assign.specs.declared.scene.Row.{Row}
 use Rattle.mcf_assign.specs.Matchings.{AreMatchingPrices, IsPartialMatching}
 use Rattle.mcf_assign.specs.Private.Forests.{AreMates}
@@ -13,7 +14,7 @@ use Rattle.mcf_assign.specs.Private.Reaches.{base_reach}
 use Rattle.mcf_assign.specs.Private.Keeping.{AreNearZero}
 
 -- a partial matching with the arcs of its rows and the mates, and prices that show it and are near 0
-pub record IsScene (s : Pseudoflow) (arcs : Rows) (y : List ℤ) (table : List ℕ) : Type 0 where
+pub record IsScene (s : Pseudoflow) (arcs : Rows) (y : List ℤ) (table : List Mate) : Type 0 where
   pub matching : IsPartialMatching s
   pub rows : AreRows s.net arcs
   pub prices : AreMatchingPrices s y
@@ -22,7 +23,7 @@ pub record IsScene (s : Pseudoflow) (arcs : Rows) (y : List ℤ) (table : List �
 
 -- what holds while the arcs of a row are relaxed: it is settled, no settled node is farther, and its base is its distance less its
 -- price, so that an arc offers its column that base, its cost and the price of the column together
-pub record IsScannedRow (s : Pseudoflow) (arcs : Rows) (y : List ℤ) (table : List ℕ) (q : Search) (row : Row) : Type 0 where
+pub record IsScannedRow (s : Pseudoflow) (arcs : Rows) (y : List ℤ) (table : List Mate) (q : Search) (row : Row) : Type 0 where
   pub scene : IsScene s arcs y table
   pub entries : HasEntries (node_count s.net) q
   pub node : IsNode (node_count s.net) row.id

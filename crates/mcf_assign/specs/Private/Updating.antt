@@ -1,24 +1,20 @@
 -- Updates of all prices at once: which new prices are taken.
-use Rattle.std.specs.Prelude.{◌≡◌, ℕ, ◌-◌, List, length, slice_index_or, ℤ, pos, ◌≤ℤ◌}
+use Rattle.std.specs.Prelude.{◌≡◌, ℕ, List, length, ℤ, pos, ◌≤ℤ◌}
 use Rattle.std.specs.List.{All}
 use Rattle.mcf_flows.specs.Limits.{limits}
 use Rattle.mcf_flows.specs.Network.{IsNode, at_node, node_count}
 use Rattle.mcf_flows.specs.WellFormed.{IsUpTo}
 use Rattle.mcf_network.specs.States.{Pseudoflow}
 use Rattle.mcf_assign.specs.declared.rows.RowArc.{RowArc}
-use Rattle.mcf_assign.specs.Extending.{Assigned}
+use Rattle.mcf_assign.specs.Extending.{Assigned, IsMatched}
 use Rattle.mcf_assign.specs.Matchings.{AreMatchingPrices, IsMatchedRow, IsPair, IsRow, reduced}
 use Rattle.mcf_assign.specs.Private.Reaches.{update_reach}
 
--- the arc with which a node is matched, or 0
-abbrev pub mate_at : List ℕ → ℕ → ℕ
-mate_at mates v = slice_index_or mates (v - 1) 0
-
 -- a new price x fits a node: it is near 0 and no less than before, and that of a free node is as before
-pub record DoesNodeFit (mates : List ℕ) (y : List ℤ) (v : ℕ) (x : ℤ) : Type 0 where
+pub record DoesNodeFit (s : Pseudoflow) (y : List ℤ) (v : ℕ) (x : ℤ) : Type 0 where
   pub near : IsUpTo update_reach x
   pub above : at_node y v ≤ℤ x
-  pub free : mate_at mates v ≡ 0 → x ≡ at_node y v
+  pub free : ¬ IsMatched s v → x ≡ at_node y v
 
 -- new prices fit an arc: its reduced cost isn't below 0, and it is 0 if the arc has amount 1
 pub record DoesArcFit (s : Pseudoflow) (z : List ℤ) (k : ℕ) : Type 0 where

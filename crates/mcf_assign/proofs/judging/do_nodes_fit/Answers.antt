@@ -8,7 +8,7 @@ use Rattle.mcf_assign.proofs.judging.do_nodes_fit.Goals as goal
 
 pub nodes-preserved : goal.nodes-preserved
 nodes-preserved c v h =
-    let mates = c.args.scene.now.mates.now in
+    let s = c.args.scene.now.state.now in
     let y = c.args.scene.now.prices.now in
     let z = c.args.prices.now in
     let x = get_or z c.nodes.number (pos 0) in
@@ -16,8 +16,8 @@ nodes-preserved c v h =
     elim (cases_eq v (c.nodes.number + 1)) [
       | inl e ↦ (
           let back : c.nodes.number ≡ v - 1 = omega (arith, e) in
-          subst (λ u. DoesNodeFit mates y u (at_node z v)) (c.at.ensures ∙ sym e)
-          (subst (λ a. DoesNodeFit mates y c.at.result a) (t ∙ ap (λ i. get_or z i (pos 0)) back) (c.does_node_fit.ensures c.if-not-does_node_fit.false)))
+          subst (λ u. DoesNodeFit s y u (at_node z v)) (c.at.ensures ∙ sym e)
+          (subst (λ a. DoesNodeFit s y c.at.result a) (t ∙ ap (λ i. get_or z i (pos 0)) back) (c.does_node_fit.ensures c.if-not-does_node_fit.false)))
       | inr m ↦ c.nodes.invariant v (omega (arith, h), omega (arith, h, m))
     ]
 

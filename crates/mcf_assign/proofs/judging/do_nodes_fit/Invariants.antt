@@ -4,4 +4,4 @@ use Rattle.mcf_assign.specs.Private.Updating.{DoesNodeFit}
 use Rattle.mcf_assign.proofs.judging.do_nodes_fit.Given as goal
 
 abbrev pub invariant-nodes : goal.invariant-nodes
-invariant-nodes l = (v : ℕ) → IsNode l.number v → DoesNodeFit l.scene.mates.now l.scene.prices.now v (at_node l.prices v)
+invariant-nodes l = (v : ℕ) → IsNode l.number v → DoesNodeFit l.scene.state.now l.scene.prices.now v (at_node l.prices v)

@@ -1,7 +1,8 @@
-use Rattle.std.proofs.Common.{◌≡◌, ap, arith, rules, get_or, to_z, of_z, subst}
+use Rattle.std.proofs.Common.{◌≡◌, ◌<◌, arith, rules, to_z, of_z, subst}
 use mir.Syntax.{w64, w128}
 use Rattle.std.proofs.lemmas.Int.{ints, to_z-of_z}
 use Rattle.mcf_flows.specs.WellFormed.{IsUpTo}
+use Rattle.mcf_assign.specs.Private.Forests.{mate_at}
 use Rattle.mcf_assign.specs.Private.Reaches.{update_reach}
 use Rattle.mcf_assign.proofs.judging.does_node_fit.Goals as goal
 
@@ -13,12 +14,11 @@ returns-then-scene-place-gt0 c _ =
     let old = c.get-old.ensures in
     let new = c.from-new.ensures in
     let above = c.if-new-old.false in
-    let mate = ap (λ i. get_or c.args.scene.now.mates.now i 0) c.place.ensures in
-    let some = c.if-scene-place-gt0.true in
+    let some : 0 < (mate_at c.args.scene.now.mates.now c.args.v).arc = rw (← c.place.ensures) c.if-scene-place-gt0.true in
     record {
       near = subst (λ x. IsUpTo update_reach x) t (c.is_inside.ensures c.if-not-is_inside.false);
       above = omega (arith, ints, t, to, tn, old, new, above);
-      free = λ none. absurd (omega (arith, some, mate, none));
+      free = λ none. absurd (none (c.requires.scene.mates.matched c.args.v c.requires.node some));
     }
 
 pub returns : goal.returns

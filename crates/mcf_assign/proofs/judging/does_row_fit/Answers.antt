@@ -1,9 +1,11 @@
-use Rattle.std.proofs.Common.{◌≡◌, ◌-◌, ◌∙◌, ap, arith, rules, refl, get_or, to_z, of_z, subst, sym, pos}
+use Rattle.std.proofs.Common.{◌≡◌, ◌∙◌, ap, arith, rules, refl, get_or, to_z, of_z, sym, pos, inl}
 use mir.Syntax.{w64}
 use Rattle.std.proofs.lemmas.Int.{ints, to_z-of_z}
-use Rattle.mcf_flows.specs.Network.{Network, IsArcNumber, node_count}
+use Rattle.mcf_flows.specs.Network.{node_count}
 use Rattle.mcf_network.specs.Residual.{arc_at}
-use Rattle.mcf_assign.proofs.Updated.{none_leaves, pair_read, pair_tight, readable, row_fits, slice_none, whole_row}
+use Rattle.mcf_assign.specs.Private.Forests.{mate}
+use Rattle.mcf_assign.proofs.Mating.{mate_arc, mate_none, mate_pair}
+use Rattle.mcf_assign.proofs.Updated.{none_leaves, pair_tight, readable, row_fits, slice_none, whole_row}
 use Rattle.mcf_assign.proofs.judging.does_row_fit.Goals as goal
 
 pub returns-then-span : goal.returns-then-span
@@ -24,10 +26,8 @@ least_offer-requires c =
 pub row_arc-pair-requires : goal.row_arc-pair-requires
 row_arc-pair-requires c =
     let some = c.if-mate-eq0.false in
-    let new = c.new.ensures in
-    let pair = pair_read c.args.scene.now.state.now c.args.scene.now.mates.now c.args.v c.new.result c.requires.scene.matching c.requires.scene.mates
-    c.requires.node (new ∙ ap (λ i. get_or c.args.scene.now.mates.now i 0) c.place-2.ensures) (omega (arith, some, new)) in
-    subst (λ (g : Network). IsArcNumber g c.new.result) (sym c.net.ensures.value) pair.arc
+    rw (c.net.ensures.value, c.new.ensures, c.place-2.ensures)
+    (mate_pair c.args.scene.now.state.now c.args.scene.now.mates.now c.requires.scene.mates c.args.v c.requires.node (rw (← c.place-2.ensures) (omega (arith, some)))).arc
 
 pub offer-requires : goal.offer-requires
 offer-requires c =
@@ -49,10 +49,9 @@ returns-then-mate-eq0 c _ =
     let tx : to_z w64 (of_z w64 x) ≡ x = search (rules, to_z-of_z) in
     let at = ap (λ i. get_or z i (pos 0)) c.place.ensures in
     let above = c.if-least_offer-price.false in
-    let none = c.if-mate-eq0.true in
-    let mate = ap (λ i. get_or mates i 0) c.place-2.ensures in
-    row_fits s mates z c.args.v c.between.result.now c.requires.scene.matching c.requires.scene.mates row
-    (λ i d h. let low = c.least_offer.ensures i d h in omega (arith, ints, low, tl, tx, at, above)) (λ _ some. absurd (omega (arith, some, none, mate)))
+    row_fits s z c.args.v c.between.result.now row
+    (λ i d h. let low = c.least_offer.ensures i d h in omega (arith, ints, low, tl, tx, at, above))
+    (λ k p from. absurd (mate_none s mates c.requires.scene.mates c.args.v (rw (← c.place-2.ensures) c.if-mate-eq0.true) (k, p, inl from)))
 
 pub returns : goal.returns
 returns c _ =
@@ -69,9 +68,10 @@ returns c _ =
     let to : to_z w64 (of_z w64 c.offer.result) ≡ c.offer.result = search (rules, to_z-of_z) in
     let below = c.if-offer-price.false in
     let offered = c.offer.ensures in
-    let k : c.new.result ≡ get_or mates (c.args.v - 1) 0 = c.new.ensures ∙ ap (λ i. get_or mates i 0) c.place-2.ensures in
-    row_fits s mates z c.args.v c.between.result.now c.requires.scene.matching c.requires.scene.mates row
+    row_fits s z c.args.v c.between.result.now row
     (λ i d h. let low = c.least_offer.ensures i d h in omega (arith, ints, low, tl, tx, at, above))
-    (λ is_row some. pair_tight s c.net.result.now z c.args.v (get_or mates (c.args.v - 1) 0) c.row_arc-pair.result c.net.ensures.value
-    (c.row_arc-pair.ensures.number ∙ k) (c.row_arc-pair.ensures.value _ (ap (λ j. (arc_at c.net.result.now j).src) k))
-    (c.requires.scene.mates.row c.args.v is_row some).1 (omega (arith, ints, tx, at, to, below, offered)))
+    (λ k p from.
+    let here : c.new.result ≡ k = c.new.ensures ∙ ap (λ i. (get_or mates i (mate 0 0)).arc) c.place-2.ensures
+    ∙ mate_arc s mates c.requires.scene.mates c.args.v k p (inl from) in
+    pair_tight s c.net.result.now z c.args.v k c.row_arc-pair.result c.net.ensures.value (c.row_arc-pair.ensures.number ∙ here)
+    (c.row_arc-pair.ensures.value _ (ap (λ j. (arc_at c.net.result.now j).src) here)) from (omega (arith, ints, tx, at, to, below, offered)))

@@ -1,6 +1,7 @@
 use Rattle.std.proofs.Common.{◌*◌, ◌≤◌, ℕ, List, length, drop, ap, sym, subst, ◌∙◌, arith, refl}
 use Rattle.std.specs.List.{All}
 use Rattle.mcf_flows.specs.Network.{Network, IsNode}
+use Rattle.mcf_assign.specs.declared.scene.Mate.{Mate}
 use Rattle.mcf_assign.specs.Extending.{Assigned, IsGrown, IsStopped}
 use Rattle.mcf_assign.specs.Private.Forests.{AreMates}
 use Rattle.mcf_assign.specs.Private.Keeping.{IsKept}
@@ -18,7 +19,7 @@ search-found-requires-clause-scene c =
       matching = k.matching;
       rows = c.self.invariant.1;
       prices = k.shown;
-      mates = subst (λ (l : List ℕ). AreMates i.state l) (sym c.as_slice-mates.ensures.value) k.mated;
+      mates = subst (λ (l : List Mate). AreMates i.state l) (sym c.as_slice-mates.ensures.value) k.mated;
       small = k.near;
     }
 
@@ -45,9 +46,9 @@ invariant_of-self c =
     i.reached c.args.row t k.matching k.shown k.near k.free_rows k.count s.room queue row s.ended (sym c.in-Some.ensures.best) e.raised
     (e.extended c.args.row s.ended) e.mates e.tables e.order e.room e.queue in
     let lm = c.augment.auto.mates in
-    let vm = ap (λ (l : List ℕ). length l) c.as_mut_slice-mates.ensures.value in
+    let vm = ap (λ (l : List Mate). length l) c.as_mut_slice-mates.ensures.value in
     let wm = written i.mates.len c.augment.new.mates (drop (length c.augment.new.mates) i.mates.items) (omega (arith, i.mates.ok.0, lm, vm)) in
-    let grown = subst (λ (m : List ℕ). IsKept c.augment.new.state c.augment.new.prices m c.augment.new.self i.reached) (sym wm) kept in
+    let grown = subst (λ (m : List Mate). IsKept c.augment.new.state c.augment.new.prices m c.augment.new.self i.reached) (sym wm) kept in
     let net = (e.extended c.args.row s.ended).net in
     (grown, subst (λ (g : Network). AreRows g i.rows) (sym net) c.self.invariant.1)
 

@@ -1,4 +1,5 @@
-use Rattle.std.proofs.Common.{List, ℤ, ℕ, refl, subst, sym, ◌∙◌}
+use Rattle.std.proofs.Common.{List, ℤ, refl, subst, sym, ◌∙◌}
+use Rattle.mcf_assign.specs.declared.scene.Mate.{Mate}
 use Rattle.mcf_assign.specs.Extending.{Assigned, IsShownMatching}
 use Rattle.mcf_assign.specs.Private.Forests.{AreMates}
 use Rattle.mcf_assign.specs.Private.Keeping.{IsKept}
@@ -48,7 +49,7 @@ run-requires c =
         matching = k.matching;
         rows = c.self.invariant.1;
         prices = k.shown;
-        mates = subst (λ (l : List ℕ). AreMates i.state l) (sym c.as_slice-mates.ensures.value) k.mated;
+        mates = subst (λ (l : List Mate). AreMates i.state l) (sym c.as_slice-mates.ensures.value) k.mated;
         small = k.near;
       };
     }
