@@ -12,9 +12,8 @@ use Rattle.mcf_assign.specs.declared.scene.Mate.{Mate}
 use Rattle.mcf_assign.specs.Extending.{IsMatched}
 use Rattle.mcf_assign.specs.Matchings.{IsMatchedColumn, IsMatchedRow, IsPair, IsPartialMatching, IsRow, column_of, row_of}
 use Rattle.mcf_assign.specs.Private.Forests.{AreMates, mate, mate_at}
-use Rattle.mcf_assign.proofs.PairLaws.{column_is, pairing_at, row_column, row_is, row_matched}
+use Rattle.mcf_assign.proofs.PairLaws.{column_is, free_zero, pairing_at, row_column, row_is, row_matched}
 use Rattle.mcf_assign.proofs.Pairing.{paired_ok, unpaired_ok}
-use Rattle.mcf_assign.proofs.Turned.{free_idle}
 
 module _ (s : Pseudoflow) (mates : List Mate) (mated : AreMates s mates) where
   -- the arc that stands at an end of a pair
@@ -121,7 +120,7 @@ module _ (s : Pseudoflow) (mates : List Mate) (k : ℕ) (ok : IsPartialMatching 
   joined_mates free_row free_column =
       let x = mate k (column_of s k) in
       let y = mate k (row_of s k) in
-      let into = paired_ok s k ok arc (free_idle s k ok arc free_column) free_row free_column in
+      let into = paired_ok s k ok arc free_row free_column in
       let kept = λ (i : ℕ) (p : IsPair s i). kept_at x y i p (λ e. free_row (i, p, e)) (λ e. free_column (i, p, e)) in
       record {
         count = count_now x y;
@@ -142,6 +141,6 @@ module _ (s : Pseudoflow) (mates : List Mate) (k : ℕ) (ok : IsPartialMatching 
 
 pub joined_room : (s : Pseudoflow) (k : ℕ) → IsPartialMatching s → IsArcNumber s.net k → ¬ IsMatchedColumn s (column_of s k) → pos 1 ≤ℤ room_of s (rid k false)
 joined_room s k ok arc free_column =
-    let none = free_idle s k ok arc free_column in
+    let none = free_zero s k ok arc free_column in
     let cap = (pairing_at s k ok arc).cap_is in
     omega (arith, ints, none, cap)

@@ -1,27 +1,27 @@
 -- The loop that turns a path.
-use Rattle.std.proofs.Common.{◌≡◌, ◌≢◌, ℕ, ◌+◌, ◌-◌, ◌<◌, true, false, true≢false, Bool, List, [], ◌∷◌, get_or, ℤ, pos, refl, sym, ◌∙◌, ap, subst, arith}
+use Rattle.std.proofs.Common.{◌≡◌, ◌≢◌, ℕ, ◌-◌, ◌<◌, true, false, true≢false, Bool, List, [], ◌∷◌, get_or, ℤ, pos, refl, sym, ◌∙◌, ap, subst, arith}
 use Rattle.std.proofs.Common.{◌⊎◌, inl, inr}
 use Rattle.std.specs.List.{All}
+use Rattle.std.proofs.lemmas.Bool.{cases_eq}
 use Rattle.std.proofs.lemmas.Int.{ints}
+use Rattle.std.proofs.lemmas.List.{get_or_default}
 use Rattle.std.proofs.lemmas.List.Elements.{All-cons}
 use Rattle.std.proofs.lemmas.List.Kept.{AllPairs-cons}
-use Rattle.std.proofs.lemmas.List.{get_or_default}
 use Rattle.mcf_flows.specs.Network.{Network, IsArcNumber, IsNode, node_count}
 use Rattle.mcf_network.specs.declared.rid.Rid.{Rid}
-use Rattle.mcf_network.specs.States.{Pseudoflow, amount_at, pushed}
-use Rattle.mcf_network.specs.Walks.{HasRoomFor}
+use Rattle.mcf_network.specs.States.{IsPseudoflow, Pseudoflow, amount_at, pushed}
+use Rattle.mcf_network.specs.Walks.{HasRoomFor, IsWalk}
 use Rattle.mcf_network.proofs.StateLaws.{rid}
 use Rattle.mcf_assign.specs.declared.scene.Mate.{Mate}
-use Rattle.mcf_assign.specs.Private.Forests.{AreMates, IsChangedWithin, IsForest, IsTightArc, IsTurning, mate_at, place}
-use Rattle.mcf_assign.specs.Matchings.{IsColumn, IsMatchedColumn, IsMatchedRow, IsPair, IsPartialMatching, column_of, row_of}
-use Rattle.mcf_assign.specs.Private.Searches.{HasEntries, Search, Settled, link_at}
 use Rattle.mcf_assign.specs.Extending.{IsAugmented}
-use Rattle.mcf_assign.specs.Private.Turning.{IsExtended, IsPushedFrom, IsTurned}
+use Rattle.mcf_assign.specs.Matchings.{IsColumn, IsMatchedColumn, IsMatchedRow, IsPair, column_of, reduced, row_of}
+use Rattle.mcf_assign.specs.Private.Forests.{AreMates, IsChangedWithin, IsForest, IsTightArc, IsTurning, mate_at, place}
+use Rattle.mcf_assign.specs.Private.Searches.{HasEntries, Search, Settled, link_at}
+use Rattle.mcf_assign.specs.Private.Turning.{IsExtended, IsPushedFrom}
 use Rattle.mcf_assign.proofs.Augmented.{push_first}
 use Rattle.mcf_assign.proofs.Mating.{mate_none, row_mate}
 use Rattle.mcf_assign.proofs.PairLaws.{amount_is, column_is, pairing_at, row_is}
-use Rattle.mcf_assign.proofs.Pairing.{amount_pushed, paired_ok, unpaired_ok}
-use Rattle.mcf_assign.proofs.Turned.{free_idle, turned_end, turned_next, turned_start}
+use Rattle.mcf_assign.proofs.Pairing.{IsPaired, IsUnpaired, amount_pushed, column_out, end_kept, end_left, end_out, end_was, paired_ok, row_out, unpaired_ok}
 
 abbrev parted : Pseudoflow → ℕ → Pseudoflow
 parted s j = pushed s (rid j true) (pos 1)
@@ -30,12 +30,12 @@ abbrev joined : Pseudoflow → ℕ → Pseudoflow
 joined s k = pushed s (rid k false) (pos 1)
 
 -- one push along an arc between settled nodes, or to column t
-changed_more : (old : Pseudoflow) (amounts : List ℤ) (q : Search) (t k : ℕ) (b : Bool) → IsPartialMatching (record { net = old.net; amounts = amounts })
+changed_more : (old : Pseudoflow) (amounts : List ℤ) (q : Search) (t k : ℕ) (b : Bool) → IsPseudoflow (record { net = old.net; amounts = amounts })
     → IsArcNumber old.net k → Settled q (row_of old k) × (Settled q (column_of old k) ⊎ (column_of old k ≡ t))
     → IsChangedWithin old (record { net = old.net; amounts = amounts }) q t
     → IsChangedWithin old (pushed (record { net = old.net; amounts = amounts }) (rid k b) (pos 1)) q t
 changed_more old amounts q t k b ok arc ends before i h =
-    elim (amount_pushed (record { net = old.net; amounts = amounts }) k i b (pos 1) ok.flow arc h) [
+    elim (amount_pushed (record { net = old.net; amounts = amounts }) k i b (pos 1) ok arc h) [
       | inl (e, is) ↦ inr (subst (λ x. Settled q (row_of old x) × (Settled q (column_of old x) ⊎ (column_of old x ≡ t))) (sym e) ends)
       | inr (n, same) ↦ elim (before i h) [
         | inl was ↦ inl (same ∙ was)
@@ -52,9 +52,15 @@ turning_start {s} {mates} {q} {order} {target} {source} {z} forest tight free ma
       mated = mated;
       arc = tight.arc;
       from = tight.from;
+      column = column_of s target;
+      at = refl;
       to = inr refl;
-      turned = λ source' z' forest' tight'.
-          (tight', turned_start s z' (place order) (place order (row_of s target) + 1) (column_of s target) forest'.matching forest'.tight free);
+      free = free;
+      rows = (λ v h. h, λ v h. h);
+      columns = λ v h n. h;
+      others = λ v h. inl h;
+      earlier = λ i p l. p;
+      tight = λ source' z' forest' tight'. (tight'.tight, forest'.tight);
       changed = λ i h. inl refl;
       path = record {
         walk = [];
@@ -65,16 +71,6 @@ turning_start {s} {mates} {q} {order} {target} {source} {z} forest tight free ma
         turned = refl;
       };
     }
-
--- ---- what came out leaves its ends free
-
-pub parted_row : (s : Pseudoflow) (j k : ℕ) → IsPartialMatching s → IsPair s j → row_of s j ≡ row_of s k → ¬ IsMatchedRow (parted s j) (row_of s k)
-parted_row s j k ok pair from (i, p, e) =
-    let w = (unpaired_ok s j ok pair).was i p in
-    w.1 (ok.once_in_row i j w.0 pair (e ∙ sym from))
-
-pub parted_column : (s : Pseudoflow) (j v : ℕ) → IsPartialMatching s → IsPair s j → ¬ IsMatchedColumn s v → ¬ IsMatchedColumn (parted s j) v
-parted_column s j v ok pair free (i, p, e) = free (i, ((unpaired_ok s j ok pair).was i p).0, e)
 
 -- ---- one arc of the path
 
@@ -98,25 +94,34 @@ module _ {old : Pseudoflow} {amounts : List ℤ} {mates : List Mate} {q : Search
   abbrev t : ℕ
   t = column_of old target
 
-  here : IsTurned old s z (place order) (place order (row_of old k) + 1) t (column_of old k)
-  here = (turning.turned source z forest end).1
-
   free_at : ¬ IsMatchedColumn s (column_of s k)
-  free_at = here.free
+  free_at = subst (λ v. ¬ IsMatchedColumn s v) (sym turning.at) turning.free
+
+  k_to : Settled q (column_of old k) ⊎ (column_of old k ≡ t)
+  k_to =
+      elim turning.to [
+        | inl both ↦ inl (subst (λ v. Settled q v) (sym turning.at) both.0)
+        | inr last ↦ inr (turning.at ∙ last)
+      ]
+
+  -- the arc may lead to the target, which wasn't matched
+  column_was : (v : ℕ) → column_of s k ≡ v → IsMatchedColumn old v ⊎ (v ≡ t)
+  column_was v e =
+      elim turning.to [
+        | inl both ↦ inl (subst (λ u. IsMatchedColumn old u) (sym turning.at ∙ e) both.1)
+        | inr last ↦ inr (sym e ∙ turning.at ∙ last)
+      ]
 
   -- ---- the path so far, and arc k before it
 
-  path : IsPushedFrom old s (place order) (place order (row_of old k)) (column_of old k) t
+  path : IsPushedFrom old s (place order) (place order (row_of old k)) turning.column t
   path = turning.path
-
-  not_pair : ¬ IsPair old k
-  not_pair p = free_at (k, here.earlier k p (omega arith), refl)
 
   k_room : HasRoomFor old (pos 1) (rid k false)
   k_room =
       let none : amount_at old k ≡ pos 0 = elim (amount_is old k forest.matching turning.arc) [
         | inl e ↦ e
-        | inr p ↦ absurd (not_pair p)
+        | inr p ↦ absurd (free_at (k, turning.earlier k p (omega arith), refl))
       ] in
       let cap = (pairing_at old k forest.matching turning.arc).cap_is in
       record { arc = turning.arc; room = omega (arith, ints, none, cap) }
@@ -140,11 +145,9 @@ module _ {old : Pseudoflow} {amounts : List ℤ} {mates : List Mate} {q : Search
     -- its pair was there from the beginning
     was_pair : IsPair old j
     was_pair =
-        let m = here.rows.1 (row_of old k) (j, pair, from) in
-        let i = m.0 in
-        let at = ap (place order) m.2 in
-        let still = here.earlier i m.1 (omega (arith, at)) in
-        subst (λ x. IsPair old x) (turning.matching.once_in_row i j still pair (m.2 ∙ sym from)) m.1
+        let (i, p, e) = turning.rows.1 (row_of old k) (j, pair, from) in
+        let at = ap (place order) e in
+        subst (λ x. IsPair old x) (turning.matching.once_in_row i j (turning.earlier i p (omega (arith, at))) pair (e ∙ sym from)) p
 
     row_settled : Settled q (row_of old j)
     row_settled = subst (λ v. Settled q v) (sym from) turning.from
@@ -161,12 +164,12 @@ module _ {old : Pseudoflow} {amounts : List ℤ} {mates : List Mate} {q : Search
     next_arc : IsTightArc old q z next (column_of old j)
     next_arc = forest.links (column_of old j) column_j column_settled
 
-    falls_at : place order (row_of old next) < place order (row_of old k)
-    falls_at =
+    falls : (place order (row_of old next) < place order (row_of old k)) × (place order (row_of old j) ≡ place order (row_of old k))
+    falls =
         let one = forest.earlier (column_of old j) column_j column_settled in
         let two = forest.pairs j was_pair row_settled in
         let same = ap (place order) from in
-        omega (arith, one, two, same)
+        (omega (arith, one, two, same), same)
 
     abbrev mid : Pseudoflow
     mid = parted s j
@@ -174,45 +177,35 @@ module _ {old : Pseudoflow} {amounts : List ℤ} {mates : List Mate} {q : Search
     abbrev done : Pseudoflow
     done = joined mid k
 
-    mid_ok : IsPartialMatching mid
-    mid_ok = (unpaired_ok s j turning.matching pair).matching
+    out : IsUnpaired s mid j
+    out = unpaired_ok s j turning.matching pair
 
-    done_ok : IsPartialMatching done
-    done_ok =
-        let row = parted_row s j k turning.matching pair from in
-        let column = parted_column s j (column_of s k) turning.matching pair free_at in
-        (paired_ok mid k mid_ok turning.arc (free_idle mid k mid_ok turning.arc column) row column).matching
+    into : IsPaired mid done k
+    into = paired_ok mid k out.matching turning.arc (row_out s j (row_of s k) turning.matching pair from) (λ m. free_at (end_out (column_of s) out (column_of s k) m))
 
-    before : (source' : ℕ) (z' : List ℤ) → IsForest old q source' order z' → IsTightArc old q z' target t → (i : ℕ)
-        → place order (row_of old i) < place order (row_of old next) + 1 → row_of s i ≢ row_of s k
-    before source' z' forest' end' i l e =
-        let falls = falls_at in
-        let same = ap (place order) e in
-        omega (arith, falls, same, l)
+    row_now : (v : ℕ) → IsMatchedRow s v → IsMatchedRow done v
+    row_now v h =
+        elim (cases_eq v (row_of s j)) [
+          | inl e ↦ (k, into.here, sym from ∙ sym e)
+          | inr n ↦ end_kept (row_of s) into v (end_left (row_of s) out v h n)
+        ]
 
-    turned_now : (source' : ℕ) (z' : List ℤ) → IsForest old q source' order z' → IsTightArc old q z' target t
-        → IsTightArc old q z' next (column_of old next) × IsTurned old done z' (place order) (place order (row_of old next) + 1) t (column_of old next)
-    turned_now source' z' forest' end' =
-        let was = turning.turned source' z' forest' end' in
-        let link = forest'.links (column_of old j) column_j column_settled in
-        let falls = falls_at in
-        let next_turned = turned_next old s z' (place order) (place order (row_of old k) + 1) t (column_of old k) k was.1 turning.arc refl was.0.tight j pair
-        from (place order (row_of old next) + 1) (omega (arith, falls)) (before source' z' forest' end') in (
-          record { arc = link.arc; from = link.from; to = refl; tight = link.tight },
-          subst
-              (λ c. IsTurned old done z' (place order) (place order (row_of old next) + 1) t c) (sym link.to) next_turned,
-        )
+    row_was : (v : ℕ) → IsMatchedRow done v → IsMatchedRow s v
+    row_was v h =
+        elim (end_was (row_of s) into v h) [
+          | inl m ↦ end_out (row_of s) out v m
+          | inr e ↦ (j, pair, from ∙ e)
+        ]
 
-    next_path : IsPushedFrom old done (place order) (place order (row_of old next)) (column_of old next) t
+    next_path : IsPushedFrom old done (place order) (place order (row_of old next)) (column_of old j) t
     next_path =
-        let falls = falls_at in
-        let rows = ap (place order) from in
+        let less = falls in
         let one = was_pair.one in
         let later : Rid → Type 0 = λ (r : Rid). place order (row_of old next) < place order (row_of old r.arc) in
         let room = HasRoomFor old (pos 1) in
         record {
           walk = rid j true ∷ rid k false ∷ path.walk;
-          leads = (sym next_arc.to, (sym from, path.leads));
+          leads = (refl, (sym from, subst (λ v. IsWalk old.net v path.walk t) (sym turning.at) path.leads));
           can = record {
             low = path.can.low;
             room = All-cons room (rid j true) (rid k false ∷ path.walk) (record { arc = was_pair.arc; room = omega (arith, ints, one) })
@@ -222,8 +215,8 @@ module _ {old : Pseudoflow} {amounts : List ℤ} {mates : List Mate} {q : Search
                 (distinct_from j true was_pair.arc from))
                 (AllPairs-cons (λ (r q : Rid). r ≢ q) (rid k false) path.walk (distinct_from k false turning.arc refl) path.can.distinct);
           };
-          later = All-cons later (rid j true) (rid k false ∷ path.walk) (omega (arith, falls, rows))
-              (All-cons later (rid k false) path.walk falls (λ n d h. let l = path.later n d h in omega (arith, falls, l)));
+          later = All-cons later (rid j true) (rid k false ∷ path.walk) (omega (arith, less))
+              (All-cons later (rid k false) path.walk less.0 (λ n d h. let l = path.later n d h in omega (arith, less, l)));
           not_matched = path.not_matched;
           turned = ap (λ (x : Pseudoflow). joined (parted x j) k) path.turned
               ∙ ap (λ (x : Pseudoflow). joined x k) (push_first old path.walk (rid j true) (pos 1) (apart_from j was_pair.arc from))
@@ -234,32 +227,60 @@ module _ {old : Pseudoflow} {amounts : List ℤ} {mates : List Mate} {q : Search
     next_at mates' mated =
         record {
           net = refl;
-          matching = done_ok;
+          matching = into.matching;
           mated = mated;
           arc = next_arc.arc;
           from = next_arc.from;
-          to = inl (subst (λ v. Settled q v) (sym next_arc.to) column_settled);
-          turned = turned_now;
-          changed = changed_more old (mid.amounts) q t k false mid_ok turning.arc (turning.from, turning.to)
-              (changed_more old amounts q t j true turning.matching pair.arc (row_settled, inl column_settled) turning.changed);
+          column = column_of old j;
+          at = next_arc.to;
+          to = inl (column_settled, (j, was_pair, refl));
+          free = λ h. elim (end_was (column_of s) into (column_of s j) h) [
+            | inl m ↦ column_out s j (column_of s j) turning.matching pair refl m
+            | inr e ↦ free_at (j, pair, sym e)
+          ];
+          rows = (λ v h. row_now v (turning.rows.0 v h), λ v h. turning.rows.1 v (row_was v h));
+          columns = λ v h n. elim (cases_eq v turning.column) [
+            | inl e ↦ (k, into.here, turning.at ∙ sym e)
+            | inr m ↦ end_kept (column_of s) into v (end_left (column_of s) out v (turning.columns v h m) n)
+          ];
+          others = λ v h. elim (end_was (column_of s) into v h) [
+            | inl m ↦ turning.others v (end_out (column_of s) out v m)
+            | inr e ↦ column_was v e
+          ];
+          earlier = λ i p l.
+              let less = falls in
+              into.kept i (out.kept i (turning.earlier i p (omega (arith, less, l))) (λ e. (let at = ap (λ x. place order (row_of old x)) e in omega (arith, less, l, at))));
+          tight = λ source' z' forest' end'.
+              let was = turning.tight source' z' forest' end' in (
+                (forest'.links (column_of old j) column_j column_settled).tight,
+                λ i p. elim (into.was i p) [
+                  | inl e ↦ subst (λ x. reduced old z' x ≡ pos 0) (sym e) was.0
+                  | inr m ↦ was.1 i (out.was i m).0
+                ],
+              );
+          changed = changed_more old (mid.amounts) q t k false out.matching.flow turning.arc (turning.from, k_to)
+              (changed_more old amounts q t j true turning.matching.flow pair.arc (row_settled, inl column_settled) turning.changed);
           path = next_path;
         }
 
   -- ---- the row is not matched: it is the source
 
   module _ (single : ¬ IsMatchedRow s (row_of s k)) where
+    last : IsPaired s (joined s k) k
+    last = paired_ok s k turning.matching turning.arc single free_at
+
     is_source : (source' : ℕ) (z' : List ℤ) → IsForest old q source' order z' → row_of old k ≡ source'
     is_source source' z' forest' =
         elim (forest'.rows (row_of old k) (row_is old k forest.matching turning.arc) turning.from) [
           | inl e ↦ e
-          | inr m ↦ absurd (single (here.rows.0 (row_of old k) m))
+          | inr m ↦ absurd (single (turning.rows.0 (row_of old k) m))
         ]
 
     end_path : IsAugmented old (row_of old k) (joined s k)
     end_path = record {
       walk = rid k false ∷ path.walk;
       column = t;
-      leads = (refl, path.leads);
+      leads = (refl, subst (λ v. IsWalk old.net v path.walk t) (sym turning.at) path.leads);
       can = record {
         low = path.can.low;
         room = All-cons (HasRoomFor old (pos 1)) (rid k false) path.walk k_room path.can.room;
@@ -272,18 +293,38 @@ module _ {old : Pseudoflow} {amounts : List ℤ} {mates : List Mate} {q : Search
 
     end_at : (source' : ℕ) (z' : List ℤ) → IsForest old q source' order z' → IsTightArc old q z' target t → IsExtended old (joined s k) z' source' t
     end_at source' z' forest' end' =
-        let was = turning.turned source' z' forest' end' in
-        subst (λ r. IsExtended old (joined s k) z' r t) (is_source source' z' forest')
-        (turned_end old s z' (place order) (place order (row_of old k) + 1) t (column_of old k) k was.1 turning.arc refl was.0.tight single
-        end_path)
+        let was = turning.tight source' z' forest' end' in
+        subst (λ r. IsExtended old (joined s k) z' r t) (is_source source' z' forest') (record {
+          net = refl;
+          path = end_path;
+          matching = last.matching;
+          tight = λ i p. elim (last.was i p) [
+            | inl e ↦ subst (λ x. reduced old z' x ≡ pos 0) (sym e) was.0
+            | inr m ↦ was.1 i m
+          ];
+          rows = λ v h. elim (end_was (row_of s) last v h) [
+            | inl m ↦ inl (turning.rows.1 v m)
+            | inr e ↦ inr (sym e)
+          ];
+          rows_kept = λ v h. end_kept (row_of s) last v (turning.rows.0 v h);
+          row_matched = (k, last.here, refl);
+          columns_kept = λ v h. elim (cases_eq v turning.column) [
+            | inl e ↦ (k, last.here, turning.at ∙ sym e)
+            | inr n ↦ end_kept (column_of s) last v (turning.columns v h n)
+          ];
+          columns = λ v h. elim (end_was (column_of s) last v h) [
+            | inl m ↦ turning.others v m
+            | inr e ↦ column_was v e
+          ];
+        })
 
   can_turn : CanTurn old s q order target k
   can_turn =
       record {
         free = free_at;
-        next = λ j pair from mates' mated. (next_at j pair from mates' mated, falls_at j pair from);
+        next = λ j pair from mates' mated. (next_at j pair from mates' mated, (falls j pair from).0);
         end = λ single source' z' forest' end'. end_at single source' z' forest' end';
-        changed = λ single. changed_more old amounts q t k false turning.matching turning.arc (turning.from, turning.to) turning.changed;
+        changed = λ single. changed_more old amounts q t k false turning.matching.flow turning.arc (turning.from, k_to) turning.changed;
       }
 
 -- the same of a state whose net is known to be the same

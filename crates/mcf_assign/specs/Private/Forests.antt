@@ -1,15 +1,15 @@
 -- The mates of a matching; the nodes that a search settled in their order, and the alternating paths of its links from its
 -- row to each of them.
-use Rattle.std.specs.Prelude.{◌≡◌, ◌≢◌, ℕ, ◌+◌, ◌-◌, ◌<◌, ◌==◌, List, [], ◌∷◌, length, ℤ, pos, ◌⊎◌, if◌then◌else◌, slice_index_or}
+use Rattle.std.specs.Prelude.{◌≡◌, ◌≢◌, ℕ, ◌+◌, ◌-◌, ◌<◌, ◌≤◌, ◌==◌, List, [], ◌∷◌, length, ℤ, pos, ◌⊎◌, if◌then◌else◌, slice_index_or}
 use Rattle.std.specs.List.{All, AllPairs, Contains}
 use Rattle.mcf_flows.specs.Network.{IsArcNumber, IsNode, node_count}
 use Rattle.mcf_network.specs.NodeSets.{member_count}
 use Rattle.mcf_network.specs.States.{Pseudoflow, amount_at}
 use Rattle.mcf_assign.specs.declared.scene.Mate.{Mate}
 use Rattle.mcf_assign.specs.Extending.{IsMatched, IsReachable}
-use Rattle.mcf_assign.specs.Matchings.{IsColumn, IsMatchedRow, IsPair, IsPartialMatching, IsRow, column_of, reduced, row_of}
+use Rattle.mcf_assign.specs.Matchings.{IsColumn, IsMatchedColumn, IsMatchedRow, IsPair, IsPartialMatching, IsRow, MatchSameRows, column_of, reduced, row_of}
 use Rattle.mcf_assign.specs.Private.Searches.{Search, Settled, link_at}
-use Rattle.mcf_assign.specs.Private.Turning.{IsPushedFrom, IsTurned}
+use Rattle.mcf_assign.specs.Private.Turning.{IsPushedFrom}
 
 -- an arc with the node at its other end
 abbrev pub mate : ℕ → ℕ → Mate
@@ -76,15 +76,23 @@ abbrev pub IsChangedWithin : Pseudoflow → Pseudoflow → Search → ℕ → Ty
 IsChangedWithin old s q t =
     (i : ℕ) → IsArcNumber old.net i → (amount_at s i ≡ amount_at old i) ⊎ (Settled q (row_of old i) × (Settled q (column_of old i) ⊎ (column_of old i ≡ t)))
 
--- the path that ends with the target arc is turned from its end on as far as the column of arc k, which is free now
+-- the path that ends with the target arc is turned from its end on as far as the column of arc k, which is free now: all rows are
+-- matched that were, and the pairs of earlier rows, and that of the row of k, are as they were
 pub record IsTurning (old s : Pseudoflow) (mates : List Mate) (q : Search) (order : List ℕ) (target k : ℕ) : Type 0 where
   pub net : s.net ≡ old.net
   pub matching : IsPartialMatching s
   pub mated : AreMates s mates
   pub arc : IsArcNumber old.net k
   pub from : Settled q (row_of old k)
-  pub to : Settled q (column_of old k) ⊎ (column_of old k ≡ column_of old target)
-  pub turned : (source : ℕ) (z : List ℤ) → IsForest old q source order z → IsTightArc old q z target (column_of old target)
-      → IsTightArc old q z k (column_of old k) × IsTurned old s z (place order) (place order (row_of old k) + 1) (column_of old target) (column_of old k)
+  pub column : ℕ
+  pub at : column_of old k ≡ column
+  pub to : (Settled q column × IsMatchedColumn old column) ⊎ (column ≡ column_of old target)
+  pub free : ¬ IsMatchedColumn s column
+  pub rows : MatchSameRows old s
+  pub columns : (v : ℕ) → IsMatchedColumn old v → v ≢ column → IsMatchedColumn s v
+  pub others : (v : ℕ) → IsMatchedColumn s v → IsMatchedColumn old v ⊎ (v ≡ column_of old target)
+  pub earlier : (i : ℕ) → IsPair old i → place order (row_of old i) ≤ place order (row_of old k) → IsPair s i
+  pub tight : (source : ℕ) (z : List ℤ) → IsForest old q source order z → IsTightArc old q z target (column_of old target)
+      → (reduced old z k ≡ pos 0) × ((i : ℕ) → IsPair s i → reduced old z i ≡ pos 0)
   pub changed : IsChangedWithin old s q (column_of old target)
-  pub path : IsPushedFrom old s (place order) (place order (row_of old k)) (column_of old k) (column_of old target)
+  pub path : IsPushedFrom old s (place order) (place order (row_of old k)) column (column_of old target)

@@ -1,6 +1,7 @@
 use Rattle.std.proofs.Common.{arith, ◌∙◌}
-use Rattle.mcf_assign.proofs.Pairing.{unpaired_ok}
-use Rattle.mcf_assign.proofs.Turns.{parted_column, parted_row, turning_node, turning_pair, turning_round, turning_single, turning_start, turns}
+use Rattle.mcf_assign.specs.Matchings.{column_of}
+use Rattle.mcf_assign.proofs.Pairing.{end_out, row_out, unpaired_ok}
+use Rattle.mcf_assign.proofs.Turns.{turning_node, turning_pair, turning_round, turning_single, turning_start, turns}
 use Rattle.mcf_assign.proofs.search.Tables.turn.Goals as goal
 
 pub path-init : goal.path-init
@@ -34,14 +35,14 @@ join-requires-in-path-clause-matching c =
 pub join-requires-in-path-clause-free_row : goal.join-requires-in-path-clause-free_row
 join-requires-in-path-clause-free_row c =
     let p = turning_pair c.path.invariant c.row_mate-mate.ensures c.if-mate-eq0.false in
-    rw (c.part.ensures.value, c.new.ensures) (parted_row c.path.state c.row_mate-mate.result.arc c.path.arc c.path.invariant.matching p.0 p.1)
+    rw (c.part.ensures.value, c.new.ensures) (row_out c.path.state c.row_mate-mate.result.arc _ c.path.invariant.matching p.0 p.1)
 
 pub join-requires-in-path-clause-free_column : goal.join-requires-in-path-clause-free_column
 join-requires-in-path-clause-free_column c =
     let f = c.requires.forest in
     let p = turning_pair c.path.invariant c.row_mate-mate.ensures c.if-mate-eq0.false in
-    rw (c.part.ensures.value, c.new.ensures)
-    (parted_column c.path.state c.row_mate-mate.result.arc _ c.path.invariant.matching p.0 (turns f.2 f.3 c.path.invariant).free)
+    let out = unpaired_ok c.path.state c.row_mate-mate.result.arc c.path.invariant.matching p.0 in
+    rw (c.part.ensures.value, c.new.ensures) (λ m. (turns f.2 f.3 c.path.invariant).free (end_out (column_of c.path.state) out _ m))
 
 pub overflow_sub-mate : goal.overflow_sub-mate
 overflow_sub-mate c = (turning_node c.path.invariant c.row_mate-mate.ensures c.if-mate-eq0.false).0
