@@ -1,6 +1,6 @@
 -- Runs of searches: which rows they match, and what is left to send or to take when all rows are matched.
 use Rattle.std.proofs.Common.{◌<◌, ◌≡◌, ℕ, zero, suc, ◌+◌, ◌-◌, ◌≤◌, Bool, true, false, cond, List, [], ◌∷◌, ◌++◌, length, get_or, ℤ, pos, ◌≤ℤ◌, refl, sym, ◌∙◌}
-use Rattle.std.proofs.Common.{ap, subst, arith, ◌⊎◌, inl, inr}
+use Rattle.std.proofs.Common.{ap, subst, arith, inl, inr}
 use Rattle.std.specs.List.{All, Contains, filter, range_with_len}
 use Rattle.std.proofs.lemmas.Bool.{cases_eq}
 use Rattle.std.proofs.lemmas.Bool.Decides.{Decides-int_eq}
@@ -28,7 +28,7 @@ use Rattle.mcf_assign.specs.Private.Keeping.{AreNearZero}
 use Rattle.mcf_assign.specs.Private.Offering.{AreOffered}
 use Rattle.mcf_assign.specs.Runs.{IsBlockedAtRow, IsMatchedByRows, Run, more, start, is_source, sources, sources_to}
 use Rattle.mcf_assign.proofs.Kept.{no_pair}
-use Rattle.mcf_assign.proofs.Surpluses.{column_matched_or_not, free_column, matched_column, matched_row, matching_shown, row_or_column}
+use Rattle.mcf_assign.proofs.Surpluses.{column_surplus, matched_row, matching_shown, row_or_column}
 
 -- ---- source nodes, ascending
 
@@ -90,21 +90,11 @@ sources_below g (suc n) v h =
 sources_have : (g : Network) (n v : ℕ) → IsNode n v → is_source g v ≡ true → Contains (sources_to g n) v
 sources_have g zero v node source = absurd (omega (arith, node))
 sources_have g (suc n) v node source =
-    elim (last_or_before v n node) [
-      | inl e ↦ subst (λ l. Contains l v) (sym (sources_with g n v e source) ∙ ap (sources_to g) (here e)) (Contains-push (sources_to g n) v)
-      | inr before ↦ subst (λ l. Contains l v) (sym (sources_more g n (suc n) (omega arith)))
-          (Contains-append_left (sources_to g n) (cond (is_source g (suc n)) (suc n ∷ []) []) v (sources_have g n v before source))
+    elim (cases_eq v (suc n)) [
+      | inl e ↦ subst (λ l. Contains l v) (sym (sources_with g n v (omega (arith, e)) source) ∙ ap (sources_to g) e) (Contains-push (sources_to g n) v)
+      | inr m ↦ subst (λ l. Contains l v) (sym (sources_more g n (suc n) (omega arith)))
+          (Contains-append_left (sources_to g n) (cond (is_source g (suc n)) (suc n ∷ []) []) v (sources_have g n v (node.0, omega (arith, node, m)) source))
     ]
-  where
-    here : v ≡ n + 1 → v ≡ suc n
-    here e = omega (arith, e)
-
-    last_or_before : (v n : ℕ) → IsNode (suc n) v → (v ≡ n + 1) ⊎ IsNode n v
-    last_or_before v n node =
-        elim (cases_eq v (n + 1)) [
-          | inl e ↦ inl e
-          | inr m ↦ inr (omega (arith, node), omega (arith, node, m))
-        ]
 
 -- ---- what a run matches
 
@@ -200,10 +190,7 @@ all_matched g m run ok balanced =
               let matched = run_matched g (sources g) m v run (sources_have g (node_count g) v here.0 (is_source_at g v here.1)) in
               let none = matched_row m.flow v ok row matched in
               omega (arith, ints, none))
-          | inr column ↦ elim (column_matched_or_not m.flow v ok) [
-            | inl matched ↦ (let none = matched_column m.flow v ok column matched in omega (arith, ints, none))
-            | inr free ↦ (let less = free_column m.flow v ok column free in omega (arith, ints, less))
-          ]
+          | inr column ↦ (column_surplus m.flow v ok column).1
         ]
 
 module _ (g : Network) (m : Assigned) (s : Pseudoflow) (prices : List ℤ) (run : Run g (sources g) m) (ok : IsPartialMatching m.flow)
