@@ -18,14 +18,16 @@ use Rattle.mcf_network.proofs.ArcLaws.{head_is_node, net_arc_at, tail_is_node}
 use Rattle.mcf_network.proofs.Marks.{count_small}
 use Rattle.mcf_network.proofs.StateLaws.{rid}
 use Rattle.mcf_network.proofs.StuckLaws.{stuck_sets_block_lem}
+use Rattle.mcf_assign.specs.declared.rows.Rows.{Rows}
 use Rattle.mcf_assign.specs.declared.scene.Mate.{Mate}
 use Rattle.mcf_assign.specs.declared.search.Tables.{Tables}
 use Rattle.mcf_assign.specs.declared.search.Target.{Target}
-use Rattle.mcf_assign.specs.Extending.{Assigned, IsGrown, IsMatched, IsReachable, IsSettledList, IsShownMatching, IsStopped}
+use Rattle.mcf_assign.specs.Extending.{IsGrown, IsMatched, IsReachable, IsSettledList, IsShownMatching, IsStopped}
 use Rattle.mcf_assign.specs.Private.Forests.{AreMates, IsChangedWithin, IsOrder, mate, mate_at}
 use Rattle.mcf_assign.specs.Private.Keeping.{AreFirstPrices, AreNearZero, FreeRowsAreFirst, IsEnded, IsIdle, IsKept, first_price}
 use Rattle.mcf_assign.specs.Matchings.{AreMatchingPrices, IsColumn, IsMatchedRow, IsPair, IsPartialMatching, IsRow, column_of, row_of}
-use Rattle.mcf_assign.specs.Private.Queues.{Queue}
+use Rattle.mcf_assign.specs.Private.RowLists.{AreRows}
+use Rattle.mcf_assign.specs.Private.Scenes.{IsScene}
 use Rattle.mcf_assign.specs.Private.Searches.{AreRaised, HasEntries, Search, Settled, search_of}
 use Rattle.mcf_assign.specs.Private.Turning.{IsExtended}
 use Rattle.mcf_assign.proofs.Beginning.{over_stuck}
@@ -42,12 +44,15 @@ use Rattle.mcf_assign.proofs.Surpluses.{row_or_column}
 pub written : {X : Type 0} (n : ℕ) (xs ys : List X) → n ≡ length xs → take n (xs ++ ys) ≡ xs
 written n xs ys e = ap (λ k. take k (xs ++ ys)) e ∙ take-append_seam xs ys
 
-pub shown_kept : (s : Pseudoflow) (y : List ℤ) (mates : List Mate) (tables : Tables) (reached : List Bool) → IsKept s y mates tables reached → (m : Assigned)
-    → m.flow ≡ s → m.prices ≡ y → IsShownMatching m
-shown_kept s y mates tables reached kept m ef ep =
-    let ok = subst IsPartialMatching (sym ef) kept.matching in
-    let shown : AreMatchingPrices m.flow m.prices = subst (λ x. AreMatchingPrices m.flow x) (sym ep) (subst (λ x. AreMatchingPrices x y) (sym ef) kept.shown) in
-    record { matching = ok; shown = shown; least = least_matching m.flow m.prices ok shown }
+pub shown_kept : {s : Pseudoflow} {y : List ℤ} {mates : List Mate} {tables : Tables} {reached r : List Bool} {l : List ℕ} {n : ℕ}
+    → IsKept s y mates tables reached → IsShownMatching (record { flow = s; prices = y; settled = l; reached = r; searches = n })
+shown_kept {s} {y} kept = record { matching = kept.matching; shown = kept.shown; least = least_matching s y kept.matching kept.shown }
+
+-- what a search or an update reads
+pub scene_kept : {s : Pseudoflow} {y : List ℤ} {mates table : List Mate} {tables : Tables} {reached : List Bool} {rows : Rows} → IsKept s y mates tables reached
+    → AreRows s.net rows → table ≡ mates → IsScene s rows y table
+scene_kept {s} kept rows same =
+    record { matching = kept.matching; rows = rows; prices = kept.shown; mates = subst (AreMates s) (sym same) kept.mated; small = kept.near }
 
 -- whether a node is matched, as its mate tells
 pub mates_tell : (s : Pseudoflow) (mates : List Mate) (v : ℕ) → AreMates s mates → IsNode (node_count s.net) v
@@ -59,7 +64,7 @@ mates_tell s mates v mated n = (
 
 -- ---- one row more
 
-module _ (s : Pseudoflow) (y z : List ℤ) (q : Search) (row : ℕ) (order : List ℕ) (t : Target) (ok : IsPartialMatching s) (shown : AreMatchingPrices s y)
+module _ {s : Pseudoflow} {y z : List ℤ} {q : Search} {row : ℕ} {order : List ℕ} {t : Target} (ok : IsPartialMatching s) (shown : AreMatchingPrices s y)
     (ended : IsEnded s y q row order) (best : q.best ≡ Some t) (raised : AreRaised s q t.dist y z) where
   abbrev c : ℕ
   c = column_of s t.arc
@@ -88,11 +93,11 @@ module _ (s : Pseudoflow) (y z : List ℤ) (q : Search) (row : ℕ) (order : Lis
       closed (rid t.arc false) (forth_room s t.arc ok l.arc l.idle)
       (ended.order_ok.reachable (row_of s t.arc) (row_is s t.arc ok l.arc).0 l.from set closed has)
 
-  pub grown_from : (s' : Pseudoflow) (z' : List ℤ) (l0 l1 : List ℕ) (r : List Bool) (n0 n1 : ℕ) → IsExtended s s' z row c → IsChangedWithin s s' q c
+  pub grown_from : {s' : Pseudoflow} {z' : List ℤ} {l0 l1 : List ℕ} {r : List Bool} {n0 n1 : ℕ} → IsExtended s s' z row c → IsChangedWithin s s' q c
       → l1 ≡ order ++ c ∷ [] → n1 ≡ n0 + 1
       → IsGrown (record { flow = s; prices = y; settled = l0; reached = r; searches = n0 }) row
       (record { flow = s'; prices = z'; settled = l1; reached = r; searches = n1 })
-  grown_from s' z' l0 l1 r n0 n1 ext changed e counted =
+  grown_from {s' = s'} ext changed e counted =
       record {
         net = ext.net;
         path = ext.path;
@@ -163,54 +168,46 @@ module _ (s : Pseudoflow) (y z : List ℤ) (q : Search) (row : ℕ) (order : Lis
           ] in
           raised.others v is.0 unsettled ∙ first v is (λ m. none (ext.rows_kept v m))
 
-  idle_more : (tables tables' : Tables) → search_of tables ≡ q → order ≡ tables.order.items → node_count s.net ≤ vec_capacity tables.order
-      → 2 * length s.net.arcs ≤ tables.offers.room → search_of tables' ≡ search_of tables → tables'.order.items ≡ tables.order.items ++ c ∷ []
-      → vec_capacity tables'.order ≡ vec_capacity tables.order → tables'.offers ≡ tables.offers → IsIdle s.net tables'
-  idle_more tables tables' eq eo room queue es el ec eq' =
-      let same = es ∙ eq in
-      let list : tables'.order.items ≡ order ++ c ∷ [] = el ∙ ap (λ l. l ++ c ∷ []) (sym eo) in
+  pub idle_more : {tables : Tables} → search_of tables ≡ q → tables.order.items ≡ order ++ c ∷ [] → node_count s.net ≤ vec_capacity tables.order
+      → 2 * length s.net.arcs ≤ tables.offers.room → IsIdle s.net tables
+  idle_more same list room queue =
       record {
         entries = subst (λ (x : Search). HasEntries (node_count s.net) x) (sym same) ended.search.entries;
-        room = omega (arith, room, ec);
-        queue = subst (λ (x : Queue). 2 * length s.net.arcs ≤ x.room) (sym eq') queue;
+        room = room;
+        queue = queue;
         each = subst (λ (l : List ℕ). All (IsNode (node_count s.net)) l) (sym list) settled_more.each;
         listed = λ v n h. subst (λ (l : List ℕ). Contains l v) (sym list) (listed_more v n (subst (λ (x : Search). Settled x v) same h));
       }
 
-pub kept_grown : (s s' : Pseudoflow) (y z : List ℤ) (mates' : List Mate) (tables tables' : Tables) (reached : List Bool) (row : ℕ) (t : Target)
-    → IsPartialMatching s → AreMatchingPrices s y → AreNearZero s y → FreeRowsAreFirst s y → length reached ≡ node_count s.net
-    → node_count s.net ≤ vec_capacity tables.order → 2 * length s.net.arcs ≤ tables.offers.room → IsRow s row
-    → IsEnded s y (search_of tables) row tables.order.items → tables.best ≡ Some t → AreRaised s (search_of tables) t.dist y z
-    → IsExtended s s' z row (column_of s t.arc) → AreMates s' mates' → search_of tables' ≡ search_of tables
-    → tables'.order.items ≡ tables.order.items ++ column_of s t.arc ∷ [] → vec_capacity tables'.order ≡ vec_capacity tables.order
-    → tables'.offers ≡ tables.offers → IsKept s' z mates' tables' reached
-kept_grown s s' y z mates' tables tables' reached row t ok shown near first count room queue is ended best raised ext mated es el ec eq =
-    let at_net : Network → Pseudoflow = λ (n : Network). record { net = n; amounts = s'.amounts } in
-    let P : Network → Type 0 = λ (n : Network). IsExtended s (record { net = n; amounts = s'.amounts }) z row (column_of s t.arc) → AreMates
-    (record { net = n; amounts = s'.amounts }) mates' → IsKept (record { net = n; amounts = s'.amounts }) z mates' tables' reached in
+pub kept_grown : {s s' : Pseudoflow} {y z : List ℤ} {mates mates' : List Mate} {tables tables' : Tables} {reached : List Bool} {q : Search} {row : ℕ}
+    {order : List ℕ} {t : Target} → IsKept s y mates tables reached → IsRow s row → IsEnded s y q row order → q.best ≡ Some t → AreRaised s q t.dist y z
+    → IsExtended s s' z row (column_of s t.arc) → AreMates s' mates' → IsIdle s.net tables' → IsKept s' z mates' tables' reached
+kept_grown {s} {s'} {z = z} {mates' = mates'} {tables' = tables'} {reached} {row = row} {t = t} kept is ended best raised ext mated idle =
+    let P : Network → Type 0 = λ n. IsExtended s (record { net = n; amounts = s'.amounts }) z row (column_of s t.arc)
+    → AreMates (record { net = n; amounts = s'.amounts }) mates' → IsKept (record { net = n; amounts = s'.amounts }) z mates' tables' reached in
     subst P (sym ext.net) (λ x m. record {
       matching = x.matching;
-      shown = shown_now s y z (search_of tables) row tables.order.items t ok shown ended best raised near first is s'.amounts x;
+      shown = shown_now kept.matching kept.shown ended best raised kept.near kept.free_rows is s'.amounts x;
       mated = m;
-      idle = idle_more s y z (search_of tables) row tables.order.items t ok shown ended best raised tables tables' refl refl room queue es el ec eq;
-      near = near_now s y z (search_of tables) row tables.order.items t ok shown ended best raised near first is;
-      free_rows = first_now s y z (search_of tables) row tables.order.items t ok shown ended best raised near first is s'.amounts x;
-      count = count;
+      idle = idle;
+      near = near_now kept.matching kept.shown ended best raised kept.near kept.free_rows is;
+      free_rows = first_now kept.matching kept.shown ended best raised kept.near kept.free_rows is s'.amounts x;
+      count = kept.count;
     }) ext mated
 
 -- ---- none more
 
-pub stopped_from : (s : Pseudoflow) (y y' y0 : List ℤ) (q : Search) (row : ℕ) (order l0 list : List ℕ) (r0 set : List Bool) (n0 n1 : ℕ) → IsPartialMatching s
+pub stopped_from : {s : Pseudoflow} {y y' y0 : List ℤ} {q : Search} {row : ℕ} {order l0 : List ℕ} {r0 set : List Bool} {n0 n1 : ℕ} → IsPartialMatching s
     → IsEnded s y q row order → q.best ≡ None → length set ≡ node_count s.net
-    → ((v : ℕ) → IsNode (node_count s.net) v → (in_table set v ≡ true → Contains order v) × (Contains order v → in_table set v ≡ true)) → list ≡ order → n1 ≡ n0 + 1
+    → ((v : ℕ) → IsNode (node_count s.net) v → (in_table set v ≡ true → Contains order v) × (Contains order v → in_table set v ≡ true)) → n1 ≡ n0 + 1
     → IsStopped (record { flow = s; prices = y0; settled = l0; reached = r0; searches = n0 }) row
-    (record { flow = s; prices = y'; settled = list; reached = set; searches = n1 })
-stopped_from s y y' y0 q row order l0 list r0 set n0 n1 ok ended none count members el counted =
+    (record { flow = s; prices = y'; settled = order; reached = set; searches = n1 })
+stopped_from {s} {y} {q = q} {row} {order} {set = set} ok ended none count members counted =
     record {
       flow = refl;
-      settled = subst (λ l. IsSettledList (node_count s.net) row l) (sym el) (record { rest = o.rest; first = o.first; once = o.once; each = o.nodes });
+      settled = record { rest = o.rest; first = o.first; once = o.once; each = o.nodes };
       one_per_node = count;
-      all = λ v n. subst (λ l. (in_table set v ≡ true → Contains l v) × (Contains l v → in_table set v ≡ true)) (sym el) (members v n);
+      all = members;
       reachable = λ v n. (λ h. o.reachable v n (out v n h), λ r. into v n (r (in_table q.settled) stuck.closed ended.search.source_settled));
       blocks = stuck_sets_block_lem s (in_table set) ok.flow now;
       searches = counted;

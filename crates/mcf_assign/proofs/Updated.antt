@@ -1,5 +1,5 @@
 -- New prices that were judged show the matching, and a matching keeps them.
-use Rattle.std.proofs.Common.{◌≡◌, ℕ, ◌+◌, ◌-◌, Bool, List, [], Option, None, Some, false, get_or, length, map, take, drop, ℤ, pos, ◌+ℤ◌, ◌≤ℤ◌, sym, ◌∙◌, ap, subst, arith, inl, inr}
+use Rattle.std.proofs.Common.{rules, ◌≡◌, ℕ, ◌+◌, ◌-◌, Bool, List, [], Option, None, Some, false, get_or, length, map, take, drop, ℤ, pos, ◌+ℤ◌, ◌≤ℤ◌, sym, ◌∙◌, ap, subst, arith, inl, inr}
 use Rattle.std.specs.List.{All, Contains}
 use Rattle.std.proofs.lemmas.List.Elements.{All-contains, All-map, Contains-append_cases}
 use Rattle.std.proofs.lemmas.Int.{ints}
@@ -18,7 +18,7 @@ use Rattle.mcf_assign.specs.declared.rows.Span.{Span}
 use Rattle.mcf_assign.specs.declared.scene.Mate.{Mate}
 use Rattle.mcf_assign.specs.declared.search.Tables.{Tables}
 use Rattle.mcf_assign.specs.Matchings.{AreMatchingPrices, IsPair, IsPartialMatching, reduced, row_of}
-use Rattle.mcf_assign.specs.Private.Keeping.{AreNearZero, IsKept}
+use Rattle.mcf_assign.specs.Private.Keeping.{AreNearZero, FreeRowsAreFirst, IsKept}
 use Rattle.mcf_assign.specs.Private.Reaches.{update_reach}
 use Rattle.mcf_assign.specs.Private.RowLists.{AreRows, IsKeptRow, IsRowArc, forward_of, span_at}
 use Rattle.mcf_assign.specs.Private.Updating.{AreUpdated, DoesArcFit, DoesNodeFit, IsReadable}
@@ -32,15 +32,15 @@ pub slice_none : (xs : List RowArc) (i j : ℕ) → i ≡ j → slice_range xs i
 slice_none xs i j e = let none : j - i ≡ 0 = omega (arith, e) in ap (λ n. take n (drop i xs)) none
 
 -- a row without others, as it was read
-pub whole_row : (g : Network) (rows : Rows) (v : ℕ) (x : Span) (list : List RowArc) → AreRows g rows → IsNode (node_count g) v
+pub whole_row : {g : Network} (rows : Rows) {v : ℕ} {x : Span} {list : List RowArc} → AreRows g rows → IsNode (node_count g) v
     → x ≡ span_at rows.spans.items v → list ≡ slice_range rows.arcs.items x.start x.end → is_some x.others ≡ false → IsKeptRow g v list None
-whole_row g rows v x list are node at e none = alone x.others (kept_row g rows v x list are node at e) none
+whole_row {g} rows {v} {x} {list} are node at e none = alone x.others (kept_row g rows v x list are node at e) none
   where
     alone : (others : Option ℤ) → IsKeptRow g v list others → is_some others ≡ false → IsKeptRow g v list None
     alone None row e = row
     alone (Some bound) row e = absurd (true≢false e)
 
-module _ (g : Network) (v : ℕ) (kept : List RowArc) (row : IsKeptRow g v kept None) where
+module _ {g : Network} {v : ℕ} {kept : List RowArc} (row : IsKeptRow g v kept None) where
   -- where there are no others
   kept_has : (k : ℕ) → IsArcNumber g k → (arc_at g k).src ≡ v → Contains (map forward_of kept) (forward k)
   kept_has k arc from =
@@ -90,11 +90,11 @@ pair_tight s g z v k a net number is from below =
     omega (arith, ints, cost, price, at, below)
 
 -- the arcs of a row fit where none offers less than the price of the row, and that of its pair no more
-pub row_fits : (s : Pseudoflow) (z : List ℤ) (v : ℕ) (kept : List RowArc) → IsKeptRow s.net v kept None
+pub row_fits : (s : Pseudoflow) (z : List ℤ) {v : ℕ} {kept : List RowArc} → IsKeptRow s.net v kept None
     → All (λ (a : RowArc). at_node z v ≤ℤ (a.cost +ℤ at_node z a.column)) kept → ((k : ℕ) → IsPair s k → row_of s k ≡ v → reduced s z k ≤ℤ pos 0)
     → (k : ℕ) → IsArcNumber s.net k → row_of s k ≡ v → DoesArcFit s z k
-row_fits s z v kept row least tight k arc from =
-    let offered = low_offer s.net v kept row z (at_node z v) least k arc from in
+row_fits s z {v} {kept} row least tight k arc from =
+    let offered = low_offer row z (at_node z v) least k arc from in
     let at = ap (at_node z) from in
     let low : pos 0 ≤ℤ reduced s z k = omega (arith, ints, offered, at) in
     record { low = low; tight = λ p. (let high = tight k p from in omega (arith, ints, low, high)) }
@@ -136,30 +136,15 @@ updated_near s y z new v n =
     (omega (arith, ints, here), omega (arith, ints, here))
 
 -- with another count of pairs
-pub kept_counted : (s : Pseudoflow) (y : List ℤ) (mates : List Mate) (tables : Tables) (reached : List Bool) (n : ℕ)
-    → IsKept s y mates tables reached → IsKept s y mates (record tables { pairs = n }) reached
-kept_counted s y mates tables reached n kept =
-    let idle = kept.idle in
-    record {
-      matching = kept.matching;
-      shown = kept.shown;
-      mated = kept.mated;
-      idle = record { entries = idle.entries; room = idle.room; queue = idle.queue; each = idle.each; listed = idle.listed };
-      near = kept.near;
-      free_rows = kept.free_rows;
-      count = kept.count;
-    }
+pub kept_counted : {s : Pseudoflow} {y : List ℤ} {mates : List Mate} {tables : Tables} {reached : List Bool} {n : ℕ} → IsKept s y mates tables reached
+    → IsKept s y mates (record tables { pairs = n }) reached
+kept_counted kept = search rules
 
 -- with new prices
-pub kept_updated : (s : Pseudoflow) (y z : List ℤ) (mates : List Mate) (tables : Tables) (reached : List Bool)
-    → IsKept s y mates tables reached → AreUpdated s y z → IsKept s z mates tables reached
-kept_updated s y z mates tables reached kept new =
-    record {
-      matching = kept.matching;
-      shown = new.shown;
-      mated = kept.mated;
-      idle = kept.idle;
-      near = updated_near s y z new;
-      free_rows = λ v row free. new.free_rows v row free ∙ kept.free_rows v row free;
-      count = kept.count;
-    }
+pub kept_updated : {s : Pseudoflow} {y z : List ℤ} {mates : List Mate} {tables : Tables} {reached : List Bool} → IsKept s y mates tables reached
+    → AreUpdated s y z → IsKept s z mates tables reached
+kept_updated {s} {y} {z} kept new =
+    let shown = new.shown in
+    let near = updated_near s y z new in
+    let free_rows : FreeRowsAreFirst s z = λ v row free. new.free_rows v row free ∙ kept.free_rows v row free in
+    search rules

@@ -49,8 +49,7 @@ impl Tables {
         requires idle { IsIdle scene.now.state.now.net self.old }
         requires row { IsRow scene.now.state.now source }
         requires free { ¬ IsMatchedRow scene.now.state.now source }
-        ensures room { node_count scene.now.state.now.net ≤ vec_capacity self.new.order }
-        ensures queue { self.old.offers.room ≤ self.new.offers.room }
+        ensures idle { IsIdle scene.now.state.now.net self.new }
         ensures ended { IsEnded scene.now.state.now scene.now.prices.now (search_of self.new) source self.new.order.items }
         ensures best { result ≡ self.new.best }
         ensures counted { self.new.searches.number ≡ self.old.searches.number + 1 }
@@ -76,15 +75,14 @@ impl Tables {
         requires best { self.old.best ≡ Some target }
         requires ended { (source : ℕ) × IsEnded state.old prices.old (search_of self.old) source self.old.order.items }
         requires small { AreNearZero state.old prices.old }
-        requires room { node_count state.old.net ≤ vec_capacity self.old.order }
+        requires idle { IsIdle state.old.net self.old }
         ensures raised { AreRaised state.old (search_of self.old) target.dist prices.old prices.new }
         ensures extended { (source : ℕ) → IsEnded state.old prices.old (search_of self.old) source self.old.order.items
             → IsExtended state.old state.new prices.new source (column_of state.old target.arc) }
         ensures mates { AreMates state.new mates.new }
         ensures changed { IsChangedWithin state.old state.new (search_of self.old) (column_of state.old target.arc) }
         ensures order { self.new.order.items ≡ self.old.order.items ++ column_of state.old target.arc ∷ [] }
-        ensures room { vec_capacity self.new.order ≡ vec_capacity self.old.order }
-        ensures queue { self.new.offers ≡ self.old.offers }
+        ensures idle { IsIdle state.old.net self.new }
         ensures tables { search_of self.new ≡ search_of self.old }
     {
         let arc = ArcId::new(target.arc);

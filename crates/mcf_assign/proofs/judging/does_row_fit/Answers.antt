@@ -10,17 +10,14 @@ use Rattle.mcf_assign.proofs.judging.does_row_fit.Goals as goal
 
 pub returns-then-span : goal.returns-then-span
 returns-then-span c _ k arc from =
-    let g = c.args.scene.now.state.now.net in
-    let rows = c.args.scene.now.rows.now in
     let x = c.span-span.result in
-    let row = whole_row g rows c.args.v x _ c.requires.scene.rows c.requires.node c.span-span.ensures refl (sym c.is_some.ensures ∙ c.if-is_some.false) in
-    absurd (none_leaves g c.args.v _ row (slice_none rows.arcs.items x.start x.end c.if-span.true) k arc from)
+    let row = whole_row c.args.scene.now.rows.now c.requires.scene.rows c.requires.node c.span-span.ensures refl (sym c.is_some.ensures ∙ c.if-is_some.false) in
+    absurd (none_leaves row (slice_none c.args.scene.now.rows.now.arcs.items x.start x.end c.if-span.true) k arc from)
 
 pub least_offer-requires : goal.least_offer-requires
 least_offer-requires c =
     let g = c.args.scene.now.state.now.net in
-    let row = whole_row g c.args.scene.now.rows.now c.args.v c.span-span.result c.between.result.now c.requires.scene.rows c.requires.node c.span-span.ensures
-    c.between.ensures (sym c.is_some.ensures ∙ c.if-is_some.false) in
+    let row = whole_row c.args.scene.now.rows.now c.requires.scene.rows c.requires.node c.span-span.ensures c.between.ensures (sym c.is_some.ensures ∙ c.if-is_some.false) in
     readable g c.args.v c.args.prices.now c.between.result.now row.each c.requires.count c.requires.near
 
 pub row_arc-pair-requires : goal.row_arc-pair-requires
@@ -42,14 +39,13 @@ returns-then-mate-eq0 c _ =
     let s = c.args.scene.now.state.now in
     let z = c.args.prices.now in
     let mates = c.args.scene.now.mates.now in
-    let row = whole_row s.net c.args.scene.now.rows.now c.args.v c.span-span.result c.between.result.now c.requires.scene.rows c.requires.node
-    c.span-span.ensures c.between.ensures (sym c.is_some.ensures ∙ c.if-is_some.false) in
+    let row = whole_row c.args.scene.now.rows.now c.requires.scene.rows c.requires.node c.span-span.ensures c.between.ensures (sym c.is_some.ensures ∙ c.if-is_some.false) in
     let tl : to_z w64 (of_z w64 c.least_offer.result) ≡ c.least_offer.result = search (rules, to_z-of_z) in
     let x = get_or z c.place.result (pos 0) in
     let tx : to_z w64 (of_z w64 x) ≡ x = search (rules, to_z-of_z) in
     let at = ap (λ i. get_or z i (pos 0)) c.place.ensures in
     let above = c.if-least_offer-price.false in
-    row_fits s z c.args.v c.between.result.now row
+    row_fits s z row
     (λ i d h. let low = c.least_offer.ensures i d h in omega (arith, ints, low, tl, tx, at, above))
     (λ k p from. absurd (mate_none s mates c.requires.scene.mates c.args.v (rw (← c.place-2.ensures) c.if-mate-eq0.true) (k, p, inl from)))
 
@@ -58,8 +54,7 @@ returns c _ =
     let s = c.args.scene.now.state.now in
     let z = c.args.prices.now in
     let mates = c.args.scene.now.mates.now in
-    let row = whole_row s.net c.args.scene.now.rows.now c.args.v c.span-span.result c.between.result.now c.requires.scene.rows c.requires.node
-    c.span-span.ensures c.between.ensures (sym c.is_some.ensures ∙ c.if-is_some.false) in
+    let row = whole_row c.args.scene.now.rows.now c.requires.scene.rows c.requires.node c.span-span.ensures c.between.ensures (sym c.is_some.ensures ∙ c.if-is_some.false) in
     let tl : to_z w64 (of_z w64 c.least_offer.result) ≡ c.least_offer.result = search (rules, to_z-of_z) in
     let x = get_or z c.place.result (pos 0) in
     let tx : to_z w64 (of_z w64 x) ≡ x = search (rules, to_z-of_z) in
@@ -68,7 +63,7 @@ returns c _ =
     let to : to_z w64 (of_z w64 c.offer.result) ≡ c.offer.result = search (rules, to_z-of_z) in
     let below = c.if-offer-price.false in
     let offered = c.offer.ensures in
-    row_fits s z c.args.v c.between.result.now row
+    row_fits s z row
     (λ i d h. let low = c.least_offer.ensures i d h in omega (arith, ints, low, tl, tx, at, above))
     (λ k p from.
     let here : c.new.result ≡ k = c.new.ensures ∙ ap (λ i. (get_or mates i (mate 0 0)).arc) c.place-2.ensures

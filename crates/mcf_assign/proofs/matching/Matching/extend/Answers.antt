@@ -1,11 +1,11 @@
-use Rattle.mcf_assign.proofs.Repriced.{extended_repriced, free_repriced, row_repriced}
+use Rattle.mcf_assign.proofs.Repriced.{extended_repriced}
 use Rattle.mcf_assign.proofs.matching.Matching.extend.Goals as goal
 
 pub grow-requires-clause-row : goal.grow-requires-clause-row
-grow-requires-clause-row c = row_repriced c.args.self.now c.refresh.new.self c.args.row c.refresh.ensures.repriced c.requires.row
+grow-requires-clause-row c = rw c.refresh.ensures.repriced.flow c.requires.row
 
 pub grow-requires-clause-free : goal.grow-requires-clause-free
-grow-requires-clause-free c = free_repriced c.args.self.now c.refresh.new.self c.args.row c.refresh.ensures.repriced c.requires.free
+grow-requires-clause-free c = rw c.refresh.ensures.repriced.flow c.requires.free
 
 pub returns-clause-extended : goal.returns-clause-extended
 returns-clause-extended c =

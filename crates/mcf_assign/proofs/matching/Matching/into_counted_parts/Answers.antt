@@ -1,7 +1,7 @@
-use Rattle.std.proofs.Common.{List, ℤ, ap, sym, subst}
+use Rattle.std.proofs.Common.{List, ℤ, ap, subst}
 use Rattle.std.specs.List.{All}
 use Rattle.mcf_flows.specs.WellFormed.{IsUpTo}
-use Rattle.mcf_assign.specs.Extending.{Assigned}
+use Rattle.mcf_assign.specs.Extending.{Assigned, IsShownMatching}
 use Rattle.mcf_assign.proofs.Kept.{shown_kept}
 use Rattle.mcf_assign.proofs.RunLaws.{near_all}
 use Rattle.mcf_assign.proofs.matching.Matching.into_counted_parts.Goals as goal
@@ -14,8 +14,4 @@ returns-clause-small c =
     subst (λ (y : List ℤ). All (IsUpTo price_limit) y) (ap (λ (m : Assigned). m.prices) c.self.view_is) (near_all i.state i.prices k.shown.count k.near)
 
 pub returns-clause-shown : goal.returns-clause-shown
-returns-clause-shown c =
-    let i = c.self.inside in
-    shown_kept i.state i.prices i.mates.items i.tables i.reached c.self.invariant.0 c.args.self
-    (sym (ap (λ (m : Assigned). m.flow) c.self.view_is))
-    (sym (ap (λ (m : Assigned). m.prices) c.self.view_is))
+returns-clause-shown c = subst IsShownMatching c.self.view_is (shown_kept c.self.invariant.0)

@@ -5,7 +5,7 @@ use Rattle.mcf_network.specs.States.{Pseudoflow}
 use Rattle.std.proofs.Common.{◌≡◌, ltb, true}
 use Rattle.mcf_assign.specs.declared.scene.Mate.{Mate}
 use Rattle.mcf_assign.specs.Private.Forests.{mate}
-use Rattle.mcf_assign.specs.Extending.{Assigned, IsMatched}
+use Rattle.mcf_assign.specs.Extending.{Assigned, IsMatched, IsShownMatching}
 use Rattle.mcf_assign.proofs.Kept.{mates_tell, shown_kept}
 use Rattle.mcf_assign.proofs.matching.Matching.matched.Goals as goal
 
@@ -22,7 +22,4 @@ returns-clause-value c =
     (mates_tell i.state i.mates.items c.args.v c.self.invariant.0.mated node))
 
 pub returns-clause-shown : goal.returns-clause-shown
-returns-clause-shown c =
-    let i = c.self.inside in
-    shown_kept i.state i.prices i.mates.items i.tables i.reached c.self.invariant.0 c.args.self.now (sym (ap (λ (m : Assigned). m.flow) c.self.view_is))
-    (sym (ap (λ (m : Assigned). m.prices) c.self.view_is))
+returns-clause-shown c = subst IsShownMatching c.self.view_is (shown_kept c.self.invariant.0)

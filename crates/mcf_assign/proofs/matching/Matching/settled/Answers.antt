@@ -1,10 +1,7 @@
-use Rattle.std.proofs.Common.{ap, sym}
-use Rattle.mcf_assign.specs.Extending.{Assigned}
+use Rattle.std.proofs.Common.{subst}
+use Rattle.mcf_assign.specs.Extending.{IsShownMatching}
 use Rattle.mcf_assign.proofs.Kept.{shown_kept}
 use Rattle.mcf_assign.proofs.matching.Matching.settled.Goals as goal
 
 pub returns-clause-shown : goal.returns-clause-shown
-returns-clause-shown c =
-    let i = c.self.inside in
-    shown_kept i.state i.prices i.mates.items i.tables i.reached c.self.invariant.0 c.args.self.now (sym (ap (λ (m : Assigned). m.flow) c.self.view_is))
-    (sym (ap (λ (m : Assigned). m.prices) c.self.view_is))
+returns-clause-shown c = subst IsShownMatching c.self.view_is (shown_kept c.self.invariant.0)

@@ -32,4 +32,4 @@ returns-clause-shown c =
     let count = ap (λ (t : List Bool). length t) c.in_ok-new-2.ensures.value ∙ length-replicate (node_count c.args.net.now) false in
     let kept = kept_first c.args.net.now c.in_ok-prices.prices c.in_ok-mates.mates.items c.in_ok-new.field-0 c.in_ok-new-2.field-0 valid c.requires
     c.in_ok-prices.ensures.prices mates c.in_ok-new.ensures.idle count in
-    shown_kept _ c.in_ok-prices.prices c.in_ok-mates.mates.items c.in_ok-new.field-0 c.in_ok-new-2.field-0 kept _ inside c.prices.view_is
+    rw (inside, c.prices.view_is) (shown_kept kept)

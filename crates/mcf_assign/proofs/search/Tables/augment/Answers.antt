@@ -1,4 +1,4 @@
-use Rattle.std.proofs.Common.{◌∷◌, ◌++◌, [], ap, arith, length, subst, sym, ◌∙◌}
+use Rattle.std.proofs.Common.{refl, ◌∷◌, ◌++◌, [], ap, arith, length, subst, sym, ◌∙◌}
 use Rattle.std.proofs.lemmas.Int.{ints}
 use Rattle.mcf_flows.specs.Network.{Network}
 use Rattle.mcf_network.specs.Residual.{arc_at}
@@ -7,6 +7,7 @@ use Rattle.mcf_assign.specs.Matchings.{IsMatchedColumn, column_of}
 use Rattle.mcf_assign.specs.Private.Searches.{search_of}
 use Rattle.mcf_assign.specs.Private.Turning.{IsExtended}
 use Rattle.mcf_assign.proofs.Found.{found_arc, found_dist, found_forest, found_free, found_near, found_room, found_tight}
+use Rattle.mcf_assign.proofs.Kept.{idle_more}
 use Rattle.mcf_assign.proofs.Raising.{listing_of}
 use Rattle.mcf_assign.proofs.search.Tables.augment.Goals as goal
 
@@ -69,13 +70,21 @@ returns-clause-changed c =
 pub push_reserved-requires : goal.push_reserved-requires
 push_reserved-requires c =
     let room = found_room c.requires.matching c.requires.prices c.requires.ended.1 c.requires.best in
-    let fits = c.requires.room in
+    let fits = c.requires.idle.room in
     omega (arith, room, fits, c.args.self.now.order.ok.0)
 
 pub returns-clause-order : goal.returns-clause-order
 returns-clause-order c =
     c.push_reserved.ensures.items ∙ ap (λ v. c.args.self.now.order.items ++ v ∷ [])
     (c.ends-column.ensures.dst ∙ ap (λ (g : Network). (arc_at g c.new-arc.result).dst) c.net.ensures.value ∙ ap (column_of c.args.state.now) c.new-arc.ensures)
+
+pub returns-clause-idle : goal.returns-clause-idle
+returns-clause-idle c =
+    let idle = c.requires.idle in
+    idle_more c.requires.matching c.requires.prices c.requires.ended.1 c.requires.best (c.raise.ensures.raised c.args.state.now (sym c.requires.prices.count)) refl
+    (c.push_reserved.ensures.items ∙ ap (λ v. c.args.self.now.order.items ++ v ∷ [])
+    (c.ends-column.ensures.dst ∙ ap (λ (g : Network). (arc_at g c.new-arc.result).dst) c.net.ensures.value ∙ ap (column_of c.args.state.now) c.new-arc.ensures))
+    (rw c.push_reserved.ensures.capacity idle.room) idle.queue
 
 pub turn-requires-clause-entries : goal.turn-requires-clause-entries
 turn-requires-clause-entries c = c.requires.ended.1.search.entries
