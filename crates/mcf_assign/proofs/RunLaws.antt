@@ -54,21 +54,11 @@ sources_split g n m k j v e longer at =
     ∙ ap (λ b. sources_to g n ++ filter (is_source g) (range_with_len b m)) here
     ∙ ap (λ c. sources_to g n ++ filter (is_source g) (range_with_len v c)) longer
 
-pub sources_more : (g : Network) (n v : ℕ) → v ≡ n + 1 → sources_to g v ≡ sources_to g n ++ cond (is_source g v) (v ∷ []) []
+sources_more : (g : Network) (n v : ℕ) → v ≡ n + 1 → sources_to g v ≡ sources_to g n ++ cond (is_source g v) (v ∷ []) []
 sources_more g n v e = sources_split g n 1 0 v v e refl e
 
 sources_with : (g : Network) (n v : ℕ) → v ≡ n + 1 → is_source g v ≡ true → sources_to g v ≡ sources_to g n ++ v ∷ []
 sources_with g n v e source = sources_more g n v e ∙ ap (λ b. sources_to g n ++ cond b (v ∷ []) []) source
-
-sources_without : (g : Network) (n v : ℕ) → v ≡ n + 1 → is_source g v ≡ false → sources_to g v ≡ sources_to g n
-sources_without g n v e other =
-    sources_more g n v e ∙ ap (λ b. sources_to g n ++ cond b (v ∷ []) []) other ∙ append-nil (sources_to g n)
-
-source_is : (g : Network) (v : ℕ) → is_source g v ≡ true → at_node g.supplies v ≡ pos 1
-source_is g v source = (Decides-int_eq (at_node g.supplies v) (pos 1)).0 source
-
-is_source_at : (g : Network) (v : ℕ) → at_node g.supplies v ≡ pos 1 → is_source g v ≡ true
-is_source_at g v one = (Decides-int_eq (at_node g.supplies v) (pos 1)).1 one
 
 or_none : (b : Bool) (x v : ℕ) → Contains (cond b (x ∷ []) []) v → v ≡ x
 or_none true x v h =
@@ -136,12 +126,14 @@ module _ {g : Network} {n v : ℕ} {m : Assigned} (at : v ≡ n + 1) (inside : n
   node = (omega (arith, at), omega (arith, at, inside))
 
   pub offered_none : is_source g v ≡ false → Run g (sources_to g v) m
-  offered_none other = subst (λ l. Run g l m) (sym (sources_without g n v at other)) run
+  offered_none other =
+      let same = sources_more g n v at ∙ ap (λ b. sources_to g n ++ cond b (v ∷ []) []) other ∙ append-nil (sources_to g n) in
+      subst (λ l. Run g l m) (sym same) run
 
   pub offered_row : is_source g v ≡ true → IsRow m.flow v
   offered_row source =
       let P : Network → Type 0 = λ (x : Network). IsNode (node_count x) v × (at_node x.supplies v ≡ pos 1) in
-      subst P (sym (run_net g (sources_to g n) m run)) (node, source_is g v source)
+      subst P (sym (run_net g (sources_to g n) m run)) (node, (Decides-int_eq (at_node g.supplies v) (pos 1)).0 source)
 
   pub offered_free : ¬ IsMatchedRow m.flow v
   offered_free matched =
@@ -174,7 +166,7 @@ module _ {g : Network} {n v : ℕ} {m : Assigned} (at : v ≡ n + 1) (inside : n
 
 -- ---- the end
 
-pub all_matched : (g : Network) (m : Assigned) → Run g (sources g) m → IsPartialMatching m.flow → supply_total g ≡ pos 0 → HasNoSurplus m.flow
+all_matched : (g : Network) (m : Assigned) → Run g (sources g) m → IsPartialMatching m.flow → supply_total g ≡ pos 0 → HasNoSurplus m.flow
 all_matched g m run ok balanced =
     settled m.flow ok.flow (ap supply_total same ∙ balanced) (λ v n. at_most v n)
   where
@@ -187,7 +179,7 @@ all_matched g m run ok balanced =
           | inl row ↦ (
               let P : Network → Type 0 = λ (x : Network). IsNode (node_count x) v × (at_node x.supplies v ≡ pos 1) in
               let here = subst P same row in
-              let matched = run_matched g (sources g) m v run (sources_have g (node_count g) v here.0 (is_source_at g v here.1)) in
+              let matched = run_matched g (sources g) m v run (sources_have g (node_count g) v here.0 ((Decides-int_eq (at_node g.supplies v) (pos 1)).1 here.1)) in
               let none = matched_row m.flow v ok row matched in
               omega (arith, ints, none))
           | inr column ↦ (column_surplus m.flow v ok column).1
@@ -208,9 +200,8 @@ module _ (g : Network) (m : Assigned) (s : Pseudoflow) (prices : List ℤ) (run 
 
   pub end_least : IsLeastState g s
   end_least =
-      let greatest = shown.greatest in
-      let P : Pseudoflow → Type 0 = λ (t : Pseudoflow). AreStatePrices m.flow.net t prices → IsLeastState g t in
-      subst P (sym same) (λ p. least_from_prices g m.flow prices feasible_end p.greatest) shown
+      subst (λ (t : Pseudoflow). IsLeastState g t) (sym same)
+      (least_from_prices g m.flow prices feasible_end (subst (λ (t : Pseudoflow). AreStatePrices m.flow.net t prices) same shown).greatest)
 
   pub end_made : (searches : ℕ) → searches ≡ m.searches → IsMatchedByRows g s searches
   end_made searches counted = record {
