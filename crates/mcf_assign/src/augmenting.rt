@@ -1,16 +1,13 @@
 //! A whole search, and the matching made greater by what it found.
-ghost use Rattle.std.specs.Prelude.{◌≡◌, ◌≢◌, ◌+◌, ◌-◌, ◌*◌, ◌^◌, ◌<◌, ◌≤◌, ◌∷◌, ◌++◌, ◌↔◌, ℕ, ℤ, Bool, List, [], None, Some, false, true, IfOk, OnErr, length, pos};
-ghost use Rattle.std.specs.Prelude.{vec_capacity};
+ghost use Rattle.std.specs.Prelude.{◌≡◌, ◌+◌, ◌-◌, ◌*◌, ◌<◌, ◌≤◌, ◌∷◌, ◌++◌, ◌↔◌, ℕ, [], None, Some, false, true, IfOk, OnErr, length};
 ghost use Rattle.std.specs.List.{All, Contains};
 ghost use Rattle.mcf_flows.specs.Blocking.{in_table};
-ghost use Rattle.mcf_flows.specs.Network.{IsNode, at_node, node_count};
-ghost use Rattle.mcf_flows.specs.WellFormed.{IsUpTo};
+ghost use Rattle.mcf_flows.specs.Network.{IsNode, node_count};
 ghost use Rattle.mcf_assign.specs.Private.Forests.{AreMates, IsChangedWithin};
 ghost use Rattle.mcf_assign.specs.Private.Keeping.{AreNearZero, IsEnded, IsIdle};
 ghost use Rattle.mcf_assign.specs.Matchings.{AreMatchingPrices, IsMatchedRow, IsPartialMatching, IsRow, column_of};
-ghost use Rattle.mcf_assign.specs.Private.Rooms.{HasRoom, KeepsRoom};
 ghost use Rattle.mcf_assign.specs.Private.Scenes.{IsScene};
-ghost use Rattle.mcf_assign.specs.Private.Searches.{AreRaised, HasEntries, Settled, search_of};
+ghost use Rattle.mcf_assign.specs.Private.Searches.{AreRaised, search_of};
 ghost use Rattle.mcf_assign.specs.Private.Turning.{IsExtended};
 
 use crate::offers::Offers;

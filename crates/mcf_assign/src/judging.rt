@@ -1,7 +1,6 @@
 //! Whether prices that were made for all nodes at once show a matching.
 ghost use Rattle.std.specs.Prelude.{◌≡◌, ◌≤ℤ◌, ◌+ℤ◌, ℕ, length, true};
 ghost use Rattle.std.specs.List.{All};
-ghost use Rattle.mcf_flows.specs.Limits.{limits};
 ghost use Rattle.mcf_flows.specs.Network.{IsArcNumber, IsNode, at_node, node_count};
 ghost use Rattle.mcf_flows.specs.WellFormed.{IsUpTo};
 ghost use Rattle.mcf_assign.specs.declared.rows.RowArc.{RowArc};

@@ -1,8 +1,8 @@
 //! Partial matchings, made greater row by row.
-ghost use Rattle.std.specs.Prelude.{◌≡◌, ◌+◌, ◌-◌, ◌^◌, ◌≤◌, ◌↔◌, ℕ, [], IfOk, IsTrue, OnErr, length, pos, neg_ℤ, replicate};
+ghost use Rattle.std.specs.Prelude.{◌≡◌, ◌-◌, ◌≤◌, ◌↔◌, [], IfOk, IsTrue, OnErr, length, pos, replicate};
 ghost use Rattle.std.specs.List.{All};
 ghost use Rattle.mcf_flows.specs.declared.problem.Problem.TheVariants.{Asn};
-ghost use Rattle.mcf_flows.specs.Network.{IsNode, at_node, node_count};
+ghost use Rattle.mcf_flows.specs.Network.{IsNode, node_count};
 ghost use Rattle.mcf_flows.specs.WellFormed.{IsUpTo};
 ghost use Rattle.mcf_network.specs.NodeSets.{no_nodes};
 ghost use Rattle.mcf_assign.specs.Extending.{IsExtension, IsMatched, IsShownMatching};

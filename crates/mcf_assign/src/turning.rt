@@ -1,5 +1,5 @@
 //! The turning of an augmenting path.
-ghost use Rattle.std.specs.Prelude.{◌≡◌, ℕ, ℤ, List, [], length, pos, true, false};
+ghost use Rattle.std.specs.Prelude.{◌≡◌, ℕ, ℤ, List, length, pos, true, false};
 ghost use Rattle.mcf_flows.specs.Network.{IsArcNumber, node_count};
 ghost use Rattle.mcf_network.specs.States.{pushed};
 ghost use Rattle.mcf_assign.specs.Private.Forests.{AreMates, IsChangedWithin, IsForest, IsTightArc, mate_at};
