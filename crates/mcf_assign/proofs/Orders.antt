@@ -1,6 +1,6 @@
 -- The list of the settled nodes as a search begins, and with one pair more.
 use Rattle.std.proofs.Common.{◌≡◌, ◌≢◌, ℕ, ◌+◌, ◌<◌, ◌≤◌, zero, suc, cond, true, false, List, [], ◌∷◌, ◌++◌, length, get_or, set, ℤ, pos, refl}
-use Rattle.std.proofs.Common.{sym, ◌∙◌, ap, subst, arith, ◌⊎◌, inl, inr}
+use Rattle.std.proofs.Common.{sym, ◌∙◌, Some, ap, subst, arith, ◌⊎◌, inl, inr}
 use Rattle.std.specs.List.{AllPairs, Contains}
 use Rattle.std.proofs.lemmas.Bool.{cases_eq, eq-eqb, ne_eqb}
 use Rattle.std.proofs.lemmas.Int.{ints}
@@ -17,10 +17,12 @@ use Rattle.mcf_assign.specs.Extending.{IsReachable}
 use Rattle.mcf_assign.specs.Private.Forests.{IsOrder, place}
 use Rattle.mcf_assign.specs.Matchings.{AreMatchingPrices, IsColumn, IsPair, IsPartialMatching, IsRow, column_of, row_of}
 use Rattle.mcf_assign.specs.declared.offers.Offer.{Offer}
-use Rattle.mcf_assign.specs.Private.Rooms.{out_count}
-use Rattle.mcf_assign.specs.Private.Searches.{IsDue, IsReady, IsSearch, KeepsLabels, Search, Settled, forward, link_at, paired}
+use Rattle.mcf_assign.specs.declared.search.Tables.{Tables}
+use Rattle.mcf_assign.specs.Private.Keeping.{IsReady}
+use Rattle.mcf_assign.specs.Private.Rooms.{KeepsSettled, out_count}
+use Rattle.mcf_assign.specs.Private.Searches.{IsDue, IsNearest, IsSearch, Search, Settled, forward, link_at, paired, search_of}
 use Rattle.mcf_assign.proofs.Rooms.{out_more, out_push}
-use Rattle.mcf_assign.proofs.Settling.{IsSettling, paired_is, settled_ready, two_more}
+use Rattle.mcf_assign.proofs.Settling.{IsSettling, paired_is, near_now, settled_last, settled_ok, two_more}
 use Rattle.mcf_assign.proofs.PairLaws.{column_is, pairing_at, row_column, row_is}
 
 -- ---- places
@@ -77,10 +79,11 @@ back_room s k pair = (let one = pair.one in record { arc = pair.arc; room = omeg
 
 -- ---- the same list, while other offers wait
 
-pub order_kept : (s : Pseudoflow) (q q' : Search) (source : ℕ) (order order' : List ℕ) → KeepsLabels q q' → order' ≡ order → IsOrder s q source order
-    → IsOrder s q' source order'
-order_kept s q q' source order order' labels same was =
-    subst (λ (x : Search). IsOrder s x source order') (sym labels) (subst (λ l. IsOrder s (record q { queue = q'.queue; best = q'.best }) source l) (sym same) (record {
+pub order_kept : (s : Pseudoflow) (p t : Tables) (source n : ℕ) → KeepsSettled n p t → IsOrder s (search_of p) source p.order.items
+    → IsOrder s (search_of t) source t.order.items
+order_kept s p t source n kept was =
+    subst (λ (x : Search). IsOrder s x source t.order.items) (sym kept.labels)
+    (subst (λ l. IsOrder s (record (search_of p) { queue = t.offers.items; best = t.best }) source l) (ap (λ l. l.items) (sym kept.order)) (record {
       rest = was.rest;
       first = was.first;
       once = was.once;
@@ -265,38 +268,43 @@ module _ (s : Pseudoflow) (y : List ℤ) (q q' : Search) (source : ℕ) (o : Off
 
 -- a pair that was settled: the search goes on with its row, which is listed behind its column
 pub record IsSettled (s : Pseudoflow) (y : List ℤ) (q : Search) (source : ℕ) (order : List ℕ) (o : Offer) (r : ℕ) : Type 0 where
-  pub ready : IsReady s y (paired q o r) source r
-  pub listed : IsOrder s (paired q o r) source ((order ++ o.column ∷ []) ++ r ∷ [])
+  pub ready : IsReady s y (paired q o r) source ((order ++ o.column ∷ []) ++ r ∷ []) r
   pub few : length order + 2 ≤ node_count s.net
   pub arcs : out_count s.net order + out_count s.net (r ∷ []) ≤ out_count s.net ((order ++ o.column ∷ []) ++ r ∷ [])
 
-pub pair_settled : (s : Pseudoflow) (y : List ℤ) (q : Search) (source : ℕ) (order : List ℕ) (o : Offer) (r : ℕ) → IsPartialMatching s
-    → AreMatchingPrices s y → IsSearch s y q source (forward o.arc ∷ []) → IsOrder s q source order → IsDue s y q o
+pub pair_settled : {s : Pseudoflow} {y : List ℤ} {q : Search} {source : ℕ} {order : List ℕ} {o : Offer} {r : ℕ} → IsPartialMatching s
+    → AreMatchingPrices s y → IsOrder s q source order → IsNearest s y source q (Some o)
     → (k : ℕ) × IsPair s k × (column_of s k ≡ o.column) × (row_of s k ≡ r) → IsSettled s y q source order o r
-pair_settled s y q source order o r ok shown search was due (k, pair, at_column, at_row) =
+pair_settled {s} {y} {q} {source} {order} {o} {r} ok shown was (search, due) (k, pair, at_column, at_row) =
     record {
-      ready = settled_ready s y q (paired q o r) source o r k ok search step pair at_column at_row due shown more;
-      listed = now;
+      ready = record {
+        search = settled_ok s y q new source o r k ok search step pair at_column at_row due
+            (near_now s y q new source o r k ok search step pair at_column at_row due shown more);
+        order_ok = ordered_more s y q new source o r k order ok search was step pair at_column at_row due more;
+        last = settled_last s y q new source o r k ok search step pair at_column at_row due;
+        is_row = r_is;
+        settled = step.row;
+      };
       few = (
           let count = search.entries.settled_count in
           let tally = was.tally in
-          let small = count_small (paired q o r).settled in
+          let small = count_small new.settled in
           let same = step.settled_count in
           omega (arith, more, tally, small, same, count));
-      arcs = out_longer s y q (paired q o r) source o r k order ok search was step pair at_column at_row due more;
+      arcs = out_longer s y q new source o r k order ok search was step pair at_column at_row due more;
     }
   where
+    new : Search
+    new = paired q o r
+
     c_is : IsColumn s o.column
     c_is = subst (λ v. IsColumn s v) at_column (column_is s k ok pair.arc)
 
     r_is : IsRow s r
     r_is = subst (λ v. IsRow s v) at_row (row_is s k ok pair.arc)
 
-    step : IsSettling s q (paired q o r) o r
+    step : IsSettling s q new o r
     step = paired_is s q o r search.entries c_is.0 r_is.0 (λ e. row_column s r o.column r_is c_is (sym e))
 
-    more : member_count (paired q o r).settled ≡ member_count q.settled + 2
+    more : member_count new.settled ≡ member_count q.settled + 2
     more = two_more s y q source o r k (forward o.arc ∷ []) ok search.entries.settled_count search pair at_column at_row due.fresh
-
-    now : IsOrder s (paired q o r) source ((order ++ o.column ∷ []) ++ r ∷ [])
-    now = ordered_more s y q (paired q o r) source o r k order ok search was step pair at_column at_row due more

@@ -16,9 +16,10 @@ use Rattle.mcf_network.specs.Residual.{arc_at}
 use Rattle.mcf_network.proofs.Lists.{Contains-cons}
 use Rattle.mcf_assign.specs.declared.rows.RowArc.{RowArc}
 use Rattle.mcf_assign.specs.declared.search.Tables.{Tables}
-use Rattle.mcf_assign.specs.Private.Rooms.{HasRoom, KeepsRoom, all_forward, out_count}
+use Rattle.mcf_assign.specs.Private.Rooms.{HasRoom, KeepsSettled, all_forward, out_count}
 use Rattle.mcf_assign.specs.Private.RowLists.{IsRowArc, forward_of}
-use Rattle.mcf_assign.specs.Private.Searches.{forward}
+use Rattle.mcf_assign.specs.Private.Searches.{Search, forward}
+use Rattle.mcf_assign.specs.Private.Queues.{Queue}
 
 pub all_has : (g : Network) (k : ℕ) → IsArcNumber g k → Contains (all_forward g) (forward k)
 all_has g k h =
@@ -84,12 +85,13 @@ outs_few g v list each once =
     subst (λ x. Contains (all_forward g) x) (rid_is r is.forth) (all_has g r.arc is.arc))
 
 -- no more arcs are kept of a row than leave it
-pub kept_few : (g : Network) (v : ℕ) (kept : List RowArc) → All (IsRowArc g v) kept → AllPairs (λ r q. r ≢ q) (map forward_of kept)
-    → length kept ≤ out_count g (v ∷ [])
-kept_few g v kept each once =
+pub kept_few : (g : Network) (v u : ℕ) (kept : List RowArc) → v ≡ u → All (IsRowArc g v) kept → AllPairs (λ r q. r ≢ q) (map forward_of kept)
+    → length kept ≤ out_count g (u ∷ [])
+kept_few g v u kept at each once =
     let few = outs_few g v (map forward_of kept) (each_out kept each) once in
     let same = length-map kept forward_of in
-    omega (arith, few, same)
+    let here = ap (λ w. out_count g (w ∷ [])) at in
+    omega (arith, few, same, here)
   where
     each_out : (list : List RowArc) → All (IsRowArc g v) list → All (IsOut g v) (map forward_of list)
     each_out [] each i d h = absurd (omega (arith, h))
@@ -146,15 +148,32 @@ out_push g xs v fresh =
 
 -- ---- one step after another
 
-pub room_after : (a b all : ℕ) (p q r : Tables) → KeepsRoom a p q → KeepsRoom b q r → a + b ≤ all → KeepsRoom all p r
-room_after a b all p q r first second fits =
+pub kept_same : (p : Tables) → KeepsSettled 0 p p
+kept_same p = record { labels = refl; order = refl; room = omega arith; few = omega arith }
+
+pub kept_after : (a b all : ℕ) (p q r : Tables) → KeepsSettled a p q → KeepsSettled b q r → a + b ≤ all → KeepsSettled all p r
+kept_after a b all p q r first second fits =
     let m = first.room in
     let n = second.room in
     let few = first.few in
     let more = second.few in
-    record { order = second.order ∙ first.order; room = omega (arith, m, n); few = omega (arith, few, more, fits) }
+    record {
+      labels = second.labels ∙ ap (λ (x : Search). record x { queue = r.offers.items; best = r.best }) first.labels;
+      order = second.order ∙ first.order;
+      room = omega (arith, m, n);
+      few = omega (arith, few, more, fits);
+    }
 
-pub room_left : (a b all : ℕ) (p q : Tables) → KeepsRoom a p q → HasRoom all p → a + b ≤ all → HasRoom b q
+pub kept_on : {a : ℕ} {p q r : Tables} → KeepsSettled a p q → KeepsSettled 0 q r → KeepsSettled a p r
+kept_on {a} {p} {q} {r} first second = kept_after a 0 a p q r first second (omega arith)
+
+-- offers are taken out
+pub kept_taken : (p q : Tables) (left : Queue) → KeepsSettled 0 p q → q.offers.room ≤ left.room → length left.items ≤ length q.offers.items
+    → KeepsSettled 0 p (record q { offers = left })
+kept_taken p q left kept room few =
+    kept_after 0 0 0 p q (record q { offers = left }) kept (record { labels = refl; order = refl; room = room; few = omega (arith, few) }) (omega arith)
+
+pub room_left : (a b all : ℕ) (p q : Tables) → KeepsSettled a p q → HasRoom all p → a + b ≤ all → HasRoom b q
 room_left a b all p q kept has fits =
     let more = kept.room in
     let few = kept.few in

@@ -4,12 +4,13 @@ use Rattle.std.specs.List.{All, Contains}
 use Rattle.mcf_flows.specs.Limits.{limits}
 use Rattle.mcf_flows.specs.Network.{Network, IsNode, at_node, node_count}
 use Rattle.mcf_flows.specs.WellFormed.{IsUpTo}
+use Rattle.mcf_network.specs.declared.rid.Rid.{Rid}
 use Rattle.mcf_network.specs.States.{Pseudoflow}
 use Rattle.mcf_assign.specs.declared.scene.Mate.{Mate}
 use Rattle.mcf_assign.specs.declared.search.Tables.{Tables}
 use Rattle.mcf_assign.specs.Private.Forests.{AreMates, IsOrder}
 use Rattle.mcf_assign.specs.Matchings.{AreMatchingPrices, IsMatchedRow, IsPartialMatching, IsRow, price_limit}
-use Rattle.mcf_assign.specs.Private.Searches.{HasEntries, IsOver, IsSearch, Search, Settled, search_of}
+use Rattle.mcf_assign.specs.Private.Searches.{HasEntries, HasForward, IsLast, IsOver, IsSearch, Search, Settled, search_of}
 
 -- tables for a net: what is settled is listed, and there is room to list every node, and to queue an offer of every arc twice
 pub record IsIdle (g : Network) (tables : Tables) : Type 0 where
@@ -18,6 +19,14 @@ pub record IsIdle (g : Network) (tables : Tables) : Type 0 where
   pub queue : 2 * length g.arcs ≤ tables.offers.room
   pub each : All (IsNode (node_count g)) tables.order.items
   pub listed : (v : ℕ) → IsNode (node_count g) v → Settled (search_of tables) v → Contains tables.order.items v
+
+-- a search with the list of what it settled, the arcs of whose last row are to be relaxed
+pub record IsReady (s : Pseudoflow) (y : List ℤ) (q : Search) (source : ℕ) (order : List ℕ) (row : ℕ) : Type 0 where
+  pub search : (list : List Rid) → HasForward s.net row list → IsSearch s y q source list
+  pub order_ok : IsOrder s q source order
+  pub last : IsLast s q row
+  pub is_row : IsRow s row
+  pub settled : Settled q row
 
 -- a search that is over, with the list of what it settled
 pub record IsEnded (s : Pseudoflow) (y : List ℤ) (q : Search) (source : ℕ) (order : List ℕ) : Type 0 where

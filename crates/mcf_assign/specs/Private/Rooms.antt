@@ -1,11 +1,11 @@
--- Room for the offers that wait.
+-- Room for the offers that wait, and what relaxing arcs keeps.
 use Rattle.std.specs.Prelude.{◌≡◌, ◌==◌, ℕ, ◌+◌, ◌≤◌, List, length, map}
 use Rattle.std.specs.List.{count_by, list_any, range_with_len}
 use Rattle.mcf_flows.specs.Network.{Network}
 use Rattle.mcf_network.specs.declared.rid.Rid.{Rid}
 use Rattle.mcf_network.specs.Residual.{arc_at}
 use Rattle.mcf_assign.specs.declared.search.Tables.{Tables}
-use Rattle.mcf_assign.specs.Private.Searches.{forward}
+use Rattle.mcf_assign.specs.Private.Searches.{KeepsLabels, forward, search_of}
 
 -- all arcs of a net, forward
 abbrev pub all_forward : Network → List Rid
@@ -19,8 +19,10 @@ out_count g nodes = count_by (λ (r : Rid). list_any (λ v. (arc_at g r.arc).src
 abbrev pub HasRoom : ℕ → Tables → Type 0
 HasRoom more tables = length tables.offers.items + more ≤ tables.offers.room
 
--- the order stays, there is as much room in all as before, and so many offers more wait at most
-pub record KeepsRoom (more : ℕ) (old new : Tables) : Type 0 where
+-- what was settled stays, in its order and at its distance; there is as much room in all as before, and so many offers more wait
+-- at most
+pub record KeepsSettled (more : ℕ) (old new : Tables) : Type 0 where
+  pub labels : KeepsLabels (search_of old) (search_of new)
   pub order : new.order ≡ old.order
   pub room : old.offers.room ≤ new.offers.room
   pub few : length new.offers.items ≤ length old.offers.items + more

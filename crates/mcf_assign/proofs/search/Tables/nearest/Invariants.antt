@@ -1,8 +1,8 @@
 use Rattle.std.proofs.Common.{ℕ, ℤ, List, [], length}
 use Rattle.mcf_network.specs.States.{Pseudoflow}
 use Rattle.mcf_assign.specs.Matchings.{IsPartialMatching}
-use Rattle.mcf_assign.specs.Private.Rooms.{KeepsRoom}
-use Rattle.mcf_assign.specs.Private.Searches.{IsSearch, KeepsLabels, search_of}
+use Rattle.mcf_assign.specs.Private.Rooms.{KeepsSettled}
+use Rattle.mcf_assign.specs.Private.Searches.{IsSearch, search_of}
 use Rattle.mcf_assign.proofs.search.Tables.nearest.Given as goal
 
 abbrev pub invariant-offers : goal.invariant-offers
@@ -10,8 +10,7 @@ invariant-offers l =
     record {
       search : (s : Pseudoflow) (y : List ℤ) (source : ℕ) → IsPartialMatching s → IsSearch s y (search_of l.fn.self) source []
           → IsSearch s y (search_of l.self) source [];
-      labels : KeepsLabels (search_of l.fn.self) (search_of l.self);
-      room : KeepsRoom 0 l.fn.self l.self;
+      kept : KeepsSettled 0 l.fn.self l.self;
     }
 
 abbrev pub decreases-offers : goal.decreases-offers

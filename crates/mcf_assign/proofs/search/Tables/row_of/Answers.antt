@@ -11,7 +11,7 @@ use Rattle.mcf_assign.proofs.search.Tables.row_of.Goals as goal
 pub index-requires : goal.index-requires
 index-requires c =
     let (source, ready) = c.requires.ready in
-    let searched = ready_search c.args.scene.now.state.now c.args.scene.now.prices.now (search_of c.args.self.now) source c.args.id ready in
+    let searched = ready_search ready in
     let count = searched.entries.dist_count in
     let node = ready.is_row.0 in
     omega (arith, c.place.ensures, node, count, c.args.self.now.dists.ok.0)
@@ -22,7 +22,7 @@ overflow_sub-base c =
     let y = c.args.scene.now.prices.now in
     let q = search_of c.args.self.now in
     let (source, ready) = c.requires.ready in
-    let searched = ready_search s y q source c.args.id ready in
+    let searched = ready_search ready in
     let count = searched.entries.dist_count in
     let node = ready.is_row.0 in
     let dist = dist_read q c.args.id c.place.result c.index.result.now c.index.ensures c.place.ensures (omega (arith, node, count)) in
@@ -39,7 +39,7 @@ returns-clause-row c =
     let y = c.args.scene.now.prices.now in
     let q = search_of c.args.self.now in
     let (source, ready) = c.requires.ready in
-    let searched = ready_search s y q source c.args.id ready in
+    let searched = ready_search ready in
     let count = searched.entries.dist_count in
     let node = ready.is_row.0 in
     let dist = dist_read q c.args.id c.place.result c.index.result.now c.index.ensures c.place.ensures (omega (arith, node, count)) in
@@ -50,4 +50,4 @@ returns-clause-row c =
     let price = c.get.ensures in
     let base : to_z w128 (of_z w128 (to_z w128 (of_z w128 c.index.result.now) -ℤ to_z w128 (of_z w128 c.get.result)))
     ≡ to_z w128 (of_z w128 c.index.result.now) -ℤ to_z w128 (of_z w128 c.get.result) = to_z-of_z w128 _ (omega (arith, ints, d, p, dist, near, small, price)) in
-    row_read s c.args.scene.now.rows.now y c.args.scene.now.mates.now q source _ c.requires.scene ready (omega (arith, ints, base, d, p, dist, price))
+    row_read s c.args.scene.now.rows.now y c.args.scene.now.mates.now q source c.args.self.now.order.items _ c.requires.scene ready (omega (arith, ints, base, d, p, dist, price))

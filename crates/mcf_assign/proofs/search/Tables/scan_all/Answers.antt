@@ -1,10 +1,11 @@
-use Rattle.std.proofs.Common.{arith, ℕ, [], ◌∷◌, ◌≡◌, ◌∙◌, refl, subst, sym}
+use Rattle.std.proofs.Common.{arith, ℕ, [], ◌∷◌, ◌≡◌, subst, sym}
 use Rattle.mcf_flows.specs.Network.{IsArcNumber, Network}
 use Rattle.mcf_network.specs.Residual.{arc_at}
 use Rattle.mcf_network.specs.Stars.{ListsLeaving}
 use Rattle.mcf_assign.specs.Private.RowLists.{IsRowArc}
 use Rattle.mcf_assign.specs.Private.Searches.{AreRelaxed, forward, search_of}
-use Rattle.mcf_assign.proofs.Relaxing.{row_kept, scan_all_few, scan_end, scan_few, scan_from, scan_leaves, scan_more, scan_none, scan_start}
+use Rattle.mcf_assign.proofs.Relaxing.{row_kept, scan_end, scan_few, scan_from, scan_kept, scan_leaves, scan_more, scan_none, scan_start}
+use Rattle.mcf_assign.proofs.Rooms.{room_left}
 use Rattle.mcf_assign.proofs.search.Tables.scan_all.Goals as goal
 
 pub arcs-init : goal.arcs-init
@@ -13,11 +14,9 @@ arcs-init c =
     record {
       can_next = tt;
       is_finite = tt;
-      scanned = scan_start c.args.scene.now.state.now c.args.scene.now.prices.now (search_of c.args.self.now) c.args.row.now.id
+      scanned = scan_start c.args.scene.now.state.now c.args.scene.now.prices.now c.args.self.now c.args.row.now.id
           c.into_iter-leaving-iterator.result
           (subst (λ (g : Network). ListsLeaving g c.args.row.now.id c.into_iter-leaving-iterator.result) c.net.ensures.value lists);
-      order = refl;
-      room = omega arith;
     }
 
 pub arcs-preserved-then-back : goal.arcs-preserved-then-back
@@ -26,51 +25,39 @@ arcs-preserved-then-back c =
       can_next = tt;
       is_finite = tt;
       scanned = scan_none (rw c.in-Some.ensures.steps at c.arcs.invariant.scanned) c.if-back.true;
-      order = c.arcs.invariant.order;
-      room = c.arcs.invariant.room;
     }
 
 pub arcs-preserved : goal.arcs-preserved
 arcs-preserved c =
     let s = c.args.scene.now.state.now in
     let y = c.args.scene.now.prices.now in
-    let q' = search_of c.relax.new.self in
-    let relaxed = subst (λ k. AreRelaxed s y (search_of c.arcs.self) q' (forward k ∷ [])) c.row_arc-a.ensures.number c.relax.ensures.relaxed in
+    let relaxed = subst (λ k. AreRelaxed s y (search_of c.arcs.self) (search_of c.relax.new.self) (forward k ∷ [])) c.row_arc-a.ensures.number c.relax.ensures.relaxed in
     record {
       can_next = tt;
       is_finite = tt;
-      scanned = scan_more (rw c.in-Some.ensures.steps at c.arcs.invariant.scanned) c.if-back.false q' relaxed c.relax.ensures.room.few;
-      order = c.relax.ensures.room.order ∙ c.arcs.invariant.order;
-      room = (let more = c.relax.ensures.room.room in let was = c.arcs.invariant.room in omega (arith, more, was));
+      scanned = scan_more (rw c.in-Some.ensures.steps at c.arcs.invariant.scanned) c.if-back.false c.relax.new.self relaxed c.relax.ensures.kept;
     }
 
 pub returns-clause-relaxed : goal.returns-clause-relaxed
 returns-clause-relaxed c =
-    scan_end c.args.scene.now.state.now c.args.scene.now.prices.now (search_of c.args.self.now) (search_of c.arcs.self) c.args.row.now.id
+    scan_end c.args.scene.now.state.now c.args.scene.now.prices.now c.args.self.now c.arcs.self c.args.row.now.id
     (rw c.in-None.ensures.steps.0 at c.arcs.invariant.scanned)
 
-pub returns-clause-room : goal.returns-clause-room
-returns-clause-room c =
-    record {
-      order = c.arcs.invariant.order;
-      room = c.arcs.invariant.room;
-      few = scan_all_few c.args.scene.now.state.now c.args.scene.now.prices.now (search_of c.args.self.now) (search_of c.arcs.self) c.args.row.now.id
-          c.arcs.leaving-iterator c.arcs.invariant.scanned;
-    }
+pub returns-clause-kept : goal.returns-clause-kept
+returns-clause-kept c =
+    scan_kept c.args.scene.now.state.now c.args.scene.now.prices.now c.args.self.now c.arcs.self c.args.row.now.id c.arcs.leaving-iterator
+    c.arcs.invariant.scanned
 
 pub relax-requires-clause-room : goal.relax-requires-clause-room
 relax-requires-clause-room c =
     let scanned = rw c.in-Some.ensures.steps at c.arcs.invariant.scanned in
     let few = scan_few scanned c.if-back.false in
-    let was = scanned.few in
-    let room = c.arcs.invariant.room in
-    let queue = c.requires.room in
-    omega (arith, few, was, room, queue)
+    room_left _ _ _ c.args.self.now c.arcs.self scanned.kept c.requires.room (omega (arith, few))
 
 pub relax-requires-clause-row : goal.relax-requires-clause-row
 relax-requires-clause-row c =
     row_kept c.args.scene.now.state.now c.args.scene.now.rows.now c.args.scene.now.prices.now c.args.scene.now.mates.now (search_of c.args.self.now)
-    (search_of c.arcs.self) c.args.row.now _ c.arcs.invariant.scanned.relaxed c.requires.row
+    (search_of c.arcs.self) c.args.row.now c.arcs.invariant.scanned.kept.labels c.requires.row
 
 pub relax-requires-clause-arc : goal.relax-requires-clause-arc
 relax-requires-clause-arc c =

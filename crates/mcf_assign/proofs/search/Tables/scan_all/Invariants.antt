@@ -1,5 +1,3 @@
-use Rattle.std.proofs.Common.{◌≡◌, ◌≤◌}
-use Rattle.mcf_assign.specs.Private.Searches.{search_of}
 use Rattle.mcf_assign.proofs.Relaxing.{IsScanned}
 use Rattle.mcf_assign.proofs.search.Tables.scan_all.Given as goal
 
@@ -8,7 +6,5 @@ invariant-arcs l =
     record {
       can_next : (goal.iterator-arcs).can_next l.leaving-iterator;
       is_finite : (goal.iterator-arcs).is_finite l.leaving-iterator;
-      scanned : IsScanned l.fn.scene.state.now l.fn.scene.prices.now (search_of l.fn.self) (search_of l.self) l.fn.row.id l.leaving-iterator;
-      order : l.self.order ≡ l.fn.self.order;
-      room : l.fn.self.offers.room ≤ l.self.offers.room;
+      scanned : IsScanned l.fn.scene.state.now l.fn.scene.prices.now l.fn.self l.self l.fn.row.id l.leaving-iterator;
     }

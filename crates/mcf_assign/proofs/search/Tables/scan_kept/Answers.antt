@@ -1,31 +1,29 @@
-use Rattle.std.proofs.Common.{◌∷◌, [], List, map, take, get_or, subst, ◌∙◌, refl, arith}
+use Rattle.std.proofs.Common.{◌+◌, ◌∷◌, [], List, map, take, get_or, subst, arith}
 use Rattle.std.proofs.lemmas.List.{take_all}
 use Rattle.mcf_network.specs.declared.rid.Rid.{Rid}
 use Rattle.mcf_assign.specs.Private.RowLists.{forward_of}
 use Rattle.mcf_assign.specs.Private.Searches.{AreRelaxed, search_of}
 use Rattle.mcf_assign.proofs.RowLists.{no_arc, part_next}
-use Rattle.mcf_assign.proofs.Relaxing.{none_relaxed, relaxed_after, row_kept}
+use Rattle.mcf_assign.proofs.Relaxing.{relaxed_after, row_kept}
+use Rattle.mcf_assign.proofs.Rooms.{kept_after, kept_same, room_left}
 use Rattle.mcf_assign.proofs.search.Tables.scan_kept.Goals as goal
 
 pub arcs-init : goal.arcs-init
 arcs-init c =
     record {
-      relaxed = none_relaxed c.args.scene.now.state.now c.args.scene.now.prices.now (search_of c.args.self.now);
-      room = record { order = refl; room = omega arith; few = omega arith };
+      relaxed = λ source rest search. search;
+      kept = kept_same c.args.self.now;
     }
 
 pub relax-requires-clause-row : goal.relax-requires-clause-row
 relax-requires-clause-row c =
     row_kept c.args.scene.now.state.now c.args.scene.now.rows.now c.args.scene.now.prices.now c.args.scene.now.mates.now (search_of c.args.self.now)
-    (search_of c.arcs.self) c.args.row.now (map forward_of (take c.arcs.a-index c.args.list.now)) c.arcs.invariant.relaxed c.requires.row
+    (search_of c.arcs.self) c.args.row.now c.arcs.invariant.kept.labels c.requires.row
 
 pub relax-requires-clause-room : goal.relax-requires-clause-room
 relax-requires-clause-room c =
-    let was = c.requires.room in
     let inside = c.arcs-test.true in
-    let room = c.arcs.invariant.room.room in
-    let few = c.arcs.invariant.room.few in
-    omega (arith, was, inside, room, few)
+    room_left _ _ _ c.args.self.now c.arcs.self c.arcs.invariant.kept c.requires.room (omega (arith, inside))
 
 pub relax-requires-clause-arc : goal.relax-requires-clause-arc
 relax-requires-clause-arc c = c.requires.arcs c.arcs.a-index no_arc c.arcs-test.true
@@ -42,12 +40,7 @@ arcs-preserved c =
     record {
       relaxed = subst (λ (l : List Rid). AreRelaxed s y q q' l) (part_next c.args.list.now c.arcs.a-index no_arc c.arcs-test.true)
           (relaxed_after s y q (search_of c.arcs.self) q' (map forward_of (take c.arcs.a-index c.args.list.now)) (forward_of a ∷ []) inv.relaxed e.relaxed);
-      room = (
-          let more = e.room.room in
-          let was = inv.room.room in
-          let few = inv.room.few in
-          let one = e.room.few in
-          record { order = e.room.order ∙ inv.room.order; room = omega (arith, more, was); few = omega (arith, few, one) });
+      kept = kept_after c.arcs.a-index 1 (c.arcs.a-index + 1) c.args.self.now c.arcs.self c.relax.new.self inv.kept e.kept (omega arith);
     }
 
 pub returns-clause-relaxed : goal.returns-clause-relaxed

@@ -1,5 +1,5 @@
 use Rattle.std.proofs.Common.{map, take}
-use Rattle.mcf_assign.specs.Private.Rooms.{KeepsRoom}
+use Rattle.mcf_assign.specs.Private.Rooms.{KeepsSettled}
 use Rattle.mcf_assign.specs.Private.RowLists.{forward_of}
 use Rattle.mcf_assign.specs.Private.Searches.{AreRelaxed, search_of}
 use Rattle.mcf_assign.proofs.search.Tables.scan_kept.Given as goal
@@ -8,5 +8,5 @@ abbrev pub invariant-arcs : goal.invariant-arcs
 invariant-arcs l =
     record {
       relaxed : AreRelaxed l.fn.scene.state.now l.fn.scene.prices.now (search_of l.fn.self) (search_of l.self) (map forward_of (take l.a-index l.list));
-      room : KeepsRoom l.a-index l.fn.self l.self;
+      kept : KeepsSettled l.a-index l.fn.self l.self;
     }
