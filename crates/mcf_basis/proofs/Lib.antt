@@ -4,6 +4,7 @@ pub mod LeastFound
 pub mod Offers
 pub mod Views
 pub mod LeastOffers
+pub mod PriceLists
 pub mod MostViolated
 pub mod RankLaws
 pub mod Flows

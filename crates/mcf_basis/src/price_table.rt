@@ -7,9 +7,10 @@ ghost use Rattle.mcf_basis.specs.Private.Offered.{CanCompare, IsLeastOffer};
 ghost use Rattle.mcf_basis.specs.Private.Turned.{AreRaised, CanRaise};
 ghost use Rattle.mcf_basis.specs.Structures.{price_limit};
 
-use crate::least_offer::{least_narrow, least_wide};
+use crate::least_offer::least_offer;
 use crate::offer::Offer;
-use crate::reprice::{reprice_narrow, reprice_wide};
+use crate::price::Price;
+use crate::reprice::reprice;
 use mcf_counts::Column;
 use mcf_text::NodeId;
 use std::marker::Model;
@@ -75,8 +76,8 @@ impl PriceTable {
         ensures { IsLeastOffer self.now.prices offers.now begin end result }
     {
         match &self.column {
-            PriceColumn::Narrow(prices) => least_narrow(offers, prices.entries(), begin, end),
-            PriceColumn::Wide(prices) => least_wide(offers, prices.entries(), begin, end),
+            PriceColumn::Narrow(prices) => least_offer(offers, prices.entries(), begin, end),
+            PriceColumn::Wide(prices) => least_offer(offers, prices.entries(), begin, end),
         }
     }
 
@@ -110,8 +111,8 @@ fn reprice_column(column: &mut PriceColumn, part: &[NodeId], change: i128)
     ensures counted { priced_in column.new ≡ priced_in column.old + length part.now }
 {
     match column {
-        PriceColumn::Narrow(prices) => reprice_narrow(prices, part, change as i64),
-        PriceColumn::Wide(prices) => reprice_wide(prices, part, change),
+        PriceColumn::Narrow(prices) => reprice(prices, part, change),
+        PriceColumn::Wide(prices) => reprice(prices, part, change),
     }
 }
 

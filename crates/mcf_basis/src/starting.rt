@@ -12,6 +12,7 @@ ghost use Rattle.mcf_basis.specs.Starts.{IsStart, start_prices};
 
 use crate::basis::Basis;
 use crate::offer::Offer;
+use crate::price::Price;
 use crate::price_table::PriceTable;
 use crate::rooms::Rooms;
 use mcf_counts::Count;
@@ -158,51 +159,31 @@ fn star_table(alloc: Global, net: &Net, cost: i128) -> Result<PriceTable, NoMemo
 {
     let reach = price_reach(net, cost);
     if reach <= NARROW_LIMIT {
-        let prices = narrow_prices(alloc, net, cost as i64)?;
+        let prices = star_prices(alloc, net, cost)?;
         return Ok(PriceTable::narrow(prices));
     }
-    let prices = wide_prices(alloc, net, cost)?;
+    let prices = star_prices(alloc, net, cost)?;
     Ok(PriceTable::wide(prices))
 }
 
-// The prices in 64 bits.
-fn narrow_prices(alloc: Global, net: &Net, cost: i64) -> Result<Vec<i64>, NoMemory>
-    requires { cost ≡ pos (artificial_cost net.now) }
-    ensures { IfOk result (λ made. made.items ≡ start_prices net.now) }
+// The prices of that tree, which have room.
+fn star_prices<P: Price>(alloc: Global, net: &Net, cost: i128) -> Result<Vec<P>, NoMemory>
+    requires cost { cost ≡ pos (artificial_cost net.now) }
+    requires room { cost ≤ℤ pos P.limit }
+    ensures { IfOk result (λ made. P.values made.items ≡ start_prices net.now) }
 {
     let count = net.node_count();
     let mut made = Vec::with_capacity(alloc, count as usize + 1)?;
-    made.push(0)?;
+    made.push(P::of(0))?;
     for i in 0..count {
-        made.push(narrow_price(net.supply(NodeId::at(i)), cost))?;
-    }
-    Ok(made)
-}
-
-// The prices in 128 bits.
-fn wide_prices(alloc: Global, net: &Net, cost: i128) -> Result<Vec<i128>, NoMemory>
-    requires { cost ≡ pos (artificial_cost net.now) }
-    ensures { IfOk result (λ made. made.items ≡ start_prices net.now) }
-{
-    let count = net.node_count();
-    let mut made = Vec::with_capacity(alloc, count as usize + 1)?;
-    made.push(0)?;
-    for i in 0..count {
-        made.push(wide_price(net.supply(NodeId::at(i)), cost))?;
+        let price = star_price(net.supply(NodeId::at(i)), cost);
+        made.push(P::of(price))?;
     }
     Ok(made)
 }
 
 // The price of a node with this supply.
-fn narrow_price(supply: i128, cost: i64) -> i64
-    requires { pos 0 ≤ℤ cost }
-    ensures { result ≡ (if int_le (pos 0) supply then cost else neg_ℤ cost) }
-{
-    if 0 <= supply { cost } else { -cost }
-}
-
-// The same in 128 bits.
-fn wide_price(supply: i128, cost: i128) -> i128
+fn star_price(supply: i128, cost: i128) -> i128
     requires { pos 0 ≤ℤ cost }
     ensures { result ≡ (if int_le (pos 0) supply then cost else neg_ℤ cost) }
 {

@@ -1,10 +1,10 @@
 use Rattle.std.proofs.Common.{◌≡◌, ◌+◌}
 use Rattle.mcf_basis.proofs.Repricing.{IsRepricing}
-use Rattle.mcf_basis.proofs.reprice.reprice_narrow.Given as goal
+use Rattle.mcf_basis.proofs.reprice.reprice.Given as goal
 
 -- each price was written once
 abbrev pub invariant-part : goal.invariant-part
-invariant-part l = record {
-  raised : IsRepricing l.fn.part l.fn.change l.fn.prices.entries l.prices.entries l.v-index;
+invariant-part g l = record {
+  raised : IsRepricing l.fn.part (g.P.Price.value l.change) (g.P.Price.values l.fn.prices.entries) (g.P.Price.values l.prices.entries) l.v-index;
   counted : l.prices.written ≡ l.fn.prices.written + l.v-index;
 }

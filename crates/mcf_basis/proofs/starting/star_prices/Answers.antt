@@ -1,0 +1,27 @@
+use Rattle.std.proofs.Common.{◌≡◌, ◌+◌, ◌∷◌, ◌++◌, [], ap, pos, neg_ℤ, rules, ◌∙◌, to_z, of_z}
+use Rattle.std.specs.Prelude.{if◌then◌else◌, int_le}
+use mir.Syntax.{w128}
+use Rattle.std.proofs.lemmas.Int.{to_z-of_z}
+use Rattle.mcf_flows.specs.Network.{at_node}
+use Rattle.mcf_basis.specs.Artificial.{artificial_cost}
+use Rattle.mcf_basis.specs.Starts.{start_price}
+use Rattle.mcf_basis.proofs.PriceLists.{values_push}
+use Rattle.mcf_basis.proofs.StartLayouts.{made_behind}
+use Rattle.mcf_basis.proofs.starting.star_prices.Goals as goal
+
+pub loop-i-preserved : goal.loop-i-preserved
+loop-i-preserved g c =
+    let P = g.P.Price in
+    let net = c.args.net.now in
+    let pushed : c.push-in-loop-i.new.self.items ≡ c.loop-i.made.items ++ c.of-in-loop-i.result ∷ [] = search rules in
+    let made = ap P.values pushed ∙ values_push P.value P.values g.met.P.Price.each c.loop-i.made.items c.of-in-loop-i.result in
+    let price : to_z w128 (of_z w128 c.star_price-price.result) ≡ c.star_price-price.result = search (rules, to_z-of_z) in
+    let read : to_z w128 (of_z w128 c.supply.result) ≡ c.supply.result = search (rules, to_z-of_z) in
+    let supply : to_z w128 (of_z w128 c.supply.result) ≡ at_node net.supplies (c.loop-i.i + 1) =
+    read ∙ (c.supply.ensures.value ∙ ap (at_node net.supplies) c.at.ensures) in
+    let given : to_z w128 (of_z w128 c.args.cost) ≡ c.args.cost = search (rules, to_z-of_z) in
+    let cost : to_z w128 (of_z w128 c.args.cost) ≡ pos (artificial_cost net) = given ∙ c.requires.cost in
+    made_behind (pos 0) (start_price net) c.loop-i.i (P.values c.loop-i.made.items) (P.values c.push-in-loop-i.new.self.items) _ c.loop-i.invariant
+    (c.of-in-loop-i.ensures ∙ (price ∙ (c.star_price-price.ensures
+    ∙ (ap (λ x. if int_le (pos 0) x then to_z w128 (of_z w128 c.args.cost) else neg_ℤ (to_z w128 (of_z w128 c.args.cost))) supply
+    ∙ ap (λ y. if int_le (pos 0) (at_node net.supplies (c.loop-i.i + 1)) then y else neg_ℤ y) cost)))) made
