@@ -141,8 +141,8 @@ fn blocks_by_take(instance: &Instance, table: &[bool]) -> bool
     border.cap_in < border.low_out - supply
 }
 
-/// Whether the set that the table marks must send more than it can, or take more than it can, so that no
-/// flow is feasible (Hoffman's condition; Ahuja, Magnanti and Orlin, Network Flows, chapter 6).
+/// Whether the cut at the set that the table marks is violated: the set must send more than it can, or take more than
+/// it can, so that no flow is feasible (Hoffman's condition; Ahuja, Magnanti and Orlin, Network Flows, chapter 6).
 ///
 /// The table has an entry for each node, in order. The time is about linear in the nodes and arcs.
 pub fn blocks(instance: &Instance, table: &[bool], side: Side) -> bool

@@ -21,7 +21,7 @@ pub record IsPseudoflow (s : Pseudoflow) : Type 0 where
 abbrev pub amount_at : Pseudoflow → ℕ → ℤ
 amount_at s k = slice_index_or s.amounts (k - 1) (pos 0)
 
--- what node v has left to send: its supply less the net of the amounts
+-- the surplus, or excess, of node v: what it has left to send, its supply less the net of the amounts
 abbrev pub surplus_at : Pseudoflow → ℕ → ℤ
 surplus_at s v = at_node s.net.supplies v -ℤ net s.net.arcs s.amounts v
 
@@ -29,7 +29,7 @@ surplus_at s v = at_node s.net.supplies v -ℤ net s.net.arcs s.amounts v
 abbrev pub HasNoSurplus : Pseudoflow → Type 0
 HasNoSurplus s = (v : ℕ) → IsNode (node_count s.net) v → surplus_at s v ≡ pos 0
 
--- how much more a residual arc can carry
+-- the room, or residual capacity, of a residual arc: how much more it can carry
 -- Source: AMO 2.4
 abbrev pub room_of : Pseudoflow → Rid → ℤ
 room_of s r = if r.back then amount_at s r.arc else (arc_at s.net r.arc).cap -ℤ amount_at s r.arc

@@ -13,7 +13,7 @@ use mcf_flows::Problem;
 use mcf_text::{ArcId, NodeId};
 use std::marker::Model;
 
-/// A network in which the flow of each arc goes from 0 to its width, and a loop has no width.
+/// A network in which the flow of each arc goes from 0 to its width, its capacity, and a loop has no width.
 ///
 /// Nodes and arcs are numbered from 1. A clause sees the network: its problem, its arcs in order, with
 /// low 0 and the width as cap, and the supplies of its nodes in order.
@@ -81,7 +81,7 @@ impl Net {
         (NodeId::new(link.src), NodeId::new(link.dst))
     }
 
-    /// The width of an arc, from 0 to 2 * 10^18: the most that it can carry.
+    /// The width of an arc, its capacity, from 0 to 2 * 10^18: the most that it can carry.
     pub fn width(&self, k: ArcId) -> i128
         requires { IsArcNumber self.now k }
         ensures value { result ≡ (arc_at self.now k).cap }

@@ -14,8 +14,8 @@ use mcf_text::{ArcId, NoMemory, NodeId};
 use std::alloc::Global;
 use std::marker::Model;
 
-/// A state of a net: for each arc an amount from 0 to its width, and for each node its surplus, which is
-/// its supply less the net of the amounts.
+/// A state of a net, a pseudoflow: for each arc an amount from 0 to its width, and for each node its surplus, its
+/// excess, which is its supply less the net of the amounts.
 ///
 /// A clause sees the net and the amounts.
 #[derive(Drop)]
@@ -76,7 +76,7 @@ impl<'n> State<'n> {
         i128::from(self.amounts.get(k.place()))
     }
 
-    /// The surplus of a node: its supply less the net of the amounts, at most 2 * 10^26 from 0.
+    /// The surplus of a node, its excess: its supply less the net of the amounts, at most 2 * 10^26 from 0.
     pub fn surplus(&self, v: NodeId) -> i128
         requires { IsNode (node_count self.now.net) v }
         ensures value { result ≡ surplus_at self.now v }
@@ -86,8 +86,8 @@ impl<'n> State<'n> {
         self.surpluses[v.place()]
     }
 
-    /// How much more a residual arc can carry, from 0 to 2 * 10^18: its amount backward, else its width less its
-    /// amount.
+    /// The room of a residual arc, its residual capacity: how much more it can carry, from 0 to 2 * 10^18. That is the
+    /// amount of the arc backward, else its width less its amount.
     pub fn room(&self, r: Rid) -> i128
         requires { IsArcNumber self.now.net r.arc }
         ensures value { result ≡ room_of self.now r }

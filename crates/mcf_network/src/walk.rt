@@ -8,7 +8,7 @@ ghost use Rattle.mcf_network.specs.Walks.{CanPushAlong, IsWalk, pushed_along, wa
 use crate::rid::Rid;
 use crate::state::State;
 
-/// The least room along residual arcs, of which there is one at least.
+/// The least room, or residual capacity, along residual arcs, of which there is one at least.
 pub fn room_along(state: &State<'_>, walk: &[Rid]) -> i128
     requires some { 0 < length walk.now }
     requires arcs { All (λ r. IsArcNumber state.now.net r.arc) walk.now }
