@@ -15,7 +15,7 @@ use Rattle.mcf_assign.specs.Matchings.{AreMatchingPrices, IsColumn, IsMatchedCol
 use Rattle.mcf_assign.specs.Private.Searches.{AreRaised, IsBestUpTo, Search, Settled, Waits, dist_at}
 use Rattle.mcf_assign.proofs.Settling.{not_true}
 use Rattle.mcf_assign.proofs.PairLaws.{column_is}
-use Rattle.mcf_assign.proofs.Raised.{link_tight, raised_ok, target_tight}
+use Rattle.mcf_assign.proofs.Raised.{predecessor_tight, raised_ok, target_tight}
 use Rattle.mcf_assign.proofs.Near.{reach_small, row_near, target_near}
 use Rattle.mcf_assign.specs.Private.Reaches.{target_reach}
 
@@ -60,15 +60,15 @@ module _ {s : Pseudoflow} {y : List ℤ} {q : Search} {source : ℕ} {order : Li
         rows = ended.order_ok.rows;
         columns = λ k p h. (ended.search.pairs k p h).0;
         pairs = ended.order_ok.pairs;
-        links = λ v column h.
+        predecessors = λ v column h.
             let l = (ended.search.settled_columns v column h).1 in
             record {
               arc = l.arc;
               from = l.from;
               to = l.to;
-              tight = link_tight s y z q source t ok ended.search shown best nearest raised v column h;
+              tight = predecessor_tight s y z q source t ok ended.search shown best nearest raised v column h;
             };
-        earlier = ended.order_ok.links;
+        earlier = ended.order_ok.predecessors;
       }
 
   pub found_tight : (z : List ℤ) → AreRaised s q t.dist y z → IsTightArc s q z t.arc (column_of s t.arc)

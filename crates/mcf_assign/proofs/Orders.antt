@@ -20,7 +20,7 @@ use Rattle.mcf_assign.specs.declared.offers.Offer.{Offer}
 use Rattle.mcf_assign.specs.declared.search.Tables.{Tables}
 use Rattle.mcf_assign.specs.Private.Keeping.{IsReady}
 use Rattle.mcf_assign.specs.Private.Rooms.{KeepsSettled, out_count}
-use Rattle.mcf_assign.specs.Private.Searches.{IsDue, IsNearest, IsSearch, Search, Settled, forward, link_at, paired, search_of}
+use Rattle.mcf_assign.specs.Private.Searches.{IsDue, IsNearest, IsSearch, Search, Settled, forward, predecessor_at, paired, search_of}
 use Rattle.mcf_assign.proofs.Rooms.{out_more, out_push}
 use Rattle.mcf_assign.proofs.Settling.{IsSettling, paired_is, near_now, settled_last, settled_ok, two_more}
 use Rattle.mcf_assign.proofs.PairLaws.{column_is, pairing_at, row_column, row_is}
@@ -94,7 +94,7 @@ order_kept s p t source n kept was =
       reachable = was.reachable;
       rows = was.rows;
       pairs = was.pairs;
-      links = was.links;
+      predecessors = was.predecessors;
     }))
 
 -- ---- one pair more
@@ -152,7 +152,7 @@ module _ (s : Pseudoflow) (y : List ℤ) (q q' : Search) (source : ℕ) (o : Off
 
   reach_c : IsReachable s source c
   reach_c set closed has =
-      let l = due.link in
+      let l = due.predecessor in
       let row = row_is s o.arc ok l.arc in
       let from = was.reachable (row_of s o.arc) row.0 l.from set closed has in
       subst (λ v. set v ≡ true) l.to (closed (rid o.arc false) (forth_room s o.arc ok l.arc l.idle) from)
@@ -221,7 +221,7 @@ module _ (s : Pseudoflow) (y : List ℤ) (q q' : Search) (source : ℕ) (o : Off
           | inr (inr e) ↦ inr (k0, pair, at_row ∙ sym e)
         ];
         pairs = pairs_now;
-        links = links_now;
+        predecessors = predecessors_now;
       }
     where
       pairs_now : (k : ℕ) → IsPair s k → Settled q' (row_of s k) → place longer (column_of s k) < place longer (row_of s k)
@@ -242,26 +242,26 @@ module _ (s : Pseudoflow) (y : List ℤ) (q q' : Search) (source : ℕ) (o : Off
                 omega (arith, a, b))
           ]
 
-      links_now : (v : ℕ) → IsColumn s v → Settled q' v → place longer (row_of s (link_at q' v)) < place longer v
-      links_now v column h =
+      predecessors_now : (v : ℕ) → IsColumn s v → Settled q' v → place longer (row_of s (predecessor_at q' v)) < place longer v
+      predecessors_now v column h =
           elim (step.settled v column.0 h) [
             | inl before ↦ (
-                let other = step.links v column.0 (λ e. c_new (subst (λ u. Settled q u) e before)) in
+                let other = step.predecessors v column.0 (λ e. c_new (subst (λ u. Settled q u) e before)) in
                 let same = ap (λ k. place longer (row_of s k)) other in
                 let l = (search.settled_columns v column before).1 in
-                let row = row_is s (link_at q v) ok l.arc in
-                let a = place_was (row_of s (link_at q v)) (was.listed (row_of s (link_at q v)) row.0 l.from) in
+                let row = row_is s (predecessor_at q v) ok l.arc in
+                let a = place_was (row_of s (predecessor_at q v)) (was.listed (row_of s (predecessor_at q v)) row.0 l.from) in
                 let b = place_was v (was.listed v column.0 before) in
-                let less = was.links v column before in
+                let less = was.predecessors v column before in
                 omega (arith, a, b, less, same))
             | inr (inl e) ↦ (
-                let l = due.link in
+                let l = due.predecessor in
                 let row = row_is s o.arc ok l.arc in
                 let has = was.listed (row_of s o.arc) row.0 l.from in
                 let a = place_was (row_of s o.arc) has in
                 let inside = place_in order (row_of s o.arc) has in
                 let b = ap (place longer) e ∙ place_c in
-                let at = ap (λ k. place longer (row_of s k)) (ap (link_at q') e ∙ step.link) in
+                let at = ap (λ k. place longer (row_of s k)) (ap (predecessor_at q') e ∙ step.predecessor) in
                 omega (arith, a, b, inside, at))
             | inr (inr e) ↦ absurd (row_column s r v r_is column (sym e))
           ]

@@ -16,7 +16,7 @@ use Rattle.mcf_assign.specs.declared.scene.Mate.{Mate}
 use Rattle.mcf_assign.specs.Extending.{IsAugmented}
 use Rattle.mcf_assign.specs.Matchings.{IsColumn, IsMatchedColumn, IsMatchedRow, IsPair, column_of, reduced, row_of}
 use Rattle.mcf_assign.specs.Private.Forests.{AreMates, IsChangedWithin, IsForest, IsTightArc, IsTurning, mate_at, place}
-use Rattle.mcf_assign.specs.Private.Searches.{HasEntries, Search, Settled, link_at}
+use Rattle.mcf_assign.specs.Private.Searches.{HasEntries, Search, Settled, predecessor_at}
 use Rattle.mcf_assign.specs.Private.Turning.{IsExtended, IsPushedFrom}
 use Rattle.mcf_assign.proofs.Augmented.{push_first}
 use Rattle.mcf_assign.proofs.Mating.{mate_none, row_mate}
@@ -74,13 +74,13 @@ turning_start {s} {mates} {q} {order} {target} {source} {z} forest tight free ma
 
 -- ---- one arc of the path
 
--- what a turn may do: where the row of the arc is matched, exchange its pair for the arc and go on with the link of the column that is
+-- what a turn may do: where the row of the arc is matched, exchange its pair for the arc and go on with the predecessor of the column that is
 -- free then; else put the arc in and end
 pub record CanTurn (old s : Pseudoflow) (q : Search) (order : List ℕ) (target k : ℕ) : Type 0 where
   pub free : ¬ IsMatchedColumn s (column_of s k)
   pub next : (j : ℕ) → IsPair s j → row_of s j ≡ row_of s k → (mates : List Mate) → AreMates (joined (parted s j) k) mates
-      → IsTurning old (joined (parted s j) k) mates q order target (link_at q (column_of s j))
-      × (place order (row_of s (link_at q (column_of s j))) < place order (row_of s k))
+      → IsTurning old (joined (parted s j) k) mates q order target (predecessor_at q (column_of s j))
+      × (place order (row_of s (predecessor_at q (column_of s j))) < place order (row_of s k))
   pub end : ¬ IsMatchedRow s (row_of s k) → (source : ℕ) (z : List ℤ) → IsForest old q source order z → IsTightArc old q z target (column_of old target)
       → IsExtended old (joined s k) z source (column_of old target)
   pub changed : ¬ IsMatchedRow s (row_of s k) → IsChangedWithin old (joined s k) q (column_of old target)
@@ -159,10 +159,10 @@ module _ {old : Pseudoflow} {amounts : List ℤ} {mates : List Mate} {q : Search
     column_j = column_is old j forest.matching was_pair.arc
 
     abbrev next : ℕ
-    next = link_at q (column_of old j)
+    next = predecessor_at q (column_of old j)
 
     next_arc : IsTightArc old q z next (column_of old j)
-    next_arc = forest.links (column_of old j) column_j column_settled
+    next_arc = forest.predecessors (column_of old j) column_j column_settled
 
     falls : (place order (row_of old next) < place order (row_of old k)) × (place order (row_of old j) ≡ place order (row_of old k))
     falls =
@@ -252,7 +252,7 @@ module _ {old : Pseudoflow} {amounts : List ℤ} {mates : List Mate} {q : Search
               into.kept i (out.kept i (turning.earlier i p (omega (arith, less, l))) (λ e. (let at = ap (λ x. place order (row_of old x)) e in omega (arith, less, l, at))));
           tight = λ source' z' forest' end'.
               let was = turning.tight source' z' forest' end' in (
-                (forest'.links (column_of old j) column_j column_settled).tight,
+                (forest'.predecessors (column_of old j) column_j column_settled).tight,
                 λ i p. elim (into.was i p) [
                   | inl e ↦ subst (λ x. reduced old z' x ≡ pos 0) (sym e) was.0
                   | inr m ↦ was.1 i (out.was i m).0
@@ -358,14 +358,14 @@ module _ {old s : Pseudoflow} {mates : List Mate} {q : Search} {order : List ℕ
   -- its pair was exchanged for arc k
   pub turning_round : {source : ℕ} {z : List ℤ} {s' s'' : Pseudoflow} {mates' : List Mate} (j x d : ℕ) → IsForest old q source order z
       → IsTightArc old q z target (column_of old target) → HasEntries (node_count old.net) q → m.arc ≢ 0 → j ≡ m.arc → s' ≡ parted s j → s'' ≡ joined s' k
-      → AreMates s'' mates' → x ≡ get_or q.links (m.node - 1) d
+      → AreMates s'' mates' → x ≡ get_or q.predecessors (m.node - 1) d
       → IsTurning old s'' mates' q order target x × (place order (row_of s'' x) < place order (row_of s k))
   turning_round {mates' = mates'} j x d forest end entries some ej e e' mated at =
       let (pair, from, to) = turning_pair some in
       let node = turning_node some in
-      let count = entries.link_count in
-      let link : x ≡ link_at q (column_of s m.arc) = at ∙ get_or_default q.links (m.node - 1) d 0 (omega (arith, node, count)) ∙ ap (link_at q) (sym to) in
+      let count = entries.predecessor_count in
+      let predecessor : x ≡ predecessor_at q (column_of s m.arc) = at ∙ get_or_default q.predecessors (m.node - 1) d 0 (omega (arith, node, count)) ∙ ap (predecessor_at q) (sym to) in
       let same = e' ∙ ap (λ (t : Pseudoflow). joined t k) (e ∙ ap (parted s) ej) in
       subst (λ (t : Pseudoflow). IsTurning old t mates' q order target x × (place order (row_of t x) < place order (row_of s k))) (sym same)
-      (subst (λ v. IsTurning old (joined (parted s m.arc) k) mates' q order target v × (place order (row_of s v) < place order (row_of s k))) (sym link)
+      (subst (λ v. IsTurning old (joined (parted s m.arc) k) mates' q order target v × (place order (row_of s v) < place order (row_of s k))) (sym predecessor)
       ((turns forest end turning).next m.arc pair from mates' (subst (λ (t : Pseudoflow). AreMates t mates') same mated)))

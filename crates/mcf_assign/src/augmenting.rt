@@ -32,7 +32,7 @@ impl Tables {
             offers: Offers::new(alloc, net.arc_count() as usize * 2)?,
             dists: copies(alloc, nodes, 0)?,
             marks: copies(alloc, nodes, false)?,
-            links: copies(alloc, nodes, 0)?,
+            predecessors: copies(alloc, nodes, 0)?,
             best: None,
             order: Vec::with_capacity(alloc, nodes)?,
             searches: Count::zero(),

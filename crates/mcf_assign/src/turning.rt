@@ -36,7 +36,7 @@ impl Tables {
             }
             part(state, mates, ArcId::new(mate.arc));
             join(state, mates, arc);
-            arc = ArcId::new(self.links[mate.node as usize - 1]);
+            arc = ArcId::new(self.predecessors[mate.node as usize - 1]);
         }
     }
 }

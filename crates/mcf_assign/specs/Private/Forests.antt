@@ -1,4 +1,4 @@
--- The mates of a matching; the nodes that a search settled in their order, and the alternating paths of its links from its
+-- The mates of a matching; the nodes that a search settled in their order, and the alternating paths of its predecessors from its
 -- row to each of them.
 use Rattle.std.specs.Prelude.{◌≡◌, ◌≢◌, ℕ, ◌+◌, ◌-◌, ◌<◌, ◌≤◌, ◌==◌, List, [], ◌∷◌, length, ℤ, pos, ◌⊎◌, if◌then◌else◌, slice_index_or}
 use Rattle.std.specs.List.{All, AllPairs, Contains}
@@ -8,7 +8,7 @@ use Rattle.mcf_network.specs.States.{Pseudoflow, amount_at}
 use Rattle.mcf_assign.specs.declared.scene.Mate.{Mate}
 use Rattle.mcf_assign.specs.Extending.{IsMatched, IsReachable}
 use Rattle.mcf_assign.specs.Matchings.{IsColumn, IsMatchedColumn, IsMatchedRow, IsPair, IsPartialMatching, IsRow, MatchSameRows, column_of, reduced, row_of}
-use Rattle.mcf_assign.specs.Private.Searches.{Search, Settled, link_at}
+use Rattle.mcf_assign.specs.Private.Searches.{Search, Settled, predecessor_at}
 use Rattle.mcf_assign.specs.Private.Turning.{IsPushedFrom}
 
 -- an arc with the node at its other end
@@ -44,7 +44,7 @@ pub record IsOrder (s : Pseudoflow) (q : Search) (source : ℕ) (order : List �
   pub reachable : (v : ℕ) → IsNode (node_count s.net) v → Settled q v → IsReachable s source v
   pub rows : (v : ℕ) → IsRow s v → Settled q v → (v ≡ source) ⊎ IsMatchedRow s v
   pub pairs : (k : ℕ) → IsPair s k → Settled q (row_of s k) → place order (column_of s k) < place order (row_of s k)
-  pub links : (v : ℕ) → IsColumn s v → Settled q v → place order (row_of s (link_at q v)) < place order v
+  pub predecessors : (v : ℕ) → IsColumn s v → Settled q v → place order (row_of s (predecessor_at q v)) < place order v
 
 -- the list has the settled nodes, each once
 pub record IsListing (nodes : ℕ) (q : Search) (order : List ℕ) : Type 0 where
@@ -68,8 +68,8 @@ pub record IsForest (s : Pseudoflow) (q : Search) (source : ℕ) (order : List �
   pub rows : (v : ℕ) → IsRow s v → Settled q v → (v ≡ source) ⊎ IsMatchedRow s v
   pub columns : (k : ℕ) → IsPair s k → Settled q (row_of s k) → Settled q (column_of s k)
   pub pairs : (k : ℕ) → IsPair s k → Settled q (row_of s k) → place order (column_of s k) < place order (row_of s k)
-  pub links : (v : ℕ) → IsColumn s v → Settled q v → IsTightArc s q z (link_at q v) v
-  pub earlier : (v : ℕ) → IsColumn s v → Settled q v → place order (row_of s (link_at q v)) < place order v
+  pub predecessors : (v : ℕ) → IsColumn s v → Settled q v → IsTightArc s q z (predecessor_at q v) v
+  pub earlier : (v : ℕ) → IsColumn s v → Settled q v → place order (row_of s (predecessor_at q v)) < place order v
 
 -- only arcs from settled rows to settled columns, or to column t, changed
 abbrev pub IsChangedWithin : Pseudoflow → Pseudoflow → Search → ℕ → Type 0

@@ -50,7 +50,7 @@ overflow_sub-mate c = (turning_node c.path.invariant c.row_mate-mate.ensures c.i
 pub index-requires : goal.index-requires
 index-requires c =
     let node = turning_node c.path.invariant c.row_mate-mate.ensures c.if-mate-eq0.false in
-    let count = c.requires.entries.link_count in
+    let count = c.requires.entries.predecessor_count in
     omega (arith, node, count)
 
 pub path-smaller : goal.path-smaller
