@@ -1,4 +1,4 @@
-//! What the arcs of the net offer to the pricing rule.
+//! The arcs of the net as the pricing rule reads them, called offers.
 
 /// The residual arc along which an arc outside the tree can carry more: its ends and what a unit along it costs. 16 bytes.
 ///

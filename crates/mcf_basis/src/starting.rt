@@ -119,7 +119,7 @@ fn star_room(supply: i128) -> Rooms
     }
 }
 
-// An amount, or the greatest room that is told.
+// An amount, or the greatest room that is reported.
 fn capped(amount: u128) -> u64
     ensures { result ≡ min amount room_limit }
 {
