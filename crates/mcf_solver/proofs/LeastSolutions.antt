@@ -18,8 +18,8 @@ use Rattle.mcf_network.proofs.RestoringLaws.{net_of-arc_count, restored_all}
 use Rattle.mcf_engine.specs.Outcomes.{IsLeastState}
 use Rattle.mcf_engine.specs.SmallPrices.{price_limit}
 use Rattle.mcf_solver.specs.Answering.{IsLeastFlow}
-use Rattle.mcf_solver.specs.ChosenSolutions.{IsLoopSettled}
-use Rattle.mcf_solver.proofs.LoopFlows.{loops_settled}
+use Rattle.mcf_solver.specs.ChosenSolutions.{IsLoopAtBound}
+use Rattle.mcf_solver.proofs.LoopFlows.{loops_at_bounds}
 
 -- prices within their limit are amounts
 pub amounts_from_prices : (prices : List ℤ) → All (IsUpTo price_limit) prices → All IsAmount prices
@@ -45,9 +45,9 @@ module _ (g : Network) (s : Pseudoflow) (total : ℤ) (prices flow : List ℤ) (
   prices_of carry_over =
       (carry_over g prices s.amounts state.least.feasible).0 made.greatest
 
-  loops_of : AllZip IsLoopSettled g.arcs (restored g.arcs s.amounts)
+  loops_of : AllZip IsLoopAtBound g.arcs (restored g.arcs s.amounts)
   loops_of =
-      loops_settled g.arcs s.amounts (sym (net_of-arc_count g) ∙ length-AllZip CanCarry (net_of g).arcs s.amounts state.least.feasible.within_bounds)
+      loops_at_bounds g.arcs s.amounts (sym (net_of-arc_count g) ∙ length-AllZip CanCarry (net_of g).arcs s.amounts state.least.feasible.within_bounds)
 
   pub is_right_and_least : RestoredLeastFlowsAreLeast → GreatestPricesCarryOver → IsWellFormed limits g → IsRightAndLeast g total prices flow
   is_right_and_least stays_least carry_over ok =
