@@ -20,10 +20,10 @@ use Rattle.mcf_network.proofs.Marks.{marked_new, unmarked}
 use Rattle.mcf_network.proofs.StateLaws.{rid}
 use Rattle.mcf_tree.specs.SpanningTree.{SpanningTree, depth_of, label_of, size_of}
 use Rattle.mcf_basis.specs.declared.offer.Offer.{Offer}
-use Rattle.mcf_basis.specs.declared.rooms.Rooms.{Rooms}
+use Rattle.mcf_basis.specs.declared.residuals.Residuals.{Residuals}
 use Rattle.mcf_basis.specs.Bases.{IsBasis}
 use Rattle.mcf_basis.specs.Laws.{HasNoArtificial}
-use Rattle.mcf_basis.specs.Private.Layouts.{Layout, IsLaidOut, amount_by, amount_in, basis_in, no_offer, no_rooms, node_below}
+use Rattle.mcf_basis.specs.Private.Layouts.{Layout, IsLaidOut, amount_by, amount_in, basis_in, no_offer, no_residuals, node_below}
 use Rattle.mcf_basis.specs.Structures.{TreeStructure, carried, price_at, state_of, price_limit}
 use Rattle.mcf_basis.proofs.Around.{arcs_of}
 use Rattle.mcf_basis.specs.Violations.{HasNoEligible}
@@ -38,9 +38,9 @@ use Rattle.mcf_basis.proofs.Views.{carried_in}
 abbrev pub outside_by : Network → List Offer → ℕ → ℤ
 outside_by g offers k = if eqb (get_or offers (k - 1) no_offer).from (arc_at g k).src then pos 0 else (arc_at g k).cap
 
-abbrev pub inside_by : Network → SpanningTree → List Rooms → ℕ → ℤ
-inside_by g tree rooms v =
-    if eqb (arc_at g (label_of tree v)).src v then pos (get_or rooms v no_rooms).down else pos (get_or rooms v no_rooms).up
+abbrev pub inside_by : Network → SpanningTree → List Residuals → ℕ → ℤ
+inside_by g tree residuals v =
+    if eqb (arc_at g (label_of tree v)).src v then pos (get_or residuals v no_residuals).down else pos (get_or residuals v no_residuals).up
 
 -- ---- the flow
 
@@ -166,54 +166,54 @@ one_node b ok u v hu hv same =
 -- what the writing of the tree asks for
 pub record CanBeWritten (l : Layout) : Type 0 where
   pub size : size_of l.tree ≡ node_count l.net + 1
-  pub rooms_size : length l.rooms ≡ node_count l.net + 1
+  pub residuals_size : length l.residuals ≡ node_count l.net + 1
   pub low : (v : ℕ) → IsNode (node_count l.net) v → 1 ≤ label_of l.tree v
   pub apart : (u v : ℕ) → IsNode (node_count l.net) u → IsNode (node_count l.net) v → label_of l.tree u ≡ label_of l.tree v → u ≡ v
   pub widths : (v : ℕ) → IsNode (node_count l.net) v → label_of l.tree v ≤ length l.net.arcs
-      → pos ((get_or l.rooms v no_rooms).up + (get_or l.rooms v no_rooms).down) ≡ (arc_at l.net (label_of l.tree v)).cap
+      → pos ((get_or l.residuals v no_residuals).up + (get_or l.residuals v no_residuals).down) ≡ (arc_at l.net (label_of l.tree v)).cap
 
 pub can_be_written : (l : Layout) → IsLaidOut l → CanBeWritten l
 unfolding basis_in
 can_be_written l ok =
     record {
       size = ok.basis.size;
-      rooms_size = ok.rooms_size;
+      residuals_size = ok.residuals_size;
       low = λ v h. (ok.basis.tree_arcs v h).label.0;
       apart = one_node (basis_in l) ok.basis;
-      widths = ok.rooms;
+      widths = ok.residuals;
     }
 
 -- the amounts of the arcs above the first i nodes are written, and those of no arc outside the tree
-pub record IsTreeWritten (g : Network) (tree : SpanningTree) (rooms : List Rooms) (first now : Pseudoflow) (i : ℕ) : Type 0 where
+pub record IsTreeWritten (g : Network) (tree : SpanningTree) (residuals : List Residuals) (first now : Pseudoflow) (i : ℕ) : Type 0 where
   pub net : now.net ≡ g
   pub flow : IsPseudoflow now
   pub inside : (v : ℕ) → IsNode (node_count g) v → v ≤ i → label_of tree v ≤ length g.arcs
-      → amount_at now (label_of tree v) ≡ inside_by g tree rooms v
+      → amount_at now (label_of tree v) ≡ inside_by g tree residuals v
   pub outside : (k : ℕ) → IsArcNumber g k → ((v : ℕ) → IsNode (node_count g) v → label_of tree v ≢ k) → amount_at now k ≡ amount_at first k
 
-pub tree_next : (g : Network) (tree : SpanningTree) (rooms : List Rooms) (first now next : Pseudoflow) (i v k u : ℕ)
+pub tree_next : (g : Network) (tree : SpanningTree) (residuals : List Residuals) (first now next : Pseudoflow) (i v k u : ℕ)
     → ((v : ℕ) → IsNode (node_count g) v → 1 ≤ label_of tree v)
     → ((u v : ℕ) → IsNode (node_count g) u → IsNode (node_count g) v → label_of tree u ≡ label_of tree v → u ≡ v)
-    → IsNode (node_count g) v → v ≡ i + 1 → k ≡ label_of tree v → u ≡ v → IsTreeWritten g tree rooms first now i
+    → IsNode (node_count g) v → v ≡ i + 1 → k ≡ label_of tree v → u ≡ v → IsTreeWritten g tree residuals first now i
     → next.net ≡ g → IsPseudoflow next
-    → (k ≤ length g.arcs → amount_at next k ≡ (if eqb (arc_at g k).src v then pos (get_or rooms u no_rooms).down else pos (get_or rooms u no_rooms).up))
-    → ((j : ℕ) → IsArcNumber g j → j ≢ k → amount_at next j ≡ amount_at now j) → IsTreeWritten g tree rooms first next (i + 1)
-tree_next g tree rooms first now next i v k u low apart node at label room before net flow value others =
+    → (k ≤ length g.arcs → amount_at next k ≡ (if eqb (arc_at g k).src v then pos (get_or residuals u no_residuals).down else pos (get_or residuals u no_residuals).up))
+    → ((j : ℕ) → IsArcNumber g j → j ≢ k → amount_at next j ≡ amount_at now j) → IsTreeWritten g tree residuals first next (i + 1)
+tree_next g tree residuals first now next i v k u low apart node at label room before net flow value others =
     record {
       net = net;
       flow = flow;
       inside = λ w h le own. elim (cases_eq w v) [
-        | inl q ↦ subst (λ w. amount_at next (label_of tree w) ≡ inside_by g tree rooms w) (sym q) (here (omega (arith, label, ap (label_of tree) q, own)))
+        | inl q ↦ subst (λ w. amount_at next (label_of tree w) ≡ inside_by g tree residuals w) (sym q) (here (omega (arith, label, ap (label_of tree) q, own)))
         | inr ne ↦ others (label_of tree w) (low w h, own) (λ same. ne (apart w v h node (same ∙ label)))
             ∙ before.inside w h (omega (arith, ne, le, at)) own
       ];
       outside = λ j h none. others j h (λ q. none v node (sym label ∙ sym q)) ∙ before.outside j h none;
     }
   where
-    here : k ≤ length g.arcs → amount_at next (label_of tree v) ≡ inside_by g tree rooms v
+    here : k ≤ length g.arcs → amount_at next (label_of tree v) ≡ inside_by g tree residuals v
     here own =
-        subst (λ j. amount_at next j ≡ (if eqb (arc_at g j).src v then pos (get_or rooms v no_rooms).down else pos (get_or rooms v no_rooms).up)) label
-        (subst (λ u. amount_at next k ≡ (if eqb (arc_at g k).src v then pos (get_or rooms u no_rooms).down else pos (get_or rooms u no_rooms).up)) room
+        subst (λ j. amount_at next j ≡ (if eqb (arc_at g j).src v then pos (get_or residuals v no_residuals).down else pos (get_or residuals v no_residuals).up)) label
+        (subst (λ u. amount_at next k ≡ (if eqb (arc_at g k).src v then pos (get_or residuals u no_residuals).down else pos (get_or residuals u no_residuals).up)) room
         (value own))
 
 -- the amounts of the arcs, those of the tree written over those outside it
@@ -222,7 +222,7 @@ pub record IsWritten (l : Layout) (first last : Pseudoflow) : Type 0 where
   pub net : last.net ≡ l.net
   pub outside : (k : ℕ) → IsArcNumber l.net k → amount_at first k ≡ outside_by l.net l.offers k
   pub inside : (v : ℕ) → IsNode (node_count l.net) v → label_of l.tree v ≤ length l.net.arcs
-      → amount_at last (label_of l.tree v) ≡ inside_by l.net l.tree l.rooms v
+      → amount_at last (label_of l.tree v) ≡ inside_by l.net l.tree l.residuals v
   pub others : (k : ℕ) → IsArcNumber l.net k
       → ((v : ℕ) → IsNode (node_count l.net) v → label_of l.tree v ≢ k) → amount_at last k ≡ amount_at first k
 
@@ -255,7 +255,7 @@ module _ (l : Layout) (first last : Pseudoflow) (ok : IsLaidOut l) (w : IsWritte
       let high = f.high in
       let node : IsNode (node_count l.net) v = (low, omega (arith, high)) in
       let same : label_of l.tree v ≡ k = eqb-true (label_of l.tree v) k f.passes in
-      subst (λ j. amount_at last j ≡ (if eqb (arc_at l.net j).src v then pos (get_or l.rooms v no_rooms).down else pos (get_or l.rooms v no_rooms).up)) same
+      subst (λ j. amount_at last j ≡ (if eqb (arc_at l.net j).src v then pos (get_or l.residuals v no_residuals).down else pos (get_or l.residuals v no_residuals).up)) same
       (w.inside v node (omega (arith, same, h)))
 
   written_at : (k : ℕ) → IsArcNumber l.net k → amount_at last k ≡ amount_in l k

@@ -16,10 +16,10 @@ pub mod Pushes
 pub mod StrongPivot
 pub mod Around
 pub mod Climbing
-pub mod TreeRooms
+pub mod TreeResiduals
 pub mod Climbed
-pub mod PushedRooms
-pub mod TurnedRooms
+pub mod PushedResiduals
+pub mod TurnedResiduals
 pub mod Repricing
 pub mod StartLayouts
 pub mod Endings

@@ -17,7 +17,7 @@ use Rattle.mcf_basis.specs.declared.cycle.Cycle.{Cycle}
 use Rattle.mcf_basis.specs.declared.cycle.Leaving.{Leaving}
 use Rattle.mcf_basis.specs.declared.cycle.Leaving.TheVariants.{Entering}
 use Rattle.mcf_basis.specs.declared.offer.Offer.{Offer}
-use Rattle.mcf_basis.specs.declared.rooms.Rooms.{Rooms}
+use Rattle.mcf_basis.specs.declared.residuals.Residuals.{Residuals}
 use Rattle.mcf_basis.specs.Bases.{IsBasis}
 use Rattle.mcf_basis.specs.Pivots.{IsEligible, IsPivot, PairFalls, entering}
 use Rattle.mcf_basis.specs.Private.Climbs.{CanReplace, IsChosen, IsClimb, IsReplaced, laid}
@@ -89,16 +89,16 @@ module _ (l : Layout) (k : ℕ) (ok : IsLaidOut l) (el : IsEligible (basis_in l)
   keep_premises : (1 ≤ k) × (k ≤ length l.offers) × IsUpTo limits.cost (offer_at l k).cost
   keep_premises = (let n = number in let size = ok.offers_size in (n.0, omega (arith, n, size), read.cost))
 
-  found_climb : (o : Offer) (c : Climb) → o ≡ offer_at l k → IsClimb l.tree l.rooms o.from o.to c →
-      IsClimb l.tree l.rooms (from_of (basis_in l) k) (to_of (basis_in l) k) c
+  found_climb : (o : Offer) (c : Climb) → o ≡ offer_at l k → IsClimb l.tree l.residuals o.from o.to c →
+      IsClimb l.tree l.residuals (from_of (basis_in l) k) (to_of (basis_in l) k) c
   found_climb o c is h =
       let ends = offer_ends l k ok el in
       let near : o.from ≡ from_of (basis_in l) k = ap (λ x. x.from) is ∙ ends.0 in
       let far : o.to ≡ to_of (basis_in l) k = ap (λ x. x.to) is ∙ ends.1 in
-      subst (λ v. IsClimb l.tree l.rooms (from_of (basis_in l) k) v c) far (subst (λ u. IsClimb l.tree l.rooms u o.to c) near h)
+      subst (λ v. IsClimb l.tree l.residuals (from_of (basis_in l) k) v c) far (subst (λ u. IsClimb l.tree l.residuals u o.to c) near h)
 
   -- the arc that leaves, where it isn't the entering one, stands at a place of its side
-  out_of : (c : Climb) → IsClimb l.tree l.rooms (from_of (basis_in l) k) (to_of (basis_in l) k) c → (amount : ℕ) (leaving : Leaving) (out : ℕ) →
+  out_of : (c : Climb) → IsClimb l.tree l.residuals (from_of (basis_in l) k) (to_of (basis_in l) k) c → (amount : ℕ) (leaving : Leaving) (out : ℕ) →
       IsChosen c (unsigned_abs (arc_at l.net k).cap) amount leaving out → leaving ≢ Entering →
       IsOut (basis_in l) k c.apex (pos amount) (leaves_by (basis_in l) k leaving out) out (is_left leaving)
   out_of c climbed amount leaving out (up_leaves q n e w d) other =
@@ -110,13 +110,13 @@ module _ (l : Layout) (k : ℕ) (ok : IsLaidOut l) (el : IsEligible (basis_in l)
       out_left o.place o.short o.at refl o.full)
 
   -- the cycle of a climb from the ends of the offer
-  pub cycle_found : (o : Offer) (f : Cycle) (c : Climb) (rooms : List Rooms) (width : ℕ) → o ≡ offer_at l k → rooms ≡ l.rooms →
-      width ≡ unsigned_abs (arc_at l.net k).cap → IsClimb l.tree rooms o.from o.to c → f.arc ≡ k → f.from ≡ o.from → f.to ≡ o.to → f.apex ≡ c.apex →
+  pub cycle_found : (o : Offer) (f : Cycle) (c : Climb) (residuals : List Residuals) (width : ℕ) → o ≡ offer_at l k → residuals ≡ l.residuals →
+      width ≡ unsigned_abs (arc_at l.net k).cap → IsClimb l.tree residuals o.from o.to c → f.arc ≡ k → f.from ≡ o.from → f.to ≡ o.to → f.apex ≡ c.apex →
       IsChosen c width f.amount f.leaving f.out → IsRoundOf l k f
   unfolding basis_in
-  cycle_found o f c rooms width is same_rooms same_width climb arc from to apex chosen =
+  cycle_found o f c residuals width is same_residuals same_width climb arc from to apex chosen =
       let ends = offer_ends l k ok el in
-      let climbed = found_climb o c is (subst (λ r. IsClimb l.tree r o.from o.to c) same_rooms climb) in
+      let climbed = found_climb o c is (subst (λ r. IsClimb l.tree r o.from o.to c) same_residuals climb) in
       let w = unsigned_abs (arc_at l.net k).cap in
       let h : IsChosen c w f.amount f.leaving f.out = subst (λ x. IsChosen c x f.amount f.leaving f.out) same_width chosen in
       let turned : c.apex ≡ f.apex = sym apex in
@@ -142,9 +142,9 @@ module _ (l : Layout) (k : ℕ) (ok : IsLaidOut l) (el : IsEligible (basis_in l)
       let size = ok.offers_size in
       is ∙ (get_or_default l.offers i o no_offer (omega (arith, at, n, size)) ∙ ap (λ j. get_or l.offers j no_offer) at)
 
-  pub rooms_sized : length l.rooms ≡ size_of l.tree
+  pub residuals_sized : length l.residuals ≡ size_of l.tree
   unfolding basis_in
-  rooms_sized = (let n = nodes in ok.rooms_size ∙ sym n)
+  residuals_sized = (let n = nodes in ok.residuals_size ∙ sym n)
 
   -- the offer and the prices that are read
   module _ (o : Offer) (is : o ≡ offer_at l k) where
@@ -185,16 +185,16 @@ module _ (l : Layout) (k : ℕ) (ok : IsLaidOut l) (el : IsEligible (basis_in l)
 
   module _ (f : Cycle) (round : IsRoundOf l k f) where
     -- what push asks for
-    pub push_ready : CanPush l.net l.tree l.rooms l.artificial f.from f.to f.apex f.amount
+    pub push_ready : CanPush l.net l.tree l.residuals l.artificial f.from f.to f.apex f.amount
     push_ready = rw (round.same_from, round.same_to) (can_push l k f.apex f.amount ok el round.is_apex round.is_around round.can)
 
     -- what the exchange asks for
-    pub replace_ready : (rooms : List Rooms) → length rooms ≡ length l.rooms → f.reduced ≡ offered (basis_in l) (offer_at l k) →
-        CanReplace l.net l.tree l.offers rooms l.table f
-    replace_ready rooms size is = record {
+    pub replace_ready : (residuals : List Residuals) → length residuals ≡ length l.residuals → f.reduced ≡ offered (basis_in l) (offer_at l k) →
+        CanReplace l.net l.tree l.offers residuals l.table f
+    replace_ready residuals size is = record {
       at_once = λ e. rw round.same_arc keep_premises;
       exchanged = λ other. rw (round.same_arc, round.same_from, round.same_to, is)
-          (can_exchange l k f.apex f.amount f.out (is_left f.leaving) (leaves_by (basis_in l) k f.leaving f.out) rooms ok el round.is_around round.can
+          (can_exchange l k f.apex f.amount f.out (is_left f.leaving) (leaves_by (basis_in l) k f.leaving f.out) residuals ok el round.is_around round.can
           (round.is_out other) size);
     }
 
@@ -202,21 +202,21 @@ module _ (l : Layout) (k : ℕ) (ok : IsLaidOut l) (el : IsEligible (basis_in l)
     went = went_round (basis_in l) k f.apex (pos f.amount) is_basis el round.is_around (omega (arith, ints))
 
     -- what the parts leave
-    replaced : (t' : SpanningTree) (offers : List Offer) (rooms rooms' : List Rooms) (artificial : List ℤ) (table' : Prices) →
+    replaced : (t' : SpanningTree) (offers : List Offer) (residuals residuals' : List Residuals) (artificial : List ℤ) (table' : Prices) →
         f.reduced ≡ offered (basis_in l) (offer_at l k) →
-        IsPushedRound l.net l.tree l.rooms rooms l.artificial artificial f.from f.to f.apex f.amount →
-        IsReplaced l.net l.tree t' l.offers offers rooms rooms' l.table table' f →
-        IsPivotedLayout l (next_layout l t' offers rooms' artificial table') k f.apex (pos f.amount) (leaves_by (basis_in l) k f.leaving f.out)
-    replaced t' offers rooms rooms' artificial table' is pushed done =
+        IsPushedRound l.net l.tree l.residuals residuals l.artificial artificial f.from f.to f.apex f.amount →
+        IsReplaced l.net l.tree t' l.offers offers residuals residuals' l.table table' f →
+        IsPivotedLayout l (next_layout l t' offers residuals' artificial table') k f.apex (pos f.amount) (leaves_by (basis_in l) k f.leaving f.out)
+    replaced t' offers residuals residuals' artificial table' is pushed done =
         by_case done
       where
-        pushed_round : IsPushedRound l.net l.tree l.rooms rooms l.artificial artificial (from_of (basis_in l) k) (to_of (basis_in l) k) f.apex f.amount
+        pushed_round : IsPushedRound l.net l.tree l.residuals residuals l.artificial artificial (from_of (basis_in l) k) (to_of (basis_in l) k) f.apex f.amount
         pushed_round =
-            subst (λ v. IsPushedRound l.net l.tree l.rooms rooms l.artificial artificial (from_of (basis_in l) k) v f.apex f.amount) round.same_to
-            (subst (λ u. IsPushedRound l.net l.tree l.rooms rooms l.artificial artificial u f.to f.apex f.amount) round.same_from pushed)
+            subst (λ v. IsPushedRound l.net l.tree l.residuals residuals l.artificial artificial (from_of (basis_in l) k) v f.apex f.amount) round.same_to
+            (subst (λ u. IsPushedRound l.net l.tree l.residuals residuals l.artificial artificial u f.to f.apex f.amount) round.same_from pushed)
 
-        exchanged_ends : IsExchangedBy l.net l.tree t' l.offers offers rooms rooms' l.table table' f.arc f.out f.from f.to (is_left f.leaving) f.amount f.reduced →
-            IsExchangedBy l.net l.tree t' l.offers offers rooms rooms' l.table table' k f.out (from_of (basis_in l) k)
+        exchanged_ends : IsExchangedBy l.net l.tree t' l.offers offers residuals residuals' l.table table' f.arc f.out f.from f.to (is_left f.leaving) f.amount f.reduced →
+            IsExchangedBy l.net l.tree t' l.offers offers residuals residuals' l.table table' k f.out (from_of (basis_in l) k)
             (to_of (basis_in l) k) (is_left f.leaving) f.amount (offered (basis_in l) (offer_at l k))
         exchanged_ends h = rw (round.same_arc, round.same_from, round.same_to, is) at h
 
@@ -224,14 +224,14 @@ module _ (l : Layout) (k : ℕ) (ok : IsLaidOut l) (el : IsEligible (basis_in l)
         blocks_at_once e = leaving_blocks (basis_in l) k f.apex (pos f.amount) (entering (basis_in l) k)
             (subst (λ w. IsLeaving (basis_in l) k f.apex (pos f.amount) (leaves_by (basis_in l) k w f.out)) e round.leaves)
 
-        by_case : IsReplaced l.net l.tree t' l.offers offers rooms rooms' l.table table' f →
-            IsPivotedLayout l (next_layout l t' offers rooms' artificial table') k f.apex (pos f.amount) (leaves_by (basis_in l) k f.leaving f.out)
+        by_case : IsReplaced l.net l.tree t' l.offers offers residuals residuals' l.table table' f →
+            IsPivotedLayout l (next_layout l t' offers residuals' artificial table') k f.apex (pos f.amount) (leaves_by (basis_in l) k f.leaving f.out)
         by_case (at_once e tree turned same prices) =
             rw (e, tree, same, prices)
-            (kept_layout l k f.apex f.amount offers rooms artificial ok el round.is_apex round.is_around round.can (blocks_at_once e) went
+            (kept_layout l k f.apex f.amount offers residuals artificial ok el round.is_apex round.is_around round.can (blocks_at_once e) went
             pushed_round (turned ∙ ap (λ a. offers_kept a l.offers) round.same_arc))
         by_case (exchanged other h) =
-            exchanged_layout l k f.apex f.amount f.out (is_left f.leaving) (leaves_by (basis_in l) k f.leaving f.out) t' offers rooms rooms' artificial table' ok el
+            exchanged_layout l k f.apex f.amount f.out (is_left f.leaving) (leaves_by (basis_in l) k f.leaving f.out) t' offers residuals residuals' artificial table' ok el
             round.is_apex round.is_around round.can (round.is_out other) went pushed_round (exchanged_ends h)
 
     pub pivoted : (l' : Layout) → IsPivotedLayout l l' k f.apex (pos f.amount) (leaves_by (basis_in l) k f.leaving f.out) → IsTurnedTo l l' k f.amount
@@ -255,38 +255,38 @@ module _ (l : Layout) (k : ℕ) (ok : IsLaidOut l) (el : IsEligible (basis_in l)
           falls = pivots_lower_the_pair_lem (basis_in l) (basis_in l') k (pos f.amount) is_basis pivot;
         }
 
-    pub turned : (t' : SpanningTree) (offers : List Offer) (rooms rooms' : List Rooms) (artificial : List ℤ) (table' : Prices) (pivots : ℕ) →
+    pub turned : (t' : SpanningTree) (offers : List Offer) (residuals residuals' : List Residuals) (artificial : List ℤ) (table' : Prices) (pivots : ℕ) →
         pivots ≡ l.pivots + 1 → f.reduced ≡ offered (basis_in l) (offer_at l k) →
-        IsPushedRound l.net l.tree l.rooms rooms l.artificial artificial f.from f.to f.apex f.amount →
-        IsReplaced l.net l.tree t' l.offers offers rooms rooms' l.table table' f →
-        IsTurnedTo l (laid l.net t' offers rooms' artificial table' pivots) k f.amount
-    turned t' offers rooms rooms' artificial table' pivots one_more is pushed done =
-        subst (λ n. IsTurnedTo l (laid l.net t' offers rooms' artificial table' n) k f.amount) (sym one_more)
-        (pivoted (next_layout l t' offers rooms' artificial table') (replaced t' offers rooms rooms' artificial table' is pushed done))
+        IsPushedRound l.net l.tree l.residuals residuals l.artificial artificial f.from f.to f.apex f.amount →
+        IsReplaced l.net l.tree t' l.offers offers residuals residuals' l.table table' f →
+        IsTurnedTo l (laid l.net t' offers residuals' artificial table' pivots) k f.amount
+    turned t' offers residuals residuals' artificial table' pivots one_more is pushed done =
+        subst (λ n. IsTurnedTo l (laid l.net t' offers residuals' artificial table' n) k f.amount) (sym one_more)
+        (pivoted (next_layout l t' offers residuals' artificial table') (replaced t' offers residuals residuals' artificial table' is pushed done))
 
 -- the same of lists and numbers that are equal
-pub same_laid_out : (g : Network) (t : SpanningTree) (offers offers' : List Offer) (rooms rooms' : List Rooms) (artificial artificial' : List ℤ)
-    (table : Prices) (pivots : ℕ) → offers' ≡ offers → rooms' ≡ rooms → artificial' ≡ artificial →
-    IsLaidOut (laid g t offers rooms artificial table pivots) → IsLaidOut (laid g t offers' rooms' artificial' table pivots)
-same_laid_out g t offers offers' rooms rooms' artificial artificial' table pivots same_offers same_rooms same_artificial h =
-    subst (λ o. IsLaidOut (laid g t o rooms' artificial' table pivots)) (sym same_offers)
-    (subst (λ r. IsLaidOut (laid g t offers r artificial' table pivots)) (sym same_rooms)
-    (subst (λ a. IsLaidOut (laid g t offers rooms a table pivots)) (sym same_artificial) h))
+pub same_laid_out : (g : Network) (t : SpanningTree) (offers offers' : List Offer) (residuals residuals' : List Residuals) (artificial artificial' : List ℤ)
+    (table : Prices) (pivots : ℕ) → offers' ≡ offers → residuals' ≡ residuals → artificial' ≡ artificial →
+    IsLaidOut (laid g t offers residuals artificial table pivots) → IsLaidOut (laid g t offers' residuals' artificial' table pivots)
+same_laid_out g t offers offers' residuals residuals' artificial artificial' table pivots same_offers same_residuals same_artificial h =
+    subst (λ o. IsLaidOut (laid g t o residuals' artificial' table pivots)) (sym same_offers)
+    (subst (λ r. IsLaidOut (laid g t offers r artificial' table pivots)) (sym same_residuals)
+    (subst (λ a. IsLaidOut (laid g t offers residuals a table pivots)) (sym same_artificial) h))
 
-pub same_pivot : (b : TreeStructure) (l : Layout) (g : Network) (t : SpanningTree) (offers offers' : List Offer) (rooms rooms' : List Rooms)
-    (artificial artificial' : List ℤ) (table : Prices) (pivots k x : ℕ) (moved : ℤ) → basis_in l ≡ b → offers' ≡ offers → rooms' ≡ rooms →
+pub same_pivot : (b : TreeStructure) (l : Layout) (g : Network) (t : SpanningTree) (offers offers' : List Offer) (residuals residuals' : List Residuals)
+    (artificial artificial' : List ℤ) (table : Prices) (pivots k x : ℕ) (moved : ℤ) → basis_in l ≡ b → offers' ≡ offers → residuals' ≡ residuals →
     artificial' ≡ artificial → moved ≡ pos x →
-    IsPivot (basis_in l) k (pos x) (basis_in (laid g t offers rooms artificial table pivots)) →
-    IsPivot b k moved (basis_in (laid g t offers' rooms' artificial' table pivots))
-same_pivot b l g t offers offers' rooms rooms' artificial artificial' table pivots k x moved view same_offers same_rooms same_artificial same_amount h =
-    rw (← view, same_offers, same_rooms, same_artificial, same_amount) h
+    IsPivot (basis_in l) k (pos x) (basis_in (laid g t offers residuals artificial table pivots)) →
+    IsPivot b k moved (basis_in (laid g t offers' residuals' artificial' table pivots))
+same_pivot b l g t offers offers' residuals residuals' artificial artificial' table pivots k x moved view same_offers same_residuals same_artificial same_amount h =
+    rw (← view, same_offers, same_residuals, same_artificial, same_amount) h
 
-pub same_falls : (b : TreeStructure) (l : Layout) (g : Network) (t : SpanningTree) (offers offers' : List Offer) (rooms rooms' : List Rooms)
-    (artificial artificial' : List ℤ) (table : Prices) (pivots : ℕ) → basis_in l ≡ b → offers' ≡ offers → rooms' ≡ rooms → artificial' ≡ artificial →
-    PairFalls (basis_in l) (basis_in (laid g t offers rooms artificial table pivots)) →
-    PairFalls b (basis_in (laid g t offers' rooms' artificial' table pivots))
-same_falls b l g t offers offers' rooms rooms' artificial artificial' table pivots view same_offers same_rooms same_artificial h =
-    subst (λ o. PairFalls b (basis_in (laid g t o rooms' artificial' table pivots))) (sym same_offers)
-    (subst (λ r. PairFalls b (basis_in (laid g t offers r artificial' table pivots))) (sym same_rooms)
-    (subst (λ a. PairFalls b (basis_in (laid g t offers rooms a table pivots))) (sym same_artificial)
-    (subst (λ old. PairFalls old (basis_in (laid g t offers rooms artificial table pivots))) view h)))
+pub same_falls : (b : TreeStructure) (l : Layout) (g : Network) (t : SpanningTree) (offers offers' : List Offer) (residuals residuals' : List Residuals)
+    (artificial artificial' : List ℤ) (table : Prices) (pivots : ℕ) → basis_in l ≡ b → offers' ≡ offers → residuals' ≡ residuals → artificial' ≡ artificial →
+    PairFalls (basis_in l) (basis_in (laid g t offers residuals artificial table pivots)) →
+    PairFalls b (basis_in (laid g t offers' residuals' artificial' table pivots))
+same_falls b l g t offers offers' residuals residuals' artificial artificial' table pivots view same_offers same_residuals same_artificial h =
+    subst (λ o. PairFalls b (basis_in (laid g t o residuals' artificial' table pivots))) (sym same_offers)
+    (subst (λ r. PairFalls b (basis_in (laid g t offers r artificial' table pivots))) (sym same_residuals)
+    (subst (λ a. PairFalls b (basis_in (laid g t offers residuals a table pivots))) (sym same_artificial)
+    (subst (λ old. PairFalls old (basis_in (laid g t offers residuals artificial table pivots))) view h)))

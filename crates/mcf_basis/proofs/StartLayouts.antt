@@ -18,11 +18,11 @@ use Rattle.mcf_network.specs.Residual.{arc_at}
 use Rattle.mcf_network.proofs.ArcLaws.{net_arc_at}
 use Rattle.mcf_tree.specs.SpanningTree.{IsSpanning, IsStar, label_of}
 use Rattle.mcf_basis.specs.declared.offer.Offer.{Offer}
-use Rattle.mcf_basis.specs.declared.rooms.Rooms.{Rooms}
+use Rattle.mcf_basis.specs.declared.residuals.Residuals.{Residuals}
 use Rattle.mcf_basis.specs.Artificial.{is_sender}
 use Rattle.mcf_basis.specs.Bases.{IsBasis}
-use Rattle.mcf_basis.specs.Private.Layouts.{Layout, IsLaidOut, IsOffer, IsStarTable, amount_by, amount_in, amount_outside, artificial_rooms, basis_in}
-use Rattle.mcf_basis.specs.Private.Layouts.{forward_offer, no_offer, no_rooms, offer_at}
+use Rattle.mcf_basis.specs.Private.Layouts.{Layout, IsLaidOut, IsOffer, IsStarTable, amount_by, amount_in, amount_outside, artificial_residuals, basis_in}
+use Rattle.mcf_basis.specs.Private.Layouts.{forward_offer, no_offer, no_residuals, offer_at}
 use Rattle.mcf_basis.specs.Private.Layouts.IsOffer.{closed, forward}
 use Rattle.mcf_basis.specs.Ranks.{greatest_cost}
 use Rattle.mcf_basis.specs.Starts.{IsStart, start_amounts}
@@ -99,8 +99,8 @@ greatest_next (a ∷ arcs) (suc i) d h =
 abbrev pub star_offer : Network → ℕ → Offer
 star_offer g k = if int_lt (pos 0) (arc_at g k).cap then forward_offer g k else no_offer
 
-abbrev pub star_rooms : Network → ℕ → Rooms
-star_rooms g v = artificial_rooms (is_sender g v) (unsigned_abs (at_node g.supplies v))
+abbrev pub star_residuals : Network → ℕ → Residuals
+star_residuals g v = artificial_residuals (is_sender g v) (unsigned_abs (at_node g.supplies v))
 
 abbrev pub star_amount : Network → ℕ → ℤ
 star_amount g v = pos (unsigned_abs (at_node g.supplies v))
@@ -110,7 +110,7 @@ pub record IsStarStored (l : Layout) : Type 0 where
   pub star : IsStar l.tree (node_count l.net) (length l.net.arcs)
   pub spanning : IsSpanning l.tree
   pub offers : l.offers ≡ map (star_offer l.net) (range_with_len 1 (length l.net.arcs))
-  pub rooms : l.rooms ≡ no_rooms ∷ map (star_rooms l.net) (range_with_len 1 (node_count l.net))
+  pub residuals : l.residuals ≡ no_residuals ∷ map (star_residuals l.net) (range_with_len 1 (node_count l.net))
   pub artificial : l.artificial ≡ pos 0 ∷ map (star_amount l.net) (range_with_len 1 (node_count l.net))
   pub table : IsStarTable l.net l.table
   pub no_pivots : l.pivots ≡ 0
@@ -216,12 +216,12 @@ module _ (l : Layout) (s : IsStarStored l) where
   star_laid_out = record {
     basis = star_basis;
     offers_size = ap length s.offers ∙ length-map-range_with_len (star_offer l.net) 1 (length l.net.arcs);
-    rooms_size = (let n = length-map-range_with_len (star_rooms l.net) 1 (node_count l.net) in let e = ap length s.rooms in omega (arith, n, e));
+    residuals_size = (let n = length-map-range_with_len (star_residuals l.net) 1 (node_count l.net) in let e = ap length s.residuals in omega (arith, n, e));
     artificial_size = (let n = length-map-range_with_len (star_amount l.net) 1 (node_count l.net) in let e = ap length s.artificial in omega (arith, n, e));
     offers = offer_ok;
-    rooms = λ v h le. absurd (not_own v h le);
-    artificial = λ v h e. ap (λ xs. get_or xs v no_rooms) s.rooms ∙ (behind no_rooms no_rooms (star_rooms l.net) (node_count l.net) v h
-        ∙ ap (λ x. artificial_rooms (is_sender l.net v) (unsigned_abs x))
+    residuals = λ v h le. absurd (not_own v h le);
+    artificial = λ v h e. ap (λ xs. get_or xs v no_residuals) s.residuals ∙ (behind no_residuals no_residuals (star_residuals l.net) (node_count l.net) v h
+        ∙ ap (λ x. artificial_residuals (is_sender l.net v) (unsigned_abs x))
         (sym (ap (λ xs. get_or xs v (pos 0)) s.artificial ∙ behind (pos 0) (pos 0) (star_amount l.net) (node_count l.net) v h)));
     fits = s.table.fits;
     wide = λ v h le. absurd (not_own v h le);

@@ -9,7 +9,7 @@ ghost use Rattle.mcf_basis.specs.Violations.{IsMostViolatedPick, violation};
 
 use crate::offer::Offer;
 use crate::price_table::PriceTable;
-use crate::rooms::Rooms;
+use crate::residuals::Residuals;
 use mcf_counts::Count;
 use mcf_network::Net;
 use mcf_text::{ArcId, NodeId};
@@ -27,7 +27,7 @@ pub struct Basis<'n> {
     pub(crate) net: &'n Net,
     pub(crate) tree: Tree,
     pub(crate) offers: Vec<Offer>,
-    pub(crate) rooms: Vec<Rooms>,
+    pub(crate) residuals: Vec<Residuals>,
     pub(crate) artificial: Vec<i128>,
     pub(crate) table: PriceTable,
     pub(crate) pivots: Count,
@@ -43,7 +43,7 @@ impl<'n> Model for Basis<'n> {
       net = b.net.now;
       tree = b.tree;
       offers = b.offers.items;
-      rooms = b.rooms.items;
+      residuals = b.residuals.items;
       artificial = b.artificial.items;
       table = b.table;
       pivots = b.pivots.number;
@@ -53,7 +53,7 @@ impl<'n> Model for Basis<'n> {
       net = b.net.now;
       tree = b.tree;
       offers = b.offers.items;
-      rooms = b.rooms.items;
+      residuals = b.residuals.items;
       artificial = b.artificial.items;
       table = b.table;
       pivots = b.pivots.number;

@@ -12,13 +12,13 @@ ghost use Rattle.mcf_network.specs.States.{IsPseudoflow, amount_at};
 ghost use Rattle.mcf_tree.specs.SpanningTree.{IsSpanning, label_of, size_of};
 ghost use Rattle.mcf_basis.specs.Bases.{IsBasis};
 ghost use Rattle.mcf_basis.specs.Laws.{HasNoArtificial};
-ghost use Rattle.mcf_basis.specs.Private.Layouts.{no_offer, no_rooms};
+ghost use Rattle.mcf_basis.specs.Private.Layouts.{no_offer, no_residuals};
 ghost use Rattle.mcf_basis.specs.Structures.{price_at, state_of, price_limit};
 ghost use Rattle.mcf_basis.specs.Violations.{HasNoEligible};
 
 use crate::basis::Basis;
 use crate::offer::Offer;
-use crate::rooms::Rooms;
+use crate::residuals::Residuals;
 use mcf_counts::Count;
 use mcf_network::{Net, NodeSet, Rid, State};
 use mcf_text::{ArcId, NodeId};
@@ -42,7 +42,7 @@ impl<'n> Basis<'n> {
         // Called for its clause alone: this is a basis.
         let _net = self.net();
         write_outside(self.net, &self.offers, state);
-        write_tree(self.net, &self.tree, &self.rooms, state);
+        write_tree(self.net, &self.tree, &self.residuals, state);
     }
 
     /// Whether no artificial arc carries anything, so that the flow is one of the net.
@@ -137,19 +137,19 @@ fn amount_outside(net: &Net, offer: Offer, k: ArcId) -> i128
 }
 
 // Writes what each arc of the net carries that is in the tree.
-fn write_tree(net: &Net, tree: &Tree, rooms: &[Rooms], state: &mut State<'_>)
+fn write_tree(net: &Net, tree: &Tree, residuals: &[Residuals], state: &mut State<'_>)
     requires net { state.old.net ≡ net.now }
     requires size { size_of tree.now ≡ node_count net.now + 1 }
-    requires rooms { length rooms.now ≡ node_count net.now + 1 }
+    requires residuals { length residuals.now ≡ node_count net.now + 1 }
     requires low { (v : ℕ) → IsNode (node_count net.now) v → 1 ≤ label_of tree.now v }
     requires apart { (u v : ℕ) → IsNode (node_count net.now) u → IsNode (node_count net.now) v → label_of tree.now u ≡ label_of tree.now v → u ≡ v }
     requires widths { (v : ℕ) → IsNode (node_count net.now) v → label_of tree.now v ≤ length net.now.arcs
-        → pos ((slice_index_or rooms.now v no_rooms).up + (slice_index_or rooms.now v no_rooms).down) ≡ (arc_at net.now (label_of tree.now v)).cap }
+        → pos ((slice_index_or residuals.now v no_residuals).up + (slice_index_or residuals.now v no_residuals).down) ≡ (arc_at net.now (label_of tree.now v)).cap }
     ensures net { state.new.net ≡ net.now }
     ensures valid { IsPseudoflow state.new }
     ensures inside { (v : ℕ) → IsNode (node_count net.now) v → label_of tree.now v ≤ length net.now.arcs → amount_at state.new (label_of tree.now v)
-        ≡ (if (arc_at net.now (label_of tree.now v)).src == v then pos (slice_index_or rooms.now v no_rooms).down
-        else pos (slice_index_or rooms.now v no_rooms).up) }
+        ≡ (if (arc_at net.now (label_of tree.now v)).src == v then pos (slice_index_or residuals.now v no_residuals).down
+        else pos (slice_index_or residuals.now v no_residuals).up) }
     ensures outside { (k : ℕ) → IsArcNumber net.now k → ((v : ℕ) → IsNode (node_count net.now) v → label_of tree.now v ≢ k)
         → amount_at state.new k ≡ amount_at state.old k }
 {
@@ -157,12 +157,18 @@ fn write_tree(net: &Net, tree: &Tree, rooms: &[Rooms], state: &mut State<'_>)
     let _net = state.net();
     for i in 0..net.node_count() {
         let v = NodeId::at(i);
-        write_inside(net, tree.parent_arc(v), v, rooms[v.get() as usize], state);
+        write_inside(
+            net,
+            tree.parent_arc(v),
+            v,
+            residuals[v.get() as usize],
+            state,
+        );
     }
 }
 
 // Writes what an arc of the tree carries, if it is an arc of the net: what can go back from its head, where `v` is the node below it.
-fn write_inside(net: &Net, k: ArcId, v: NodeId, room: Rooms, state: &mut State<'_>)
+fn write_inside(net: &Net, k: ArcId, v: NodeId, room: Residuals, state: &mut State<'_>)
     requires net { state.old.net ≡ net.now }
     requires low { 1 ≤ k }
     requires width { k ≤ length net.now.arcs → pos (room.up + room.down) ≡ (arc_at net.now k).cap }

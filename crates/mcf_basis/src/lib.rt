@@ -21,7 +21,7 @@ mod price;
 mod price_table;
 mod push;
 mod reprice;
-mod rooms;
+mod residuals;
 mod starting;
 
 pub use basis::Basis;

@@ -20,7 +20,7 @@ use crate::exchange::{exchange, keep};
 use crate::offer::Offer;
 use crate::price_table::PriceTable;
 use crate::push::push;
-use crate::rooms::Rooms;
+use crate::residuals::Residuals;
 use mcf_network::Net;
 use mcf_text::{ArcId, NodeId};
 use mcf_tree::Tree;
@@ -51,12 +51,12 @@ impl<'n> Basis<'n> {
         self.pivots.add_one();
         let offer = self.offers[k.place()];
         let reduced = reduced_of(&self.table, offer);
-        let climb = Climb::of(&self.tree, &self.rooms, offer.from, offer.to);
+        let climb = Climb::of(&self.tree, &self.residuals, offer.from, offer.to);
         let cycle = climb.cycle(k, self.net.width(k) as u64, reduced, offer);
         push(
             self.net,
             &self.tree,
-            &mut self.rooms,
+            &mut self.residuals,
             &mut self.artificial,
             &cycle,
         );
@@ -64,7 +64,7 @@ impl<'n> Basis<'n> {
             self.net,
             &mut self.tree,
             &mut self.offers,
-            &mut self.rooms,
+            &mut self.residuals,
             &mut self.table,
             &cycle,
         );
@@ -101,16 +101,16 @@ fn replace(
     net: &Net,
     tree: &mut Tree,
     offers: &mut [Offer],
-    rooms: &mut [Rooms],
+    residuals: &mut [Residuals],
     table: &mut PriceTable,
     cycle: &Cycle,
 )
-    requires { CanReplace net.now tree.old offers.old rooms.old table.old cycle.now }
-    ensures { IsReplaced net.now tree.old tree.new offers.old offers.new rooms.old rooms.new table.old table.new cycle.now }
+    requires { CanReplace net.now tree.old offers.old residuals.old table.old cycle.now }
+    ensures { IsReplaced net.now tree.old tree.new offers.old offers.new residuals.old residuals.new table.old table.new cycle.now }
 {
     match cycle.leaving {
         Leaving::Entering => keep(offers, cycle.arc),
-        Leaving::Down => exchange(net, tree, offers, rooms, table, cycle),
-        Leaving::Up => exchange(net, tree, offers, rooms, table, cycle),
+        Leaving::Down => exchange(net, tree, offers, residuals, table, cycle),
+        Leaving::Up => exchange(net, tree, offers, residuals, table, cycle),
     }
 }

@@ -6,7 +6,7 @@ ghost use Rattle.mcf_flows.specs.WellFormed.{weight};
 ghost use Rattle.mcf_network.specs.Nets.{IsNet};
 ghost use Rattle.mcf_network.specs.Residual.{arc_at};
 ghost use Rattle.mcf_basis.specs.Artificial.{artificial_cost, is_sender};
-ghost use Rattle.mcf_basis.specs.Private.Layouts.{IsStarTable, artificial_rooms, forward_offer, no_offer, no_rooms, room_limit};
+ghost use Rattle.mcf_basis.specs.Private.Layouts.{IsStarTable, artificial_residuals, forward_offer, no_offer, no_residuals, room_limit};
 ghost use Rattle.mcf_basis.specs.Ranks.{greatest_cost, price_reach};
 ghost use Rattle.mcf_basis.specs.Starts.{IsStart, start_prices};
 
@@ -14,7 +14,7 @@ use crate::basis::Basis;
 use crate::offer::Offer;
 use crate::price::Price;
 use crate::price_table::PriceTable;
-use crate::rooms::Rooms;
+use crate::residuals::Residuals;
 use mcf_counts::Count;
 use mcf_network::Net;
 use mcf_text::{ArcId, NoMemory, NodeId};
@@ -38,14 +38,14 @@ impl<'n> Basis<'n> {
     {
         let tree = Tree::star(alloc, net.node_count(), net.arc_count())?;
         let offers = star_offers(alloc, net)?;
-        let rooms = star_rooms(alloc, net)?;
+        let residuals = star_residuals(alloc, net)?;
         let artificial = star_amounts(alloc, net)?;
         let table = star_table(alloc, net, artificial_cost(net))?;
         Ok(Basis {
             net,
             tree,
             offers,
-            rooms,
+            residuals,
             artificial,
             table,
             pivots: Count::zero(),
@@ -87,32 +87,32 @@ fn star_offer(net: &Net, k: ArcId) -> Offer
     }
 }
 
-// The rooms of the artificial arcs, each of which carries what its node sends or takes, behind those of the root.
-fn star_rooms(alloc: Global, net: &Net) -> Result<Vec<Rooms>, NoMemory>
-    ensures { IfOk result (λ made. made.items ≡ no_rooms
-        ∷ map (λ v. artificial_rooms (is_sender net.now v) (unsigned_abs (at_node net.now.supplies v))) (range_with_len 1 (node_count net.now))) }
+// The residuals of the artificial arcs, each of which carries what its node sends or takes, behind those of the root.
+fn star_residuals(alloc: Global, net: &Net) -> Result<Vec<Residuals>, NoMemory>
+    ensures { IfOk result (λ made. made.items ≡ no_residuals
+        ∷ map (λ v. artificial_residuals (is_sender net.now v) (unsigned_abs (at_node net.now.supplies v))) (range_with_len 1 (node_count net.now))) }
 {
     let count = net.node_count();
     let mut made = Vec::with_capacity(alloc, count as usize + 1)?;
-    made.push(Rooms { up: 0, down: 0 })?;
+    made.push(Residuals { up: 0, down: 0 })?;
     for i in 0..count {
-        made.push(star_room(net.supply(NodeId::at(i))))?;
+        made.push(star_residual(net.supply(NodeId::at(i))))?;
     }
     Ok(made)
 }
 
-// The rooms of the artificial arc of a node with this supply, all of which it carries.
-fn star_room(supply: i128) -> Rooms
-    ensures { result ≡ artificial_rooms (int_le (pos 0) supply) (unsigned_abs supply) }
+// The residuals of the artificial arc of a node with this supply, all of which it carries.
+fn star_residual(supply: i128) -> Residuals
+    ensures { result ≡ artificial_residuals (int_le (pos 0) supply) (unsigned_abs supply) }
 {
     let back = capped(supply.unsigned_abs());
     if 0 <= supply {
-        Rooms {
+        Residuals {
             up: u64::MAX,
             down: back,
         }
     } else {
-        Rooms {
+        Residuals {
             up: back,
             down: u64::MAX,
         }

@@ -13,20 +13,20 @@ use Rattle.mcf_basis.specs.Pivots.{IsEligible}
 use Rattle.mcf_basis.specs.Private.Climbs.{laid}
 use Rattle.mcf_basis.specs.Steps.{moved_by}
 use Rattle.mcf_basis.proofs.Pivoted.{cost_small, cycle_found, from_in_table, from_in_tree, from_small, number, offer_read, push_ready, reduced_is}
-use Rattle.mcf_basis.proofs.Pivoted.{replace_ready, rooms_sized, same_falls, same_laid_out, same_pivot, to_in_table, to_in_tree, to_small, turned}
+use Rattle.mcf_basis.proofs.Pivoted.{replace_ready, residuals_sized, same_falls, same_laid_out, same_pivot, to_in_table, to_in_tree, to_small, turned}
 use Rattle.mcf_basis.proofs.basis.Basis.pivot.Goals as goal
 
 pub index-offer-requires : goal.index-offer-requires
 index-offer-requires c =
     let inside = c.self.inside in
-    let l = laid inside.net.now inside.tree inside.offers.items inside.rooms.items inside.artificial.items inside.table inside.pivots.number in
+    let l = laid inside.net.now inside.tree inside.offers.items inside.residuals.items inside.artificial.items inside.table inside.pivots.number in
     let el = subst (λ b. IsEligible b c.args.k) (sym c.self.view_is) c.requires in
     (let n = number l c.args.k c.self.invariant el in let size = c.self.invariant.offers_size in omega (arith, size, n, c.place.ensures))
 
 pub reduced_of-reduced-requires-clause-from : goal.reduced_of-reduced-requires-clause-from
 reduced_of-reduced-requires-clause-from c =
     let inside = c.self.inside in
-    let l = laid inside.net.now inside.tree inside.offers.items inside.rooms.items inside.artificial.items inside.table inside.pivots.number in
+    let l = laid inside.net.now inside.tree inside.offers.items inside.residuals.items inside.artificial.items inside.table inside.pivots.number in
     let el = subst (λ b. IsEligible b c.args.k) (sym c.self.view_is) c.requires in
     let o : Offer = c.index-offer.result.now in
     let is = offer_read l c.args.k c.self.invariant el o c.place.result c.place.ensures c.index-offer.ensures in
@@ -35,7 +35,7 @@ reduced_of-reduced-requires-clause-from c =
 pub reduced_of-reduced-requires-clause-to : goal.reduced_of-reduced-requires-clause-to
 reduced_of-reduced-requires-clause-to c =
     let inside = c.self.inside in
-    let l = laid inside.net.now inside.tree inside.offers.items inside.rooms.items inside.artificial.items inside.table inside.pivots.number in
+    let l = laid inside.net.now inside.tree inside.offers.items inside.residuals.items inside.artificial.items inside.table inside.pivots.number in
     let el = subst (λ b. IsEligible b c.args.k) (sym c.self.view_is) c.requires in
     let o : Offer = c.index-offer.result.now in
     let is = offer_read l c.args.k c.self.invariant el o c.place.result c.place.ensures c.index-offer.ensures in
@@ -44,7 +44,7 @@ reduced_of-reduced-requires-clause-to c =
 pub reduced_of-reduced-requires-clause-cost : goal.reduced_of-reduced-requires-clause-cost
 reduced_of-reduced-requires-clause-cost c =
     let inside = c.self.inside in
-    let l = laid inside.net.now inside.tree inside.offers.items inside.rooms.items inside.artificial.items inside.table inside.pivots.number in
+    let l = laid inside.net.now inside.tree inside.offers.items inside.residuals.items inside.artificial.items inside.table inside.pivots.number in
     let el = subst (λ b. IsEligible b c.args.k) (sym c.self.view_is) c.requires in
     let o : Offer = c.index-offer.result.now in
     let is = offer_read l c.args.k c.self.invariant el o c.place.result c.place.ensures c.index-offer.ensures in
@@ -53,7 +53,7 @@ reduced_of-reduced-requires-clause-cost c =
 pub reduced_of-reduced-requires-clause-from_small : goal.reduced_of-reduced-requires-clause-from_small
 reduced_of-reduced-requires-clause-from_small c =
     let inside = c.self.inside in
-    let l = laid inside.net.now inside.tree inside.offers.items inside.rooms.items inside.artificial.items inside.table inside.pivots.number in
+    let l = laid inside.net.now inside.tree inside.offers.items inside.residuals.items inside.artificial.items inside.table inside.pivots.number in
     let el = subst (λ b. IsEligible b c.args.k) (sym c.self.view_is) c.requires in
     let o : Offer = c.index-offer.result.now in
     let is = offer_read l c.args.k c.self.invariant el o c.place.result c.place.ensures c.index-offer.ensures in
@@ -62,7 +62,7 @@ reduced_of-reduced-requires-clause-from_small c =
 pub reduced_of-reduced-requires-clause-to_small : goal.reduced_of-reduced-requires-clause-to_small
 reduced_of-reduced-requires-clause-to_small c =
     let inside = c.self.inside in
-    let l = laid inside.net.now inside.tree inside.offers.items inside.rooms.items inside.artificial.items inside.table inside.pivots.number in
+    let l = laid inside.net.now inside.tree inside.offers.items inside.residuals.items inside.artificial.items inside.table inside.pivots.number in
     let el = subst (λ b. IsEligible b c.args.k) (sym c.self.view_is) c.requires in
     let o : Offer = c.index-offer.result.now in
     let is = offer_read l c.args.k c.self.invariant el o c.place.result c.place.ensures c.index-offer.ensures in
@@ -71,14 +71,14 @@ reduced_of-reduced-requires-clause-to_small c =
 pub of-climb-requires-clause-sized : goal.of-climb-requires-clause-sized
 of-climb-requires-clause-sized c =
     let inside = c.self.inside in
-    let l = laid inside.net.now inside.tree inside.offers.items inside.rooms.items inside.artificial.items inside.table inside.pivots.number in
+    let l = laid inside.net.now inside.tree inside.offers.items inside.residuals.items inside.artificial.items inside.table inside.pivots.number in
     let el = subst (λ b. IsEligible b c.args.k) (sym c.self.view_is) c.requires in
-    rw c.deref.ensures.value (rooms_sized l c.args.k c.self.invariant el)
+    rw c.deref.ensures.value (residuals_sized l c.args.k c.self.invariant el)
 
 pub of-climb-requires-clause-left : goal.of-climb-requires-clause-left
 of-climb-requires-clause-left c =
     let inside = c.self.inside in
-    let l = laid inside.net.now inside.tree inside.offers.items inside.rooms.items inside.artificial.items inside.table inside.pivots.number in
+    let l = laid inside.net.now inside.tree inside.offers.items inside.residuals.items inside.artificial.items inside.table inside.pivots.number in
     let el = subst (λ b. IsEligible b c.args.k) (sym c.self.view_is) c.requires in
     let o : Offer = c.index-offer.result.now in
     let is = offer_read l c.args.k c.self.invariant el o c.place.result c.place.ensures c.index-offer.ensures in
@@ -87,7 +87,7 @@ of-climb-requires-clause-left c =
 pub of-climb-requires-clause-right : goal.of-climb-requires-clause-right
 of-climb-requires-clause-right c =
     let inside = c.self.inside in
-    let l = laid inside.net.now inside.tree inside.offers.items inside.rooms.items inside.artificial.items inside.table inside.pivots.number in
+    let l = laid inside.net.now inside.tree inside.offers.items inside.residuals.items inside.artificial.items inside.table inside.pivots.number in
     let el = subst (λ b. IsEligible b c.args.k) (sym c.self.view_is) c.requires in
     let o : Offer = c.index-offer.result.now in
     let is = offer_read l c.args.k c.self.invariant el o c.place.result c.place.ensures c.index-offer.ensures in
@@ -96,14 +96,14 @@ of-climb-requires-clause-right c =
 pub width-requires : goal.width-requires
 width-requires c =
     let inside = c.self.inside in
-    let l = laid inside.net.now inside.tree inside.offers.items inside.rooms.items inside.artificial.items inside.table inside.pivots.number in
+    let l = laid inside.net.now inside.tree inside.offers.items inside.residuals.items inside.artificial.items inside.table inside.pivots.number in
     let el = subst (λ b. IsEligible b c.args.k) (sym c.self.view_is) c.requires in
     number l c.args.k c.self.invariant el
 
 pub overflow_cast-width : goal.overflow_cast-width
 overflow_cast-width c =
     let inside = c.self.inside in
-    let l = laid inside.net.now inside.tree inside.offers.items inside.rooms.items inside.artificial.items inside.table inside.pivots.number in
+    let l = laid inside.net.now inside.tree inside.offers.items inside.residuals.items inside.artificial.items inside.table inside.pivots.number in
     let el = subst (λ b. IsEligible b c.args.k) (sym c.self.view_is) c.requires in
     let width : to_z w128 (of_z w128 c.width.result) ≡ c.width.result = search (rules, to_z-of_z) in
     let arc : IsNetArc (arc_at inside.net.now c.args.k) = net_arc_at inside.net.now c.args.k c.width.ensures.of_net (number l c.args.k c.self.invariant el) in
@@ -114,7 +114,7 @@ overflow_cast-width c =
 pub push-requires : goal.push-requires
 push-requires c =
     let inside = c.self.inside in
-    let l = laid inside.net.now inside.tree inside.offers.items inside.rooms.items inside.artificial.items inside.table inside.pivots.number in
+    let l = laid inside.net.now inside.tree inside.offers.items inside.residuals.items inside.artificial.items inside.table inside.pivots.number in
     let el = subst (λ b. IsEligible b c.args.k) (sym c.self.view_is) c.requires in
     let o : Offer = c.index-offer.result.now in
     let is = offer_read l c.args.k c.self.invariant el o c.place.result c.place.ensures c.index-offer.ensures in
@@ -128,7 +128,7 @@ push-requires c =
 pub replace-requires : goal.replace-requires
 replace-requires c =
     let inside = c.self.inside in
-    let l = laid inside.net.now inside.tree inside.offers.items inside.rooms.items inside.artificial.items inside.table inside.pivots.number in
+    let l = laid inside.net.now inside.tree inside.offers.items inside.residuals.items inside.artificial.items inside.table inside.pivots.number in
     let el = subst (λ b. IsEligible b c.args.k) (sym c.self.view_is) c.requires in
     let o : Offer = c.index-offer.result.now in
     let is = offer_read l c.args.k c.self.invariant el o c.place.result c.place.ensures c.index-offer.ensures in
@@ -139,14 +139,14 @@ replace-requires c =
     c.cycle-cycle.ensures.from c.cycle-cycle.ensures.to c.cycle-cycle.ensures.apex c.cycle-cycle.ensures.chosen in
     let back : to_z w128 (of_z w128 c.reduced_of-reduced.result) ≡ c.reduced_of-reduced.result = search (rules, to_z-of_z) in
     let reduced = c.cycle-cycle.ensures.reduced ∙ (back ∙ (c.reduced_of-reduced.ensures ∙ reduced_is l c.args.k c.self.invariant el o is)) in
-    let pushed = c.deref_mut-4.ensures.value ∙ with_items_is inside.rooms c.push.new.rooms (search rules) in
-    rw (c.deref_mut-3.ensures.value, pushed) (replace_ready l c.args.k c.self.invariant el f round c.push.new.rooms
-    (c.push.ensures.rooms_size ∙ ap length c.deref_mut.ensures.value) reduced)
+    let pushed = c.deref_mut-4.ensures.value ∙ with_items_is inside.residuals c.push.new.residuals (search rules) in
+    rw (c.deref_mut-3.ensures.value, pushed) (replace_ready l c.args.k c.self.invariant el f round c.push.new.residuals
+    (c.push.ensures.residuals_size ∙ ap length c.deref_mut.ensures.value) reduced)
 
 pub invariant_of-self : goal.invariant_of-self
 invariant_of-self c =
     let inside = c.self.inside in
-    let l = laid inside.net.now inside.tree inside.offers.items inside.rooms.items inside.artificial.items inside.table inside.pivots.number in
+    let l = laid inside.net.now inside.tree inside.offers.items inside.residuals.items inside.artificial.items inside.table inside.pivots.number in
     let el = subst (λ b. IsEligible b c.args.k) (sym c.self.view_is) c.requires in
     let o : Offer = c.index-offer.result.now in
     let is = offer_read l c.args.k c.self.invariant el o c.place.result c.place.ensures c.index-offer.ensures in
@@ -157,20 +157,20 @@ invariant_of-self c =
     c.cycle-cycle.ensures.from c.cycle-cycle.ensures.to c.cycle-cycle.ensures.apex c.cycle-cycle.ensures.chosen in
     let back : to_z w128 (of_z w128 c.reduced_of-reduced.result) ≡ c.reduced_of-reduced.result = search (rules, to_z-of_z) in
     let reduced = c.cycle-cycle.ensures.reduced ∙ (back ∙ (c.reduced_of-reduced.ensures ∙ reduced_is l c.args.k c.self.invariant el o is)) in
-    let pushed = c.deref_mut-4.ensures.value ∙ with_items_is inside.rooms c.push.new.rooms (search rules) in
+    let pushed = c.deref_mut-4.ensures.value ∙ with_items_is inside.residuals c.push.new.residuals (search rules) in
     let new = c.replace.new in
-    let done = turned l c.args.k c.self.invariant el f round new.tree new.offers c.push.new.rooms new.rooms c.push.new.artificial new.table
+    let done = turned l c.args.k c.self.invariant el f round new.tree new.offers c.push.new.residuals new.residuals c.push.new.artificial new.table
     c.add_one.new.self.number c.add_one.ensures reduced (rw (c.deref_mut.ensures.value, c.deref_mut-2.ensures.value) at c.push.ensures)
     (rw (c.deref_mut-3.ensures.value, pushed) at c.replace.ensures) in
     let offers = with_items_is inside.offers new.offers (search rules) in
-    let rooms = with_items_is (with_items inside.rooms c.push.new.rooms) new.rooms (search rules) in
+    let residuals = with_items_is (with_items inside.residuals c.push.new.residuals) new.residuals (search rules) in
     let artificial = with_items_is inside.artificial c.push.new.artificial (search rules) in
-    same_laid_out _ _ new.offers _ new.rooms _ c.push.new.artificial _ _ _ offers rooms artificial done.laid_out
+    same_laid_out _ _ new.offers _ new.residuals _ c.push.new.artificial _ _ _ offers residuals artificial done.laid_out
 
 pub returns-clause-basis : goal.returns-clause-basis
 returns-clause-basis c =
     let inside = c.self.inside in
-    let l = laid inside.net.now inside.tree inside.offers.items inside.rooms.items inside.artificial.items inside.table inside.pivots.number in
+    let l = laid inside.net.now inside.tree inside.offers.items inside.residuals.items inside.artificial.items inside.table inside.pivots.number in
     let el = subst (λ b. IsEligible b c.args.k) (sym c.self.view_is) c.requires in
     let o : Offer = c.index-offer.result.now in
     let is = offer_read l c.args.k c.self.invariant el o c.place.result c.place.ensures c.index-offer.ensures in
@@ -181,20 +181,20 @@ returns-clause-basis c =
     c.cycle-cycle.ensures.from c.cycle-cycle.ensures.to c.cycle-cycle.ensures.apex c.cycle-cycle.ensures.chosen in
     let back : to_z w128 (of_z w128 c.reduced_of-reduced.result) ≡ c.reduced_of-reduced.result = search (rules, to_z-of_z) in
     let reduced = c.cycle-cycle.ensures.reduced ∙ (back ∙ (c.reduced_of-reduced.ensures ∙ reduced_is l c.args.k c.self.invariant el o is)) in
-    let pushed = c.deref_mut-4.ensures.value ∙ with_items_is inside.rooms c.push.new.rooms (search rules) in
+    let pushed = c.deref_mut-4.ensures.value ∙ with_items_is inside.residuals c.push.new.residuals (search rules) in
     let new = c.replace.new in
-    let done = turned l c.args.k c.self.invariant el f round new.tree new.offers c.push.new.rooms new.rooms c.push.new.artificial new.table
+    let done = turned l c.args.k c.self.invariant el f round new.tree new.offers c.push.new.residuals new.residuals c.push.new.artificial new.table
     c.add_one.new.self.number c.add_one.ensures reduced (rw (c.deref_mut.ensures.value, c.deref_mut-2.ensures.value) at c.push.ensures)
     (rw (c.deref_mut-3.ensures.value, pushed) at c.replace.ensures) in
     let offers = with_items_is inside.offers new.offers (search rules) in
-    let rooms = with_items_is (with_items inside.rooms c.push.new.rooms) new.rooms (search rules) in
+    let residuals = with_items_is (with_items inside.residuals c.push.new.residuals) new.residuals (search rules) in
     let artificial = with_items_is inside.artificial c.push.new.artificial (search rules) in
-    (same_laid_out _ _ new.offers _ new.rooms _ c.push.new.artificial _ _ _ offers rooms artificial done.laid_out).basis
+    (same_laid_out _ _ new.offers _ new.residuals _ c.push.new.artificial _ _ _ offers residuals artificial done.laid_out).basis
 
 pub returns-clause-step : goal.returns-clause-step
 returns-clause-step c =
     let inside = c.self.inside in
-    let l = laid inside.net.now inside.tree inside.offers.items inside.rooms.items inside.artificial.items inside.table inside.pivots.number in
+    let l = laid inside.net.now inside.tree inside.offers.items inside.residuals.items inside.artificial.items inside.table inside.pivots.number in
     let el = subst (λ b. IsEligible b c.args.k) (sym c.self.view_is) c.requires in
     let o : Offer = c.index-offer.result.now in
     let is = offer_read l c.args.k c.self.invariant el o c.place.result c.place.ensures c.index-offer.ensures in
@@ -205,21 +205,21 @@ returns-clause-step c =
     c.cycle-cycle.ensures.from c.cycle-cycle.ensures.to c.cycle-cycle.ensures.apex c.cycle-cycle.ensures.chosen in
     let back : to_z w128 (of_z w128 c.reduced_of-reduced.result) ≡ c.reduced_of-reduced.result = search (rules, to_z-of_z) in
     let reduced = c.cycle-cycle.ensures.reduced ∙ (back ∙ (c.reduced_of-reduced.ensures ∙ reduced_is l c.args.k c.self.invariant el o is)) in
-    let pushed = c.deref_mut-4.ensures.value ∙ with_items_is inside.rooms c.push.new.rooms (search rules) in
+    let pushed = c.deref_mut-4.ensures.value ∙ with_items_is inside.residuals c.push.new.residuals (search rules) in
     let new = c.replace.new in
-    let done = turned l c.args.k c.self.invariant el f round new.tree new.offers c.push.new.rooms new.rooms c.push.new.artificial new.table
+    let done = turned l c.args.k c.self.invariant el f round new.tree new.offers c.push.new.residuals new.residuals c.push.new.artificial new.table
     c.add_one.new.self.number c.add_one.ensures reduced (rw (c.deref_mut.ensures.value, c.deref_mut-2.ensures.value) at c.push.ensures)
     (rw (c.deref_mut-3.ensures.value, pushed) at c.replace.ensures) in
     let offers = with_items_is inside.offers new.offers (search rules) in
-    let rooms = with_items_is (with_items inside.rooms c.push.new.rooms) new.rooms (search rules) in
+    let residuals = with_items_is (with_items inside.residuals c.push.new.residuals) new.residuals (search rules) in
     let artificial = with_items_is inside.artificial c.push.new.artificial (search rules) in
-    same_pivot c.args.self.now l inside.net.now new.tree new.offers _ new.rooms _ c.push.new.artificial _ new.table c.add_one.new.self.number c.args.k f.amount
-    (moved_by c.step_of.result) c.self.view_is offers rooms artificial c.step_of.ensures.value done.pivot
+    same_pivot c.args.self.now l inside.net.now new.tree new.offers _ new.residuals _ c.push.new.artificial _ new.table c.add_one.new.self.number c.args.k f.amount
+    (moved_by c.step_of.result) c.self.view_is offers residuals artificial c.step_of.ensures.value done.pivot
 
 pub returns-clause-falls : goal.returns-clause-falls
 returns-clause-falls c =
     let inside = c.self.inside in
-    let l = laid inside.net.now inside.tree inside.offers.items inside.rooms.items inside.artificial.items inside.table inside.pivots.number in
+    let l = laid inside.net.now inside.tree inside.offers.items inside.residuals.items inside.artificial.items inside.table inside.pivots.number in
     let el = subst (λ b. IsEligible b c.args.k) (sym c.self.view_is) c.requires in
     let o : Offer = c.index-offer.result.now in
     let is = offer_read l c.args.k c.self.invariant el o c.place.result c.place.ensures c.index-offer.ensures in
@@ -230,13 +230,13 @@ returns-clause-falls c =
     c.cycle-cycle.ensures.from c.cycle-cycle.ensures.to c.cycle-cycle.ensures.apex c.cycle-cycle.ensures.chosen in
     let back : to_z w128 (of_z w128 c.reduced_of-reduced.result) ≡ c.reduced_of-reduced.result = search (rules, to_z-of_z) in
     let reduced = c.cycle-cycle.ensures.reduced ∙ (back ∙ (c.reduced_of-reduced.ensures ∙ reduced_is l c.args.k c.self.invariant el o is)) in
-    let pushed = c.deref_mut-4.ensures.value ∙ with_items_is inside.rooms c.push.new.rooms (search rules) in
+    let pushed = c.deref_mut-4.ensures.value ∙ with_items_is inside.residuals c.push.new.residuals (search rules) in
     let new = c.replace.new in
-    let done = turned l c.args.k c.self.invariant el f round new.tree new.offers c.push.new.rooms new.rooms c.push.new.artificial new.table
+    let done = turned l c.args.k c.self.invariant el f round new.tree new.offers c.push.new.residuals new.residuals c.push.new.artificial new.table
     c.add_one.new.self.number c.add_one.ensures reduced (rw (c.deref_mut.ensures.value, c.deref_mut-2.ensures.value) at c.push.ensures)
     (rw (c.deref_mut-3.ensures.value, pushed) at c.replace.ensures) in
     let offers = with_items_is inside.offers new.offers (search rules) in
-    let rooms = with_items_is (with_items inside.rooms c.push.new.rooms) new.rooms (search rules) in
+    let residuals = with_items_is (with_items inside.residuals c.push.new.residuals) new.residuals (search rules) in
     let artificial = with_items_is inside.artificial c.push.new.artificial (search rules) in
-    same_falls c.args.self.now l inside.net.now new.tree new.offers _ new.rooms _ c.push.new.artificial _ new.table c.add_one.new.self.number
-    c.self.view_is offers rooms artificial done.falls
+    same_falls c.args.self.now l inside.net.now new.tree new.offers _ new.residuals _ c.push.new.artificial _ new.table c.add_one.new.self.number
+    c.self.view_is offers residuals artificial done.falls

@@ -3,16 +3,16 @@ use Rattle.std.specs.Prelude.{int_le, pos, unsigned_abs}
 use mir.Syntax.{w128}
 use Rattle.std.proofs.lemmas.Int.{to_z-of_z}
 use Rattle.mcf_flows.specs.Network.{at_node}
-use Rattle.mcf_basis.specs.Private.Layouts.{artificial_rooms, no_rooms}
-use Rattle.mcf_basis.proofs.StartLayouts.{made_behind, star_rooms}
-use Rattle.mcf_basis.proofs.starting.star_rooms.Goals as goal
+use Rattle.mcf_basis.specs.Private.Layouts.{artificial_residuals, no_residuals}
+use Rattle.mcf_basis.proofs.StartLayouts.{made_behind, star_residuals}
+use Rattle.mcf_basis.proofs.starting.star_residuals.Goals as goal
 
 pub loop-i-preserved : goal.loop-i-preserved
 loop-i-preserved c =
     let g = c.args.net.now in
-    let pushed : c.push-in-loop-i.new.self.items ≡ c.loop-i.made.items ++ c.star_room.result ∷ [] = search rules in
+    let pushed : c.push-in-loop-i.new.self.items ≡ c.loop-i.made.items ++ c.star_residual.result ∷ [] = search rules in
     let read : to_z w128 (of_z w128 c.supply.result) ≡ c.supply.result = search (rules, to_z-of_z) in
     let supply : to_z w128 (of_z w128 c.supply.result) ≡ at_node g.supplies (c.loop-i.i + 1) =
     read ∙ (c.supply.ensures.value ∙ ap (at_node g.supplies) c.at.ensures) in
-    made_behind no_rooms (star_rooms g) c.loop-i.i c.loop-i.made.items c.push-in-loop-i.new.self.items c.star_room.result c.loop-i.invariant
-    (c.star_room.ensures ∙ ap (λ x. artificial_rooms (int_le (pos 0) x) (unsigned_abs x)) supply) pushed
+    made_behind no_residuals (star_residuals g) c.loop-i.i c.loop-i.made.items c.push-in-loop-i.new.self.items c.star_residual.result c.loop-i.invariant
+    (c.star_residual.ensures ∙ ap (λ x. artificial_residuals (int_le (pos 0) x) (unsigned_abs x)) supply) pushed
