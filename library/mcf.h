@@ -93,11 +93,11 @@ struct mcf_flow_problem {
     size_t arc_count;
 };
 
-/* Solves a flow problem. `flow` has room for a number for each arc, and `prices`
-   for one for each node. MCF_FLOW: the flow, the prices, and `told` the cost. MCF_BLOCKED: `prices` marks by 1 the nodes of a set
-   that must send or take (`told.code`) more than it can, and by 0 all others. MCF_REFUSED: `told` the first fault, exactly where
-   the arrays are beyond the limits: at most 1,000,000 nodes and 10,000,000 arcs; supplies and bounds at most 10^18 from 0, costs
-   10^15; low at most cap; and the sizes of cost times bound at most 10^36 in sum. From 2 to 5 both rooms are as they were. */
+/* Solves a flow problem. `flow` has room for a number for each arc, and `prices` for one for each node. MCF_FLOW: the flow, the
+   prices, and `told` the cost. MCF_BLOCKED: `prices` marks by 1 the nodes of a set that must send or take (`told.code`) more than
+   it can, and by 0 all others. MCF_REFUSED: `told` the first fault, where the arrays are beyond the limits: at most 1,000,000 nodes
+   and 10,000,000 arcs; ends from 1 to the number of nodes; supplies and bounds at most 10^18 from 0, costs 10^15; low at most cap;
+   and the sizes of cost times bound at most 10^36 in sum. From 2 to 5 both rooms are as they were. */
 uint32_t mcf_solve_arcs(const struct mcf_flow_problem *problem, const struct mcf_choice *choice, int64_t *flow, size_t flow_length,
                         int64_t *prices, size_t prices_length, struct mcf_verdict *told);
 

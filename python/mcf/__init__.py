@@ -1,8 +1,8 @@
 """Minimum-cost flow with proved answers.
 
 `solve` takes supplies and arcs, `linear_sum_assignment` a matrix, `SimpleMinCostFlow` has the shape of OR-tools' class, and `mcf.nx` takes
-the graphs of networkx. `solve_text` and `check_text` take texts in the DIMACS formats. Each answer is judged by the checker before it is
-shown, unless `check=False`.
+the graphs of networkx: each flow is judged by the checker before it is shown, unless `check=False`. `solve_text` and `check_text` take
+texts in the DIMACS formats.
 """
 from typing import Optional, Tuple
 
