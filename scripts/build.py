@@ -2,10 +2,11 @@
 """Proves the crates that the programs stand on, and builds the programs into bin/.
 
 Crates that don't stand on one another are proved at the same time, as many as processors and memory allow: first those below `mcfcheck`, so that
-it is soon there, then those with the longest chain above them. The first of all may take every processor, and the others run beside it at a lower
-priority. One line says which are at work and how many are left, and one that a program is ready, as soon as it is. A check keeps others out of its crate and of all below it, so that each has a
-copy of these to itself, by links, in bin/proofs/; what it keeps is then put where it belongs. `rt run` builds each program in such a copy and runs
-it on an example. It is the judge, and looks for itself at what has changed: where nothing has since the last time, nothing but it is called.
+it is soon there, then those with the longest chain above them. A check gets the processors that no other waits for, so that no two share one. One
+line says which are at work and how many are left, and one that a program is ready, as soon as it is. A check keeps others out of its crate and of
+all below it, so that each has a copy of these to itself, by links, in bin/proofs/; what it keeps is then put where it belongs. `rt run` builds
+each program in such a copy and runs it on an example. It is the judge, and looks for itself at what has changed: where nothing has since the last
+time, nothing but it is called.
 
 Usage: scripts/build.py [PROGRAM ..]      all programs that crates.txt lists, where none is named
 """
@@ -25,8 +26,8 @@ EXAMPLE = "../../examples/transport"
 WORDS = {"mcfcheck": [EXAMPLE + ".min", EXAMPLE + ".ans"], "mcf": ["solve", EXAMPLE + ".min"]}
 # What one check may take, in kilobytes.
 CHECK_MEMORY = 4 << 20
-# How much nicer a check is than the first of those at work.
-BESIDE = 5
+# How many processors one check may take.
+MOST_JOBS = 4
 
 
 def crates():
@@ -135,12 +136,12 @@ def copied(below, name):
     return copy / "crates" / name
 
 
-def begin(below, name, jobs, nicer):
+def begin(below, name, jobs):
     """Begins the proof of a crate; its log is in bin/. A library is built with it, so that no crate above has to build it again, and so is a program."""
     log = open(BIN / f"{name}.log", "w")
     words = ["rt", "run" if name in WORDS else "lib", "--jobs", str(jobs)] + (["--", *WORDS[name]] if name in WORDS else [])
     folder = copied(below, name)
-    return subprocess.Popen(words, cwd=folder, stdout=log, stderr=subprocess.STDOUT, preexec_fn=lambda: os.nice(nicer))
+    return subprocess.Popen(words, cwd=folder, stdout=log, stderr=subprocess.STDOUT)
 
 
 def end(name):
@@ -153,21 +154,22 @@ def prove(below, names, progress):
     """Proves crates, each after those on which it stands. Answers the crate that isn't proved, if there is one."""
     rank, left, running = ranks(below, names), set(names), {}
     room = places()
-    jobs = min(room, 8)
     while left or running:
         unproved = left | running.keys()
         ready = sorted((n for n in left if unproved.isdisjoint(below[n])), key=rank.get, reverse=True)
-        begins = ready[: room - len(running)]
-        for name in begins:
+        idle = room - sum(jobs for _, jobs in running.values())
+        begun = ready[:idle]
+        for place, name in enumerate(begun):
+            jobs = max(1, min(MOST_JOBS, idle // (len(ready) - place)))
+            running[name] = begin(below, name, jobs), jobs
             left.remove(name)
-            is_first = all(rank[other] <= rank[name] for other in running)
-            running[name] = begin(below, name, jobs if is_first else max(1, jobs // 2), 0 if is_first else BESIDE)
-        if begins:
+            idle -= jobs
+        if begun:
             progress.show(f"proving {', '.join(sorted(running))}; {len(left)} more wait")
         time.sleep(0.2)
-        for name in [n for n, p in running.items() if p.poll() is not None]:
-            if running.pop(name).returncode != 0:
-                for other in running.values():
+        for name in [n for n, (process, _) in running.items() if process.poll() is not None]:
+            if running.pop(name)[0].returncode != 0:
+                for other, _ in running.values():
                     other.terminate()
                 return name
             end(name)
