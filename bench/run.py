@@ -24,7 +24,7 @@ PART
             then the whole processes, `mcf` and a program by LEMON that read a file, solve it and write the answer
   solve     solves an instance in which nothing is worth moving, without the seconds of its engine, beside a
             program that reads, copies and writes the same
-  table     solves instances of all families and sizes by each engine, beside LEMON's network simplex and cost scaling and
+  table     solves instances of all families and sizes as the tools choose, beside LEMON's network simplex and cost scaling and
             dlib's assignment, as whole processes with the peak of their memory; prints a table, which no limit judges
   text      splits a text of lines into fields and reads each field as a number
   tree      swaps arcs of a spanning tree at random, in trees of rising size

@@ -10,7 +10,7 @@ from ._numbers import exact, limited, scale_of, unscaled
 
 BOUND, COST, NODE = 10 ** 18, 10 ** 15, 2 ** 32 - 2
 INFINITE = float("inf")
-# A flow problem of more nodes than this goes to the search that is judged: docs/BENCH.md, "Flow problems".
+# A flow problem of more nodes than this goes to the search that is judged: docs/BENCH.md, "What the tools choose".
 LARGE = 2 ** 15
 
 Number = Union[int, float]

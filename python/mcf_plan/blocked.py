@@ -32,7 +32,7 @@ class Blocked:
         instance, answer = folder / "instance.min", folder / "answer.ans"
         eased = self.eased.instance()
         instance.write_text(eased.text())
-        status = programs.solve(instance, answer, *programs.suited(eased))
+        status = programs.solve(instance, answer, *eased.options())
         programs.verdict(instance, answer)
         return bottlenecks_of(programs, instance, self.eased, self.eased.hub) if status == 1 else []
 

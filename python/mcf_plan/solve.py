@@ -22,9 +22,8 @@ REFUSALS = {
     "size": "more places or routes (persons, things or pairs) than mcf takes",
 }
 OTHER_SIDE = {"send": "take", "take": "send"}
-# A flow problem of more nodes than LARGE and at most SPARSE arcs a node goes to the search that is judged, and every
-# other instance to what `mcf` takes by default: docs/BENCH.md, "Flow problems".
-LARGE, SPARSE = 2**15, 64
+# A flow problem of more nodes than this goes to the search that is judged: docs/BENCH.md, "What the tools choose".
+LARGE = 2**15
 TOP = pathlib.Path(__file__).resolve().parents[2]
 
 
@@ -40,15 +39,19 @@ class Instance:
         self.origins += origins
         self.origins += [None] * (len(self.lines) - len(self.origins))
 
-    def engine(self):
-        """The engine that suits the size, or None: the one that `mcf` takes for it."""
-        _, problem, nodes, arcs = next(line for line in self.lines if line.startswith("p ")).split()
-        is_large = problem == "min" and int(nodes) > LARGE and int(arcs) <= SPARSE * int(nodes)
-        return "augment" if is_large else None
+    def options(self):
+        """The options of `mcf solve` that suit the size."""
+        _, problem, nodes, _ = next(line for line in self.lines if line.startswith("p ")).split()
+        return suited(problem, int(nodes))
 
     def text(self):
         """The whole text."""
         return "\n".join(self.lines) + "\n"
+
+
+def suited(problem, nodes):
+    """The options of `mcf solve` that suit a problem of so many nodes."""
+    return ["--engine", "augment"] if problem == "min" and nodes > LARGE else []
 
 
 class Programs:
@@ -95,18 +98,6 @@ class Programs:
             raise trouble(f"mcf solve gave no answer (status {status}): {said}")
         return status
 
-    def suited(self, instance):
-        """The options that suit the size of an instance: none where `mcf` is older than the engine."""
-        engine = instance.engine()
-        return ["--engine", engine] if engine and self.offers(engine) else []
-
-    def offers(self, engine):
-        """Whether the help of `mcf solve` names an engine."""
-        with tempfile.TemporaryFile() as output:
-            self.run([self.solver, "solve", "--help"], output)
-            output.seek(0)
-            return engine.encode() in output.read().split()
-
     def verdict(self, instance, answer):
         """The words of `mcfcheck` on an answer that it accepts; it ends the run where it doesn't."""
         with tempfile.TemporaryFile() as output, life.doing("mcfcheck judges the answer"):
@@ -143,7 +134,7 @@ def solve(programs, folder, instance):
     """The accepted plan of an instance, or None where no plan exists, which was accepted, too."""
     instance_path, answer_path = folder / instance.name, folder / "answer.ans"
     instance_path.write_text(instance.text())
-    status = programs.solve(instance_path, answer_path, *programs.suited(instance))
+    status = programs.solve(instance_path, answer_path, *instance.options())
     kind = programs.verdict(instance_path, answer_path)[0]
     if kind != KINDS[status]:
         raise Rejected(f"mcf ended with status {status}, and mcfcheck accepted a {kind}")

@@ -1,4 +1,5 @@
 """Programs that are missing, that fail, or that say what isn't so."""
+import re
 import shutil
 from unittest import mock
 
@@ -55,13 +56,13 @@ class Programs(WithFolder):
         self.assertEqual((status, said), (3, ""))
         self.assertIn("MCFCHECK SAYS NO: rejected node", told)
 
-    def words_for(self, large, told):
-        """The options that `mcf` is given for a plan of three places, where so many are not large, and this is its help."""
+    def words_for(self, large):
+        """The options that `mcf` is given for a plan of three places, where so many are not large."""
         words = self.folder / "words"
         words.unlink(missing_ok=True)
         script(
             self.folder / "mcf",
-            f"[ \"$2\" != --help ] || exec echo '{told}'\n[ $# = 2 ] || echo \"$2 $3\" >> '{words}'\n"
+            f"[ $# = 2 ] || echo \"$2 $3\" >> '{words}'\n"
             f"for file; do :; done; exec '{Found(None).solver}' solve \"$file\"",
         )
         shutil.copy(Found(None).checker, self.folder / "mcfcheck")
@@ -70,18 +71,20 @@ class Programs(WithFolder):
         return words.read_text() if words.exists() else ""
 
     def test_a_large_plan_goes_to_the_search_that_is_judged(self):
-        self.assertEqual(self.words_for(2, "  augment  a fast search"), "--engine augment\n")
-        self.assertEqual(self.words_for(2, "  scaling  cost scaling"), "")
-        self.assertEqual(self.words_for(3, "  augment  a fast search"), "")
+        self.assertEqual(self.words_for(2), "--engine augment\n")
+        self.assertEqual(self.words_for(3), "")
 
     def test_which_engine_suits_a_size(self):
-        for line, engine in (
-            (f"p min {2**15} {2**18}", None),
-            (f"p min {2**15 + 1} {2**18}", "augment"),
-            (f"p min {2**16} {2**22}", "augment"),
-            (f"p min {2**16} {2**22 + 1}", None),
-            (f"p asn {2**17} {2**18}", None),
+        for line, options in (
+            (f"p min {2**15} {2**18}", []),
+            (f"p min {2**15 + 1} {2**18}", ["--engine", "augment"]),
+            (f"p asn {2**17} {2**18}", []),
         ):
             instance = solve.Instance("min")
             instance.add(["c a remark", line])
-            self.assertEqual(instance.engine(), engine, line)
+            self.assertEqual(instance.options(), options, line)
+
+    def test_the_module_and_the_page_choose_by_the_same_size(self):
+        for path in ("python/mcf/_solving.py", "page/module.js"):
+            exponents = re.findall(r"LARGE = 2 \*\* (\d+)", (solve.TOP / path).read_text())
+            self.assertEqual([2 ** int(exponent) for exponent in exponents], [solve.LARGE], path)
