@@ -1,3 +1,4 @@
+pub mod Fits
 pub mod Judges
 pub mod Marks
 pub mod MadeOfArrays

@@ -1,23 +1,21 @@
 -- What a call for arrays hands out.
 -- Source: own
-use Rattle.std.specs.Prelude.{◌≡◌, ℕ, ◌≤◌, ◌⊎◌, Bool, List, ℤ, pos, FitsSigned, Some, if◌then◌else◌}
+use Rattle.std.specs.Prelude.{◌≡◌, ℕ, ◌≤◌, ◌⊎◌, Bool, List, length, ℤ, pos, FitsSigned, Some, if◌then◌else◌}
 use Rattle.std.specs.Int.{w64}
 use Rattle.std.specs.List.{All}
-use Rattle.std.specs.Ordering.{int_eq}
+use Rattle.mcf_answer.specs.BlockingSet.{BlockingSet, IsBlockingSet}
 use Rattle.mcf_answer.specs.Solution.{Solution}
 use Rattle.mcf_c.specs.Verdicts.{Tells, TellsFault, TellsSet}
 use Rattle.mcf_c.specs.declared.verdicts.McfVerdict.{McfVerdict}
-use Rattle.mcf_checker.specs.Correct.{IsRightFlow, amounts}
+use Rattle.mcf_checker.specs.Correct.{IsRightFlow}
 use Rattle.mcf_checker.specs.declared.verdict.Verdict.TheVariants.{Flow}
 use Rattle.mcf_instance.specs.Arrays.{array_fault}
-use Rattle.mcf_flows.specs.Blocking.{Blocks}
-use Rattle.mcf_flows.specs.Flow.{IsFeasible}
+use Rattle.mcf_flows.specs.Blocking.{in_list}
 use Rattle.mcf_flows.specs.Limits.{limits}
-use Rattle.mcf_flows.specs.Network.{Network, at_node, node_count}
+use Rattle.mcf_flows.specs.Network.{IsNode, Network, at_node, node_count}
 use Rattle.mcf_instance.specs.declared.arrays.ArrayFault.{ArrayFault}
 use Rattle.mcf_flows.specs.declared.problem.Problem.TheVariants.{Min}
-use Rattle.mcf_flows.specs.declared.problem.Side.{Side}
-use Rattle.mcf_solver.specs.Answering.{IsLeastFlow, IsLeastSolution}
+use Rattle.mcf_solver.specs.Answering.{IsLeastFlow, IsLeastSolution, IsNoFlowProof}
 use Rattle.mcf_solver.specs.Making.{IsMadeBy, StandsForMade, meant, suited}
 use Rattle.mcf_solver.specs.declared.choice.Choice.{Choice}
 use Rattle.mcf_solver.specs.declared.choice.EngineChoice.{EngineChoice}
@@ -38,31 +36,28 @@ IsMadeFlow choice g flow = StandsForMade (IsMadeBy choice) g flow
 abbrev pub in_one_form : Choice → Choice
 in_one_form c = record { engine = c.engine; pricing = c.pricing; block = c.block; form = One }
 
--- the nodes that are marked by 1
-abbrev pub marked : List ℤ → ℕ → Bool
-marked marks v = int_eq (at_node marks v) (pos 1)
-
 -- the mark of a node, by whether it is in a set
 abbrev pub mark_of : Bool → ℤ
 mark_of is_in = if is_in then pos 1 else pos 0
 
--- marks of a node set that blocks by a side, so that no flow is feasible
+-- a node set that blocks, so that no flow is feasible, by the mark of each node, its side and the number of its nodes
 pub record HandsSet (g : Network) (marks : List ℤ) (told : McfVerdict) : Type 0 where
-  pub side : Side
-  pub count : ℕ
-  pub blocks : Blocks g (marked marks) side
-  pub none : (flow : List ℤ) → ¬ IsFeasible g flow
-  pub tells : TellsSet side count told
+  pub set : BlockingSet
+  pub fits : IsBlockingSet set
+  pub owed : IsNoFlowProof g set
+  pub one_per_node : length marks ≡ node_count g
+  pub marked : (v : ℕ) → IsNode (node_count g) v → at_node marks v ≡ mark_of (in_list set.nodes v)
+  pub tells : TellsSet set.side (length set.nodes) told
 
 -- all numbers fit 64 bits
 abbrev pub FitWords : List ℤ → Type 0
 FitWords zs = All (FitsSigned w64) zs
 
--- a least flow with its prices, some number of which doesn't fit 64 bits
-pub record HasWideNumber (g : Network) : Type 0 where
+-- a least flow with its prices, some of which doesn't fit 64 bits
+pub record HasWidePrice (g : Network) : Type 0 where
   pub answer : Solution
   pub least : IsLeastSolution g answer
-  pub wide : ¬ (FitWords (amounts answer.sent) × FitWords answer.prices)
+  pub wide : ¬ FitWords answer.prices
 
 -- there are nodes, or the root of the simplex' start basis, to take memory for
 abbrev pub TakesMemory : EngineChoice → Network → Type 0

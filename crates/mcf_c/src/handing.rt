@@ -2,7 +2,7 @@
 ghost use Rattle.std.specs.Prelude.{◌≡◌, ◌≢◌, ◌≤◌, ◌<◌, ◌⊎◌, ◌↔◌, FitsSigned, IfOk, List, Ok, OnErr, length, map, set, true, false, ℤ, ℕ, pos};
 ghost use Rattle.std.specs.Int.{w64};
 ghost use Rattle.std.specs.List.{All};
-ghost use Rattle.mcf_c.specs.Handing.{FitWords, HandsFlow, HandsSet, HasWideNumber, IsMadeFlow, TakesMemory, in_one_form, mark_of, marked};
+ghost use Rattle.mcf_c.specs.Handing.{FitWords, HandsFlow, HandsSet, HasWidePrice, IsMadeFlow, TakesMemory, in_one_form, mark_of};
 ghost use Rattle.mcf_c.specs.Verdicts.{Tells, TellsSet};
 ghost use Rattle.mcf_checker.specs.Correct.{amounts};
 ghost use Rattle.mcf_flows.specs.Blocking.{in_list, in_table};
@@ -48,18 +48,15 @@ fn flow_of(sent: &Sent) -> i128
     sent.flow
 }
 
-// Writes what the arcs carry into a room for it, unless a number doesn't fit.
-fn put_flow(sent: &[Sent], room: &mut [i64]) -> bool
-    requires { length room.old ≡ length sent.now }
-    ensures written { result ≡ true → room.new ≡ amounts sent.now }
-    ensures wide { result ≡ false → ¬ FitWords (amounts sent.now) }
+// Writes what the arcs carry into a room for it.
+fn put_flow(sent: &[Sent], room: &mut [i64])
+    requires same { length room.old ≡ length sent.now }
+    requires fits { FitWords (amounts sent.now) }
+    ensures { room.new ≡ amounts sent.now }
 {
     for i in 0..sent.len() {
-        if !store(room, i, flow_of(&sent[i])) {
-            return false;
-        }
+        room[i] = flow_of(&sent[i]) as i64;
     }
-    true
 }
 
 // Writes prices into a room for them, unless one doesn't fit.
@@ -86,15 +83,14 @@ fn hand_flow(
 ) -> u32
     requires flow { length flow.old ≡ length answer.now.sent }
     requires prices { length prices.old ≡ length answer.now.prices }
+    requires fits { FitWords (amounts answer.now.sent) }
     ensures statuses { (result ≡ 0) ⊎ (result ≡ 6) }
     ensures flow { result ≡ 0 → flow.new ≡ amounts answer.now.sent }
     ensures prices { result ≡ 0 → prices.new ≡ answer.now.prices }
     ensures told { result ≡ 0 → Tells (Verdict.Flow answer.now.cost) told.new }
-    ensures wide { result ≡ 6 → ¬ (FitWords (amounts answer.now.sent) × FitWords answer.now.prices) }
+    ensures wide { result ≡ 6 → ¬ FitWords answer.now.prices }
 {
-    if !put_flow(answer.sent.as_slice(), flow) {
-        return WIDE;
-    }
+    put_flow(answer.sent.as_slice(), flow);
     if !put_prices(answer.prices.as_slice(), prices) {
         return WIDE;
     }
@@ -161,11 +157,12 @@ pub(crate) fn answer_instance(
     ensures made { result ≡ 0 → IsMadeFlow choice instance.now flow.new }
     ensures set { result ≡ 1 → HandsSet instance.now prices.new told.new }
     ensures memory { result ≡ 3 → TakesMemory choice.engine instance.now }
-    ensures wide { result ≡ 6 → HasWideNumber instance.now }
+    ensures wide { result ≡ 6 → HasWidePrice instance.now }
     ensures flow_stays { result ≡ 3 → flow.new ≡ flow.old }
     ensures prices_stay { result ≡ 3 → prices.new ≡ prices.old }
     ensures told_stays { result ≡ 3 → told.new ≡ told.old }
 {
+    prove!(instance.node_count() <= 1_000_000);
     let choice = in_one_form(choice);
     let Ok(answer) = solve_instance(alloc, instance, choice) else {
         return NO_MEMORY;

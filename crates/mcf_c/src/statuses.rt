@@ -24,5 +24,5 @@ pub(crate) const NO_ROOM: u32 = 4;
 /// The numbers mean no choice.
 pub(crate) const NO_CHOICE: u32 = 5;
 
-/// A flow or a price doesn't fit 64 bits.
+/// A price doesn't fit 64 bits.
 pub(crate) const WIDE: u32 = 6;
