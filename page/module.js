@@ -12,7 +12,7 @@ const CODES = [
 ];
 const ENGINES = ['auto', 'cancel', 'simplex', 'scaling', 'sap', 'augment'];
 // A flow problem of more nodes goes to the search that is judged, where no engine is asked: docs/BENCH.md, "What the tools choose".
-const LARGE = 2 ** 15;
+const LARGE = 2 ** 14;
 
 // The engine that suits a text by its size, where its beginning has the problem line.
 function suited(bytes) {

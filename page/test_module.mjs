@@ -78,7 +78,7 @@ function sized(expect, module) {
   Instance.prototype.solve = function heard(text, engine, ...words) { asked.push(engine); return solve.call(this, text, engine, ...words); };
   for (
     const [text, engine, wanted] of [
-      ['c p min 99999 0\np min 32768 0\n', 'auto', 'auto'], [' p  min\t32769 0\n', 'auto', 'augment'], ['p min 32769 0\n', 'scaling', 'scaling'],
+      ['c p min 99999 0\np min 16384 0\n', 'auto', 'auto'], [' p  min\t16385 0\n', 'auto', 'augment'], ['p min 16385 0\n', 'scaling', 'scaling'],
       ['p asn 40000 0\n', 'auto', 'auto'],
     ]
   ) {

@@ -11,7 +11,7 @@ from ._numbers import exact, limited, scale_of, unscaled
 BOUND, COST, NODE = 10 ** 18, 10 ** 15, 2 ** 32 - 2
 INFINITE = float("inf")
 # A flow problem of more nodes than this goes to the search that is judged: docs/BENCH.md, "What the tools choose".
-LARGE = 2 ** 15
+LARGE = 2 ** 14
 
 Number = Union[int, float]
 # The ends, low, cap and cost; a cap may be None where nothing is solved yet.

@@ -23,7 +23,7 @@ REFUSALS = {
 }
 OTHER_SIDE = {"send": "take", "take": "send"}
 # A flow problem of more nodes than this goes to the search that is judged: docs/BENCH.md, "What the tools choose".
-LARGE = 2**15
+LARGE = 2**14
 TOP = pathlib.Path(__file__).resolve().parents[2]
 
 

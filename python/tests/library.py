@@ -81,7 +81,7 @@ class Solving(unittest.TestCase):
                 mcf.solve([0], [], **options)
 
     def test_what_suits_a_size(self):
-        many, suited = 2 ** 15 + 1, mcf._solving.suited
+        many, suited = 2 ** 14 + 1, mcf._solving.suited
         for choice, engine, pricing, block in ((suited(many - 1), 0, 0, 0), (suited(many), 5, 0, 0), (suited(many, block=64), 0, 0, 64),
                                                (suited(many, "scaling", "first"), 3, 1, 0)):
             self.assertEqual((choice.engine, choice.pricing, choice.block), (engine, pricing, block))

@@ -76,8 +76,8 @@ class Programs(WithFolder):
 
     def test_which_engine_suits_a_size(self):
         for line, options in (
-            (f"p min {2**15} {2**18}", []),
-            (f"p min {2**15 + 1} {2**18}", ["--engine", "augment"]),
+            (f"p min {2**14} {2**17}", []),
+            (f"p min {2**14 + 1} {2**17}", ["--engine", "augment"]),
             (f"p asn {2**17} {2**18}", []),
         ):
             instance = solve.Instance("min")
