@@ -3,7 +3,9 @@
 //! Answers of minimum-cost flow: what the texts spell, written and parsed.
 //!
 //! It stands on `mcf_text` and `mcf_flows`. Definitions stand in `specs/`: `Spelling` says which lines
-//! are those of an answer, `Written` what is written, `Fits` and `Parsing` what a text stands for.
+//! are those of an answer, `Token`, `Said` and `Ranges` what one line says, `Written` what is written, `Fits` and
+//! `Parsing` what a text stands for, `Solution`, `SparseSolution` and `BlockingSet` what clauses see of answers, `Laws`
+//! what holds of answers and their texts.
 
 mod answers;
 mod draft;

@@ -167,7 +167,7 @@ impl<'n> Matching<'n> {
         self.mates[v.place()].arc > 0
     }
 
-    /// The nodes that the last search settled, none before the first: the row, by distance each matched column with its row, last the column of the path.
+    /// The nodes that the last search settled, each once, the row first; none before the first search.
     pub fn settled(&self) -> &[NodeId]
         ensures value { result.now ≡ self.now.settled }
         ensures shown { IsShownMatching self.now }

@@ -13,7 +13,7 @@ pub fn ranks_fall()
     ensures { RanksFall }
 {}
 
-/// And so does this number counted from below all such numbers of the net.
+/// That number, counted from below all such numbers of the net, falls with it, and is a natural number.
 pub fn ranks_count_down()
     ensures { RanksCountDown }
 {}

@@ -6,7 +6,7 @@ ghost use Rattle.mcf_flows.specs.WellFormed.{weight};
 ghost use Rattle.mcf_network.specs.Nets.{IsNet};
 ghost use Rattle.mcf_network.specs.Residual.{arc_at};
 ghost use Rattle.mcf_basis.specs.Artificial.{artificial_cost, is_sender};
-ghost use Rattle.mcf_basis.specs.Private.Layouts.{IsStarTable, artificial_residuals, forward_offer, no_offer, no_residuals, room_limit};
+ghost use Rattle.mcf_basis.specs.Private.Layouts.{IsStarTable, artificial_residuals, forward_offer, no_offer, no_residuals};
 ghost use Rattle.mcf_basis.specs.Ranks.{greatest_cost, price_reach};
 ghost use Rattle.mcf_basis.specs.Starts.{IsStart, start_prices};
 
@@ -14,7 +14,7 @@ use crate::basis::Basis;
 use crate::offer::Offer;
 use crate::price::Price;
 use crate::price_table::PriceTable;
-use crate::residuals::Residuals;
+use crate::residuals::{Residuals, artificial_residuals};
 use mcf_counts::Count;
 use mcf_network::Net;
 use mcf_text::{ArcId, NoMemory, NodeId};
@@ -96,38 +96,10 @@ fn star_residuals(alloc: Global, net: &Net) -> Result<Vec<Residuals>, NoMemory>
     let mut made = Vec::with_capacity(alloc, count as usize + 1)?;
     made.push(Residuals { up: 0, down: 0 })?;
     for i in 0..count {
-        made.push(star_residual(net.supply(NodeId::at(i))))?;
+        let supply = net.supply(NodeId::at(i));
+        made.push(artificial_residuals(0 <= supply, supply.unsigned_abs()))?;
     }
     Ok(made)
-}
-
-// The residuals of the artificial arc of a node with this supply, all of which it carries.
-fn star_residual(supply: i128) -> Residuals
-    ensures { result ≡ artificial_residuals (int_le (pos 0) supply) (unsigned_abs supply) }
-{
-    let back = capped(supply.unsigned_abs());
-    if 0 <= supply {
-        Residuals {
-            up: u64::MAX,
-            down: back,
-        }
-    } else {
-        Residuals {
-            up: back,
-            down: u64::MAX,
-        }
-    }
-}
-
-// An amount, or the greatest room that is reported.
-fn capped(amount: u128) -> u64
-    ensures { result ≡ min amount room_limit }
-{
-    if amount < u128::from(u64::MAX) {
-        amount as u64
-    } else {
-        u64::MAX
-    }
 }
 
 // What the artificial arcs carry, behind an entry for the root.

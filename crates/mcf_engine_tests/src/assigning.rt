@@ -345,7 +345,7 @@ fn three_engines_answer_with_one_cost(rt: HostRuntime) -> Result<(), Fail> {
     Ok(())
 }
 
-// Searches look at each arc so often that all prices are updated twice; the costs are those that LEMON's network simplex finds.
+// Rows are so short that all prices are updated from time to time; the costs are those that LEMON's network simplex finds.
 #[test]
 fn three_engines_agree_where_rows_are_short(rt: HostRuntime) -> Result<(), Fail> {
     for (size, cost) in [(60, 24_849), (200, 89_522)] {

@@ -35,7 +35,7 @@ pub enum Feas<'n> {
 /// where these are near it is found for three quarters of the nodes with a surplus, and the others are relabelled as they
 /// are visited. After each round a breadth-first search from the nodes with a surplus shows that none is left, or
 /// that none can leave the nodes reached, or finds an augmenting path (chapter 6). The time of a round is mostly
-/// linear in the nodes and arcs. The memory is linear in the nodes and arcs, and is taken before the first round.
+/// linear in the nodes and arcs, and so is the memory.
 ///
 /// # Errors
 ///

@@ -14,11 +14,11 @@ pub record Limits : Type 0 where
 abbrev pub total_limit : ℕ
 total_limit = 10 ^ 36
 
--- the limits of today
+-- how far from 0 numbers may lie, and how great their total may be
 abbrev pub limits : Limits
 limits = record { supply = 10 ^ 18; bound = 10 ^ 18; cost = 10 ^ 15; total = Some total_limit }
 
--- the limits before these: no total was looked at
+-- narrower limits, under which no total is looked at: what is an instance under them is one under the limits
 abbrev pub former_limits : Limits
 former_limits = record { supply = 10 ^ 15; bound = 10 ^ 15; cost = 10 ^ 12; total = None }
 

@@ -3,7 +3,8 @@
 //! What the texts of instances say, and what arrays say.
 //!
 //! It stands on `mcf_text` and `mcf_flows`, whose vocabulary it hands on. Definitions stand in `specs/`: `Fault` and `Reading`
-//! say what a text stands for, `Arrays` what arrays stand for.
+//! say what a text stands for, `Feeding` and `ReadOn` what a reader of pieces stands for, `Memory` where reading takes
+//! memory, `Arrays` what arrays stand for, `Laws` how wider limits keep instances.
 
 mod arrays;
 mod laws;

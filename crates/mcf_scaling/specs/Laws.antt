@@ -1,5 +1,5 @@
 -- Laws of cost scaling.
--- Source: AMO lemmas 10.2, 10.4; the measure own
+-- Source: AMO 10.3; the measure own
 use Rattle.std.specs.Prelude.{◌≡◌, ℕ, ◌+◌, ◌*◌, ◌<◌, ◌≤◌, List, ℤ, pos, ◌-ℤ◌, ◌≤ℤ◌, ◌<ℤ◌}
 use Rattle.mcf_flows.specs.Network.{IsNode, at_node, node_count}
 use Rattle.mcf_network.specs.declared.rid.Rid.{Rid}

@@ -72,14 +72,14 @@ EachPhaseSettles (relabel run step) = EachPhaseSettles run
 
 -- what was reached is e-optimal, and in the phase at hand no price has risen by more than 3ne and no node was relabelled
 -- more than 3n times
--- Source: AMO lemma 10.4
+-- Source: AMO 10.3
 pub record IsBounded {a b : Refinement} {k : ℕ} (run : Run a b k) : Type 0 where
   pub optimal : IsOptimalWithin (within b) b.flow b.prices
   pub rises : (u : ℕ) → IsNodeOf b u → (at_node b.prices u -ℤ at_node b.before u) ≤ℤ pos (3 * within b * node_count b.flow.net)
   pub few : (u : ℕ) → IsNodeOf b u → relabels run u ≤ 3 * node_count b.flow.net
 
 -- so it was after each step of a run
--- Source: AMO lemma 10.4
+-- Source: AMO 10.3
 abbrev pub IsBoundedThroughout : {a b : Refinement} {k : ℕ} → Run a b k → Type 0
 IsBoundedThroughout {a = a} start = IsBounded {a = a} {b = a} {k = 0} start
 IsBoundedThroughout (begin run step) = IsBoundedThroughout run × IsBounded (begin run step)

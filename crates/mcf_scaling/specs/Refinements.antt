@@ -53,7 +53,7 @@ pub record IsOrigin (a : Refinement) (first : List ℤ) : Type 0 where
   pub optimal : IsOptimalWithin (2 * within a) (record { net = a.flow.net; amounts = first }) a.before
 
 -- the price of a node has risen in the phase by at most 3ne, and not at all where the node takes
--- Source: AMO lemma 10.4, own
+-- Source: AMO 10.3, own
 pub record IsRisen (a : Refinement) (u : ℕ) : Type 0 where
   pub floor : pos 0 ≤ℤ at_node a.before u
   pub low : at_node a.before u ≤ℤ at_node a.prices u

@@ -4,7 +4,7 @@ ghost use Rattle.mcf_scaling.specs.Laws.{NearlyLeastHaveNoCycle, PhasesEnd, Pric
 /// In a phase that began at a state without surplus that was 2e-optimal, the price of an active node has risen by at
 /// most 3ne.
 ///
-/// It does nothing when it runs: its contract is the law (Ahuja, Magnanti and Orlin, Network Flows, lemma 10.4, with
+/// It does nothing when it runs: its contract is the law (Ahuja, Magnanti and Orlin, Network Flows, section 10.3, with
 /// levels of prices in place of paths).
 pub fn prices_rise_little()
     ensures { PricesRiseLittle }
@@ -13,7 +13,7 @@ pub fn prices_rise_little()
 /// A state that is 1-optimal has no negative cycle, since all costs are taken times the count of nodes plus 1.
 ///
 /// It does nothing when it runs: its contract is the law (Bertsekas; Ahuja, Magnanti and Orlin, Network Flows,
-/// lemma 10.2).
+/// section 10.3).
 pub fn nearly_least_have_no_cycle()
     ensures { NearlyLeastHaveNoCycle }
 {}

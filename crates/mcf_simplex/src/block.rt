@@ -14,8 +14,7 @@ use std::marker::Model;
 /// first block that has one, and of several such the one that is met first.
 ///
 /// A pick looks at no arc twice, so its last block may be shorter. It begins at arc 1 on a net that has no arc of the number at
-/// which the last pick ended. A size of once to twice the
-/// square root of the number of arcs suits large nets, but for road maps.
+/// which the last pick ended.
 #[derive(Clone, Copy, Debug)]
 pub struct Block {
     size: u32,

@@ -4,8 +4,8 @@
 //!
 //! It stands on all the crates below, and of `mcf_checker` on its definitions and one law. It doesn't speak of the
 //! command line, which `mcf_suite` adds. Definitions stand in `specs/`: `ChosenSolutions` says which of several right
-//! answers is given, `Making` by which engine, `BlockSizes` with which blocks, `Forms` in which form, `Answering` what is owed for a text, `Devices`
-//! and `Running` what a run from a source to a sink does.
+//! answers is given, `Choices` what is chosen, `Making` by which engine, `BlockSizes` with which blocks, `Forms` in which
+//! form, `Answering` what is owed for a text, `Devices` and `Running` what a run from a source to a sink does.
 
 mod block_size;
 mod choice;
