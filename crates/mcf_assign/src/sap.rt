@@ -2,11 +2,11 @@
 ghost use Rattle.std.specs.Prelude.{◌≡◌, ◌-◌, ◌≤◌, IfOk, OnErr, pos};
 ghost use Rattle.mcf_feas.specs.Chosen.{supply_total};
 ghost use Rattle.mcf_flows.specs.declared.problem.Problem.TheVariants.{Asn};
-ghost use Rattle.mcf_flows.specs.Network.{IsNode, node_count};
+ghost use Rattle.mcf_flows.specs.Network.{node_count};
 ghost use Rattle.mcf_engine.specs.Outcomes.{AreStatePrices, IsOutcome};
 ghost use Rattle.mcf_assign.specs.Extending.{IsShownMatching};
 ghost use Rattle.mcf_assign.specs.Private.Offering.{AreOffered};
-ghost use Rattle.mcf_assign.specs.Runs.{IsMatchedByRows, IsReachedSet, IsStart, Run, is_source, sources_to};
+ghost use Rattle.mcf_assign.specs.Runs.{IsMatchedByRows, IsReachedSet, IsStart, Run, sources_to};
 
 use crate::extended::Extended;
 use crate::matching::Matching;
@@ -121,7 +121,7 @@ fn match_rows(matching: &mut Matching<'_>, net: &Net) -> Extended
 {
     'rows: for number in 0..net.node_count() {
         let v = NodeId::at(number);
-        if !is_source(net, v) {
+        if net.supply(v) != 1 {
             continue;
         }
         match matching.extend(v) {
@@ -130,12 +130,4 @@ fn match_rows(matching: &mut Matching<'_>, net: &Net) -> Extended
         }
     }
     Extended::Matched
-}
-
-// Whether a node has supply 1.
-fn is_source(net: &Net, v: NodeId) -> bool
-    requires { IsNode (node_count net.now) v }
-    ensures { result ≡ is_source net.now v }
-{
-    net.supply(v) == 1
 }
