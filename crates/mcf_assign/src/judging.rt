@@ -23,10 +23,7 @@ pub(crate) fn are_shown(scene: &Scene<'_, '_>, prices: &[i64]) -> bool
     if prices.len() != scene.mates.len() || !do_nodes_fit(scene, prices) {
         return false;
     }
-    if !do_rows_fit(scene, prices) {
-        return false;
-    }
-    true
+    do_rows_fit(scene, prices)
 }
 
 // Whether the new price of each node fits it.
@@ -56,13 +53,7 @@ fn does_node_fit(scene: &Scene<'_, '_>, v: NodeId, price: i64) -> bool
     if !is_inside(price) || new < old {
         return false;
     }
-    if scene.mates[v.place()].arc > 0 {
-        return true;
-    }
-    if new > old {
-        return false;
-    }
-    true
+    new == old || scene.mates[v.place()].arc > 0
 }
 
 // Whether new prices fit the arcs of each row.
@@ -105,10 +96,7 @@ fn does_row_fit(scene: &Scene<'_, '_>, prices: &[i64], v: NodeId) -> bool
         return true;
     }
     let pair = row_arc(scene.state.net(), ArcId::new(mate));
-    if offer(pair, prices) > price {
-        return false;
-    }
-    true
+    offer(pair, prices) <= price
 }
 
 // What arcs offer at least.

@@ -50,7 +50,7 @@ returns-then-mate-eq0 c _ =
     (λ k p from. absurd (mate_none s mates c.requires.scene.mates c.args.v (rw (← c.place-2.ensures) c.if-mate-eq0.true) (k, p, inl from)))
 
 pub returns : goal.returns
-returns c _ =
+returns c below =
     let s = c.args.scene.now.state.now in
     let z = c.args.prices.now in
     let mates = c.args.scene.now.mates.now in
@@ -61,7 +61,6 @@ returns c _ =
     let at = ap (λ i. get_or z i (pos 0)) c.place.ensures in
     let above = c.if-least_offer-price.false in
     let to : to_z w64 (of_z w64 c.offer.result) ≡ c.offer.result = search (rules, to_z-of_z) in
-    let below = c.if-offer-price.false in
     let offered = c.offer.ensures in
     row_fits s z row
     (λ i d h. let low = c.least_offer.ensures i d h in omega (arith, ints, low, tl, tx, at, above))
