@@ -109,15 +109,13 @@ impl<'n> Matching<'n> {
         ensures extended { IsExtension self.old row result self.new }
         ensures shown { IsShownMatching self.new }
     {
-        let mates = self.mates.as_slice();
         let scene = Scene {
             state: &self.state,
             rows: &self.rows,
             prices: &self.prices,
-            mates,
+            mates: self.mates.as_slice(),
         };
-        let found = self.tables.search(&scene, row);
-        match found {
+        match self.tables.search(&scene, row) {
             Some(target) => {
                 let mates = self.mates.as_mut_slice();
                 self.tables
@@ -140,12 +138,11 @@ impl<'n> Matching<'n> {
             return;
         }
         self.tables.pairs = 0;
-        let mates = self.mates.as_slice();
         let scene = Scene {
             state: &self.state,
             rows: &self.rows,
             prices: &self.prices,
-            mates,
+            mates: self.mates.as_slice(),
         };
         if self.update.run(&scene) {
             self.prices.take_narrow(&mut self.update.lows);

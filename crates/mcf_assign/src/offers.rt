@@ -109,8 +109,7 @@ impl Offers {
         ensures items { IsPermutation (offer ∷ self.old.items) self.new.items }
         ensures room { self.old.room ≤ self.new.room }
     {
-        let is_nearest = comes_before(&offer, self.near.last());
-        if is_nearest && self.near.len() < self.near.capacity() {
+        if comes_before(&offer, self.near.last()) && self.near.len() < self.near.capacity() {
             self.near.push_reserved(offer);
         } else {
             let _ = self.heap.push(offer);
@@ -128,8 +127,7 @@ impl Offers {
         let Some(top) = self.near.last() else {
             return self.heap.pop();
         };
-        let is_nearest = comes_before(top, self.heap.peek());
-        if is_nearest {
+        if comes_before(top, self.heap.peek()) {
             self.near.pop()
         } else {
             self.heap.pop()

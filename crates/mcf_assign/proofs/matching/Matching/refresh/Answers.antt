@@ -24,4 +24,4 @@ pub returns-else-run-clause-shown : goal.returns-else-run-clause-shown
 returns-else-run-clause-shown c = shown_kept c.self.invariant.0
 
 pub run-requires : goal.run-requires
-run-requires c = record { scene = scene_kept c.self.invariant.0 c.self.invariant.1 c.as_slice-mates.ensures.value }
+run-requires c = record { scene = scene_kept c.self.invariant.0 c.self.invariant.1 c.as_slice.ensures.value }

@@ -14,7 +14,7 @@ invariant_of-self c =
     let near = c.self.inside.near.items in
     let last = subst (λ xs. IsGetResult xs 0 (length xs - 1) c.last.result) c.deref.ensures.value c.last.ensures.item in
     let before : IfSome c.last.result (λ o. c.args.offer.dist ≤ℤ o.now.dist) =
-    MatchBool-at_true _ _ c.if-is_nearest.true c.comes_before-is_nearest.ensures in
+    MatchBool-at_true _ _ c.if-comes_before.true c.comes_before.ensures in
     let stack = on_top near c.args.offer c.self.invariant.0 (no_farther near c.args.offer.dist c.last.result c.self.invariant.0 last before) in
     (subst IsStack (sym c.push_reserved.ensures.items) stack, c.self.invariant.1)
 
@@ -25,8 +25,8 @@ returns-then-len-capacity-clause-items c =
     subst (λ q. IsPermutation (c.args.offer ∷ q.items) (c.push_reserved.new.self.items ++ rest)) c.self.view_is
     (rw c.push_reserved.ensures.items (put_near near rest c.args.offer))
 
-pub returns-else-is_nearest-clause-items : goal.returns-else-is_nearest-clause-items
-returns-else-is_nearest-clause-items c =
+pub returns-else-comes_before-clause-items : goal.returns-else-comes_before-clause-items
+returns-else-comes_before-clause-items c =
     let near = c.self.inside.near.items in
     let rest = heap_items c.self.inside.heap in
     let fits : length (near ++ rest) < heap_capacity c.self.inside.heap = subst (λ q. length q.items < q.room) (sym c.self.view_is) c.requires in
