@@ -273,7 +273,7 @@ def check_limits(tables, places, routes, faults):
     below = [f"line {route.line}" for route in routes if route.cost < 0]
     below += [f"{tables[0].name}, line {place.line}" for place in places if place.bounds and place.bounds.cost < 0]
     for route in routes if below else []:
-        if route.most is None:
+        if route.steps[-1].most is None:
             faults.add(
                 At(tables[1], route.line, "most"),
                 "no limit",
