@@ -153,7 +153,8 @@ export class Units {
   total(number) { return decimalText(this.sign * number, this.amounts + this.costs); }
 
   comment() {
-    return `c amounts here are ${10 ** this.amounts} times those of the tables, costs of a unit ${Number(this.sign) * 10 ** this.costs} times`;
+    const [amounts, costs] = [10n ** BigInt(this.amounts), this.sign * 10n ** BigInt(this.costs)];
+    return `c amounts here are ${amounts} times those of the tables, costs of a unit ${costs} times`;
   }
 }
 

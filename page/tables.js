@@ -24,7 +24,9 @@ export function textOf(name, bytes, encoding = null) {
     [`${name}: this is a workbook: select a sheet's cells there, copy them and paste them here; or save it as CSV UTF-8`]
   );
   if (begins(bytes, [0xff, 0xfe]) || begins(bytes, [0xfe, 0xff])) {
-    return { text: new TextDecoder(bytes[0] === 0xff ? 'utf-16le' : 'utf-16be').decode(bytes), mark: true };
+    try {
+      return { text: new TextDecoder(bytes[0] === 0xff ? 'utf-16le' : 'utf-16be', { fatal: true }).decode(bytes), mark: true };
+    } catch { throw new BadTable([`${name}: this isn't text in utf-16; save the table as CSV in UTF-8`]); }
   }
   try {
     return { text: new TextDecoder(encoding || 'utf-8', { fatal: true }).decode(bytes), mark: begins(bytes, [0xef, 0xbb, 0xbf]) };

@@ -12,6 +12,7 @@ SPACED = re.compile(r"([+-]?[0-9]{1,3}(?:[ \u00a0\u2009\u202f'’_][0-9]{3})+)([
 # One mark with three digits after it, which may stand between thousands or before decimals.
 EITHER = re.compile(r"[+-]?[1-9][0-9]{0,2}[.,][0-9]{3}")
 ONE_MARK = re.compile(r"[+-]?[0-9]*([.,])[0-9]+")
+SPOT = re.compile(r"[+-]?([0-9]+\.?[0-9]*|\.[0-9]+)([eE][+-]?[0-9]+)?")
 EXPONENT = re.compile(r"[+-]?[0-9]+(?:[.,][0-9]*)?[eE][+-]?[0-9]+")
 OTHER = {",": ".", ".": ","}
 NO_LIMIT = ("", "inf", "∞")
@@ -149,10 +150,8 @@ class Numbers:
 
 def coordinate_in(table, line, head, cell, faults):
     """Where a place stands: a number that may have decimals."""
-    try:
-        number = float(cell if "." in cell else cell.replace(",", "."))
-    except ValueError:
-        number = math.nan
+    text = cell if "." in cell else cell.replace(",", ".")
+    number = float(text) if SPOT.fullmatch(text) else math.nan
     if not math.isfinite(number):
         faults.add(
             At(table, line, head),

@@ -11,6 +11,8 @@ from .faults import At, Faults, bad_table, shown
 # How tables are read: the mark before decimals, the encoding, and own heads by those that are wanted.
 Reading = collections.namedtuple("Reading", "decimal encoding heads", defaults=(None, None, {}))
 
+# What is no part of a cell at its ends, as in the page: a mark of byte order stands within a file that was put together of several.
+BLANKS = "\t\n\v\f\r \u00a0\u1680\u2000\u2001\u2002\u2003\u2004\u2005\u2006\u2007\u2008\u2009\u200a\u2028\u2029\u202f\u205f\u3000\ufeff"
 CONTROL = re.compile("[\x00-\x1f\x7f-\x9f]")
 SEPARATOR_LINE = re.compile(r'"?sep=(.)"?\s*', re.IGNORECASE)
 # What other files begin with.
@@ -45,7 +47,8 @@ def text_of(path, data, encoding):
     if data[:2] in (b"\xff\xfe", b"\xfe\xff"):
         encoding = "utf-16"
     try:
-        return data.decode(encoding or "utf-8-sig"), None
+        text = data.decode(encoding or "utf-8")
+        return text[1:] if text.startswith("\ufeff") else text, None
     except LookupError:
         raise bad_table(f"there is no encoding {shown(encoding)}")
     except UnicodeDecodeError as error:
@@ -67,7 +70,7 @@ def records_of(text, separator, name):
     found, line = [], 1
     try:
         for cells in reader:
-            cells = [cell.strip() for cell in cells]
+            cells = [cell.strip(BLANKS) for cell in cells]
             if any(cells):
                 found.append((line, cells))
             line = reader.line_num + 1
@@ -171,7 +174,7 @@ class Table:
 
 def rank_of(line, separator, known):
     """How well a separator suits the line of the heads."""
-    heads = [head.strip().strip('"').casefold() for head in line.split(separator)]
+    heads = [head.strip(BLANKS).strip('"').casefold() for head in line.split(separator)]
     return len(set(heads) & known), len(heads)
 
 
