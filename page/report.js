@@ -1,7 +1,7 @@
 // What is said of a flow, and its tables: as mcf_plan says and writes them.
 import { MISSING, STAYS, THROUGH } from './flownet.js';
 import { TOLD_NAMES, countOf, listed } from './faults.js';
-import { cellAt } from './tables.js';
+import { SEPARATORS, cellAt } from './tables.js';
 
 // The heads of results, in groups.
 const FLOW_RESULTS = ['carries', 'total', 'free', 'one_more_saves', 'exact'];
@@ -20,9 +20,9 @@ export function flowsTable(plan) {
   const { problem } = plan, { units } = problem, rows = problem.routes.map((route, k) => [route.cells, cellsOf(plan, plan.routes[k])]);
   for (const isSupply of [true, false]) {
     for (const [place, amount] of plan.unmet(isSupply)) {
-      const ends = isSupply ? { from: place.name, to: STAYS } : { from: MISSING, to: place.name };
+      const ends = new Map([['from', isSupply ? place.name : MISSING], ['to', isSupply ? STAYS : place.name]]);
       rows.push(
-        [problem.routeTable.heads.map((head) => ends[head] || ''), [units.amount(amount), isSupply ? units.total(0n) : '', '', '', '']]
+        [problem.routeTable.heads.map((head) => ends.get(head) || ''), [units.amount(amount), isSupply ? units.total(0n) : '', '', '', '']]
       );
     }
   }
@@ -73,7 +73,8 @@ export function csvOf({ heads, rows, like, figures }, mark) {
   const text = (row) => row.map(
     (value, k) => quoted(figures.includes(k) ? String(value).replace('.', mark || '.') : String(value))
   ).join(like.separator);
-  return `${like.mark ? '\ufeff' : ''}${[heads.map(quoted).join(like.separator), ...rows.map(text)].join('\n')}\n`;
+  const named = SEPARATORS.includes(like.separator) ? '' : `sep=${like.separator}\n`;
+  return `${like.mark ? '\ufeff' : ''}${named}${[heads.map(quoted).join(like.separator), ...rows.map(text)].join('\n')}\n`;
 }
 
 // The sums of supplies and of demands.

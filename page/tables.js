@@ -1,7 +1,9 @@
 // Tables: read from files or pasted, and found by the heads of their columns.
 import { BadTable, Faults, at, shown } from './faults.js';
 
-const SEPARATOR_LINE = /^"?sep=(.)"?\s*$/i;
+const SEPARATOR_LINE = /^"?sep=([^" ])"?\s*$/i;
+// The separators that heads show by themselves.
+export const SEPARATORS = [',', ';', '\t'];
 // What other files begin with.
 const OTHER_FILES = [
   [[0x1f, 0x8b], 'this is compressed (gzip): unpack it first'],
@@ -89,7 +91,7 @@ export class Table {
       first = lines(whole);
     }
     const known = new Set([...wanted, ...Object.values(heads).map(fold)]);
-    const ranks = [',', ';', '\t'].map((mark) => [mark, rankOf(first, mark, known)]);
+    const ranks = SEPARATORS.map((mark) => [mark, rankOf(first, mark, known)]);
     const separator = named ? named[1] : ranks.reduce(
       (best, one) => (one[1][0] > best[1][0] || (one[1][0] === best[1][0] && one[1][1] > best[1][1]) ? one : best)
     )[0];

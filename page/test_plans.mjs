@@ -101,9 +101,21 @@ async function unaccepted(expect, solver) {
   expect(status === 'rejected', `a set that isn't accepted: ${status}`);
 }
 
+// Heads that JavaScript knows, and a separator that heads don't show by themselves: what is written can be read again.
+async function written(expect, solver) {
+  const sources = [
+    { name: 'places', text: 'sep=|\nname|supply|__proto__\nA|2|a\nB|-1|b\n' }, { name: 'routes', text: 'sep=|\nfrom|to|most|cost|constructor\nA|B||1|c\n' },
+  ];
+  const choices = asked(['--unused', 'allow']), { tables, mark } = await told('flow', solver, sources, choices), [flows, prices] = tables.map((table) => csvOf(table, mark));
+  expect(flows.endsWith('\nA|(stays)||||1|0|||\n'), `a column constructor: ${flows}`);
+  const again = await told('flow', solver, [{ name: 'prices', text: prices }, sources[1]], choices);
+  expect(again.status === 0 && csvOf(again.tables[1], mark) === prices, `a table with another separator: ${prices}`);
+}
+
 export default async function test(expect) {
   const solver = solverOf(loaded());
   await unaccepted(expect, solver);
+  await written(expect, solver);
   for (const name of fs.readdirSync(plans).filter((one) => fs.existsSync(path.join(plans, one, 'expected')))) {
     const folder = path.join(plans, name);
     const stored = (file) => fs.readFileSync(path.join(folder, 'expected', file), 'utf8');

@@ -3,7 +3,7 @@ asked for."""
 import csv
 
 from .amounts import Figure
-from .tables import cell_at
+from .tables import SEPARATORS, cell_at
 from .workbook import openpyxl_for, write_workbook
 
 FORMULA = ("=", "+", "-", "@", "\t", "\r")
@@ -22,6 +22,8 @@ class Results:
         with open(
             self.folder / f"{name}.csv", "w", newline="", encoding="utf-8-sig" if like.mark else "utf-8"
         ) as output:
+            if like.separator not in SEPARATORS:
+                output.write(f"sep={like.separator}\n")
             writer = csv.writer(output, delimiter=like.separator, lineterminator="\n")
             writer.writerow(heads)
             writer.writerows([self.cell(value) for value in row] for row in rows)

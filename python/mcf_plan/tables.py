@@ -14,7 +14,9 @@ Reading = collections.namedtuple("Reading", "decimal encoding heads", defaults=(
 # What is no part of a cell at its ends, as in the page: a mark of byte order stands within a file that was put together of several.
 BLANKS = "\t\n\v\f\r \u00a0\u1680\u2000\u2001\u2002\u2003\u2004\u2005\u2006\u2007\u2008\u2009\u200a\u2028\u2029\u202f\u205f\u3000\ufeff"
 CONTROL = re.compile("[\x00-\x1f\x7f-\x9f]")
-SEPARATOR_LINE = re.compile(r'"?sep=(.)"?\s*', re.IGNORECASE)
+SEPARATOR_LINE = re.compile(r'"?sep=([^" ])"?\s*', re.IGNORECASE)
+# The separators that heads show by themselves.
+SEPARATORS = ",;\t"
 # What other files begin with.
 OTHER_FILES = {
     b"\x1f\x8b": "this is compressed (gzip): unpack it first",
@@ -111,7 +113,7 @@ class Table:
             text = text.replace(first, "", 1)
             first = next((line for line in text.split("\n") if line.strip()), "")
         known = set(wanted) | {own.casefold() for own in reading.heads.values()}
-        separator = named[1] if named else max(",;\t", key=lambda mark: rank_of(first, mark, known))
+        separator = named[1] if named else max(SEPARATORS, key=lambda mark: rank_of(first, mark, known))
         table = cls(
             str(path),
             records_of(text, separator, str(path)),
