@@ -15,10 +15,12 @@ export function laidOut(task) {
 
 // Boxes on a map, y going up.
 export function mapBoxes({ sizes, spots }, spread) {
-  const xs = spots.map(([x]) => x), ys = spots.map(([, y]) => y), [left, right, low, high] = [least(xs), most(xs), least(ys), most(ys)];
+  // Halves, whose differences are no greater than a number can be.
+  const xs = spots.map(([x]) => x / 2), ys = spots.map(([, y]) => y / 2);
+  const [left, right, low, high] = [least(xs), most(xs), least(ys), most(ys)];
   const wide = spread * Math.sqrt(xs.length) + 200;
-  const scale = left === right && low === high ? 1 : Math.min(wide / ((right - left) || 1e-9), wide * 0.72 / ((high - low) || 1e-9));
-  return spots.map(([x, y], k) => ({ x: (x - left) * scale, y: (high - y) * scale, width: sizes[k][0], height: sizes[k][1] }));
+  const scale = left === right && low === high ? 1 : Math.min(wide / Math.max(right - left, 1e-9), wide * 0.72 / Math.max(high - low, 1e-9));
+  return xs.map((x, k) => ({ x: (x - left) * scale, y: (high - ys[k]) * scale, width: sizes[k][0], height: sizes[k][1] }));
 }
 
 export const least = (numbers) => numbers.reduce((a, b) => Math.min(a, b), Infinity);

@@ -42,6 +42,10 @@ export default async function test(expect) {
     const over = (a, b) => Math.abs(a.x - b.x) < (a.width + b.width) / 2 && Math.abs(a.y - b.y) < (a.height + b.height) / 2;
     expect(!boxes.some((a, i) => boxes.some((b, j) => j < i && over(a, b))), `boxes overlap ${spots ? 'on a map' : 'in columns'}`);
   }
+  for (const spots of [[[-1e308, 0], [1e308, 1e308], [0, -1e308]], [[0, 0], [5e-324, 1e-300], [0, 1]], [[0, 5e-324], [0, 0], [0, 0]]]) {
+    const { boxes } = laidOut({ sizes: spots.map(() => [60, 38]), spots, links: [{ tail: 0, head: 1 }], starts: [0] });
+    expect(boxes.every(({ x, y }) => Number.isFinite(x) && Number.isFinite(y)), `spots as far or as near as numbers can be: ${JSON.stringify(spots)}`);
+  }
   const rows = Array.from({ length: 400 }, (_, k) => k);
   const [places, routes] = [rows.map((k) => `P${k},${k < 200 ? 1 : -1}\n`), rows.slice(0, 200).map((k) => `P${k},P${k + 200},1,1\n`)];
   const scene = await sceneOf(

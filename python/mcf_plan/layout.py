@@ -114,12 +114,13 @@ def forward(points, tail):
 
 def map_boxes(task, spread=SPREAD):
     """Boxes on a map, y going up."""
-    xs, ys = [x for x, _ in task.spots], [y for _, y in task.spots]
-    wide = spread * math.sqrt(len(xs)) + 200
-    scale = min(wide / ((max(xs) - min(xs)) or 1e-9), wide * 0.72 / ((max(ys) - min(ys)) or 1e-9))
-    if max(xs) == min(xs) and max(ys) == min(ys):
+    # Halves, whose differences are no greater than a float can be.
+    xs, ys = [x / 2 for x, _ in task.spots], [y / 2 for _, y in task.spots]
+    (left, right), (low, high), wide = (min(xs), max(xs)), (min(ys), max(ys)), spread * math.sqrt(len(xs)) + 200
+    scale = min(wide / max(right - left, 1e-9), wide * 0.72 / max(high - low, 1e-9))
+    if left == right and low == high:
         scale = 1
-    return [Box((x - min(xs)) * scale, (max(ys) - y) * scale, *size) for (x, y), size in zip(task.spots, task.sizes)]
+    return [Box((x - left) * scale, (high - y) * scale, *size) for x, y, size in zip(xs, ys, task.sizes)]
 
 
 def levels_of(count, links, starts):

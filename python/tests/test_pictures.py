@@ -1,4 +1,5 @@
 """The picture, with Graphviz where it is there, and without it."""
+import math
 import os
 import xml.etree.ElementTree
 from unittest import mock
@@ -31,6 +32,11 @@ class Pictures(WithFolder):
     def test_without_places_and_at_one_spot(self):
         self.drawn("name,supply\n", "from,to,least,most,cost\n")
         self.assertIn("A", self.drawn("name,supply,x,y\nA,0,3,3\n", "from,to,least,most,cost\nA,A,0,1,-1\n"))
+
+    def test_spots_as_far_and_as_near_as_numbers_can_be(self):
+        for spots in (((-1e308, 0), (1e308, 1e308), (0, -1e308)), ((0, 0), (5e-324, 1e-300), (0, 1)), ((0, 5e-324), (0, 0), (0, 0))):
+            boxes = layout.map_boxes(layout.Task([(60, 38)] * 3, spots, [], [], []))
+            self.assertTrue(all(math.isfinite(box.x) and math.isfinite(box.y) for box in boxes), spots)
 
     def test_what_blocks(self):
         texts = self.drawn("name,supply\nA,5\nB,-5\n", "from,to,least,most,cost\nA,B,0,4,1\n")
