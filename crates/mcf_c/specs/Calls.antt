@@ -2,9 +2,9 @@
 -- Source: own
 use Rattle.std.specs.Prelude.{◌≡◌, ◌≤◌, ◌<◌, ℕ, List, length, take, drop}
 use Rattle.mcf_solver.specs.Answering.{IsAnswerTo}
-use Rattle.mcf_solver.specs.declared.choice.Choice.{Choice}
-use Rattle.mcf_solver.specs.declared.choice.Kind.{Kind}
-use Rattle.mcf_solver.specs.declared.choice.Kind.TheVariants.{Flow, Blocked, Refused}
+use Rattle.mcf_choice.specs.declared.choice.Choice.{Choice}
+use Rattle.mcf_solver.specs.declared.kind.Kind.{Kind}
+use Rattle.mcf_solver.specs.declared.kind.Kind.TheVariants.{Flow, Blocked, Refused}
 
 -- the status of an answer of a kind
 abbrev pub kind_status : Kind → ℕ

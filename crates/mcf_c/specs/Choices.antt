@@ -2,14 +2,14 @@
 -- Source: own
 use Rattle.std.specs.Prelude.{ℕ, ◌==◌, nat_le, Option, Some, None, if◌then◌else◌}
 use Rattle.mcf_c.specs.declared.choosing.McfChoice.{McfChoice}
-use Rattle.mcf_solver.specs.BlockSizes.{block_limit, standard_block}
-use Rattle.mcf_solver.specs.declared.choice.Choice.{Choice}
-use Rattle.mcf_solver.specs.declared.choice.EngineChoice.{EngineChoice}
-use Rattle.mcf_solver.specs.declared.choice.EngineChoice.TheVariants.{Auto, Cancel, Simplex, Scaling, Sap, Augment}
-use Rattle.mcf_solver.specs.declared.choice.Form.{Form}
-use Rattle.mcf_solver.specs.declared.choice.Form.TheVariants.{One, Two}
-use Rattle.mcf_solver.specs.declared.choice.PricingChoice.{PricingChoice}
-use Rattle.mcf_solver.specs.declared.choice.PricingChoice.TheVariants.{First, Best, Block, Wide}
+use Rattle.mcf_choice.specs.BlockSizes.{block_limit, standard_block}
+use Rattle.mcf_choice.specs.declared.choice.Choice.{Choice}
+use Rattle.mcf_choice.specs.declared.choice.EngineChoice.{EngineChoice}
+use Rattle.mcf_choice.specs.declared.choice.EngineChoice.TheVariants.{Auto, Cancel, Simplex, Scaling, Sap, Augment}
+use Rattle.mcf_choice.specs.declared.choice.Form.{Form}
+use Rattle.mcf_choice.specs.declared.choice.Form.TheVariants.{One, Two}
+use Rattle.mcf_choice.specs.declared.choice.PricingChoice.{PricingChoice}
+use Rattle.mcf_choice.specs.declared.choice.PricingChoice.TheVariants.{First, Best, Block, Wide}
 
 -- the engine with a number
 abbrev pub engine_of : ℕ → Option EngineChoice

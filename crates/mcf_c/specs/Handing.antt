@@ -17,9 +17,9 @@ use Rattle.mcf_instance.specs.declared.arrays.ArrayFault.{ArrayFault}
 use Rattle.mcf_flows.specs.declared.problem.Problem.TheVariants.{Min}
 use Rattle.mcf_solver.specs.Answering.{IsLeastFlow, IsLeastSolution, IsNoFlowProof}
 use Rattle.mcf_solver.specs.Making.{IsMadeBy, StandsForMade, meant, suited}
-use Rattle.mcf_solver.specs.declared.choice.Choice.{Choice}
-use Rattle.mcf_solver.specs.declared.choice.EngineChoice.{EngineChoice}
-use Rattle.mcf_solver.specs.declared.choice.Form.TheVariants.{One}
+use Rattle.mcf_choice.specs.declared.choice.Choice.{Choice}
+use Rattle.mcf_choice.specs.declared.choice.EngineChoice.{EngineChoice}
+use Rattle.mcf_choice.specs.declared.choice.Form.TheVariants.{One}
 
 -- a flow by arc that no feasible flow undercuts, its cost, and prices by node that show it
 pub record HandsFlow (g : Network) (flow prices : List ℤ) (told : McfVerdict) : Type 0 where

@@ -11,16 +11,16 @@ use Rattle.mcf_network.specs.Removal.{net_of}
 use Rattle.mcf_network.specs.States.{Pseudoflow}
 use Rattle.mcf_network.proofs.RestoringLaws.{net_of-arc_count}
 use Rattle.mcf_solver.specs.Making.{HasMadeFlow, IsMadeBy, IsMadeByEngine, IsMadeBySimplex, meant, new_block_rule, suited}
-use Rattle.mcf_solver.specs.declared.choice.Choice.{Choice}
-use Rattle.mcf_solver.specs.declared.choice.EngineChoice.{EngineChoice}
-use Rattle.mcf_solver.specs.declared.choice.EngineChoice.TheVariants.{Auto, Cancel, Simplex, Scaling, Augment, Sap}
+use Rattle.mcf_choice.specs.declared.choice.Choice.{Choice}
+use Rattle.mcf_choice.specs.declared.choice.EngineChoice.{EngineChoice}
+use Rattle.mcf_choice.specs.declared.choice.EngineChoice.TheVariants.{Auto, Cancel, Simplex, Scaling, Augment, Sap}
 use Rattle.mcf_simplex.specs.Blocks.{BlockRule, IsBlockPick}
 use Rattle.mcf_simplex.specs.Runs.{IsMadeByRun, RuleState}
 use Rattle.mcf_simplex.specs.Stretches.{IsWideFor, WideRule}
-use Rattle.mcf_solver.specs.declared.choice.PricingChoice.{PricingChoice}
-use Rattle.mcf_solver.specs.declared.choice.PricingChoice.TheVariants.{Block}
-use Rattle.mcf_solver.specs.declared.choice.Meant.{Meant}
-use Rattle.mcf_solver.specs.declared.choice.Meant.TheVariants.{BySap}
+use Rattle.mcf_choice.specs.declared.choice.PricingChoice.{PricingChoice}
+use Rattle.mcf_choice.specs.declared.choice.PricingChoice.TheVariants.{Block}
+use Rattle.mcf_solver.specs.declared.meant.Meant.{Meant}
+use Rattle.mcf_solver.specs.declared.meant.Meant.TheVariants.{BySap}
 
 -- what was made one way was made another
 pub made_otherwise : (P Q : Network → Pseudoflow → Type 0) (g : Network) → ((s : Pseudoflow) → P (net_of g) s → Q (net_of g) s)

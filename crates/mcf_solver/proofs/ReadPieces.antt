@@ -15,8 +15,8 @@ use Rattle.mcf_flows.specs.Network.{Network}
 use Rattle.mcf_instance.specs.Reading.{reading}
 use Rattle.mcf_text.specs.declared.fault.FeedFault.{FeedFault}
 use Rattle.mcf_text.specs.declared.fault.FeedFault.TheVariants.{TooLong}
-use Rattle.mcf_solver.specs.declared.choice.Choice.{Choice}
-use Rattle.mcf_solver.specs.declared.choice.Kind.{Kind}
+use Rattle.mcf_choice.specs.declared.choice.Choice.{Choice}
+use Rattle.mcf_solver.specs.declared.kind.Kind.{Kind}
 use Rattle.mcf_solver.specs.Answering.{AppendsAnswer, IsAnswerTo, IsOwed, answer_kind}
 use Rattle.mcf_solver.specs.Forms.{HasForm}
 use Rattle.mcf_solver.specs.Making.{HasMadeFlow, IsMadeBy}

@@ -17,11 +17,11 @@ use Rattle.mcf_simplex.specs.Laws.{RunsAreTreeSolutions}
 use Rattle.mcf_simplex.specs.Stretches.{IsWidePick}
 use Rattle.mcf_solver.specs.Making.{IsMadeBy, IsMadeByEngine, IsMadeBySimplex, IsShapedBy, StandsForMade, best_picks, first_picks, meant, new_block_rule}
 use Rattle.mcf_solver.specs.Private.Shaping.{MadeFlowsAreShaped}
-use Rattle.mcf_solver.specs.declared.choice.Choice.{Choice}
-use Rattle.mcf_solver.specs.declared.choice.Meant.{Meant}
-use Rattle.mcf_solver.specs.declared.choice.Meant.TheVariants.{ByCancel, BySimplex, ByScaling, ByAugment, BySap}
-use Rattle.mcf_solver.specs.declared.choice.PricingChoice.{PricingChoice}
-use Rattle.mcf_solver.specs.declared.choice.PricingChoice.TheVariants.{First, Best, Block, Wide}
+use Rattle.mcf_choice.specs.declared.choice.Choice.{Choice}
+use Rattle.mcf_solver.specs.declared.meant.Meant.{Meant}
+use Rattle.mcf_solver.specs.declared.meant.Meant.TheVariants.{ByCancel, BySimplex, ByScaling, ByAugment, BySap}
+use Rattle.mcf_choice.specs.declared.choice.PricingChoice.{PricingChoice}
+use Rattle.mcf_choice.specs.declared.choice.PricingChoice.TheVariants.{First, Best, Block, Wide}
 
 module _ (first : RunsAreTreeSolutions first_picks) (best : RunsAreTreeSolutions best_picks) (block : RunsAreTreeSolutions IsBlockPick)
     (wide : RunsAreTreeSolutions IsWidePick) (stands : RestoredTreeSolutionsAreTreeSolutions) where

@@ -20,13 +20,13 @@ use Rattle.mcf_flows.specs.Limits.{limits}
 use Rattle.mcf_flows.specs.Network.{Network}
 use Rattle.mcf_instance.specs.Reading.{reading}
 use Rattle.mcf_text.specs.Row.{rows}
-use Rattle.mcf_solver.specs.declared.choice.Meant.TheVariants.{BySimplex}
-use Rattle.mcf_solver.specs.declared.choice.Kind.{Kind}
-use Rattle.mcf_solver.specs.declared.choice.Kind.TheVariants.{Flow as WithFlow, Blocked as WithSet, Refused as WithRefusal}
+use Rattle.mcf_solver.specs.declared.meant.Meant.TheVariants.{BySimplex}
+use Rattle.mcf_solver.specs.declared.kind.Kind.{Kind}
+use Rattle.mcf_solver.specs.declared.kind.Kind.TheVariants.{Flow as WithFlow, Blocked as WithSet, Refused as WithRefusal}
 use Rattle.mcf_solver.specs.ChosenSolutions.{IsChosenFlow}
 use Rattle.mcf_solver.specs.Forms.{HasForm}
 use Rattle.mcf_solver.specs.Making.{HasMadeFlow, HasShapedFlow, IsMadeBy, meant}
-use Rattle.mcf_solver.specs.declared.choice.Choice.{Choice}
+use Rattle.mcf_choice.specs.declared.choice.Choice.{Choice}
 
 -- a flow that no feasible flow undercuts, and the greatest prices not above 0 that show it
 -- Source: AMO 9

@@ -9,8 +9,8 @@ use Rattle.mcf_checker.specs.Correct.{spread}
 use Rattle.mcf_flows.specs.declared.arc.Arc.{Arc}
 use Rattle.mcf_flows.specs.Codes.{Fault}
 use Rattle.mcf_flows.specs.Network.{Network}
-use Rattle.mcf_solver.specs.declared.choice.Form.{Form}
-use Rattle.mcf_solver.specs.declared.choice.Form.TheVariants.{One, Two}
+use Rattle.mcf_choice.specs.declared.choice.Form.{Form}
+use Rattle.mcf_choice.specs.declared.choice.Form.TheVariants.{One, Two}
 
 -- the number of an arc with what it carries, unless that is its low
 abbrev pub moved_arc : ℕ × (Arc × ℤ) → Option (ℕ × ℤ)

@@ -3,6 +3,8 @@ pub use Rattle.mcf_answer.specs.Written
 pub use Rattle.mcf_assign.specs.Runs as MatchingRuns
 pub use Rattle.mcf_checker.specs.Correct
 pub use Rattle.mcf_checker.specs.Judging
+pub use Rattle.mcf_choice.specs.BlockSizes
+pub use Rattle.mcf_choice.specs.Choices
 pub use Rattle.mcf_feas.specs.Chosen
 pub use Rattle.mcf_instance.specs.Fault
 pub use Rattle.mcf_flows.specs.Flow
@@ -20,8 +22,6 @@ pub use Rattle.mcf_simplex.specs.Runs as SimplexRuns
 pub use Rattle.mcf_simplex.specs.Stretches
 pub use Rattle.mcf_text.specs.Row
 pub mod Answering
-pub mod BlockSizes
-pub mod Choices
 pub mod ChosenSolutions
 pub mod Devices
 pub mod Forms

@@ -20,15 +20,15 @@ use Rattle.mcf_simplex.specs.Runs.{IsMadeByRun, RuleState}
 use Rattle.mcf_simplex.specs.Stretches.{IsWideFor, IsWidePick, WideRule}
 use Rattle.mcf_simplex.specs.declared.best.Best.{Best as BestRule}
 use Rattle.mcf_simplex.specs.declared.first.First.{First as FirstRule}
-use Rattle.mcf_solver.specs.declared.choice.Choice.{Choice}
-use Rattle.mcf_solver.specs.declared.choice.EngineChoice.{EngineChoice}
+use Rattle.mcf_choice.specs.declared.choice.Choice.{Choice}
+use Rattle.mcf_choice.specs.declared.choice.EngineChoice.{EngineChoice}
 use Rattle.mcf_scaling.specs.Made.{IsScaled}
 use Rattle.mcf_scaling.specs.Refinements.{StepCounts}
-use Rattle.mcf_solver.specs.declared.choice.EngineChoice.TheVariants.{Auto, Cancel, Simplex, Scaling, Augment, Sap}
-use Rattle.mcf_solver.specs.declared.choice.PricingChoice.{PricingChoice}
-use Rattle.mcf_solver.specs.declared.choice.PricingChoice.TheVariants.{First, Best, Block, Wide}
-use Rattle.mcf_solver.specs.declared.choice.Meant.{Meant}
-use Rattle.mcf_solver.specs.declared.choice.Meant.TheVariants.{ByCancel, BySimplex, ByScaling, ByAugment, BySap}
+use Rattle.mcf_choice.specs.declared.choice.EngineChoice.TheVariants.{Auto, Cancel, Simplex, Scaling, Augment, Sap}
+use Rattle.mcf_choice.specs.declared.choice.PricingChoice.{PricingChoice}
+use Rattle.mcf_choice.specs.declared.choice.PricingChoice.TheVariants.{First, Best, Block, Wide}
+use Rattle.mcf_solver.specs.declared.meant.Meant.{Meant}
+use Rattle.mcf_solver.specs.declared.meant.Meant.TheVariants.{ByCancel, BySimplex, ByScaling, ByAugment, BySap}
 
 -- the engine that suits a problem
 abbrev pub suited : Problem → Meant

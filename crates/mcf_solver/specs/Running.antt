@@ -6,8 +6,8 @@ use Rattle.mcf_flows.specs.Codes.{Fault}
 use Rattle.mcf_flows.specs.Limits.{limits}
 use Rattle.mcf_flows.specs.Network.{Network}
 use Rattle.mcf_instance.specs.Reading.{reading}
-use Rattle.mcf_solver.specs.declared.choice.Choice.{Choice}
-use Rattle.mcf_solver.specs.declared.choice.Kind.{Kind}
+use Rattle.mcf_choice.specs.declared.choice.Choice.{Choice}
+use Rattle.mcf_solver.specs.declared.kind.Kind.{Kind}
 use Rattle.mcf_solver.specs.declared.fault.RunFault.{RunFault}
 use Rattle.mcf_solver.specs.declared.fault.RunFault.TheVariants.{Read, Write, NoMemory, TooLong}
 use Rattle.mcf_solver.specs.Answering.{IsAnswerTo}

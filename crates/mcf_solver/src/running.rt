@@ -4,10 +4,11 @@ ghost use Rattle.std.specs.Io.KnownBytes.{Appends};
 ghost use Rattle.mcf_solver.specs.Devices.{CountsOneFailure};
 ghost use Rattle.mcf_solver.specs.Running.{IsTakenWhole, IsTooLong, ReadsGiven, SendsAnswer, SendsBeginning, TakesBeginning};
 
-use crate::choice::{Choice, Kind};
 use crate::device::{Sink, Source};
 use crate::fault::RunFault;
+use crate::kind::Kind;
 use crate::solving::solve_outcome;
+use mcf_choice::Choice;
 use mcf_instance::{Instance, Reader, Refusal};
 use mcf_text::{FeedFault, NoMemory};
 use std::alloc::{AllocError, Global};

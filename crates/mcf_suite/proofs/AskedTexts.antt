@@ -4,12 +4,12 @@ use Rattle.std.specs.Prelude.{option_map}
 use Rattle.clap.specs.Words.{Text, fault_of, first_of, subcommand_of, takes}
 use Rattle.clap.specs.declared.error.kind.ErrorKind.TheVariants.{DisplayHelp, InvalidValue, MissingSubcommand, UnknownArgument, ValueValidation}
 use Rattle.clap.proofs.OnLiterals.{clap_on_literals}
-use Rattle.mcf_solver.specs.declared.choice.EngineChoice.{EngineChoice}
-use Rattle.mcf_solver.specs.declared.choice.EngineChoice.TheVariants.{Auto, Cancel, Scaling, Augment, Sap}
-use Rattle.mcf_solver.specs.declared.choice.PricingChoice.{PricingChoice}
-use Rattle.mcf_solver.specs.declared.choice.PricingChoice.TheVariants.{Best, Block}
-use Rattle.mcf_solver.specs.declared.choice.Form.{Form}
-use Rattle.mcf_solver.specs.declared.choice.Form.TheVariants.{One, Two}
+use Rattle.mcf_choice.specs.declared.choice.EngineChoice.{EngineChoice}
+use Rattle.mcf_choice.specs.declared.choice.EngineChoice.TheVariants.{Auto, Cancel, Scaling, Augment, Sap}
+use Rattle.mcf_choice.specs.declared.choice.PricingChoice.{PricingChoice}
+use Rattle.mcf_choice.specs.declared.choice.PricingChoice.TheVariants.{Best, Block}
+use Rattle.mcf_choice.specs.declared.choice.Form.{Form}
+use Rattle.mcf_choice.specs.declared.choice.Form.TheVariants.{One, Two}
 use Rattle.mcf_suite.specs.Asking.{block_by, engine_by, form_by, pricing_by}
 use Rattle.mcf_suite.proofs.AskedLemmas.{some_app}
 

@@ -14,13 +14,13 @@ use Rattle.clap.specs.declared.builder.value_parser.ValueParser.TheVariants as p
 use Rattle.clap.specs.declared.error.Error.{Error}
 use Rattle.clap.specs.declared.error.kind.ErrorKind.TheVariants.{OutOfMemory}
 use Rattle.mcf_suite.specs.declared.asking.Asked.{Asked}
-use Rattle.mcf_solver.specs.declared.choice.EngineChoice.{EngineChoice}
-use Rattle.mcf_solver.specs.declared.choice.EngineChoice.TheVariants.{Auto, Cancel, Simplex, Scaling, Augment, Sap}
-use Rattle.mcf_solver.specs.declared.choice.PricingChoice.{PricingChoice}
-use Rattle.mcf_solver.specs.declared.choice.PricingChoice.TheVariants.{First, Best, Block, Wide}
-use Rattle.mcf_solver.specs.declared.choice.Form.{Form}
-use Rattle.mcf_solver.specs.declared.choice.Form.TheVariants.{One, Two}
-use Rattle.mcf_solver.specs.BlockSizes.{block_limit, standard_block}
+use Rattle.mcf_choice.specs.declared.choice.EngineChoice.{EngineChoice}
+use Rattle.mcf_choice.specs.declared.choice.EngineChoice.TheVariants.{Auto, Cancel, Simplex, Scaling, Augment, Sap}
+use Rattle.mcf_choice.specs.declared.choice.PricingChoice.{PricingChoice}
+use Rattle.mcf_choice.specs.declared.choice.PricingChoice.TheVariants.{First, Best, Block, Wide}
+use Rattle.mcf_choice.specs.declared.choice.Form.{Form}
+use Rattle.mcf_choice.specs.declared.choice.Form.TheVariants.{One, Two}
+use Rattle.mcf_choice.specs.BlockSizes.{block_limit, standard_block}
 
 -- the names of the engines, and what each asks for
 abbrev pub engine_words : List (Text × EngineChoice)

@@ -1,5 +1,5 @@
+pub use Rattle.mcf_choice.specs.BlockSizes
 pub use Rattle.mcf_solver.specs.Answering
-pub use Rattle.mcf_solver.specs.BlockSizes
 pub use Rattle.mcf_solver.specs.Chosen
 pub use Rattle.mcf_solver.specs.ChosenSolutions
 pub use Rattle.mcf_solver.specs.Correct

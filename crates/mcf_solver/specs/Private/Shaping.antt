@@ -4,7 +4,7 @@ use Rattle.mcf_answer.specs.declared.answers.Answer.{Answer}
 use Rattle.mcf_flows.specs.Codes.{Fault}
 use Rattle.mcf_flows.specs.Network.{Network}
 use Rattle.mcf_solver.specs.Making.{HasMadeFlow, HasShapedFlow, IsMadeBy}
-use Rattle.mcf_solver.specs.declared.choice.Choice.{Choice}
+use Rattle.mcf_choice.specs.declared.choice.Choice.{Choice}
 
 -- a flow that was made as a choice means has the shape that the choice means
 abbrev pub MadeFlowsAreShaped : Type 0

@@ -4,7 +4,7 @@ use Rattle.mcf_simplex.specs.Blocks.{BlockRule}
 use Rattle.mcf_simplex.specs.Runs.{RuleState}
 use Rattle.mcf_simplex.specs.Stretches.{IsWideFor, WideRule}
 use Rattle.mcf_solver.specs.Making.{new_block_rule}
-use Rattle.mcf_solver.specs.declared.choice.PricingChoice.TheVariants.{First, Best, Block, Wide}
+use Rattle.mcf_choice.specs.declared.choice.PricingChoice.TheVariants.{First, Best, Block, Wide}
 use Rattle.mcf_solver.proofs.Making.{made_by_blocks, made_by_rule, wide_on_net}
 use Rattle.mcf_solver.proofs.solving.solve_by_simplex.Goals as goal
 

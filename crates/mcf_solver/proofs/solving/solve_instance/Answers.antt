@@ -1,7 +1,7 @@
 use Rattle.std.proofs.Common.{◌≡◌, ◌∙◌, ap, inl, inr, sym}
 use Rattle.std.proofs.lemmas.Result.{on_err_weaker}
 use Rattle.mcf_solver.specs.Making.{meant}
-use Rattle.mcf_solver.specs.declared.choice.Meant.TheVariants.{ByCancel, BySimplex, ByScaling, ByAugment, BySap}
+use Rattle.mcf_solver.specs.declared.meant.Meant.TheVariants.{ByCancel, BySimplex, ByScaling, ByAugment, BySap}
 use Rattle.mcf_solver.proofs.Making.{made_as_meant, net_for_assignments}
 use Rattle.mcf_solver.proofs.WantedMemory.{nodes_wanted, on_err_any}
 use Rattle.mcf_solver.proofs.solving.solve_instance.Goals as goal

@@ -1,6 +1,6 @@
 //! Sizes of blocks.
 ghost use Rattle.std.specs.Prelude.{◌≡◌, SomeIff};
-ghost use Rattle.mcf_solver.specs.BlockSizes.{IsBlockSize, standard_block};
+ghost use Rattle.mcf_choice.specs.BlockSizes.{IsBlockSize, standard_block};
 
 use std::marker::Model;
 
@@ -12,7 +12,7 @@ pub struct BlockSize {
 
 impl Model for BlockSize {
     ghost use Rattle.std.specs.Prelude.{ℕ};
-    ghost use Rattle.mcf_solver.specs.BlockSizes.{IsBlockSize};
+    ghost use Rattle.mcf_choice.specs.BlockSizes.{IsBlockSize};
 
     ghost Value = { ℕ };
 

@@ -1,4 +1,4 @@
-//! What the caller chooses, and what kind of answer there is.
+//! What the caller chooses.
 
 use crate::block_size::BlockSize;
 
@@ -57,7 +57,7 @@ pub struct Choice {
 
 impl Default for Choice {
     ghost use Rattle.std.specs.Prelude.{◌≡◌};
-    ghost use Rattle.mcf_solver.specs.Choices.{standard_choice};
+    ghost use Rattle.mcf_choice.specs.Choices.{standard_choice};
 
     ghost is_default = { λ choice. choice ≡ standard_choice };
 
@@ -70,30 +70,4 @@ impl Default for Choice {
             form: Form::One,
         }
     }
-}
-
-/// What an answer holds.
-#[derive(Clone, Copy, Debug, PartialEq, Eq)]
-pub enum Kind {
-    /// A least-cost flow with prices.
-    Flow,
-    /// A node set that blocks every flow.
-    Blocked,
-    /// A refusal that names the first bad line.
-    Refused,
-}
-
-// Which engine a choice means, for the problem at hand.
-#[derive(Clone, Copy, Debug, PartialEq, Eq)]
-pub(crate) enum Meant {
-    // The plain engine.
-    ByCancel,
-    // The network simplex.
-    BySimplex,
-    // Cost scaling.
-    ByScaling,
-    // A fast search that is judged.
-    ByAugment,
-    // Shortest augmenting paths.
-    BySap,
 }

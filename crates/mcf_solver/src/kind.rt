@@ -1,0 +1,12 @@
+//! What kind of answer there is.
+
+/// What an answer holds.
+#[derive(Clone, Copy, Debug, PartialEq, Eq)]
+pub enum Kind {
+    /// A least-cost flow with prices.
+    Flow,
+    /// A node set that blocks every flow.
+    Blocked,
+    /// A refusal that names the first bad line.
+    Refused,
+}
