@@ -1,3 +1,1 @@
-pub mod AskedLemmas
-pub mod AskedTexts
 pub mod ServedLemmas

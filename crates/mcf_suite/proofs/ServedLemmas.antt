@@ -6,8 +6,8 @@ use Rattle.clap.specs.Words.{App, HasKind, IsAmong, Kinds, Text, fault_of, kind_
 use Rattle.clap.specs.declared.error.Error.{Error}
 use Rattle.clap.specs.declared.error.kind.ErrorKind.{ErrorKind}
 use Rattle.clap.specs.declared.error.kind.ErrorKind.TheVariants.{DisplayHelp, DisplayVersion, OutOfMemory}
-use Rattle.mcf_suite.specs.Asking.{Asks, IsMcf}
-use Rattle.mcf_suite.specs.declared.asking.Asked.{Asked}
+use Rattle.mcf_asking.specs.Asking.{Asks, IsMcf}
+use Rattle.mcf_asking.specs.declared.asking.Asked.{Asked}
 use Rattle.mcf_solver.specs.declared.fault.RunFault.{RunFault}
 use Rattle.mcf_solver.specs.declared.fault.RunFault.TheVariants.{Read, Write, NoMemory, TooLong}
 use Rattle.mcf_solver.specs.Devices.{CountsOneFailure}

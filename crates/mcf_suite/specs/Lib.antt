@@ -1,3 +1,4 @@
+pub use Rattle.mcf_asking.specs.Asking
 pub use Rattle.mcf_choice.specs.BlockSizes
 pub use Rattle.mcf_solver.specs.Answering
 pub use Rattle.mcf_solver.specs.Chosen
@@ -18,6 +19,5 @@ pub use Rattle.mcf_solver.specs.Running
 pub use Rattle.mcf_solver.specs.Spelling
 pub use Rattle.mcf_solver.specs.States
 pub use Rattle.mcf_solver.specs.Written
-pub mod Asking
 pub mod Serving
 pub mod Private

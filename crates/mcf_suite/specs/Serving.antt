@@ -8,13 +8,13 @@ use Rattle.clap.specs.Words.{App, IsAmong, Text, fault_of}
 use Rattle.clap.specs.declared.error.kind.ErrorKind.{ErrorKind}
 use Rattle.clap.specs.declared.error.kind.ErrorKind.TheVariants.{DisplayHelp, DisplayVersion}
 use Rattle.mcf_suite.specs.declared.version.TheConstants.{VERSION}
-use Rattle.mcf_suite.specs.declared.asking.Asked.{Asked}
+use Rattle.mcf_asking.specs.declared.asking.Asked.{Asked}
 use Rattle.mcf_choice.specs.declared.choice.Choice.{Choice}
 use Rattle.mcf_solver.specs.declared.kind.Kind.{Kind}
 use Rattle.mcf_solver.specs.declared.kind.Kind.TheVariants.{Flow, Blocked, Refused}
 use Rattle.mcf_solver.specs.declared.fault.RunFault.{RunFault}
 use Rattle.mcf_solver.specs.declared.fault.RunFault.TheVariants.{Read, Write, NoMemory, TooLong}
-use Rattle.mcf_suite.specs.Asking.{Asks, IsMcf}
+use Rattle.mcf_asking.specs.Asking.{Asks, IsMcf}
 use Rattle.mcf_solver.specs.Devices.{CountsOneFailure}
 use Rattle.mcf_solver.specs.Running.{IsTakenWhole, IsTooLong, SendsAnswer, SendsBeginning, TakesBeginning, fault_text}
 

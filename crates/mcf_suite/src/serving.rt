@@ -6,10 +6,10 @@ ghost use Rattle.mcf_suite.specs.Private.Failing.{IsFailure, IsHelpFailure, IsRu
 ghost use Rattle.mcf_suite.specs.Serving.{Answers, AnswersInPart, AsksToSolve, GivesBytes, IsAskedFor, IsReason, OpensBy, Serves, ServesInPart, Tells};
 ghost use Rattle.mcf_suite.specs.Serving.{fault_line, status_of};
 
-use crate::asking::command;
 use crate::version::VERSION;
 use clap::Error;
 use clap::error::ErrorKind;
+use mcf_asking::command;
 use mcf_solver::{Choice, Kind, RunFault, Sink, Source, run, send};
 use std::alloc::{AllocError, Global};
 use std::convert::AsStr;

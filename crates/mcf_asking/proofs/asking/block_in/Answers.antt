@@ -1,5 +1,5 @@
-use Rattle.mcf_suite.proofs.AskedLemmas.{block_read, block_unread}
-use Rattle.mcf_suite.proofs.asking.block_in.Goals as goal
+use Rattle.mcf_asking.proofs.AskedLemmas.{block_read, block_unread}
+use Rattle.mcf_asking.proofs.asking.block_in.Goals as goal
 
 pub returns-in-Ok : goal.returns-in-Ok
 returns-in-Ok c =

@@ -1,10 +1,10 @@
 use Rattle.std.proofs.Common.{rules, ap, ◌≡◌, ◌∙◌}
 use Rattle.clap.specs.Words.{rule_of}
 use Rattle.clap.specs.Walk.{texts}
-use Rattle.mcf_suite.specs.Asking.{pricing_names}
-use Rattle.mcf_suite.proofs.asking.pricing_option.Goals as goal
+use Rattle.mcf_asking.specs.Asking.{engine_names}
+use Rattle.mcf_asking.proofs.asking.engine_option.Goals as goal
 
 pub returns-clause-rule : goal.returns-clause-rule
 returns-clause-rule c =
-    let spelled : texts c.as_slice.result.now ≡ pricing_names = search rules in
+    let spelled : texts c.as_slice.result.now ≡ engine_names = search rules in
     (c.as_slice.result, spelled, ap rule_of c.help.ensures ∙ c.word_option.ensures.rule)

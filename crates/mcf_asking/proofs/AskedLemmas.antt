@@ -9,8 +9,8 @@ use Rattle.mcf_choice.specs.BlockSizes.{IsBlockSize}
 use Rattle.clap.specs.Words.{App, HasKind, Row, Text, fault_of, is_simple, is_simple_and_free, kind_of, takes}
 use Rattle.clap.specs.declared.error.Error.{Error}
 use Rattle.clap.specs.declared.error.kind.ErrorKind.TheVariants.{OutOfMemory}
-use Rattle.mcf_suite.specs.declared.asking.Asked.{Asked}
-use Rattle.mcf_suite.specs.Asking.{IsMcf, IsReading, block_in, block_parser, engine_names, form_names, mcf_app, pricing_names}
+use Rattle.mcf_asking.specs.declared.asking.Asked.{Asked}
+use Rattle.mcf_asking.specs.Asking.{IsMcf, IsReading, block_in, block_parser, engine_names, form_names, mcf_app, pricing_names}
 
 -- some names that a parse may have read
 abbrev lent : List Text → Bor (List (Bor Text))

@@ -13,7 +13,7 @@ use Rattle.clap.specs.declared.builder.value_parser.ValueParser.{ValueParser}
 use Rattle.clap.specs.declared.builder.value_parser.ValueParser.TheVariants as parser
 use Rattle.clap.specs.declared.error.Error.{Error}
 use Rattle.clap.specs.declared.error.kind.ErrorKind.TheVariants.{OutOfMemory}
-use Rattle.mcf_suite.specs.declared.asking.Asked.{Asked}
+use Rattle.mcf_asking.specs.declared.asking.Asked.{Asked}
 use Rattle.mcf_choice.specs.declared.choice.EngineChoice.{EngineChoice}
 use Rattle.mcf_choice.specs.declared.choice.EngineChoice.TheVariants.{Auto, Cancel, Simplex, Scaling, Augment, Sap}
 use Rattle.mcf_choice.specs.declared.choice.PricingChoice.{PricingChoice}

@@ -10,8 +10,8 @@ use Rattle.mcf_choice.specs.declared.choice.PricingChoice.{PricingChoice}
 use Rattle.mcf_choice.specs.declared.choice.PricingChoice.TheVariants.{Best, Block}
 use Rattle.mcf_choice.specs.declared.choice.Form.{Form}
 use Rattle.mcf_choice.specs.declared.choice.Form.TheVariants.{One, Two}
-use Rattle.mcf_suite.specs.Asking.{block_by, engine_by, form_by, pricing_by}
-use Rattle.mcf_suite.proofs.AskedLemmas.{some_app}
+use Rattle.mcf_asking.specs.Asking.{block_by, engine_by, form_by, pricing_by}
+use Rattle.mcf_asking.proofs.AskedLemmas.{some_app}
 
 -- the name of the subcommand, the engine and the file
 asked_by : List Text → Option (Text × EngineChoice × Option Text)

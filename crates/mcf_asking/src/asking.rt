@@ -2,12 +2,12 @@
 ghost use Rattle.std.specs.Prelude.{◌≡◌, IfOk, false, map, option_map, true};
 ghost use Rattle.clap.specs.Words.{app_of, rule_of, shape_of};
 ghost use Rattle.clap.specs.declared.builder.command.Command.TheViews.{out-Command};
-ghost use Rattle.mcf_suite.specs.Asking.{IsMcf, IsReading, IsSolve, Offers, block_by, block_in, block_rule, engine_by, engine_names, engine_rule, file_rule};
-ghost use Rattle.mcf_suite.specs.Asking.{form_by, form_names, form_rule, pricing_by, pricing_names, pricing_rule, word_rule};
+ghost use Rattle.mcf_asking.specs.Asking.{IsMcf, IsReading, IsSolve, Offers, block_by, block_in, block_rule, engine_by, engine_names, engine_rule, file_rule};
+ghost use Rattle.mcf_asking.specs.Asking.{form_by, form_names, form_rule, pricing_by, pricing_names, pricing_rule, word_rule};
 
 use clap::builder::ValueParser;
 use clap::{Arg, Command, Error};
-use mcf_solver::{BlockSize, Choice, EngineChoice, Form, PricingChoice};
+use mcf_choice::{BlockSize, Choice, EngineChoice, Form, PricingChoice};
 use std::alloc::{AllocError, Global};
 use std::convert::AsStr;
 

@@ -1,9 +1,9 @@
 use Rattle.std.proofs.Common.{◌∙◌, ap, codes, inl, map, subst, sym}
 use Rattle.clap.proofs.WalkLemmas.{first_value-rows}
 use Rattle.clap.specs.Words.{HasKind, app_of, fault_of, found_of, kind_of}
-use Rattle.mcf_suite.specs.Asking.{block_by, engine_by, form_by, pricing_by}
-use Rattle.mcf_suite.proofs.AskedLemmas.{mcf_is_free, mcf_is_simple, named_rows, refused, some_app, some_mcf}
-use Rattle.mcf_suite.proofs.asking.command.Goals as goal
+use Rattle.mcf_asking.specs.Asking.{block_by, engine_by, form_by, pricing_by}
+use Rattle.mcf_asking.proofs.AskedLemmas.{mcf_is_free, mcf_is_simple, named_rows, refused, some_app, some_mcf}
+use Rattle.mcf_asking.proofs.asking.command.Goals as goal
 
 pub returns-in_err-mcf : goal.returns-in_err-mcf
 returns-in_err-mcf g c =

@@ -1,0 +1,2 @@
+pub use Rattle.mcf_choice.specs.BlockSizes
+pub mod Asking
