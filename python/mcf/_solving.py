@@ -3,12 +3,12 @@ import struct
 from array import array
 from itertools import chain
 from operator import index
-from typing import Any, Dict, Hashable, Iterable, List, Mapping, Optional, Sequence, Tuple, Union
+from typing import AbstractSet as Set, Any, Dict, Hashable, Iterable, List, Mapping, Optional, Sequence, Tuple, Union
 
 from ._library import BLOCKED, CODES, REFUSED, SIDES, ArcArrays, Choice, Verdict, choice_of, marked
 from ._numbers import exact, limited, scale_of, unscaled
 
-BOUND, COST, NODE = 10 ** 18, 10 ** 15, 2 ** 32 - 2
+BOUND, COST, NODE, NODES = 10 ** 18, 10 ** 15, 2 ** 32 - 2, 10 ** 6
 INFINITE = float("inf")
 # A flow problem of more nodes than this goes to the search that is judged: docs/BENCH.md, "What the tools choose".
 LARGE = 2 ** 14
@@ -174,9 +174,9 @@ def solve_whole(supplies: List[int], arcs: List[Arc], choice, check: bool) -> Tu
     return problem, verdict
 
 
-def _listed(values):
-    """Rows of numpy, or any iterable, as a list."""
-    return values.tolist() if hasattr(values, "tolist") else list(values)
+def listed(values):
+    """An array of numpy as a list; another iterable as it is."""
+    return values.tolist() if hasattr(values, "tolist") else values
 
 
 def _numbered(supplies: Mapping[Hashable, Any], arcs: List[tuple]) -> Tuple[List[Hashable], List[Any], List[tuple]]:
@@ -232,14 +232,17 @@ def solve(supplies: Union[int, Sequence[Any], Mapping[Hashable, Any]], arcs: Ite
       ..
     mcf._solving.Infeasible: 1 node(s) must send 1 and can send 0
     """
-    rows = [tuple(arc) if len(arc) == 5 else _without_low(arc) for arc in _listed(arcs)]
+    rows = [tuple(arc) if len(arc) == 5 else _without_low(arc) for arc in map(listed, listed(arcs))]
     labels: Optional[List[Hashable]] = None
     if isinstance(supplies, Mapping):
         labels, given, rows = _numbered(supplies, rows)
     elif isinstance(supplies, int) and supplies < 0:
         raise ValueError("there are no %d nodes" % supplies)
     else:
-        given = [0] * supplies if isinstance(supplies, int) else _listed(supplies)
+        # A node more than there may be is refused as any number of them is.
+        given = [0] * min(supplies, NODES + 1) if isinstance(supplies, int) else listed(supplies)
+        if isinstance(given, Set):
+            raise TypeError("supplies have an order, and a set has none")
     amounts, exacts, units, costs = _scaled([exact(b) for b in given], rows)
     try:
         problem, verdict = solve_whole(amounts, exacts, suited(len(amounts), engine, pricing, block), check)

@@ -9,7 +9,7 @@ from typing import Any, List, Optional, Tuple
 
 from ._library import BLOCKED, CODES, FLOW, PairArrays, choice_of
 from ._numbers import exact, limited, scale_of
-from ._solving import COST, Infeasible, NotAccepted, Refused, solve_whole, suited
+from ._solving import COST, Infeasible, NotAccepted, Refused, listed, solve_whole, suited
 
 
 def linear_sum_assignment(cost_matrix: Any, maximize: bool = False, *, engine: str = "auto", check: bool = True) -> Tuple[Any, Any]:
@@ -52,8 +52,8 @@ def _cells(matrix, maximize: bool):
             return cells, height, width, numpy
         flat = table.ravel().tolist()
     else:
-        rows = list(matrix)
-        if not all(hasattr(row, "__len__") for row in rows):
+        rows = list(map(listed, matrix))
+        if not all(hasattr(row, "__len__") and not isinstance(row, (str, bytes)) for row in rows):
             raise ValueError("expected a matrix (2-D array), got a 1 array")
         height, width = len(rows), len(rows[0]) if rows else 0
         if any(len(row) != width for row in rows):
@@ -61,8 +61,10 @@ def _cells(matrix, maximize: bool):
         flat = list(chain.from_iterable(rows))
     try:
         # Three times as fast as array("q", flat), which before Python 3.10 also takes a Decimal, without what is after its point.
-        return array("q", struct.pack("%dq" % len(flat), *([-c for c in flat] if maximize else flat))), height, width, numpy
-    except (TypeError, struct.error):
+        cells = array("q", struct.pack("%dq" % len(flat), *flat))
+        # Turned round as they are here: a number of numpy may wrap.
+        return array("q", [-c for c in cells]) if maximize else cells, height, width, numpy
+    except (TypeError, OverflowError, struct.error):
         return _whole(flat, maximize), height, width, numpy
 
 

@@ -2,10 +2,7 @@
 from operator import index
 from typing import Iterable, List, Optional, Sequence
 
-from ._solving import Flow, Infeasible, MCFError, Refused, solve
-
-# How many nodes there may be.
-NODES = 1000000
+from ._solving import NODES, Flow, Infeasible, MCFError, Refused, solve
 
 
 def _together(*columns: Sequence[int]) -> Iterable[tuple]:
@@ -15,8 +12,17 @@ def _together(*columns: Sequence[int]) -> Iterable[tuple]:
     return zip(*columns)
 
 
+def _node(node: int) -> int:
+    """The number of a node that may be."""
+    number = index(node)
+    if not 0 <= number < NODES:
+        raise ValueError("a node has a number from 0 to %d, and not %d" % (NODES - 1, number))
+    return number
+
+
 class SimpleMinCostFlow:
-    """Collects arcs and supplies by number, and solves them, as ortools.graph.python.min_cost_flow.SimpleMinCostFlow does.
+    """Collects arcs and supplies by number, and solves them, as ortools.graph.python.min_cost_flow.SimpleMinCostFlow does. A call
+    that raises has added nothing.
 
     >>> smcf = SimpleMinCostFlow()
     >>> arcs = smcf.add_arcs_with_capacity_and_unit_cost([0, 0, 1], [1, 2, 2], [4, 3, 4], [1, 5, 1])
@@ -32,27 +38,27 @@ class SimpleMinCostFlow:
         self._answer: Optional[Flow] = None
         self.error: Optional[MCFError] = None
 
-    def _reach(self, node: int) -> int:
-        number = index(node)
-        if not 0 <= number < NODES:
-            raise ValueError("a node has a number from 0 to %d, and not %d" % (NODES - 1, number))
-        self._supplies += [0] * (number + 1 - len(self._supplies))
-        return number
+    def _reach(self, node: int) -> None:
+        self._supplies += [0] * (node + 1 - len(self._supplies))
 
     def add_arc_with_capacity_and_unit_cost(self, tail: int, head: int, capacity: int, unit_cost: int) -> int:
-        self._arcs.append((self._reach(tail), self._reach(head), index(capacity), index(unit_cost)))
-        return len(self._arcs) - 1
+        return self.add_arcs_with_capacity_and_unit_cost([tail], [head], [capacity], [unit_cost])[0]
 
     def add_arcs_with_capacity_and_unit_cost(self, tails: Sequence[int], heads: Sequence[int], capacities: Sequence[int],
                                              unit_costs: Sequence[int]) -> List[int]:
-        return [self.add_arc_with_capacity_and_unit_cost(*arc) for arc in _together(tails, heads, capacities, unit_costs)]
+        arcs = [(_node(u), _node(v), index(cap), index(cost)) for u, v, cap, cost in _together(tails, heads, capacities, unit_costs)]
+        for u, v, _, _ in arcs:
+            self._reach(max(u, v))
+        self._arcs += arcs
+        return list(range(len(self._arcs) - len(arcs), len(self._arcs)))
 
     def set_node_supply(self, node: int, supply: int) -> None:
-        self._supplies[self._reach(node)] = index(supply)
+        self.set_nodes_supplies([node], [supply])
 
     def set_nodes_supplies(self, nodes: Sequence[int], supplies: Sequence[int]) -> None:
-        for node, supply in _together(nodes, supplies):
-            self.set_node_supply(node, supply)
+        for node, supply in [(_node(v), index(b)) for v, b in _together(nodes, supplies)]:
+            self._reach(node)
+            self._supplies[node] = supply
 
     def num_nodes(self) -> int:
         return len(self._supplies)

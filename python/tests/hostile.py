@@ -3,6 +3,7 @@ numbers. Each call has to answer what is right, or to raise what says why not. M
 import os
 import random
 import sys
+import threading
 import unittest
 from decimal import Decimal
 from fractions import Fraction
@@ -112,6 +113,37 @@ class Numbers(unittest.TestCase):
         self.assertEqual(mcf.solve([], []).flow, [])
         self.assertEqual(mcf.solve({}, []).prices, {})
 
+    def test_sets_and_texts_have_no_order(self):
+        for wrong in ({4, -4}, frozenset((4, -4)), {4: 0, -4: 0}.keys()):
+            self.assertRaises(TypeError, mcf.solve, wrong, [(0, 1, 5, 1)])
+        for wrong in (["12", "34"], [b"12", b"34"], "12"):
+            self.assertRaises((ValueError, TypeError), mcf.linear_sum_assignment, wrong)
+
+    def test_numbers_of_nodes(self):
+        for many in (10 ** 6 + 1, 10 ** 15, 10 ** 40):
+            with self.assertRaises(mcf.Refused) as c:
+                mcf.solve(many, [])
+            self.assertEqual((c.exception.arc, c.exception.node, c.exception.reason), (None, None, "size"))
+
+    def test_what_only_looks_like_a_number(self):
+        class Lying:
+            def __init__(self, answers):
+                self.answers = iter(answers)
+
+            def __index__(self):
+                answer = next(self.answers)
+                if isinstance(answer, Exception):
+                    raise answer
+                return answer
+
+        for answers in ((ZeroDivisionError(),), ("5",), (None,), (1.5,), (TypeError(),)):
+            for call in (lambda it: mcf.solve([it, 0], []), lambda it: mcf.solve([0, 0], [(0, it, 1, 1)]), lambda it: mcf.solve([0, 0], [(0, 1, it, 1)]),
+                         lambda it: mcf.linear_sum_assignment([[it]]), lambda it: mcf.SimpleMinCostFlow().set_node_supply(0, it)):
+                self.assertRaises((ValueError, TypeError, ZeroDivisionError), call, Lying(answers * 9))
+        # Asked once, whatever it would say the next time.
+        self.assertEqual(mcf.solve([Lying([3, 4, 5]), -3], [(0, Lying([1, 0, 7]), Lying([3, -1, 0]), Lying([2, 9]))]).cost, 6)
+        self.assertEqual(mcf.linear_sum_assignment([[Lying([3, -9]), 1], [1, 2]]), ([0, 1], [1, 0]))
+
     def test_choices(self):
         for options in ({"block": 0}, {"block": -1}, {"block": 2 ** 32 + 1}, {"block": "2"}, {"engine": None}, {"engine": []}, {"pricing": 3}):
             with self.assertRaises((ValueError, TypeError), msg=repr(options)):
@@ -156,7 +188,9 @@ class Numbers(unittest.TestCase):
             self.assertRaises((ValueError, TypeError), problem.set_node_supply, 0, wrong)
             self.assertRaises((ValueError, TypeError), problem.add_arc_with_capacity_and_unit_cost, 0, 1, wrong, 1)
         self.assertRaises(ValueError, problem.add_arcs_with_capacity_and_unit_cost, [0], [1], [1, 2], [3])
-        self.assertEqual(problem.num_arcs(), 0)
+        self.assertRaises(ValueError, problem.add_arcs_with_capacity_and_unit_cost, [0, 5, -1], [1, 6, 0], [1, 1, 1], [3, 3, 3])
+        self.assertRaises(ValueError, problem.set_nodes_supplies, [0, -1], [1, 1])
+        self.assertEqual((problem.num_arcs(), problem.num_nodes()), (0, 0))
         problem = mcf.SimpleMinCostFlow()
         self.assertEqual((problem.solve(), problem.optimal_cost()), (problem.OPTIMAL, 0))
         problem.add_arc_with_capacity_and_unit_cost(0, 1, 10 ** 19, 10 ** 16)
@@ -217,6 +251,45 @@ class Arrays(unittest.TestCase):
             self.assertEqual(mcf_sum(base), best)
             self.assertEqual(mcf_sum(base.T), best)
             self.assertEqual(mcf_sum(np.asmatrix(base)), best)
+
+    def test_lists_of_numbers_of_numpy(self):
+        chance = random.Random(7)
+        for kind in ("i1", "u1", "i2", "u2", "i4", "u4", "i8", "u8", "f4", "f8"):
+            for shape in ((4, 4), (2, 4), (4, 2)):
+                low = 0 if kind[0] == "u" else -128
+                table = np.array([[chance.choice((low, low + 1, 0, 1, 2, 99, 127)) for _ in range(shape[1])] for _ in range(shape[0])]).astype(kind)
+                plain = table.tolist()
+                for rows in (list(table), [list(row) for row in table]):
+                    for maximize in (False, True):
+                        found = [sum(plain[i][j] for i, j in zip(*mcf.linear_sum_assignment(matrix, maximize))) for matrix in (rows, plain)]
+                        self.assertEqual(found[0], found[1], (kind, plain, maximize))
+                supplies, arcs = np.array([3, -3]).astype("i1"), np.array([[0, 1, 9, 5]]).astype(kind)
+                self.assertEqual(mcf.solve(list(supplies), list(arcs)).cost, 15)
+        forbidden = [np.array([np.inf, 2], "f4"), np.array([1, 9], "f4")]
+        self.assertEqual(mcf.linear_sum_assignment(forbidden), ([0, 1], [1, 0]))
+
+    def test_arrays_that_are_changed_meanwhile(self):
+        table, supplies, stopped = np.zeros((60, 60), int), np.array([5, -5]), threading.Event()
+        arcs = np.array([[0, 1, 5, 1]] * 3)
+
+        def change():
+            while not stopped.is_set():
+                table[:] = np.random.randint(-9, 9, table.shape)
+                supplies[:] = supplies[::-1].copy()
+                arcs[:, 2:] = np.random.randint(0, 9)
+        thread = threading.Thread(target=change)
+        thread.start()
+        try:
+            for _ in range(200):
+                rows, columns = mcf.linear_sum_assignment(table)
+                self.assertEqual(len(set(columns.tolist())), 60)
+                try:
+                    self.assertTrue(mcf.solve(supplies, arcs).verdict)
+                except (mcf.Infeasible, mcf.Refused):
+                    pass
+        finally:
+            stopped.set()
+            thread.join()
 
     def test_what_is_no_matrix(self):
         for wrong in (np.zeros(3), np.zeros((2, 2, 2)), np.array(1), np.array([["a"]]), np.zeros((2, 2), "c16"), np.zeros((1, 1), "M8[s]"),
