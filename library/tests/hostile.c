@@ -1,5 +1,5 @@
-/* Hostile texts and arrays: whatever is lent lies at the edge of memory that may be touched; texts are noise, examples cut off or changed, and
-   arrays have numbers at the limits and past them. What comes back is held against the definitions, which stand here once more. The first word is
+/* Hostile texts and arrays: whatever is lent lies at the edge of memory that may be touched, and what is lent to be read can't be written; texts are
+   noise, examples cut off or changed, and arrays have numbers at the limits and past them. What comes back is held against the definitions, which stand here once more. The first word is
    a number of rounds, and the others are instance texts. Ends with 0, or names the line of the first check that fails. */
 #define _DEFAULT_SOURCE
 #include "mcf.h"
@@ -45,26 +45,31 @@ static void *at_edge(uint8_t *end, const void *bytes, size_t length) {
     return memcpy(end - length, bytes, length);
 }
 
+/* So many bytes before an end can be read alone, or written again. */
+static void protect(uint8_t *end, size_t size, int how) {
+    CHECK(mprotect(end - size, size, how) == 0);
+}
+
 /* ---- texts */
 
 static uint8_t text[SIZE], *input_end, *room_end, *answer_end;
 
-/* A text is answered, the room has just the length that is lacking, and the checker accepts the answer; others it judges. */
-static void try_text(size_t length) {
-    const uint8_t *input = at_edge(input_end, text, length);
+/* A text is answered by any engine, the room has just the length that is lacking, and the checker accepts the answer; others it judges. */
+static void answer_text(const uint8_t *input, size_t length) {
+    const struct mcf_choice any = {(uint32_t)chance(6), (uint32_t)chance(4), (uint32_t)chance(3), (uint32_t)chance(3)};
     struct mcf_verdict told;
     size_t used = 0, again = 0;
     uint8_t *room, *other;
     uint32_t status;
     int change;
     CHECK(mcf_check(input, length, input, length, &told) <= 1);
-    CHECK(mcf_solve(input, length, &standard, room_end, 0, &used) == MCF_NO_ROOM && used > 0);
+    CHECK(mcf_solve(input, length, &any, room_end, 0, &used) == MCF_NO_ROOM && used > 0);
     if (used > ROOM) return;
     room = room_end - used;
     memset(room, 7, used);
-    CHECK(mcf_solve(input, length, &standard, room + 1, used - 1, &again) == MCF_NO_ROOM && again == used);
+    CHECK(mcf_solve(input, length, &any, room + 1, used - 1, &again) == MCF_NO_ROOM && again == used);
     CHECK(room[0] == 7 && memcmp(room, room + 1, used - 1) == 0);
-    status = mcf_solve(input, length, &standard, room, used, &again);
+    status = mcf_solve(input, length, &any, room, used, &again);
     CHECK(status <= MCF_REFUSED && again == used);
     CHECK(mcf_check(input, length, room, used, &told) == 0 && told.kind == status);
     outcomes[status]++;
@@ -75,6 +80,13 @@ static void try_text(size_t length) {
         if (cut > 0 && change > 0) other[chance(cut)] = (uint8_t)chance(256);
         CHECK(mcf_check(input, length, other, cut, &told) == (told.kind > MCF_ACCEPTED_REFUSAL));
     }
+}
+
+static void try_text(size_t length) {
+    const uint8_t *input = at_edge(input_end, text, length);
+    protect(input_end, SIZE, PROT_READ);
+    answer_text(input, length);
+    protect(input_end, SIZE, PROT_READ | PROT_WRITE);
 }
 
 static size_t read_text(const char *path) {
@@ -264,7 +276,13 @@ static const void *arcs_at_edge(void) {
 
 static const void *lent_arcs;
 
-static uint32_t solve(const struct mcf_choice *choice, int64_t *flow, size_t flow_length, int64_t *prices, size_t prices_length, struct mcf_verdict *told) {
+/* What is lent to be read, a flow that is judged among it, can be read alone, or written again. */
+static void protect_arrays(int is_judged, int how) {
+    protect(supply_end, PAGE, how), protect(arc_end, PAGE, how);
+    if (is_judged) protect(flow_end, PAGE, how), protect(price_end, PAGE, how), protect(other_flow_end, PAGE, how), protect(other_price_end, PAGE, how);
+}
+
+static uint32_t call(const struct mcf_choice *choice, int64_t *flow, size_t flow_length, int64_t *prices, size_t prices_length, struct mcf_verdict *told) {
     struct mcf_flow_problem flows;
     struct mcf_assignment pairs;
     flows.supplies = (const int64_t *)(const void *)(supply_end - now.nodes * sizeof(int64_t));
@@ -280,6 +298,14 @@ static uint32_t solve(const struct mcf_choice *choice, int64_t *flow, size_t flo
                             : mcf_check_arcs(&flows, flow, flow_length, prices, prices_length, told);
     return now.is_pairs ? mcf_solve_pairs(&pairs, choice, flow, flow_length, prices, prices_length, told)
                         : mcf_solve_arcs(&flows, choice, flow, flow_length, prices, prices_length, told);
+}
+
+static uint32_t solve(const struct mcf_choice *choice, int64_t *flow, size_t flow_length, int64_t *prices, size_t prices_length, struct mcf_verdict *told) {
+    uint32_t status;
+    protect_arrays(choice == NULL, PROT_READ);
+    status = call(choice, flow, flow_length, prices, prices_length, told);
+    protect_arrays(choice == NULL, PROT_READ | PROT_WRITE);
+    return status;
 }
 
 static wide number_of(const struct mcf_verdict *told) {
@@ -372,6 +398,29 @@ static void try_sizes(void) {
     CHECK(mcf_check_pairs(&pairs, flow, 0, prices, NODES, &told) == MCF_REFUSED && told.code == MCF_SIZE);
 }
 
+/* What is only read may be lent twice: an arc is the supplies of four nodes, and a flow is its own prices. */
+static void try_overlap(void) {
+    const int64_t ends = INT64_C(0x200000001);
+    const int64_t values[4] = {ends, -5, 7, -ends - 2}, none[3] = {0, 0, 0};
+    const struct mcf_arc arc = {1, 2, -5, 7, -8589934595}, loops[3] = {{1, 1, 0, 1, 0}, {2, 3, 0, 1, 0}, {3, 2, 0, 1, 0}};
+    const struct mcf_flow_problem once = {values, 4, &arc, 1}, whole = {none, 3, loops, 3};
+    struct mcf_flow_problem twice = {NULL, 4, NULL, 1};
+    struct mcf_choice choice = {0, 0, 0, 0};
+    struct mcf_verdict told, other;
+    int64_t flow[3], prices[4], again[3], others[4];
+    void *both = at_edge(supply_end, &arc, sizeof arc);
+    CHECK(memcmp(both, values, sizeof values) == 0);
+    twice.supplies = both, twice.arcs = both;
+    for (choice.engine = 0; choice.engine < 6; choice.engine++) {
+        memset(&told, 0, sizeof told), memset(&other, 0, sizeof other);
+        CHECK(mcf_solve_arcs(&once, &choice, flow, 1, prices, 4, &told) == MCF_BLOCKED);
+        CHECK(mcf_solve_arcs(&twice, &choice, again, 1, others, 4, &other) == MCF_BLOCKED);
+        CHECK(memcmp(prices, others, sizeof prices) == 0 && memcmp(&told, &other, sizeof told) == 0);
+    }
+    memset(&told, 0, sizeof told);
+    CHECK(mcf_check_arcs(&whole, none, 3, none, 3, &told) == 0 && told.kind == MCF_ACCEPTED_FLOW);
+}
+
 int main(int count, char **words) {
     long rounds = count > 1 ? atol(words[1]) : 0;
     input_end = edge(SIZE);
@@ -381,6 +430,7 @@ int main(int count, char **words) {
     other_flow_end = edge(PAGE), other_price_end = edge(PAGE);
     try_text(0);
     try_sizes();
+    try_overlap();
     try_noise("", "");
     try_noise("", "\n");
     try_noise("", "0123456789");

@@ -117,15 +117,22 @@ int main(int count, char **words) {
     memset(sevens, 7, sizeof sevens);
     make_arrays();
     for (choice.engine = 0; choice.engine < 6; choice.engine++)
-        for (number = 2; number < 6; number++)
-            if (refuse_each(number)) return 1;
+        for (choice.pricing = 0; choice.pricing < 4; choice.pricing++) {
+            for (number = 2; number < 6; number++)
+                if (refuse_each(number)) return 1;
+            /* More is sent than there is room for. */
+            supplies[0] += 1000, supplies[29] -= 1000;
+            if (refuse_each(2)) return 1;
+            supplies[0] -= 1000, supplies[29] += 1000;
+        }
+    choice.pricing = 0;
     for (place = 1; place < count; place++) {
         FILE *file = fopen(words[place], "rb");
         if (!file) return 90;
         length = fread(input, 1, sizeof input, file);
         fclose(file);
         for (choice.engine = 0; choice.engine < 6; choice.engine++) {
-            choice.form = choice.engine & 1;
+            choice.form = 1 + (choice.engine & 1);
             if (refuse_each(0)) return 1;
             memcpy(untouched, room, sizeof room);
             if (refuse_each(1)) return 1;
