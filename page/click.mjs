@@ -128,6 +128,32 @@ async function planner(page, { set, act, go, kind, example, ended }) {
   await ended();
 }
 
+// Names that would be marks or scripts, spots as far as numbers go, and a separator that a line names: all are texts, and a change is read again.
+async function hostile(page, { set, act, go, kind }) {
+  const names = ['<img src=x onerror="document.title=1">', '</text><script>document.title=1</script>&amp;'], title = await page.run('document.title');
+  await kind('flow');
+  await set('places', `sep=|\nname|supply|x|y|constructor\n${names[0]}|2|-1e308|0|${names[1]}\n${names[1]}|-2|1e308|5e-324|__proto__\n`);
+  await set('routes', `sep=|\nfrom|to|most|cost\n${names.join('|')}|5|1\n`);
+  const plan = await go();
+  expect(plan.status === 'flow' && names.every((name) => plan.text.includes(name)), 'names that would be marks are told as they are');
+  const marks = await page.run("document.querySelectorAll('#result img, #result script').length");
+  expect(marks === 0 && await page.run('document.title') === title, 'and are no marks');
+  const drawn = await page.run("document.querySelector('.picture svg').outerHTML");
+  expect(!drawn.includes('NaN') && !drawn.includes('Infinity'), 'spots as far as numbers go are drawn');
+  const { text } = await act(
+    "(() => { const it = [...document.querySelectorAll('input.cell')].find((one) => one.getAttribute('aria-label').startsWith('cost of')); it.value = '3'; it.dispatchEvent(new Event('change')); })()"
+  );
+  expect(text.includes('Cost before 2, now 6;'), 'a change of a table whose separator a line names');
+  await page.run(`(() => {
+    const { arrayBuffer } = File.prototype, data = new DataTransfer();
+    File.prototype.arrayBuffer = async () => { File.prototype.arrayBuffer = arrayBuffer; throw Error('unreadable'); };
+    data.items.add(new File(['x'], 'plans'));
+    dispatchEvent(new DragEvent('drop', { dataTransfer: data }));
+  })()`);
+  await page.until("document.getElementById('result').innerText.includes('plans: this can')", 10);
+  expect(true, 'a folder that was dropped is told');
+}
+
 // Large ones: within their bounds, alive meanwhile, and stopped.
 async function large(page, { set, go, kind, ended }) {
   let seed = 7;
@@ -189,6 +215,7 @@ async function through(opened) {
     const doing = hands(page);
     await plans(page, doing);
     await planner(page, doing);
+    await hostile(page, doing);
     await large(page, doing);
     expect((await doing.example('transport')).status === 'flow', 'and run again');
     for (const trouble of page.troubles) expect(false, trouble);

@@ -65,7 +65,11 @@ function choices() {
 // Files that were chosen or dropped: which of the fields they are for, their beginning says.
 async function take(list) {
   for (const file of list) {
-    const bytes = new Uint8Array(await file.arrayBuffer());
+    const bytes = await file.arrayBuffer().then((buffer) => new Uint8Array(buffer), () => null);
+    if (!bytes) {
+      showTrouble(new BadTable([`${file.name}: this can't be read; is it a folder?`]));
+      continue;
+    }
     const begin = new TextDecoder().decode(bytes.subarray(0, 4096));
     const first = begin.split('\n').find((line) => line.trim()) || '';
     let id = 'places';
