@@ -3,7 +3,7 @@ use crate::instances::{Row, has_arcs, has_supplies};
 use mcf_instance::{
     ArrayFault, Instance, Problem, RawArc, RawPair, assignment_problem, flow_problem,
 };
-use mcf_text::NoMemory;
+use mcf_text::{NoMemory, copies};
 use std::alloc::Global;
 use std::test::Fail;
 
@@ -132,11 +132,7 @@ static FAULTY_FLOWS: [(&[i64], &[Numbers], u32, &str); 12] = [
 fn faulty_flow_problems_of_arrays(rt: HostRuntime) -> Result<(), Fail> {
     for (supplies, arcs, place, word) in FAULTY_FLOWS.iter() {
         let made = flow_of(rt.alloc(), supplies, arcs)?;
-        if *place == 0 {
-            assert!(rt; made.is_ok());
-        } else {
-            assert!(rt; is_faulty(&made, *place, word));
-        }
+        assert!(rt; (*place == 0 && made.is_ok()) || is_faulty(&made, *place, word));
     }
     Ok(())
 }
@@ -160,12 +156,11 @@ fn faulty_assignment_problems_of_arrays(rt: HostRuntime) -> Result<(), Fail> {
     Ok(())
 }
 
+const GREATEST: Numbers = (1, 1, 0, 1_000_000_000_000_000_000, 1_000_000_000_000_000);
+
 // Whether a thousand arcs of the greatest weight are within the total, and one more unit is above it.
 fn is_total_tested(alloc: Global) -> Result<bool, NoMemory> {
-    let mut arcs = Vec::new(alloc);
-    for _ in 0..1000 {
-        arcs.push((1, 1, 0, 1_000_000_000_000_000_000, 1_000_000_000_000_000))?;
-    }
+    let mut arcs = copies(alloc, 1000, GREATEST)?;
     let within = flow_of(alloc, &[0], &arcs)?.is_ok();
     arcs.push((1, 1, 0, 1, 1))?;
     let beyond = flow_of(alloc, &[0], &arcs)?;

@@ -130,6 +130,14 @@ fn faulty_texts_in_pieces_of_one_byte(rt: HostRuntime) -> Result<(), Fail> {
     Ok(())
 }
 
+// Whether an instance of two nodes was read.
+fn has_two_nodes(outcome: &Outcome) -> bool {
+    match outcome {
+        Ok(instance) => instance.node_count() == 2,
+        Err(_) => false,
+    }
+}
+
 // Whether a text with a comment of a million bytes, in many pieces, is an instance.
 fn reads_long_comment(alloc: Global) -> Result<bool, Fail> {
     let piece = [b'x'; 1000];
@@ -140,7 +148,7 @@ fn reads_long_comment(alloc: Global) -> Result<bool, Fail> {
     }
     reader.feed(alloc, b"\nn 2 7")?;
     let outcome = reader.end(alloc)?;
-    Ok(outcome.is_ok_and(|instance| instance.node_count() == 2))
+    Ok(has_two_nodes(&outcome))
 }
 
 #[test]
@@ -159,7 +167,7 @@ fn reads_full_piece(alloc: Global) -> Result<bool, Fail> {
     reader.feed(alloc, &piece)?;
     reader.feed(alloc, b"p min 2 0\n")?;
     let outcome = reader.end(alloc)?;
-    Ok(outcome.is_ok_and(|instance| instance.node_count() == 2))
+    Ok(has_two_nodes(&outcome))
 }
 
 #[test]
@@ -176,33 +184,37 @@ fn pops(feed: &mut LineFeed, number: u128, bytes: &[u8]) -> bool {
     }
 }
 
-// Whether the lines of a feed that weren't popped have these bytes.
-fn keeps(feed: &LineFeed, bytes: &[u8]) -> bool {
-    feed.rest() == bytes
+// Whether a feed of two pieces has four lines, and no more.
+fn has_four_lines(feed: &mut LineFeed) -> bool {
+    let are_popped = pops(feed, 1, b"c one")
+        && pops(feed, 2, b"")
+        && pops(feed, 3, b"\rp min 2 1")
+        && pops(feed, 4, b"last");
+    let is_end = feed.pop().is_none();
+    are_popped && is_end && feed.popped() == 4
 }
 
 #[test]
 fn lines_of_two_pieces(rt: HostRuntime) -> Result<(), Fail> {
     let mut feed = LineFeed::new(rt.alloc());
     feed.feed(b"c one\n\n\rp m")?;
-    assert!(rt; feed.popped() == 0);
-    assert!(rt; keeps(&feed, b"c one\n\n\rp m"));
+    assert!(rt; feed.popped() == 0 && feed.rest() == b"c one\n\n\rp m".as_slice());
     feed.feed(b"in 2 1\nlast")?;
     feed.end();
-    assert!(rt; pops(&mut feed, 1, b"c one"));
-    assert!(rt; pops(&mut feed, 2, b""));
-    assert!(rt; pops(&mut feed, 3, b"\rp min 2 1"));
-    assert!(rt; pops(&mut feed, 4, b"last"));
-    assert!(rt; feed.pop().is_none());
-    assert!(rt; feed.popped() == 4);
+    assert!(rt; has_four_lines(&mut feed));
     Ok(())
 }
 
+static FAULTS: [(FeedFault, &str); 2] = [
+    (FeedFault::NoMemory, "out of memory"),
+    (FeedFault::TooLong, "input too long"),
+];
+
 #[test]
 fn faults_of_pieces_are_shown(rt: HostRuntime) -> Result<(), Fail> {
-    let memory = format!(in rt.alloc(); "{}", FeedFault::NoMemory)?;
-    let length = format!(in rt.alloc(); "{}", FeedFault::TooLong)?;
-    assert!(rt; memory.as_str() == "out of memory");
-    assert!(rt; length.as_str() == "input too long");
+    for (fault, want) in &FAULTS {
+        let text = format!(in rt.alloc(); "{fault}")?;
+        assert!(rt; text.as_str() == *want);
+    }
     Ok(())
 }

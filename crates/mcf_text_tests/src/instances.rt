@@ -284,6 +284,11 @@ fn text_of_long_cap(alloc: Global, digit: u8) -> Result<Vec<u8>, NoMemory> {
 fn numbers_of_a_million_digits(rt: HostRuntime) -> Result<(), Fail> {
     let nines = text_of_long_cap(rt.alloc(), b'9')?;
     assert!(rt; is_refused(rt.alloc(), &nines, 2, "bound")?);
+    Ok(())
+}
+
+#[test]
+fn zeros_before_a_number(rt: HostRuntime) -> Result<(), Fail> {
     let zeros = text_of_long_cap(rt.alloc(), b'0')?;
     assert!(rt; is_instance(rt.alloc(), &zeros, Problem::Min, &[0, 0], &ONE_ARC)?);
     Ok(())

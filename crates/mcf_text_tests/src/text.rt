@@ -1,8 +1,8 @@
 //! What no clause says: values from the rules of the format, printed text, and each call with
 //! ample memory.
 use mcf_text::{
-    ArcId, NoMemory, NodeId, Whole, fields, ids_are_ordered_by_number, is_kept, lines, put_number,
-    split_line, whole,
+    ArcId, NoMemory, NodeId, Whole, copies, fields, ids_are_ordered_by_number, is_kept, lines,
+    put_number, split_line, whole,
 };
 use std::test::Fail;
 
@@ -41,11 +41,18 @@ fn splits(text: &[u8], line: &[u8], rest: &[u8]) -> bool {
     is_line && is_rest
 }
 
+// Texts, the first line of each, and what is behind the end of that.
+static SPLITS: [(&[u8], &[u8], &[u8]); 3] = [
+    (b"c one\n\n\rp", b"c one", b"\n\rp"),
+    (b"\nlast", b"", b"last"),
+    (b"last", b"last", b""),
+];
+
 #[test]
 fn the_first_line_is_split_off(rt: HostRuntime) {
-    assert!(rt; splits(b"c one\n\n\rp", b"c one", b"\n\rp"));
-    assert!(rt; splits(b"\nlast", b"", b"last"));
-    assert!(rt; splits(b"last", b"last", b""));
+    for (text, line, rest) in &SPLITS {
+        assert!(rt; splits(text, line, rest));
+    }
     assert!(rt; split_line(b"").is_none());
 }
 
@@ -71,11 +78,7 @@ fn lines_end_at_line_feeds_alone(rt: HostRuntime) {
 fn has_fields(line: &[u8], want: &[&[u8]]) -> bool {
     let mut rest = fields(line);
     for bytes in want {
-        let Some(field) = rest.next() else {
-            return false;
-        };
-        let is_same = field == *bytes;
-        if !is_same {
+        if rest.next() != Some(*bytes) {
             return false;
         }
     }
@@ -190,21 +193,33 @@ fn whole_numbers_of_all_lengths(rt: HostRuntime) {
     }
 }
 
+static OF_EMPTY_RANGES: [(&[u8], i128, i128, Whole); 3] = [
+    (b"0", 1, -1, Whole::OutOfRange),
+    (b"0", i128::MAX, i128::MIN, Whole::OutOfRange),
+    (b"x", 1, -1, Whole::NotWhole),
+];
+
 #[test]
 fn an_empty_range_has_no_number(rt: HostRuntime) {
-    assert!(rt; whole(b"0", 1, -1) == Whole::OutOfRange);
-    assert!(rt; whole(b"0", i128::MAX, i128::MIN) == Whole::OutOfRange);
-    assert!(rt; whole(b"x", 1, -1) == Whole::NotWhole);
+    for (field, low, high, want) in &OF_EMPTY_RANGES {
+        assert!(rt; whole(field, *low, *high) == *want);
+    }
+}
+
+// Whether a field of zeros is 0, with a 7 behind them 7, and with a sign behind that no number.
+fn are_zeros_passed(field: &mut Vec<u8>) -> Result<bool, NoMemory> {
+    let zeros = whole(field.as_slice(), 0, 9);
+    field.push(b'7')?;
+    let seven = whole(field.as_slice(), 0, 9);
+    field.push(b'-')?;
+    let sign = whole(field.as_slice(), 0, 9);
+    Ok(zeros == Whole::Value(0) && seven == Whole::Value(7) && sign == Whole::NotWhole)
 }
 
 #[test]
 fn a_million_zeros_may_stand_in_front(rt: HostRuntime) -> Result<(), Fail> {
-    let mut field = vec![in rt.alloc(); b'0'; 1_000_000]?;
-    assert!(rt; whole(field.as_slice(), 0, 9) == Whole::Value(0));
-    field.push(b'7')?;
-    assert!(rt; whole(field.as_slice(), 0, 9) == Whole::Value(7));
-    field.push(b'-')?;
-    assert!(rt; whole(field.as_slice(), 0, 9) == Whole::NotWhole);
+    let mut field = copies(rt.alloc(), 1_000_000, b'0')?;
+    assert!(rt; are_zeros_passed(&mut field)?);
     Ok(())
 }
 
@@ -257,16 +272,29 @@ fn want_of_memory_is_shown(rt: HostRuntime) -> Result<(), Fail> {
     Ok(())
 }
 
+// Whether nodes and arcs are ordered by their numbers.
+fn are_ordered() -> bool {
+    let nodes = NodeId::new(1) < NodeId::new(2);
+    let arcs = ArcId::new(1) < ArcId::new(2);
+    let more_nodes = NodeId::new(9) < NodeId::new(10);
+    let more_arcs = ArcId::new(9) < ArcId::new(10);
+    nodes && arcs && more_nodes && more_arcs
+}
+
+// Whether they have the numbers and the places that they are made of.
+fn are_numbered() -> bool {
+    NodeId::new(7).get() == 7
+        && ArcId::new(3).get() == 3
+        && NodeId::at(0) == NodeId::new(1)
+        && ArcId::at(6) == ArcId::new(7)
+        && NodeId::new(7).place() == 6
+        && ArcId::new(1).place() == 0
+}
+
 #[test]
 fn numbers_of_nodes_and_arcs(rt: HostRuntime) {
-    assert!(rt; NodeId::new(1) < NodeId::new(2));
-    assert!(rt; NodeId::new(7).get() == 7);
-    assert!(rt; ArcId::new(1) < ArcId::new(2));
-    assert!(rt; NodeId::new(9) < NodeId::new(10) && ArcId::new(9) < ArcId::new(10));
+    assert!(rt; are_ordered() && are_numbered());
     ids_are_ordered_by_number();
-    assert!(rt; ArcId::new(3).get() == 3);
-    assert!(rt; NodeId::at(0) == NodeId::new(1) && ArcId::at(6) == ArcId::new(7));
-    assert!(rt; NodeId::new(7).place() == 6 && ArcId::new(1).place() == 0);
 }
 
 // Whether a number makes a text longer, or none, where memory is wanting and the text is as it was.
