@@ -55,6 +55,9 @@ class One(WithFolder):
                     self.assertTrue(answer.exists())
                     answer.unlink()
             self.assertEqual(self.run_one(self.folder / "none.min")[0], 3)
+            answer = self.put("done.ans", "s 15\n")
+            self.assertEqual(self.run_one(answer), (3, f"3 {answer} no answer: this is the name of one\n"))
+            self.assertEqual(answer.read_text(), "s 15\n")
             self.assertEqual(self.run_one()[0], 3)
 
     def test_where_the_programs_are(self):
