@@ -37,7 +37,8 @@ def first_lines(name, fault, data):
     sentence, cause = said_of(fault)
     lines = [f"{name}: line {fault.number}: {sentence} (mcf: r {fault.number} {fault.code})"] + shown_line(fault)
     magic = magic_of(data) if fault.number == 1 or b"\n" not in data else None
-    return lines + ([f"Usual cause: {magic or cause}."] if magic or cause else [])
+    usual = magic or cause
+    return lines + ([f"Usual cause: {usual}{'' if usual.endswith('?') else '.'}"] if usual else [])
 
 
 def further_lines(faults):

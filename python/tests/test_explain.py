@@ -53,6 +53,7 @@ class Explain(WithFolder):
                 self.assertEqual(status, 2, said)
                 self.assertIn(f"(mcf: {refusal})", said)
                 self.assertIn(cause, said)
+                self.assertNotIn("?.", said)
 
     def test_the_place(self):
         said, _ = self.explained(b"p min 4 1\n\ta 1 9 0 3 2\r\n")
