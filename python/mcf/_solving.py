@@ -187,6 +187,20 @@ def _numbered(supplies: Mapping[Hashable, Any], arcs: List[tuple]) -> Tuple[List
     return labels, [supplies.get(label, 0) for label in labels], [end + tuple(arc[2:]) for end, arc in zip(ends, arcs)]
 
 
+def _given(supplies: Any, arcs: List[tuple]) -> Tuple[Optional[List[Hashable]], Any, List[tuple]]:
+    """Labels where supplies have them, the supplies, and the arcs by the numbers of nodes."""
+    if isinstance(supplies, Mapping):
+        return _numbered(supplies, arcs)
+    if isinstance(supplies, Set):
+        raise TypeError("supplies have an order, and a set has none")
+    if not isinstance(supplies, int):
+        return None, listed(supplies), arcs
+    if supplies < 0:
+        raise ValueError("there are no %d nodes" % supplies)
+    # One node more than there may be is refused as any number of them is.
+    return None, [0] * min(supplies, NODES + 1), arcs
+
+
 def _without_low(arc: Sequence[Any]) -> tuple:
     """An arc of four values with the lower bound 0."""
     if len(arc) != 4:
@@ -233,16 +247,7 @@ def solve(supplies: Union[int, Sequence[Any], Mapping[Hashable, Any]], arcs: Ite
     mcf._solving.Infeasible: 1 node(s) must send 1 and can send 0
     """
     rows = [tuple(arc) if len(arc) == 5 else _without_low(arc) for arc in map(listed, listed(arcs))]
-    labels: Optional[List[Hashable]] = None
-    if isinstance(supplies, Mapping):
-        labels, given, rows = _numbered(supplies, rows)
-    elif isinstance(supplies, int) and supplies < 0:
-        raise ValueError("there are no %d nodes" % supplies)
-    else:
-        # A node more than there may be is refused as any number of them is.
-        given = [0] * min(supplies, NODES + 1) if isinstance(supplies, int) else listed(supplies)
-        if isinstance(given, Set):
-            raise TypeError("supplies have an order, and a set has none")
+    labels, given, rows = _given(supplies, rows)
     amounts, exacts, units, costs = _scaled([exact(b) for b in given], rows)
     try:
         problem, verdict = solve_whole(amounts, exacts, suited(len(amounts), engine, pricing, block), check)
