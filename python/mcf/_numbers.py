@@ -7,6 +7,11 @@ from typing import Any, Iterable, Union
 Whole = Union[int, Fraction]
 
 
+def is_float(value: Any) -> bool:
+    """Whether it is a float, of numpy's kinds among them."""
+    return isinstance(value, float) or getattr(getattr(value, "dtype", None), "kind", "") == "f"
+
+
 def exact(value: Any) -> Whole:
     """A number as an int or a Fraction. An exponent of more than three digits is past all limits, and isn't multiplied out."""
     if type(value) is int:

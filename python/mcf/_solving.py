@@ -6,7 +6,7 @@ from operator import index
 from typing import AbstractSet as Set, Any, Dict, Hashable, Iterable, List, Mapping, Optional, Sequence, Tuple, Union
 
 from ._library import BLOCKED, CODES, REFUSED, SIDES, ArcArrays, Choice, Verdict, choice_of, marked
-from ._numbers import exact, limited, scale_of, unscaled
+from ._numbers import exact, is_float, limited, scale_of, unscaled
 
 BOUND, COST, NODE, NODES = 10 ** 18, 10 ** 15, 2 ** 32 - 2, 10 ** 6
 INFINITE = float("inf")
@@ -211,7 +211,7 @@ def _without_low(arc: Sequence[Any]) -> tuple:
 def _node(value) -> int:
     """The number of a node, which an array of floats has as a float."""
     try:
-        return int(value) if isinstance(value, float) and value.is_integer() else index(value)
+        return int(value) if is_float(value) and float(value).is_integer() else index(value)
     except TypeError:
         raise TypeError("a node has a number from 0, where supplies are no dict, and not %r" % (value,)) from None
 
@@ -246,7 +246,7 @@ def solve(supplies: Union[int, Sequence[Any], Mapping[Hashable, Any]], arcs: Ite
       ..
     mcf._solving.Infeasible: 1 node(s) must send 1 and can send 0
     """
-    rows = [tuple(arc) if len(arc) == 5 else _without_low(arc) for arc in map(listed, listed(arcs))]
+    rows = [tuple(arc) if len(arc) == 5 else _without_low(arc) for arc in listed(arcs)]
     labels, given, rows = _given(supplies, rows)
     amounts, exacts, units, costs = _scaled([exact(b) for b in given], rows)
     try:

@@ -8,8 +8,8 @@ from itertools import chain
 from typing import Any, List, Optional, Tuple
 
 from ._library import BLOCKED, CODES, FLOW, PairArrays, choice_of
-from ._numbers import exact, limited, scale_of
-from ._solving import COST, Infeasible, NotAccepted, Refused, listed, solve_whole, suited
+from ._numbers import exact, is_float, limited, scale_of
+from ._solving import COST, Infeasible, NotAccepted, Refused, solve_whole, suited
 
 
 def linear_sum_assignment(cost_matrix: Any, maximize: bool = False, *, engine: str = "auto", check: bool = True) -> Tuple[Any, Any]:
@@ -52,7 +52,7 @@ def _cells(matrix, maximize: bool):
             return cells, height, width, numpy
         flat = table.ravel().tolist()
     else:
-        rows = list(map(listed, matrix))
+        rows = list(matrix)
         if not all(hasattr(row, "__len__") and not isinstance(row, (str, bytes)) for row in rows):
             raise ValueError("expected a matrix (2-D array), got a 1 array")
         height, width = len(rows), len(rows[0]) if rows else 0
@@ -74,9 +74,9 @@ def _whole(flat: list, maximize: bool):
         flat = list(map(int, flat))
     else:
         worst = -math.inf if maximize else math.inf
-        if any(isinstance(c, float) and (math.isnan(c) or c == -worst) for c in flat):
+        if any(is_float(c) and (math.isnan(c) or c == -worst) for c in flat):
             raise ValueError("matrix contains invalid numeric entries")
-        exacts = [None if isinstance(c, float) and c == worst else exact(c) for c in flat]
+        exacts = [None if is_float(c) and c == worst else exact(c) for c in flat]
         scale = scale_of(c for c in exacts if c is not None)
         flat = [None if c is None else int(c * scale) for c in exacts]
         past = next((place for place, c in enumerate(flat) if c is not None and abs(c) > COST), None)

@@ -265,8 +265,15 @@ class Arrays(unittest.TestCase):
                         self.assertEqual(found[0], found[1], (kind, plain, maximize))
                 supplies, arcs = np.array([3, -3]).astype("i1"), np.array([[0, 1, 9, 5]]).astype(kind)
                 self.assertEqual(mcf.solve(list(supplies), list(arcs)).cost, 15)
-        forbidden = [np.array([np.inf, 2], "f4"), np.array([1, 9], "f4")]
-        self.assertEqual(mcf.linear_sum_assignment(forbidden), ([0, 1], [1, 0]))
+        for kind in ("f2", "f4", "f8", "g"):
+            forbidden = [np.array([np.inf, 2], kind), np.array([1, 9], kind)]
+            for rows in (forbidden, list(map(list, forbidden))):
+                self.assertEqual(mcf.linear_sum_assignment(rows), ([0, 1], [1, 0]))
+            for wrong in (np.nan, -np.inf):
+                self.assertRaises(ValueError, mcf.linear_sum_assignment, [np.array([wrong, 2], kind), np.array([1, 9], kind)])
+            self.assertEqual(mcf.solve([1, -1], [np.array([0, 1, np.inf, 0.25], kind)]).cost, 0.25)
+        # A float is the decimal that it prints as, with few digits.
+        self.assertEqual(mcf.solve([1, -1], [np.array([0, 1, np.inf, 0.1], "f4")]).cost, 0.1)
 
     def test_arrays_that_are_changed_meanwhile(self):
         table, supplies, stopped = np.zeros((60, 60), int), np.array([5, -5]), threading.Event()
