@@ -1,5 +1,5 @@
 #!/usr/bin/env python3
-"""Refuses each allocation of each test in turn.
+"""Refuses each allocation of each test, or of a program on each example, in turn.
 
     python3 scripts/refuse_memory.py [NAME ...] [--only WORD] [--most N] [--minutes N] [--built]
 
@@ -11,9 +11,14 @@ memory, or with an error that speaks of want of memory; tests of what was lent c
 Printed is a line for each test: how many runs met a refusal, how many of those ended with the error, and how many went
 on to the end. The status is 1 where a run is wrong.
 
+NAME may be mcf or mcfcheck, too: then the program of bin/ is run on each example, mcf by each engine, and on words that
+have no instance. A run is right where it does what it does with ample memory, or says `NAME: out of memory` alone, with
+status 3. Printed is a line for each engine.
+
 Needs `rt`, `cc`, Python 3 and a C library whose `malloc` can be put aside.
 """
 import argparse
+import collections
 import os
 import pathlib
 import re
@@ -23,7 +28,9 @@ import tempfile
 import time
 
 HERE = pathlib.Path(__file__).resolve().parent
-CRATES = HERE.parent / "crates"
+CRATES, BIN, EXAMPLES = (HERE.parent / name for name in ("crates", "bin", "examples"))
+ENGINES = ("auto", "cancel", "simplex", "scaling", "augment", "sap")
+WITHOUT_INSTANCE = (["--version"], ["solve", "--help"], ["solve", "--none"], ["solve", "--block", "0"], [])
 MET = b"memory was refused\n"
 SPEAKS_OF_MEMORY = re.compile(rb"error: .*([Mm]emory|AllocError|AllocFailed)")
 
@@ -64,6 +71,46 @@ def judge(program, test, most, until, shim):
     return not ends["wrong"]
 
 
+def calls(name):
+    """The calls of a program, in groups: what each is called, and the words of its calls."""
+    instances = sorted(path for path in EXAMPLES.iterdir() if path.suffix in (".min", ".asn"))
+    if name == "mcfcheck":
+        return {name: [[path, path.with_suffix(".ans")] for path in instances]}
+    by = {f"{name} --engine {it}": [["solve", "--engine", it, "--form", form, path] for path in instances for form in "12"] for it in ENGINES}
+    return {**by, f"{name} without an instance": WITHOUT_INSTANCE}
+
+
+def run_program(name, words, refused, shim):
+    """Whether the run met a refusal, its status and what it wrote and said."""
+    environment = {"PATH": "/usr/bin:/bin", **({"LD_PRELOAD": str(shim), "REFUSED": str(refused)} if refused else {})}
+    ran = subprocess.run([BIN / name, *words], env=environment, stdin=subprocess.DEVNULL, capture_output=True, timeout=120)
+    return MET in ran.stderr, (ran.returncode, ran.stdout, ran.stderr.replace(MET, b""))
+
+
+def refuse_each(name, words, most, until, shim):
+    """Refuses each allocation of a call of a program; how its runs ended."""
+    ends, want, ample = collections.Counter(), (3, b"", f"{name}: out of memory\n".encode()), run_program(name, words, 0, shim)[1]
+    for refused in range(1, most + 1):
+        met, did = run_program(name, words, refused, shim)
+        end = "well" if did == ample else "without memory" if did == want else "wrong"
+        if end == "wrong":
+            print(f"  {name} {words}: allocation {refused}: wrong: {did}")
+        ends[end] += met or end == "wrong"
+        if not met or time.monotonic() > until:
+            break
+    return ends
+
+
+def judge_program(name, most, until, shim):
+    """Refuses each allocation of each call of a program; whether no run was wrong."""
+    wrong = 0
+    for group, each in calls(name).items():
+        ends = sum((refuse_each(name, words, most, until, shim) for words in each), collections.Counter())
+        print(f"  {group}: {sum(ends.values())} refusals, {ends['without memory']} ended for want of memory, {ends['well']} well, {ends['wrong']} wrong", flush=True)
+        wrong += ends["wrong"]
+    return wrong == 0
+
+
 def main():
     parser = argparse.ArgumentParser(description=__doc__, formatter_class=argparse.RawDescriptionHelpFormatter)
     parser.add_argument("names", nargs="*", metavar="NAME")
@@ -78,6 +125,10 @@ def main():
         shim = pathlib.Path(room) / "refuse_memory.so"
         subprocess.run(["cc", "-O1", "-shared", "-fPIC", "-o", shim, HERE / "refuse_memory.c", "-ldl"], check=True)
         for name in words.names or with_tests():
+            if name in ("mcf", "mcfcheck"):
+                until = min(until, time.monotonic() + 60 * words.minutes)
+                right &= judge_program(name, words.most, until, shim)
+                continue
             folder = CRATES / name
             if not words.built:
                 subprocess.run(["rt", "test"], cwd=folder, check=True, stdout=subprocess.DEVNULL)
