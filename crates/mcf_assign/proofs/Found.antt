@@ -1,14 +1,14 @@
 -- A search that is over and found a column that isn't matched.
-use Rattle.std.proofs.Common.{◌≡◌, ℕ, ◌+◌, ◌-◌, ◌≤◌, true, List, [], length, Some, ℤ, ◌≤ℤ◌, refl, subst, arith, length-set}
+use Rattle.std.proofs.Common.{◌≡◌, ℕ, ◌+◌, ◌-◌, ◌≤◌, true, List, [], length, Some, ℤ, ◌≤ℤ◌, ◌-ℤ◌, refl, subst, arith, length-set}
 use Rattle.std.proofs.lemmas.Int.{ints}
 use Rattle.mcf_flows.specs.Blocking.{in_table}
-use Rattle.mcf_flows.specs.Network.{IsArcNumber, IsNode, node_count}
+use Rattle.mcf_flows.specs.Network.{IsArcNumber, IsNode, at_node, node_count}
 use Rattle.mcf_flows.specs.WellFormed.{IsUpTo}
 use Rattle.mcf_network.specs.NodeSets.{with_node}
 use Rattle.mcf_network.specs.States.{Pseudoflow}
 use Rattle.mcf_network.proofs.Marks.{count_small, counted_new}
-use Rattle.mcf_assign.specs.declared.offers.Offer.{Offer}
-use Rattle.mcf_assign.specs.declared.search.Target.{Target}
+use Rattle.mcf_offers.specs.Offers.{Offer}
+use Rattle.mcf_assign.specs.Private.Labels.{Target}
 use Rattle.mcf_assign.specs.Private.Forests.{IsForest, IsTightArc}
 use Rattle.mcf_assign.specs.Private.Keeping.{AreNearZero, IsEnded}
 use Rattle.mcf_assign.specs.Matchings.{AreMatchingPrices, IsColumn, IsMatchedColumn, IsPartialMatching, column_of}
@@ -17,7 +17,7 @@ use Rattle.mcf_assign.proofs.Settling.{not_true}
 use Rattle.mcf_assign.proofs.PairLaws.{column_is}
 use Rattle.mcf_assign.proofs.Raised.{predecessor_tight, raised_ok, target_tight}
 use Rattle.mcf_assign.proofs.Near.{reach_small, row_near, target_near}
-use Rattle.mcf_assign.specs.Private.Reaches.{target_reach}
+use Rattle.mcf_assign.specs.Private.Reaches.{CanRise, HasWidth, target_reach}
 
 module _ {s : Pseudoflow} {y : List ℤ} {q : Search} {source : ℕ} {order : List ℕ} {t : Target} (ok : IsPartialMatching s) (shown : AreMatchingPrices s y)
     (ended : IsEnded s y q source order) (best : q.best ≡ Some t) where
@@ -83,15 +83,25 @@ module _ {s : Pseudoflow} {y : List ℤ} {q : Search} {source : ℕ} {order : Li
   -- ---- no distance is far from 0
 
   module _ (small : AreNearZero s y) where
-    pub found_near : (v : ℕ) → IsNode (node_count s.net) v → Settled q v → IsUpTo target_reach (dist_at q v)
+    found_near : (v : ℕ) → IsNode (node_count s.net) v → Settled q v → IsUpTo (target_reach s.net) (dist_at q v)
     found_near v n h =
         let near = row_near s y q source v [] ok ended.search n h small in
         (omega (arith, ints, near), omega (arith, ints, near))
 
-    pub found_dist : IsUpTo target_reach t.dist
+    found_dist : IsUpTo (target_reach s.net) t.dist
     found_dist =
         let near = target_near s y q source [] t ok ended.search best in
-        let few = reach_small s y q source [] ok ended.search in
+        let few = reach_small s y q source [] ended.search in
         let a = small source ended.search.is_row.0 in
         let b = small (column_of s t.arc) found_column.0 in
         (omega (arith, ints, near, few, a, b), omega (arith, ints, near, few, a, b))
+
+    -- the prices of settled nodes have room to rise
+    pub found_rise : {room : ℕ} → HasWidth room s.net → (v : ℕ) → IsNode (node_count s.net) v → Settled q v → CanRise room (at_node y v) (t.dist -ℤ dist_at q v)
+    found_rise width v n h =
+        let near = found_near v n h in
+        let target = found_dist in
+        let price = small v n in (
+          (omega (arith, ints, width, near, target), omega (arith, ints, width, near, target)),
+          (omega (arith, ints, width, near, target, price), omega (arith, ints, width, near, target, price)),
+        )

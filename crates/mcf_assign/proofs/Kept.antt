@@ -1,9 +1,9 @@
 -- What a matching keeps, and what a search did to it.
 use Rattle.std.proofs.Common.{◌≡◌, ◌+◌, ◌*◌, ◌≢◌, ℕ, ◌-◌, ◌<◌, ◌≤◌, Bool, true, ltb, List, [], ◌∷◌, ◌++◌, length, get_or, take, replicate, None, Some, ℤ, pos, refl}
-use Rattle.std.proofs.Common.{false, sym, ◌∙◌, ap, subst, arith, ◌⊎◌, inl, inr, vec_capacity}
+use Rattle.std.proofs.Common.{false, sym, ◌∙◌, ap, subst, arith, ◌⊎◌, inl, inr, set, length-set, ◌<ℤ◌, ◌≤ℤ◌, vec_capacity}
 use Rattle.std.specs.List.{All, Contains}
 use Rattle.std.proofs.lemmas.Int.{ints}
-use Rattle.std.proofs.lemmas.Bool.{ltb-true, lt-ltb}
+use Rattle.std.proofs.lemmas.Bool.{cases_eq, ltb-true, lt-ltb}
 use Rattle.std.proofs.Math.Seq.{take-append_seam}
 use Rattle.std.proofs.lemmas.List.{get_or-replicate, length-replicate}
 use Rattle.std.proofs.lemmas.List.Elements.{All-contains, Contains-append_left, Contains-get_or, Contains-push, Contains-push_cases}
@@ -14,17 +14,18 @@ use Rattle.mcf_flows.specs.Network.{Network, IsNode, at_node, node_count}
 use Rattle.mcf_network.specs.Residual.{head, tail}
 use Rattle.mcf_network.specs.States.{Pseudoflow, IsPseudoflow}
 use Rattle.mcf_network.specs.Stuck.{IsStuck}
-use Rattle.mcf_network.proofs.ArcLaws.{head_is_node, net_arc_at, tail_is_node}
-use Rattle.mcf_network.proofs.Marks.{count_small}
+use Rattle.mcf_network.proofs.ArcLaws.{head_is_node, tail_is_node}
 use Rattle.mcf_network.proofs.StateLaws.{rid}
 use Rattle.mcf_network.proofs.StuckLaws.{stuck_sets_block_lem}
+use Rattle.mcf_engine.proofs.Marks.{read_node}
 use Rattle.mcf_assign.specs.declared.rows.Rows.{Rows}
 use Rattle.mcf_assign.specs.declared.scene.Mate.{Mate}
 use Rattle.mcf_assign.specs.declared.search.Tables.{Tables}
-use Rattle.mcf_assign.specs.declared.search.Target.{Target}
+use Rattle.mcf_assign.specs.Private.Labels.{Target}
 use Rattle.mcf_assign.specs.Extending.{IsGrown, IsMatched, IsReachable, IsSettledList, IsShownMatching, IsStopped}
 use Rattle.mcf_assign.specs.Private.Forests.{AreMates, IsChangedWithin, IsOrder, mate, mate_at}
-use Rattle.mcf_assign.specs.Private.Keeping.{AreFirstPrices, AreNearZero, FreeRowsAreFirst, IsEnded, IsIdle, IsKept, first_price}
+use Rattle.mcf_assign.specs.Private.Keeping.{AreFirstPrices, AreNearZero, FreeRowsAreFirst, IsEnded, IsIdle, IsKept}
+use Rattle.mcf_assign.specs.Private.Reaches.{HasWidth, first_price}
 use Rattle.mcf_assign.specs.Matchings.{AreMatchingPrices, IsColumn, IsMatchedRow, IsPair, IsPartialMatching, IsRow, column_of, row_of}
 use Rattle.mcf_assign.specs.Private.RowLists.{AreRows}
 use Rattle.mcf_assign.specs.Private.Scenes.{IsScene}
@@ -33,26 +34,30 @@ use Rattle.mcf_assign.specs.Private.Turning.{IsExtended}
 use Rattle.mcf_assign.proofs.Beginning.{over_stuck}
 use Rattle.mcf_assign.proofs.Found.{found_column, found_free, found_new, found_prices}
 use Rattle.mcf_assign.proofs.LeastMatchings.{least_matching}
-use Rattle.mcf_assign.proofs.Near.{target_near}
+use Rattle.mcf_assign.proofs.Near.{cost_near, cost_short, reach_small, target_near}
 use Rattle.mcf_assign.proofs.Mating.{mate_arc}
 use Rattle.mcf_assign.proofs.Orders.{forth_room}
 use Rattle.mcf_assign.proofs.PairLaws.{column_is, row_is}
 use Rattle.mcf_assign.proofs.Raised.{settled_or_not}
 use Rattle.mcf_assign.proofs.Surpluses.{row_or_column}
 
+-- a target of its parts
+abbrev pub target : ℕ → ℤ → Target
+target k x = record { arc = k; dist = x }
+
 -- what a mutable slice of a whole vector leaves
 pub written : {X : Type 0} (n : ℕ) (xs ys : List X) → n ≡ length xs → take n (xs ++ ys) ≡ xs
 written n xs ys e = ap (λ k. take k (xs ++ ys)) e ∙ take-append_seam xs ys
 
-pub shown_kept : {s : Pseudoflow} {y : List ℤ} {mates : List Mate} {tables : Tables} {reached r : List Bool} {l : List ℕ} {n : ℕ}
+pub shown_kept : {s : Pseudoflow} {y : List ℤ} {mates : List Mate} {W : Type 0} {tables : Tables W} {reached r : List Bool} {l : List ℕ} {n : ℕ}
     → IsKept s y mates tables reached → IsShownMatching (record { flow = s; prices = y; settled = l; reached = r; searches = n })
 shown_kept {s} {y} kept = record { matching = kept.matching; shown = kept.shown; least = least_matching s y kept.matching kept.shown }
 
 -- what a search or an update reads
-pub scene_kept : {s : Pseudoflow} {y : List ℤ} {mates table : List Mate} {tables : Tables} {reached : List Bool} {rows : Rows} → IsKept s y mates tables reached
-    → AreRows s.net rows → table ≡ mates → IsScene s rows y table
-scene_kept {s} kept rows same =
-    record { matching = kept.matching; rows = rows; prices = kept.shown; mates = subst (AreMates s) (sym same) kept.mated; small = kept.near }
+pub scene_kept : {s : Pseudoflow} {y : List ℤ} {mates table : List Mate} {W : Type 0} {tables : Tables W} {reached : List Bool} {rows : Rows} {room : ℕ} → IsKept s y mates tables reached
+    → AreRows s.net rows → HasWidth room s.net → table ≡ mates → IsScene room s rows y table
+scene_kept {s} kept rows width same =
+    record { matching = kept.matching; rows = rows; prices = kept.shown; mates = subst (AreMates s) (sym same) kept.mated; small = kept.near; width = width }
 
 -- whether a node is matched, as its mate tells
 pub mates_tell : (s : Pseudoflow) (mates : List Mate) (v : ℕ) → AreMates s mates → IsNode (node_count s.net) v
@@ -133,17 +138,14 @@ module _ {s : Pseudoflow} {y z : List ℤ} {q : Search} {row : ℕ} {order : Lis
         let top = target_near s y q row [] t ok ended.search best in
         let at_row = first row row_is_row ended.search.not_matched in
         let at_column = shown.free c column (found_free ok shown ended best) in
-        let few = count_small q.settled in
-        let count = ended.search.entries.settled_count in
-        let nodes = ok.flow.of_net.nodes in
+        let few = reach_small s y q row [] ended.search in
         let was = near v n in
         elim (settled_or_not q v) [
           | inl h ↦ (
               let now = raised.settled v n h in
               let far = ended.search.near v n h in (
-                omega (arith, ints, top, at_row, at_column, few, count, nodes, now, far),
-                omega
-                    (arith, ints, top, at_row, at_column, few, count, nodes, now, far),
+                omega (arith, ints, top, at_row, at_column, few, now, far),
+                omega (arith, ints, top, at_row, at_column, few, now, far),
               ))
           | inr g ↦ (let now = raised.others v n g in (omega (arith, ints, now, was), omega (arith, ints, now, was)))
         ]
@@ -168,7 +170,7 @@ module _ {s : Pseudoflow} {y z : List ℤ} {q : Search} {row : ℕ} {order : Lis
           ] in
           raised.others v is.0 unsettled ∙ first v is (λ m. none (ext.rows_kept v m))
 
-  pub idle_more : {tables : Tables} → search_of tables ≡ q → tables.order.items ≡ order ++ c ∷ [] → node_count s.net ≤ vec_capacity tables.order
+  pub idle_more : {W : Type 0} {tables : Tables W} → search_of tables ≡ q → tables.order.items ≡ order ++ c ∷ [] → node_count s.net ≤ vec_capacity tables.order
       → 2 * length s.net.arcs ≤ tables.offers.room → IsIdle s.net tables
   idle_more same list room queue =
       record {
@@ -179,7 +181,7 @@ module _ {s : Pseudoflow} {y z : List ℤ} {q : Search} {row : ℕ} {order : Lis
         listed = λ v n h. subst (λ (l : List ℕ). Contains l v) (sym list) (listed_more v n (subst (λ (x : Search). Settled x v) same h));
       }
 
-pub kept_grown : {s s' : Pseudoflow} {y z : List ℤ} {mates mates' : List Mate} {tables tables' : Tables} {reached : List Bool} {q : Search} {row : ℕ}
+pub kept_grown : {s s' : Pseudoflow} {y z : List ℤ} {mates mates' : List Mate} {W : Type 0} {tables tables' : Tables W} {reached : List Bool} {q : Search} {row : ℕ}
     {order : List ℕ} {t : Target} → IsKept s y mates tables reached → IsRow s row → IsEnded s y q row order → q.best ≡ Some t → AreRaised s q t.dist y z
     → IsExtended s s' z row (column_of s t.arc) → AreMates s' mates' → IsIdle s.net tables' → IsKept s' z mates' tables' reached
 kept_grown {s} {s'} {z = z} {mates' = mates'} {tables' = tables'} {reached} {row = row} {t = t} kept is ended best raised ext mated idle =
@@ -246,7 +248,45 @@ no_pair g k p =
     let zero_at : get_or (replicate (length g.arcs) (pos 0)) (k - 1) (pos 0) ≡ pos 0 = get_or-replicate (length g.arcs) (k - 1) (pos 0) (pos 0) (omega arith) in
     omega (arith, ints, one, zero_at)
 
-pub kept_first : (g : Network) (y : List ℤ) (mates : List Mate) (tables : Tables) (reached : List Bool) → IsPseudoflow (first_state g) → g.problem ≡ Asn
+-- one node more: a row, or another node
+pub row_first : (g : Network) (y : List ℤ) (n : ℕ) (x : ℤ) → AreFirstPrices g y n → n < node_count g → pos 0 <ℤ at_node g.supplies (n + 1) → x ≡ first_price g
+    → AreFirstPrices g (set y n x) (n + 1)
+row_first g y n x was inside row is =
+    subst (λ i. AreFirstPrices g (set y i x) (n + 1)) (let e : n + 1 - 1 ≡ n = omega arith in e) (record {
+      one_per_node = length-set y (n + 1 - 1) x ∙ was.one_per_node;
+      rows = λ v m up. elim (read v m.0) [
+        | inl (e, a) ↦ a ∙ is
+        | inr (o, a) ↦ a ∙ was.rows v (omega (arith, m), omega (arith, m, o)) up
+      ];
+      others = λ v m low. elim (read v m.0) [
+        | inl (e, a) ↦ absurd (let here = ap (at_node g.supplies) e in omega (arith, ints, here, row, low))
+        | inr (o, a) ↦ a ∙ was.others v (omega (arith, m), omega (arith, m, o)) low
+      ];
+      rest = λ v m. elim (read v (omega (arith, m))) [
+        | inl (e, a) ↦ absurd (omega (arith, e, m))
+        | inr (o, a) ↦ a ∙ was.rest v (omega (arith, m))
+      ];
+    })
+  where
+    read : (v : ℕ) → 1 ≤ v → ((v ≡ n + 1) × (at_node (set y (n + 1 - 1) x) v ≡ x)) ⊎ ((v ≢ n + 1) × (at_node (set y (n + 1 - 1) x) v ≡ at_node y v))
+    read v h = read_node y (n + 1) v x (pos 0) (omega arith, (let count = was.one_per_node in omega (arith, inside, count))) h
+
+pub other_first : (g : Network) (y : List ℤ) (n : ℕ) → AreFirstPrices g y n → at_node g.supplies (n + 1) ≤ℤ pos 0 → AreFirstPrices g y (n + 1)
+other_first g y n was other =
+    record {
+      one_per_node = was.one_per_node;
+      rows = λ v m up. elim (cases_eq v (n + 1)) [
+        | inl e ↦ absurd (let here = ap (at_node g.supplies) e in omega (arith, ints, here, other, up))
+        | inr o ↦ was.rows v (omega (arith, m), omega (arith, m, o)) up
+      ];
+      others = λ v m low. elim (cases_eq v (n + 1)) [
+        | inl e ↦ was.rest v (omega (arith, e))
+        | inr o ↦ was.others v (omega (arith, m), omega (arith, m, o)) low
+      ];
+      rest = λ v m. was.rest v (omega (arith, m));
+    }
+
+pub kept_first : (g : Network) (y : List ℤ) (mates : List Mate) {W : Type 0} (tables : Tables W) (reached : List Bool) → IsPseudoflow (first_state g) → g.problem ≡ Asn
     → AreFirstPrices g y (node_count g) → mates ≡ replicate (node_count g) (mate 0 0) → IsIdle g tables → length reached ≡ node_count g
     → IsKept (first_state g) y mates tables reached
 kept_first g y mates tables reached flow asn first em idle count =
@@ -259,7 +299,7 @@ kept_first g y mates tables reached flow asn first em idle count =
             let column = column_is (first_state g) k ok arc in
             let a = row_price (row_of (first_state g) k) row in
             let b = column_price (column_of (first_state g) k) column in
-            let cost = (net_arc_at g k flow.of_net arc).cost_small in
+            let cost = cost_near g k arc in
             omega (arith, ints, a, b, cost);
         tight = λ k p. absurd (no_pair g k p);
         columns = λ v column. (let b = column_price v column in omega (arith, ints, b));
@@ -273,7 +313,7 @@ kept_first g y mates tables reached flow asn first em idle count =
       };
       idle = idle;
       near = λ v n. elim (row_or_column (first_state g) v ok n) [
-        | inl row ↦ (let a = row_price v row in (omega (arith, ints, a), omega (arith, ints, a)))
+        | inl row ↦ (let a = row_price v row in let short = cost_short g 1 (omega (arith, n)) in (omega (arith, ints, a, short), omega (arith, ints, a, short)))
         | inr column ↦ (let b = column_price v column in (omega (arith, ints, b), omega (arith, ints, b)))
       ];
       free_rows = λ v row none. row_price v row;
@@ -289,7 +329,7 @@ kept_first g y mates tables reached flow asn first em idle count =
           once_in_column = λ k j p q e. absurd (no_pair g k p);
         }
 
-    row_price : (v : ℕ) → IsRow (first_state g) v → at_node y v ≡ first_price
+    row_price : (v : ℕ) → IsRow (first_state g) v → at_node y v ≡ first_price g
     row_price v row = first.rows v row.0 (let one = row.1 in omega (arith, ints, one))
 
     column_price : (v : ℕ) → IsColumn (first_state g) v → at_node y v ≡ pos 0

@@ -16,7 +16,7 @@ use Rattle.mcf_network.proofs.StateLaws.{rid}
 use Rattle.mcf_assign.specs.Extending.{IsReachable}
 use Rattle.mcf_assign.specs.Private.Forests.{IsOrder, place}
 use Rattle.mcf_assign.specs.Matchings.{AreMatchingPrices, IsColumn, IsPair, IsPartialMatching, IsRow, column_of, row_of}
-use Rattle.mcf_assign.specs.declared.offers.Offer.{Offer}
+use Rattle.mcf_offers.specs.Offers.{Offer}
 use Rattle.mcf_assign.specs.declared.search.Tables.{Tables}
 use Rattle.mcf_assign.specs.Private.Keeping.{IsReady}
 use Rattle.mcf_assign.specs.Private.Rooms.{KeepsSettled, out_count}
@@ -79,7 +79,7 @@ back_room s k pair = (let one = pair.one in record { arc = pair.arc; room = omeg
 
 -- ---- the same list, while other offers wait
 
-pub order_kept : (s : Pseudoflow) (p t : Tables) (source n : ℕ) → KeepsSettled n p t → IsOrder s (search_of p) source p.order.items
+pub order_kept : (s : Pseudoflow) {W : Type 0} (p t : Tables W) (source n : ℕ) → KeepsSettled n p t → IsOrder s (search_of p) source p.order.items
     → IsOrder s (search_of t) source t.order.items
 order_kept s p t source n kept was =
     subst (λ (x : Search). IsOrder s x source t.order.items) (sym kept.labels)

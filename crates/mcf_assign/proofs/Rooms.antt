@@ -19,7 +19,7 @@ use Rattle.mcf_assign.specs.declared.search.Tables.{Tables}
 use Rattle.mcf_assign.specs.Private.Rooms.{HasRoom, KeepsSettled, all_forward, out_count}
 use Rattle.mcf_assign.specs.Private.RowLists.{IsRowArc, forward_of}
 use Rattle.mcf_assign.specs.Private.Searches.{Search, forward}
-use Rattle.mcf_assign.specs.Private.Queues.{Queue}
+use Rattle.mcf_offers.specs.Offers.{Queue}
 
 pub all_has : (g : Network) (k : ℕ) → IsArcNumber g k → Contains (all_forward g) (forward k)
 all_has g k h =
@@ -148,10 +148,10 @@ out_push g xs v fresh =
 
 -- ---- one step after another
 
-pub kept_same : (p : Tables) → KeepsSettled 0 p p
+pub kept_same : {W : Type 0} (p : Tables W) → KeepsSettled 0 p p
 kept_same p = record { labels = refl; order = refl; room = omega arith; few = omega arith }
 
-pub kept_after : (a b all : ℕ) (p q r : Tables) → KeepsSettled a p q → KeepsSettled b q r → a + b ≤ all → KeepsSettled all p r
+pub kept_after : (a b all : ℕ) {W : Type 0} (p q r : Tables W) → KeepsSettled a p q → KeepsSettled b q r → a + b ≤ all → KeepsSettled all p r
 kept_after a b all p q r first second fits =
     let m = first.room in
     let n = second.room in
@@ -164,16 +164,16 @@ kept_after a b all p q r first second fits =
       few = omega (arith, few, more, fits);
     }
 
-pub kept_on : {a : ℕ} {p q r : Tables} → KeepsSettled a p q → KeepsSettled 0 q r → KeepsSettled a p r
+pub kept_on : {a : ℕ} {W : Type 0} {p q r : Tables W} → KeepsSettled a p q → KeepsSettled 0 q r → KeepsSettled a p r
 kept_on {a} {p} {q} {r} first second = kept_after a 0 a p q r first second (omega arith)
 
 -- offers are taken out
-pub kept_taken : (p q : Tables) (left : Queue) → KeepsSettled 0 p q → q.offers.room ≤ left.room → length left.items ≤ length q.offers.items
+pub kept_taken : {W : Type 0} (p q : Tables W) (left : Queue) → KeepsSettled 0 p q → q.offers.room ≤ left.room → length left.items ≤ length q.offers.items
     → KeepsSettled 0 p (record q { offers = left })
 kept_taken p q left kept room few =
     kept_after 0 0 0 p q (record q { offers = left }) kept (record { labels = refl; order = refl; room = room; few = omega (arith, few) }) (omega arith)
 
-pub room_left : (a b all : ℕ) (p q : Tables) → KeepsSettled a p q → HasRoom all p → a + b ≤ all → HasRoom b q
+pub room_left : (a b all : ℕ) {W : Type 0} (p q : Tables W) → KeepsSettled a p q → HasRoom all p → a + b ≤ all → HasRoom b q
 room_left a b all p q kept has fits =
     let more = kept.room in
     let few = kept.few in

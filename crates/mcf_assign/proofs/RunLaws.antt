@@ -12,6 +12,7 @@ use Rattle.mcf_flows.specs.declared.problem.Side.TheVariants.{Send}
 use Rattle.mcf_flows.specs.Network.{Network, IsNode, at_node, node_count}
 use Rattle.mcf_flows.specs.Blocking.{Blocks, in_table}
 use Rattle.mcf_flows.specs.WellFormed.{IsUpTo}
+use Rattle.mcf_network.specs.Nets.{IsNet}
 use Rattle.mcf_network.specs.States.{Pseudoflow, HasNoSurplus, surplus_at}
 use Rattle.mcf_feas.specs.Chosen.{IsChosenBlock, supply_total}
 use Rattle.mcf_feas.specs.Feasible.{IsFeasibleState}
@@ -28,6 +29,7 @@ use Rattle.mcf_assign.specs.Private.Keeping.{AreNearZero}
 use Rattle.mcf_assign.specs.Private.Offering.{AreOffered}
 use Rattle.mcf_assign.specs.Runs.{IsBlockedAtRow, IsMatchedByRows, Run, more, start, is_source, sources, sources_to}
 use Rattle.mcf_assign.proofs.Kept.{no_pair}
+use Rattle.mcf_assign.proofs.Near.{path_small}
 use Rattle.mcf_assign.proofs.Surpluses.{column_surplus, matched_row, matching_shown, row_or_column}
 
 -- ---- source nodes, ascending
@@ -229,11 +231,13 @@ end_blocked g table searches at balanced =
 
 -- ---- prices
 
-pub near_all : (s : Pseudoflow) (y : List ℤ) → length y ≡ node_count s.net → AreNearZero s y → All (IsUpTo price_limit) y
-near_all s y count near =
+pub near_all : (s : Pseudoflow) (y : List ℤ) → IsNet s.net → length y ≡ node_count s.net → AreNearZero s y → All (IsUpTo price_limit) y
+near_all s y ok count near =
     All-from_get_or (IsUpTo price_limit) y (pos 0) (λ i l.
     let here : i + 1 - 1 ≡ i = omega arith in
-    subst (λ j. IsUpTo price_limit (get_or y j (pos 0))) here (near (i + 1) (omega arith, omega (arith, l, count))))
+    let far = near (i + 1) (omega arith, omega (arith, l, count)) in
+    let small = path_small s.net ok in
+    subst (λ j. IsUpTo price_limit (get_or y j (pos 0))) here (omega (arith, ints, far, small), omega (arith, ints, far, small)))
 
 -- the prices of a matching show it
 pub priced_near : (m : Assigned) (s : Pseudoflow) (y : List ℤ) → IsShownMatching m → s ≡ m.flow → y ≡ m.prices

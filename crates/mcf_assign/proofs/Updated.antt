@@ -1,10 +1,13 @@
 -- New prices that were judged show the matching, and a matching keeps them.
-use Rattle.std.proofs.Common.{rules, ◌≡◌, ℕ, ◌+◌, ◌-◌, Bool, List, [], Option, None, Some, false, get_or, length, map, take, drop, ℤ, pos, ◌+ℤ◌, ◌≤ℤ◌, sym, ◌∙◌, ap, subst, arith, inl, inr}
+use Rattle.std.proofs.Common.{rules, ◌≡◌, ℕ, ◌+◌, ◌-◌, ◌^◌, Bool, List, [], Option, None, Some, cond, true, false, get_or, length, map, take, drop, ℤ, pos, ◌+ℤ◌, ◌-ℤ◌, ◌≤ℤ◌, ◌<ℤ◌, sym, ◌∙◌, ap, subst, arith, inl, inr}
 use Rattle.std.specs.List.{All, Contains}
 use Rattle.std.proofs.lemmas.List.Elements.{All-contains, All-map, Contains-append_cases}
 use Rattle.std.proofs.lemmas.Int.{ints}
 use Rattle.std.proofs.lemmas.Bool.{true≢false}
 use Rattle.std.specs.Option.{is_some}
+use Rattle.std.specs.Cmp.{int_ranks}
+use Rattle.std.proofs.lemmas.Cmp.{by_ranked}
+use Rattle.std.specs.Ordering.{int_cmp, is_le, is_lt, ord_min}
 use Rattle.std.specs.Prelude.{slice_range}
 use Rattle.std.proofs.lemmas.List.{get_or_default}
 use Rattle.mcf_flows.specs.Network.{Network, IsArcNumber, IsNode, at_node, node_count}
@@ -17,11 +20,13 @@ use Rattle.mcf_assign.specs.declared.rows.Rows.{Rows}
 use Rattle.mcf_assign.specs.declared.rows.Span.{Span}
 use Rattle.mcf_assign.specs.declared.scene.Mate.{Mate}
 use Rattle.mcf_assign.specs.declared.search.Tables.{Tables}
+use Rattle.mcf_assign.specs.Extending.{IsMatched}
 use Rattle.mcf_assign.specs.Matchings.{AreMatchingPrices, IsPair, IsPartialMatching, reduced, row_of}
 use Rattle.mcf_assign.specs.Private.Keeping.{AreNearZero, FreeRowsAreFirst, IsKept}
-use Rattle.mcf_assign.specs.Private.Reaches.{update_reach}
+use Rattle.mcf_assign.specs.Private.Reaches.{HasWidth, price_reach}
 use Rattle.mcf_assign.specs.Private.RowLists.{AreRows, IsKeptRow, IsRowArc, forward_of, span_at}
 use Rattle.mcf_assign.specs.Private.Updating.{AreUpdated, DoesArcFit, DoesNodeFit, IsReadable}
+use Rattle.mcf_assign.proofs.Near.{cost_short}
 use Rattle.mcf_assign.proofs.PairLaws.{column_matched, row_matched}
 use Rattle.mcf_assign.proofs.RowLists.{kept_row}
 use Rattle.mcf_assign.specs.Private.Searches.{forward}
@@ -71,13 +76,53 @@ module _ {g : Network} {v : ℕ} {kept : List RowArc} (row : IsKeptRow g v kept 
     pub low_offer : (k : ℕ) → IsArcNumber g k → (arc_at g k).src ≡ v → x ≤ℤ ((arc_at g k).cost +ℤ at_node z (arc_at g k).dst)
     low_offer k arc from = All-contains Low (map forward_of kept) (forward k) (All-map Low forward_of kept each_low) (kept_has k arc from)
 
--- each of them can be read by prices that are near 0
-pub readable : (g : Network) (v : ℕ) (z : List ℤ) (kept : List RowArc) → All (IsRowArc g v) kept → length z ≡ node_count g
-    → ((u : ℕ) → IsNode (node_count g) u → IsUpTo update_reach (at_node z u)) → All (IsReadable z) kept
-readable g v z kept each count near i d h =
-    let is = each i d h in
+-- one that isn't less than another
+pub not_less : (x y : ℤ) → is_lt (int_cmp x y) ≡ false → y ≤ℤ x
+not_less x y h =
+    by_ranked (x <ℤ y) (x ≡ y) (y <ℤ x) (int_cmp x y) (int_ranks x y) (λ e _. absurd (true≢false (sym (ap is_lt e) ∙ h)))
+    (λ _ l. omega (arith, ints, l)) (λ _ l. omega (arith, ints, l))
+
+-- one that is no greater
+pub not_more : (x y : ℤ) → is_le (int_cmp x y) ≡ true → x ≤ℤ y
+not_more x y h =
+    by_ranked (x <ℤ y) (x ≡ y) (y <ℤ x) (int_cmp x y) (int_ranks x y) (λ _ l. omega (arith, ints, l)) (λ _ l. omega (arith, ints, l))
+    (λ e _. absurd (true≢false (sym h ∙ ap is_le e)))
+
+-- a new price that was compared
+pub node_fits : (s : Pseudoflow) (y : List ℤ) (v : ℕ) (x old : ℤ) {reach low : ℤ} → reach ≡ pos (price_reach s.net) → low ≡ pos 0 -ℤ reach
+    → is_lt (int_cmp x low) ≡ false → is_lt (int_cmp reach x) ≡ false → is_lt (int_cmp x old) ≡ false → old ≡ at_node y v
+    → (¬ IsMatched s v → x ≡ at_node y v) → DoesNodeFit s y v x
+node_fits s y v x old {reach} {low} top bottom above below rises at free =
+    let a = not_less x low above in
+    let b = not_less reach x below in
+    let c = not_less x old rises in
+    record { near = (omega (arith, ints, a, top, bottom), omega (arith, ints, b, top)); above = omega (arith, ints, c, at); free = free }
+
+-- the lesser of two
+pub least_low : (x y z : ℤ) → z ≡ ord_min int_cmp x y → (z ≤ℤ x) × (z ≤ℤ y)
+least_low x y z e =
+    by_ranked (y <ℤ x) (y ≡ x) (x <ℤ y) (int_cmp y x) (int_ranks y x)
+    (λ o l. let at = e ∙ ap (λ r. cond (is_lt r) y x) o in (omega (arith, ints, l, at), omega (arith, ints, at)))
+    (λ o l. let at = e ∙ ap (λ r. cond (is_lt r) y x) o in (omega (arith, ints, at), omega (arith, ints, l, at)))
+    (λ o l. let at = e ∙ ap (λ r. cond (is_lt r) y x) o in (omega (arith, ints, at), omega (arith, ints, l, at)))
+
+-- an arc of a row can be read by prices that are near 0
+pub read_arc : (g : Network) (v : ℕ) (z : List ℤ) (a : RowArc) → IsRowArc g v a → length z ≡ node_count g → HasWidth (2 ^ 63 - 1) g
+    → ((u : ℕ) → IsNode (node_count g) u → IsUpTo (price_reach g) (at_node z u)) → IsReadable z a
+read_arc g v z a is count width near =
     let head = is.head in
-    record { column = (omega (arith, head), omega (arith, head, count)); cost = is.small; near = near _ head }
+    let cost = is.small in
+    let price = near a.column head in
+    let short = cost_short g 1 (omega (arith, head)) in
+    record {
+      column = (omega (arith, head), omega (arith, head, count));
+      fits = (omega (arith, ints, cost, price, short, width), omega (arith, ints, cost, price, short, width));
+    }
+
+-- each of them can
+pub readable : (g : Network) (v : ℕ) (z : List ℤ) (kept : List RowArc) → All (IsRowArc g v) kept → length z ≡ node_count g
+    → HasWidth (2 ^ 63 - 1) g → ((u : ℕ) → IsNode (node_count g) u → IsUpTo (price_reach g) (at_node z u)) → All (IsReadable z) kept
+readable g v z kept each count width near i d h = read_arc g v z (get_or kept i d) (each i d h) count width near
 
 -- the arc of a pair, as it was read, costs nothing where it offers no more than the price of its row
 pub pair_tight : (s : Pseudoflow) (g : Network) (z : List ℤ) (v k : ℕ) (a : RowArc) → g ≡ s.net → a.arc ≡ k → IsRowArc g (arc_at g k).src a → row_of s k ≡ v
@@ -122,7 +167,7 @@ module _ (s : Pseudoflow) (y z : List ℤ) (ok : IsPartialMatching s) (shown : A
             let here = (nodes (i + 1) (omega arith, omega (arith, inside, count))).near in
             let back : i + 1 - 1 ≡ i = omega arith in
             let same : at_node z (i + 1) ≡ get_or z i d = ap (λ j. get_or z j (pos 0)) back ∙ get_or_default z i (pos 0) d inside in
-            subst (λ a. IsUpTo update_reach a) same here;
+            subst (λ a. IsUpTo (price_reach s.net) a) same here;
         shown = judged;
         free_rows = λ v row free. (nodes v row.0).free (λ m. free (row_matched s v ok row m));
       }
@@ -136,12 +181,12 @@ updated_near s y z new v n =
     (omega (arith, ints, here), omega (arith, ints, here))
 
 -- with another count of pairs
-pub kept_counted : {s : Pseudoflow} {y : List ℤ} {mates : List Mate} {tables : Tables} {reached : List Bool} {n : ℕ} → IsKept s y mates tables reached
+pub kept_counted : {s : Pseudoflow} {y : List ℤ} {mates : List Mate} {W : Type 0} {tables : Tables W} {reached : List Bool} {n : ℕ} → IsKept s y mates tables reached
     → IsKept s y mates (record tables { pairs = n }) reached
 kept_counted kept = search rules
 
 -- with new prices
-pub kept_updated : {s : Pseudoflow} {y z : List ℤ} {mates : List Mate} {tables : Tables} {reached : List Bool} → IsKept s y mates tables reached
+pub kept_updated : {s : Pseudoflow} {y z : List ℤ} {mates : List Mate} {W : Type 0} {tables : Tables W} {reached : List Bool} → IsKept s y mates tables reached
     → AreUpdated s y z → IsKept s z mates tables reached
 kept_updated {s} {y} {z} kept new =
     let shown = new.shown in

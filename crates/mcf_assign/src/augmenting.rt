@@ -6,22 +6,23 @@ ghost use Rattle.mcf_flows.specs.Network.{IsNode, node_count};
 ghost use Rattle.mcf_assign.specs.Private.Forests.{AreMates, IsChangedWithin};
 ghost use Rattle.mcf_assign.specs.Private.Keeping.{AreNearZero, IsEnded, IsIdle};
 ghost use Rattle.mcf_assign.specs.Matchings.{AreMatchingPrices, IsMatchedRow, IsPartialMatching, IsRow, column_of};
+ghost use Rattle.mcf_assign.specs.Private.Reaches.{HasWidth};
 ghost use Rattle.mcf_assign.specs.Private.Scenes.{IsScene};
 ghost use Rattle.mcf_assign.specs.Private.Searches.{AreRaised, search_of};
 ghost use Rattle.mcf_assign.specs.Private.Turning.{IsExtended};
 
-use crate::offers::Offers;
-use crate::prices::Prices;
+use crate::regime::NEAR_OFFERS;
 use crate::scene::{Mate, Scene};
 use crate::search::{Tables, Target};
 use mcf_counts::Count;
 use mcf_network::{Net, NodeSet, State};
+use mcf_offers::{Number, Offers, Width};
 use mcf_text::{ArcId, NoMemory, NodeId, copies};
 use std::alloc::Global;
 
-impl Tables {
+impl<W: Width> Tables<W> {
     /// The tables for a net, with all the room that its searches need.
-    pub(crate) fn new(alloc: Global, net: &Net) -> Result<Tables, NoMemory>
+    pub(crate) fn new(alloc: Global, net: &Net) -> Result<Tables<W>, NoMemory>
         ensures idle { IfOk result (IsIdle net.now) }
         ensures order { IfOk result (λ tables. tables.order.items ≡ []) }
         ensures searches { IfOk result (λ tables. tables.searches.number ≡ 0) }
@@ -29,8 +30,8 @@ impl Tables {
     {
         let nodes = net.node_count() as usize;
         Ok(Tables {
-            offers: Offers::new(alloc, net.arc_count() as usize * 2)?,
-            dists: copies(alloc, nodes, 0)?,
+            offers: Offers::new(alloc, NEAR_OFFERS, net.arc_count() as usize * 2)?,
+            dists: copies(alloc, nodes, Number::of(0))?,
             marks: copies(alloc, nodes, false)?,
             predecessors: copies(alloc, nodes, 0)?,
             best: None,
@@ -41,8 +42,8 @@ impl Tables {
     }
 
     /// Searches for a shortest augmenting path from a row that is not matched, and gives its last arc if there is one.
-    pub(crate) fn search(&mut self, scene: &Scene<'_, '_>, source: NodeId) -> Option<Target>
-        requires scene { IsScene scene.now.state.now scene.now.rows.now scene.now.prices.now scene.now.mates.now }
+    pub(crate) fn search(&mut self, scene: &Scene<'_, '_, W>, source: NodeId) -> Option<Target<W>>
+        requires scene { IsScene W.room scene.now.state.now scene.now.rows.now scene.now.prices.now scene.now.mates.now }
         requires idle { IsIdle scene.now.state.now.net self.old }
         requires row { IsRow scene.now.state.now source }
         requires free { ¬ IsMatchedRow scene.now.state.now source }
@@ -57,34 +58,35 @@ impl Tables {
         self.best
     }
 
-    /// Matches the row of a search that found a path which ends with an arc: prices rise, the path is turned, and the
-    /// column at its end is settled too.
+    /// Matches the row of a search that found a path which ends with an arc, and how long it is: prices rise, the path is turned,
+    /// and the column at its end is settled too.
     pub(crate) fn augment(
         &mut self,
         state: &mut State<'_>,
-        prices: &mut Prices,
+        prices: &mut [Number<W>],
         mates: &mut [Mate],
-        target: Target,
+        arc: ArcId,
+        dist: Number<W>,
     )
         requires matching { IsPartialMatching state.old }
         requires prices { AreMatchingPrices state.old prices.old }
         requires mates { AreMates state.old mates.old }
-        requires best { self.old.best ≡ Some target }
+        requires best { self.old.best ≡ Some (record { arc = arc; dist = dist }) }
         requires ended { (source : ℕ) × IsEnded state.old prices.old (search_of self.old) source self.old.order.items }
         requires small { AreNearZero state.old prices.old }
+        requires width { HasWidth W.room state.old.net }
         requires idle { IsIdle state.old.net self.old }
-        ensures raised { AreRaised state.old (search_of self.old) target.dist prices.old prices.new }
+        ensures raised { AreRaised state.old (search_of self.old) dist prices.old prices.new }
         ensures extended { (source : ℕ) → IsEnded state.old prices.old (search_of self.old) source self.old.order.items
-            → IsExtended state.old state.new prices.new source (column_of state.old target.arc) }
+            → IsExtended state.old state.new prices.new source (column_of state.old arc) }
         ensures mates { AreMates state.new mates.new }
-        ensures changed { IsChangedWithin state.old state.new (search_of self.old) (column_of state.old target.arc) }
-        ensures order { self.new.order.items ≡ self.old.order.items ++ column_of state.old target.arc ∷ [] }
+        ensures changed { IsChangedWithin state.old state.new (search_of self.old) (column_of state.old arc) }
+        ensures order { self.new.order.items ≡ self.old.order.items ++ column_of state.old arc ∷ [] }
         ensures idle { IsIdle state.old.net self.new }
         ensures tables { search_of self.new ≡ search_of self.old }
     {
-        let arc = ArcId::new(target.arc);
         let (_, column) = state.net().ends(arc);
-        self.raise(prices, target);
+        self.raise(prices, dist);
         self.turn(state, mates, arc);
         self.order.push_reserved(column);
     }

@@ -1,5 +1,5 @@
 //! Partial matchings, made greater row by row.
-ghost use Rattle.std.specs.Prelude.{◌≡◌, ◌-◌, ◌≤◌, ◌↔◌, [], IfOk, IsTrue, OnErr, length, pos, replicate};
+ghost use Rattle.std.specs.Prelude.{◌≡◌, ◌≤◌, ◌↔◌, [], IfOk, IsTrue, OnErr, length, pos, replicate};
 ghost use Rattle.std.specs.List.{All};
 ghost use Rattle.mcf_flows.specs.declared.problem.Problem.TheVariants.{Asn};
 ghost use Rattle.mcf_flows.specs.Network.{IsNode, node_count};
@@ -7,19 +7,13 @@ ghost use Rattle.mcf_flows.specs.WellFormed.{IsUpTo};
 ghost use Rattle.mcf_network.specs.NodeSets.{no_nodes};
 ghost use Rattle.mcf_assign.specs.Extending.{IsExtension, IsMatched, IsShownMatching};
 ghost use Rattle.mcf_assign.specs.Matchings.{IsMatchedRow, IsRow, price_limit};
-ghost use Rattle.mcf_assign.specs.Private.Updating.{IsRepriced};
 
-use crate::augmenting::fill;
 use crate::extended::Extended;
-use crate::prices::Prices;
-use crate::regime::{NODES_PER_PAIR, is_sparse};
-use crate::rows::Rows;
-use crate::scene::{Mate, Scene};
-use crate::search::Tables;
-use crate::update::Update;
+use crate::partial::Partial;
+use crate::prices::{greatest_cost, is_narrow};
 use mcf_counts::Count;
 use mcf_network::{Net, NodeSet, State};
-use mcf_text::{NoMemory, NodeId, copies};
+use mcf_text::{NoMemory, NodeId};
 use std::alloc::Global;
 use std::marker::Model;
 
@@ -30,13 +24,15 @@ use std::marker::Model;
 /// searches there were.
 #[derive(Drop)]
 pub struct Matching<'n> {
-    state: State<'n>,
-    rows: Rows,
-    prices: Prices,
-    mates: Vec<Mate>,
-    tables: Tables,
-    reached: NodeSet,
-    update: Update,
+    core: Core<'n>,
+}
+
+// The matching in numbers that have room for every sum of its searches: of 64 bits, where all prices are updated now and then, or
+// of 128.
+#[derive(Drop)]
+enum Core<'n> {
+    Narrow(Partial<'n, i64>),
+    Wide(Partial<'n, i128>),
 }
 
 impl<'n> Model for Matching<'n> {
@@ -44,14 +40,9 @@ impl<'n> Model for Matching<'n> {
 
     ghost Value = { Assigned };
 
-    ghost use Rattle.mcf_assign.specs.Private.Keeping.{IsKept};
+    ghost use Rattle.mcf_assign.specs.Private.Cores.{assigned_in};
 
-    ghost view = { λ a. record { flow = a.state; prices = a.prices; settled = a.tables.order.items; reached = a.reached; searches = a.tables.searches.number } };
-
-    ghost use Rattle.mcf_flows.specs.Network.{node_count};
-    ghost use Rattle.mcf_assign.specs.Private.RowLists.{AreRows};
-
-    ghost invariant = { λ a. IsKept a.state a.prices a.mates.items a.tables a.reached × AreRows a.state.net a.rows };
+    ghost view = { λ m. assigned_in m.core };
 }
 
 impl<'n> Matching<'n> {
@@ -71,19 +62,13 @@ impl<'n> Matching<'n> {
         ensures searches { IfOk result (λ m. m.searches ≡ 0) }
         ensures wants { OnErr result (1 ≤ node_count net.now) }
     {
-        let state = State::zero(alloc, net)?;
-        let rows = Rows::new(alloc, net)?;
-        let prices = Prices::new(alloc, net)?;
-        let mates = copies(alloc, net.node_count() as usize, Mate { arc: 0, node: 0 })?;
-        Ok(Matching {
-            state,
-            rows,
-            prices,
-            mates,
-            tables: Tables::new(alloc, net)?,
-            reached: NodeSet::new(alloc, net)?,
-            update: Update::new(alloc, net)?,
-        })
+        let greatest = greatest_cost(net);
+        let core = if is_narrow(net, greatest) {
+            Core::Narrow(Partial::start(alloc, net, greatest)?)
+        } else {
+            Core::Wide(Partial::start(alloc, net, greatest)?)
+        };
+        Ok(Matching { core })
     }
 
     /// Matches one row more, or finds a set that must send more than it can.
@@ -98,61 +83,10 @@ impl<'n> Matching<'n> {
         ensures extended { IsExtension self.old row result self.new }
         ensures shown { IsShownMatching self.new }
     {
-        self.refresh();
-        self.grow(row)
-    }
-
-    // Searches from a row, and turns the path that was found.
-    fn grow(&mut self, row: NodeId) -> Extended
-        requires row { IsRow self.old.flow row }
-        requires free { ¬ IsMatchedRow self.old.flow row }
-        ensures extended { IsExtension self.old row result self.new }
-        ensures shown { IsShownMatching self.new }
-    {
-        let scene = Scene {
-            state: &self.state,
-            rows: &self.rows,
-            prices: &self.prices,
-            mates: self.mates.as_slice(),
-        };
-        match self.tables.search(&scene, row) {
-            Some(target) => {
-                let mates = self.mates.as_mut_slice();
-                self.tables
-                    .augment(&mut self.state, &mut self.prices, mates, target);
-                Extended::Matched
-            }
-            None => {
-                fill(&mut self.reached, self.tables.order.as_slice());
-                Extended::Blocked
-            }
+        match &mut self.core {
+            Core::Narrow(partial) => partial.extend(row),
+            Core::Wide(partial) => partial.grow(row),
         }
-    }
-
-    // Updates all prices, if that pays now. Nothing else changes, and the new prices show the matching.
-    fn refresh(&mut self)
-        ensures repriced { IsRepriced self.old self.new }
-        ensures shown { IsShownMatching self.new }
-    {
-        if !self.is_due() {
-            return;
-        }
-        self.tables.pairs = 0;
-        let scene = Scene {
-            state: &self.state,
-            rows: &self.rows,
-            prices: &self.prices,
-            mates: self.mates.as_slice(),
-        };
-        if self.update.run(&scene) {
-            self.prices.take_narrow(&mut self.update.lows);
-        }
-    }
-
-    // Whether an update of all prices pays now.
-    fn is_due(&self) -> bool {
-        let net = self.state.net();
-        is_sparse(net) && self.tables.pairs > u64::from(net.node_count()) / NODES_PER_PAIR
     }
 
     /// Whether an arc of amount 1 has an end at a node.
@@ -161,7 +95,10 @@ impl<'n> Matching<'n> {
         ensures value { IsTrue result ↔ IsMatched self.now.flow v }
         ensures shown { IsShownMatching self.now }
     {
-        self.mates[v.place()].arc > 0
+        match &self.core {
+            Core::Narrow(partial) => partial.matched(v),
+            Core::Wide(partial) => partial.matched(v),
+        }
     }
 
     /// The nodes that the last search settled, each once, the row first; none before the first search.
@@ -169,7 +106,10 @@ impl<'n> Matching<'n> {
         ensures value { result.now ≡ self.now.settled }
         ensures shown { IsShownMatching self.now }
     {
-        self.tables.order.as_slice()
+        match &self.core {
+            Core::Narrow(partial) => partial.settled(),
+            Core::Wide(partial) => partial.settled(),
+        }
     }
 
     /// The set that the last search reached that found no path; empty before there is one.
@@ -178,7 +118,10 @@ impl<'n> Matching<'n> {
         ensures one_per_node { length result.now ≡ node_count self.now.flow.net }
         ensures shown { IsShownMatching self.now }
     {
-        &self.reached
+        match &self.core {
+            Core::Narrow(partial) => partial.reached(),
+            Core::Wide(partial) => partial.reached(),
+        }
     }
 
     /// The state and the prices, without what searches.
@@ -200,14 +143,10 @@ impl<'n> Matching<'n> {
         ensures shown { IsShownMatching self.entry }
         ensures searches { result.2.number ≡ self.entry.searches }
     {
-        let Matching {
-            state,
-            prices,
-            tables,
-            ..
-        } = self;
-        let Tables { searches, .. } = tables;
-        (state, prices.into_wide(), searches)
+        match self.core {
+            Core::Narrow(partial) => partial.into_counted_parts(),
+            Core::Wide(partial) => partial.into_counted_parts(),
+        }
     }
 
     /// The set that the last search reached that found no path, and the count of the searches.
@@ -215,12 +154,9 @@ impl<'n> Matching<'n> {
         ensures reached { result.0 ≡ self.entry.reached }
         ensures searches { result.1.number ≡ self.entry.searches }
     {
-        let Matching {
-            tables,
-            reached,
-            ..
-        } = self;
-        let Tables { searches, .. } = tables;
-        (reached, searches)
+        match self.core {
+            Core::Narrow(partial) => partial.into_reached(),
+            Core::Wide(partial) => partial.into_reached(),
+        }
     }
 }

@@ -17,9 +17,9 @@ pub(crate) fn is_sparse(net: &Net) -> bool
 const ARCS_PER_NODE: u32 = 32;
 
 /// Between two updates searches settle a pair for so many nodes, on the average. The rows from which they begin don't count, so that
-/// there is no update as long as they find a free column at once. Sparse, 2^12 to 2^16 rows: a solve takes 2 % more instructions with
-/// one for five, and 4 % with one for seven.
-pub(crate) const NODES_PER_PAIR: u64 = 4;
+/// there is no update as long as they find a free column at once. Sparse, 2^12 and 2^14 rows: a solve takes 3 % more instructions with
+/// one for each node and 4 % with one for four.
+pub(crate) const NODES_PER_PAIR: u64 = 2;
 
 /// An update settles one in so many of the matched columns, the nearest to those that aren't matched. Sparse, 2^16 rows: updates
 /// look at 3.8 million arcs in place of 6.3 where they settle all, and searches at 11.2 in place of 13.8.

@@ -10,9 +10,10 @@ ghost use Rattle.mcf_assign.specs.Private.Turning.{IsExtended};
 use crate::scene::Mate;
 use crate::search::Tables;
 use mcf_network::{Rid, State};
+use mcf_offers::Width;
 use mcf_text::ArcId;
 
-impl Tables {
+impl<W: Width> Tables<W> {
     /// Turns the path that ends with an arc to a column that is not matched, from its end back to its row: each arc of
     /// amount 1 on it leaves the matching, and each of amount 0 comes in.
     pub(crate) fn turn(&self, state: &mut State<'_>, mates: &mut [Mate], target: ArcId)

@@ -345,11 +345,17 @@ fn three_engines_answer_with_one_cost(rt: HostRuntime) -> Result<(), Fail> {
     Ok(())
 }
 
-// Rows are so short that all prices are updated from time to time; the costs are those that LEMON's network simplex finds.
+// Rows are so short that all prices are updated from time to time, but where the unit is so great that 64 bits have no room for
+// distances; the costs are those that LEMON's network simplex finds.
 #[test]
 fn three_engines_agree_where_rows_are_short(rt: HostRuntime) -> Result<(), Fail> {
-    for (size, cost) in [(60, 24_849), (200, 89_522)] {
-        let text = short_rows(rt.alloc(), size)?;
+    let rows = [
+        (60, 1, 24_849),
+        (200, 1, 89_522),
+        (200, 990_000_000_000, 88_626_780_000_000_000),
+    ];
+    for (size, unit, cost) in rows {
+        let text = short_rows(rt.alloc(), size, unit)?;
         for engine in &ENGINES {
             assert!(rt; costs(rt.alloc(), &text, *engine, cost)?);
         }

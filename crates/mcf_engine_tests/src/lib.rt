@@ -18,6 +18,8 @@ mod feasibility;
 #[cfg(test)]
 mod networks;
 #[cfg(test)]
+mod offers;
+#[cfg(test)]
 mod price_sizes;
 #[cfg(test)]
 mod prices;

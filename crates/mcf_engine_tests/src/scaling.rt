@@ -289,12 +289,12 @@ pub fn multiples(alloc: Global, size: u32) -> Result<Vec<u8>, NoMemory> {
 }
 
 /// An assignment of so many rows and as many columns with four arcs a row: row i may go to the column k * (i * k + 17)
-/// further on than column i, for (37 * i * i * (k + 3) + 11 * k) mod 1009, with k from 0 to 3.
-pub fn short_rows(alloc: Global, size: u32) -> Result<Vec<u8>, NoMemory> {
+/// further on than column i, for (37 * i * i * (k + 3) + 11 * k) mod 1009 of a unit, with k from 0 to 3.
+pub fn short_rows(alloc: Global, size: u32, unit: i128) -> Result<Vec<u8>, NoMemory> {
     let size = i128::from(size);
     let mut text = begun(alloc, size, size * 4)?;
     for i in 1..size + 1 {
-        put_short_row(&mut text, i, size)?;
+        put_short_row(&mut text, i, size, unit)?;
     }
     Ok(text)
 }
@@ -302,7 +302,7 @@ pub fn short_rows(alloc: Global, size: u32) -> Result<Vec<u8>, NoMemory> {
 static STEPS: [i128; 4] = [0, 1, 2, 3];
 
 // Appends the lines of the arcs of a row.
-fn put_short_row(text: &mut Vec<u8>, i: i128, size: i128) -> Result<(), NoMemory> {
+fn put_short_row(text: &mut Vec<u8>, i: i128, size: i128, unit: i128) -> Result<(), NoMemory> {
     for k in STEPS {
         let further = i.wrapping_mul(k).wrapping_add(17).wrapping_mul(k);
         let column = modulo(i.wrapping_sub(1).wrapping_add(further), size);
@@ -312,7 +312,7 @@ fn put_short_row(text: &mut Vec<u8>, i: i128, size: i128) -> Result<(), NoMemory
             1009,
         );
         let to = column.wrapping_add(size).wrapping_add(1);
-        put_arc(text, i, to, cost)?;
+        put_arc(text, i, to, cost.wrapping_mul(unit))?;
     }
     Ok(())
 }

@@ -1,7 +1,6 @@
 -- What a matching keeps between searches, and what a search that is over has shown.
-use Rattle.std.specs.Prelude.{◌≡◌, ℕ, ◌*◌, ◌<◌, ◌≤◌, Bool, List, [], length, ℤ, pos, neg_ℤ, ◌<ℤ◌, ◌≤ℤ◌, vec_capacity}
+use Rattle.std.specs.Prelude.{◌≡◌, ℕ, ◌*◌, ◌<◌, ◌≤◌, Bool, List, [], length, ℤ, pos, ◌<ℤ◌, ◌≤ℤ◌, vec_capacity}
 use Rattle.std.specs.List.{All, Contains}
-use Rattle.mcf_flows.specs.Limits.{limits}
 use Rattle.mcf_flows.specs.Network.{Network, IsNode, at_node, node_count}
 use Rattle.mcf_flows.specs.WellFormed.{IsUpTo}
 use Rattle.mcf_network.specs.declared.rid.Rid.{Rid}
@@ -9,11 +8,12 @@ use Rattle.mcf_network.specs.States.{Pseudoflow}
 use Rattle.mcf_assign.specs.declared.scene.Mate.{Mate}
 use Rattle.mcf_assign.specs.declared.search.Tables.{Tables}
 use Rattle.mcf_assign.specs.Private.Forests.{AreMates, IsOrder}
-use Rattle.mcf_assign.specs.Matchings.{AreMatchingPrices, IsMatchedRow, IsPartialMatching, IsRow, price_limit}
+use Rattle.mcf_assign.specs.Matchings.{AreMatchingPrices, IsMatchedRow, IsPartialMatching, IsRow}
+use Rattle.mcf_assign.specs.Private.Reaches.{first_price, price_reach}
 use Rattle.mcf_assign.specs.Private.Searches.{HasEntries, HasForward, IsLast, IsOver, IsSearch, Search, Settled, search_of}
 
 -- tables for a net: what is settled is listed, and there is room to list every node, and to queue an offer of every arc twice
-pub record IsIdle (g : Network) (tables : Tables) : Type 0 where
+pub record IsIdle (g : Network) {W : Type 0} (tables : Tables W) : Type 0 where
   pub entries : HasEntries (node_count g) (search_of tables)
   pub room : node_count g ≤ vec_capacity tables.order
   pub queue : 2 * length g.arcs ≤ tables.offers.room
@@ -36,23 +36,19 @@ pub record IsEnded (s : Pseudoflow) (y : List ℤ) (q : Search) (source : ℕ) (
 
 -- each price is that of a matching
 abbrev pub AreNearZero : Pseudoflow → List ℤ → Type 0
-AreNearZero s y = (v : ℕ) → IsNode (node_count s.net) v → IsUpTo price_limit (at_node y v)
-
--- the price with which each row begins: so far below 0 that no arc has a negative reduced cost
-abbrev pub first_price : ℤ
-first_price = neg_ℤ (pos limits.cost)
+AreNearZero s y = (v : ℕ) → IsNode (node_count s.net) v → IsUpTo (price_reach s.net) (at_node y v)
 
 -- the first prices of so many nodes: those of rows, and 0 for the others
 pub record AreFirstPrices (g : Network) (y : List ℤ) (nodes : ℕ) : Type 0 where
   pub one_per_node : length y ≡ node_count g
-  pub rows : (v : ℕ) → IsNode nodes v → pos 0 <ℤ at_node g.supplies v → at_node y v ≡ first_price
+  pub rows : (v : ℕ) → IsNode nodes v → pos 0 <ℤ at_node g.supplies v → at_node y v ≡ first_price g
   pub others : (v : ℕ) → IsNode nodes v → at_node g.supplies v ≤ℤ pos 0 → at_node y v ≡ pos 0
   pub rest : (v : ℕ) → nodes < v → at_node y v ≡ pos 0
 
 abbrev pub FreeRowsAreFirst : Pseudoflow → List ℤ → Type 0
-FreeRowsAreFirst s y = (v : ℕ) → IsRow s v → ¬ IsMatchedRow s v → at_node y v ≡ first_price
+FreeRowsAreFirst s y = (v : ℕ) → IsRow s v → ¬ IsMatchedRow s v → at_node y v ≡ first_price s.net
 
-pub record IsKept (s : Pseudoflow) (y : List ℤ) (mates : List Mate) (tables : Tables) (reached : List Bool) : Type 0 where
+pub record IsKept (s : Pseudoflow) (y : List ℤ) (mates : List Mate) {W : Type 0} (tables : Tables W) (reached : List Bool) : Type 0 where
   pub matching : IsPartialMatching s
   pub shown : AreMatchingPrices s y
   pub mated : AreMates s mates

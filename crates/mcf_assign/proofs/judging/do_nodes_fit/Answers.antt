@@ -1,7 +1,6 @@
-use Rattle.std.proofs.Common.{◌≡◌, ◌+◌, ◌-◌, ◌∙◌, pos, ap, arith, rules, get_or, to_z, of_z, subst, sym, inl, inr}
-use mir.Syntax.{w64}
-use Rattle.std.proofs.lemmas.Int.{to_z-of_z}
+use Rattle.std.proofs.Common.{◌≡◌, ◌+◌, ◌-◌, ◌∙◌, pos, ap, arith, get_or, subst, sym, inl, inr}
 use Rattle.std.proofs.lemmas.Bool.{cases_eq}
+use Rattle.std.proofs.lemmas.List.{get_or_default}
 use Rattle.mcf_flows.specs.Network.{Network, at_node, node_count}
 use Rattle.mcf_assign.specs.Private.Updating.{DoesNodeFit}
 use Rattle.mcf_assign.proofs.judging.do_nodes_fit.Goals as goal
@@ -11,13 +10,14 @@ nodes-preserved c v h =
     let s = c.args.scene.now.state.now in
     let y = c.args.scene.now.prices.now in
     let z = c.args.prices.now in
-    let x = get_or z c.nodes.number (pos 0) in
-    let t : to_z w64 (of_z w64 x) ≡ x = search (rules, to_z-of_z) in
+    let read = c.index-prices-number.is ∙ get_or_default z c.nodes.number _ (pos 0)
+    (let inside = c.nodes-test.true in let end = c.node_count-number-end.ensures.value in let same = ap (λ (g : Network). node_count g) c.net.ensures.value in
+    let count = c.requires.count in omega (arith, inside, end, same, count)) in
     elim (cases_eq v (c.nodes.number + 1)) [
       | inl e ↦ (
           let back : c.nodes.number ≡ v - 1 = omega (arith, e) in
           subst (λ u. DoesNodeFit s y u (at_node z v)) (c.at.ensures ∙ sym e)
-          (subst (λ a. DoesNodeFit s y c.at.result a) (t ∙ ap (λ i. get_or z i (pos 0)) back) (c.does_node_fit.ensures c.if-not-does_node_fit.false)))
+          (subst (λ a. DoesNodeFit s y c.at.result a) (read ∙ ap (λ i. get_or z i (pos 0)) back) (c.does_node_fit.ensures c.if-not-does_node_fit.false)))
       | inr m ↦ c.nodes.invariant v (omega (arith, h), omega (arith, h, m))
     ]
 

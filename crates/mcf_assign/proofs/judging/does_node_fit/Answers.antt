@@ -1,38 +1,30 @@
-use Rattle.std.proofs.Common.{◌≡◌, ◌<◌, arith, rules, to_z, of_z, subst}
-use mir.Syntax.{w64, w128}
+use Rattle.std.proofs.Common.{◌<◌, ◌-ℤ◌, ◌∙◌, arith, ap, get_or, sym}
 use Rattle.std.proofs.lemmas.Bool.{ltb-true}
-use Rattle.std.proofs.lemmas.Int.{ints, to_z-of_z}
-use Rattle.mcf_flows.specs.WellFormed.{IsUpTo}
+use Rattle.std.proofs.lemmas.Bool.Decides.{Decides-int_eq}
 use Rattle.mcf_assign.specs.Private.Forests.{mate_at}
-use Rattle.mcf_assign.specs.Private.Reaches.{update_reach}
+use Rattle.mcf_assign.proofs.Raising.{price_read}
+use Rattle.mcf_assign.proofs.Updated.{node_fits}
 use Rattle.mcf_assign.proofs.judging.does_node_fit.Goals as goal
 
-pub returns-then-new-old-2 : goal.returns-then-new-old-2
-returns-then-new-old-2 c _ =
-    let t : to_z w64 (of_z w64 c.args.price) ≡ c.args.price = search (rules, to_z-of_z) in
-    let to : to_z w128 (of_z w128 c.get-old.result) ≡ c.get-old.result = search (rules, to_z-of_z) in
-    let tn : to_z w128 (of_z w128 c.from-new.result) ≡ c.from-new.result = search (rules, to_z-of_z) in
-    let old = c.get-old.ensures in
-    let new = c.from-new.ensures in
-    let above = c.if-new-old.false in
-    let same = c.if-new-old-2.true in
-    record {
-      near = subst (λ x. IsUpTo update_reach x) t (c.is_inside.ensures c.if-not-is_inside.false);
-      above = omega (arith, ints, t, to, tn, old, new, above);
-      free = λ _. omega (arith, ints, t, to, tn, old, new, same);
-    }
+pub returns-then-eq : goal.returns-then-eq
+returns-then-eq c same =
+    let y = c.args.scene.now.prices.now in
+    let node = c.requires.node in
+    let count = c.requires.scene.prices.count in
+    let read = get_or y c.place-i.result c.index-scene-i.result in
+    let old = price_read y c.args.v c.place-i.result c.index-scene-i.result c.index-scene-i.is c.place-i.ensures (omega (arith, node, count)) in
+    node_fits c.args.scene.now.state.now y c.args.v c.args.price read c.requires.reach (c.minus.ensures ∙ ap (λ z. z -ℤ c.args.reach) c.of.ensures)
+    (sym c.lt.ensures ∙ c.if-lt.false) (sym c.lt-else-lt.ensures ∙ c.if-lt-2.false) (sym c.lt-else-lt-2.ensures ∙ c.if-lt-3.false)
+    (sym c.index-scene-i.is ∙ old) (λ _. (Decides-int_eq c.args.price read).0 (sym c.eq.ensures ∙ same) ∙ sym c.index-scene-i.is ∙ old)
 
-pub returns-else-new-old-2 : goal.returns-else-new-old-2
-returns-else-new-old-2 c is =
-    let t : to_z w64 (of_z w64 c.args.price) ≡ c.args.price = search (rules, to_z-of_z) in
-    let to : to_z w128 (of_z w128 c.get-old.result) ≡ c.get-old.result = search (rules, to_z-of_z) in
-    let tn : to_z w128 (of_z w128 c.from-new.result) ≡ c.from-new.result = search (rules, to_z-of_z) in
-    let old = c.get-old.ensures in
-    let new = c.from-new.ensures in
-    let above = c.if-new-old.false in
-    let some : 0 < (mate_at c.args.scene.now.mates.now c.args.v).arc = rw (← c.place.ensures) (ltb-true _ _ is) in
-    record {
-      near = subst (λ x. IsUpTo update_reach x) t (c.is_inside.ensures c.if-not-is_inside.false);
-      above = omega (arith, ints, t, to, tn, old, new, above);
-      free = λ none. absurd (none (c.requires.scene.mates.matched c.args.v c.requires.node some));
-    }
+pub returns-else-eq : goal.returns-else-eq
+returns-else-eq c is =
+    let y = c.args.scene.now.prices.now in
+    let node = c.requires.node in
+    let count = c.requires.scene.prices.count in
+    let read = get_or y c.place-i.result c.index-scene-i.result in
+    let old = price_read y c.args.v c.place-i.result c.index-scene-i.result c.index-scene-i.is c.place-i.ensures (omega (arith, node, count)) in
+    let some : 0 < (mate_at c.args.scene.now.mates.now c.args.v).arc = rw (← c.place-i.ensures) (ltb-true _ _ is) in
+    node_fits c.args.scene.now.state.now y c.args.v c.args.price read c.requires.reach (c.minus.ensures ∙ ap (λ z. z -ℤ c.args.reach) c.of.ensures)
+    (sym c.lt.ensures ∙ c.if-lt.false) (sym c.lt-else-lt.ensures ∙ c.if-lt-2.false) (sym c.lt-else-lt-2.ensures ∙ c.if-lt-3.false)
+    (sym c.index-scene-i.is ∙ old) (λ none. absurd (none (c.requires.scene.mates.matched c.args.v c.requires.node some)))

@@ -6,7 +6,7 @@ use Rattle.mcf_assign.specs.Private.Searches.{IsSearch, search_of}
 use Rattle.mcf_assign.proofs.search.Tables.nearest.Given as goal
 
 abbrev pub invariant-offers : goal.invariant-offers
-invariant-offers l =
+invariant-offers g l =
     record {
       search : (s : Pseudoflow) (y : List ℤ) (source : ℕ) → IsPartialMatching s → IsSearch s y (search_of l.fn.self) source []
           → IsSearch s y (search_of l.self) source [];
@@ -14,4 +14,4 @@ invariant-offers l =
     }
 
 abbrev pub decreases-offers : goal.decreases-offers
-decreases-offers l = length l.self.offers.items
+decreases-offers g l = length l.self.offers.items

@@ -6,7 +6,7 @@ use Rattle.mcf_assign.proofs.Rooms.{on_err}
 use Rattle.mcf_assign.proofs.search.Tables.new.Goals as goal
 
 pub returns-in_err-new-clause-wants : goal.returns-in_err-new-clause-wants
-returns-in_err-new-clause-wants c =
+returns-in_err-new-clause-wants g c =
     let g = c.args.net.now in
     let some = c.in_err-new.ensures.wants in
     let arcs = c.arc_count.ensures.value in

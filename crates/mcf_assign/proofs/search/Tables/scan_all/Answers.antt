@@ -2,6 +2,7 @@ use Rattle.std.proofs.Common.{arith, ℕ, [], ◌∷◌, ◌≡◌, subst, sym}
 use Rattle.mcf_flows.specs.Network.{IsArcNumber, Network}
 use Rattle.mcf_network.specs.Residual.{arc_at}
 use Rattle.mcf_network.specs.Stars.{ListsLeaving}
+use Rattle.mcf_assign.specs.Private.Labels.{Row}
 use Rattle.mcf_assign.specs.Private.RowLists.{IsRowArc}
 use Rattle.mcf_assign.specs.Private.Searches.{AreRelaxed, forward, search_of}
 use Rattle.mcf_assign.proofs.Relaxing.{row_kept, scan_end, scan_few, scan_from, scan_kept, scan_leaves, scan_more, scan_none, scan_start}
@@ -9,18 +10,19 @@ use Rattle.mcf_assign.proofs.Rooms.{room_left}
 use Rattle.mcf_assign.proofs.search.Tables.scan_all.Goals as goal
 
 pub arcs-init : goal.arcs-init
-arcs-init c =
+arcs-init g c =
     let lists = rw (← c.into_iter-leaving-iterator.ensures.into_iter_gives) at c.leaving-leaving-items.ensures in
     record {
       can_next = tt;
       is_finite = tt;
       scanned = scan_start c.args.scene.now.state.now c.args.scene.now.prices.now c.args.self.now c.args.row.now.id
           c.into_iter-leaving-iterator.result
-          (subst (λ (g : Network). ListsLeaving g c.args.row.now.id c.into_iter-leaving-iterator.result) c.net.ensures.value lists);
+          (subst (λ (r : Row). ListsLeaving c.args.scene.now.state.now.net r.id c.into_iter-leaving-iterator.result) c.row.view_is
+          (subst (λ (g : Network). ListsLeaving g c.row.inside.id c.into_iter-leaving-iterator.result) c.net.ensures.value lists));
     }
 
 pub arcs-preserved-then-back : goal.arcs-preserved-then-back
-arcs-preserved-then-back c =
+arcs-preserved-then-back g c =
     record {
       can_next = tt;
       is_finite = tt;
@@ -28,7 +30,7 @@ arcs-preserved-then-back c =
     }
 
 pub arcs-preserved : goal.arcs-preserved
-arcs-preserved c =
+arcs-preserved g c =
     let s = c.args.scene.now.state.now in
     let y = c.args.scene.now.prices.now in
     let relaxed = subst (λ k. AreRelaxed s y (search_of c.arcs.self) (search_of c.relax.new.self) (forward k ∷ [])) c.row_arc-a.ensures.number c.relax.ensures.relaxed in
@@ -39,33 +41,33 @@ arcs-preserved c =
     }
 
 pub returns-clause-relaxed : goal.returns-clause-relaxed
-returns-clause-relaxed c =
+returns-clause-relaxed g c =
     scan_end c.args.scene.now.state.now c.args.scene.now.prices.now c.args.self.now c.arcs.self c.args.row.now.id
     (rw c.in-None.ensures.steps.0 at c.arcs.invariant.scanned)
 
 pub returns-clause-kept : goal.returns-clause-kept
-returns-clause-kept c =
+returns-clause-kept g c =
     scan_kept c.args.scene.now.state.now c.args.scene.now.prices.now c.args.self.now c.arcs.self c.args.row.now.id c.arcs.leaving-iterator
     c.arcs.invariant.scanned
 
 pub relax-requires-clause-room : goal.relax-requires-clause-room
-relax-requires-clause-room c =
+relax-requires-clause-room g c =
     let scanned = rw c.in-Some.ensures.steps at c.arcs.invariant.scanned in
     let few = scan_few scanned c.if-back.false in
     room_left _ _ _ c.args.self.now c.arcs.self scanned.kept c.requires.room (omega (arith, few))
 
 pub relax-requires-clause-row : goal.relax-requires-clause-row
-relax-requires-clause-row c =
-    row_kept c.args.scene.now.state.now c.args.scene.now.rows.now c.args.scene.now.prices.now c.args.scene.now.mates.now (search_of c.args.self.now)
+relax-requires-clause-row g c =
+    row_kept c.args.scene.now.state.now _ c.args.scene.now.rows.now c.args.scene.now.prices.now c.args.scene.now.mates.now (search_of c.args.self.now)
     (search_of c.arcs.self) c.args.row.now c.arcs.invariant.scanned.kept.labels c.requires.row
 
 pub relax-requires-clause-arc : goal.relax-requires-clause-arc
-relax-requires-clause-arc c =
+relax-requires-clause-arc g c =
     let is = subst (λ (g : Network). (v : ℕ) → (arc_at g c.in-Some.leaving.arc).src ≡ v → IsRowArc g v c.row_arc-a.result) c.net-in-arcs.ensures.value
     c.row_arc-a.ensures.value in
     is c.args.row.now.id (scan_from (rw c.in-Some.ensures.steps at c.arcs.invariant.scanned) c.if-back.false)
 
 pub row_arc-a-requires : goal.row_arc-a-requires
-row_arc-a-requires c =
+row_arc-a-requires g c =
     let leaves = scan_leaves (rw c.in-Some.ensures.steps at c.arcs.invariant.scanned) in
     subst (λ (g : Network). IsArcNumber g c.in-Some.leaving.arc) (sym c.net-in-arcs.ensures.value) leaves.arc

@@ -2,9 +2,9 @@ use Rattle.mcf_assign.proofs.Relaxing.{IsScanned}
 use Rattle.mcf_assign.proofs.search.Tables.scan_all.Given as goal
 
 abbrev pub invariant-arcs : goal.invariant-arcs
-invariant-arcs l =
+invariant-arcs g l =
     record {
-      can_next : (goal.iterator-arcs).can_next l.leaving-iterator;
-      is_finite : (goal.iterator-arcs).is_finite l.leaving-iterator;
+      can_next : (goal.iterator-arcs g).can_next l.leaving-iterator;
+      is_finite : (goal.iterator-arcs g).is_finite l.leaving-iterator;
       scanned : IsScanned l.fn.scene.state.now l.fn.scene.prices.now l.fn.self l.self l.fn.row.id l.leaving-iterator;
     }

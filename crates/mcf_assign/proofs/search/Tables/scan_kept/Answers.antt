@@ -9,27 +9,27 @@ use Rattle.mcf_assign.proofs.Rooms.{kept_after, kept_same, room_left}
 use Rattle.mcf_assign.proofs.search.Tables.scan_kept.Goals as goal
 
 pub arcs-init : goal.arcs-init
-arcs-init c =
+arcs-init g c =
     record {
       relaxed = λ source rest search. search;
       kept = kept_same c.args.self.now;
     }
 
 pub relax-requires-clause-row : goal.relax-requires-clause-row
-relax-requires-clause-row c =
-    row_kept c.args.scene.now.state.now c.args.scene.now.rows.now c.args.scene.now.prices.now c.args.scene.now.mates.now (search_of c.args.self.now)
+relax-requires-clause-row g c =
+    row_kept c.args.scene.now.state.now _ c.args.scene.now.rows.now c.args.scene.now.prices.now c.args.scene.now.mates.now (search_of c.args.self.now)
     (search_of c.arcs.self) c.args.row.now c.arcs.invariant.kept.labels c.requires.row
 
 pub relax-requires-clause-room : goal.relax-requires-clause-room
-relax-requires-clause-room c =
+relax-requires-clause-room g c =
     let inside = c.arcs-test.true in
     room_left _ _ _ c.args.self.now c.arcs.self c.arcs.invariant.kept c.requires.room (omega (arith, inside))
 
 pub relax-requires-clause-arc : goal.relax-requires-clause-arc
-relax-requires-clause-arc c = c.requires.arcs c.arcs.a-index no_arc c.arcs-test.true
+relax-requires-clause-arc g c = c.requires.arcs c.arcs.a-index no_arc c.arcs-test.true
 
 pub arcs-preserved : goal.arcs-preserved
-arcs-preserved c =
+arcs-preserved g c =
     let s = c.args.scene.now.state.now in
     let y = c.args.scene.now.prices.now in
     let q = search_of c.args.self.now in
@@ -44,7 +44,7 @@ arcs-preserved c =
     }
 
 pub returns-clause-relaxed : goal.returns-clause-relaxed
-returns-clause-relaxed c =
+returns-clause-relaxed g c =
     let all = take_all c.arcs.a-index c.args.list.now (let t = c.arcs-test.false in omega (arith, t)) in
     subst (λ l. AreRelaxed c.args.scene.now.state.now c.args.scene.now.prices.now (search_of c.args.self.now) (search_of c.arcs.self) (map forward_of l)) all
     c.arcs.invariant.relaxed

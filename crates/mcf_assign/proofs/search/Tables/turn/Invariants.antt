@@ -4,7 +4,7 @@ use Rattle.mcf_assign.specs.Private.Searches.{search_of}
 use Rattle.mcf_assign.proofs.search.Tables.turn.Given as goal
 
 abbrev pub invariant-path : goal.invariant-path
-invariant-path l = IsTurning l.fn.state l.state l.mates (search_of l.self) l.self.order.items l.fn.target l.arc
+invariant-path g l = IsTurning l.fn.state l.state l.mates (search_of l.self) l.self.order.items l.fn.target l.arc
 
 abbrev pub decreases-path : goal.decreases-path
-decreases-path l = place l.self.order.items (row_of l.state l.arc)
+decreases-path g l = place l.self.order.items (row_of l.state l.arc)
