@@ -1,7 +1,7 @@
 -- Arc lines of the plain form at the front of a text.
-use Rattle.std.proofs.Common.{◌≡◌, ◌≢◌, ℕ, zero, suc, ◌+◌, ◌-◌, ◌^◌, ◌<◌, ◌≤◌, min, true, false, inl, inr, List, [], ◌∷◌, ◌++◌, length, get_or, take, drop, Ok, Some, None}
+use Rattle.std.proofs.Common.{◌≡◌, ◌≢◌, ℕ, zero, suc, ◌+◌, ◌-◌, ◌^◌, ◌<◌, ◌≤◌, min, true, false, inl, inr, List, [], ◌∷◌, ◌++◌, length, get_or, take, drop, Ok, Some}
 use Rattle.std.proofs.Common.{refl, sym, ap, subst, ◌∙◌, add-one, arith}
-use Rattle.std.specs.Prelude.{codes, ℤ, pos, neg_ℤ, ◌-ℤ◌, ◌≤ℤ◌, slice_index_or, Bool, IfSome, Option, Result}
+use Rattle.std.specs.Prelude.{codes, ℤ, pos, neg_ℤ, ◌-ℤ◌, ◌≤ℤ◌, slice_index_or}
 use Rattle.std.proofs.lemmas.Int.{ints, to_z-of_z, to_z_pos}
 use mir.Syntax.{w64}
 use mir.Val.{SFits, of_z, to_z}
@@ -21,13 +21,9 @@ use Rattle.mcf_text.proofs.FieldsLemmas.{fields_of-blank, fields_of-run, is_kept
 use Rattle.mcf_text.proofs.LinesLemmas.{lines_of-at}
 use Rattle.mcf_text.proofs.LeadingLemmas.{begins_with_digits, begins_with_minus, ends_at_blank, ends_at_end}
 use Rattle.mcf_text.proofs.WholeLemmas.{model}
-use Rattle.mcf_flows.specs.declared.arc.PackedArc.{PackedArc}
-use Rattle.mcf_flows.specs.declared.code.Code.{Code}
 use Rattle.mcf_flows.specs.declared.problem.Problem.TheVariants.{Min, Asn}
-use Rattle.mcf_instance.specs.declared.reader.line.Header.{Header}
-use Rattle.mcf_instance.specs.declared.reader.plain.PlainArc.{PlainArc}
 use Rattle.mcf_flows.specs.Limits.{limits}
-use Rattle.mcf_instance.specs.Private.LineReader.{arc_line, arc_numbers, arc_tests, clamped, kept_size, number_at}
+use Rattle.mcf_instance.specs.Private.LineReader.{arc_line, arc_numbers, clamped, kept_size, number_at}
 use Rattle.mcf_instance.specs.Private.PlainLines.{BeginsArc, BlankAt, EndsField, EndsLine, HasDigits, HasField, HasLastField, HasLine, HasNumber, IsClear, SaysArc}
 use Rattle.mcf_instance.proofs.LineSteps.{arc_line_at}
 use Rattle.mcf_instance.proofs.Ranges.{clamped_up_to}
@@ -256,13 +252,11 @@ past_all text end within = ap fields_of (drop_all end (take end text) (omega (ar
 kept_arc : (line : List ℕ) (rest : List (List ℕ)) → fields_of line ≡ codes "a" ∷ rest → is_kept line ≡ true
 kept_arc line rest is = is_kept-fields_of line ∙ ap begins_kept is
 
--- a line with these numbers, which the tests let through
-pub pair_said : (h : Header) (arcs total : ℕ) (listed : List Bool) (text : List ℕ) (n m k : ℕ) (u v w : ℤ) (arc : PackedArc) → h.problem ≡ Asn
-    → BeginsArc text → HasField text 2 n u → HasField text n m v → HasLastField text m k w
-    → arc_tests limits h arcs total listed (record { src = u; dst = v; low = pos 0; cap = pos 1; cost = w }) ≡ Ok arc
-    → SaysArc h arcs total listed text arc k
+-- a line with these numbers
+pub pair_said : (text : List ℕ) (n m k : ℕ) (u v w : ℤ) → BeginsArc text → HasField text 2 n u → HasField text n m v → HasLastField text m k w
+    → SaysArc Asn text (record { src = u; dst = v; low = pos 0; cap = pos 1; cost = w }) k
 unfolding number_at
-pair_said h arcs total listed text n m k u v w arc asn a src dst cost good =
+pair_said text n m k u v w a src dst cost =
     let line = take k text in
     let within : k ≤ length text = omega (arith, cost.inside) in
     let one = src.number k (omega (arith, dst.moves, cost.moves)) within in
@@ -276,21 +270,18 @@ pair_said h arcs total listed text n m k u v w arc asn a src dst cost good =
     rw (one.whole, two.whole, three.whole, one.value_is, two.value_is, three.value_is) refl in
     let clear : IsClear text 0 k =
     clear_join text 0 2 k (clear_front text a) (clear_join text 2 n k src.clear (clear_join text n m k dst.clear cost.clear)) in
-    let said = arc_line_at (Some h) h arcs total listed (codes "a" ∷ one.first ∷ two.first ∷ three.first ∷ [])
-    (record { src = u; dst = v; low = pos 0; cap = pos 1; cost = w }) refl (rw asn refl) numbers in
     record {
       line = line_to text k cost.inside cost.feed clear;
       word = ap (λ fs. slice_index_or fs 0 []) fields;
       kept = kept_arc line _ fields;
-      says = ap (λ fs. arc_line limits (Some h) arcs total listed fs) fields ∙ said ∙ good;
+      says = λ h arcs total listed asn. ap (λ fs. arc_line limits (Some h) arcs total listed fs) fields
+          ∙ arc_line_at (Some h) h arcs total listed (codes "a" ∷ one.first ∷ two.first ∷ three.first ∷ []) (record { src = u; dst = v; low = pos 0; cap = pos 1; cost = w }) refl (rw asn refl) numbers;
     }
 
-pub link_said : (h : Header) (arcs total : ℕ) (listed : List Bool) (text : List ℕ) (n m i j k : ℕ) (u v x y w : ℤ) (arc : PackedArc) → h.problem ≡ Min
-    → BeginsArc text → HasField text 2 n u → HasField text n m v → HasField text m i x → HasField text i j y → HasLastField text j k w
-    → arc_tests limits h arcs total listed (record { src = u; dst = v; low = x; cap = y; cost = w }) ≡ Ok arc
-    → SaysArc h arcs total listed text arc k
+pub link_said : (text : List ℕ) (n m i j k : ℕ) (u v x y w : ℤ) → BeginsArc text → HasField text 2 n u → HasField text n m v → HasField text m i x
+    → HasField text i j y → HasLastField text j k w → SaysArc Min text (record { src = u; dst = v; low = x; cap = y; cost = w }) k
 unfolding number_at
-link_said h arcs total listed text n m i j k u v x y w arc min a src dst low cap cost good =
+link_said text n m i j k u v x y w a src dst low cap cost =
     let line = take k text in
     let within : k ≤ length text = omega (arith, cost.inside) in
     let one = src.number k (omega (arith, dst.moves, low.moves, cap.moves, cost.moves)) within in
@@ -310,33 +301,10 @@ link_said h arcs total listed text n m i j k u v x y w arc min a src dst low cap
     let clear : IsClear text 0 k =
     clear_join text 0 2 k (clear_front text a) (clear_join text 2 n k src.clear (clear_join text n m k dst.clear
     (clear_join text m i k low.clear (clear_join text i j k cap.clear cost.clear)))) in
-    let said = arc_line_at (Some h) h arcs total listed (codes "a" ∷ one.first ∷ two.first ∷ three.first ∷ four.first ∷ five.first ∷ [])
-    (record { src = u; dst = v; low = x; cap = y; cost = w }) refl (rw min refl) numbers in
     record {
       line = line_to text k cost.inside cost.feed clear;
       word = ap (λ fs. slice_index_or fs 0 []) fields;
       kept = kept_arc line _ fields;
-      says = ap (λ fs. arc_line limits (Some h) arcs total listed fs) fields ∙ said ∙ good;
+      says = λ h arcs total listed min. ap (λ fs. arc_line limits (Some h) arcs total listed fs) fields
+          ∙ arc_line_at (Some h) h arcs total listed (codes "a" ∷ one.first ∷ two.first ∷ three.first ∷ four.first ∷ five.first ∷ []) (record { src = u; dst = v; low = x; cap = y; cost = w }) refl (rw min refl) numbers;
     }
-
--- the same by what the code has of the tests
-abbrev pub IsArcSaid : Result PackedArc Code → ℕ → PlainArc → Type 0
-IsArcSaid said end p = (said ≡ Ok p.arc) × (p.end ≡ end)
-
-pub pair_found : (h : Header) (arcs total : ℕ) (listed : List Bool) (text : List ℕ) (n m k : ℕ) (u v w : ℤ) (said : Result PackedArc Code) (o : Option PlainArc)
-    → h.problem ≡ Asn → BeginsArc text → HasField text 2 n u → HasField text n m v → HasLastField text m k w
-    → said ≡ arc_tests limits h arcs total listed (record { src = u; dst = v; low = pos 0; cap = pos 1; cost = w }) → IfSome o (IsArcSaid said k)
-    → IfSome o (λ p. SaysArc h arcs total listed text p.arc p.end)
-pair_found h arcs total listed text n m k u v w said None asn a src dst cost told found = tt
-pair_found h arcs total listed text n m k u v w said (Some p) asn a src dst cost told found =
-    subst (SaysArc h arcs total listed text p.arc) (sym found.1) (pair_said h arcs total listed text n m k u v w p.arc asn a src dst cost (sym told ∙ found.0))
-
-pub link_found : (h : Header) (arcs total : ℕ) (listed : List Bool) (text : List ℕ) (n m i j k : ℕ) (u v x y w : ℤ) (said : Result PackedArc Code)
-    (o : Option PlainArc) → h.problem ≡ Min → BeginsArc text → HasField text 2 n u → HasField text n m v → HasField text m i x → HasField text i j y
-    → HasLastField text j k w
-    → said ≡ arc_tests limits h arcs total listed (record { src = u; dst = v; low = x; cap = y; cost = w }) → IfSome o (IsArcSaid said k)
-    → IfSome o (λ p. SaysArc h arcs total listed text p.arc p.end)
-link_found h arcs total listed text n m i j k u v x y w said None min a src dst low cap cost told found = tt
-link_found h arcs total listed text n m i j k u v x y w said (Some p) min a src dst low cap cost told found =
-    subst (SaysArc h arcs total listed text p.arc) (sym found.1)
-    (link_said h arcs total listed text n m i j k u v x y w p.arc min a src dst low cap cost (sym told ∙ found.0))

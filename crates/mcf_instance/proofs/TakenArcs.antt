@@ -1,7 +1,7 @@
 -- Arc lines taken in one after another.
 use Rattle.std.proofs.Common.{◌≡◌, ℕ, ◌+◌, ◌≤◌, List, [], ◌∷◌, ◌++◌, length, take, drop, Ok, Some, None}
 use Rattle.std.proofs.Common.{refl, sym, ap, subst, ◌∙◌, arith, append_assoc, append-nil, length-append, drop-drop, length-drop}
-use Rattle.std.specs.Prelude.{codes, slice_index_or, IfSome, Option}
+use Rattle.std.specs.Prelude.{codes, slice_index_or}
 use Rattle.std.specs.List.{enumerate_from}
 use Rattle.mcf_text.specs.Feed.{BeginsWithLines, Feed, after_lines}
 use Rattle.mcf_text.specs.Fields.{fields_of}
@@ -9,13 +9,13 @@ use Rattle.mcf_text.specs.Lines.{lines_of, numbered_lines}
 use Rattle.mcf_text.specs.Row.{row_of}
 use Rattle.mcf_text.proofs.LinesLemmas.{length-numbered_lines}
 use Rattle.mcf_flows.specs.declared.arc.PackedArc.{PackedArc}
+use Rattle.mcf_instance.specs.declared.reader.line.ArcNumbers.{ArcNumbers}
 use Rattle.mcf_instance.specs.declared.reader.line.Header.{Header}
-use Rattle.mcf_instance.specs.declared.reader.plain.PlainArc.{PlainArc}
 use Rattle.mcf_instance.specs.declared.reader.line.Item.TheVariants.{Link}
 use Rattle.mcf_flows.specs.Limits.{limits}
 use Rattle.mcf_instance.specs.Memory.{NamesNodes}
 use Rattle.mcf_instance.specs.ReadOn.{HasRead, HasReadPieces, Stands, StateData}
-use Rattle.mcf_instance.specs.Private.LineReader.{arc_line}
+use Rattle.mcf_instance.specs.Private.LineReader.{arc_line, arc_tests}
 use Rattle.mcf_instance.specs.Private.PlainLines.{HasLine, SaysArc}
 use Rattle.mcf_instance.specs.Private.ReaderSound.{ItemFits}
 use Rattle.mcf_instance.specs.Private.ReaderState.{after_row, item_of, outcome_grows, with_item}
@@ -33,18 +33,13 @@ item_arc : (s : StateData) (h : Header) (fields : List (List ℕ)) (a : PackedAr
 unfolding item_of
 item_arc s h fields a some word is = rw (word, some, is) refl
 
-begins_with_arc : (s : StateData) (h : Header) (text : List ℕ) (a : PackedArc) (end : ℕ) → s.header ≡ Some h
-    → SaysArc h (length s.arcs) s.total s.listed text a end → BeginsWithArc s text a end
-begins_with_arc s h text a end some said = record {
+pub begins_with_arc : (s : StateData) (h : Header) (text : List ℕ) (numbers : ArcNumbers) (end : ℕ) (a : PackedArc) → s.header ≡ Some h
+    → SaysArc h.problem text numbers end → arc_tests limits h (length s.arcs) s.total s.listed numbers ≡ Ok a → BeginsWithArc s text a end
+begins_with_arc s h text numbers end a some said tested = record {
   line = said.line;
   kept = said.kept;
-  item = item_arc s h (fields_of (take end text)) a some said.word said.says;
+  item = item_arc s h (fields_of (take end text)) a some said.word (said.says h (length s.arcs) s.total s.listed refl ∙ tested);
 }
-
-pub if_begins : (s : StateData) (h : Header) (text : List ℕ) (o : Option PlainArc) → s.header ≡ Some h
-    → IfSome o (λ p. SaysArc h (length s.arcs) s.total s.listed text p.arc p.end) → IfSome o (λ p. BeginsWithArc s text p.arc p.end)
-if_begins s h text None some said = tt
-if_begins s h text (Some p) some said = begins_with_arc s h text p.arc p.end some said
 
 pub arc_fits : (s : StateData) (text : List ℕ) (a : PackedArc) (end : ℕ) → BeginsWithArc s text a end → ItemFits limits s (Link a)
 arc_fits s text a end begins = item_fits s (fields_of (take end text)) (Link a) begins.item

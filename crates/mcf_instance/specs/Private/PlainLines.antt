@@ -1,12 +1,13 @@
 -- Arc lines of the plain form at the front of a text: the fields of a line told by the places where they begin.
-use Rattle.std.specs.Prelude.{◌≡◌, ◌≢◌, ℕ, ◌+◌, ◌<◌, ◌≤◌, true, List, [], ◌∷◌, ◌++◌, length, get_or, take, drop, codes, slice_index_or, ℤ, Bool, Some, Ok}
+use Rattle.std.specs.Prelude.{◌≡◌, ◌≢◌, ℕ, ◌+◌, ◌<◌, ◌≤◌, true, List, [], ◌∷◌, ◌++◌, length, get_or, take, drop, codes, slice_index_or, ℤ, Bool, Some}
 use Rattle.mcf_text.specs.Fields.{EndsRun, fields_of, is_blank, is_kept}
 use Rattle.mcf_text.specs.Lines.{line_feed, lines_of}
 use Rattle.mcf_text.specs.Whole.{is_whole, whole_value}
-use Rattle.mcf_flows.specs.declared.arc.PackedArc.{PackedArc}
+use Rattle.mcf_flows.specs.declared.problem.Problem.{Problem}
+use Rattle.mcf_instance.specs.declared.reader.line.ArcNumbers.{ArcNumbers}
 use Rattle.mcf_instance.specs.declared.reader.line.Header.{Header}
 use Rattle.mcf_flows.specs.Limits.{limits}
-use Rattle.mcf_instance.specs.Private.LineReader.{arc_line, clamped}
+use Rattle.mcf_instance.specs.Private.LineReader.{arc_line, arc_tests, clamped}
 
 -- the text begins with the letter `a` and a blank
 pub record BeginsArc (text : List ℕ) : Type 0 where
@@ -71,9 +72,10 @@ pub record HasLine (text : List ℕ) (end : ℕ) : Type 0 where
   pub inside : end < length text
   pub joined : (more : List ℕ) → lines_of (text ++ more) ≡ take end text ∷ lines_of (drop (end + 1) text ++ more)
 
--- the first line of the text is a good arc line with this arc
-pub record SaysArc (header : Header) (arcs total : ℕ) (listed : List Bool) (text : List ℕ) (arc : PackedArc) (end : ℕ) : Type 0 where
+-- the first line of the text is an arc line of the problem with these numbers
+pub record SaysArc (problem : Problem) (text : List ℕ) (numbers : ArcNumbers) (end : ℕ) : Type 0 where
   pub line : HasLine text end
   pub word : slice_index_or (fields_of (take end text)) 0 [] ≡ codes "a"
   pub kept : is_kept (take end text) ≡ true
-  pub says : arc_line limits (Some header) arcs total listed (fields_of (take end text)) ≡ Ok arc
+  pub says : (h : Header) (arcs total : ℕ) (listed : List Bool) → h.problem ≡ problem
+      → arc_line limits (Some h) arcs total listed (fields_of (take end text)) ≡ arc_tests limits h arcs total listed numbers

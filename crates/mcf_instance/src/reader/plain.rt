@@ -1,13 +1,12 @@
 //! Arc lines of the plain form at the front of a text, read in one pass up to the byte that ends them: `a` and
 //! numbers of at most eighteen digits, each with one blank before it, and at most one at the end. Other lines,
 //! and lines with a fault, go another way, and are read as these are.
-ghost use Rattle.std.specs.Prelude.{◌≡◌, ◌<◌, ◌≤◌, IfSome, IsTrue, Ok, length};
-ghost use Rattle.mcf_flows.specs.Limits.{total_limit};
+ghost use Rattle.std.specs.Prelude.{◌≡◌, ◌<◌, ◌≤◌, IfSome, IsTrue, length};
 ghost use Rattle.mcf_instance.specs.Private.PlainLines.{BeginsArc, BlankAt, EndsLine, HasDigits, HasField, HasLastField, SaysArc};
 ghost use Rattle.mcf_text.specs.Fields.{is_blank};
 
-use crate::reader::line::{ArcNumbers, Header, arc_tests};
-use mcf_flows::{Code, PackedArc, Problem};
+use crate::reader::line::ArcNumbers;
+use mcf_flows::Problem;
 use mcf_text::leading_digits;
 
 // A number, and a place behind it.
@@ -17,10 +16,10 @@ struct PlainNumber {
     place: usize,
 }
 
-/// The arc of a line, and the place of the byte that ends the line.
+/// The numbers of an arc line, and the place of the byte that ends the line.
 #[derive(Clone, Copy)]
 pub(crate) struct PlainArc {
-    pub(crate) arc: PackedArc,
+    pub(crate) numbers: ArcNumbers,
     pub(crate) end: usize,
 }
 
@@ -31,9 +30,9 @@ fn is_blank(byte: u8) -> bool
     byte == b' ' || byte == b'\t' || byte == b'\r'
 }
 
-// Whether a text begins with `a` and a blank.
+/// Whether a text begins with `a` and a blank.
 #[inline(always)]
-fn begins_arc(text: &[u8]) -> bool
+pub(crate) fn begins_arc(text: &[u8]) -> bool
     ensures { IsTrue result → BeginsArc text.now }
 {
     2 <= text.len() && text[0] == b'a' && is_blank(text[1])
@@ -151,42 +150,11 @@ fn last_number_at(text: &[u8], start: usize) -> Option<PlainNumber>
     })
 }
 
-/// The first line of a text, where it is a good arc line and plain.
+/// The first line of a text, which begins as an arc line, where it is one of an assignment and plain.
 #[inline(always)]
-pub(crate) fn plain_arc(
-    header: Header,
-    arcs: usize,
-    total: u128,
-    listed: &[bool],
-    text: &[u8],
-) -> Option<PlainArc>
-    requires tabled { length listed.now ≡ header.nodes }
-    requires total { total ≤ total_limit }
-    ensures { IfSome result (λ p. SaysArc header arcs total listed.now text.now p.arc p.end) }
-{
-    if !begins_arc(text) {
-        return None;
-    }
-    match header.problem {
-        Problem::Min => plain_link(header, arcs, total, listed, text),
-        Problem::Asn => plain_pair(header, arcs, total, listed, text),
-    }
-}
-
-// The first line of a text, which begins as an arc line, where it is a good one of an assignment and plain.
-#[inline(always)]
-fn plain_pair(
-    header: Header,
-    arcs: usize,
-    total: u128,
-    listed: &[bool],
-    text: &[u8],
-) -> Option<PlainArc>
-    requires problem { header.problem ≡ Problem.Asn }
-    requires tabled { length listed.now ≡ header.nodes }
-    requires total { total ≤ total_limit }
-    requires begins { BeginsArc text.now }
-    ensures { IfSome result (λ p. SaysArc header arcs total listed.now text.now p.arc p.end) }
+pub(crate) fn plain_pair(text: &[u8]) -> Option<PlainArc>
+    requires { BeginsArc text.now }
+    ensures { IfSome result (λ p. SaysArc Problem.Asn text.now p.numbers p.end) }
 {
     let src = number_at(text, 2)?;
     let dst = number_at(text, src.place)?;
@@ -198,23 +166,17 @@ fn plain_pair(
         cap: 1,
         cost: cost.value,
     };
-    said_arc(arc_tests(header, arcs, total, listed, numbers), cost.place)
+    Some(PlainArc {
+        numbers,
+        end: cost.place,
+    })
 }
 
-// The same of the flow problem.
+/// The same of the flow problem.
 #[inline(always)]
-fn plain_link(
-    header: Header,
-    arcs: usize,
-    total: u128,
-    listed: &[bool],
-    text: &[u8],
-) -> Option<PlainArc>
-    requires problem { header.problem ≡ Problem.Min }
-    requires tabled { length listed.now ≡ header.nodes }
-    requires total { total ≤ total_limit }
-    requires begins { BeginsArc text.now }
-    ensures { IfSome result (λ p. SaysArc header arcs total listed.now text.now p.arc p.end) }
+pub(crate) fn plain_link(text: &[u8]) -> Option<PlainArc>
+    requires { BeginsArc text.now }
+    ensures { IfSome result (λ p. SaysArc Problem.Min text.now p.numbers p.end) }
 {
     let src = number_at(text, 2)?;
     let dst = number_at(text, src.place)?;
@@ -228,16 +190,8 @@ fn plain_link(
         cap: cap.value,
         cost: cost.value,
     };
-    said_arc(arc_tests(header, arcs, total, listed, numbers), cost.place)
-}
-
-// The arc of a line that ends at this place, where it has no fault.
-#[inline(always)]
-fn said_arc(said: Result<PackedArc, Code>, end: usize) -> Option<PlainArc>
-    ensures { IfSome result (λ p. (said ≡ Ok p.arc) × (p.end ≡ end)) }
-{
-    match said {
-        Ok(arc) => Some(PlainArc { arc, end }),
-        Err(_) => None,
-    }
+    Some(PlainArc {
+        numbers,
+        end: cost.place,
+    })
 }

@@ -6,7 +6,8 @@ ghost use Rattle.mcf_instance.specs.Private.ArrayStates.{CarriesOne, NodesFit, O
 ghost use Rattle.mcf_instance.specs.Private.LineReader.{arc_tests};
 ghost use Rattle.mcf_instance.specs.Private.ReaderSound.{IsSound, ItemFits};
 ghost use Rattle.mcf_instance.specs.Private.ReaderState.{empty, item_of, with_item, item_grows, network_of, outcome_grows, after_row, refusal_after, finished};
-ghost use Rattle.mcf_instance.specs.Private.TakenArcs.{BeginsWithArc, TakesArc, WantsArc};
+ghost use Rattle.mcf_instance.specs.Private.PlainLines.{SaysArc};
+ghost use Rattle.mcf_instance.specs.Private.TakenArcs.{TakesArc, WantsArc};
 ghost use Rattle.mcf_instance.specs.ReadOn.{Stands};
 ghost use Rattle.mcf_flows.specs.WellFormed.{IsWellFormed};
 ghost use Rattle.mcf_text.specs.Fields.{fields_of, is_kept};
@@ -16,7 +17,7 @@ use crate::reader::fields::first_fields;
 use crate::reader::line::{
     ArcNumbers, Header, Item, arc_line, arc_tests, is_word, node_line, problem_line,
 };
-use crate::reader::plain::{PlainArc, plain_arc};
+use crate::reader::plain::{PlainArc, begins_arc, plain_link, plain_pair};
 use mcf_flows::{ArcTable, Code, Instance, PackedArc, Problem, Refusal};
 use mcf_text::{NoMemory, copies};
 use std::alloc::Global;
@@ -146,6 +147,7 @@ impl State {
     }
 
     // What the numbers of an arc say, or their fault.
+    #[inline(always)]
     #[tactic(auto, using(crate::proofs::Signed::signed))]
     fn tested(&self, header: Header, numbers: ArcNumbers) -> Result<PackedArc, Code>
         requires { self.now.header ≡ Some header }
@@ -252,13 +254,27 @@ impl State {
         self.header
     }
 
-    // The first line of a text, where it is a good arc line and plain.
+    // Takes in the arc with which a text begins, where it was read and has no fault.
     #[inline(always)]
-    fn first_arc(&self, header: Header, text: &[u8]) -> Option<PlainArc>
-        requires { self.now.header ≡ Some header }
-        ensures { IfSome result (λ p. BeginsWithArc self.now text.now p.arc p.end) }
+    fn link_plain(
+        &mut self,
+        header: Header,
+        text: &[u8],
+        plain: Option<PlainArc>,
+    ) -> Result<Option<usize>, NoMemory>
+        requires header { self.old.header ≡ Some header }
+        requires plain { IfSome plain (λ p. SaysArc header.problem text.now p.numbers p.end) }
+        ensures taken { IfOk result (λ len. TakesArc self.old text.now len self.new) }
+        ensures wants { OnErr result (WantsArc self.old text.now) }
     {
-        plain_arc(header, self.arcs.len(), self.total, &self.listed, text)
+        let Some(plain) = plain else {
+            return Ok(None);
+        };
+        let Ok(arc) = self.tested(header, plain.numbers) else {
+            return Ok(None);
+        };
+        self.link(arc)?;
+        Ok(Some(plain.end + 1))
     }
 
     /// Takes the first line of a text in, where it is a good arc line and plain, and answers how many bytes it has with the one that
@@ -273,11 +289,14 @@ impl State {
         ensures taken { IfOk result (λ len. TakesArc self.old text.now len self.new) }
         ensures wants { OnErr result (WantsArc self.old text.now) }
     {
-        let Some(plain) = self.first_arc(header, text) else {
+        if !begins_arc(text) {
             return Ok(None);
-        };
-        self.link(plain.arc)?;
-        Ok(Some(plain.end + 1))
+        }
+        // each arm has all that follows of its own: low 0 and cap 1 of an assignment are constants there
+        match header.problem {
+            Problem::Min => self.link_plain(header, text, plain_link(text)),
+            Problem::Asn => self.link_plain(header, text, plain_pair(text)),
+        }
     }
 
     /// The first fault, if a line so far has one.

@@ -2,7 +2,7 @@ use Rattle.std.proofs.Common.{rules}
 use Rattle.std.proofs.lemmas.Int.{to_z-of_z}
 use mir.Syntax.{w64}
 use mir.Val.{SFits}
-use Rattle.mcf_instance.proofs.PlainLines.{link_found}
+use Rattle.mcf_instance.proofs.PlainLines.{link_said}
 use Rattle.mcf_instance.proofs.reader.plain.plain_link.Goals as goal
 
 pub returns : goal.returns
@@ -12,6 +12,4 @@ returns c =
     let f3 : SFits w64 c.in_ok-low.low.value = search rules in
     let f4 : SFits w64 c.in_ok-cap.cap.value = search rules in
     let f5 : SFits w64 c.in_ok-cost.cost.value = search rules in
-    let told = simp to_z-of_z at c.arc_tests.ensures in
-    link_found c.args.header c.args.arcs c.args.total c.args.listed.now c.args.text.now _ _ _ _ _ _ _ _ _ _ c.arc_tests.result c.said_arc.result
-    c.requires.problem c.requires.begins c.in_ok-src.ensures c.in_ok-dst.ensures c.in_ok-low.ensures c.in_ok-cap.ensures c.in_ok-cost.ensures told c.said_arc.ensures
+    simp to_z-of_z (link_said c.args.text.now _ _ _ _ _ _ _ _ _ _ c.requires c.in_ok-src.ensures c.in_ok-dst.ensures c.in_ok-low.ensures c.in_ok-cap.ensures c.in_ok-cost.ensures)

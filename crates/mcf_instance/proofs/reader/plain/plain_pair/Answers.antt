@@ -2,7 +2,7 @@ use Rattle.std.proofs.Common.{rules}
 use Rattle.std.proofs.lemmas.Int.{to_z-of_z}
 use mir.Syntax.{w64}
 use mir.Val.{SFits}
-use Rattle.mcf_instance.proofs.PlainLines.{pair_found}
+use Rattle.mcf_instance.proofs.PlainLines.{pair_said}
 use Rattle.mcf_instance.proofs.reader.plain.plain_pair.Goals as goal
 
 pub returns : goal.returns
@@ -10,6 +10,4 @@ returns c =
     let f1 : SFits w64 c.in_ok-src.src.value = search rules in
     let f2 : SFits w64 c.in_ok-dst.dst.value = search rules in
     let f3 : SFits w64 c.in_ok-cost.cost.value = search rules in
-    let told = simp to_z-of_z at c.arc_tests.ensures in
-    pair_found c.args.header c.args.arcs c.args.total c.args.listed.now c.args.text.now _ _ _ _ _ _ c.arc_tests.result c.said_arc.result
-    c.requires.problem c.requires.begins c.in_ok-src.ensures c.in_ok-dst.ensures c.in_ok-cost.ensures told c.said_arc.ensures
+    simp to_z-of_z (pair_said c.args.text.now _ _ _ _ _ _ c.requires c.in_ok-src.ensures c.in_ok-dst.ensures c.in_ok-cost.ensures)
