@@ -87,6 +87,25 @@ fn the_first_of_the_arcs_that_leave(rt: HostRuntime) -> Result<(), Fail> {
     Ok(())
 }
 
+// Whether so many of the residual arcs that leave the first node are still to come, once so many are passed over.
+fn are_left(net: &Net, passed: usize, left: usize) -> bool {
+    if net.node_count() < 1 {
+        return false;
+    }
+    let mut rest = net.leaving(NodeId::new(1));
+    rest.pass(passed);
+    rest.count() == left
+}
+
+#[test]
+fn arcs_that_leave_are_passed_over(rt: HostRuntime) -> Result<(), Fail> {
+    let text = b"p min 2 3\na 1 2 0 1 5\na 1 2 0 1 5\na 1 2 0 1 5\n";
+    let net = net_of(rt.alloc(), text)?.ok_or("refused")?;
+    assert!(rt; are_left(&net, 0, 3) && are_left(&net, 2, 1));
+    assert!(rt; are_left(&net, 3, 0) && are_left(&net, 9, 0));
+    Ok(())
+}
+
 // Whether the net of a text has arcs of these widths and nodes of these supplies, and so many residual arcs
 // leave the first node.
 fn is_net(

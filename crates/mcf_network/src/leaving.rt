@@ -1,5 +1,5 @@
 //! The residual arcs that leave a node, as an iterator.
-ghost use Rattle.std.specs.Prelude.{◌≡◌, ◌∷◌, [], List, IfNone, IfSome};
+ghost use Rattle.std.specs.Prelude.{◌≡◌, ◌∷◌, [], List, IfNone, IfSome, drop};
 ghost use Rattle.mcf_network.specs.declared.rid.Rid.{Rid};
 
 use crate::rid::{PackedRid, Rid};
@@ -28,6 +28,13 @@ impl<'a> Leaving<'a> {
     {
         let (first, _) = self.rest.split_first()?;
         Some(first.get())
+    }
+
+    /// Passes over so many of the residual arcs that are still to come, or over all where there are fewer, in one step.
+    pub fn pass(&mut self, count: usize)
+        ensures { self.new ≡ drop count self.old }
+    {
+        self.rest = &self.rest[count.min(self.rest.len())..];
     }
 }
 
