@@ -69,7 +69,7 @@ pub record IsOut (g : Network) (v : ℕ) (r : Rid) : Type 0 where
   pub forth : r.back ≡ false
   pub from : (arc_at g r.arc).src ≡ v
 
-rid_is : (r : Rid) → r.back ≡ false → forward r.arc ≡ r
+pub rid_is : (r : Rid) → r.back ≡ false → forward r.arc ≡ r
 rid_is r e = ap (λ b. rid_of b) (sym e)
   where
     rid_of : Bool → Rid

@@ -1,11 +1,11 @@
 -- What a search reads and doesn't change, and the row whose arcs it relaxes.
 use Rattle.std.specs.Prelude.{◌≡◌, ℕ, List, ℤ, ◌-ℤ◌}
-use Rattle.mcf_flows.specs.Network.{IsNode, at_node, node_count}
+use Rattle.mcf_flows.specs.Network.{at_node, node_count}
 use Rattle.mcf_flows.specs.WellFormed.{IsUpTo}
 use Rattle.mcf_network.specs.States.{Pseudoflow}
 use Rattle.mcf_assign.specs.declared.rows.Rows.{Rows}
 use Rattle.mcf_assign.specs.declared.scene.Mate.{Mate}
-use Rattle.mcf_assign.specs.Matchings.{AreMatchingPrices, IsPartialMatching}
+use Rattle.mcf_assign.specs.Matchings.{AreMatchingPrices, IsPartialMatching, IsRow}
 use Rattle.mcf_assign.specs.Private.Forests.{AreMates}
 use Rattle.mcf_assign.specs.Private.RowLists.{AreRows}
 use Rattle.mcf_assign.specs.Private.Searches.{HasEntries, IsLast, Search, Settled, dist_at}
@@ -28,7 +28,7 @@ pub record IsScene (room : ℕ) (s : Pseudoflow) (arcs : Rows) (y : List ℤ) (t
 pub record IsScannedRow (room : ℕ) (s : Pseudoflow) (arcs : Rows) (y : List ℤ) (table : List Mate) (q : Search) (row : Row) : Type 0 where
   pub scene : IsScene room s arcs y table
   pub entries : HasEntries (node_count s.net) q
-  pub node : IsNode (node_count s.net) row.id
+  pub is_row : IsRow s row.id
   pub settled : Settled q row.id
   pub last : IsLast s q row.id
   pub base : row.base ≡ dist_at q row.id -ℤ at_node y row.id

@@ -5,7 +5,7 @@ use Rattle.mcf_network.specs.Stars.{ListsLeaving}
 use Rattle.mcf_assign.specs.Private.Labels.{Row}
 use Rattle.mcf_assign.specs.Private.RowLists.{IsRowArc}
 use Rattle.mcf_assign.specs.Private.Searches.{AreRelaxed, forward, search_of}
-use Rattle.mcf_assign.proofs.Relaxing.{row_kept, scan_end, scan_few, scan_from, scan_kept, scan_leaves, scan_more, scan_none, scan_start}
+use Rattle.mcf_assign.proofs.Relaxing.{row_kept, scan_end, scan_few, scan_kept, scan_more, scan_out, scan_start}
 use Rattle.mcf_assign.proofs.Rooms.{room_left}
 use Rattle.mcf_assign.proofs.search.Tables.scan_all.Goals as goal
 
@@ -16,17 +16,9 @@ arcs-init g c =
       can_next = tt;
       is_finite = tt;
       scanned = scan_start c.args.scene.now.state.now c.args.scene.now.prices.now c.args.self.now c.args.row.now.id
-          c.into_iter-leaving-iterator.result
+          c.into_iter-leaving-iterator.result c.requires.row.scene.matching c.requires.row.is_row
           (subst (λ (r : Row). ListsLeaving c.args.scene.now.state.now.net r.id c.into_iter-leaving-iterator.result) c.row.view_is
           (subst (λ (g : Network). ListsLeaving g c.row.inside.id c.into_iter-leaving-iterator.result) c.net.ensures.value lists));
-    }
-
-pub arcs-preserved-then-back : goal.arcs-preserved-then-back
-arcs-preserved-then-back g c =
-    record {
-      can_next = tt;
-      is_finite = tt;
-      scanned = scan_none (rw c.in-Some.ensures.steps at c.arcs.invariant.scanned) c.if-back.true;
     }
 
 pub arcs-preserved : goal.arcs-preserved
@@ -37,7 +29,7 @@ arcs-preserved g c =
     record {
       can_next = tt;
       is_finite = tt;
-      scanned = scan_more (rw c.in-Some.ensures.steps at c.arcs.invariant.scanned) c.if-back.false c.relax.new.self relaxed c.relax.ensures.kept;
+      scanned = scan_more (rw c.in-Some.ensures.steps at c.arcs.invariant.scanned) c.relax.new.self relaxed c.relax.ensures.kept;
     }
 
 pub returns-clause-relaxed : goal.returns-clause-relaxed
@@ -53,7 +45,7 @@ returns-clause-kept g c =
 pub relax-requires-clause-room : goal.relax-requires-clause-room
 relax-requires-clause-room g c =
     let scanned = rw c.in-Some.ensures.steps at c.arcs.invariant.scanned in
-    let few = scan_few scanned c.if-back.false in
+    let few = scan_few scanned in
     room_left _ _ _ c.args.self.now c.arcs.self scanned.kept c.requires.room (omega (arith, few))
 
 pub relax-requires-clause-row : goal.relax-requires-clause-row
@@ -65,9 +57,9 @@ pub relax-requires-clause-arc : goal.relax-requires-clause-arc
 relax-requires-clause-arc g c =
     let is = subst (λ (g : Network). (v : ℕ) → (arc_at g c.in-Some.leaving.arc).src ≡ v → IsRowArc g v c.row_arc-a.result) c.net-in-arcs.ensures.value
     c.row_arc-a.ensures.value in
-    is c.args.row.now.id (scan_from (rw c.in-Some.ensures.steps at c.arcs.invariant.scanned) c.if-back.false)
+    is c.args.row.now.id (scan_out (rw c.in-Some.ensures.steps at c.arcs.invariant.scanned)).from
 
 pub row_arc-a-requires : goal.row_arc-a-requires
 row_arc-a-requires g c =
-    let leaves = scan_leaves (rw c.in-Some.ensures.steps at c.arcs.invariant.scanned) in
-    subst (λ (g : Network). IsArcNumber g c.in-Some.leaving.arc) (sym c.net-in-arcs.ensures.value) leaves.arc
+    let out = scan_out (rw c.in-Some.ensures.steps at c.arcs.invariant.scanned) in
+    subst (λ (g : Network). IsArcNumber g c.in-Some.leaving.arc) (sym c.net-in-arcs.ensures.value) out.arc
