@@ -1,5 +1,5 @@
 //! A whole search, and the matching made greater by what it found.
-ghost use Rattle.std.specs.Prelude.{◌≡◌, ◌+◌, ◌-◌, ◌*◌, ◌<◌, ◌≤◌, ◌∷◌, ◌++◌, ◌↔◌, ℕ, [], None, Some, false, true, IfOk, OnErr, length};
+ghost use Rattle.std.specs.Prelude.{◌≡◌, ◌+◌, ◌<◌, ◌≤◌, ◌∷◌, ◌++◌, ◌↔◌, ℕ, [], Some, false, true, IfOk, OnErr, length};
 ghost use Rattle.std.specs.List.{All, Contains};
 ghost use Rattle.mcf_flows.specs.Blocking.{in_table};
 ghost use Rattle.mcf_flows.specs.Network.{IsNode, node_count};

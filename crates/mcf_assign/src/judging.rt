@@ -15,7 +15,7 @@ use mcf_offers::Number;
 use mcf_text::{ArcId, NodeId};
 
 /// Whether new prices are near 0 and show the matching of a scene, none is less than before, and those of free nodes are as before.
-/// They are not where a row has arcs that aren't kept.
+/// The answer is no where a row has arcs that aren't kept.
 pub(crate) fn are_shown(
     scene: &Scene<'_, '_, i64>,
     prices: &[Number<i64>],

@@ -1,5 +1,5 @@
 //! A partial matching in numbers of one width.
-ghost use Rattle.std.specs.Prelude.{◌≡◌, ◌-◌, ◌^◌, ◌≤◌, ◌↔◌, [], IfOk, IsTrue, OnErr, length, pos, replicate};
+ghost use Rattle.std.specs.Prelude.{◌≡◌, ◌≤◌, ◌↔◌, [], IfOk, IsTrue, OnErr, length, pos, replicate};
 ghost use Rattle.std.specs.List.{All};
 ghost use Rattle.mcf_flows.specs.declared.problem.Problem.TheVariants.{Asn};
 ghost use Rattle.mcf_flows.specs.Network.{IsNode, node_count};

@@ -1,5 +1,5 @@
 //! The prices of the nodes, and how far from 0 they lie.
-ghost use Rattle.std.specs.Prelude.{◌≡◌, ◌-◌, ◌*◌, ◌^◌, ◌≤◌, IfOk, OnErr, length, max, pos, true};
+ghost use Rattle.std.specs.Prelude.{◌≡◌, ◌-◌, ◌^◌, ◌≤◌, IfOk, OnErr, length, max, pos, true};
 ghost use Rattle.mcf_flows.specs.Network.{node_count};
 ghost use Rattle.mcf_network.specs.Nets.{IsNet};
 ghost use Rattle.mcf_assign.specs.Private.Keeping.{AreFirstPrices};

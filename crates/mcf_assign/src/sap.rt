@@ -1,12 +1,11 @@
 //! The engine.
-ghost use Rattle.std.specs.Prelude.{◌≡◌, ◌-◌, ◌≤◌, IfOk, OnErr, pos};
+ghost use Rattle.std.specs.Prelude.{◌≡◌, ◌≤◌, IfOk, OnErr, pos};
 ghost use Rattle.mcf_feas.specs.Chosen.{supply_total};
 ghost use Rattle.mcf_flows.specs.declared.problem.Problem.TheVariants.{Asn};
 ghost use Rattle.mcf_flows.specs.Network.{node_count};
-ghost use Rattle.mcf_engine.specs.Outcomes.{AreStatePrices, IsOutcome};
-ghost use Rattle.mcf_assign.specs.Extending.{IsShownMatching};
+ghost use Rattle.mcf_engine.specs.Outcomes.{IsOutcome};
 ghost use Rattle.mcf_assign.specs.Private.Offering.{AreOffered};
-ghost use Rattle.mcf_assign.specs.Runs.{IsMatchedByRows, IsReachedSet, IsStart, Run, sources_to};
+ghost use Rattle.mcf_assign.specs.Runs.{IsMatchedByRows, IsReachedSet, IsStart};
 
 use crate::extended::Extended;
 use crate::matching::Matching;
