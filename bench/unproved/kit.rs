@@ -219,6 +219,25 @@ pub mod std {
     pub mod error {
         pub trait Error {}
     }
+    pub mod rc {
+        use super::alloc::{AllocError, AllocFailed, Global};
+        use ::std::rc as rust;
+        pub struct Rc<T>(rust::Rc<T>);
+        impl<T> Rc<T> {
+            pub fn new(_: Global, value: T) -> Result<Rc<T>, AllocFailed<T>> {
+                Ok(Rc(rust::Rc::new(value)))
+            }
+            pub fn clone(&self) -> Result<Rc<T>, AllocError> {
+                Ok(Rc(self.0.clone()))
+            }
+        }
+        impl<T> ::std::ops::Deref for Rc<T> {
+            type Target = T;
+            fn deref(&self) -> &T {
+                &self.0
+            }
+        }
+    }
     pub mod convert {
         pub trait AsStr {
             fn as_str(&self) -> &str;

@@ -25,6 +25,14 @@ pub struct PackedArc {
     pub cost: i64,
 }
 
+/// An arc as it is stored without its bounds: 16 bytes. Where no bounds stand apart, its low is 0 and its cap 1.
+#[derive(Clone, Copy, Debug)]
+pub struct Link {
+    pub src: u32,
+    pub dst: u32,
+    pub cost: i64,
+}
+
 impl PackedArc {
     /// The arc that is stored.
     pub(crate) fn unpack(self) -> Arc

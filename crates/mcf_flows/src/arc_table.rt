@@ -3,10 +3,11 @@
 ghost use Rattle.std.specs.Prelude.{◌≡◌, ◌<◌, ◌++◌, ◌∷◌, [], IfOk, IfSome, length, map, OnErr, OnOk, slice_get, Some};
 ghost use Rattle.mcf_flows.specs.Private.StoredArcs.{arcs_in, of_unit};
 
-use crate::arc::PackedArc;
+use crate::arc::{Link, PackedArc};
 use mcf_text::NoMemory;
 use std::alloc::Global;
 use std::marker::Model;
+use std::rc::Rc;
 
 /// A list of arcs. A clause sees the arcs in order.
 ///
@@ -16,19 +17,12 @@ pub struct ArcTable {
     stored: Stored,
 }
 
-// The same arcs, in one of two sizes.
+// The same arcs, in one of two sizes; those of the smaller may have several owners.
 #[derive(Drop)]
 enum Stored {
-    Unit(Vec<UnitArc>),
+    Unit(Vec<Link>),
+    Shared(Rc<Vec<Link>>),
     Bounded(Vec<PackedArc>),
-}
-
-// An arc with low 0 and cap 1.
-#[derive(Clone, Copy, Debug)]
-struct UnitArc {
-    src: u32,
-    dst: u32,
-    cost: i64,
 }
 
 impl Model for ArcTable {
@@ -57,7 +51,8 @@ impl ArcTable {
         ensures { result ≡ length self.now }
     {
         match &self.stored {
-            Stored::Unit(arcs) => arcs.len(),
+            Stored::Unit(links) => links.len(),
+            Stored::Shared(links) => links.len(),
             Stored::Bounded(arcs) => arcs.len(),
         }
     }
@@ -69,7 +64,8 @@ impl ArcTable {
         ensures { slice_get self.now place ≡ Some result }
     {
         match &self.stored {
-            Stored::Unit(arcs) => arcs[place].with_bounds(),
+            Stored::Unit(links) => links[place].with_bounds(),
+            Stored::Shared(links) => links[place].with_bounds(),
             Stored::Bounded(arcs) => arcs[place],
         }
     }
@@ -86,16 +82,43 @@ impl ArcTable {
     {
         push_arc(&mut self.stored, arc)
     }
+
+    /// The same arcs, to be shared where all have low 0 and cap 1, and there is memory for a count of owners.
+    pub(crate) fn shared(self) -> ArcTable
+        ensures { result ≡ self }
+    {
+        let stored = match self.stored {
+            Stored::Unit(units) => {
+                let alloc = *units.allocator();
+                match Rc::new(alloc, units) {
+                    Ok(links) => Stored::Shared(links),
+                    Err(refused) => Stored::Unit(refused.value),
+                }
+            }
+            other => other,
+        };
+        ArcTable { stored }
+    }
+
+    /// One more owner of the arcs, if they are shared.
+    pub(crate) fn shared_links(&self) -> Option<Rc<Vec<Link>>>
+        ensures { IfSome result (λ links. self.now ≡ map of_unit links.value.items) }
+    {
+        match &self.stored {
+            Stored::Shared(links) => links.clone().ok(),
+            Stored::Unit(_) | Stored::Bounded(_) => None,
+        }
+    }
 }
 
-impl UnitArc {
+impl Link {
     // The arc, if its low is 0 and its cap 1.
     #[inline(always)]
-    fn of(arc: PackedArc) -> Option<UnitArc>
+    fn of(arc: PackedArc) -> Option<Link>
         ensures { IfSome result (λ unit. of_unit unit ≡ arc) }
     {
         if arc.low == 0 && arc.cap == 1 {
-            Some(UnitArc {
+            Some(Link {
                 src: arc.src,
                 dst: arc.dst,
                 cost: arc.cost,
@@ -127,10 +150,11 @@ fn push_arc(stored: &mut Stored, arc: PackedArc) -> Result<(), NoMemory>
     ensures err { OnErr result (arcs_in stored.new ≡ arcs_in stored.old) }
 {
     match stored {
-        Stored::Unit(units) => match UnitArc::of(arc) {
+        Stored::Unit(units) => match Link::of(arc) {
             Some(unit) => units.push(unit)?,
             None => push_bounded(stored, arc.src, arc.dst, arc.low, arc.cap, arc.cost)?,
         },
+        Stored::Shared(_) => push_bounded(stored, arc.src, arc.dst, arc.low, arc.cap, arc.cost)?,
         Stored::Bounded(arcs) => arcs.push(arc)?,
     }
     Ok(())
@@ -163,13 +187,17 @@ fn push_bounded(
             let arcs = bounded(units, arc)?;
             *stored = Stored::Bounded(arcs);
         }
+        Stored::Shared(units) => {
+            let copied = bounded(units, arc)?;
+            *stored = Stored::Bounded(copied);
+        }
         Stored::Bounded(arcs) => arcs.push(arc)?,
     }
     Ok(())
 }
 
 // These arcs with their bounds, and one more.
-fn bounded(units: &Vec<UnitArc>, arc: PackedArc) -> Result<Vec<PackedArc>, NoMemory>
+fn bounded(units: &Vec<Link>, arc: PackedArc) -> Result<Vec<PackedArc>, NoMemory>
     ensures { IfOk result (λ arcs. arcs.items ≡ map of_unit units.now.items ++ arc ∷ []) }
 {
     let mut arcs = Vec::with_capacity(*units.allocator(), units.len() + 1)?;

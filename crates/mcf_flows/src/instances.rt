@@ -1,15 +1,16 @@
 //! Instances within the limits.
-ghost use Rattle.std.specs.Prelude.{◌≡◌, ◌-◌, length, map, slice_get, Some};
+ghost use Rattle.std.specs.Prelude.{◌≡◌, ◌-◌, IfSome, length, map, slice_get, Some};
 ghost use Rattle.mcf_flows.specs.Network.{Network, IsArcNumber, IsNode, at_node, node_count};
 ghost use Rattle.mcf_flows.specs.Limits.{limits};
-ghost use Rattle.mcf_flows.specs.Packed.{unpacked};
+ghost use Rattle.mcf_flows.specs.Packed.{unit_arc, unpacked};
 ghost use Rattle.mcf_flows.specs.WellFormed.{IsWellFormed};
 
-use crate::arc::Arc;
+use crate::arc::{Arc, Link};
 use crate::arc_table::ArcTable;
 use crate::problem::Problem;
 use mcf_text::{ArcId, NodeId};
 use std::marker::Model;
+use std::rc::Rc;
 
 /// A minimum-cost flow problem or an assignment problem, within the limits: supplies and bounds at most 10^18 from 0, costs at
 /// most 10^15, and the total over the arcs, of the size of the cost times that of the greater bound, at most 10^36.
@@ -45,7 +46,7 @@ impl Instance {
     {
         Instance {
             problem,
-            arcs,
+            arcs: arcs.shared(),
             supplies,
         }
     }
@@ -90,6 +91,15 @@ impl Instance {
         ensures well_formed { IsWellFormed limits self.now }
     {
         i128::from(self.supplies[v.get() as usize - 1])
+    }
+
+    /// The arcs in order as they are stored, to be shared and not copied, if all have low 0 and cap 1. `None` says nothing of
+    /// the arcs: where memory is short, they aren't shared.
+    pub fn shared_links(&self) -> Option<Rc<Vec<Link>>>
+        ensures some { IfSome result (λ links. self.now.arcs ≡ map unit_arc links.value.items) }
+        ensures well_formed { IsWellFormed limits self.now }
+    {
+        self.arcs.shared_links()
     }
 
     /// The arcs as they are stored, in order.

@@ -15,7 +15,7 @@ mod laws;
 mod problem;
 mod refusal;
 
-pub use arc::{Arc, PackedArc};
+pub use arc::{Arc, Link, PackedArc};
 pub use arc_table::ArcTable;
 pub use blocking::{blocks, table_of};
 pub use code::Code;

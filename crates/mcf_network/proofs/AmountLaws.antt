@@ -5,7 +5,7 @@ use Rattle.std.proofs.lemmas.Bool.{ne_eqb}
 use Rattle.std.proofs.lemmas.Int.{ints}
 use Rattle.std.proofs.lemmas.List.{map-set}
 use Rattle.std.proofs.lemmas.List.Elements.{All-cons, All-nil}
-use Rattle.mcf_network.specs.declared.stored.Link.{Link}
+use Rattle.mcf_flows.specs.declared.arc.Link.{Link}
 use Rattle.mcf_network.specs.Nets.{IsNetArc, width_limit}
 use Rattle.mcf_network.specs.Private.StoredAmounts.{HaveWidthsUpTo, small_limit}
 use Rattle.mcf_network.specs.Stored.{stored_arc, stored_arcs}

@@ -3,18 +3,19 @@ use Rattle.std.proofs.Common.{◌≡◌, ℕ, ◌-◌, ◌<◌, ◌≤◌, Bool,
 use Rattle.std.specs.List.{All}
 use Rattle.std.proofs.lemmas.Int.{ints}
 use Rattle.mcf_flows.specs.declared.arc.Arc.{Arc}
+use Rattle.mcf_flows.specs.declared.arc.Link.{Link}
 use Rattle.mcf_flows.specs.Flow.{CanCarry}
 use Rattle.mcf_flows.specs.Network.{Network, IsArcNumber, IsNode, at_node, node_count}
 use Rattle.mcf_flows.specs.WellFormed.{IsUpTo, HasEnds}
 use Rattle.mcf_flows.specs.declared.problem.Problem.{Problem}
 use Rattle.mcf_network.specs.declared.rid.Rid.{Rid}
-use Rattle.mcf_network.specs.declared.stored.Link.{Link}
 use Rattle.mcf_network.specs.Stored.{stored_arc, stored_net, width_at}
+use Rattle.mcf_network.specs.Private.StoredLinks.{no_link}
 use Rattle.mcf_network.specs.Nets.{IsNet, IsNetArc, width_limit, supply_limit}
 use Rattle.mcf_network.specs.Residual.{no_arc, arc_at, tail, head}
 use Rattle.mcf_network.specs.States.{Pseudoflow, IsPseudoflow, amount_at, room_of}
 use Rattle.mcf_flows.proofs.AllZips.{AllZip-at, length-AllZip}
-use Rattle.mcf_network.proofs.StoredLaws.{get_or-stored_arcs, length-stored_arcs, some_link}
+use Rattle.mcf_network.proofs.StoredLaws.{get_or-stored_arcs, length-stored_arcs}
 
 pub arcs_need_nodes : (nodes : ℕ) (arcs : List Arc) → All (HasEnds nodes) arcs → 1 ≤ length arcs → 1 ≤ nodes
 arcs_need_nodes nodes arcs ends some = let e = ends 0 no_arc (omega (arith, some)) in omega (arith, e)
@@ -93,10 +94,10 @@ pub record IsStoredAt (g : Network) (k : ℕ) (a : Arc) : Type 0 where
   pub ends : HasEnds (node_count g) a
   pub arc : IsNetArc a
 
-stored_arc_is : (g : Network) (problem : Problem) (links : List Link) (widths supplies : List ℤ) (k : ℕ) (link : Link)
+pub stored_arc_at : (g : Network) (problem : Problem) (links : List Link) (widths supplies : List ℤ) (k : ℕ) (link : Link)
     → stored_net problem links widths supplies ≡ g → IsNet (stored_net problem links widths supplies) → IsArcNumber g k
     → IsStoredAt g k (stored_arc (get_or links (k - 1) link) (width_at widths (k - 1)))
-stored_arc_is g problem links widths supplies k link view ok h =
+stored_arc_at g problem links widths supplies k link view ok h =
     let here : IsArcNumber (stored_net problem links widths supplies) k = subst (λ n. IsArcNumber n k) (sym view) h in
     let is = stored_at problem links widths supplies k link here in
     subst (λ n. IsStoredAt n k (stored_arc (get_or links (k - 1) link) (width_at widths (k - 1)))) view (record {
@@ -104,13 +105,6 @@ stored_arc_is g problem links widths supplies k link view ok h =
       ends = subst (λ x. HasEnds (length supplies) x) is (ends_at (stored_net problem links widths supplies) k ok here);
       arc = subst IsNetArc is (net_arc_at (stored_net problem links widths supplies) k ok here);
     })
-
--- the arc of a link that is read
-pub stored_arc_at : (g : Network) (problem : Problem) (links : List Link) (widths supplies : List ℤ) (k : ℕ) (link : Link)
-    → stored_net problem links widths supplies ≡ g → IsNet (stored_net problem links widths supplies) → IsArcNumber g k
-    → link ≡ get_or links (k - 1) link → IsStoredAt g k (stored_arc link (width_at widths (k - 1)))
-stored_arc_at g problem links widths supplies k link view ok h e =
-    subst (λ (l : Link). IsStoredAt g k (stored_arc l (width_at widths (k - 1)))) (sym e) (stored_arc_is g problem links widths supplies k link view ok h)
 
 -- the width of the arc at a number
 pub record IsWidthAt (g : Network) (k : ℕ) (width : ℤ) : Type 0 where
@@ -122,7 +116,7 @@ pub stored_width_at : (g : Network) (problem : Problem) (links : List Link) (wid
     → stored_net problem links widths supplies ≡ g → IsNet (stored_net problem links widths supplies) → IsArcNumber g k
     → IsWidthAt g k (width_at widths (k - 1))
 stored_width_at g problem links widths supplies k view ok h =
-    let a = stored_arc_is g problem links widths supplies k some_link view ok h in
+    let a = stored_arc_at g problem links widths supplies k no_link view ok h in
     record { is = ap (λ (x : Arc). x.cap) a.is; low = a.arc.width_low; high = a.arc.width_high }
 
 -- an amount of a state, as a read gives it

@@ -1,5 +1,5 @@
 -- The net of a network: what it keeps, and how the loops make it.
-use Rattle.std.proofs.Common.{◌≡◌, ◌≢◌, ℕ, ◌+◌, ◌-◌, ◌*◌, ◌^◌, ◌≤◌, ◌<◌, max, eqb, List, [], ◌∷◌, ◌++◌, length, map, take, get_or, refl, sym, ap, subst, ◌∙◌}
+use Rattle.std.proofs.Common.{◌≡◌, ◌≢◌, ℕ, ◌+◌, ◌-◌, ◌*◌, ◌≤◌, ◌<◌, max, eqb, List, [], ◌∷◌, ◌++◌, length, map, take, get_or, refl, sym, ap, subst, ◌∙◌}
 use Rattle.std.proofs.Common.{arith, ℤ, pos, ◌+ℤ◌, ◌-ℤ◌, inl, inr}
 use Rattle.std.specs.Prelude.{Some, slice_get, sum, unsigned_abs}
 use Rattle.std.specs.List.{All, range_with_len}
@@ -12,21 +12,23 @@ use Rattle.std.proofs.lemmas.Simd.{map-map}
 use Rattle.std.proofs.lemmas.List.Elements.{All-head, All-tail, All-map}
 use Rattle.std.proofs.lemmas.List.FromFn.{get_or-map-range_with_len, length-map-range_with_len}
 use Rattle.mcf_flows.specs.declared.arc.Arc.{Arc}
+use Rattle.mcf_flows.specs.declared.arc.Link.{Link}
 use Rattle.mcf_flows.specs.declared.problem.Problem.{Problem}
 use Rattle.mcf_flows.specs.declared.problem.Problem.TheVariants.{Min, Asn}
 use Rattle.mcf_flows.specs.Assignment.{IsAssignment, IsPairing, OnAssignment}
 use Rattle.mcf_flows.specs.Flow.{IsWithinBounds, net}
 use Rattle.mcf_flows.specs.Limits.{limits, total_limit}
 use Rattle.mcf_flows.specs.Network.{Network, IsNode, at_node, flow_sum, node_count, when}
+use Rattle.mcf_flows.specs.Packed.{unit_arc}
 use Rattle.mcf_flows.specs.WellFormed.{HasEnds, IsArcWithinLimits, IsUpTo, IsWellFormed, weight}
 use Rattle.mcf_flows.proofs.Bounds.{sum-weights-le, width_weight}
 use Rattle.mcf_flows.proofs.NetSteps.{net_more, net_up_to}
 use Rattle.mcf_network.specs.Nets.{IsNet, IsNetArc, net_total_limit, supply_limit}
 use Rattle.mcf_network.specs.Removal.{lows, net_of, supply_left, width_of, without_low}
-use Rattle.mcf_network.specs.declared.stored.Link.{Link}
 use Rattle.mcf_network.specs.Residual.{no_arc}
 use Rattle.mcf_network.specs.Private.Surpluses.{surplus_reach}
 use Rattle.mcf_network.specs.Private.Counting.{JoinNodes}
+use Rattle.mcf_network.specs.Private.StoredLinks.{IsItsOwnNet}
 use Rattle.mcf_network.specs.Private.Widths.{GainsWidth}
 use Rattle.mcf_network.specs.Stored.{stored_arc, stored_arcs, stored_net, width_at}
 use Rattle.mcf_network.proofs.StateLaws.{when-zero}
@@ -158,6 +160,23 @@ pairing_kept supplies a h =
       to_column = h.to_column;
       low_is = refl;
       cap_is = omega (arith, ints, width_plain a other, low, cap);
+    }
+
+-- where it is stored without bounds, it is its own net
+links_kept : (supplies : List ℤ) (links : List Link) → All (IsPairing supplies) (map unit_arc links)
+    → stored_arcs links [] ≡ map without_low (map unit_arc links)
+links_kept supplies [] h = refl
+links_kept supplies (link ∷ links) h =
+    let one = (pairing_kept supplies (unit_arc link) (All-head (IsPairing supplies) (unit_arc link) (map unit_arc links) h)).cap_is in
+    let rest = links_kept supplies links (All-tail (IsPairing supplies) (unit_arc link) (map unit_arc links) h) in
+    ap (λ (w : ℤ). stored_arc link w ∷ stored_arcs links []) (sym one) ∙ ap (λ (arcs : List Arc). without_low (unit_arc link) ∷ arcs) rest
+
+pub its_own_net : (g : Network) (links : List Link) → IsWellFormed limits g → g.problem ≡ Asn → g.arcs ≡ map unit_arc links → IsItsOwnNet g links
+its_own_net g links ok asn e =
+    let pairs : IsAssignment g = subst (λ (p : Problem). OnAssignment p (IsAssignment g)) asn ok.assignment in
+    record {
+      arcs = links_kept g.supplies links (subst (All (IsPairing g.supplies)) e pairs.each_arc) ∙ ap (map without_low) (sym e);
+      supplies = sym (kept_supplies g (λ k d l. (pairs.each_arc k d l).low_is));
     }
 
 assignment_kept : (g : Network) → IsAssignment g → IsAssignment (net_of g)

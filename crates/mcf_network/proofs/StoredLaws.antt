@@ -4,14 +4,10 @@ use Rattle.std.proofs.Math.Seq.{get_or-append_seam}
 use Rattle.std.proofs.lemmas.Bool.{cases_eq, cases_lt}
 use Rattle.std.proofs.lemmas.List.{ext_get_or, get_or-append_right, get_or-replicate, get_or_append_left, get_or_past, length-append, length-replicate, take_all}
 use Rattle.mcf_flows.specs.declared.arc.Arc.{Arc}
-use Rattle.mcf_network.specs.declared.stored.Link.{Link}
+use Rattle.mcf_flows.specs.declared.arc.Link.{Link}
 use Rattle.mcf_network.specs.Residual.{no_arc}
 use Rattle.mcf_network.specs.Private.Widths.{GainsWidth}
 use Rattle.mcf_network.specs.Stored.{stored_arc, stored_arcs, width_at}
-
--- the link that a read past the end gives
-abbrev pub some_link : Link
-some_link = record { src = 0; dst = 0; cost = pos 0 }
 
 pub length-stored_arcs : (links : List Link) (widths : List ℤ) → length (stored_arcs links widths) ≡ length links
 length-stored_arcs [] widths = refl

@@ -1,9 +1,9 @@
 -- How a net is stored.
 use Rattle.std.specs.Prelude.{ℕ, List, [], ◌∷◌, ℤ, pos, slice_index_or}
 use Rattle.mcf_flows.specs.declared.arc.Arc.{Arc}
+use Rattle.mcf_flows.specs.declared.arc.Link.{Link}
 use Rattle.mcf_flows.specs.declared.problem.Problem.{Problem}
 use Rattle.mcf_flows.specs.Network.{Network}
-use Rattle.mcf_network.specs.declared.stored.Link.{Link}
 use Rattle.mcf_network.specs.declared.rid.Rid.{Rid}
 use Rattle.mcf_network.specs.Nets.{IsNet}
 use Rattle.mcf_network.specs.Stars.{IsForwardStar}

@@ -12,6 +12,7 @@
 mod amounts;
 mod laws;
 mod leaving;
+mod links;
 mod net;
 mod node_set;
 mod removal;
@@ -19,7 +20,6 @@ mod restoring;
 mod rid;
 mod star;
 mod state;
-mod stored;
 mod surplus;
 mod walk;
 mod widths;

@@ -6,8 +6,8 @@ ghost use Rattle.mcf_network.specs.Residual.{arc_at, head, tail, unit_cost};
 ghost use Rattle.mcf_network.specs.Stars.{ListsLeaving};
 
 use crate::leaving::Leaving;
+use crate::links::Links;
 use crate::rid::{PackedRid, Rid};
-use crate::stored::Link;
 use crate::widths::width_at;
 use mcf_flows::Problem;
 use mcf_text::{ArcId, NodeId};
@@ -20,7 +20,7 @@ use std::marker::Model;
 #[derive(Drop)]
 pub struct Net {
     pub(crate) problem: Problem,
-    pub(crate) links: Vec<Link>,
+    pub(crate) links: Links,
     pub(crate) widths: Vec<i64>,
     pub(crate) supplies: Vec<i128>,
     // How many unused entries stand in `outs` behind those of each node.
@@ -36,12 +36,13 @@ impl Model for Net {
     ghost Value = { Network };
 
     ghost use Rattle.mcf_network.specs.Nets.{IsNet};
+    ghost use Rattle.mcf_network.specs.Private.StoredLinks.{links_in};
     ghost use Rattle.mcf_network.specs.Stored.{IsStored, stored_net};
 
-    ghost view = { λ n. stored_net n.problem n.links.items n.widths.items n.supplies.items };
+    ghost view = { λ n. stored_net n.problem (links_in n.links) n.widths.items n.supplies.items };
 
-    ghost invariant = { λ n. IsNet (stored_net n.problem n.links.items n.widths.items n.supplies.items)
-        × (1 ≤ length n.supplies.items → IsStored (stored_net n.problem n.links.items n.widths.items n.supplies.items) n.gap n.firsts.items n.outs.items) };
+    ghost invariant = { λ n. IsNet (stored_net n.problem (links_in n.links) n.widths.items n.supplies.items)
+        × (1 ≤ length n.supplies.items → IsStored (stored_net n.problem (links_in n.links) n.widths.items n.supplies.items) n.gap n.firsts.items n.outs.items) };
 }
 
 impl Net {
@@ -66,7 +67,7 @@ impl Net {
         ensures value { result ≡ length self.now.arcs }
         ensures of_net { IsNet self.now }
     {
-        self.links.len() as u32
+        self.links.as_slice().len() as u32
     }
 
     /// The two ends of an arc: the node that it leaves, and the one that it enters.
@@ -77,7 +78,7 @@ impl Net {
         ensures src_is_node { IsNode (node_count self.now) result.0 }
         ensures dst_is_node { IsNode (node_count self.now) result.1 }
     {
-        let link = self.links[k.place()];
+        let link = self.links.get(k.place());
         (NodeId::new(link.src), NodeId::new(link.dst))
     }
 
@@ -96,7 +97,7 @@ impl Net {
         ensures value { result ≡ (arc_at self.now k).cost }
         ensures of_net { IsNet self.now }
     {
-        i128::from(self.links[k.place()].cost)
+        i128::from(self.links.get(k.place()).cost)
     }
 
     /// The supply of a node, at most 10^26 from 0: what it sends, less what it takes.
@@ -126,7 +127,7 @@ impl Net {
         ensures value { result ≡ unit_cost self.now r }
         ensures of_net { IsNet self.now }
     {
-        let cost = i128::from(self.links[r.arc.place()].cost);
+        let cost = i128::from(self.links.get(r.arc.place()).cost);
         if r.back { -cost } else { cost }
     }
 

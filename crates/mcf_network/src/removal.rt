@@ -1,21 +1,23 @@
 //! Lower bounds taken away.
-ghost use Rattle.std.specs.Prelude.{◌≡◌, ◌≤◌, IfOk, OnErr, OnOk, length, map};
+ghost use Rattle.std.specs.Prelude.{◌≡◌, ◌≤◌, IfOk, IfSome, OnErr, OnOk, length, map};
 ghost use Rattle.std.specs.List.{range_with_len};
 ghost use Rattle.mcf_flows.specs.Limits.{limits};
 ghost use Rattle.mcf_flows.specs.Network.{node_count};
 ghost use Rattle.mcf_flows.specs.WellFormed.{IsArcWithinLimits};
 ghost use Rattle.mcf_network.specs.Nets.{IsNet};
+ghost use Rattle.mcf_network.specs.Private.StoredLinks.{IsItsOwnNet, links_in};
 ghost use Rattle.mcf_network.specs.Removal.{net_of, supply_left, without_low};
 ghost use Rattle.mcf_network.specs.Stored.{stored_arc, stored_arcs};
 
+use crate::links::Links;
 use crate::net::Net;
 use crate::star::{forward_star, gap_for};
-use crate::stored::Link;
 use crate::surplus::move_surplus;
 use crate::widths::put_width;
-use mcf_flows::{Arc, Instance};
+use mcf_flows::{Arc, Instance, Link, Problem};
 use mcf_text::{ArcId, NoMemory, NodeId};
 use std::alloc::Global;
+use std::rc::Rc;
 
 impl Net {
     /// The net of an instance: each arc keeps its number, its ends and its cost; its width is its cap less
@@ -32,9 +34,10 @@ impl Net {
     {
         let nodes = instance.node_count();
         let mut supplies = supplies_of(alloc, instance)?;
-        let (links, widths) = arcs_without_lows(alloc, instance, &mut supplies)?;
-        let gap = gap_for(nodes, links.len());
-        let (firsts, outs) = forward_star(alloc, &links, nodes, gap)?;
+        let (links, widths) = links_of(alloc, instance, &mut supplies)?;
+        let list = links.as_slice();
+        let gap = gap_for(nodes, list.len());
+        let (firsts, outs) = forward_star(alloc, list, nodes, gap)?;
         Ok(Net {
             problem: instance.problem(),
             links,
@@ -44,6 +47,35 @@ impl Net {
             firsts,
             outs,
         })
+    }
+}
+
+// The links and the widths of the arcs without their lows, and what is left of the supplies. Where an assignment shares its arcs, all
+// stays as it is, and no arc is looked at.
+fn links_of(
+    alloc: Global,
+    instance: &Instance,
+    left: &mut Vec<i128>,
+) -> Result<(Links, Vec<i64>), NoMemory>
+    requires { left.old.items ≡ instance.now.supplies }
+    ensures value { IfOk result (λ made. stored_arcs (links_in made.0) made.1.items ≡ map without_low instance.now.arcs) }
+    ensures left { OnOk result (left.new.items ≡ map (supply_left instance.now) (range_with_len 1 (node_count instance.now))) }
+    ensures wants { OnErr result (1 ≤ length instance.now.arcs) }
+{
+    if let Some(links) = shared_links(instance) {
+        return Ok((Links::Shared(links), Vec::new(alloc)));
+    }
+    let (links, widths) = arcs_without_lows(alloc, instance, left)?;
+    Ok((Links::of(alloc, links)?, widths))
+}
+
+// The links of an assignment, if the instance shares them.
+fn shared_links(instance: &Instance) -> Option<Rc<Vec<Link>>>
+    ensures { IfSome result (λ links. IsItsOwnNet instance.now links.value.items) }
+{
+    match instance.problem() {
+        Problem::Min => None,
+        Problem::Asn => instance.shared_links(),
     }
 }
 

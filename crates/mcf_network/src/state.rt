@@ -48,7 +48,7 @@ impl<'n> State<'n> {
         ensures valid { IfOk result IsPseudoflow }
         ensures wants { OnErr result (1 ≤ node_count net.now) }
     {
-        let amounts = Amounts::zero(alloc, net.links.len(), net.widths.is_empty())?;
+        let amounts = Amounts::zero(alloc, net.links.as_slice().len(), net.widths.is_empty())?;
         let surpluses = copy_of(alloc, &net.supplies)?;
         Ok(State {
             net,

@@ -1,6 +1,7 @@
 use Rattle.std.proofs.Common.{◌≡◌, ◌-◌, ◌≤◌, arith, length, take, drop, get_or, subst, sym}
 use Rattle.std.proofs.lemmas.List.{get_or_read}
 use Rattle.mcf_flows.specs.Network.{Network, IsNode, node_count}
+use Rattle.mcf_network.specs.Private.StoredLinks.{links_in}
 use Rattle.mcf_network.specs.Stars.{ListsLeaving}
 use Rattle.mcf_network.specs.Stored.{stored_net}
 use Rattle.mcf_network.proofs.net.Net.leaving.Goals as goal
@@ -8,7 +9,7 @@ use Rattle.mcf_network.proofs.net.Net.leaving.Goals as goal
 pub returns : goal.returns
 returns c =
     let a = c.self.inside in
-    let node : IsNode (node_count (stored_net a.problem a.links.items a.widths.items a.supplies.items)) c.args.v = subst (λ (n : Network). IsNode (node_count n) c.args.v)
+    let node : IsNode (node_count (stored_net a.problem (links_in a.links) a.widths.items a.supplies.items)) c.args.v = subst (λ (n : Network). IsNode (node_count n) c.args.v)
     (sym c.self.view_is) c.requires in
     let some : 1 ≤ length a.supplies.items = omega (arith, node) in
     let star = (c.self.invariant.1 some).star in

@@ -1,28 +1,29 @@
 use Rattle.std.proofs.Common.{arith, ap}
 use Rattle.std.proofs.lemmas.Int.{ints}
 use Rattle.mcf_flows.specs.declared.arc.Arc.{Arc}
+use Rattle.mcf_network.specs.Private.StoredLinks.{links_in, no_link}
 use Rattle.mcf_network.proofs.ArcLaws.{link_in_range, stored_arc_at}
 use Rattle.mcf_network.proofs.net.Net.unit_cost.Goals as goal
 
-pub index-requires : goal.index-requires
-index-requires c =
+pub get-requires : goal.get-requires
+get-requires c =
     let n = c.self.inside in
-    omega (arith, c.place.ensures, link_in_range c.args.self.now n.problem n.links.items n.widths.items n.supplies.items c.args.r.arc c.self.view_is c.requires)
+    rw c.place.ensures (link_in_range c.args.self.now n.problem (links_in n.links) n.widths.items n.supplies.items c.args.r.arc c.self.view_is c.requires)
 
 pub returns-then-r-clause-value : goal.returns-then-r-clause-value
 returns-then-r-clause-value c =
     let n = c.self.inside in
-    let a = stored_arc_at c.args.self.now n.problem n.links.items n.widths.items n.supplies.items c.args.r.arc c.index.result.now c.self.view_is c.self.invariant.0 c.requires
-    (rw (← c.place.ensures) c.index.ensures) in
+    let a = stored_arc_at c.args.self.now n.problem (links_in n.links) n.widths.items n.supplies.items c.args.r.arc no_link c.self.view_is c.self.invariant.0 c.requires in
     let e = ap (λ (x : Arc). x.cost) a.is in
     let small = a.arc.cost_small in
-    rw c.if-r.true (omega (arith, ints, e, small, c.from-cost.ensures))
+    let read = rw (c.get.ensures, c.place.ensures) at c.from-cost.ensures in
+    rw c.if-r.true (omega (arith, ints, e, small, read))
 
 pub returns-else-r-clause-value : goal.returns-else-r-clause-value
 returns-else-r-clause-value c =
     let n = c.self.inside in
-    let a = stored_arc_at c.args.self.now n.problem n.links.items n.widths.items n.supplies.items c.args.r.arc c.index.result.now c.self.view_is c.self.invariant.0 c.requires
-    (rw (← c.place.ensures) c.index.ensures) in
+    let a = stored_arc_at c.args.self.now n.problem (links_in n.links) n.widths.items n.supplies.items c.args.r.arc no_link c.self.view_is c.self.invariant.0 c.requires in
     let e = ap (λ (x : Arc). x.cost) a.is in
     let small = a.arc.cost_small in
-    rw c.if-r.false (omega (arith, ints, e, small, c.from-cost.ensures))
+    let read = rw (c.get.ensures, c.place.ensures) at c.from-cost.ensures in
+    rw c.if-r.false (omega (arith, ints, e, small, read))
