@@ -1,11 +1,11 @@
 -- What the steps of a search for the greatest prices keep.
-use Rattle.std.proofs.Common.{◌≡◌, ◌≢◌, ℕ, ◌+◌, ◌-◌, ◌≤◌, Bool, true, false, List, [], ◌∷◌, ◌++◌, length, set, ℤ, pos, ◌+ℤ◌, ◌-ℤ◌, ◌*ℤ◌, ◌≤ℤ◌, refl, sym}
+use Rattle.std.proofs.Common.{◌≡◌, ◌≢◌, ℕ, ◌+◌, ◌-◌, ◌≤◌, Bool, true, false, List, [], ◌∷◌, ◌++◌, length, set, ℤ, pos, neg_ℤ, ◌+ℤ◌, ◌-ℤ◌, ◌*ℤ◌, ◌≤ℤ◌, refl, sym}
 use Rattle.std.proofs.Common.{ap, subst, ◌∙◌, arith, ◌⊎◌, inl, inr, length-set}
 use Rattle.std.specs.Prelude.{◌↔◌}
 use Rattle.std.specs.List.{All, Contains}
 use Rattle.std.proofs.lemmas.Bool.{true≢false}
 use Rattle.std.proofs.lemmas.Int.{ints}
-use Rattle.std.proofs.lemmas.List.{append_assoc, set-get_or}
+use Rattle.std.proofs.lemmas.List.{append_assoc, get_or-map, get_or-replicate, length-map, length-replicate, set-get_or}
 use Rattle.std.proofs.lemmas.List.Elements.{All-contains, All-head, All-push, All-tail, Contains-append_cases, Contains-append_left, Contains-append_right}
 use Rattle.mcf_flows.specs.Blocking.{in_table}
 use Rattle.mcf_flows.specs.Flow.{AreLowPrices}
@@ -23,8 +23,9 @@ use Rattle.mcf_network.proofs.Lists.{All-behind, Contains-cons}
 use Rattle.mcf_network.proofs.Marks.{count_small}
 use Rattle.mcf_engine.specs.Heaps.{ComesFirst, IsFirst, Keyed, Waits, waiting_with, with_key, without}
 use Rattle.mcf_engine.specs.NearPrices.{near_limit}
-use Rattle.mcf_engine.specs.Private.Raisings.{ArePassed, CostsAtLeast, IsLastSettled, IsLength, IsOffer, IsPassedFrom, IsPopped, IsRaising, IsReady, IsRelaxed, IsScanned, IsSettledNext, KeepsSettled, RespectsLabel, Settled}
+use Rattle.mcf_engine.specs.Private.Raisings.{ArePassed, CostsAtLeast, IsLastSettled, IsLength, IsOffer, IsPassedFrom, IsPopped, IsRaising, IsRelaxed, IsScanned, IsSettledNext, KeepsSettled, RespectsLabel, Settled}
 use Rattle.mcf_engine.specs.Private.Raisings.{label, label_reach, step}
+use Rattle.mcf_engine.specs.Private.Queues.{all_waiting}
 use Rattle.mcf_engine.specs.Respecting.{reverse}
 use Rattle.mcf_engine.specs.declared.near_state.NearState.{NearState}
 use Rattle.mcf_engine.proofs.LabelLengths.{length_fewer, length_next, length_zero}
@@ -141,23 +142,28 @@ module _ (p : NearState) (flow : IsPseudoflow p.state.now) where
       (omega (arith, ints, low, few, limit), omega (arith, ints, up))
 
   -- all nodes wait with the label 0
-  pub started : (h : Keyed) → IsReady p.prices.now h → IsRaising p h []
-  started h ready =
+  pub started : (h : Keyed) → h ≡ all_waiting p.prices.now → IsRaising p h []
+  started h is =
       let count = p.near.one_per_node in
-      let node : (v : ℕ) → IsNode (node_count p.state.now.net) v → IsNode (length p.prices.now) v = λ (v : ℕ) (n : IsNode (node_count p.state.now.net) v). (n.0, omega (arith, n, count)) in
+      let y = p.prices.now in
+      let all : length h.waiting ≡ length y = ap (λ (k : Keyed). length k.waiting) is ∙ length-replicate (length y) true in
+      let zero : (v : ℕ) → IsNode (node_count p.state.now.net) v → label y h v ≡ pos 0 = λ (v : ℕ) (n : IsNode (node_count p.state.now.net) v).
+      let key = ap (λ (k : Keyed). at_node k.keys v) is ∙ get_or-map neg_ℤ y (v - 1) (pos 0) (pos 0) (omega (arith, n, count)) in
+      omega (arith, ints, key) in
       let waits : (v : ℕ) → IsNode (node_count p.state.now.net) v → Settled h v
-      → ⊥ = λ (v : ℕ) (n : IsNode (node_count p.state.now.net) v) (e : Settled h v). waits_or_settled h v (ready.waits v (node v n)) e in
+      → ⊥ = λ (v : ℕ) (n : IsNode (node_count p.state.now.net) v) (e : Settled h v).
+      waits_or_settled h v (ap (λ (k : Keyed). in_table k.waiting v) is ∙ get_or-replicate (length y) (v - 1) true false (omega (arith, n, count))) e in
       record {
         flow = flow;
-        key_count = ready.key_count ∙ count;
-        waiting_count = ready.waiting_count ∙ count;
-        not_above = λ v n. let z = ready.zero v (node v n) in omega (arith, ints, z);
-        lengths = λ v n. length_zero p.scale p.slack (member_count h.waiting) (node_count p.state.now.net) (label p.prices.now h v)
-            (omega (arith, count_small h.waiting, ready.waiting_count, count)) (ready.zero v (node v n));
+        key_count = ap (λ (k : Keyed). length k.keys) is ∙ length-map y neg_ℤ ∙ count;
+        waiting_count = all ∙ count;
+        not_above = λ v n. let z = zero v n in omega (arith, ints, z);
+        lengths = λ v n. length_zero p.scale p.slack (member_count h.waiting) (node_count p.state.now.net) (label y h v)
+            (omega (arith, count_small h.waiting, all, count)) (zero v n);
         shorter = λ v n e. absurd (waits v n e);
         above = λ others low v n.
             let up = low.not_above_zero (v - 1) (pos 0) (omega (arith, n, low.one_per_node)) in
-            let z = ready.zero v (node v n) in
+            let z = zero v n in
             omega (arith, ints, z, mul-mono_left (at_node others v) (pos 0) (pos p.scale) (omega (arith, ints)) up, zero-mul (pos p.scale));
         level = λ u v m n e w. absurd (waits u m e);
         respects = λ r room e. absurd (waits (head p.state.now.net r) (head_node r room) e);

@@ -1,10 +1,16 @@
 //! A priority queue of the nodes of a net.
-ghost use Rattle.std.specs.Prelude.{◌≡◌, ◌+◌, ◌*◌, ◌<◌, ◌≤◌, ◌<ℤ◌, ◌≤ℤ◌, ℕ, true, false, IfNone, IfOk, IfSome, IsTrue, OnErr, length, ◌↔◌};
-ghost use Rattle.std.specs.BinaryHeap.{IsHeap, heap_capacity, heap_items, heap_len};
+ghost use Rattle.std.specs.Prelude.{◌≡◌, ◌<◌, ◌≤◌, ◌<ℤ◌, ◌≤ℤ◌, ◌∷◌, ◌++◌, [], true, false, IfNone, IfOk, IfSome, IsTrue, OnErr, length, map, neg_ℤ, ◌↔◌};
+ghost use Rattle.std.specs.Prelude.{vec_capacity};
+ghost use Rattle.std.specs.BinaryHeap.{heap_capacity, heap_items, heap_len};
 ghost use Rattle.std.specs.Bool.{MatchBool};
+ghost use Rattle.std.specs.List.{All};
+ghost use Rattle.std.specs.List.Sorted.{IsPermutation};
+ghost use Rattle.mcf_flows.specs.Limits.{node_limit};
 ghost use Rattle.mcf_flows.specs.Network.{IsNode, at_node, node_count};
+ghost use Rattle.mcf_flows.specs.WellFormed.{IsUpTo};
 ghost use Rattle.mcf_engine.specs.Heaps.{IsFirst, Keyed, NoneWaits, Waits, no_keys, waiting_with, with_key, without};
-ghost use Rattle.mcf_engine.specs.Private.Queues.{IsCurrent, IsOneMore, IsQueue, by_key};
+ghost use Rattle.mcf_engine.specs.NearPrices.{near_limit};
+ghost use Rattle.mcf_engine.specs.Private.Queues.{AreOrdered, IsCurrent, IsQueue, Precedes, all_waiting};
 
 use mcf_network::Net;
 use mcf_text::{NoMemory, NodeId, copies};
@@ -23,13 +29,16 @@ pub(crate) struct Entry {
 /// A priority queue of nodes, each of which has a key and may wait: the one with the least key comes first, and
 /// of equal keys the least number (Cormen, Leiserson, Rivest and Stein, Introduction to Algorithms, sections 6.5 and 24.3).
 ///
-/// Each key with which a node was let wait has an entry in a binary heap. An entry whose node waits no more, or with another
-/// key, is passed over when its turn comes; where there is no room for one more, all such are thrown away. Only `new` takes
-/// memory. A clause sees the keys of all nodes, and the table of those that wait.
+/// Each key with which a node was let wait has an entry, in a sorted list or in a binary heap; first comes the last of the list or
+/// the top of the heap. The list is for nodes that are let wait all at once: to sort their entries and to take them off its end
+/// takes less time than as many pushes and pops. Each later key goes into the heap. An entry whose node waits no more, or with
+/// another key, is passed over when its turn comes; where the heap has no room for one more, the list is made anew, of the nodes
+/// that wait, and the heap is empty. Only `new` takes memory. A clause sees the keys of all nodes, and the table of those that wait.
 #[derive(Drop)]
 pub struct Heap {
     keys: Vec<i128>,
     waiting: Vec<bool>,
+    order: Vec<Reverse<Entry>>,
     entries: BinaryHeap<Reverse<Entry>>,
 }
 
@@ -42,9 +51,10 @@ impl Model for Heap {
 
     ghost view = { λ h. record { keys = h.keys.items; waiting = h.waiting.items } };
 
+    ghost use Rattle.std.specs.Prelude.{vec_capacity};
     ghost use Rattle.std.specs.BinaryHeap.{heap_capacity, heap_items};
 
-    ghost invariant = { λ h. IsQueue (record { keys = h.keys.items; waiting = h.waiting.items }) (heap_items h.entries) (heap_capacity h.entries) };
+    ghost invariant = { λ h. IsQueue (record { keys = h.keys.items; waiting = h.waiting.items }) h.order.items (heap_items h.entries) (vec_capacity h.order) (heap_capacity h.entries) };
 }
 
 impl Heap {
@@ -60,11 +70,13 @@ impl Heap {
         let nodes = net.node_count() as usize;
         let keys = copies(alloc, nodes, 0)?;
         let waiting = copies(alloc, nodes, false)?;
+        let order = Vec::with_capacity(alloc, nodes)?;
         let mut entries = BinaryHeap::new(alloc);
-        entries.reserve(nodes * 2)?;
+        entries.reserve(nodes)?;
         Ok(Heap {
             keys,
             waiting,
+            order,
             entries,
         })
     }
@@ -85,6 +97,22 @@ impl Heap {
         self.waiting[v.place()]
     }
 
+    /// Lets each node wait with the opposite of its price.
+    pub(crate) fn wait_all(&mut self, prices: &[i128])
+        requires count { length self.old.waiting ≡ length prices.now }
+        requires small { All (IsUpTo near_limit) prices.now }
+        ensures { self.new ≡ all_waiting prices.now }
+    {
+        put_opposites(self.keys.as_mut_slice(), prices);
+        self.waiting.as_mut_slice().fill(true);
+        queue_anew(
+            &mut self.order,
+            &mut self.entries,
+            self.keys.as_slice(),
+            self.waiting.as_slice(),
+        );
+    }
+
     /// Lets a node wait with a key, unless it waits with one that is no greater, and says whether it waits with this one from
     /// now on.
     pub fn offer(&mut self, v: NodeId, key: i128) -> bool
@@ -99,11 +127,13 @@ impl Heap {
             return false;
         }
         make_room(
+            &mut self.order,
             &mut self.entries,
             self.keys.as_slice(),
             self.waiting.as_slice(),
         );
-        put(&mut self.entries, key, i as u32);
+        let item = i as u32;
+        let _ = self.entries.push(Reverse(Entry { key, item }));
         self.keys[i] = key;
         self.waiting[i] = true;
         true
@@ -117,7 +147,7 @@ impl Heap {
         ensures same { IfNone result (self.new ≡ self.old) }
     {
         'entries: loop {
-            let Reverse(entry) = self.entries.pop()?;
+            let Reverse(entry) = take(&mut self.order, &mut self.entries)?;
             if is_current(self.keys.as_slice(), self.waiting.as_slice(), entry) {
                 self.waiting[entry.item as usize] = false;
                 return Some(NodeId::at(entry.item));
@@ -147,41 +177,76 @@ fn is_current(keys: &[i128], waiting: &[bool], entry: Entry) -> bool
     waiting[i] && keys[i] == entry.key
 }
 
-// Makes room for one entry more.
-fn make_room(entries: &mut BinaryHeap<Reverse<Entry>>, keys: &[i128], waiting: &[bool])
-    requires queue { IsQueue (record { keys = keys.now; waiting = waiting.now }) (heap_items entries.old) (heap_capacity entries.old) }
+// Takes out the entry that comes first, the last of the list or the top of the heap, if there is one.
+fn take(
+    order: &mut Vec<Reverse<Entry>>,
+    entries: &mut BinaryHeap<Reverse<Entry>>,
+) -> Option<Reverse<Entry>>
+    requires ordered { AreOrdered order.old.items (heap_items entries.old) }
+    ensures ordered { AreOrdered order.new.items (heap_items entries.new) }
+    ensures taken { IfSome result (λ e. IsPermutation (order.old.items ++ heap_items entries.old) (e ∷ (order.new.items ++ heap_items entries.new))) }
+    ensures first { IfSome result (λ e. All (Precedes e) (order.new.items ++ heap_items entries.new)) }
+    ensures none { IfNone result (order.old.items ++ heap_items entries.old ≡ []) }
+    ensures over { IfNone result (order.new.items ++ heap_items entries.new ≡ []) }
+    ensures room { vec_capacity order.new ≡ vec_capacity order.old }
+    ensures more { heap_capacity entries.new ≡ heap_capacity entries.old }
+{
+    if order.last() < entries.peek() {
+        entries.pop()
+    } else {
+        order.pop()
+    }
+}
+
+// Makes room for one entry more in the heap.
+fn make_room(
+    order: &mut Vec<Reverse<Entry>>,
+    entries: &mut BinaryHeap<Reverse<Entry>>,
+    keys: &[i128],
+    waiting: &[bool],
+)
+    requires queue { IsQueue (record { keys = keys.now; waiting = waiting.now }) order.old.items (heap_items entries.old) (vec_capacity order.old) (heap_capacity entries.old) }
     requires some { 1 ≤ length waiting.now }
-    ensures queue { IsQueue (record { keys = keys.now; waiting = waiting.now }) (heap_items entries.new) (heap_capacity entries.new) }
+    ensures queue { IsQueue (record { keys = keys.now; waiting = waiting.now }) order.new.items (heap_items entries.new) (vec_capacity order.new) (heap_capacity entries.new) }
     ensures room { heap_len entries.new < heap_capacity entries.new }
 {
-    if entries.len() < entries.capacity() {
-        return;
+    if entries.len() == entries.capacity() {
+        queue_anew(order, entries, keys, waiting);
     }
-    queue_anew(entries, keys, waiting);
 }
 
-// Makes one entry for each node that waits, in place of all that were there.
-fn queue_anew(entries: &mut BinaryHeap<Reverse<Entry>>, keys: &[i128], waiting: &[bool])
-    requires queue { IsQueue (record { keys = keys.now; waiting = waiting.now }) (heap_items entries.old) (heap_capacity entries.old) }
-    ensures queue { IsQueue (record { keys = keys.now; waiting = waiting.now }) (heap_items entries.new) (heap_capacity entries.new) }
-    ensures few { heap_len entries.new ≤ length waiting.now }
+// Lists one entry for each node that waits, in order, in place of all that were there, and empties the heap.
+fn queue_anew(
+    order: &mut Vec<Reverse<Entry>>,
+    entries: &mut BinaryHeap<Reverse<Entry>>,
+    keys: &[i128],
+    waiting: &[bool],
+)
+    requires keys { length keys.now ≡ length waiting.now }
+    requires few { length waiting.now ≤ node_limit }
+    requires enough { length waiting.now ≤ vec_capacity order.old }
+    requires room { length waiting.now ≤ heap_capacity entries.old }
+    ensures queue { IsQueue (record { keys = keys.now; waiting = waiting.now }) order.new.items (heap_items entries.new) (vec_capacity order.new) (heap_capacity entries.new) }
+    ensures empty { heap_len entries.new ≡ 0 }
 {
     entries.clear();
+    order.clear();
     'items: for i in 0..waiting.len() {
         if waiting[i] {
-            put(entries, keys[i], i as u32);
+            let (key, item) = (keys[i], i as u32);
+            order.push_reserved(Reverse(Entry { key, item }));
         }
     }
+    order.as_mut_slice().sort_unstable();
 }
 
-// Adds an entry, for which there is room.
-fn put(entries: &mut BinaryHeap<Reverse<Entry>>, key: i128, item: u32)
-    requires room { heap_len entries.old < heap_capacity entries.old }
-    requires heap { IsHeap by_key (heap_items entries.old) }
-    ensures heap { IsHeap by_key (heap_items entries.new) }
-    ensures one { IsOneMore key item (heap_items entries.old) (heap_items entries.new) }
-    ensures len { heap_len entries.new ≡ heap_len entries.old + 1 }
-    ensures room { heap_capacity entries.old ≤ heap_capacity entries.new }
+// Writes the opposites of prices over keys.
+fn put_opposites(keys: &mut [i128], prices: &[i128])
+    requires count { length keys.old ≡ length prices.now }
+    requires small { All (IsUpTo near_limit) prices.now }
+    ensures { keys.new ≡ map neg_ℤ prices.now }
 {
-    let _ = entries.push(Reverse(Entry { key, item }));
+    'keys: for i in 0..prices.len() {
+        keys[i] = -prices[i];
+    }
 }

@@ -5,10 +5,9 @@ ghost use Rattle.std.specs.List.{All};
 ghost use Rattle.mcf_flows.specs.Limits.{node_limit};
 ghost use Rattle.mcf_flows.specs.Network.{IsNode, at_node, node_count};
 ghost use Rattle.mcf_flows.specs.WellFormed.{IsUpTo};
-ghost use Rattle.mcf_engine.specs.Heaps.{NoneWaits};
 ghost use Rattle.mcf_engine.specs.NearPrices.{AreNearPrices, OptimalPricesAreNear, ShownPricesAreNear, near_limit};
 ghost use Rattle.mcf_engine.specs.Outcomes.{AreStatePrices};
-ghost use Rattle.mcf_engine.specs.Private.Raisings.{AreRounded, IsPassedFrom, IsReady, IsRoundedDown};
+ghost use Rattle.mcf_engine.specs.Private.Raisings.{AreRounded, IsPassedFrom, IsRoundedDown};
 ghost use Rattle.mcf_engine.specs.Private.Raisings.{label, label_reach, quotient_reach};
 
 use crate::heap::Heap;
@@ -36,11 +35,7 @@ impl Model for Pricer {
 
     ghost Value = { ℕ };
 
-    ghost use Rattle.mcf_engine.specs.Heaps.{NoneWaits};
-
     ghost view = { λ p. length p.heap.waiting };
-
-    ghost invariant = { λ p. (length p.heap.keys ≡ length p.heap.waiting) × NoneWaits p.heap };
 }
 
 impl Pricer {
@@ -71,7 +66,7 @@ impl Pricer {
         ensures prices { AreStatePrices state.now.net state.now prices.new }
         ensures room { self.new ≡ self.old }
     {
-        wait_all(&mut self.heap, state.net(), prices);
+        self.heap.wait_all(prices);
         let near = NearState {
             state,
             scale,
@@ -98,31 +93,6 @@ pub fn shown_prices_are_near()
 pub fn optimal_prices_are_near()
     ensures { OptimalPricesAreNear }
 {}
-
-// Lets each node wait with the opposite of its price, so that its label is 0.
-fn wait_all(heap: &mut Heap, net: &Net, prices: &[i128])
-    requires prices { length prices.now ≡ node_count net.now }
-    requires keys { length heap.old.keys ≡ node_count net.now }
-    requires waiting { length heap.old.waiting ≡ node_count net.now }
-    requires none { NoneWaits heap.old }
-    requires small { All (IsUpTo near_limit) prices.now }
-    ensures { IsReady prices.now heap.new }
-{
-    'nodes: for number in 0..net.node_count() {
-        let v = NodeId::at(number);
-        let key = opposite_price(prices, v);
-        heap.offer(v, key);
-    }
-}
-
-// The opposite of the price of a node.
-fn opposite_price(prices: &[i128], v: NodeId) -> i128
-    requires node { IsNode (length prices.now) v }
-    requires small { IsUpTo near_limit (at_node prices.now v) }
-    ensures { result ≡ neg_ℤ (at_node prices.now v) }
-{
-    -price_of(prices, v)
-}
 
 /// The price of a node.
 pub(crate) fn price_of(prices: &[i128], v: NodeId) -> i128

@@ -5,7 +5,7 @@ ghost use Rattle.std.specs.List.{All};
 ghost use Rattle.mcf_flows.specs.Network.{IsArcNumber, IsNode, at_node, node_count};
 ghost use Rattle.mcf_network.specs.declared.rid.Rid.{Rid};
 ghost use Rattle.mcf_network.specs.Residual.{head};
-ghost use Rattle.mcf_network.specs.States.{room_of};
+ghost use Rattle.mcf_network.specs.States.{IsPseudoflow, room_of};
 ghost use Rattle.mcf_engine.specs.declared.shortlist.Entry.{Entry};
 ghost use Rattle.mcf_engine.specs.Private.Raisings.{CostsAtLeast};
 ghost use Rattle.mcf_engine.specs.Private.Shortlists.{AreChains, IsFilled, IsPut, IsWhole, entry_at};
@@ -74,7 +74,8 @@ impl Shortlist {
 
     /// Lists the residual arcs of a state that may lower a key in a search from its prices, if the net is dense.
     pub(crate) fn fill(&mut self, near: &NearState<'_, '_>)
-        ensures { IsFilled near.now self.new }
+        ensures list { IsFilled near.now self.new }
+        ensures valid { IsPseudoflow near.now.state.now }
     {
         self.whole = self.fill_dense(near);
     }
@@ -103,6 +104,7 @@ impl Shortlist {
     fn fill_dense(&mut self, near: &NearState<'_, '_>) -> bool
         ensures count { result ≡ true → length self.new.passed.items ≡ node_count near.now.state.now.net }
         ensures whole { result ≡ true → IsWhole near.now.state.now self.new.passed.items self.new.heads.items self.new.entries.items }
+        ensures valid { IsPseudoflow near.now.state.now }
     {
         if !self.is_for(near.state.net()) {
             return false;

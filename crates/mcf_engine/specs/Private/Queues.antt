@@ -1,19 +1,27 @@
 -- The entries of a priority queue of nodes: one for each key with which a node was let wait.
-use Rattle.std.specs.Prelude.{◌≡◌, ℕ, ◌+◌, ◌*◌, ◌<◌, ◌≤◌, List, ◌∷◌, length, ℤ}
+use Rattle.std.specs.Prelude.{◌≡◌, ℕ, ◌+◌, ◌<◌, ◌≤◌, true, List, ◌++◌, length, map, replicate, ℤ, neg_ℤ}
 use Rattle.std.specs.declared.cmp.Reverse.{Reverse}
 use Rattle.std.specs.declared.cmp.Ordering.{Ordering}
 use Rattle.std.specs.BinaryHeap.{IsHeap}
 use Rattle.std.specs.List.{All, Contains}
-use Rattle.std.specs.List.Sorted.{IsPermutation}
+use Rattle.std.specs.List.Sorted.{IsSorted}
 use Rattle.std.specs.Ordering.{int_cmp, nat_cmp, ordering_then}
 use Rattle.mcf_flows.specs.Limits.{node_limit}
 use Rattle.mcf_flows.specs.Network.{IsNode, at_node}
-use Rattle.mcf_engine.specs.Heaps.{Keyed, Waits}
+use Rattle.mcf_engine.specs.Heaps.{ComesFirst, Keyed, Waits}
 use Rattle.mcf_engine.specs.declared.heap.Entry.{Entry}
 
 -- of two entries the one with the less key is the greater, and of equal keys the one of the less number
 abbrev pub by_key : Reverse Entry → Reverse Entry → Ordering
 by_key a b = ordering_then (int_cmp b.0.key a.0.key) (nat_cmp b.0.item a.0.item)
+
+-- an entry comes before another, or is the same
+abbrev pub Precedes : Reverse Entry → Reverse Entry → Type 0
+Precedes e f = ComesFirst e.0.key e.0.item f.0.key f.0.item
+
+-- the entries of a sorted list, the last of which comes first, and of a heap
+abbrev pub AreOrdered : List (Reverse Entry) → List (Reverse Entry) → Type 0
+AreOrdered order list = IsSorted by_key order × IsHeap by_key list
 
 -- an entry of a node, which is counted from 1, and its key
 abbrev pub IsEntryOf : Keyed → ℕ → Reverse Entry → Type 0
@@ -32,18 +40,16 @@ IsCurrent h e = Waits h (e.item + 1) × (e.key ≡ at_node h.keys (e.item + 1))
 abbrev pub IsOfNode : ℕ → Reverse Entry → Type 0
 IsOfNode nodes e = e.0.item < nodes
 
--- an entry of a key and an item came to a list, in whatever order
-pub record IsOneMore (key : ℤ) (item : ℕ) (old new : List (Reverse Entry)) : Type 0 where
-  pub entry : Reverse Entry
-  pub key_is : entry.0.key ≡ key
-  pub item_is : entry.0.item ≡ item
-  pub list : IsPermutation (entry ∷ old) new
+-- each node waits with the opposite of its price
+abbrev pub all_waiting : List ℤ → Keyed
+all_waiting prices = record { keys = map neg_ℤ prices; waiting = replicate (length prices) true }
 
--- keys and marks of nodes with a heap of entries, and room for twice as many as there are nodes
-pub record IsQueue (h : Keyed) (list : List (Reverse Entry)) (room : ℕ) : Type 0 where
-  pub ordered : IsHeap by_key list
+-- keys and marks of nodes with a sorted list and a heap of entries, each with room for as many as there are nodes
+pub record IsQueue (h : Keyed) (order list : List (Reverse Entry)) (room more : ℕ) : Type 0 where
+  pub ordered : AreOrdered order list
   pub keys : length h.keys ≡ length h.waiting
   pub few : length h.waiting ≤ node_limit
-  pub enough : length h.waiting * 2 ≤ room
-  pub items : All (IsOfNode (length h.waiting)) list
-  pub queued : AreQueued h (length h.waiting) list
+  pub in_order : length h.waiting ≤ room
+  pub in_heap : length h.waiting ≤ more
+  pub items : All (IsOfNode (length h.waiting)) (order ++ list)
+  pub queued : AreQueued h (length h.waiting) (order ++ list)

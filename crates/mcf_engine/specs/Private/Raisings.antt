@@ -126,13 +126,6 @@ pub record IsSettledNext (p : NearState) (old new : Keyed) (u : ℕ) : Type 0 wh
   pub popped : IsPopped p new u
   pub fewer : member_count new.waiting + 1 ≡ member_count old.waiting
 
--- each node waits, and has the label 0
-pub record IsReady (y : List ℤ) (h : Keyed) : Type 0 where
-  pub key_count : length h.keys ≡ length y
-  pub waiting_count : length h.waiting ≡ length y
-  pub waits : (v : ℕ) → IsNode (length y) v → Waits h v
-  pub zero : (v : ℕ) → IsNode (length y) v → label y h v ≡ pos 0
-
 -- g is the quotient of z by the scale, rounded down
 pub record IsRoundedDown (scale : ℕ) (z g : ℤ) : Type 0 where
   pub below : (g *ℤ pos scale) ≤ℤ z

@@ -1,27 +1,23 @@
-use Rattle.std.proofs.Common.{arith, rules}
-use Rattle.std.proofs.lemmas.Int.{to_z-of_z}
-use Rattle.mcf_engine.proofs.Queues.{items_more, queued_idle, queued_next}
+use Rattle.std.proofs.Common.{arith, subst, sym, ◌∙◌}
+use Rattle.std.specs.BinaryHeap.{heap_capacity, heap_items}
+use Rattle.std.specs.List.Sorted.{IsPermutation}
+use Rattle.std.proofs.lemmas.List.{take_at}
+use Rattle.mcf_engine.specs.Private.Queues.{IsQueue}
+use Rattle.mcf_engine.proofs.Queues.{queue_sorted}
 use Rattle.mcf_engine.proofs.heap.queue_anew.Goals as goal
-use Rattle.mcf_engine.proofs.heap.queue_anew.Goals.{then-waiting-i, else-waiting-i}
 
-pub items-preserved : goal.items-preserved
-items-preserved c =
+pub returns-clause-queue : goal.returns-clause-queue
+returns-clause-queue c =
     let inv = c.items.invariant in
-    elim c.if-waiting-i.branch [
-      | then-waiting-i w ↦ rw w.entries-is (
-          let put = w.put.ensures in
-          record {
-            heap = put.heap;
-            few = (let few = inv.few in let len = put.len in omega (arith, few, len));
-            room = (let room = inv.room in let wide = put.room in omega (arith, room, wide));
-            items = items_more _ _ _ _ _ inv.items (search rules) put.one;
-            queued = queued_next _ _ _ _ _ inv.queued (search (rules, to_z-of_z)) put.one;
-          })
-      | else-waiting-i w ↦ rw w.entries-is (record {
-        heap = inv.heap;
-        few = (let few = inv.few in omega (arith, few));
-        room = inv.room;
-        items = inv.items;
-        queued = queued_idle _ _ _ inv.queued (search rules);
-      })
-    ]
+    let sort = c.sort_unstable.ensures in
+    let past = c.items-test.false in
+    let wide = inv.enough in
+    let fits = c.requires.enough in
+    let room = c.requires.room in
+    let same = c.clear.ensures.capacity in
+    let sorted = queue_sorted (record { keys = c.args.keys.now; waiting = c.args.waiting.now }) c.items.order.items c.sort_unstable.new.self (heap_items c.clear.new.self)
+    c.items.order.cap (heap_capacity c.clear.new.self) c.requires.keys c.requires.few (omega (arith, wide, fits)) (omega (arith, room, same)) inv.items
+    (λ v n l waits. inv.queued v n (omega (arith, n, past)) waits) (subst (λ xs. IsPermutation xs c.sort_unstable.new.self) c.as_mut_slice.ensures.value sort.permutation)
+    sort.sorted c.clear.ensures.items c.clear.ensures.heap_order in
+    subst (λ xs. IsQueue (record { keys = c.args.keys.now; waiting = c.args.waiting.now }) xs (heap_items c.clear.new.self) c.items.order.cap (heap_capacity c.clear.new.self))
+    (sym (take_at c.sort_unstable.new.self _ c.items.order.len (sort.len ∙ c.as_mut_slice.ensures.len))) sorted

@@ -1,15 +1,13 @@
-use Rattle.std.proofs.Common.{◌≤◌, length}
-use Rattle.std.specs.BinaryHeap.{IsHeap, heap_capacity, heap_items, heap_len}
+use Rattle.std.proofs.Common.{◌≡◌, ◌≤◌, length, vec_capacity}
 use Rattle.std.specs.List.{All}
-use Rattle.mcf_engine.specs.Private.Queues.{AreQueued, IsOfNode, by_key}
+use Rattle.mcf_engine.specs.Private.Queues.{AreQueued, IsOfNode}
 use Rattle.mcf_engine.proofs.heap.queue_anew.Given as goal
 
 abbrev pub invariant-items : goal.invariant-items
 invariant-items l =
     record {
-      heap : IsHeap by_key (heap_items l.entries);
-      few : heap_len l.entries ≤ l.i;
-      room : heap_capacity l.fn.entries ≤ heap_capacity l.entries;
-      items : All (IsOfNode (length l.waiting)) (heap_items l.entries);
-      queued : AreQueued (record { keys = l.keys; waiting = l.waiting }) l.i (heap_items l.entries);
+      few : length l.order.items ≤ l.i;
+      enough : vec_capacity l.order ≡ vec_capacity l.fn.order;
+      items : All (IsOfNode (length l.waiting)) l.order.items;
+      queued : AreQueued (record { keys = l.keys; waiting = l.waiting }) l.i l.order.items;
     }
