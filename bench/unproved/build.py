@@ -99,7 +99,7 @@ def translated(text, crate, crates):
     text = re.sub(r"impl(<[^{>]*>)? Model for [^{]*\{\s*\}", lambda m: "\n" * m.group().count("\n"), text)
     text = re.sub(r"#\[derive\(([^)]*)\)\]", lambda m: "#[derive(%s)]" % ", ".join(w for w in re.split(r",\s*", m.group(1)) if w not in ("Drop", "Error")), text)
     # Rust's `clone` can't fail
-    text = re.sub(r"-> Result<([^{;]*), AllocError> \{(\s*)Ok\(\*self\)", r"-> \1 {\2*self", text)
+    text = re.sub(r"-> Result<([^{;]*), AllocError>\s*\{(\s*)Ok\(\*self\)", r"-> \1 {\2*self", text)
     text = re.sub(r"\.collect\(alloc\)", ".collect_in(alloc)", text)
     text = re.sub(r"(?<![:\w])crate::", f"crate::{crate}::", text)
     text = re.sub(r"(?<![:\w])(%s)::" % "|".join(crates), r"crate::\1::", text)

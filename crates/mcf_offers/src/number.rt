@@ -1,5 +1,5 @@
 //! Numbers of a width.
-ghost use Rattle.std.specs.Prelude.{◌≡◌, ℤ, ◌+ℤ◌, ◌-ℤ◌};
+ghost use Rattle.std.specs.Prelude.{◌≡◌, ℤ, ◌+ℤ◌, ◌-ℤ◌, IfOk};
 ghost use Rattle.std.proofs.Common.{ap, rules};
 ghost use Rattle.std.specs.Cmp.{partial_order_from_own_ties};
 ghost use Rattle.std.specs.Cmp.Rules.{comparing};
@@ -19,7 +19,9 @@ pub struct Number<W: Width> {
 impl<W: Width> Copy for Number<W> {}
 
 impl<W: Width> Clone for Number<W> {
-    fn clone(&self) -> Result<Number<W>, AllocError> {
+    fn clone(&self) -> Result<Number<W>, AllocError>
+        ensures { IfOk result (λ made. made ≡ self.now) }
+    {
         Ok(*self)
     }
 }
