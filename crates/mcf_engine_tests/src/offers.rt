@@ -29,15 +29,20 @@ fn an_offer_waits(rt: HostRuntime) -> Result<(), Fail> {
     Ok(())
 }
 
+// Whether one number is less than another, by each comparison.
+fn is_less<W: Width>(one: Number<W>, other: Number<W>) -> bool {
+    let differs = one != other;
+    let greater = other.cmp(&one) == Ordering::Greater;
+    one < other && differs && greater
+}
+
 #[test]
 fn counts_in_64_bits(rt: HostRuntime) -> Result<(), Fail> {
     let three = Number::<i64>::of(3);
     let five = Number::<i64>::of(5);
-    assert!(rt; three.plus(five).narrow() == 8);
-    assert!(rt; three.minus(five).narrow() == -2);
-    assert!(rt; three.wide() == 3);
-    assert!(rt; three < five && three != five);
-    assert!(rt; five.cmp(&three) == Ordering::Greater);
+    let sum = three.plus(five).narrow();
+    let difference = three.minus(five).narrow();
+    assert!(rt; sum == 8 && difference == -2 && three.wide() == 3 && is_less(three, five));
     Ok(())
 }
 
@@ -45,9 +50,9 @@ fn counts_in_64_bits(rt: HostRuntime) -> Result<(), Fail> {
 fn counts_in_128_bits(rt: HostRuntime) -> Result<(), Fail> {
     let far = Number::<i128>::of(i64::MAX);
     let one = Number::<i128>::of(1);
-    assert!(rt; far.plus(far).wide() == 18_446_744_073_709_551_614);
-    assert!(rt; one.minus(far).wide() == -9_223_372_036_854_775_806);
-    assert!(rt; one < far && one != far);
-    assert!(rt; far.cmp(&one) == Ordering::Greater);
+    let sum = far.plus(far).wide();
+    let difference = one.minus(far).wide();
+    assert!(rt; sum == 18_446_744_073_709_551_614 && difference == -9_223_372_036_854_775_806);
+    assert!(rt; is_less(one, far));
     Ok(())
 }
