@@ -3,9 +3,10 @@ ghost use Rattle.std.specs.Prelude.{◌≡◌};
 ghost use Rattle.mcf_flows.specs.Network.{IsNode, node_count};
 ghost use Rattle.mcf_assign.specs.Runs.{is_source};
 
+use crate::assignments::{multiples, short_rows};
 use crate::feasibility::is_set_of;
+use crate::fixtures::{cost_of, finds_prices};
 use crate::networks::net_of;
-use crate::scaling::{cost_of, multiples, short_rows};
 use mcf_assign::{Extended, Matching, Sap};
 use mcf_checker::{Verdict, check};
 use mcf_instance::{Problem, Side};
@@ -17,71 +18,40 @@ use mcf_text::{NoMemory, NodeId};
 use std::alloc::Global;
 use std::test::Fail;
 
-// The searches from the rows of a text, ascending, up to the first that finds no path: how many there are, the nodes
-// that the last of them settles in their order, and those that it reaches where it finds no path.
-#[derive(Clone, Copy)]
-struct Searches {
-    text: &'static [u8],
-    count: u32,
-    settled: &'static [u32],
-    reached: Option<&'static [u32]>,
-}
-
 // Two rows, the first of which has no arc, and one column.
 const IDLE_ROW: &[u8] = b"p asn 3 1\nn 1\nn 2\na 2 3 4\n";
 
 // One row, and two columns to which it may go.
 const ONE_ROW: &[u8] = b"p asn 3 2\nn 1\na 1 2 4\na 1 3 1\n";
 
+// Two rows and two columns.
+const SQUARE: &[u8] = b"p asn 4 4\nn 1\nn 2\na 1 3 5\na 1 4 1\na 2 3 2\na 2 4 1\n";
+
+// The same, where one pair earns.
+const EARNING: &[u8] = b"p asn 4 4\nn 1\nn 2\na 1 3 5\na 1 4 1\na 2 3 2\na 2 4 -9\n";
+
+// Two rows that may go to one of two columns alone.
+const NARROW: &[u8] = b"p asn 4 2\nn 1\nn 2\na 1 3 1\na 2 3 1\n";
+
+// Two rows, and one column.
+const SHORT: &[u8] = b"p asn 3 2\nn 1\nn 2\na 1 3 4\na 2 3 4\n";
+
+// Two rows, the first of which has no arc, and two columns.
+const STUCK: &[u8] = b"p asn 4 2\nn 2\nn 3\na 3 1 0\na 3 4 0\n";
+
+// A text; of the searches from its rows, ascending, up to the first that finds no path, how many there are; the nodes that
+// the last of them settles in their order, and those that it reaches where it finds no path.
+type Searches = (&'static [u8], u32, &'static [u32], Option<&'static [u32]>);
+
 static SEARCHES: [Searches; 8] = [
-    Searches {
-        text: b"p asn 0 0\n",
-        count: 0,
-        settled: &[],
-        reached: None,
-    },
-    Searches {
-        text: b"p asn 4 4\nn 1\nn 2\na 1 3 5\na 1 4 1\na 2 3 2\na 2 4 1\n",
-        count: 2,
-        settled: &[2, 4, 1, 3],
-        reached: None,
-    },
-    Searches {
-        text: b"p asn 4 4\nn 1\nn 2\na 1 3 5\na 1 4 1\na 2 3 2\na 2 4 -9\n",
-        count: 2,
-        settled: &[2, 4, 1, 3],
-        reached: None,
-    },
-    Searches {
-        text: b"p asn 4 2\nn 1\nn 2\na 1 3 1\na 2 3 1\n",
-        count: 2,
-        settled: &[2, 3, 1],
-        reached: Some(&[1, 2, 3]),
-    },
-    Searches {
-        text: b"p asn 3 2\nn 1\nn 2\na 1 3 4\na 2 3 4\n",
-        count: 2,
-        settled: &[2, 3, 1],
-        reached: Some(&[1, 2, 3]),
-    },
-    Searches {
-        text: b"p asn 4 2\nn 2\nn 3\na 3 1 0\na 3 4 0\n",
-        count: 1,
-        settled: &[2],
-        reached: Some(&[2]),
-    },
-    Searches {
-        text: IDLE_ROW,
-        count: 1,
-        settled: &[1],
-        reached: Some(&[1]),
-    },
-    Searches {
-        text: ONE_ROW,
-        count: 1,
-        settled: &[1, 3],
-        reached: None,
-    },
+    (b"p asn 0 0\n", 0, &[], None),
+    (SQUARE, 2, &[2, 4, 1, 3], None),
+    (EARNING, 2, &[2, 4, 1, 3], None),
+    (NARROW, 2, &[2, 3, 1], Some(&[1, 2, 3])),
+    (SHORT, 2, &[2, 3, 1], Some(&[1, 2, 3])),
+    (STUCK, 1, &[2], Some(&[2])),
+    (IDLE_ROW, 1, &[1], Some(&[1])),
+    (ONE_ROW, 1, &[1, 3], None),
 ];
 
 // Whether a node has supply 1.
@@ -136,9 +106,28 @@ fn are_nodes(nodes: &[NodeId], numbers: &[u32]) -> bool {
             .all(|(v, number)| v.get() == *number)
 }
 
+// Whether the last search settled these nodes in their order, and found a path or reached these nodes alone.
+fn has_ended(
+    net: &Net,
+    matching: &Matching<'_>,
+    last: Option<Extended>,
+    settled: &[u32],
+    reached: Option<&[u32]>,
+) -> bool
+    requires { matching.now.flow.net ≡ net.now }
+{
+    let is_settled = are_nodes(matching.settled(), settled);
+    let is_blocked = last == Some(Extended::Blocked);
+    match reached {
+        Some(nodes) => is_settled && is_blocked && is_set_of(net, matching.reached(), nodes),
+        None => is_settled && !is_blocked,
+    }
+}
+
 // Whether the searches of a text are these.
-fn is_searched(alloc: Global, row: Searches) -> Result<bool, NoMemory> {
-    let Some(net) = net_of(alloc, row.text)? else {
+fn is_searched(alloc: Global, row: &Searches) -> Result<bool, NoMemory> {
+    let (text, searches, settled, reached) = *row;
+    let Some(net) = net_of(alloc, text)? else {
         return Ok(false);
     };
     match net.problem() {
@@ -146,77 +135,36 @@ fn is_searched(alloc: Global, row: Searches) -> Result<bool, NoMemory> {
         Problem::Asn => {}
     }
     let mut matching = Matching::start(alloc, &net)?;
-    if !matching.settled().is_empty() {
-        return Ok(false);
-    }
+    let is_fresh = matching.settled().is_empty();
     let (count, last) = offer_all(&mut matching, &net);
-    let is_last = match row.reached {
-        Some(nodes) => last == Some(Extended::Blocked)
-            && is_set_of(&net, matching.reached(), nodes),
-        None => last != Some(Extended::Blocked),
-    };
-    Ok(is_last && count == row.count && are_nodes(matching.settled(), row.settled))
+    let is_last = has_ended(&net, &matching, last, settled, reached);
+    Ok(is_fresh && is_last && count == searches)
 }
 
 #[test]
 fn searches_from_the_rows(rt: HostRuntime) -> Result<(), Fail> {
-    for row in SEARCHES {
+    for row in &SEARCHES {
         assert!(rt; is_searched(rt.alloc(), row)?);
     }
     Ok(())
 }
 
 // How a text is answered: for what cost and with what prices, or blocked by `send` by which set.
-#[derive(Clone, Copy)]
-struct Row {
-    text: &'static [u8],
-    cost: Option<i128>,
-    prices: &'static [i128],
-    set: &'static [u32],
-}
+type Row = (&'static [u8], Option<i128>, &'static [i128], &'static [u32]);
 
 static ROWS: [Row; 6] = [
-    Row {
-        text: b"p asn 0 0\n",
-        cost: Some(0),
-        prices: &[],
-        set: &[],
-    },
-    Row {
-        text: b"p asn 4 4\nn 1\nn 2\na 1 3 5\na 1 4 1\na 2 3 2\na 2 4 1\n",
-        cost: Some(3),
-        prices: &[0, 0, -2, -1],
-        set: &[],
-    },
-    Row {
-        text: b"p asn 4 4\nn 1\nn 2\na 1 3 5\na 1 4 1\na 2 3 2\na 2 4 -9\n",
-        cost: Some(-4),
-        prices: &[0, -3, -5, 0],
-        set: &[],
-    },
-    Row {
-        text: b"p asn 4 2\nn 1\nn 2\na 1 3 1\na 2 3 1\n",
-        cost: None,
-        prices: &[],
-        set: &[1, 2, 3],
-    },
-    Row {
-        text: b"p asn 3 2\nn 1\nn 2\na 1 3 4\na 2 3 4\n",
-        cost: None,
-        prices: &[],
-        set: &[1, 2, 3],
-    },
-    Row {
-        text: b"p asn 4 2\nn 2\nn 3\na 3 1 0\na 3 4 0\n",
-        cost: None,
-        prices: &[],
-        set: &[2],
-    },
+    (b"p asn 0 0\n", Some(0), &[], &[]),
+    (SQUARE, Some(3), &[0, 0, -2, -1], &[]),
+    (EARNING, Some(-4), &[0, -3, -5, 0], &[]),
+    (NARROW, None, &[], &[1, 2, 3]),
+    (SHORT, None, &[], &[1, 2, 3]),
+    (STUCK, None, &[], &[2]),
 ];
 
 // Whether an engine takes the net of a row, and answers it so.
-fn is_answered<E: Engine>(alloc: Global, engine: &mut E, row: Row) -> Result<bool, NoMemory> {
-    let Some(net) = net_of(alloc, row.text)? else {
+fn is_answered<E: Engine>(alloc: Global, engine: &mut E, row: &Row) -> Result<bool, NoMemory> {
+    let (text, cost, greatest, nodes) = *row;
+    let Some(net) = net_of(alloc, text)? else {
         return Ok(false);
     };
     if !engine.takes(&net) {
@@ -224,35 +172,42 @@ fn is_answered<E: Engine>(alloc: Global, engine: &mut E, row: Row) -> Result<boo
     }
     match engine.solve(alloc, &net)? {
         Outcome::Least(state, prices) => {
-            Ok(row.cost == Some(cost_of(&state)) && prices.as_slice() == row.prices)
+            Ok(cost == Some(cost_of(&state)) && prices.as_slice() == greatest)
         }
         Outcome::Blocked(set, side) => {
-            Ok(row.cost.is_none() && side == Side::Send && is_set_of(&net, &set, row.set))
+            Ok(cost.is_none() && side == Side::Send && is_set_of(&net, &set, nodes))
         }
     }
 }
 
-#[test]
-fn answers_by_shortest_augmenting_paths(rt: HostRuntime) -> Result<(), Fail> {
-    for row in ROWS {
-        assert!(rt; is_answered(rt.alloc(), &mut Sap::new(), row)?);
+// Whether one engine, asked for each row in turn, answers it so.
+fn answers<E: Engine>(alloc: Global, engine: &mut E) -> Result<bool, NoMemory> {
+    for row in &ROWS {
+        if !is_answered(alloc, engine, row)? {
+            return Ok(false);
+        }
     }
-    Ok(())
+    Ok(true)
+}
+
+// Whether each engine answers so.
+fn each_answers(alloc: Global) -> Result<bool, NoMemory> {
+    let augmenting = answers(alloc, &mut Sap::new())?;
+    let cancelling = answers(alloc, &mut Cancel::new())?;
+    let scaling = answers(alloc, &mut Scaling::new())?;
+    Ok(augmenting && cancelling && scaling)
 }
 
 // Each of the sets is the only one that blocks by `send`, or all nodes.
 #[test]
-fn other_engines_answer_so(rt: HostRuntime) -> Result<(), Fail> {
-    for row in ROWS {
-        assert!(rt; is_answered(rt.alloc(), &mut Cancel::new(), row)?);
-        assert!(rt; is_answered(rt.alloc(), &mut Scaling::new(), row)?);
-    }
+fn each_engine_answers_so(rt: HostRuntime) -> Result<(), Fail> {
+    assert!(rt; each_answers(rt.alloc())?);
     Ok(())
 }
 
 // Texts whose supplies don't add up to 0, and the side by which all nodes block.
 static UNBALANCED: [(&[u8], Side); 3] = [
-    (b"p asn 3 2\nn 1\nn 2\na 1 3 4\na 2 3 4\n", Side::Send),
+    (SHORT, Side::Send),
     (IDLE_ROW, Side::Send),
     (ONE_ROW, Side::Take),
 ];
@@ -281,40 +236,48 @@ fn supplies_out_of_balance_are_not_searched(rt: HostRuntime) -> Result<(), Fail>
     Ok(())
 }
 
+// Whether the net of a text is taken.
+fn is_taken(alloc: Global, text: &[u8]) -> Result<Option<bool>, NoMemory> {
+    match net_of(alloc, text)? {
+        Some(net) => Ok(Some(Sap::new().takes(&net))),
+        None => Ok(None),
+    }
+}
+
 #[test]
 fn takes_assignments_alone(rt: HostRuntime) -> Result<(), Fail> {
-    let alloc = rt.alloc();
-    let flow = net_of(alloc, b"p min 1 0\n")?.ok_or("a faulty text")?;
-    let assignment = net_of(alloc, b"p asn 0 0\n")?.ok_or("a faulty text")?;
-    assert!(rt; !Sap::new().takes(&flow));
-    assert!(rt; Sap::new().takes(&assignment));
+    assert!(rt; is_taken(rt.alloc(), b"p min 1 0\n")? == Some(false));
+    assert!(rt; is_taken(rt.alloc(), b"p asn 0 0\n")? == Some(true));
     Ok(())
 }
 
-// The cost of what an engine answers a net with, and its prices, if it takes the net and there is a flow.
-fn answer_of<E: Engine>(
-    alloc: Global,
-    engine: &mut E,
-    net: &Net,
-) -> Result<Option<(i128, Vec<i128>)>, NoMemory> {
+// Whether shortest augmenting paths and cost scaling answer a net with one cost and the same prices.
+fn are_alike(alloc: Global, net: &Net, cost: i128) -> Result<bool, NoMemory> {
+    let mut engine = Sap::new();
     if !engine.takes(net) {
-        return Ok(None);
+        return Ok(false);
     }
     match engine.solve(alloc, net)? {
-        Outcome::Least(state, prices) => Ok(Some((cost_of(&state), prices))),
-        Outcome::Blocked(..) => Ok(None),
+        Outcome::Least(state, prices) => {
+            let is_same = finds_prices(alloc, &mut Scaling::new(), net, cost, &prices)?;
+            Ok(is_same && cost_of(&state) == cost)
+        }
+        Outcome::Blocked(..) => Ok(false),
+    }
+}
+
+// Whether they do so for the net of a text.
+fn are_alike_on(alloc: Global, text: &[u8], cost: i128) -> Result<bool, NoMemory> {
+    match net_of(alloc, text)? {
+        Some(net) => are_alike(alloc, &net, cost),
+        None => Ok(false),
     }
 }
 
 #[test]
 fn agrees_with_cost_scaling(rt: HostRuntime) -> Result<(), Fail> {
-    let alloc = rt.alloc();
-    let text = multiples(alloc, 200)?;
-    let net = net_of(alloc, &text)?.ok_or("a faulty text")?;
-    let (cost, prices) = answer_of(alloc, &mut Sap::new(), &net)?.ok_or("no flow")?;
-    let (by_scaling, others) = answer_of(alloc, &mut Scaling::new(), &net)?.ok_or("no flow")?;
-    assert!(rt; cost == 198 && by_scaling == 198);
-    assert!(rt; prices.as_slice() == others.as_slice());
+    let text = multiples(rt.alloc(), 200)?;
+    assert!(rt; are_alike_on(rt.alloc(), &text, 198)?);
     Ok(())
 }
 
@@ -336,54 +299,69 @@ fn costs(alloc: Global, text: &[u8], engine: EngineChoice, cost: i128) -> Result
     Ok(kind == Kind::Flow && verdict == Verdict::Flow(cost))
 }
 
+// Whether three engines answer a text with a flow of one cost.
+fn each_costs(alloc: Global, text: &[u8], cost: i128) -> Result<bool, NoMemory> {
+    for engine in &ENGINES {
+        if !costs(alloc, text, *engine, cost)? {
+            return Ok(false);
+        }
+    }
+    Ok(true)
+}
+
 #[test]
 fn three_engines_answer_with_one_cost(rt: HostRuntime) -> Result<(), Fail> {
     let text = multiples(rt.alloc(), 200)?;
-    for engine in &ENGINES {
-        assert!(rt; costs(rt.alloc(), &text, *engine, 198)?);
-    }
+    assert!(rt; each_costs(rt.alloc(), &text, 198)?);
     Ok(())
 }
+
+// Whether three engines answer an assignment of short rows with a flow of one cost.
+fn each_costs_short(alloc: Global, size: u32, unit: i128, cost: i128) -> Result<bool, NoMemory> {
+    let text = short_rows(alloc, size, unit)?;
+    each_costs(alloc, &text, cost)
+}
+
+// How many short rows there are, in what unit, and the cost.
+static SHORT_ROWS: [(u32, i128, i128); 3] = [
+    (60, 1, 24_849),
+    (200, 1, 89_522),
+    (200, 990_000_000_000, 88_626_780_000_000_000),
+];
 
 // Rows are so short that all prices are updated from time to time, but where the unit is so great that 64 bits have no room for
 // distances; the costs are those that LEMON's network simplex finds.
 #[test]
 fn three_engines_agree_where_rows_are_short(rt: HostRuntime) -> Result<(), Fail> {
-    let rows = [
-        (60, 1, 24_849),
-        (200, 1, 89_522),
-        (200, 990_000_000_000, 88_626_780_000_000_000),
-    ];
-    for (size, unit, cost) in rows {
-        let text = short_rows(rt.alloc(), size, unit)?;
-        for engine in &ENGINES {
-            assert!(rt; costs(rt.alloc(), &text, *engine, cost)?);
-        }
+    for (size, unit, cost) in &SHORT_ROWS {
+        assert!(rt; each_costs_short(rt.alloc(), *size, *unit, *cost)?);
     }
     Ok(())
 }
 
-// The cost of a matching's amounts, and its first price, once its rows have been offered.
-fn parts_of(alloc: Global, net: &Net) -> Result<Option<(i128, i128)>, NoMemory> {
+// Whether the matching of a net, once its rows have been offered, has this cost and this first price.
+fn hands_over(alloc: Global, net: &Net, cost: i128, price: i128) -> Result<bool, NoMemory> {
     match net.problem() {
-        Problem::Min => return Ok(None),
+        Problem::Min => return Ok(false),
         Problem::Asn => {}
     }
     let mut matching = Matching::start(alloc, net)?;
     offer_all(&mut matching, net);
     let (state, prices) = matching.into_parts();
-    match prices.first() {
-        Some(price) => Ok(Some((cost_of(&state), *price))),
-        None => Ok(None),
+    Ok(prices.first() == Some(&price) && cost_of(&state) == cost)
+}
+
+// Whether that of a text's net does so.
+fn hands_over_text(alloc: Global, text: &[u8], cost: i128, price: i128) -> Result<bool, NoMemory> {
+    match net_of(alloc, text)? {
+        Some(net) => hands_over(alloc, &net, cost, price),
+        None => Ok(false),
     }
 }
 
 // The second search raises the price of row 1 from 1, which its pair costs, to 2, and that of its column from 0 to 1.
 #[test]
 fn hands_over_its_parts(rt: HostRuntime) -> Result<(), Fail> {
-    let alloc = rt.alloc();
-    let net = net_of(alloc, ROWS[1].text)?.ok_or("a faulty text")?;
-    let parts = parts_of(alloc, &net)?.ok_or("no prices")?;
-    assert!(rt; parts == (3, 2));
+    assert!(rt; hands_over_text(rt.alloc(), SQUARE, 3, 2)?);
     Ok(())
 }

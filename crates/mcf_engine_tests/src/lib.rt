@@ -10,11 +10,15 @@ mod asking_again;
 #[cfg(test)]
 mod assigning;
 #[cfg(test)]
+mod assignments;
+#[cfg(test)]
 mod augmenting;
 #[cfg(test)]
 mod bases;
 #[cfg(test)]
 mod feasibility;
+#[cfg(test)]
+mod fixtures;
 #[cfg(test)]
 mod networks;
 #[cfg(test)]

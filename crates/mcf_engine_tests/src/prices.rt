@@ -4,40 +4,18 @@ ghost use Rattle.mcf_feas.specs.Feasible.{IsFeasibleState};
 ghost use Rattle.mcf_flows.specs.Network.{node_count};
 ghost use Rattle.mcf_engine.specs.Outcomes.{AreStatePrices, IsLeastState, IsOutcome};
 
+use crate::fixtures::{CIRCULATION, Costed, SAMPLE, cost_of, finds_all, finds_prices, has_prices};
+use crate::networks::net_of;
 use mcf_feas::{Feas, feasible};
-use mcf_instance::{Problem, read};
-use mcf_network::{Net, State, push_along};
+use mcf_instance::Problem;
+use mcf_network::{Net, Rid, State, push_along};
 use mcf_prices::{
     Cancel, Engine, Outcome, Recovered, greatest_prices_are_small, least_states_have_no_cycle,
     recover,
 };
-use mcf_text::{ArcId, NoMemory};
+use mcf_text::NoMemory;
 use std::alloc::Global;
 use std::test::Fail;
-
-fn net_of(alloc: Global, text: &[u8]) -> Result<Net, Fail> {
-    let instance = read(alloc, text)?.ok().ok_or("a faulty text")?;
-    let net = Net::of(alloc, &instance)?;
-    Ok(net)
-}
-
-fn cost_of(state: &State<'_>) -> i128 {
-    let net = state.net();
-    let mut total = 0i128;
-    for i in 0..net.arc_count() {
-        let k = ArcId::new(i + 1);
-        total = total.wrapping_add(net.cost(k).wrapping_mul(state.amount(k)));
-    }
-    total
-}
-
-// The cost of a least flow, if the net has a feasible one.
-fn least_cost(outcome: &Outcome<'_>) -> Option<i128> {
-    match outcome {
-        Outcome::Least(state, _) => Some(cost_of(state)),
-        Outcome::Blocked(..) => None,
-    }
-}
 
 // An engine that takes the nets of minimum-cost flow problems alone, and pushes 1 at a time round each cycle.
 #[derive(Drop)]
@@ -87,20 +65,6 @@ fn cancel_by_one<'n>(
     }
 }
 
-// What an engine answers a net with: nothing where it doesn't take the net, and else the cost of a least flow,
-// if there is a feasible one.
-fn cost_by<E: Engine>(
-    alloc: Global,
-    engine: &mut E,
-    net: &Net,
-) -> Result<Option<Option<i128>>, NoMemory> {
-    if !engine.takes(net) {
-        return Ok(None);
-    }
-    let outcome = engine.solve(alloc, net)?;
-    Ok(Some(least_cost(&outcome)))
-}
-
 // Asks an engine where it takes the net, and else another that takes it.
 fn solve_by<'n, E: Engine, F: Engine>(
     alloc: Global,
@@ -118,46 +82,60 @@ fn solve_by<'n, E: Engine, F: Engine>(
     }
 }
 
-const CIRCULATION: &[u8] = b"p min 3 4\na 1 2 0 5 0\na 2 3 0 5 0\na 3 1 0 5 0\na 1 3 0 5 -1\n";
+// Whether a walk is of these two arcs, forward, in either order.
+fn is_walk_of(walk: &[Rid], one: u32, other: u32) -> bool {
+    match walk {
+        [a, b] => {
+            let (i, j) = (a.arc.get(), b.arc.get());
+            let are_these = (i == one && j == other) || (i == other && j == one);
+            are_these && !a.back && !b.back
+        }
+        _ => false,
+    }
+}
 
-// The sample of the DIMACS format.
-const SAMPLE: &[u8] =
-    b"p min 4 5\nn 1 4\nn 4 -4\na 1 2 0 4 2\na 1 3 0 2 2\na 2 3 0 2 1\na 2 4 0 3 3\na 3 4 0 5 1\n";
+// Whether the state without flow of a net leaves a negative cycle of two arcs.
+fn has_cycle(alloc: Global, net: &Net, one: u32, other: u32) -> Result<bool, NoMemory> {
+    let state = State::zero(alloc, net)?;
+    match recover(alloc, &state)? {
+        Recovered::Cycle(walk) => Ok(is_walk_of(&walk, one, other)),
+        Recovered::Prices(_) => Ok(false),
+    }
+}
+
+// Whether the first and the last arc of the circulation are a negative cycle.
+fn finds_cycle(alloc: Global) -> Result<bool, NoMemory> {
+    match net_of(alloc, CIRCULATION)? {
+        Some(net) => has_cycle(alloc, &net, 4, 3),
+        None => Ok(false),
+    }
+}
 
 #[test]
 fn finds_a_negative_cycle(rt: HostRuntime) -> Result<(), Fail> {
-    let alloc = rt.alloc();
-    let net = net_of(alloc, CIRCULATION)?;
-    let state = State::zero(alloc, &net)?;
-    let walk = match recover(alloc, &state)? {
-        Recovered::Cycle(walk) => walk,
-        Recovered::Prices(_) => return Err("prices".into()),
-    };
-    assert_eq!(rt; walk.len(), 2);
-    let arcs = (walk[0].arc.get(), walk[1].arc.get());
-    assert!(rt; arcs == (4, 3) || arcs == (3, 4));
-    assert!(rt; !walk[0].back && !walk[1].back);
+    assert!(rt; finds_cycle(rt.alloc())?);
     Ok(())
+}
+
+const CHAIN: &[u8] = b"p min 3 3\na 1 2 0 5 -2\na 2 3 0 5 -3\na 1 3 0 5 4\n";
+
+// Whether these are the greatest prices of the state without flow of a text's net.
+fn finds_greatest(alloc: Global, text: &[u8], prices: &[i128]) -> Result<bool, NoMemory> {
+    let Some(net) = net_of(alloc, text)? else {
+        return Ok(false);
+    };
+    let state = State::zero(alloc, &net)?;
+    has_prices(alloc, &state, prices)
 }
 
 #[test]
 fn finds_the_greatest_prices(rt: HostRuntime) -> Result<(), Fail> {
-    let alloc = rt.alloc();
-    let net = net_of(
-        alloc,
-        b"p min 3 3\na 1 2 0 5 -2\na 2 3 0 5 -3\na 1 3 0 5 4\n",
-    )?;
-    let state = State::zero(alloc, &net)?;
-    let prices = match recover(alloc, &state)? {
-        Recovered::Prices(prices) => prices,
-        Recovered::Cycle(_) => return Err("a cycle".into()),
-    };
-    assert_eq!(rt; prices.as_slice(), [-5, -3, 0].as_slice());
+    assert!(rt; finds_greatest(rt.alloc(), CHAIN, &[-5, -3, 0])?);
     Ok(())
 }
 
 // Texts of minimum-cost flow problems, with the cost of a least flow, if there is a feasible one.
-static WORKED: [(&[u8], Option<i128>); 6] = [
+static WORKED: [Costed; 6] = [
     (CIRCULATION, Some(-5)),
     (SAMPLE, Some(14)),
     (b"p min 0 0\n", Some(0)),
@@ -169,52 +147,59 @@ static WORKED: [(&[u8], Option<i128>); 6] = [
     (b"p min 2 1\nn 1 4\nn 2 -3\na 1 2 0 5 1\n", None),
 ];
 
-const ASSIGNMENT: &[u8] = b"p asn 4 4\nn 1\nn 2\na 1 3 5\na 1 4 1\na 2 3 2\na 2 4 7\n";
+// Whether two engines find what each row has.
+fn both_find(alloc: Global) -> Result<bool, NoMemory> {
+    let plain = finds_all(alloc, &mut Cancel::new(), &WORKED)?;
+    let by_one = finds_all(alloc, &mut ByOne, &WORKED)?;
+    Ok(plain && by_one)
+}
 
 #[test]
 fn engines_agree(rt: HostRuntime) -> Result<(), Fail> {
-    let alloc = rt.alloc();
-    for (text, cost) in WORKED.iter() {
-        let net = net_of(alloc, text)?;
-        assert_eq!(rt; cost_by(alloc, &mut Cancel::new(), &net)?, Some(*cost));
-        assert_eq!(rt; cost_by(alloc, &mut ByOne, &net)?, Some(*cost));
-    }
+    assert!(rt; both_find(rt.alloc())?);
     Ok(())
 }
 
-// The prices of an engine's outcome, where it takes the net and there is a flow.
-fn prices_by<E: Engine>(
-    alloc: Global,
-    engine: &mut E,
-    net: &Net,
-) -> Result<Option<Vec<i128>>, NoMemory> {
-    if !engine.takes(net) {
-        return Ok(None);
-    }
-    match engine.solve(alloc, net)? {
-        Outcome::Least(_, prices) => Ok(Some(prices)),
-        Outcome::Blocked(..) => Ok(None),
-    }
+// Whether two engines solve the sample's net with these prices.
+fn both_have_prices(alloc: Global, prices: &[i128]) -> Result<bool, NoMemory> {
+    let Some(net) = net_of(alloc, SAMPLE)? else {
+        return Ok(false);
+    };
+    let plain = finds_prices(alloc, &mut Cancel::new(), &net, 14, prices)?;
+    let by_one = finds_prices(alloc, &mut ByOne, &net, 14, prices)?;
+    Ok(plain && by_one)
 }
 
 #[test]
 fn an_outcome_has_its_prices(rt: HostRuntime) -> Result<(), Fail> {
-    let alloc = rt.alloc();
-    let net = net_of(alloc, SAMPLE)?;
-    let prices = prices_by(alloc, &mut Cancel::new(), &net)?.ok_or("no flow")?;
-    assert_eq!(rt; prices.as_slice(), [0, -2, -3, -4].as_slice());
-    let prices = prices_by(alloc, &mut ByOne, &net)?.ok_or("no flow")?;
-    assert_eq!(rt; prices.as_slice(), [0, -2, -3, -4].as_slice());
+    assert!(rt; both_have_prices(rt.alloc(), &[0, -2, -3, -4])?);
     Ok(())
+}
+
+const ASSIGNMENT: &[u8] = b"p asn 4 4\nn 1\nn 2\na 1 3 5\na 1 4 1\na 2 3 2\na 2 4 7\n";
+
+// Whether the second engine finds a flow of a cost where the first doesn't take the net.
+fn is_asked(alloc: Global, net: &Net, cost: i128) -> Result<bool, NoMemory> {
+    if ByOne.takes(net) {
+        return Ok(false);
+    }
+    match solve_by(alloc, &mut ByOne, &mut Cancel::new(), net)? {
+        Outcome::Least(state, _) => Ok(cost_of(&state) == cost),
+        Outcome::Blocked(..) => Ok(false),
+    }
+}
+
+// Whether it does so on the net of a text.
+fn is_asked_for(alloc: Global, text: &[u8], cost: i128) -> Result<bool, NoMemory> {
+    match net_of(alloc, text)? {
+        Some(net) => is_asked(alloc, &net, cost),
+        None => Ok(false),
+    }
 }
 
 #[test]
 fn asks_the_engine_that_takes_the_net(rt: HostRuntime) -> Result<(), Fail> {
-    let alloc = rt.alloc();
-    let net = net_of(alloc, ASSIGNMENT)?;
-    assert_eq!(rt; cost_by(alloc, &mut ByOne, &net)?, None);
-    let outcome = solve_by(alloc, &mut ByOne, &mut Cancel::new(), &net)?;
-    assert_eq!(rt; least_cost(&outcome), Some(3));
+    assert!(rt; is_asked_for(rt.alloc(), ASSIGNMENT, 3)?);
     Ok(())
 }
 

@@ -1,29 +1,19 @@
 //! The prices with which engines end, on nets without a pattern: they are those that are recovered from the state alone.
 
+use crate::fixtures::{has_prices, put_line};
 use crate::networks::net_of;
 use crate::trees::{below, next};
 use mcf_augment::Augment;
 use mcf_network::Net;
-use mcf_prices::{Cancel, Engine, Outcome, Recovered, recover};
+use mcf_prices::{Cancel, Engine, Outcome};
 use mcf_scaling::Scaling;
 use mcf_simplex::{First, Simplex};
-use mcf_text::{NoMemory, put_number};
+use mcf_text::NoMemory;
 use std::alloc::Global;
 use std::test::Fail;
 
 // How many arcs a net has.
 const ARCS: u32 = 14;
-
-// Puts a line of words and numbers: a letter, the numbers and an end of the line.
-fn put_line(out: &mut Vec<u8>, letter: &[u8], numbers: &[i128]) -> Result<(), NoMemory> {
-    out.extend_from_slice(letter)?;
-    for number in numbers {
-        out.push(b' ')?;
-        put_number(out, *number)?;
-    }
-    out.push(b'\n')?;
-    Ok(())
-}
 
 // An arc between two of so many nodes, of lower bounds from -3 to 0, widths up to 9, and costs from -5 to 20.
 fn put_arc(out: &mut Vec<u8>, seed: u64, nodes: u32) -> Result<(), NoMemory> {
@@ -61,23 +51,16 @@ fn agrees<E: Engine>(alloc: Global, engine: &mut E, net: &Net) -> Result<Option<
 {
     match engine.solve(alloc, net)? {
         Outcome::Blocked(..) => Ok(None),
-        Outcome::Least(state, prices) => match recover(alloc, &state)? {
-            Recovered::Prices(found) => Ok(Some(prices.as_slice() == found.as_slice())),
-            Recovered::Cycle(_) => Ok(Some(false)),
-        },
+        Outcome::Least(state, prices) => Ok(Some(has_prices(alloc, &state, &prices)?)),
     }
 }
 
-// Whether each engine agrees on a random net.
-fn all_agree(alloc: Global, seed: u64) -> Result<Option<bool>, NoMemory> {
-    let text = random_text(alloc, seed)?;
-    let Some(net) = net_of(alloc, &text)? else {
-        return Ok(Some(false));
-    };
-    let plain = agrees(alloc, &mut Cancel::new(), &net)?;
-    let scaled = agrees(alloc, &mut Scaling::new(), &net)?;
-    let pivoted = agrees(alloc, &mut Simplex::new(First), &net)?;
-    let augmented = agrees(alloc, &mut Augment::new(), &net)?;
+// Whether each engine agrees on a net.
+fn all_agree(alloc: Global, net: &Net) -> Result<Option<bool>, NoMemory> {
+    let plain = agrees(alloc, &mut Cancel::new(), net)?;
+    let scaled = agrees(alloc, &mut Scaling::new(), net)?;
+    let pivoted = agrees(alloc, &mut Simplex::new(First), net)?;
+    let augmented = agrees(alloc, &mut Augment::new(), net)?;
     if plain == scaled && plain == pivoted && plain == augmented {
         Ok(plain)
     } else {
@@ -85,18 +68,33 @@ fn all_agree(alloc: Global, seed: u64) -> Result<Option<bool>, NoMemory> {
     }
 }
 
+// Whether each engine agrees on a random net.
+fn all_agree_at(alloc: Global, seed: u64) -> Result<Option<bool>, NoMemory> {
+    let text = random_text(alloc, seed)?;
+    match net_of(alloc, &text)? {
+        Some(net) => all_agree(alloc, &net),
+        None => Ok(Some(false)),
+    }
+}
+
+// How many of 300 random nets have a flow, or nothing where an engine doesn't agree.
+fn flows(alloc: Global) -> Result<Option<u32>, NoMemory> {
+    let mut seed: u64 = 7;
+    let mut flows: u32 = 0;
+    for _ in 0..300u32 {
+        seed = next(seed);
+        match all_agree_at(alloc, seed)? {
+            Some(true) => flows = flows.saturating_add(1),
+            Some(false) => return Ok(None),
+            None => {}
+        }
+    }
+    Ok(Some(flows))
+}
+
 /// Of 300 nets a third at least has a flow, and each engine ends with its greatest prices, or finds none.
 #[test]
 fn prices_of_random_nets(rt: HostRuntime) -> Result<(), Fail> {
-    let mut seed: u64 = 7;
-    let mut flows: u32 = 0;
-    for _ in 0..300 {
-        seed = next(seed);
-        if let Some(right) = all_agree(rt.alloc(), seed)? {
-            assert!(rt; right);
-            flows = flows.saturating_add(1);
-        }
-    }
-    assert!(rt; flows >= 100);
+    assert!(rt; matches!(flows(rt.alloc())?, Some(count) if count >= 100));
     Ok(())
 }

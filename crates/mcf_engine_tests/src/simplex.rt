@@ -2,10 +2,13 @@
 ghost use Rattle.std.specs.Prelude.{⊤};
 ghost use Rattle.mcf_basis.specs.Pivots.{IsEligible};
 
+use crate::assignments::multiples;
+use crate::fixtures::{
+    AMONG_MANY, CIRCULATION, COSTED, Costed, EVEN, GREAT, SAMPLE, SIDE_BY_SIDE, finds, finds_all,
+};
 use crate::networks::net_of;
-use crate::scaling::{cost_of, multiples};
 use mcf_basis::Basis;
-use mcf_network::Net;
+use mcf_network::State;
 use mcf_prices::{Engine, Outcome};
 use mcf_simplex::{Best, Block, First, Pricing, Simplex, Step, runs_are_tree_solutions};
 use mcf_text::{ArcId, NoMemory, NodeId};
@@ -49,36 +52,21 @@ impl<P: Pricing> Pricing for Counted<P> {
     }
 }
 
-// Which arcs a rule picks on the net of a text, one after another, and how much each pivot moves, or none where it is still.
-#[derive(Clone, Copy)]
-struct Row {
-    text: &'static [u8],
-    pivots: &'static [(u32, Option<i128>)],
-}
+// A text, which arcs a rule picks on its net, one after another, and how much each pivot moves, or none where it is still.
+type Row = (&'static [u8], &'static [(u32, Option<i128>)]);
 
-// Two arcs side by side, the first of which is cheaper.
-static SIDE_BY_SIDE: Row = Row {
-    text: b"p min 2 2\nn 1 3\nn 2 -3\na 1 2 0 2 1\na 1 2 0 2 5\n",
-    pivots: &[(1, Some(2)), (2, Some(1))],
-};
+// As the rule picks that takes the least number. The first pivot on the net without supplies moves nothing.
+static FROM_THE_FIRST: [Row; 3] = [
+    (SIDE_BY_SIDE, &[(1, Some(2)), (2, Some(1))]),
+    (CIRCULATION, &[(4, None), (3, Some(5))]),
+    (AMONG_MANY, &[(1, Some(2)), (2, Some(1))]),
+];
 
-// The same, as the rule picks that takes the greatest number.
-static FROM_THE_LAST: Row = Row {
-    text: b"p min 2 2\nn 1 3\nn 2 -3\na 1 2 0 2 1\na 1 2 0 2 5\n",
-    pivots: &[(2, Some(2)), (1, Some(1)), (2, Some(1))],
-};
+// As a rule picks that takes the cheaper arc.
+static BY_COST: [Row; 1] = [(SIDE_BY_SIDE, &[(1, Some(2)), (2, Some(1))])];
 
-// A net without supplies, in which the first pivot moves nothing.
-static CIRCLE: Row = Row {
-    text: b"p min 3 4\na 1 2 0 5 0\na 2 3 0 5 0\na 3 1 0 5 0\na 1 3 0 5 -1\n",
-    pivots: &[(4, None), (3, Some(5))],
-};
-
-// The two arcs side by side among 1,000 nodes.
-static AMONG_MANY: Row = Row {
-    text: b"p min 1000 2\nn 1 3\nn 2 -3\na 1 2 0 2 1\na 1 2 0 2 5\n",
-    pivots: &[(1, Some(2)), (2, Some(1))],
-};
+// As the rule picks that takes the greatest number.
+static FROM_THE_LAST: [Row; 1] = [(SIDE_BY_SIDE, &[(2, Some(2)), (1, Some(1)), (2, Some(1))])];
 
 // Lets an arc enter, and says how much moves, or none where the pivot is still.
 fn moved_by(basis: &mut Basis<'_>, k: ArcId) -> Option<i128>
@@ -110,306 +98,214 @@ fn takes<P: Pricing>(rule: &mut P, basis: &mut Basis<'_>, pivots: &[(u32, Option
     rule.pick(basis).is_none()
 }
 
-// Whether a rule takes the pivots of a row.
-fn is_driven<P: Pricing + Drop>(alloc: Global, row: Row, rule: P) -> Result<bool, NoMemory> {
-    let mut rule = rule;
-    let Some(net) = net_of(alloc, row.text)? else {
+// Whether a rule takes these pivots on the net of a text.
+fn is_driven<P: Pricing>(alloc: Global, rule: &mut P, row: &Row) -> Result<bool, NoMemory> {
+    let Some(net) = net_of(alloc, row.0)? else {
         return Ok(false);
     };
     let mut basis = Basis::start(alloc, &net)?;
-    Ok(takes(&mut rule, &mut basis, row.pivots))
+    Ok(takes(rule, &mut basis, row.1))
 }
 
+// Whether a rule takes the pivots of each row.
+fn are_driven<P: Pricing>(alloc: Global, rule: &mut P, rows: &[Row]) -> Result<bool, NoMemory> {
+    for row in rows {
+        if !is_driven(alloc, rule, row)? {
+            return Ok(false);
+        }
+    }
+    Ok(true)
+}
+
+// Whether each rule takes the pivots that it owes.
+fn each_is_driven(alloc: Global) -> Result<bool, NoMemory> {
+    let first = are_driven(alloc, &mut First, &FROM_THE_FIRST)?;
+    let best = are_driven(alloc, &mut Best, &BY_COST)?;
+    let block = are_driven(alloc, &mut Block::new(1), &BY_COST)?;
+    let greatest = are_driven(alloc, &mut Greatest, &FROM_THE_LAST)?;
+    Ok(first && best && block && greatest)
+}
+
+// Blocks of one and the rule that takes the most violated pick the cheaper arc; a rule of the test's own may turn back.
 #[test]
-fn first_picks_the_least_number(rt: HostRuntime) -> Result<(), Fail> {
-    assert!(rt; is_driven(rt.alloc(), SIDE_BY_SIDE, First)?);
-    assert!(rt; is_driven(rt.alloc(), CIRCLE, First)?);
-    assert!(rt; is_driven(rt.alloc(), AMONG_MANY, First)?);
+fn each_rule_picks_its_arcs(rt: HostRuntime) -> Result<(), Fail> {
+    assert!(rt; each_is_driven(rt.alloc())?);
     Ok(())
 }
 
-#[test]
-fn best_and_blocks_of_one_pick_the_cheaper_arc(rt: HostRuntime) -> Result<(), Fail> {
-    assert!(rt; is_driven(rt.alloc(), SIDE_BY_SIDE, Best)?);
-    assert!(rt; is_driven(rt.alloc(), SIDE_BY_SIDE, Block::new(1))?);
-    Ok(())
-}
-
-#[test]
-fn a_rule_of_its_own_may_turn_back(rt: HostRuntime) -> Result<(), Fail> {
-    assert!(rt; is_driven(rt.alloc(), FROM_THE_LAST, Greatest)?);
-    Ok(())
-}
-
-// The arc that a rule picks at the start basis of a net.
-fn first_pick<P: Pricing>(alloc: Global, net: &Net, rule: &mut P) -> Result<Option<u32>, NoMemory> {
-    let basis = Basis::start(alloc, net)?;
-    Ok(rule.pick(&basis).map(|k| k.get()))
-}
-
-// What a block of size 1 picks on the net of a text, and then on that of another.
-fn picks_in_turn(
+// Whether a rule picks this arc first on the net of a text.
+fn picks_first<P: Pricing>(
     alloc: Global,
-    first: &[u8],
-    second: &[u8],
-) -> Result<Option<(Option<u32>, Option<u32>)>, NoMemory> {
-    let Some(early) = net_of(alloc, first)? else {
-        return Ok(None);
+    rule: &mut P,
+    text: &[u8],
+    arc: u32,
+) -> Result<bool, NoMemory> {
+    let Some(net) = net_of(alloc, text)? else {
+        return Ok(false);
     };
-    let Some(late) = net_of(alloc, second)? else {
-        return Ok(None);
-    };
+    let basis = Basis::start(alloc, &net)?;
+    match rule.pick(&basis) {
+        Some(k) => Ok(k.get() == arc),
+        None => Ok(false),
+    }
+}
+
+// Whether a block of size 1 picks the first arc of a net, and then of one that has no arc more.
+fn begins_anew(alloc: Global) -> Result<bool, NoMemory> {
     let mut rule = Block::new(1);
-    let one = first_pick(alloc, &early, &mut rule)?;
-    let other = first_pick(alloc, &late, &mut rule)?;
-    Ok(Some((one, other)))
+    let early = picks_first(alloc, &mut rule, SIDE_BY_SIDE, 1)?;
+    let late = picks_first(alloc, &mut rule, GREAT, 1)?;
+    Ok(early && late)
 }
 
 #[test]
 fn a_block_begins_anew_on_a_net_without_its_arc(rt: HostRuntime) -> Result<(), Fail> {
-    let single =
-        b"p min 2 1\nn 1 1000000000000000\nn 2 -1000000000000000\na 1 2 0 1000000000000000 1000000000000\n";
-    let picks = picks_in_turn(rt.alloc(), SIDE_BY_SIDE.text, single)?.ok_or("no net")?;
-    assert!(rt; picks.0 == Some(1) && picks.1 == Some(1));
+    assert!(rt; begins_anew(rt.alloc())?);
     Ok(())
 }
 
-// The prices of the two nodes and the reduced cost of the first arc at the start basis of a net of two nodes and two arcs.
-fn started(alloc: Global, text: &[u8]) -> Result<Option<(i128, i128, i128)>, NoMemory> {
-    let Some(net) = net_of(alloc, text)? else {
-        return Ok(None);
-    };
-    let basis = Basis::start(alloc, &net)?;
-    if basis.net().node_count() < 2 || basis.net().arc_count() < 1 {
-        return Ok(None);
+// Whether the first two nodes of a basis have these prices, and the first arc this reduced cost.
+fn has_begun(basis: &Basis<'_>, prices: (i128, i128), reduced: i128) -> bool {
+    let net = basis.net();
+    if net.node_count() < 2 || net.arc_count() < 1 {
+        return false;
     }
     let sender = basis.price(NodeId::new(1));
     let taker = basis.price(NodeId::new(2));
-    let reduced = basis.reduced(ArcId::new(1));
-    Ok(Some((sender, taker, reduced)))
+    let cost = basis.reduced(ArcId::new(1));
+    sender == prices.0 && taker == prices.1 && cost == reduced
+}
+
+// Whether the first basis of two arcs side by side is a star of artificial arcs.
+fn is_star(alloc: Global) -> Result<bool, NoMemory> {
+    let Some(net) = net_of(alloc, SIDE_BY_SIDE)? else {
+        return Ok(false);
+    };
+    let basis = Basis::start(alloc, &net)?;
+    Ok(has_begun(&basis, (13, -13), -25))
 }
 
 // An artificial arc costs 13: one more than 2 * 1 and 2 * 5.
 #[test]
 fn starts_with_artificial_arcs(rt: HostRuntime) -> Result<(), Fail> {
-    let found = started(rt.alloc(), SIDE_BY_SIDE.text)?.ok_or("no basis")?;
-    assert!(rt; found.0 == 13 && found.1 == -13 && found.2 == -25);
+    assert!(rt; is_star(rt.alloc())?);
     runs_are_tree_solutions::<First>();
     Ok(())
 }
 
 // ---- the engine
 
-// The cost of the least flow that the simplex finds under a rule, if there is a feasible one.
-fn solved<P: Pricing + Drop>(alloc: Global, net: &Net, rule: P) -> Result<Option<i128>, NoMemory> {
-    let mut engine = Simplex::new(rule);
-    match engine.solve(alloc, net)? {
-        Outcome::Least(state, _) => Ok(Some(cost_of(&state))),
-        Outcome::Blocked(..) => Ok(None),
-    }
-}
-
-// Whether the simplex solves a net for a cost, or finds that no flow is feasible, under each rule.
-pub fn is_solved_by_each(alloc: Global, net: &Net, cost: Option<i128>) -> Result<bool, NoMemory> {
-    let first = solved(alloc, net, First)? == cost;
-    let best = solved(alloc, net, Best)? == cost;
-    let greatest = solved(alloc, net, Greatest)? == cost;
-    let one = solved(alloc, net, Block::new(1))? == cost;
-    let two = solved(alloc, net, Block::new(2))? == cost;
-    let whole = solved(alloc, net, Block::new(1_000_000))? == cost;
+/// Whether the simplex finds what rows have, under each rule.
+pub fn finds_by_each(alloc: Global, rows: &[Costed]) -> Result<bool, NoMemory> {
+    let first = finds_all(alloc, &mut Simplex::new(First), rows)?;
+    let best = finds_all(alloc, &mut Simplex::new(Best), rows)?;
+    let greatest = finds_all(alloc, &mut Simplex::new(Greatest), rows)?;
+    let one = finds_all(alloc, &mut Simplex::new(Block::new(1)), rows)?;
+    let two = finds_all(alloc, &mut Simplex::new(Block::new(2)), rows)?;
+    let whole = finds_all(alloc, &mut Simplex::new(Block::new(1_000_000)), rows)?;
     Ok(first && best && greatest && one && two && whole)
-}
-
-// A text, and the cost of a least flow of its net, in which lower bounds are taken away, if one is feasible.
-#[derive(Clone, Copy)]
-struct Costed {
-    text: &'static [u8],
-    cost: Option<i128>,
-}
-
-static COSTED: [Costed; 21] = [
-    Costed {
-        text: b"p min 4 5\nn 1 4\nn 4 -4\na 1 2 0 4 2\na 1 3 0 2 2\na 2 3 0 2 1\na 2 4 0 3 3\na 3 4 0 5 1\n",
-        cost: Some(14),
-    },
-    Costed {
-        text: b"p min 0 0\n",
-        cost: Some(0),
-    },
-    Costed {
-        text: b"p asn 0 0\n",
-        cost: Some(0),
-    },
-    Costed {
-        text: b"p min 1 0\nn 1 -1\n",
-        cost: None,
-    },
-    Costed {
-        text: b"p min 2 1\nn 1 3\nn 2 -3\na 1 2 0 2 1\n",
-        cost: None,
-    },
-    Costed {
-        text: b"p min 2 2\na 1 2 2 5 1\na 2 1 0 1 0\n",
-        cost: None,
-    },
-    Costed {
-        text: b"p min 1 1\na 1 1 0 7 -3\n",
-        cost: Some(0),
-    },
-    Costed {
-        text: b"p min 2 2\nn 1 3\nn 2 -3\na 1 2 0 2 1\na 1 2 0 2 5\n",
-        cost: Some(7),
-    },
-    Costed {
-        text: b"p min 2 1\nn 1 4\nn 2 -4\na 1 2 4 4 -2\n",
-        cost: Some(0),
-    },
-    Costed {
-        text: b"p min 2 1\nn 1 -3\nn 2 3\na 1 2 -3 -3 1\n",
-        cost: Some(0),
-    },
-    Costed {
-        text: b"p asn 4 4\nn 1\nn 2\na 1 3 5\na 1 4 1\na 2 3 2\na 2 4 1\n",
-        cost: Some(3),
-    },
-    Costed {
-        text: b"p asn 4 4\nn 1\nn 2\na 1 3 5\na 1 4 1\na 2 3 2\na 2 4 -9\n",
-        cost: Some(-4),
-    },
-    Costed {
-        text: b"p asn 4 2\nn 1\nn 2\na 1 3 1\na 2 3 1\n",
-        cost: None,
-    },
-    Costed {
-        text: b"p asn 3 2\nn 1\nn 2\na 1 3 4\na 2 3 4\n",
-        cost: None,
-    },
-    Costed {
-        text: b"p min 2 1\nn 1 2\na 1 2 0 5 1\n",
-        cost: None,
-    },
-    Costed {
-        text: b"p min 2 1\nn 1 1000000000000000\nn 2 -1000000000000000\na 1 2 0 1000000000000000 1000000000000\n",
-        cost: Some(1_000_000_000_000_000_000_000_000_000),
-    },
-    Costed {
-        text: b"p min 2 2\na 1 2 0 1000000000000000 -1\na 2 1 0 1000000000000000 0\n",
-        cost: Some(-1_000_000_000_000_000),
-    },
-    Costed {
-        text: b"p min 3 4\na 1 2 0 5 0\na 2 3 0 5 0\na 3 1 0 5 0\na 1 3 0 5 -1\n",
-        cost: Some(-5),
-    },
-    Costed {
-        text: b"p min 3 3\nn 1 5\nn 3 -5\na 1 2 2 10 3\na 2 3 0 10 1\na 1 3 0 10 2\n",
-        cost: Some(8),
-    },
-    Costed {
-        text: b"p min 2 2\nn 1 3\nn 2 -3\na 1 2 0 3 4\na 1 2 0 3 4\n",
-        cost: Some(12),
-    },
-    Costed {
-        text: b"p min 1000 2\nn 1 3\nn 2 -3\na 1 2 0 2 1\na 1 2 0 2 5\n",
-        cost: Some(7),
-    },
-];
-
-// Whether each rule solves the net of a text for its cost.
-fn is_solved(alloc: Global, row: Costed) -> Result<bool, NoMemory> {
-    match net_of(alloc, row.text)? {
-        Some(net) => is_solved_by_each(alloc, &net, row.cost),
-        None => Ok(false),
-    }
 }
 
 #[test]
 fn solves_the_worked_nets(rt: HostRuntime) -> Result<(), Fail> {
-    for row in COSTED {
-        assert!(rt; is_solved(rt.alloc(), row)?);
-    }
+    assert!(rt; finds_by_each(rt.alloc(), &COSTED)?);
     Ok(())
 }
 
-// The amounts of the first two arcs in the least flow of the net of a text.
-fn first_amounts(alloc: Global, text: &[u8]) -> Result<Option<(i128, i128)>, NoMemory> {
-    let Some(net) = net_of(alloc, text)? else {
-        return Ok(None);
-    };
-    let mut engine = Simplex::new(First);
-    let Outcome::Least(state, _) = engine.solve(alloc, &net)? else {
-        return Ok(None);
-    };
+// Whether one of the first two arcs carries this amount, and the other nothing.
+fn is_one_full(state: &State<'_>, amount: i128) -> bool {
     if state.net().arc_count() < 2 {
-        return Ok(None);
+        return false;
     }
-    Ok(Some((state.amount(ArcId::new(1)), state.amount(ArcId::new(2)))))
+    let one = state.amount(ArcId::new(1));
+    let other = state.amount(ArcId::new(2));
+    (one == amount && other == 0) || (one == 0 && other == amount)
 }
 
-// Of two arcs of the same cost one is full: all 3 units go along it.
+// Whether all 3 units go along one of two arcs of the same cost.
+fn is_tree_solution(alloc: Global) -> Result<bool, NoMemory> {
+    let Some(net) = net_of(alloc, EVEN)? else {
+        return Ok(false);
+    };
+    match Simplex::new(First).solve(alloc, &net)? {
+        Outcome::Least(state, _) => Ok(is_one_full(&state, 3)),
+        Outcome::Blocked(..) => Ok(false),
+    }
+}
+
 #[test]
 fn gives_a_tree_solution(rt: HostRuntime) -> Result<(), Fail> {
-    let text = b"p min 2 2\nn 1 3\nn 2 -3\na 1 2 0 3 4\na 1 2 0 3 4\n";
-    let (one, other) = first_amounts(rt.alloc(), text)?.ok_or("no flow")?;
-    assert!(rt; (one == 3 && other == 0) || (one == 0 && other == 3));
+    assert!(rt; is_tree_solution(rt.alloc())?);
     Ok(())
 }
 
-// How many pivots a rule takes on a net, driven by hand.
-fn pivots_by_hand<P: Pricing>(alloc: Global, net: &Net, rule: &mut P) -> Result<u32, NoMemory> {
-    let mut basis = Basis::start(alloc, net)?;
+// How many pivots a rule takes on a basis.
+fn pivots_by_hand<P: Pricing>(rule: &mut P, basis: &mut Basis<'_>) -> u32 {
     let mut pivots = 0u32;
     for _ in 0..10_000u32 {
-        if step(rule, &mut basis).is_none() {
+        if step(rule, basis).is_none() {
             break;
         }
         pivots = pivots.wrapping_add(1);
     }
-    Ok(pivots)
+    pivots
 }
 
-// How often the engine asks a rule on the net of a text, and how many pivots another rule takes there.
-fn asked_and_taken<P: Pricing + Drop>(
+// Whether an engine asks a rule, on the net of a text, once more than the same rule pivots when it is driven by hand, and
+// there is a pivot exactly where the row has one.
+fn asks_once_more<P: Pricing + Drop>(
     alloc: Global,
+    engine: &mut Simplex<Counted<P>>,
+    same: &mut P,
     text: &[u8],
-    rule: P,
-    same: P,
-) -> Result<Option<(u32, u32)>, NoMemory> {
-    let mut same = same;
+    pivots: bool,
+) -> Result<bool, NoMemory> {
     let Some(net) = net_of(alloc, text)? else {
-        return Ok(None);
+        return Ok(false);
     };
-    let mut engine = Simplex::new(Counted { rule, asked: 0 });
+    let mut basis = Basis::start(alloc, &net)?;
+    let by_hand = pivots_by_hand(same, &mut basis);
     engine.solve(alloc, &net)?;
-    let pivots = pivots_by_hand(alloc, &net, &mut same)?;
-    Ok(Some((engine.rule().asked, pivots)))
+    Ok(engine.rule().asked == by_hand.wrapping_add(1) && (by_hand > 0) == pivots)
+}
+
+// An engine that counts how often it asks a rule.
+fn counting<P: Pricing + Drop>(rule: P) -> Simplex<Counted<P>> {
+    Simplex::new(Counted { rule, asked: 0 })
+}
+
+// Whether each rule is asked once more than it pivots, also on a net without arcs.
+fn each_is_asked_once_more(alloc: Global) -> Result<bool, NoMemory> {
+    let first = asks_once_more(alloc, &mut counting(First), &mut First, SAMPLE, true)?;
+    let best = asks_once_more(alloc, &mut counting(Best), &mut Best, SAMPLE, true)?;
+    let two = Block::new(2);
+    let block = asks_once_more(alloc, &mut counting(two), &mut Block::new(2), SAMPLE, true)?;
+    let none = asks_once_more(
+        alloc,
+        &mut counting(First),
+        &mut First,
+        b"p min 0 0\n",
+        false,
+    )?;
+    Ok(first && best && block && none)
 }
 
 #[test]
 fn asks_once_more_than_it_pivots(rt: HostRuntime) -> Result<(), Fail> {
-    let alloc = rt.alloc();
-    let text = COSTED[0].text;
-    let first = asked_and_taken(alloc, text, First, First)?.ok_or("no net")?;
-    assert!(rt; first.1 > 0 && first.0 == first.1.wrapping_add(1));
-    let best = asked_and_taken(alloc, text, Best, Best)?.ok_or("no net")?;
-    assert!(rt; best.1 > 0 && best.0 == best.1.wrapping_add(1));
-    let block = asked_and_taken(alloc, text, Block::new(2), Block::new(2))?.ok_or("no net")?;
-    assert!(rt; block.1 > 0 && block.0 == block.1.wrapping_add(1));
-    let none = asked_and_taken(alloc, b"p min 0 0\n", First, First)?.ok_or("no net")?;
-    assert!(rt; none.0 == 1 && none.1 == 0);
+    assert!(rt; each_is_asked_once_more(rt.alloc())?);
     Ok(())
-}
-
-// The cost of a text's least flow under the default rule.
-fn cost_by_blocks(alloc: Global, text: &[u8]) -> Result<Option<i128>, NoMemory> {
-    match net_of(alloc, text)? {
-        Some(net) => solved(alloc, &net, Block::new(256)),
-        None => Ok(None),
-    }
 }
 
 #[test]
 fn solves_an_assignment(rt: HostRuntime) -> Result<(), Fail> {
     let text = multiples(rt.alloc(), 200)?;
-    assert!(rt; cost_by_blocks(rt.alloc(), &text)? == Some(198));
+    assert!(rt;
+        finds(
+            rt.alloc(),
+            &mut Simplex::new(Block::new(256)),
+            &text,
+            Some(198)
+        )?
+    );
     Ok(())
 }
