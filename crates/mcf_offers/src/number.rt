@@ -19,6 +19,7 @@ pub struct Number<W: Width> {
 impl<W: Width> Copy for Number<W> {}
 
 impl<W: Width> Clone for Number<W> {
+    /// The number itself, which takes no memory.
     fn clone(&self) -> Result<Number<W>, AllocError>
         ensures { IfOk result (λ made. made ≡ self.now) }
     {
