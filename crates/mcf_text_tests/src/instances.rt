@@ -368,3 +368,28 @@ fn lists_of_one_value(rt: HostRuntime) -> Result<(), Fail> {
     assert!(rt; copies(rt.alloc(), 0, true)?.is_empty());
     Ok(())
 }
+
+// The costs of the arcs of a text, added up, where the instance shares them.
+fn shared_cost(alloc: Global, text: &[u8]) -> Result<Option<i64>, NoMemory> {
+    let Some(instance) = instance_of(alloc, text)? else {
+        return Ok(None);
+    };
+    let Some(links) = instance.shared_links() else {
+        return Ok(None);
+    };
+    let mut total = 0i64;
+    for link in links.as_slice() {
+        total = total.saturating_add(link.cost);
+    }
+    Ok(Some(total))
+}
+
+// Arcs are shared where all have low 0 and cap 1, and there is memory for a count of owners.
+#[test]
+fn arcs_without_bounds_are_shared(rt: HostRuntime) -> Result<(), Fail> {
+    let pairs = b"p asn 4 3\nn 1\nn 2\na 1 3 5\na 1 4 7\na 2 4 -9\n";
+    let cost = shared_cost(rt.alloc(), pairs)?.ok_or("out of memory")?;
+    let bounded = shared_cost(rt.alloc(), b"p min 2 2\na 1 2 0 1 5\na 1 2 0 2 5\n")?;
+    assert!(rt; cost == 3 && bounded.is_none());
+    Ok(())
+}
