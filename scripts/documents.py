@@ -2,7 +2,7 @@
 """The documents that are made from the code and the spec files.
 
     scripts/documents.py write     writes docs/DEFINITIONS.md, docs/CONTRACTS.md, docs/HEADLINE.md and docs/MADE.md
-    scripts/documents.py check     tells which of them isn't what would be written today, and which public name lacks
+    scripts/documents.py check     tells which of them isn't what `write` would write, and which public name lacks
                                    a comment; status 1 if there is one
 
 What is written by hand of docs/HEADLINE.md and docs/MADE.md stands in scripts/headline.md and scripts/made.md, where
