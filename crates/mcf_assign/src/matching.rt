@@ -27,8 +27,7 @@ pub struct Matching<'n> {
     core: Core<'n>,
 }
 
-// The matching in numbers that have room for every sum of its searches: of 64 bits, where all prices are updated now and then, or
-// of 128.
+// The matching in numbers that have room for every sum of its searches: of 64 bits, where all prices may be updated, or of 128.
 #[derive(Drop)]
 enum Core<'n> {
     Narrow(Partial<'n, i64>),

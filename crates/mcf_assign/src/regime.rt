@@ -5,8 +5,8 @@ ghost use Rattle.mcf_flows.specs.Network.{node_count};
 
 use mcf_network::Net;
 
-/// Whether a net has few arcs a node. Then rows are kept whole, and all prices are updated now and then; else the cheapest arcs of each
-/// row are kept, and prices change by searches alone.
+/// Whether a net has few arcs a node. Then rows are kept whole, and all prices, where they have 64 bits, are updated now and then; else
+/// the cheapest arcs of each row are kept, and prices change by searches alone.
 pub(crate) fn is_sparse(net: &Net) -> bool
     ensures nodes { result ≡ true → 1 ≤ node_count net.now }
 {
@@ -31,7 +31,7 @@ pub(crate) const BUCKETS: usize = 64;
 /// A bucket is so narrow that so many hold the greatest cost. Sparse, 2^12 rows, as above.
 pub(crate) const BUCKETS_IN_COST: u64 = 1024;
 
-/// How many arcs of a dense row are looked at to tell what is cheap in it. Dense, 1,024 rows: with the cheapest arcs first searches
+/// About how many arcs of a dense row are looked at to tell what is cheap in it. Dense, 1,024 rows: with the cheapest arcs first searches
 /// take 0.026 s in place of 0.19.
 pub(crate) const SAMPLE: u32 = 32;
 

@@ -161,7 +161,8 @@ impl<'s, 'n> NearState<'s, 'n> {
         None
     }
 
-    // The key that the reverse of a residual arc offers its tail, if the tail waits, with no less, and there is room. The head was settled last, and `base` is its label.
+    // The key that the reverse of a residual arc offers its tail, if the tail waits, with no less, and there is room. The head was
+    // settled last, and `base` is its label.
     #[inline(always)]
     fn offer_of(&self, heap: &Heap, base: i128, out: Rid) -> Option<Offer>
         requires arc { IsArcNumber self.now.state.now.net out.arc }

@@ -48,7 +48,7 @@ fn six_rows_by_scaling(rt: HostRuntime) -> Result<(), Fail> {
     Ok(())
 }
 
-// Whether the simplex does so under each rule.
+// Whether the simplex does so under three rules.
 fn each_rule_finds_both(alloc: Global) -> Result<bool, NoMemory> {
     let first = finds_both(alloc, &mut Simplex::new(First))?;
     let best = finds_both(alloc, &mut Simplex::new(Best))?;

@@ -190,7 +190,7 @@ fn answers<E: Engine>(alloc: Global, engine: &mut E) -> Result<bool, NoMemory> {
     Ok(true)
 }
 
-// Whether each engine answers so.
+// Whether three engines answer so.
 fn each_answers(alloc: Global) -> Result<bool, NoMemory> {
     let augmenting = answers(alloc, &mut Sap::new())?;
     let cancelling = answers(alloc, &mut Cancel::new())?;

@@ -31,7 +31,7 @@ static ROWS: [Costed; 3] = [
     (FAR_BEYOND, Some(14)),
 ];
 
-// Whether the nets are answered with the same cost by the simplex under each rule, by cost scaling and by cancelling cycles.
+// Whether the nets are answered with the same cost by the simplex, by cost scaling and by cancelling cycles.
 fn each_finds(alloc: Global) -> Result<bool, NoMemory> {
     let cancelled = finds_all(alloc, &mut Cancel::new(), &ROWS)?;
     let scaled = finds_all(alloc, &mut Scaling::new(), &ROWS)?;
@@ -113,7 +113,7 @@ fn are_alike<P: Pricing>(
     Ok(are_driven_alike(rule, same, &mut narrow, &mut wide))
 }
 
-// Whether each rule takes the same pivots on two nets.
+// Whether three rules take the same pivots on two nets.
 fn each_is_alike(alloc: Global, one: &Net, other: &Net) -> Result<bool, NoMemory> {
     let first = are_alike(alloc, &mut First, &mut First, one, other)?;
     let best = are_alike(alloc, &mut Best, &mut Best, one, other)?;
@@ -121,7 +121,7 @@ fn each_is_alike(alloc: Global, one: &Net, other: &Net) -> Result<bool, NoMemory
     Ok(first && best && block)
 }
 
-// Whether each rule takes the same pivots on the net of a text as on that within reach.
+// Whether they take the same pivots on the net of a text as on that within reach.
 fn picks_as_within(alloc: Global, text: &[u8]) -> Result<bool, NoMemory> {
     let Some(one) = net_of(alloc, WITHIN)? else {
         return Ok(false);

@@ -1,4 +1,4 @@
-//! Picks and steps of the network simplex on worked nets, and least flows by it under each rule.
+//! Picks and steps of the network simplex on worked nets, and least flows by it.
 ghost use Rattle.std.specs.Prelude.{⊤};
 ghost use Rattle.mcf_basis.specs.Pivots.{IsEligible};
 
@@ -117,7 +117,7 @@ fn are_driven<P: Pricing>(alloc: Global, rule: &mut P, rows: &[Row]) -> Result<b
     Ok(true)
 }
 
-// Whether each rule takes the pivots that it owes.
+// Whether rules take the pivots that they owe.
 fn each_is_driven(alloc: Global) -> Result<bool, NoMemory> {
     let first = are_driven(alloc, &mut First, &FROM_THE_FIRST)?;
     let best = are_driven(alloc, &mut Best, &BY_COST)?;
@@ -195,7 +195,7 @@ fn starts_with_artificial_arcs(rt: HostRuntime) -> Result<(), Fail> {
 
 // ---- the engine
 
-/// Whether the simplex finds what rows have, under each rule.
+/// Whether the simplex finds what rows have, under three rules, with blocks of three sizes, and under one of the test's own.
 pub fn finds_by_each(alloc: Global, rows: &[Costed]) -> Result<bool, NoMemory> {
     let first = finds_all(alloc, &mut Simplex::new(First), rows)?;
     let best = finds_all(alloc, &mut Simplex::new(Best), rows)?;
@@ -274,7 +274,7 @@ fn counting<P: Pricing + Drop>(rule: P) -> Simplex<Counted<P>> {
     Simplex::new(Counted { rule, asked: 0 })
 }
 
-// Whether each rule is asked once more than it pivots, also on a net without arcs.
+// Whether three rules are asked once more than they pivot, also on a net without arcs.
 fn each_is_asked_once_more(alloc: Global) -> Result<bool, NoMemory> {
     let first = asks_once_more(alloc, &mut counting(First), &mut First, SAMPLE, true)?;
     let best = asks_once_more(alloc, &mut counting(Best), &mut Best, SAMPLE, true)?;

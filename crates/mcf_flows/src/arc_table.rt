@@ -160,8 +160,8 @@ fn push_arc(stored: &mut Stored, arc: PackedArc) -> Result<(), NoMemory>
     Ok(())
 }
 
-// Appends an arc with bounds of its own, and gives all arcs before it theirs. Its fields come one by one: the place in memory
-// that a call with the arc itself asks for would be written at each arc of the others, too.
+// Appends an arc with bounds of its own, or any to arcs that are shared, and gives all arcs before it theirs. Its fields come one by
+// one: the place in memory that a call with the arc itself asks for would be written at each arc of the others, too.
 #[cold]
 #[inline(never)]
 fn push_bounded(

@@ -40,6 +40,8 @@ impl Model for Instance {
 
 impl Instance {
     /// The instance of a problem, of arcs in order and of the supplies of its nodes in order, which are within the limits.
+    ///
+    /// For arcs that can be shared it asks for memory for a count of owners, and does without where that is refused.
     pub fn of(problem: Problem, arcs: ArcTable, supplies: Vec<i64>) -> Instance
         requires { IsWellFormed limits (record { problem = problem; arcs = map unpacked arcs; supplies = supplies.items }) }
         ensures { result ≡ record { problem = problem; arcs = map unpacked arcs; supplies = supplies.items } }

@@ -1,4 +1,4 @@
--- A text without a fault under the former limits has none under those of today.
+-- A text without a fault under `former_limits` has none under `limits`.
 use Rattle.std.proofs.Common.{◌≡◌, ℕ, ◌+◌, ◌*◌, ◌≤◌, max, Bool, true, false, not, cond, ◌&&◌, List, [], ◌∷◌, ◌++◌, length, refl, sym, ◌∙◌, ap, Some}
 use Rattle.std.proofs.Common.{None}
 use Rattle.std.proofs.Common.{arith}

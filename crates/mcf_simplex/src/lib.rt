@@ -2,8 +2,8 @@
 
 //! The network simplex, over any lawful pricing rule.
 //!
-//! It stands on `mcf_basis`, `mcf_feas` and `mcf_engine`. Definitions stand in `specs/`: `Picking`, `Blocks` and `Stretches` say which arc a rule picks, `Runs` how a state
-//! was made, and `Laws` what holds of such states.
+//! It stands on `mcf_basis`, `mcf_feas` and `mcf_engine`. Definitions stand in `specs/`: `Picking`, `Blocks` and `Stretches` say which
+//! arc a rule picks, `Runs` how a state was made, and `Laws` what holds of such states.
 
 mod best;
 mod block;

@@ -243,7 +243,7 @@ static WORKED: [Worked; 23] = [
     },
 ];
 
-// Numbers past the former limits, and at those of today.
+// Numbers past `former_limits`, and at `limits`.
 static GREATEST: [Worked; 8] = [
     Worked {
         kind: Kind::Flow,

@@ -45,9 +45,11 @@ pub record AreFirstPrices (g : Network) (y : List ℤ) (nodes : ℕ) : Type 0 wh
   pub others : (v : ℕ) → IsNode nodes v → at_node g.supplies v ≤ℤ pos 0 → at_node y v ≡ pos 0
   pub rest : (v : ℕ) → nodes < v → at_node y v ≡ pos 0
 
+-- the rows that aren't matched have the price with which they began
 abbrev pub FreeRowsAreFirst : Pseudoflow → List ℤ → Type 0
 FreeRowsAreFirst s y = (v : ℕ) → IsRow s v → ¬ IsMatchedRow s v → at_node y v ≡ first_price s.net
 
+-- what a matching keeps between two calls
 pub record IsKept (s : Pseudoflow) (y : List ℤ) (mates : List Mate) {W : Type 0} (tables : Tables W) (reached : List Bool) : Type 0 where
   pub matching : IsPartialMatching s
   pub shown : AreMatchingPrices s y

@@ -26,7 +26,6 @@ pub record IsReadable (z : List ℤ) (a : RowArc) : Type 0 where
   pub fits : IsUpTo (2 ^ 63 - 1) (a.cost +ℤ at_node z a.column)
 
 -- an update before a search: prices alone changed
--- Source: Goldberg and Kennedy 1995
 pub record IsRepriced (old new : Assigned) : Type 0 where
   pub flow : new.flow ≡ old.flow
   pub settled : new.settled ≡ old.settled

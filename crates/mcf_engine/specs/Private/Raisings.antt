@@ -18,10 +18,11 @@ use Rattle.mcf_engine.specs.Respecting.{cost_limit, reverse}
 abbrev pub label_limit : ℕ
 label_limit = 10 ^ 22
 
--- how far from 0 a label lies at most, and what an arc adds to one; and how far a label divided by the scale and rounded
+-- how far from 0 a label lies at most, and what an arc adds to one
 abbrev pub label_reach : ℕ
 label_reach = 10 ^ 30
 
+-- how far from 0 a label divided by the scale and rounded lies at most
 abbrev pub quotient_reach : ℕ
 quotient_reach = 10 ^ 31
 
@@ -29,6 +30,7 @@ quotient_reach = 10 ^ 31
 abbrev pub label : List ℤ → Keyed → ℕ → ℤ
 label y h v = at_node y v +ℤ at_node h.keys v
 
+-- a node is settled: it waits no more
 abbrev pub Settled : Keyed → ℕ → Type 0
 Settled h v = in_table h.waiting v ≡ false
 

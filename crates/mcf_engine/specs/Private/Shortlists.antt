@@ -15,10 +15,11 @@ use Rattle.mcf_engine.specs.declared.shortlist.Shortlist.{Shortlist}
 abbrev pub no_entry : Entry
 no_entry = record { arc = 0; back = false; next = 0 }
 
--- the entry at a place, and its residual arc, which leaves the node whose chain it is in
+-- the entry at a place
 abbrev pub entry_at : List Entry → ℕ → Entry
 entry_at entries i = slice_index_or entries i no_entry
 
+-- the residual arc of an entry, which leaves the node whose chain it is in
 abbrev pub out_of : Entry → Rid
 out_of e = record { arc = e.arc; back = e.back }
 

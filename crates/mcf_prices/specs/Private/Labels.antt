@@ -10,18 +10,21 @@ use Rattle.mcf_network.specs.States.{Pseudoflow, IsPseudoflow}
 use Rattle.mcf_network.specs.Walks.{HasRoom}
 use Rattle.mcf_engine.specs.Respecting.{Respects}
 
+-- a state, a price for each node, and the residual arc that gave it, if one did
 pub record Labels : Type 0 where
   pub flow : Pseudoflow
   pub prices : List ℤ
   pub links : List (Option Rid)
 
--- how far below 0 a price lies at most where a round begins, where a node relaxes in it, and where one arc does
+-- how far below 0 a price lies at most where a round begins
 abbrev pub round_depth : ℕ
 round_depth = 10 ^ 28
 
+-- and where a node relaxes in a round
 abbrev pub node_depth : ℕ
 node_depth = 10 ^ 29
 
+-- and where one arc does
 abbrev pub arc_depth : ℕ
 arc_depth = 10 ^ 30
 
@@ -29,6 +32,7 @@ arc_depth = 10 ^ 30
 abbrev pub round_fall : ℕ
 round_fall = 10 ^ 21
 
+-- the residual arc that gave a node its price, if one did
 abbrev pub link_at : Labels → ℕ → Option Rid
 link_at l v = slice_index_or l.links (v - 1) None
 
@@ -68,6 +72,7 @@ pub record IsLabelling (l : Labels) : Type 0 where
       → at_node others v ≤ℤ at_node l.prices v
   pub linked : IsLinked l
 
+-- the sum of prices
 abbrev pub total : List ℤ → ℤ
 total [] = pos 0
 total (y ∷ ys) = y +ℤ total ys
