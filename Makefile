@@ -1,6 +1,6 @@
 # make        proves and builds the programs into bin/ and runs them on examples/
 # make test   the gate: every proof, the must-fail edits, the tests, the programs
-# make memory-test   refuses each allocation of the tests of six worked rows in turn, with ALL=1 of every test
+# make memory-test   refuses each allocation of the tests of a few worked rows in turn, with ALL=1 of every test
 # make clean  takes away what was proved and built: bin/, and out/ of each crate
 # make bench  the measurements of bench/
 # make tools-test   the tests of python/ and tools/, on the plans of examples/plans/ too, and of make install and make uninstall: needs the programs of bin/ and Python 3.8; a part of make test
@@ -32,7 +32,7 @@ test: kit
 	@$(MAKE) --no-print-directory tools-test
 	@scripts/page_test.sh
 
-# Each allocation refused in turn on six worked rows, and with ALL=1 in every test: the tests are proved and built first, which takes as long as make.
+# Each allocation refused in turn on a few worked rows, and with ALL=1 in every test: the tests are proved and built first, which takes as long as make.
 WITH_TESTS = mcf_text_tests mcf_tests mcf_engine_tests mcf_asking mcf_suite
 memory-test: kit
 	@python3 scripts/refuse_memory.py $(if $(ALL),,--only six_rows) $(WITH_TESTS)
