@@ -10,7 +10,7 @@ use crate::networks::net_of;
 use mcf_basis::Basis;
 use mcf_network::State;
 use mcf_prices::{Engine, Outcome};
-use mcf_simplex::{Best, Block, First, Pricing, Simplex, Step, runs_are_tree_solutions};
+use mcf_simplex::{Best, Block, First, Pricing, Simplex, Step, Wide, runs_are_tree_solutions};
 use mcf_text::{ArcId, NoMemory, NodeId};
 use std::alloc::Global;
 use std::test::Fail;
@@ -117,16 +117,17 @@ fn are_driven<P: Pricing>(alloc: Global, rule: &mut P, rows: &[Row]) -> Result<b
     Ok(true)
 }
 
-// Whether rules take the pivots that they owe.
+// Whether each rule takes the pivots that it owes.
 fn each_is_driven(alloc: Global) -> Result<bool, NoMemory> {
     let first = are_driven(alloc, &mut First, &FROM_THE_FIRST)?;
     let best = are_driven(alloc, &mut Best, &BY_COST)?;
     let block = are_driven(alloc, &mut Block::new(1), &BY_COST)?;
+    let wide = are_driven(alloc, &mut Wide::suited_to(2), &BY_COST)?;
     let greatest = are_driven(alloc, &mut Greatest, &FROM_THE_LAST)?;
-    Ok(first && best && block && greatest)
+    Ok(first && best && block && wide && greatest)
 }
 
-// Blocks of one and the rule that takes the most violated pick the cheaper arc; a rule of the test's own may turn back.
+// Blocks of one, stretches of one and the rule that takes the most violated pick the cheaper arc; a rule of the test's own may turn back.
 #[test]
 fn each_rule_picks_its_arcs(rt: HostRuntime) -> Result<(), Fail> {
     assert!(rt; each_is_driven(rt.alloc())?);
