@@ -109,9 +109,7 @@ impl<P: Pricing> Engine for Simplex<P> {
 struct Workspace<'n> {
     basis: Basis<'n>,
     state: State<'n>,
-    cut: NodeSet,
-    pricer: Pricer,
-    prices: Vec<i128>,
+    shown: ShownRoom,
 }
 
 impl<'n> Workspace<'n> {
@@ -119,19 +117,40 @@ impl<'n> Workspace<'n> {
     fn start(alloc: Global, net: &'n Net) -> Result<Workspace<'n>, NoMemory>
         ensures basis { IfOk result (λ w. IsStart net.now w.basis) }
         ensures state { IfOk result (λ w. w.state.net ≡ net.now) }
-        ensures cut { IfOk result (λ w. length w.cut ≡ node_count net.now) }
-        ensures pricer { IfOk result (λ w. w.pricer ≡ node_count net.now) }
-        ensures prices { IfOk result (λ w. length w.prices.items ≡ node_count net.now) }
+        ensures cut { IfOk result (λ w. length w.shown.cut ≡ node_count net.now) }
+        ensures pricer { IfOk result (λ w. w.shown.pricer ≡ node_count net.now) }
+        ensures prices { IfOk result (λ w. length w.shown.prices.items ≡ node_count net.now) }
     {
-        let nodes = net.node_count() as usize;
         let basis = Basis::start(alloc, net)?;
         let state = State::zero(alloc, net)?;
-        let cut = NodeSet::new(alloc, net)?;
-        let pricer = Pricer::start(alloc, net)?;
-        let prices = copies(alloc, nodes, 0)?;
+        let shown = ShownRoom::start(alloc, net)?;
         Ok(Workspace {
             basis,
             state,
+            shown,
+        })
+    }
+}
+
+// Room for what shows an answer: a node set that blocks, or prices.
+#[derive(Drop)]
+struct ShownRoom {
+    cut: NodeSet,
+    pricer: Pricer,
+    prices: Vec<i128>,
+}
+
+impl ShownRoom {
+    // Room for the nodes of a net.
+    fn start(alloc: Global, net: &Net) -> Result<ShownRoom, NoMemory>
+        ensures cut { IfOk result (λ r. length r.cut ≡ node_count net.now) }
+        ensures pricer { IfOk result (λ r. r.pricer ≡ node_count net.now) }
+        ensures prices { IfOk result (λ r. length r.prices.items ≡ node_count net.now) }
+    {
+        let cut = NodeSet::new(alloc, net)?;
+        let pricer = Pricer::start(alloc, net)?;
+        let prices = copies(alloc, net.node_count() as usize, 0)?;
+        Ok(ShownRoom {
             cut,
             pricer,
             prices,
@@ -151,19 +170,22 @@ fn finish<'n>(room: Workspace<'n>) -> Ended<'n>
     requires over { HasNoEligible room.basis }
     requires balanced { supply_total room.basis.net ≡ pos 0 }
     requires state { room.state.net ≡ room.basis.net }
-    requires cut { length room.cut ≡ node_count room.basis.net }
-    requires pricer { room.pricer ≡ node_count room.basis.net }
-    requires prices { length room.prices.items ≡ node_count room.basis.net }
+    requires cut { length room.shown.cut ≡ node_count room.basis.net }
+    requires pricer { room.shown.pricer ≡ node_count room.basis.net }
+    requires prices { length room.shown.prices.items ≡ node_count room.basis.net }
     ensures outcome { IsOutcome (λ s. s ≡ state_of room.entry.basis) room.entry.basis.net result.outcome }
     ensures pivots { result.pivots.number ≡ room.entry.basis.pivots }
 {
     let Workspace {
         basis,
         mut state,
+        shown,
+    } = room;
+    let ShownRoom {
         mut cut,
         mut pricer,
         mut prices,
-    } = room;
+    } = shown;
     if basis.has_no_artificial() {
         basis.write_flow(&mut state);
         show(&basis, &state, &mut pricer, prices.as_mut_slice());

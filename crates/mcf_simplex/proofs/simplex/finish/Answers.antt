@@ -6,7 +6,7 @@ use Rattle.mcf_simplex.proofs.simplex.finish.Goals as goal
 pub returns-then-has_no_artificial-clause-outcome : goal.returns-then-has_no_artificial-clause-outcome
 returns-then-has_no_artificial-clause-outcome c =
     let b = c.args.room.basis in
-    let room = c.args.room.prices in
+    let room = c.args.room.shown.prices in
     let count = c.show.ensures.count in
     let lent = ap (λ (l : List ℤ). length l) c.as_mut_slice.ensures.value in
     let whole = written room.len c.show.new.prices (drop (length c.show.new.prices) room.items) (omega (arith, room.ok.0, count, lent)) in
