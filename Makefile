@@ -15,7 +15,7 @@
 .PHONY: all kit test memory-test clean bench tools-test library library-test dist dist-test page page-test install install-library uninstall
 .NOTPARALLEL:
 
-# The programs among the crates that crates.txt lists; the logs are bin/NAME.log.
+# The programs among the crates that crates.txt lists; the log is bin/proofs.log.
 all: kit
 	@scripts/build.py
 	@scripts/examples.sh

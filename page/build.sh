@@ -7,8 +7,8 @@
 # and the functions that compiled code calls by name (the product of 128 bits and the like) come from LLVM's own library.
 #
 # It needs rt on the path, wasm-opt (Debian: binaryen) and libclang_rt.builtins-wasm64.a (Debian: libclang-rt-dev-wasm64; BUILTINS
-# names another place); with --needs it says what of that isn't there, and does no more. CRATES names another folder than crates/. What
-# isn't proved and built there is proved first.
+# names another place); with --needs it says what of that isn't there, and does no more. What isn't proved and built is proved first
+# (scripts/static.sh).
 set -euo pipefail
 cd "$(dirname "$0")/.."
 stop() { echo "page: $1" >&2; exit 3; }
@@ -18,21 +18,9 @@ command -v wasm-opt > /dev/null || stop "wasm-opt isn't on the path (Debian: bin
 builtins=${BUILTINS:-$(find /usr/lib/llvm-* /usr/lib/clang -name libclang_rt.builtins-wasm64.a 2> /dev/null | sort -V | tail -1)}
 test -f "$builtins" || stop "libclang_rt.builtins-wasm64.a isn't there (Debian: libclang-rt-dev-wasm64)"
 test "${1:-}" != --needs || exit 0
-kit=$(dirname "$(rt doc)") crates=$(realpath "${CRATES:-crates}") scratch=$(mktemp -d)
+kit=$(dirname "$(rt doc)") scratch=$(mktemp -d)
 trap 'rm -rf "$scratch"' EXIT
 mkdir -p bin
-
-# All that mcf_c stands on.
-below=$(sed -n '/^mcf_c /q; s/^\([a-z_]*\):.*/\1/p' crates.txt)
-libraries=()
-for crate in $below; do
-    test -f "$crates/$crate/src/lib.rt" || continue
-    test -d "$crates/$crate/out/rlib/$crate.rlib" || (cd "$crates/$crate" && rt lib) > "bin/$crate.log" 2>&1 || stop "$crate isn't proved; see bin/$crate.log"
-    libraries+=(-L "dependency=$crates/$crate/out/rlib")
-done
-for crate in $(sed -n 's/^mcf_c staticlib: //p' crates.txt); do
-    libraries+=(--extern "$crate=$crates/$crate/out/rlib/$crate.rlib")
-done
 
 # A toolchain whose clang keeps a copy of the LLVM module that it is given.
 mkdir -p "$scratch/toolchain/bin"
@@ -45,12 +33,8 @@ exec -a clang "$kit/toolchain/bin/clang" "\$@"
 END
 chmod +x "$scratch/toolchain/bin/clang"
 
-# The crate is proved and built as rt lib does it.
-(cd "$crates/mcf_c" && "$kit/bin/rattle" build --crate-name mcf_c src/lib.rt --extern "std=$kit/rlibs/std.rlib" -L "dependency=$kit/rlibs" \
-    "${libraries[@]}" --antt-project "$kit/rattle/logic/antt-project.json" --logic-built "$kit/logic_built" --incremental out/incremental \
-    --links mcf_c= --crate-type staticlib --toolchain "$scratch/toolchain" -o "$scratch/libmcf_c.a") > bin/page.log 2>&1 \
-    || stop "mcf_c isn't proved; see bin/page.log"
-test -f "$scratch/module.bc" || stop "the kit's compiler handed no LLVM module to clang; see bin/page.log"
+scripts/static.sh "$scratch/toolchain" "$scratch/libmcf_c.a" || stop "the crate isn't built"
+test -f "$scratch/module.bc" || stop "the kit's compiler handed no LLVM module to clang; see bin/mcf_c.log"
 
 # The same module for wasm64: other names of triple, layout and processor, and no stack probes, since the stack lies lowest.
 clang=$kit/toolchain/bin/clang

@@ -1,33 +1,33 @@
 #!/usr/bin/env python3
 """Proves the crates that the programs stand on, and builds the programs into bin/.
 
-Crates that don't stand on one another are proved at the same time, as many as processors and memory allow: first those below `mcfcheck`, so that
-it is soon there, then those with the longest chain above them. A check gets the processors that no other waits for, so that no two share one. One
-line says which are at work and how many are left, and one that a program is ready, as soon as it is. A check keeps others out of its crate and of
-all below it, so that each has a copy of these to itself, by links, in bin/proofs/; what it keeps is then put where it belongs. `rt run` builds
-each program in such a copy and runs it on an example. It is the judge, and looks for itself at what has changed: where nothing has since the last
-time, nothing but it is called.
+`rt ci` does both, on a copy of these crates in bin/proofs/ that leaves out the edits that must fail: so crates that don't stand on one another are
+proved side by side, with their tests, from nothing, each once, and the gate takes what is proved, where the kit keeps it. A line says which crate is
+proved, and how many are left; as soon as a program is built it is put into bin/ and run on an example. What was built of libraries goes to
+crates/mcf_c/out/rlib/, where scripts/static.sh takes it. All that `rt ci` says is in bin/proofs.log. Where no source has changed since the last time,
+programs are run on the example and nothing else is done.
 
-Usage: scripts/build.py [PROGRAM ..]      all programs that crates.txt lists, where none is named
+Usage: scripts/build.py [PROGRAM ..]      mcfcheck and mcf, where none is named
 """
 import hashlib
 import os
 import pathlib
+import re
 import shutil
+import signal
 import subprocess
 import sys
 import time
 
 TOP = pathlib.Path(__file__).resolve().parent.parent
 BIN = TOP / "bin"
-COPIES = BIN / "proofs"
-# The words of one run of each program that ends with status 0, from its folder.
-EXAMPLE = "../../examples/transport"
+COPY = BIN / "proofs"
+LOG = BIN / "proofs.log"
+# The gate takes libraries in out/rlib/ of a crate alone.
+LIBRARIES = TOP / "crates" / "mcf_c" / "out" / "rlib"
+# The words of one run of each program that is handed to users, which ends with status 0.
+EXAMPLE = "examples/transport"
 WORDS = {"mcfcheck": [EXAMPLE + ".min", EXAMPLE + ".ans"], "mcf": ["solve", EXAMPLE + ".min"]}
-# What one check may take, in kilobytes.
-CHECK_MEMORY = 4 << 20
-# How many processors one check may take.
-MOST_JOBS = 4
 
 
 def crates():
@@ -51,12 +51,6 @@ def closure(below, names):
     return found
 
 
-def sources(name):
-    """The files that a check of a crate reads, in order."""
-    folder = TOP / "crates" / name
-    return sorted(p for part in ("src", "specs", "proofs") for p in (folder / part).rglob("*") if p.is_file())
-
-
 def kit():
     """The line of the kit."""
     return subprocess.run(["rt", "version"], capture_output=True, check=True).stdout
@@ -64,47 +58,27 @@ def kit():
 
 def stamp(names):
     """A hash of the sources of crates, and of what proves them."""
-    sum_ = hashlib.sha256(kit())
+    sum_ = hashlib.sha256(kit() + (TOP / "crates.txt").read_bytes())
     for name in sorted(names):
-        for path in sources(name):
+        folder = TOP / "crates" / name
+        for path in sorted(p for part in ("src", "specs", "proofs") for p in (folder / part).rglob("*") if p.is_file()):
             sum_.update(str(path.relative_to(TOP)).encode() + b"\0" + path.read_bytes())
     return sum_.hexdigest()
 
 
-def ranks(below, names):
-    """What begins first has the greatest rank: what the first program stands on comes before the rest, and of both the crate from which the
-    longest chain leads to the top, by the bytes of its sources."""
-    first = closure(below, [n for n in WORDS if n in names][:1])
-    above = {n: [a for a in names if n in below[a]] for n in names}
-    sizes = {n: sum(p.stat().st_size for p in sources(n)) for n in names}
-    found = {}
-
-    def height(name):
-        if name not in found:
-            found[name] = sizes[name] + max((height(a) for a in above[name]), default=0)
-        return found[name]
-
-    return {n: (n in first, height(n)) for n in names}
-
-
-def places():
-    """How many checks may run at once."""
-    lines = dict(line.split(":") for line in open("/proc/meminfo") if ":" in line) if os.path.exists("/proc/meminfo") else {}
-    free = int(lines.get("MemAvailable", "8388608 kB").split()[0])
-    return max(1, min(len(os.sched_getaffinity(0)), free // CHECK_MEMORY))
-
-
 class Progress:
-    """One line that says what is at work; where the output is no terminal, a line each time that it changes."""
+    """Lines behind the time that has passed; where the output is a terminal, each takes the place of the one before, but for those that stay."""
 
     def __init__(self):
         self.begun = time.time()
         self.live = sys.stdout.isatty()
+        self.is_open = False
 
     def show(self, text):
         spent = int(time.time() - self.begun)
         line = f"{spent // 60}:{spent % 60:02} {text}"
         print("\r\033[K" + line if self.live else line, end="" if self.live else "\n", flush=True)
+        self.is_open = self.live
 
     def tell(self, text):
         """A line that stays."""
@@ -112,119 +86,117 @@ class Progress:
         self.end()
 
     def end(self):
-        if self.live:
+        if self.is_open:
             print()
+        self.is_open = False
 
 
-def linked(folder, copy):
-    """Puts a copy of a folder, whose files are links to the same contents, in place of another."""
-    shutil.rmtree(copy, ignore_errors=True)
-    if folder.exists():
-        shutil.copytree(folder, copy, copy_function=os.link)
-
-
-def copied(below, name):
-    """A copy of a crate with what its checks kept, and of the libraries below it as they are built. Answers the crate's folder there."""
-    copy, needed = COPIES / name, closure(below, [name])
-    for crate in needed:
-        for part in ("src", "specs", "proofs", "out" if crate == name else "out/rlib"):
-            linked(TOP / "crates" / crate / part, copy / "crates" / crate / part)
-    if name in WORDS:
-        linked(TOP / "examples", copy / "examples")
+def copy_crates(names):
+    """Puts the crates into the copy, as the top of a repository of its own."""
+    if COPY.exists():
+        shutil.rmtree(COPY)
+    for name in names:
+        shutil.copytree(TOP / "crates" / name, COPY / "crates" / name, ignore=shutil.ignore_patterns("out", "must-fail"))
     lines = (TOP / "crates.txt").read_text().splitlines(keepends=True)
-    (copy / "crates.txt").write_text("".join(line for line in lines if (line.split(":")[0].split() or [""])[0] in needed))
-    return copy / "crates" / name
-
-
-def begin(below, name, jobs):
-    """Begins the proof of a crate; its log is in bin/. A library is built with it, so that no crate above has to build it again, and so is a program."""
-    log = open(BIN / f"{name}.log", "w")
-    words = ["rt", "run" if name in WORDS else "lib", "--jobs", str(jobs)] + (["--", *WORDS[name]] if name in WORDS else [])
-    folder = copied(below, name)
-    return subprocess.Popen(words, cwd=folder, stdout=log, stderr=subprocess.STDOUT)
-
-
-def end(name):
-    """Puts what a check kept where it belongs."""
-    linked(COPIES / name / "crates" / name / "out", TOP / "crates" / name / "out")
-    shutil.rmtree(COPIES / name)
-
-
-def prove(below, names, progress):
-    """Proves crates, each after those on which it stands. Answers the crate that isn't proved, if there is one."""
-    rank, left, running = ranks(below, names), set(names), {}
-    room = places()
-    while left or running:
-        unproved = left | running.keys()
-        ready = sorted((n for n in left if unproved.isdisjoint(below[n])), key=rank.get, reverse=True)
-        idle = room - sum(jobs for _, jobs in running.values())
-        begun = ready[:idle]
-        for place, name in enumerate(begun):
-            jobs = max(1, min(MOST_JOBS, idle // (len(ready) - place)))
-            running[name] = begin(below, name, jobs), jobs
-            left.remove(name)
-            idle -= jobs
-        if begun:
-            progress.show(f"proving {', '.join(sorted(running))}; {len(left)} more wait")
-        time.sleep(0.2)
-        for name in [n for n, (process, _) in running.items() if process.poll() is not None]:
-            if running.pop(name)[0].returncode != 0:
-                for other, _ in running.values():
-                    other.terminate()
-                return name
-            end(name)
-            if name in WORDS:
-                put(name)
-                progress.tell(f"bin/{name} is proved, built and run on {EXAMPLE.removeprefix('../../')}")
-    return None
+    (COPY / "crates.txt").write_text("".join(line for line in lines if (line.split(":")[0].split() or [""])[0] in names))
+    shutil.copy(TOP / "HANDLES", COPY)
+    (COPY / ".git").mkdir()
 
 
 def put(name):
-    """Puts a program that was built into bin/."""
-    shutil.copy(TOP / "crates" / name / "out" / name, BIN / name)
+    """Puts what was built of a crate where it belongs, and runs it, if it is a program. Answers whether it ended well."""
+    made = COPY / "crates" / name / "out"
+    if (made / name).is_file():
+        shutil.copy(made / name, BIN / f"{name}.new")
+        os.replace(BIN / f"{name}.new", BIN / name)
+        return run(name)
+    shutil.rmtree(LIBRARIES / f"{name}.rlib", ignore_errors=True)
+    shutil.copytree(made / "rlib" / f"{name}.rlib", LIBRARIES / f"{name}.rlib")
+    return True
 
 
 def run(name):
-    """Runs a program on an example, and builds it first where that has to be. Answers whether both were done."""
-    with open(BIN / f"{name}.log", "w") as log:
-        words = ["rt", "run", "--", *WORDS[name]]
-        return subprocess.run(words, cwd=TOP / "crates" / name, stdout=log, stderr=subprocess.STDOUT).returncode == 0
+    """Runs a program on the example; one that is handed to nobody without words. Answers whether it ended well."""
+    return subprocess.run([BIN / name, *WORDS.get(name, [])], cwd=TOP, stdout=subprocess.DEVNULL).returncode == 0
 
 
-def prove_in_copies(below, names, progress):
-    """Proves crates in copies, and takes these away again. Answers the crate that isn't proved, if there is one."""
-    shutil.rmtree(COPIES, ignore_errors=True)
-    try:
-        return prove(below, names, progress)
-    finally:
-        shutil.rmtree(COPIES, ignore_errors=True)
+def prove(names, progress):
+    """Proves crates and builds programs in the copy, and puts what is built where it belongs. Answers whether all that was done."""
+    left = set(names)
+    progress.show(f"proving {len(left)} crates")
+    how = {"cwd": COPY, "stdout": subprocess.PIPE, "stderr": subprocess.STDOUT, "text": True, "errors": "replace"}
+    with open(LOG, "w") as log, subprocess.Popen(["rt", "ci"], **how) as gate:
+        try:
+            for line in gate.stdout:
+                log.write(line)
+                log.flush()
+                told = re.match(r"rt: (\w+) (proved$|is kept: )", line)
+                if told:
+                    left.discard(told[1])
+                    take(told[1], len(left), progress)
+        except BaseException:
+            gate.terminate()
+            raise
+    return gate.returncode == 0 and not left
+
+
+def take(name, left, progress):
+    """Puts what was built of a crate that is proved where it belongs, and says so."""
+    if not put(name):
+        progress.end()
+        sys.exit(f"bin/{name} doesn't end as it should on {EXAMPLE}")
+    if name in WORDS:
+        progress.tell(f"bin/{name} is proved, built and run on {EXAMPLE}; {left} crates are left")
+    else:
+        progress.show(f"{name} is proved; {left} crates are left")
+
+
+def renew(programs):
+    """Runs programs that are built of the sources as they stand, and gives them today's time. Answers whether all are there and end well."""
+    if not all((BIN / name).is_file() and run(name) for name in programs):
+        return False
+    for name in programs:
+        os.utime(BIN / name)
+    return True
 
 
 def build(programs):
     """Proves what programs stand on, builds them and puts them into bin/. Answers whether that was done."""
-    below = crates()
-    names = closure(below, programs)
-    now, kept, progress = stamp(names), BIN / "sources", Progress()
-    if kept.exists() and kept.read_text() == now:
+    below, progress = crates(), Progress()
+    stamps = {BIN / f"{name}.sources": stamp(closure(below, [name])) for name in programs}
+    if all(path.exists() and path.read_text() == now for path, now in stamps.items()):
         progress.show(f"running {', '.join(programs)}")
-        failed = next((name for name in programs if not run(name)), None)
-    else:
-        failed = prove_in_copies(below, names, progress)
-    progress.end()
-    if failed:
-        print((BIN / f"{failed}.log").read_text(), end="")
-        print(f"{failed}: not proved, or not built; the log is bin/{failed}.log")
+        if renew(programs):
+            progress.end()
+            return True
+    for path in stamps:
+        path.unlink(missing_ok=True)
+    names = closure(below, programs)
+    try:
+        copy_crates(names)
+        done = prove(names, progress)
+    finally:
+        progress.end()
+        shutil.rmtree(COPY, ignore_errors=True)
+    if not done:
+        print("".join(LOG.read_text().splitlines(keepends=True)[-40:]), end="")
+        print("not all is proved, or built; what rt ci said is in bin/proofs.log")
         return False
-    for name in programs:
-        put(name)
-    kept.write_text(now)
-    (BIN / "programs.kit").write_bytes(kit())
+    for path, now in stamps.items():
+        path.write_text(now)
+    if set(programs) >= WORDS.keys():
+        (BIN / "programs.kit").write_bytes(kit())
     return True
 
 
 def main():
-    listed = crates()
-    programs = sys.argv[1:] or [n for n in WORDS if n in listed]
+    programs = sys.argv[1:] or [*WORDS]
+    lacking = [name for name in programs if not (TOP / "crates" / name / "src" / "main.rt").exists()]
+    if lacking:
+        sys.exit(f"build.py: {lacking[0]} is no program of crates/")
+    for number in (signal.SIGHUP, signal.SIGINT, signal.SIGTERM):
+        if signal.getsignal(number) != signal.SIG_IGN:
+            signal.signal(number, lambda number, _: sys.exit(128 + number))
     BIN.mkdir(exist_ok=True)
     sys.exit(0 if build(programs) else 1)
 

@@ -4,13 +4,10 @@
 set -eu
 cd "$(dirname "$0")/.."
 kit=$(dirname "$(rt doc)")
-built=crates/mcf_c/out/libmcf_c.a
+built=bin/libmcf_c.a
 mkdir -p bin
 
-for crate in $(sed -n '/^mcf_c /q; s/^\([a-z_]*\):.*/\1/p' crates.txt) mcf_c; do
-    test -f "crates/$crate/src/lib.rt" || continue
-    (cd "crates/$crate" && rt lib > "../../bin/$crate.log" 2>&1) || { echo "make library: $crate isn't proved; see bin/$crate.log" >&2; exit 1; }
-done
+scripts/static.sh "$kit/toolchain" "$PWD/$built"
 cc -shared -o bin/libmcf.so.1 -Wl,-soname,libmcf.so.1 -Wl,-z,text,-z,defs,-z,relro,-z,now -Wl,--version-script=library/libmcf.map \
     -Wl,--whole-archive "$built" -Wl,--no-whole-archive "$kit/c/liblibc_c.a"
 # A copy and no link: the gate takes no links in the repository's folder.

@@ -1,0 +1,21 @@
+#!/bin/bash
+# usage: scripts/static.sh TOOLCHAIN LIBRARY
+#
+# Proves the crate mcf_c, over what it kept before, and has a toolchain of the form of the kit's compile it into a static library, as `rt lib` does
+# both; LIBRARY is an absolute path. What it stands on is proved and built by scripts/build.py, where that isn't done. What is said of mcf_c is in
+# bin/mcf_c.log.
+set -euo pipefail
+cd "$(dirname "$0")/.."
+kit=$(dirname "$(rt doc)") toolchain=$1 library=$2
+scripts/build.py
+
+libraries=(-L dependency=out/rlib)
+for crate in $(sed -n 's/^mcf_c staticlib: //p' crates.txt); do
+    libraries+=(--extern "$crate=out/rlib/$crate.rlib")
+done
+log=$PWD/bin/mcf_c.log
+cd crates/mcf_c
+"$kit/bin/rattle" build --crate-name mcf_c src/lib.rt --extern "std=$kit/rlibs/std.rlib" -L "dependency=$kit/rlibs" "${libraries[@]}" \
+    --antt-project "$kit/rattle/logic/antt-project.json" --logic-built "$kit/logic_built" --incremental out/incremental --links mcf_c= \
+    --crate-type staticlib --toolchain "$toolchain" --backend llvm -o "$library" > "$log" 2>&1 \
+    || { echo "mcf_c isn't proved; see bin/mcf_c.log" >&2; exit 3; }
