@@ -1,11 +1,11 @@
 # make        proves and builds the programs into bin/ and runs them on examples/
 # make test   the gate: every proof, the must-fail edits, the tests, the programs
 # make memory-test   refuses each allocation of the tests of a few worked rows in turn, with ALL=1 of every test
-# make clean  takes away what was proved and built: bin/, and out/ of each crate
+# make clean  takes away what was proved and built: bin/, bench/out/, and out/ of each crate
 # make bench  the measurements of bench/
 # make tools-test   the tests of python/ and tools/, on the plans of examples/plans/ too, and of make install and make uninstall: needs the programs of bin/ and Python 3.8; a part of make test
 # make library      proves and builds the library for C: bin/libmcf.so, bin/libmcf.a and bin/mcf.h
-# make library-test the library called from C, C++, Rust and Python, where these are there; four minutes at most
+# make library-test the library called from C, Rust and Python, and its header read by C++, where these are there; four minutes at most
 # make dist         packs programs, tools, library and Python module into bin/dist/, as a .deb, a wheel and a tar.gz
 # make dist-test    installs these packages where nothing of the repository is, and runs them: needs debootstrap and root for the .deb
 # make page         the page that solves, bin/mcf.html: needs rt, Binaryen and LLVM's library of builtins for wasm64
