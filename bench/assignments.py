@@ -13,10 +13,11 @@ import subprocess
 import sys
 import tempfile
 
+import programs
+
 BENCH = pathlib.Path(__file__).resolve().parent
 OUT = BENCH / "out"
-CRATE = BENCH.parent / "crates" / "mcf"
-PROGRAM = CRATE / "out" / "mcf"
+PROGRAM = programs.built("mcf")
 
 # the rows of the instances, and the greatest ratio to the peer
 DENSE = dict.fromkeys((256, 512, 1024, 2048), 0.85)
@@ -110,8 +111,8 @@ def compare(ours, peer, runs):
 def measure(words, engine="sap"):
     """Whether each ratio is within its limit."""
     if not words.built:
-        subprocess.run(["rt", "run"], cwd=CRATE, check=True, stdout=subprocess.DEVNULL)
-    shown = subprocess.run([str(PROGRAM), "solve", "--help"], capture_output=True, text=True)
+        programs.build("mcf")
+    shown = subprocess.run([PROGRAM, "solve", "--help"], capture_output=True, text=True)
     if engine not in shown.stdout:
         print(f"assign: skipped, the program has no engine {engine}")
         return True
@@ -128,7 +129,7 @@ def measure(words, engine="sap"):
                 ratios = []
                 for path in instances(name, arcs, rows):
                     ours, peers = compare(
-                        [str(PROGRAM), "solve", "--engine", engine, "--form", "2", str(path)], [str(peer), str(path)], runs
+                        [PROGRAM, "solve", "--engine", engine, "--form", "2", str(path)], [str(peer), str(path)], runs
                     )
                     ratios.append(ours / peers)
                     print(f"assign {name} {rows}: ours {ours:.4f} s, {library} {peers:.4f} s, ratio {ratios[-1]:.2f}")

@@ -10,9 +10,10 @@ import random
 import subprocess
 import sys
 
+import programs
+
 BENCH = pathlib.Path(__file__).resolve().parent
 OUT = BENCH / "out"
-CRATES = BENCH.parent / "crates"
 NODES, ARCS = 100_000, 4_200_000
 LIMIT = 1.1
 
@@ -42,14 +43,13 @@ def timed(command, want):
 
 def measure(words):
     """Whether reading in pieces is within its limit."""
-    programs = {name: str(CRATES / name / "out" / name) for name in ("mcf", "mcfcheck")}
+    mcf, mcfcheck = map(programs.built, ("mcf", "mcfcheck"))
     text, answer = write()
     if not words.built:
-        for name in programs:
-            subprocess.run(["rt", "run", "--", *(["solve", str(text)] if name == "mcf" else [str(text), str(answer)])], cwd=CRATES / name, stdout=subprocess.DEVNULL)
+        programs.build("mcf", "mcfcheck")
     runs = max(5, words.runs)
     print(f"pieces: {runs} runs of each, whole processes, of a text of {text.stat().st_size / 1e6:.0f} MB")
-    in_turn = [(timed([programs["mcf"], "solve", str(text)], 2), timed([programs["mcfcheck"], str(text), str(answer)], 0)) for _ in range(runs)]
+    in_turn = [(timed([mcf, "solve", str(text)], 2), timed([mcfcheck, str(text), str(answer)], 0)) for _ in range(runs)]
     (ours, our_peak), (other, other_peak) = (tuple(map(min, zip(*done))) for done in zip(*in_turn))
     print(f"pieces: in pieces {ours:.4f} s and {our_peak:.0f} MB, at once {other:.4f} s and {other_peak:.0f} MB, ratio {ours / other:.2f}")
     return ours / other <= LIMIT

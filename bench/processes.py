@@ -6,8 +6,8 @@ engine `augment` is run beside the simplex and LEMON's network simplex and cost 
 judged, and so is its peak of memory beside that of LEMON's network simplex, where both are above that of this program.
 """
 import resource
-import subprocess
 
+import programs
 import table
 from table import OUT, PROGRAM
 
@@ -30,7 +30,7 @@ MOST = 60.0
 
 def solve(engine, *words):
     """The command that solves a file, which comes behind it."""
-    return [str(PROGRAM), "solve", "--engine", engine, "--form", "2", *words]
+    return [PROGRAM, "solve", "--engine", engine, "--form", "2", *words]
 
 
 def by_lemon(peer, word, path):
@@ -40,7 +40,7 @@ def by_lemon(peer, word, path):
 
 def build(words):
     if not words.built:
-        subprocess.run(["rt", "run"], cwd=PROGRAM.parents[1], check=True, stdout=subprocess.DEVNULL)
+        programs.build("mcf")
 
 
 def measure(words, peer, instance_of):

@@ -50,11 +50,12 @@ import typing
 import assignments
 import pieces
 import processes
+import programs
 import table
 
 BENCH = pathlib.Path(__file__).resolve().parent
 OUT = BENCH / "out"
-CRATE = BENCH.parent / "crates" / "mcf_bench"
+PROGRAM = programs.built("mcf_bench")
 
 NODES = 300_000
 ARCS = 1_000_000
@@ -181,11 +182,6 @@ LEMON_ALONE = {"simplex"}
 LEFT_OUT = {"scaling": "feasible_seconds"}
 
 
-def build_program():
-    """Proves and builds the program, and runs it without words."""
-    subprocess.run(["rt", "run"], cwd=CRATE, check=True, stdout=subprocess.DEVNULL)
-
-
 def has_lemon():
     """Whether there is a compiler that finds LEMON."""
     asked = ["g++", "-fsyntax-only", "-include", "lemon/cost_scaling.h", "-x", "c++", os.devnull]
@@ -285,7 +281,7 @@ def measure(part, words):
     peers = peers_of(part, limit)
     if not peers:
         return True
-    program = [str(CRATE / "out" / "mcf_bench"), part]
+    program = [PROGRAM, part]
     runs = max(5, words.runs)
     print(f"{part}: {runs} runs of each")
     within = True
@@ -340,7 +336,7 @@ def main():
     words = parser.parse_args()
     OUT.mkdir(exist_ok=True)
     if not words.built:
-        build_program()
+        programs.build("mcf_bench")
     above = [part for part in words.parts or sorted([*PARTS, *WHOLE]) if not measure(part, words)]
     if above:
         sys.exit(f"above its limit: {', '.join(above)}")

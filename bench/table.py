@@ -16,13 +16,14 @@ import tempfile
 import time
 
 import assignments
+import programs
 
 BENCH = pathlib.Path(__file__).resolve().parent
 sys.path.insert(0, str(BENCH.parent / "python"))
 from mcf_plan.solve import suited  # noqa: E402
 
 OUT = BENCH / "out"
-PROGRAM = BENCH.parent / "crates" / "mcf" / "out" / "mcf"
+PROGRAM = programs.built("mcf")
 
 FLOWS = {family: range(10, 19) for family in ("netgen", "gridgen", "road", "goto")} | {"transp": (8, 9, 10)}
 DENSE = {"random": assignments.uniform, "mod 101": assignments.multiples}
@@ -94,7 +95,7 @@ def rows(family, sizes, problem, file_of, peers_of):
     before = {}
     for size in sizes:
         path, options = str(file_of(size)), suited(*problem(size))
-        both = {OURS: [str(PROGRAM), "solve", *options, "--form", "2", path], **peers_of(path)}
+        both = {OURS: [PROGRAM, "solve", *options, "--form", "2", path], **peers_of(path)}
         runs = measured({name: command for name, command in both.items() if before.get(name, 0) <= MOST})
         peers = [name for name in peers_of(path) if name in runs]
         if OURS in runs:
@@ -106,7 +107,7 @@ def rows(family, sizes, problem, file_of, peers_of):
 def measure(words, lemon, family_file):
     """Prints the table; `lemon` is the program by LEMON if it could be built, and `family_file` makes the file of a family and a size."""
     if not words.built:
-        subprocess.run(["rt", "run"], cwd=PROGRAM.parents[1], check=True, stdout=subprocess.DEVNULL)
+        programs.build("mcf")
     print("| Family | Nodes or rows | Options | Whole | Ratio | Peak | Growth | Peers |\n|---|---|---|---|---|---|---|---|")
     of_lemon = lambda path: {f"LEMON {word}": [str(lemon), word, path, "-w", os.devnull] for word in ("ns", "cs")} if lemon else {}
     for family, exponents in FLOWS.items():
