@@ -1,18 +1,17 @@
 -- Runs of searches: which rows they match, and what is left to send or to take when all rows are matched.
-use Rattle.std.proofs.Common.{◌<◌, ◌≡◌, ℕ, zero, suc, ◌+◌, ◌-◌, ◌≤◌, Bool, true, false, cond, List, [], ◌∷◌, ◌++◌, length, get_or, ℤ, pos, ◌≤ℤ◌, refl, sym, ◌∙◌}
+use Rattle.std.proofs.Common.{◌<◌, ◌≡◌, ℕ, zero, suc, ◌+◌, ◌-◌, ◌≤◌, Bool, true, false, cond, List, [], ◌∷◌, ◌++◌, length, ℤ, pos, ◌≤ℤ◌, refl, sym, ◌∙◌}
 use Rattle.std.proofs.Common.{ap, subst, arith, inl, inr}
 use Rattle.std.specs.List.{All, Contains, filter, range_with_len}
 use Rattle.std.proofs.lemmas.Bool.{cases_eq}
 use Rattle.std.proofs.lemmas.Bool.Decides.{Decides-int_eq}
 use Rattle.std.proofs.lemmas.Int.{ints}
 use Rattle.std.proofs.lemmas.List.{append-nil, length-append}
-use Rattle.std.proofs.lemmas.List.Elements.{All-from_get_or, All-weaker, Contains-append_cases, Contains-append_left, Contains-push, Contains-push_cases}
+use Rattle.std.proofs.lemmas.List.Elements.{All-weaker, Contains-append_cases, Contains-append_left, Contains-push, Contains-push_cases}
 use Rattle.std.proofs.lemmas.List.Elements.{filter-append}
 use Rattle.mcf_flows.specs.declared.problem.Side.TheVariants.{Send}
 use Rattle.mcf_flows.specs.Network.{Network, IsNode, at_node, node_count}
 use Rattle.mcf_flows.specs.Blocking.{Blocks, in_table}
 use Rattle.mcf_flows.specs.WellFormed.{IsUpTo}
-use Rattle.mcf_network.specs.Nets.{IsNet}
 use Rattle.mcf_network.specs.States.{Pseudoflow, HasNoSurplus, surplus_at}
 use Rattle.mcf_feas.specs.Chosen.{IsChosenBlock, supply_total}
 use Rattle.mcf_feas.specs.Feasible.{IsFeasibleState}
@@ -21,16 +20,14 @@ use Rattle.mcf_engine.specs.NearPrices.{AreNearPrices, near_limit}
 use Rattle.mcf_engine.specs.Outcomes.{AreStatePrices, IsLeastState}
 use Rattle.mcf_engine.proofs.StatePrices.{least_from_prices}
 use Rattle.mcf_engine.proofs.NearLaws.{shown_near}
-use Rattle.mcf_assign.specs.declared.extended.Extended.{Extended}
-use Rattle.mcf_assign.specs.declared.extended.Extended.TheVariants.{Matched, Blocked}
-use Rattle.mcf_assign.specs.Extending.{Assigned, IsExtension, IsShownMatching}
-use Rattle.mcf_assign.specs.Matchings.{IsMatchedRow, IsPartialMatching, IsRow, price_limit}
-use Rattle.mcf_assign.specs.Private.Keeping.{AreNearZero}
+use Rattle.mcf_matching.specs.declared.extended.Extended.{Extended}
+use Rattle.mcf_matching.specs.declared.extended.Extended.TheVariants.{Matched, Blocked}
+use Rattle.mcf_matching.specs.Extending.{Assigned, IsExtension, IsShownMatching}
+use Rattle.mcf_matching.specs.Matchings.{IsMatchedRow, IsPartialMatching, IsRow, price_limit}
 use Rattle.mcf_assign.specs.Private.Offering.{AreOffered}
 use Rattle.mcf_assign.specs.Runs.{IsBlockedAtRow, IsMatchedByRows, Run, more, start, is_source, sources, sources_to}
-use Rattle.mcf_assign.proofs.Kept.{no_pair}
-use Rattle.mcf_assign.proofs.Near.{path_small}
-use Rattle.mcf_assign.proofs.Surpluses.{column_surplus, matched_row, matching_shown, row_or_column}
+use Rattle.mcf_matching.proofs.Kept.{no_pair}
+use Rattle.mcf_matching.proofs.Surpluses.{column_surplus, matched_row, matching_shown, row_or_column}
 
 -- ---- source nodes, ascending
 
@@ -230,14 +227,6 @@ end_blocked g table searches at balanced =
     }
 
 -- ---- prices
-
-pub near_all : (s : Pseudoflow) (y : List ℤ) → IsNet s.net → length y ≡ node_count s.net → AreNearZero s y → All (IsUpTo price_limit) y
-near_all s y ok count near =
-    All-from_get_or (IsUpTo price_limit) y (pos 0) (λ i l.
-    let here : i + 1 - 1 ≡ i = omega arith in
-    let far = near (i + 1) (omega arith, omega (arith, l, count)) in
-    let small = path_small s.net ok in
-    subst (λ j. IsUpTo price_limit (get_or y j (pos 0))) here (omega (arith, ints, far, small), omega (arith, ints, far, small)))
 
 -- the prices of a matching show it
 pub priced_near : (m : Assigned) (s : Pseudoflow) (y : List ℤ) → IsShownMatching m → s ≡ m.flow → y ≡ m.prices

@@ -9,9 +9,9 @@ use Rattle.mcf_network.specs.States.{Pseudoflow}
 use Rattle.mcf_feas.specs.Chosen.{supply_total}
 use Rattle.mcf_engine.specs.declared.engine.Outcome.{Outcome}
 use Rattle.mcf_engine.specs.declared.engine.Outcome.TheVariants.{Least, Blocked as NoFlow}
-use Rattle.mcf_assign.specs.declared.extended.Extended.TheVariants.{Matched, Blocked}
-use Rattle.mcf_assign.specs.Extending.{Assigned, IsExtension, IsShownMatching}
-use Rattle.mcf_assign.specs.Matchings.{IsMatchedRow, IsRow}
+use Rattle.mcf_matching.specs.declared.extended.Extended.TheVariants.{Matched, Blocked}
+use Rattle.mcf_matching.specs.Extending.{Assigned, IsExtension, IsShownMatching}
+use Rattle.mcf_matching.specs.Matchings.{IsMatchedRow, IsRow}
 
 -- a node of supply 1
 abbrev pub is_source : Network → ℕ → Bool

@@ -7,12 +7,11 @@ ghost use Rattle.mcf_engine.specs.Outcomes.{IsOutcome};
 ghost use Rattle.mcf_assign.specs.Private.Offering.{AreOffered};
 ghost use Rattle.mcf_assign.specs.Runs.{IsMatchedByRows, IsReachedSet, IsStart};
 
-use crate::extended::Extended;
-use crate::matching::Matching;
 use mcf_counts::Count;
 use mcf_engine::{Engine, Outcome, Pricer};
 use mcf_feas::unbalanced;
 use mcf_flows::{Problem, Side};
+use mcf_matching::{Extended, Matching};
 use mcf_network::{Net, State};
 use mcf_text::{NoMemory, NodeId};
 use std::alloc::Global;
@@ -102,7 +101,7 @@ fn assign<'n>(alloc: Global, net: &'n Net) -> Result<(Outcome<'n>, Count), NoMem
     let mut matching = Matching::start(alloc, net)?;
     match match_rows(&mut matching, net) {
         Extended::Matched => {
-            let (state, mut prices, searches) = matching.into_counted_parts();
+            let (state, mut prices, searches) = matching.into_parts();
             pricer.raise(&state, 1, 0, prices.as_mut_slice());
             Ok((Outcome::Least(state, prices), searches))
         }

@@ -27,7 +27,7 @@ use Rattle.mcf_network.proofs.Lists.{Contains-cons, Contains-first, Contains-lat
 use Rattle.mcf_engine.specs.Heaps.{ComesFirst, IsFirst, Keyed, NoneWaits, Waits}
 use Rattle.mcf_engine.specs.Private.Queues.{AreOrdered, AreQueued, IsCurrent, IsEntryOf, IsOfNode, IsQueue, Precedes, by_key}
 use Rattle.mcf_engine.specs.declared.heap.Entry.{Entry}
-use Rattle.mcf_engine.proofs.Marks.{read_set}
+use Rattle.mcf_network.proofs.Marks.{read_set}
 
 -- an entry that isn't less than another comes first
 comes_first : (x y : ℤ) (i j : ℕ) → is_lt (ordering_then (int_cmp y x) (nat_cmp j i)) ≡ false → ComesFirst x i y j

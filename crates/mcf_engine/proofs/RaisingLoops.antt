@@ -4,7 +4,7 @@ use Rattle.std.proofs.Common.{inr, length-set}
 use Rattle.mcf_flows.specs.Network.{IsNode, at_node}
 use Rattle.mcf_engine.specs.Heaps.{Keyed}
 use Rattle.mcf_engine.specs.Private.Raisings.{AreRounded, IsRoundedDown, label}
-use Rattle.mcf_engine.proofs.Marks.{read_node}
+use Rattle.mcf_network.proofs.Marks.{read_node}
 
 -- the prices of the first nodes are rounded, and the others are as they were
 pub record AreRoundedUpTo (scale : ℕ) (y : List ℤ) (h : Keyed) (z : List ℤ) (i : ℕ) : Type 0 where

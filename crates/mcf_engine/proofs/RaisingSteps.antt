@@ -20,7 +20,7 @@ use Rattle.mcf_network.specs.States.{Pseudoflow, IsPseudoflow}
 use Rattle.mcf_network.specs.Walks.{HasRoom}
 use Rattle.mcf_network.proofs.ArcLaws.{head_is_node, tail_is_node}
 use Rattle.mcf_network.proofs.Lists.{All-behind, Contains-cons}
-use Rattle.mcf_network.proofs.Marks.{count_small}
+use Rattle.mcf_network.proofs.Marks.{count_small, read_node}
 use Rattle.mcf_engine.specs.Heaps.{ComesFirst, IsFirst, Keyed, Waits, waiting_with, with_key, without}
 use Rattle.mcf_engine.specs.NearPrices.{near_limit}
 use Rattle.mcf_engine.specs.Private.Raisings.{ArePassed, CostsAtLeast, IsLastSettled, IsLength, IsOffer, IsPassedFrom, IsPopped, IsRaising, IsRelaxed, IsScanned, IsSettledNext, KeepsSettled, RespectsLabel, Settled}
@@ -29,7 +29,7 @@ use Rattle.mcf_engine.specs.Private.Queues.{all_waiting}
 use Rattle.mcf_engine.specs.Respecting.{reverse}
 use Rattle.mcf_engine.specs.declared.near_state.NearState.{NearState}
 use Rattle.mcf_engine.proofs.LabelLengths.{length_fewer, length_next, length_zero}
-use Rattle.mcf_engine.proofs.Marks.{count_less, read_node}
+use Rattle.mcf_engine.proofs.Marks.{count_less}
 use Rattle.mcf_engine.proofs.Reverses.{reversed}
 use Rattle.mcf_engine.proofs.Showing.{cost_small, respects_from_shows}
 

@@ -3,10 +3,10 @@ use Rattle.std.proofs.Common.{◌≡◌, ℕ, Bool, true, false, pos, sym, ◌�
 use Rattle.std.proofs.lemmas.Bool.Decides.{Decides-int_eq}
 use Rattle.mcf_flows.specs.Network.{Network, IsNode, at_node, node_count}
 use Rattle.mcf_network.specs.States.{Pseudoflow}
-use Rattle.mcf_assign.specs.declared.extended.Extended.{Extended}
-use Rattle.mcf_assign.specs.declared.extended.Extended.TheVariants.{Matched, Blocked}
-use Rattle.mcf_assign.specs.Extending.{Assigned, IsExtension, IsMatched}
-use Rattle.mcf_assign.specs.Matchings.{IsMatchedRow, IsRow}
+use Rattle.mcf_matching.specs.declared.extended.Extended.{Extended}
+use Rattle.mcf_matching.specs.declared.extended.Extended.TheVariants.{Matched, Blocked}
+use Rattle.mcf_matching.specs.Extending.{Assigned, IsExtension, IsMatched}
+use Rattle.mcf_matching.specs.Matchings.{IsMatchedRow, IsRow}
 use Rattle.mcf_assign.specs.Runs.{is_source}
 
 pub extension_net : (m : Assigned) (row : ℕ) (found : Extended) (n : Assigned) → IsExtension m row found n → n.flow.net ≡ m.flow.net

@@ -138,7 +138,8 @@ fn is_searched(alloc: Global, row: &Searches) -> Result<bool, NoMemory> {
     let is_fresh = matching.settled().is_empty();
     let (count, last) = offer_all(&mut matching, &net);
     let is_last = has_ended(&net, &matching, last, settled, reached);
-    Ok(is_fresh && is_last && count == searches)
+    let (set, _) = matching.into_reached();
+    Ok(is_fresh && is_last && count == searches && is_set_of(&net, &set, reached.unwrap_or(&[])))
 }
 
 #[test]
@@ -347,7 +348,7 @@ fn hands_over(alloc: Global, net: &Net, cost: i128, price: i128) -> Result<bool,
     }
     let mut matching = Matching::start(alloc, net)?;
     offer_all(&mut matching, net);
-    let (state, prices) = matching.into_parts();
+    let (state, prices, _) = matching.into_parts();
     Ok(prices.first() == Some(&price) && cost_of(&state) == cost)
 }
 

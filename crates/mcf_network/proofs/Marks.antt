@@ -1,13 +1,32 @@
--- A table of marks, with one node more.
-use Rattle.std.proofs.Common.{◌≡◌, ℕ, zero, suc, cond, ◌+◌, ◌-◌, ◌≤◌, Bool, true, false, List, length, get_or, set, replicate, refl, ap, sym, ◌∙◌, arith, ◌⊎◌}
+-- A table of marks, with one node more, and lists with an entry for each node.
+use Rattle.std.proofs.Common.{◌≡◌, ◌≢◌, ℕ, zero, suc, cond, ◌+◌, ◌-◌, ◌<◌, ◌≤◌, Bool, true, false, List, length, get_or, set, replicate, refl, ap, sym, ◌∙◌, arith, ◌⊎◌}
 use Rattle.std.proofs.Common.{inl, inr}
 use Rattle.std.proofs.lemmas.Bool.{cases_eq}
+use Rattle.std.proofs.lemmas.Grind.{get_or-set_at}
 use Rattle.std.proofs.lemmas.List.{get_or-set_other, get_or-set_same}
 use Rattle.std.proofs.lemmas.List.Sums.{count_by-le-length, sum_by-set}
 use Rattle.std.proofs.lemmas.List.Folds.{sum_by-replicate}
 use Rattle.mcf_flows.specs.Blocking.{in_table}
 use Rattle.mcf_flows.specs.Network.{IsNode}
 use Rattle.mcf_network.specs.NodeSets.{member_count, no_nodes, with_node}
+
+-- a read of the entry of a node after a write of one
+pub read_node : {X : Type 0} (xs : List X) (i v : ℕ) (a d : X) → IsNode (length xs) i → 1 ≤ v
+    → ((v ≡ i) × (get_or (set xs (i - 1) a) (v - 1) d ≡ a)) ⊎ ((v ≢ i) × (get_or (set xs (i - 1) a) (v - 1) d ≡ get_or xs (v - 1) d))
+read_node xs i v a d h low =
+    elim (cases_eq v i) [
+      | inl e ↦ (let same : v - 1 ≡ i - 1 = ap (λ k. k - 1) e in inl (e, get_or-set_at xs (i - 1) (v - 1) a d same (omega arith)))
+      | inr n ↦ (let other : v - 1 ≢ i - 1 = omega arith in inr (n, get_or-set_other xs (i - 1) (v - 1) a d other))
+    ]
+
+-- a read after a write
+pub read_set : {X : Type 0} (xs : List X) (i v : ℕ) (a d : X) → i < length xs
+    → ((v ≡ i) × (get_or (set xs i a) v d ≡ a)) ⊎ ((v ≢ i) × (get_or (set xs i a) v d ≡ get_or xs v d))
+read_set xs i v a d l =
+    elim (cases_eq v i) [
+      | inl e ↦ inl (e, get_or-set_at xs i v a d e l)
+      | inr n ↦ inr (n, get_or-set_other xs i v a d n)
+    ]
 
 -- the node itself is marked
 pub marked_new : (table : List Bool) (v : ℕ) → IsNode (length table) v → in_table (with_node table v) v ≡ true

@@ -15,7 +15,7 @@ use Rattle.mcf_network.specs.Walks.{HasRoom}
 use Rattle.mcf_network.proofs.ArcLaws.{tail_is_node, head_is_node}
 use Rattle.mcf_prices.specs.Private.Labels.{Labels, IsLabelling, IsLinked, IsLink, offer, lowered, total}
 use Rattle.mcf_engine.specs.Respecting.{AreAtLeast, Respects, cost_limit}
-use Rattle.mcf_engine.proofs.Marks.{read_node}
+use Rattle.mcf_network.proofs.Marks.{read_node}
 use Rattle.mcf_engine.proofs.Showing.{respects_from_shows, cost_small}
 
 module _ (l : Labels) (r : Rid) (ok : IsLabelling l) (room : HasRoom l.flow r) (less : offer l r <ℤ at_node l.prices (tail l.flow.net r)) where

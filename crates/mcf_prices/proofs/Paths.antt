@@ -18,8 +18,8 @@ use Rattle.mcf_prices.specs.Private.Labels.{Labels, IsLabelling, link_at}
 use Rattle.mcf_engine.specs.Respecting.{cost_limit}
 use Rattle.mcf_prices.specs.Private.Trails.{IsStep, HasTail, IsTrail, IsDone}
 use Rattle.mcf_prices.proofs.LinkWalks.{IsWalk-pop, step_falls}
-use Rattle.mcf_network.proofs.Marks.{marked_new, marked_still, counted_new}
-use Rattle.mcf_engine.proofs.Marks.{read_node, counted_more}
+use Rattle.mcf_network.proofs.Marks.{marked_new, marked_still, counted_new, read_node}
+use Rattle.mcf_engine.proofs.Marks.{counted_more}
 use Rattle.mcf_engine.proofs.Showing.{cost_small}
 
 HasTail-push : (g : Network) (path : List Rid) (r : Rid) (v : ℕ) → HasTail g path v → HasTail g (path ++ r ∷ []) v

@@ -8,8 +8,7 @@ use Rattle.mcf_flows.specs.Blocking.{in_table}
 use Rattle.mcf_flows.specs.Network.{IsNode}
 use Rattle.mcf_network.specs.NodeSets.{with_node}
 use Rattle.mcf_prices.specs.Private.Queues.{Waiting, IsQueue, queued}
-use Rattle.mcf_network.proofs.Marks.{counted_new}
-use Rattle.mcf_engine.proofs.Marks.{read_node}
+use Rattle.mcf_network.proofs.Marks.{counted_new, read_node}
 
 -- a node that did not wait
 pub push_ok : (q : Waiting) (v : ℕ) → IsQueue q → IsNode (length q.table) v → in_table q.table v ≡ false

@@ -10,8 +10,7 @@ use Rattle.std.proofs.lemmas.List.Sums.{sum_by-set}
 use Rattle.mcf_flows.specs.Blocking.{in_table}
 use Rattle.mcf_flows.specs.Network.{Network, IsArcNumber, IsNode, node_count, when}
 use Rattle.mcf_network.proofs.Lists.{Contains-cons}
-use Rattle.mcf_network.proofs.Marks.{counted_new, count_none, count_small, unmarked, marked_new, marked_still}
-use Rattle.mcf_engine.proofs.Marks.{read_node}
+use Rattle.mcf_network.proofs.Marks.{counted_new, count_none, count_small, unmarked, marked_new, marked_still, read_node}
 use Rattle.std.specs.Prelude.{◌<ℤ◌, ℤ, pos, ◌≤ℤ◌}
 use Rattle.std.proofs.lemmas.Int.{ints}
 use Rattle.std.specs.Int.{int_min}

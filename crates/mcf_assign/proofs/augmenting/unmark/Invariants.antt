@@ -1,6 +1,0 @@
-use Rattle.std.proofs.Common.{length}
-use Rattle.mcf_assign.proofs.Raising.{AreUnmarkedUpTo}
-use Rattle.mcf_assign.proofs.augmenting.unmark.Given as goal
-
-abbrev pub invariant-nodes : goal.invariant-nodes
-invariant-nodes l = AreUnmarkedUpTo (length l.fn.marks) l.marks l.nodes l.v-index

@@ -1,0 +1,11 @@
+pub use Rattle.mcf_flows.specs.Blocking
+pub use Rattle.mcf_flows.specs.Flow
+pub use Rattle.mcf_flows.specs.Network
+pub use Rattle.mcf_network.specs.Nets
+pub use Rattle.mcf_network.specs.NodeSets
+pub use Rattle.mcf_network.specs.Residual
+pub use Rattle.mcf_network.specs.States
+pub use Rattle.mcf_network.specs.Walks
+pub mod Extending
+pub mod Matchings
+pub mod Private
