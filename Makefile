@@ -33,7 +33,7 @@ test: kit
 	@scripts/page_test.sh
 
 # Each allocation refused in turn on a few worked rows, and with ALL=1 in every test: the tests are proved and built first, which takes as long as make.
-WITH_TESTS = mcf_text_tests mcf_tests mcf_engine_tests mcf_asking mcf_suite
+WITH_TESTS = mcf_text_tests mcf_tests mcf_engine_tests mcf_suite_tests
 memory-test: kit
 	@python3 scripts/refuse_memory.py $(if $(ALL),,--only six_rows) $(WITH_TESTS)
 

@@ -6,7 +6,5 @@
 //! Definitions stand in `specs/`: `Asking` says what a command line asks.
 
 mod asking;
-#[cfg(test)]
-mod tests_asking;
 
 pub use asking::{Asked, command};

@@ -7,8 +7,6 @@
 //! the program does.
 
 mod serving;
-#[cfg(test)]
-mod tests_serving;
 mod version;
 
 pub use mcf_asking::{Asked, command};

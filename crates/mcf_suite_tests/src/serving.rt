@@ -1,5 +1,5 @@
 //! Runs of the command `mcf`: its words, its statuses and its lines.
-use crate::{FromReader, IntoWriter, VERSION, serve};
+use mcf_suite::{FromReader, IntoWriter, VERSION, serve};
 use mcf_text::NoMemory;
 use std::alloc::Global;
 use std::io::{self, ErrorKind, Read, Write};

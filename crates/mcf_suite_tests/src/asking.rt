@@ -1,7 +1,6 @@
 //! Command lines, and what they ask.
-use crate::command;
 use clap::Error;
-use mcf_choice::{EngineChoice, Form, PricingChoice};
+use mcf_suite::{EngineChoice, Form, PricingChoice, command};
 use std::alloc::Global;
 use std::test::Fail;
 
