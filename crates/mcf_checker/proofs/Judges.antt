@@ -1,5 +1,5 @@
 -- The judge accepts what is right, and nothing else.
-use Rattle.std.proofs.Common.{◌≡◌, ℕ, Bool, true, false, cond, eqb, refl, sym, ap, subst, ◌∙◌, List, length, ℤ, Option, Some, None, Result, Ok, Err}
+use Rattle.std.proofs.Common.{◌≡◌, IfOk, ℕ, Bool, true, false, cond, eqb, refl, sym, ap, subst, ◌∙◌, List, length, ℤ, Option, Some, None, Result, Ok, Err}
 use Rattle.std.specs.List.{All}
 use Rattle.std.specs.Option.{option_map_or}
 use Rattle.std.specs.Ordering.{int_eq}
@@ -300,17 +300,14 @@ accepted_sets_leave_no_flow input text count reads e =
       none = λ flow. blocked_has_no_flow_lem w.instance (in_list w.set.nodes) w.set.side flow (reads w.instance w.read).ends w.right.exceeds;
     }
 
--- what was read is well-formed where it was refused, and where it is an instance that is
-pub refused_reads : (input : List ℕ) (fault : Fault) → Err fault ≡ reading limits input → ReadsWellFormed input
-refused_reads input fault e g h =
-    let s : Err fault ≡ Ok g = e ∙ h in absurd (cc)
-
-pub instance_reads : (input : List ℕ) (g : Network) → Ok g ≡ reading limits input → IsWellFormed limits g → ReadsWellFormed input
-instance_reads input g e well h k =
+-- what was read is well-formed where it is an instance that is
+pub outcome_reads : (input : List ℕ) (r : Result Network Fault) → r ≡ reading limits input → IfOk r (IsWellFormed limits) → ReadsWellFormed input
+outcome_reads input (Ok g) e well h k =
     let s : Ok g ≡ Ok h = e ∙ k in
     let same : g ≡ h = cc in
-    let P = λ (x : Network). IsWellFormed limits x in
-    subst P same well
+    subst (IsWellFormed limits) same well
+outcome_reads input (Err fault) e well g h =
+    let s : Err fault ≡ Ok g = e ∙ h in absurd (cc)
 
 -- ---- what a check ensures, at a verdict that is the one of the texts
 

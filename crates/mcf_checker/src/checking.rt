@@ -6,7 +6,7 @@ ghost use Rattle.mcf_checker.specs.Judging.{accepts, judged, same_fault, solutio
 ghost use Rattle.mcf_flows.specs.Flow.{IsLeast};
 ghost use Rattle.mcf_flows.specs.Limits.{limits};
 ghost use Rattle.mcf_instance.specs.Memory.{NamesNodes};
-ghost use Rattle.mcf_flows.specs.Network.{node_count};
+ghost use Rattle.mcf_flows.specs.Network.{Network, node_count};
 ghost use Rattle.mcf_flows.specs.WellFormed.{IsWellFormed};
 
 use crate::set::set_verdict;
@@ -68,6 +68,22 @@ fn instance_verdict(
     }
 }
 
+// The verdict on an answer to what was read of an instance text.
+fn outcome_verdict(
+    alloc: Global,
+    outcome: &Result<Instance, Refusal>,
+    answer: &Answer,
+) -> Result<Verdict, NoMemory>
+    ensures value { IfOk result (λ v. v ≡ judged outcome.now (Ok answer.now)) }
+    ensures wants { OnErr result ((g : Network) × (outcome.now ≡ Ok g) × (1 ≤ node_count g)) }
+    ensures well_formed { IfOk outcome.now (IsWellFormed limits) }
+{
+    match outcome {
+        Ok(instance) => instance_verdict(alloc, instance, answer),
+        Err(fault) => Ok(fault_verdict(fault, answer)),
+    }
+}
+
 /// The verdict on a flow with its cost and prices for an instance: the first of `BadArc`, `BadNode`, `BadPrice`, `BadCost` and
 /// `Flow` that applies. It accepts exactly where the flow is right, whoever made it, and then no feasible flow costs less.
 ///
@@ -105,12 +121,8 @@ pub fn check(alloc: Global, input: &[u8], answer: &[u8]) -> Result<Verdict, NoMe
     ensures wants { OnErr result (NamesNodes limits input.now ⊎ IsTrue (has_item_line answer.now)) }
 {
     let outcome = read(alloc, input)?;
-    let answer = match parse(alloc, answer)? {
-        Ok(answer) => answer,
-        Err(shape) => return Ok(Verdict::BadShape(shape.line)),
-    };
-    match outcome {
-        Ok(instance) => instance_verdict(alloc, &instance, &answer),
-        Err(fault) => Ok(fault_verdict(&fault, &answer)),
+    match parse(alloc, answer)? {
+        Ok(answer) => outcome_verdict(alloc, &outcome, &answer),
+        Err(shape) => Ok(Verdict::BadShape(shape.line)),
     }
 }
