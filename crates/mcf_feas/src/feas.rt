@@ -5,6 +5,7 @@ ghost use Rattle.mcf_flows.specs.Blocking.{in_table};
 ghost use Rattle.mcf_flows.specs.Network.{IsNode, node_count};
 ghost use Rattle.mcf_network.specs.States.{IsPseudoflow, surplus_at};
 ghost use Rattle.mcf_network.specs.Stuck.{IsStuck};
+ghost use Rattle.mcf_feas.specs.Chosen.{supply_total};
 ghost use Rattle.mcf_feas.specs.Feasible.{IsFeas};
 
 use crate::path_search::PathSearch;
@@ -44,9 +45,18 @@ pub fn feasible<'n>(alloc: Global, net: &'n Net) -> Result<Feas<'n>, NoMemory>
     ensures answer { IfOk result (IsFeas net.now) }
     ensures wants { OnErr result (1 ≤ node_count net.now) }
 {
-    if let Some((set, side)) = unbalanced(alloc, net)? {
-        return Ok(Feas::Blocked(set, side));
+    match unbalanced(alloc, net)? {
+        Some((set, side)) => Ok(Feas::Blocked(set, side)),
+        None => push_balanced(alloc, net),
     }
+}
+
+// What shows whether a net has a feasible flow, where its supplies add up to 0.
+fn push_balanced<'n>(alloc: Global, net: &'n Net) -> Result<Feas<'n>, NoMemory>
+    requires { supply_total net.now ≡ pos 0 }
+    ensures answer { IfOk result (IsFeas net.now) }
+    ensures wants { OnErr result (1 ≤ node_count net.now) }
+{
     let mut state = State::zero(alloc, net)?;
     let (mut levels, mut queue) = tables(alloc, net)?;
     let mut search = PathSearch::new(alloc, net)?;
