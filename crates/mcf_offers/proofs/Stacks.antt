@@ -28,6 +28,12 @@ no_farther near x (Some top) stack item before k d h =
       | inr n ↦ (let pair = stack k (length near - 1) d (omega (arith, n, h)) (omega (arith, h)) in omega (arith, ints, pair, least))
     ]
 
+-- where nothing stands on the stack, the first of the heap is the nearest
+pub far_alone : (near after : List Offer) (r : Option Offer) → IsStack near → IsGetResult near 0 (length near - 1) None
+    → IfSome r (λ o. All (λ p. o.dist ≤ℤ p.dist) after) → IfSome r (λ o. All (λ p. o.dist ≤ℤ p.dist) (near ++ after))
+far_alone near after None stack last least = tt
+far_alone near after (Some o) stack last least = All-append (λ p. o.dist ≤ℤ p.dist) near after (no_farther near o.dist None stack last tt) least
+
 -- so it can be put on top
 pub on_top : (near : List Offer) (o : Offer) → IsStack near → All (λ p. o.dist ≤ℤ p.dist) near → IsStack (near ++ o ∷ [])
 on_top near o stack least = all_pairs_push (λ below p. p.dist ≤ℤ below.dist) near o stack least
