@@ -198,11 +198,11 @@ assignment_at_end Asn listed supplies arcs h =
       each_arc = h.pairings;
     }
 
-pub well_formed : (h : Header) (listed : List Bool) (supplies : List ℤ) (arcs : List PackedArc) (total : ℕ)
-    → IsSound limits (Some h) listed supplies arcs total
-    → IsWellFormed limits (record { problem = h.problem; arcs = map unpacked arcs; supplies = supplies })
-well_formed h listed supplies arcs total sound =
-    let nodes : length supplies ≡ h.nodes = sound.one_supply_a_node in
+pub well_formed : (header : Option Header) (listed : List Bool) (supplies : List ℤ) (arcs : List PackedArc) (total : ℕ)
+    → IsSound limits header listed supplies arcs total
+    → IsWellFormed limits (record { problem = problem_or_min header; arcs = map unpacked arcs; supplies = supplies })
+well_formed header listed supplies arcs total sound =
+    let nodes : length supplies ≡ header_nodes header = sound.one_supply_a_node in
     let few : length (map unpacked arcs) ≤ arc_limit = rw (length-map arcs unpacked) (omega (arith, sound.arc_room, sound.arcs_small)) in
     let total_small : sum (map weight (map unpacked arcs)) ≤ total_limit = subst (λ t. t ≤ total_limit) sound.total_is sound.total_small in
     record {
@@ -210,5 +210,5 @@ well_formed h listed supplies arcs total sound =
       arcs = few;
       ends = subst (λ n. All (HasEnds n) (map unpacked arcs)) (sym nodes) sound.ends;
       within = record { arcs = sound.arcs_within; supplies = sound.supplies_within; total = total_small };
-      assignment = assignment_at_end h.problem listed supplies arcs sound.assignment;
+      assignment = assignment_at_end (problem_or_min header) listed supplies arcs sound.assignment;
     }

@@ -3,7 +3,7 @@ ghost use Rattle.std.specs.Prelude.{◌≡◌, ◌↔◌, ◌≤◌, ◌+◌, �
 ghost use Rattle.mcf_instance.specs.Arrays.{arc_of_numbers, arc_of_pair, assignment_problem, first_found, flow_problem, made_of_arrays, supply_fault};
 ghost use Rattle.mcf_flows.specs.Limits.{limits, arc_limit, node_limit};
 ghost use Rattle.mcf_flows.specs.Network.{Network};
-ghost use Rattle.mcf_instance.specs.Private.ArrayStates.{HoldsArcs, TookArcs, numbers_of};
+ghost use Rattle.mcf_instance.specs.Private.ArrayStates.{HoldsArcs, IsFaultlessBefore, TookArcs, numbers_of};
 ghost use Rattle.mcf_flows.specs.WellFormed.{IsWellFormed};
 
 use crate::reader::line::{ArcNumbers, Header, SUPPLY_LIMIT, is_up_to};
@@ -139,6 +139,17 @@ fn sizes_fit(nodes: usize, arcs: usize) -> bool
     nodes <= NODE_LIMIT && arcs <= ARC_LIMIT
 }
 
+// The instance of a state that all arcs were taken into, or their first fault.
+fn made(state: State, fault: Option<ArrayFault>) -> Result<Instance, ArrayFault>
+    ensures exact { (g : Network) → IsFaultlessBefore g → TookArcs g fault state → result ≡ made_of_arrays limits g }
+    ensures sound { IfOk result (IsWellFormed limits) }
+{
+    match fault {
+        Some(fault) => Err(fault),
+        None => Ok(state.into_instance()),
+    }
+}
+
 /// The flow problem of these supplies, by node, and of these arcs, in order; or the first fault.
 ///
 /// # Errors
@@ -177,15 +188,12 @@ fn made_of_supplies(
         nodes: supplies.len() as u32,
         arcs: arcs.len() as u32,
     };
-    let listed = copies(alloc, supplies.len(), false)?;
     let mut kept = Vec::new(alloc);
     kept.extend_from_slice(supplies)?;
+    let listed = copies(alloc, supplies.len(), false)?;
     let mut state = State::of_nodes(alloc, header, listed, kept);
     let fault = take_arcs(&mut state, header, arcs)?;
-    match fault {
-        Some(fault) => Ok(Err(fault)),
-        None => Ok(Ok(state.into_instance(header))),
-    }
+    Ok(made(state, fault))
 }
 
 // As many copies of one value as there are rows, and then of another as there are columns.
@@ -248,8 +256,5 @@ fn made_of_sides(
     let supplies = by_side(alloc, rows as usize, columns as usize, 1i64, -1i64)?;
     let mut state = State::of_nodes(alloc, header, listed, supplies);
     let fault = take_pairs(&mut state, header, rows, pairs)?;
-    match fault {
-        Some(fault) => Ok(Err(fault)),
-        None => Ok(Ok(state.into_instance(header))),
-    }
+    Ok(made(state, fault))
 }

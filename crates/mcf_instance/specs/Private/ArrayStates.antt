@@ -1,5 +1,5 @@
 -- The reader's state, as arrays are taken into it.
-use Rattle.std.specs.Prelude.{◌≡◌, ◌≤◌, Bool, List, length, map, ℤ, pos, Option, Some, None, Ok, Err}
+use Rattle.std.specs.Prelude.{◌≡◌, ◌≤◌, Bool, true, List, length, map, ℤ, pos, Option, Some, None, Ok, Err}
 use Rattle.std.specs.List.{All}
 use Rattle.mcf_flows.specs.declared.arc.Arc.{Arc}
 use Rattle.mcf_flows.specs.declared.arc.PackedArc.{PackedArc}
@@ -8,7 +8,7 @@ use Rattle.mcf_flows.specs.declared.code.Code.{Code}
 use Rattle.mcf_instance.specs.declared.reader.line.ArcNumbers.{ArcNumbers}
 use Rattle.mcf_instance.specs.declared.reader.line.Header.{Header}
 use Rattle.mcf_instance.specs.declared.reader.line.Item.TheVariants.{Link}
-use Rattle.mcf_instance.specs.Arrays.{arc_fault, first_found}
+use Rattle.mcf_instance.specs.Arrays.{arc_fault, first_found, sizes_fit, supply_fault}
 use Rattle.mcf_flows.specs.Assignment.{OnAssignment}
 use Rattle.mcf_flows.specs.Limits.{limits, node_limit, arc_limit}
 use Rattle.mcf_flows.specs.Network.{Network, node_count}
@@ -51,6 +51,10 @@ pub record HoldsArcs (g : Network) (arcs : List Arc) (s : StateData) : Type 0 wh
   pub supplies_are : s.supplies ≡ g.supplies
   pub arcs_are : map unpacked s.arcs ≡ arcs
   pub no_fault : first_found (arc_fault limits g) arcs ≡ None
+
+-- neither the sizes nor a supply of a network are faulty
+abbrev pub IsFaultlessBefore : Network → Type 0
+IsFaultlessBefore g = (sizes_fit g ≡ true) × (first_found (supply_fault limits) g.supplies ≡ None)
 
 -- all arcs of a network are in the state, or the first fault was found
 abbrev pub TookArcs : Network → Option ArrayFault → StateData → Type 0

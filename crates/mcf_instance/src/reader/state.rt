@@ -5,7 +5,7 @@ ghost use Rattle.mcf_flows.specs.Limits.{limits, line_limit};
 ghost use Rattle.mcf_instance.specs.Private.ArrayStates.{CarriesOne, NodesFit, Offered};
 ghost use Rattle.mcf_instance.specs.Private.LineReader.{arc_tests};
 ghost use Rattle.mcf_instance.specs.Private.ReaderSound.{IsSound, ItemFits};
-ghost use Rattle.mcf_instance.specs.Private.ReaderState.{empty, item_of, with_item, item_grows, network_of, outcome_grows, after_row, refusal_after, finished};
+ghost use Rattle.mcf_instance.specs.Private.ReaderState.{empty, item_of, with_item, item_grows, network_of, outcome_grows, problem_or_min, after_row, refusal_after, finished};
 ghost use Rattle.mcf_instance.specs.Private.PlainLines.{SaysArc};
 ghost use Rattle.mcf_instance.specs.Private.TakenArcs.{TakesArc, WantsArc};
 ghost use Rattle.mcf_instance.specs.ReadOn.{Stands};
@@ -335,21 +335,28 @@ impl State {
         requires { (1 ≤ line) × (line ≤ line_limit) }
         ensures { result ≡ finished self line }
     {
-        if let Some(refusal) = self.refusal_after(line) {
-            return Err(refusal);
+        match self.refusal_after(line) {
+            Some(refusal) => Err(refusal),
+            None => Ok(self.into_instance()),
         }
+    }
+
+    // The problem that the problem line names, `min` before it.
+    fn problem(&self) -> Problem
+        ensures { result ≡ problem_or_min self.now.header }
+    {
         match self.header {
-            Some(header) => Ok(self.into_instance(header)),
-            None => unreachable!(),
+            Some(header) => header.problem,
+            None => Problem::Min,
         }
     }
 
     /// The instance of the supplies and arcs so far, whether or not all arcs have come.
-    pub(crate) fn into_instance(self, header: Header) -> Instance
-        requires { self.header ≡ Some header }
+    pub(crate) fn into_instance(self) -> Instance
         ensures value { result ≡ network_of self }
         ensures sound { IsWellFormed limits result }
     {
+        let problem = self.problem();
         let State {
             header: _,
             listed: _,
@@ -358,6 +365,6 @@ impl State {
             total: _,
             refusal: _,
         } = self;
-        Instance::of(header.problem, arcs, supplies)
+        Instance::of(problem, arcs, supplies)
     }
 }

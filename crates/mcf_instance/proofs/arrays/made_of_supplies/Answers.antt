@@ -1,17 +1,13 @@
-use Rattle.std.proofs.Common.{◌≡◌, ◌&&◌, ◌++◌, ◌∙◌, ap, sym, refl, length, false, Some, None, List, [], map, arith, ℤ}
-use Rattle.std.specs.Prelude.{Bool, Option}
-use Rattle.mcf_instance.specs.declared.arrays.ArrayFault.{ArrayFault}
-use Rattle.mcf_instance.specs.declared.arrays.RawArc.{RawArc}
-use Rattle.mcf_instance.specs.ReadOn.{StateData}
+use Rattle.std.proofs.Common.{◌&&◌, ◌++◌, ◌∙◌, ap, sym, refl, length, false, List, arith, ℤ}
 use Rattle.std.specs.Prelude.{nat_le}
 use Rattle.std.proofs.lemmas.Bool.{and_parts}
 use Rattle.std.proofs.lemmas.List.{length-map, length-replicate}
 use Rattle.mcf_flows.specs.declared.problem.Problem.TheVariants.{Min}
+use Rattle.mcf_instance.specs.declared.reader.line.Header.{Header}
 use Rattle.mcf_instance.specs.Arrays.{arc_of_numbers, flow_problem}
 use Rattle.mcf_flows.specs.Limits.{arc_limit, node_limit}
 use Rattle.mcf_flows.specs.Network.{Network}
-use Rattle.mcf_instance.specs.Private.ArrayStates.{HoldsArcs, TookArcs, sizes}
-use Rattle.mcf_instance.proofs.ArrayFaults.{arc_refused_at_end, holds_none, made_at_end, sizes_refused, supplies_within, supply_refused}
+use Rattle.mcf_instance.proofs.ArrayFaults.{holds_none, sizes_refused, supplies_within, supply_refused}
 use Rattle.mcf_instance.proofs.arrays.made_of_supplies.Goals as goal
 
 pub returns-then-not-sizes_fit-clause-exact : goal.returns-then-not-sizes_fit-clause-exact
@@ -43,48 +39,14 @@ of_nodes-state-requires c =
       assignment = tt;
     }
 
--- what the state holds before the first arc, and so after them
-took : (supplies : List ℤ) (arcs : List RawArc) (listed : List Bool) (kept : List ℤ) (s t : StateData) (fault : Option ArrayFault) → kept ≡ supplies
-    → s ≡ record {
-      header = Some (record { problem = Min; nodes = length supplies; arcs = length arcs });
-      listed = listed;
-      supplies = kept;
-      arcs = [];
-      total = 0;
-      refusal = None;
-    }
-    → ((g : Network) → g.arcs ≡ map arc_of_numbers arcs → HoldsArcs g [] s → TookArcs g fault t) → TookArcs (flow_problem supplies arcs) fault t
-took supplies arcs listed kept s t fault same is h =
-    let g : Network = flow_problem supplies arcs in
-    let sized : record { problem = Min; nodes = length supplies; arcs = length arcs } ≡ sizes g =
-    ap (λ n. record { problem = Min; nodes = length supplies; arcs = n }) (sym (length-map arcs arc_of_numbers)) in
-    h g refl (holds_none g _ listed kept s sized same is)
-
-pub returns-in-Some-fault-clause-exact : goal.returns-in-Some-fault-clause-exact
-returns-in-Some-fault-clause-exact c =
+pub returns-clause-exact : goal.returns-clause-exact
+returns-clause-exact c =
     let g : Network = flow_problem c.args.supplies.now c.args.arcs.now in
     let kept = c.in_ok-extend_from_slice.ensures.items ∙ ap (λ (xs : List ℤ). xs ++ c.args.supplies.now) c.new-kept.ensures.items in
-    let after = took c.args.supplies.now c.args.arcs.now _ _ _ c.take_arcs.new.state c.in_ok-fault.fault kept c.of_nodes-state.ensures c.in_ok-fault.ensures.took in
-    arc_refused_at_end g c.in-Some-fault.fault
-    (ap (λ n. nat_le (length c.args.supplies.now) node_limit && nat_le n arc_limit) (length-map c.args.arcs.now arc_of_numbers)
-    ∙ sym c.sizes_fit.ensures ∙ c.if-not-sizes_fit.false)
-    (sym c.faulty_supply.ensures ∙ c.in-None.is) (rw c.in-Some-fault.is at after)
-
-pub into_instance-requires : goal.into_instance-requires
-into_instance-requires c =
-    let g : Network = flow_problem c.args.supplies.now c.args.arcs.now in
-    let kept = c.in_ok-extend_from_slice.ensures.items ∙ ap (λ (xs : List ℤ). xs ++ c.args.supplies.now) c.new-kept.ensures.items in
-    let after = took c.args.supplies.now c.args.arcs.now _ _ _ c.take_arcs.new.state c.in_ok-fault.fault kept c.of_nodes-state.ensures c.in_ok-fault.ensures.took in
-    let held : HoldsArcs g g.arcs c.take_arcs.new.state = rw c.in-None-fault.is at after in
-    held.header ∙ ap (λ n. Some (record { problem = Min; nodes = length c.args.supplies.now; arcs = n })) (length-map c.args.arcs.now arc_of_numbers)
-
-pub returns-in-None-fault-clause-exact : goal.returns-in-None-fault-clause-exact
-returns-in-None-fault-clause-exact c =
-    let g : Network = flow_problem c.args.supplies.now c.args.arcs.now in
-    let kept = c.in_ok-extend_from_slice.ensures.items ∙ ap (λ (xs : List ℤ). xs ++ c.args.supplies.now) c.new-kept.ensures.items in
-    let after = took c.args.supplies.now c.args.arcs.now _ _ _ c.take_arcs.new.state c.in_ok-fault.fault kept c.of_nodes-state.ensures c.in_ok-fault.ensures.took in
-    let held : HoldsArcs g g.arcs c.take_arcs.new.state = rw c.in-None-fault.is at after in
-    made_at_end g c.into_instance.result c.take_arcs.new.state
-    (ap (λ n. nat_le (length c.args.supplies.now) node_limit && nat_le n arc_limit) (length-map c.args.arcs.now arc_of_numbers)
-    ∙ sym c.sizes_fit.ensures ∙ c.if-not-sizes_fit.false)
-    (sym c.faulty_supply.ensures ∙ c.in-None.is) held c.into_instance.ensures.value
+    let sized = ap {B = Header} (λ n. record { problem = Min; nodes = length c.args.supplies.now; arcs = n }) (sym (length-map c.args.arcs.now arc_of_numbers)) in
+    c.made.ensures.exact g (
+      ap (λ n. nat_le (length c.args.supplies.now) node_limit && nat_le n arc_limit) (length-map c.args.arcs.now arc_of_numbers)
+          ∙ sym c.sizes_fit.ensures ∙ c.if-not-sizes_fit.false,
+      sym c.faulty_supply.ensures ∙ c.in-None.is,
+    )
+    (c.in_ok-fault.ensures.took g refl (holds_none g _ _ _ _ sized kept c.of_nodes-state.ensures))
