@@ -17,7 +17,7 @@ use Rattle.mcf_flows.specs.Blocking.{in_table}
 use Rattle.mcf_instance.specs.Fault.{is_up_to}
 use Rattle.mcf_flows.specs.Limits.{limits, node_limit, arc_limit, total_limit}
 use Rattle.mcf_instance.specs.Private.LineReader.{◌>>=◌, arc_count_fits, arc_line, arc_numbers, arc_tests, is_wrong_side, checked_node, node_count_fits}
-use Rattle.mcf_instance.specs.Private.LineReader.{node_line, node_numbers, node_tests, number_at, problem_at, problem_line, passes_total, with_header}
+use Rattle.mcf_instance.specs.Private.LineReader.{node_line, node_numbers, node_tests, number_at, number_pair, problem_at, problem_line, passes_total, with_header}
 use Rattle.mcf_flows.specs.Packed.{unpacked}
 use Rattle.mcf_instance.specs.ReadOn.{StateData}
 use Rattle.mcf_instance.specs.Private.ReaderState.{item_of, problem_or_min}
@@ -70,13 +70,12 @@ unfolding problem_line
 problem_fits seen fields =
     if_ok_test (not (length fields == 4)) _ _ (HeaderFound seen) (λ _.
     if_ok_bind (problem_at (slice_index_or fields 1 [])) _ (HeaderFound seen) (λ problem.
-    if_ok_bind (number_at fields 2) _ (HeaderFound seen) (λ nodes.
-    if_ok_bind (number_at fields 3) _ (HeaderFound seen) (λ arcs.
+    if_ok_bind (number_pair fields 2) _ (HeaderFound seen) (λ size.
     if_ok_test seen _ _ (HeaderFound seen) (λ unseen.
-    if_ok_test (not (is_within (pos 0) (pos node_limit) nodes && is_within (pos 0) (pos arc_limit) arcs)) _
-    (Ok (record { problem = problem; nodes = natural nodes; arcs = natural arcs })) (HeaderFound seen) (λ sizes.
-    let both = and_parts (is_within (pos 0) (pos node_limit) nodes) (is_within (pos 0) (pos arc_limit) arcs) (not-false _ sizes) in
-    (unseen, natural_most node_limit nodes both.0, natural_most arc_limit arcs both.1)))))))
+    if_ok_test (not (is_within (pos 0) (pos node_limit) size.0 && is_within (pos 0) (pos arc_limit) size.1)) _
+    (Ok (record { problem = problem; nodes = natural size.0; arcs = natural size.1 })) (HeaderFound seen) (λ fit.
+    let both = and_parts (is_within (pos 0) (pos node_limit) size.0) (is_within (pos 0) (pos arc_limit) size.1) (not-false _ fit) in
+    (unseen, natural_most node_limit size.0 both.0, natural_most arc_limit size.1 both.1))))))
 
 -- ---- node lines
 
@@ -184,7 +183,7 @@ arc_tests_fit h arcs total listed a unit =
 asn_arc_numbers : (fields : List (List ℕ)) → (length fields == 6) ≡ false → IfOk (arc_numbers fields) (λ a. (a.low ≡ pos 0) × (a.cap ≡ pos 1))
 asn_arc_numbers fields e =
     let P : ArcNumbers → Type 0 = λ a. (a.low ≡ pos 0) × (a.cap ≡ pos 1) in
-    rw e (if_ok_bind (number_at fields 1) _ P (λ _. if_ok_bind (number_at fields 2) _ P (λ _. if_ok_bind (number_at fields 3) _ P (λ _. (refl, refl)))))
+    rw e (if_ok_bind (number_pair fields 1) _ P (λ _. if_ok_bind (number_at fields 3) _ P (λ _. (refl, refl))))
 
 arc_line_fits : (o : Option Header) (arcs total : ℕ) (listed : List Bool) (fields : List (List ℕ))
     → IfOk (arc_line limits o arcs total listed fields) (ArcFits o arcs total listed)

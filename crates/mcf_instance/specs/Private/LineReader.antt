@@ -36,6 +36,10 @@ unfoldable pub number_at : List (List ℕ) → ℕ → Result ℤ Code
 number_at fields k =
     if is_whole (slice_index_or fields k []) then Ok (clamped (whole_value (slice_index_or fields k []))) else Err Number
 
+-- two numbers, one after the other
+abbrev pub number_pair : List (List ℕ) → ℕ → Result (ℤ × ℤ) Code
+number_pair fields k = number_at fields k >>= λ first. number_at fields (k + 1) >>= λ second. Ok (first, second)
+
 -- the problem that a word names, or `problem`
 unfoldable pub problem_at : List ℕ → Result Format Code
 problem_at word = if bytes_eq word (codes "min") then Ok Min else (if bytes_eq word (codes "asn") then Ok Asn else Err Problem)
@@ -47,11 +51,10 @@ unfoldable pub problem_line : Bool → List (List ℕ) → Result Header Code
 problem_line seen fields =
     if not (length fields == 4) then Err Fields
     else problem_at (slice_index_or fields 1 []) >>= λ problem.
-    number_at fields 2 >>= λ nodes.
-    number_at fields 3 >>= λ arcs.
+    number_pair fields 2 >>= λ sizes.
     (if seen then Err SecondP
-    else (if not (is_within (pos 0) (pos node_limit) nodes && is_within (pos 0) (pos arc_limit) arcs) then Err Size
-    else Ok (record { problem = problem; nodes = natural nodes; arcs = natural arcs })))
+    else (if not (is_within (pos 0) (pos node_limit) sizes.0 && is_within (pos 0) (pos arc_limit) sizes.1) then Err Size
+    else Ok (record { problem = problem; nodes = natural sizes.0; arcs = natural sizes.1 })))
 
 -- ---- node lines
 
@@ -63,8 +66,7 @@ node_count_fits (Some h) n = if is_min h.problem then n == 3 else n == 2
 -- the numbers of a node line: its node and its supply
 abbrev pub node_numbers : List (List ℕ) → Result (ℤ × ℤ) Code
 node_numbers fields =
-    number_at fields 1 >>= λ node.
-    (if length fields == 3 then (number_at fields 2 >>= λ supply. Ok (node, supply)) else Ok (node, pos 1))
+    if length fields == 3 then number_pair fields 1 else (number_at fields 1 >>= λ node. Ok (node, pos 1))
 
 -- a number as a node
 abbrev pub checked_node : Header → ℤ → Result ℕ Code
@@ -100,14 +102,11 @@ arc_count_fits (Some h) n = if is_min h.problem then n == 6 else n == 4
 -- the numbers of an arc line of either problem
 abbrev pub arc_numbers : List (List ℕ) → Result ArcNumbers Code
 arc_numbers fields =
-    number_at fields 1 >>= λ src.
-    number_at fields 2 >>= λ dst.
+    number_pair fields 1 >>= λ ends.
     number_at fields 3 >>= λ third.
-    (if length fields == 6 then
-    (number_at fields 4 >>= λ cap.
-    number_at fields 5 >>= λ cost.
-    Ok (record { src = src; dst = dst; low = third; cap = cap; cost = cost }))
-    else Ok (record { src = src; dst = dst; low = pos 0; cap = pos 1; cost = third }))
+    (if length fields == 6
+    then (number_pair fields 4 >>= λ amounts. Ok (record { src = ends.0; dst = ends.1; low = third; cap = amounts.0; cost = amounts.1 }))
+    else Ok (record { src = ends.0; dst = ends.1; low = pos 0; cap = pos 1; cost = third }))
 
 -- the arc doesn't go from a node with a node line to one without
 abbrev pub is_wrong_side : Header → List Bool → ℕ → ℕ → Bool
@@ -130,9 +129,12 @@ unless_fault (Some e) r = Err e
 abbrev pub passes_total : Limits → Format → ℕ → PackedArc → Bool
 passes_total allowed problem total a = is_min problem && passes allowed.total (total + weight (unpacked a))
 
--- the arc, where the total allows it
-abbrev pub within_total : Limits → Format → ℕ → PackedArc → Result PackedArc Code
-within_total allowed problem total a = if passes_total allowed problem total a then Err Total else Ok a
+-- the arc, where the count of arcs, its sides and the total allow it
+abbrev pub fitting_arc : Limits → Header → ℕ → ℕ → List Bool → PackedArc → Result PackedArc Code
+fitting_arc allowed h arcs total listed a =
+    if nat_le h.arcs arcs then Err Extra
+    else (if is_wrong_side h listed a.src a.dst then Err Side
+    else (if passes_total allowed h.problem total a then Err Total else Ok a))
 
 -- the tests of the numbers of an arc line, in order
 unfoldable pub arc_tests : Limits → Header → ℕ → ℕ → List Bool → ArcNumbers → Result PackedArc Code
@@ -140,9 +142,7 @@ arc_tests allowed h arcs total listed a =
     checked_node h a.src >>= λ src.
     checked_node h a.dst >>= λ dst.
     unless_fault (amount_fault allowed a.low a.cap a.cost)
-    (if nat_le h.arcs arcs then Err Extra
-    else (if is_wrong_side h listed src dst then Err Side
-    else within_total allowed h.problem total (record { src = src; dst = dst; low = a.low; cap = a.cap; cost = a.cost })))
+    (fitting_arc allowed h arcs total listed (record { src = src; dst = dst; low = a.low; cap = a.cap; cost = a.cost }))
 
 -- what an arc line says, or its fault
 unfoldable pub arc_line : Limits → Option Header → ℕ → ℕ → List Bool → List (List ℕ) → Result PackedArc Code

@@ -1,10 +1,10 @@
 //! What one line says: the tests of its fields, in the order in which faults are looked for.
-ghost use Rattle.std.specs.Prelude.{◌≡◌, ◌≤ℤ◌, ◌<ℤ◌, map, length, bytes_eq, pos, ◌<◌, ◌^◌, ◌≤◌, ◌&&◌, IfSome, IfOk};
+ghost use Rattle.std.specs.Prelude.{◌≡◌, ◌≤ℤ◌, ◌<ℤ◌, map, length, bytes_eq, pos, ◌+◌, ◌<◌, ◌^◌, ◌≤◌, ◌&&◌, IfSome, IfOk};
 ghost use Rattle.mcf_flows.specs.Blocking.{in_table};
 ghost use Rattle.mcf_instance.specs.Fault.{is_up_to};
 ghost use Rattle.mcf_flows.specs.Limits.{arc_limit, limits, node_limit, total_limit};
-ghost use Rattle.mcf_instance.specs.Private.LineReader.{number_at, problem_at, problem_line, node_count_fits, node_numbers, node_tests, checked_node};
-ghost use Rattle.mcf_instance.specs.Private.LineReader.{node_line, arc_count_fits, arc_numbers, is_wrong_side, amount_fault, passes_total, within_total};
+ghost use Rattle.mcf_instance.specs.Private.LineReader.{number_at, number_pair, problem_at, problem_line, node_count_fits, node_numbers, node_tests, checked_node};
+ghost use Rattle.mcf_instance.specs.Private.LineReader.{node_line, arc_count_fits, arc_numbers, is_wrong_side, amount_fault, fitting_arc, passes_total};
 ghost use Rattle.mcf_instance.specs.Private.LineReader.{arc_tests, arc_line};
 ghost use Rattle.mcf_text.specs.Row.{natural};
 ghost use Rattle.mcf_text.specs.Whole.{is_within};
@@ -83,6 +83,16 @@ fn number_of(fields: &[&[u8]], k: usize) -> Result<i64, Code>
     }
 }
 
+// Two numbers, one after the other.
+fn number_pair(fields: &[&[u8]], k: usize) -> Result<(i64, i64), Code>
+    requires { k + 1 < length fields.now }
+    ensures { result ≡ number_pair (map (λ f. f.now) fields.now) k }
+{
+    let first = number_of(fields, k)?;
+    let second = number_of(fields, k + 1)?;
+    Ok((first, second))
+}
+
 #[tactic(auto, unfolding(crate::specs::Private::LineReader::problem_at))]
 fn problem_of(word: &[u8]) -> Result<Problem, Code>
     ensures { result ≡ problem_at word.now }
@@ -111,8 +121,7 @@ pub(crate) fn problem_line(is_seen: bool, fields: &[&[u8]]) -> Result<Header, Co
         return Err(Code::Fields);
     }
     let problem = problem_of(fields[1])?;
-    let nodes = number_of(fields, 2)?;
-    let arcs = number_of(fields, 3)?;
+    let (nodes, arcs) = number_pair(fields, 2)?;
     if is_seen {
         return Err(Code::SecondP);
     }
@@ -183,11 +192,10 @@ fn node_numbers(fields: &[&[u8]]) -> Result<(i64, i64), Code>
     requires { 2 ≤ length fields.now }
     ensures { result ≡ node_numbers (map (λ f. f.now) fields.now) }
 {
-    let node = number_of(fields, 1)?;
     if fields.len() == 3 {
-        let supply = number_of(fields, 2)?;
-        Ok((node, supply))
+        number_pair(fields, 1)
     } else {
+        let node = number_of(fields, 1)?;
         Ok((node, 1))
     }
 }
@@ -261,12 +269,10 @@ fn arc_numbers(fields: &[&[u8]]) -> Result<ArcNumbers, Code>
     requires { 4 ≤ length fields.now }
     ensures { result ≡ arc_numbers (map (λ f. f.now) fields.now) }
 {
-    let src = number_of(fields, 1)?;
-    let dst = number_of(fields, 2)?;
+    let (src, dst) = number_pair(fields, 1)?;
     let third = number_of(fields, 3)?;
     if fields.len() == 6 {
-        let cap = number_of(fields, 4)?;
-        let cost = number_of(fields, 5)?;
+        let (cap, cost) = number_pair(fields, 4)?;
         Ok(ArcNumbers {
             src,
             dst,
@@ -324,12 +330,27 @@ fn passes_total(problem: Problem, total: u128, arc: PackedArc) -> bool
     }
 }
 
-// The arc, where the total allows it.
-fn within_total(problem: Problem, total: u128, arc: PackedArc) -> Result<PackedArc, Code>
-    requires { total ≤ total_limit }
-    ensures { result ≡ within_total limits problem total arc }
+// The arc, where the count of arcs, its sides and the total allow it.
+#[inline(always)]
+fn fitting_arc(
+    header: Header,
+    arcs: usize,
+    total: u128,
+    listed: &[bool],
+    arc: PackedArc,
+) -> Result<PackedArc, Code>
+    requires src_in { (1 ≤ arc.src) × (arc.src ≤ length listed.now) }
+    requires dst_in { (1 ≤ arc.dst) × (arc.dst ≤ length listed.now) }
+    requires total { total ≤ total_limit }
+    ensures { result ≡ fitting_arc limits header arcs total listed.now arc }
 {
-    if passes_total(problem, total, arc) {
+    if header.arcs as usize <= arcs {
+        return Err(Code::Extra);
+    }
+    if is_wrong_side(header, listed, arc.src, arc.dst) {
+        return Err(Code::Side);
+    }
+    if passes_total(header.problem, total, arc) {
         return Err(Code::Total);
     }
     Ok(arc)
@@ -361,15 +382,11 @@ pub(crate) fn arc_tests(
     if let Some(fault) = amount_fault(low, cap, cost) {
         return Err(fault);
     }
-    if header.arcs as usize <= arcs {
-        return Err(Code::Extra);
-    }
-    if is_wrong_side(header, listed, src, dst) {
-        return Err(Code::Side);
-    }
-    within_total(
-        header.problem,
+    fitting_arc(
+        header,
+        arcs,
         total,
+        listed,
         PackedArc {
             src,
             dst,
