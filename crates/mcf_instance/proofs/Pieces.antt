@@ -1,6 +1,6 @@
 -- The lines of a text that comes in pieces.
 use Rattle.std.proofs.Common.{◌≡◌, ℕ, ◌+◌, true, false, List, [], ◌∷◌, ◌++◌, refl, sym, ◌∙◌, ap, subst, None, Some, Err, append_assoc, append-nil}
-use Rattle.std.specs.Prelude.{Bool, IsTrue, Option, is_some, not}
+use Rattle.std.specs.Prelude.{IsTrue, Option, is_some}
 use Rattle.std.specs.List.{enumerate_from}
 use Rattle.std.proofs.lemmas.Bool.{both_ways}
 use Rattle.mcf_flows.specs.Codes.{Fault}
@@ -16,13 +16,6 @@ use Rattle.mcf_instance.proofs.WholeTexts.{read_all, read_nothing, read_refused}
 pub none_unless_some : (o : Option Fault) → is_some o ≡ false → o ≡ None
 none_unless_some None e = refl
 none_unless_some (Some fault) e = cc
-
-pub none_given : (o : Option Fault) (b : Bool) → is_some o ≡ not b → b ≡ true → o ≡ None
-none_given o b is e = none_unless_some o (is ∙ ap not e)
-
-pub some_otherwise : (o : Option Fault) (b : Bool) → is_some o ≡ not b → b ≡ false → o ≡ None → ⊥
-some_otherwise None b is e none = cc (is ∙ ap not e)
-some_otherwise (Some fault) b is e none = cc
 
 -- the feed of the empty text
 abbrev pub no_piece : Feed
@@ -42,29 +35,12 @@ on_piece text piece feed fed s good is_open is h = subst (λ f. HasReadOn limits
   refused = λ fault e. cc;
 }
 
--- a piece more, where a line was faulty
-pub on_more : (text piece : List ℕ) (feed : Feed) (s : StateData) (fault : Fault) → s.refusal ≡ Some fault → feed.has_ended ≡ false
-    → HasReadOn limits text feed s → HasReadOn limits (text ++ piece) feed s
-on_more text piece feed s fault e is_open h = record {
-  lines_read = λ good. cc;
-  refused = λ other is more _. ap (reading limits) (append_assoc text piece more)
-      ∙ h.refused other is (piece ++ more) (λ ended. absurd (both_ways feed.has_ended is_open ended));
-}
-
--- where a line was faulty it doesn't matter what is kept
-pub on_fault : (text : List ℕ) (feed other : Feed) (s : StateData) (fault : Fault) → s.refusal ≡ Some fault → feed.has_ended ≡ false
-    → HasReadOn limits text feed s → HasReadOn limits text other s
-on_fault text feed other s fault e is_open h = record {
-  lines_read = λ good. cc;
-  refused = λ found is more _. h.refused found is more (λ ended. absurd (both_ways feed.has_ended is_open ended));
-}
-
--- the end, where no line was faulty
-pub on_end : (text : List ℕ) (feed ended : Feed) (s : StateData) → s.refusal ≡ None → feed.has_ended ≡ false → ended ≡ record feed { has_ended = true }
+-- the end, whether or not a line was faulty
+pub on_end : (text : List ℕ) (feed ended : Feed) (s : StateData) → feed.has_ended ≡ false → ended ≡ record feed { has_ended = true }
     → HasReadOn limits text feed s → HasReadOn limits text ended s
-on_end text feed ended s good is_open is h = subst (λ f. HasReadOn limits text f s) (sym is) record {
-  lines_read = λ _ more _. h.lines_read good more (λ said. absurd (both_ways feed.has_ended is_open said));
-  refused = λ fault e. cc;
+on_end text feed ended s is_open is h = subst (λ f. HasReadOn limits text f s) (sym is) record {
+  lines_read = λ good more _. h.lines_read good more (λ said. absurd (both_ways feed.has_ended is_open said));
+  refused = λ fault e more _. h.refused fault e more (λ said. absurd (both_ways feed.has_ended is_open said));
 }
 
 -- ---- one line

@@ -111,10 +111,8 @@ impl Reader {
             fed: _,
             fault: _,
         } = self;
-        if state.refusal().is_none() {
-            lines.end();
-            read_finished(alloc, &mut lines, &mut state)?;
-        }
+        lines.end();
+        read_finished(alloc, &mut lines, &mut state)?;
         Ok(state.finish(lines.popped() + 1))
     }
 }
@@ -159,22 +157,20 @@ fn forget_after_fault(alloc: Global, lines: &mut LineFeed, state: &State)
     }
 }
 
-// Takes the finished lines in, up to the first faulty one.
+// Takes the finished lines in, up to the first faulty one: none where a line before was.
 fn read_finished(alloc: Global, lines: &mut LineFeed, state: &mut State) -> Result<(), NoMemory>
-    requires { state.old.refusal ≡ None }
     ensures read { OnOk result ((text : List ℕ) → HasReadOn limits text lines.old state.old → HasReadOn limits text lines.new state.new) }
     ensures drained { OnOk result (state.new.refusal ≡ None → IsTrue lines.new.has_ended → lines.new.rest ≡ []) }
     ensures wants { OnErr result ((text : List ℕ) → HasReadOn limits text lines.old state.old → NamesNodes limits text) }
     ensures same_end { lines.new.has_ended ≡ lines.old.has_ended }
     ensures same_count { lines.new.fed ≡ lines.old.fed }
 {
-    pop_arcs(lines, state)?;
-    'finished: while let Some(line) = lines.pop() {
-        read_line(alloc, state, line.number, line.bytes)?;
-        if state.refusal().is_some() {
-            return Ok(());
-        }
+    'finished: while state.refusal().is_none() {
         pop_arcs(lines, state)?;
+        let Some(line) = lines.pop() else {
+            return Ok(());
+        };
+        read_line(alloc, state, line.number, line.bytes)?;
     }
     Ok(())
 }

@@ -1,13 +1,12 @@
-use Rattle.std.proofs.Common.{◌≡◌, ℕ, List, None, length}
+use Rattle.std.proofs.Common.{◌≡◌, ℕ, List, length}
 use Rattle.mcf_flows.specs.Limits.{limits}
-use Rattle.mcf_instance.specs.ReadOn.{HasReadOn, HasReadPieces}
+use Rattle.mcf_instance.specs.ReadOn.{HasReadOn}
 use Rattle.mcf_instance.proofs.reader.pieces.read_finished.Given as goal
 
--- the state stands for the lines so far, none of which has a fault
+-- the state stands for the lines so far
 abbrev pub invariant-finished : goal.invariant-finished
 invariant-finished l = record {
-  good : l.state.refusal ≡ None;
-  read : (text : List ℕ) → HasReadOn limits text l.fn.lines l.fn.state → HasReadPieces limits text l.lines l.state;
+  read : (text : List ℕ) → HasReadOn limits text l.fn.lines l.fn.state → HasReadOn limits text l.lines l.state;
   same_end : l.lines.has_ended ≡ l.fn.lines.has_ended;
   same_count : l.lines.fed ≡ l.fn.lines.fed;
 }
