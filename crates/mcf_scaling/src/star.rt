@@ -1,9 +1,8 @@
 //! The forward star: the residual arcs that leave each node, side by side, as a scan reads them, and the position of each.
-ghost use Rattle.std.specs.Prelude.{◌≡◌, ◌-◌, ◌*◌, ◌^◌, ◌<◌, ◌≤◌, [], IfOk, OnErr, length, take};
+ghost use Rattle.std.specs.Prelude.{◌≡◌, ◌-◌, ◌*◌, ◌^◌, ◌<◌, ◌≤◌, [], IfOk, OnErr, length};
 ghost use Rattle.std.specs.List.{All};
 ghost use Rattle.mcf_flows.specs.Network.{IsArcNumber, IsNode, node_count};
-ghost use Rattle.mcf_network.specs.Stars.{ListsLeaving};
-ghost use Rattle.mcf_scaling.specs.Private.Stars.{ArePositions, ArePositionsUpTo, IsResidualArc, IsStarOf, out_at, residual_of, residuals, position_of, span_of};
+ghost use Rattle.mcf_scaling.specs.Private.Stars.{ArePositions, ArePositionsUpTo, IsResidualArc, IsStarOf, IsStarUpTo, out_at, residual_of, position_of, span_of};
 
 use mcf_network::{Net, Rid};
 use mcf_text::{ArcId, NoMemory, NodeId, copies};
@@ -11,7 +10,7 @@ use std::alloc::Global;
 use std::marker::Model;
 
 /// What a scan reads of a residual arc. 16 bytes.
-#[derive(Clone, Copy, Debug)]
+#[derive(Clone, Copy)]
 pub(crate) struct ResidualArc {
     // the cost of each unit along it
     pub(crate) cost: i64,
@@ -22,7 +21,7 @@ pub(crate) struct ResidualArc {
 }
 
 /// The positions of the residual arcs that leave a node: the first, and the end behind the last.
-#[derive(Clone, Copy, Debug)]
+#[derive(Clone, Copy)]
 pub(crate) struct Span {
     pub(crate) first: usize,
     pub(crate) end: usize,
@@ -56,8 +55,7 @@ impl ForwardStar {
         let mut spans = Vec::with_capacity(alloc, net.node_count() as usize)?;
         let mut outs = Vec::with_capacity(alloc, 2 * net.arc_count() as usize)?;
         'nodes: for number in 0..net.node_count() {
-            let span = put_leaving(net, &mut outs, NodeId::at(number))?;
-            spans.push(span)?;
+            put_leaving(net, &mut spans, &mut outs, NodeId::at(number))?;
         }
         let mut positions = copies(alloc, 2 * net.arc_count() as usize, 0)?;
         write_positions(&outs, &mut positions);
@@ -149,20 +147,22 @@ fn link_of(arc: ArcId, back: bool) -> u32
     if back { forward + 1 } else { forward }
 }
 
-// Puts the residual arcs that leave a node behind the others.
-fn put_leaving(net: &Net, outs: &mut Vec<ResidualArc>, v: NodeId) -> Result<Span, NoMemory>
+// Puts the residual arcs that leave a node behind the others, and the span of their positions behind the other spans.
+fn put_leaving(
+    net: &Net,
+    spans: &mut Vec<Span>,
+    outs: &mut Vec<ResidualArc>,
+    v: NodeId,
+) -> Result<(), NoMemory>
     requires node { IsNode (node_count net.now) v }
-    requires each { All (IsResidualArc net.now) outs.old.items }
-    ensures each { IfOk result (λ _. All (IsResidualArc net.now) outs.new.items) }
-    ensures before { IfOk result (λ _. take (length outs.old.items) outs.new.items ≡ outs.old.items) }
-    ensures first { IfOk result (λ span. span.first ≡ length outs.old.items) }
-    ensures end { IfOk result (λ span. span.end ≡ length outs.new.items) }
-    ensures lists { IfOk result (λ span. ListsLeaving net.now v (residuals outs.new.items span.first span.end)) }
+    requires star { IsStarUpTo net.now (record { spans = spans.old.items; outs = outs.old.items; positions = [] }) (v - 1) }
+    ensures { IfOk result (λ _. IsStarUpTo net.now (record { spans = spans.new.items; outs = outs.new.items; positions = [] }) v) }
 {
     let first = outs.len();
     'leaving: for leaving in net.leaving(v) {
         outs.push(residual_arc(net, leaving))?;
     }
     let end = outs.len();
-    Ok(Span { first, end })
+    spans.push(Span { first, end })?;
+    Ok(())
 }

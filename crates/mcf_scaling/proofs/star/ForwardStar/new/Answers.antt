@@ -1,8 +1,9 @@
-use Rattle.std.proofs.Common.{◌≡◌, ℕ, ◌*◌, ◌∙◌, ◌≤◌, length, rules, arith, sym, ap}
+use Rattle.std.proofs.Common.{◌≡◌, ℕ, ◌*◌, ◌∙◌, ◌≤◌, length, rules, arith, sym, ap, subst}
 use Rattle.std.proofs.lemmas.Bool.{true≢false}
 use Rattle.std.proofs.lemmas.List.{length-replicate}
 use Rattle.mcf_flows.specs.Network.{node_count}
-use Rattle.mcf_scaling.proofs.StarLaws.{arcs_want, on_err, star_next}
+use Rattle.mcf_scaling.specs.Private.Stars.{IsStarUpTo}
+use Rattle.mcf_scaling.proofs.StarLaws.{arcs_want, on_err}
 use Rattle.mcf_scaling.proofs.PositionLaws.{whole_few, whole_positions, whole_star}
 use Rattle.mcf_scaling.proofs.star.ForwardStar.new.Goals as goal
 
@@ -11,11 +12,12 @@ returns-in_err-outs-clause-wants c =
     on_err c.from_residual-in_err-outs.result (1 ≤ node_count c.args.net.now) (arcs_want c.args.net.now (2 * c.arc_count.result)
     c.arc_count.ensures.of_net (ap (λ (n : ℕ). 2 * n) c.arc_count.ensures.value) (λ none. true≢false (sym (c.in_err-outs.ensures.succeeds none))))
 
+pub put_leaving-requires-clause-star : goal.put_leaving-requires-clause-star
+put_leaving-requires-clause-star c =
+    subst (IsStarUpTo c.args.net.now _) (let at = c.at.ensures in omega (arith, at)) c.nodes.invariant
+
 pub nodes-preserved : goal.nodes-preserved
-nodes-preserved c =
-    star_next c.args.net.now c.nodes.spans.items c.push.new.self.items c.nodes.outs.items c.put_leaving.new.outs.items c.nodes.number c.at.result
-    c.in_ok-span.span c.nodes.invariant c.in_ok-push.ensures.items c.at.ensures c.in_ok-span.ensures.before c.in_ok-span.ensures.each
-    c.in_ok-span.ensures.first c.in_ok-span.ensures.end c.in_ok-span.ensures.lists
+nodes-preserved c = subst (IsStarUpTo c.args.net.now _) c.at.ensures c.in_ok-put_leaving.ensures
 
 pub returns-in_err-positions-clause-wants : goal.returns-in_err-positions-clause-wants
 returns-in_err-positions-clause-wants c =
