@@ -186,15 +186,15 @@ firsts_next star current_arcs after n v first all e is here =
       ];
     }
 
-pub all_current : (s : Pseudoflow) (g : Network) (prices : List ℤ) (star : Star) (current_arcs : List ℕ) → s.net ≡ g → IsStarOf g star
-    → AreFirsts star current_arcs (node_count g) → AreCurrentArcs s prices star current_arcs
-all_current s g prices star current_arcs net ok all =
-    subst (λ (h : Network). AreCurrentArcs (record s { net = h }) prices star current_arcs) (sym net) (record {
+pub all_current : (s : Pseudoflow) (prices : List ℤ) (star : Star) (current_arcs : List ℕ) → IsStarOf s.net star
+    → AreFirsts star current_arcs (node_count s.net) → AreCurrentArcs s prices star current_arcs
+all_current s prices star current_arcs ok all =
+    record {
       count = all.count;
       within = λ v h. rw (all.each v h) (ok.rises v h);
       leave = λ v h. rw (all.each v h) (ok.lists v h).each_leaves;
       passed = λ v h r leaves. inr (rw (all.each v h) ((ok.lists v h).every r leaves));
-    })
+    }
 
 -- ---- the methods
 

@@ -18,7 +18,7 @@ use Rattle.mcf_network.proofs.ArcLaws.{amount_of, head_is_node, tail_is_node}
 use Rattle.mcf_network.proofs.StateLaws.{rid}
 use Rattle.mcf_scaling.specs.Optimality.{IsAdmissible, IsFilled, IsLeastReduced, IsOptimalWithin}
 use Rattle.mcf_scaling.specs.Phases.{IsBegun, IsRelabel}
-use Rattle.mcf_scaling.specs.Refinements.{Refinement, StepCounts, IsActive, IsRefinement, no_steps, within}
+use Rattle.mcf_scaling.specs.Refinements.{Refinement, StepCounts, IsActive, IsRefinement, within}
 use Rattle.mcf_scaling.specs.Scales.{ArePhases, greatest_cost}
 use Rattle.mcf_scaling.proofs.ScaleLaws.{cost_within, power_small}
 use Rattle.mcf_scaling.proofs.Rises.{IsClosedToward, closed_none}

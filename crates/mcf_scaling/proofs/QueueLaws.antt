@@ -145,9 +145,8 @@ no_queue_ok n h =
       waits = λ k d l. absurd (omega arith);
     }
 
-pub start_queue : (s : Pseudoflow) (g : Network) (q : Waiting) → IsPseudoflow s → HasNoSurplus s → g ≡ s.net → q ≡ no_queue (node_count g) → IsQueueOf s q
-start_queue s g q ok none net e =
-    let is : q ≡ no_queue (node_count s.net) = e ∙ ap (λ (h : Network). no_queue (node_count h)) net in
+pub start_queue : (s : Pseudoflow) (q : Waiting) → IsPseudoflow s → HasNoSurplus s → q ≡ no_queue (node_count s.net) → IsQueueOf s q
+start_queue s q ok none is =
     subst (λ (x : Waiting). IsQueueOf s x) (sym is) (record {
       holds = record {
         queue = no_queue_ok (node_count s.net) ok.of_net.nodes;

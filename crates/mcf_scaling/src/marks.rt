@@ -1,30 +1,13 @@
 //! A mark for each position of the forward star, which says whether the residual arc there has capacity.
-ghost use Rattle.std.specs.Prelude.{◌≡◌, ◌≤◌, IfOk, OnErr, length};
+ghost use Rattle.std.specs.Prelude.{◌≡◌, length};
 ghost use Rattle.std.specs.Bool.{OnFalse, OnTrue};
-ghost use Rattle.mcf_flows.specs.Network.{IsArcNumber, node_count};
+ghost use Rattle.mcf_flows.specs.Network.{IsArcNumber};
 ghost use Rattle.mcf_network.specs.Walks.{HasRoom};
 ghost use Rattle.mcf_scaling.specs.Private.Stars.{AreCapacityMarks, ArePositions, IsMarked, IsStarOf};
 
 use crate::star::ForwardStar;
 use mcf_network::{Rid, State};
-use mcf_text::{ArcId, NoMemory, copies};
-use std::alloc::Global;
-
-/// The marks of a state.
-pub(crate) fn capacity_marks(
-    alloc: Global,
-    state: &State<'_>,
-    star: &ForwardStar,
-) -> Result<Vec<bool>, NoMemory>
-    requires star { IsStarOf state.now.net star.now }
-    requires positions { ArePositions state.now.net star.now }
-    ensures value { IfOk result (λ made. AreCapacityMarks state.now star.now made.items) }
-    ensures wants { OnErr result (1 ≤ node_count state.now.net) }
-{
-    let mut has_capacity = copies(alloc, star.count(), false)?;
-    mark_all(state, star, &mut has_capacity);
-    Ok(has_capacity)
-}
+use mcf_text::ArcId;
 
 /// Writes the marks of all residual arcs.
 pub(crate) fn mark_all(state: &State<'_>, star: &ForwardStar, has_capacity: &mut Vec<bool>)

@@ -10,14 +10,16 @@ ghost use Rattle.mcf_network.specs.Residual.{tail};
 ghost use Rattle.mcf_network.specs.States.{IsPseudoflow, pushed, room_of, surplus_at};
 ghost use Rattle.mcf_scaling.specs.Optimality.{AreSmallPrices, IsAdmissible, IsLeastReduced, rise_reach};
 ghost use Rattle.mcf_network.specs.Walks.{HasRoom};
-ghost use Rattle.mcf_scaling.specs.Private.Stars.{AreCapacityMarks, IsStarOf};
+ghost use Rattle.mcf_scaling.specs.Private.CurrentArcs.{AreFirsts};
+ghost use Rattle.mcf_scaling.specs.Private.Queues.{no_queue};
+ghost use Rattle.mcf_scaling.specs.Private.Stars.{AreCapacityMarks, ArePositions, IsStarOf};
 ghost use Rattle.mcf_scaling.specs.Phases.{IsBegun, IsDone, IsPush, IsRelabel};
 ghost use Rattle.mcf_scaling.specs.Refinements.{IsActive, IsNodeOf, IsRefinement, reduced, within};
 ghost use Rattle.mcf_scaling.specs.Scales.{IsStart};
 
 use crate::current_arcs::{all_firsts, next_admissible};
 use crate::filling::fill;
-use crate::marks::{capacity_marks, mark, mark_all};
+use crate::marks::{mark, mark_all};
 use crate::pricing::{least_reduced, reduced_cost};
 use crate::queue::{Queue, enqueue, enqueue_all, tidy};
 use crate::scale::{first_scale, power};
@@ -88,15 +90,11 @@ impl<'n> Refine<'n> {
         ensures valid { IfOk result IsRefinement }
         ensures wants { OnErr result (1 ≤ node_count state.entry.net) }
     {
-        let net = state.net();
-        let nodes = net.node_count() as usize;
-        let scale = first_scale(net);
+        let nodes = state.net().node_count() as usize;
+        let scale = first_scale(state.net());
         let prices = copies(alloc, nodes, 0)?;
         let before = copies(alloc, nodes, 0)?;
-        let star = ForwardStar::new(alloc, net)?;
-        let has_capacity = capacity_marks(alloc, &state, &star)?;
-        let current_arcs = all_firsts(alloc, net, &star)?;
-        let queue = Queue::new(alloc, net)?;
+        let (star, has_capacity, current_arcs, queue) = tables(alloc, &state)?;
         Ok(Refine {
             state,
             prices,
@@ -253,13 +251,8 @@ impl<'n> Refine<'n> {
         let Refine {
             state,
             prices,
-            before: _,
-            scale: _,
-            star: _,
-            has_capacity: _,
-            current_arcs: _,
-            queue: _,
             steps,
+            ..
         } = self;
         (state, prices, steps)
     }
@@ -272,6 +265,27 @@ impl<'n> Refine<'n> {
         let (state, _) = self.into_parts();
         state
     }
+}
+
+// The star of the net, the marks of a state, the first current arcs, and an empty queue.
+fn tables(
+    alloc: Global,
+    state: &State<'_>,
+) -> Result<(ForwardStar, Vec<bool>, Vec<usize>, Queue), NoMemory>
+    ensures star { IfOk result (λ made. IsStarOf state.now.net made.0) }
+    ensures positions { IfOk result (λ made. ArePositions state.now.net made.0) }
+    ensures marks { IfOk result (λ made. AreCapacityMarks state.now made.0 made.1.items) }
+    ensures firsts { IfOk result (λ made. AreFirsts made.0 made.2.items (node_count state.now.net)) }
+    ensures queue { IfOk result (λ made. made.3 ≡ no_queue (node_count state.now.net)) }
+    ensures wants { OnErr result (1 ≤ node_count state.now.net) }
+{
+    let net = state.net();
+    let star = ForwardStar::new(alloc, net)?;
+    let mut has_capacity = copies(alloc, star.count(), false)?;
+    mark_all(state, &star, &mut has_capacity);
+    let current_arcs = all_firsts(alloc, net, &star)?;
+    let queue = Queue::new(alloc, net)?;
+    Ok((star, has_capacity, current_arcs, queue))
 }
 
 // Pushes the lesser of the surplus of its tail and its room along a residual arc.
