@@ -170,7 +170,7 @@ scanned_small x y z e h k =
     let k_high = k.1 in
     (omega (arith, ints, clamps, e, h_low, k_low), omega (arith, ints, clamps, e, h_high, k_high))
 
-landed_less : (s : Pseudoflow) (prices : List ℤ) (r : Rid) (price : ℤ) → price ≡ at_node prices (tail s.net r)
+pub landed_less : (s : Pseudoflow) (prices : List ℤ) (r : Rid) (price : ℤ) → price ≡ at_node prices (tail s.net r)
     → (landed s.net prices r -ℤ price) ≡ scaled_reduced s.net prices r
 landed_less s prices r price is = omega (arith, ints, is)
 

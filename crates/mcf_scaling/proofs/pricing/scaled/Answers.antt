@@ -4,6 +4,11 @@ use Rattle.std.proofs.lemmas.Int.{to_z-of_z}
 use Rattle.mcf_scaling.proofs.Sizes.{short_product}
 use Rattle.mcf_scaling.proofs.pricing.scaled.Goals as goal
 
+pub overflow_mul-result : goal.overflow_mul-result
+overflow_mul-result c =
+    rw (to_z-of_z w128 c.args.cost c.ranges.cost, to_z-of_z w128 c.args.scale c.ranges.scale)
+    (short_product c.args.cost c.args.scale c.requires.cost c.requires.scale).fits
+
 pub returns-clause-value : goal.returns-clause-value
 returns-clause-value c =
     let cost = to_z-of_z w128 c.args.cost c.ranges.cost in
