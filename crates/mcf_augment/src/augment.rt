@@ -129,10 +129,23 @@ fn by_search<'n>(
     ensures { IfOk result (λ found. IfSome found (IsOutcome (λ _. ⊤) net.now)) }
 {
     let mut search = Search::start(alloc, net, readings)?;
-    let mut state = State::zero(alloc, net)?;
     let mut pricer = Pricer::start(alloc, net)?;
+    answer(alloc, net, &mut search, &mut pricer)
+}
+
+// The answer of a search, if it finds one.
+fn answer<'n>(
+    alloc: Global,
+    net: &'n Net,
+    search: &mut Search,
+    pricer: &mut Pricer,
+) -> Result<Option<Outcome<'n>>, NoMemory>
+    requires { pricer.old ≡ node_count net.now }
+    ensures { IfOk result (λ found. IfSome found (IsOutcome (λ _. ⊤) net.now)) }
+{
+    let mut state = State::zero(alloc, net)?;
     let mut prices = copies(alloc, net.node_count() as usize, 0)?;
-    if find(&mut search, &mut state, &mut pricer, prices.as_mut_slice()) {
+    if find(search, &mut state, pricer, prices.as_mut_slice()) {
         return Ok(Some(Outcome::Least(state, prices)));
     }
     Ok(None)

@@ -3,7 +3,7 @@ use Rattle.mcf_flows.specs.Network.{Network}
 use Rattle.mcf_network.specs.States.{Pseudoflow}
 use Rattle.mcf_engine.specs.Outcomes.{AreStatePrices, IsLeastState}
 use Rattle.mcf_simplex.proofs.Ending.{written}
-use Rattle.mcf_augment.proofs.augment.by_search.Goals as goal
+use Rattle.mcf_augment.proofs.augment.answer.Goals as goal
 
 pub returns-then-find : goal.returns-then-find
 returns-then-find c =
