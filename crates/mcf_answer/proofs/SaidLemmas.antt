@@ -3,8 +3,8 @@ use Rattle.std.proofs.Common.{◌≡◌, ℕ, ◌≤◌, Bool, true, false, cond
 use Rattle.std.specs.Prelude.{ℤ, Option, codes, option_map, neg_ℤ}
 use Rattle.std.proofs.lemmas.Slice.Eq.{bytes_eq-Decides}
 use Rattle.mcf_answer.specs.Ranges.{IsAmount, IsArcInRange, IsNodeInRange, amount_limit}
-use Rattle.mcf_answer.specs.Said.{amount_of, arc_of, code_of, cost_said, line_number_of, node_of, member_said, moved_said, number_within, price_said}
-use Rattle.mcf_answer.specs.Said.{refusal_said, sent_said, set_said, side_of, version_said, ◌>>=◌}
+use Rattle.mcf_answer.specs.Said.{amount_of, arc_of, code_of, cost_said, line_number_of, node_of, member_said, moved_said, number_within, one_behind, price_said}
+use Rattle.mcf_answer.specs.Said.{refusal_said, sent_said, set_said, side_of, three_behind, two_behind, version_said, ◌>>=◌}
 use Rattle.mcf_answer.specs.Solution.{IsSent}
 use Rattle.mcf_answer.specs.SparseSolution.{IsMoved}
 use Rattle.mcf_answer.specs.Spelling.{cost_line, flow_line, member_line, moved_line, price_line, refusal_line, set_line, side_word, version_line}
@@ -138,14 +138,36 @@ code_of-some (Number z) c e = cc
 
 -- ---- lines: what a line says is in range, and the line is the one that says it
 
+one_behind-some : (word : List ℕ) (line : List Token) (t : Token) → one_behind word line ≡ Some t → line ≡ Word word ∷ t ∷ []
+one_behind-some word (first ∷ one ∷ []) t e =
+    let w = if-some (is_word word first) (Some one) t e in
+    let is : first ≡ Word word = is_word-true word first w.0 in
+    cc
+one_behind-some word line t e = cc
+
+two_behind-some : (word : List ℕ) (line : List Token) (t : Token × Token) → two_behind word line ≡ Some t → line ≡ Word word ∷ t.0 ∷ t.1 ∷ []
+two_behind-some word (first ∷ one ∷ two ∷ []) t e =
+    let w = if-some (is_word word first) (Some (one, two)) t e in
+    let is : first ≡ Word word = is_word-true word first w.0 in
+    let same : t ≡ (one, two) = cc w.1 in
+    ap (λ f. f ∷ one ∷ two ∷ []) is ∙ ap (λ p. Word word ∷ p.0 ∷ p.1 ∷ []) (sym same)
+two_behind-some word line t e = cc
+
+three_behind-some : (word : List ℕ) (line : List Token) (t : Token × Token × Token) → three_behind word line ≡ Some t
+    → line ≡ Word word ∷ t.0 ∷ t.1 ∷ t.2 ∷ []
+three_behind-some word (first ∷ one ∷ two ∷ three ∷ []) t e =
+    let w = if-some (is_word word first) (Some (one, two, three)) t e in
+    let is : first ≡ Word word = is_word-true word first w.0 in
+    let same : t ≡ (one, two, three) = cc w.1 in
+    ap (λ f. f ∷ one ∷ two ∷ three ∷ []) is ∙ ap (λ p. Word word ∷ p.0 ∷ p.1 ∷ p.2 ∷ []) (sym same)
+three_behind-some word line t e = cc
+
 pub version_said-some : (line : List Token) (version : ℤ) → version_said line ≡ Some version → line ≡ version_line
 unfolding version_said
-version_said-some (word ∷ number ∷ []) version e =
-    let w = if-some (is_word (codes "v") word) (number_within (pos 2) (pos 2) number) version e in
-    let a = number_within-some (pos 2) (pos 2) number version w.1 in
-    let first : word ≡ Word (codes "v") = is_word-true (codes "v") word w.0 in
-    ap (λ t. t ∷ number ∷ []) first ∙ ap (λ t. Word (codes "v") ∷ t ∷ []) (a.0 ∙ ap Number (is_two version a.1))
-version_said-some line version e = cc
+version_said-some line version e =
+    let w = bind-some (one_behind (codes "v") line) _ version e in
+    let a = number_within-some (pos 2) (pos 2) w.0 version w.2 in
+    one_behind-some (codes "v") line w.0 w.1 ∙ ap (λ t. Word (codes "v") ∷ t ∷ []) (a.0 ∙ ap Number (is_two version a.1))
 
 pub version_said-line : version_said version_line ≡ Some (pos 2)
 unfolding version_said
@@ -153,12 +175,10 @@ version_said-line = refl
 
 pub cost_said-some : (line : List Token) (cost : ℤ) → cost_said line ≡ Some cost → (line ≡ cost_line cost) × IsAmount cost
 unfolding cost_said
-cost_said-some (word ∷ number ∷ []) cost e =
-    let w = if-some (is_word (codes "s") word) (amount_of number) cost e in
-    let a = amount_of-some number cost w.1 in
-    let first : word ≡ Word (codes "s") = is_word-true (codes "s") word w.0 in
-    (ap (λ t. t ∷ number ∷ []) first ∙ ap (λ t. Word (codes "s") ∷ t ∷ []) a.0, a.1)
-cost_said-some line cost e = cc
+cost_said-some line cost e =
+    let w = bind-some (one_behind (codes "s") line) _ cost e in
+    let a = amount_of-some w.0 cost w.2 in
+    (one_behind-some (codes "s") line w.0 w.1 ∙ ap (λ t. Word (codes "s") ∷ t ∷ []) a.0, a.1)
 
 pub cost_said-line : (cost : ℤ) → IsAmount cost → cost_said (cost_line cost) ≡ Some cost
 unfolding cost_said
@@ -166,20 +186,19 @@ cost_said-line cost h = amount_of-number cost h
 
 pub sent_said-some : (line : List Token) (s : Sent) → sent_said line ≡ Some s → (line ≡ flow_line s) × IsSent s
 unfolding sent_said
-sent_said-some (word ∷ src ∷ dst ∷ flow ∷ []) s e =
-    let w = if-some (is_word (codes "f") word) _ s e in
-    let a = bind-some (node_of src) _ s w.1 in
-    let b = bind-some (node_of dst) _ s a.2 in
-    let c = bind-some (amount_of flow) _ s b.2 in
+sent_said-some line s e =
+    let w = bind-some (three_behind (codes "f") line) _ s e in
+    let a = bind-some (node_of w.0.0) _ s w.2 in
+    let b = bind-some (node_of w.0.1) _ s a.2 in
+    let c = bind-some (amount_of w.0.2) _ s b.2 in
     let is : s ≡ record { src = a.0; dst = b.0; flow = c.0 } = cc c.2 in
-    let first : word ≡ Word (codes "f") = is_word-true (codes "f") word w.0 in
-    let from = node_of-some src a.0 a.1 in
-    let to = node_of-some dst b.0 b.1 in
-    let carried = amount_of-some flow c.0 c.1 in
-    let line : word ∷ src ∷ dst ∷ flow ∷ [] ≡ flow_line (record { src = a.0; dst = b.0; flow = c.0 }) = cc in
+    let tokens = three_behind-some (codes "f") line w.0 w.1 in
+    let from = node_of-some w.0.0 a.0 a.1 in
+    let to = node_of-some w.0.1 b.0 b.1 in
+    let carried = amount_of-some w.0.2 c.0 c.1 in
+    let line : line ≡ flow_line (record { src = a.0; dst = b.0; flow = c.0 }) = cc in
     let fits : IsSent (record { src = a.0; dst = b.0; flow = c.0 }) = record { src_is_node = from.1; dst_is_node = to.1; flow_small = carried.1 } in
     (line ∙ ap flow_line (sym is), subst IsSent (sym is) fits)
-sent_said-some line s e = cc
 
 pub sent_said-line : (s : Sent) → IsSent s → sent_said (flow_line s) ≡ Some s
 unfolding sent_said
@@ -187,17 +206,16 @@ sent_said-line s h = rw (node_of-number s.src h.src_is_node, node_of-number s.ds
 
 pub moved_said-some : (line : List Token) (m : ℕ × ℤ) → moved_said line ≡ Some m → (line ≡ moved_line m) × IsMoved m
 unfolding moved_said
-moved_said-some (word ∷ arc ∷ flow ∷ []) m e =
-    let w = if-some (is_word (codes "g") word) _ m e in
-    let a = bind-some (arc_of arc) _ m w.1 in
-    let b = bind-some (amount_of flow) _ m a.2 in
+moved_said-some line m e =
+    let w = bind-some (two_behind (codes "g") line) _ m e in
+    let a = bind-some (arc_of w.0.0) _ m w.2 in
+    let b = bind-some (amount_of w.0.1) _ m a.2 in
     let is : m ≡ (a.0, b.0) = cc b.2 in
-    let first : word ≡ Word (codes "g") = is_word-true (codes "g") word w.0 in
-    let named = arc_of-some arc a.0 a.1 in
-    let amount = amount_of-some flow b.0 b.1 in
-    let line : word ∷ arc ∷ flow ∷ [] ≡ moved_line (a.0, b.0) = cc in
+    let tokens = two_behind-some (codes "g") line w.0 w.1 in
+    let named = arc_of-some w.0.0 a.0 a.1 in
+    let amount = amount_of-some w.0.1 b.0 b.1 in
+    let line : line ≡ moved_line (a.0, b.0) = cc in
     (line ∙ ap moved_line (sym is), subst IsMoved (sym is) (named.1, amount.1))
-moved_said-some line m e = cc
 
 pub moved_said-line : (m : ℕ × ℤ) → IsMoved m → moved_said (moved_line m) ≡ Some m
 unfolding moved_said
@@ -205,17 +223,16 @@ moved_said-line m h = rw (arc_of-number m.0 h.0, amount_of-number m.1 h.1) refl
 
 pub price_said-some : (line : List Token) (y : ℕ × ℤ) → price_said line ≡ Some y → (line ≡ price_line y) × IsNodeInRange y.0 × IsAmount y.1
 unfolding price_said
-price_said-some (word ∷ id ∷ price ∷ []) y e =
-    let w = if-some (is_word (codes "y") word) _ y e in
-    let a = bind-some (node_of id) _ y w.1 in
-    let b = bind-some (amount_of price) _ y a.2 in
+price_said-some line y e =
+    let w = bind-some (two_behind (codes "y") line) _ y e in
+    let a = bind-some (node_of w.0.0) _ y w.2 in
+    let b = bind-some (amount_of w.0.1) _ y a.2 in
     let is : y ≡ (a.0, b.0) = cc b.2 in
-    let first : word ≡ Word (codes "y") = is_word-true (codes "y") word w.0 in
-    let node = node_of-some id a.0 a.1 in
-    let amount = amount_of-some price b.0 b.1 in
-    let line : word ∷ id ∷ price ∷ [] ≡ price_line (a.0, b.0) = cc in
+    let tokens = two_behind-some (codes "y") line w.0 w.1 in
+    let node = node_of-some w.0.0 a.0 a.1 in
+    let amount = amount_of-some w.0.1 b.0 b.1 in
+    let line : line ≡ price_line (a.0, b.0) = cc in
     (line ∙ ap price_line (sym is), subst (λ p. IsNodeInRange p.0) (sym is) node.1, subst (λ p. IsAmount p.1) (sym is) amount.1)
-price_said-some line y e = cc
 
 pub price_said-line : (v : ℕ) (z : ℤ) → IsNodeInRange v → IsAmount z → price_said (price_line (v, z)) ≡ Some (v, z)
 unfolding price_said
@@ -223,12 +240,10 @@ price_said-line v z h k = rw (node_of-number v h, amount_of-number z k) refl
 
 pub member_said-some : (line : List Token) (v : ℕ) → member_said line ≡ Some v → (line ≡ member_line v) × IsNodeInRange v
 unfolding member_said
-member_said-some (word ∷ id ∷ []) v e =
-    let w = if-some (is_word (codes "x") word) (node_of id) v e in
-    let a = node_of-some id v w.1 in
-    let first : word ≡ Word (codes "x") = is_word-true (codes "x") word w.0 in
-    (ap (λ t. t ∷ id ∷ []) first ∙ ap (λ t. Word (codes "x") ∷ t ∷ []) a.0, a.1)
-member_said-some line v e = cc
+member_said-some line v e =
+    let w = bind-some (one_behind (codes "x") line) _ v e in
+    let a = node_of-some w.0 v w.2 in
+    (one_behind-some (codes "x") line w.0 w.1 ∙ ap (λ t. Word (codes "x") ∷ t ∷ []) a.0, a.1)
 
 pub member_said-line : (v : ℕ) → IsNodeInRange v → member_said (member_line v) ≡ Some v
 unfolding member_said
@@ -236,17 +251,16 @@ member_said-line v h = node_of-number v h
 
 pub set_said-some : (line : List Token) (set : Side × ℕ) → set_said line ≡ Some set → (line ≡ set_line set.0 set.1) × IsNodeInRange set.1
 unfolding set_said
-set_said-some (word ∷ count ∷ named ∷ []) set e =
-    let w = if-some (is_word (codes "i") word) _ set e in
-    let a = bind-some (node_of count) _ set w.1 in
-    let b = bind-some (side_of named) _ set a.2 in
+set_said-some line set e =
+    let w = bind-some (two_behind (codes "i") line) _ set e in
+    let a = bind-some (node_of w.0.0) _ set w.2 in
+    let b = bind-some (side_of w.0.1) _ set a.2 in
     let is : set ≡ (b.0, a.0) = cc b.2 in
-    let first : word ≡ Word (codes "i") = is_word-true (codes "i") word w.0 in
-    let size = node_of-some count a.0 a.1 in
-    let side = side_of-some named b.0 b.1 in
-    let line : word ∷ count ∷ named ∷ [] ≡ set_line b.0 a.0 = cc in
+    let tokens = two_behind-some (codes "i") line w.0 w.1 in
+    let size = node_of-some w.0.0 a.0 a.1 in
+    let side = side_of-some w.0.1 b.0 b.1 in
+    let line : line ≡ set_line b.0 a.0 = cc in
     (line ∙ ap (λ p. set_line p.0 p.1) (sym is), subst (λ p. IsNodeInRange p.1) (sym is) size.1)
-set_said-some line set e = cc
 
 pub set_said-line : (side : Side) (count : ℕ) → IsNodeInRange count → set_said (set_line side count) ≡ Some (side, count)
 unfolding set_said
@@ -254,17 +268,16 @@ set_said-line side count h = rw (node_of-number count h, side_of-word side) refl
 
 pub refusal_said-some : (line : List Token) (r : Fault) → refusal_said line ≡ Some r → (line ≡ refusal_line r) × (1 ≤ r.line) × (r.line ≤ line_limit)
 unfolding refusal_said
-refusal_said-some (word ∷ number ∷ named ∷ []) r e =
-    let w = if-some (is_word (codes "r") word) _ r e in
-    let a = bind-some (line_number_of number) _ r w.1 in
-    let b = bind-some (code_of named) _ r a.2 in
+refusal_said-some line r e =
+    let w = bind-some (two_behind (codes "r") line) _ r e in
+    let a = bind-some (line_number_of w.0.0) _ r w.2 in
+    let b = bind-some (code_of w.0.1) _ r a.2 in
     let is : r ≡ record { line = a.0; code = b.0 } = cc b.2 in
-    let first : word ≡ Word (codes "r") = is_word-true (codes "r") word w.0 in
-    let place = count_of-some line_limit number a.0 a.1 in
-    let code = code_of-some named b.0 b.1 in
-    let line : word ∷ number ∷ named ∷ [] ≡ refusal_line (record { line = a.0; code = b.0 }) = cc in
+    let tokens = two_behind-some (codes "r") line w.0 w.1 in
+    let place = count_of-some line_limit w.0.0 a.0 a.1 in
+    let code = code_of-some w.0.1 b.0 b.1 in
+    let line : line ≡ refusal_line (record { line = a.0; code = b.0 }) = cc in
     (line ∙ ap refusal_line (sym is), subst (λ s. 1 ≤ s.line) (sym is) place.1, subst (λ s. s.line ≤ line_limit) (sym is) place.2)
-refusal_said-some line r e = cc
 
 pub refusal_said-line : (r : Fault) → 1 ≤ r.line → r.line ≤ line_limit → refusal_said (refusal_line r) ≡ Some r
 unfolding refusal_said

@@ -53,54 +53,53 @@ code_of (Number z) = None
 
 -- ---- a line
 
+-- the token behind this first word, of a line that has one
+abbrev pub one_behind : List ℕ → List Token → Option Token
+one_behind word (first ∷ one ∷ []) = if is_word word first then Some one else None
+one_behind word line = None
+
+-- the two tokens behind this first word, of a line that has two
+abbrev pub two_behind : List ℕ → List Token → Option (Token × Token)
+two_behind word (first ∷ one ∷ two ∷ []) = if is_word word first then Some (one, two) else None
+two_behind word line = None
+
+-- the three tokens behind this first word, of a line that has three
+abbrev pub three_behind : List ℕ → List Token → Option (Token × Token × Token)
+three_behind word (first ∷ one ∷ two ∷ three ∷ []) = if is_word word first then Some (one, two, three) else None
+three_behind word line = None
+
 -- the version of a line `v 2`
 unfoldable pub version_said : List Token → Option ℤ
-version_said (word ∷ version ∷ []) = if is_word (codes "v") word then number_within (pos 2) (pos 2) version else None
-version_said line = None
+version_said line = one_behind (codes "v") line >>= λ version. number_within (pos 2) (pos 2) version
 
 -- the cost of a line `s COST`
 unfoldable pub cost_said : List Token → Option ℤ
-cost_said (word ∷ cost ∷ []) = if is_word (codes "s") word then amount_of cost else None
-cost_said line = None
+cost_said line = one_behind (codes "s") line >>= λ cost. amount_of cost
 
 -- what a line `f SRC DST FLOW` says
 unfoldable pub sent_said : List Token → Option Sent
-sent_said (word ∷ src ∷ dst ∷ flow ∷ []) =
-    if is_word (codes "f") word
-    then (node_of src >>= λ s. node_of dst >>= λ d. amount_of flow >>= λ z. Some (record { src = s; dst = d; flow = z }))
-    else None
-sent_said line = None
+sent_said line =
+    three_behind (codes "f") line >>= λ t. node_of t.0 >>= λ s. node_of t.1 >>= λ d. amount_of t.2 >>= λ z. Some (record { src = s; dst = d; flow = z })
 
 -- the arc and the flow of a line `g ARC FLOW`
 unfoldable pub moved_said : List Token → Option (ℕ × ℤ)
-moved_said (word ∷ arc ∷ flow ∷ []) =
-    if is_word (codes "g") word then (arc_of arc >>= λ k. amount_of flow >>= λ z. Some (k, z)) else None
-moved_said line = None
+moved_said line = two_behind (codes "g") line >>= λ t. arc_of t.0 >>= λ k. amount_of t.1 >>= λ z. Some (k, z)
 
 -- the node and the price of a line `y ID PRICE`
 unfoldable pub price_said : List Token → Option (ℕ × ℤ)
-price_said (word ∷ id ∷ price ∷ []) =
-    if is_word (codes "y") word then (node_of id >>= λ v. amount_of price >>= λ z. Some (v, z)) else None
-price_said line = None
+price_said line = two_behind (codes "y") line >>= λ t. node_of t.0 >>= λ v. amount_of t.1 >>= λ z. Some (v, z)
 
 -- the side and the number of nodes of a line `i K send` or `i K take`
 unfoldable pub set_said : List Token → Option (Side × ℕ)
-set_said (word ∷ count ∷ side ∷ []) =
-    if is_word (codes "i") word then (node_of count >>= λ k. side_of side >>= λ s. Some (s, k)) else None
-set_said line = None
+set_said line = two_behind (codes "i") line >>= λ t. node_of t.0 >>= λ k. side_of t.1 >>= λ s. Some (s, k)
 
 -- the node of a line `x ID`
 unfoldable pub member_said : List Token → Option ℕ
-member_said (word ∷ id ∷ []) = if is_word (codes "x") word then node_of id else None
-member_said line = None
+member_said line = one_behind (codes "x") line >>= λ id. node_of id
 
 -- the refusal of a line `r LINE CODE`
 unfoldable pub refusal_said : List Token → Option Fault
-refusal_said (word ∷ line ∷ code ∷ []) =
-    if is_word (codes "r") word
-    then (line_number_of line >>= λ n. code_of code >>= λ c. Some (record { line = n; code = c }))
-    else None
-refusal_said line = None
+refusal_said line = two_behind (codes "r") line >>= λ t. line_number_of t.0 >>= λ n. code_of t.1 >>= λ c. Some (record { line = n; code = c })
 
 -- ---- the first line
 

@@ -1,8 +1,8 @@
 //! What a line of an answer text says.
-ghost use Rattle.std.specs.Prelude.{◌≡◌, ◌≤◌, false, IfSome};
+ghost use Rattle.std.specs.Prelude.{◌≡◌, ◌≤◌, false, option_map, IfSome};
 ghost use Rattle.mcf_answer.specs.Ranges.{IsAmount, IsArcInRange, IsNodeInRange};
-ghost use Rattle.mcf_answer.specs.Said.{amount_of, arc_of, code_of, cost_said, line_number_of, node_of, member_said, moved_said, number_within, price_said};
-ghost use Rattle.mcf_answer.specs.Said.{refusal_said, sent_said, set_said, side_of, version_said};
+ghost use Rattle.mcf_answer.specs.Said.{amount_of, arc_of, code_of, cost_said, line_number_of, node_of, member_said, moved_said, number_within, one_behind, price_said};
+ghost use Rattle.mcf_answer.specs.Said.{refusal_said, sent_said, set_said, side_of, three_behind, two_behind, version_said};
 ghost use Rattle.mcf_answer.specs.SparseSolution.{IsMoved};
 ghost use Rattle.mcf_answer.specs.Token.{is_word, token_of, tokens_of};
 ghost use Rattle.mcf_text.specs.Fields.{fields_of};
@@ -103,17 +103,49 @@ fn is_word(field: &[u8], word: &[u8]) -> bool
 
 // ---- a line
 
+// The field behind this first word, of a line that has one.
+fn one_behind<'t>(line: &'t [u8], word: &[u8]) -> Option<&'t [u8]>
+    requires { is_whole word.now ≡ false }
+    ensures { option_map (λ f. token_of f.now) result ≡ one_behind word.now (tokens_of (fields_of line.now)) }
+{
+    let mut parts = fields(line);
+    match (parts.next(), parts.next(), parts.next()) {
+        (Some(first), Some(one), None) if is_word(first, word) => Some(one),
+        _ => None,
+    }
+}
+
+// The two fields behind this first word, of a line that has two.
+fn two_behind<'t>(line: &'t [u8], word: &[u8]) -> Option<(&'t [u8], &'t [u8])>
+    requires { is_whole word.now ≡ false }
+    ensures { option_map (λ f. (token_of f.0.now, token_of f.1.now)) result ≡ two_behind word.now (tokens_of (fields_of line.now)) }
+{
+    let mut parts = fields(line);
+    match (parts.next(), parts.next(), parts.next(), parts.next()) {
+        (Some(first), Some(one), Some(two), None) if is_word(first, word) => Some((one, two)),
+        _ => None,
+    }
+}
+
+// The three fields behind this first word, of a line that has three.
+fn three_behind<'t>(line: &'t [u8], word: &[u8]) -> Option<(&'t [u8], &'t [u8], &'t [u8])>
+    requires { is_whole word.now ≡ false }
+    ensures { option_map (λ f. (token_of f.0.now, token_of f.1.now, token_of f.2.now)) result ≡ three_behind word.now (tokens_of (fields_of line.now)) }
+{
+    let mut parts = fields(line);
+    let first = parts.next()?;
+    match (parts.next(), parts.next(), parts.next(), parts.next()) {
+        (Some(one), Some(two), Some(last), None) if is_word(first, word) => Some((one, two, last)),
+        _ => None,
+    }
+}
+
 /// The version of a line `v 2`.
 #[tactic(auto, unfolding(crate::specs::Said::version_said))]
 pub(crate) fn version_line(line: &[u8]) -> Option<i128>
     ensures { result ≡ version_said (tokens_of (fields_of line.now)) }
 {
-    let mut parts = fields(line);
-    let word = parts.next()?;
-    let version = parts.next()?;
-    if parts.next().is_some() || !is_word(word, b"v") {
-        return None;
-    }
+    let version = one_behind(line, b"v")?;
     number(version, 2, 2)
 }
 
@@ -123,12 +155,7 @@ pub(crate) fn cost_line(line: &[u8]) -> Option<i128>
     ensures value { result ≡ cost_said (tokens_of (fields_of line.now)) }
     ensures in_range { IfSome result IsAmount }
 {
-    let mut parts = fields(line);
-    let word = parts.next()?;
-    let cost = parts.next()?;
-    if parts.next().is_some() || !is_word(word, b"s") {
-        return None;
-    }
+    let cost = one_behind(line, b"s")?;
     amount(cost)
 }
 
@@ -137,14 +164,7 @@ pub(crate) fn cost_line(line: &[u8]) -> Option<i128>
 pub(crate) fn flow_line(line: &[u8]) -> Option<Sent>
     ensures { result ≡ sent_said (tokens_of (fields_of line.now)) }
 {
-    let mut parts = fields(line);
-    let word = parts.next()?;
-    let src = parts.next()?;
-    let dst = parts.next()?;
-    let flow = parts.next()?;
-    if parts.next().is_some() || !is_word(word, b"f") {
-        return None;
-    }
+    let (src, dst, flow) = three_behind(line, b"f")?;
     Some(Sent {
         src: node(src)?,
         dst: node(dst)?,
@@ -158,13 +178,7 @@ pub(crate) fn moved_line(line: &[u8]) -> Option<(ArcId, i128)>
     ensures value { result ≡ moved_said (tokens_of (fields_of line.now)) }
     ensures in_range { IfSome result IsMoved }
 {
-    let mut parts = fields(line);
-    let word = parts.next()?;
-    let named = parts.next()?;
-    let flow = parts.next()?;
-    if parts.next().is_some() || !is_word(word, b"g") {
-        return None;
-    }
+    let (named, flow) = two_behind(line, b"g")?;
     Some((arc(named)?, amount(flow)?))
 }
 
@@ -174,13 +188,7 @@ pub(crate) fn price_line(line: &[u8]) -> Option<(NodeId, i128)>
     ensures value { result ≡ price_said (tokens_of (fields_of line.now)) }
     ensures in_range { IfSome result (λ y. IsNodeInRange y.0 × IsAmount y.1) }
 {
-    let mut parts = fields(line);
-    let word = parts.next()?;
-    let id = parts.next()?;
-    let price = parts.next()?;
-    if parts.next().is_some() || !is_word(word, b"y") {
-        return None;
-    }
+    let (id, price) = two_behind(line, b"y")?;
     Some((node(id)?, amount(price)?))
 }
 
@@ -190,13 +198,7 @@ pub(crate) fn set_line(line: &[u8]) -> Option<(Side, u32)>
     ensures value { result ≡ set_said (tokens_of (fields_of line.now)) }
     ensures in_range { IfSome result (λ set. IsNodeInRange set.1) }
 {
-    let mut parts = fields(line);
-    let word = parts.next()?;
-    let size = parts.next()?;
-    let named = parts.next()?;
-    if parts.next().is_some() || !is_word(word, b"i") {
-        return None;
-    }
+    let (size, named) = two_behind(line, b"i")?;
     let size = count(size)?;
     Some((side(named)?, size))
 }
@@ -206,12 +208,7 @@ pub(crate) fn set_line(line: &[u8]) -> Option<(Side, u32)>
 pub(crate) fn member_line(line: &[u8]) -> Option<NodeId>
     ensures { result ≡ member_said (tokens_of (fields_of line.now)) }
 {
-    let mut parts = fields(line);
-    let word = parts.next()?;
-    let id = parts.next()?;
-    if parts.next().is_some() || !is_word(word, b"x") {
-        return None;
-    }
+    let id = one_behind(line, b"x")?;
     node(id)
 }
 
@@ -220,13 +217,7 @@ pub(crate) fn member_line(line: &[u8]) -> Option<NodeId>
 pub(crate) fn refusal_line(line: &[u8]) -> Option<Refusal>
     ensures { result ≡ refusal_said (tokens_of (fields_of line.now)) }
 {
-    let mut parts = fields(line);
-    let word = parts.next()?;
-    let number = parts.next()?;
-    let named = parts.next()?;
-    if parts.next().is_some() || !is_word(word, b"r") {
-        return None;
-    }
+    let (number, named) = two_behind(line, b"r")?;
     let line = line_number(number)?;
     Some(Refusal {
         line,
