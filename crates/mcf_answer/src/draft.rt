@@ -59,11 +59,12 @@ impl FlowAnswer {
         ensures value { IfOk result (λ fit. (if fit then Some self.new else None) ≡ priced self.old (Some (id, price))) }
         ensures fits { OnErr result (IsTrue (is_some (priced self.old (Some (id, price))))) }
     {
-        if !self.prices.is_next(id) {
-            return Ok(false);
+        if self.prices.is_next(id) {
+            self.prices.push(price)?;
+            Ok(true)
+        } else {
+            Ok(false)
         }
-        self.prices.push(price)?;
-        Ok(true)
     }
 
     // Takes a line in, if it fits.
@@ -97,14 +98,14 @@ impl SparseAnswer {
     ghost use Rattle.mcf_text.specs.Fields.{fields_of};
 
     // Takes the price of a node in, if it is the next node.
-    fn take_price(&mut self, y: (NodeId, i128)) -> Result<bool, NoMemory>
-        requires node { IsNodeInRange y.0 }
-        requires amount { IsAmount y.1 }
-        ensures value { IfOk result (λ fit. (if fit then Some self.new else None) ≡ sparse_priced self.old (Some y)) }
-        ensures fits { OnErr result (IsTrue (is_some (sparse_priced self.old (Some y)))) }
+    fn take_price(&mut self, id: NodeId, price: i128) -> Result<bool, NoMemory>
+        requires node { IsNodeInRange id }
+        requires amount { IsAmount price }
+        ensures value { IfOk result (λ fit. (if fit then Some self.new else None) ≡ sparse_priced self.old (Some (id, price))) }
+        ensures fits { OnErr result (IsTrue (is_some (sparse_priced self.old (Some (id, price))))) }
     {
-        if self.prices.is_next(y.0) {
-            self.prices.push(y.1)?;
+        if self.prices.is_next(id) {
+            self.prices.push(price)?;
             Ok(true)
         } else {
             Ok(false)
@@ -136,7 +137,7 @@ impl SparseAnswer {
             return self.take_moved(moved);
         }
         match price_line(line) {
-            Some(price) => self.take_price(price),
+            Some((id, price)) => self.take_price(id, price),
             None => Ok(false),
         }
     }
