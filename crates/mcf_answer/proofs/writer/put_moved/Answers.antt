@@ -1,5 +1,4 @@
-use Rattle.std.proofs.Common.{ℕ, List, ◌++◌, take, vec_len, vec_capacity, ap, ◌∙◌, arith}
-use Rattle.std.specs.Prelude.{flat_map, map}
+use Rattle.std.proofs.Common.{ℕ, List, ◌++◌, ap, ◌∙◌, arith}
 use Rattle.mcf_answer.specs.Spelling.{moved_line}
 use Rattle.mcf_answer.specs.Written.{line_text}
 use Rattle.mcf_answer.proofs.Appends.{keeps, lines_next}
@@ -17,13 +16,8 @@ loop-m-preserved c = record {
 
 pub returns-in_err-put_arc-clause-refused : goal.returns-in_err-put_arc-clause-refused
 returns-in_err-put_arc-clause-refused c =
-    on_err c.from_residual.result _
-    (line_refused moved_line c.args.moved.now c.loop-m.m-index c.m-item.result c.args.out.now.items c.loop-m.out.items
-    (vec_len c.args.out.now) (vec_len c.loop-m.out) (vec_capacity c.args.out.now) (vec_capacity c.loop-m.out) c.loop-m-test.true c.m-item.is
+    on_err _ _ (line_refused moved_line _ _ _ _ _ _ _ _ _ c.loop-m-test.true c.m-item.is
     c.args.out.now.ok.0 c.loop-m.out.ok.0 c.loop-m.invariant.text c.loop-m.invariant.grown c.in_err-put_arc.ensures.refused)
 
 pub returns-in_err-put_arc-clause-err : goal.returns-in_err-put_arc-clause-err
-returns-in_err-put_arc-clause-err c =
-    on_err c.from_residual.result _
-    (keeps c.args.out.now.items c.loop-m.out.items c.put_arc.new.out.items (flat_map line_text (map moved_line (take c.loop-m.m-index c.args.moved.now)))
-    c.in_err-put_arc.ensures.err c.loop-m.invariant.text)
+returns-in_err-put_arc-clause-err c = on_err _ _ (keeps _ _ _ _ c.in_err-put_arc.ensures.err c.loop-m.invariant.text)

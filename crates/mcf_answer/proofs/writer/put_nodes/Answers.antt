@@ -1,5 +1,4 @@
-use Rattle.std.proofs.Common.{ℕ, List, ◌++◌, take, vec_len, vec_capacity, ap, ◌∙◌, arith}
-use Rattle.std.specs.Prelude.{flat_map, map}
+use Rattle.std.proofs.Common.{ℕ, List, ◌++◌, ap, ◌∙◌, arith}
 use Rattle.mcf_answer.specs.Spelling.{member_line}
 use Rattle.mcf_answer.specs.Written.{line_text}
 use Rattle.mcf_answer.proofs.Appends.{keeps, lines_next}
@@ -17,14 +16,8 @@ loop-node-preserved c = record {
 
 pub returns-in_err-put_node-clause-refused : goal.returns-in_err-put_node-clause-refused
 returns-in_err-put_node-clause-refused c =
-    on_err c.from_residual.result _
-    (line_refused member_line c.args.nodes.now c.loop-node.node-index c.node-item.result c.args.out.now.items c.loop-node.out.items
-    (vec_len c.args.out.now) (vec_len c.loop-node.out) (vec_capacity c.args.out.now) (vec_capacity c.loop-node.out) c.loop-node-test.true c.node-item.is
+    on_err _ _ (line_refused member_line _ _ _ _ _ _ _ _ _ c.loop-node-test.true c.node-item.is
     c.args.out.now.ok.0 c.loop-node.out.ok.0 c.loop-node.invariant.text c.loop-node.invariant.grown c.in_err-put_node.ensures.refused)
 
 pub returns-in_err-put_node-clause-err : goal.returns-in_err-put_node-clause-err
-returns-in_err-put_node-clause-err c =
-    on_err c.from_residual.result _
-    (keeps c.args.out.now.items c.loop-node.out.items c.put_node.new.out.items (flat_map line_text
-    (map member_line (take c.loop-node.node-index c.args.nodes.now)))
-    c.in_err-put_node.ensures.err c.loop-node.invariant.text)
+returns-in_err-put_node-clause-err c = on_err _ _ (keeps _ _ _ _ c.in_err-put_node.ensures.err c.loop-node.invariant.text)

@@ -1,12 +1,11 @@
-use Rattle.std.proofs.Common.{◌≡◌, ℕ, List, ◌+◌, ◌<◌, ◌++◌, take, length, vec_len, vec_capacity, get_or, pos, arith, rules, ap, ◌∙◌}
-use Rattle.std.specs.Prelude.{ℤ, flat_map, map}
-use Rattle.std.specs.List.{enumerate_from}
+use Rattle.std.proofs.Common.{◌≡◌, ℕ, List, ◌+◌, ◌<◌, ◌++◌, length, vec_len, vec_capacity, get_or, pos, arith, rules, ap, ◌∙◌}
+use Rattle.std.specs.Prelude.{ℤ}
 use Rattle.std.proofs.lemmas.Int.{to_z-of_z}
 use mir.Val.{SFits}
 use mir.Syntax.{w128}
 use Rattle.mcf_answer.specs.Spelling.{price_line}
 use Rattle.mcf_answer.specs.Written.{line_text}
-use Rattle.mcf_answer.proofs.Appends.{prices_more}
+use Rattle.mcf_answer.proofs.Appends.{keeps, prices_more}
 use Rattle.mcf_answer.proofs.Room.{on_err, price_within, refused_after}
 use Rattle.mcf_answer.proofs.writer.put_prices.Goals as goal
 
@@ -30,8 +29,9 @@ returns-in_err-put_price-clause-refused c =
     let fits : SFits w128 price = search rules in
     let short : vec_capacity c.loop-k.out < vec_len c.loop-k.out + length (line_text (price_line (c.loop-k.k + 1, price))) =
     simp to_z-of_z at c.in_err-put_price.ensures.refused in
-    on_err c.from_residual.result _
-    (refused_after c.args.out.now.items c.loop-k.out.items (flat_map line_text (map price_line (enumerate_from 1 (take c.loop-k.k c.args.prices.now))))
-    (line_text (price_line (c.loop-k.k + 1, price))) (flat_map line_text (map price_line (enumerate_from 1 c.args.prices.now)))
-    (vec_len c.args.out.now) (vec_len c.loop-k.out) (vec_capacity c.args.out.now) (vec_capacity c.loop-k.out)
+    on_err _ _ (refused_after _ _ _ (line_text (price_line (c.loop-k.k + 1, price))) _ _ _ _ _
     c.args.out.now.ok.0 c.loop-k.out.ok.0 c.loop-k.invariant.text c.loop-k.invariant.grown short (price_within c.args.prices.now c.loop-k.k c.loop-k-test.true))
+
+pub returns-in_err-put_price-clause-err : goal.returns-in_err-put_price-clause-err
+returns-in_err-put_price-clause-err c =
+    on_err _ _ (keeps _ _ _ _ c.in_err-put_price.ensures.err c.loop-k.invariant.text)

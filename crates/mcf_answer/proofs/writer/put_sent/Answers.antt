@@ -1,5 +1,4 @@
-use Rattle.std.proofs.Common.{ℕ, List, ◌++◌, take, vec_len, vec_capacity, ap, ◌∙◌, arith}
-use Rattle.std.specs.Prelude.{flat_map, map}
+use Rattle.std.proofs.Common.{ℕ, List, ◌++◌, ap, ◌∙◌, arith}
 use Rattle.mcf_answer.specs.Spelling.{flow_line}
 use Rattle.mcf_answer.specs.Written.{line_text}
 use Rattle.mcf_answer.proofs.Appends.{keeps, lines_next}
@@ -17,13 +16,8 @@ loop-s-preserved c = record {
 
 pub returns-in_err-put_flow-clause-refused : goal.returns-in_err-put_flow-clause-refused
 returns-in_err-put_flow-clause-refused c =
-    on_err c.from_residual.result _
-    (line_refused flow_line c.args.sent.now c.loop-s.s-index c.s-item.result c.args.out.now.items c.loop-s.out.items
-    (vec_len c.args.out.now) (vec_len c.loop-s.out) (vec_capacity c.args.out.now) (vec_capacity c.loop-s.out) c.loop-s-test.true c.s-item.is
+    on_err _ _ (line_refused flow_line _ _ _ _ _ _ _ _ _ c.loop-s-test.true c.s-item.is
     c.args.out.now.ok.0 c.loop-s.out.ok.0 c.loop-s.invariant.text c.loop-s.invariant.grown c.in_err-put_flow.ensures.refused)
 
 pub returns-in_err-put_flow-clause-err : goal.returns-in_err-put_flow-clause-err
-returns-in_err-put_flow-clause-err c =
-    on_err c.from_residual.result _
-    (keeps c.args.out.now.items c.loop-s.out.items c.put_flow.new.out.items (flat_map line_text (map flow_line (take c.loop-s.s-index c.args.sent.now)))
-    c.in_err-put_flow.ensures.err c.loop-s.invariant.text)
+returns-in_err-put_flow-clause-err c = on_err _ _ (keeps _ _ _ _ c.in_err-put_flow.ensures.err c.loop-s.invariant.text)

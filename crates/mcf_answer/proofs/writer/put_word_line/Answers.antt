@@ -2,7 +2,7 @@ use Rattle.std.proofs.Common.{◌+◌, ◌<◌, length, vec_len, vec_capacity, a
 use Rattle.std.proofs.lemmas.Int.{to_z-of_z}
 use mir.Val.{SFits}
 use mir.Syntax.{w128}
-use Rattle.mcf_answer.proofs.Appends.{field_text}
+use Rattle.mcf_answer.proofs.Appends.{field_text, keeps}
 use Rattle.mcf_answer.proofs.Room.{length-word_field, length-word_line, on_err}
 use Rattle.mcf_answer.proofs.writer.put_word_line.Goals as goal
 
@@ -76,3 +76,6 @@ returns-in_err-push-2-clause-refused c =
       c.extend_from_slice-2.ensures.capacity,
       c.in_err-push-2.ensures.full,
     ))
+
+pub returns-in_err-put_field-clause-err : goal.returns-in_err-put_field-clause-err
+returns-in_err-put_field-clause-err c = on_err _ _ (keeps _ _ _ _ c.in_err-put_field.ensures.err c.in_ok-extend_from_slice.ensures.items)
