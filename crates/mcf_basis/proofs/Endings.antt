@@ -1,6 +1,6 @@
 -- What is read of a basis at the end: its flow, its prices and its cut.
 use Rattle.std.proofs.Common.{◌≡◌, ◌≢◌, ℕ, zero, suc, ◌+◌, ◌-◌, ◌<◌, ◌≤◌, inl, inr, Bool, true, false, eqb, cond, List, length, map, take, drop}
-use Rattle.std.proofs.Common.{get_or, refl, sym, ap, ◌∙◌, arith, subst, ℤ, pos, ◌+ℤ◌, length-drop}
+use Rattle.std.proofs.Common.{get_or, refl, sym, ap, ◌∙◌, arith, subst, ℤ, pos, ◌+ℤ◌, ◌-ℤ◌, length-drop}
 use Rattle.std.specs.Prelude.{◌↔◌, IsTrue, Option, Some, None, if◌then◌else◌, int_lt}
 use Rattle.std.specs.List.{All, find, range_with_len}
 use Rattle.std.proofs.lemmas.Bool.{cases_eq, cond-true, cond-false, eq-eqb, eqb-true, le-leb, lt-leb, true≢false}
@@ -44,11 +44,11 @@ inside_by g tree residuals v =
 
 -- ---- the flow
 
--- an amount after a push forward
-pub amount_pushed : (s s' : Pseudoflow) (k : ℕ) (x y : ℤ)
-    → k - 1 < length s.amounts → y ≡ amount_at s k +ℤ x → s' ≡ pushed s (rid k false) x → amount_at s' k ≡ y
-amount_pushed s s' k x y h e is =
-    ap (λ t. amount_at t k) is ∙ (get_or-set_same s.amounts (k - 1) (amount_at s k +ℤ x) (pos 0) h ∙ sym e)
+-- an amount after a push
+pub amount_pushed : (s s' : Pseudoflow) (k : ℕ) (back : Bool) (x y : ℤ)
+    → k - 1 < length s.amounts → y ≡ (if back then amount_at s k -ℤ x else amount_at s k +ℤ x) → s' ≡ pushed s (rid k back) x → amount_at s' k ≡ y
+amount_pushed s s' k back x y h e is =
+    ap (λ t. amount_at t k) is ∙ (get_or-set_same s.amounts (k - 1) (if back then amount_at s k -ℤ x else amount_at s k +ℤ x) (pos 0) h ∙ sym e)
 
 -- ---- the artificial arcs
 

@@ -201,11 +201,7 @@ fn set_amount(state: &mut State<'_>, k: ArcId, amount: i128)
     ensures others { (j : ℕ) → IsArcNumber state.old.net j → j ≢ k → amount_at state.new j ≡ amount_at state.old j }
 {
     let old = state.amount(k);
-    if amount < old {
-        let back = true;
-        state.push(Rid { arc: k, back }, old - amount);
-    } else {
-        let back = false;
-        state.push(Rid { arc: k, back }, amount - old);
-    }
+    let back = amount < old;
+    let change = if back { old - amount } else { amount - old };
+    state.push(Rid { arc: k, back }, change);
 }

@@ -1,15 +1,17 @@
-use Rattle.std.proofs.Common.{◌≡◌, false, ◌-ℤ◌, arith, rules}
+use Rattle.std.proofs.Common.{true, false, arith, rules}
 use Rattle.std.proofs.lemmas.Int.{ints, to_z-of_z}
-use Rattle.mcf_network.specs.States.{pushed}
 use Rattle.mcf_network.proofs.ArcLaws.{amount_of}
-use Rattle.mcf_network.proofs.StateLaws.{rid}
 use Rattle.mcf_basis.proofs.Endings.{amount_pushed}
+use Rattle.mcf_basis.proofs.ending.set_amount.Goals.{then-back, else-back}
 use Rattle.mcf_basis.proofs.ending.set_amount.Goals as goal
 
-pub returns-else-amount-old-clause-value : goal.returns-else-amount-old-clause-value
-returns-else-amount-old-clause-value c =
-    let s = c.args.state.now in
-    let a = amount_of s c.args.k c.amount-old.ensures.valid c.requires.arc in
-    let x = c.amount-old.ensures.value in
-    let is : c.push-else-amount-old.new.self ≡ pushed s (rid c.args.k false) (c.args.amount -ℤ c.amount-old.result) = search (rules, to_z-of_z) in
-    amount_pushed s c.push-else-amount-old.new.self c.args.k (c.args.amount -ℤ c.amount-old.result) c.args.amount a.in_range (omega (arith, ints, x)) is
+pub returns-clause-value : goal.returns-clause-value
+returns-clause-value c =
+    let a = amount_of c.args.state.now c.args.k c.amount-old.ensures.valid c.requires.arc in
+    let old = c.amount-old.ensures.value in
+    elim c.if-back.branch [
+      | then-back w ↦ amount_pushed c.args.state.now c.push.new.self c.args.k true c.if-back.change c.args.amount a.in_range
+          (let change = w.change-is in omega (arith, ints, old, change)) (search (rules, to_z-of_z, w.if-back.true))
+      | else-back w ↦ amount_pushed c.args.state.now c.push.new.self c.args.k false c.if-back.change c.args.amount a.in_range
+          (let change = w.change-is in omega (arith, ints, old, change)) (search (rules, to_z-of_z, w.if-back.false))
+    ]
