@@ -36,11 +36,10 @@ impl<'n> Basis<'n> {
     pub fn start(alloc: Global, net: &'n Net) -> Result<Basis<'n>, NoMemory>
         ensures { IfOk result (IsStart net.now) }
     {
-        let tree = Tree::star(alloc, net.node_count(), net.arc_count())?;
         let offers = star_offers(alloc, net)?;
-        let residuals = star_residuals(alloc, net)?;
-        let artificial = star_amounts(alloc, net)?;
+        let (residuals, artificial) = star_columns(alloc, net)?;
         let table = star_table(alloc, net, artificial_cost(net))?;
+        let tree = Tree::star(alloc, net.node_count(), net.arc_count())?;
         Ok(Basis {
             net,
             tree,
@@ -61,7 +60,7 @@ fn star_offers(alloc: Global, net: &Net) -> Result<Vec<Offer>, NoMemory>
     let count = net.arc_count();
     let mut made = Vec::with_capacity(alloc, count as usize)?;
     for i in 0..count {
-        made.push(star_offer(net, ArcId::at(i)))?;
+        made.push_reserved(star_offer(net, ArcId::at(i)));
     }
     Ok(made)
 }
@@ -87,32 +86,23 @@ fn star_offer(net: &Net, k: ArcId) -> Offer
     }
 }
 
-// The residuals of the artificial arcs, each of which carries what its node sends or takes, behind those of the root.
-fn star_residuals(alloc: Global, net: &Net) -> Result<Vec<Residuals>, NoMemory>
-    ensures { IfOk result (λ made. made.items ≡ no_residuals
+// The residuals of the artificial arcs and what they carry, which is what each node sends or takes, behind entries for the root.
+fn star_columns(alloc: Global, net: &Net) -> Result<(Vec<Residuals>, Vec<i128>), NoMemory>
+    ensures residuals { IfOk result (λ made. made.0.items ≡ no_residuals
         ∷ map (λ v. artificial_residuals (is_sender net.now v) (unsigned_abs (at_node net.now.supplies v))) (range_with_len 1 (node_count net.now))) }
+    ensures amounts { IfOk result (λ made. made.1.items ≡ pos 0 ∷ map (λ v. pos (unsigned_abs (at_node net.now.supplies v))) (range_with_len 1 (node_count net.now))) }
 {
     let count = net.node_count();
-    let mut made = Vec::with_capacity(alloc, count as usize + 1)?;
-    made.push(Residuals { up: 0, down: 0 })?;
+    let mut residuals = Vec::with_capacity(alloc, count as usize + 1)?;
+    let mut amounts = Vec::with_capacity(alloc, count as usize + 1)?;
+    residuals.push_reserved(Residuals { up: 0, down: 0 });
+    amounts.push_reserved(0);
     for i in 0..count {
         let supply = net.supply(NodeId::at(i));
-        made.push(artificial_residuals(0 <= supply, supply.unsigned_abs()))?;
+        residuals.push_reserved(artificial_residuals(0 <= supply, supply.unsigned_abs()));
+        amounts.push_reserved(star_amount(net, NodeId::at(i)));
     }
-    Ok(made)
-}
-
-// What the artificial arcs carry, behind an entry for the root.
-fn star_amounts(alloc: Global, net: &Net) -> Result<Vec<i128>, NoMemory>
-    ensures { IfOk result (λ made. made.items ≡ pos 0 ∷ map (λ v. pos (unsigned_abs (at_node net.now.supplies v))) (range_with_len 1 (node_count net.now))) }
-{
-    let count = net.node_count();
-    let mut made = Vec::with_capacity(alloc, count as usize + 1)?;
-    made.push(0)?;
-    for i in 0..count {
-        made.push(star_amount(net, NodeId::at(i)))?;
-    }
-    Ok(made)
+    Ok((residuals, amounts))
 }
 
 // What a node sends or takes.
@@ -146,10 +136,10 @@ fn star_prices<P: Price>(alloc: Global, net: &Net, cost: i128) -> Result<Vec<P>,
 {
     let count = net.node_count();
     let mut made = Vec::with_capacity(alloc, count as usize + 1)?;
-    made.push(P::of(0))?;
+    made.push_reserved(P::of(0));
     for i in 0..count {
         let price = star_price(net.supply(NodeId::at(i)), cost);
-        made.push(P::of(price))?;
+        made.push_reserved(P::of(price));
     }
     Ok(made)
 }

@@ -1,7 +1,12 @@
-use Rattle.std.proofs.Common.{◌≡◌, map}
+use Rattle.std.proofs.Common.{◌≡◌, ◌≤◌, length, map, vec_capacity}
 use Rattle.std.specs.List.{range_with_len}
 use Rattle.mcf_basis.proofs.StartLayouts.{star_offer}
 use Rattle.mcf_basis.proofs.starting.star_offers.Given as goal
 
 abbrev pub invariant-loop-i : goal.invariant-loop-i
-invariant-loop-i l = l.made.items ≡ map (star_offer l.net) (range_with_len 1 l.i)
+invariant-loop-i l =
+    record {
+      offers : l.made.items ≡ map (star_offer l.net) (range_with_len 1 l.i);
+      size : length l.made.items ≡ l.i;
+      room : l.count ≤ vec_capacity l.made;
+    }

@@ -13,7 +13,7 @@ pub loop-i-preserved : goal.loop-i-preserved
 loop-i-preserved g c =
     let P = g.P.Price in
     let net = c.args.net.now in
-    let pushed : c.push-in-loop-i.new.self.items ≡ c.loop-i.made.items ++ c.of-in-loop-i.result ∷ [] = search rules in
+    let pushed : c.push_reserved-in-loop-i.new.self.items ≡ c.loop-i.made.items ++ c.of-in-loop-i.result ∷ [] = search rules in
     let made = ap P.values pushed ∙ values_push P.value P.values g.met.P.Price.each c.loop-i.made.items c.of-in-loop-i.result in
     let price : to_z w128 (of_z w128 c.star_price-price.result) ≡ c.star_price-price.result = search (rules, to_z-of_z) in
     let read : to_z w128 (of_z w128 c.supply.result) ≡ c.supply.result = search (rules, to_z-of_z) in
@@ -21,7 +21,11 @@ loop-i-preserved g c =
     read ∙ (c.supply.ensures.value ∙ ap (at_node net.supplies) c.at.ensures) in
     let given : to_z w128 (of_z w128 c.args.cost) ≡ c.args.cost = search (rules, to_z-of_z) in
     let cost : to_z w128 (of_z w128 c.args.cost) ≡ pos (artificial_cost net) = given ∙ c.requires.cost in
-    made_behind (pos 0) (start_price net) c.loop-i.i (P.values c.loop-i.made.items) (P.values c.push-in-loop-i.new.self.items) _ c.loop-i.invariant
-    (c.of-in-loop-i.ensures ∙ (price ∙ (c.star_price-price.ensures
-    ∙ (ap (λ x. if int_le (pos 0) x then to_z w128 (of_z w128 c.args.cost) else neg_ℤ (to_z w128 (of_z w128 c.args.cost))) supply
-    ∙ ap (λ y. if int_le (pos 0) (at_node net.supplies (c.loop-i.i + 1)) then y else neg_ℤ y) cost)))) made
+    record {
+      prices = made_behind (pos 0) (start_price net) c.loop-i.i (P.values c.loop-i.made.items) (P.values c.push_reserved-in-loop-i.new.self.items) _
+          c.loop-i.invariant.prices (c.of-in-loop-i.ensures ∙ (price ∙ (c.star_price-price.ensures
+          ∙ (ap (λ x. if int_le (pos 0) x then to_z w128 (of_z w128 c.args.cost) else neg_ℤ (to_z w128 (of_z w128 c.args.cost))) supply
+          ∙ ap (λ y. if int_le (pos 0) (at_node net.supplies (c.loop-i.i + 1)) then y else neg_ℤ y) cost)))) made;
+      size = search rules;
+      room = search rules;
+    }
