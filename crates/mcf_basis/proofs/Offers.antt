@@ -1,6 +1,6 @@
 -- The offer of an arc says whether it can enter.
-use Rattle.std.proofs.Common.{◌≡◌, ◌≢◌, ℕ, ◌-◌, ◌<◌, ◌≤◌, inl, inr, length, get_or, ap, sym, ◌∙◌, arith, subst, ℤ, pos, negsuc, neg_ℤ, ◌+ℤ◌, ◌-ℤ◌, ◌<ℤ◌}
-use Rattle.std.specs.Prelude.{unsigned_abs}
+use Rattle.std.proofs.Common.{◌≡◌, ◌≢◌, ℕ, ◌+◌, ◌-◌, ◌<◌, ◌≤◌, inl, inr, length, get_or, ap, sym, ◌∙◌, arith, subst, ℤ, pos, negsuc, neg_ℤ, ◌+ℤ◌, ◌-ℤ◌, ◌<ℤ◌}
+use Rattle.std.specs.Prelude.{◌↔◌, unsigned_abs}
 use Rattle.std.proofs.lemmas.Int.{ints}
 use Rattle.std.proofs.lemmas.Bool.{cond-true, cond-false, ne_eqb, eq-eqb}
 use Rattle.std.proofs.lemmas.List.{get_or_read}
@@ -13,11 +13,13 @@ use Rattle.mcf_network.proofs.ArcLaws.{ends_at, net_arc_at}
 use Rattle.mcf_basis.specs.declared.offer.Offer.{Offer}
 use Rattle.mcf_basis.specs.Bases.{IsBasis}
 use Rattle.mcf_basis.specs.Private.Layouts.{Layout, IsLaidOut, basis_in, forward_offer, no_offer, offer_at, turned_offer}
+use Rattle.mcf_basis.specs.Private.Offered.{CanReduce, reduced_by}
 use Rattle.mcf_basis.specs.Private.Layouts.IsOffer.{closed, forward, turned}
 use Rattle.mcf_basis.specs.Pivots.{IsEligible}
 use Rattle.mcf_basis.specs.Structures.{TreeStructure, IsInTree, carried, price_at, reduced_at}
 use Rattle.mcf_basis.specs.Violations.{violation}
 use Rattle.mcf_basis.proofs.Labels.{own_arc}
+use Rattle.mcf_basis.proofs.TreePrices.{price_small}
 use Rattle.mcf_basis.proofs.Views.{carried_outside}
 
 -- the reduced cost of an arc of the net, by the arc itself
@@ -131,18 +133,35 @@ module _ (l : Layout) (k : ℕ) (ok : IsLaidOut l) (h : IsArcNumber l.net k) whe
     | turned wide e ↦ read_turned wide e
   ]
 
--- the offer that the code reads
+  -- and its reduced cost can be computed
+  pub can_reduce : CanReduce l.table.prices (offer_at l k)
+  unfolding basis_in
+  can_reduce =
+      let count : length l.table.prices ≡ node_count l.net + 1 = ok.basis.prices.one_per_node in
+      let r = read_offer in
+      let from : (offer_at l k).from ≤ node_count l.net = r.from in
+      let to : (offer_at l k).to ≤ node_count l.net = r.to in
+      record {
+        ends = record { from = omega (arith, count, from); to = omega (arith, count, to); cost = r.cost };
+        from_small = price_small (basis_in l) ok.basis (offer_at l k).from r.from;
+        to_small = price_small (basis_in l) ok.basis (offer_at l k).to r.to;
+      }
+
+-- the offer that the code reads, and its reduced cost
+pub record IsOfferRead (l : Layout) (b : TreeStructure) (k : ℕ) (o : Offer) : Type 0 where
+  pub can : CanReduce l.table.prices o
+  pub eligible : (reduced_by l.table.prices o <ℤ pos 0) ↔ IsEligible b k
+  pub size : reduced_by l.table.prices o <ℤ pos 0 → reduced_by l.table.prices o ≡ neg_ℤ (pos (violation b k))
+
 pub offer_read : (l : Layout) (b : TreeStructure) (k i : ℕ) (o : Offer) → basis_in l ≡ b → IsLaidOut l → IsArcNumber b.net k → i ≡ k - 1
-    → o ≡ get_or l.offers i o → IsReadOffer b k o
+    → o ≡ get_or l.offers i o → IsOfferRead l b k o
 unfolding basis_in
 offer_read l b k i o e ok h same read =
     let count : length l.offers ≡ length l.net.arcs = ok.offers_size in
-    let here : IsArcNumber l.net k = own l b e h in
+    let here : IsArcNumber l.net k = subst (λ x. IsArcNumber x.net k) (sym e) h in
     let is : o ≡ offer_at l k = get_or_read l.offers i o (omega arith) read no_offer ∙ ap (λ j. get_or l.offers j no_offer) same in
-    rw is (subst (λ x. IsReadOffer x k (offer_at l k)) e (read_offer l k ok here))
-  where
-    own : (l : Layout) (b : TreeStructure) → basis_in l ≡ b → IsArcNumber b.net k → IsArcNumber l.net k
-    own = λ l b e h. subst (λ x. IsArcNumber x.net k) (sym e) h
+    let r = read_offer l k ok here in
+    rw is (subst (λ x. IsOfferRead l x k (offer_at l k)) e (record { can = can_reduce l k ok here; eligible = (r.eligible, r.only); size = r.size }))
 
 pub offer_in_range : (l : Layout) (b : TreeStructure) (k i : ℕ) → basis_in l ≡ b → IsLaidOut l → IsArcNumber b.net k → i ≡ k - 1 → i < length l.offers
 unfolding basis_in

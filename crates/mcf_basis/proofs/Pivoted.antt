@@ -24,18 +24,18 @@ use Rattle.mcf_basis.specs.Private.Climbs.{CanReplace, IsChosen, IsClimb, IsRepl
 use Rattle.mcf_basis.specs.Private.Climbs.IsChosen.{down_leaves, entering_leaves, up_leaves}
 use Rattle.mcf_basis.specs.Private.Climbs.IsReplaced.{at_once, exchanged}
 use Rattle.mcf_basis.specs.Private.Layouts.{Layout, IsLaidOut, Prices, basis_in, no_offer, offer_at}
-use Rattle.mcf_basis.specs.Private.Turned.{CanPush, IsExchangedBy, IsPushedRound, is_left, offers_kept, price_of}
-use Rattle.mcf_basis.specs.Structures.{TreeStructure, CanTake, price_limit}
+use Rattle.mcf_basis.specs.Private.Offered.{CanReduce, reduced_by}
+use Rattle.mcf_basis.specs.Private.Turned.{CanPush, IsExchangedBy, IsPushedRound, is_left, offers_kept}
+use Rattle.mcf_basis.specs.Structures.{TreeStructure, CanTake}
 use Rattle.mcf_basis.proofs.Around.{CanGoRound, IsAround, IsLeaving, WentRound, from_of, to_of}
 use Rattle.mcf_basis.proofs.Around.IsLeaving.{right as leaves_right, enter as leaves_at_once, left as leaves_left}
 use Rattle.mcf_basis.proofs.Climbed.{chosen_down, chosen_leaves, chosen_round, chosen_up, leaves_by}
 use Rattle.mcf_basis.proofs.CyclePlaces.{last_of_leaving}
 use Rattle.mcf_basis.proofs.Cycles.{around}
-use Rattle.mcf_basis.proofs.Offers.{IsReadOffer, offered, read_offer}
+use Rattle.mcf_basis.proofs.Offers.{IsReadOffer, can_reduce, offered, read_offer}
 use Rattle.mcf_basis.proofs.PairLaws.{pivots_lower_the_pair_lem}
 use Rattle.mcf_basis.proofs.PivotKeeps.{pivots_keep_bases_lem}
 use Rattle.mcf_basis.proofs.Pushed.{went_round}
-use Rattle.mcf_basis.proofs.TreePrices.{price_small}
 use Rattle.mcf_basis.proofs.TurnedLayout.IsOut.{left as out_left, right as out_right}
 use Rattle.mcf_basis.proofs.TurnedLayout.{IsOut, IsPivotedLayout, can_exchange, exchanged_layout, kept_layout, next_layout}
 use Rattle.mcf_basis.proofs.TurnedStart.{can_push, offer_ends}
@@ -56,11 +56,11 @@ leaving_blocks b k apex x r (leaves_right m short is full rest) = full
 leaving_blocks b k apex x r (leaves_at_once is full rest) = full
 leaving_blocks b k apex x r (leaves_left m short is full rest more side) = full
 
--- a pivot from one layout to another
-pub record IsTurnedTo (l l' : Layout) (k x : ℕ) : Type 0 where
-  pub pivot : IsPivot (basis_in l) k (pos x) (basis_in l')
+-- a pivot of a basis, and the layout that it led to
+pub record IsTurnedTo (b : TreeStructure) (l' : Layout) (k : ℕ) (x : ℤ) : Type 0 where
+  pub pivot : IsPivot b k x (basis_in l')
   pub laid_out : IsLaidOut l'
-  pub falls : PairFalls (basis_in l) (basis_in l')
+  pub falls : PairFalls b (basis_in l')
 
 module _ (l : Layout) (k : ℕ) (ok : IsLaidOut l) (el : IsEligible (basis_in l) k) where
   is_basis : IsBasis (basis_in l)
@@ -146,7 +146,7 @@ module _ (l : Layout) (k : ℕ) (ok : IsLaidOut l) (el : IsEligible (basis_in l)
   unfolding basis_in
   residuals_sized = (let n = nodes in ok.residuals_size ∙ sym n)
 
-  -- the offer and the prices that are read
+  -- the offer that is read
   module _ (o : Offer) (is : o ≡ offer_at l k) where
     pub from_in_tree : o.from < size_of l.tree
     unfolding basis_in
@@ -156,30 +156,10 @@ module _ (l : Layout) (k : ℕ) (ok : IsLaidOut l) (el : IsEligible (basis_in l)
     unfolding basis_in
     to_in_tree = (let n = nodes in let h : (offer_at l k).to ≤ node_count l.net = read.to in rw is (omega (arith, n, h)))
 
-    pub from_in_table : o.from < length l.table.prices
-    unfolding basis_in
-    from_in_table =
-        let count : length l.table.prices ≡ node_count l.net + 1 = ok.basis.prices.one_per_node in
-        let h : (offer_at l k).from ≤ node_count l.net = read.from in rw is (omega (arith, count, h))
+    pub reduced_ready : CanReduce l.table.prices o
+    reduced_ready = rw is (can_reduce l k ok number)
 
-    pub to_in_table : o.to < length l.table.prices
-    unfolding basis_in
-    to_in_table =
-        let count : length l.table.prices ≡ node_count l.net + 1 = ok.basis.prices.one_per_node in
-        let h : (offer_at l k).to ≤ node_count l.net = read.to in rw is (omega (arith, count, h))
-
-    pub cost_small : IsUpTo limits.cost o.cost
-    cost_small = rw is read.cost
-
-    pub from_small : IsUpTo price_limit (price_of l.table o.from)
-    unfolding basis_in
-    from_small = rw is (price_small (basis_in l) ok.basis (offer_at l k).from read.from)
-
-    pub to_small : IsUpTo price_limit (price_of l.table o.to)
-    unfolding basis_in
-    to_small = rw is (price_small (basis_in l) ok.basis (offer_at l k).to read.to)
-
-    pub reduced_is : o.cost -ℤ price_of l.table o.from +ℤ price_of l.table o.to ≡ offered (basis_in l) (offer_at l k)
+    pub reduced_is : reduced_by l.table.prices o ≡ offered (basis_in l) (offer_at l k)
     unfolding basis_in
     reduced_is = rw is refl
 
@@ -234,7 +214,7 @@ module _ (l : Layout) (k : ℕ) (ok : IsLaidOut l) (el : IsEligible (basis_in l)
             exchanged_layout l k f.apex f.amount f.out (is_left f.leaving) (leaves_by (basis_in l) k f.leaving f.out) t' offers residuals residuals' artificial table' ok el
             round.is_apex round.is_around round.can (round.is_out other) went pushed_round (exchanged_ends h)
 
-    pub pivoted : (l' : Layout) → IsPivotedLayout l l' k f.apex (pos f.amount) (leaves_by (basis_in l) k f.leaving f.out) → IsTurnedTo l l' k f.amount
+    pub pivoted : (l' : Layout) → IsPivotedLayout l l' k f.apex (pos f.amount) (leaves_by (basis_in l) k f.leaving f.out) → IsTurnedTo (basis_in l) l' k (pos f.amount)
     pivoted l' h =
         let pivot : IsPivot (basis_in l) k (pos f.amount) (basis_in l') = record {
           eligible = el;
@@ -259,34 +239,15 @@ module _ (l : Layout) (k : ℕ) (ok : IsLaidOut l) (el : IsEligible (basis_in l)
         pivots ≡ l.pivots + 1 → f.reduced ≡ offered (basis_in l) (offer_at l k) →
         IsPushedRound l.net l.tree l.residuals residuals l.artificial artificial f.from f.to f.apex f.amount →
         IsReplaced l.net l.tree t' l.offers offers residuals residuals' l.table table' f →
-        IsTurnedTo l (laid l.net t' offers residuals' artificial table' pivots) k f.amount
+        IsTurnedTo (basis_in l) (laid l.net t' offers residuals' artificial table' pivots) k (pos f.amount)
     turned t' offers residuals residuals' artificial table' pivots one_more is pushed done =
-        subst (λ n. IsTurnedTo l (laid l.net t' offers residuals' artificial table' n) k f.amount) (sym one_more)
+        subst (λ n. IsTurnedTo (basis_in l) (laid l.net t' offers residuals' artificial table' n) k (pos f.amount)) (sym one_more)
         (pivoted (next_layout l t' offers residuals' artificial table') (replaced t' offers residuals residuals' artificial table' is pushed done))
 
 -- the same of lists and numbers that are equal
-pub same_laid_out : (g : Network) (t : SpanningTree) (offers offers' : List Offer) (residuals residuals' : List Residuals) (artificial artificial' : List ℤ)
-    (table : Prices) (pivots : ℕ) → offers' ≡ offers → residuals' ≡ residuals → artificial' ≡ artificial →
-    IsLaidOut (laid g t offers residuals artificial table pivots) → IsLaidOut (laid g t offers' residuals' artificial' table pivots)
-same_laid_out g t offers offers' residuals residuals' artificial artificial' table pivots same_offers same_residuals same_artificial h =
-    subst (λ o. IsLaidOut (laid g t o residuals' artificial' table pivots)) (sym same_offers)
-    (subst (λ r. IsLaidOut (laid g t offers r artificial' table pivots)) (sym same_residuals)
-    (subst (λ a. IsLaidOut (laid g t offers residuals a table pivots)) (sym same_artificial) h))
-
-pub same_pivot : (b : TreeStructure) (l : Layout) (g : Network) (t : SpanningTree) (offers offers' : List Offer) (residuals residuals' : List Residuals)
-    (artificial artificial' : List ℤ) (table : Prices) (pivots k x : ℕ) (moved : ℤ) → basis_in l ≡ b → offers' ≡ offers → residuals' ≡ residuals →
-    artificial' ≡ artificial → moved ≡ pos x →
-    IsPivot (basis_in l) k (pos x) (basis_in (laid g t offers residuals artificial table pivots)) →
-    IsPivot b k moved (basis_in (laid g t offers' residuals' artificial' table pivots))
-same_pivot b l g t offers offers' residuals residuals' artificial artificial' table pivots k x moved view same_offers same_residuals same_artificial same_amount h =
-    rw (← view, same_offers, same_residuals, same_artificial, same_amount) h
-
-pub same_falls : (b : TreeStructure) (l : Layout) (g : Network) (t : SpanningTree) (offers offers' : List Offer) (residuals residuals' : List Residuals)
-    (artificial artificial' : List ℤ) (table : Prices) (pivots : ℕ) → basis_in l ≡ b → offers' ≡ offers → residuals' ≡ residuals → artificial' ≡ artificial →
-    PairFalls (basis_in l) (basis_in (laid g t offers residuals artificial table pivots)) →
-    PairFalls b (basis_in (laid g t offers' residuals' artificial' table pivots))
-same_falls b l g t offers offers' residuals residuals' artificial artificial' table pivots view same_offers same_residuals same_artificial h =
-    subst (λ o. PairFalls b (basis_in (laid g t o residuals' artificial' table pivots))) (sym same_offers)
-    (subst (λ r. PairFalls b (basis_in (laid g t offers r artificial' table pivots))) (sym same_residuals)
-    (subst (λ a. PairFalls b (basis_in (laid g t offers residuals a table pivots))) (sym same_artificial)
-    (subst (λ old. PairFalls old (basis_in (laid g t offers residuals artificial table pivots))) view h)))
+pub same_turned : (b b' : TreeStructure) (g : Network) (t : SpanningTree) (offers offers' : List Offer) (residuals residuals' : List Residuals)
+    (artificial artificial' : List ℤ) (table : Prices) (pivots k : ℕ) (x x' : ℤ) → b ≡ b' → offers' ≡ offers → residuals' ≡ residuals →
+    artificial' ≡ artificial → x' ≡ x → IsTurnedTo b (laid g t offers residuals artificial table pivots) k x →
+    IsTurnedTo b' (laid g t offers' residuals' artificial' table pivots) k x'
+same_turned b b' g t offers offers' residuals residuals' artificial artificial' table pivots k x x' view same_offers same_residuals same_artificial same h =
+    rw (← view, same_offers, same_residuals, same_artificial, same) h

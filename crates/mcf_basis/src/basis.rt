@@ -99,8 +99,7 @@ impl<'n> Basis<'n> {
         ensures small { IsUpTo reduced_limit result }
         ensures basis { IsBasis self.now }
     {
-        let offer = self.offers[k.place()];
-        i128::from(offer.cost) - self.table.get(offer.from) + self.table.get(offer.to)
+        self.table.reduced(self.offers[k.place()])
     }
 
     /// Whether an arc can enter: it is outside the tree, it can carry something, and it gains by carrying more where it carries

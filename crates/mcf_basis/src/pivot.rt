@@ -1,17 +1,13 @@
 //! One pivot of the network simplex.
-ghost use Rattle.std.specs.Prelude.{◌≡◌, ℕ, ◌-◌, ◌<◌, ◌≤◌, ◌<ℤ◌, ◌+ℤ◌, ◌-ℤ◌, ℤ, length, pos, unsigned_abs};
-ghost use Rattle.mcf_flows.specs.Limits.{limits};
+ghost use Rattle.std.specs.Prelude.{◌≡◌, ℕ, ◌-◌, ◌<◌, ◌≤◌, ◌<ℤ◌, ℤ, length, pos, unsigned_abs};
 ghost use Rattle.mcf_flows.specs.Network.{IsArcNumber};
-ghost use Rattle.mcf_flows.specs.WellFormed.{IsUpTo};
 ghost use Rattle.mcf_network.specs.Residual.{arc_at};
 ghost use Rattle.mcf_tree.specs.SpanningTree.{size_of};
 ghost use Rattle.mcf_basis.specs.declared.pivot.Step.TheVariants.{Moved, Still};
 ghost use Rattle.mcf_basis.specs.Bases.{IsBasis};
 ghost use Rattle.mcf_basis.specs.Pivots.{IsEligible, IsPivot, PairFalls};
 ghost use Rattle.mcf_basis.specs.Private.Climbs.{CanReplace, IsReplaced};
-ghost use Rattle.mcf_basis.specs.Private.Turned.{price_of};
 ghost use Rattle.mcf_basis.specs.Steps.{moved_by};
-ghost use Rattle.mcf_basis.specs.Structures.{price_limit};
 
 use crate::basis::Basis;
 use crate::climb::Climb;
@@ -50,7 +46,7 @@ impl<'n> Basis<'n> {
     {
         self.pivots.add_one();
         let offer = self.offers[k.place()];
-        let reduced = reduced_of(&self.table, offer);
+        let reduced = self.table.reduced(offer);
         let climb = Climb::of(&self.tree, &self.residuals, offer.from, offer.to);
         let cycle = climb.cycle(k, self.net.width(k) as u64, reduced, offer);
         push(
@@ -82,18 +78,6 @@ fn step_of(amount: u64) -> Step
     } else {
         Step::Still
     }
-}
-
-// The reduced cost of an offer.
-fn reduced_of(table: &PriceTable, offer: Offer) -> i128
-    requires from { offer.from < length table.now.prices }
-    requires to { offer.to < length table.now.prices }
-    requires cost { IsUpTo limits.cost offer.cost }
-    requires from_small { IsUpTo price_limit (price_of table.now offer.from) }
-    requires to_small { IsUpTo price_limit (price_of table.now offer.to) }
-    ensures { result ≡ offer.cost -ℤ price_of table.now offer.from +ℤ price_of table.now offer.to }
-{
-    i128::from(offer.cost) - table.get(offer.from) + table.get(offer.to)
 }
 
 // The entering arc takes the place of the one that leaves.

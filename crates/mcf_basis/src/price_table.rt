@@ -1,11 +1,12 @@
 //! A price for each node, in 64 bits where every price of every basis of the net fits them, else in 128.
 
 ghost use Rattle.std.specs.Prelude.{◌≡◌, ℕ, ◌+◌, ◌^◌, ◌<◌, ◌≤◌, List, drop, length, get_or, pos};
+ghost use Rattle.mcf_flows.specs.WellFormed.{IsUpTo};
 ghost use Rattle.mcf_basis.specs.Private.Columns.{limit_of, priced_in, prices_in};
 ghost use Rattle.mcf_basis.specs.Private.Layouts.{narrow_limit};
-ghost use Rattle.mcf_basis.specs.Private.Offered.{CanCompare, IsLeastOffer};
+ghost use Rattle.mcf_basis.specs.Private.Offered.{CanCompare, CanReduce, IsLeastOffer, reduced_by};
 ghost use Rattle.mcf_basis.specs.Private.Turned.{AreRaised, CanRaise};
-ghost use Rattle.mcf_basis.specs.Structures.{price_limit};
+ghost use Rattle.mcf_basis.specs.Structures.{price_limit, reduced_limit};
 
 use crate::least_offer::least_offer;
 use crate::offer::Offer;
@@ -68,6 +69,16 @@ impl PriceTable {
             PriceColumn::Narrow(prices) => i128::from(prices.entries()[v as usize]),
             PriceColumn::Wide(prices) => prices.entries()[v as usize],
         }
+    }
+
+    /// The reduced cost of an offer.
+    #[inline(always)]
+    pub fn reduced(&self, offer: Offer) -> i128
+        requires { CanReduce self.now.prices offer }
+        ensures value { result ≡ reduced_by self.now.prices offer }
+        ensures small { IsUpTo reduced_limit result }
+    {
+        i128::from(offer.cost) - self.get(offer.from) + self.get(offer.to)
     }
 
     /// Of the offers from place `begin` up to but not including `end` the first of least reduced cost, if that is below 0.

@@ -4,6 +4,7 @@ use Rattle.mcf_flows.specs.Limits.{limits}
 use Rattle.mcf_flows.specs.WellFormed.{IsUpTo}
 use Rattle.mcf_basis.specs.declared.offer.Offer.{Offer}
 use Rattle.mcf_basis.specs.Private.Layouts.{no_offer}
+use Rattle.mcf_basis.specs.Structures.{price_limit}
 
 -- what a unit along an offer costs, by the prices of its ends
 abbrev pub reduced_by : List ℤ → Offer → ℤ
@@ -18,6 +19,12 @@ pub record HasPricedEnds (nodes : ℕ) (o : Offer) : Type 0 where
   pub from : o.from < nodes
   pub to : o.to < nodes
   pub cost : IsUpTo limits.cost o.cost
+
+-- its reduced cost can be computed: both prices have room
+pub record CanReduce (prices : List ℤ) (o : Offer) : Type 0 where
+  pub ends : HasPricedEnds (length prices) o
+  pub from_small : IsUpTo price_limit (slice_index_or prices o.from (pos 0))
+  pub to_small : IsUpTo price_limit (slice_index_or prices o.to (pos 0))
 
 -- the offers from place begin up to but not including end can be compared, by prices that lie no further from 0 than limit
 pub record CanCompare (prices : List ℤ) (limit : ℕ) (offers : List Offer) (begin end : ℕ) : Type 0 where

@@ -11,9 +11,10 @@ use Rattle.mcf_basis.specs.declared.cycle.Cycle.{Cycle}
 use Rattle.mcf_basis.specs.declared.offer.Offer.{Offer}
 use Rattle.mcf_basis.specs.Pivots.{IsEligible}
 use Rattle.mcf_basis.specs.Private.Climbs.{laid}
+use Rattle.mcf_basis.specs.Private.Layouts.{basis_in}
 use Rattle.mcf_basis.specs.Steps.{moved_by}
-use Rattle.mcf_basis.proofs.Pivoted.{cost_small, cycle_found, from_in_table, from_in_tree, from_small, number, offer_read, push_ready, reduced_is}
-use Rattle.mcf_basis.proofs.Pivoted.{replace_ready, residuals_sized, same_falls, same_laid_out, same_pivot, to_in_table, to_in_tree, to_small, turned}
+use Rattle.mcf_basis.proofs.Pivoted.{IsTurnedTo, cycle_found, from_in_tree, number, offer_read, push_ready, reduced_is, reduced_ready}
+use Rattle.mcf_basis.proofs.Pivoted.{replace_ready, residuals_sized, same_turned, to_in_tree, turned}
 use Rattle.mcf_basis.proofs.basis.Basis.pivot.Goals as goal
 
 pub index-offer-requires : goal.index-offer-requires
@@ -23,50 +24,14 @@ index-offer-requires c =
     let el = subst (λ b. IsEligible b c.args.k) (sym c.self.view_is) c.requires in
     (let n = number l c.args.k c.self.invariant el in let size = c.self.invariant.offers_size in omega (arith, size, n, c.place.ensures))
 
-pub reduced_of-reduced-requires-clause-from : goal.reduced_of-reduced-requires-clause-from
-reduced_of-reduced-requires-clause-from c =
+pub reduced-reduced-requires : goal.reduced-reduced-requires
+reduced-reduced-requires c =
     let inside = c.self.inside in
     let l = laid inside.net.now inside.tree inside.offers.items inside.residuals.items inside.artificial.items inside.table inside.pivots.number in
     let el = subst (λ b. IsEligible b c.args.k) (sym c.self.view_is) c.requires in
     let o : Offer = c.index-offer.result.now in
     let is = offer_read l c.args.k c.self.invariant el o c.place.result c.place.ensures c.index-offer.ensures in
-    from_in_table l c.args.k c.self.invariant el o is
-
-pub reduced_of-reduced-requires-clause-to : goal.reduced_of-reduced-requires-clause-to
-reduced_of-reduced-requires-clause-to c =
-    let inside = c.self.inside in
-    let l = laid inside.net.now inside.tree inside.offers.items inside.residuals.items inside.artificial.items inside.table inside.pivots.number in
-    let el = subst (λ b. IsEligible b c.args.k) (sym c.self.view_is) c.requires in
-    let o : Offer = c.index-offer.result.now in
-    let is = offer_read l c.args.k c.self.invariant el o c.place.result c.place.ensures c.index-offer.ensures in
-    to_in_table l c.args.k c.self.invariant el o is
-
-pub reduced_of-reduced-requires-clause-cost : goal.reduced_of-reduced-requires-clause-cost
-reduced_of-reduced-requires-clause-cost c =
-    let inside = c.self.inside in
-    let l = laid inside.net.now inside.tree inside.offers.items inside.residuals.items inside.artificial.items inside.table inside.pivots.number in
-    let el = subst (λ b. IsEligible b c.args.k) (sym c.self.view_is) c.requires in
-    let o : Offer = c.index-offer.result.now in
-    let is = offer_read l c.args.k c.self.invariant el o c.place.result c.place.ensures c.index-offer.ensures in
-    cost_small l c.args.k c.self.invariant el o is
-
-pub reduced_of-reduced-requires-clause-from_small : goal.reduced_of-reduced-requires-clause-from_small
-reduced_of-reduced-requires-clause-from_small c =
-    let inside = c.self.inside in
-    let l = laid inside.net.now inside.tree inside.offers.items inside.residuals.items inside.artificial.items inside.table inside.pivots.number in
-    let el = subst (λ b. IsEligible b c.args.k) (sym c.self.view_is) c.requires in
-    let o : Offer = c.index-offer.result.now in
-    let is = offer_read l c.args.k c.self.invariant el o c.place.result c.place.ensures c.index-offer.ensures in
-    from_small l c.args.k c.self.invariant el o is
-
-pub reduced_of-reduced-requires-clause-to_small : goal.reduced_of-reduced-requires-clause-to_small
-reduced_of-reduced-requires-clause-to_small c =
-    let inside = c.self.inside in
-    let l = laid inside.net.now inside.tree inside.offers.items inside.residuals.items inside.artificial.items inside.table inside.pivots.number in
-    let el = subst (λ b. IsEligible b c.args.k) (sym c.self.view_is) c.requires in
-    let o : Offer = c.index-offer.result.now in
-    let is = offer_read l c.args.k c.self.invariant el o c.place.result c.place.ensures c.index-offer.ensures in
-    to_small l c.args.k c.self.invariant el o is
+    reduced_ready l c.args.k c.self.invariant el o is
 
 pub of-climb-requires-clause-sized : goal.of-climb-requires-clause-sized
 of-climb-requires-clause-sized c =
@@ -137,14 +102,19 @@ replace-requires c =
     let round = cycle_found l c.args.k c.self.invariant el o f c.of-climb.result c.deref.result.now (unsigned_abs (to_z w128 (of_z w128 c.width.result)))
     is c.deref.ensures.value (ap unsigned_abs (width ∙ c.width.ensures.value)) c.of-climb.ensures.value c.cycle-cycle.ensures.arc
     c.cycle-cycle.ensures.from c.cycle-cycle.ensures.to c.cycle-cycle.ensures.apex c.cycle-cycle.ensures.chosen in
-    let back : to_z w128 (of_z w128 c.reduced_of-reduced.result) ≡ c.reduced_of-reduced.result = search (rules, to_z-of_z) in
-    let reduced = c.cycle-cycle.ensures.reduced ∙ (back ∙ (c.reduced_of-reduced.ensures ∙ reduced_is l c.args.k c.self.invariant el o is)) in
+    let back : to_z w128 (of_z w128 c.reduced-reduced.result) ≡ c.reduced-reduced.result = search (rules, to_z-of_z) in
+    let reduced = c.cycle-cycle.ensures.reduced ∙ (back ∙ (c.reduced-reduced.ensures.value ∙ reduced_is l c.args.k c.self.invariant el o is)) in
     let pushed = c.deref_mut-4.ensures.value ∙ with_items_is inside.residuals c.push.new.residuals (search rules) in
     rw (c.deref_mut-3.ensures.value, pushed) (replace_ready l c.args.k c.self.invariant el f round c.push.new.residuals
     (c.push.ensures.residuals_size ∙ ap length c.deref_mut.ensures.value) reduced)
 
-pub invariant_of-self : goal.invariant_of-self
-invariant_of-self c =
+-- the pivot, as it was done
+done : (c : goal.After-step_of) → IsTurnedTo c.args.self.now
+    (laid c.self.inside.net.now c.replace.new.tree (with_items c.self.inside.offers c.replace.new.offers).items
+    (with_items (with_items c.self.inside.residuals c.push.new.residuals) c.replace.new.residuals).items
+    (with_items c.self.inside.artificial c.push.new.artificial).items c.replace.new.table c.add_one.new.self.number)
+    c.args.k (moved_by c.step_of.result)
+done c =
     let inside = c.self.inside in
     let l = laid inside.net.now inside.tree inside.offers.items inside.residuals.items inside.artificial.items inside.table inside.pivots.number in
     let el = subst (λ b. IsEligible b c.args.k) (sym c.self.view_is) c.requires in
@@ -155,88 +125,27 @@ invariant_of-self c =
     let round = cycle_found l c.args.k c.self.invariant el o f c.of-climb.result c.deref.result.now (unsigned_abs (to_z w128 (of_z w128 c.width.result)))
     is c.deref.ensures.value (ap unsigned_abs (width ∙ c.width.ensures.value)) c.of-climb.ensures.value c.cycle-cycle.ensures.arc
     c.cycle-cycle.ensures.from c.cycle-cycle.ensures.to c.cycle-cycle.ensures.apex c.cycle-cycle.ensures.chosen in
-    let back : to_z w128 (of_z w128 c.reduced_of-reduced.result) ≡ c.reduced_of-reduced.result = search (rules, to_z-of_z) in
-    let reduced = c.cycle-cycle.ensures.reduced ∙ (back ∙ (c.reduced_of-reduced.ensures ∙ reduced_is l c.args.k c.self.invariant el o is)) in
+    let back : to_z w128 (of_z w128 c.reduced-reduced.result) ≡ c.reduced-reduced.result = search (rules, to_z-of_z) in
+    let reduced = c.cycle-cycle.ensures.reduced ∙ (back ∙ (c.reduced-reduced.ensures.value ∙ reduced_is l c.args.k c.self.invariant el o is)) in
     let pushed = c.deref_mut-4.ensures.value ∙ with_items_is inside.residuals c.push.new.residuals (search rules) in
     let new = c.replace.new in
-    let done = turned l c.args.k c.self.invariant el f round new.tree new.offers c.push.new.residuals new.residuals c.push.new.artificial new.table
+    let turn = turned l c.args.k c.self.invariant el f round new.tree new.offers c.push.new.residuals new.residuals c.push.new.artificial new.table
     c.add_one.new.self.number c.add_one.ensures reduced (rw (c.deref_mut.ensures.value, c.deref_mut-2.ensures.value) at c.push.ensures)
     (rw (c.deref_mut-3.ensures.value, pushed) at c.replace.ensures) in
     let offers = with_items_is inside.offers new.offers (search rules) in
     let residuals = with_items_is (with_items inside.residuals c.push.new.residuals) new.residuals (search rules) in
     let artificial = with_items_is inside.artificial c.push.new.artificial (search rules) in
-    same_laid_out _ _ new.offers _ new.residuals _ c.push.new.artificial _ _ _ offers residuals artificial done.laid_out
+    same_turned (basis_in l) c.args.self.now _ _ new.offers _ new.residuals _ c.push.new.artificial _ _ _ c.args.k _ _
+    c.self.view_is offers residuals artificial c.step_of.ensures.value turn
+
+pub invariant_of-self : goal.invariant_of-self
+invariant_of-self c = (done c).laid_out
 
 pub returns-clause-basis : goal.returns-clause-basis
-returns-clause-basis c =
-    let inside = c.self.inside in
-    let l = laid inside.net.now inside.tree inside.offers.items inside.residuals.items inside.artificial.items inside.table inside.pivots.number in
-    let el = subst (λ b. IsEligible b c.args.k) (sym c.self.view_is) c.requires in
-    let o : Offer = c.index-offer.result.now in
-    let is = offer_read l c.args.k c.self.invariant el o c.place.result c.place.ensures c.index-offer.ensures in
-    let f : Cycle = c.cycle-cycle.result in
-    let width : to_z w128 (of_z w128 c.width.result) ≡ c.width.result = search (rules, to_z-of_z) in
-    let round = cycle_found l c.args.k c.self.invariant el o f c.of-climb.result c.deref.result.now (unsigned_abs (to_z w128 (of_z w128 c.width.result)))
-    is c.deref.ensures.value (ap unsigned_abs (width ∙ c.width.ensures.value)) c.of-climb.ensures.value c.cycle-cycle.ensures.arc
-    c.cycle-cycle.ensures.from c.cycle-cycle.ensures.to c.cycle-cycle.ensures.apex c.cycle-cycle.ensures.chosen in
-    let back : to_z w128 (of_z w128 c.reduced_of-reduced.result) ≡ c.reduced_of-reduced.result = search (rules, to_z-of_z) in
-    let reduced = c.cycle-cycle.ensures.reduced ∙ (back ∙ (c.reduced_of-reduced.ensures ∙ reduced_is l c.args.k c.self.invariant el o is)) in
-    let pushed = c.deref_mut-4.ensures.value ∙ with_items_is inside.residuals c.push.new.residuals (search rules) in
-    let new = c.replace.new in
-    let done = turned l c.args.k c.self.invariant el f round new.tree new.offers c.push.new.residuals new.residuals c.push.new.artificial new.table
-    c.add_one.new.self.number c.add_one.ensures reduced (rw (c.deref_mut.ensures.value, c.deref_mut-2.ensures.value) at c.push.ensures)
-    (rw (c.deref_mut-3.ensures.value, pushed) at c.replace.ensures) in
-    let offers = with_items_is inside.offers new.offers (search rules) in
-    let residuals = with_items_is (with_items inside.residuals c.push.new.residuals) new.residuals (search rules) in
-    let artificial = with_items_is inside.artificial c.push.new.artificial (search rules) in
-    (same_laid_out _ _ new.offers _ new.residuals _ c.push.new.artificial _ _ _ offers residuals artificial done.laid_out).basis
+returns-clause-basis c = (done c).laid_out.basis
 
 pub returns-clause-step : goal.returns-clause-step
-returns-clause-step c =
-    let inside = c.self.inside in
-    let l = laid inside.net.now inside.tree inside.offers.items inside.residuals.items inside.artificial.items inside.table inside.pivots.number in
-    let el = subst (λ b. IsEligible b c.args.k) (sym c.self.view_is) c.requires in
-    let o : Offer = c.index-offer.result.now in
-    let is = offer_read l c.args.k c.self.invariant el o c.place.result c.place.ensures c.index-offer.ensures in
-    let f : Cycle = c.cycle-cycle.result in
-    let width : to_z w128 (of_z w128 c.width.result) ≡ c.width.result = search (rules, to_z-of_z) in
-    let round = cycle_found l c.args.k c.self.invariant el o f c.of-climb.result c.deref.result.now (unsigned_abs (to_z w128 (of_z w128 c.width.result)))
-    is c.deref.ensures.value (ap unsigned_abs (width ∙ c.width.ensures.value)) c.of-climb.ensures.value c.cycle-cycle.ensures.arc
-    c.cycle-cycle.ensures.from c.cycle-cycle.ensures.to c.cycle-cycle.ensures.apex c.cycle-cycle.ensures.chosen in
-    let back : to_z w128 (of_z w128 c.reduced_of-reduced.result) ≡ c.reduced_of-reduced.result = search (rules, to_z-of_z) in
-    let reduced = c.cycle-cycle.ensures.reduced ∙ (back ∙ (c.reduced_of-reduced.ensures ∙ reduced_is l c.args.k c.self.invariant el o is)) in
-    let pushed = c.deref_mut-4.ensures.value ∙ with_items_is inside.residuals c.push.new.residuals (search rules) in
-    let new = c.replace.new in
-    let done = turned l c.args.k c.self.invariant el f round new.tree new.offers c.push.new.residuals new.residuals c.push.new.artificial new.table
-    c.add_one.new.self.number c.add_one.ensures reduced (rw (c.deref_mut.ensures.value, c.deref_mut-2.ensures.value) at c.push.ensures)
-    (rw (c.deref_mut-3.ensures.value, pushed) at c.replace.ensures) in
-    let offers = with_items_is inside.offers new.offers (search rules) in
-    let residuals = with_items_is (with_items inside.residuals c.push.new.residuals) new.residuals (search rules) in
-    let artificial = with_items_is inside.artificial c.push.new.artificial (search rules) in
-    same_pivot c.args.self.now l inside.net.now new.tree new.offers _ new.residuals _ c.push.new.artificial _ new.table c.add_one.new.self.number c.args.k f.amount
-    (moved_by c.step_of.result) c.self.view_is offers residuals artificial c.step_of.ensures.value done.pivot
+returns-clause-step c = (done c).pivot
 
 pub returns-clause-falls : goal.returns-clause-falls
-returns-clause-falls c =
-    let inside = c.self.inside in
-    let l = laid inside.net.now inside.tree inside.offers.items inside.residuals.items inside.artificial.items inside.table inside.pivots.number in
-    let el = subst (λ b. IsEligible b c.args.k) (sym c.self.view_is) c.requires in
-    let o : Offer = c.index-offer.result.now in
-    let is = offer_read l c.args.k c.self.invariant el o c.place.result c.place.ensures c.index-offer.ensures in
-    let f : Cycle = c.cycle-cycle.result in
-    let width : to_z w128 (of_z w128 c.width.result) ≡ c.width.result = search (rules, to_z-of_z) in
-    let round = cycle_found l c.args.k c.self.invariant el o f c.of-climb.result c.deref.result.now (unsigned_abs (to_z w128 (of_z w128 c.width.result)))
-    is c.deref.ensures.value (ap unsigned_abs (width ∙ c.width.ensures.value)) c.of-climb.ensures.value c.cycle-cycle.ensures.arc
-    c.cycle-cycle.ensures.from c.cycle-cycle.ensures.to c.cycle-cycle.ensures.apex c.cycle-cycle.ensures.chosen in
-    let back : to_z w128 (of_z w128 c.reduced_of-reduced.result) ≡ c.reduced_of-reduced.result = search (rules, to_z-of_z) in
-    let reduced = c.cycle-cycle.ensures.reduced ∙ (back ∙ (c.reduced_of-reduced.ensures ∙ reduced_is l c.args.k c.self.invariant el o is)) in
-    let pushed = c.deref_mut-4.ensures.value ∙ with_items_is inside.residuals c.push.new.residuals (search rules) in
-    let new = c.replace.new in
-    let done = turned l c.args.k c.self.invariant el f round new.tree new.offers c.push.new.residuals new.residuals c.push.new.artificial new.table
-    c.add_one.new.self.number c.add_one.ensures reduced (rw (c.deref_mut.ensures.value, c.deref_mut-2.ensures.value) at c.push.ensures)
-    (rw (c.deref_mut-3.ensures.value, pushed) at c.replace.ensures) in
-    let offers = with_items_is inside.offers new.offers (search rules) in
-    let residuals = with_items_is (with_items inside.residuals c.push.new.residuals) new.residuals (search rules) in
-    let artificial = with_items_is inside.artificial c.push.new.artificial (search rules) in
-    same_falls c.args.self.now l inside.net.now new.tree new.offers _ new.residuals _ c.push.new.artificial _ new.table c.add_one.new.self.number
-    c.self.view_is offers residuals artificial done.falls
+returns-clause-falls c = (done c).falls
