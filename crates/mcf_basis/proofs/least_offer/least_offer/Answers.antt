@@ -3,9 +3,21 @@ use Rattle.std.proofs.lemmas.Int.{ints}
 use Rattle.mcf_flows.specs.WellFormed.{IsUpTo}
 use Rattle.mcf_basis.specs.Private.Offered.{reduced_of}
 use Rattle.mcf_basis.proofs.LeastOffers.{read_at, so_far-is, so_far-less, so_far-same}
-use Rattle.mcf_basis.proofs.PriceLists.{values_read}
+use Rattle.mcf_basis.proofs.PriceLists.{values_length, values_read}
 use Rattle.mcf_basis.proofs.least_offer.least_offer.Goals.{then-is_less, else-is_less}
 use Rattle.mcf_basis.proofs.least_offer.least_offer.Goals as goal
+
+pub bounds-prices-offer : goal.bounds-prices-offer
+bounds-prices-offer g c =
+    let P = g.P.Price in
+    let r = read_at (P.values c.args.prices.now) P.limit c.args.offers.now c.args.begin c.args.end c.offers.i c.requires c.offers.auto.i c.offers-test.true in
+    rw (values_length P.value P.values g.met.P.Price.each) at r.ends.from
+
+pub bounds-prices-offer-in-offers : goal.bounds-prices-offer-in-offers
+bounds-prices-offer-in-offers g c =
+    let P = g.P.Price in
+    let r = read_at (P.values c.args.prices.now) P.limit c.args.offers.now c.args.begin c.args.end c.offers.i c.requires c.offers.auto.i c.offers-test.true in
+    rw (values_length P.value P.values g.met.P.Price.each) at r.ends.to
 
 pub reduced-reduced-requires-clause-from : goal.reduced-reduced-requires-clause-from
 reduced-reduced-requires-clause-from g c =

@@ -1,6 +1,12 @@
 use Rattle.std.proofs.Common.{◌≡◌, ap, set, ◌+ℤ◌, ◌∙◌, subst, get_or}
-use Rattle.mcf_basis.proofs.PriceLists.{values_read, values_set}
+use Rattle.mcf_basis.proofs.PriceLists.{values_length, values_read, values_set}
 use Rattle.mcf_basis.proofs.reprice.raise.Goals as goal
+
+pub bounds-entries-place : goal.bounds-entries-place
+bounds-entries-place g c = rw c.entries.ensures (rw (values_length g.P.Price.value g.P.Price.values g.met.P.Price.each) at c.requires.in_range)
+
+pub write-requires : goal.write-requires
+write-requires g c = rw (values_length g.P.Price.value g.P.Price.values g.met.P.Price.each) at c.requires.in_range
 
 pub returns-clause-price : goal.returns-clause-price
 returns-clause-price g c =

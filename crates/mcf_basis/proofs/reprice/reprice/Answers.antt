@@ -1,6 +1,7 @@
 use Rattle.std.proofs.Common.{◌≡◌, arith, refl, rules, subst, sym, to_z, of_z, ◌∙◌}
 use mir.Syntax.{w128}
 use Rattle.std.proofs.lemmas.Int.{to_z-of_z}
+use Rattle.std.proofs.lemmas.List.{take_all}
 use Rattle.mcf_basis.specs.Private.Turned.{CanRaise}
 use Rattle.mcf_basis.proofs.Repricing.{IsRepricing-step, has_room}
 use Rattle.mcf_basis.proofs.reprice.reprice.Goals as goal
@@ -30,3 +31,9 @@ part-preserved g c =
           c.part.v-index c.v-item.result c.requires.once c.part.invariant.raised c.part-test.true c.v-item.is _ r.in_range refl);
       counted = omega (arith, counted, c.part.invariant.counted);
     }
+
+pub returns-clause-prices : goal.returns-clause-prices
+returns-clause-prices g c =
+    let given : to_z w128 (of_z w128 c.args.change) ≡ c.args.change = search (rules, to_z-of_z) in
+    let all = take_all c.part.v-index c.args.part.now (omega (arith, c.part-test.false)) in
+    record { size = c.part.invariant.raised.size; each = rw (all, c.of-change.ensures ∙ given) at c.part.invariant.raised.done }
