@@ -147,7 +147,9 @@ fn star_prices<P: Price>(alloc: Global, net: &Net, cost: i128) -> Result<Vec<P>,
 // The price of a node with this supply.
 fn star_price(supply: i128, cost: i128) -> i128
     requires { pos 0 ≤ℤ cost }
-    ensures { result ≡ (if int_le (pos 0) supply then cost else neg_ℤ cost) }
+    ensures value { result ≡ (if int_le (pos 0) supply then cost else neg_ℤ cost) }
+    ensures low { neg_ℤ cost ≤ℤ result }
+    ensures high { result ≤ℤ cost }
 {
     if 0 <= supply { cost } else { -cost }
 }

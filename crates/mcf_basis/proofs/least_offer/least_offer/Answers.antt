@@ -54,3 +54,9 @@ offers-preserved g c =
           (so_far-same (reduced_of (P.values prices) offers) c.args.begin c.offers.i c.offers.place _ c.offers.auto.i c.offers.invariant
           (P.value c.reduced-reduced.result) is (let t = sym c.is_less.ensures ∙ w.if-is_less.false in omega (arith, ints, t)))
     ]
+
+pub of-least-requires : goal.of-least-requires
+of-least-requires g c = (omega (arith, ints), omega (arith, ints))
+
+pub of-requires : goal.of-requires
+of-requires g c = (omega (arith, ints), omega (arith, ints))

@@ -1,4 +1,4 @@
-use Rattle.std.proofs.Common.{◌≡◌, ◌+◌, ap, rules, ◌∙◌, to_z, of_z}
+use Rattle.std.proofs.Common.{◌≡◌, ◌+◌, ap, arith, rules, ◌∙◌, to_z, of_z}
 use Rattle.std.specs.Prelude.{int_le, pos, unsigned_abs}
 use mir.Syntax.{w128}
 use Rattle.std.proofs.lemmas.Int.{to_z-of_z}
@@ -20,8 +20,8 @@ loop-i-preserved c =
           ∙ ap (λ x. artificial_residuals (int_le (pos 0) x) (unsigned_abs x)) supply) (search rules);
       amounts = made_behind (pos 0) (star_amount g) c.loop-i.i _ _ (to_z w128 (of_z w128 c.star_amount.result)) c.loop-i.invariant.amounts
           (amount ∙ (c.star_amount.ensures ∙ ap (star_amount g) c.at-in-loop-i.ensures)) (search rules);
-      residuals_size = search rules;
-      amounts_size = search rules;
-      residuals_room = search rules;
-      amounts_room = search rules;
+      residuals_size = omega (arith, c.push_reserved-in-loop-i.ensures.len, c.loop-i.invariant.residuals_size);
+      amounts_size = omega (arith, c.push_reserved-in-loop-i-2.ensures.len, c.loop-i.invariant.amounts_size);
+      residuals_room = omega (arith, c.push_reserved-in-loop-i.ensures.capacity, c.loop-i.invariant.residuals_room);
+      amounts_room = omega (arith, c.push_reserved-in-loop-i-2.ensures.capacity, c.loop-i.invariant.amounts_room);
     }

@@ -1,4 +1,4 @@
-use Rattle.std.proofs.Common.{◌≡◌, ◌+◌, ◌∷◌, ◌++◌, [], ap, pos, neg_ℤ, rules, ◌∙◌, to_z, of_z}
+use Rattle.std.proofs.Common.{◌≡◌, ◌+◌, ◌∷◌, ◌++◌, [], ap, arith, pos, neg_ℤ, rules, ◌∙◌, to_z, of_z}
 use Rattle.std.specs.Prelude.{if◌then◌else◌, int_le}
 use mir.Syntax.{w128}
 use Rattle.std.proofs.lemmas.Int.{to_z-of_z}
@@ -23,9 +23,9 @@ loop-i-preserved g c =
     let cost : to_z w128 (of_z w128 c.args.cost) ≡ pos (artificial_cost net) = given ∙ c.requires.cost in
     record {
       prices = made_behind (pos 0) (start_price net) c.loop-i.i (P.values c.loop-i.made.items) (P.values c.push_reserved-in-loop-i.new.self.items) _
-          c.loop-i.invariant.prices (c.of-in-loop-i.ensures ∙ (price ∙ (c.star_price-price.ensures
+          c.loop-i.invariant.prices (c.of-in-loop-i.ensures ∙ (price ∙ (c.star_price-price.ensures.value
           ∙ (ap (λ x. if int_le (pos 0) x then to_z w128 (of_z w128 c.args.cost) else neg_ℤ (to_z w128 (of_z w128 c.args.cost))) supply
           ∙ ap (λ y. if int_le (pos 0) (at_node net.supplies (c.loop-i.i + 1)) then y else neg_ℤ y) cost)))) made;
-      size = search rules;
-      room = search rules;
+      size = omega (arith, c.push_reserved-in-loop-i.ensures.len, c.loop-i.invariant.size);
+      room = omega (arith, c.push_reserved-in-loop-i.ensures.capacity, c.loop-i.invariant.room);
     }
