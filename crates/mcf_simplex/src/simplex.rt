@@ -121,9 +121,9 @@ impl<'n> Workspace<'n> {
         ensures pricer { IfOk result (λ w. w.shown.pricer ≡ node_count net.now) }
         ensures prices { IfOk result (λ w. length w.shown.prices.items ≡ node_count net.now) }
     {
-        let basis = Basis::start(alloc, net)?;
-        let state = State::zero(alloc, net)?;
         let shown = ShownRoom::start(alloc, net)?;
+        let state = State::zero(alloc, net)?;
+        let basis = Basis::start(alloc, net)?;
         Ok(Workspace {
             basis,
             state,
@@ -148,8 +148,8 @@ impl ShownRoom {
         ensures prices { IfOk result (λ r. length r.prices.items ≡ node_count net.now) }
     {
         let cut = NodeSet::new(alloc, net)?;
-        let pricer = Pricer::start(alloc, net)?;
         let prices = copies(alloc, net.node_count() as usize, 0)?;
+        let pricer = Pricer::start(alloc, net)?;
         Ok(ShownRoom {
             cut,
             pricer,
