@@ -1,6 +1,6 @@
 -- Where the flow of an answer comes from.
 use Rattle.std.proofs.Common.{◌≡◌, ◌∙◌, ℕ, length, refl, subst, sym}
-use Rattle.std.specs.Prelude.{Result, Ok, Err, IfOk}
+use Rattle.std.specs.Prelude.{Result, Ok, Err, IfOk, IfSome}
 use Rattle.std.proofs.lemmas.Option.{IfSome_then}
 use Rattle.mcf_answer.specs.declared.answers.Answer.{Answer}
 use Rattle.mcf_checker.specs.Correct.{flow_given}
@@ -8,7 +8,9 @@ use Rattle.mcf_flows.specs.Network.{Network}
 use Rattle.mcf_flows.specs.declared.problem.Problem.{Problem}
 use Rattle.mcf_flows.specs.declared.problem.Problem.TheVariants.{Min, Asn}
 use Rattle.mcf_network.specs.Removal.{net_of}
+use Rattle.mcf_network.specs.Restoring.{restored}
 use Rattle.mcf_network.specs.States.{Pseudoflow}
+use Rattle.mcf_engine.specs.Outcomes.{IsLeastState}
 use Rattle.mcf_network.proofs.RestoringLaws.{net_of-arc_count}
 use Rattle.mcf_solver.specs.Making.{HasMadeFlow, IsMadeBy, IsMadeByEngine, IsMadeBySimplex, meant, new_block_rule, suited}
 use Rattle.mcf_choice.specs.declared.choice.Choice.{Choice}
@@ -32,6 +34,12 @@ pub made_otherwise_if_ok : {E : Type 0} (P Q : Network → Pseudoflow → Type 0
     → (r : Result Answer E) → IfOk r (HasMadeFlow P (Ok g)) → IfOk r (HasMadeFlow Q (Ok g))
 made_otherwise_if_ok P Q g step (Ok a) h = made_otherwise P Q g step a h
 made_otherwise_if_ok P Q g step (Err e) h = tt
+
+-- a flow that restores a least state which was made so
+pub made_of_state : {E : Type 0} (P : Network → Pseudoflow → Type 0) (g : Network) (s : Pseudoflow) (r : Result Answer E) → IsLeastState (net_of g) s
+    → P (net_of g) s → IfOk r (λ a. IfSome (flow_given g a) (λ flow. flow ≡ restored g.arcs s.amounts)) → IfOk r (HasMadeFlow P (Ok g))
+made_of_state P g s (Ok a) least made h = IfSome_then (flow_given g a) h (λ flow is. record { state = s; least = least; made = made; restores = is })
+made_of_state P g s (Err e) least made h = tt
 
 -- what the engine made that is meant is made as the choice means
 made_by_meant : (m : Meant) (choice : Choice) (g : Network) (s : Pseudoflow) → m ≡ meant choice.engine g.problem

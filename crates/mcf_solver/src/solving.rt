@@ -1,7 +1,9 @@
 //! Instance texts solved.
-ghost use Rattle.std.specs.Prelude.{◌≡◌, ◌↔◌, ◌≤◌, ◌⊎◌, ℕ, List, IfOk, OnErr, OnOk, drop, length, true, vec_capacity, vec_len};
-ghost use Rattle.mcf_checker.specs.Correct.{HasNoFlow};
+ghost use Rattle.std.specs.Prelude.{◌≡◌, ◌↔◌, ◌≤◌, ◌⊎◌, ℕ, List, IfOk, IfSome, OnErr, OnOk, drop, length, true, vec_capacity, vec_len};
+ghost use Rattle.mcf_checker.specs.Correct.{HasNoFlow, flow_given};
+ghost use Rattle.mcf_engine.specs.Outcomes.{AreStatePrices, IsLeastState};
 ghost use Rattle.mcf_network.specs.Removal.{net_of};
+ghost use Rattle.mcf_network.specs.Restoring.{restored};
 ghost use Rattle.mcf_checker.specs.Judging.{accepts, verdict};
 ghost use Rattle.mcf_solver.specs.Answering.{AppendsAnswer, HasFault, IsOwed, LacksRoom, MayWant, answer_kind};
 ghost use Rattle.mcf_solver.specs.Forms.{HasForm};
@@ -25,7 +27,7 @@ use mcf_checker::correct_answers_are_accepted;
 use mcf_choice::{Choice, EngineChoice, Form, PricingChoice};
 use mcf_engine::{Engine, Outcome};
 use mcf_instance::{Instance, Problem, Refusal, read};
-use mcf_network::{Net, restored_tree_solutions_are_tree_solutions};
+use mcf_network::{Net, State, restored_tree_solutions_are_tree_solutions};
 use mcf_prices::Cancel;
 use mcf_scaling::Scaling;
 use mcf_simplex::{Best, Block, First, Simplex, Wide, runs_are_tree_solutions};
@@ -204,20 +206,32 @@ fn solve_by<E: Engine>(
 {
     let net = Net::of(alloc, instance)?;
     match engine.solve(alloc, &net)? {
-        Outcome::Least(state, prices) => match form {
-            Form::One => {
-                let flow = flow_answer(alloc, instance, &state, prices)?;
-                Ok(Answer::Flow(flow))
-            }
-            Form::Two => {
-                let flow = sparse_answer(alloc, instance, &state, prices)?;
-                Ok(Answer::Sparse(flow))
-            }
-        },
+        Outcome::Least(state, prices) => least_answer(alloc, instance, form, &state, prices),
         Outcome::Blocked(set, side) => {
             let set = set_answer(alloc, instance, &net, &set, side)?;
             Ok(Answer::Blocked(set))
         }
+    }
+}
+
+// The answer in a form for a least state of an instance's net, with its prices.
+fn least_answer(
+    alloc: Global,
+    instance: &Instance,
+    form: Form,
+    state: &State<'_>,
+    prices: Vec<i128>,
+) -> Result<Answer, NoMemory>
+    requires least { IsLeastState (net_of instance.now) state.now }
+    requires shown { AreStatePrices (net_of instance.now) state.now prices.items }
+    ensures owed { IfOk result (IsOwed (Ok instance.now)) }
+    ensures restores { IfOk result (λ a. IfSome (flow_given instance.now a) (λ flow. flow ≡ restored instance.now.arcs state.now.amounts)) }
+    ensures formed { IfOk result (HasForm form (Ok instance.now)) }
+    ensures wants { OnErr result (1 ≤ length instance.now.arcs) }
+{
+    match form {
+        Form::One => Ok(Answer::Flow(flow_answer(alloc, instance, state, prices)?)),
+        Form::Two => Ok(Answer::Sparse(sparse_answer(alloc, instance, state, prices)?)),
     }
 }
 
