@@ -1,7 +1,8 @@
 -- Bytes given and taken by one call after another.
 use Rattle.std.proofs.Common.{◌≡◌, ◌++◌, ◌+◌, ◌<◌, ℕ, List, [], Option, None, Some, IfSome, Result, Ok, Err, IfErr, length, take, drop, sym, ap, ◌∙◌}
-use Rattle.std.proofs.Common.{append-nil, append_assoc, length-append, arith, ◌-◌}
+use Rattle.std.proofs.Common.{append-nil, length-append, arith, ◌-◌}
 use Rattle.std.proofs.Math.Seq.{take-add}
+use Rattle.std.proofs.KnownBytes.{Appends-kept, Appends-trans}
 use Rattle.std.proofs.lemmas.List.{take-append-drop, take_rest}
 use Rattle.std.specs.Io.KnownBytes.{Appends, Consumes, IsAtEnd, Keeps}
 use Rattle.mcf_flows.specs.Codes.{Fault}
@@ -12,15 +13,6 @@ use Rattle.mcf_choice.specs.declared.choice.Choice.{Choice}
 use Rattle.mcf_solver.specs.declared.kind.Kind.{Kind}
 use Rattle.mcf_solver.specs.Answering.{AppendsAnswer}
 use Rattle.mcf_solver.specs.Running.{ReadsGiven, SendsAnswer, SendsBeginning, TakesBeginning}
-
--- some bytes, and then some more
-pub consumes-then : (first next last : Option (List ℕ)) (bytes more : List ℕ)
-    → Consumes first next bytes → Consumes next last more → Consumes first last (bytes ++ more)
-consumes-then None next last bytes more p q = tt
-consumes-then (Some xs) None last bytes more p q = absurd p
-consumes-then (Some xs) (Some ys) None bytes more p q = absurd q
-consumes-then (Some xs) (Some ys) (Some zs) bytes more p q =
-    p ∙ ap (λ t. bytes ++ t) q ∙ sym (append_assoc bytes more zs)
 
 -- no more bytes are given than there are
 pub consumes-within : (first last : Option (List ℕ)) (bytes : List ℕ) (limit : ℕ)
@@ -37,23 +29,6 @@ consumes-all (Some xs) None last bytes p q end = absurd p
 consumes-all (Some xs) (Some ys) None bytes p q end = absurd q
 consumes-all (Some xs) (Some ys) (Some zs) bytes p q end = p ∙ ap (λ t. bytes ++ t) (q ∙ end) ∙ append-nil bytes
 
--- some bytes, and then some more
-pub appends-then : (first next last : Option (List ℕ)) (bytes more : List ℕ)
-    → Appends first next bytes → Appends next last more → Appends first last (bytes ++ more)
-appends-then None next last bytes more p q = tt
-appends-then (Some xs) None last bytes more p q = absurd p
-appends-then (Some xs) (Some ys) None bytes more p q = absurd q
-appends-then (Some xs) (Some ys) (Some zs) bytes more p q =
-    q ∙ ap (λ t. t ++ more) p ∙ append_assoc xs bytes more
-
--- some bytes, and then no more
-pub appends-kept : (first next last : Option (List ℕ)) (bytes : List ℕ)
-    → Appends first next bytes → Keeps next last → Appends first last bytes
-appends-kept None next last bytes p q = tt
-appends-kept (Some xs) None last bytes p q = absurd p
-appends-kept (Some xs) (Some ys) None bytes p q = absurd q
-appends-kept (Some xs) (Some ys) (Some zs) bytes p q = q ∙ p
-
 -- a piece from where the last one ended
 pub appends-piece : (first next last : Option (List ℕ)) (text : List ℕ) (taken count : ℕ)
     → Appends first next (take taken text) → Appends next last (take count (take (length text - taken) (drop taken text)))
@@ -61,7 +36,7 @@ pub appends-piece : (first next last : Option (List ℕ)) (text : List ℕ) (tak
 appends-piece first next last text taken count p q =
     let more = take count (drop taken text) in
     let piece = rw (take_rest text taken) at q in
-    rw (take-add taken count text) (appends-then first next last (take taken text) more p piece)
+    rw (take-add taken count text) (Appends-trans first next last (take taken text) more p piece)
 
 -- a beginning, and then no more
 pub begins : (first next last : Option (List ℕ)) (text : List ℕ) (taken : ℕ)
@@ -70,7 +45,7 @@ begins first next last text taken p q = record {
   part = take taken text;
   rest = drop taken text;
   whole = sym (take-append-drop taken text);
-  taken = appends-kept first next last (take taken text) p q;
+  taken = Appends-kept first next last (take taken text) p q;
 }
 
 -- the text that was appended to nothing is what was sent

@@ -1,5 +1,6 @@
 -- A source read piece by piece, and the answer to what was read.
 use Rattle.std.proofs.Common.{◌≡◌, ◌++◌, ◌+◌, ◌<◌, ◌≤◌, ℕ, List, Option, IfSome, Result, Ok, Err, length, take, sym, ◌∙◌, subst, refl, arith, length-append}
+use Rattle.std.proofs.KnownBytes.{Consumes-trans}
 use Rattle.std.proofs.Math.Nat.{lt_of_not-le}
 use Rattle.std.specs.Io.KnownBytes.{Consumes}
 use Rattle.mcf_answer.specs.Spelling.{IsAnswer, Spells}
@@ -22,7 +23,7 @@ use Rattle.mcf_solver.specs.Forms.{HasForm}
 use Rattle.mcf_solver.specs.Making.{HasMadeFlow, IsMadeBy}
 use Rattle.mcf_solver.specs.Private.Shaping.{MadeFlowsAreShaped}
 use Rattle.mcf_solver.specs.Running.{text_limit}
-use Rattle.mcf_solver.proofs.DeviceLaws.{consumes-then, consumes-within}
+use Rattle.mcf_solver.proofs.DeviceLaws.{consumes-within}
 
 -- the reader stands for what the source gave so far
 pub record HasTaken (reader : ReaderData) (first last : Option (List ℕ)) : Type 0 where
@@ -46,7 +47,7 @@ module _ (reader : ReaderData) (first next last : Option (List ℕ)) (piece : Li
   -- a piece too many
   pub taken-over : text_limit < length taken.text + length (take count piece) → IfSome first (λ bytes. text_limit < length bytes)
   taken-over over =
-      consumes-within first last (taken.text ++ take count piece) text_limit (consumes-then first next last taken.text (take count piece) taken.consumed more)
+      consumes-within first last (taken.text ++ take count piece) text_limit (Consumes-trans first next last taken.text (take count piece) taken.consumed more)
       (omega (arith, length-append taken.text (take count piece)))
 
   -- a piece more
@@ -56,7 +57,7 @@ module _ (reader : ReaderData) (first next last : Option (List ℕ)) (piece : Li
     text = taken.text ++ take count piece;
     stands = stands taken.text taken.stands;
     in_range = omega (arith, length-append taken.text (take count piece));
-    consumed = consumes-then first next last taken.text (take count piece) taken.consumed more;
+    consumed = Consumes-trans first next last taken.text (take count piece) taken.consumed more;
   }
 
 -- ---- the answer
