@@ -1,7 +1,10 @@
 //! From a source to a sink.
-ghost use Rattle.std.specs.Prelude.{◌≡◌, ◌≢◌, IfErr, IfOk, OnErr, OnOk, length};
+ghost use Rattle.std.specs.Prelude.{[], ◌≡◌, ◌≢◌, ◌≤◌, IfErr, IfOk, OnErr, OnOk, length};
 ghost use Rattle.std.specs.Io.KnownBytes.{Appends};
+ghost use Rattle.mcf_flows.specs.Limits.{limits};
+ghost use Rattle.mcf_instance.specs.Feeding.{StandsFor};
 ghost use Rattle.mcf_solver.specs.Devices.{CountsOneFailure};
+ghost use Rattle.mcf_solver.specs.Private.Pieces.{HasTakenAll, IsReadFault};
 ghost use Rattle.mcf_solver.specs.Running.{IsTakenWhole, IsTooLong, ReadsGiven, SendsAnswer, SendsBeginning, TakesBeginning};
 
 use crate::device::{Sink, Source};
@@ -59,24 +62,37 @@ fn read_source<S: Source>(
 ) -> Result<Result<Instance, Refusal>, RunFault>
     ensures whole { OnOk result (IsTakenWhole (S.remaining source.old)) }
     ensures read { IfOk result (ReadsGiven (S.remaining source.old)) }
-    ensures read_failed { IfErr result (λ fault. fault ≡ RunFault.Read → CountsOneFailure (S.failures source.old) (S.failures source.new)) }
     ensures unfailed { OnOk result (S.failures source.new ≡ S.failures source.old) }
-    ensures unfailed_otherwise { IfErr result (λ fault. fault ≢ RunFault.Read → S.failures source.new ≡ S.failures source.old) }
-    ensures too_long { IfErr result (λ fault. fault ≡ RunFault.TooLong → IsTooLong (S.remaining source.old)) }
-    ensures no_write { IfErr result (λ fault. fault ≢ RunFault.Write) }
+    ensures failed { IfErr result (IsReadFault (S.remaining source.old) (S.failures source.old) (S.failures source.new)) }
 {
-    let mut reader = Reader::new(alloc);
     let mut room = zeros(alloc, PIECE)?;
-    let piece = room.as_mut_slice();
+    let mut reader = Reader::new(alloc);
+    feed_all(alloc, source, &mut reader, room.as_mut_slice())?;
+    match reader.end(alloc) {
+        Ok(outcome) => Ok(outcome),
+        Err(NoMemory) => Err(RunFault::NoMemory),
+    }
+}
+
+// Feeds a new reader all bytes of a source, piece by piece.
+fn feed_all<S: Source>(
+    alloc: Global,
+    source: &mut S,
+    reader: &mut Reader,
+    piece: &mut [u8],
+) -> Result<(), RunFault>
+    requires room { 1 ≤ length piece.old }
+    requires begun { StandsFor limits reader.old [] }
+    ensures taken { OnOk result (HasTakenAll reader.new (S.remaining source.old)) }
+    ensures unfailed { OnOk result (S.failures source.new ≡ S.failures source.old) }
+    ensures failed { IfErr result (IsReadFault (S.remaining source.old) (S.failures source.old) (S.failures source.new)) }
+{
     'reads: loop {
         let Ok(count) = source.read(piece) else {
             return Err(RunFault::Read);
         };
         if count == 0 {
-            return match reader.end(alloc) {
-                Ok(outcome) => Ok(outcome),
-                Err(NoMemory) => Err(RunFault::NoMemory),
-            };
+            return Ok(());
         }
         match reader.feed(alloc, &piece[..count]) {
             Ok(()) => {}

@@ -1,7 +1,7 @@
 use Rattle.std.proofs.Common.{◌≡◌, ◌-◌, ◌≤◌, length}
 use Rattle.mcf_solver.specs.Running.{text_limit}
 use Rattle.mcf_solver.proofs.ReadPieces.{HasTaken}
-use Rattle.mcf_solver.proofs.running.read_source.Given as goal
+use Rattle.mcf_solver.proofs.running.feed_all.Given as goal
 
 abbrev pub invariant-reads : goal.invariant-reads
 invariant-reads g l = record {
