@@ -1,6 +1,10 @@
 //! Prices or a negative cycle, recovered from a state.
-ghost use Rattle.std.specs.Prelude.{◌≤◌, IfOk, OnErr};
+ghost use Rattle.std.specs.Prelude.{◌≤◌, IfNone, IfOk, IfSome, OnErr};
+ghost use Rattle.mcf_flows.specs.Flow.{AreGreatestPrices};
 ghost use Rattle.mcf_flows.specs.Network.{node_count};
+ghost use Rattle.mcf_engine.specs.NegativeCycles.{IsNegativeCycle};
+ghost use Rattle.mcf_engine.specs.SmallPrices.{AreSmallPrices};
+ghost use Rattle.mcf_prices.specs.Private.Rounds.{IsReady};
 ghost use Rattle.mcf_prices.specs.Recovering.{HasSmallPrices, IsRecovered};
 
 use crate::price_search::PriceSearch;
@@ -40,15 +44,34 @@ pub fn recover(alloc: Global, state: &State<'_>) -> Result<Recovered, NoMemory>
     let mut search = PriceSearch::start(alloc, state)?;
     let mut waiting = Queue::all(alloc, net)?;
     let mut fallen = Queue::new(alloc, net)?;
+    match lower_all(alloc, state, &mut search, &mut waiting, &mut fallen)? {
+        Some(walk) => Ok(Recovered::Cycle(walk)),
+        None => Ok(Recovered::Prices(search.into_prices())),
+    }
+}
+
+// Lowers the prices, round by round, until they show the flow of the state, or finds a negative cycle.
+fn lower_all(
+    alloc: Global,
+    state: &State<'_>,
+    search: &mut PriceSearch<'_, '_>,
+    waiting: &mut Queue,
+    fallen: &mut Queue,
+) -> Result<Option<Vec<Rid>>, NoMemory>
+    requires { IsReady state.now search.old waiting.old fallen.old }
+    ensures some { IfOk result (λ o. IfSome o (λ walk. IsNegativeCycle state.now walk.items)) }
+    ensures none { IfOk result (λ o. IfNone o (AreGreatestPrices state.now.net search.new.prices state.now.amounts × AreSmallPrices state.now.net search.new.prices)) }
+    ensures wants { OnErr result (1 ≤ node_count state.now.net) }
+{
     'rounds: loop {
-        search.round(&waiting, &mut fallen)?;
+        search.round(waiting, fallen)?;
         if fallen.is_empty() {
-            return Ok(Recovered::Prices(search.into_prices()));
+            return Ok(None);
         }
         if let Some(walk) = search.cycle(alloc)? {
-            return Ok(Recovered::Cycle(walk));
+            return Ok(Some(walk));
         }
-        mem::swap(&mut waiting, &mut fallen);
+        mem::swap(waiting, fallen);
         fallen.clear();
     }
 }
