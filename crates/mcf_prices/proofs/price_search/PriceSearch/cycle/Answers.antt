@@ -3,7 +3,7 @@ use Rattle.mcf_flows.specs.Network.{Network, node_count}
 use Rattle.std.proofs.lemmas.Bool.{OnFalse_at}
 use Rattle.mcf_prices.specs.Private.Labels.{Labels, IsLabelling}
 use Rattle.mcf_prices.proofs.LinkWalks.{cycle_from_path}
-use Rattle.mcf_prices.proofs.Cycles.{cycle_next, cycle_end}
+use Rattle.mcf_prices.proofs.Cycles.{cycle_next, cycle_end, settled_floor}
 use Rattle.mcf_prices.proofs.price_search.PriceSearch.cycle.Goals as goal
 
 pub returns-then-is_closed-clause-some : goal.returns-then-is_closed-clause-some
@@ -25,3 +25,11 @@ returns-clause-none c =
     (c.net-net.ensures.value ∙ ap (λ (x : Labels). x.flow.net) c.self.view_is) in
     let test = c.nodes-test.false in
     cycle_end c.args.self.now _ _ c.nodes.number (subst IsLabelling c.self.view_is c.self.invariant) c.nodes.invariant (omega (arith, counted, test))
+
+pub finish-requires-clause-walk : goal.finish-requires-clause-walk
+finish-requires-clause-walk c = (c.at-from.result, c.in_ok-end.ensures.walk)
+
+pub finish-requires-clause-floor : goal.finish-requires-clause-floor
+finish-requires-clause-floor c =
+    settled_floor c.args.self.now _ c.in_ok-end.end (subst IsLabelling c.self.view_is c.self.invariant) c.nodes.invariant.floors
+    (rw c.nodes.invariant.floors.count c.in_ok-end.ensures.end) (OnFalse_at c.if-is_closed.false c.is_closed.ensures.open)

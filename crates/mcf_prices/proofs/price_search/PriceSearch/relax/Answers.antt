@@ -48,3 +48,9 @@ pub lower-requires-clause-price : goal.lower-requires-clause-price
 lower-requires-clause-price c =
     let same : to_z w128 (of_z w128 c.offer-price.result) ≡ c.offer-price.result = search (rules, to_z-of_z) in
     rw same c.offer-price.ensures
+
+pub place-requires : goal.place-requires
+place-requires c = c.route-from.ensures.tail_is_node.0
+
+pub offer-price-requires-clause-floor : goal.offer-price-requires-clause-floor
+offer-price-requires-clause-floor c = c.requires.floor

@@ -10,7 +10,4 @@ invariant_of-result c =
     rw (e, f) (start_ok c.args.state.now c.net.ensures.valid)
 
 pub returns-clause-valid : goal.returns-clause-valid
-returns-clause-valid c =
-    let e : c.in_ok-prices.prices.items ≡ replicate (node_count c.args.state.now.net) (pos 0) = search rules in
-    let f : c.in_ok-links.links.items ≡ replicate (node_count c.args.state.now.net) None = search rules in
-    rw (e, f) (start_ok c.args.state.now c.net.ensures.valid)
+returns-clause-valid c = invariant_of-result c

@@ -14,9 +14,4 @@ invariant_of-self-then-not-contains c =
     rw (pushed, c.insert.ensures) (push_ok q c.args.v c.self.invariant h fresh)
 
 pub returns-in_ok-push-clause-valid : goal.returns-in_ok-push-clause-valid
-returns-in_ok-push-clause-valid c =
-    let q : Waiting = record { table = c.self.inside.marks; nodes = c.self.inside.nodes.items } in
-    let h : IsNode (length q.table) c.args.v = subst (λ (x : Waiting). IsNode (length x.table) c.args.v) (sym c.self.view_is) c.requires in
-    let pushed : c.push.new.self.items ≡ q.nodes ++ c.args.v ∷ [] = search rules in
-    let fresh : in_table q.table c.args.v ≡ false = search rules in
-    rw (pushed, c.insert.ensures) (push_ok q c.args.v c.self.invariant h fresh)
+returns-in_ok-push-clause-valid c = invariant_of-self-then-not-contains c
