@@ -486,6 +486,9 @@ module _ (p : NearState) (flow : IsPseudoflow p.state.now) where
                 (lowered_keeps h (reverse out) key offer.room count last_head offer_waits offer_is);
           }
 
+      pub offer_node : length h.waiting ≡ node_count p.state.now.net → IsNode (length h.waiting) from
+      offer_node count = let node = tail_node (reverse out) offer.room in (rw offer.from_is node.0, rw (offer.from_is, count) node.1)
+
       -- the tail is settled at once, with a key that is no greater than that of the node that was settled last
       pub relax_settles : IsRaising p h (out ∷ []) → key ≤ℤ at_node h.keys (tail p.state.now.net out)
           → h' ≡ without (with_key h from key) from → IsSettledNext p h h' from

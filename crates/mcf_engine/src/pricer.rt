@@ -49,8 +49,8 @@ impl Pricer {
         ensures wants { OnErr result (1 ≤ node_count net.now) }
     {
         Ok(Pricer {
-            heap: Heap::new(alloc, net)?,
             short: Shortlist::start(alloc, net)?,
+            heap: Heap::new(alloc, net)?,
         })
     }
 

@@ -65,3 +65,12 @@ relax_last-requires-clause-search c =
     passed_list c.args.self.now c.net.ensures.valid c.entering.heap c.args.w c.args.base _ (c.entering.last ∷ []) c.entering.leaving []
     (base_kept c.args.self.now.prices.now c.args.heap.now c.entering.heap nodes c.args.w c.args.base c.requires.base c.requires.popped.last inv.kept) from
     inv.found.leaves c.in_default-next_offer.ensures.none inv.found.search
+
+pub relax-requires-clause-last : goal.relax-requires-clause-last
+relax-requires-clause-last c = c.entering.invariant.found.last
+
+pub relax-requires-clause-search : goal.relax-requires-clause-search
+relax-requires-clause-search c = (c.entering.leaving, c.entering.invariant.found.search)
+
+pub relax_last-requires-clause-last : goal.relax_last-requires-clause-last
+relax_last-requires-clause-last c = c.entering.invariant.found.last
