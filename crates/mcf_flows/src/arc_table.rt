@@ -151,13 +151,12 @@ fn push_arc(stored: &mut Stored, arc: PackedArc) -> Result<(), NoMemory>
 {
     match stored {
         Stored::Unit(units) => match Link::of(arc) {
-            Some(unit) => units.push(unit)?,
-            None => push_bounded(stored, arc.src, arc.dst, arc.low, arc.cap, arc.cost)?,
+            Some(unit) => Ok(units.push(unit)?),
+            None => push_bounded(stored, arc.src, arc.dst, arc.low, arc.cap, arc.cost),
         },
-        Stored::Shared(_) => push_bounded(stored, arc.src, arc.dst, arc.low, arc.cap, arc.cost)?,
-        Stored::Bounded(arcs) => arcs.push(arc)?,
+        Stored::Shared(_) => push_bounded(stored, arc.src, arc.dst, arc.low, arc.cap, arc.cost),
+        Stored::Bounded(arcs) => Ok(arcs.push(arc)?),
     }
-    Ok(())
 }
 
 // Appends an arc with bounds of its own, or any to arcs that are shared, and gives all arcs before it theirs. Its fields come one by
@@ -182,17 +181,12 @@ fn push_bounded(
         cap,
         cost,
     };
-    match stored {
-        Stored::Unit(units) => {
-            let arcs = bounded(units, arc)?;
-            *stored = Stored::Bounded(arcs);
-        }
-        Stored::Shared(units) => {
-            let copied = bounded(units, arc)?;
-            *stored = Stored::Bounded(copied);
-        }
-        Stored::Bounded(arcs) => arcs.push(arc)?,
-    }
+    let arcs = match stored {
+        Stored::Unit(units) => bounded(units, arc)?,
+        Stored::Shared(units) => bounded(units, arc)?,
+        Stored::Bounded(arcs) => return Ok(arcs.push(arc)?),
+    };
+    *stored = Stored::Bounded(arcs);
     Ok(())
 }
 
@@ -202,8 +196,8 @@ fn bounded(units: &Vec<Link>, arc: PackedArc) -> Result<Vec<PackedArc>, NoMemory
 {
     let mut arcs = Vec::with_capacity(*units.allocator(), units.len() + 1)?;
     for unit in units {
-        arcs.push(unit.with_bounds())?;
+        arcs.push_reserved(unit.with_bounds());
     }
-    arcs.push(arc)?;
+    arcs.push_reserved(arc);
     Ok(arcs)
 }
