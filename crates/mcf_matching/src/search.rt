@@ -123,7 +123,8 @@ impl<W: Width> Tables<W> {
         'nodes: for v in self.order.as_slice() {
             let i = v.place();
             let rise = target.minus(self.dists[i]);
-            prices[i] = prices[i].plus(rise);
+            let price = &mut prices[i];
+            *price = price.plus(rise);
         }
     }
 

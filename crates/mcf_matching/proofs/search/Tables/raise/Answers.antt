@@ -1,8 +1,11 @@
 use Rattle.std.proofs.Common.{arith}
 use Rattle.std.proofs.lemmas.Int.{ints}
 use Rattle.mcf_matching.specs.Private.Searches.{search_of}
-use Rattle.mcf_matching.proofs.Raising.{all_raised, one_raised, price_read, rising}
+use Rattle.mcf_matching.proofs.Raising.{all_raised, none_raised, one_raised, price_read, rising}
 use Rattle.mcf_matching.proofs.search.Tables.raise.Goals as goal
+
+pub nodes-init : goal.nodes-init
+nodes-init g c = none_raised (search_of c.args.self.now) c.args.target c.args.prices.now c.args.self.now.order.items c.requires.listing
 
 pub returns : goal.returns
 returns g c =
@@ -39,3 +42,15 @@ nodes-preserved g c =
     one_raised (search_of c.args.self.now) c.args.target c.args.prices.now c.nodes.prices c.args.self.now.order.items c.nodes.v-index
     c.v-item.result c.place-i.result _ c.requires.listing c.nodes.invariant
     (rw c.as_slice-v-items.ensures.value at c.nodes-test.true) (rw c.as_slice-v-items.ensures.value at c.v-item.is) c.place-i.ensures (omega (arith, ints, sum, price, rise, is))
+
+pub index-requires : goal.index-requires
+index-requires g c =
+    let node = c.requires.listing.each c.nodes.v-index c.v-item.result (rw c.as_slice-v-items.ensures.value at c.nodes-test.true) in
+    let at = rw c.as_slice-v-items.ensures.value at c.v-item.is in
+    omega (arith, node, at, c.place-i.ensures, c.requires.entries.dist_count, c.args.self.now.dists.ok.0)
+
+pub bounds-prices-i : goal.bounds-prices-i
+bounds-prices-i g c =
+    let node = c.requires.listing.each c.nodes.v-index c.v-item.result (rw c.as_slice-v-items.ensures.value at c.nodes-test.true) in
+    let at = rw c.as_slice-v-items.ensures.value at c.v-item.is in
+    omega (arith, node, at, c.place-i.ensures, c.nodes.auto.prices)
