@@ -51,19 +51,7 @@ returns-in-Some-clause-extended g c =
     rw (← c.self.view_is) (grown_from c.self.invariant.0.matching c.self.invariant.0.shown ended best raised extended e.changed e.order (ap (λ (q : Search). q.number) e.tables ∙ c.search.ensures.counted))
 
 pub returns-in-Some-clause-shown : goal.returns-in-Some-clause-shown
-returns-in-Some-clause-shown g c =
-    let i = c.self.inside in
-    let e = c.augment.ensures in
-    let q = search_of c.search.new.self in
-    let row = subst (λ (m : Assigned). IsRow m.flow c.args.row) (sym c.self.view_is) c.requires.row in
-    let ended = subst (λ y. IsEnded i.state y q c.args.row c.search.new.self.order.items) c.as_slice.ensures.value c.search.ensures.ended in
-    let best = sym c.in-Some.ensures.best ∙ ap Some (sym (ap (λ k. target k c.target.inside.dist) c.new-arc.ensures ∙ c.target.view_is)) in
-    let raised = subst (λ y. AreRaised i.state q c.target.inside.dist y c.augment.new.prices) c.as_mut_slice-prices.ensures.value e.raised in
-    let extended = e.extended c.args.row (subst (λ y. IsEnded i.state y q c.args.row c.search.new.self.order.items) (sym c.as_mut_slice-prices.ensures.value) ended) in
-    let lp = c.augment.auto.prices in
-    let vp = ap (λ (l : List ℤ). length l) c.as_mut_slice-prices.ensures.value in
-    let wp = written i.prices.len c.augment.new.prices (drop (length c.augment.new.prices) i.prices.items) (omega (arith, i.prices.ok.0, lp, vp)) in
-    rw wp (shown_kept (kept_grown c.self.invariant.0 row ended best raised extended e.mates e.idle))
+returns-in-Some-clause-shown g c = shown_kept (invariant_of-self g c).0
 
 pub returns-in-None-clause-extended : goal.returns-in-None-clause-extended
 returns-in-None-clause-extended g c =

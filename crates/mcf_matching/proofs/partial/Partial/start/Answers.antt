@@ -28,12 +28,4 @@ invariant_of-result-2 g c =
     )
 
 pub returns-clause-shown : goal.returns-clause-shown
-returns-clause-shown g c =
-    let value = c.in_ok-state.ensures.value in
-    let inside = c.state.view_is ∙ value in
-    let valid = subst (λ (s : Pseudoflow). IsPseudoflow s) value c.in_ok-state.ensures.valid in
-    let mates : c.in_ok-mates.mates.items ≡ replicate (node_count c.args.net.now) (mate 0 0) = search rules in
-    let count = ap (λ (t : List Bool). length t) c.in_ok-new-2.ensures.value ∙ length-replicate (node_count c.args.net.now) false in
-    let kept = kept_first c.args.net.now c.in_ok-prices.prices.items c.in_ok-mates.mates.items c.in_ok-new.field-0 c.in_ok-new-2.field-0 valid c.requires.assignment
-    c.in_ok-prices.ensures.prices mates c.in_ok-new.ensures.idle count in
-    rw inside (shown_kept kept)
+returns-clause-shown g c = shown_kept (invariant_of-result-2 g c).0
