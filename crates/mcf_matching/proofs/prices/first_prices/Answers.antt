@@ -41,3 +41,6 @@ nodes-preserved g c =
           let test = w.if-supply-gt0.false in
           rw w.prices-is (other_first n c.nodes.prices.items c.nodes.number c.nodes.invariant (omega (arith, ints, test, read, supply))))
     ]
+
+pub index_mut-requires : goal.index_mut-requires
+index_mut-requires g c = omega (arith, c.nodes-test.true, c.node_count-nodes.ensures.value, c.nodes.invariant.one_per_node, c.nodes.prices.ok.0)

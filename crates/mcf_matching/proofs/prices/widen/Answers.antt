@@ -7,3 +7,6 @@ returns g c =
     let past = c.nodes-test.false in
     let count = c.nodes.invariant.count in
     ext_get_or (pos 0) c.nodes.wide c.args.prices.now count (λ i l. c.nodes.invariant.before i (omega (arith, past, count, l)))
+
+pub offset_bounds-prices-i : goal.offset_bounds-prices-i
+offset_bounds-prices-i g c = omega (arith, c.nodes-test.true)
