@@ -1,7 +1,9 @@
 //! The search that is judged: nets that it takes, and nets that it leaves to the simplex.
 
-use crate::fixtures::{Costed, SAMPLE, finds_all};
+use crate::fixtures::{Costed, SAMPLE, cost_of, finds_all};
+use crate::networks::net_of;
 use mcf_augment::Augment;
+use mcf_search::find_least;
 use mcf_text::NoMemory;
 use std::alloc::Global;
 use std::test::Fail;
@@ -33,5 +35,24 @@ fn either_finds(alloc: Global) -> Result<bool, NoMemory> {
 #[test]
 fn worked_nets_with_and_without_a_search(rt: HostRuntime) -> Result<(), Fail> {
     assert!(rt; either_finds(rt.alloc())?);
+    Ok(())
+}
+
+// Whether the search finds a least state of a text's net, of this cost, with a price for each node.
+fn search_finds(alloc: Global, text: &[u8], cost: i128) -> Result<bool, NoMemory> {
+    let Some(net) = net_of(alloc, text)? else {
+        return Ok(false);
+    };
+    match find_least(alloc, &net, 4096)? {
+        Some((state, prices)) => {
+            Ok(cost_of(&state) == cost && prices.len() == net.node_count() as usize)
+        }
+        None => Ok(false),
+    }
+}
+
+#[test]
+fn a_search_alone(rt: HostRuntime) -> Result<(), Fail> {
+    assert!(rt; search_finds(rt.alloc(), SAMPLE, 14)?);
     Ok(())
 }

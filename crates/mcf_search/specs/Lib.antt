@@ -1,0 +1,2 @@
+pub use Rattle.mcf_network.specs.States
+pub use Rattle.mcf_engine.specs.Outcomes
