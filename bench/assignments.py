@@ -1,10 +1,11 @@
 """The part `assign` of run.py: `mcf solve --engine sap` beside dlib and LEMON, as whole processes.
 
-Dense instances, of uniform costs and of costs (i * j) mod 101, are solved beside dlib's assignment, sparse ones of
-8 arcs a row beside LEMON's network simplex. Of the smallest of these there are
-twelve, since one says little: the first is judged, and the mean. The answer has the second form, which names the arcs that carry something;
-the peers write the cost alone. Printed are the least seconds of a processor of several runs. A peer
-whose library isn't there is skipped with a word, and so is the whole part where the program has no engine `sap`.
+Dense instances, of uniform costs and of costs (i * j) mod 101, are solved beside dlib's assignment,
+sparse ones of 8 arcs a row beside LEMON's network simplex. Of the smallest of these there are
+twelve, since one says little: the first is judged, and the mean. The answer has the second form,
+which names the arcs that carry something; the peers write the cost alone. Printed are the least
+seconds of a processor of several runs. A peer whose library isn't there is skipped with a word, and
+so is the whole part where the program has no engine `sap`.
 """
 import os
 import pathlib
@@ -21,9 +22,9 @@ PROGRAM = programs.built("mcf")
 
 # the rows of the instances, and the greatest ratio to the peer
 DENSE = dict.fromkeys((256, 512, 1024, 2048), 0.85)
-SPARSE = {2 ** 12: 0.6, 2 ** 14: 0.5, 2 ** 16: 0.4}
+SPARSE = {2**12: 0.6, 2**14: 0.5, 2**16: 0.4}
 # how many instances of a size there are, where it isn't one
-INSTANCES = {2 ** 12: 12}
+INSTANCES = {2**12: 12}
 DEGREE = 8
 MAX_COST = 1_000_000
 
@@ -52,7 +53,8 @@ def multiples(rows):
 
 
 def sparse(rows, seed=None):
-    """Each row has an arc to the column of a hidden matching, so that a matching of all rows is there."""
+    """Each row has an arc to the column of a hidden matching, so that a matching of all rows is
+    there."""
     rnd = random.Random(rows if seed is None else seed)
     hidden = rnd.sample(range(1, rows + 1), rows)
     for i in range(1, rows + 1):
@@ -70,7 +72,15 @@ KINDS = {
 def build(source, libraries):
     """The peer, or nothing where it can't be built."""
     peer = OUT / f"assign-{pathlib.Path(source).stem}-peer"
-    command = ["g++", "-O3", "-DNDEBUG", str(BENCH / "peers" / "assign" / source), "-o", str(peer), *libraries]
+    command = [
+        "g++",
+        "-O3",
+        "-DNDEBUG",
+        str(BENCH / "peers" / "assign" / source),
+        "-o",
+        str(peer),
+        *libraries,
+    ]
     try:
         done = subprocess.run(command, capture_output=True)
     except FileNotFoundError:
@@ -79,7 +89,8 @@ def build(source, libraries):
 
 
 def timed(command):
-    """The line of the cost that a program writes, and the seconds of a processor that it takes, those of the kernel included."""
+    """The line of the cost that a program writes, and the seconds of a processor that it takes,
+    those of the kernel included."""
     with tempfile.TemporaryFile("w+") as out:
         process = subprocess.Popen(command, stdout=out)
         _, status, usage = os.wait4(process.pid, 0)
@@ -87,18 +98,23 @@ def timed(command):
         if status:
             sys.exit(f"{command[0]} ended with status {process.returncode}")
         out.seek(0)
-        return next((line.rstrip("\n") for line in out if line.startswith("s ")), None), usage.ru_utime + usage.ru_stime
+        return (
+            next((line.rstrip("\n") for line in out if line.startswith("s ")), None),
+            usage.ru_utime + usage.ru_stime,
+        )
 
 
 def instances(name, arcs, rows):
-    """The files of a family and a size: the one with the size as its seed, and those of other seeds where there are several."""
+    """The files of a family and a size: the one with the size as its seed, and those of other seeds
+    where there are several."""
     yield write(OUT / f"assign-{name}-{rows}.asn", rows, arcs(rows))
     for seed in range(1, INSTANCES.get(rows, 1)):
         yield write(OUT / f"assign-{name}-{rows}-{seed}.asn", rows, arcs(rows, seed))
 
 
 def compare(ours, peer, runs):
-    """The least seconds of each, which other programs at work change least; both are run in turn."""
+    """The least seconds of each, which other programs at work change least; both are run in
+    turn."""
     times = []
     for _ in range(runs):
         (found, our_time), (peer_found, peer_time) = timed(ours), timed(peer)
@@ -129,10 +145,15 @@ def measure(words, engine="sap"):
                 ratios = []
                 for path in instances(name, arcs, rows):
                     ours, peers = compare(
-                        [PROGRAM, "solve", "--engine", engine, "--form", "2", str(path)], [str(peer), str(path)], runs
+                        [PROGRAM, "solve", "--engine", engine, "--form", "2", str(path)],
+                        [str(peer), str(path)],
+                        runs,
                     )
                     ratios.append(ours / peers)
-                    print(f"assign {name} {rows}: ours {ours:.4f} s, {library} {peers:.4f} s, ratio {ratios[-1]:.2f}")
+                    print(
+                        f"assign {name} {rows}: ours {ours:.4f} s, {library} {peers:.4f} s, ratio"
+                        f" {ratios[-1]:.2f}"
+                    )
                 mean = sum(ratios) / len(ratios)
                 if len(ratios) > 1:
                     print(f"assign {name} {rows}: {len(ratios)} instances, mean ratio {mean:.2f}")

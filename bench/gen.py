@@ -47,7 +47,9 @@ class Net:
         nodes = len(self.supply) - 1
         out.write(f"c {note}\np min {nodes} {len(self.arcs)}\n")
         out.writelines(f"n {node} {supply}\n" for node, supply in enumerate(self.supply) if supply)
-        out.writelines(f"a {source} {target} 0 {cap} {cost}\n" for source, target, cap, cost in self.arcs)
+        out.writelines(
+            f"a {source} {target} 0 {cap} {cost}\n" for source, target, cap, cost in self.arcs
+        )
 
 
 def up_to(rnd, most):
@@ -67,9 +69,9 @@ def netgen(nodes, rnd, words, most_sinks=3):
     net = Net(nodes)
     ends = max(1, nodes // 100)
     order = shuffled(rnd, nodes)
-    sinks = order[ends:2 * ends]
+    sinks = order[ends : 2 * ends]
     chains = [[source] for source in order[:ends]]
-    for node in order[2 * ends:]:
+    for node in order[2 * ends :]:
         chains[int(rnd() * ends)].append(node)
 
     def carry(source, target, flow):
@@ -110,7 +112,7 @@ def resting(nodes, rnd, words):
 
 def gridgen(nodes, rnd, words):
     net = Net(nodes)
-    rows = max(2, int(nodes ** 0.5))
+    rows = max(2, int(nodes**0.5))
     columns = nodes // rows
     inner = rows * columns
     supplies = [up_to(rnd, words.max_cap) for _ in range(rows)]
@@ -121,7 +123,12 @@ def gridgen(nodes, rnd, words):
         for column in range(columns):
             node = row * columns + 1 + column
             if column + 1 < columns:
-                net.arc(node, node + 1, max(supply, up_to(rnd, words.max_cap)), up_to(rnd, words.max_cost))
+                net.arc(
+                    node,
+                    node + 1,
+                    max(supply, up_to(rnd, words.max_cap)),
+                    up_to(rnd, words.max_cost),
+                )
             for down, right in moves:
                 if 0 <= row + down < rows and 0 <= column + right < columns:
                     target = node + down * columns + right
@@ -150,13 +157,19 @@ def goto(nodes, rnd, words):
 
     # three flows of each row make it feasible: straight on, drifting up and drifting down
     half = max(1, words.max_cap // 2)
-    flows = [[half + int(rnd() * (words.max_cap - half + 1)) for _ in range(width)] for _ in range(3)]
+    flows = [
+        [half + int(rnd() * (words.max_cap - half + 1)) for _ in range(width)] for _ in range(3)
+    ]
     for row in range(width):
         into = sum(flow[row] for flow in flows)
         net.supply[source] += into
         net.supply[sink] -= into
         net.arc(source, at(0, row), into, 1)
-        out = flows[0][row] + flows[1][(row - (length - 1)) % width] + flows[2][(row + length - 1) % width]
+        out = (
+            flows[0][row]
+            + flows[1][(row - (length - 1)) % width]
+            + flows[2][(row + length - 1) % width]
+        )
         net.arc(at(length - 1, row), sink, out, 1)
     for column in range(length):
         for row in range(width):
@@ -180,12 +193,17 @@ def goto(nodes, rnd, words):
 
 def road(nodes, rnd, words):
     net = Net(nodes)
-    columns = max(2, int(nodes ** 0.5))
-    places = [((v - 1) % columns + 0.8 * rnd(), (v - 1) // columns + 0.8 * rnd()) for v in range(1, nodes + 1)]
+    columns = max(2, int(nodes**0.5))
+    places = [
+        ((v - 1) % columns + 0.8 * rnd(), (v - 1) // columns + 0.8 * rnd())
+        for v in range(1, nodes + 1)
+    ]
     # a tree of roads to the left or up, and half as many more
     above, more = [0] * (nodes + 1), []
     for node in range(2, nodes + 1):
-        near = ([node - 1] if (node - 1) % columns else []) + ([node - columns] if node > columns else [])
+        near = ([node - 1] if (node - 1) % columns else []) + (
+            [node - columns] if node > columns else []
+        )
         if len(near) == 2 and rnd() >= 0.5:
             near.reverse()
         above[node] = near[0]
@@ -193,7 +211,7 @@ def road(nodes, rnd, words):
             more.append((node, near[1]))
     ends = max(1, nodes // 64)
     order = shuffled(rnd, nodes)
-    for source, sink in zip(order[:ends], order[ends:2 * ends]):
+    for source, sink in zip(order[:ends], order[ends : 2 * ends]):
         supply = up_to(rnd, 100)
         net.supply[source] += supply
         net.supply[sink] -= supply
@@ -248,14 +266,21 @@ def transp(nodes, rnd, words):
 
 
 FAMILIES = {
-    "assignment": assignment, "goto": goto, "gridgen": gridgen, "netgen": netgen, "resting": resting, "road": road,
-    "sparse": sparse, "transp": transp,
+    "assignment": assignment,
+    "goto": goto,
+    "gridgen": gridgen,
+    "netgen": netgen,
+    "resting": resting,
+    "road": road,
+    "sparse": sparse,
+    "transp": transp,
 }
 
 
 def show(net, rnd, words, out):
-    """Gives the arcs of a net other costs, and its nodes the supplies of a flow that prices show, and writes
-    that answer: half of the arcs carry nothing, a quarter their cap, and a quarter anything."""
+    """Gives the arcs of a net other costs, and its nodes the supplies of a flow that prices show,
+    and writes that answer: half of the arcs carry nothing, a quarter their cap, and a quarter
+    anything."""
     prices = [0] + [-int(rnd() * 10 * words.max_cost) for _ in net.supply[1:]]
     net.supply = [0] * len(net.supply)
     total = 0
@@ -293,8 +318,10 @@ def main():
     if words.shown:
         with open(words.shown, "w", encoding="ascii") as out:
             show(net, rnd, words, out)
-    note = (f"{words.family}, {words.nodes} nodes, seed {words.seed}, caps to {words.max_cap}, "
-            f"costs to {words.max_cost}, degree {words.degree}")
+    note = (
+        f"{words.family}, {words.nodes} nodes, seed {words.seed}, caps to {words.max_cap}, "
+        f"costs to {words.max_cost}, degree {words.degree}"
+    )
     if words.output:
         with open(words.output, "w", encoding="ascii") as out:
             net.write(out, note)

@@ -1,8 +1,9 @@
-"""The part `pieces` of run.py: reading in pieces, beside reading the whole text at once, as whole processes.
+"""The part `pieces` of run.py: reading in pieces, beside reading the whole text at once, as whole
+processes.
 
-The text has 100 MB, and its last arc is missing, so that nothing is solved: `mcf solve` reads it in pieces and refuses it, and
-`mcfcheck` reads it whole and finds the refusal right. Printed are the least seconds of a processor of several runs, and the
-peak of the memory of each.
+The text has 100 MB, and its last arc is missing, so that nothing is solved: `mcf solve` reads it in
+pieces and refuses it, and `mcfcheck` reads it whole and finds the refusal right. Printed are the
+least seconds of a processor of several runs, and the peak of the memory of each.
 """
 import os
 import pathlib
@@ -26,13 +27,17 @@ def write():
         with open(text, "w") as out:
             out.write(f"p min {NODES} {ARCS}\n")
             for _ in range(ARCS - 1):
-                out.write(f"a {rnd.randint(1, NODES)} {rnd.randint(1, NODES)} 0 {rnd.randint(1, 9999)} {rnd.randint(1, 9999)}\n")
+                out.write(
+                    f"a {rnd.randint(1, NODES)} {rnd.randint(1, NODES)} 0"
+                    f" {rnd.randint(1, 9999)} {rnd.randint(1, 9999)}\n"
+                )
         answer.write_text(f"r {ARCS + 1} missing\n")
     return text, answer
 
 
 def timed(command, want):
-    """The seconds of a processor that a program takes, those of the kernel included, and the peak of its memory in megabytes."""
+    """The seconds of a processor that a program takes, those of the kernel included, and the peak
+    of its memory in megabytes."""
     process = subprocess.Popen(command, stdout=subprocess.DEVNULL)
     _, status, usage = os.wait4(process.pid, 0)
     process.returncode = os.waitstatus_to_exitcode(status)
@@ -48,8 +53,17 @@ def measure(words):
     if not words.built:
         programs.build("mcf", "mcfcheck")
     runs = max(5, words.runs)
-    print(f"pieces: {runs} runs of each, whole processes, of a text of {text.stat().st_size / 1e6:.0f} MB")
-    in_turn = [(timed([mcf, "solve", str(text)], 2), timed([mcfcheck, str(text), str(answer)], 0)) for _ in range(runs)]
+    print(
+        f"pieces: {runs} runs of each, whole processes, of a text of"
+        f" {text.stat().st_size / 1e6:.0f} MB"
+    )
+    in_turn = [
+        (timed([mcf, "solve", str(text)], 2), timed([mcfcheck, str(text), str(answer)], 0))
+        for _ in range(runs)
+    ]
     (ours, our_peak), (other, other_peak) = (tuple(map(min, zip(*done))) for done in zip(*in_turn))
-    print(f"pieces: in pieces {ours:.4f} s and {our_peak:.0f} MB, at once {other:.4f} s and {other_peak:.0f} MB, ratio {ours / other:.2f}")
+    print(
+        f"pieces: in pieces {ours:.4f} s and {our_peak:.0f} MB, at once {other:.4f} s and"
+        f" {other_peak:.0f} MB, ratio {ours / other:.2f}"
+    )
     return ours / other <= LIMIT

@@ -1,9 +1,12 @@
-"""Whole processes of `mcf solve` beside a program by LEMON: the second half of the part `simplex` of run.py, and its part `augment`.
+"""Whole processes of `mcf solve` beside a program by LEMON: the second half of the part `simplex`
+of run.py, and its part `augment`.
 
-All read the same file, solve it and write a flow with its prices to a file. Printed are the least seconds of a processor of several
-runs, and their ratios. The simplex is run by both rules for large nets, `wide` and `block`, and the ratios of `wide` are judged. The
-engine `augment` is run beside the simplex and LEMON's network simplex and cost scaling: its ratio to the better of these two is
-judged, and so is its peak of memory beside that of LEMON's network simplex, where both are above that of this program.
+All read the same file, solve it and write a flow with its prices to a file. Printed are the least
+seconds of a processor of several runs, and their ratios. The simplex is run by both rules for large
+nets, `wide` and `block`, and the ratios of `wide` are judged. The engine `augment` is run beside
+the simplex and LEMON's network simplex and cost scaling: its ratio to the better of these two is
+judged, and so is its peak of memory beside that of LEMON's network simplex, where both are above
+that of this program.
 """
 import resource
 
@@ -13,7 +16,8 @@ from table import OUT, PROGRAM
 
 # runs of a case end after so many seconds, but not before there were so many of them
 SECONDS, FEWEST = 120, 3
-# of the simplex: the sizes, as powers of 2, and the greatest ratio by family, which is judged at one size
+# of the simplex: the sizes, as powers of 2, and the greatest ratio by family, which is judged at
+# one size
 SIZES, JUDGED = (14, 16, 17), 16
 LIMITS = {"netgen": 0.9, "gridgen": 1.1, "road": 1.0, "goto": 0.7}
 # of the engine `augment`: the sizes, and the greatest ratios by size and family
@@ -44,20 +48,26 @@ def build(words):
 
 
 def measure(words, peer, instance_of):
-    """Whether each ratio of the simplex is within the limit. `peer` is the program by LEMON, and `instance_of` makes the file of a family
-    and a size."""
+    """Whether each ratio of the simplex is within the limit. `peer` is the program by LEMON, and
+    `instance_of` makes the file of a family and a size."""
     build(words)
     most = max(5, words.runs)
     print(f"simplex: {most} runs of each, whole processes")
     within = True
     for family, limit in LIMITS.items():
         for exponent in SIZES:
-            path = str(instance_of(family, 2 ** exponent))
-            commands = {rule: [*solve("simplex", "--pricing", rule), path] for rule in ("wide", "block")}
-            runs = table.measured({**commands, "LEMON": by_lemon(peer, "ns", path)}, most, FEWEST, SECONDS)
+            path = str(instance_of(family, 2**exponent))
+            commands = {
+                rule: [*solve("simplex", "--pricing", rule), path] for rule in ("wide", "block")
+            }
+            runs = table.measured(
+                {**commands, "LEMON": by_lemon(peer, "ns", path)}, most, FEWEST, SECONDS
+            )
             wide, block, theirs = (runs[name].seconds for name in ("wide", "block", "LEMON"))
-            print(f"simplex {family} 2^{exponent}, whole: wide {wide:.3f} s, block {block:.3f} s, LEMON {theirs:.3f} s, "
-                  f"ratios {wide / theirs:.2f} and {block / theirs:.2f}")
+            print(
+                f"simplex {family} 2^{exponent}, whole: wide {wide:.3f} s, block {block:.3f} s,"
+                f" LEMON {theirs:.3f} s, ratios {wide / theirs:.2f} and {block / theirs:.2f}"
+            )
             within = within and (exponent != JUDGED or wide / theirs <= limit)
     return within
 
@@ -71,24 +81,33 @@ def measure_augment(words, peer, instance_of):
     for family in MOST_SECONDS[max(MOST_SECONDS)]:
         before = {}
         for exponent in AUGMENTED:
-            path = str(instance_of(family, 2 ** exponent))
+            path = str(instance_of(family, 2**exponent))
             commands = {
                 "augment": [*solve("augment"), path],
                 "simplex": [*solve("simplex"), path],
                 "LEMON ns": by_lemon(peer, "ns", path),
                 "LEMON cs": by_lemon(peer, "cs", path),
             }
-            commands = {name: command for name, command in commands.items() if before.get(name, 0) <= MOST}
+            commands = {
+                name: command for name, command in commands.items() if before.get(name, 0) <= MOST
+            }
             runs = table.measured(commands, most, 1, SECONDS)
             within = shown(family, exponent, runs) and within
-            before = {name: runs[name].seconds if name in runs else MOST + 1 for name in ("augment", "simplex", "LEMON ns", "LEMON cs")}
+            before = {
+                name: runs[name].seconds if name in runs else MOST + 1
+                for name in ("augment", "simplex", "LEMON ns", "LEMON cs")
+            }
     return within
 
 
 def shown(family, exponent, runs):
     """Prints what was measured of a case, and says whether the figures are within their limits."""
     seconds = {name: run.seconds for name, run in runs.items()}
-    print(f"augment {family} 2^{exponent}, whole: " + ", ".join(f"{name} {taken:.3f} s" for name, taken in seconds.items()), end="")
+    print(
+        f"augment {family} 2^{exponent}, whole: "
+        + ", ".join(f"{name} {taken:.3f} s" for name, taken in seconds.items()),
+        end="",
+    )
     within = True
     theirs = [taken for name, taken in seconds.items() if name.startswith("LEMON")]
     if "augment" in seconds and theirs:

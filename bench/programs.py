@@ -13,4 +13,8 @@ def built(name):
 
 def build(*names):
     """Proves and builds programs, where that isn't done."""
-    subprocess.run([sys.executable, str(TOP / "scripts" / "build.py"), *names], check=True, stdout=subprocess.DEVNULL)
+    subprocess.run(
+        [sys.executable, str(TOP / "scripts" / "build.py"), *names],
+        check=True,
+        stdout=subprocess.DEVNULL,
+    )

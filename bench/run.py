@@ -5,38 +5,42 @@
 
 PART
   answer    parses an answer of a million arcs and writes it anew
-  augment   solves nets of four families and of rising size by the engine `augment`, beside the simplex and the better of
-            LEMON's network simplex and cost scaling, as whole processes, with the peak of their memory (left out where
-            LEMON isn't there)
-  assign    solves assignments by the engine `sap`, beside dlib and LEMON, as whole processes; a library that isn't
-            there is skipped with a word
+  augment   solves nets of four families and of rising size by the engine `augment`, beside the
+            simplex and the better of LEMON's network simplex and cost scaling, as whole processes,
+            with the peak of their memory (left out where LEMON isn't there)
+  assign    solves assignments by the engine `sap`, beside dlib and LEMON, as whole processes; a
+            library that isn't there is skipped with a word
   check     judges such an answer for its instance
-  feasible  finds a feasible flow, in nets of five families and of rising size, beside the reading of the same text
+  feasible  finds a feasible flow, in nets of five families and of rising size, beside the reading
+            of the same text
   net       builds the net of a million arcs, and goes over the residual arcs of each node
-  pieces    reads a text of 100 MB in pieces, beside reading it at once, as whole processes, with the peak of their memory
-  raise     raises prices of a least flow to the greatest, in nets of three families and of rising size
+  pieces    reads a text of 100 MB in pieces, beside reading it at once, as whole processes, with
+            the peak of their memory
+  raise     raises prices of a least flow to the greatest, in nets of three families and of rising
+            size
   read      reads an instance, and keeps it in 32 bytes an arc
   recover   recovers prices from a least flow, in nets of three families and of rising size
-  scaling   solves nets of five families and of rising size by cost scaling, beside a program with the same steps,
-            both without the seconds of the feasible flow, and then as a whole beside that of LEMON (left out where
-            LEMON isn't there, of the package liblemon-dev)
-  simplex   solves nets of four families and of rising size by the network simplex, beside that of LEMON, as scaling;
-            then the whole processes, `mcf` and a program by LEMON that read a file, solve it and write the answer
-  solve     solves an instance in which nothing is worth moving, without the seconds of its engine, beside a
-            program that reads, copies and writes the same
-  table     solves instances of all families and sizes as the tools choose, beside LEMON's network simplex and cost scaling and
-            dlib's assignment, as whole processes with the peak of their memory; prints a table, which no limit judges
+  scaling   solves nets of five families and of rising size by cost scaling, beside a program with
+            the same steps, both without the seconds of the feasible flow, and then as a whole
+            beside that of LEMON (left out where LEMON isn't there, of the package liblemon-dev)
+  simplex   solves nets of four families and of rising size by the network simplex, beside that of
+            LEMON, as scaling; then the whole processes, `mcf` and a program by LEMON that read a
+            file, solve it and write the answer
+  solve     solves an instance in which nothing is worth moving, without the seconds of its engine,
+            beside a program that reads, copies and writes the same
+  table     solves instances of all families and sizes as the tools choose, beside LEMON's network
+            simplex and cost scaling and dlib's assignment, as whole processes with the peak of
+            their memory; prints a table, which no limit judges
   text      splits a text of lines into fields and reads each field as a number
   tree      swaps arcs of a spanning tree at random, in trees of rising size
 
-Proves and builds `mcf_bench`, builds each peer by `rustc -O` (LEMON's by `g++ -O3`), makes the input, and
-runs the two in turn on it, N times each and at least 5. Both print what they found,
-which has to be the same, and their own seconds, which don't count the reading of the
-files. Printed are the medians and their ratio; of a family also how many times as long
-as the size before a size takes; of `net` also the memory, as what each further net adds
-to the peak. The status is 1 where a figure is above its part's limit. `--nodes` is for
-the parts that have one size. `--built` takes the program as it was built last. Needs
-`rt`, `rustc` and Python 3; run it on an idle machine.
+Proves and builds `mcf_bench`, builds each peer by `rustc -O` (LEMON's by `g++ -O3`), makes the
+input, and runs the two in turn on it, N times each and at least 5. Both print what they found,
+which has to be the same, and their own seconds, which don't count the reading of the files. Printed
+are the medians and their ratio; of a family also how many times as long as the size before a size
+takes; of `net` also the memory, as what each further net adds to the peak. The status is 1 where a
+figure is above its part's limit. `--nodes` is for the parts that have one size. `--built` takes the
+program as it was built last. Needs `rt`, `rustc` and Python 3; run it on an idle machine.
 """
 import argparse
 import os
@@ -63,10 +67,14 @@ ARCS = 1_000_000
 RESTING = 125_000
 # the sizes of each family, as powers of 2
 RECOVERED = {"netgen": (10, 12, 14, 16), "gridgen": (10, 12, 14, 16), "transp": (8, 9, 10)}
-SEARCHED = {**{family: (10, 12, 14, 16) for family in ("netgen", "gridgen", "goto", "road")}, "transp": (8, 9, 10)}
+SEARCHED = {
+    **{family: (10, 12, 14, 16) for family in ("netgen", "gridgen", "goto", "road")},
+    "transp": (8, 9, 10),
+}
 SCALED = {family: (12, 14) for family in ("netgen", "gridgen", "goto", "road", "assignment")}
 PIVOTED = {"netgen": (12, 14, 16), "gridgen": (12, 14), "road": (12, 14, 16), "goto": (12, 14)}
-# the greatest ratio to LEMON of families where updates of all prices, which the bounds on rises forbid, gain nothing
+# the greatest ratio to LEMON of families where updates of all prices, which the bounds on rises
+# forbid, gain nothing
 WITHOUT_UPDATES = {"assignment": 1}
 # the random swaps that are tried in the tree of so many nodes
 SWAPPED = {1_000: 300_000, 10_000: 300_000, 100_000: 300_000, 1_000_000: 1_000_000}
@@ -116,7 +124,7 @@ def of_families(sizes):
     """Each family and size, with how often a step is done in one run: more often in a small net."""
     for family, exponents in sizes.items():
         for exponent in exponents:
-            yield family, 2 ** exponent, max(1, 2 ** 14 >> exponent)
+            yield family, 2**exponent, max(1, 2**14 >> exponent)
 
 
 def family_instances(_words):
@@ -155,8 +163,8 @@ def trees(_words):
         yield f"of {nodes} nodes", [nodes, rounds], 1
 
 
-# of each part: what makes its cases, and the greatest ratio; a case has a name, the paths or numbers of its input,
-# and how often a step is done in one run
+# of each part: what makes its cases, and the greatest ratio; a case has a name, the paths or
+# numbers of its input, and how often a step is done in one run
 PARTS = {
     "answer": (shown_answer, 1.2),
     "check": (shown_pair, 1.25),
@@ -172,7 +180,8 @@ PARTS = {
     "tree": (trees, 1.25),
 }
 REPEATED = {"feasible", "net", "raise", "recover"}
-# the parts that have LEMON for a peer: the word by which its driver knows the algorithm, and the greatest ratio
+# the parts that have LEMON for a peer: the word by which its driver knows the algorithm, and the
+# greatest ratio
 LEMON = {"scaling": ("cs", 9), "simplex": ("ns", 2.5)}
 # the parts that have modules of their own
 WHOLE = ("assign", "augment", "pieces", "table")
@@ -192,7 +201,9 @@ def lemon_program():
     """Builds the program by LEMON."""
     program = OUT / "lemon-peer"
     source = BENCH / "peers" / "lemon_mcf.cc"
-    subprocess.run(["g++", "-O3", "-DNDEBUG", "-o", str(program), str(source), "-llemon"], check=True)
+    subprocess.run(
+        ["g++", "-O3", "-DNDEBUG", "-o", str(program), str(source), "-llemon"], check=True
+    )
     return program
 
 
@@ -218,7 +229,9 @@ def peers_of(part, limit):
     if part not in LEMON_ALONE:
         program = OUT / f"{part}-peer"
         source = BENCH / "peers" / f"{part}.rs"
-        subprocess.run(["rustc", "--edition", "2024", "-O", "-o", str(program), str(source)], check=True)
+        subprocess.run(
+            ["rustc", "--edition", "2024", "-O", "-o", str(program), str(source)], check=True
+        )
         peers.append(Peer("the peer", [str(program)], limit, LEFT_OUT.get(part)))
     if part in LEMON and not has_lemon():
         print(f"{part}: LEMON is left out, as it isn't there (liblemon-dev)")
@@ -268,7 +281,8 @@ def compare(ours, peers, runs):
 
 
 def measure(part, words):
-    """Runs each case of a part beside its peer, and says whether each figure is within the part's limit."""
+    """Runs each case of a part beside its peer, and says whether each figure is within the part's
+    limit."""
     if part == "assign":
         return assignments.measure(words)
     if part == "augment":
@@ -292,14 +306,25 @@ def measure(part, words):
         for peer in peers:
             seconds = compare(program + inputs, peer.command + inputs, runs)
             ours = statistics.median(peer.seconds(our_times) for our_times, _ in seconds) / times
-            theirs = statistics.median(peer.seconds(peer_times) for _, peer_times in seconds) / times
-            grown = f", {ours / before[peer.name, family]:.1f} times as long as before" if (peer.name, family) in before else ""
+            theirs = (
+                statistics.median(peer.seconds(peer_times) for _, peer_times in seconds) / times
+            )
+            grown = (
+                f", {ours / before[peer.name, family]:.1f} times as long as before"
+                if (peer.name, family) in before
+                else ""
+            )
             before[peer.name, family] = ours
             label = f"{part} {name}".strip()
-            print(f"{label}: ours {ours:.4f} s, {peer.name} {theirs:.4f} s, ratio {ours / theirs:.2f}{grown}")
+            print(
+                f"{label}: ours {ours:.4f} s, {peer.name} {theirs:.4f} s, ratio"
+                f" {ours / theirs:.2f}{grown}"
+            )
             within = within and ours / theirs <= peer.most(family)
         if part == "feasible":
-            reading = statistics.median(run([program[0], "read", inputs[0]])[1]["seconds"] for _ in range(runs))
+            reading = statistics.median(
+                run([program[0], "read", inputs[0]])[1]["seconds"] for _ in range(runs)
+            )
             print(f"  reading the text: {reading:.4f} s, of which this is {ours / reading:.2f}")
         if part == "net":
             size = net_bytes("ours", program, paths)
@@ -319,7 +344,8 @@ def measure_augment(words):
 
 
 def net_bytes(name, program, paths):
-    """The bytes an arc by which each further net raises the peak, where the nets outweigh the reading."""
+    """The bytes an arc by which each further net raises the peak, where the nets outweigh the
+    reading."""
     few, more = 3, 7
     peaks = [peak_of([*program, *map(str, paths), str(nets)]) for nets in (few, more)]
     size = (peaks[1] - peaks[0]) / (more - few) / ARCS

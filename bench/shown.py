@@ -3,16 +3,18 @@
 
     python3 bench/shown.py NODES ARCS INSTANCE ANSWER [--seed S]
 
-Prices come first; then each arc gets a cost, and from its reduced cost a flow that these prices show; the
-supplies are what each node then sends. So the answer is right whatever the arcs. The same words always
-give the same bytes.
+Prices come first; then each arc gets a cost, and from its reduced cost a flow that these prices
+show; the supplies are what each node then sends. So the answer is right whatever the arcs. The same
+words always give the same bytes.
 """
 import argparse
 import random
 
 
 def main():
-    parser = argparse.ArgumentParser(description="makes an instance and an answer that is right for it")
+    parser = argparse.ArgumentParser(
+        description="makes an instance and an answer that is right for it"
+    )
     parser.add_argument("nodes", type=int)
     parser.add_argument("arcs", type=int)
     parser.add_argument("instance")

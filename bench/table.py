@@ -1,11 +1,13 @@
-"""The part `table` of run.py: `mcf solve`, as the tools call it, beside LEMON's network simplex and cost scaling and dlib's assignment, over
-families and sizes.
+"""The part `table` of run.py: `mcf solve`, as the tools call it, beside LEMON's network simplex and
+cost scaling and dlib's assignment, over families and sizes.
 
-Each row is an instance. Of ours there are the options that the tools choose for the size (`suited` of python/mcf_plan/solve.py), the least
-seconds of a processor of the whole process (reading, solving, writing the second form of a flow), their ratio to the better of the peers, the
-peak of its memory, and how many times as long it takes as the size before. Of LEMON's engines there are the same seconds, with reading by a
-quick reader and writing what isn't 0; of dlib's those of a program that writes the cost alone. What takes too long at one size is left out at
-the next. The rows are those of a table in Markdown. Costs have to agree.
+Each row is an instance. Of ours there are the options that the tools choose for the size (`suited`
+of python/mcf_plan/solve.py), the least seconds of a processor of the whole process (reading,
+solving, writing the second form of a flow), their ratio to the better of the peers, the peak of its
+memory, and how many times as long it takes as the size before. Of LEMON's engines there are the
+same seconds, with reading by a quick reader and writing what isn't 0; of dlib's those of a program
+that writes the cost alone. What takes too long at one size is left out at the next. The rows are
+those of a table in Markdown. Costs have to agree.
 """
 import os
 import pathlib
@@ -25,19 +27,23 @@ from mcf_plan.solve import suited  # noqa: E402
 OUT = BENCH / "out"
 PROGRAM = programs.built("mcf")
 
-FLOWS = {family: range(10, 19) for family in ("netgen", "gridgen", "road", "goto")} | {"transp": (8, 9, 10)}
+FLOWS = {family: range(10, 19) for family in ("netgen", "gridgen", "road", "goto")} | {
+    "transp": (8, 9, 10)
+}
 DENSE = {"random": assignments.uniform, "mod 101": assignments.multiples}
 DENSE_ROWS = (256, 512, 1024, 2048)
-SPARSE_ROWS = (2 ** 10, 2 ** 12, 2 ** 14, 2 ** 16)
+SPARSE_ROWS = (2**10, 2**12, 2**14, 2**16)
 # a size is left out where the one before took more seconds than this
 MOST = 30.0
-# runs go on for so many seconds in a cell, but there are at least so many and at most so many of them
+# runs go on for so many seconds in a cell, but there are at least so many and at most so many of
+# them
 SECONDS, FEWEST, MOST_RUNS = 8, 1, 5
 OURS = "mcf"
 
 
 class Run:
-    """The least seconds of a processor of some runs, the greatest peak of memory in megabytes, and the cost that was found."""
+    """The least seconds of a processor of some runs, the greatest peak of memory in megabytes, and
+    the cost that was found."""
 
     def __init__(self):
         self.seconds, self.peak, self.cost = float("inf"), 0.0, None
@@ -67,7 +73,8 @@ def cost_of(lines):
 
 
 def measured(commands, most=MOST_RUNS, fewest=FEWEST, seconds=SECONDS):
-    """Runs the commands in turn, and answers what was measured of each: runs go on for so many seconds, within their numbers."""
+    """Runs the commands in turn, and answers what was measured of each: runs go on for so many
+    seconds, within their numbers."""
     runs = {name: Run() for name in commands}
     start = time.monotonic()
     for turn in range(most):
@@ -82,7 +89,8 @@ def measured(commands, most=MOST_RUNS, fewest=FEWEST, seconds=SECONDS):
 
 
 def cells(options, run, before, peers):
-    """What the table says of ours. A peak that is no greater than that of this program, which begins the run, isn't known."""
+    """What the table says of ours. A peak that is no greater than that of this program, which
+    begins the run, isn't known."""
     grown = f"{run.seconds / before:.1f}" if before else ""
     ratio = f"{run.seconds / min(peer.seconds for peer in peers):.2f}" if peers else ""
     own = resource.getrusage(resource.RUSAGE_SELF).ru_maxrss / 1024
@@ -91,33 +99,69 @@ def cells(options, run, before, peers):
 
 
 def rows(family, sizes, problem, file_of, peers_of):
-    """The rows of a family, a line for each size. `file_of` makes the file of a size, and `problem` says which it is and how many nodes it has."""
+    """The rows of a family, a line for each size. `file_of` makes the file of a size, and `problem`
+    says which it is and how many nodes it has."""
     before = {}
     for size in sizes:
         path, options = str(file_of(size)), suited(*problem(size))
         both = {OURS: [PROGRAM, "solve", *options, "--form", "2", path], **peers_of(path)}
-        runs = measured({name: command for name, command in both.items() if before.get(name, 0) <= MOST})
+        runs = measured(
+            {name: command for name, command in both.items() if before.get(name, 0) <= MOST}
+        )
         peers = [name for name in peers_of(path) if name in runs]
         if OURS in runs:
             shown = ", ".join(f"{name} {runs[name].seconds:.3f} s" for name in peers)
-            print(f"| {family} | {size} | {cells(options, runs[OURS], before.get(OURS), [runs[peer] for peer in peers])} | {shown} |", flush=True)
+            print(
+                (
+                    f"| {family} | {size} | "
+                    f"{cells(options, runs[OURS], before.get(OURS), [runs[p] for p in peers])}"
+                    f" | {shown} |"
+                ),
+                flush=True,
+            )
         before = {name: runs[name].seconds if name in runs else MOST + 1 for name in both}
 
 
 def measure(words, lemon, family_file):
-    """Prints the table; `lemon` is the program by LEMON if it could be built, and `family_file` makes the file of a family and a size."""
+    """Prints the table; `lemon` is the program by LEMON if it could be built, and `family_file`
+    makes the file of a family and a size."""
     if not words.built:
         programs.build("mcf")
-    print("| Family | Nodes or rows | Options | Whole | Ratio | Peak | Growth | Peers |\n|---|---|---|---|---|---|---|---|")
-    of_lemon = lambda path: {f"LEMON {word}": [str(lemon), word, path, "-w", os.devnull] for word in ("ns", "cs")} if lemon else {}
+    print(
+        "| Family | Nodes or rows | Options | Whole | Ratio | Peak | Growth | Peers"
+        " |\n|---|---|---|---|---|---|---|---|"
+    )
+
+    def of_lemon(path):
+        words = ("ns", "cs") if lemon else ()
+        return {f"LEMON {word}": [str(lemon), word, path, "-w", os.devnull] for word in words}
+
     for family, exponents in FLOWS.items():
-        sizes = [2 ** exponent for exponent in exponents]
-        rows(family, sizes, lambda nodes: ("min", nodes), lambda nodes: family_file(family, nodes), of_lemon)
+        sizes = [2**exponent for exponent in exponents]
+        rows(
+            family,
+            sizes,
+            lambda nodes: ("min", nodes),
+            lambda nodes: family_file(family, nodes),
+            of_lemon,
+        )
     dense = assignments.build("dense.cc", [])
     for name, arcs in DENSE.items():
         kind = "uniform" if name == "random" else "mod"
-        file_of = lambda size: assignments.write(OUT / f"assign-{kind}-{size}.asn", size, arcs(size))
-        rows(f"dense, {name}", DENSE_ROWS, lambda size: ("asn", 2 * size), file_of, lambda path: {"dlib": [str(dense), path]} if dense else {})
-    file_of = lambda size: assignments.write(OUT / f"assign-sparse-{size}.asn", size, assignments.sparse(size))
-    rows("sparse, 8 a row", SPARSE_ROWS, lambda size: ("asn", 2 * size), file_of, of_lemon)
+        rows(
+            f"dense, {name}",
+            DENSE_ROWS,
+            lambda size: ("asn", 2 * size),
+            lambda size: assignments.write(OUT / f"assign-{kind}-{size}.asn", size, arcs(size)),
+            lambda path: {"dlib": [str(dense), path]} if dense else {},
+        )
+    rows(
+        "sparse, 8 a row",
+        SPARSE_ROWS,
+        lambda size: ("asn", 2 * size),
+        lambda size: assignments.write(
+            OUT / f"assign-sparse-{size}.asn", size, assignments.sparse(size)
+        ),
+        of_lemon,
+    )
     return True

@@ -1,7 +1,9 @@
 #!/usr/bin/env python3
-"""Packs the page into one file, bin/mcf.html: its sources, the look of mcf_plan's pages, the examples and the module.
+"""Packs the page into one file, bin/mcf.html: its sources, the look of mcf_plan's pages, the
+examples and the module.
 
-The sources are modules for the tests; here they follow one another in one scope, so that no two may declare the same name.
+The sources are modules for the tests; here they follow one another in one scope, so that no two may
+declare the same name.
 """
 import base64
 import gzip
@@ -17,7 +19,8 @@ DECLARED = re.compile(r"^(?:export )?(?:async )?(?:function|class|const|let) (\w
 
 
 def script(begin):
-    """A source with all that it imports, each once and after what it stands on, without imports and exports."""
+    """A source with all that it imports, each once and after what it stands on, without imports and
+    exports."""
     seen, parts, declared = set(), [], {}
 
     def add(name):
@@ -28,7 +31,9 @@ def script(begin):
         for below in IMPORT.findall(text):
             add(below)
         for word in DECLARED.findall(text):
-            assert declared.setdefault(word, name) == name, f"{word} is declared in {declared[word]}.js and in {name}.js"
+            assert (
+                declared.setdefault(word, name) == name
+            ), f"{word} is declared in {declared[word]}.js and in {name}.js"
         parts.append(re.sub(r"^export ", "", IMPORT.sub("", text), flags=re.M))
 
     add(begin)
@@ -40,19 +45,33 @@ def examples():
     found = []
     for folder in sorted(path.parent for path in PLANS.glob("*/expected")):
         call = folder / "call.txt"
-        words = ["flow", "places.csv", "routes.csv"] if (folder / "places.csv").exists() else ["pairs", "costs.csv"]
+        words = (
+            ["flow", "places.csv", "routes.csv"]
+            if (folder / "places.csv").exists()
+            else ["pairs", "costs.csv"]
+        )
         words = call.read_text(encoding="utf-8").split() if call.exists() else words
         heads = " ".join(words[k + 1] for k, word in enumerate(words) if word == "--map")
         files = [word for word in words[1:] if word.endswith(".csv")]
         texts = [(folder / file).read_text(encoding="utf-8-sig") for file in files]
-        found.append({"name": folder.name, "kind": words[0], "texts": texts, "heads": heads, "unused": "--unused" in words})
+        found.append(
+            {
+                "name": folder.name,
+                "kind": words[0],
+                "texts": texts,
+                "heads": heads,
+                "unused": "--unused" in words,
+            }
+        )
     return found
 
 
 def main():
     """Writes the page."""
     module = (TOP / "bin" / "mcf.wasm").read_bytes()
-    style = (TOP / "python" / "mcf_plan" / "page.css").read_text(encoding="utf-8") + (HERE / "page.css").read_text(encoding="utf-8")
+    style = (TOP / "python" / "mcf_plan" / "page.css").read_text(encoding="utf-8") + (
+        HERE / "page.css"
+    ).read_text(encoding="utf-8")
     parts = {
         "STYLE": style,
         "EXAMPLES": json.dumps(examples(), ensure_ascii=False).replace("<", "\\u003c"),

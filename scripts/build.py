@@ -1,11 +1,13 @@
 #!/usr/bin/env python3
 """Proves the crates that the programs stand on, and builds the programs into bin/.
 
-`rt ci` does both, on a copy of these crates in bin/proofs/ that leaves out the edits that must fail: so crates that don't stand on one another are
-proved side by side, with their tests, from nothing, each once, and the gate takes what is proved, where the kit keeps it. A line says which crate is
-proved, and how many are left; as soon as a program is built it is put into bin/ and run on an example. What was built of libraries goes to
-crates/mcf_c/out/rlib/, where scripts/static.sh takes it. All that `rt ci` says is in bin/proofs.log. Where no source has changed since the last time,
-programs are run on the example and nothing else is done.
+`rt ci` does both, on a copy of these crates in bin/proofs/ that leaves out the edits that must
+fail: so crates that don't stand on one another are proved side by side, with their tests, from
+nothing, each once, and the gate takes what is proved, where the kit keeps it. A line says which
+crate is proved, and how many are left; as soon as a program is built it is put into bin/ and run on
+an example. What was built of libraries goes to crates/mcf_c/out/rlib/, where scripts/static.sh
+takes it. All that `rt ci` says is in bin/proofs.log. Where no source has changed since the last
+time, programs are run on the example and nothing else is done.
 
 Usage: scripts/build.py [PROGRAM ..]      mcfcheck and mcf, where none is named
 """
@@ -61,13 +63,19 @@ def stamp(names):
     sum_ = hashlib.sha256(kit() + (TOP / "crates.txt").read_bytes())
     for name in sorted(names):
         folder = TOP / "crates" / name
-        for path in sorted(p for part in ("src", "specs", "proofs") for p in (folder / part).rglob("*") if p.is_file()):
+        for path in sorted(
+            p
+            for part in ("src", "specs", "proofs")
+            for p in (folder / part).rglob("*")
+            if p.is_file()
+        ):
             sum_.update(str(path.relative_to(TOP)).encode() + b"\0" + path.read_bytes())
     return sum_.hexdigest()
 
 
 class Progress:
-    """Lines behind the time that has passed; where the output is a terminal, each takes the place of the one before, but for those that stay."""
+    """Lines behind the time that has passed; where the output is a terminal, each takes the place
+    of the one before, but for those that stay."""
 
     def __init__(self):
         self.begun = time.time()
@@ -96,15 +104,22 @@ def copy_crates(names):
     if COPY.exists():
         shutil.rmtree(COPY)
     for name in names:
-        shutil.copytree(TOP / "crates" / name, COPY / "crates" / name, ignore=shutil.ignore_patterns("out", "must-fail"))
+        shutil.copytree(
+            TOP / "crates" / name,
+            COPY / "crates" / name,
+            ignore=shutil.ignore_patterns("out", "must-fail"),
+        )
     lines = (TOP / "crates.txt").read_text().splitlines(keepends=True)
-    (COPY / "crates.txt").write_text("".join(line for line in lines if (line.split(":")[0].split() or [""])[0] in names))
+    (COPY / "crates.txt").write_text(
+        "".join(line for line in lines if (line.split(":")[0].split() or [""])[0] in names)
+    )
     shutil.copy(TOP / "HANDLES", COPY)
     (COPY / ".git").mkdir()
 
 
 def put(name):
-    """Puts what was built of a crate where it belongs, and runs it, if it is a program. Answers whether it ended well."""
+    """Puts what was built of a crate where it belongs, and runs it, if it is a program. Answers
+    whether it ended well."""
     made = COPY / "crates" / name / "out"
     if (made / name).is_file():
         shutil.copy(made / name, BIN / f"{name}.new")
@@ -116,15 +131,28 @@ def put(name):
 
 
 def run(name):
-    """Runs a program on the example; one that is handed to nobody without words. Answers whether it ended well."""
-    return subprocess.run([BIN / name, *WORDS.get(name, [])], cwd=TOP, stdout=subprocess.DEVNULL).returncode == 0
+    """Runs a program on the example; one that is handed to nobody without words. Answers whether it
+    ended well."""
+    return (
+        subprocess.run(
+            [BIN / name, *WORDS.get(name, [])], cwd=TOP, stdout=subprocess.DEVNULL
+        ).returncode
+        == 0
+    )
 
 
 def prove(names, progress):
-    """Proves crates and builds programs in the copy, and puts what is built where it belongs. Answers whether all that was done."""
+    """Proves crates and builds programs in the copy, and puts what is built where it belongs.
+    Answers whether all that was done."""
     left = set(names)
     progress.show(f"proving {len(left)} crates")
-    how = {"cwd": COPY, "stdout": subprocess.PIPE, "stderr": subprocess.STDOUT, "text": True, "errors": "replace"}
+    how = {
+        "cwd": COPY,
+        "stdout": subprocess.PIPE,
+        "stderr": subprocess.STDOUT,
+        "text": True,
+        "errors": "replace",
+    }
     with open(LOG, "w") as log, subprocess.Popen(["rt", "ci"], **how) as gate:
         try:
             for line in gate.stdout:
@@ -152,7 +180,8 @@ def take(name, left, progress):
 
 
 def renew(programs):
-    """Runs programs that are built of the sources as they stand, and gives them today's time. Answers whether all are there and end well."""
+    """Runs programs that are built of the sources as they stand, and gives them today's time.
+    Answers whether all are there and end well."""
     if not all((BIN / name).is_file() and run(name) for name in programs):
         return False
     for name in programs:
@@ -161,7 +190,8 @@ def renew(programs):
 
 
 def build(programs):
-    """Proves what programs stand on, builds them and puts them into bin/. Answers whether that was done."""
+    """Proves what programs stand on, builds them and puts them into bin/. Answers whether that was
+    done."""
     below, progress = crates(), Progress()
     stamps = {BIN / f"{name}.sources": stamp(closure(below, [name])) for name in programs}
     if all(path.exists() and path.read_text() == now for path, now in stamps.items()):
@@ -191,7 +221,9 @@ def build(programs):
 
 def main():
     programs = sys.argv[1:] or [*WORDS]
-    lacking = [name for name in programs if not (TOP / "crates" / name / "src" / "main.rt").exists()]
+    lacking = [
+        name for name in programs if not (TOP / "crates" / name / "src" / "main.rt").exists()
+    ]
     if lacking:
         sys.exit(f"build.py: {lacking[0]} is no program of crates/")
     for number in (signal.SIGHUP, signal.SIGINT, signal.SIGTERM):

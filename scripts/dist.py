@@ -1,10 +1,13 @@
 #!/usr/bin/env python3
-"""Packs what `make` and `make library` left in bin/: a tar.gz, a .deb where dpkg-deb is, and a wheel, with PROVENANCE and SHA256SUMS beside them.
+"""Packs what `make` and `make library` left in bin/: a tar.gz, a .deb where dpkg-deb is, and a
+wheel, with PROVENANCE and SHA256SUMS beside them.
 
-Nothing is built here. What is packed is what `make install` puts; the texts of the packages stand in packaging/. The same commit with the same
-programs and the same tools gives the same bytes: times are the commit's, owners are root, files come in order.
+Nothing is built here. What is packed is what `make install` puts; the texts of the packages stand
+in packaging/. The same commit with the same programs and the same tools gives the same bytes: times
+are the commit's, owners are root, files come in order.
 
-Usage: scripts/dist.py [FOLDER]      into bin/dist, which is made anew, or into a folder that isn't there yet
+Usage: scripts/dist.py [FOLDER]      into bin/dist, which is made anew, or into a folder that isn't
+there yet
 """
 import base64
 import gzip
@@ -25,9 +28,15 @@ BIN = TOP / "bin"
 PACKAGING = TOP / "packaging"
 # The targets that leave something in bin/, each with the line of its kit in bin/PART.kit.
 TARGETS = {"programs": "make", "library": "make library", "page": "make page"}
-# What is packed of bin/, the part that it is of, and what it is made of. The page alone may be left out.
-BUILT = {"mcf": ("programs", "crates/"), "mcfcheck": ("programs", "crates/"), "libmcf.so.1": ("library", "crates/"), "libmcf.a": ("library", "crates/"),
-         "mcf.html": ("page", "crates/", "page/")}
+# What is packed of bin/, the part that it is of, and what it is made of. The page alone may be left
+# out.
+BUILT = {
+    "mcf": ("programs", "crates/"),
+    "mcfcheck": ("programs", "crates/"),
+    "libmcf.so.1": ("library", "crates/"),
+    "libmcf.a": ("library", "crates/"),
+    "mcf.html": ("page", "crates/", "page/"),
+}
 
 
 def stop(why):
@@ -37,16 +46,29 @@ def stop(why):
 def git(*words):
     """What git says of this repository."""
     try:
-        return subprocess.run(["git", "-C", str(TOP), *words], stdout=subprocess.PIPE, check=True).stdout.decode().strip()
+        return (
+            subprocess.run(["git", "-C", str(TOP), *words], stdout=subprocess.PIPE, check=True)
+            .stdout.decode()
+            .strip()
+        )
     except (OSError, subprocess.CalledProcessError):
-        return stop("packages say of which commit they are: git and the repository have to be there")
+        return stop(
+            "packages say of which commit they are: git and the repository have to be there"
+        )
 
 
 def read_version():
-    """The version, and the line that says by which logic it was proved. Other files that have the version must have this one."""
-    found = re.search(r'"mcf ([\d.]+)\\n(proved with [^\\]+)\\n"', (TOP / "crates/mcf_suite/src/version.rt").read_text())
+    """The version, and the line that says by which logic it was proved. Other files that have the
+    version must have this one."""
+    found = re.search(
+        r'"mcf ([\d.]+)\\n(proved with [^\\]+)\\n"',
+        (TOP / "crates/mcf_suite/src/version.rt").read_text(),
+    )
     version, proved = found.groups()
-    for place, pattern in (("python/mcf/__init__.py", "__version__ = "), ("library/rust/Cargo.toml", "version = ")):
+    for place, pattern in (
+        ("python/mcf/__init__.py", "__version__ = "),
+        ("library/rust/Cargo.toml", "version = "),
+    ):
         if f'\n{pattern}"{version}"\n' not in (TOP / place).read_text():
             stop(f"{place} has another version than crates/mcf_suite/src/version.rt, {version}")
     return version, proved
@@ -62,20 +84,30 @@ def look(version, proved):
                 continue
             stop(f"bin/{name} isn't there; run {TARGETS[part]} first")
         if (BIN / name).stat().st_mtime < int(git("log", "-1", "--format=%ct", "--", *sources)):
-            stop(f"bin/{name} is older than the last change of {' and '.join(sources)}; run {TARGETS[part]} again")
+            stop(
+                f"bin/{name} is older than the last change of {' and '.join(sources)}; run"
+                f" {TARGETS[part]} again"
+            )
     said = subprocess.run([str(BIN / "mcf"), "--version"], stdout=subprocess.PIPE).stdout.decode()
     if said != f"mcf {version}\n{proved}\n":
-        stop("bin/mcf says another version or logic than crates/mcf_suite/src/version.rt; run make again")
+        stop(
+            "bin/mcf says another version or logic than crates/mcf_suite/src/version.rt; run make"
+            " again"
+        )
 
 
 def kits(proved):
-    """A line for each part that is packed, with the line of the kit that built it; its logic is the one that proved."""
+    """A line for each part that is packed, with the line of the kit that built it; its logic is the
+    one that proved."""
     said = []
     for part in sorted({part for name, (part, *_) in BUILT.items() if (BIN / name).is_file()}):
         file = BIN / f"{part}.kit"
         line = file.read_text().strip() if file.is_file() else ""
-        if not line.endswith(proved[proved.index(" logic "):]):
-            stop(f"bin/{part}.kit doesn't name a kit with the logic of crates/mcf_suite/src/version.rt; run {TARGETS[part]} again")
+        if not line.endswith(proved[proved.index(" logic ") :]):
+            stop(
+                f"bin/{part}.kit doesn't name a kit with the logic of"
+                f" crates/mcf_suite/src/version.rt; run {TARGETS[part]} again"
+            )
         said.append(f"{part} built with {line}\n")
     return "".join(said)
 
@@ -87,7 +119,9 @@ def libc(*paths):
 
 def filled(path, **words):
     """A text of packaging/ with its words put in."""
-    return re.sub(r"@(\w+)@", lambda found: str(words[found.group(1)]), (PACKAGING / path).read_text())
+    return re.sub(
+        r"@(\w+)@", lambda found: str(words[found.group(1)]), (PACKAGING / path).read_text()
+    )
 
 
 def put(path, text):
@@ -99,7 +133,15 @@ def put(path, text):
 def stage(tree, provenance):
     """Installs all into a folder, as below /usr."""
     shared = tree / "usr/share"
-    words = ["make", "--no-print-directory", "-C", str(TOP), "install", f"DESTDIR={tree}", "PREFIX=/usr"]
+    words = [
+        "make",
+        "--no-print-directory",
+        "-C",
+        str(TOP),
+        "install",
+        f"DESTDIR={tree}",
+        "PREFIX=/usr",
+    ]
     subprocess.run(words, stdout=subprocess.DEVNULL, check=True)
     put(shared / "doc/yokdelm/PROVENANCE", provenance)
     put(shared / "doc/yokdelm/copyright", (PACKAGING / "copyright").read_text())
@@ -120,7 +162,12 @@ def pack_tar(tree, path, top, at):
     with open(path, "wb") as file, gzip.GzipFile("", "wb", 9, file, at) as packed:
         with tarfile.open(mode="w", fileobj=packed, format=tarfile.GNU_FORMAT) as tar:
             for member in [tree, *sorted(tree.rglob("*"))]:
-                tar.add(member, pathlib.PurePath(top, member.relative_to(tree)), recursive=False, filter=settled)
+                tar.add(
+                    member,
+                    pathlib.PurePath(top, member.relative_to(tree)),
+                    recursive=False,
+                    filter=settled,
+                )
     pc.write_text(installed)
 
 
@@ -130,17 +177,31 @@ def pack_deb(tree, path, version, at):
     packages.mkdir(parents=True)
     (tree / "usr/share/mcf/python/mcf").rename(packages / "mcf")
     for name in ("METADATA", "entry_points.txt"):
-        put(packages / f"yokdelm-{version}.dist-info" / name, filled(f"python/{name}", VERSION=version))
+        put(
+            packages / f"yokdelm-{version}.dist-info" / name,
+            filled(f"python/{name}", VERSION=version),
+        )
     (tree / "usr/share/zsh/site-functions").rename(tree / "usr/share/zsh/vendor-completions")
     size = sum(file.lstat().st_size for file in tree.rglob("*") if file.is_file())
     needed = libc(*(BIN / name for name in ("mcf", "mcfcheck", "libmcf.so.1")))
-    control = filled("debian/control", VERSION=version, MAINTAINER=git("log", "-1", "--format=%an <%ae>"), SIZE=size // 1024 + 1, LIBC=f"2.{needed}")
+    control = filled(
+        "debian/control",
+        VERSION=version,
+        MAINTAINER=git("log", "-1", "--format=%an <%ae>"),
+        SIZE=size // 1024 + 1,
+        LIBC=f"2.{needed}",
+    )
     put(tree / "DEBIAN/control", control)
     for name in ("prerm", "triggers"):
         put(tree / "DEBIAN" / name, filled(f"debian/{name}"))
     (tree / "DEBIAN/prerm").chmod(0o755)
     words = ["dpkg-deb", "--root-owner-group", "-Zgzip", "--build", str(tree), str(path)]
-    subprocess.run(words, stdout=subprocess.DEVNULL, check=True, env={**os.environ, "SOURCE_DATE_EPOCH": str(at)})
+    subprocess.run(
+        words,
+        stdout=subprocess.DEVNULL,
+        check=True,
+        env={**os.environ, "SOURCE_DATE_EPOCH": str(at)},
+    )
 
 
 def pack_wheel(folder, version, provenance, at):
@@ -148,20 +209,31 @@ def pack_wheel(folder, version, provenance, at):
     needed = libc(BIN / "libmcf.so.1")
     tag = f"py3-none-{'manylinux2014' if needed <= 17 else f'manylinux_2_{needed}'}_x86_64"
     about = f"yokdelm-{version}.dist-info"
-    files = {f"mcf/{file.name}": file.read_bytes() for file in sorted((TOP / "python/mcf").glob("*.*"))}
+    files = {
+        f"mcf/{file.name}": file.read_bytes() for file in sorted((TOP / "python/mcf").glob("*.*"))
+    }
     files["mcf/libmcf.so"] = (BIN / "libmcf.so.1").read_bytes()
     for name in ("METADATA", "WHEEL", "entry_points.txt"):
         files[f"{about}/{name}"] = filled(f"python/{name}", VERSION=version, TAG=tag).encode()
     files[f"{about}/PROVENANCE"] = provenance.encode()
     files[f"{about}/copyright"] = (PACKAGING / "copyright").read_bytes()
-    sums = {name: base64.urlsafe_b64encode(hashlib.sha256(data).digest()).rstrip(b"=").decode() for name, data in files.items()}
-    record = [f"{name},sha256={sums[name]},{len(data)}\n" for name, data in files.items()] + [f"{about}/RECORD,,\n"]
+    sums = {
+        name: base64.urlsafe_b64encode(hashlib.sha256(data).digest()).rstrip(b"=").decode()
+        for name, data in files.items()
+    }
+    record = [f"{name},sha256={sums[name]},{len(data)}\n" for name, data in files.items()] + [
+        f"{about}/RECORD,,\n"
+    ]
     files[f"{about}/RECORD"] = "".join(record).encode()
     path = folder / f"yokdelm-{version}-{tag}.whl"
     with zipfile.ZipFile(path, "w", zipfile.ZIP_DEFLATED) as wheel:
         for name, data in files.items():
             entry = zipfile.ZipInfo(name, time.gmtime(at)[:6])
-            entry.compress_type, entry.create_system, entry.external_attr = zipfile.ZIP_DEFLATED, 3, 0o100644 << 16
+            entry.compress_type, entry.create_system, entry.external_attr = (
+                zipfile.ZIP_DEFLATED,
+                3,
+                0o100644 << 16,
+            )
             wheel.writestr(entry, data)
     return path
 
@@ -173,7 +245,9 @@ def main(folder):
     look(version, proved)
     at, tree = int(git("log", "-1", "--format=%ct")), folder / "tree"
     changes = ", and changes that aren't committed" if git("status", "--porcelain") else ""
-    provenance = f"yokdelm {version}\ncommit {git('rev-parse', 'HEAD')}{changes}\n{proved}\n{kits(proved)}"
+    provenance = (
+        f"yokdelm {version}\ncommit {git('rev-parse', 'HEAD')}{changes}\n{proved}\n{kits(proved)}"
+    )
     if folder == BIN / "dist":
         shutil.rmtree(folder, ignore_errors=True)
     elif folder.exists():
@@ -190,7 +264,10 @@ def main(folder):
     shutil.rmtree(tree)
     put(folder / "PROVENANCE", provenance)
     made = sorted(folder.iterdir())
-    put(folder / "SHA256SUMS", "".join(f"{hashlib.sha256(file.read_bytes()).hexdigest()}  {file.name}\n" for file in made))
+    put(
+        folder / "SHA256SUMS",
+        "".join(f"{hashlib.sha256(file.read_bytes()).hexdigest()}  {file.name}\n" for file in made),
+    )
     print("\n".join(f"make dist: {file}" for file in made))
 
 

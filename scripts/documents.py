@@ -1,12 +1,12 @@
 #!/usr/bin/env python3
 """The documents that are made from the code and the spec files.
 
-    scripts/documents.py write     writes docs/DEFINITIONS.md, docs/CONTRACTS.md, docs/HEADLINE.md and docs/MADE.md
-    scripts/documents.py check     tells which of them isn't what `write` would write, and which public name lacks
-                                   a comment; status 1 if there is one
+    scripts/documents.py write     writes DEFINITIONS, CONTRACTS, HEADLINE and MADE in docs/
+    scripts/documents.py check     tells which of them isn't what `write` would write, and which
+                                   public name lacks a comment; status 1 if there is one
 
-What is written by hand of docs/HEADLINE.md and docs/MADE.md stands in scripts/headline.md and scripts/made.md, where
-a line that begins with `@` stands for what is made.
+What is written by hand of docs/HEADLINE.md and docs/MADE.md stands in scripts/headline.md and
+scripts/made.md, where a line that begins with `@` stands for what is made.
 """
 import collections
 import pathlib
@@ -26,9 +26,14 @@ def fence(language, text):
 
 def wrapped(text):
     """Paragraphs in lines of at most 100 characters; a list or a block stays as it is."""
+
     def filled(paragraph):
         is_prose = not re.match(r"```|- |\d\. |\||#", paragraph)
-        return textwrap.fill(paragraph, 100, break_long_words=False, break_on_hyphens=False) if is_prose else paragraph
+        return (
+            textwrap.fill(paragraph, 100, break_long_words=False, break_on_hyphens=False)
+            if is_prose
+            else paragraph
+        )
 
     return "\n\n".join(map(filled, re.split(r"\n\n+", text.strip())))
 
@@ -51,12 +56,15 @@ Module = collections.namedtuple("Module", "crate name note imports is_private")
 def parted(comment):
     """A comment without its source, and the source that it names, if it does."""
     sources = [line.removeprefix("Source: ") for line in comment if line.startswith("Source: ")]
-    return " ".join(line for line in comment if line and not line.startswith("Source: ")), (sources or [""])[-1]
+    return (
+        " ".join(line for line in comment if line and not line.startswith("Source: ")),
+        (sources or [""])[-1],
+    )
 
 
 def split_file(crate, path):
-    """A spec file as a module and its definitions in order. A line `-- Source: ..` tells where a definition is from;
-    the one at the head is that of each definition without its own."""
+    """A spec file as a module and its definitions in order. A line `-- Source: ..` tells where a
+    definition is from; the one at the head is that of each definition without its own."""
     is_private = path.parent.name == "Private"
     found, imports, head, comment, name, body = [], {}, None, [], None, []
 
@@ -65,7 +73,9 @@ def split_file(crate, path):
         if name:
             note, source = parted(comment)
             text = "\n".join(body).rstrip()
-            found.append(Definition(crate, path.stem, name, note, source or head[1], text, is_private))
+            found.append(
+                Definition(crate, path.stem, name, note, source or head[1], text, is_private)
+            )
             comment = []
         name, body = None, []
 
@@ -87,7 +97,11 @@ def split_file(crate, path):
             body.append(line)
         elif not line.startswith(("use ", "pub use ", "infix")):
             is_new = SIGNATURE.match(line)
-            if is_new and is_new[1] != name and re.match(rf"(abbrev|unfoldable|pub|record|data)\b|{WORD} :", line):
+            if (
+                is_new
+                and is_new[1] != name
+                and re.match(rf"(abbrev|unfoldable|pub|record|data)\b|{WORD} :", line)
+            ):
                 close()
                 name = is_new[1]
             body.append(line)
@@ -97,13 +111,21 @@ def split_file(crate, path):
 
 def crates():
     """The crates that have definitions, in the order of crates.txt."""
-    listed = (line.split(":")[0].split()[0] for line in (TOP / "crates.txt").read_text().splitlines() if ":" in line)
+    listed = (
+        line.split(":")[0].split()[0]
+        for line in (TOP / "crates.txt").read_text().splitlines()
+        if ":" in line
+    )
     return [name for name in listed if (CRATES / name / "specs").is_dir()]
 
 
 def spec_files(crate):
     """The spec files of a crate that have definitions, the public ones first."""
-    files = (path for path in (CRATES / crate / "specs").glob("**/*.antt") if path.stem not in ("Lib", "Private"))
+    files = (
+        path
+        for path in (CRATES / crate / "specs").glob("**/*.antt")
+        if path.stem not in ("Lib", "Private")
+    )
     return sorted(files, key=lambda path: (path.parent.name == "Private", path.stem))
 
 
@@ -125,8 +147,8 @@ IMPL = re.compile(r"(?:pub )?(impl|trait)(?:<[^{]*?>)? (?:([\w:<>, ']+) for )?(\
 
 
 def end_of(lines, first, indent):
-    """The line behind the head of a function, and what of that still belongs to the head: it ends at a lone brace, at
-    one that ends its line, or at a semicolon."""
+    """The line behind the head of a function, and what of that still belongs to the head: it ends
+    at a lone brace, at one that ends its line, or at a semicolon."""
     for place in range(first, len(lines)):
         line = lines[place]
         if line in (indent + "{", indent + "{}"):
@@ -139,21 +161,27 @@ def end_of(lines, first, indent):
 
 
 def seen_of(lines):
-    """A type as callers see it: whole where it is an enum or all its fields are public, else nothing."""
+    """A type as callers see it: whole where it is an enum or all its fields are public, else
+    nothing."""
     fields = [line.strip() for line in lines[1:-1] if not line.strip().startswith(("//", "#["))]
-    is_open = lines[0].startswith(("pub enum", "pub type")) or fields and all(f.startswith("pub ") for f in fields)
+    is_open = (
+        lines[0].startswith(("pub enum", "pub type"))
+        or fields
+        and all(f.startswith("pub ") for f in fields)
+    )
     return "\n".join(lines) if is_open else ""
 
 
 def items_of(path):
-    """The items of a source file in order: functions, methods and types, each with its comment and its text."""
+    """The items of a source file in order: functions, methods and types, each with its comment and
+    its text."""
     lines = path.read_text().splitlines()
     found, note, owner, trait, kind = [], [], None, None, None
     place = 0
     while place < len(lines):
         line = lines[place]
         text = line.strip()
-        indent = line[:len(line) - len(text)] if text else ""
+        indent = line[: len(line) - len(text)] if text else ""
         is_fact = text.startswith("ghost ") and not text.startswith("ghost use")
         if text.startswith("///") or kind == "trait" and text.startswith("// "):
             note.append(text.lstrip("/").removeprefix(" "))
@@ -166,22 +194,30 @@ def items_of(path):
             owner, trait, kind, note = None, None, None, []
         elif re.match(r'(pub )?(extern "C" )?fn \w', text) and len(indent) == (4 if owner else 0):
             last, tail = end_of(lines, place, indent)
-            head = [part[len(indent):] for part in lines[place:last] + tail]
+            head = [part[len(indent) :] for part in lines[place:last] + tail]
             has_clauses = any(re.match(r"\s+(requires|ensures)\b", part) for part in head)
-            is_public = text.startswith("pub ") or kind == "trait" or trait is not None and has_clauses
+            is_public = (
+                text.startswith("pub ") or kind == "trait" or trait is not None and has_clauses
+            )
             name = re.search(r"fn (\w+)", text)[1]
             found.append(Item(owner, name, trait, note, "\n".join(head), has_clauses, is_public))
             place, note = last, []
         elif owner and is_fact and (trait != "Model" or text.startswith("ghost Value")):
             last = next(i for i in range(place, len(lines)) if lines[i].endswith(";"))
-            body = "\n".join(part[len(indent):] for part in lines[place:last + 1])
+            body = "\n".join(part[len(indent) :] for part in lines[place : last + 1])
             found.append(Item(owner, None, trait or kind, note, body, True, True))
             place, note = last, []
         elif indent == "" and re.match(r"pub (struct|enum|type|const) \w", text):
-            ends = (i for i in range(place, len(lines)) if lines[i].endswith(("}", ";")) and lines[i][0] != " ")
+            ends = (
+                i
+                for i in range(place, len(lines))
+                if lines[i].endswith(("}", ";")) and lines[i][0] != " "
+            )
             last = next(ends)
             name = re.match(r"pub \w+ (\w+)", text)[1]
-            found.append(Item(None, name, None, note, seen_of(lines[place:last + 1]), False, True))
+            found.append(
+                Item(None, name, None, note, seen_of(lines[place : last + 1]), False, True)
+            )
             place, note = last, []
         elif not text.startswith("#["):
             note = []
@@ -190,16 +226,32 @@ def items_of(path):
 
 
 def exported(crate):
-    """The names that a crate hands out of its own, in the order of its lib.rt, and what is said at the head of it."""
+    """The names that a crate hands out of its own, in the order of its lib.rt, and what is said at
+    the head of it."""
     text = (CRATES / crate / "src" / "lib.rt").read_text()
-    heads = (line.removeprefix("//!").removeprefix(" ") for line in text.splitlines() if line.startswith("//!"))
+    heads = (
+        line.removeprefix("//!").removeprefix(" ")
+        for line in text.splitlines()
+        if line.startswith("//!")
+    )
     names = []
     for path, group in re.findall(r"^pub use ([\w:]+?)(?:::\{([^}]*)\})?;", text, re.M | re.S):
         if not path.startswith("mcf_"):
             names += re.findall(r"\w+", group) if group else [path.split("::")[-1]]
     # What a static library hands to C stands in its modules.
     for path in sorted((CRATES / crate / "src").glob("*.rt")):
-        names += re.findall(r"^#\[(?:repr\(C\)\]\n#\[derive.*\]\npub struct|unsafe\(no_mangle\)\]\npub extern \"C\" fn) (\w+)", path.read_text(), re.M) if is_static(crate) else []
+        names += (
+            re.findall(
+                (
+                    r"^#\[(?:repr\(C\)\]\n#\[derive.*\]\npub struct|unsafe\(no_mangle\)\]\npub"
+                    r" extern \"C\" fn) (\w+)"
+                ),
+                path.read_text(),
+                re.M,
+            )
+            if is_static(crate)
+            else []
+        )
     return "\n".join(heads), names + re.findall(r"^pub (?:struct|enum|fn) (\w+)", text, re.M)
 
 
@@ -249,8 +301,11 @@ def definitions_page():
         for module in (m for m in modules.values() if m.crate == crate):
             here = [d for d in definitions.values() if (d.crate, d.module) == (crate, module.name)]
             columns = 3 if any(d.source for d in here) else 2
-            table = [("Name", "In words", "Source"), ("---",) * 3] + [(f"`{d.name}`", d.note, d.source) for d in here]
-            parts.append(f"### {'Private.' if module.is_private else ''}{module.name}\n\n{wrapped(module.note)}\n")
+            table = [("Name", "In words", "Source"), ("---",) * 3] + [
+                (f"`{d.name}`", d.note, d.source) for d in here
+            ]
+            title = f"{'Private.' if module.is_private else ''}{module.name}"
+            parts.append(f"### {title}\n\n{wrapped(module.note)}\n")
             parts.append("\n".join(row(*cells[:columns]) for cells in table) + "\n")
     return "\n".join(parts)
 
@@ -272,14 +327,20 @@ the symbols in [HEADLINE.md](HEADLINE.md). Crates that only test or measure aren
 
 def said(note):
     """A comment of the code as paragraphs of a page: its headings are words in bold there."""
-    return wrapped("\n".join(re.sub(r"^#+ (.*)", r"**\1.**\n", line) for line in note)) + "\n" if note else ""
+    return (
+        wrapped("\n".join(re.sub(r"^#+ (.*)", r"**\1.**\n", line) for line in note)) + "\n"
+        if note
+        else ""
+    )
 
 
 def facts_of(items):
     """The facts of each trait that a type has, or of the trait itself."""
     for trait in dict.fromkeys(item.trait for item in items if item.name is None):
         facts = [item for item in items if item.name is None and item.trait == trait]
-        text = "\n".join("".join(f"// {line}\n" for line in item.note) + item.text for item in facts)
+        text = "\n".join(
+            "".join(f"// {line}\n" for line in item.note) + item.text for item in facts
+        )
         yield ("" if trait in ("trait", "Model") else f"As `{trait}`:\n\n") + fence("rust", text)
 
 
@@ -292,19 +353,24 @@ def contracts_of(crate):
         methods = [item for item in items if item.owner == name]
         yield f"### `{name}`\n"
         for item in [item for item in items if item.owner is None and item.name == name][:1]:
-            yield from filter(None, [said(item.note), fence("rust", item.text) if item.text else ""])
+            yield from filter(
+                None, [said(item.note), fence("rust", item.text) if item.text else ""]
+            )
         yield from facts_of(methods)
         for item in methods:
             if item.name:
-                yield f"#### `{name}::{item.name}`" + (f", of `{item.trait}`" if item.trait else "") + "\n"
+                yield f"#### `{name}::{item.name}`" + (
+                    f", of `{item.trait}`" if item.trait else ""
+                ) + "\n"
                 yield from filter(None, [said(item.note), fence("rust", item.text)])
 
 
 def contracts_page():
-    """What is proved of each public function, in its own words and clauses. What is only tested is kept."""
+    """What is proved of each public function, in its own words and clauses. What is only tested is
+    kept."""
     text = (DOCS / "CONTRACTS.md").read_text()
     made = "\n".join(part for crate in libraries() for part in contracts_of(crate))
-    return CONTRACTS_HEAD + "\n" + made + "\n" + text[text.index(BY_HAND):]
+    return CONTRACTS_HEAD + "\n" + made + "\n" + text[text.index(BY_HAND) :]
 
 
 # ---- docs/HEADLINE.md and docs/MADE.md
@@ -313,35 +379,61 @@ Part = collections.namedtuple("Part", "clauses names")
 
 # The functions whose contracts are the theorem.
 FUNCTIONS = {
-    "solve_text": ("mcf_solver", "solving.rt"), "check": ("mcf_checker", "checking.rt"),
-    "run": ("mcf_solver", "running.rt"), "serve": ("mcf_suite", "serving.rt"), "judge": ("mcf_checker", "command.rt"),
+    "solve_text": ("mcf_solver", "solving.rt"),
+    "check": ("mcf_checker", "checking.rt"),
+    "run": ("mcf_solver", "running.rt"),
+    "serve": ("mcf_suite", "serving.rt"),
+    "judge": ("mcf_checker", "command.rt"),
 }
 
-# What a part tells: the definitions that these clauses cite, these ones, and all that those need, but for what is
-# told by an earlier part or named here for a later one.
+# What a part tells: the definitions that these clauses cite, these ones, and all that those need,
+# but for what is told by an earlier part or named here for a later one.
 PARTS = {
-    "core": Part({"solve_text": ["answer", "accepted", "refused", "none"], "check": ["exact", "least", "none"]}, []),
-    "rules": Part({"solve_text": ["wants"], "check": ["wants"]},
-                  ["IsChosenFlow", "IsChosen", "HasForm", "written", "IsAnswer"]),
+    "core": Part(
+        {
+            "solve_text": ["answer", "accepted", "refused", "none"],
+            "check": ["exact", "least", "none"],
+        },
+        [],
+    ),
+    "rules": Part(
+        {"solve_text": ["wants"], "check": ["wants"]},
+        ["IsChosenFlow", "IsChosen", "HasForm", "written", "IsAnswer"],
+    ),
     "runs": Part({"run": None, "serve": None, "judge": None}, []),
     "made": Part({}, ["HasMadeFlow", "HasShapedFlow", "IsMadeBy"]),
 }
 
-# What is named and not gone into. The verdict: a clause of `check` says that it accepts exactly where the answer text
-# is correct. The words of codes, which a table has. What a command line asks, of which the manual page tells.
-LEAVES = {"verdict", "code_word", "Asks", "IsMcf", "printed", "sent_said", "moved_said", "price_said", "member_said"}
+# What is named and not gone into. The verdict: a clause of `check` says that it accepts exactly
+# where the answer text is correct. The words of codes, which a table has. What a command line asks,
+# of which the manual page tells.
+LEAVES = {
+    "verdict",
+    "code_word",
+    "Asks",
+    "IsMcf",
+    "printed",
+    "sent_said",
+    "moved_said",
+    "price_said",
+    "member_said",
+}
 
 
 def clauses_of(text):
     """The clauses of a function by their names."""
-    found = re.findall(r"^    ensures (\w*) ?\{(.*?)(?=^    (?:ensures|requires)|\Z)", text, re.M | re.S)
+    found = re.findall(
+        r"^    ensures (\w*) ?\{(.*?)(?=^    (?:ensures|requires)|\Z)", text, re.M | re.S
+    )
     return {name: clause for name, clause in found}
 
 
 def signature(function):
     """The signature and the clauses of one of the functions, as the code has them."""
     crate, file = FUNCTIONS[function]
-    return next(item.text for item in items_of(CRATES / crate / "src" / file) if item.name == function)
+    return next(
+        item.text for item in items_of(CRATES / crate / "src" / file) if item.name == function
+    )
 
 
 class Specs:
@@ -354,7 +446,9 @@ class Specs:
         for part, roots in PARTS.items():
             stops = LEAVES | later - set(roots.names)
             order = self.orders[part] = []
-            for key in list(self.cited(roots.clauses)) + [k for n in roots.names for k in self.named(n)]:
+            for key in list(self.cited(roots.clauses)) + [
+                k for n in roots.names for k in self.named(n)
+            ]:
                 self.visit(key, stops, part, order)
 
     def named(self, name):
@@ -365,14 +459,23 @@ class Specs:
         for function, names in clauses.items():
             crate, file = FUNCTIONS[function]
             found = clauses_of(signature(function))
-            text = " ".join(clause for name, clause in found.items() if names is None or name in names)
+            text = " ".join(
+                clause for name, clause in found.items() if names is None or name in names
+            )
             source = (CRATES / crate / "src" / file).read_text()
-            uses = re.findall(r"^ghost use Rattle\.(mcf_\w+)\.specs\.(\w+)\.\{(.*)\};$", source, re.M)
-            imported = {word: (of, module, word) for of, module, group in uses for word in words(group)}
-            yield from (imported[word] for word in words(text) if imported.get(word) in self.definitions)
+            uses = re.findall(
+                r"^ghost use Rattle\.(mcf_\w+)\.specs\.(\w+)\.\{(.*)\};$", source, re.M
+            )
+            imported = {
+                word: (of, module, word) for of, module, group in uses for word in words(group)
+            }
+            yield from (
+                imported[word] for word in words(text) if imported.get(word) in self.definitions
+            )
 
     def needs(self, key):
-        """The definitions that one names, in its order, and the types of the code as crate and path."""
+        """The definitions that one names, in its order, and the types of the code as crate and
+        path."""
         crate, module, _ = key
         imports = self.modules[crate, module].imports
         for word in words(self.definitions[key].text):
@@ -381,7 +484,10 @@ class Specs:
             elif word in imports:
                 of, path, was = imports[word]
                 if path.startswith("Private."):
-                    sys.exit(f"{crate} {module}: what a reader must read rests on {of} {path}.{was}, which is private")
+                    sys.exit(
+                        f"{crate} {module}: what a reader must read rests on {of} {path}.{was},"
+                        " which is private"
+                    )
                 yield of, path, was
 
     def visit(self, key, stops, part, order):
@@ -400,8 +506,8 @@ class Specs:
         return sorted({(of, path[1]) for of, path in found if path})
 
     def text(self, key):
-        """A definition with its comment. What was renamed for an import has its own name, and a case that of its type
-        before it."""
+        """A definition with its comment. What was renamed for an import has its own name, and a
+        case that of its type before it."""
         definition = self.definitions[key]
         text = definition.text
         for now, (_, path, was) in self.modules[key[:2]].imports.items():
@@ -415,7 +521,10 @@ class Specs:
 def type_text(crate, path):
     """The struct or enum of the code, as it stands there with its comment."""
     *modules, name = path.split(".")
-    pattern = rf"((?:^///[^\n]*\n)*)(?:^#\[[^\n]*\n)*(^pub(?:\(crate\))? (?:struct|enum) {name}\b.*?(?:^\}}|;$))"
+    pattern = (
+        r"((?:^///[^\n]*\n)*)(?:^#\[[^\n]*\n)*(^pub(?:\(crate\))? (?:struct|enum)"
+        rf" {name}\b.*?(?:^\}}|;$))"
+    )
     for file in (CRATES / crate / "src").glob(f"**/{modules[-1]}.rt"):
         item = re.search(pattern, file.read_text(), re.M | re.S)
         if item:
@@ -424,10 +533,15 @@ def type_text(crate, path):
 
 
 def models():
-    """As what the clauses see the values of types that have a view of their own, by the types' names."""
-    files = [path for crate in libraries() for path in sorted((CRATES / crate / "src").glob("**/*.rt"))]
+    """As what the clauses see the values of types that have a view of their own, by the types'
+    names."""
+    files = [
+        path for crate in libraries() for path in sorted((CRATES / crate / "src").glob("**/*.rt"))
+    ]
     for path in files:
-        for name, body in re.findall(r"^impl Model for (\w+) \{\n(.*?)^\}", path.read_text(), re.M | re.S):
+        for name, body in re.findall(
+            r"^impl Model for (\w+) \{\n(.*?)^\}", path.read_text(), re.M | re.S
+        ):
             if value := re.search(r"ghost Value = \{ (.*?) \}", body):
                 yield name, value[1]
 
@@ -439,7 +553,9 @@ class Page:
         self.specs = specs
         self.told = set()
         lines = (TOP / "scripts" / template).read_text().splitlines()
-        self.text = "".join((self.made(line) if line.startswith("@") else line) + "\n" for line in lines)
+        self.text = "".join(
+            (self.made(line) if line.startswith("@") else line) + "\n" for line in lines
+        )
 
     def made(self, line):
         kind, *rest = line.removeprefix("@").split(" ")
@@ -453,19 +569,36 @@ class Page:
         keys = [key for key in self.specs.orders[part] if f"{key[0]}/{key[1]}" in modules]
         self.told.update(keys)
         files = dict.fromkeys(f"`{key[0]}/specs/{key[1]}.antt`" for key in keys)
-        return wrapped(f"From {', '.join(files)}:") + "\n\n" + fence("", "\n\n".join(map(self.specs.text, keys)))
+        return (
+            wrapped(f"From {', '.join(files)}:")
+            + "\n\n"
+            + fence("", "\n\n".join(map(self.specs.text, keys)))
+        )
 
     def types(self, part, *more):
-        """The types of the code that a part's definitions name, and these, but for the codes of faults and for constants."""
-        earlier = list(PARTS)[:list(PARTS).index(part)]
-        known = {kind for other in earlier for kind in self.specs.types(other)} | {("mcf_flows", "code.Code")}
-        kinds = [kind for kind in self.specs.types(part) if kind not in known and kind[0] in crates() and not kind[1].endswith("TheConstants")]
-        return fence("rust", "\n\n".join(type_text(*kind) for kind in kinds + [tuple(m.split("/")) for m in more]))
+        """The types of the code that a part's definitions name, and these, but for the codes of
+        faults and for constants."""
+        earlier = list(PARTS)[: list(PARTS).index(part)]
+        known = {kind for other in earlier for kind in self.specs.types(other)} | {
+            ("mcf_flows", "code.Code")
+        }
+        kinds = [
+            kind
+            for kind in self.specs.types(part)
+            if kind not in known and kind[0] in crates() and not kind[1].endswith("TheConstants")
+        ]
+        return fence(
+            "rust",
+            "\n\n".join(type_text(*kind) for kind in kinds + [tuple(m.split("/")) for m in more]),
+        )
 
     def models(self, *names):
         """As what values of these types are seen."""
         seen = dict(models())
-        return "\n".join([row("Type", "Seen as"), row("---", "---")] + [row(f"`{n}`", f"`{seen[n]}`") for n in names])
+        return "\n".join(
+            [row("Type", "Seen as"), row("---", "---")]
+            + [row(f"`{n}`", f"`{seen[n]}`") for n in names]
+        )
 
     def codes(self):
         """The codes of faults with their words and what they say."""
@@ -488,7 +621,9 @@ def page(template, *parts):
     made = Page(specs, template)
     missing = [key for part in parts for key in specs.orders[part] if key not in made.told]
     if missing:
-        sys.exit(f"scripts/{template} has no chapter for " + ", ".join(".".join(key) for key in missing))
+        sys.exit(
+            f"scripts/{template} has no chapter for " + ", ".join(".".join(key) for key in missing)
+        )
     return re.sub(rf"\{{({'|'.join(PARTS)})\}}", lambda m: made.count(m[1]), made.text)
 
 

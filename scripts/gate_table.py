@@ -1,12 +1,14 @@
 #!/usr/bin/env python3
 """Runs the gate and puts what each crate took of it into the table of docs/GATE.md.
 
-    scripts/gate_table.py [WORD ..]     the words are those of `rt ci`, where the kit takes any: names of crates, --anew
+    scripts/gate_table.py [WORD ..]     the words are those of `rt ci`, where the kit takes any:
+                                        names of crates, --anew
 
-A crate's seconds of a processor are those of the processes that work for it, read from /proc while they run: proofs (of its tests
-too), and tries of its edits. Printed is what `rt ci` prints, each line behind the minutes that have passed. The table is written
-where a run of all crates passed; what an earlier run proved on this machine is kept and takes nothing, so that a table of the whole is one of a
-run from nothing. Linux alone.
+A crate's seconds of a processor are those of the processes that work for it, read from /proc while
+they run: proofs (of its tests too), and tries of its edits. Printed is what `rt ci` prints, each
+line behind the minutes that have passed. The table is written where a run of all crates passed;
+what an earlier run proved on this machine is kept and takes nothing, so that a table of the whole
+is one of a run from nothing. Linux alone.
 """
 import datetime
 import os
@@ -26,7 +28,8 @@ PAUSE = 0.25
 
 
 def process(pid):
-    """Of a process that works for a crate: when it started, the crate, whether it tries edits, its seconds; None for others."""
+    """Of a process that works for a crate: when it started, the crate, whether it tries edits, its
+    seconds; None for others."""
     try:
         words = pathlib.Path(f"/proc/{pid}/cmdline").read_bytes().decode().split("\0")
         if not words[0].endswith("/rattle") or "--crate-name" not in words:
@@ -36,7 +39,12 @@ def process(pid):
     except (OSError, UnicodeDecodeError):
         return None
     crate = words[words.index("--crate-name") + 1]
-    return numbers[19], crate, not folder.startswith(str(TOP)), (int(numbers[11]) + int(numbers[12])) / TICKS
+    return (
+        numbers[19],
+        crate,
+        not folder.startswith(str(TOP)),
+        (int(numbers[11]) + int(numbers[12])) / TICKS,
+    )
 
 
 class Watch(threading.Thread):
@@ -56,7 +64,14 @@ class Watch(threading.Thread):
             time.sleep(PAUSE)
 
     def minutes(self, crate, tries):
-        return sum(seconds for name, kind, seconds in list(self.seen.values()) if name == crate and kind == tries) / 60
+        return (
+            sum(
+                seconds
+                for name, kind, seconds in list(self.seen.values())
+                if name == crate and kind == tries
+            )
+            / 60
+        )
 
 
 def below(top):
@@ -79,30 +94,49 @@ def below(top):
 
 def table(crates, proved, watch, passed):
     """The table, and the line above it."""
-    version = subprocess.run(["rt", "version"], capture_output=True, text=True, check=True).stdout.strip()
+    version = subprocess.run(
+        ["rt", "version"], capture_output=True, text=True, check=True
+    ).stdout.strip()
     used = os.times()
     whole = (used.children_user + used.children_system) / 60
     rows = []
     for crate in crates:
         edits = len(list((TOP / "crates" / crate / "must-fail").glob("*.edit")))
         clock = f"{proved[crate]:.0f}" if crate in proved else "kept"
-        rows.append(f"| {crate} | {clock} | {watch.minutes(crate, False):.1f} | {edits} | {watch.minutes(crate, True):.1f} |")
-    return "\n".join([
-        f"Measured on {datetime.date.today()} by `scripts/gate_table.py`, {len(os.sched_getaffinity(0))} processors, {version}:",
-        f"{passed:.0f} minutes by the clock, {whole:.0f} of a processor.",
-        "",
-        "| Crate | proved at minute | its proofs, minutes of a processor | edits | their tries |",
-        "|---|---|---|---|---|",
-        *rows,
-        "",
-    ])
+        rows.append(
+            f"| {crate} | {clock} | {watch.minutes(crate, False):.1f} | {edits} |"
+            f" {watch.minutes(crate, True):.1f} |"
+        )
+    return "\n".join(
+        [
+            (
+                f"Measured on {datetime.date.today()} by `scripts/gate_table.py`,"
+                f" {len(os.sched_getaffinity(0))} processors, {version}:"
+            ),
+            f"{passed:.0f} minutes by the clock, {whole:.0f} of a processor.",
+            "",
+            (
+                "| Crate | proved at minute | its proofs, minutes of a processor | edits | their"
+                " tries |"
+            ),
+            "|---|---|---|---|---|",
+            *rows,
+            "",
+        ]
+    )
 
 
 def main(words):
-    crates = [line.split(":")[0].split()[0] for line in (TOP / "crates.txt").read_text().splitlines() if line.strip()]
+    crates = [
+        line.split(":")[0].split()[0]
+        for line in (TOP / "crates.txt").read_text().splitlines()
+        if line.strip()
+    ]
     watch, proved, start = Watch(), {}, time.monotonic()
     watch.start()
-    gate = subprocess.Popen(["rt", "ci", *words], cwd=TOP, stdout=subprocess.PIPE, stderr=subprocess.STDOUT, text=True)
+    gate = subprocess.Popen(
+        ["rt", "ci", *words], cwd=TOP, stdout=subprocess.PIPE, stderr=subprocess.STDOUT, text=True
+    )
     for line in gate.stdout:
         minutes = (time.monotonic() - start) / 60
         print(f"{minutes:6.1f}  {line}", end="", flush=True)

@@ -3,23 +3,24 @@
 
     python3 scripts/refuse_memory.py [NAME ...] [--only WORD] [--most N] [--minutes N] [--built]
 
-NAME is a crate with tests; without one, all of them. Each is proved, built and tested by `rt test` (`--built` takes
-the tests as they were built last, and leaves out with a word those that never were). Then each test, or with `--only` each whose name has WORD in it, is run with its
-first allocation refused, then with its second, and so on, until a run meets no refusal, or up to the Nth (5,000 if
-left out), or until so many minutes have gone by since the first run. A run is right where it ends as with ample
-memory, or with an error that speaks of want of memory; tests of what was lent compare it themselves after the error.
-Printed is a line for each test: how many runs met a refusal, how many of those ended with the error, and how many went
-on to the end. The status is 1 where a run is wrong.
+NAME is a crate with tests; without one, all of them. Each is proved, built and tested by `rt test`
+(`--built` takes the tests as they were built last, and leaves out with a word those that never
+were). Then each test, or with `--only` each whose name has WORD in it, is run with its first
+allocation refused, then with its second, and so on, until a run meets no refusal, or up to the Nth
+(5,000 if left out), or until so many minutes have gone by since the first run. A run is right where
+it ends as with ample memory, or with an error that speaks of want of memory; tests of what was lent
+compare it themselves after the error. Printed is a line for each test: how many runs met a refusal,
+how many of those ended with the error, and how many went on to the end. The status is 1 where a run
+is wrong.
 
-NAME may be mcf or mcfcheck, too: then the program of bin/ is run on each example, mcf by each engine, and on words that
-have no instance. A run is right where it does what it does with ample memory, or says `NAME: out of memory` alone, with
-status 3. Printed is a line for each engine.
+NAME may be mcf or mcfcheck, too: then the program of bin/ is run on each example, mcf by each
+engine, and on words that have no instance. A run is right where it does what it does with ample
+memory, or says `NAME: out of memory` alone, with status 3. Printed is a line for each engine.
 
 Needs `rt`, `cc`, Python 3 and a C library whose `malloc` can be put aside.
 """
 import argparse
 import collections
-import os
 import pathlib
 import re
 import subprocess
@@ -30,20 +31,36 @@ import time
 HERE = pathlib.Path(__file__).resolve().parent
 CRATES, BIN, EXAMPLES = (HERE.parent / name for name in ("crates", "bin", "examples"))
 ENGINES = ("auto", "cancel", "simplex", "scaling", "augment", "sap")
-WITHOUT_INSTANCE = (["--version"], ["solve", "--help"], ["solve", "--none"], ["solve", "--block", "0"], [])
+WITHOUT_INSTANCE = (
+    ["--version"],
+    ["solve", "--help"],
+    ["solve", "--none"],
+    ["solve", "--block", "0"],
+    [],
+)
 MET = b"memory was refused\n"
 SPEAKS_OF_MEMORY = re.compile(rb"error: .*([Mm]emory|AllocError|AllocFailed)")
 
 
 def with_tests():
-    return sorted(it.name for it in CRATES.iterdir() if any("#[test]" in file.read_text() for file in it.glob("src/**/*.rt")))
+    return sorted(
+        it.name
+        for it in CRATES.iterdir()
+        if any("#[test]" in file.read_text() for file in it.glob("src/**/*.rt"))
+    )
 
 
 def run(program, test, refused, shim):
     """Whether the run met a refusal, and how it ended: well, without memory, or wrong."""
     environment = {"PATH": "/usr/bin:/bin", "LD_PRELOAD": str(shim), "REFUSED": str(refused)}
     try:
-        ran = subprocess.run([program, test], env=environment, stdout=subprocess.PIPE, stderr=subprocess.STDOUT, timeout=120)
+        ran = subprocess.run(
+            [program, test],
+            env=environment,
+            stdout=subprocess.PIPE,
+            stderr=subprocess.STDOUT,
+            timeout=120,
+        )
     except subprocess.TimeoutExpired:
         return True, "wrong", b"it had not ended after 120 seconds"
     if ran.returncode == 0:
@@ -67,7 +84,13 @@ def judge(program, test, most, until, shim):
             print(f"  {test}: allocation {refused}: wrong\n{said.decode(errors='replace')}")
     else:
         print(f"  {test}: stopped at allocation {most}, which may not be the last")
-    print(f"  {test}: {sum(ends.values())} refusals, {ends['without memory']} ended for want of memory, {ends['well']} well, {ends['wrong']} wrong", flush=True)
+    print(
+        (
+            f"  {test}: {sum(ends.values())} refusals, {ends['without memory']} ended for want of"
+            f" memory, {ends['well']} well, {ends['wrong']} wrong"
+        ),
+        flush=True,
+    )
     return not ends["wrong"]
 
 
@@ -76,20 +99,38 @@ def calls(name):
     instances = sorted(path for path in EXAMPLES.iterdir() if path.suffix in (".min", ".asn"))
     if name == "mcfcheck":
         return {name: [[path, path.with_suffix(".ans")] for path in instances]}
-    by = {f"{name} --engine {it}": [["solve", "--engine", it, "--form", form, path] for path in instances for form in "12"] for it in ENGINES}
+    by = {
+        f"{name} --engine {it}": [
+            ["solve", "--engine", it, "--form", form, path] for path in instances for form in "12"
+        ]
+        for it in ENGINES
+    }
     return {**by, f"{name} without an instance": WITHOUT_INSTANCE}
 
 
 def run_program(name, words, refused, shim):
     """Whether the run met a refusal, its status and what it wrote and said."""
-    environment = {"PATH": "/usr/bin:/bin", **({"LD_PRELOAD": str(shim), "REFUSED": str(refused)} if refused else {})}
-    ran = subprocess.run([BIN / name, *words], env=environment, stdin=subprocess.DEVNULL, capture_output=True, timeout=120)
+    environment = {
+        "PATH": "/usr/bin:/bin",
+        **({"LD_PRELOAD": str(shim), "REFUSED": str(refused)} if refused else {}),
+    }
+    ran = subprocess.run(
+        [BIN / name, *words],
+        env=environment,
+        stdin=subprocess.DEVNULL,
+        capture_output=True,
+        timeout=120,
+    )
     return MET in ran.stderr, (ran.returncode, ran.stdout, ran.stderr.replace(MET, b""))
 
 
 def refuse_each(name, words, most, until, shim):
     """Refuses each allocation of a call of a program; how its runs ended."""
-    ends, want, ample = collections.Counter(), (3, b"", f"{name}: out of memory\n".encode()), run_program(name, words, 0, shim)[1]
+    ends, want, ample = (
+        collections.Counter(),
+        (3, b"", f"{name}: out of memory\n".encode()),
+        run_program(name, words, 0, shim)[1],
+    )
     for refused in range(1, most + 1):
         met, did = run_program(name, words, refused, shim)
         end = "well" if did == ample else "without memory" if did == want else "wrong"
@@ -105,14 +146,24 @@ def judge_program(name, most, until, shim):
     """Refuses each allocation of each call of a program; whether no run was wrong."""
     wrong = 0
     for group, each in calls(name).items():
-        ends = sum((refuse_each(name, words, most, until, shim) for words in each), collections.Counter())
-        print(f"  {group}: {sum(ends.values())} refusals, {ends['without memory']} ended for want of memory, {ends['well']} well, {ends['wrong']} wrong", flush=True)
+        ends = sum(
+            (refuse_each(name, words, most, until, shim) for words in each), collections.Counter()
+        )
+        print(
+            (
+                f"  {group}: {sum(ends.values())} refusals, {ends['without memory']} ended for want"
+                f" of memory, {ends['well']} well, {ends['wrong']} wrong"
+            ),
+            flush=True,
+        )
         wrong += ends["wrong"]
     return wrong == 0
 
 
 def main():
-    parser = argparse.ArgumentParser(description=__doc__, formatter_class=argparse.RawDescriptionHelpFormatter)
+    parser = argparse.ArgumentParser(
+        description=__doc__, formatter_class=argparse.RawDescriptionHelpFormatter
+    )
     parser.add_argument("names", nargs="*", metavar="NAME")
     parser.add_argument("--only", default="", metavar="WORD")
     parser.add_argument("--most", type=int, default=5000)
@@ -123,7 +174,10 @@ def main():
     until = float("inf")
     with tempfile.TemporaryDirectory() as room:
         shim = pathlib.Path(room) / "refuse_memory.so"
-        subprocess.run(["cc", "-O1", "-shared", "-fPIC", "-o", shim, HERE / "refuse_memory.c", "-ldl"], check=True)
+        subprocess.run(
+            ["cc", "-O1", "-shared", "-fPIC", "-o", shim, HERE / "refuse_memory.c", "-ldl"],
+            check=True,
+        )
         for name in words.names or with_tests():
             if name in ("mcf", "mcfcheck"):
                 until = min(until, time.monotonic() + 60 * words.minutes)
@@ -134,9 +188,14 @@ def main():
                 subprocess.run(["rt", "test"], cwd=folder, check=True, stdout=subprocess.DEVNULL)
             program = folder / "out" / f"{name}_tests"
             if not program.exists():
-                print(f"{name}: left out, since its tests aren't built; `rt test` in crates/{name} builds them")
+                print(
+                    f"{name}: left out, since its tests aren't built; `rt test` in"
+                    f" crates/{name} builds them"
+                )
                 continue
-            listed = subprocess.run([program, "--list"], check=True, capture_output=True, text=True).stdout
+            listed = subprocess.run(
+                [program, "--list"], check=True, capture_output=True, text=True
+            ).stdout
             print(name, flush=True)
             until = min(until, time.monotonic() + 60 * words.minutes)
             for test in re.findall(r"^(.*): test$", listed, re.M):

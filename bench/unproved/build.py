@@ -1,13 +1,17 @@
 #!/usr/bin/env python3
-"""Builds the solver by plain `rustc`, without its contracts, in a quarter of a minute, to measure a change before it is proved.
+"""Builds the solver by plain `rustc`, without its contracts, in a quarter of a minute, to measure a
+change before it is proved.
 
     bench/unproved/build.py PROGRAM [--of FOLDER] [--keep FOLDER] [-- FLAGS ..]
-    PROGRAM ENGINE FILE      solves the instance in FILE by an engine, and writes the answer, as `mcf solve --engine ENGINE --form 2 FILE`
+    PROGRAM ENGINE FILE      solves the instance in FILE by an engine, and writes the answer, as
+                             `mcf solve --engine ENGINE --form 2 FILE`
 
-Contracts, ghost items and tactics are taken out of `mcf_solver` and the crates below it, and what is left is compiled as modules of one program
-over `kit.rs`, which stands for what of the kit's library differs from Rust's: what a crate newly uses of that is added there. `--of` names
-another checkout, to compare with, `--keep` a folder for what is compiled; flags are rustc's. Nothing is proved, and sums may wrap. The kit's compiler
-lays some structs out in another way, so that what decides between two forms is the proved program (`bench/run.py`).
+Contracts, ghost items and tactics are taken out of `mcf_solver` and the crates below it, and what
+is left is compiled as modules of one program over `kit.rs`, which stands for what of the kit's
+library differs from Rust's: what a crate newly uses of that is added there. `--of` names another
+checkout, to compare with, `--keep` a folder for what is compiled; flags are rustc's. Nothing is
+proved, and sums may wrap. The kit's compiler lays some structs out in another way, so that what
+decides between two forms is the proved program (`bench/run.py`).
 """
 import argparse
 import pathlib
@@ -24,7 +28,12 @@ TOP = "mcf_solver"
 
 def tokens(text):
     """Comments, strings, characters and all else, piece by piece: (kind, text)."""
-    shape = re.compile(r"""(?P<comment>//[^\n]*|/\*.*?\*/)|(?P<string>b?"(?:\\.|[^"\\])*"|b?'(?:\\.[^']*|[^'\\])')|(?P<word>[A-Za-z_][A-Za-z_0-9]*)|(?P<other>.)""", re.S)
+    shape = re.compile(
+        r"""(?P<comment>//[^\n]*|/\*.*?\*/)"""
+        r"""|(?P<string>b?"(?:\\.|[^"\\])*"|b?'(?:\\.[^']*|[^'\\])')"""
+        r"""|(?P<word>[A-Za-z_][A-Za-z_0-9]*)|(?P<other>.)""",
+        re.S,
+    )
     for found in shape.finditer(text):
         yield found.lastgroup, found.group()
 
@@ -56,7 +65,10 @@ def lines_of(pieces):
 
 def strip(text):
     """The same lines without comments, contracts and ghosts."""
-    pieces = [("other", "\n" * t.count("\n") or " ") if k == "comment" else (k, t) for k, t in tokens(text)]
+    pieces = [
+        ("other", "\n" * t.count("\n") or " ") if k == "comment" else (k, t)
+        for k, t in tokens(text)
+    ]
     made, at = [], 0
     while at < len(pieces):
         kind, piece = pieces[at]
@@ -96,8 +108,15 @@ def translated(text, crate, crates):
     text = re.sub(r"#!?\[tactic\([^\]]*\)\]", "", text)
     text = re.sub(r"#\[error\([^\]]*\)\]", "", text)
     text = re.sub(r"use std::marker::Model;|use thiserror::Error;", "", text)
-    text = re.sub(r"impl(<[^{>]*>)? Model for [^{]*\{\s*\}", lambda m: "\n" * m.group().count("\n"), text)
-    text = re.sub(r"#\[derive\(([^)]*)\)\]", lambda m: "#[derive(%s)]" % ", ".join(w for w in re.split(r",\s*", m.group(1)) if w not in ("Drop", "Error")), text)
+    text = re.sub(
+        r"impl(<[^{>]*>)? Model for [^{]*\{\s*\}", lambda m: "\n" * m.group().count("\n"), text
+    )
+    text = re.sub(
+        r"#\[derive\(([^)]*)\)\]",
+        lambda m: "#[derive(%s)]"
+        % ", ".join(w for w in re.split(r",\s*", m.group(1)) if w not in ("Drop", "Error")),
+        text,
+    )
     # Rust's `clone` can't fail
     text = re.sub(r"-> Result<([^{;]*), AllocError>\s*\{(\s*)Ok\(\*self\)", r"-> \1 {\2*self", text)
     text = re.sub(r"\.collect\(alloc\)", ".collect_in(alloc)", text)
@@ -146,12 +165,28 @@ def main():
     words.add_argument("--of", type=pathlib.Path, default=CHECKOUT)
     words.add_argument("--keep", type=pathlib.Path)
     at = sys.argv.index("--") if "--" in sys.argv else len(sys.argv)
-    given, flags = words.parse_args(sys.argv[1:at]), sys.argv[at + 1:]
+    given, flags = words.parse_args(sys.argv[1:at]), sys.argv[at + 1 :]
     with tempfile.TemporaryDirectory() as made:
         folder = given.keep or pathlib.Path(made)
         generate(given.of.resolve(), folder)
-        command = ["rustc", "--edition", "2021", "-O", "-C", "codegen-units=1", "-C", "panic=abort", "-A", "warnings", "-g"]
-        sys.exit(subprocess.run([*command, *flags, "-o", str(given.program), str(folder / "main.rs")]).returncode)
+        command = [
+            "rustc",
+            "--edition",
+            "2021",
+            "-O",
+            "-C",
+            "codegen-units=1",
+            "-C",
+            "panic=abort",
+            "-A",
+            "warnings",
+            "-g",
+        ]
+        sys.exit(
+            subprocess.run(
+                [*command, *flags, "-o", str(given.program), str(folder / "main.rs")]
+            ).returncode
+        )
 
 
 main()

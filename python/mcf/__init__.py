@@ -1,8 +1,9 @@
 """Minimum-cost flow with proved answers.
 
-`solve` takes supplies and arcs, `linear_sum_assignment` a matrix, `SimpleMinCostFlow` has the shape of OR-tools' class, and `mcf.nx` takes
-the graphs of networkx: each flow is judged by the checker before it is shown, unless `check=False`. `solve_text` and `check_text` take
-texts in the DIMACS formats.
+`solve` takes supplies and arcs, `linear_sum_assignment` a matrix, `SimpleMinCostFlow` has the shape
+of OR-tools' class, and `mcf.nx` takes the graphs of networkx: each flow is judged by the checker
+before it is shown, unless `check=False`. `solve_text` and `check_text` take texts in the DIMACS
+formats.
 """
 from typing import Optional, Tuple
 
@@ -12,13 +13,33 @@ from ._solving import Flow, Infeasible, MCFError, NotAccepted, Refused, Unbounde
 from .assignment import linear_sum_assignment
 from .simple import SimpleMinCostFlow
 
-__all__ = ["Flow", "Infeasible", "MCFError", "NotAccepted", "Refused", "SimpleMinCostFlow", "Unbounded", "Verdict", "check_text",
-           "linear_sum_assignment", "solve", "solve_text"]
+__all__ = [
+    "Flow",
+    "Infeasible",
+    "MCFError",
+    "NotAccepted",
+    "Refused",
+    "SimpleMinCostFlow",
+    "Unbounded",
+    "Verdict",
+    "check_text",
+    "linear_sum_assignment",
+    "solve",
+    "solve_text",
+]
 __version__ = "1.0.0"
 
 
-def solve_text(text: bytes, *, engine: str = "auto", pricing: str = "block", block: Optional[int] = None, form: int = 1) -> Tuple[str, bytes]:
-    """The kind of the answer ('flow', 'blocked' or 'refusal') and the answer text of an instance text.
+def solve_text(
+    text: bytes,
+    *,
+    engine: str = "auto",
+    pricing: str = "block",
+    block: Optional[int] = None,
+    form: int = 1,
+) -> Tuple[str, bytes]:
+    """The kind of the answer ('flow', 'blocked' or 'refusal') and the answer text of an instance
+    text.
 
     >>> solve_text(b"p min 2 1")
     ('refusal', b'r 2 missing\\n')

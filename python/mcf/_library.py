@@ -1,4 +1,5 @@
-"""libmcf in this process, by ctypes. Calls of several threads run at once: ctypes lets go of the interpreter's lock."""
+"""libmcf in this process, by ctypes. Calls of several threads run at once: ctypes lets go of the
+interpreter's lock."""
 import ctypes
 import ctypes.util
 import os
@@ -8,20 +9,61 @@ from typing import Any, List, NamedTuple, Optional, Tuple, Union
 FLOW, BLOCKED, REFUSED, NO_MEMORY, NO_ROOM, NO_CHOICE, WIDE = range(7)
 ENGINES = {"auto": 0, "cancel": 1, "simplex": 2, "scaling": 3, "sap": 4, "augment": 5}
 PRICINGS = {"block": 0, "first": 1, "best": 2, "wide": 3}
-CODES = ("", "kind", "fields", "problem", "number", "second-p", "before-p", "size", "node", "late-n", "twice", "supply", "bound",
-         "order", "cost", "extra", "side", "total", "no-p", "missing")
-VERDICTS = ("flow", "blocked", "refusal", "bad-shape", "bad-kind", "bad-refusal", "bad-arc", "bad-node", "bad-price", "bad-cost",
-            "bad-set")
+CODES = (
+    "",
+    "kind",
+    "fields",
+    "problem",
+    "number",
+    "second-p",
+    "before-p",
+    "size",
+    "node",
+    "late-n",
+    "twice",
+    "supply",
+    "bound",
+    "order",
+    "cost",
+    "extra",
+    "side",
+    "total",
+    "no-p",
+    "missing",
+)
+VERDICTS = (
+    "flow",
+    "blocked",
+    "refusal",
+    "bad-shape",
+    "bad-kind",
+    "bad-refusal",
+    "bad-arc",
+    "bad-node",
+    "bad-price",
+    "bad-cost",
+    "bad-set",
+)
 SIDES = ("send", "take")
 
 
 class Choice(ctypes.Structure):
-    _fields_ = [("engine", ctypes.c_uint32), ("pricing", ctypes.c_uint32), ("block", ctypes.c_uint32), ("form", ctypes.c_uint32)]
+    _fields_ = [
+        ("engine", ctypes.c_uint32),
+        ("pricing", ctypes.c_uint32),
+        ("block", ctypes.c_uint32),
+        ("form", ctypes.c_uint32),
+    ]
 
 
 class Told(ctypes.Structure):
-    _fields_ = [("kind", ctypes.c_uint32), ("code", ctypes.c_uint32), ("negative", ctypes.c_uint32), ("low", ctypes.c_uint64),
-                ("high", ctypes.c_uint64)]
+    _fields_ = [
+        ("kind", ctypes.c_uint32),
+        ("code", ctypes.c_uint32),
+        ("negative", ctypes.c_uint32),
+        ("low", ctypes.c_uint64),
+        ("high", ctypes.c_uint64),
+    ]
 
     @property
     def number(self) -> int:
@@ -30,15 +72,26 @@ class Told(ctypes.Structure):
 
 
 class FlowProblem(ctypes.Structure):
-    _fields_ = [("supplies", ctypes.c_void_p), ("nodes", ctypes.c_size_t), ("arcs", ctypes.c_void_p), ("arc_count", ctypes.c_size_t)]
+    _fields_ = [
+        ("supplies", ctypes.c_void_p),
+        ("nodes", ctypes.c_size_t),
+        ("arcs", ctypes.c_void_p),
+        ("arc_count", ctypes.c_size_t),
+    ]
 
 
 class Assignment(ctypes.Structure):
-    _fields_ = [("rows", ctypes.c_uint32), ("columns", ctypes.c_uint32), ("pairs", ctypes.c_void_p), ("pair_count", ctypes.c_size_t)]
+    _fields_ = [
+        ("rows", ctypes.c_uint32),
+        ("columns", ctypes.c_uint32),
+        ("pairs", ctypes.c_void_p),
+        ("pair_count", ctypes.c_size_t),
+    ]
 
 
 class Verdict(NamedTuple):
     """What the checker says: whether it accepts, of what kind, with which number and code."""
+
     accepted: bool
     kind: str
     number: int
@@ -51,8 +104,11 @@ class Verdict(NamedTuple):
 def _path() -> str:
     here = os.path.dirname(os.path.abspath(__file__))
     up = os.path.dirname
-    beside = [os.path.join(here, "libmcf.so"), os.path.join(up(up(here)), "bin", "libmcf.so"),
-              os.path.join(up(up(up(up(here)))), "lib", "libmcf.so")]
+    beside = [
+        os.path.join(here, "libmcf.so"),
+        os.path.join(up(up(here)), "bin", "libmcf.so"),
+        os.path.join(up(up(up(up(here)))), "lib", "libmcf.so"),
+    ]
     named = os.environ.get("MCF_LIBRARY")
     for path in [named] if named else beside:
         if os.sep not in path or os.path.exists(path):
@@ -61,7 +117,10 @@ def _path() -> str:
     installed = None if named else ctypes.util.find_library("mcf")
     if installed:
         return installed
-    raise ImportError("libmcf.so isn't found: MCF_LIBRARY names it, or it stands beside the package mcf or where the linker looks")
+    raise ImportError(
+        "libmcf.so isn't found: MCF_LIBRARY names it, or it stands beside the package mcf or where"
+        " the linker looks"
+    )
 
 
 def _load() -> ctypes.CDLL:
@@ -77,8 +136,14 @@ def _load() -> ctypes.CDLL:
     library.mcf_check_arcs.argtypes = [flow_problem] + rooms + [told]
     library.mcf_solve_pairs.argtypes = [assignment, choice] + rooms + [told]
     library.mcf_check_pairs.argtypes = [assignment] + rooms + [told]
-    for function in (library.mcf_solve, library.mcf_check, library.mcf_solve_arcs, library.mcf_check_arcs, library.mcf_solve_pairs,
-                     library.mcf_check_pairs):
+    for function in (
+        library.mcf_solve,
+        library.mcf_check,
+        library.mcf_solve_arcs,
+        library.mcf_check_arcs,
+        library.mcf_solve_pairs,
+        library.mcf_check_pairs,
+    ):
         function.restype = word
     return library
 
@@ -138,6 +203,7 @@ def check_text(text: bytes, answer: bytes) -> Verdict:
 
 class Arrays:
     """A problem in arrays, with rooms for its answer: `flow` by arc and `prices` by node."""
+
     __slots__ = ("problem", "flow", "prices", "told", "_rooms", "_kept", "_solve", "_check")
     problem: Union[FlowProblem, Assignment]
     flow: array
@@ -179,6 +245,7 @@ def at(buffer) -> int:
 
 class ArcArrays(Arrays):
     """A flow problem: supplies of 8 bytes each, and arcs of 32 bytes each as `struct mcf_arc`."""
+
     __slots__ = ()
 
     def __init__(self, supplies, nodes: int, arcs, arc_count: int):
@@ -190,6 +257,7 @@ class ArcArrays(Arrays):
 
 class PairArrays(Arrays):
     """An assignment problem: pairs of 16 bytes each as `struct mcf_pair`."""
+
     __slots__ = ()
 
     def __init__(self, rows: int, columns: int, pairs, pair_count: int):

@@ -13,7 +13,8 @@ def is_float(value: Any) -> bool:
 
 
 def exact(value: Any) -> Whole:
-    """A number as an int or a Fraction. An exponent of more than three digits is past all limits, and isn't multiplied out."""
+    """A number as an int or a Fraction. An exponent of more than three digits is past all limits,
+    and isn't multiplied out."""
     if type(value) is int:
         return value
     try:
@@ -25,7 +26,9 @@ def exact(value: Any) -> Whole:
     else:
         text = repr(float(value)) if isinstance(value, float) else str(value)
         try:
-            number = Fraction(text if len(text.upper().partition("E")[2].lstrip("+-0")) <= 3 else "")
+            number = Fraction(
+                text if len(text.upper().partition("E")[2].lstrip("+-0")) <= 3 else ""
+            )
         except ValueError:
             raise ValueError("%r is no number within reach" % (value,)) from None
     return number.numerator if number.denominator == 1 else number
@@ -49,5 +52,6 @@ def unscaled(value: Any, scale: int) -> Union[int, float]:
 
 
 def limited(value: int, limit: int) -> int:
-    """The number, or one just past its limit, which fits 64 bits and is refused for the same reason."""
+    """The number, or one just past its limit, which fits 64 bits and is refused for the same
+    reason."""
     return value if -limit <= value <= limit else (limit + 1 if value > 0 else -limit - 1)

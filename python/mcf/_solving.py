@@ -3,15 +3,17 @@ import struct
 from array import array
 from itertools import chain
 from operator import index
-from typing import AbstractSet as Set, Any, Dict, Hashable, Iterable, List, Mapping, Optional, Sequence, Tuple, Union
+from typing import AbstractSet as Set
+from typing import Any, Dict, Hashable, Iterable, List, Mapping, Optional, Sequence, Tuple, Union
 
 from ._library import BLOCKED, CODES, REFUSED, SIDES, ArcArrays, Choice, Verdict, choice_of, marked
 from ._numbers import exact, is_float, limited, scale_of, unscaled
 
-BOUND, COST, NODE, NODES = 10 ** 18, 10 ** 15, 2 ** 32 - 2, 10 ** 6
+BOUND, COST, NODE, NODES = 10**18, 10**15, 2**32 - 2, 10**6
 INFINITE = float("inf")
-# A flow problem of more nodes than this goes to the search that is judged: docs/BENCH.md, "What the tools choose".
-LARGE = 2 ** 14
+# A flow problem of more nodes than this goes to the search that is judged: docs/BENCH.md, "What the
+# tools choose".
+LARGE = 2**14
 
 Number = Union[int, float]
 # The ends, low, cap and cost; a cap may be None where nothing is solved yet.
@@ -23,26 +25,41 @@ class MCFError(Exception):
 
 
 class Refused(MCFError, ValueError):
-    """The instance is beyond the limits: `arc` or `node` is the place of the first fault, from 0, and `reason` what is wrong: size,
-    supply, node, bound, order, cost or total. `scale` is what numbers of its kind were multiplied by, to be whole."""
+    """The instance is beyond the limits: `arc` or `node` is the place of the first fault, from 0,
+    and `reason` what is wrong: size, supply, node, bound, order, cost or total. `scale` is what
+    numbers of its kind were multiplied by, to be whole.
+    """
 
     def __init__(self, arc: Optional[int], node: Any, reason: str, scale: int = 1):
-        where = "arc %d: " % arc if arc is not None else "node %r: " % (node,) if node is not None else ""
-        super().__init__(where + reason + (" (in whole numbers, by a factor of %d)" % scale if scale != 1 else ""))
+        where = (
+            "arc %d: " % arc
+            if arc is not None
+            else "node %r: " % (node,)
+            if node is not None
+            else ""
+        )
+        super().__init__(
+            where
+            + reason
+            + (" (in whole numbers, by a factor of %d)" % scale if scale != 1 else "")
+        )
         self.arc, self.node, self.reason, self.scale = arc, node, reason, scale
 
 
 class Infeasible(MCFError):
-    """No flow is feasible: `nodes` must `side` ('send' or 'take') `must` units and can `can` at most, over the arcs of the places
-    `arcs`, which limit it."""
+    """No flow is feasible: `nodes` must `side` ('send' or 'take') `must` units and can `can` at
+    most, over the arcs of the places `arcs`, which limit it."""
 
     def __init__(self, nodes: List[Any], side: str, must: Number, can: Number, arcs: List[int]):
-        super().__init__("%d node(s) must %s %s and can %s %s" % (len(nodes), side, must, side, can))
+        super().__init__(
+            "%d node(s) must %s %s and can %s %s" % (len(nodes), side, must, side, can)
+        )
         self.nodes, self.side, self.must, self.can, self.arcs = nodes, side, must, can, arcs
 
 
 class Unbounded(MCFError):
-    """Costs have no least value: `cycle` has the places of the arcs of a cycle of negative cost without limits."""
+    """Costs have no least value: `cycle` has the places of the arcs of a cycle of negative cost
+    without limits."""
 
     def __init__(self, cycle: List[int]):
         super().__init__("a cycle of negative cost has no limit")
@@ -50,15 +67,25 @@ class Unbounded(MCFError):
 
 
 class NotAccepted(MCFError):
-    """The checker doesn't accept the answer, so it isn't shown: that would be a bug outside the proofs."""
+    """The checker doesn't accept the answer, so it isn't shown: that would be a bug outside the
+    proofs."""
 
 
 class Flow:
-    """A least-cost flow: `cost`, `flow` by arc, `prices` by node, which show that no flow costs less, and the checker's `verdict`."""
+    """A least-cost flow: `cost`, `flow` by arc, `prices` by node, which show that no flow costs
+    less, and the checker's `verdict`."""
+
     __slots__ = ("cost", "flow", "verdict", "_prices", "_labels", "_scale")
 
-    def __init__(self, cost: Number, flow: List[Number], verdict: Optional[Verdict], prices: Sequence[int],
-                 labels: Optional[List[Hashable]], scale: int):
+    def __init__(
+        self,
+        cost: Number,
+        flow: List[Number],
+        verdict: Optional[Verdict],
+        prices: Sequence[int],
+        labels: Optional[List[Hashable]],
+        scale: int,
+    ):
         self.cost, self.flow, self.verdict = cost, flow, verdict
         self._prices, self._labels, self._scale = prices, labels, scale
 
@@ -71,10 +98,15 @@ class Flow:
         return "Flow(cost=%r, flow=%r)" % (self.cost, self.flow)
 
 
-def suited(nodes: int, engine: str = "auto", pricing: Optional[str] = None, block: Optional[int] = None) -> Choice:
-    """What solves a flow problem of so many nodes: what is asked, and by its size where nothing is."""
+def suited(
+    nodes: int, engine: str = "auto", pricing: Optional[str] = None, block: Optional[int] = None
+) -> Choice:
+    """What solves a flow problem of so many nodes: what is asked, and by its size where nothing
+    is."""
     is_asked = engine != "auto" or pricing is not None or block is not None
-    return choice_of("augment" if nodes > LARGE and not is_asked else engine, pricing or "block", block)
+    return choice_of(
+        "augment" if nodes > LARGE and not is_asked else engine, pricing or "block", block
+    )
 
 
 def _packed(arcs: List[Arc]) -> bytes:
@@ -83,8 +115,16 @@ def _packed(arcs: List[Arc]) -> bytes:
         numbers = [(u + 1, v + 1, low, cap, cost) for u, v, low, cap, cost in arcs]
         return struct.pack("=" + "IIqqq" * len(arcs), *chain.from_iterable(numbers))
     except struct.error:
-        numbers = [(u + 1 if 0 <= u <= NODE else 0, v + 1 if 0 <= v <= NODE else 0, limited(low, BOUND), limited(cap, BOUND), limited(cost, COST))
-                   for u, v, low, cap, cost in arcs]
+        numbers = [
+            (
+                u + 1 if 0 <= u <= NODE else 0,
+                v + 1 if 0 <= v <= NODE else 0,
+                limited(low, BOUND),
+                limited(cap, BOUND),
+                limited(cost, COST),
+            )
+            for u, v, low, cap, cost in arcs
+        ]
         return struct.pack("=" + "IIqqq" * len(arcs), *chain.from_iterable(numbers))
 
 
@@ -95,7 +135,9 @@ def _supplied(supplies: List[int]) -> array:
         return array("q", [limited(b, BOUND) for b in supplies])
 
 
-def _must_and_can(supplies: Sequence[int], arcs: List[Arc], nodes: List[int], side: str) -> Tuple[int, int, List[int]]:
+def _must_and_can(
+    supplies: Sequence[int], arcs: List[Arc], nodes: List[int], side: str
+) -> Tuple[int, int, List[int]]:
     """What the set must send or take, what it can at most, and the arcs that limit it."""
     inside = set(nodes)
     sends = side == "send"
@@ -112,7 +154,9 @@ def _must_and_can(supplies: Sequence[int], arcs: List[Arc], nodes: List[int], si
     return must, can, limiting
 
 
-def _negative_cycle(arcs: List[Arc], unlimited: List[int], flow: Sequence[int], prices: Sequence[int], most: int) -> List[int]:
+def _negative_cycle(
+    arcs: List[Arc], unlimited: List[int], flow: Sequence[int], prices: Sequence[int], most: int
+) -> List[int]:
     """A cycle of arcs without limits, all of reduced cost 0 or less and one below."""
     out: Dict[int, List[int]] = {}
     for k in unlimited:
@@ -139,25 +183,34 @@ def _negative_cycle(arcs: List[Arc], unlimited: List[int], flow: Sequence[int], 
     raise NotAccepted("a flow without limits goes round no cycle")
 
 
-def solve_whole(supplies: List[int], arcs: List[Arc], choice, check: bool) -> Tuple[ArcArrays, Optional[Verdict]]:
+def solve_whole(
+    supplies: List[int], arcs: List[Arc], choice, check: bool
+) -> Tuple[ArcArrays, Optional[Verdict]]:
     """Solves an instance of whole numbers whose nodes are numbered from 0; a cap of None is none.
 
-    An arc without limit gets one that is greater than any least flow needs. The prices tell whether it mattered: where each such arc
-    has a reduced cost of 0 or more, they show that the flow is least without the limits too; and where one is below 0, there is a
-    cycle of negative cost without limits.
+    An arc without limit gets one that is greater than any least flow needs. The prices tell whether
+    it mattered: where each such arc has a reduced cost of 0 or more, they show that the flow is
+    least without the limits too; and where one is below 0, there is a cycle of negative cost
+    without limits.
     """
     unlimited = [place for place, arc in enumerate(arcs) if arc[3] is None]
     if unlimited:
         most = 1 + sum(b for b in supplies if b > 0)
         most += sum(abs(low) + abs(cap or 0) for _, _, low, cap, _ in arcs)
-        arcs = [arc if arc[3] is not None else (arc[0], arc[1], arc[2], most, arc[4]) for arc in arcs]
+        arcs = [
+            arc if arc[3] is not None else (arc[0], arc[1], arc[2], most, arc[4]) for arc in arcs
+        ]
     problem = ArcArrays(_supplied(supplies), len(supplies), _packed(arcs), len(arcs))
     status = problem.solve(choice)
     told = problem.told
     if status == REFUSED:
         reason = CODES[told.code]
         place = told.number - 1
-        raise Refused(None if reason in ("size", "supply") else place, place if reason == "supply" else None, reason)
+        raise Refused(
+            None if reason in ("size", "supply") else place,
+            place if reason == "supply" else None,
+            reason,
+        )
     if status == BLOCKED:
         nodes, side = marked(problem.prices), SIDES[told.code]
         must, can, limiting = _must_and_can(supplies, arcs, nodes, side)
@@ -169,7 +222,10 @@ def solve_whole(supplies: List[int], arcs: List[Arc], choice, check: bool) -> Tu
         raise NotAccepted(repr(verdict))
     if unlimited:
         flow, prices = problem.flow, problem.prices
-        if any(flow[k] == most and arcs[k][4] - prices[arcs[k][0]] + prices[arcs[k][1]] < 0 for k in unlimited):
+        if any(
+            flow[k] == most and arcs[k][4] - prices[arcs[k][0]] + prices[arcs[k][1]] < 0
+            for k in unlimited
+        ):
             raise Unbounded(_negative_cycle(arcs, unlimited, flow, prices, most))
     return problem, verdict
 
@@ -179,12 +235,21 @@ def listed(values):
     return values.tolist() if hasattr(values, "tolist") else values
 
 
-def _numbered(supplies: Mapping[Hashable, Any], arcs: List[tuple]) -> Tuple[List[Hashable], List[Any], List[tuple]]:
+def _numbered(
+    supplies: Mapping[Hashable, Any], arcs: List[tuple]
+) -> Tuple[List[Hashable], List[Any], List[tuple]]:
     """Labels in the order in which they come, and the instance by their numbers."""
     number: Dict[Hashable, int] = {label: place for place, label in enumerate(supplies)}
-    ends = [(number.setdefault(arc[0], len(number)), number.setdefault(arc[1], len(number))) for arc in arcs]
+    ends = [
+        (number.setdefault(arc[0], len(number)), number.setdefault(arc[1], len(number)))
+        for arc in arcs
+    ]
     labels = list(number)
-    return labels, [supplies.get(label, 0) for label in labels], [end + tuple(arc[2:]) for end, arc in zip(ends, arcs)]
+    return (
+        labels,
+        [supplies.get(label, 0) for label in labels],
+        [end + tuple(arc[2:]) for end, arc in zip(ends, arcs)],
+    )
 
 
 def _given(supplies: Any, arcs: List[tuple]) -> Tuple[Optional[List[Hashable]], Any, List[tuple]]:
@@ -213,36 +278,59 @@ def _node(value) -> int:
     try:
         return int(value) if is_float(value) and float(value).is_integer() else index(value)
     except TypeError:
-        raise TypeError("a node has a number from 0, where supplies are no dict, and not %r" % (value,)) from None
+        raise TypeError(
+            "a node has a number from 0, where supplies are no dict, and not %r" % (value,)
+        ) from None
 
 
 def _scaled(amounts: list, rows: List[tuple]) -> Tuple[List[int], List[Any], int, int]:
     """Supplies and arcs in whole numbers, and how many times as great amounts and costs are."""
-    exacts = [(u if type(u) is int else _node(u), v if type(v) is int else _node(v), exact(low),
-               None if cap is None or cap == INFINITE else exact(cap), exact(cost)) for u, v, low, cap, cost in rows]
-    units = scale_of(chain(amounts, (a[2] for a in exacts), (a[3] for a in exacts if a[3] is not None)))
+    exacts = [
+        (
+            u if type(u) is int else _node(u),
+            v if type(v) is int else _node(v),
+            exact(low),
+            None if cap is None or cap == INFINITE else exact(cap),
+            exact(cost),
+        )
+        for u, v, low, cap, cost in rows
+    ]
+    units = scale_of(
+        chain(amounts, (a[2] for a in exacts), (a[3] for a in exacts if a[3] is not None))
+    )
     costs = scale_of(a[4] for a in exacts)
     if units != 1 or costs != 1:
         amounts = [int(b * units) for b in amounts]
-        exacts = [(u, v, int(low * units), None if cap is None else int(cap * units), int(cost * costs)) for u, v, low, cap, cost in exacts]
+        exacts = [
+            (u, v, int(low * units), None if cap is None else int(cap * units), int(cost * costs))
+            for u, v, low, cap, cost in exacts
+        ]
     return amounts, exacts, units, costs
 
 
-def solve(supplies: Union[int, Sequence[Any], Mapping[Hashable, Any]], arcs: Iterable[Sequence[Any]], *, engine: str = "auto",
-          pricing: Optional[str] = None, block: Optional[int] = None, check: bool = True) -> Flow:
-    """Solves a minimum-cost flow problem, by what suits its size where no engine, pricing rule or block is asked.
+def solve(
+    supplies: Union[int, Sequence[Any], Mapping[Hashable, Any]],
+    arcs: Iterable[Sequence[Any]],
+    *,
+    engine: str = "auto",
+    pricing: Optional[str] = None,
+    block: Optional[int] = None,
+    check: bool = True,
+) -> Flow:
+    """Solves a minimum-cost flow problem, by what suits its size where no engine, pricing rule or
+    block is asked.
 
-    `supplies` is a list by node (nodes are 0, 1, ..), a dict by label, or a number of nodes without supply; a supply is above 0 where
-    the node sends. `arcs` are (from, to, cap, cost) or (from, to, low, cap, cost); a cap of None, or an infinite one, is none. Arrays of
-    numpy serve for both. Numbers that aren't whole are scaled to whole ones, exactly: a float is the decimal that it prints as.
+    `supplies` is a list by node (nodes are 0, 1, ..), a dict by label, or a number of nodes without
+    supply; a supply is above 0 where the node sends. `arcs` are (from, to, cap, cost) or (from, to,
+    low, cap, cost); a cap of None, or an infinite one, is none. Arrays of numpy serve for both.
+    Numbers that aren't whole are scaled to whole ones, exactly: a float is the decimal that it
+    prints as.
 
     Raises Infeasible, Unbounded or Refused.
 
-    >>> r = solve({"mill": 4, "shop": -4}, [("mill", "depot", 2, 1), ("mill", "shop", None, 5), ("depot", "shop", 3, 1)])
-    >>> r.cost, r.flow, r.prices
-    (14, [2, 2, 2], {'mill': 0, 'shop': -5, 'depot': -4})
-    >>> solve([1, -1], [(1, 0, 5, 3)])
-    Traceback (most recent call last):
+    >>> r = solve({"mill": 4, "shop": -4}, [("mill", "depot", 2, 1), ("mill", "shop", None, 5),
+    ("depot", "shop", 3, 1)]) >>> r.cost, r.flow, r.prices (14, [2, 2, 2], {'mill': 0, 'shop': -5,
+    'depot': -4}) >>> solve([1, -1], [(1, 0, 5, 3)]) Traceback (most recent call last):
       ..
     mcf._solving.Infeasible: 1 node(s) must send 1 and can send 0
     """
@@ -250,14 +338,25 @@ def solve(supplies: Union[int, Sequence[Any], Mapping[Hashable, Any]], arcs: Ite
     labels, given, rows = _given(supplies, rows)
     amounts, exacts, units, costs = _scaled([exact(b) for b in given], rows)
     try:
-        problem, verdict = solve_whole(amounts, exacts, suited(len(amounts), engine, pricing, block), check)
+        problem, verdict = solve_whole(
+            amounts, exacts, suited(len(amounts), engine, pricing, block), check
+        )
     except Infeasible as error:
         nodes = error.nodes if labels is None else [labels[v] for v in error.nodes]
-        raise Infeasible(nodes, error.side, unscaled(error.must, units), unscaled(error.can, units), error.arcs) from None
+        raise Infeasible(
+            nodes, error.side, unscaled(error.must, units), unscaled(error.can, units), error.arcs
+        ) from None
     except Refused as error:
         node = error.node if labels is None or error.node is None else labels[error.node]
-        raise Refused(error.arc, node, error.reason, {"cost": costs, "total": units * costs}.get(error.reason, units)) from None
+        raise Refused(
+            error.arc,
+            node,
+            error.reason,
+            {"cost": costs, "total": units * costs}.get(error.reason, units),
+        ) from None
     flow = problem.flow.tolist()
     if units != 1:
         flow = [unscaled(f, units) for f in flow]
-    return Flow(unscaled(problem.told.number, units * costs), flow, verdict, problem.prices, labels, costs)
+    return Flow(
+        unscaled(problem.told.number, units * costs), flow, verdict, problem.prices, labels, costs
+    )

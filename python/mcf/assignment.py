@@ -12,11 +12,15 @@ from ._numbers import exact, is_float, limited, scale_of
 from ._solving import COST, Infeasible, NotAccepted, Refused, solve_whole, suited
 
 
-def linear_sum_assignment(cost_matrix: Any, maximize: bool = False, *, engine: str = "auto", check: bool = True) -> Tuple[Any, Any]:
-    """Matches rows with columns at least cost, or at greatest: the row indices, ascending, and the column of each.
+def linear_sum_assignment(
+    cost_matrix: Any, maximize: bool = False, *, engine: str = "auto", check: bool = True
+) -> Tuple[Any, Any]:
+    """Matches rows with columns at least cost, or at greatest: the row indices, ascending, and the
+    column of each.
 
-    Arrays of numpy where the matrix is one, and else lists. An infinite entry is a pair that can't be matched. Entries that aren't whole
-    are scaled, exactly: a float is the decimal that it prints as. Whole, they may be up to 10^15: floats of 16 digits are refused.
+    Arrays of numpy where the matrix is one, and else lists. An infinite entry is a pair that can't
+    be matched. Entries that aren't whole are scaled, exactly: a float is the decimal that it prints
+    as. Whole, they may be up to 10^15: floats of 16 digits are refused.
 
     >>> linear_sum_assignment([[4, 1, 3], [2, 0, 5], [3, 2, 2]])
     ([0, 1, 2], [1, 0, 2])
@@ -37,14 +41,18 @@ def linear_sum_assignment(cost_matrix: Any, maximize: bool = False, *, engine: s
 
 
 def _cells(matrix, maximize: bool):
-    """The entries row by row in whole numbers, None where one is infinite; how many rows and columns; numpy where the answer is its."""
+    """The entries row by row in whole numbers, None where one is infinite; how many rows and
+    columns; numpy where the answer is its."""
     numpy = sys.modules.get("numpy") if hasattr(matrix, "__array__") else None
     if numpy is not None:
         table = numpy.asarray(matrix)
         if table.ndim != 2:
             raise ValueError("expected a matrix (2-D array), got a %d array" % table.ndim)
         if table.dtype.kind not in "buifO":
-            raise TypeError("Cannot cast array data from %r to dtype('float64') according to the rule 'safe'" % table.dtype)
+            raise TypeError(
+                "Cannot cast array data from %r to dtype('float64') according to the rule 'safe'"
+                % table.dtype
+            )
         height, width = table.shape
         if table.dtype.kind == "i" and table.dtype.itemsize <= 8 and not maximize:
             cells = array("q")
@@ -60,7 +68,8 @@ def _cells(matrix, maximize: bool):
             raise ValueError("expected a matrix: its rows have one length")
         flat = list(chain.from_iterable(rows))
     try:
-        # Three times as fast as array("q", flat), which before Python 3.10 also takes a Decimal, without what is after its point.
+        # Three times as fast as array("q", flat), which before Python 3.10 also takes a Decimal,
+        # without what is after its point.
         cells = array("q", struct.pack("%dq" % len(flat), *flat))
         # Turned round as they are here: a number of numpy may wrap.
         return array("q", [-c for c in cells]) if maximize else cells, height, width, numpy
@@ -79,7 +88,9 @@ def _whole(flat: list, maximize: bool):
         exacts = [None if is_float(c) and c == worst else exact(c) for c in flat]
         scale = scale_of(c for c in exacts if c is not None)
         flat = [None if c is None else int(c * scale) for c in exacts]
-        past = next((place for place, c in enumerate(flat) if c is not None and abs(c) > COST), None)
+        past = next(
+            (place for place, c in enumerate(flat) if c is not None and abs(c) > COST), None
+        )
         if past is not None:
             raise Refused(past, None, "cost", scale)
     return [None if c is None else -c for c in flat] if maximize else flat
@@ -90,7 +101,9 @@ def _template(n: int) -> array:
     """The pairs of a square matrix of n rows, without their costs."""
     pairs = array("q", bytes(16 * n * n))
     for row in range(n):
-        pairs[2 * row * n:2 * (row + 1) * n:2] = array("q", [row + 1 + ((column + 1) << 32) for column in range(n)])
+        pairs[2 * row * n : 2 * (row + 1) * n : 2] = array(
+            "q", [row + 1 + ((column + 1) << 32) for column in range(n)]
+        )
     return pairs
 
 
@@ -105,7 +118,13 @@ def _square(cells, n: int, engine: str, check: bool) -> List[int]:
         pairs[1::2] = costs
     except (TypeError, OverflowError):
         where = [place for place, c in enumerate(cells) if c is not None]
-        pairs = array("q", chain.from_iterable((place // n + 1 + ((place % n + 1) << 32), limited(cells[place], COST)) for place in where))
+        pairs = array(
+            "q",
+            chain.from_iterable(
+                (place // n + 1 + ((place % n + 1) << 32), limited(cells[place], COST))
+                for place in where
+            ),
+        )
     problem = PairArrays(n, n, pairs, len(pairs) // 2)
     status = problem.solve(choice_of(engine, "block", None))
     if status != FLOW:
@@ -128,11 +147,14 @@ def _why(status: int, problem, where: Optional[List[int]], n: int) -> Exception:
     if status == BLOCKED:
         return ValueError("cost matrix is infeasible")
     place = problem.told.number - 1
-    return Refused(place if where is None or place < 0 else where[place], None, CODES[problem.told.code])
+    return Refused(
+        place if where is None or place < 0 else where[place], None, CODES[problem.told.code]
+    )
 
 
 def _wide(cells, n: int, m: int, engine: str, check: bool) -> List[Tuple[int, int]]:
-    """The pairs of n rows with more columns: each row sends 1, and each column passes on 1 at most to a last node."""
+    """The pairs of n rows with more columns: each row sends 1, and each column passes on 1 at most
+    to a last node."""
     where = [place for place, c in enumerate(cells) if c is not None]
     arcs = [(place // m, n + place % m, 0, 1, cells[place]) for place in where]
     arcs += [(n + column, n + m, 0, 1, 0) for column in range(m)]

@@ -1,7 +1,9 @@
-"""Drop-ins for networkx' functions of minimum-cost flow: the same arguments, results and exceptions.
+"""Drop-ins for networkx' functions of minimum-cost flow: the same arguments, results and
+exceptions.
 
-Where several flows have the least cost, another one may come than networkx gives. An exception has more to tell than its words: of
-an unfeasible graph `nodes`, `side`, `must` and `can`, and of an unbounded one the `cycle`.
+Where several flows have the least cost, another one may come than networkx gives. An exception has
+more to tell than its words: of an unfeasible graph `nodes`, `side`, `must` and `can`, and of an
+unbounded one the `cycle`.
 """
 from typing import Any, Dict, Tuple
 
@@ -11,7 +13,13 @@ from networkx.utils import not_implemented_for
 from ._numbers import exact, scale_of, unscaled
 from ._solving import INFINITE, Infeasible, Number, Unbounded, solve_whole, suited
 
-__all__ = ["network_simplex", "min_cost_flow", "min_cost_flow_cost", "max_flow_min_cost", "maximum_flow_value"]
+__all__ = [
+    "network_simplex",
+    "min_cost_flow",
+    "min_cost_flow_cost",
+    "max_flow_min_cost",
+    "maximum_flow_value",
+]
 
 
 def _edges(G):
@@ -39,8 +47,15 @@ def _solve(nodes, demands, ends, caps, costs, engine, check):
 
 
 @not_implemented_for("undirected")
-def network_simplex(G: Any, demand: str = "demand", capacity: str = "capacity", weight: str = "weight", *, engine: str = "auto",
-                    check: bool = True) -> Tuple[Number, Dict[Any, Dict[Any, Any]]]:
+def network_simplex(
+    G: Any,
+    demand: str = "demand",
+    capacity: str = "capacity",
+    weight: str = "weight",
+    *,
+    engine: str = "auto",
+    check: bool = True,
+) -> Tuple[Number, Dict[Any, Dict[Any, Any]]]:
     """networkx.network_simplex, solved by mcf, each answer judged by its checker."""
     if len(G) == 0:
         raise nx.NetworkXError("graph has no nodes")
@@ -77,7 +92,8 @@ def network_simplex(G: Any, demand: str = "demand", capacity: str = "capacity", 
 
 
 def _by_edge(G, nodes, edges, flow):
-    """The flows as networkx has them: by tail, by head, and by key where there are several edges."""
+    """The flows as networkx has them: by tail, by head, and by key where there are several
+    edges."""
     flows = {u: {} for u in nodes}
     if G.is_multigraph():
         for e, f in zip(edges, flow):
@@ -88,18 +104,33 @@ def _by_edge(G, nodes, edges, flow):
     return flows
 
 
-def min_cost_flow_cost(G: Any, demand: str = "demand", capacity: str = "capacity", weight: str = "weight", **options: Any) -> Number:
+def min_cost_flow_cost(
+    G: Any,
+    demand: str = "demand",
+    capacity: str = "capacity",
+    weight: str = "weight",
+    **options: Any,
+) -> Number:
     """networkx.min_cost_flow_cost, solved by mcf."""
     return network_simplex(G, demand=demand, capacity=capacity, weight=weight, **options)[0]
 
 
-def min_cost_flow(G: Any, demand: str = "demand", capacity: str = "capacity", weight: str = "weight", **options: Any) -> Dict[Any, Dict[Any, Any]]:
+def min_cost_flow(
+    G: Any,
+    demand: str = "demand",
+    capacity: str = "capacity",
+    weight: str = "weight",
+    **options: Any,
+) -> Dict[Any, Dict[Any, Any]]:
     """networkx.min_cost_flow, solved by mcf."""
     return network_simplex(G, demand=demand, capacity=capacity, weight=weight, **options)[1]
 
 
-def maximum_flow_value(G: Any, s: Any, t: Any, capacity: str = "capacity", *, engine: str = "auto", check: bool = True) -> Number:
-    """The greatest flow from s to t: the least cost, turned round, where an arc from t to s earns 1 a unit."""
+def maximum_flow_value(
+    G: Any, s: Any, t: Any, capacity: str = "capacity", *, engine: str = "auto", check: bool = True
+) -> Number:
+    """The greatest flow from s to t: the least cost, turned round, where an arc from t to s earns 1
+    a unit."""
     if G.is_multigraph():
         raise nx.NetworkXError("MultiGraph and MultiDiGraph not supported (yet).")
     for v in (s, t):
@@ -118,13 +149,17 @@ def maximum_flow_value(G: Any, s: Any, t: Any, capacity: str = "capacity", *, en
     ends.append((number[t], number[s]))
     caps.append(INFINITE)
     try:
-        cost, flow = _solve(nodes, [0] * len(nodes), ends, caps, [0] * (len(ends) - 1) + [-1], engine, check)
+        cost, flow = _solve(
+            nodes, [0] * len(nodes), ends, caps, [0] * (len(ends) - 1) + [-1], engine, check
+        )
     except Unbounded:
         raise nx.NetworkXUnbounded("Infinite capacity path, flow unbounded above.") from None
     return flow[-1]
 
 
-def max_flow_min_cost(G: Any, s: Any, t: Any, capacity: str = "capacity", weight: str = "weight", **options: Any) -> Dict[Any, Dict[Any, Any]]:
+def max_flow_min_cost(
+    G: Any, s: Any, t: Any, capacity: str = "capacity", weight: str = "weight", **options: Any
+) -> Dict[Any, Dict[Any, Any]]:
     """networkx.max_flow_min_cost, solved by mcf."""
     value = maximum_flow_value(G, s, t, capacity=capacity, **options)
     H = nx.DiGraph(G)

@@ -21,8 +21,8 @@ def _node(node: int) -> int:
 
 
 class SimpleMinCostFlow:
-    """Collects arcs and supplies by number, and solves them, as ortools.graph.python.min_cost_flow.SimpleMinCostFlow does. A call
-    that raises has added nothing.
+    """Collects arcs and supplies by number, and solves them, as
+    ortools.graph.python.min_cost_flow.SimpleMinCostFlow does. A call that raises has added nothing.
 
     >>> smcf = SimpleMinCostFlow()
     >>> arcs = smcf.add_arcs_with_capacity_and_unit_cost([0, 0, 1], [1, 2, 2], [4, 3, 4], [1, 5, 1])
@@ -30,7 +30,17 @@ class SimpleMinCostFlow:
     >>> smcf.solve() == smcf.OPTIMAL, smcf.optimal_cost(), smcf.flows(arcs)
     (True, 13, [4, 1, 4])
     """
-    NOT_SOLVED, OPTIMAL, FEASIBLE, INFEASIBLE, UNBALANCED, BAD_RESULT, BAD_COST_RANGE, BAD_CAPACITY_RANGE = range(8)
+
+    (
+        NOT_SOLVED,
+        OPTIMAL,
+        FEASIBLE,
+        INFEASIBLE,
+        UNBALANCED,
+        BAD_RESULT,
+        BAD_COST_RANGE,
+        BAD_CAPACITY_RANGE,
+    ) = range(8)
 
     def __init__(self) -> None:
         self._arcs: List[tuple] = []
@@ -41,12 +51,22 @@ class SimpleMinCostFlow:
     def _reach(self, node: int) -> None:
         self._supplies += [0] * (node + 1 - len(self._supplies))
 
-    def add_arc_with_capacity_and_unit_cost(self, tail: int, head: int, capacity: int, unit_cost: int) -> int:
+    def add_arc_with_capacity_and_unit_cost(
+        self, tail: int, head: int, capacity: int, unit_cost: int
+    ) -> int:
         return self.add_arcs_with_capacity_and_unit_cost([tail], [head], [capacity], [unit_cost])[0]
 
-    def add_arcs_with_capacity_and_unit_cost(self, tails: Sequence[int], heads: Sequence[int], capacities: Sequence[int],
-                                             unit_costs: Sequence[int]) -> List[int]:
-        arcs = [(_node(u), _node(v), index(cap), index(cost)) for u, v, cap, cost in _together(tails, heads, capacities, unit_costs)]
+    def add_arcs_with_capacity_and_unit_cost(
+        self,
+        tails: Sequence[int],
+        heads: Sequence[int],
+        capacities: Sequence[int],
+        unit_costs: Sequence[int],
+    ) -> List[int]:
+        arcs = [
+            (_node(u), _node(v), index(cap), index(cost))
+            for u, v, cap, cost in _together(tails, heads, capacities, unit_costs)
+        ]
         for u, v, _, _ in arcs:
             self._reach(max(u, v))
         self._arcs += arcs
@@ -93,7 +113,11 @@ class SimpleMinCostFlow:
             return self.INFEASIBLE
         except Refused as error:
             self.error = error
-            return self.BAD_COST_RANGE if error.reason in ("cost", "total") else self.BAD_CAPACITY_RANGE
+            return (
+                self.BAD_COST_RANGE
+                if error.reason in ("cost", "total")
+                else self.BAD_CAPACITY_RANGE
+            )
         return self.OPTIMAL
 
     def _solved(self) -> Flow:

@@ -19,12 +19,20 @@ def shown_line(fault):
     """The line of a fault with a caret below it; of a long line the part around."""
     if not fault.row:
         return []
-    start = fault.row.starts[fault.field] if fault.field < len(fault.row.starts) else len(fault.row.line)
-    before, after = (
-        part.decode("utf-8", "backslashreplace") for part in (fault.row.line[:start], fault.row.line[start:])
+    start = (
+        fault.row.starts[fault.field]
+        if fault.field < len(fault.row.starts)
+        else len(fault.row.line)
     )
     before, after = (
-        "".join(c if c.isprintable() else " " if c == "\t" else f"\\x{ord(c):02x}" for c in part.rstrip("\r"))
+        part.decode("utf-8", "backslashreplace")
+        for part in (fault.row.line[:start], fault.row.line[start:])
+    )
+    before, after = (
+        "".join(
+            c if c.isprintable() else " " if c == "\t" else f"\\x{ord(c):02x}"
+            for c in part.rstrip("\r")
+        )
         for part in (before, after)
     )
     before = before if len(before) <= SHOWN else "..." + before[-SHOWN + 3 :]
@@ -35,7 +43,9 @@ def shown_line(fault):
 def first_lines(name, fault, data):
     """All that is said of the first fault."""
     sentence, cause = said_of(fault)
-    lines = [f"{name}: line {fault.number}: {sentence} (mcf: r {fault.number} {fault.code})"] + shown_line(fault)
+    lines = [
+        f"{name}: line {fault.number}: {sentence} (mcf: r {fault.number} {fault.code})"
+    ] + shown_line(fault)
     magic = magic_of(data) if fault.number == 1 or b"\n" not in data else None
     usual = magic or cause
     return lines + ([f"Usual cause: {usual}{'' if usual.endswith('?') else '.'}"] if usual else [])
@@ -52,13 +62,16 @@ def further_lines(faults):
     told = []
     for code, (lines, (count, last)) in kinds.items():
         told += lines + (
-            [f"and {count - len(lines)} more of {code}, the last in line {last}"] if count > len(lines) else []
+            [f"and {count - len(lines)} more of {code}, the last in line {last}"]
+            if count > len(lines)
+            else []
         )
     return (["Further on, where mcf doesn't look any more:"] if told else []) + told
 
 
 def agreement(programs, data, fault):
-    """A line where what was found first isn't the refusal of the instance, as `mcfcheck` judges it."""
+    """A line where what was found first isn't the refusal of the instance, as `mcfcheck` judges
+    it."""
     with tempfile.TemporaryDirectory() as scratch:
         instance, answer = pathlib.Path(scratch, "instance"), pathlib.Path(scratch, "answer")
         instance.write_bytes(data)
@@ -72,7 +85,8 @@ def agreement(programs, data, fault):
         []
         if is_right
         else [
-            "MCF SEES IT OTHERWISE: mcfcheck doesn't accept what is said here. Believe mcf; please report the instance."
+            "MCF SEES IT OTHERWISE: mcfcheck doesn't accept what is said here. Believe mcf; please"
+            " report the instance."
         ]
     )
 
@@ -82,10 +96,18 @@ def explained(name, data, programs):
     faults = faults_of(data)
     with life.doing("reads the instance"):
         first = next(faults, None)
-        lines = [f"{name}: mcf refuses nothing here."] if first is None else first_lines(name, first, data)
-        rest = [] if first is None or (magic_of(data) and first.number == 1) else further_lines(faults)
+        lines = (
+            [f"{name}: mcf refuses nothing here."]
+            if first is None
+            else first_lines(name, first, data)
+        )
+        rest = (
+            [] if first is None or (magic_of(data) and first.number == 1) else further_lines(faults)
+        )
     against = agreement(programs, data, first) if programs else []
-    unsure = [] if programs else ["(mcfcheck isn't there, so this wasn't compared with what mcf says.)"]
+    unsure = (
+        [] if programs else ["(mcfcheck isn't there, so this wasn't compared with what mcf says.)"]
+    )
     return lines + rest + unsure + against, 3 if against else 0 if first is None else 2
 
 
@@ -108,12 +130,15 @@ def data_of(file):
 
 
 def main(words):
-    """Does what the words ask, and gives the exit status: 0 where there is no fault, 2 where there is one, 3
-    for anything else."""
+    """Does what the words ask, and gives the exit status: 0 where there is no fault, 2 where there
+    is one, 3 for anything else."""
     parser = Parser(
-        prog="mcf_explain", description="Why mcf refuses an instance: the first fault in words, and all further ones."
+        prog="mcf_explain",
+        description="Why mcf refuses an instance: the first fault in words, and all further ones.",
     )
-    parser.add_argument("file", nargs="?", metavar="FILE", help="the instance; without it, standard input")
+    parser.add_argument(
+        "file", nargs="?", metavar="FILE", help="the instance; without it, standard input"
+    )
     parser.add_argument("--programs", metavar="FOLDER", help="where mcf and mcfcheck are")
     try:
         prepare()

@@ -1,14 +1,22 @@
-"""The faults of an instance: the first one as `mcf` finds it, and those after it as far as can be told."""
+"""The faults of an instance: the first one as `mcf` finds it, and those after it as far as can be
+told."""
 import collections
 import re
 
 FIELD, WHOLE = re.compile(rb"[^ \t\r]+"), re.compile(rb"[+-]?[0-9]+")
-NODE_LIMIT, ARC_LIMIT, AMOUNT_LIMIT, COST_LIMIT, TOTAL_LIMIT = 10**6, 10**7, 10**18, 10**15, 10**36
+NODE_LIMIT, ARC_LIMIT, AMOUNT_LIMIT, COST_LIMIT, TOTAL_LIMIT = (
+    10**6,
+    10**7,
+    10**18,
+    10**15,
+    10**36,
+)
 
-# A line that is no comment and not blank: its number, its bytes, and the places where its fields begin.
+# A line that is no comment and not blank: its number, its bytes, and the places where its fields
+# begin.
 Row = collections.namedtuple("Row", "number line starts fields")
-# What is wrong: a code of `mcf`, the row (None after the last line), the number of the field, and what else
-# the sentence needs.
+# What is wrong: a code of `mcf`, the row (None after the last line), the number of the field, and
+# what else the sentence needs.
 Fault = collections.namedtuple("Fault", "code number row field known")
 
 
@@ -25,7 +33,8 @@ def rows_of(data):
 
 
 class Reader:
-    """What was read before a line. After a faulty problem line what it should say isn't known, and isn't looked at."""
+    """What was read before a line. After a faulty problem line what it should say isn't known, and
+    isn't looked at."""
 
     def __init__(self):
         self.problem = self.nodes = self.arcs = None
@@ -36,9 +45,11 @@ class Reader:
         kind = row.fields[0]
         if kind not in (b"p", b"n", b"a"):
             return self.made("kind", row, 0)
-        found = self.form_fault(row, kind) or {b"p": self.header_fault, b"n": self.node_fault, b"a": self.arc_fault}[
-            kind
-        ](row)
+        found = self.form_fault(row, kind) or {
+            b"p": self.header_fault,
+            b"n": self.node_fault,
+            b"a": self.arc_fault,
+        }[kind](row)
         self.take(row, kind)
         return found
 
@@ -67,7 +78,12 @@ class Reader:
         if kind == b"p" and row.fields[1] not in (b"min", b"asn"):
             return self.made("problem", row, 1)
         wrong = next(
-            (k for k in range(2 if kind == b"p" else 1, len(row.fields)) if not WHOLE.fullmatch(row.fields[k])), None
+            (
+                k
+                for k in range(2 if kind == b"p" else 1, len(row.fields))
+                if not WHOLE.fullmatch(row.fields[k])
+            ),
+            None,
         )
         if wrong is not None:
             return self.made("number", row, wrong)
@@ -84,7 +100,14 @@ class Reader:
 
     def end_fault(self, row, places):
         """A fault of the nodes that a line names."""
-        wrong = next((k for k in places if self.nodes is not None and not 1 <= int(row.fields[k]) <= self.nodes), None)
+        wrong = next(
+            (
+                k
+                for k in places
+                if self.nodes is not None and not 1 <= int(row.fields[k]) <= self.nodes
+            ),
+            None,
+        )
         return None if wrong is None else self.made("node", row, wrong)
 
     def node_fault(self, row):
@@ -94,7 +117,11 @@ class Reader:
             return found or self.made("late-n", row, 0)
         if int(row.fields[1]) in self.named:
             return self.made("twice", row, 1)
-        return self.made("supply", row, 2) if len(row.fields) == 3 and abs(int(row.fields[2])) > AMOUNT_LIMIT else None
+        return (
+            self.made("supply", row, 2)
+            if len(row.fields) == 3 and abs(int(row.fields[2])) > AMOUNT_LIMIT
+            else None
+        )
 
     def arc_fault(self, row):
         """A fault of an arc line whose form is right."""
@@ -119,12 +146,16 @@ class Reader:
         good = [field if WHOLE.fullmatch(field) else None for field in row.fields[1:]]
         if kind == b"p" and self.header is None:
             self.header = row
-            self.problem = row.fields[1] if len(row.fields) > 1 and row.fields[1] in (b"min", b"asn") else None
+            self.problem = (
+                row.fields[1] if len(row.fields) > 1 and row.fields[1] in (b"min", b"asn") else None
+            )
             sizes = [
                 int(field) if field is not None and 0 <= int(field) <= limit else None
                 for field, limit in zip(good[1:3], (NODE_LIMIT, ARC_LIMIT))
             ]
-            self.nodes, self.arcs = sizes if len(sizes) == 2 and len(row.fields) == 4 else (None, None)
+            self.nodes, self.arcs = (
+                sizes if len(sizes) == 2 and len(row.fields) == 4 else (None, None)
+            )
         elif kind == b"n" and good and good[0] is not None:
             self.named.setdefault(int(good[0]), row.number)
         elif kind == b"a":

@@ -5,13 +5,18 @@ from mcf_plan.words import count_of
 
 # What files of other kinds begin with.
 MAGIC = {
-    b"\x1f\x8b": "the file is compressed by gzip: unpack it first, as in  gunzip < FILE | mcf solve",
+    b"\x1f\x8b": (
+        "the file is compressed by gzip: unpack it first, as in  gunzip < FILE | mcf solve"
+    ),
     b"BZh": "the file is compressed by bzip2: unpack it first",
     b"\xfd7zXZ": "the file is compressed by xz: unpack it first",
     b"\x28\xb5\x2f\xfd": "the file is compressed by zstd: unpack it first",
     b"PK\x03\x04": "the file is a zip archive, or a workbook",
     b"\x7fELF": "the file is a program",
-    b"\xef\xbb\xbf": "the file begins with a byte-order mark, as some editors write it: save it as UTF-8 without one, or  tail -c +4 FILE",
+    b"\xef\xbb\xbf": (
+        "the file begins with a byte-order mark, as some editors write it: save it as UTF-8 without"
+        " one, or  tail -c +4 FILE"
+    ),
     b"\xff\xfe": "the file is in UTF-16: save it as plain text",
     b"\xfe\xff": "the file is in UTF-16: save it as plain text",
     b"{": "the file is JSON",
@@ -19,7 +24,10 @@ MAGIC = {
     b"NAME": "the file is a linear program in MPS: mcf reads the DIMACS form of minimum-cost flow",
 }
 PROBLEMS = {
-    b"max": "a maximum flow: mcf takes min and asn; with cost -1 on an arc from sink to source, and no supplies, it is a problem of least cost",
+    b"max": (
+        "a maximum flow: mcf takes min and asn; with cost -1 on an arc from sink to source, and no"
+        " supplies, it is a problem of least cost"
+    ),
     b"sp": "a problem of shortest paths: mcf takes min and asn",
     b"edge": "a graph to be coloured or matched: mcf takes min and asn",
     b"col": "a graph to be coloured: mcf takes min and asn",
@@ -62,7 +70,13 @@ def kind_words(fault):
         cause = "this looks like a table: mcf_plan reads tables"
     elif len(field) > 1 and field[:1] in (b"p", b"n", b"a"):
         cause = "there is a blank after the letter"
-    return f"{text(field)} begins no line of an instance: lines begin with p, n or a, and comments with c", cause
+    return (
+        (
+            f"{text(field)} begins no line of an instance: lines begin with p, n or a, and comments"
+            " with c"
+        ),
+        cause,
+    )
 
 
 def fields_words(fault):
@@ -93,12 +107,16 @@ def number_words(fault):
     cause = None
     if re.fullmatch(rb"[+-]?[0-9]*[.,][0-9]+", field):
         cause = (
-            "numbers are whole: multiply all costs, or all amounts, by 10, 100 or 1000 (mcf_plan does that for tables)"
+            "numbers are whole: multiply all costs, or all amounts, by 10, 100 or 1000 (mcf_plan"
+            " does that for tables)"
         )
     elif re.fullmatch(rb"[+-]?[0-9.]+[eE][+-]?[0-9]+", field):
         cause = "write all digits of a number"
     elif field.lower().lstrip(b"+-") in (b"inf", b"infinity", b"infinite", b"nan", b"none"):
-        cause = "no number means that there is no limit: give as CAP what all supplies add to, if no cost is below 0"
+        cause = (
+            "no number means that there is no limit: give as CAP what all supplies add to, if no"
+            " cost is below 0"
+        )
     return f"{text(field)} is no whole number", cause
 
 
@@ -120,7 +138,10 @@ def last_words(fault):
     if fault.code == "no-p":
         return "there is no problem line, p min NODES ARCS or p asn NODES ARCS", None
     return (
-        f"the problem line (line {fault.known['header'].number}) says {count_of(arcs, 'arc', 'arcs')}, and there {'is' if lines == 1 else 'are'} {lines}",
+        (
+            f"the problem line (line {fault.known['header'].number}) says"
+            f" {count_of(arcs, 'arc', 'arcs')}, and there {'is' if lines == 1 else 'are'} {lines}"
+        ),
         "was the text cut off?",
     )
 
@@ -128,7 +149,9 @@ def last_words(fault):
 def problem_words(fault):
     """A problem that `mcf` doesn't take."""
     word = fault.row.fields[1]
-    cause = "the words are in small letters" if word.lower() in (b"min", b"asn") else PROBLEMS.get(word)
+    cause = (
+        "the words are in small letters" if word.lower() in (b"min", b"asn") else PROBLEMS.get(word)
+    )
     return f"the problem {text(word)} is neither min nor asn", cause
 
 
@@ -141,8 +164,17 @@ def size_words(fault):
 def node_words(fault):
     """A node that there isn't."""
     number = int(fault.row.fields[fault.field])
-    which = "the node" if fault.row.fields[0] == b"n" else "the first end" if fault.field == 1 else "the second end"
-    return f"{which} is {number}; nodes are 1 to {fault.known['nodes']}", "nodes count from 1" if number == 0 else None
+    which = (
+        "the node"
+        if fault.row.fields[0] == b"n"
+        else "the first end"
+        if fault.field == 1
+        else "the second end"
+    )
+    return (
+        f"{which} is {number}; nodes are 1 to {fault.known['nodes']}",
+        "nodes count from 1" if number == 0 else None,
+    )
 
 
 def twice_words(fault):
@@ -153,14 +185,19 @@ def twice_words(fault):
 
 def limit_words(fault):
     """A number beyond the limits."""
-    what, limit = {"supply": ("supplies", 18), "bound": ("bounds", 18), "cost": ("costs", 15)}[fault.code]
+    what, limit = {"supply": ("supplies", 18), "bound": ("bounds", 18), "cost": ("costs", 15)}[
+        fault.code
+    ]
     cause = (
         "where no limit is meant, give as CAP what all supplies add to, if no cost is below 0"
         if fault.code == "bound"
         else None
     )
     return (
-        f"{text(fault.row.fields[fault.field])} is beyond the {what} that mcf takes, -10^{limit} to 10^{limit}",
+        (
+            f"{text(fault.row.fields[fault.field])} is beyond the {what} that mcf takes,"
+            f" -10^{limit} to 10^{limit}"
+        ),
         cause,
     )
 
@@ -176,15 +213,30 @@ def place_words(fault):
     known = fault.known
     header = f"line {known['header'].number}" if known["header"] else ""
     return {
-        "second-p": (f"this is a second problem line; the first is {header}", "were two instances put into one file?"),
+        "second-p": (
+            f"this is a second problem line; the first is {header}",
+            "were two instances put into one file?",
+        ),
         "before-p": ("this line stands before the problem line, which comes first", None),
-        "late-n": (f"this node line stands after an arc line (line {known['first_arc']}): node lines come first", None),
+        "late-n": (
+            (
+                f"this node line stands after an arc line (line {known['first_arc']}): node lines"
+                " come first"
+            ),
+            None,
+        ),
         "extra": (
-            f"this is arc line {known['arc_lines'] + 1}, and the problem line ({header}) says {count_of(known['arcs'] or 0, 'arc', 'arcs')}",
+            (
+                f"this is arc line {known['arc_lines'] + 1}, and the problem line ({header}) says"
+                f" {count_of(known['arcs'] or 0, 'arc', 'arcs')}"
+            ),
             None,
         ),
         "total": (
-            "with this arc the sizes of costs, times the greater size of LOW and CAP, add to more than 10^36",
+            (
+                "with this arc the sizes of costs, times the greater size of LOW and CAP, add to"
+                " more than 10^36"
+            ),
             "are bounds great where no limit is meant?",
         ),
     }[fault.code]

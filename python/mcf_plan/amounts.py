@@ -1,5 +1,5 @@
-"""Numbers as tables have them: whole or with decimals, after a point or a comma, with or without marks
-between thousands. All are exact."""
+"""Numbers as tables have them: whole or with decimals, after a point or a comma, with or without
+marks between thousands. All are exact."""
 import math
 import re
 from fractions import Fraction
@@ -28,7 +28,8 @@ def without_blanks(cell):
 
 
 def mark_in(cell):
-    """The mark before decimals, if a cell settles it; blanks between thousands leave a mark no other meaning."""
+    """The mark before decimals, if a cell settles it; blanks between thousands leave a mark no
+    other meaning."""
     if isinstance(cell, Figure) or WHOLE.fullmatch(cell):
         return None
     spaced = SPACED.fullmatch(cell)
@@ -41,7 +42,8 @@ def mark_in(cell):
         return found[1]
     for mark, other in OTHER.items():
         if re.fullmatch(
-            rf"[+-]?[0-9]{{1,3}}(?:\{other}[0-9]{{3}})+\{mark}[0-9]+|[+-]?[0-9]{{1,3}}(?:\{other}[0-9]{{3}}){{2,}}",
+            rf"[+-]?[0-9]{{1,3}}(?:\{other}[0-9]{{3}})+\{mark}[0-9]+"
+            rf"|[+-]?[0-9]{{1,3}}(?:\{other}[0-9]{{3}}){{2,}}",
             cell,
         ):
             return mark
@@ -53,7 +55,9 @@ def value_of(cell, mark):
     cell = without_blanks(cell)
     other = OTHER[mark]
     if not re.fullmatch(
-        rf"[+-]?(?:[0-9]{{1,1000}}|[0-9]{{1,3}}(?:\{other}[0-9]{{3}})+|(?=\{mark}))(?:\{mark}[0-9]{{1,1000}})?", cell
+        rf"[+-]?(?:[0-9]{{1,1000}}|[0-9]{{1,3}}(?:\{other}[0-9]{{3}})+|(?=\{mark}))"
+        rf"(?:\{mark}[0-9]{{1,1000}})?",
+        cell,
     ):
         return None
     whole, _, decimals = cell.replace(other, "").partition(mark)
@@ -62,7 +66,8 @@ def value_of(cell, mark):
 
 
 class Numbers:
-    """How the numbers of some tables are written: which mark stands before decimals, as was said or as cells show."""
+    """How the numbers of some tables are written: which mark stands before decimals, as was said or
+    as cells show."""
 
     def __init__(self, mark=None):
         self.mark, self.shown_by, self.settled = mark, {}, None
@@ -82,8 +87,11 @@ class Numbers:
             faults.add(
                 At(other, other_line, ""),
                 "both marks",
-                f"decimals stand after a point and after a comma: {shown(cell)} ({table.name}, line {line}) and "
-                f"{shown(other_cell)}; write them in one way, or say --decimal",
+                (
+                    f"decimals stand after a point and after a comma: {shown(cell)} ({table.name},"
+                    f" line {line}) and {shown(other_cell)}; write them in one way, or say"
+                    " --decimal"
+                ),
             )
         self.mark = self.mark or next(iter(self.shown_by), None)
 
@@ -95,8 +103,11 @@ class Numbers:
             faults.add(
                 At(table, line, head),
                 "either",
-                f"{shown(cell)} may be {cell.replace(',', '').replace('.', '')} or a number with three decimals: "
-                "say --decimal , or --decimal . (what stands before decimals)",
+                (
+                    f"{shown(cell)} may be {cell.replace(',', '').replace('.', '')} or a number"
+                    " with three decimals: say --decimal , or --decimal . (what stands before"
+                    " decimals)"
+                ),
                 cell,
             )
             return 0
@@ -105,7 +116,10 @@ class Numbers:
             faults.add(At(table, line, head), *self.fault(cell), cell)
             return 0
         if EITHER.fullmatch(cell) and not isinstance(cell, Figure) and not self.settled:
-            self.settled = f"{shown(cell)} ({table.name}, line {line}) is read as {value if value.__class__ is int else float(value)}"
+            self.settled = (
+                f"{shown(cell)} ({table.name}, line {line}) is read as"
+                f" {value if value.__class__ is int else float(value)}"
+            )
         return value
 
     def penalty(self, text):
@@ -130,10 +144,19 @@ class Numbers:
             table, line, other = self.shown_by[mark]
             return (
                 "other mark",
-                f"{shown(cell)} isn't written as other numbers are, such as {shown(other)} ({table.name}, line {line})",
+                (
+                    f"{shown(cell)} isn't written as other numbers are, such as"
+                    f" {shown(other)} ({table.name}, line {line})"
+                ),
             )
         if value_of(cell, OTHER[mark]) is not None:
-            return "other mark", f"{shown(cell)} isn't written with {shown(mark)} before decimals, as --decimal says"
+            return (
+                "other mark",
+                (
+                    f"{shown(cell)} isn't written with {shown(mark)} before decimals, as --decimal"
+                    " says"
+                ),
+            )
         return "no number", f"{shown(cell)} is no number"
 
     def told(self):
@@ -144,7 +167,8 @@ class Numbers:
             return [f"{self.settled}, as --decimal says."]
         table, line, cell = self.shown_by[self.mark]
         return [
-            f"{self.settled}, since {shown(cell)} ({table.name}, line {line}) has decimals after {shown(self.mark)}."
+            f"{self.settled}, since {shown(cell)} ({table.name}, line {line}) has decimals after"
+            f" {shown(self.mark)}."
         ]
 
 
@@ -156,7 +180,10 @@ def coordinate_in(table, line, head, cell, faults):
         faults.add(
             At(table, line, head),
             "no spot",
-            f"{shown(cell)} is no number (either all places have x and y, or leave the columns out)",
+            (
+                f"{shown(cell)} is no number (either all places have x and y, or leave the columns"
+                " out)"
+            ),
             cell,
         )
     return number
@@ -181,8 +208,8 @@ def decimal_text(number, scale):
 
 
 class Units:
-    """What whole numbers of an instance are in the units of the tables. Costs may be told with another sign
-    than they have there."""
+    """What whole numbers of an instance are in the units of the tables. Costs may be told with
+    another sign than they have there."""
 
     def __init__(self, amounts=1, costs=1, sign=1):
         self.amounts, self.costs, self.sign = amounts, costs, sign
@@ -201,7 +228,10 @@ class Units:
 
     def comment(self):
         """The comment of the instance."""
-        return f"c amounts here are {self.amounts} times those of the tables, costs of a unit {self.sign * self.costs} times"
+        return (
+            f"c amounts here are {self.amounts} times those of the tables, costs of a unit"
+            f" {self.sign * self.costs} times"
+        )
 
 
 class Said:

@@ -9,8 +9,8 @@ from .solve import bottlenecks_of
 class Blocked:
     """What blocks a network that has no plan, as `mcfcheck` accepted.
 
-    Where supplies and demands don't agree, all places together do; and then whatever blocks if what is too
-    much may stay, or be short: that is `eased`.
+    Where supplies and demands don't agree, all places together do; and then whatever blocks if what
+    is too much may stay, or be short: that is `eased`.
     """
 
     def __init__(self, programs, folder, net):
@@ -20,7 +20,9 @@ class Blocked:
         if self.is_unbalanced:
             self.eased = FlowNet(
                 net.problem,
-                net.policy._replace(unused=net.policy.unused or total > 0, short=net.policy.short or total < 0),
+                net.policy._replace(
+                    unused=net.policy.unused or total > 0, short=net.policy.short or total < 0
+                ),
             )
             with tempfile.TemporaryDirectory() as scratch:
                 self.bottlenecks = self.remaining(programs, pathlib.Path(scratch))
@@ -40,4 +42,6 @@ class Blocked:
         """All bottlenecks, the balance first."""
         total = sum(self.net.supplies)
         everything = set(range(1, len(self.net.supplies) + 1))
-        return ([self.net.bottleneck("send" if total > 0 else "take", everything)] if total else []) + self.bottlenecks
+        return (
+            [self.net.bottleneck("send" if total > 0 else "take", everything)] if total else []
+        ) + self.bottlenecks

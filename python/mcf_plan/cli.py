@@ -11,8 +11,26 @@ from .faults import Stop, trouble
 from .results import Results
 from .tables import Reading
 
-HEADS = ("name", "supply", "x", "y", "from", "to", "least", "most", "cost", "both", "who", "what", "takes", "needs")
-STATUSES = "Status 0: a plan, accepted. 1: no plan exists, accepted. 2: a bad table or a wrong call. 3: anything else. 130: interrupted."
+HEADS = (
+    "name",
+    "supply",
+    "x",
+    "y",
+    "from",
+    "to",
+    "least",
+    "most",
+    "cost",
+    "both",
+    "who",
+    "what",
+    "takes",
+    "needs",
+)
+STATUSES = (
+    "Status 0: a plan, accepted. 1: no plan exists, accepted. 2: a bad table or a wrong call. 3:"
+    " anything else. 130: interrupted."
+)
 
 
 class Parser(argparse.ArgumentParser):
@@ -26,7 +44,9 @@ class Parser(argparse.ArgumentParser):
 def options_of(words):
     """What the words of the command line ask."""
     parser = Parser(
-        prog="mcf_plan", description="Plans from tables, as mcf solves them and mcfcheck accepts them.", epilog=STATUSES
+        prog="mcf_plan",
+        description="Plans from tables, as mcf solves them and mcfcheck accepts them.",
+        epilog=STATUSES,
     )
     commands = parser.add_subparsers(dest="command", metavar="flow|pairs|diff")
     add_flow(commands.add_parser("flow", help="the least-cost flow over routes between places"))
@@ -48,8 +68,10 @@ def add_flow(command):
         "tables",
         metavar="PLACES [ROUTES]",
         nargs="+",
-        help="a table with the columns name and supply, perhaps x and y; and one "
-        "with the columns from, to, most and cost, perhaps least; or a workbook with both as sheets",
+        help=(
+            "a table with the columns name and supply, perhaps x and y; and one with the columns"
+            " from, to, most and cost, perhaps least; or a workbook with both as sheets"
+        ),
     )
     add_common(command, flow_command)
     for word, text in (
@@ -69,15 +91,22 @@ def add_flow(command):
 def add_pairs(command):
     """Adds the words and options of `pairs`."""
     command.add_argument(
-        "costs", metavar="COSTS", help="a table with the columns who, what and cost, or a matrix of persons by things"
+        "costs",
+        metavar="COSTS",
+        help="a table with the columns who, what and cost, or a matrix of persons by things",
     )
     add_common(command, pairs_command)
     command.add_argument(
         "--each",
         choices=("who", "what", "both"),
-        help="who gets one: each person (the usual), each thing (where takes or needs are said), or both",
+        help=(
+            "who gets one: each person (the usual), each thing (where takes or needs are said), or"
+            " both"
+        ),
     )
-    command.add_argument("--maximise", "--maximize", action="store_true", help="costs are values: the greatest sum")
+    command.add_argument(
+        "--maximise", "--maximize", action="store_true", help="costs are values: the greatest sum"
+    )
 
 
 def add_diff(command):
@@ -92,7 +121,12 @@ def add_diff(command):
 def add_common(command, act):
     """Adds the options of all that makes a plan."""
     command.add_argument(
-        "-o", "--output", dest="folder", metavar="FOLDER", required=True, help="where the results are written"
+        "-o",
+        "--output",
+        dest="folder",
+        metavar="FOLDER",
+        required=True,
+        help="where the results are written",
     )
     command.add_argument(
         "--programs",
@@ -106,9 +140,13 @@ def add_common(command, act):
 def add_reading(command):
     """Adds the options on how tables are read and written."""
     command.add_argument(
-        "--decimal", choices=(",", "."), help="what stands before decimals, where the tables don't show it"
+        "--decimal",
+        choices=(",", "."),
+        help="what stands before decimals, where the tables don't show it",
     )
-    command.add_argument("--encoding", help="the encoding of the tables, such as windows-1252, if it isn't UTF-8")
+    command.add_argument(
+        "--encoding", help="the encoding of the tables, such as windows-1252, if it isn't UTF-8"
+    )
     command.add_argument(
         "--map",
         action="append",
@@ -117,13 +155,17 @@ def add_reading(command):
         help="the column that is wanted as HEAD is called NAME in the tables",
     )
     command.add_argument(
-        "--xlsx", action="store_true", help="write the tables as a workbook, too, as is done where a workbook was read"
+        "--xlsx",
+        action="store_true",
+        help="write the tables as a workbook, too, as is done where a workbook was read",
     )
     command.add_argument("--title", help="what the page is called")
     command.add_argument("--currency", default="", help="what costs are in, for the page")
     command.add_argument("--unit", default="", help="what amounts are in, for the page")
     command.add_argument(
-        "--guard-formulas", action="store_true", help="write ' before cells that a spreadsheet would take for a formula"
+        "--guard-formulas",
+        action="store_true",
+        help="write ' before cells that a spreadsheet would take for a formula",
     )
 
 
@@ -135,13 +177,17 @@ def reading_of(options):
         if re.sub("^(most|cost) [2-9]$", r"\1", word.split("=")[0]) not in HEADS or "=" not in word
     ]
     if wrong:
-        raise Stop(f"--map {wrong[0]}: say --map HEAD=NAME, where HEAD is one of {', '.join(HEADS)}", 2)
-    return Reading(options.decimal, options.encoding, dict(word.split("=", 1) for word in options.map))
+        raise Stop(
+            f"--map {wrong[0]}: say --map HEAD=NAME, where HEAD is one of {', '.join(HEADS)}", 2
+        )
+    return Reading(
+        options.decimal, options.encoding, dict(word.split("=", 1) for word in options.map)
+    )
 
 
 def prepare():
-    """Opens streams that were closed, lets any text be printed, and lets a signal end the run with its
-    status, after all is tidied up."""
+    """Opens streams that were closed, lets any text be printed, and lets a signal end the run with
+    its status, after all is tidied up."""
     for number in range(3):
         try:
             os.fstat(number)
@@ -162,7 +208,9 @@ def ended_by(number, _):
 def told(text, status):
     """Says on standard error why there is no plan, and gives the status."""
     try:
-        print("\n".join(f"mcf_plan: {line}" for line in text.split("\n")), file=sys.stderr, flush=True)
+        print(
+            "\n".join(f"mcf_plan: {line}" for line in text.split("\n")), file=sys.stderr, flush=True
+        )
     except (OSError, MemoryError):
         sys.stderr = None
     return status
@@ -174,7 +222,9 @@ def said(lines):
         print("\n".join(lines), flush=True)
     except OSError as error:
         sys.stdout = None
-        raise trouble(f"the plan is in its folder, and the summary can't be written: {error.strerror}")
+        raise trouble(
+            f"the plan is in its folder, and the summary can't be written: {error.strerror}"
+        )
 
 
 def main(words):
@@ -195,5 +245,9 @@ def main(words):
         return told(f"{error.filename or 'a file'}: {error.strerror}", 3)
     except Exception as error:  # Status 1 would say that no plan exists.
         return told(
-            f"a fault of this tool, which please report: {type(error).__name__}: {' '.join(str(error).split())}", 3
+            (
+                f"a fault of this tool, which please report: {type(error).__name__}:"
+                f" {' '.join(str(error).split())}"
+            ),
+            3,
         )

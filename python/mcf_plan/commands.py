@@ -15,7 +15,9 @@ from .solve import Programs, bottlenecks_of, solve
 def policy_of(options, problem):
     """What may stay and what may be short."""
     return Policy(
-        options.unused == "allow" or options.most_flow, options.short == "allow" or options.most_flow, problem.penalty
+        options.unused == "allow" or options.most_flow,
+        options.short == "allow" or options.most_flow,
+        problem.penalty,
     )
 
 
@@ -27,7 +29,9 @@ def flow_command(options, reading):
         problem = Problem.read(options.tables, reading, options.penalty)
     programs, net = Programs(options.programs), FlowNet(problem, policy_of(options, problem))
     with results_in(options.folder) as folder:
-        results = Results(folder, options, problem.numbers.mark, [problem.place_table, problem.route_table])
+        results = Results(
+            folder, options, problem.numbers.mark, [problem.place_table, problem.route_table]
+        )
         answer = solve(programs, folder, net.instance())
         lines = (
             plan_results(FlowPlan(net, answer), results, options)
@@ -91,10 +95,16 @@ def pairs_command(options, reading):
         roster = Roster(options.costs, reading, options.each, options.maximise)
     programs, net = Programs(options.programs), pairs.RosterNet(roster)
     with results_in(options.folder) as folder:
-        results, instance = Results(folder, options, roster.numbers.mark, [roster.table]), net.instance()
+        results, instance = (
+            Results(folder, options, roster.numbers.mark, [roster.table]),
+            net.instance(),
+        )
         plan, chosen, cost = solve(programs, folder, instance), [], None
         if plan:
-            chosen = sorted((pair for pair, flow in zip(roster.pairs, plan.flows) if flow), key=lambda pair: pair[:2])
+            chosen = sorted(
+                (pair for pair, flow in zip(roster.pairs, plan.flows) if flow),
+                key=lambda pair: pair[:2],
+            )
             cost = roster.units.total(plan.cost)
             pairs.write_pairs(results, roster, chosen)
             lines = pairs.summary(roster, chosen, plan.cost)

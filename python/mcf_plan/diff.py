@@ -29,7 +29,9 @@ def read_record(name, programs):
     except (ValueError, KeyError, TypeError):
         raise bad_table(f"{name}: its plan.json can't be read")
     if not all(same):
-        raise trouble(f"{name}: its instance or its answer isn't what it was when the plan was made")
+        raise trouble(
+            f"{name}: its instance or its answer isn't what it was when the plan was made"
+        )
     programs.verdict(folder / record["instance"], folder / "answer.ans")
     return record
 
@@ -60,13 +62,16 @@ def changes(old, new, show_all):
     lines, before, after = [], parts_of(old), parts_of(new)
     differing = [key for key in {**before, **after} if before.get(key, 0) != after.get(key, 0)]
     differing.sort(key=lambda key: (-abs(after.get(key, 0) - before.get(key, 0)), key))
-    lines.append(f"{len(differing)} of {len({**before, **after})} differ" + (":" if differing else "."))
+    lines.append(
+        f"{len(differing)} of {len({**before, **after})} differ" + (":" if differing else ".")
+    )
     for key in differing if show_all else differing[:TOLD]:
         was, now = before.get(key), after.get(key)
         difference = (now or 0) - (was or 0)
         words = ["not there" if value is None else number_text(value) for value in (was, now)]
         lines.append(
-            f"  {name_text(key)}: {words[0]}, now {words[1]} ({'+' if difference > 0 else ''}{number_text(difference)})"
+            f"  {name_text(key)}: {words[0]}, now"
+            f" {words[1]} ({'+' if difference > 0 else ''}{number_text(difference)})"
         )
     if len(differing) > TOLD and not show_all:
         lines.append(f"  and {len(differing) - TOLD} more (--all tells them)")
@@ -78,13 +83,26 @@ def diff_command(options, _):
     programs = Programs(options.programs)
     old, new = (read_record(name, programs) for name in (options.old, options.new))
     if old["kind"] != new["kind"]:
-        raise bad_table(f"{options.old} is a plan of {old['kind']}, {options.new} one of {new['kind']}")
+        raise bad_table(
+            f"{options.old} is a plan of {old['kind']}, {options.new} one of {new['kind']}"
+        )
     lines = [
-        f"{word}: {record['said'][0] if record['cost'] is None else 'cost ' + record['cost']} (accepted again by mcfcheck)"
+        f"{word}:"
+        f" {record['said'][0] if record['cost'] is None else 'cost ' + record['cost']} (accepted"
+        " again by mcfcheck)"
         for word, record in (("old", old), ("new", new))
     ]
     if None in (old["cost"], new["cost"]):
-        return lines + [line for record in (old, new) if record["cost"] is None for line in record["said"][1:]], 0
+        return (
+            lines
+            + [
+                line
+                for record in (old, new)
+                if record["cost"] is None
+                for line in record["said"][1:]
+            ],
+            0,
+        )
     difference = Fraction(new["cost"]) - Fraction(old["cost"])
     lines.append(
         "The cost stays."

@@ -1,7 +1,8 @@
 """What ends a run without a plan, and the faults of tables by their kinds."""
 import collections
 
-# Where a cell stands: its table, its line, and its column by its head or by its number from 1; or a whole line.
+# Where a cell stands: its table, its line, and its column by its head or by its number from 1; or a
+# whole line.
 At = collections.namedtuple("At", "table line column", defaults=("",))
 # How many cells of one kind are named beside the first.
 TOLD_CELLS = 4
@@ -36,7 +37,8 @@ def shown(cell):
 
 
 class Kind:
-    """The faults of one kind: the first, how many there are, and the cells and the lines of some more."""
+    """The faults of one kind: the first, how many there are, and the cells and the lines of some
+    more."""
 
     def __init__(self, text):
         self.text, self.count, self.more = text, 0, {}
@@ -51,12 +53,15 @@ class Kind:
         """One line."""
         if self.count == 1:
             return self.text
-        cells = ", ".join(f"{shown(cell) + ' ' if cell else ''}in line {line}" for cell, line in self.more.items())
+        cells = ", ".join(
+            f"{shown(cell) + ' ' if cell else ''}in line {line}" for cell, line in self.more.items()
+        )
         return f"{self.text} ({self.count} such cells; also {cells})"
 
 
 class Faults:
-    """The faults of tables, which are told together before anything is run: one line for each kind."""
+    """The faults of tables, which are told together before anything is run: one line for each
+    kind."""
 
     def __init__(self):
         self.kinds = {}

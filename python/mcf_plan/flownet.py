@@ -5,28 +5,28 @@ from .network import Arc, Network, parts_of
 from .solve import Instance
 
 STAYS, MISSING, THROUGH = "(stays)", "(missing)", "(through)"
-# Whether supplies may stay where they are, whether demands may be short, and what each unit short costs: None
-# is so much that as little is short as can be.
+# Whether supplies may stay where they are, whether demands may be short, and what each unit short
+# costs: None is so much that as little is short as can be.
 Policy = collections.namedtuple("Policy", "unused short penalty", defaults=(False, False, None))
-# What a plan says of a route, or of what passes through a place: how much, and what that costs; the room that
-# is left (None: without a limit), what one more unit of room saves, and whether just that. Of a place: minus
-# its price, in which group that is exact, how much stays there or is missing, and what passes through it,
-# where that has bounds.
+# What a plan says of a route, or of what passes through a place: how much, and what that costs; the
+# room that is left (None: without a limit), what one more unit of room saves, and whether just
+# that. Of a place: minus its price, in which group that is exact, how much stays there or is
+# missing, and what passes through it, where that has bounds.
 RouteResult = collections.namedtuple("RouteResult", "carries cost free saves is_exact")
 PlaceResult = collections.namedtuple("PlaceResult", "price group unmet through")
-# What an arc is for: its kind, the number from 0 of its route or place, and 1, or -1 where it leads a route's
-# other way.
+# What an arc is for: its kind, the number from 0 of its route or place, and 1, or -1 where it leads
+# a route's other way.
 Use = collections.namedtuple("Use", "kind number sign", defaults=(1,))
 
 
 class FlowNet(Network):
-    """The network of a problem: node k is the k-th place, and arc k the k-th route, or its first step; all that
-    is more comes after them.
+    """The network of a problem: node k is the k-th place, and arc k the k-th route, or its first
+    step; all that is more comes after them.
 
-    A place with bounds is two nodes with an arc between them: node k has what comes in and what is sent
-    there, the other what goes out and what is taken. Where amounts may stay or be short there is one node
-    more, the hub, which takes what stays, gives what is missing, and has what lacks for a balance as its
-    supply.
+    A place with bounds is two nodes with an arc between them: node k has what comes in and what is
+    sent there, the other what goes out and what is taken. Where amounts may stay or be short there
+    is one node more, the hub, which takes what stays, gives what is missing, and has what lacks for
+    a balance as its supply.
     """
 
     def __init__(self, problem, policy=Policy()):
@@ -48,7 +48,11 @@ class FlowNet(Network):
         # No sum of costs along a way without repetition is beyond this.
         self.bound = sum(abs(arc.cost) for arc in self.arcs)
         total = sum(self.supplies)
-        if (policy.unused and total >= 0) or (policy.short and total <= 0) or (policy.unused and policy.short):
+        if (
+            (policy.unused and total >= 0)
+            or (policy.short and total <= 0)
+            or (policy.unused and policy.short)
+        ):
             self.add_hub(-total)
 
     def add(self, use, arc):
@@ -71,13 +75,24 @@ class FlowNet(Network):
             for step in route.steps:
                 # Costs rise, so that what has to be carried fills one step after the other.
                 least = rest if step is route.steps[-1] else min(rest, step.most)
-                arcs.append(Arc(tail, head, least, rest + reach if step.most is None else step.most, step.cost))
+                arcs.append(
+                    Arc(
+                        tail,
+                        head,
+                        least,
+                        rest + reach if step.most is None else step.most,
+                        step.cost,
+                    )
+                )
                 rest = max(0, rest - least)
             self.add(Use("route", number), arcs[0])
             more += [(Use("route", number), arc) for arc in arcs[1:]]
             if route.both:
                 more += [
-                    (Use("route", number, -1), arc._replace(tail=self.outs[route.head - 1], head=route.tail))
+                    (
+                        Use("route", number, -1),
+                        arc._replace(tail=self.outs[route.head - 1], head=route.tail),
+                    )
                     for arc in arcs
                 ]
         for use, arc in more:
@@ -93,7 +108,10 @@ class FlowNet(Network):
             if place.supply > 0 and self.policy.unused:
                 self.add(Use("stays", number), Arc(number + 1, self.hub, 0, place.supply, 0))
             if place.supply < 0 and self.policy.short:
-                self.add(Use("missing", number), Arc(self.hub, self.outs[number], 0, -place.supply, penalty))
+                self.add(
+                    Use("missing", number),
+                    Arc(self.hub, self.outs[number], 0, -place.supply, penalty),
+                )
 
     def instance(self):
         """The network as text, with where its lines come from."""
@@ -103,7 +121,9 @@ class FlowNet(Network):
             + [f"c node {self.hub} takes what stays and gives what is missing"] * bool(self.hub)
         )
         size = [(problem.route_table, problem.route_table.head_line, {"size": "from"})]
-        places = [(problem.place_table, place.line, {"supply": "supply"}) for place in problem.places]
+        places = [
+            (problem.place_table, place.line, {"supply": "supply"}) for place in problem.places
+        ]
         places += [None] * (len(self.supplies) - len(places))
         made.add(self.lines(), size + places + [self.origin(use) for use in self.uses])
         return made
@@ -119,7 +139,11 @@ class FlowNet(Network):
             return table, rows[use.number].line, columns_of(rows[use.number])
         if use.kind == "through":
             return table, rows[use.number].line, columns_of(rows[use.number].bounds)
-        return table, rows[use.number].line, {"bound": "supply", "cost": "supply", "total": "supply"}
+        return (
+            table,
+            rows[use.number].line,
+            {"bound": "supply", "cost": "supply", "total": "supply"},
+        )
 
     def node_name(self, node):
         """What a node is called."""
@@ -131,10 +155,13 @@ class FlowNet(Network):
         if use.kind == "route":
             return self.problem.ends(self.problem.routes[use.number])[:: use.sign]
         name = self.problem.places[use.number].name
-        return {"stays": (name, STAYS), "missing": (MISSING, name), "through": (name, THROUGH)}[use.kind]
+        return {"stays": (name, STAYS), "missing": (MISSING, name), "through": (name, THROUGH)}[
+            use.kind
+        ]
 
     def amounts(self, arcs, bound):
-        """The least or the most of some arcs, the steps of a route together: with the first arc of each."""
+        """The least or the most of some arcs, the steps of a route together: with the first arc of
+        each."""
         found = {}
         for k in arcs:
             first, total = found.get(self.uses[k], (k, 0))
@@ -163,7 +190,9 @@ class FlowPlan:
         ]
         self.places = [self.place(number, arcs_of) for number in range(len(self.problem.places))]
         self.penalties = sum(
-            flow * arc.cost for use, flow, arc in zip(net.uses, plan.flows, net.arcs) if use.kind == "missing"
+            flow * arc.cost
+            for use, flow, arc in zip(net.uses, plan.flows, net.arcs)
+            if use.kind == "missing"
         )
         # The default penalty is there to have little missing: it's no cost.
         self.cost = plan.cost - (self.penalties if net.policy.penalty is None else 0)
@@ -171,27 +200,37 @@ class FlowPlan:
     def place(self, number, arcs_of):
         """What the plan says of a place."""
         place, home = self.problem.places[number], self.net.home(number)
-        unmet = sum(self.flows[k] for kind in ("stays", "missing") for k in arcs_of.get((kind, number), ()))
-        through = self.result(arcs_of["through", number], place.bounds.most, False) if place.bounds else None
+        unmet = sum(
+            self.flows[k] for kind in ("stays", "missing") for k in arcs_of.get((kind, number), ())
+        )
+        through = (
+            self.result(arcs_of["through", number], place.bounds.most, False)
+            if place.bounds
+            else None
+        )
         return PlaceResult(-self.prices[home - 1], self.group[home], unmet, through)
 
     def saves(self, k):
-        """What one more unit of room on an arc would save at most: by so much the prices undercut its cost."""
+        """What one more unit of room on an arc would save at most: by so much the prices undercut
+        its cost."""
         arc = self.net.arcs[k]
         return max(0, self.prices[arc.tail - 1] - self.prices[arc.head - 1] - arc.cost)
 
     def result(self, arcs, most, both):
-        """What the plan says of the arcs of a route, or of a place: the room that could be more is that of the
-        last step, either way.
+        """What the plan says of the arcs of a route, or of a place: the room that could be more is
+        that of the last step, either way.
 
-        One more unit of room saves just so much where, if it saves, a unit can go on from the arc's end to
-        its beginning within a group. Nodes of one group are joined by arcs that can carry one unit more, and
-        one less, at no change of cost beyond the prices: they carry amounts between their least and their
-        most, and their reduced cost is 0.
+        One more unit of room saves just so much where, if it saves, a unit can go on from the arc's
+        end to its beginning within a group. Nodes of one group are joined by arcs that can carry
+        one unit more, and one less, at no change of cost beyond the prices: they carry amounts
+        between their least and their most, and their reduced cost is 0.
         """
         carries = sum(self.net.uses[k].sign * self.flows[k] for k in arcs)
         cost = sum(self.net.arcs[k].cost * self.flows[k] for k in arcs)
-        widest = [[k for k in arcs if self.net.uses[k].sign == sign][-1] for sign in ((1, -1) if both else (1,))]
+        widest = [
+            [k for k in arcs if self.net.uses[k].sign == sign][-1]
+            for sign in ((1, -1) if both else (1,))
+        ]
         last = max(widest, key=self.saves)
         arc = self.net.arcs[last]
         is_exact = self.saves(last) == 0 or self.group[arc.tail] == self.group[arc.head]
@@ -204,7 +243,8 @@ class FlowPlan:
         )
 
     def rate(self, number):
-        """What one more unit saves or costs, as text: where it is but the default penalty, in words."""
+        """What one more unit saves or costs, as text: where it is but the default penalty, in
+        words."""
         if self.net.policy.short and self.net.policy.penalty is None and number > self.net.bound:
             return "less is missing"
         return self.problem.units.rate(number)
@@ -224,5 +264,7 @@ class FlowPlan:
 
 def columns_of(bounds):
     """The columns of a route, or of a place, that the words of a refusal mean."""
-    farther = "least" if bounds.most is not None and abs(bounds.least) > abs(bounds.most) else "most"
+    farther = (
+        "least" if bounds.most is not None and abs(bounds.least) > abs(bounds.most) else "most"
+    )
     return {"bound": farther, "order": "least", "cost": "cost", "total": "cost"}

@@ -87,7 +87,12 @@ def savings(plan):
         ("full", [*ends, "exactly" if result.is_exact else "at most", plan.rate(result.saves)])
         for ends, result in report.savings_of(plan)[:50]
     ]
-    columns = [("from", ""), ("to", ""), ("exact", "whether it saves just that"), ("one more unit saves", "")]
+    columns = [
+        ("from", ""),
+        ("to", ""),
+        ("exact", "whether it saves just that"),
+        ("one more unit saves", ""),
+    ]
     return [Sheet("What one more unit of room saves", columns, rows)] if rows else []
 
 
@@ -118,15 +123,29 @@ def routes_sheet(plan):
             )
         )
     rows, note = listed_rows(rows)
-    totals = ["", "", "", "", "", "", units.total(sum(result.cost for result in plan.routes)), "", ""] + [""] * (
-        1 + len(own)
+    totals = [
+        "",
+        "",
+        "",
+        "",
+        "",
+        "",
+        units.total(sum(result.cost for result in plan.routes)),
+        "",
+        "",
+    ] + [""] * (1 + len(own))
+    return Sheet(
+        "Routes", ROUTE_COLUMNS + [(table.titles[place], "") for place in own], rows, totals, note
     )
-    return Sheet("Routes", ROUTE_COLUMNS + [(table.titles[place], "") for place in own], rows, totals, note)
 
 
 def costs_cell(units, route):
     """The cost of each unit of a route; where it rises by steps, all of them."""
-    return units.rate(route.cost) if len(route.steps) == 1 else ", ".join(map(units.rate, route.costs()))
+    return (
+        units.rate(route.cost)
+        if len(route.steps) == 1
+        else ", ".join(map(units.rate, route.costs()))
+    )
 
 
 def places_sheet(plan):
@@ -135,7 +154,12 @@ def places_sheet(plan):
     table, own = problem.place_table, own_columns(problem.place_table)
     has_bounds, has_unmet = any(place.bounds for place in problem.places), plan.net.hub is not None
     for place, result in zip(problem.places, plan.places):
-        cells = [place.name, units.amount(place.supply), plan.rate(result.price), Figure(result.group)]
+        cells = [
+            place.name,
+            units.amount(place.supply),
+            plan.rate(result.price),
+            Figure(result.group),
+        ]
         cells += [units.amount(result.unmet) if result.unmet else ""] * has_unmet + (
             through_cells(plan, place, result.through) if has_bounds else []
         )
@@ -167,17 +191,30 @@ def blocked_page(blocked, options, picture):
     """The page where no plan exists."""
     problem, amount = blocked.net.problem, blocked.net.problem.said.amount
     findings = [balance_finding(problem)] if blocked.is_unbalanced else []
-    findings += [bottleneck_finding(blocked.eased, bottleneck) for bottleneck in blocked.bottlenecks]
+    findings += [
+        bottleneck_finding(blocked.eased, bottleneck) for bottleneck in blocked.bottlenecks
+    ]
     if blocked.is_unbalanced:
         supply, demand = report.balance_of(problem)
         headline = f"No plan exists: supply {amount(supply)}, demand {amount(demand)}"
     else:
         headline = "No plan exists: " + ", ".join(
-            f"short by {amount(bottleneck.must - bottleneck.can)}" for bottleneck in blocked.bottlenecks[:3]
+            f"short by {amount(bottleneck.must - bottleneck.can)}"
+            for bottleneck in blocked.bottlenecks[:3]
         )
-    lead = ["Whatever way amounts go, these places must send or take more than the routes around them carry."]
+    lead = [
+        "Whatever way amounts go, these places must send or take more than the routes around them"
+        " carry."
+    ]
     return Page(
-        options.title or "No plan exists", headline, False, lead, [], findings, picture, limiting_sheet(blocked)
+        options.title or "No plan exists",
+        headline,
+        False,
+        lead,
+        [],
+        findings,
+        picture,
+        limiting_sheet(blocked),
     )
 
 
@@ -185,8 +222,15 @@ def balance_finding(problem):
     """That supplies and demands don't agree."""
     supply, demand = report.balance_of(problem)
     amount = problem.said.amount
-    figures = [("supply", amount(supply)), ("demand", amount(demand)), ("short by", amount(abs(supply - demand)))]
-    cure = f"Make them equal; or let what is too much {'stay: --unused' if supply > demand else 'be short: --short'} allow."
+    figures = [
+        ("supply", amount(supply)),
+        ("demand", amount(demand)),
+        ("short by", amount(abs(supply - demand))),
+    ]
+    cure = (
+        "Make them equal; or let what is too much"
+        f" {'stay: --unused' if supply > demand else 'be short: --short'} allow."
+    )
     return finding("Supplies and demands must be equal.", figures, cure)
 
 
@@ -194,13 +238,23 @@ def bottleneck_finding(net, bottleneck):
     """A bottleneck, and what would help."""
     amount = net.problem.said.amount
     short = amount(bottleneck.must - bottleneck.can)
-    figures = [("must", amount(bottleneck.must)), ("can", amount(bottleneck.can)), ("short by", short)]
+    figures = [
+        ("must", amount(bottleneck.must)),
+        ("can", amount(bottleneck.can)),
+        ("short by", short),
+    ]
     what = "demand" if bottleneck.side == "take" else "supply"
     routes = [" -> ".join(net.ends(k)) for k, _ in net.amounts(bottleneck.limiting, "most")]
     together = " together" if len(routes) > 1 else ""
-    raise_them = f"Give {listed(routes)} {short} more room{together}, or" if routes else "Give them a route, or"
+    raise_them = (
+        f"Give {listed(routes)} {short} more room{together}, or"
+        if routes
+        else "Give them a route, or"
+    )
     return finding(
-        report.bottleneck_sentence(net, bottleneck), figures, f"{raise_them} move {short} of {what} elsewhere."
+        report.bottleneck_sentence(net, bottleneck),
+        figures,
+        f"{raise_them} move {short} of {what} elsewhere.",
     )
 
 

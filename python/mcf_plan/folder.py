@@ -25,8 +25,8 @@ RESULTS = (
 
 @contextlib.contextmanager
 def results_in(name):
-    """A new folder beside the one that is named, which takes its place at the end; where the run ends
-    otherwise, nothing is left of it."""
+    """A new folder beside the one that is named, which takes its place at the end; where the run
+    ends otherwise, nothing is left of it."""
     target = pathlib.Path(os.path.realpath(name))
     check_target(name, target)
     part = target.with_name(f".{target.name}.part-{os.getpid()}")
@@ -48,10 +48,17 @@ def check_target(name, target):
     """Ends the run where the folder has anything that isn't a result, which might be lost."""
     if target.exists() and not target.is_dir():
         raise trouble(f"the folder {name} can't be made: there is a file of this name")
-    foreign = sorted(path.name for path in target.iterdir() if path.name not in RESULTS) if target.exists() else []
+    foreign = (
+        sorted(path.name for path in target.iterdir() if path.name not in RESULTS)
+        if target.exists()
+        else []
+    )
     if foreign:
         raise Stop(
-            f"the folder {name} has files that are no results, such as {foreign[0]}: name a folder of its own with -o",
+            (
+                f"the folder {name} has files that are no results, such as {foreign[0]}: name a"
+                " folder of its own with -o"
+            ),
             2,
         )
     if target == pathlib.Path.cwd() or target.name == "":
@@ -59,7 +66,8 @@ def check_target(name, target):
 
 
 def swap(part, target):
-    """Puts the new folder where it belongs, and takes an earlier one away; no signal comes between."""
+    """Puts the new folder where it belongs, and takes an earlier one away; no signal comes
+    between."""
     old = part.with_name(part.name + ".old")
     held = signal.pthread_sigmask(signal.SIG_BLOCK, {signal.SIGINT, signal.SIGTERM, signal.SIGHUP})
     try:

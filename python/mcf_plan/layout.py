@@ -1,4 +1,5 @@
-"""Where boxes and curves stand in a picture: by Graphviz where it is there, else by x and y or in columns."""
+"""Where boxes and curves stand in a picture: by Graphviz where it is there, else by x and y or in
+columns."""
 import collections
 import json
 import math
@@ -10,12 +11,12 @@ import time
 Box = collections.namedtuple("Box", "x y width height")
 # Boxes of the nodes; for each link its curve of cubic pieces, and the middle of its label.
 Layout = collections.namedtuple("Layout", "boxes curves labels")
-# What is to be laid out: sizes of boxes, spots on a map or None, links by their nodes from 0, and the size of
-# each label or None.
+# What is to be laid out: sizes of boxes, spots on a map or None, links by their nodes from 0, and
+# the size of each label or None.
 Task = collections.namedtuple("Task", "sizes spots links labels starts")
 
-# What Graphviz may take, in seconds; and a picture in ranks that is wider than this is laid out by springs,
-# as are nets of many routes both ways.
+# What Graphviz may take, in seconds; and a picture in ranks that is wider than this is laid out by
+# springs, as are nets of many routes both ways.
 PATIENCE, WIDEST = 10, 2400
 # How far the places of a map stand apart: boxes, and dots.
 SPREAD, DOTS_SPREAD = 235, 26
@@ -31,7 +32,9 @@ def laid_out(task):
         if program:
             found = graphviz(program, ["-Kdot"], task, None, until)
             is_wide = (
-                max((box.x for box in found.boxes), default=0) - min((box.x for box in found.boxes), default=0) > WIDEST
+                max((box.x for box in found.boxes), default=0)
+                - min((box.x for box in found.boxes), default=0)
+                > WIDEST
             )
             return graphviz(program, ["-Kneato"], task, None, until) if is_wide else found
     except subprocess.TimeoutExpired:
@@ -66,7 +69,10 @@ def graph_text(task, boxes):
     ranks = 1 + max(levels_of(len(task.sizes), task.links, task.starts), default=0)
     apart = min(4, max(1.1, len(task.sizes) / ranks / 4))
     lines = [
-        f'digraph plan {{ rankdir=LR; nodesep=0.22; ranksep={apart:.1f}; overlap=prism; splines=true; sep="+26"; esep="+6";',
+        (
+            f"digraph plan {{ rankdir=LR; nodesep=0.22; ranksep={apart:.1f}; overlap=prism;"
+            ' splines=true; sep="+26"; esep="+6";'
+        ),
         'node [shape=box, fixedsize=true, label=""]; edge [arrowhead=none, len=2.3, fontsize=11];',
     ]
     for node, (width, height) in enumerate(task.sizes):
@@ -116,15 +122,22 @@ def map_boxes(task, spread=SPREAD):
     """Boxes on a map, y going up."""
     # Halves, whose differences are no greater than a float can be.
     xs, ys = [x / 2 for x, _ in task.spots], [y / 2 for _, y in task.spots]
-    (left, right), (low, high), wide = (min(xs), max(xs)), (min(ys), max(ys)), spread * math.sqrt(len(xs)) + 200
+    (left, right), (low, high), wide = (
+        (min(xs), max(xs)),
+        (min(ys), max(ys)),
+        spread * math.sqrt(len(xs)) + 200,
+    )
     scale = min(wide / max(right - left, 1e-9), wide * 0.72 / max(high - low, 1e-9))
     if left == right and low == high:
         scale = 1
-    return [Box((x - left) * scale, (high - y) * scale, *size) for x, y, size in zip(xs, ys, task.sizes)]
+    return [
+        Box((x - left) * scale, (high - y) * scale, *size) for x, y, size in zip(xs, ys, task.sizes)
+    ]
 
 
 def levels_of(count, links, starts):
-    """For each node how many links lead to it from the nearest start; what isn't reached begins anew."""
+    """For each node how many links lead to it from the nearest start; what isn't reached begins
+    anew."""
     after = [[] for _ in range(count)]
     for tail, head in links:
         after[tail].append(head)
@@ -140,29 +153,36 @@ def levels_of(count, links, starts):
 
 
 def column_boxes(task):
-    """Boxes in columns by how far they are from the places that send, in the order of their tables."""
+    """Boxes in columns by how far they are from the places that send, in the order of their
+    tables."""
     levels = levels_of(len(task.sizes), task.links, task.starts)
     columns = [
-        [node for node in range(len(levels)) if levels[node] == level] for level in range(max(levels, default=-1) + 1)
+        [node for node in range(len(levels)) if levels[node] == level]
+        for level in range(max(levels, default=-1) + 1)
     ]
     tallest, across, boxes = max(map(len, columns), default=0), 0, [None] * len(levels)
     for column in columns:
         wide = max(task.sizes[node][0] for node in column)
         step = 62 * min(3, max(1, tallest / len(column) * 0.8))
         for place, node in enumerate(column):
-            boxes[node] = Box(across + wide / 2, (place - (len(column) - 1) / 2) * step, *task.sizes[node])
+            boxes[node] = Box(
+                across + wide / 2, (place - (len(column) - 1) / 2) * step, *task.sizes[node]
+            )
         across += wide + 170
     return boxes
 
 
 def straight(boxes, task):
-    """The layout of boxes that stand: lines between them, which are bowed where several join the same boxes."""
+    """The layout of boxes that stand: lines between them, which are bowed where several join the
+    same boxes."""
     seen, curves = collections.Counter(), []
     for tail, head in task.links:
         nth = seen[min(tail, head), max(tail, head)]
         seen[min(tail, head), max(tail, head)] += 1
         bow = (nth + 1) // 2 * 26 * (1 if nth % 2 else -1) * (1 if tail < head else -1)
-        curves.append(loop_at(boxes[tail]) if tail == head else bowed(boxes[tail], boxes[head], bow))
+        curves.append(
+            loop_at(boxes[tail]) if tail == head else bowed(boxes[tail], boxes[head], bow)
+        )
     return Layout(boxes, curves, [middle_of(curve) for curve in curves])
 
 
@@ -189,7 +209,9 @@ def bowed(tail, head, bow):
 def edge_of(box, to):
     """Where the line from the middle of a box to a point leaves the box."""
     dx, dy = to[0] - box.x, to[1] - box.y
-    part = min(box.width / 2 / abs(dx) if dx else math.inf, box.height / 2 / abs(dy) if dy else math.inf, 1)
+    part = min(
+        box.width / 2 / abs(dx) if dx else math.inf, box.height / 2 / abs(dy) if dy else math.inf, 1
+    )
     return box.x + dx * part, box.y + dy * part
 
 
@@ -200,7 +222,9 @@ def point_at(piece, part):
     """The point of a cubic piece at a part of it, from 0 to 1."""
     rest = 1 - part
     weights = rest**3, 3 * rest * rest * part, 3 * rest * part * part, part**3
-    return tuple(sum(weight * point[axis] for weight, point in zip(weights, piece)) for axis in (0, 1))
+    return tuple(
+        sum(weight * point[axis] for weight, point in zip(weights, piece)) for axis in (0, 1)
+    )
 
 
 def samples(points, count=24):

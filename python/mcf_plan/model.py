@@ -13,18 +13,19 @@ SPOT_HEADS = ("x", "y")
 BOUND_HEADS = ("least", "most", "cost")
 YES, NO = ("yes", "y", "x", "1", "true", "ja", "j"), ("", "no", "n", "0", "false", "nein")
 
-# A place: what passes through it, which comes in or is sent there, has bounds and a cost of its own if they
-# are said (else None); its line and its cells.
+# A place: what passes through it, which comes in or is sent there, has bounds and a cost of its own
+# if they are said (else None); its line and its cells.
 Place = collections.namedtuple("Place", "name supply spot bounds line cells")
 # How much may pass through a place, and what each unit costs there; a most of None is no limit.
 Bounds = collections.namedtuple("Bounds", "least most cost")
-# A part of what a route carries: so much at most, each unit at this cost. Costs rise from step to step.
+# A part of what a route carries: so much at most, each unit at this cost. Costs rise from step to
+# step.
 Step = collections.namedtuple("Step", "most cost")
 
 
 class Route(collections.namedtuple("Route", "tail head least steps both line cells")):
-    """A route between two places by their numbers from 1, perhaps to be used both ways, with the line and the
-    cells of its table."""
+    """A route between two places by their numbers from 1, perhaps to be used both ways, with the
+    line and the cells of its table."""
 
     @property
     def most(self):
@@ -42,7 +43,8 @@ class Route(collections.namedtuple("Route", "tail head least steps both line cel
 
 
 class Problem:
-    """The places and the routes of two tables, in whole numbers; `units` says what these are in the tables."""
+    """The places and the routes of two tables, in whole numbers; `units` says what these are in the
+    tables."""
 
     def __init__(self, tables, places, routes, numbers, penalty=None):
         self.place_table, self.route_table = tables
@@ -50,27 +52,34 @@ class Problem:
         bounds = [place.bounds for place in places if place.bounds]
         steps = [step for route in routes for step in route.steps]
         amounts = (
-            [place.supply for place in places] + [route.least for route in routes] + [part.least for part in bounds]
+            [place.supply for place in places]
+            + [route.least for route in routes]
+            + [part.least for part in bounds]
         )
         amounts += [part.most for part in steps + bounds if part.most is not None]
-        self.units = Units(scale_of(amounts), scale_of([part.cost for part in steps + bounds] + [penalty or 0]))
+        self.units = Units(
+            scale_of(amounts), scale_of([part.cost for part in steps + bounds] + [penalty or 0])
+        )
         self.said = Said(self.units, numbers.mark)
         self.penalty = None if penalty is None else self.whole_cost(penalty)
         self.places = [
-            place._replace(supply=self.whole(place.supply), bounds=self.whole_bounds(place.bounds)) for place in places
+            place._replace(supply=self.whole(place.supply), bounds=self.whole_bounds(place.bounds))
+            for place in places
         ]
         self.routes = [
             route._replace(
                 least=self.whole(route.least),
-                steps=tuple(Step(self.whole(step.most), self.whole_cost(step.cost)) for step in route.steps),
+                steps=tuple(
+                    Step(self.whole(step.most), self.whole_cost(step.cost)) for step in route.steps
+                ),
             )
             for route in routes
         ]
 
     @classmethod
     def read(cls, paths, reading, penalty=None):
-        """The problem of two files, or of a workbook with two sheets. The penalty is a cost, as text, that
-        comes with them."""
+        """The problem of two files, or of a workbook with two sheets. The penalty is a cost, as
+        text, that comes with them."""
         faults, numbers = Faults(), Numbers(reading.decimal)
         tables = tables_of(paths, (PLACE_HEADS, ROUTE_HEADS), reading, faults)
         check_heads(*tables, faults)
@@ -78,7 +87,11 @@ class Problem:
             table.check_widths(faults)
             numbers.look(
                 table,
-                [place for place, head in enumerate(table.heads) if head.split(" ")[0] in ("supply", *BOUND_HEADS)],
+                [
+                    place
+                    for place, head in enumerate(table.heads)
+                    if head.split(" ")[0] in ("supply", *BOUND_HEADS)
+                ],
             )
         numbers.settle(faults)
         places = places_of(tables[0], numbers, faults)
@@ -97,23 +110,29 @@ class Problem:
 
     def whole_bounds(self, bounds):
         """Bounds in whole numbers."""
-        return bounds and Bounds(self.whole(bounds.least), self.whole(bounds.most), self.whole_cost(bounds.cost))
+        return bounds and Bounds(
+            self.whole(bounds.least), self.whole(bounds.most), self.whole_cost(bounds.cost)
+        )
 
     def reach(self):
-        """What no route without a limit carries beyond its least, in some plan that costs least where no cost is
-        below 0.
+        """What no route without a limit carries beyond its least, in some plan that costs least
+        where no cost is below 0.
 
-        Beyond the leasts such a plan has no round trip, so each route carries a part of what places, leasts
-        and a hub, which gives what is missing, send on.
+        Beyond the leasts such a plan has no round trip, so each route carries a part of what
+        places, leasts and a hub, which gives what is missing, send on.
         """
-        leasts = [route.least for route in self.routes] + [place.bounds.least for place in self.places if place.bounds]
+        leasts = [route.least for route in self.routes] + [
+            place.bounds.least for place in self.places if place.bounds
+        ]
         return 1 + sum(abs(place.supply) for place in self.places) + sum(map(abs, leasts))
 
     def throughput(self):
-        """What passes through no place, whatever the plan, where no route is without a limit; and beyond the
-        reach where one is."""
+        """What passes through no place, whatever the plan, where no route is without a limit; and
+        beyond the reach where one is."""
         limited = [route for route in self.routes if route.most is not None]
-        return self.reach() + sum((abs(route.least) + abs(route.most)) * (2 if route.both else 1) for route in limited)
+        return self.reach() + sum(
+            (abs(route.least) + abs(route.most)) * (2 if route.both else 1) for route in limited
+        )
 
     def ends(self, route):
         """The names of a route's ends."""
@@ -126,7 +145,11 @@ def check_heads(place_table, route_table, faults):
     place_table.need(
         PLACE_HEADS,
         faults,
-        "this looks like the table of routes, which comes second; of places wanted are" if exchanged else "wanted are",
+        (
+            "this looks like the table of routes, which comes second; of places wanted are"
+            if exchanged
+            else "wanted are"
+        ),
     )
     route_table.need(ROUTE_HEADS, faults)
     if not place_table.has(PLACE_HEADS) or not route_table.has(ROUTE_HEADS):
@@ -151,7 +174,9 @@ def places_of(table, numbers, faults):
             if spots
             else None
         )
-        found.append(Place(name, supply, spot, bounds_of(table, line, cells, numbers, faults), line, cells))
+        found.append(
+            Place(name, supply, spot, bounds_of(table, line, cells, numbers, faults), line, cells)
+        )
     return found
 
 
@@ -184,9 +209,9 @@ def end_of(table, line, head, cell, numbers, faults):
 
 def near_to(name, names):
     """The names, of some thousands, that are nearly a name."""
-    return [other for other in names if other.casefold() == name.casefold()] or difflib.get_close_matches(
-        name, names[:10_000], 1
-    )
+    return [
+        other for other in names if other.casefold() == name.casefold()
+    ] or difflib.get_close_matches(name, names[:10_000], 1)
 
 
 def routes_of(table, places, numbers, faults):
@@ -243,10 +268,16 @@ def steps_of(table, row, columns, numbers, faults):
         if found and not (most or cost):
             break
         if found and found[-1].most is None:
-            faults.add(At(table, line, heads[0]), "after no limit", "the step before is without a limit")
+            faults.add(
+                At(table, line, heads[0]), "after no limit", "the step before is without a limit"
+            )
         found.append(
             Step(
-                None if most.casefold() in NO_LIMIT else numbers.read(table, line, heads[0], most, faults),
+                (
+                    None
+                    if most.casefold() in NO_LIMIT
+                    else numbers.read(table, line, heads[0], most, faults)
+                ),
                 numbers.read(table, line, heads[1], cost, faults),
             )
         )
@@ -254,8 +285,10 @@ def steps_of(table, row, columns, numbers, faults):
             faults.add(
                 At(table, line, heads[1]),
                 "falling cost",
-                f"{shown(cost)} is below the cost of the step before: units that get cheaper with more of them "
-                "make no minimum-cost flow",
+                (
+                    f"{shown(cost)} is below the cost of the step before: units that get cheaper"
+                    " with more of them make no minimum-cost flow"
+                ),
                 cost,
             )
         if len(found) > 1 and (found[-1].most or 0) < 0:
@@ -271,12 +304,18 @@ def steps_of(table, row, columns, numbers, faults):
 def check_limits(tables, places, routes, faults):
     """Notes routes without a limit where a cost is below 0: a round trip could earn without end."""
     below = [f"line {route.line}" for route in routes if route.cost < 0]
-    below += [f"{tables[0].name}, line {place.line}" for place in places if place.bounds and place.bounds.cost < 0]
+    below += [
+        f"{tables[0].name}, line {place.line}"
+        for place in places
+        if place.bounds and place.bounds.cost < 0
+    ]
     for route in routes if below else []:
         if route.steps[-1].most is None:
             faults.add(
                 At(tables[1], route.line, "most"),
                 "no limit",
-                f"this is empty, so without a limit, and a cost is below 0 ({below[0]}): a "
-                "round trip could earn without end; give a most",
+                (
+                    f"this is empty, so without a limit, and a cost is below 0 ({below[0]}): a "
+                    "round trip could earn without end; give a most"
+                ),
             )

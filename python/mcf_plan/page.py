@@ -7,11 +7,11 @@ import re
 
 from .amounts import Figure
 
-# A page: what stands at its top, whether a plan exists, facts as pairs of a value and its words, findings as
-# paragraphs, the picture or None, and sheets.
+# A page: what stands at its top, whether a plan exists, facts as pairs of a value and its words,
+# findings as paragraphs, the picture or None, and sheets.
 Page = collections.namedtuple("Page", "title headline is_plan lead facts findings picture sheets")
-# A table of the page. Columns are pairs of a head and what it means; rows are pairs of a class and cells;
-# totals stand below them.
+# A table of the page. Columns are pairs of a head and what it means; rows are pairs of a class and
+# cells; totals stand below them.
 Sheet = collections.namedtuple("Sheet", "title columns rows totals note", defaults=((), ""))
 # A cell that shows a part of a whole, in percent.
 Share = collections.namedtuple("Share", "percent")
@@ -19,8 +19,9 @@ Share = collections.namedtuple("Share", "percent")
 LISTED = 5000
 
 PROVED = (
-    "mcfcheck accepted this answer for this instance, and mcfcheck is proved to accept nothing that isn't right. How the instance was made of the "
-    "tables, and this page of the answer, isn't proved, but tested."
+    "mcfcheck accepted this answer for this instance, and mcfcheck is proved to accept nothing that"
+    " isn't right. How the instance was made of the tables, and this page of the answer, isn't"
+    " proved, but tested."
 )
 
 
@@ -47,7 +48,9 @@ class Writer:
     def html(self, page):
         """The whole page."""
         here = pathlib.Path(__file__).resolve().parent
-        style, script = ((here / name).read_text(encoding="utf-8") for name in ("page.css", "page.js"))
+        style, script = (
+            (here / name).read_text(encoding="utf-8") for name in ("page.css", "page.js")
+        )
         parts = [f'<h1{"" if page.is_plan else " class=none"}>{text(page.headline)}</h1>']
         parts += (
             [f"<p>{text(line)}</p>" for line in page.lead]
@@ -68,7 +71,10 @@ class Writer:
 
     def facts(self, page):
         """What stands in boxes below the headline."""
-        boxes = "".join(f"<li><b>{text(self.figure(value))}</b>{text(words)}</li>" for value, words in page.facts)
+        boxes = "".join(
+            f"<li><b>{text(self.figure(value))}</b>{text(words)}</li>"
+            for value, words in page.facts
+        )
         return [f'<ul class="facts">{boxes}</ul>'] if boxes else []
 
     @staticmethod
@@ -83,7 +89,10 @@ class Writer:
             )
         )
         return (
-            [f'<h2>Picture</h2>\n<div class="picture">{page.picture}<div class="zoom">{zooms}</div></div>']
+            [
+                f'<h2>Picture</h2>\n<div class="picture">{page.picture}<div'
+                f' class="zoom">{zooms}</div></div>'
+            ]
             if page.picture
             else []
         )
@@ -91,9 +100,13 @@ class Writer:
     def seal(self):
         """Below the headline: by which instance and which answer it holds."""
         sums = " &middot; ".join(
-            f"{name} <code>{sha256_of(self.folder / name)[:16]}</code>" for name in (self.instance, "answer.ans")
+            f"{name} <code>{sha256_of(self.folder / name)[:16]}</code>"
+            for name in (self.instance, "answer.ans")
         )
-        return f'<p class="soft">Accepted by mcfcheck, which is proved. {sums} (<a href="#accepted">whole sums</a>)</p>'
+        return (
+            f'<p class="soft">Accepted by mcfcheck, which is proved. {sums} (<a'
+            ' href="#accepted">whole sums</a>)</p>'
+        )
 
     def figure(self, value):
         """A value as it is shown."""
@@ -102,7 +115,10 @@ class Writer:
     def cell(self, value):
         """A cell of a table."""
         if isinstance(value, Share):
-            return f'<td class="number" data-value="{value.percent:.1f}"><span class="share" style="--part: {value.percent:.0f}%"></span>{value.percent:.0f} %</td>'
+            return (
+                f'<td class="number" data-value="{value.percent:.1f}"><span class="share"'
+                f' style="--part: {value.percent:.0f}%"></span>{value.percent:.0f} %</td>'
+            )
         if isinstance(value, Figure):
             return f'<td class="number" data-value="{value}">{text(self.figure(value))}</td>'
         return f"<td>{text(value)}</td>"
@@ -123,7 +139,11 @@ class Writer:
             + "</tr>"
             for kind, cells in sheet.rows
         )
-        foot = f'<tfoot><tr>{"".join(map(self.cell, sheet.totals))}</tr></tfoot>' if sheet.totals else ""
+        foot = (
+            f'<tfoot><tr>{"".join(map(self.cell, sheet.totals))}</tr></tfoot>'
+            if sheet.totals
+            else ""
+        )
         box = (
             '<label><input type="checkbox"> only what carries something</label>'
             if any(kind == "idle" for kind, _ in sheet.rows)
@@ -138,13 +158,18 @@ class Writer:
         )
         note = f'<p class="soft">{text(sheet.note)}</p>' if sheet.note else ""
         return (
-            f'<section><h2>{text(sheet.title)}</h2>{note}{tools}\n<div class="sheet"><table>\n<thead><tr>{heads}</tr></thead>\n<tbody>\n{rows}\n</tbody>'
+            f"<section><h2>{text(sheet.title)}</h2>{note}{tools}\n<div"
+            f' class="sheet"><table>\n<thead><tr>{heads}</tr></thead>\n<tbody>\n{rows}\n</tbody>'
             f"{foot}</table></div></section>"
         )
 
     def cell_in(self, value, is_number):
         """A cell of a column; one that is empty among numbers is none."""
-        return '<td class="number" data-value=""></td>' if is_number and value == "" else self.cell(value)
+        return (
+            '<td class="number" data-value=""></td>'
+            if is_number and value == ""
+            else self.cell(value)
+        )
 
     def proof(self):
         """What was accepted, and how to have it judged again."""
@@ -153,8 +178,10 @@ class Writer:
             for name in (self.instance, "answer.ans")
         )
         return (
-            f'<section id="accepted"><h2>What was accepted</h2><p>{text(PROVED)}</p><dl>{rows}</dl>'
-            f'<p class="soft">These are SHA-256. To have it judged again: <code>mcfcheck {self.instance} answer.ans</code></p></section>'
+            '<section id="accepted"><h2>What was'
+            f' accepted</h2><p>{text(PROVED)}</p><dl>{rows}</dl><p class="soft">These are SHA-256.'
+            " To have it judged again: <code>mcfcheck"
+            f" {self.instance} answer.ans</code></p></section>"
         )
 
 
@@ -174,12 +201,15 @@ def finding(sentence, figures, cure):
 
 
 def listed_rows(rows):
-    """The rows of a table that are listed, and a note on the others: of very many those that carry nothing
-    are left out."""
+    """The rows of a table that are listed, and a note on the others: of very many those that carry
+    nothing are left out."""
     if len(rows) <= LISTED:
         return rows, ""
     chosen = [row for row in rows if row[0] != "idle"][:LISTED]
     return (
         chosen,
-        f"{len(chosen)} of {len(rows)} lines: of so many, only such as carry something. All stand in the table of this folder.",
+        (
+            f"{len(chosen)} of {len(rows)} lines: of so many, only such as carry something. All"
+            " stand in the table of this folder."
+        ),
     )

@@ -9,14 +9,14 @@ from .words import TOLD_NAMES, count_of, listed
 class RosterNet(Network):
     """The network of a roster: nodes are the persons, then the things; arc k is the k-th pair.
 
-    After them, one node more: from it an arc leads to each person, which carries how many it takes, and one
-    from each thing, which carries how many it needs.
+    After them, one node more: from it an arc leads to each person, which carries how many it takes,
+    and one from each thing, which carries how many it needs.
     """
 
     def __init__(self, roster):
         takes, needs = roster.takes, roster.needs
-        # As many persons as things, none has more than one, and all of one side have to have one: so have all
-        # of the other.
+        # As many persons as things, none has more than one, and all of one side have to have one:
+        # so have all of the other.
         self.is_assignment = (
             len(takes) == len(needs)
             and all(most == 1 for _, most in takes + needs)
@@ -26,24 +26,34 @@ class RosterNet(Network):
             takes = needs = [(1, 1)] * len(takes)
         self.roster, self.persons, self.hub = roster, len(takes), len(takes) + len(needs) + 1
         arcs = [Arc(pair.who, self.persons + pair.what, 0, 1, pair.cost) for pair in roster.pairs]
-        arcs += [Arc(self.hub, number, least, most, 0) for number, (least, most) in enumerate(takes, 1)]
-        arcs += [Arc(number, self.hub, least, most, 0) for number, (least, most) in enumerate(needs, self.persons + 1)]
+        arcs += [
+            Arc(self.hub, number, least, most, 0) for number, (least, most) in enumerate(takes, 1)
+        ]
+        arcs += [
+            Arc(number, self.hub, least, most, 0)
+            for number, (least, most) in enumerate(needs, self.persons + 1)
+        ]
         super().__init__([0] * self.hub, arcs)
 
     def instance(self):
-        """The network as text, with where its lines come from; an assignment in its own form, which has no
-        such node more."""
+        """The network as text, with where its lines come from; an assignment in its own form, which
+        has no such node more."""
         table, persons = self.roster.table, self.persons
         arcs = [(table, pair.line, {"cost": pair.column}) for pair in self.roster.pairs]
         size = [(table, table.head_line, {"size": 1})]
         made = Instance("asn" if self.is_assignment else "min")
         made.add(
-            ["c nodes are the persons, then the things; the k-th arc is the k-th pair", self.roster.units.comment()]
+            [
+                "c nodes are the persons, then the things; the k-th arc is the k-th pair",
+                self.roster.units.comment(),
+            ]
         )
         if self.is_assignment:
             made.add([f"p asn {2 * persons} {len(arcs)}"], size)
             made.add([f"n {person}" for person in range(1, persons + 1)])
-            made.add([f"a {arc.tail} {arc.head} {arc.cost}" for arc in self.arcs[: len(arcs)]], arcs)
+            made.add(
+                [f"a {arc.tail} {arc.head} {arc.cost}" for arc in self.arcs[: len(arcs)]], arcs
+            )
         else:
             ranges = [
                 (table, table.head_line, {"bound": "takes" if arc.tail == self.hub else "needs"})
@@ -61,20 +71,23 @@ class RosterNet(Network):
         )
 
     def whole(self, bottleneck):
-        """A bottleneck with the things (or persons) beside it that limit it no less than the pairs that lead
-        to them do."""
+        """A bottleneck with the things (or persons) beside it that limit it no less than the pairs
+        that lead to them do."""
         outside = [
             self.arcs[k].head if bottleneck.side == "send" else self.arcs[k].tail
             for k in bottleneck.limiting
             if k < len(self.roster.pairs)
         ]
-        most = {arc.tail if arc.head == self.hub else arc.head: arc.most for arc in self.arcs[len(self.roster.pairs) :]}
+        most = {
+            arc.tail if arc.head == self.hub else arc.head: arc.most
+            for arc in self.arcs[len(self.roster.pairs) :]
+        }
         more = {node for node in outside if most[node] <= outside.count(node)}
         return self.bottleneck(bottleneck.side, set(bottleneck.nodes) | more)
 
     def sides(self, bottleneck):
-        """Those who must, with how many at least; and those by whom they can, with how many at most: persons
-        and things, or things and persons."""
+        """Those who must, with how many at least; and those by whom they can, with how many at
+        most: persons and things, or things and persons."""
         mine = {k: arc for k, arc in enumerate(self.arcs) if k >= len(self.roster.pairs)}
         node = {k: arc.head if arc.tail == self.hub else arc.tail for k, arc in mine.items()}
         must = [(node[k], mine[k].least) for k in bottleneck.forcing if k in mine]
@@ -94,31 +107,52 @@ def blocked_sentence(net, bottleneck):
         return f"{listed(names)} can get nothing." if is_send else f"Nobody may do {listed(names)}."
     if not pairs and all(number == 1 for _, number in must + can):
         if is_send:
-            return f"{len(must)} persons compete for {count_of(len(can), 'thing', 'things')}: {listed(names)} can only get {listed(others)}."
-        return f"{len(must)} things want for {count_of(len(can), 'person', 'persons')}: only {listed(others)} may do {listed(names)}."
+            return (
+                f"{len(must)} persons compete for {count_of(len(can), 'thing', 'things')}:"
+                f" {listed(names)} can only get {listed(others)}."
+            )
+        return (
+            f"{len(must)} things want for {count_of(len(can), 'person', 'persons')}: only"
+            f" {listed(others)} may do {listed(names)}."
+        )
     parts = [f"{net.name(node)} ({number})" for node, number in can]
     parts += [f"{net.name(net.arcs[k].tail)} with {net.name(net.arcs[k].head)}" for k in pairs]
-    verb = ("must take", "can take") if is_send else ("need" if len(must) > 1 else "needs", "can get")
+    verb = (
+        ("must take", "can take") if is_send else ("need" if len(must) > 1 else "needs", "can get")
+    )
     return (
-        f"{listed(names)} {verb[0]} {bottleneck.must}{' together' if len(must) > 1 else ''}, and {verb[1]} only {bottleneck.can}: "
-        f"{listed(parts)}. Short by {bottleneck.must - bottleneck.can}."
+        f"{listed(names)} {verb[0]} {bottleneck.must}{' together' if len(must) > 1 else ''}, and"
+        f" {verb[1]} only {bottleneck.can}: {listed(parts)}. Short by"
+        f" {bottleneck.must - bottleneck.can}."
     )
 
 
 def write_bottlenecks(results, net, bottlenecks):
-    """Writes bottleneck.csv: of each bottleneck the column must adds up to what persons must take (things
-    need), the column can to what can be."""
+    """Writes bottleneck.csv: of each bottleneck the column must adds up to what persons must take
+    (things need), the column can to what can be."""
     rows = []
     for count, bottleneck in enumerate(bottlenecks, 1):
         must, can, pairs = net.sides(bottleneck)
         kinds = ("person", "thing") if bottleneck.side == "send" else ("thing", "person")
-        rows += [[Figure(count), kinds[0], net.name(node), Figure(number), ""] for node, number in must]
-        rows += [[Figure(count), kinds[1], net.name(node), "", Figure(number)] for node, number in can]
         rows += [
-            [Figure(count), "pair", f"{net.name(net.arcs[k].tail)}, {net.name(net.arcs[k].head)}", "", Figure(1)]
+            [Figure(count), kinds[0], net.name(node), Figure(number), ""] for node, number in must
+        ]
+        rows += [
+            [Figure(count), kinds[1], net.name(node), "", Figure(number)] for node, number in can
+        ]
+        rows += [
+            [
+                Figure(count),
+                "pair",
+                f"{net.name(net.arcs[k].tail)}, {net.name(net.arcs[k].head)}",
+                "",
+                Figure(1),
+            ]
             for k in pairs
         ]
-    results.table("bottleneck", net.roster.table, ["bottleneck", "kind", "name", "must", "can"], rows)
+    results.table(
+        "bottleneck", net.roster.table, ["bottleneck", "kind", "name", "must", "can"], rows
+    )
 
 
 def write_pairs(results, roster, chosen):
@@ -128,7 +162,11 @@ def write_pairs(results, roster, chosen):
         results.table("pairs", roster.table, roster.table.titles, rows)
     else:
         rows = [
-            [roster.persons.names[pair.who - 1], roster.things.names[pair.what - 1], roster.units.rate(pair.cost)]
+            [
+                roster.persons.names[pair.who - 1],
+                roster.things.names[pair.what - 1],
+                roster.units.rate(pair.cost),
+            ]
             for pair in chosen
         ]
         results.table("pairs", roster.table, PAIR_HEADS, rows)
@@ -140,8 +178,11 @@ def summary(roster, chosen, cost):
     word = "value" if roster.units.sign < 0 else "cost"
     lines = [
         f"{which}, written by mcf and accepted by mcfcheck: {word} {roster.said.total(cost)}.",
-        f"{count_of(len(roster.persons.names), 'person', 'persons')}, {count_of(len(roster.things.names), 'thing', 'things')}: "
-        f"{count_of(len(chosen), 'pair', 'pairs')}.",
+        (
+            f"{count_of(len(roster.persons.names), 'person', 'persons')},"
+            f" {count_of(len(roster.things.names), 'thing', 'things')}:"
+            f" {count_of(len(chosen), 'pair', 'pairs')}."
+        ),
     ]
     for text, names, taken in (
         ("Without a thing", roster.persons.names, {pair.who for pair in chosen}),

@@ -14,12 +14,21 @@ def plan_page(roster, chosen, cost, lines, options):
         (Figure(len(chosen)), "pairs"),
     ]
     rows = [
-        ("", [roster.persons.names[pair.who - 1], roster.things.names[pair.what - 1], roster.units.rate(pair.cost)])
+        (
+            "",
+            [
+                roster.persons.names[pair.who - 1],
+                roster.things.names[pair.what - 1],
+                roster.units.rate(pair.cost),
+            ],
+        )
         for pair in chosen
     ]
     rows, note = listed_rows(rows)
     total = ["", "", roster.units.total(cost)]
-    lead = [f"No other choice of pairs {'is worth more' if roster.units.sign < 0 else 'costs less'}."] + lines[2:]
+    lead = [
+        f"No other choice of pairs {'is worth more' if roster.units.sign < 0 else 'costs less'}."
+    ] + lines[2:]
     headline = f"{word}: {told(roster.units.total(cost), roster.numbers.mark, options.currency)}"
     return Page(
         options.title or "A plan of pairs",
@@ -37,9 +46,15 @@ def blocked_page(net, bottlenecks, options):
     """The page where no such pairs exist."""
     findings = []
     for bottleneck in bottlenecks:
-        figures = [("must", bottleneck.must), ("can", bottleneck.can), ("short by", bottleneck.must - bottleneck.can)]
+        figures = [
+            ("must", bottleneck.must),
+            ("can", bottleneck.can),
+            ("short by", bottleneck.must - bottleneck.can),
+        ]
         findings.append(finding(pairs.blocked_sentence(net, bottleneck), figures, ""))
-    short = ", ".join(f"short by {bottleneck.must - bottleneck.can}" for bottleneck in bottlenecks[:3])
+    short = ", ".join(
+        f"short by {bottleneck.must - bottleneck.can}" for bottleneck in bottlenecks[:3]
+    )
     return Page(
         options.title or "No such pairs exist",
         f"No such pairs exist: {short}",

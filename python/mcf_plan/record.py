@@ -7,7 +7,8 @@ FORMAT = 1
 
 
 def write_record(folder, kind, said, cost=None, parts=()):
-    """Writes plan.json. Parts are lists of names with an amount; of a plan that can't be there is no cost."""
+    """Writes plan.json. Parts are lists of names with an amount; of a plan that can't be there is
+    no cost."""
     instance = next(folder.glob("instance.*")).name
     record = {
         "format": FORMAT,
@@ -19,4 +20,6 @@ def write_record(folder, kind, said, cost=None, parts=()):
         "said": said,
         "parts": [list(part) for part in parts],
     }
-    (folder / "plan.json").write_text(json.dumps(record, ensure_ascii=False, indent=0) + "\n", encoding="utf-8")
+    (folder / "plan.json").write_text(
+        json.dumps(record, ensure_ascii=False, indent=0) + "\n", encoding="utf-8"
+    )

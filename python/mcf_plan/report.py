@@ -10,29 +10,44 @@ THROUGH_RESULTS = ("passes", "passing_costs", "free", "one_more_saves", "exact")
 
 
 def write_flows(results, plan):
-    """Writes flows.csv: the routes in their order, with the columns that they had; then what stays and what
-    is missing."""
+    """Writes flows.csv: the routes in their order, with the columns that they had; then what stays
+    and what is missing."""
     units, table, rows = plan.problem.units, plan.problem.route_table, []
     for route, result in zip(plan.problem.routes, plan.routes):
         free, exact = units.amount(result.free), "yes" if result.is_exact else "no"
         rows.append(
             (
                 route.cells,
-                [units.amount(result.carries), units.total(result.cost), free, plan.rate(result.saves), exact],
+                [
+                    units.amount(result.carries),
+                    units.total(result.cost),
+                    free,
+                    plan.rate(result.saves),
+                    exact,
+                ],
             )
         )
     for is_supply in (True, False):
         for place, amount in plan.unmet(is_supply):
-            ends = {"from": place.name, "to": STAYS} if is_supply else {"from": MISSING, "to": place.name}
+            ends = (
+                {"from": place.name, "to": STAYS}
+                if is_supply
+                else {"from": MISSING, "to": place.name}
+            )
             penalty = plan.net.policy.penalty if not is_supply else 0
             cost = "" if penalty is None else units.total(penalty * amount)
-            rows.append(([ends.get(head, "") for head in table.heads], [units.amount(amount), cost, "", "", ""]))
+            rows.append(
+                (
+                    [ends.get(head, "") for head in table.heads],
+                    [units.amount(amount), cost, "", "", ""],
+                )
+            )
     results.after("flows", table, [FLOW_RESULTS], rows)
 
 
 def write_prices(results, plan):
-    """Writes prices.csv: the places in their order, with the columns that they had. What a unit costs at a
-    place is minus its price."""
+    """Writes prices.csv: the places in their order, with the columns that they had. What a unit
+    costs at a place is minus its price."""
     has_bounds = any(place.bounds for place in plan.problem.places)
     rows = [
         (
@@ -61,14 +76,16 @@ def through_cells(plan, through):
 
 
 def write_bottlenecks(results, net, bottlenecks):
-    """Writes bottleneck.csv: of each bottleneck the column must adds up to what must be sent (or taken), the
-    column can to what can be."""
+    """Writes bottleneck.csv: of each bottleneck the column must adds up to what must be sent (or
+    taken), the column can to what can be."""
     amount, rows = net.problem.units.amount, []
     for count, bottleneck in enumerate(bottlenecks, 1):
         sign = 1 if bottleneck.side == "send" else -1
         supplies = {}
         for node in bottleneck.nodes:
-            supplies[net.node_name(node)] = supplies.get(net.node_name(node), 0) + sign * net.supplies[node - 1]
+            supplies[net.node_name(node)] = (
+                supplies.get(net.node_name(node), 0) + sign * net.supplies[node - 1]
+            )
         rows += [
             [Figure(count), bottleneck.side, "place", name, "", "", amount(supply), ""]
             for name, supply in supplies.items()
@@ -78,13 +95,20 @@ def write_bottlenecks(results, net, bottlenecks):
         for k, most in net.amounts(bottleneck.limiting, "most"):
             rows.append([Figure(count), bottleneck.side, *arc_cells(net, k), "", amount(most)])
     results.table(
-        "bottleneck", net.problem.route_table, ["bottleneck", "side", "kind", "name", "from", "to", "must", "can"], rows
+        "bottleneck",
+        net.problem.route_table,
+        ["bottleneck", "side", "kind", "name", "from", "to", "must", "can"],
+        rows,
     )
 
 
 def arc_cells(net, k):
     """What an arc is, as cells."""
-    return ["through", net.ends(k)[0], "", ""] if net.uses[k].kind == "through" else ["route", "", *net.ends(k)]
+    return (
+        ["through", net.ends(k)[0], "", ""]
+        if net.uses[k].kind == "through"
+        else ["route", "", *net.ends(k)]
+    )
 
 
 def balance_of(problem):
@@ -105,8 +129,8 @@ def balance_sentence(problem):
         else ("demand", "supply", "--short allow lets it be short")
     )
     return (
-        f"{more} exceeds {less} by {amount(abs(supply - demand))}: the supplies add to {amount(supply)}, the demands to {amount(demand)}, "
-        f"and they must be equal ({cure})."
+        f"{more} exceeds {less} by {amount(abs(supply - demand))}: the supplies add to"
+        f" {amount(supply)}, the demands to {amount(demand)}, and they must be equal ({cure})."
     )
 
 
@@ -117,17 +141,25 @@ def bottleneck_sentence(net, bottleneck):
     named = listed(places) + (" together" if len(places) > 1 else "")
     must = f"{named} must {bottleneck.side} {amount(bottleneck.must)}"
     if bottleneck.forcing:
-        must += f" (with the least of {listed([route_text(net, *pair) for pair in net.amounts(bottleneck.forcing, 'least')])})"
+        forcing = net.amounts(bottleneck.forcing, "least")
+        must += f" (with the least of {listed([route_text(net, *pair) for pair in forcing])})"
     if not bottleneck.limiting:
-        return f"{must}, and no route {'leads away' if bottleneck.side == 'send' else 'leads there'}."
+        return (
+            f"{must}, and no route {'leads away' if bottleneck.side == 'send' else 'leads there'}."
+        )
     over = listed([route_text(net, *pair) for pair in net.amounts(bottleneck.limiting, "most")])
     short = amount(bottleneck.must - bottleneck.can)
-    return f"{must}, and can {bottleneck.side} only {amount(bottleneck.can)}, over {over}. Short by {short}."
+    return (
+        f"{must}, and can {bottleneck.side} only {amount(bottleneck.can)}, over {over}. Short by"
+        f" {short}."
+    )
 
 
 def route_text(net, k, number):
     """A route, or what passes through a place, with an amount."""
-    name = f"through {net.ends(k)[0]}" if net.uses[k].kind == "through" else " -> ".join(net.ends(k))
+    name = (
+        f"through {net.ends(k)[0]}" if net.uses[k].kind == "through" else " -> ".join(net.ends(k))
+    )
     return f"{name} ({net.problem.said.amount(number)})"
 
 
@@ -138,10 +170,12 @@ def blocked_summary(blocked):
         lines.append("  " + balance_sentence(blocked.net.problem))
     if blocked.is_unbalanced and blocked.bottlenecks:
         lines.append(
-            f"Even if that {'stays' if sum(blocked.net.supplies) > 0 else 'is short'}, no plan exists, as mcf found and mcfcheck accepted:"
+            f"Even if that {'stays' if sum(blocked.net.supplies) > 0 else 'is short'}, no plan"
+            " exists, as mcf found and mcfcheck accepted:"
         )
     return lines + [
-        "  " + bottleneck_sentence(blocked.eased, bottleneck) for bottleneck in blocked.bottlenecks[:TOLD_NAMES]
+        "  " + bottleneck_sentence(blocked.eased, bottleneck)
+        for bottleneck in blocked.bottlenecks[:TOLD_NAMES]
     ]
 
 
@@ -152,9 +186,16 @@ def flow_summary(plan):
     full = sum(1 for result in plan.routes if result.free == 0)
     passing = sum(result.through.cost for result in plan.places if result.through)
     lines = [
-        f"A least-cost plan, written by mcf and accepted by mcfcheck: cost {problem.said.total(plan.cost)}.",
-        f"{count_of(len(problem.places), 'place', 'places')}, {count_of(len(problem.routes), 'route', 'routes')}: "
-        f"{carrying} {'carries' if carrying == 1 else 'carry'} something, {full} {'is' if full == 1 else 'are'} full.",
+        (
+            "A least-cost plan, written by mcf and accepted by mcfcheck: cost"
+            f" {problem.said.total(plan.cost)}."
+        ),
+        (
+            f"{count_of(len(problem.places), 'place', 'places')},"
+            f" {count_of(len(problem.routes), 'route', 'routes')}:"
+            f" {carrying} {'carries' if carrying == 1 else 'carry'} something,"
+            f" {full} {'is' if full == 1 else 'are'} full."
+        ),
     ]
     lines += unmet_lines(plan) + (
         [f"Passing through places costs {problem.said.total(passing)} of that."] if passing else []
@@ -164,7 +205,9 @@ def flow_summary(plan):
         lines.append("One more unit of room would save most on:")
     for ends, result in saving[:5]:
         at_most = "" if result.is_exact else "at most "
-        lines.append(f"  {' -> '.join(ends)}: {at_most}{problem.said.text(plan.rate(result.saves))}")
+        lines.append(
+            f"  {' -> '.join(ends)}: {at_most}{problem.said.text(plan.rate(result.saves))}"
+        )
     return lines
 
 
@@ -173,9 +216,13 @@ def savings_of(plan):
     problem = plan.problem
     found = [(problem.ends(route), result) for route, result in zip(problem.routes, plan.routes)]
     found += [
-        ((place.name, THROUGH), result.through) for place, result in zip(problem.places, plan.places) if result.through
+        ((place.name, THROUGH), result.through)
+        for place, result in zip(problem.places, plan.places)
+        if result.through
     ]
-    return sorted(((ends, result) for ends, result in found if result.saves), key=lambda pair: -pair[1].saves)
+    return sorted(
+        ((ends, result) for ends, result in found if result.saves), key=lambda pair: -pair[1].saves
+    )
 
 
 def unmet_lines(plan):
@@ -188,6 +235,12 @@ def unmet_lines(plan):
         if allowed and is_supply:
             lines.append(f"{total} stay at: {where}." if found else "Nothing stays.")
         elif allowed:
-            cost = f", which costs {plan.problem.said.total(plan.penalties)} of that" if policy.penalty else ""
-            lines.append(f"{total} are missing at: {where}{cost}." if found else "Nothing is missing.")
+            cost = (
+                f", which costs {plan.problem.said.total(plan.penalties)} of that"
+                if policy.penalty
+                else ""
+            )
+            lines.append(
+                f"{total} are missing at: {where}{cost}." if found else "Nothing is missing."
+            )
     return lines

@@ -1,5 +1,5 @@
-"""The tables that are written: as CSV like those that were read, and as a workbook where one was read or is
-asked for."""
+"""The tables that are written: as CSV like those that were read, and as a workbook where one was
+read or is asked for."""
 import csv
 
 from .amounts import Figure
@@ -17,10 +17,14 @@ class Results:
         self.sheets = [] if options.xlsx or any(table.book for table in tables) else None
 
     def table(self, name, like, heads, rows):
-        """Writes a table with the separator, and with or without the byte-order mark, of another."""
+        """Writes a table with the separator, and with or without the byte-order mark, of
+        another."""
         rows = list(rows)
         with open(
-            self.folder / f"{name}.csv", "w", newline="", encoding="utf-8-sig" if like.mark else "utf-8"
+            self.folder / f"{name}.csv",
+            "w",
+            newline="",
+            encoding="utf-8-sig" if like.mark else "utf-8",
         ) as output:
             if like.separator not in SEPARATORS:
                 output.write(f"sep={like.separator}\n")
@@ -31,11 +35,18 @@ class Results:
             self.sheets.append((name, heads, rows))
 
     def after(self, name, like, results, rows):
-        """Writes a table of another's columns, and of groups of results after them, for the rows of which the
-        cells of both are given."""
+        """Writes a table of another's columns, and of groups of results after them, for the rows of
+        which the cells of both are given."""
         places = like.kept(*results)
-        heads = [like.titles[place] for place in places] + [head for group in results for head in group]
-        self.table(name, like, heads, ([cell_at(cells, place) for place in places] + more for cells, more in rows))
+        heads = [like.titles[place] for place in places] + [
+            head for group in results for head in group
+        ]
+        self.table(
+            name,
+            like,
+            heads,
+            ([cell_at(cells, place) for place in places] + more for cells, more in rows),
+        )
 
     def cell(self, value):
         """A cell as CSV has it."""

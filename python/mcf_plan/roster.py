@@ -11,13 +11,14 @@ PAIR_HEADS = ("who", "what", "cost")
 # What stands in place of a cost where a pair is forbidden.
 FORBIDDEN = ("", "x", "-", "–", "—")
 RANGE = re.compile(r"([0-9]{1,18})(?:\s*(?:-|–|\.\.|to|bis)\s*([0-9]{1,18}))?")
-# A person and a thing by their numbers from 1, with the line and the column of the cost and the cells of the line.
+# A person and a thing by their numbers from 1, with the line and the column of the cost and the
+# cells of the line.
 Pair = collections.namedtuple("Pair", "who what cost line column cells")
 
 
 class Side:
-    """The persons, or the things, each numbered from 1 in the order in which they come; how many each may
-    have, where that is said."""
+    """The persons, or the things, each numbered from 1 in the order in which they come; how many
+    each may have, where that is said."""
 
     def __init__(self, head):
         self.head, self.names, self.numbers, self.said = head, [], {}, {}
@@ -30,14 +31,17 @@ class Side:
         return self.numbers[key_of(name)]
 
     def say(self, at, number, cell, faults):
-        """Notes how many one may have, in a cell that isn't empty; what was said before must be the same."""
+        """Notes how many one may have, in a cell that isn't empty; what was said before must be the
+        same."""
         found = RANGE.fullmatch(cell)
         if cell and (not found or int(found[1]) > int(found[2] or found[1])):
             faults.add(
                 at,
                 "range",
                 f"{shown(cell)} is no number, and no range such as 2..3"
-                + ("; was it taken for a date?" if re.search(r"[0-9]{4}-|\.\s?\w{3}", cell) else ""),
+                + (
+                    "; was it taken for a date?" if re.search(r"[0-9]{4}-|\.\s?\w{3}", cell) else ""
+                ),
                 cell,
             )
         elif cell and self.said.setdefault(number, found.groups()) != found.groups():
@@ -49,36 +53,56 @@ class Side:
             )
 
     def range_of(self, number, is_each):
-        """How many one gets, at least and at most: just one of those that each have to, else at most one; or
-        what was said."""
+        """How many one gets, at least and at most: just one of those that each have to, else at
+        most one; or what was said."""
         least, most = self.said.get(number, (None, "1"))
         if most is not None:
             return (1 if is_each else 0) if least is None else int(least), int(most)
         # One number alone is all that a thing needs, and the most that a person takes.
-        return int(least) if self.head == "needs" else min(int(least), 1 if is_each else 0), int(least)
+        return int(least) if self.head == "needs" else min(int(least), 1 if is_each else 0), int(
+            least
+        )
 
 
 class Roster:
-    """The pairs of a table, their costs in whole numbers, and how many each person takes and each thing needs."""
+    """The pairs of a table, their costs in whole numbers, and how many each person takes and each
+    thing needs."""
 
     def __init__(self, path, reading, each=None, maximise=False):
         faults, self.numbers = Faults(), Numbers(reading.decimal)
         (self.table,) = tables_of([path], [PAIR_HEADS], reading, faults)
         self.table.check_widths(faults)
-        self.persons, self.things, self.is_list = Side("takes"), Side("needs"), self.table.has(PAIR_HEADS)
+        self.persons, self.things, self.is_list = (
+            Side("takes"),
+            Side("needs"),
+            self.table.has(PAIR_HEADS),
+        )
         found = (self.listed if self.is_list else self.matrix)(faults)
         faults.end()
         self.units = Units(1, scale_of([pair.cost for pair in found]), -1 if maximise else 1)
         self.said = Said(self.units, self.numbers.mark)
-        self.pairs = [pair._replace(cost=int(pair.cost * self.units.costs) * self.units.sign) for pair in found]
+        self.pairs = [
+            pair._replace(cost=int(pair.cost * self.units.costs) * self.units.sign)
+            for pair in found
+        ]
         each = each or ("what" if self.persons.said or self.things.said else "who")
-        self.takes = [self.persons.range_of(number + 1, each != "what") for number in range(len(self.persons.names))]
-        self.needs = [self.things.range_of(number + 1, each != "who") for number in range(len(self.things.names))]
+        self.takes = [
+            self.persons.range_of(number + 1, each != "what")
+            for number in range(len(self.persons.names))
+        ]
+        self.needs = [
+            self.things.range_of(number + 1, each != "who")
+            for number in range(len(self.things.names))
+        ]
 
     def listed(self, faults):
         """The pairs of a table with the columns who, what and cost, perhaps takes and needs."""
         table, pairs, seen = self.table, [], {}
-        columns, takes, needs = table.columns(PAIR_HEADS), table.perhaps("takes"), table.perhaps("needs")
+        columns, takes, needs = (
+            table.columns(PAIR_HEADS),
+            table.perhaps("takes"),
+            table.perhaps("needs"),
+        )
         self.numbers.look(table, columns[2:])
         self.numbers.settle(faults)
         for line, cells in table.rows:
@@ -87,15 +111,30 @@ class Roster:
             name_in(table, line, "what", what, faults)
             ends = self.persons.number(who), self.things.number(what)
             if who and what:
-                once(At(table, line, "what"), ends, f"the pair of {shown(who)} and {shown(what)}", seen, faults)
+                once(
+                    At(table, line, "what"),
+                    ends,
+                    f"the pair of {shown(who)} and {shown(what)}",
+                    seen,
+                    faults,
+                )
             self.persons.say(At(table, line, "takes"), ends[0], cell_at(cells, takes), faults)
             self.things.say(At(table, line, "needs"), ends[1], cell_at(cells, needs), faults)
             if cost.casefold() not in FORBIDDEN:
-                pairs.append(Pair(*ends, self.numbers.read(table, line, "cost", cost, faults), line, "cost", cells))
+                pairs.append(
+                    Pair(
+                        *ends,
+                        self.numbers.read(table, line, "cost", cost, faults),
+                        line,
+                        "cost",
+                        cells,
+                    )
+                )
         return pairs
 
     def matrix(self, faults):
-        """The pairs of a matrix: a person each row, a thing each column; perhaps a column takes and a row needs."""
+        """The pairs of a matrix: a person each row, a thing each column; perhaps a column takes and
+        a row needs."""
         table, pairs, seen = self.table, [], {}
         takes, things = table.perhaps("takes"), self.matrix_things(faults)
         self.numbers.look(table, [place for place, _ in things])
@@ -110,7 +149,14 @@ class Roster:
             who = self.persons.number(name)
             self.persons.say(At(table, line, "takes"), who, cell_at(cells, takes), faults)
             pairs += [
-                Pair(who, what, self.numbers.read(table, line, place + 1, cells[place], faults), line, place + 1, None)
+                Pair(
+                    who,
+                    what,
+                    self.numbers.read(table, line, place + 1, cells[place], faults),
+                    line,
+                    place + 1,
+                    None,
+                )
                 for place, what in things
                 if cell_at(cells, place).casefold() not in FORBIDDEN
             ]
@@ -120,8 +166,16 @@ class Roster:
         """The columns of the matrix that have a thing, each with its number."""
         table, found, seen = self.table, [], {}
         for place, title in enumerate(table.titles[1:], 1):
-            if table.heads[place] != "takes" and (title or any(cell_at(cells, place) for _, cells in table.rows)):
+            if table.heads[place] != "takes" and (
+                title or any(cell_at(cells, place) for _, cells in table.rows)
+            ):
                 name_in(table, table.head_line, place + 1, title, faults)
-                once(At(table, table.head_line, place + 1), key_of(title), f"a thing {shown(title)}", seen, faults)
+                once(
+                    At(table, table.head_line, place + 1),
+                    key_of(title),
+                    f"a thing {shown(title)}",
+                    seen,
+                    faults,
+                )
                 found.append((place, self.things.number(title)))
         return found

@@ -22,13 +22,15 @@ REFUSALS = {
     "size": "more places or routes (persons, things or pairs) than mcf takes",
 }
 OTHER_SIDE = {"send": "take", "take": "send"}
-# A flow problem of more nodes than this goes to the search that is judged: docs/BENCH.md, "What the tools choose".
+# A flow problem of more nodes than this goes to the search that is judged: docs/BENCH.md, "What the
+# tools choose".
 LARGE = 2**14
 TOP = pathlib.Path(__file__).resolve().parents[2]
 
 
 class Instance:
-    """An instance as text, and for each of its lines the table, its line and its columns by the word of a refusal."""
+    """An instance as text, and for each of its lines the table, its line and its columns by the
+    word of a refusal."""
 
     def __init__(self, suffix):
         self.name, self.lines, self.origins = f"instance.{suffix}", [], []
@@ -62,8 +64,8 @@ class Programs:
 
     @staticmethod
     def find(name, folder):
-        """Where a program is: in the folder that was named, here or by MCF_BIN; else beside this tool, in the
-        repository's bin/, or on the path."""
+        """Where a program is: in the folder that was named, here or by MCF_BIN; else beside this
+        tool, in the repository's bin/, or on the path."""
         folder = folder or os.environ.get("MCF_BIN")
         folders = [folder] if folder else [pathlib.Path(sys.argv[0]).resolve().parent, TOP / "bin"]
         for candidate in folders:
@@ -81,17 +83,19 @@ class Programs:
 
     @staticmethod
     def run(words, output):
-        """Runs a program, its standard output going to an open file, and gives its status and what it said on
-        standard error."""
+        """Runs a program, its standard output going to an open file, and gives its status and what
+        it said on standard error."""
         try:
-            done = subprocess.run(words, stdin=subprocess.DEVNULL, stdout=output, stderr=subprocess.PIPE)
+            done = subprocess.run(
+                words, stdin=subprocess.DEVNULL, stdout=output, stderr=subprocess.PIPE
+            )
         except OSError as error:
             raise trouble(f"{words[0]} can't be run: {error.strerror}")
         return done.returncode, done.stderr.decode("utf-8", "replace").strip()
 
     def solve(self, instance, answer, *options):
-        """Has `mcf` answer the instance of one file into another. Gives its status: 0 a flow, 1 a set that
-        blocks, 2 a refusal."""
+        """Has `mcf` answer the instance of one file into another. Gives its status: 0 a flow, 1 a
+        set that blocks, 2 a refusal."""
         with open(answer, "wb") as output, life.doing("mcf solves"):
             status, said = self.run([self.solver, "solve", *options, str(instance)], output)
         if status not in KINDS:
@@ -99,13 +103,17 @@ class Programs:
         return status
 
     def verdict(self, instance, answer):
-        """The words of `mcfcheck` on an answer that it accepts; it ends the run where it doesn't."""
+        """The words of `mcfcheck` on an answer that it accepts; it ends the run where it
+        doesn't."""
         with tempfile.TemporaryFile() as output, life.doing("mcfcheck judges the answer"):
             status, said = self.run([self.checker, str(instance), str(answer)], output)
             output.seek(0)
             words = output.read().decode("utf-8", "replace").split()
         if status == 1:
-            raise Rejected(f"MCFCHECK SAYS NO: {' '.join(words)}. The answer is wrong, and nothing of it is shown")
+            raise Rejected(
+                f"MCFCHECK SAYS NO: {' '.join(words)}. The answer is wrong, and nothing of it is"
+                " shown"
+            )
         if status != 0 or words[:1] != ["accepted"]:
             raise trouble(f"mcfcheck gave no verdict (status {status}): {said}")
         return words[1:]
@@ -118,11 +126,14 @@ def answer_lines(path, letter):
 
 
 def refused(answer, instance):
-    """The `Stop` for a refusal: it names the line of the table that the bad line of the instance came from."""
+    """The `Stop` for a refusal: it names the line of the table that the bad line of the instance
+    came from."""
     line, code = answer_lines(answer, "r")[0]
     origin = instance.origins[int(line) - 1] if int(line) <= len(instance.origins) else None
     if not origin or code not in origin[2]:
-        return Rejected(f"mcf refuses line {line} of its instance ({code}), which is no fault of the tables")
+        return Rejected(
+            f"mcf refuses line {line} of its instance ({code}), which is no fault of the tables"
+        )
     table, table_line, columns = origin
     return bad_table(
         f"{table.name}, line {table_line}, column {columns[code]}: {REFUSALS[code]} (mcf: {code}); "
@@ -150,16 +161,19 @@ def solve(programs, folder, instance):
 def blocking_set(programs, network):
     """A set of a network that must send more than it can.
 
-    Cost scaling is asked, since its set is the least of those that must send the most beyond what they can:
-    it has nothing in it that doesn't matter.
+    Cost scaling is asked, since its set is the least of those that must send the most beyond what
+    they can: it has nothing in it that doesn't matter.
     """
     with tempfile.TemporaryDirectory() as scratch:
-        instance, answer = pathlib.Path(scratch, "instance.min"), pathlib.Path(scratch, "answer.ans")
+        instance, answer = pathlib.Path(scratch, "instance.min"), pathlib.Path(
+            scratch, "answer.ans"
+        )
         instance.write_text("\n".join(network.lines()) + "\n")
         status = programs.solve(instance, answer, "--engine", "scaling")
         if status != 1 or answer_lines(answer, "i")[0][1] != "send":
             raise Rejected(
-                f"mcf found that no plan exists, and by another engine it answers otherwise (status {status})"
+                "mcf found that no plan exists, and by another engine it answers otherwise (status"
+                f" {status})"
             )
         return {int(fields[0]) for fields in answer_lines(answer, "x")}
 
@@ -168,15 +182,17 @@ def check_set(programs, instance_path, side, nodes):
     """Has `mcfcheck` accept that a set blocks: what isn't accepted isn't shown."""
     with tempfile.TemporaryDirectory() as scratch:
         answer = pathlib.Path(scratch, "answer.ans")
-        answer.write_text(f"i {len(nodes)} {side}\n" + "".join(f"x {node}\n" for node in sorted(nodes)))
+        answer.write_text(
+            f"i {len(nodes)} {side}\n" + "".join(f"x {node}\n" for node in sorted(nodes))
+        )
         programs.verdict(instance_path, answer)
 
 
 def bottlenecks_of(programs, instance_path, network, hub=None, whole=None):
     """The bottlenecks of a balanced network without a plan, each accepted by `mcfcheck`.
 
-    They are told from the side, of those that send and those that take, that has fewer nodes; and from the
-    side of the cut on which no hub is. `whole` adds to one what belongs to it.
+    They are told from the side, of those that send and those that take, that has fewer nodes; and
+    from the side of the cut on which no hub is. `whole` adds to one what belongs to it.
     """
     choices = []
     for side, turned in (("send", network), ("take", network.turned())):

@@ -8,11 +8,17 @@ import unicodedata
 
 from .faults import At, Faults, bad_table, shown
 
-# How tables are read: the mark before decimals, the encoding, and own heads by those that are wanted.
+# How tables are read: the mark before decimals, the encoding, and own heads by those that are
+# wanted.
 Reading = collections.namedtuple("Reading", "decimal encoding heads", defaults=(None, None, {}))
 
-# What is no part of a cell at its ends, as in the page: a mark of byte order stands within a file that was put together of several.
-BLANKS = "\t\n\v\f\r \u00a0\u1680\u2000\u2001\u2002\u2003\u2004\u2005\u2006\u2007\u2008\u2009\u200a\u2028\u2029\u202f\u205f\u3000\ufeff"
+# What is no part of a cell at its ends, as in the page: a mark of byte order stands within a file
+# that was put together of several.
+BLANKS = (
+    "\t\n\v\f\r"
+    " \u00a0\u1680\u2000\u2001\u2002\u2003\u2004\u2005\u2006\u2007\u2008\u2009\u200a"
+    "\u2028\u2029\u202f\u205f\u3000\ufeff"
+)
 CONTROL = re.compile("[\x00-\x1f\x7f-\x9f]")
 SEPARATOR_LINE = re.compile(r'"?sep=([^" ])"?\s*', re.IGNORECASE)
 # The separators that heads show by themselves.
@@ -44,8 +50,8 @@ def bytes_of(path):
 
 
 def text_of(path, data, encoding):
-    """The text of a file. What isn't UTF-8, and hasn't its encoding named, is read as Windows-1252 with a
-    fault: that it isn't."""
+    """The text of a file. What isn't UTF-8, and hasn't its encoding named, is read as Windows-1252
+    with a fault: that it isn't."""
     if data[:2] in (b"\xff\xfe", b"\xfe\xff"):
         encoding = "utf-16"
     try:
@@ -55,20 +61,26 @@ def text_of(path, data, encoding):
         raise bad_table(f"there is no encoding {shown(encoding)}")
     except UnicodeDecodeError as error:
         if encoding or b"\0" in data:
-            raise bad_table(f"{path}: this isn't text in {encoding or 'UTF-8'}; save the table as CSV in UTF-8")
+            raise bad_table(
+                f"{path}: this isn't text in {encoding or 'UTF-8'}; save the table as CSV in UTF-8"
+            )
         text = data.decode("windows-1252", "replace")
         line = data.count(b"\n", 0, error.start) + 1
         part = text.split("\n")[line - 1].strip()
         return text, (
             line,
-            f"this isn't in UTF-8, but perhaps in Windows-1252 (ANSI), which reads {shown(part)}: in Excel, save as CSV UTF-8; "
-            "or say --encoding windows-1252",
+            (
+                "this isn't in UTF-8, but perhaps in Windows-1252 (ANSI), which reads"
+                f" {shown(part)}: in Excel, save as CSV UTF-8; or say --encoding windows-1252"
+            ),
         )
 
 
 def records_of(text, separator, name):
     """The records of a table that aren't blank, each with the number of its first line."""
-    reader = csv.reader(io.StringIO(text, newline=""), delimiter=separator, skipinitialspace=True, strict=True)
+    reader = csv.reader(
+        io.StringIO(text, newline=""), delimiter=separator, skipinitialspace=True, strict=True
+    )
     found, line = [], 1
     try:
         for cells in reader:
@@ -92,7 +104,9 @@ class Table:
     def __init__(self, name, records, reading, separator=",", mark=True):
         self.name, self.separator, self.mark, self.book = name, separator, mark, None
         if not records:
-            raise bad_table(f"{name}, line 1: the table is empty; its first line has the heads of the columns")
+            raise bad_table(
+                f"{name}, line 1: the table is empty; its first line has the heads of the columns"
+            )
         (self.head_line, self.titles), self.rows = records[0], records[1:]
         self.heads = [title.casefold() for title in self.titles]
         for wanted, own in reading.heads.items():
@@ -103,8 +117,8 @@ class Table:
 
     @classmethod
     def of_text(cls, path, data, wanted, reading, faults):
-        """The table of a file of text. The separator is the one that the file names, or that gives most of
-        the heads."""
+        """The table of a file of text. The separator is the one that the file names, or that gives
+        most of the heads."""
         text, wrong = text_of(path, data, reading.encoding)
         text = text.replace("\r\n", "\n").replace("\r", "\n")
         first = next((line for line in text.split("\n") if line.strip()), "")
@@ -113,7 +127,9 @@ class Table:
             text = text.replace(first, "", 1)
             first = next((line for line in text.split("\n") if line.strip()), "")
         known = set(wanted) | {own.casefold() for own in reading.heads.values()}
-        separator = named[1] if named else max(SEPARATORS, key=lambda mark: rank_of(first, mark, known))
+        separator = (
+            named[1] if named else max(SEPARATORS, key=lambda mark: rank_of(first, mark, known))
+        )
         table = cls(
             str(path),
             records_of(text, separator, str(path)),
@@ -132,12 +148,17 @@ class Table:
             faults.add(
                 At(self, self.head_line, lacking[0]),
                 "no column",
-                f"there is no such column among {', '.join(map(shown, self.titles))} (split at {shown(self.separator)}); {hint} "
-                f"{', '.join(wanted)}; where a head has another name, say so: --map {lacking[0]}=NAME",
+                (
+                    f"there is no such column among {', '.join(map(shown, self.titles))} (split at"
+                    f" {shown(self.separator)}); {hint} {', '.join(wanted)}; where a head has"
+                    f" another name, say so: --map {lacking[0]}=NAME"
+                ),
             )
         for head in wanted:
             if self.heads.count(head) > 1:
-                faults.add(At(self, self.head_line, head), "two columns", "there are two such columns")
+                faults.add(
+                    At(self, self.head_line, head), "two columns", "there are two such columns"
+                )
 
     def columns(self, wanted):
         """The places of the columns with these heads, each of which has to be there once."""
@@ -167,8 +188,8 @@ class Table:
                     )
 
     def kept(self, *results):
-        """The places of the columns that results are written after: all but those of earlier results, which are
-        there as a whole if they are."""
+        """The places of the columns that results are written after: all but those of earlier
+        results, which are there as a whole if they are."""
         titles = [title.casefold() for title in self.titles]
         gone = {head for heads in results if set(heads) <= set(titles) for head in heads}
         return [place for place, title in enumerate(titles) if title not in gone]
@@ -207,6 +228,11 @@ def key_of(name):
 def once(at, key, text, seen, faults):
     """Notes a fault where the key was seen on an earlier line; else remembers it."""
     if key in seen:
-        faults.add(at, "twice", f"{text} stands on line {seen[key]} already", key if isinstance(key, str) else "")
+        faults.add(
+            at,
+            "twice",
+            f"{text} stands on line {seen[key]} already",
+            key if isinstance(key, str) else "",
+        )
     else:
         seen[key] = at.line

@@ -1,4 +1,5 @@
-"""Excel workbooks, where openpyxl is there: read by sheets, and written with the same sheets as there are tables."""
+"""Excel workbooks, where openpyxl is there: read by sheets, and written with the same sheets as
+there are tables."""
 import decimal
 import io
 
@@ -8,8 +9,8 @@ from .tables import Table, bytes_of, is_workbook
 
 
 def tables_of(paths, wanted, reading, faults):
-    """The tables of some files, each with the heads that are wanted of it; a workbook has the sheets of those
-    that aren't named."""
+    """The tables of some files, each with the heads that are wanted of it; a workbook has the
+    sheets of those that aren't named."""
     found, books = [], {}
     for path, heads in zip(list(paths) + [paths[-1]] * (len(wanted) - len(paths)), wanted):
         data = bytes_of(path)
@@ -18,7 +19,9 @@ def tables_of(paths, wanted, reading, faults):
                 books[path] = sheets_of(path, data)
             found.append(sheet_with(path, books[path], heads, reading))
         elif len(paths) < len(wanted):
-            raise bad_table(f"{path}: this is no workbook with two sheets: name the table of routes, too")
+            raise bad_table(
+                f"{path}: this is no workbook with two sheets: name the table of routes, too"
+            )
         else:
             found.append(Table.of_text(path, data, heads, reading, faults))
     titles = {title.casefold() for table in found for title in table.titles}
@@ -39,7 +42,8 @@ def openpyxl_for(path):
         import openpyxl
     except ImportError:
         raise bad_table(
-            f"{path}: for Excel workbooks Python's openpyxl is needed (Debian: python3-openpyxl); or save each sheet as CSV UTF-8"
+            f"{path}: for Excel workbooks Python's openpyxl is needed (Debian: python3-openpyxl);"
+            " or save each sheet as CSV UTF-8"
         )
     return openpyxl
 
@@ -49,10 +53,13 @@ def sheets_of(path, data):
     openpyxl = openpyxl_for(path)
     try:
         values, formulas = (
-            openpyxl.load_workbook(io.BytesIO(data), data_only=data_only) for data_only in (True, False)
+            openpyxl.load_workbook(io.BytesIO(data), data_only=data_only)
+            for data_only in (True, False)
         )
     except Exception as error:  # What openpyxl raises is anything.
-        raise bad_table(f"{path}: this can't be read as an Excel workbook: {' '.join(str(error).split())}")
+        raise bad_table(
+            f"{path}: this can't be read as an Excel workbook: {' '.join(str(error).split())}"
+        )
     return [
         (sheet.title, records_of(f"{path}, sheet {sheet.title}", sheet, formulas[sheet.title]))
         for sheet in values.worksheets
@@ -62,11 +69,14 @@ def sheets_of(path, data):
 def records_of(name, sheet, formulas):
     """The records of a sheet that aren't blank, each with the number of its row."""
     found = []
-    for (line, row), asked in zip(enumerate(sheet.iter_rows(values_only=True), 1), formulas.iter_rows()):
+    for (line, row), asked in zip(
+        enumerate(sheet.iter_rows(values_only=True), 1), formulas.iter_rows()
+    ):
         for value, cell in zip(row, asked):
             if value is None and cell.data_type == "f":
                 raise bad_table(
-                    f"{name}, line {line}: a formula whose value isn't stored, {shown(str(cell.value))}: open the workbook in Excel and save it"
+                    f"{name}, line {line}: a formula whose value isn't stored,"
+                    f" {shown(str(cell.value))}: open the workbook in Excel and save it"
                 )
         cells = [text_of_cell(value) for value in row]
         if any(cells):
@@ -75,8 +85,8 @@ def records_of(name, sheet, formulas):
 
 
 def text_of_cell(value):
-    """A cell as text. A number has the fifteen digits that a spreadsheet has of it, where a sum of tenths is
-    exact; a date is one, and no number."""
+    """A cell as text. A number has the fifteen digits that a spreadsheet has of it, where a sum of
+    tenths is exact; a date is one, and no number."""
     if value is None:
         return ""
     if isinstance(value, float):
@@ -103,8 +113,8 @@ def sheet_with(path, sheets, wanted, reading):
 
 
 def write_workbook(path, sheets):
-    """Writes a workbook of titles with heads and rows: numbers as numbers, all else as text, so that nothing
-    is a formula."""
+    """Writes a workbook of titles with heads and rows: numbers as numbers, all else as text, so
+    that nothing is a formula."""
     openpyxl = openpyxl_for(path)
     book = openpyxl.Workbook()
     book.remove(book.active)

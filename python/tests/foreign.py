@@ -1,5 +1,6 @@
-"""The tests that networkx and scipy have of their own, with mcf in the place of their functions: what each package tests of minimum-cost flow and of
-assignments. It says how many passed, and which did not, and skips with a word what isn't installed; pytest runs them.
+"""The tests that networkx and scipy have of their own, with mcf in the place of their functions:
+what each package tests of minimum-cost flow and of assignments. It says how many passed, and which
+did not, and skips with a word what isn't installed; pytest runs them.
 
 Just those tests fail that `DIFFERS` names, or the status is 1. MCF_LIBRARY names the library.
 
@@ -15,11 +16,18 @@ import tempfile
 TOP = os.path.dirname(os.path.dirname(os.path.dirname(os.path.abspath(__file__))))
 sys.path.insert(0, os.path.join(TOP, "python"))
 
-FLOWS = ("networkx.algorithms.flow.tests.test_mincost", "networkx.algorithms.flow.tests.test_networksimplex")
+FLOWS = (
+    "networkx.algorithms.flow.tests.test_mincost",
+    "networkx.algorithms.flow.tests.test_networksimplex",
+)
 ASSIGNMENTS = ("scipy.optimize.tests.test_linear_assignment",)
 FUNCTIONS = ("network_simplex", "min_cost_flow", "min_cost_flow_cost", "max_flow_min_cost")
-# Two flows of cost 150 are least in the graph of both tests. They want one of them, and the network simplex of mcf gives the other.
-ANOTHER_LEAST_FLOW = {"test_mincost.py TestMinCostFlow.test_digraph1", "test_networksimplex.py test_digraph1"}
+# Two flows of cost 150 are least in the graph of both tests. They want one of them, and the network
+# simplex of mcf gives the other.
+ANOTHER_LEAST_FLOW = {
+    "test_mincost.py TestMinCostFlow.test_digraph1",
+    "test_networksimplex.py test_digraph1",
+}
 DIFFERS = {"by auto": ANOTHER_LEAST_FLOW, "as a backend": ANOTHER_LEAST_FLOW}
 
 
@@ -31,11 +39,14 @@ class Outcomes:
 
     def pytest_runtest_logreport(self, report):
         if report.when == "call" or not report.passed:
-            self.ended["%s %s" % (os.path.basename(report.location[0]), report.location[2])] = report.outcome
+            self.ended[
+                "%s %s" % (os.path.basename(report.location[0]), report.location[2])
+            ] = report.outcome
 
 
 class Counted:
     """A function that counts how often it is called, with options of its own."""
+
     calls = 0
 
     def __init__(self, function, **options):
@@ -49,6 +60,7 @@ class Counted:
 def run(way, modules):
     """Runs the tests of the modules: how many passed, and whether just those failed that may."""
     import pytest
+
     outcomes = Outcomes()
     Counted.calls = 0
     with open(os.devnull, "w") as nothing, contextlib.redirect_stdout(nothing):
@@ -58,25 +70,40 @@ def run(way, modules):
     said = "%d of %d %s" % (passed, len(outcomes.ended), way)
     print("%s, %d calls of mcf" % (said, Counted.calls))
     for name in sorted(failed):
-        print("  %s: %s" % (name, "it wants another of the least flows" if name in DIFFERS.get(way, ()) else "FAILED"))
+        print(
+            "  %s: %s"
+            % (
+                name,
+                "it wants another of the least flows" if name in DIFFERS.get(way, ()) else "FAILED",
+            )
+        )
     return said, passed > 0 and Counted.calls > 0 and failed == DIFFERS.get(way, set())
 
 
 def networkx_ways():
-    """networkx with mcf as its backend, where it has backends; and with its functions replaced, by two engines."""
+    """networkx with mcf as its backend, where it has backends; and with its functions replaced, by
+    two engines."""
     with tempfile.TemporaryDirectory() as folder:
         about = os.path.join(folder, "yokdelm-0.dist-info")
         os.mkdir(about)
-        with open(os.path.join(TOP, "packaging/python/entry_points.txt")) as words, open(os.path.join(about, "entry_points.txt"), "w") as file:
+        with open(os.path.join(TOP, "packaging/python/entry_points.txt")) as words, open(
+            os.path.join(about, "entry_points.txt"), "w"
+        ) as file:
             file.write(words.read())
         sys.path.insert(0, folder)
         import networkx
+
         sys.path.remove(folder)
     import mcf.nx
     import mcf.nx_backend
+
     if hasattr(getattr(networkx, "config", None), "backends"):
         for name in FUNCTIONS:
-            setattr(mcf.nx_backend.BackendInterface, name, staticmethod(Counted(getattr(mcf.nx_backend.BackendInterface, name))))
+            setattr(
+                mcf.nx_backend.BackendInterface,
+                name,
+                staticmethod(Counted(getattr(mcf.nx_backend.BackendInterface, name))),
+            )
         networkx.config.backend_priority = ["mcf"]
         yield run("as a backend", FLOWS)
         networkx.config.backend_priority = []
@@ -90,6 +117,7 @@ def scipy_ways():
     """scipy with its function replaced."""
     import mcf
     import scipy.optimize
+
     scipy.optimize.linear_sum_assignment = Counted(mcf.linear_sum_assignment)
     yield run("assignments", ASSIGNMENTS)
 
@@ -100,7 +128,15 @@ def main(package):
         print("skipped: %s has no %s" % (sys.executable, " and no ".join(lacking)))
         return 0
     said, good = zip(*{"networkx": networkx_ways, "scipy": scipy_ways}[package]())
-    print("%s %s: %s: %s" % (package, importlib.import_module(package).__version__, ", ".join(said), "as expected" if all(good) else "FAILED"))
+    print(
+        "%s %s: %s: %s"
+        % (
+            package,
+            importlib.import_module(package).__version__,
+            ", ".join(said),
+            "as expected" if all(good) else "FAILED",
+        )
+    )
     return 0 if all(good) else 1
 
 

@@ -1,5 +1,6 @@
-"""What the package mcf makes of hostile arguments: noise, numbers at the limits and past them, arrays of all kinds of numpy, things that are no
-numbers. Each call has to answer what is right, or to raise what says why not. MCF_LIBRARY names the library."""
+"""What the package mcf makes of hostile arguments: noise, numbers at the limits and past them,
+arrays of all kinds of numpy, things that are no numbers. Each call has to answer what is right, or
+to raise what says why not. MCF_LIBRARY names the library."""
 import os
 import random
 import sys
@@ -17,9 +18,44 @@ try:
 except ImportError:
     np = None
 
-BOUND, COST = 10 ** 18, 10 ** 15
-AMOUNTS = (0, 1, 2, 7, 30, -1, -5, BOUND, BOUND - 1, -BOUND, BOUND + 1, -BOUND - 1, 2 ** 63 - 1, 2 ** 63, -2 ** 63, -2 ** 63 - 1, 2 ** 64, 10 ** 40)
-COSTS = (0, 1, 2, 30, -1, -7, COST, COST - 1, -COST, COST + 1, -COST - 1, 2 ** 63, -2 ** 63, 2 ** 64 + 1, -10 ** 40)
+BOUND, COST = 10**18, 10**15
+AMOUNTS = (
+    0,
+    1,
+    2,
+    7,
+    30,
+    -1,
+    -5,
+    BOUND,
+    BOUND - 1,
+    -BOUND,
+    BOUND + 1,
+    -BOUND - 1,
+    2**63 - 1,
+    2**63,
+    -(2**63),
+    -(2**63) - 1,
+    2**64,
+    10**40,
+)
+COSTS = (
+    0,
+    1,
+    2,
+    30,
+    -1,
+    -7,
+    COST,
+    COST - 1,
+    -COST,
+    COST + 1,
+    -COST - 1,
+    2**63,
+    -(2**63),
+    2**64 + 1,
+    -(10**40),
+)
 
 
 def fault(supplies, arcs):
@@ -32,7 +68,12 @@ def fault(supplies, arcs):
         total += abs(cost) * max(abs(low), abs(cap))
         if not (0 <= u < len(supplies) and 0 <= v < len(supplies)):
             return place, None, "node"
-        for reason, holds in (("bound", max(abs(low), abs(cap)) > BOUND), ("order", cap < low), ("cost", abs(cost) > COST), ("total", total > 10 ** 36)):
+        for reason, holds in (
+            ("bound", max(abs(low), abs(cap)) > BOUND),
+            ("order", cap < low),
+            ("cost", abs(cost) > COST),
+            ("total", total > 10**36),
+        ):
             if holds:
                 return place, None, reason
     return None
@@ -55,20 +96,35 @@ class Numbers(unittest.TestCase):
         chance, seen = random.Random(1), {}
         for _ in range(4000):
             n, wild = chance.randrange(5), chance.randrange(3)
-            amounts, costs = (AMOUNTS[:(6, 10, 18)[wild]], COSTS[:(6, 9, 15)[wild]])
+            amounts, costs = (AMOUNTS[: (6, 10, 18)[wild]], COSTS[: (6, 9, 15)[wild]])
             supplies = [chance.choice(amounts) for _ in range(n)]
             if n and chance.randrange(4):
                 supplies[-1] -= sum(supplies)
-            ends = [-1, n, 2 ** 32 - 1, 2 ** 32, 2 ** 70] if wild == 2 and chance.randrange(3) == 0 else []
+            ends = (
+                [-1, n, 2**32 - 1, 2**32, 2**70]
+                if wild == 2 and chance.randrange(3) == 0
+                else []
+            )
             ends += list(range(n)) * 3
             arcs = []
             for _ in range(chance.randrange(6) if ends else 0):
-                bounds = sorted(chance.choice(amounts) for _ in range(2)) if chance.randrange(9) else [9, 8]
-                arcs.append((chance.choice(ends), chance.choice(ends), *bounds, chance.choice(costs)))
+                bounds = (
+                    sorted(chance.choice(amounts) for _ in range(2))
+                    if chance.randrange(9)
+                    else [9, 8]
+                )
+                arcs.append(
+                    (chance.choice(ends), chance.choice(ends), *bounds, chance.choice(costs))
+                )
             try:
-                answer = mcf.solve(supplies, arcs, engine=chance.choice(("auto", "scaling", "augment", "cancel")))
+                answer = mcf.solve(
+                    supplies, arcs, engine=chance.choice(("auto", "scaling", "augment", "cancel"))
+                )
                 kind = "flow"
-                self.assertTrue(fault(supplies, arcs) is None and least(supplies, arcs, answer), (supplies, arcs, answer))
+                self.assertTrue(
+                    fault(supplies, arcs) is None and least(supplies, arcs, answer),
+                    (supplies, arcs, answer),
+                )
             except mcf.Refused as e:
                 kind = e.reason
                 self.assertEqual((e.arc, e.node, e.reason), fault(supplies, arcs), (supplies, arcs))
@@ -76,7 +132,13 @@ class Numbers(unittest.TestCase):
                 kind = "blocked"
                 self.assertTrue(fault(supplies, arcs) is None and e.must > e.can, (supplies, arcs))
             seen[kind] = seen.get(kind, 0) + 1
-        self.assertTrue(all(seen[kind] > 20 for kind in ("flow", "blocked", "supply", "node", "bound", "order", "cost")), seen)
+        self.assertTrue(
+            all(
+                seen[kind] > 20
+                for kind in ("flow", "blocked", "supply", "node", "bound", "order", "cost")
+            ),
+            seen,
+        )
 
     def test_totals(self):
         arcs = [(0, 1, BOUND, COST)] * 1000
@@ -88,8 +150,29 @@ class Numbers(unittest.TestCase):
 
     def test_what_is_no_number(self):
         nan, inf = float("nan"), float("inf")
-        for wrong in (nan, inf, -inf, "x", "", None, [], {}, 1j, Decimal("nan"), Decimal("inf"), Decimal("1e999999999"), "1e999999999", "1e-999999999", b"1"):
-            for arguments in (([wrong, 0], []), ([0, 0], [(0, 1, 5, wrong)]), ([0, 0], [(0, 1, wrong, 5, 1)]), ({"a": wrong}, [])):
+        for wrong in (
+            nan,
+            inf,
+            -inf,
+            "x",
+            "",
+            None,
+            [],
+            {},
+            1j,
+            Decimal("nan"),
+            Decimal("inf"),
+            Decimal("1e999999999"),
+            "1e999999999",
+            "1e-999999999",
+            b"1",
+        ):
+            for arguments in (
+                ([wrong, 0], []),
+                ([0, 0], [(0, 1, 5, wrong)]),
+                ([0, 0], [(0, 1, wrong, 5, 1)]),
+                ({"a": wrong}, []),
+            ):
                 with self.assertRaises((ValueError, TypeError), msg=repr(arguments)):
                     mcf.solve(*arguments)
             with self.assertRaises((ValueError, TypeError), msg=repr(wrong)):
@@ -101,7 +184,16 @@ class Numbers(unittest.TestCase):
                 mcf.solve([0, 0], [(0, wrong, 5, 1)])
 
     def test_shapes(self):
-        for arguments in (([0, 0], [()]), ([0, 0], [(0, 1, 5)]), ([0, 0], [(0, 1, 0, 5, 1, 1)]), ([0, 0], [5]), ([0, 0], 5), (-1, []), (2.0, []), (None, [])):
+        for arguments in (
+            ([0, 0], [()]),
+            ([0, 0], [(0, 1, 5)]),
+            ([0, 0], [(0, 1, 0, 5, 1, 1)]),
+            ([0, 0], [5]),
+            ([0, 0], 5),
+            (-1, []),
+            (2.0, []),
+            (None, []),
+        ):
             with self.assertRaises((ValueError, TypeError), msg=repr(arguments)):
                 mcf.solve(*arguments)
         for wrong in ([1, 2], [[1, 2], [3]], [[1], 2], 5, None, [[[1]]], "ab", {1: 2}):
@@ -109,7 +201,9 @@ class Numbers(unittest.TestCase):
                 mcf.linear_sum_assignment(wrong)
         for empty in ([], [[]], [[], []], ()):
             self.assertEqual(mcf.linear_sum_assignment(empty), ([], []))
-        self.assertEqual(mcf.solve(MappingProxyType({"a": 1, "b": -1}), iter([("a", "b", 1, 1)])).flow, [1])
+        self.assertEqual(
+            mcf.solve(MappingProxyType({"a": 1, "b": -1}), iter([("a", "b", 1, 1)])).flow, [1]
+        )
         self.assertEqual(mcf.solve([], []).flow, [])
         self.assertEqual(mcf.solve({}, []).prices, {})
 
@@ -120,10 +214,12 @@ class Numbers(unittest.TestCase):
             self.assertRaises((ValueError, TypeError), mcf.linear_sum_assignment, wrong)
 
     def test_numbers_of_nodes(self):
-        for many in (10 ** 6 + 1, 10 ** 15, 10 ** 40):
+        for many in (10**6 + 1, 10**15, 10**40):
             with self.assertRaises(mcf.Refused) as c:
                 mcf.solve(many, [])
-            self.assertEqual((c.exception.arc, c.exception.node, c.exception.reason), (None, None, "size"))
+            self.assertEqual(
+                (c.exception.arc, c.exception.node, c.exception.reason), (None, None, "size")
+            )
 
     def test_what_only_looks_like_a_number(self):
         class Lying:
@@ -137,63 +233,112 @@ class Numbers(unittest.TestCase):
                 return answer
 
         for answers in ((ZeroDivisionError(),), ("5",), (None,), (1.5,), (TypeError(),)):
-            for call in (lambda it: mcf.solve([it, 0], []), lambda it: mcf.solve([0, 0], [(0, it, 1, 1)]), lambda it: mcf.solve([0, 0], [(0, 1, it, 1)]),
-                         lambda it: mcf.linear_sum_assignment([[it]]), lambda it: mcf.SimpleMinCostFlow().set_node_supply(0, it)):
-                self.assertRaises((ValueError, TypeError, ZeroDivisionError), call, Lying(answers * 9))
+            for call in (
+                lambda it: mcf.solve([it, 0], []),
+                lambda it: mcf.solve([0, 0], [(0, it, 1, 1)]),
+                lambda it: mcf.solve([0, 0], [(0, 1, it, 1)]),
+                lambda it: mcf.linear_sum_assignment([[it]]),
+                lambda it: mcf.SimpleMinCostFlow().set_node_supply(0, it),
+            ):
+                self.assertRaises(
+                    (ValueError, TypeError, ZeroDivisionError), call, Lying(answers * 9)
+                )
         # Asked once, whatever it would say the next time.
-        self.assertEqual(mcf.solve([Lying([3, 4, 5]), -3], [(0, Lying([1, 0, 7]), Lying([3, -1, 0]), Lying([2, 9]))]).cost, 6)
+        self.assertEqual(
+            mcf.solve(
+                [Lying([3, 4, 5]), -3], [(0, Lying([1, 0, 7]), Lying([3, -1, 0]), Lying([2, 9]))]
+            ).cost,
+            6,
+        )
         self.assertEqual(mcf.linear_sum_assignment([[Lying([3, -9]), 1], [1, 2]]), ([0, 1], [1, 0]))
 
     def test_choices(self):
-        for options in ({"block": 0}, {"block": -1}, {"block": 2 ** 32 + 1}, {"block": "2"}, {"engine": None}, {"engine": []}, {"pricing": 3}):
+        for options in (
+            {"block": 0},
+            {"block": -1},
+            {"block": 2**32 + 1},
+            {"block": "2"},
+            {"engine": None},
+            {"engine": []},
+            {"pricing": 3},
+        ):
             with self.assertRaises((ValueError, TypeError), msg=repr(options)):
                 mcf.solve([0], [], **options)
-        for form in (0, 3, 2 ** 32 + 1, -1, None):
+        for form in (0, 3, 2**32 + 1, -1, None):
             with self.assertRaises((ValueError, TypeError), msg=form):
                 mcf.solve_text(b"p min 1 0", form=form)
 
     def test_decimals(self):
         least_float = 5e-324
-        self.assertEqual(mcf.solve([0.1, 0.2, -0.3], [(0, 2, None, 1), (1, 2, float("inf"), 0.1)]).cost, 0.12)
+        self.assertEqual(
+            mcf.solve([0.1, 0.2, -0.3], [(0, 2, None, 1), (1, 2, float("inf"), 0.1)]).cost, 0.12
+        )
         self.assertEqual(mcf.solve([Fraction(1, 3), Fraction(-1, 3)], [(0, 1, 1, 3)]).cost, 1)
-        for supplies, arcs in (([least_float, -least_float, 1, -1], [(0, 1, 1, 1), (2, 3, 1, 1)]), ([0, 0], [(0, 1, 1e300, 1)]), ([0, 0], [(0, 1, 1, 1e300)])):
+        for supplies, arcs in (
+            ([least_float, -least_float, 1, -1], [(0, 1, 1, 1), (2, 3, 1, 1)]),
+            ([0, 0], [(0, 1, 1e300, 1)]),
+            ([0, 0], [(0, 1, 1, 1e300)]),
+        ):
             self.assertRaises(mcf.Refused, mcf.solve, supplies, arcs)
-        self.assertEqual(mcf.solve([least_float, -least_float], [(0, 1, least_float, 7)]).flow, [least_float])
+        self.assertEqual(
+            mcf.solve([least_float, -least_float], [(0, 1, least_float, 7)]).flow, [least_float]
+        )
 
     def test_digits(self):
         chance = random.Random(6)
         matrix = [[chance.random() for _ in range(9)] for _ in range(9)]
         with self.assertRaises(mcf.Refused) as c:
             mcf.linear_sum_assignment(matrix)
-        self.assertTrue(c.exception.reason == "cost" and c.exception.scale >= 10 ** 15 and str(c.exception.scale) in str(c.exception))
+        self.assertTrue(
+            c.exception.reason == "cost"
+            and c.exception.scale >= 10**15
+            and str(c.exception.scale) in str(c.exception)
+        )
         rounded = [[round(cost, 9) for cost in row] for row in matrix]
-        whole = [[round(cost * 10 ** 9) for cost in row] for row in matrix]
+        whole = [[round(cost * 10**9) for cost in row] for row in matrix]
         self.assertEqual(mcf.linear_sum_assignment(rounded), mcf.linear_sum_assignment(whole))
         with self.assertRaises(mcf.Refused) as c:
             mcf.solve([0.5, -0.5], [(0, 1, 1, 0.1234567890123456), (0, 1, 1, 0.5000000000000001)])
-        self.assertEqual((c.exception.arc, c.exception.reason, c.exception.scale), (0, "cost", 10 ** 16))
+        self.assertEqual(
+            (c.exception.arc, c.exception.reason, c.exception.scale), (0, "cost", 10**16)
+        )
 
     def test_without_limits(self):
-        self.assertEqual(mcf.solve([BOUND - 1, 1 - BOUND], [(0, 1, None, COST)]).cost, (BOUND - 1) * COST)
+        self.assertEqual(
+            mcf.solve([BOUND - 1, 1 - BOUND], [(0, 1, None, COST)]).cost, (BOUND - 1) * COST
+        )
         self.assertRaises(mcf.Refused, mcf.solve, [BOUND, -BOUND], [(0, 1, None, 1)])
         self.assertRaises(mcf.Unbounded, mcf.solve, [0], [(0, 0, None, -1)])
         self.assertRaises(mcf.Refused, mcf.solve, [0, 0], [(0, 5, None, -1)])
 
     def test_simple(self):
         problem = mcf.SimpleMinCostFlow()
-        for wrong in (-1, 10 ** 6, 10 ** 12, 1.5, "1", None):
+        for wrong in (-1, 10**6, 10**12, 1.5, "1", None):
             self.assertRaises((ValueError, TypeError), problem.set_node_supply, wrong, 1)
-            self.assertRaises((ValueError, TypeError), problem.add_arc_with_capacity_and_unit_cost, 0, wrong, 1, 1)
+            self.assertRaises(
+                (ValueError, TypeError), problem.add_arc_with_capacity_and_unit_cost, 0, wrong, 1, 1
+            )
         for wrong in (1.5, "1", None):
             self.assertRaises((ValueError, TypeError), problem.set_node_supply, 0, wrong)
-            self.assertRaises((ValueError, TypeError), problem.add_arc_with_capacity_and_unit_cost, 0, 1, wrong, 1)
-        self.assertRaises(ValueError, problem.add_arcs_with_capacity_and_unit_cost, [0], [1], [1, 2], [3])
-        self.assertRaises(ValueError, problem.add_arcs_with_capacity_and_unit_cost, [0, 5, -1], [1, 6, 0], [1, 1, 1], [3, 3, 3])
+            self.assertRaises(
+                (ValueError, TypeError), problem.add_arc_with_capacity_and_unit_cost, 0, 1, wrong, 1
+            )
+        self.assertRaises(
+            ValueError, problem.add_arcs_with_capacity_and_unit_cost, [0], [1], [1, 2], [3]
+        )
+        self.assertRaises(
+            ValueError,
+            problem.add_arcs_with_capacity_and_unit_cost,
+            [0, 5, -1],
+            [1, 6, 0],
+            [1, 1, 1],
+            [3, 3, 3],
+        )
         self.assertRaises(ValueError, problem.set_nodes_supplies, [0, -1], [1, 1])
         self.assertEqual((problem.num_arcs(), problem.num_nodes()), (0, 0))
         problem = mcf.SimpleMinCostFlow()
         self.assertEqual((problem.solve(), problem.optimal_cost()), (problem.OPTIMAL, 0))
-        problem.add_arc_with_capacity_and_unit_cost(0, 1, 10 ** 19, 10 ** 16)
+        problem.add_arc_with_capacity_and_unit_cost(0, 1, 10**19, 10**16)
         self.assertEqual(problem.solve(), problem.BAD_CAPACITY_RANGE)
         self.assertRaises(RuntimeError, problem.optimal_cost)
 
@@ -202,7 +347,7 @@ class Texts(unittest.TestCase):
     def test_noise(self):
         chance = random.Random(2)
         for alphabet in (bytes(range(256)), b"\n", b"0123456789", b"p min 1\n", b"\0"):
-            noise = bytes(chance.choices(alphabet, k=10 ** 6))
+            noise = bytes(chance.choices(alphabet, k=10**6))
             for text in (noise, b"p min 3 9\n" + noise, b"c " + noise):
                 kind, answer = mcf.solve_text(text)
                 self.assertTrue(kind == "refusal" and mcf.check_text(text, answer))
@@ -210,19 +355,30 @@ class Texts(unittest.TestCase):
 
     def test_changed_texts(self):
         chance = random.Random(3)
-        begin = b"p min 4 5\nn 1 4\nn 4 -4\na 1 2 0 4 2\na 1 3 0 2 2\na 2 3 0 2 1\na 2 4 0 3 3\na 3 4 0 5 1\n"
+        begin = (
+            b"p min 4 5\nn 1 4\nn 4 -4\na 1 2 0 4 2\na 1 3 0 2 2\na 2 3 0 2 1\na 2 4 0 3 3\na 3 4 0"
+            b" 5 1\n"
+        )
         for _ in range(3000):
             text = bytearray(begin)
             for _ in range(chance.randrange(1, 4)):
                 place = chance.randrange(len(text))
-                text[place:place + chance.randrange(2)] = chance.choice((b"", b"-", b"9", b" ", b"\n", b"0", b"\xff", b"1000000000000000000"))
-            kind, answer = mcf.solve_text(text, engine=chance.choice(("auto", "augment", "scaling")), form=chance.choice((1, 2)))
+                text[place : place + chance.randrange(2)] = chance.choice(
+                    (b"", b"-", b"9", b" ", b"\n", b"0", b"\xff", b"1000000000000000000")
+                )
+            kind, answer = mcf.solve_text(
+                text,
+                engine=chance.choice(("auto", "augment", "scaling")),
+                form=chance.choice((1, 2)),
+            )
             verdict = mcf.check_text(text, answer)
             self.assertTrue(verdict and verdict.kind == kind, bytes(text))
 
     def test_kinds_of_bytes(self):
         text = b"p min 1 0\n"
-        for other in (bytearray(text), memoryview(text), memoryview(text + text)[:len(text)]) + ((np.frombuffer(text, "u1"),) if np else ()):
+        for other in (bytearray(text), memoryview(text), memoryview(text + text)[: len(text)]) + (
+            (np.frombuffer(text, "u1"),) if np else ()
+        ):
             self.assertEqual(mcf.solve_text(other), mcf.solve_text(text))
             self.assertTrue(mcf.check_text(other, bytearray(mcf.solve_text(text)[1])))
         for wrong in ("p min 1 0\n", 10, None, [1]):
@@ -242,8 +398,17 @@ class Arrays(unittest.TestCase):
             great = -mcf_sum(-base)
             wide = np.full((2 * n, 3 * m), 99)
             wide[::2, ::3] = base
-            kinds = [np.asfortranarray(base), wide[::2, ::3], base[::-1, ::-1], base.astype(">i4"), base[:, ::-1].astype("u1")]
-            kinds += [base.astype(kind) for kind in ("i1", "i2", "u2", "i4", "u4", "u8", "f2", "f4", "f8", "g", "O")]
+            kinds = [
+                np.asfortranarray(base),
+                wide[::2, ::3],
+                base[::-1, ::-1],
+                base.astype(">i4"),
+                base[:, ::-1].astype("u1"),
+            ]
+            kinds += [
+                base.astype(kind)
+                for kind in ("i1", "i2", "u2", "i4", "u4", "u8", "f2", "f4", "f8", "g", "O")
+            ]
             for kind in kinds:
                 self.assertEqual(mcf_sum(kind), best, kind)
                 self.assertEqual(mcf_sum(kind, maximize=True), great, kind)
@@ -257,20 +422,37 @@ class Arrays(unittest.TestCase):
         for kind in ("i1", "u1", "i2", "u2", "i4", "u4", "i8", "u8", "f4", "f8"):
             for shape in ((4, 4), (2, 4), (4, 2)):
                 low = 0 if kind[0] == "u" else -128
-                table = np.array([[chance.choice((low, low + 1, 0, 1, 2, 99, 127)) for _ in range(shape[1])] for _ in range(shape[0])]).astype(kind)
+                table = np.array(
+                    [
+                        [chance.choice((low, low + 1, 0, 1, 2, 99, 127)) for _ in range(shape[1])]
+                        for _ in range(shape[0])
+                    ]
+                ).astype(kind)
                 plain = table.tolist()
                 for rows in (list(table), [list(row) for row in table]):
                     for maximize in (False, True):
-                        found = [sum(plain[i][j] for i, j in zip(*mcf.linear_sum_assignment(matrix, maximize))) for matrix in (rows, plain)]
+                        found = [
+                            sum(
+                                plain[i][j]
+                                for i, j in zip(*mcf.linear_sum_assignment(matrix, maximize))
+                            )
+                            for matrix in (rows, plain)
+                        ]
                         self.assertEqual(found[0], found[1], (kind, plain, maximize))
-                supplies, arcs = np.array([3, -3]).astype("i1"), np.array([[0, 1, 9, 5]]).astype(kind)
+                supplies, arcs = np.array([3, -3]).astype("i1"), np.array([[0, 1, 9, 5]]).astype(
+                    kind
+                )
                 self.assertEqual(mcf.solve(list(supplies), list(arcs)).cost, 15)
         for kind in ("f2", "f4", "f8", "g"):
             forbidden = [np.array([np.inf, 2], kind), np.array([1, 9], kind)]
             for rows in (forbidden, list(map(list, forbidden))):
                 self.assertEqual(mcf.linear_sum_assignment(rows), ([0, 1], [1, 0]))
             for wrong in (np.nan, -np.inf):
-                self.assertRaises(ValueError, mcf.linear_sum_assignment, [np.array([wrong, 2], kind), np.array([1, 9], kind)])
+                self.assertRaises(
+                    ValueError,
+                    mcf.linear_sum_assignment,
+                    [np.array([wrong, 2], kind), np.array([1, 9], kind)],
+                )
             self.assertEqual(mcf.solve([1, -1], [np.array([0, 1, np.inf, 0.25], kind)]).cost, 0.25)
         # A float is the decimal that it prints as, with few digits.
         self.assertEqual(mcf.solve([1, -1], [np.array([0, 1, np.inf, 0.1], "f4")]).cost, 0.1)
@@ -284,6 +466,7 @@ class Arrays(unittest.TestCase):
                 table[:] = np.random.randint(-9, 9, table.shape)
                 supplies[:] = supplies[::-1].copy()
                 arcs[:, 2:] = np.random.randint(0, 9)
+
         thread = threading.Thread(target=change)
         thread.start()
         try:
@@ -299,14 +482,30 @@ class Arrays(unittest.TestCase):
             thread.join()
 
     def test_what_is_no_matrix(self):
-        for wrong in (np.zeros(3), np.zeros((2, 2, 2)), np.array(1), np.array([["a"]]), np.zeros((2, 2), "c16"), np.zeros((1, 1), "M8[s]"),
-                      np.array([[np.nan]]), np.array([[-np.inf]]), np.full((2, 2), np.inf), np.array([[None]]), np.array([[np.nan]], "O")):
+        for wrong in (
+            np.zeros(3),
+            np.zeros((2, 2, 2)),
+            np.array(1),
+            np.array([["a"]]),
+            np.zeros((2, 2), "c16"),
+            np.zeros((1, 1), "M8[s]"),
+            np.array([[np.nan]]),
+            np.array([[-np.inf]]),
+            np.full((2, 2), np.inf),
+            np.array([[None]]),
+            np.array([[np.nan]], "O"),
+        ):
             with self.assertRaises((ValueError, TypeError), msg=repr(wrong)):
                 mcf.linear_sum_assignment(wrong)
         for shape in ((0, 0), (0, 3), (3, 0)):
             rows, columns = mcf.linear_sum_assignment(np.zeros(shape))
             self.assertEqual((rows.size, columns.size, rows.dtype), (0, 0, np.intp))
-        for wrong in (np.full((2, 2), 2 ** 63 - 1), np.full((2, 2), -2 ** 63), np.full((2, 2), 2 ** 64 - 1, "u8"), np.full((2, 2), 1e300)):
+        for wrong in (
+            np.full((2, 2), 2**63 - 1),
+            np.full((2, 2), -(2**63)),
+            np.full((2, 2), 2**64 - 1, "u8"),
+            np.full((2, 2), 1e300),
+        ):
             for maximize in (False, True):
                 self.assertRaises(mcf.Refused, mcf.linear_sum_assignment, wrong, maximize)
 
@@ -315,13 +514,33 @@ class Arrays(unittest.TestCase):
         supplies = np.array([4, 0, -4])
         wide = np.zeros((6, 8), int)
         wide[::2, ::2] = arcs
-        for kind in (arcs.astype("i1"), arcs.astype(">i8"), arcs.astype("f8"), arcs.astype("O"), wide[::2, ::2], np.asfortranarray(arcs), list(arcs)):
-            for amounts in (supplies, supplies.astype("f4"), np.repeat(supplies, 2)[::2], list(supplies)):
+        for kind in (
+            arcs.astype("i1"),
+            arcs.astype(">i8"),
+            arcs.astype("f8"),
+            arcs.astype("O"),
+            wide[::2, ::2],
+            np.asfortranarray(arcs),
+            list(arcs),
+        ):
+            for amounts in (
+                supplies,
+                supplies.astype("f4"),
+                np.repeat(supplies, 2)[::2],
+                list(supplies),
+            ):
                 answer = mcf.solve(amounts, kind)
                 self.assertEqual((answer.cost, answer.flow), (5, [3, 3, 1]))
         answer = mcf.solve(np.array([0.5, -0.5]), np.array([[0, 1, np.inf, 1.5]]))
         self.assertEqual((answer.cost, answer.flow), (0.75, [0.5]))
-        for wrong in (np.array([[0, np.nan, 3, 1]]), np.array([[0, 1, np.nan, 1]]), np.array([[0, 1, 3, np.inf]]), np.array([[0.5, 1, 3, 1]]), np.zeros(4), np.zeros((2, 3))):
+        for wrong in (
+            np.array([[0, np.nan, 3, 1]]),
+            np.array([[0, 1, np.nan, 1]]),
+            np.array([[0, 1, 3, np.inf]]),
+            np.array([[0.5, 1, 3, 1]]),
+            np.zeros(4),
+            np.zeros((2, 3)),
+        ):
             with self.assertRaises((ValueError, TypeError), msg=repr(wrong)):
                 mcf.solve([0, 0], wrong)
         self.assertEqual(mcf.solve([0, 0], np.zeros((0, 4))).flow, [])
@@ -331,7 +550,9 @@ def mcf_sum(matrix, **options):
     """What an assignment of least cost costs, of a matrix that is as it was after."""
     before = np.array(matrix)
     rows, columns = mcf.linear_sum_assignment(matrix, **options)
-    assert np.array_equal(before, matrix) and len(set(columns.tolist())) == len(rows) == min(before.shape)
+    assert np.array_equal(before, matrix) and len(set(columns.tolist())) == len(rows) == min(
+        before.shape
+    )
     return int(before[rows, columns].astype("i8").sum())
 
 

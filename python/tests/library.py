@@ -1,4 +1,5 @@
-"""The tests of the package mcf, with the standard library alone; those of networkx and scipy where they are installed. MCF_LIBRARY names the library."""
+"""The tests of the package mcf, with the standard library alone; those of networkx and scipy where
+they are installed. MCF_LIBRARY names the library."""
 import doctest
 import importlib
 import os
@@ -20,7 +21,11 @@ import mcf.simple
 def load_tests(loader, tests, pattern):
     """The examples of the docstrings are tests."""
     for module in (mcf, mcf._solving, mcf.assignment, mcf.simple):
-        tests.addTests(doctest.DocTestSuite(module, optionflags=doctest.ELLIPSIS | doctest.IGNORE_EXCEPTION_DETAIL))
+        tests.addTests(
+            doctest.DocTestSuite(
+                module, optionflags=doctest.ELLIPSIS | doctest.IGNORE_EXCEPTION_DETAIL
+            )
+        )
     return tests
 
 
@@ -53,53 +58,80 @@ class Solving(unittest.TestCase):
         self.assertEqual(sorted(c.exception.cycle), [1, 2])
 
     def test_zero_cycles_without_limits(self):
-        self.assertEqual(mcf.solve([1, 0, -1], [(0, 1, None, 2), (1, 0, None, -2), (1, 2, None, 1)]).cost, 3)
+        self.assertEqual(
+            mcf.solve([1, 0, -1], [(0, 1, None, 2), (1, 0, None, -2), (1, 2, None, 1)]).cost, 3
+        )
 
     def test_refused(self):
-        for arcs, place, reason in (([(0, 1, 1, 1), (0, 1, 10 ** 19, 1)], 1, "bound"), ([(0, 1, 5, 10 ** 16)], 0, "cost"),
-                                    ([(0, 2, 1, 1)], 0, "node"), ([(-1, 1, 1, 1)], 0, "node"), ([(0, 2 ** 40, 1, 1)], 0, "node"),
-                                    ([(0, 1, 5, 4, 1)], 0, "order")):
+        for arcs, place, reason in (
+            ([(0, 1, 1, 1), (0, 1, 10**19, 1)], 1, "bound"),
+            ([(0, 1, 5, 10**16)], 0, "cost"),
+            ([(0, 2, 1, 1)], 0, "node"),
+            ([(-1, 1, 1, 1)], 0, "node"),
+            ([(0, 2**40, 1, 1)], 0, "node"),
+            ([(0, 1, 5, 4, 1)], 0, "order"),
+        ):
             with self.assertRaises(mcf.Refused) as c:
                 mcf.solve([0, 0], arcs)
-            self.assertEqual((c.exception.arc, c.exception.node, c.exception.reason), (place, None, reason))
-        for supplies, node in (([0, 10 ** 19], 1), ({"x": 10 ** 18 + 1}, "x")):
+            self.assertEqual(
+                (c.exception.arc, c.exception.node, c.exception.reason), (place, None, reason)
+            )
+        for supplies, node in (([0, 10**19], 1), ({"x": 10**18 + 1}, "x")):
             with self.assertRaises(mcf.Refused) as c:
                 mcf.solve(supplies, [])
-            self.assertEqual((c.exception.arc, c.exception.node, c.exception.reason), (None, node, "supply"))
+            self.assertEqual(
+                (c.exception.arc, c.exception.node, c.exception.reason), (None, node, "supply")
+            )
 
     def test_decimals(self):
-        r = mcf.solve([0.3, -0.3], [(0, 1, 0.1, 1.5), (0, 1, Decimal("0.2"), 2), (0, 1, 9, Fraction(7, 2))])
+        r = mcf.solve(
+            [0.3, -0.3], [(0, 1, 0.1, 1.5), (0, 1, Decimal("0.2"), 2), (0, 1, 9, Fraction(7, 2))]
+        )
         self.assertEqual((r.flow, r.cost), ([0.1, 0.2, 0], 0.55))
 
     def test_engines(self):
         for engine in ("auto", "cancel", "simplex", "scaling", "sap", "augment"):
             for pricing in ("first", "best", "block", "wide"):
-                r = mcf.solve([5, 0, -5], [(0, 1, 9, 1), (1, 2, 9, 1), (0, 2, 3, 1)], engine=engine, pricing=pricing, block=2)
+                r = mcf.solve(
+                    [5, 0, -5],
+                    [(0, 1, 9, 1), (1, 2, 9, 1), (0, 2, 3, 1)],
+                    engine=engine,
+                    pricing=pricing,
+                    block=2,
+                )
                 self.assertEqual(r.cost, 7)
         for options in ({"engine": "none"}, {"pricing": "none"}, {"block": 1000001}):
             with self.assertRaises(ValueError):
                 mcf.solve([0], [], **options)
 
     def test_what_suits_a_size(self):
-        many, suited = 2 ** 14 + 1, mcf._solving.suited
-        for choice, engine, pricing, block in ((suited(many - 1), 0, 0, 0), (suited(many), 5, 0, 0), (suited(many, block=64), 0, 0, 64),
-                                               (suited(many, "scaling", "first"), 3, 1, 0)):
-            self.assertEqual((choice.engine, choice.pricing, choice.block), (engine, pricing, block))
+        many, suited = 2**14 + 1, mcf._solving.suited
+        for choice, engine, pricing, block in (
+            (suited(many - 1), 0, 0, 0),
+            (suited(many), 5, 0, 0),
+            (suited(many, block=64), 0, 0, 64),
+            (suited(many, "scaling", "first"), 3, 1, 0),
+        ):
+            self.assertEqual(
+                (choice.engine, choice.pricing, choice.block), (engine, pricing, block)
+            )
         arcs = [(0, k, 1, k % 7) for k in range(1, many)]
         r = mcf.solve([many - 1] + [-1] * (many - 1), arcs)
         self.assertEqual((r.cost, r.verdict.accepted), (sum(arc[3] for arc in arcs), True))
 
     def test_great_costs(self):
-        r = mcf.solve([10 ** 18, -10 ** 18], [(0, 1, 10 ** 18, 10 ** 15)])
-        self.assertEqual((r.cost, r.verdict.number), (10 ** 33, 10 ** 33))
-        self.assertEqual(mcf.solve([10 ** 18, -10 ** 18], [(0, 1, 10 ** 18, -10 ** 15)]).cost, -10 ** 33)
+        r = mcf.solve([10**18, -(10**18)], [(0, 1, 10**18, 10**15)])
+        self.assertEqual((r.cost, r.verdict.number), (10**33, 10**33))
+        self.assertEqual(
+            mcf.solve([10**18, -(10**18)], [(0, 1, 10**18, -(10**15))]).cost, -(10**33)
+        )
 
     def test_a_price_beyond_64_bits(self):
         for count in (9223, 9224):
-            chain = [1] + [0] * (count - 1) + [-1], [(k, k + 1, 2, 10 ** 15) for k in range(count)]
+            chain = [1] + [0] * (count - 1) + [-1], [(k, k + 1, 2, 10**15) for k in range(count)]
             if count == 9223:
                 r = mcf.solve(*chain)
-                self.assertEqual((r.cost, r.prices[-1]), (count * 10 ** 15, -count * 10 ** 15))
+                self.assertEqual((r.cost, r.prices[-1]), (count * 10**15, -count * 10**15))
             else:
                 self.assertRaisesRegex(OverflowError, "64 bits", mcf.solve, *chain)
 
@@ -110,14 +142,18 @@ class Solving(unittest.TestCase):
         self.assertEqual(mcf.linear_sum_assignment([[4, 1, 2], [2, 0, 9]]), ([0, 1], [2, 1]))
         self.assertEqual(mcf.linear_sum_assignment([[4, 2], [1, 0], [5, 9]]), ([0, 1], [1, 0]))
         self.assertEqual(mcf.linear_sum_assignment([[1.5, 0.25], [0.5, 0.75]]), ([0, 1], [1, 0]))
-        self.assertEqual(mcf.linear_sum_assignment([[Decimal("1.5"), Decimal("1.25")], [1, 1]]), ([0, 1], [1, 0]))
-        self.assertEqual(mcf.linear_sum_assignment([[float("inf"), 2.0], [1.0, 9.0]]), ([0, 1], [1, 0]))
+        self.assertEqual(
+            mcf.linear_sum_assignment([[Decimal("1.5"), Decimal("1.25")], [1, 1]]), ([0, 1], [1, 0])
+        )
+        self.assertEqual(
+            mcf.linear_sum_assignment([[float("inf"), 2.0], [1.0, 9.0]]), ([0, 1], [1, 0])
+        )
         for wrong in ([[1, float("inf")], [2, float("inf")]], [[float("nan")]], [[1, 2], [3]]):
             with self.assertRaises(ValueError):
                 mcf.linear_sum_assignment(wrong)
         self.assertEqual(mcf.linear_sum_assignment([]), ([], []))
         with self.assertRaises(mcf.Refused) as c:
-            mcf.linear_sum_assignment([[1, 2], [10 ** 20, 3]])
+            mcf.linear_sum_assignment([[1, 2], [10**20, 3]])
         self.assertEqual((c.exception.arc, c.exception.reason), (2, "cost"))
 
     def test_random_matrices(self):
@@ -140,8 +176,15 @@ class Solving(unittest.TestCase):
         self.assertEqual(mcf.solve_text(b"")[1], b"r 1 no-p\n")
 
     def test_wrong_answers_are_not_accepted(self):
-        problem = mcf._library.ArcArrays(mcf._solving._supplied([2, -2]), 2, mcf._solving._packed([(0, 1, 0, 3, 5), (0, 1, 0, 1, 1)]), 2)
-        self.assertEqual(problem.solve(mcf._library.choice_of("auto", "block", None)), mcf._library.FLOW)
+        problem = mcf._library.ArcArrays(
+            mcf._solving._supplied([2, -2]),
+            2,
+            mcf._solving._packed([(0, 1, 0, 3, 5), (0, 1, 0, 1, 1)]),
+            2,
+        )
+        self.assertEqual(
+            problem.solve(mcf._library.choice_of("auto", "block", None)), mcf._library.FLOW
+        )
         self.assertTrue(problem.check())
         problem.told.low += 1
         self.assertEqual(problem.check().kind, "bad-cost")
@@ -156,6 +199,7 @@ class Solving(unittest.TestCase):
             for _ in range(20):
                 if mcf.solve([k, -k], [(0, 1, k, 3)]).cost != 3 * k:
                     wrong.append(k)
+
         threads = [threading.Thread(target=work, args=(k,)) for k in range(1, 9)]
         [t.start() for t in threads], [t.join() for t in threads]
         self.assertEqual(wrong, [])
@@ -163,6 +207,7 @@ class Solving(unittest.TestCase):
 
 def _orders(n):
     import itertools
+
     return itertools.permutations(range(n))
 
 
@@ -177,6 +222,7 @@ def _installed(name):
 class WithNumpy(unittest.TestCase):
     def test_arrays(self):
         import numpy as np
+
         r = mcf.solve(np.array([4, 0, -4]), np.array([[0, 1, 3, 1], [1, 2, 3, -1], [0, 2, 9, 5]]))
         self.assertEqual((r.cost, r.flow), (5, [3, 3, 1]))
         rows, columns = mcf.linear_sum_assignment(np.array([[4, 1, 3], [2, 0, 5], [3, 2, 2]]))
@@ -186,8 +232,9 @@ class WithNumpy(unittest.TestCase):
 @unittest.skipUnless(_installed("networkx"), "networkx isn't installed")
 class WithNetworkx(unittest.TestCase):
     def test_graph(self):
-        import networkx as nx
         import mcf.nx
+        import networkx as nx
+
         G = nx.DiGraph()
         G.add_node("a", demand=-4)
         G.add_node("d", demand=4)

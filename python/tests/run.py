@@ -1,5 +1,6 @@
 #!/usr/bin/env python3
-"""Runs the tests of the Python tools, or those of the modules that are named, and says what was skipped: status 0 if none failed.
+"""Runs the tests of the Python tools, or those of the modules that are named, and says what was
+skipped: status 0 if none failed.
 
     python/tests/run.py [test_flows ..]
 """

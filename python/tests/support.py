@@ -57,7 +57,14 @@ class WithFolder(unittest.TestCase):
 
     def flow(self, places, routes, *more):
         """Runs `flow` on two tables."""
-        return run("flow", self.put("places.csv", places), self.put("routes.csv", routes), "-o", self.out, *more)
+        return run(
+            "flow",
+            self.put("places.csv", places),
+            self.put("routes.csv", routes),
+            "-o",
+            self.out,
+            *more,
+        )
 
     def pairs(self, costs, *more):
         """Runs `pairs` on a table."""

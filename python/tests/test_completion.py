@@ -10,11 +10,20 @@ import unittest
 TOP = pathlib.Path(__file__).resolve().parents[2]
 SOLVER = pathlib.Path(os.environ.get("MCF_BIN", TOP / "bin"), "mcf")
 HELP = {"-h", "--help"}
-# What is asked of a shell: the words of a line, of which the last is completed; and each line's command with its subcommand.
-LINES = (("mcf",), ("mcf", "solve"), ("mcf_plan",), ("mcf_plan", "flow"), ("mcf_plan", "pairs"), ("mcf_plan", "diff"), ("mcf_explain",))
+# What is asked of a shell: the words of a line, of which the last is completed; and each line's
+# command with its subcommand.
+LINES = (
+    ("mcf",),
+    ("mcf", "solve"),
+    ("mcf_plan",),
+    ("mcf_plan", "flow"),
+    ("mcf_plan", "pairs"),
+    ("mcf_plan", "diff"),
+    ("mcf_explain",),
+)
 BASH = """
 . "$0"; COMP_WORDS=("$@"); COMP_CWORD=$(($# - 1)); _mcf "$1" "${!#}" "${@:$#-1:1}"; printf '%s\\n' "${COMPREPLY[@]}"
-"""
+"""  # noqa: E501
 # What zsh would offer is what _arguments is given.
 ZSH = """
 _arguments() { print -rl -- "$@" }; file=$1; shift; words=("$@"); CURRENT=$#; service=$1; . $file
@@ -23,18 +32,24 @@ _arguments() { print -rl -- "$@" }; file=$1; shift; words=("$@"); CURRENT=$#; se
 
 def said(*words):
     """What a command says."""
-    return subprocess.run([str(word) for word in words], stdout=subprocess.PIPE, check=True, timeout=60).stdout.decode()
+    return subprocess.run(
+        [str(word) for word in words], stdout=subprocess.PIPE, check=True, timeout=60
+    ).stdout.decode()
 
 
 def helped(command, *words):
-    """The options of a command in its help, each with the values that it takes, if these are some words."""
+    """The options of a command in its help, each with the values that it takes, if these are some
+    words."""
     if command == "mcf":
         text = said(SOLVER, *words, "--help").split("\nOptions:")[1].split("\n\n")[0]
         values = re.findall(r"(--[a-z-]+) <\w+> .*\[possible values: ([^]]*)\]", text)
         return set(options_in(text)), {option: named.split(", ") for option, named in values}
     text = said(sys.executable, TOP / "tools" / command, *words, "--help")
     values = {option: named for option, named in re.findall(r"(--[a-z-]+) \{(\S*)\}", text)}
-    return set(options_in(text)), {option: [",", "."] if named == ",,." else named.split(",") for option, named in values.items()}
+    return set(options_in(text)), {
+        option: [",", "."] if named == ",,." else named.split(",")
+        for option, named in values.items()
+    }
 
 
 def options_in(text):
@@ -48,7 +63,8 @@ def bash(*words):
 
 
 def zsh(*words):
-    """What zsh would offer for some words: options, each with the values that it takes, if these are some words; and subcommands."""
+    """What zsh would offer for some words: options, each with the values that it takes, if these
+    are some words; and subcommands."""
     lines = said("zsh", "-f", "-c", ZSH, "zsh", TOP / "completion" / "_mcf", *words).splitlines()
     options, values, subcommands = set(), {}, []
     for line in lines:
@@ -85,7 +101,13 @@ class Bash(unittest.TestCase):
         self.assertEqual(bash("mcf", "solve", "--pricing", "=", "b"), ["best", "block"])
         self.assertEqual(bash("mcf", "solve", "--form", "="), ["1", "2"])
         self.assertEqual(bash("mcf_plan", ""), ["flow", "pairs", "diff"])
-        for words in (("mcfcheck", ""), ("mcfcheck", "-"), ("mcf", "solve", ""), ("mcf_one", ""), ("mcf_plan", "flow", "-o", "")):
+        for words in (
+            ("mcfcheck", ""),
+            ("mcfcheck", "-"),
+            ("mcf", "solve", ""),
+            ("mcf_one", ""),
+            ("mcf_plan", "flow", "-o", ""),
+        ):
             self.assertEqual(bash(*words), [], words)
 
 

@@ -1,8 +1,8 @@
-"""The plans of examples/plans/, compared with what is stored there; `store_examples.py` writes what they give
-now.
+"""The plans of examples/plans/, compared with what is stored there; `store_examples.py` writes what
+they give now.
 
-A folder has its tables, the words of the call in call.txt where they aren't the usual ones, and `expected/`
-with the results and what is said.
+A folder has its tables, the words of the call in call.txt where they aren't the usual ones, and
+`expected/` with the results and what is said.
 """
 import copy
 import os
@@ -29,7 +29,9 @@ class Examples(WithFolder):
     @staticmethod
     def read(name):
         """The problem of an example."""
-        return model.Problem.read([PLANS / name / "places.csv", PLANS / name / "routes.csv"], tables.Reading())
+        return model.Problem.read(
+            [PLANS / name / "places.csv", PLANS / name / "routes.csv"], tables.Reading()
+        )
 
     def solved(self, problem, **changes):
         """The plan of a problem, perhaps with other places or routes, or None."""
@@ -50,7 +52,8 @@ class Examples(WithFolder):
                     problem.routes[:number]
                     + [
                         route._replace(
-                            steps=route.steps[:-1] + (model.Step(route.steps[-1].most + 1, route.steps[-1].cost),)
+                            steps=route.steps[:-1]
+                            + (model.Step(route.steps[-1].most + 1, route.steps[-1].cost),)
                         )
                     ]
                     + problem.routes[number + 1 :]
@@ -79,7 +82,10 @@ class Examples(WithFolder):
         changed[end] = changed[end]._replace(supply=changed[end].supply - units)
         again = self.solved(problem, places=changed)
         self.assertTrue(again is None or again.cost - plan.cost >= units * figure)
-        self.assertTrue(plan.places[begin].group != plan.places[end].group or again.cost - plan.cost == units * figure)
+        self.assertTrue(
+            plan.places[begin].group != plan.places[end].group
+            or again.cost - plan.cost == units * figure
+        )
 
     def test_the_degenerate_example_is_degenerate(self):
         rows = rows_of(PLANS / "degenerate" / "expected" / "flows.csv", ";")
@@ -88,7 +94,9 @@ class Examples(WithFolder):
     def test_functions_are_short(self):
         for file in (TOP / "python").rglob("*.py"):
             for name, body in re.findall(
-                r"^ *def (\w+)(.*(?:\n(?:(?! *def |\S).*)?)*)", file.read_text(encoding="utf-8"), re.M
+                r"^ *def (\w+)(.*(?:\n(?:(?! *def |\S).*)?)*)",
+                file.read_text(encoding="utf-8"),
+                re.M,
             ):
                 self.assertLess(len(body.rstrip().splitlines()), 40, name)
 
@@ -103,7 +111,11 @@ def results_of(folder, out):
     if (folder / "call.txt").exists():
         words = (folder / "call.txt").read_text(encoding="utf-8").split()
     else:
-        words = ["flow", "places.csv", "routes.csv"] if (folder / "places.csv").exists() else ["pairs", "costs.csv"]
+        words = (
+            ["flow", "places.csv", "routes.csv"]
+            if (folder / "places.csv").exists()
+            else ["pairs", "costs.csv"]
+        )
     here = os.getcwd()
     os.chdir(folder)
     try:
@@ -111,5 +123,11 @@ def results_of(folder, out):
     finally:
         os.chdir(here)
     results = {"said.txt": f"{said}{told}status {status}\n"}
-    results.update({name: (out / name).read_text(encoding="utf-8-sig") for name in COMPARED if (out / name).exists()})
+    results.update(
+        {
+            name: (out / name).read_text(encoding="utf-8-sig")
+            for name in COMPARED
+            if (out / name).exists()
+        }
+    )
     return results

@@ -58,7 +58,11 @@ class Explain(WithFolder):
     def test_the_place(self):
         said, _ = self.explained(b"p min 4 1\n\ta 1 9 0 3 2\r\n")
         self.assertEqual(
-            said, "text: line 2: the second end is 9; nodes are 1 to 4 (mcf: r 2 node)\n     a 1 9 0 3 2\n         ^"
+            said,
+            (
+                "text: line 2: the second end is 9; nodes are 1 to 4 (mcf: r 2 node)\n     a 1 9 0"
+                " 3 2\n         ^"
+            ),
         )
 
     def test_all_further_faults(self):
@@ -72,20 +76,28 @@ class Explain(WithFolder):
                 "line 5: the second end is 3; nodes are 1 to 2 (node)",
                 "line 6: the second end is 3; nodes are 1 to 2 (node)",
                 "and 4 more of node, the last in line 10",
-                "line 11: 'q' begins no line of an instance: lines begin with p, n or a, and comments with c (kind)",
+                (
+                    "line 11: 'q' begins no line of an instance: lines begin with p, n or a, and"
+                    " comments with c (kind)"
+                ),
                 "line 12: the problem line (line 1) says 9 arcs, and there are 7 (missing)",
             ],
         )
 
     def test_after_a_faulty_problem_line(self):
-        self.assertNotIn("Further", self.explained(b"p min x 2\nn 1 3\na 1 2 0 1 1\na 1 2 0 1 1\n")[0])
+        self.assertNotIn(
+            "Further", self.explained(b"p min x 2\nn 1 3\na 1 2 0 1 1\na 1 2 0 1 1\n")[0]
+        )
 
     def test_examples(self):
         for path in sorted((TOP / "examples").glob("*.[ma][is]n")):
             with self.subTest(path=path.name):
                 said, status = self.explained(path.read_bytes())
                 answer = path.with_suffix(".ans").read_text().split("\n")[0]
-                self.assertIn(f"(mcf: {answer})" if answer.startswith("r") else "mcf refuses nothing here.", said)
+                self.assertIn(
+                    f"(mcf: {answer})" if answer.startswith("r") else "mcf refuses nothing here.",
+                    said,
+                )
                 self.assertEqual(status, 2 if answer.startswith("r") else 0)
 
     def test_changed_texts_agree_with_mcf(self):
@@ -116,7 +128,11 @@ class Explain(WithFolder):
             data = (GOOD if draw.random() < 0.5 else ASSIGNMENT).encode()
             for _ in range(draw.randint(1, 3)):
                 begin = draw.randrange(len(data) + 1)
-                data = data[:begin] + draw.choice(pieces) * draw.randint(0, 1) + data[begin + draw.randint(0, 3) :]
+                data = (
+                    data[:begin]
+                    + draw.choice(pieces) * draw.randint(0, 1)
+                    + data[begin + draw.randint(0, 3) :]
+                )
             with self.subTest(data=data):
                 said, status = self.explained(data)
                 self.assertIn(status, (0, 2), said)
@@ -138,4 +154,6 @@ class Explain(WithFolder):
             self.assertTrue(re.match(rb".*: line 2: the node is 2; nodes are 1 to 1", done.stdout))
         for words in ([str(self.folder / "none")], ["a", "b"]):
             with contextlib.redirect_stderr(io.StringIO()):
-                self.assertEqual(subprocess.run(tool + words, stderr=subprocess.PIPE, timeout=60).returncode, 3)
+                self.assertEqual(
+                    subprocess.run(tool + words, stderr=subprocess.PIPE, timeout=60).returncode, 3
+                )

@@ -18,7 +18,11 @@ REFUSED_FLOWS = [
         "from,to,least,most,cost\nMill,Wien,-" + "9" * 40 + ",1,1\n",
         "routes.csv, line 2, column least: an amount beyond",
     ),
-    (PLACES, ROUTES + "Mill,Wien,5,4,1\n", "routes.csv, line 5, column least: least is greater than most"),
+    (
+        PLACES,
+        ROUTES + "Mill,Wien,5,4,1\n",
+        "routes.csv, line 5, column least: least is greater than most",
+    ),
     (
         PLACES,
         "cost,from,to,least,most\n" + "9" * 30 + ",Mill,Wien,0,1\n",
@@ -35,7 +39,10 @@ SAME_PLACES = [
     "\ufeffname,supply\nMill,30\nWien,-18\nGraz,-12\n",
     "Name;Supply\r\nMill;30\r\nWien;-18\r\nGraz;-12\r\n",
     "supply\tname\n30\tMill\n-18\tWien\n-12\tGraz",
-    '\nname , supply ,note\n\n"Mill","+30","a ""big"" one,\nby the river"\n Wien , -018\n,,\nGraz,-12,',
+    (
+        '\nname , supply ,note\n\n"Mill","+30","a ""big"" one,\nby the river"\n Wien ,'
+        " -018\n,,\nGraz,-12,"
+    ),
     "name,supply\rMill,30\rWien,-18\rGraz,-12\r",
 ]
 
@@ -49,8 +56,11 @@ class Flows(WithFolder):
         self.assertIn("cost 171", said)
         self.assertEqual(
             (self.out / "flows.csv").read_text(),
-            "from,to,least,most,cost,carries,total,free,one_more_saves,exact\n"
-            "Mill,Wien,0,15,4,15,60,0,5,yes\nMill,Graz,0,20,7,15,105,5,0,yes\nGraz,Wien,0,10,2,3,6,7,0,yes\n",
+            (
+                "from,to,least,most,cost,carries,total,free,one_more_saves,exact\n"
+                "Mill,Wien,0,15,4,15,60,0,5,yes\nMill,Graz,0,20,7,15,105,5,0,yes\n"
+                "Graz,Wien,0,10,2,3,6,7,0,yes\n"
+            ),
         )
         self.assertEqual(
             (self.out / "prices.csv").read_text(),
@@ -66,7 +76,9 @@ class Flows(WithFolder):
 
     def test_results_are_written_as_the_tables_are(self):
         self.flow(SAME_PLACES[0], ROUTES.replace(",", ";"))
-        self.assertTrue((self.out / "prices.csv").read_bytes().startswith(b"\xef\xbb\xbfname,supply"))
+        self.assertTrue(
+            (self.out / "prices.csv").read_bytes().startswith(b"\xef\xbb\xbfname,supply")
+        )
         self.assertTrue((self.out / "flows.csv").read_bytes().startswith(b"from;to;"))
 
     def test_what_mcf_refuses(self):
@@ -77,18 +89,24 @@ class Flows(WithFolder):
                 self.assertIn(begins, told)
 
     def test_supply_exceeds_demand(self):
-        status, said, _ = self.flow("name,supply\nA,9\nB,-7\n", "from,to,least,most,cost\nA,B,0,9,1\n")
+        status, said, _ = self.flow(
+            "name,supply\nA,9\nB,-7\n", "from,to,least,most,cost\nA,B,0,9,1\n"
+        )
         self.assertEqual(status, 1)
         self.assertIn("supply exceeds demand by 2: the supplies add to 9, the demands to 7", said)
         self.assertEqual([row["must"] for row in rows_of(self.out / "bottleneck.csv")], ["9", "-7"])
 
     def test_demand_exceeds_supply(self):
-        status, said, _ = self.flow("name,supply\nA,4\nB,-7\n", "from,to,least,most,cost\nA,B,0,9,1\n")
+        status, said, _ = self.flow(
+            "name,supply\nA,4\nB,-7\n", "from,to,least,most,cost\nA,B,0,9,1\n"
+        )
         self.assertEqual(status, 1)
         self.assertIn("demand exceeds supply by 3: the supplies add to 4, the demands to 7", said)
 
     def test_places_that_must_send(self):
-        status, said, _ = self.flow("name,supply\nA,5\nB,0\nC,-5\n", "from,to,least,most,cost\nA,B,0,4,1\nB,C,0,9,1\n")
+        status, said, _ = self.flow(
+            "name,supply\nA,5\nB,0\nC,-5\n", "from,to,least,most,cost\nA,B,0,4,1\nB,C,0,9,1\n"
+        )
         self.assertEqual(status, 1)
         self.assertIn("A must send 5, and can send only 4, over A -> B (4).", said)
 
@@ -108,7 +126,10 @@ class Flows(WithFolder):
         routes = "from,to,least,most,cost\nB,A,2,3,1\nA,B,0,1,1\n"
         status, said, _ = self.flow("name,supply\nA,0\nB,0\n", routes)
         self.assertEqual(status, 1)
-        self.assertIn("A must send 2 (with the least of B -> A (2)), and can send only 1, over A -> B (1).", said)
+        self.assertIn(
+            "A must send 2 (with the least of B -> A (2)), and can send only 1, over A -> B (1).",
+            said,
+        )
         rows = rows_of(self.out / "bottleneck.csv")
         self.assertEqual(
             [(row["kind"], row["must"], row["can"]) for row in rows],
@@ -120,7 +141,9 @@ class Flows(WithFolder):
         said = self.flow(places, "from,to,least,most,cost\nA,B,0,4,1\nC,D,0,4,1\n")[1]
         self.assertIn("A must send 5, and can send only 4", said)
         self.assertIn("C must send 6, and can send only 4", said)
-        self.assertEqual({row["bottleneck"] for row in rows_of(self.out / "bottleneck.csv")}, {"1", "2"})
+        self.assertEqual(
+            {row["bottleneck"] for row in rows_of(self.out / "bottleneck.csv")}, {"1", "2"}
+        )
 
     def test_results_of_an_earlier_run_are_removed(self):
         self.flow(PLACES, ROUTES)
@@ -152,8 +175,13 @@ class Unbalanced(WithFolder):
         self.assertEqual((status, told), (0, ""))
         self.assertIn("cost 19.", said)
         self.assertIn("3 stay at: A 3.", said)
-        self.assertEqual((self.out / "flows.csv").read_text().splitlines()[-1], "A,(stays),,,3,0,,,")
-        self.assertIn("c node 5 takes what stays and gives what is missing\n", (self.out / "instance.min").read_text())
+        self.assertEqual(
+            (self.out / "flows.csv").read_text().splitlines()[-1], "A,(stays),,,3,0,,,"
+        )
+        self.assertIn(
+            "c node 5 takes what stays and gives what is missing\n",
+            (self.out / "instance.min").read_text(),
+        )
 
     def test_what_is_missing(self):
         places = self.PLACES.replace("A,9", "A,1")
@@ -162,10 +190,16 @@ class Unbalanced(WithFolder):
         self.assertIn("cost 6.", said)
         self.assertIn("5 are missing at: ", said)
         self.assertEqual(
-            sum(int(row["carries"]) for row in rows_of(self.out / "flows.csv") if row["from"] == "(missing)"), 5
+            sum(
+                int(row["carries"])
+                for row in rows_of(self.out / "flows.csv")
+                if row["from"] == "(missing)"
+            ),
+            5,
         )
         self.assertEqual(
-            [row["one_more_costs"] for row in rows_of(self.out / "prices.csv")][2:], ["less is missing"] * 2
+            [row["one_more_costs"] for row in rows_of(self.out / "prices.csv")][2:],
+            ["less is missing"] * 2,
         )
 
     def test_a_penalty(self):
@@ -204,7 +238,10 @@ class Unbalanced(WithFolder):
         status, said, _ = self.flow(places, routes)
         self.assertEqual(status, 1)
         self.assertIn(
-            "  demand exceeds supply by 5: the supplies add to 9, the demands to 14, and they must be equal (--short allow lets it be short).",
+            (
+                "  demand exceeds supply by 5: the supplies add to 9, the demands to 14, and they"
+                " must be equal (--short allow lets it be short)."
+            ),
             said,
         )
         self.assertNotIn("Even if", said)
@@ -212,14 +249,20 @@ class Unbalanced(WithFolder):
         self.assertEqual(status, 1)
         self.assertIn("  supply exceeds demand by 5", said)
         self.assertIn(
-            "Even if that stays, no plan exists, as mcf found and mcfcheck accepted:\n"
-            "  B must take 5, and can take only 4, over A -> B (4). Short by 1.",
+            (
+                "Even if that stays, no plan exists, as mcf found and mcfcheck accepted:\n"
+                "  B must take 5, and can take only 4, over A -> B (4). Short by 1."
+            ),
             said,
         )
-        self.assertEqual({row["bottleneck"] for row in rows_of(self.out / "bottleneck.csv")}, {"1", "2"})
+        self.assertEqual(
+            {row["bottleneck"] for row in rows_of(self.out / "bottleneck.csv")}, {"1", "2"}
+        )
 
     def test_what_may_stay_and_is_lacking(self):
-        status, said, _ = self.flow(self.PLACES.replace("A,9", "A,1"), self.ROUTES, "--unused", "allow")
+        status, said, _ = self.flow(
+            self.PLACES.replace("A,9", "A,1"), self.ROUTES, "--unused", "allow"
+        )
         self.assertEqual(status, 1)
         self.assertIn("demand exceeds supply by 5", said)
 

@@ -55,8 +55,15 @@ class Many(WithFolder):
 
     def test_the_script(self):
         page = (TOP / "docs" / "MANY.md").read_text(encoding="utf-8")
-        script = textwrap.dedent(page[page.index("    import csv\n") : page.index("\nOf 24 instances")])
-        for name, text in (("a b", FLOW % 4), ("blocked", FLOW % 2), ("faulty", FLOW % "x"), ("killed", FLOW % 3)):
+        script = textwrap.dedent(
+            page[page.index("    import csv\n") : page.index("\nOf 24 instances")]
+        )
+        for name, text in (
+            ("a b", FLOW % 4),
+            ("blocked", FLOW % 2),
+            ("faulty", FLOW % "x"),
+            ("killed", FLOW % 3),
+        ):
             self.put(f"jobs/{name}.min", text)
         (self.folder / "jobs" / "nowhere.min").symlink_to("nowhere")
         cluster, told = types.SimpleNamespace(Client=Client, as_completed=list), io.StringIO()
@@ -64,7 +71,10 @@ class Many(WithFolder):
             with contextlib.redirect_stderr(told):
                 exec(script, {"__name__": "__main__"})
         with open("log.csv", newline="") as log:
-            rows = {row["instance"]: (row["status"], row["cost"], row["answer_sha256"]) for row in csv.DictReader(log)}
+            rows = {
+                row["instance"]: (row["status"], row["cost"], row["answer_sha256"])
+                for row in csv.DictReader(log)
+            }
         self.assertEqual([len(sha256) for _, _, sha256 in rows.values()], [64, 64, 64, 0, 0])
         self.assertEqual(
             {name: row[:2] for name, row in rows.items()},
@@ -76,7 +86,9 @@ class Many(WithFolder):
                 "jobs/nowhere.min": ("3", ""),
             },
         )
-        answers = sorted(path.name for path in (self.folder / "jobs").iterdir() if path.suffix != ".min")
+        answers = sorted(
+            path.name for path in (self.folder / "jobs").iterdir() if path.suffix != ".min"
+        )
         self.assertEqual(answers, ["a b.ans", "blocked.ans", "faulty.ans"])
         self.assertEqual((self.folder / "jobs" / "faulty.ans").read_text(), "r 4 number\n")
         self.assertIn("jobs/nowhere.min", told.getvalue())

@@ -1,5 +1,5 @@
-"""What tables may ask beyond plain routes, compared with glpsol, which gets the problem as it is meant, and
-with networkx."""
+"""What tables may ask beyond plain routes, compared with glpsol, which gets the problem as it is
+meant, and with networkx."""
 import collections
 import copy
 import importlib.util
@@ -30,9 +30,11 @@ class Case:
         if draw.random() < 0.7:
             self.supplies[-1] -= sum(self.supplies)
         self.bounds = [
-            (draw.randint(0, 2), draw.choice([None, draw.randint(4, 12)]), draw.randint(0, 5))
-            if draw.random() < 0.5
-            else None
+            (
+                (draw.randint(0, 2), draw.choice([None, draw.randint(4, 12)]), draw.randint(0, 5))
+                if draw.random() < 0.5
+                else None
+            )
             for _ in range(count)
         ]
         self.routes = [self.route(draw, count) for _ in range(draw.randint(3, 9))]
@@ -47,7 +49,11 @@ class Case:
             cost += draw.randint(0, 5)
         if draw.random() < 0.2:
             steps[-1] = (None, steps[-1][1])
-        least = 0 if both or draw.random() < 0.6 else min(draw.randint(0, 4), sum(most or 9 for most, _ in steps))
+        least = (
+            0
+            if both or draw.random() < 0.6
+            else min(draw.randint(0, 4), sum(most or 9 for most, _ in steps))
+        )
         return draw.randrange(count), draw.randrange(count), least, steps, both
 
     def tables(self):
@@ -56,15 +62,21 @@ class Case:
         for number, (supply, bounds) in enumerate(zip(self.supplies, self.bounds)):
             places.append(
                 f"P{number},{supply},"
-                + (",".join("" if value is None else str(value) for value in bounds) if bounds else ",,")
+                + (
+                    ",".join("" if value is None else str(value) for value in bounds)
+                    if bounds
+                    else ",,"
+                )
             )
         routes = ["from,to,least,most,cost,most 2,cost 2,most 3,cost 3,both"]
         for tail, head, least, steps, both in self.routes:
-            cells = [("" if most is None else str(most), str(cost)) for most, cost in steps] + [("", "")] * (
-                3 - len(steps)
-            )
+            cells = [("" if most is None else str(most), str(cost)) for most, cost in steps] + [
+                ("", "")
+            ] * (3 - len(steps))
             routes.append(
-                f"P{tail},P{head},{least}," + ",".join(",".join(pair) for pair in cells) + (",yes" if both else ",")
+                f"P{tail},P{head},{least},"
+                + ",".join(",".join(pair) for pair in cells)
+                + (",yes" if both else ",")
             )
         return "\n".join(places) + "\n", "\n".join(routes) + "\n"
 
@@ -73,7 +85,9 @@ class Case:
         costs, rows, bounds, outs, ins = [], [], [], {}, {}
         for number, (tail, head, least, steps, both) in enumerate(self.routes):
             for step, (most, cost) in enumerate(steps):
-                for way, (begin, end) in (("f", (tail, head)), ("b", (head, tail)))[: 2 if both else 1]:
+                for way, (begin, end) in (("f", (tail, head)), ("b", (head, tail)))[
+                    : 2 if both else 1
+                ]:
                     name = f"{way}{number}_{step}"
                     costs.append((cost, name))
                     bounds.append(f"0 <= {name} <= {most}" if most is not None else f"{name} >= 0")
@@ -88,7 +102,9 @@ class Case:
                 through = ins.get(number, []) + ([f"sent{number}"] if supply > 0 else [])
                 rows.append(f"{sum_of([f't{number}'], through)} = 0")
                 costs.append((cost, f"t{number}"))
-                bounds += [f"t{number} >= {least}"] + ([f"t{number} <= {most}"] if most is not None else [])
+                bounds += [f"t{number} >= {least}"] + (
+                    [f"t{number} <= {most}"] if most is not None else []
+                )
             if supply > 0:
                 bounds.append(
                     f"0 <= sent{number} <= {supply}"
@@ -96,7 +112,9 @@ class Case:
                     else f"sent{number} = {supply}"
                 )
             elif supply < 0:
-                bounds.append(f"0 <= lack{number} <= {-supply if self.policy in ('short', 'both') else 0}")
+                bounds.append(
+                    f"0 <= lack{number} <= {-supply if self.policy in ('short', 'both') else 0}"
+                )
         goal = " + ".join(f"{cost} {name}" for cost, name in costs) or "0 x"
         numbered = "\n".join(f" r{number}: {row}" for number, row in enumerate(rows))
         return (
@@ -106,7 +124,8 @@ class Case:
         )
 
     def balance(self, number, supply, outs, ins, costs):
-        """What goes out of a place is what comes in and what is sent there, less what is taken and isn't missing."""
+        """What goes out of a place is what comes in and what is sent there, less what is taken and
+        isn't missing."""
         out, come = outs.get(number, []), ins.get(number, [])
         if supply < 0:
             costs.append((self.penalty, f"lack{number}"))
@@ -117,7 +136,9 @@ class Case:
         """The options."""
         words = ["--unused", "allow"] if self.policy in ("unused", "both") else []
         return words + (
-            ["--short", "allow", "--penalty", str(self.penalty)] if self.policy in ("short", "both") else []
+            ["--short", "allow", "--penalty", str(self.penalty)]
+            if self.policy in ("short", "both")
+            else []
         )
 
 
@@ -125,7 +146,12 @@ def sum_of(added, taken):
     """A sum of a linear program, in which each name stands once."""
     counts = collections.Counter(added)
     counts.subtract(taken)
-    return " ".join(f"{'+' if count >= 0 else '-'} {abs(count)} {name}" for name, count in counts.items()) or "0 none"
+    return (
+        " ".join(
+            f"{'+' if count >= 0 else '-'} {abs(count)} {name}" for name, count in counts.items()
+        )
+        or "0 none"
+    )
 
 
 class OneMoreUnit(WithFolder):
@@ -143,7 +169,9 @@ class OneMoreUnit(WithFolder):
         seen = collections.Counter()
         for seed in range(100, 125):
             places, routes = Case(seed).tables()
-            problem = Problem.read([self.put("places.csv", places), self.put("routes.csv", routes)], Reading())
+            problem = Problem.read(
+                [self.put("places.csv", places), self.put("routes.csv", routes)], Reading()
+            )
             problem.places = [place._replace(supply=3 * place.supply) for place in problem.places]
             plan = self.solved(problem)
             for result, again in self.wider(problem, plan) if plan else ():
@@ -164,7 +192,9 @@ class OneMoreUnit(WithFolder):
         for number, (place, result) in enumerate(zip(problem.places, plan.places)):
             if place.bounds and place.bounds.most is not None:
                 places = [*problem.places]
-                places[number] = place._replace(bounds=place.bounds._replace(most=place.bounds.most + 1))
+                places[number] = place._replace(
+                    bounds=place.bounds._replace(most=place.bounds.most + 1)
+                )
                 yield result.through, self.solved(problem, places=places)
 
 
@@ -201,13 +231,16 @@ class WithGlpsol(WithFolder):
             status, said, told = self.flow(*case.tables(), *case.words(), "--no-picture")
             with self.subTest(seed=seed):
                 self.assertEqual((status, told), (1 if best is None else 0, ""), case.tables())
-                self.assertTrue(best is None or f"cost {best}." in said, (best, said, case.tables()))
+                self.assertTrue(
+                    best is None or f"cost {best}." in said, (best, said, case.tables())
+                )
             plans += best is not None
         self.assertGreater(plans, 20)
 
 
 @unittest.skipUnless(
-    importlib.util.find_spec("networkx"), "networkx isn't there: the most flow at the least cost, compared with it"
+    importlib.util.find_spec("networkx"),
+    "networkx isn't there: the most flow at the least cost, compared with it",
 )
 class WithNetworkx(WithFolder):
     """The most flow at the least cost."""
@@ -223,14 +256,16 @@ class WithNetworkx(WithFolder):
                 tail, head = draw.sample(range(count), 2)
                 graph.add_edge(tail, head, capacity=draw.randint(1, 9), weight=draw.randint(0, 9))
             flows = networkx.max_flow_min_cost(graph, 0, count - 1)
-            value, cost = sum(flows[0].values()) - sum(flows[node].get(0, 0) for node in flows), networkx.cost_of_flow(
-                graph, flows
-            )
+            value, cost = sum(flows[0].values()) - sum(
+                flows[node].get(0, 0) for node in flows
+            ), networkx.cost_of_flow(graph, flows)
             places = "name,supply\n" + "".join(
-                f"{node},{999 if node == 0 else -999 if node == count - 1 else 0}\n" for node in range(count)
+                f"{node},{999 if node == 0 else -999 if node == count - 1 else 0}\n"
+                for node in range(count)
             )
             routes = "from,to,most,cost\n" + "".join(
-                f"{tail},{head},{edge['capacity']},{edge['weight']}\n" for tail, head, edge in graph.edges(data=True)
+                f"{tail},{head},{edge['capacity']},{edge['weight']}\n"
+                for tail, head, edge in graph.edges(data=True)
             )
             status, said, told = self.flow(places, routes, "--most-flow", "--no-picture")
             with self.subTest(seed=seed):
@@ -243,12 +278,17 @@ class Columns(WithFolder):
     """What columns may say, one by one."""
 
     def test_steps(self):
-        routes = "from,to,least,most,cost,most 2,cost 2,most 3,cost 3\nA,B,0,3,1,2,4,,9\nA,B,0,4,5,,,,\n"
+        routes = (
+            "from,to,least,most,cost,most 2,cost 2,most 3,cost 3\nA,B,0,3,1,2,4,,9\nA,B,0,4,5,,,,\n"
+        )
         status, said, _ = self.flow("name,supply\nA,11\nB,-11\n", routes)
         self.assertEqual(status, 0)
         self.assertIn("cost 49.", said)
         self.assertEqual(
-            [(row["carries"], row["total"], row["free"]) for row in rows_of(self.out / "flows.csv")],
+            [
+                (row["carries"], row["total"], row["free"])
+                for row in rows_of(self.out / "flows.csv")
+            ],
             [("7", "29", ""), ("4", "20", "0")],
         )
         for cells, text in (
@@ -259,9 +299,10 @@ class Columns(WithFolder):
         ):
             self.assertIn(
                 text,
-                self.flow("name,supply\nA,0\n", f"from,to,least,most,cost,most 2,cost 2,most 3,cost 3\nA,A,{cells}\n")[
-                    2
-                ],
+                self.flow(
+                    "name,supply\nA,0\n",
+                    f"from,to,least,most,cost,most 2,cost 2,most 3,cost 3\nA,A,{cells}\n",
+                )[2],
             )
 
     def test_steps_that_limit_are_told_together(self):
@@ -277,18 +318,28 @@ class Columns(WithFolder):
         self.assertEqual(status, 0)
         self.assertIn("cost 48.", said)
         self.assertIn(
-            "Passing through places costs 10 of that.\nOne more unit of room would save most on:\n  Hub -> (through): 3\n",
+            (
+                "Passing through places costs 10 of that.\nOne more unit of room would save most"
+                " on:\n  Hub -> (through): 3\n"
+            ),
             said,
         )
         rows = rows_of(self.out / "prices.csv")
         self.assertEqual(
-            [rows[1][head] for head in ("passes", "passing_costs", "free", "one_more_saves", "exact")],
+            [
+                rows[1][head]
+                for head in ("passes", "passing_costs", "free", "one_more_saves", "exact")
+            ],
             ["5", "10", "0", "3", "yes"],
         )
         status, said, _ = self.flow(places, routes.replace("A,B,,7", "A,B,3,7"))
         self.assertEqual(status, 1)
         self.assertIn(
-            "A, Hub together must send 9, and can send only 8, over A -> B (3), through Hub (5). Short by 1.", said
+            (
+                "A, Hub together must send 9, and can send only 8, over A -> B (3), through Hub"
+                " (5). Short by 1."
+            ),
+            said,
         )
         self.assertIn("1,send,through,Hub,,,,5", (self.out / "bottleneck.csv").read_text())
         self.assertIn("≤ 5 pass", (self.out / "plan.svg").read_text(encoding="utf-8"))
@@ -297,15 +348,24 @@ class Columns(WithFolder):
         routes = "from,to,most,cost,both\nA,B,4,3,yes\nB,C,4,3,\nC,A,9,1,ja\n"
         status, said, _ = self.flow("name,supply\nA,5\nB,-4\nC,-1\n", routes)
         self.assertEqual(status, 0)
-        self.assertEqual([row["carries"] for row in rows_of(self.out / "flows.csv")], ["4", "0", "-1"])
-        self.assertIn("<title>A -&gt; C: 1 of 9, either way, cost 1</title>", (self.out / "plan.svg").read_text())
+        self.assertEqual(
+            [row["carries"] for row in rows_of(self.out / "flows.csv")], ["4", "0", "-1"]
+        )
+        self.assertIn(
+            "<title>A -&gt; C: 1 of 9, either way, cost 1</title>",
+            (self.out / "plan.svg").read_text(),
+        )
         self.assertIn("cost 13.", said)
         for cells, text in (
             ("A,B,4,3,perhaps", "'perhaps' is neither yes nor no"),
             ("A,B,4,-3,yes", "has no least, and no cost below 0"),
         ):
-            self.assertIn(text, self.flow("name,supply\nA,0\nB,0\n", f"from,to,most,cost,both\n{cells}\n")[2])
+            self.assertIn(
+                text, self.flow("name,supply\nA,0\nB,0\n", f"from,to,most,cost,both\n{cells}\n")[2]
+            )
 
     def test_a_step_that_mcf_refuses(self):
-        told = self.flow("name,supply\nA,0\n", "from,to,most,cost,most 2,cost 2\nA,A,1,1,1,1000000000000001\n")[2]
+        told = self.flow(
+            "name,supply\nA,0\n", "from,to,most,cost,most 2,cost 2\nA,A,1,1,1,1000000000000001\n"
+        )[2]
         self.assertIn("routes.csv, line 2, column cost: a cost beyond what mcf takes", told)

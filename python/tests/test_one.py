@@ -56,7 +56,9 @@ class One(WithFolder):
                     answer.unlink()
             self.assertEqual(self.run_one(self.folder / "none.min")[0], 3)
             answer = self.put("done.ans", "s 15\n")
-            self.assertEqual(self.run_one(answer), (3, f"3 {answer} no answer: this is the name of one\n"))
+            self.assertEqual(
+                self.run_one(answer), (3, f"3 {answer} no answer: this is the name of one\n")
+            )
             self.assertEqual(answer.read_text(), "s 15\n")
             self.assertEqual(self.run_one()[0], 3)
 
@@ -70,7 +72,10 @@ class One(WithFolder):
             self.tool = shutil.copy(TOOL, tools)
             for program in (Programs(None).solver, Programs(None).checker):
                 shutil.copy(program, folder)
-            self.assertEqual(self.run_one(path, MCF_BIN="", PATH="/usr/bin:/bin"), (0, f"0 {path} accepted flow 15\n"))
+            self.assertEqual(
+                self.run_one(path, MCF_BIN="", PATH="/usr/bin:/bin"),
+                (0, f"0 {path} accepted flow 15\n"),
+            )
 
     def test_options_go_to_mcf(self):
         path = self.put("a.min", FLOW)
@@ -82,7 +87,9 @@ class One(WithFolder):
         shutil.copy(Programs(None).checker, self.folder / "mcfcheck")
         path = self.put("a.min", FLOW)
         self.assertEqual(self.run_one(path, MCF_BIN=self.folder), (3, f"3 {path} rejected arc 1\n"))
-        self.assertEqual(sorted(entry.name for entry in self.folder.glob("a.*")), ["a.ans.rejected", "a.min"])
+        self.assertEqual(
+            sorted(entry.name for entry in self.folder.glob("a.*")), ["a.ans.rejected", "a.min"]
+        )
 
     def run_one_with(self, path):
         """Begins the script in a group of its own."""
@@ -106,7 +113,8 @@ class One(WithFolder):
                 os.killpg(process.pid, number)
                 begun.unlink()
                 self.assertEqual(
-                    (process.wait(20), [entry.name for entry in self.folder.glob("a.*")]), (status, ["a.min"])
+                    (process.wait(20), [entry.name for entry in self.folder.glob("a.*")]),
+                    (status, ["a.min"]),
                 )
 
     def test_the_log_of_many(self):
@@ -114,7 +122,9 @@ class One(WithFolder):
         for number, name in enumerate(names):
             self.put(name, FLOW if number % 4 else FLOW.replace("4 5", "2 5"))
         log = self.folder / "log.csv"
-        environment = dict(os.environ, MCF_BIN=os.path.dirname(Programs(None).solver), MCF_LOG=str(log))
+        environment = dict(
+            os.environ, MCF_BIN=os.path.dirname(Programs(None).solver), MCF_LOG=str(log)
+        )
         subprocess.run(
             ["xargs", "-r", "-0", "-n", "1", "-P", "8", TOOL],
             input="\0".join(str(self.folder / name) for name in names).encode(),
@@ -124,10 +134,16 @@ class One(WithFolder):
         )
         with open(log, newline="") as table:
             rows = sorted(csv.DictReader(table), key=lambda row: row["instance"])
-        self.assertEqual([row["instance"] for row in rows], sorted(str(self.folder / name) for name in names))
-        self.assertEqual(sorted({(row["status"], row["cost"]) for row in rows}), [("0", "15"), ("1", "")])
+        self.assertEqual(
+            [row["instance"] for row in rows], sorted(str(self.folder / name) for name in names)
+        )
+        self.assertEqual(
+            sorted({(row["status"], row["cost"]) for row in rows}), [("0", "15"), ("1", "")]
+        )
         for row in rows:
             answer = row["instance"][:-4] + ".ans"
-            self.assertEqual(row["answer_sha256"], hashlib.sha256(open(answer, "rb").read()).hexdigest())
+            self.assertEqual(
+                row["answer_sha256"], hashlib.sha256(open(answer, "rb").read()).hexdigest()
+            )
             self.assertEqual(len(row["instance_sha256"]), 64)
             self.assertTrue(row["kilobytes"].isdigit() or not os.path.exists("/usr/bin/time"))

@@ -11,12 +11,16 @@ import unittest
 
 from support import PLACES, ROUTES, WithFolder, run
 
-CHROMIUM = shutil.which("chromium") or shutil.which("chromium-browser") or shutil.which("google-chrome")
+CHROMIUM = (
+    shutil.which("chromium") or shutil.which("chromium-browser") or shutil.which("google-chrome")
+)
 # What is done with a page in the browser, and what is told of it.
 TRIED = """
-const said = {}, table = document.querySelectorAll("section table")[1], seen = () => Array.from(table.tBodies[0].rows).filter(row => !row.hidden);
+const said = {}, table = document.querySelectorAll("section table")[1];
+const seen = () => Array.from(table.tBodies[0].rows).filter(row => !row.hidden);
 const column = number => seen().map(row => row.cells[number].textContent);
-const heads = table.querySelectorAll("thead th"), tools = table.closest("section").querySelector(".tools"), svg = document.querySelector(".picture svg");
+const heads = table.querySelectorAll("thead th"), svg = document.querySelector(".picture svg");
+const tools = table.closest("section").querySelector(".tools");
 heads[5].click();
 said.down = column(5);
 heads[5].click();
@@ -47,7 +51,11 @@ class Balanced(html.parser.HTMLParser):
         self.open, self.wrong, self.fetched = [], [], []
 
     def handle_starttag(self, tag, attributes):
-        self.fetched += [value for name, value in attributes if name in ("src", "href") and not value.startswith("#")]
+        self.fetched += [
+            value
+            for name, value in attributes
+            if name in ("src", "href") and not value.startswith("#")
+        ]
         if tag not in ("meta", "input", "br"):
             self.open.append(tag)
 
@@ -65,13 +73,17 @@ class Pages(WithFolder):
         parser = Balanced()
         parser.feed(text)
         self.assertEqual((parser.open, parser.wrong, parser.fetched), ([], [], []))
-        self.assertEqual(re.findall('https?://[^"]*', text), ["http://www.w3.org/2000/svg"] * text.count("<svg"))
+        self.assertEqual(
+            re.findall('https?://[^"]*', text), ["http://www.w3.org/2000/svg"] * text.count("<svg")
+        )
         return text
 
     def test_a_plan(self):
         self.flow(
             PLACES.replace("Mill", "M & <b>"),
-            ROUTES.replace("Mill", "M & <b>").replace("cost", "cost,carrier").replace(",4\n", ",4,Ann\u00e9\n"),
+            ROUTES.replace("Mill", "M & <b>")
+            .replace("cost", "cost,carrier")
+            .replace(",4\n", ",4,Ann\u00e9\n"),
             "--currency",
             "EUR",
             "--title",
@@ -84,7 +96,10 @@ class Pages(WithFolder):
             "M &amp; &lt;b&gt;",
             "Ann\u00e9",
             "No plan for these tables costs less.",
-            '<tr class=full><td>M &amp; &lt;b&gt;</td><td>Wien</td><td>exactly</td><td class="number" data-value="5">5</td></tr>',
+            (
+                "<tr class=full><td>M &amp; &lt;b&gt;</td><td>Wien</td><td>exactly</td><td"
+                ' class="number" data-value="5">5</td></tr>'
+            ),
         ):
             self.assertIn(part, text)
         for name in ("instance.min", "answer.ans"):
@@ -115,14 +130,16 @@ class Pages(WithFolder):
         draw = random.Random(3)
         amounts = [draw.randint(1, 40) for _ in range(3000)]
         places = ["name,supply,x,y"] + [
-            f"Ort {k},{-amounts[k] if k % 10 else sum(amounts[k + 1:k + 10])},{draw.random():.4f},{draw.random():.4f}"
+            f"Ort {k},{-amounts[k] if k % 10 else sum(amounts[k + 1:k + 10])},"
+            f"{draw.random():.4f},{draw.random():.4f}"
             for k in range(3000)
         ]
         routes = ["from,to,most,cost"] + [
             f"Ort {k - k % 10},Ort {k},,{draw.randint(1, 99)}.5" for k in range(3000) if k % 10
         ]
         routes += [
-            f"Ort {draw.randrange(3000)},Ort {draw.randrange(3000)},{draw.randint(1, 60)},{draw.randint(1, 40)}.25"
+            f"Ort {draw.randrange(3000)},Ort"
+            f" {draw.randrange(3000)},{draw.randint(1, 60)},{draw.randint(1, 40)}.25"
             for _ in range(17300)
         ]
         begun = time.monotonic()
@@ -141,7 +158,9 @@ class Pages(WithFolder):
     @unittest.skipUnless(CHROMIUM, "Chromium isn't there: what the page does")
     def test_in_chromium(self):
         self.flow(PLACES, ROUTES + "Wien,Graz,0,9,9\nMill,Mill,0,9,9\nGraz,Mill,0,9,9\n")
-        tried = self.put("tried.html", self.page().replace("</script>\n</html>", TRIED + "</script>\n</html>"))
+        tried = self.put(
+            "tried.html", self.page().replace("</script>\n</html>", TRIED + "</script>\n</html>")
+        )
         done = subprocess.run(
             [
                 CHROMIUM,
@@ -157,12 +176,16 @@ class Pages(WithFolder):
             timeout=60,
             check=True,
         )
-        said = json.loads(html.unescape(re.search("<title>said (.*)</title>", done.stdout.decode())[1]))
+        said = json.loads(
+            html.unescape(re.search("<title>said (.*)</title>", done.stdout.decode())[1])
+        )
         self.assertEqual(said["down"], ["15", "15", "3", "0", "0", "0"])
         self.assertEqual(said["up"], ["0", "0", "0", "3", "15", "15"])
         self.assertEqual(said["names"], ["Graz", "Graz", "Mill", "Mill", "Mill", "Wien"])
         self.assertEqual(said["filtered"], ["Mill", "Wien"])
-        self.assertEqual((sorted(said["carrying"]), said["count"]), (["15", "15", "3"], "3 of 6 lines"))
+        self.assertEqual(
+            (sorted(said["carrying"]), said["count"]), (["15", "15", "3"], "3 of 6 lines")
+        )
         self.assertAlmostEqual(said["nearer"], 0.7)
         self.assertAlmostEqual(said["whole"], 1)
 
@@ -184,18 +207,26 @@ class Diff(WithFolder):
         self.assertEqual((status, told), (0, ""))
         self.assertEqual(
             said,
-            "old: cost 171 (accepted again by mcfcheck)\nnew: cost 153 (accepted again by mcfcheck)\nThe cost falls by 18.\n4 of 4 differ:\n"
-            "  Graz -> Wien: 3, now 0 (-3)\n  Mill -> Graz: 15, now 12 (-3)\n  Mill -> Wien: 15, now 17 (+2)\n"
-            "  Mill -> Wien (2): not there, now 1 (+1)\n",
+            (
+                "old: cost 171 (accepted again by mcfcheck)\nnew: cost 153 (accepted again by"
+                " mcfcheck)\nThe cost falls by 18.\n4 of 4 differ:\n  Graz -> Wien: 3, now 0 (-3)\n"
+                "  Mill -> Graz: 15, now 12 (-3)\n  Mill -> Wien: 15, now 17 (+2)\n  Mill -> Wien"
+                " (2): not there, now 1 (+1)\n"
+            ),
         )
         self.assertIn("The cost stays.\n0 of 3 differ.", run("diff", old, old)[1])
 
     def test_a_plan_that_cannot_be(self):
-        old, new = self.made("old", PLACES, ROUTES), self.made("new", PLACES, ROUTES.replace("20", "2"))
+        old, new = self.made("old", PLACES, ROUTES), self.made(
+            "new", PLACES, ROUTES.replace("20", "2")
+        )
         status, said, _ = run("diff", old, new)
         self.assertEqual(status, 0)
         self.assertIn(
-            "new: No plan exists, as mcf found and mcfcheck accepted: (accepted again by mcfcheck)\n  Mill must send 30",
+            (
+                "new: No plan exists, as mcf found and mcfcheck accepted: (accepted again by"
+                " mcfcheck)\n  Mill must send 30"
+            ),
             said,
         )
 

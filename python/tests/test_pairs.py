@@ -20,7 +20,8 @@ class Pairs(WithFolder):
         status, said, _ = self.pairs('\u2193;X;Y;Z\nAnn\u00e9;4;1;\n"B; C";2;;9\n')
         self.assertEqual(status, 0)
         self.assertEqual(
-            (self.out / "pairs.csv").read_text(encoding="utf-8"), 'who;what;cost\nAnn\u00e9;Y;1\n"B; C";X;2\n'
+            (self.out / "pairs.csv").read_text(encoding="utf-8"),
+            'who;what;cost\nAnn\u00e9;Y;1\n"B; C";X;2\n',
         )
         self.assertIn("Left over: Z.", said)
 
@@ -36,7 +37,9 @@ class Pairs(WithFolder):
     def test_more_persons_than_things(self):
         status, said, _ = self.pairs(",X,Y\nA,1,1\nB,1,1\nC,1,1\n")
         self.assertEqual(status, 1)
-        self.assertIn("3 persons compete for 2 things: A, B, C can only get X, Y.\nWith --each what", said)
+        self.assertIn(
+            "3 persons compete for 2 things: A, B, C can only get X, Y.\nWith --each what", said
+        )
 
     def test_a_person_without_a_thing(self):
         self.assertIn("B can get nothing.", self.pairs(",X,Y\nA,1,1\nB,,\n")[1])
@@ -46,7 +49,10 @@ class Pairs(WithFolder):
 
     def test_a_refused_cost(self):
         for costs, begins in (
-            ("who,what,cost\n\nA,X,1000000000000001\n", "costs.csv, line 3, column cost: a cost beyond"),
+            (
+                "who,what,cost\n\nA,X,1000000000000001\n",
+                "costs.csv, line 3, column cost: a cost beyond",
+            ),
             (",X,Y\nA,1,1000000000000001\n", "costs.csv, line 2, column 3: a cost beyond"),
         ):
             status, _, told = self.pairs(costs)
@@ -58,12 +64,16 @@ class Each(WithFolder):
     """Who has to get one."""
 
     def nurses(self, count, shifts, shut=()):
-        """A matrix of nurses and shifts, with costs of a pattern; nobody may do those that are shut."""
+        """A matrix of nurses and shifts, with costs of a pattern; nobody may do those that are
+        shut."""
         lines = [";" + ";".join(f"Schicht {shift}" for shift in range(shifts))]
         for nurse in range(count):
             lines.append(
                 f"Schwester {nurse};"
-                + ";".join("X" if shift in shut else str((nurse * 7 + shift * 11) % 13) for shift in range(shifts))
+                + ";".join(
+                    "X" if shift in shut else str((nurse * 7 + shift * 11) % 13)
+                    for shift in range(shifts)
+                )
             )
         return "\n".join(lines) + "\n"
 
@@ -82,7 +92,8 @@ class Each(WithFolder):
             self.assertEqual(status, 1)
             self.assertIn("  Nobody may do Schicht 17.\n", said)
             self.assertEqual(
-                (self.out / "bottleneck.csv").read_text(), "bottleneck;kind;name;must;can\n1;thing;Schicht 17;1;\n"
+                (self.out / "bottleneck.csv").read_text(),
+                "bottleneck;kind;name;must;can\n1;thing;Schicht 17;1;\n",
             )
 
     def test_things_that_want_for_persons(self):
@@ -96,7 +107,9 @@ class Each(WithFolder):
     def test_the_greatest_value(self):
         status, said, _ = self.pairs(",X,Y\nA,1,2.5\nB,3,3.5\n", "--maximise")
         self.assertEqual(status, 0)
-        self.assertIn("Pairs of the greatest value, written by mcf and accepted by mcfcheck: value 5.5.", said)
+        self.assertIn(
+            "Pairs of the greatest value, written by mcf and accepted by mcfcheck: value 5.5.", said
+        )
         self.assertEqual((self.out / "pairs.csv").read_text(), "who,what,cost\nA,Y,2.5\nB,X,3\n")
 
 
@@ -109,12 +122,16 @@ class TakesAndNeeds(WithFolder):
         self.assertIn("  Di needs 2, and can get only 1: Anna with Di. Short by 1.\n", said)
         status, said, _ = self.pairs(MATRIX.replace("needs;1;2", "needs;1;1-2"))
         self.assertEqual(status, 0)
-        self.assertEqual((self.out / "pairs.csv").read_text(), "who;what;cost\nAnna;Mo;1\nAnna;Di;2\n")
+        self.assertEqual(
+            (self.out / "pairs.csv").read_text(), "who;what;cost\nAnna;Mo;1\nAnna;Di;2\n"
+        )
 
     def test_a_list(self):
         costs = "who,what,cost,takes,needs\nA,X,1,2,2\nA,Y,1,,\nB,X,5,,2\nB,Y,2,1,1\nC,Y,9,,\n"
         status, said, _ = self.pairs(costs)
-        self.assertEqual((status, "cost 7." in said, "Without a thing: C." in said), (0, True, True))
+        self.assertEqual(
+            (status, "cost 7." in said, "Without a thing: C." in said), (0, True, True)
+        )
         self.assertIn("this is '3'", self.pairs(costs.replace("B,X,5,,2", "B,X,5,,3"))[2])
 
     def test_what_is_no_range(self):
@@ -129,7 +146,9 @@ class TakesAndNeeds(WithFolder):
     def test_persons_who_must_take_more_than_they_can(self):
         status, said, _ = self.pairs(",X,Y,takes\nA,1,1,2-3\nB,1,,1-1\nneeds,0-1,0-1,\n")
         self.assertEqual(status, 1)
-        self.assertIn("A, B must take 3 together, and can take only 2: X (1), Y (1). Short by 1.", said)
+        self.assertIn(
+            "A, B must take 3 together, and can take only 2: X (1), Y (1). Short by 1.", said
+        )
 
     def test_against_every_choice(self):
         draw = random.Random(5)
@@ -141,7 +160,8 @@ class TakesAndNeeds(WithFolder):
                 if draw.random() < 0.8
             }
             takes, needs = (
-                [sorted((draw.randint(0, 2), draw.randint(0, 3))) for _ in range(count)] for count in (people, goods)
+                [sorted((draw.randint(0, 2), draw.randint(0, 3))) for _ in range(count)]
+                for count in (people, goods)
             )
             sign = draw.choice((1, -1))
             rows = ["," + ",".join(f"T{thing}" for thing in range(goods)) + ",takes"]
@@ -152,7 +172,9 @@ class TakesAndNeeds(WithFolder):
                 for who in range(people)
             ]
             rows += ["needs," + ",".join("%d-%d" % tuple(need) for need in needs) + ","]
-            status, said, told = self.pairs("\n".join(rows) + "\n", *(["--maximise"] if sign < 0 else []))
+            status, said, told = self.pairs(
+                "\n".join(rows) + "\n", *(["--maximise"] if sign < 0 else [])
+            )
             best = best_of(cost, takes, needs, sign)
             with self.subTest(case=case, rows=rows):
                 self.assertEqual((status, told), (1 if best is None else 0, ""))

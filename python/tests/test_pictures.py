@@ -18,11 +18,17 @@ class Pictures(WithFolder):
         return [element.text for element in root.iter("{http://www.w3.org/2000/svg}text")]
 
     def test_with_and_without_graphviz(self):
-        routes = ROUTES + "Mill,Wien,0,2,5\nGraz,Graz,0,3,-7\nWien,Graz,0,3,1\nR & D <x>,Mill,0,1,1\n"
+        routes = (
+            ROUTES + "Mill,Wien,0,2,5\nGraz,Graz,0,3,-7\nWien,Graz,0,3,1\nR & D <x>,Mill,0,1,1\n"
+        )
         spots = "name,supply,x,y\nMill,30,0,0\nWien,-18,5.5,-2\nGraz,-12,5.5,-2\nR & D <x>,0,1,1\n"
         path = os.environ["PATH"]
         self.addCleanup(os.environ.__setitem__, "PATH", path)
-        for place, table in ((path, spots.replace(",x,y", ",a,b")), ("", spots.replace(",x,y", ",a,b")), ("", spots)):
+        for place, table in (
+            (path, spots.replace(",x,y", ",a,b")),
+            ("", spots.replace(",x,y", ",a,b")),
+            ("", spots),
+        ):
             os.environ["PATH"] = place
             with self.subTest(path=place, table=table):
                 texts = self.drawn(table, routes)
@@ -31,12 +37,20 @@ class Pictures(WithFolder):
 
     def test_without_places_and_at_one_spot(self):
         self.drawn("name,supply\n", "from,to,least,most,cost\n")
-        self.assertIn("A", self.drawn("name,supply,x,y\nA,0,3,3\n", "from,to,least,most,cost\nA,A,0,1,-1\n"))
+        self.assertIn(
+            "A", self.drawn("name,supply,x,y\nA,0,3,3\n", "from,to,least,most,cost\nA,A,0,1,-1\n")
+        )
 
     def test_spots_as_far_and_as_near_as_numbers_can_be(self):
-        for spots in (((-1e308, 0), (1e308, 1e308), (0, -1e308)), ((0, 0), (5e-324, 1e-300), (0, 1)), ((0, 5e-324), (0, 0), (0, 0))):
+        for spots in (
+            ((-1e308, 0), (1e308, 1e308), (0, -1e308)),
+            ((0, 0), (5e-324, 1e-300), (0, 1)),
+            ((0, 5e-324), (0, 0), (0, 0)),
+        ):
             boxes = layout.map_boxes(layout.Task([(60, 38)] * 3, spots, [], [], []))
-            self.assertTrue(all(math.isfinite(box.x) and math.isfinite(box.y) for box in boxes), spots)
+            self.assertTrue(
+                all(math.isfinite(box.x) and math.isfinite(box.y) for box in boxes), spots
+            )
 
     def test_what_blocks(self):
         texts = self.drawn("name,supply\nA,5\nB,-5\n", "from,to,least,most,cost\nA,B,0,4,1\n")
@@ -58,7 +72,8 @@ class Pictures(WithFolder):
     def test_of_many_places_those_near_what_blocks_are_drawn(self):
         places = "name,supply\nA,5\nB,0\nC,-5\n" + "".join(f"P{k},0\n" for k in range(100))
         texts = self.drawn(
-            places, "from,to,most,cost\nA,B,4,1\nB,C,5,1\n" + "".join(f"B,P{k},9,1\n" for k in range(100))
+            places,
+            "from,to,most,cost\nA,B,4,1\nB,C,5,1\n" + "".join(f"B,P{k},9,1\n" for k in range(100)),
         )
         self.assertIn("No plan exists: short by 1 (101 places farther off aren't drawn)", texts)
         self.assertEqual([text for text in texts if text in ("A", "B", "C", "P1")], ["A", "B"])

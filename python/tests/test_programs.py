@@ -26,7 +26,9 @@ class Programs(WithFolder):
         self.assertIn("the program mcf isn't in", told)
 
     def test_no_answer(self):
-        self.assertIn("mcf: out of memory", self.judged("echo 'mcf: out of memory' >&2; exit 3", "exit 0"))
+        self.assertIn(
+            "mcf: out of memory", self.judged("echo 'mcf: out of memory' >&2; exit 3", "exit 0")
+        )
         self.assertIn("status -9", self.judged("kill -9 $$", "exit 0"))
 
     def test_no_verdict(self):
@@ -34,7 +36,9 @@ class Programs(WithFolder):
         self.assertIn("no verdict", self.judged("echo s 0", "exit 0"))
 
     def test_a_rejected_answer(self):
-        self.assertIn("MCFCHECK SAYS NO: rejected cost", self.judged("echo s 0", "echo rejected cost; exit 1"))
+        self.assertIn(
+            "MCFCHECK SAYS NO: rejected cost", self.judged("echo s 0", "echo rejected cost; exit 1")
+        )
 
     def test_programs_that_disagree(self):
         self.assertIn("accepted a blocked", self.judged("echo s 0", "echo accepted blocked 1"))
@@ -45,7 +49,10 @@ class Programs(WithFolder):
         status, _, told = self.flow(PLACES, ROUTES, "--programs", self.folder)
         self.assertEqual(status, 2)
         self.assertIn(
-            "routes.csv, line 4, column cost: with this route, costs times amounts add to more than mcf takes (mcf: total)",
+            (
+                "routes.csv, line 4, column cost: with this route, costs times amounts add to more"
+                " than mcf takes (mcf: total)"
+            ),
             told,
         )
 
@@ -57,13 +64,16 @@ class Programs(WithFolder):
         self.assertIn("MCFCHECK SAYS NO: rejected node", told)
 
     def words_for(self, large):
-        """The options that `mcf` is given for a plan of three places, where so many are not large."""
+        """The options that `mcf` is given for a plan of three places, where so many are not
+        large."""
         words = self.folder / "words"
         words.unlink(missing_ok=True)
         script(
             self.folder / "mcf",
-            f"[ $# = 2 ] || echo \"$2 $3\" >> '{words}'\n"
-            f"for file; do :; done; exec '{Found(None).solver}' solve \"$file\"",
+            (
+                f"[ $# = 2 ] || echo \"$2 $3\" >> '{words}'\n"
+                f"for file; do :; done; exec '{Found(None).solver}' solve \"$file\""
+            ),
         )
         shutil.copy(Found(None).checker, self.folder / "mcfcheck")
         with mock.patch.object(solve, "LARGE", large):

@@ -25,7 +25,9 @@ class Statuses(WithFolder):
     def left(self):
         """What stands in the folder of the test besides the tables."""
         return sorted(
-            path.name for path in self.folder.iterdir() if path.suffix != ".csv" and not path.name.startswith("mcf")
+            path.name
+            for path in self.folder.iterdir()
+            if path.suffix != ".csv" and not path.name.startswith("mcf")
         )
 
     def test_want_of_memory_never_says_that_no_plan_exists(self):
@@ -36,7 +38,11 @@ class Statuses(WithFolder):
 
             with self.subTest(size=size):
                 done = subprocess.run(
-                    self.words(), stdout=subprocess.PIPE, stderr=subprocess.PIPE, preexec_fn=limit, timeout=60
+                    self.words(),
+                    stdout=subprocess.PIPE,
+                    stderr=subprocess.PIPE,
+                    preexec_fn=limit,
+                    timeout=60,
                 )
                 self.assertIn(done.returncode, (0, 3), done.stderr)
                 self.assertEqual(self.left(), ["out"] if done.returncode == 0 else [])
@@ -63,13 +69,16 @@ class Statuses(WithFolder):
                     time.sleep(0.05)
                 process.send_signal(number)
                 told = process.stderr.read()
-                self.assertEqual((process.wait(20), len(told.splitlines()), self.left()), (status, 1, []))
+                self.assertEqual(
+                    (process.wait(20), len(told.splitlines()), self.left()), (status, 1, [])
+                )
 
     def test_any_other_fault_is_told_in_one_line(self):
         with mock.patch.object(flownet.FlowNet, "instance", side_effect=TypeError("one\ntwo")):
             status, said, told = self.flow(PLACES, ROUTES)
         self.assertEqual(
-            (status, said, told), (3, "", "mcf_plan: a fault of this tool, which please report: TypeError: one two\n")
+            (status, said, told),
+            (3, "", "mcf_plan: a fault of this tool, which please report: TypeError: one two\n"),
         )
         self.assertEqual(self.left(), [])
 

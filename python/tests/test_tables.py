@@ -7,7 +7,8 @@ import unittest
 
 from support import PLACES, ROUTES, WithFolder, rows_of, run
 
-# Tables with options, and what has to be said of them with which status; the page that solves is tested by the same list.
+# Tables with options, and what has to be said of them with which status; the page that solves is
+# tested by the same list.
 RULES = json.loads((pathlib.Path(__file__).parent / "rules.json").read_text(encoding="utf-8"))
 
 
@@ -19,7 +20,10 @@ class Rules(WithFolder):
         for name in ("places", "routes", "costs"):
             if name in rule:
                 table = rule[name]
-                self.put(f"{name}.csv", table["latin1"].encode("latin-1") if isinstance(table, dict) else table)
+                self.put(
+                    f"{name}.csv",
+                    table["latin1"].encode("latin-1") if isinstance(table, dict) else table,
+                )
         words = ["pairs", "costs.csv"] if "costs" in rule else ["flow", "places.csv", "routes.csv"]
         words = words[:1] + [self.folder / word for word in words[1:]]
         status, said, told = run(*words, *rule.get("options", []), *more, "-o", self.out)
@@ -30,7 +34,9 @@ class Rules(WithFolder):
             # What isn't for mcf to refuse is told before anything is run.
             early = rule["status"] == 2 and not any("(mcf: " in text for text in rule["says"])
             with self.subTest(says=rule["says"]):
-                status, said = self.said_of(rule, *(["--programs", self.folder / "none"] if early else []))
+                status, said = self.said_of(
+                    rule, *(["--programs", self.folder / "none"] if early else [])
+                )
                 self.assertEqual(status, rule["status"], said)
                 for text in rule["says"]:
                     self.assertIn(text, said)
@@ -48,14 +54,28 @@ class BadTables(WithFolder):
         self.assertEqual(
             told,
             [
-                "mcf_plan: places.csv, line 2, column supply: 'x0' is no number (300 such cells; also 'x1' in line 3, 'x2' in line 4, "
-                "'x3' in line 5, 'x4' in line 6)",
-                "mcf_plan: places.csv, line 302, column name: a place 'A1' stands on line 3 already",
-                "mcf_plan: routes.csv, line 2, column from: there is no place 'Mill' (3 such cells; also 'Mill' in line 3, 'Graz' in line 4)",
-                "mcf_plan: routes.csv, line 2, column to: there is no place 'Wien' (303 such cells; also 'Graz' in line 3, 'Wien' in line 4, "
-                "'B0' in line 5, 'B1' in line 6)",
-                "mcf_plan: routes.csv, line 5, column cost: '1e0' is written with an exponent; write all its digits (300 such cells; "
-                "also '1e1' in line 6, '1e2' in line 7, '1e3' in line 8, '1e4' in line 9)",
+                (
+                    "mcf_plan: places.csv, line 2, column supply: 'x0' is no number (300 such"
+                    " cells; also 'x1' in line 3, 'x2' in line 4, 'x3' in line 5, 'x4' in line 6)"
+                ),
+                (
+                    "mcf_plan: places.csv, line 302, column name: a place 'A1' stands on line 3"
+                    " already"
+                ),
+                (
+                    "mcf_plan: routes.csv, line 2, column from: there is no place 'Mill' (3 such"
+                    " cells; also 'Mill' in line 3, 'Graz' in line 4)"
+                ),
+                (
+                    "mcf_plan: routes.csv, line 2, column to: there is no place 'Wien' (303 such"
+                    " cells; also 'Graz' in line 3, 'Wien' in line 4, 'B0' in line 5, 'B1' in"
+                    " line 6)"
+                ),
+                (
+                    "mcf_plan: routes.csv, line 5, column cost: '1e0' is written with an exponent;"
+                    " write all its digits (300 such cells; also '1e1' in line 6, '1e2' in line 7,"
+                    " '1e3' in line 8, '1e4' in line 9)"
+                ),
             ],
         )
 
@@ -101,26 +121,39 @@ class Reading(WithFolder):
         self.total("12,50")
         self.assertEqual(
             (self.out / "flows.csv").read_text(),
-            "from;to;most;cost;carries;total;free;one_more_saves;exact\nA;B;;12,50;2,5;31,25;;0;yes\n",
+            "from;to;most;cost;carries;total;free;one_more_saves;exact\n"
+            "A;B;;12,50;2,5;31,25;;0;yes\n",
         )
         self.assertEqual(
-            (self.out / "prices.csv").read_text(), "name;supply;one_more_costs;group\nA;2,5;0;1\nB;-2,5;12,5;1\n"
+            (self.out / "prices.csv").read_text(),
+            "name;supply;one_more_costs;group\nA;2,5;0;1\nB;-2,5;12,5;1\n",
         )
 
     def test_encodings(self):
         places, routes = "name,supply\nGr\u00fcn,1\nB,-1\n", "from,to,most,cost\nGr\u00fcn,B,,1\n"
         for encoding, more in (("cp1252", ["--encoding", "windows-1252"]), ("utf-16", [])):
             with self.subTest(encoding=encoding):
-                status, said, told = self.flow(places.encode(encoding), routes.encode(encoding), *more)
+                status, said, told = self.flow(
+                    places.encode(encoding), routes.encode(encoding), *more
+                )
                 self.assertEqual((status, told), (0, ""))
                 self.assertIn("Gr\u00fcn", (self.out / "flows.csv").read_text(encoding="utf-8-sig"))
-        self.assertIn("there is no encoding 'ansi?'", self.flow(places, routes, "--encoding", "ansi?")[2])
+        self.assertIn(
+            "there is no encoding 'ansi?'", self.flow(places, routes, "--encoding", "ansi?")[2]
+        )
 
     def test_own_heads(self):
         places, routes = "Ort;Angebot;name\nA;1;x\nB;-1;y\n", "Von;Nach;Max;Preis\nA;B;5;3\n"
         words = [
             word
-            for pair in ("name=Ort", "supply=Angebot", "from=von", "to=Nach", "most=Max", "cost=Preis")
+            for pair in (
+                "name=Ort",
+                "supply=Angebot",
+                "from=von",
+                "to=Nach",
+                "most=Max",
+                "cost=Preis",
+            )
             for word in ("--map", pair)
         ]
         self.assertEqual(self.flow(places, routes, *words)[0], 0)
@@ -129,18 +162,27 @@ class Reading(WithFolder):
             "Von;Nach;Max;Preis;carries;total;free;one_more_saves;exact",
         )
         told = self.flow(places, routes, *words, "--map", "least=Mindest")[2]
-        self.assertIn("column Mindest: there is no such column, which --map least=Mindest names", told)
+        self.assertIn(
+            "column Mindest: there is no such column, which --map least=Mindest names", told
+        )
         for wrong in ("name", "nome=Ort"):
-            self.assertIn(f"--map {wrong}: say --map HEAD=NAME", self.flow(places, routes, "--map", wrong)[2])
+            self.assertIn(
+                f"--map {wrong}: say --map HEAD=NAME", self.flow(places, routes, "--map", wrong)[2]
+            )
 
     def test_results_are_tables_again(self):
         self.flow(
-            PLACES, ROUTES.replace("cost\n", "cost,carrier\n").replace(",4\n", ",4,=HYPERLINK(1)\n"), "--guard-formulas"
+            PLACES,
+            ROUTES.replace("cost\n", "cost,carrier\n").replace(",4\n", ",4,=HYPERLINK(1)\n"),
+            "--guard-formulas",
         )
         once = (self.out / "flows.csv").read_text()
         self.assertIn("Mill,Wien,0,15,4,'=HYPERLINK(1),15,60,0,5,yes\n", once)
         self.assertEqual(
-            run("flow", self.out / "prices.csv", self.out / "flows.csv", "-o", self.folder / "again")[0], 0
+            run(
+                "flow", self.out / "prices.csv", self.out / "flows.csv", "-o", self.folder / "again"
+            )[0],
+            0,
         )
         self.assertEqual((self.folder / "again" / "flows.csv").read_text(), once)
 
@@ -149,21 +191,32 @@ class Reading(WithFolder):
         self.assertIn("Mill,Wien,0,15,4,mine,15,60,0,5,yes\n", (self.out / "flows.csv").read_text())
 
     def test_no_limit(self):
-        routes = "from,to,least,most,cost\nMill,Wien,3,,4\nMill,Graz,,20,7\nGraz,Wien,,inf,0\nWien,Graz,-2,,0\n"
+        routes = (
+            "from,to,least,most,cost\nMill,Wien,3,,4\nMill,Graz,,20,7\n"
+            "Graz,Wien,,inf,0\nWien,Graz,-2,,0\n"
+        )
         status, said, _ = self.flow(PLACES, routes)
         self.assertEqual(status, 0)
         self.assertIn("cost 120.", said)
         self.assertEqual(
-            [(row["carries"], row["free"]) for row in rows_of(self.out / "flows.csv")][:2], [("30", ""), ("0", "20")]
+            [(row["carries"], row["free"]) for row in rows_of(self.out / "flows.csv")][:2],
+            [("30", ""), ("0", "20")],
         )
 
     def test_forbidden_pairs(self):
         for mark in ("", "X", "x", "-", "\u2013"):
             with self.subTest(mark=mark):
                 self.assertEqual(self.pairs(f",X,Y\nA,1,5\nB,1,{mark}\n")[0], 0)
-                self.assertEqual((self.out / "pairs.csv").read_text(), "who,what,cost\nA,Y,5\nB,X,1\n")
-                self.assertEqual(self.pairs(f"who,what,cost,note\nA,X,1,p\nA,Y,5,q\nB,X,1,r\nB,Y,{mark},s\n")[0], 0)
-                self.assertEqual((self.out / "pairs.csv").read_text(), "who,what,cost,note\nA,Y,5,q\nB,X,1,r\n")
+                self.assertEqual(
+                    (self.out / "pairs.csv").read_text(), "who,what,cost\nA,Y,5\nB,X,1\n"
+                )
+                self.assertEqual(
+                    self.pairs(f"who,what,cost,note\nA,X,1,p\nA,Y,5,q\nB,X,1,r\nB,Y,{mark},s\n")[0],
+                    0,
+                )
+                self.assertEqual(
+                    (self.out / "pairs.csv").read_text(), "who,what,cost,note\nA,Y,5,q\nB,X,1,r\n"
+                )
 
     def test_costs_with_decimals_of_pairs(self):
         self.assertIn("cost 0,3.", self.pairs(";X;Y\nA;0,1;0,7\nB;0,3;0,2\n")[1])
@@ -199,7 +252,12 @@ class Workbooks(WithFolder):
                 ["A", "B", None, 8.07, "=1+1 GmbH"],
                 ["A", "B", 1000, 0.1, None],
             ],
-            Orte=[["Liste der Orte"][1:] + ["name", "supply"], ["A", 1500.5], [None, None], ["B", -1500.5]],
+            Orte=[
+                ["Liste der Orte"][1:] + ["name", "supply"],
+                ["A", 1500.5],
+                [None, None],
+                ["B", -1500.5],
+            ],
         )
         status, said, told = run("flow", book, "-o", self.out)
         self.assertEqual((status, told), (0, ""), told)
@@ -207,12 +265,18 @@ class Workbooks(WithFolder):
         made = openpyxl.load_workbook(self.out / "plan.xlsx")
         self.assertEqual(made.sheetnames, ["flows", "prices"])
         rows = list(made["flows"].iter_rows(values_only=True))
-        self.assertEqual(rows[1], ("A", "B", None, 8.07, "=1+1 GmbH", 500.5, 4039.035, None, 0, "yes"))
+        self.assertEqual(
+            rows[1], ("A", "B", None, 8.07, "=1+1 GmbH", 500.5, 4039.035, None, 0, "yes")
+        )
         self.assertEqual(made["flows"]["E2"].data_type, "s")
 
     def test_numbers_as_spreadsheets_have_them(self):
         places = [["name", "supply"], [101, 0.1 + 0.2], ["B", -0.3], ["C", 7.0], ["D", -7]]
-        routes = [["from", "to", "most", "cost"], ["101", "B", None, 8.07 * 3], ["C", "D", 1e9, 1e-7]]
+        routes = [
+            ["from", "to", "most", "cost"],
+            ["101", "B", None, 8.07 * 3],
+            ["C", "D", 1e9, 1e-7],
+        ]
         status, said, told = run("flow", self.book(a=places, b=routes), "-o", self.out)
         self.assertEqual((status, told), (0, ""))
         self.assertIn("cost 7.2630007.", said)
@@ -221,13 +285,15 @@ class Workbooks(WithFolder):
     def test_a_formula_without_its_value(self):
         book = self.book(a=[["name", "supply"], ["A", "=1+1"]], b=[["from", "to", "most", "cost"]])
         self.assertIn(
-            "sheet a, line 2: a formula whose value isn't stored, '=1+1'", run("flow", book, "-o", self.out)[2]
+            "sheet a, line 2: a formula whose value isn't stored, '=1+1'",
+            run("flow", book, "-o", self.out)[2],
         )
 
     def test_faults_name_the_sheet(self):
         book = self.book(a=[["name", "supply"], ["A", "many"]], b=[["from", "to", "most", "cost"]])
         self.assertIn(
-            "plan.xlsx, sheet a, line 2, column supply: 'many' is no number", run("flow", book, "-o", self.out)[2]
+            "plan.xlsx, sheet a, line 2, column supply: 'many' is no number",
+            run("flow", book, "-o", self.out)[2],
         )
 
     def test_a_workbook_is_written_where_it_is_asked_for(self):
@@ -236,7 +302,8 @@ class Workbooks(WithFolder):
 
     def test_one_table_of_text(self):
         self.assertIn(
-            "this is no workbook with two sheets", run("flow", self.put("places.csv", PLACES), "-o", self.out)[2]
+            "this is no workbook with two sheets",
+            run("flow", self.put("places.csv", PLACES), "-o", self.out)[2],
         )
 
     def test_a_zip_archive_that_is_none(self):
