@@ -506,16 +506,27 @@ class Specs:
         return sorted({(of, path[1]) for of, path in found if path})
 
     def text(self, key):
-        """A definition with its comment. What was renamed for an import has its own name, and a
-        case that of its type before it."""
+        """A definition with its comment. What was renamed for an import has its own name, a case
+        that of its type before it, and a number that the code fixes is written out."""
         definition = self.definitions[key]
         text = definition.text
-        for now, (_, path, was) in self.modules[key[:2]].imports.items():
-            if now != was:
+        for now, (of, path, was) in self.modules[key[:2]].imports.items():
+            if path.endswith(".TheConstants"):
+                text = re.sub(rf"\b{now}\b", constant(of, path, was), text)
+            elif now != was:
                 own = f"{path.split('.')[-2]}.{was}" if path.endswith(".TheVariants") else was
                 text = re.sub(rf"(?<![\w'-]){re.escape(now)}(?![\w'-])", own, text)
         note = textwrap.wrap(definition.note, 97)
         return "\n".join([f"-- {line}" for line in note] + [text])
+
+
+def constant(crate, path, name):
+    """The number of a constant of the code, a great one as a power of ten; another by its name."""
+    file = CRATES / crate / "src" / f"{path.split('.')[-2]}.rt"
+    found = re.search(rf"pub const {name}: \w+ = ([0-9_]+);", file.read_text())
+    digits = found[1].replace("_", "") if found else ""
+    is_power = len(digits) > 9 and digits.rstrip("0") == "1"
+    return f"10 ^ {len(digits) - 1}" if is_power else found[1] if found else name
 
 
 def type_text(crate, path):

@@ -9,7 +9,7 @@ use Rattle.std.proofs.lemmas.Bool.{and_parts, eqb-false, ltb-true, not-true}
 use Rattle.std.proofs.lemmas.Int.{ints}
 use Rattle.std.proofs.lemmas.List.Elements.{All-append, All-cons, All-head, All-map, All-nil, All-tail, All-weaker}
 use Rattle.std.proofs.lemmas.List.Sums.{AllPass-from_list_all}
-use Rattle.mcf_answer.specs.Ranges.{IsAmount, IsNodeInRange}
+use Rattle.mcf_answer.specs.Ranges.{IsAmount, IsNodeInRange, amount_limit}
 use Rattle.mcf_answer.specs.Solution.{IsSent}
 use Rattle.mcf_answer.specs.SparseSolution.{IsMoved}
 use Rattle.mcf_answer.specs.Spelling.{IsAnswer, Spells, cost_line, flow_line, member_line, moved_line, price_line, refusal_line, set_line, side_word, spelling}
@@ -78,11 +78,11 @@ plain_side Take = plain_word (codes "take") refl
 amount_fits : (z : ℤ) → IsAmount z → FitsSigned w128 z
 amount_fits (pos n) h =
     let high = h.1 in
-    let small : n ≤ 10 ^ 37 = grind arith in
+    let small : n ≤ amount_limit = grind arith in
     record { sfits = omega (arith, small) }
 amount_fits (negsuc n) h =
     let low = h.0 in
-    let small : suc n ≤ 10 ^ 37 = grind arith in
+    let small : suc n ≤ amount_limit = grind arith in
     record { sfits = omega (arith, small) }
 
 count_fits : (n : ℕ) → n ≤ line_limit → FitsSigned w128 (pos n)

@@ -1,13 +1,14 @@
 -- The ranges of the numbers of answers.
 -- Source: own
-use Rattle.std.specs.Prelude.{ℕ, ◌≤◌, ◌^◌, ℤ}
+use Rattle.std.specs.Prelude.{ℕ, ◌≤◌, ℤ}
+use Rattle.mcf_flows.specs.declared.limits.TheConstants.{AMOUNT_LIMIT}
 use Rattle.mcf_flows.specs.Limits.{arc_limit, node_limit}
 use Rattle.mcf_flows.specs.Network.{IsNode}
 use Rattle.mcf_flows.specs.WellFormed.{IsUpTo}
 
 -- how far from 0 a cost, a flow and a price may lie
 abbrev pub amount_limit : ℕ
-amount_limit = 10 ^ 37
+amount_limit = AMOUNT_LIMIT
 
 -- a cost, a flow or a price
 abbrev pub IsAmount : ℤ → Type 0

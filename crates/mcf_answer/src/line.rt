@@ -10,11 +10,8 @@ ghost use Rattle.mcf_text.specs.Whole.{is_whole};
 ghost use Rattle.mcf_flows.specs.Limits.{line_limit};
 
 use crate::answers::Sent;
-use mcf_flows::{Code, Refusal, Side};
+use mcf_flows::{AMOUNT_LIMIT, ARC_LIMIT, Code, LINE_LIMIT, NODE_LIMIT, Refusal, Side};
 use mcf_text::{ArcId, NodeId, Whole, fields, whole};
-
-// How far from 0 a cost, a flow and a price may lie, and the greatest number of a line: 10^37.
-const LIMIT: i128 = 10_000_000_000_000_000_000_000_000_000_000_000_000;
 
 // ---- a field
 
@@ -33,7 +30,7 @@ fn amount(field: &[u8]) -> Option<i128>
     ensures value { result ≡ amount_of (token_of field.now) }
     ensures in_range { IfSome result IsAmount }
 {
-    number(field, -LIMIT, LIMIT)
+    number(field, -(AMOUNT_LIMIT as i128), AMOUNT_LIMIT as i128)
 }
 
 // The number of a node, or how many there are.
@@ -41,7 +38,7 @@ fn count(field: &[u8]) -> Option<u32>
     ensures value { result ≡ node_of (token_of field.now) }
     ensures in_range { IfSome result IsNodeInRange }
 {
-    let value = number(field, 1, 1_000_000)?;
+    let value = number(field, 1, i128::from(NODE_LIMIT))?;
     Some(value as u32)
 }
 
@@ -59,7 +56,7 @@ fn arc(field: &[u8]) -> Option<ArcId>
     ensures value { result ≡ arc_of (token_of field.now) }
     ensures in_range { IfSome result IsArcInRange }
 {
-    let value = number(field, 1, 10_000_000)?;
+    let value = number(field, 1, i128::from(ARC_LIMIT))?;
     Some(ArcId::new(value as u32))
 }
 
@@ -68,7 +65,7 @@ fn line_number(field: &[u8]) -> Option<u128>
     ensures value { result ≡ line_number_of (token_of field.now) }
     ensures in_range { IfSome result (λ n. (1 ≤ n) × (n ≤ line_limit)) }
 {
-    let value = number(field, 1, LIMIT)?;
+    let value = number(field, 1, LINE_LIMIT as i128)?;
     Some(value as u128)
 }
 

@@ -13,6 +13,7 @@ use crate::statuses::{BLOCKED, FLOW, NO_MEMORY, WIDE};
 use crate::verdicts::{McfVerdict, numbers, set_numbers};
 use mcf_answer::{Answer, BlockedAnswer, FlowAnswer, Sent};
 use mcf_checker::Verdict;
+use mcf_flows::NODE_LIMIT;
 use mcf_instance::{Instance, table_of};
 use mcf_solver::{Choice, Form, solve_instance};
 use std::alloc::Global;
@@ -162,7 +163,7 @@ pub(crate) fn answer_instance(
     ensures prices_stay { result ≡ 3 → prices.new ≡ prices.old }
     ensures told_stays { result ≡ 3 → told.new ≡ told.old }
 {
-    prove!(instance.node_count() <= 1_000_000);
+    prove!(instance.node_count() <= NODE_LIMIT);
     let choice = in_one_form(choice);
     let Ok(answer) = solve_instance(alloc, instance, choice) else {
         return NO_MEMORY;

@@ -20,12 +20,10 @@ use crate::statuses::{ACCEPTED, NO_MEMORY, NO_ROOM, REFUSED, REJECTED};
 use crate::verdicts::{McfVerdict, fault_numbers, numbers};
 use mcf_answer::{FlowAnswer, PriceList, Sent, SentList};
 use mcf_checker::{Verdict, check_flow};
+use mcf_flows::{AMOUNT_LIMIT, NODE_LIMIT};
 use mcf_instance::{Arc, Instance, assignment_problem, flow_problem};
 use mcf_text::{ArcId, NoMemory};
 use std::alloc::Global;
-
-// How far from 0 a cost that is judged may lie. No flow costs as much.
-const COST_LIMIT: u128 = 10_000_000_000_000_000_000_000_000_000_000_000_000;
 
 // The arc at a place, counted from 0.
 fn arc_at(instance: &Instance, place: u32) -> Arc
@@ -101,8 +99,8 @@ fn signed_cost(size: u128, is_negative: bool) -> i128
     ensures value { result ≡ (if nat_le size amount_limit then (if is_negative then neg_ℤ (pos size) else pos size) else pos amount_limit) }
     ensures small { IsAmount result }
 {
-    if size > COST_LIMIT {
-        return COST_LIMIT as i128;
+    if size > AMOUNT_LIMIT {
+        return AMOUNT_LIMIT as i128;
     }
     if is_negative {
         -(size as i128)
@@ -125,7 +123,7 @@ fn answer_along(
     ensures value { IfOk result (λ a. a ≡ answer_along instance.now cost flow.now prices.now) }
     ensures wants { OnErr result (1 ≤ node_count instance.now) }
 {
-    prove!(instance.node_count() <= 1_000_000);
+    prove!(instance.node_count() <= NODE_LIMIT);
     let sent = sent_along(alloc, instance, flow)?;
     let wide = wide_prices(alloc, prices)?;
     Ok(FlowAnswer {
@@ -152,7 +150,7 @@ fn judge_instance(
     ensures memory { result ≡ 3 → 1 ≤ node_count instance.now }
     ensures untouched { result ≡ 3 → told.new ≡ told.old }
 {
-    prove!(instance.node_count() <= 1_000_000);
+    prove!(instance.node_count() <= NODE_LIMIT);
     let cost = claimed_cost(told);
     let Ok(answer) = answer_along(alloc, instance, cost, flow, prices) else {
         return NO_MEMORY;

@@ -14,6 +14,7 @@ use crate::solution::solution_verdict;
 use crate::sparse::sparse_verdict;
 use crate::verdict::Verdict;
 use mcf_answer::{Answer, FlowAnswer, parse};
+use mcf_flows::NODE_LIMIT;
 use mcf_instance::{Instance, Refusal, read};
 use mcf_text::NoMemory;
 use std::alloc::Global;
@@ -59,7 +60,7 @@ fn instance_verdict(
     ensures wants { OnErr result (1 ≤ node_count instance.now) }
     ensures well_formed { IsWellFormed limits instance.now }
 {
-    prove!(instance.node_count() <= 1_000_000);
+    prove!(instance.node_count() <= NODE_LIMIT);
     match answer {
         Answer::Flow(answer) => solution_verdict(alloc, instance, answer),
         Answer::Sparse(answer) => sparse_verdict(alloc, instance, answer),
@@ -99,7 +100,7 @@ pub fn check_flow(
     ensures least { IfOk result (λ v. IsTrue (accepts v) → IsLeast instance.now (amounts answer.now.sent)) }
     ensures wants { OnErr result (1 ≤ node_count instance.now) }
 {
-    prove!(instance.node_count() <= 1_000_000);
+    prove!(instance.node_count() <= NODE_LIMIT);
     solution_verdict(alloc, instance, answer)
 }
 

@@ -10,6 +10,7 @@ use crate::solution::flow_verdict;
 use crate::stated::Stated;
 use crate::verdict::Verdict;
 use mcf_answer::SparseAnswer;
+use mcf_flows::NODE_LIMIT;
 use mcf_instance::{Arc, Instance};
 use mcf_text::{ArcId, NoMemory};
 use std::alloc::Global;
@@ -35,7 +36,7 @@ fn first_bad_moved(instance: &Instance, moved: &[(ArcId, i128)]) -> Option<u32>
     ensures least { result ≡ bad_moved instance.now moved.now }
     ensures well_formed { IsWellFormed limits instance.now }
 {
-    prove!(instance.node_count() <= 1_000_000);
+    prove!(instance.node_count() <= NODE_LIMIT);
     for (place, line) in moved.iter().enumerate() {
         if !is_carried(instance, line.0, line.1) {
             return Some(line.0.get());

@@ -1,6 +1,7 @@
 -- The limits of an instance.
 -- Source: own
 use Rattle.std.specs.Prelude.{ℕ, ◌^◌, Option, Some, None}
+use Rattle.mcf_flows.specs.declared.limits.TheConstants.{ARC_LIMIT, BOUND_LIMIT, COST_LIMIT, LINE_LIMIT, NODE_LIMIT, SUPPLY_LIMIT, TOTAL_LIMIT}
 
 -- how far from 0 the supply of a node, a bound of an arc and the cost of an arc may lie, and how great the
 -- total of the arcs may be, where that is looked at
@@ -12,11 +13,11 @@ pub record Limits : Type 0 where
 
 -- the greatest total, over the arcs, of the size of the cost times that of the greater bound
 abbrev pub total_limit : ℕ
-total_limit = 10 ^ 36
+total_limit = TOTAL_LIMIT
 
 -- how far from 0 numbers may lie, and how great their total may be
 abbrev pub limits : Limits
-limits = record { supply = 10 ^ 18; bound = 10 ^ 18; cost = 10 ^ 15; total = Some total_limit }
+limits = record { supply = SUPPLY_LIMIT; bound = BOUND_LIMIT; cost = COST_LIMIT; total = Some total_limit }
 
 -- narrower limits, under which no total is looked at: what is an instance under them is one under the limits
 abbrev pub former_limits : Limits
@@ -24,12 +25,12 @@ former_limits = record { supply = 10 ^ 15; bound = 10 ^ 15; cost = 10 ^ 12; tota
 
 -- how many nodes there may be
 abbrev pub node_limit : ℕ
-node_limit = 1_000_000
+node_limit = NODE_LIMIT
 
 -- how many arcs there may be
 abbrev pub arc_limit : ℕ
-arc_limit = 10_000_000
+arc_limit = ARC_LIMIT
 
 -- the greatest number of a line that a refusal may name
 abbrev pub line_limit : ℕ
-line_limit = 10 ^ 37
+line_limit = LINE_LIMIT

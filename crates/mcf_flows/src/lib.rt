@@ -12,6 +12,7 @@ mod blocking;
 mod code;
 mod instances;
 mod laws;
+mod limits;
 mod problem;
 mod refusal;
 
@@ -21,5 +22,9 @@ pub use blocking::{blocks, table_of};
 pub use code::Code;
 pub use instances::Instance;
 pub use laws::{blocked_has_no_flow, shown_flows_are_least};
+pub use limits::{
+    AMOUNT_LIMIT, ARC_LIMIT, BOUND_LIMIT, COST_LIMIT, LINE_LIMIT, NODE_LIMIT, SUPPLY_LIMIT,
+    TOTAL_LIMIT,
+};
 pub use problem::{Problem, Side};
 pub use refusal::Refusal;

@@ -6,16 +6,11 @@ ghost use Rattle.mcf_flows.specs.Network.{Network};
 ghost use Rattle.mcf_instance.specs.Private.ArrayStates.{HoldsArcs, IsFaultlessBefore, TookArcs, numbers_of};
 ghost use Rattle.mcf_flows.specs.WellFormed.{IsWellFormed};
 
-use crate::reader::line::{ArcNumbers, Header, SUPPLY_LIMIT, is_up_to};
+use crate::reader::line::{ArcNumbers, Header, is_up_to};
 use crate::reader::state::State;
-use mcf_flows::{Code, Instance, Problem};
+use mcf_flows::{ARC_LIMIT, Code, Instance, NODE_LIMIT, Problem, SUPPLY_LIMIT};
 use mcf_text::{ArcId, NoMemory, NodeId, copies};
 use std::alloc::Global;
-
-// How many nodes and arcs there may be.
-const NODE_LIMIT: usize = 1_000_000;
-
-const ARC_LIMIT: usize = 10_000_000;
 
 /// An arc of a flow problem in plain numbers, with nodes from 1: 32 bytes, in an order that C knows.
 #[repr(C)]
@@ -55,7 +50,7 @@ fn faulty_supply(supplies: &[i64]) -> Option<ArrayFault>
     ensures { result ≡ first_found (supply_fault limits) supplies.now }
 {
     for place in 0..supplies.len() {
-        if !is_up_to(SUPPLY_LIMIT, supplies[place]) {
+        if !is_up_to(SUPPLY_LIMIT as i64, supplies[place]) {
             return Some(ArrayFault::Supply(NodeId::new(place as u32 + 1)));
         }
     }
@@ -136,7 +131,7 @@ fn take_pairs(
 fn sizes_fit(nodes: usize, arcs: usize) -> bool
     ensures { result ≡ (nat_le nodes node_limit && nat_le arcs arc_limit) }
 {
-    nodes <= NODE_LIMIT && arcs <= ARC_LIMIT
+    nodes <= NODE_LIMIT as usize && arcs <= ARC_LIMIT as usize
 }
 
 // The instance of a state that all arcs were taken into, or their first fault.

@@ -1,6 +1,7 @@
 //! The forward star: the residual arcs that leave each node, side by side, as a scan reads them, and the position of each.
 ghost use Rattle.std.specs.Prelude.{◌≡◌, ◌-◌, ◌*◌, ◌^◌, ◌<◌, ◌≤◌, [], IfOk, OnErr, length};
 ghost use Rattle.std.specs.List.{All};
+ghost use Rattle.mcf_flows.specs.Limits.{arc_limit};
 ghost use Rattle.mcf_flows.specs.Network.{IsArcNumber, IsNode, node_count};
 ghost use Rattle.mcf_scaling.specs.Private.Stars.{ArePositions, ArePositionsUpTo, IsResidualArc, IsStarOf, IsStarUpTo, out_at, residual_of, position_of, span_of};
 
@@ -140,7 +141,7 @@ fn residual_arc(net: &Net, r: Rid) -> ResidualArc
 // The number of a residual arc.
 fn link_of(arc: ArcId, back: bool) -> u32
     requires low { 1 ≤ arc }
-    requires high { arc ≤ 10_000_000 }
+    requires high { arc ≤ arc_limit }
     ensures { residual_of result ≡ record { arc = arc; back = back } }
 {
     let forward = 2 * (arc.get() - 1);

@@ -1,11 +1,12 @@
 -- What a run from a source to a sink does.
 -- Source: own
-use Rattle.std.specs.Prelude.{◌≡◌, ◌++◌, ◌^◌, ◌<◌, ◌≤◌, ℕ, List, length, Option, Result, IfSome, codes}
+use Rattle.std.specs.Prelude.{◌≡◌, ◌++◌, ◌<◌, ◌≤◌, ℕ, List, length, Option, Result, IfSome, codes}
 use Rattle.std.specs.Io.KnownBytes.{Appends}
 use Rattle.mcf_flows.specs.Codes.{Fault}
 use Rattle.mcf_flows.specs.Limits.{limits}
 use Rattle.mcf_flows.specs.Network.{Network}
 use Rattle.mcf_instance.specs.Reading.{reading}
+use Rattle.mcf_text.specs.Feed.{byte_limit}
 use Rattle.mcf_choice.specs.declared.choice.Choice.{Choice}
 use Rattle.mcf_solver.specs.declared.kind.Kind.{Kind}
 use Rattle.mcf_solver.specs.declared.fault.RunFault.{RunFault}
@@ -14,7 +15,7 @@ use Rattle.mcf_solver.specs.Answering.{IsAnswerTo}
 
 -- the most bytes that are taken from a source
 abbrev pub text_limit : ℕ
-text_limit = 10 ^ 18
+text_limit = byte_limit
 
 -- what the source gave stands for this: an instance, or the first fault; a source that names no bytes gave some
 pub record ReadsGiven (given : Option (List ℕ)) (outcome : Result Network Fault) : Type 0 where

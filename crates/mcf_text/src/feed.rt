@@ -5,8 +5,8 @@ use memchr::memchr;
 use std::alloc::Global;
 use std::marker::Model;
 
-// The most bytes that are taken.
-const BYTE_LIMIT: u64 = 1_000_000_000_000_000_000;
+/// The most bytes of a text that are taken.
+pub const BYTE_LIMIT: u64 = 1_000_000_000_000_000_000;
 
 /// The lines of a text that comes in pieces, which may be cut anywhere: the lines popped are those that
 /// `lines` gives for the pieces joined, under the same numbers. A clause sees how many lines were popped and

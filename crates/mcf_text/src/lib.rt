@@ -24,7 +24,7 @@ pub use arc::ArcId;
 pub use decimal::{put_number, whole};
 pub use error::NoMemory;
 pub use fault::FeedFault;
-pub use feed::LineFeed;
+pub use feed::{BYTE_LIMIT, LineFeed};
 pub use laws::ids_are_ordered_by_number;
 pub use leading::{LeadingDigits, leading_digits};
 pub use node::NodeId;

@@ -9,23 +9,11 @@ ghost use Rattle.mcf_instance.specs.Private.LineReader.{arc_tests, arc_line};
 ghost use Rattle.mcf_text.specs.Row.{natural};
 ghost use Rattle.mcf_text.specs.Whole.{is_within};
 
-use mcf_flows::{Code, PackedArc, Problem};
+use mcf_flows::{
+    ARC_LIMIT, BOUND_LIMIT, COST_LIMIT, Code, NODE_LIMIT, PackedArc, Problem, SUPPLY_LIMIT,
+    TOTAL_LIMIT,
+};
 use mcf_text::{Whole, whole};
-
-// How many nodes and arcs there may be.
-const NODE_LIMIT: i64 = 1_000_000;
-
-const ARC_LIMIT: i64 = 10_000_000;
-
-// How far from 0 a supply, a bound and a cost may lie.
-pub(crate) const SUPPLY_LIMIT: i64 = 1_000_000_000_000_000_000;
-
-const BOUND_LIMIT: i64 = 1_000_000_000_000_000_000;
-
-const COST_LIMIT: i64 = 1_000_000_000_000_000;
-
-// How great the total of the arcs of an instance of `min` may be.
-const TOTAL_LIMIT: u128 = 1_000_000_000_000_000_000_000_000_000_000_000_000;
 
 // How far from 0 the numbers lie that are kept as they are, and what stands for the others.
 const KEPT_SIZE: i128 = 1_000_000_000_000_000_000;
@@ -110,7 +98,7 @@ fn problem_of(word: &[u8]) -> Result<Problem, Code>
 fn sizes_fit(nodes: i64, arcs: i64) -> bool
     ensures { result ≡ is_within (pos 0) (pos node_limit) nodes && is_within (pos 0) (pos arc_limit) arcs }
 {
-    is_within(0, NODE_LIMIT, nodes) && is_within(0, ARC_LIMIT, arcs)
+    is_within(0, i64::from(NODE_LIMIT), nodes) && is_within(0, i64::from(ARC_LIMIT), arcs)
 }
 
 #[tactic(auto, unfolding(crate::specs::Private::LineReader::problem_line))]
@@ -218,7 +206,7 @@ fn node_tests(
     if is_flagged(listed, node) {
         return Err(Code::Twice);
     }
-    if !is_up_to(SUPPLY_LIMIT, supply) {
+    if !is_up_to(SUPPLY_LIMIT as i64, supply) {
         return Err(Code::Supply);
     }
     Ok((node, supply))
@@ -307,13 +295,13 @@ fn is_wrong_side(header: Header, listed: &[bool], src: u32, dst: u32) -> bool
 fn amount_fault(low: i64, cap: i64, cost: i64) -> Option<Code>
     ensures { result ≡ amount_fault limits low cap cost }
 {
-    if !are_both_up_to(BOUND_LIMIT, low, cap) {
+    if !are_both_up_to(BOUND_LIMIT as i64, low, cap) {
         return Some(Code::Bound);
     }
     if cap < low {
         return Some(Code::Order);
     }
-    if !is_up_to(COST_LIMIT, cost) {
+    if !is_up_to(COST_LIMIT as i64, cost) {
         return Some(Code::Cost);
     }
     None

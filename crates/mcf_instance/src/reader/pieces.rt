@@ -9,12 +9,9 @@ ghost use Rattle.mcf_text.specs.Feed.{byte_limit};
 use crate::reader::lines::{read_line, take_arcs};
 use crate::reader::state::State;
 use mcf_flows::{Instance, Refusal};
-use mcf_text::{FeedFault, LineFeed, NoMemory};
+use mcf_text::{BYTE_LIMIT, FeedFault, LineFeed, NoMemory};
 use std::alloc::Global;
 use std::marker::Model;
-
-// The most bytes that are taken.
-const BYTE_LIMIT: u64 = 1_000_000_000_000_000_000;
 
 /// Reads an instance text that comes in pieces, which may be cut anywhere, as `read` reads a whole one.
 ///
