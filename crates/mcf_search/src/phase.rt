@@ -112,13 +112,14 @@ impl Search {
             if is_over || at(&self.surpluses, tip, 0) < 0 {
                 return true;
             }
-            self.pay_degree(tip);
             let current = at(&self.currents, tip, 0);
             let (found, least) = self.star.seek(tip, current, self.star.end(tip), 0);
             if let Some(step) = found {
+                self.pay(current, step.place);
                 put(&mut self.currents, tip, step.place);
                 path.push(step.place, step.head);
             } else {
+                self.pay_degree(tip);
                 let (_, before) = self.star.seek(tip, self.star.first(tip), current, 0);
                 if !self.relabel(path, least.min(before)) {
                     return false;

@@ -99,8 +99,13 @@ impl Search {
 
     /// Pays for a scan of the arcs of a node.
     pub(crate) fn pay_degree(&mut self, node: u32) {
-        let degree = self.star.end(node).wrapping_sub(self.star.first(node));
-        self.work = self.work.wrapping_add(u64::from(degree)).wrapping_add(1);
+        self.pay(self.star.first(node), self.star.end(node));
+    }
+
+    /// Pays for a scan of the arcs from a place up to another.
+    pub(crate) fn pay(&mut self, from: u32, end: u32) {
+        let count = end.wrapping_sub(from);
+        self.work = self.work.wrapping_add(u64::from(count)).wrapping_add(1);
     }
 
     /// The room that the next arc of those that leave a node has left, in the order of the net.
