@@ -1,6 +1,8 @@
 # make        proves and builds the programs into bin/ and runs them on examples/
 # make test   the gate: every proof, the must-fail edits, the tests, the programs
 # make memory-test   refuses each allocation of the tests of a few worked rows in turn, with ALL=1 of every test
+# make lint   formatters and linters over Python, JavaScript, shell and C, those that are there
+# make quick  what takes seconds over what is built, and rt check of the crates that changed: under five minutes
 # make clean  takes away what was proved and built: bin/, bench/out/, and out/ of each crate
 # make bench  the measurements of bench/
 # make tools-test   the tests of python/ and tools/, on the plans of examples/plans/ too, and of make install and make uninstall: needs the programs of bin/ and Python 3.8; a part of make test
@@ -12,7 +14,7 @@
 # make page-test    clicks through that page in headless Chromium and Firefox, where these are there, by node: a minute
 # make install      puts the programs, the tools, the manual pages and the completion of the shells, and the library, its Python package and the page where they are built, under PREFIX (and DESTDIR before it); make uninstall removes just these
 
-.PHONY: all kit test memory-test clean bench tools-test library library-test dist dist-test page page-test install install-library uninstall
+.PHONY: all kit lint quick test memory-test clean bench tools-test library library-test dist dist-test page page-test install install-library uninstall
 .NOTPARALLEL:
 
 # The programs among the crates that crates.txt lists; the log is bin/proofs.log.
@@ -36,6 +38,14 @@ test: kit
 WITH_TESTS = mcf_text_tests mcf_tests mcf_engine_tests mcf_suite_tests
 memory-test: kit
 	@python3 scripts/refuse_memory.py $(if $(ALL),,--only six_rows) $(WITH_TESTS)
+
+lint:
+	@scripts/documents.py check
+	@scripts/words.py check
+	@scripts/lint.sh
+
+quick:
+	@scripts/ci.py --quick
 
 clean:
 	rm -rf bin bench/out crates/*/out

@@ -57,7 +57,7 @@ _mcf()
             *:-*) words=$(_mcf_options "$command" "${COMP_WORDS[1]}") ;;
         esac
     fi
-    COMPREPLY=($(compgen -W "$words" -- "$word"))
+    mapfile -t COMPREPLY < <(compgen -W "$words" -- "$word")
 }
 
 complete -o bashdefault -o default -F _mcf mcf mcfcheck mcf_plan mcf_explain mcf_one

@@ -1,4 +1,4 @@
-#!/bin/sh
+#!/bin/bash
 # Runs the programs of bin/ on the pairs of examples/: what `mcf solve` writes must be the answer there,
 # byte for byte, and `mcfcheck` must accept that answer; what it writes in the second form must be the answer in
 # NAME.two, where there is one, and `mcfcheck` must accept it as it does the other. Then on a text of several pieces, from a file and from

@@ -10,7 +10,8 @@ kit=$(dirname "$(rt doc)") toolchain=$1 library=$2
 scripts/build.py
 
 libraries=(-L dependency=out/rlib)
-for crate in $(sed -n 's/^mcf_c staticlib: //p' crates.txt); do
+read -ra crates < <(sed -n 's/^mcf_c staticlib: //p' crates.txt)
+for crate in "${crates[@]}"; do
     libraries+=(--extern "$crate=out/rlib/$crate.rlib")
 done
 log=$PWD/bin/mcf_c.log

@@ -1,0 +1,130 @@
+#!/usr/bin/env python3
+"""Runs all that a change has to pass, step by step, and closes with a table.
+
+    scripts/ci.py            every step: what .ci/run calls
+    scripts/ci.py --quick    those that take seconds over what is built, and `rt check` of each
+                             crate whose files differ from the last commit that upstream has, or
+                             from HEAD where there is no upstream: what `make quick` calls
+
+A step whose tools aren't there is skipped, and the table says why; so is what a step itself says
+that it skipped. Nothing is installed. A step that is the repository's own and fails, fails the run.
+The last line is `N passed, M failed, K skipped`.
+"""
+import pathlib
+import re
+import shutil
+import subprocess
+import sys
+import time
+from typing import List, NamedTuple, Optional, Tuple
+
+TOP = pathlib.Path(__file__).resolve().parent.parent
+BROWSERS = ("chromium", "chromium-browser", "google-chrome", "firefox", "firefox-esr")
+
+
+class Step(NamedTuple):
+    """What is run, and the tools that it needs: of each tuple one."""
+
+    name: str
+    command: Tuple[str, ...]
+    tools: Tuple[Tuple[str, ...], ...] = ()
+
+
+class Result(NamedTuple):
+    step: Step
+    status: str
+    minutes: float
+    skipped: List[str]
+
+
+KIT = (("rt",),)
+LINT = Step("formatters and linters", ("make", "lint"))
+TOOLS = Step("tools", ("make", "tools-test"), (("python3",),))
+PAGE = Step("page in node", ("scripts/page_test.sh",))
+STEPS = (
+    LINT,
+    Step("proofs, tests, programs, tools, page in node", ("make", "test"), KIT),
+    Step("edits that must fail", ("make", "edits"), KIT),
+    Step("library", ("make", "library"), (*KIT, ("cc",))),
+    Step("library from C, C++, Rust, Python", ("make", "library-test"), (("cc",),)),
+    Step("packages", ("make", "dist"), (("ar",),)),
+    Step("packages installed: archive, wheel, .deb", ("make", "dist-test")),
+    Step("page in browsers", ("make", "page-test"), (("node",), BROWSERS)),
+)
+
+
+def lacking(step: Step) -> Optional[str]:
+    """The first tool that the step needs and that isn't there."""
+    for names in step.tools:
+        if not any(shutil.which(name) for name in names):
+            return f"there is no {' or '.join(names)}"
+    return None
+
+
+def run(step: Step) -> Result:
+    """Runs a step, prints what it prints, and keeps what it says that it skipped."""
+    why = lacking(step)
+    if why:
+        print(f"ci: {step.name}: skipped: {why}", flush=True)
+        return Result(step, "skipped", 0, [why])
+    print(f"ci: {step.name}: {' '.join(step.command)}", flush=True)
+    begun, skipped = time.monotonic(), []
+    pipe, both = subprocess.PIPE, subprocess.STDOUT
+    with subprocess.Popen(
+        step.command, cwd=TOP, stdout=pipe, stderr=both, text=True, errors="replace"
+    ) as process:
+        assert process.stdout
+        for line in process.stdout:
+            print(line, end="", flush=True)
+            found = re.match(r"[\w. -]+: skipped: (.*)", line)
+            if found:
+                skipped.append(found[1])
+    minutes = (time.monotonic() - begun) / 60
+    return Result(step, "failed" if process.returncode else "passed", minutes, skipped)
+
+
+def changed() -> List[str]:
+    """The crates whose files differ from the last commit of the upstream branch, or from HEAD."""
+
+    def git(*words: str) -> str:
+        done = subprocess.run(("git", *words), cwd=TOP, capture_output=True, text=True)
+        return done.stdout if done.returncode == 0 else ""
+
+    base = git("merge-base", "HEAD", "@{upstream}").strip() or "HEAD"
+    files = git("diff", "--name-only", base) + git("ls-files", "--others", "--exclude-standard")
+    rows = (TOP / "crates.txt").read_text().splitlines()
+    listed = [line.split(":")[0].split()[0] for line in rows if ":" in line]
+    touched = set(re.findall(r"^crates/(\w+)/(?:src|specs|proofs)/", files, re.M))
+    return [name for name in listed if name in touched]
+
+
+def quick() -> List[Step]:
+    """The steps that take seconds, and the checks of what changed."""
+    check = "cd crates/{} && rt check"
+    checks = [Step(f"{name}", ("sh", "-c", check.format(name)), KIT) for name in changed()]
+    return [LINT, TOOLS, PAGE, *checks]
+
+
+def table(results: List[Result]) -> None:
+    """What was run and what wasn't, a line each."""
+    print("\nci: step | result | minutes")
+    for result in results:
+        print(f"ci: {result.step.name} | {result.status} | {result.minutes:.1f}")
+        for why in result.skipped:
+            print(f"ci:     not run: {why}")
+
+
+def main(words: List[str]) -> int:
+    if words not in ([], ["--quick"]):
+        sys.exit(__doc__)
+    results = [run(step) for step in (quick() if words else STEPS)]
+    table(results)
+    count = {
+        word: sum(r.status == word for r in results) for word in ("passed", "failed", "skipped")
+    }
+    print(f"{count['passed']} passed, {count['failed']} failed, {count['skipped']} skipped")
+    return 1 if count["failed"] else 0
+
+
+if __name__ == "__main__":
+    sys.exit(main(sys.argv[1:]))

@@ -1,0 +1,49 @@
+#!/bin/bash
+# Formatters and linters over all that isn't Rattle: Python, JavaScript, shell and C. Each tool that isn't there is skipped with a word; Debian has all
+# but ruff, and black, isort and flake8 take its place, with the same rules. Settings: pyproject.toml, .flake8, jsconfig.json, .eslintrc.json,
+# .shellcheckrc, .clang-format. Nothing is written: `scripts/lint.sh --fix` lays out what a formatter can.
+set -uo pipefail
+cd "$(dirname "$0")/.." || exit 1
+fix=${1:-}
+failed=0
+mapfile -t python < <(git ls-files '*.py'; git grep -lE '^#!.*python3' -- tools)
+mapfile -t shells < <(git ls-files '*.sh' '*.bash'; git grep -lE '^#! ?/bin/(ba)?sh' -- tools packaging .ci)
+mapfile -t c < <(git ls-files '*.c' '*.h' ':!bench')
+# Debian's eslint finds its libraries there, whichever node runs it.
+export NODE_PATH=${NODE_PATH:-/usr/share/nodejs}
+
+has() { command -v "$1" > /dev/null; }
+
+# Runs a check: its name, its tool, the command.
+check() {
+    local name=$1 tool=$2 said
+    shift 2
+    if ! has "$tool"; then
+        echo "lint: skipped: $name: there is no $tool"
+    elif said=$("$@" 2>&1); then
+        echo "lint: $name: passed"
+    else
+        printf 'lint: %s: failed\n%s\n' "$name" "$said"
+        failed=1
+    fi
+}
+
+if [ "$fix" = --fix ]; then
+    if has ruff; then ruff format -q "${python[@]}" && ruff check -q --fix "${python[@]}"; else black -q "${python[@]}" && isort -q "${python[@]}"; fi
+    clang-format -i "${c[@]}"
+    exit
+fi
+if has ruff; then
+    check "layout of Python" ruff ruff format --check "${python[@]}"
+    check "Python" ruff ruff check "${python[@]}"
+else
+    check "layout of Python" black black --check -q "${python[@]}"
+    check "imports of Python" isort isort --check -q "${python[@]}"
+    check "Python" flake8 flake8 "${python[@]}"
+fi
+check "types of Python" mypy mypy --strict --cache-dir=/dev/null python/mcf
+check "JavaScript" eslint eslint page/*.js
+check "types of JavaScript" tsc tsc -p jsconfig.json
+check "shell" shellcheck shellcheck --severity=warning "${shells[@]}"
+check "layout of C" clang-format clang-format --dry-run -Werror "${c[@]}"
+exit $failed
