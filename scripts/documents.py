@@ -1,12 +1,13 @@
 #!/usr/bin/env python3
 """The documents that are made from the code and the spec files.
 
-    scripts/documents.py write     writes DEFINITIONS, CONTRACTS, HEADLINE and MADE in docs/
+    scripts/documents.py write     writes DEFINITIONS, CONTRACTS, HEADLINE, CHOSEN, RUNS and MADE
+                                   in docs/
     scripts/documents.py check     tells which of them isn't what `write` would write, and which
                                    public name lacks a comment; status 1 if there is one
 
-What is written by hand of docs/HEADLINE.md and docs/MADE.md stands in scripts/headline.md and
-scripts/made.md, where a line that begins with `@` stands for what is made.
+What is written by hand of the last four stands in scripts/headline.md, chosen.md, runs.md and
+made.md, where a line that begins with `@` stands for what is made.
 """
 import collections
 import pathlib
@@ -588,7 +589,7 @@ class Page:
 
     def types(self, part, *more):
         """The types of the code that a part's definitions name, and these, but for the codes of
-        faults and for constants."""
+        faults and for constants; what comments say of fields and cases stands in CONTRACTS."""
         earlier = list(PARTS)[: list(PARTS).index(part)]
         known = {kind for other in earlier for kind in self.specs.types(other)} | {
             ("mcf_flows", "code.Code")
@@ -598,10 +599,8 @@ class Page:
             for kind in self.specs.types(part)
             if kind not in known and kind[0] in crates() and not kind[1].endswith("TheConstants")
         ]
-        return fence(
-            "rust",
-            "\n\n".join(type_text(*kind) for kind in kinds + [tuple(m.split("/")) for m in more]),
-        )
+        texts = [type_text(*kind) for kind in kinds + [tuple(m.split("/")) for m in more]]
+        return fence("rust", re.sub(r"(?m)^ +///.*\n", "", "\n\n".join(texts)))
 
     def models(self, *names):
         """As what values of these types are seen."""
@@ -641,7 +640,9 @@ def page(template, *parts):
 PAGES = {
     "DEFINITIONS.md": definitions_page,
     "CONTRACTS.md": contracts_page,
-    "HEADLINE.md": lambda: page("headline.md", "core", "rules", "runs"),
+    "HEADLINE.md": lambda: page("headline.md", "core"),
+    "CHOSEN.md": lambda: page("chosen.md", "rules"),
+    "RUNS.md": lambda: page("runs.md", "runs"),
     "MADE.md": lambda: page("made.md", "made"),
 }
 
