@@ -42,6 +42,7 @@ memory-test: kit
 lint:
 	@scripts/documents.py check
 	@scripts/words.py check
+	@scripts/pictures.py check
 	@scripts/lint.sh
 
 quick:

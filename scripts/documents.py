@@ -647,8 +647,16 @@ PAGES = {
 }
 
 
+# How many words a reader is asked for.
+LENGTHS = {"README.md": 600, "docs/HEADLINE.md": 8000}
+
+
 def faults():
     """What isn't as it should be."""
+    for name, most in LENGTHS.items():
+        count = len((TOP / name).read_text().split())
+        if count > most:
+            yield f"{name} has {count} words, and may have {most}"
     for name, made in PAGES.items():
         if not (DOCS / name).exists() or (DOCS / name).read_text() != made():
             yield f"docs/{name} isn't what `scripts/documents.py write` writes today"
