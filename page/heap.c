@@ -1,13 +1,19 @@
 /* The heap of the page's module, in the place of the C library's.
 
-   Blocks lie one after another above the stack, each behind a header of 16 bytes. Free ones are kept in a list by address, and
-   merged with their neighbours. The memory grows where no free block is large enough. */
+   Blocks lie one after another above the stack, each behind a header of 16 bytes. Free ones are
+   kept in a list by address, and merged with their neighbours. The memory grows where no free block
+   is large enough. */
 typedef unsigned long u64;
-typedef struct block { u64 size; struct block *next; } block; /* size: of what comes after the header, a multiple of 16 */
-typedef struct { u64 ok, at; } tried;
+typedef struct block {
+    u64 size;
+    struct block *next;
+} block; /* size: of what comes after the header, a multiple of 16 */
+typedef struct {
+    u64 ok, at;
+} tried;
 
-/* No block reaches beyond this: addresses stay below 2^32, and the last 64 MB below that are no memory, so that a stack that runs
-   out traps. */
+/* No block reaches beyond this: addresses stay below 2^32, and the last 64 MB below that are no
+   memory, so that a stack that runs out traps. */
 #define MOST 0xfc000000ul
 
 extern unsigned char __heap_base;
@@ -18,40 +24,34 @@ static u64 rounded(u64 n) { return n < 16 ? 16 : (n + 15) & ~15ul; }
 static block *header(u64 at) { return (block *)(at - 16); }
 static u64 behind(block *b) { return (u64)b + 16 + b->size; }
 
-static void count(u64 more)
-{
+static void count(u64 more) {
     live += more;
-    if (live > peak)
-        peak = live;
+    if (live > peak) peak = live;
 }
 
 /* Grows the memory by so many pages. Lowered to 32 bits, a refusal is 2^32 - 1. */
 static int grow(u64 pages) { return (unsigned)__builtin_wasm_memory_grow(0, pages) != ~0u; }
 
-/* Makes the memory reach to a place, and an eighth of it more at least, if the host gives that much. */
-static int reach(u64 to)
-{
-    if (!limit)
-        limit = __builtin_wasm_memory_size(0) << 16;
-    if (to <= limit)
-        return 1;
+/* Makes the memory reach to a place, and an eighth of it more at least, if the host gives that
+ * much. */
+static int reach(u64 to) {
+    if (!limit) limit = __builtin_wasm_memory_size(0) << 16;
+    if (to <= limit) return 1;
     u64 pages = (to - limit + 0xffff) >> 16, ample = limit >> 19;
     if (pages < ample && grow(ample)) {
         limit += ample << 16;
         return 1;
     }
-    if (!grow(pages))
-        return 0;
+    if (!grow(pages)) return 0;
     limit += pages << 16;
     return 1;
 }
 
-/* A block that is taken from the free list, whose rest stays there; 0 where none is large enough. */
-static block *reuse(u64 n)
-{
+/* A block that is taken from the free list, whose rest stays there; 0 where none is large enough.
+ */
+static block *reuse(u64 n) {
     for (block **at = &first_free, *b; (b = *at); at = &b->next) {
-        if (b->size < n)
-            continue;
+        if (b->size < n) continue;
         if (b->size < n + 64) {
             *at = b->next;
             return b;
@@ -66,14 +66,11 @@ static block *reuse(u64 n)
     return 0;
 }
 
-static u64 take(u64 n)
-{
-    if (!end)
-        end = ((u64)&__heap_base + 15) & ~15ul;
+static u64 take(u64 n) {
+    if (!end) end = ((u64)&__heap_base + 15) & ~15ul;
     block *b = n > MOST ? 0 : reuse(n);
     if (!b) {
-        if (n > MOST || end + 16 + n > MOST || !reach(end + 16 + n))
-            return 0;
+        if (n > MOST || end + 16 + n > MOST || !reach(end + 16 + n)) return 0;
         b = (block *)end;
         b->size = n;
         end += 16 + n;
@@ -82,8 +79,7 @@ static u64 take(u64 n)
     return (u64)b + 16;
 }
 
-static void give(block *b)
-{
+static void give(block *b) {
     live -= b->size;
     block **at = &first_free, *before = 0;
     while (*at && *at < b) {
@@ -110,8 +106,7 @@ static void give(block *b)
 }
 
 /* What compiled code calls. Alignments are at most 16. */
-tried rattle_alloc(u64 n, u64 align)
-{
+tried rattle_alloc(u64 n, u64 align) {
     (void)align;
     u64 at = take(n > MOST ? n : rounded(n));
     return (tried){at != 0, at ? at : 16};
@@ -119,22 +114,20 @@ tried rattle_alloc(u64 n, u64 align)
 
 void rattle_dealloc(u64 at) { give(header(at)); }
 
-tried rattle_realloc(u64 at, u64 kept, u64 n, u64 align)
-{
+tried rattle_realloc(u64 at, u64 kept, u64 n, u64 align) {
     (void)align;
     block *b = header(at);
     u64 want = n > MOST ? n : rounded(n);
-    if (want <= b->size)
-        return (tried){1, at};
-    if (behind(b) == end && want <= MOST && (u64)b + 16 + want <= MOST && reach((u64)b + 16 + want)) { /* the last one grows in place */
+    if (want <= b->size) return (tried){1, at};
+    if (behind(b) == end && want <= MOST && (u64)b + 16 + want <= MOST &&
+        reach((u64)b + 16 + want)) { /* the last one grows in place */
         count(want - b->size);
         b->size = want;
         end = behind(b);
         return (tried){1, at};
     }
     u64 to = take(want);
-    if (!to)
-        return (tried){0, at};
+    if (!to) return (tried){0, at};
     __builtin_memcpy((void *)to, (void *)at, kept);
     give(b);
     return (tried){1, to};

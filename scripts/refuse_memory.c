@@ -1,5 +1,5 @@
-/* Put before the C library by LD_PRELOAD: refuses the allocation of the number REFUSED (from 1), and says so on
-   standard error. A growth counts, a shrink or a release doesn't. */
+/* Put before the C library by LD_PRELOAD: refuses the allocation of the number REFUSED (from 1),
+   and says so on standard error. A growth counts, a shrink or a release doesn't. */
 #define _GNU_SOURCE
 #include <dlfcn.h>
 #include <malloc.h>
@@ -8,35 +8,27 @@
 
 static unsigned long asked;
 
-static int is_refused(void)
-{
+static int is_refused(void) {
     static unsigned long refused;
     static const char met[] = "memory was refused\n";
     if (!refused) {
         const char *number = getenv("REFUSED");
         refused = number ? strtoul(number, 0, 10) : 0;
     }
-    if (++asked != refused)
-        return 0;
-    if (write(2, met, sizeof met - 1) < 0)
-        abort();
+    if (++asked != refused) return 0;
+    if (write(2, met, sizeof met - 1) < 0) abort();
     return 1;
 }
 
-void *malloc(size_t size)
-{
+void *malloc(size_t size) {
     static void *(*next)(size_t);
-    if (!next)
-        next = dlsym(RTLD_NEXT, "malloc");
+    if (!next) next = dlsym(RTLD_NEXT, "malloc");
     return is_refused() ? 0 : next(size);
 }
 
-void *realloc(void *old, size_t size)
-{
+void *realloc(void *old, size_t size) {
     static void *(*next)(void *, size_t);
-    if (!next)
-        next = dlsym(RTLD_NEXT, "realloc");
-    if (old && size <= malloc_usable_size(old))
-        return next(old, size);
+    if (!next) next = dlsym(RTLD_NEXT, "realloc");
+    if (old && size <= malloc_usable_size(old)) return next(old, size);
     return is_refused() ? 0 : next(old, size);
 }
