@@ -1,5 +1,5 @@
 # make        proves and builds the programs into bin/ and runs them on examples/
-# make test   the gate: every proof, the must-fail edits, the tests, the programs
+# make test   the gate: every proof, the tests, the programs
 # make memory-test   refuses each allocation of the tests of a few worked rows in turn, with ALL=1 of every test
 # make lint   formatters and linters over Python, JavaScript, shell and C, those that are there
 # make quick  what takes seconds over what is built, and rt check of the crates that changed: under five minutes

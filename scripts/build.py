@@ -107,7 +107,7 @@ def copy_crates(names):
         shutil.copytree(
             TOP / "crates" / name,
             COPY / "crates" / name,
-            ignore=shutil.ignore_patterns("out", "must-fail"),
+            ignore=shutil.ignore_patterns("out", "edits"),
         )
     lines = (TOP / "crates.txt").read_text().splitlines(keepends=True)
     (COPY / "crates.txt").write_text(

@@ -101,7 +101,7 @@ def table(crates, proved, watch, passed):
     whole = (used.children_user + used.children_system) / 60
     rows = []
     for crate in crates:
-        edits = len(list((TOP / "crates" / crate / "must-fail").glob("*.edit")))
+        edits = len(list((TOP / "crates" / crate / "edits").glob("*.edit")))
         clock = f"{proved[crate]:.0f}" if crate in proved else "kept"
         rows.append(
             f"| {crate} | {clock} | {watch.minutes(crate, False):.1f} | {edits} |"
