@@ -30,12 +30,12 @@ test: kit
 	@scripts/documents.py check
 	@grep -qF "with Rattle, $$(rt version | sed 's/.* logic /logic /')\\n" crates/mcf_suite/src/version.rt || { echo "make test: crates/mcf_suite/src/version.rt names another logic than: $$(rt version)" >&2; exit 1; }
 	rt ci
-	@python3 scripts/refuse_memory.py --built --only six_rows --minutes 4 $(WITH_TESTS)
+	@python3 scripts/refuse_memory.py --built --only six_rows --minutes 15 $(WITH_TESTS)
 	@$(MAKE) --no-print-directory tools-test
 	@scripts/page_test.sh
 
 # Each allocation refused in turn on a few worked rows, and with ALL=1 in every test: the tests are proved and built first, which takes as long as make.
-WITH_TESTS = mcf_text_tests mcf_tests mcf_engine_tests mcf_suite_tests
+WITH_TESTS = mcf_suite_tests mcf_text_tests mcf_tests mcf_engine_tests
 memory-test: kit
 	@python3 scripts/refuse_memory.py $(if $(ALL),,--only six_rows) $(WITH_TESTS)
 

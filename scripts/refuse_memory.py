@@ -4,14 +4,14 @@
     python3 scripts/refuse_memory.py [NAME ...] [--only WORD] [--most N] [--minutes N] [--built]
 
 NAME is a crate with tests; without one, all of them. Each is proved, built and tested by `rt test`
-(`--built` takes the tests as they were built last, and leaves out with a word those that never
-were). Then each test, or with `--only` each whose name has WORD in it, is run with its first
-allocation refused, then with its second, and so on, until a run meets no refusal, or up to the Nth
-(5,000 if left out), or until so many minutes have gone by since the first run. A run is right where
-it ends as with ample memory, or with an error that speaks of want of memory; tests of what was lent
-compare it themselves after the error. Printed is a line for each test: how many runs met a refusal,
-how many of those ended with the error, and how many went on to the end. The status is 1 where a run
-is wrong.
+(`--built` takes the tests as they were built last). Then each test, or with `--only` each whose
+name has WORD in it, is run with its first allocation refused, then with its second, and so on,
+until a run meets no refusal, or up to the Nth (5,000 if left out). A run is right where it ends as
+with ample memory, or with an error that speaks of want of memory; tests of what was lent compare it
+themselves after the error. Printed is a line for each test: how many runs met a refusal, how many
+of those ended with the error, and how many went on to the end. The status is 1 where a run is
+wrong, and where anything isn't run: tests aren't built, no test has WORD in its name, or so many
+minutes have gone by since the first run.
 
 NAME may be mcf or mcfcheck, too: then the program of bin/ is run on each example, mcf by each
 engine, and on words that have no instance. A run is right where it does what it does with ample
@@ -43,11 +43,13 @@ SPEAKS_OF_MEMORY = re.compile(rb"error: .*([Mm]emory|AllocError|AllocFailed)")
 
 
 def with_tests():
-    return sorted(
+    """The crates with tests, those of the command line first."""
+    found = [
         it.name
         for it in CRATES.iterdir()
         if any("#[test]" in file.read_text() for file in it.glob("src/**/*.rt"))
-    )
+    ]
+    return sorted(found, key=lambda name: (name != "mcf_suite_tests", name))
 
 
 def run(program, test, refused, shim):
@@ -70,11 +72,13 @@ def run(program, test, refused, shim):
 
 
 def judge(program, test, most, until, shim):
-    """Refuses each allocation of a test; whether no run was wrong."""
+    """Refuses each allocation of a test; whether all were, and no run was wrong."""
     ends = {"well": 0, "without memory": 0, "wrong": 0}
+    in_time = True
     for refused in range(1, most + 1):
         if time.monotonic() > until:
-            print(f"  {test}: stopped at allocation {refused}, since its time is over")
+            print(f"  {test}: FAILED: the time is over at allocation {refused}")
+            in_time = False
             break
         met, end, said = run(program, test, refused, shim)
         if not met and end == "well":
@@ -91,7 +95,7 @@ def judge(program, test, most, until, shim):
         ),
         flush=True,
     )
-    return not ends["wrong"]
+    return in_time and not ends["wrong"]
 
 
 def calls(name):
@@ -137,27 +141,45 @@ def refuse_each(name, words, most, until, shim):
         if end == "wrong":
             print(f"  {name} {words}: allocation {refused}: wrong: {did}")
         ends[end] += met or end == "wrong"
-        if not met or time.monotonic() > until:
+        if not met:
+            break
+        if time.monotonic() > until:
+            ends["out of time"] += 1
             break
     return ends
 
 
 def judge_program(name, most, until, shim):
-    """Refuses each allocation of each call of a program; whether no run was wrong."""
-    wrong = 0
+    """Refuses each allocation of each call of a program; whether all were, and no run was wrong."""
+    failed = 0
     for group, each in calls(name).items():
         ends = sum(
             (refuse_each(name, words, most, until, shim) for words in each), collections.Counter()
         )
+        late = ends.pop("out of time", 0)
+        failed += ends["wrong"] + late
         print(
             (
                 f"  {group}: {sum(ends.values())} refusals, {ends['without memory']} ended for want"
                 f" of memory, {ends['well']} well, {ends['wrong']} wrong"
+                + (f"; FAILED: the time is over in {late} calls" if late else "")
             ),
             flush=True,
         )
-        wrong += ends["wrong"]
-    return wrong == 0
+    return failed == 0
+
+
+def judge_tests(name, words, until, shim):
+    """Refuses each allocation of each test of a crate that is asked for; how many tests were, and
+    whether all was right."""
+    program = CRATES / name / "out" / f"{name}_tests"
+    if not program.exists():
+        print(f"{name}: FAILED: its tests aren't built; `make test` builds them")
+        return 0, False
+    listed = subprocess.run([program, "--list"], check=True, capture_output=True, text=True).stdout
+    tests = [it for it in re.findall(r"^(.*): test$", listed, re.M) if words.only in it]
+    print(name, flush=True)
+    return len(tests), all([judge(program, test, words.most, until, shim) for test in tests])
 
 
 def main():
@@ -170,8 +192,7 @@ def main():
     parser.add_argument("--minutes", type=float, default=float("inf"))
     parser.add_argument("--built", action="store_true")
     words = parser.parse_args()
-    right = True
-    until = float("inf")
+    right, tried, until = True, 0, float("inf")
     with tempfile.TemporaryDirectory() as room:
         shim = pathlib.Path(room) / "refuse_memory.so"
         subprocess.run(
@@ -179,29 +200,19 @@ def main():
             check=True,
         )
         for name in words.names or with_tests():
-            if name in ("mcf", "mcfcheck"):
-                until = min(until, time.monotonic() + 60 * words.minutes)
-                right &= judge_program(name, words.most, until, shim)
-                continue
-            folder = CRATES / name
-            if not words.built:
+            is_program = name in ("mcf", "mcfcheck")
+            if not words.built and not is_program:
+                folder = CRATES / name
                 subprocess.run(["rt", "test"], cwd=folder, check=True, stdout=subprocess.DEVNULL)
-            program = folder / "out" / f"{name}_tests"
-            if not program.exists():
-                print(
-                    f"{name}: left out, since its tests aren't built; `rt test` in"
-                    f" crates/{name} builds them"
-                )
-                continue
-            listed = subprocess.run(
-                [program, "--list"], check=True, capture_output=True, text=True
-            ).stdout
-            print(name, flush=True)
             until = min(until, time.monotonic() + 60 * words.minutes)
-            for test in re.findall(r"^(.*): test$", listed, re.M):
-                if words.only in test:
-                    right &= judge(program, test, words.most, until, shim)
-    return 0 if right else 1
+            if is_program:
+                count, well = 1, judge_program(name, words.most, until, shim)
+            else:
+                count, well = judge_tests(name, words, until, shim)
+            right, tried = right and well, tried + count
+    if right and not tried:
+        print(f"FAILED: no test has {words.only} in its name")
+    return 0 if right and tried else 1
 
 
 if __name__ == "__main__":
