@@ -1,5 +1,5 @@
 # make        proves and builds the programs into bin/ and runs them on examples/
-# make test   the gate: every proof, the tests, the programs
+# make test   every proof, the tests, the programs, the tools: what a change must pass
 # make memory-test   refuses each allocation of the tests of a few worked rows in turn, with ALL=1 of every test
 # make lint   formatters and linters over Python, JavaScript, shell and C, those that are there
 # make quick  what takes seconds over what is built, and rt check of the crates that changed: under five minutes
@@ -29,7 +29,7 @@ kit:
 test: kit
 	@scripts/documents.py check
 	@grep -qF "with Rattle, $$(rt version | sed 's/.* logic /logic /')\\n" crates/mcf_suite/src/version.rt || { echo "make test: crates/mcf_suite/src/version.rt names another logic than: $$(rt version)" >&2; exit 1; }
-	rt ci
+	@scripts/build.py --all
 	@python3 scripts/refuse_memory.py --built --only six_rows --minutes 15 $(WITH_TESTS)
 	@$(MAKE) --no-print-directory tools-test
 	@scripts/page_test.sh

@@ -1,5 +1,5 @@
 #!/usr/bin/env python3
-"""Proves the crates that the programs stand on, and builds the programs into bin/.
+"""Proves the crates that the programs stand on, and builds the programs into bin/; or proves all.
 
 `rt ci` does both, on a copy of these crates in bin/proofs/ that leaves out the edits that must
 fail: so crates that don't stand on one another are proved side by side, with their tests, from
@@ -9,7 +9,11 @@ an example. What was built of libraries goes to crates/mcf_c/out/rlib/, where sc
 takes it. All that `rt ci` says is in bin/proofs.log. Where no source has changed since the last
 time, programs are run on the example and nothing else is done.
 
+With --all it proves every crate with its tests, runs the tests, and each program as two compilers
+build it; the tests are put into out/ of their crates. It does so even where no source has changed.
+
 Usage: scripts/build.py [PROGRAM ..]      mcfcheck and mcf, where none is named
+       scripts/build.py --all
 """
 import hashlib
 import os
@@ -32,14 +36,21 @@ EXAMPLE = "examples/transport"
 WORDS = {"mcfcheck": [EXAMPLE + ".min", EXAMPLE + ".ans"], "mcf": ["solve", EXAMPLE + ".min"]}
 
 
-def crates():
-    """The crates of crates.txt, each with the crates of the repository on which it stands."""
+def declared():
+    """The crates of crates.txt, each with the words behind its name and with what it stands on."""
     found = {}
     for line in (TOP / "crates.txt").read_text().splitlines():
-        name, colon, below = line.split("#")[0].partition(":")
+        names, colon, below = line.split("#")[0].partition(":")
         if colon:
-            found[name.split()[0]] = below.split()
-    return {name: [b for b in below if b in found] for name, below in found.items()}
+            name, *kinds = names.split()
+            found[name] = kinds, below.split()
+    return found
+
+
+def crates():
+    """The crates of crates.txt, each with the crates of the repository on which it stands."""
+    found = declared()
+    return {name: [b for b in below if b in found] for name, (_, below) in found.items()}
 
 
 def closure(below, names):
@@ -51,6 +62,11 @@ def closure(below, names):
             found.add(name)
             waiting += below[name]
     return found
+
+
+def is_program(name):
+    """Whether a crate is a program."""
+    return (TOP / "crates" / name / "src" / "main.rt").exists()
 
 
 def kit():
@@ -71,6 +87,23 @@ def stamp(names):
         ):
             sum_.update(str(path.relative_to(TOP)).encode() + b"\0" + path.read_bytes())
     return sum_.hexdigest()
+
+
+def stamp_file(name):
+    """Where it stands of which sources a crate was built."""
+    return BIN / f"{name}.sources"
+
+
+def is_built(name, now):
+    """Whether a crate is built of the sources that have this stamp."""
+    made = BIN / name if is_program(name) else LIBRARIES / f"{name}.rlib"
+    return made.exists() and stamp_file(name).exists() and stamp_file(name).read_text() == now
+
+
+def stale(names):
+    """The libraries that aren't built of their sources as they stand."""
+    below = crates()
+    return sorted(name for name in names if not is_built(name, stamp(closure(below, [name]))))
 
 
 class Progress:
@@ -125,9 +158,19 @@ def put(name):
         shutil.copy(made / name, BIN / f"{name}.new")
         os.replace(BIN / f"{name}.new", BIN / name)
         return run(name)
-    shutil.rmtree(LIBRARIES / f"{name}.rlib", ignore_errors=True)
-    shutil.copytree(made / "rlib" / f"{name}.rlib", LIBRARIES / f"{name}.rlib")
+    library = made / "rlib" / f"{name}.rlib"
+    if library.is_dir():
+        shutil.rmtree(LIBRARIES / f"{name}.rlib", ignore_errors=True)
+        shutil.copytree(library, LIBRARIES / f"{name}.rlib")
     return True
+
+
+def put_tests(name):
+    """Puts the tests that were built of a crate into its folder."""
+    made, folder = COPY / "crates" / name / "out" / f"{name}_tests", TOP / "crates" / name / "out"
+    if made.is_file():
+        folder.mkdir(parents=True, exist_ok=True)
+        shutil.copy(made, folder)
 
 
 def run(name):
@@ -141,10 +184,10 @@ def run(name):
     )
 
 
-def prove(names, progress):
-    """Proves crates and builds programs in the copy, and puts what is built where it belongs.
-    Answers whether all that was done."""
-    left = set(names)
+def prove(stamps, progress):
+    """Proves crates and builds programs in the copy, and puts what is built where it belongs, a
+    library with the stamp of its sources. Answers whether all that was done."""
+    left = set(stamps)
     progress.show(f"proving {len(left)} crates")
     how = {
         "cwd": COPY,
@@ -162,6 +205,11 @@ def prove(names, progress):
                 if told:
                     left.discard(told[1])
                     take(told[1], len(left), progress)
+                    if not is_program(told[1]):
+                        stamp_file(told[1]).write_text(stamps[told[1]])
+                tests = re.match(r"rt: (\w+): its tests (?:are proved|passed)$", line)
+                if tests:
+                    put_tests(tests[1])
         except BaseException:
             gate.terminate()
             raise
@@ -182,55 +230,59 @@ def take(name, left, progress):
 def renew(programs):
     """Runs programs that are built of the sources as they stand, and gives them today's time.
     Answers whether all are there and end well."""
-    if not all((BIN / name).is_file() and run(name) for name in programs):
+    if not all(run(name) for name in programs):
         return False
     for name in programs:
         os.utime(BIN / name)
     return True
 
 
-def build(programs):
-    """Proves what programs stand on, builds them and puts them into bin/. Answers whether that was
-    done."""
+def build(names, is_whole):
+    """Proves crates and what they stand on, and puts what is built where it belongs. Answers
+    whether that was done."""
     below, progress = crates(), Progress()
-    stamps = {BIN / f"{name}.sources": stamp(closure(below, [name])) for name in programs}
-    if all(path.exists() and path.read_text() == now for path, now in stamps.items()):
-        progress.show(f"running {', '.join(programs)}")
-        if renew(programs):
+    stamps = {name: stamp(closure(below, [name])) for name in closure(below, names)}
+    if not is_whole and all(is_built(name, now) for name, now in stamps.items()):
+        progress.show(f"running {', '.join(names)}")
+        if renew(names):
             progress.end()
             return True
-    for path in stamps:
-        path.unlink(missing_ok=True)
-    names = closure(below, programs)
+    for name in stamps:
+        stamp_file(name).unlink(missing_ok=True)
     try:
-        copy_crates(names)
-        done = prove(names, progress)
+        copy_crates(stamps)
+        done = prove(stamps, progress)
     finally:
         progress.end()
         shutil.rmtree(COPY, ignore_errors=True)
+    said = LOG.read_text().splitlines(keepends=True)
     if not done:
-        print("".join(LOG.read_text().splitlines(keepends=True)[-40:]), end="")
+        print("".join(said[-40:]), end="")
         print("not all is proved, or built; what rt ci said is in bin/proofs.log")
         return False
-    for path, now in stamps.items():
-        path.write_text(now)
-    if set(programs) >= WORDS.keys():
+    for name, now in stamps.items():
+        stamp_file(name).write_text(now)
+    if is_whole:
+        print(
+            "".join(line for line in said if "its tests passed" in line), said[-1], sep="", end=""
+        )
+    if set(names) >= WORDS.keys():
         (BIN / "programs.kit").write_bytes(kit())
     return True
 
 
 def main():
-    programs = sys.argv[1:] or [*WORDS]
-    lacking = [
-        name for name in programs if not (TOP / "crates" / name / "src" / "main.rt").exists()
-    ]
-    if lacking:
+    is_whole = sys.argv[1:] == ["--all"]
+    names = [*crates()] if is_whole else sys.argv[1:] or [*WORDS]
+    lacking = [name for name in names if not is_program(name)]
+    if lacking and not is_whole:
         sys.exit(f"build.py: {lacking[0]} is no program of crates/")
     for number in (signal.SIGHUP, signal.SIGINT, signal.SIGTERM):
         if signal.getsignal(number) != signal.SIG_IGN:
             signal.signal(number, lambda number, _: sys.exit(128 + number))
     BIN.mkdir(exist_ok=True)
-    sys.exit(0 if build(programs) else 1)
+    sys.exit(0 if build(names, is_whole) else 1)
 
 
-main()
+if __name__ == "__main__":
+    main()
