@@ -1,5 +1,6 @@
 # make        proves and builds the programs into bin/ and runs them on examples/
-# make test   every proof, the tests, the programs, the tools: what a change must pass
+# make test   every proof, the tests, the programs, the tools: what a change must pass; the edits aside
+# make edits  every edit that must fail, in groups, and what shows that none is taken for refused that isn't; after make
 # make memory-test   refuses each allocation of the tests of a few worked rows in turn, with ALL=1 of every test
 # make lint   formatters and linters over Python, JavaScript, shell and C, those that are there
 # make quick  what takes seconds over what is built, and rt check of the crates that changed: under five minutes
@@ -14,7 +15,7 @@
 # make page-test    clicks through that page in headless Chromium and Firefox, where these are there, by node: a minute
 # make install      puts the programs, the tools, the manual pages and the completion of the shells, and the library, its Python package and the page where they are built, under PREFIX (and DESTDIR before it); make uninstall removes just these
 
-.PHONY: all kit lint quick test memory-test clean bench tools-test library library-test dist dist-test page page-test install install-library uninstall
+.PHONY: all kit lint quick test edits memory-test clean bench tools-test library library-test dist dist-test page page-test install install-library uninstall
 .NOTPARALLEL:
 
 # The programs among the crates that crates.txt lists; the log is bin/proofs.log.
@@ -33,6 +34,11 @@ test: kit
 	@python3 scripts/refuse_memory.py --built --only six_rows --minutes 15 $(WITH_TESTS)
 	@$(MAKE) --no-print-directory tools-test
 	@scripts/page_test.sh
+
+# Stands on the libraries that make, or make test, leaves, and tries what changed since the last time.
+edits: kit
+	@scripts/edits_test.py
+	@scripts/edits.py
 
 # Each allocation refused in turn on a few worked rows, and with ALL=1 in every test: the tests are proved and built first, which takes as long as make.
 WITH_TESTS = mcf_suite_tests mcf_text_tests mcf_tests mcf_engine_tests

@@ -1,0 +1,1 @@
+"""Edits that must fail, judged in groups: what `scripts/edits.py` stands on."""
