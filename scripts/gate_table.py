@@ -1,14 +1,13 @@
 #!/usr/bin/env python3
-"""Runs the gate and puts what each crate took of it into the table of docs/GATE.md.
+"""Runs `make`, `make test` and `make edits`, and puts what they took into docs/GATE.md.
 
-    scripts/gate_table.py [WORD ..]     the words are those of `rt ci`, where the kit takes any:
-                                        names of crates, --anew
+    scripts/gate_table.py [STEP ..]     the steps named alone, as `make edits`; no table is written
 
-A crate's seconds of a processor are those of the processes that work for it, read from /proc while
-they run: proofs (of its tests too), and tries of its edits. Printed is what `rt ci` prints, each
-line behind the minutes that have passed. The table is written where a run of all crates passed;
-what an earlier run proved on this machine is kept and takes nothing, so that a table of the whole
-is one of a run from nothing. Linux alone.
+A crate's minutes of a processor for its proofs, and those of its tests, are those of the processes
+that work for it in `make test`, read from /proc while they run; those of its edits are what
+scripts/edits.py says. Printed is what the steps print, each line behind the minutes that have
+passed. What an earlier run proved or tried, and what is kept, takes nothing: so a table of the
+whole is one of a run after `make clean`, where the kit keeps nothing either. Linux alone.
 """
 import datetime
 import os
@@ -23,55 +22,44 @@ TOP = pathlib.Path(__file__).resolve().parent.parent
 PAGE = TOP / "docs" / "GATE.md"
 BEGIN, END = "<!-- table -->\n", "<!-- end of table -->\n"
 TICKS = os.sysconf("SC_CLK_TCK")
+STEPS = ("make", "make test", "make edits")
 # seconds between two looks at the processes
 PAUSE = 0.25
 
 
 def process(pid):
-    """Of a process that works for a crate: when it started, the crate, whether it tries edits, its
-    seconds; None for others."""
+    """Of a process that works for a crate: when it started, the crate, its seconds; None for
+    others."""
     try:
         words = pathlib.Path(f"/proc/{pid}/cmdline").read_bytes().decode().split("\0")
         if not words[0].endswith("/rattle") or "--crate-name" not in words:
             return None
-        folder = os.readlink(f"/proc/{pid}/cwd")
         numbers = pathlib.Path(f"/proc/{pid}/stat").read_text().rpartition(")")[2].split()
     except (OSError, UnicodeDecodeError):
         return None
     crate = words[words.index("--crate-name") + 1]
-    return (
-        numbers[19],
-        crate,
-        not folder.startswith(str(TOP)),
-        (int(numbers[11]) + int(numbers[12])) / TICKS,
-    )
+    return numbers[19], crate, (int(numbers[11]) + int(numbers[12])) / TICKS
 
 
 class Watch(threading.Thread):
-    """The seconds of each process below this one, by crate and kind."""
+    """The seconds of each process below this one, by step and crate."""
 
     def __init__(self):
         super().__init__(daemon=True)
-        self.seen = {}
+        self.step, self.seen = "", {}
 
     def run(self):
         while True:
             for pid in below(os.getpid()):
                 found = process(pid)
                 if found:
-                    start, crate, tries, seconds = found
-                    self.seen[pid, start] = crate, tries, seconds
+                    start, crate, seconds = found
+                    self.seen[pid, start] = self.step, crate, seconds
             time.sleep(PAUSE)
 
-    def minutes(self, crate, tries):
-        return (
-            sum(
-                seconds
-                for name, kind, seconds in list(self.seen.values())
-                if name == crate and kind == tries
-            )
-            / 60
-        )
+    def minutes(self, step, crate):
+        took = [it[2] for it in list(self.seen.values()) if it[:2] == (step, crate)]
+        return sum(took) / 60
 
 
 def below(top):
@@ -92,62 +80,86 @@ def below(top):
     return found
 
 
-def table(crates, proved, watch, passed):
-    """The table, and the line above it."""
-    version = subprocess.run(
-        ["rt", "version"], capture_output=True, text=True, check=True
-    ).stdout.strip()
-    used = os.times()
-    whole = (used.children_user + used.children_system) / 60
-    rows = []
-    for crate in crates:
-        edits = len(list((TOP / "crates" / crate / "edits").glob("*.edit")))
-        clock = f"{proved[crate]:.0f}" if crate in proved else "kept"
-        rows.append(
-            f"| {crate} | {clock} | {watch.minutes(crate, False):.1f} | {edits} |"
-            f" {watch.minutes(crate, True):.1f} |"
+class Step:
+    """A step that has run: what it took, and what it said of crates."""
+
+    def __init__(self, words, watch):
+        self.words, self.proved, self.tried = words, {}, {}
+        watch.step = words
+        start, used = time.monotonic(), os.times()
+        ran = subprocess.Popen(
+            words.split(), cwd=TOP, stdout=subprocess.PIPE, stderr=subprocess.STDOUT, text=True
         )
+        for line in ran.stdout:
+            minutes = (time.monotonic() - start) / 60
+            print(f"{minutes:6.1f}  {line}", end="", flush=True)
+            self.note(line, minutes)
+        self.status, now = ran.wait(), os.times()
+        self.clock = (time.monotonic() - start) / 60
+        took = now.children_user - used.children_user + now.children_system - used.children_system
+        self.processor = took / 60
+
+    def note(self, line, minutes):
+        """Notes what a line says of a crate."""
+        told = re.search(r"(\w+) is proved\b", line)
+        if told:
+            self.proved[told[1]] = minutes
+        told = re.match(r"(\w+): \d+ edits by (\d+) checks, ([\d.]+) minutes", line)
+        if told:
+            self.tried[told[1]] = told[2], told[3]
+
+    def __str__(self):
+        return (
+            f"`{self.words}` {self.clock:.0f} minutes by the clock and {self.processor:.0f} of a"
+            " processor"
+        )
+
+
+def rows(watch, test, edits):
+    """The rows of the table."""
+    for line in (TOP / "crates.txt").read_text().splitlines():
+        crate = (line.split(":")[0].split() or [""])[0]
+        if not crate:
+            continue
+        count = len(list((TOP / "crates" / crate / "edits").glob("*.edit")))
+        clock = f"{test.proved[crate]:.0f}" if crate in test.proved else "kept"
+        groups, tries = edits.tried.get(crate, ("kept", "0.0") if count else ("0", "0.0"))
+        yield (
+            f"| {crate} | {clock} | {watch.minutes(test.words, crate):.1f} | {count} | {groups} |"
+            f" {tries} |"
+        )
+
+
+def table(watch, steps):
+    """The table, and the lines above it."""
+    version = subprocess.run(["rt", "version"], capture_output=True, text=True, check=True).stdout
+    _, test, edits = steps
     return "\n".join(
         [
-            (
-                f"Measured on {datetime.date.today()} by `scripts/gate_table.py`,"
-                f" {len(os.sched_getaffinity(0))} processors, {version}:"
-            ),
-            f"{passed:.0f} minutes by the clock, {whole:.0f} of a processor.",
+            f"Measured on {datetime.date.today()} by `scripts/gate_table.py`,"
+            f" {len(os.sched_getaffinity(0))} processors, {version.strip()}:",
+            ";\n".join(map(str, steps)) + ".",
             "",
-            (
-                "| Crate | proved at minute | its proofs, minutes of a processor | edits | their"
-                " tries |"
-            ),
-            "|---|---|---|---|---|",
-            *rows,
+            "| Crate | proved at minute of `make test` | its proofs, minutes of a processor | edits"
+            " | groups | their tries, minutes of a processor |",
+            "|---|---|---|---|---|---|",
+            *rows(watch, test, edits),
             "",
         ]
     )
 
 
 def main(words):
-    crates = [
-        line.split(":")[0].split()[0]
-        for line in (TOP / "crates.txt").read_text().splitlines()
-        if line.strip()
-    ]
-    watch, proved, start = Watch(), {}, time.monotonic()
+    watch, steps = Watch(), []
     watch.start()
-    gate = subprocess.Popen(
-        ["rt", "ci", *words], cwd=TOP, stdout=subprocess.PIPE, stderr=subprocess.STDOUT, text=True
-    )
-    for line in gate.stdout:
-        minutes = (time.monotonic() - start) / 60
-        print(f"{minutes:6.1f}  {line}", end="", flush=True)
-        told = re.match(r"rt: (\w+) proved$", line)
-        if told:
-            proved[told[1]] = minutes
-    if gate.wait() or set(words) & set(crates):
-        return gate.returncode
-    head, _, rest = PAGE.read_text().partition(BEGIN)
-    made = table(crates, proved, watch, (time.monotonic() - start) / 60)
-    PAGE.write_text(head + BEGIN + made + END + rest.partition(END)[2])
+    for step in words or STEPS:
+        steps.append(Step(step, watch))
+        print(steps[-1], flush=True)
+        if steps[-1].status:
+            return steps[-1].status
+    if not words:
+        head, _, rest = PAGE.read_text().partition(BEGIN)
+        PAGE.write_text(head + BEGIN + table(watch, steps) + END + rest.partition(END)[2])
     return 0
 
 
