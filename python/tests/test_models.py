@@ -115,13 +115,7 @@ class Case:
                 bounds.append(
                     f"0 <= lack{number} <= {-supply if self.policy in ('short', 'both') else 0}"
                 )
-        goal = " + ".join(f"{cost} {name}" for cost, name in costs) or "0 x"
-        numbered = "\n".join(f" r{number}: {row}" for number, row in enumerate(rows))
-        return (
-            f"Minimize\n obj: {goal}\nSubject To\n{numbered}\nBounds\n"
-            + "\n".join(f" {bound}" for bound in bounds)
-            + "\nEnd\n"
-        )
+        return program_text(costs, rows, bounds)
 
     def balance(self, number, supply, outs, ins, costs):
         """What goes out of a place is what comes in and what is sent there, less what is taken and
@@ -140,6 +134,17 @@ class Case:
             if self.policy in ("short", "both")
             else []
         )
+
+
+def program_text(costs, rows, bounds):
+    """The text of a linear program."""
+    goal = " + ".join(f"{cost} {name}" for cost, name in costs) or "0 x"
+    numbered = "\n".join(f" r{number}: {row}" for number, row in enumerate(rows))
+    return (
+        f"Minimize\n obj: {goal}\nSubject To\n{numbered}\nBounds\n"
+        + "\n".join(f" {bound}" for bound in bounds)
+        + "\nEnd\n"
+    )
 
 
 def sum_of(added, taken):

@@ -96,5 +96,5 @@ class Programs(WithFolder):
 
     def test_the_module_and_the_page_choose_by_the_same_size(self):
         for path in ("python/mcf/_solving.py", "page/module.js"):
-            exponents = re.findall(r"LARGE = 2 \*\* (\d+)", (solve.TOP / path).read_text())
+            exponents = re.findall(r"LARGE = 2 ?\*\* ?(\d+)", (solve.TOP / path).read_text())
             self.assertEqual([2 ** int(exponent) for exponent in exponents], [solve.LARGE], path)
