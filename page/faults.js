@@ -51,9 +51,9 @@ function told({ text, count, more }) {
 }
 
 // Some texts with commas between them, and how many more there are.
-export function listed(texts) {
-  const more = texts.length - TOLD_NAMES;
-  return texts.slice(0, TOLD_NAMES).join(', ') + (more > 0 ? ` and ${more} more` : '');
+export function listed(texts, most = TOLD_NAMES) {
+  const more = texts.length - most;
+  return texts.slice(0, most).join(', ') + (more > 0 ? ` and ${more} more` : '');
 }
 
 export const countOf = (number, one, many) => `${number} ${number === 1 ? one : many}`;

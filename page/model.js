@@ -1,11 +1,14 @@
 // Places and routes, as tables have them, in whole numbers.
 import { NO_LIMIT, Numbers, Said, Units, ZERO, compare, coordinateIn, decimalsOf, scaled } from './amounts.js';
 import { Faults, at, shown } from './faults.js';
+import { Heads, carriedLines } from './heads.js';
 import { nearTo } from './near.js';
 import { Table, cellAt, checkHeads, fold, keyOf, nameIn, once } from './tables.js';
 
 export const PLACE_HEADS = ['name', 'supply'], ROUTE_HEADS = ['from', 'to', 'most', 'cost'];
 const SPOT_HEADS = ['x', 'y'], BOUND_HEADS = ['least', 'most', 'cost'];
+const PLACES = new Heads([...PLACE_HEADS, ...SPOT_HEADS, ...BOUND_HEADS], { together: SPOT_HEADS });
+const ROUTES = new Heads([...ROUTE_HEADS, 'least', 'both'], { hasSteps: true });
 const YES = ['yes', 'y', 'x', '1', 'true', 'ja', 'j'], NO = ['', 'no', 'n', '0', 'false', 'nein'];
 
 // The places and the routes of two tables: { name, text } or { name, bytes }. A reading may say the mark before decimals, the encoding
@@ -46,6 +49,9 @@ export class Problem {
     for (const route of this.routes) route.most = mostOf(route);
   }
 
+  // Lines on how the tables were read.
+  told() { return [...carriedLines([...PLACES.carried(this.placeTable), ...ROUTES.carried(this.routeTable)]), ...this.numbers.told()]; }
+
   // What no route without a limit carries beyond its least, in some plan that costs least where no cost is below 0: beyond the leasts such
   // a plan has no round trip.
   reach() {
@@ -79,6 +85,10 @@ function checkBoth([placeTable, routeTable], faults) {
     PLACE_HEADS, faults, exchanged ? 'this looks like the table of routes, which comes second; of places wanted are' : 'wanted are'
   );
   routeTable.need(ROUTE_HEADS, faults);
+  if (!exchanged) {
+    PLACES.check(placeTable, faults);
+    ROUTES.check(routeTable, faults);
+  }
   if (!placeTable.has(PLACE_HEADS) || !routeTable.has(ROUTE_HEADS)) faults.end();
 }
 

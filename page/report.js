@@ -1,12 +1,8 @@
 // What is said of a flow, and its tables: as mcf_plan says and writes them.
 import { MISSING, STAYS, THROUGH } from './flownet.js';
 import { TOLD_NAMES, countOf, listed } from './faults.js';
+import { FLOW_RESULTS, PLACE_RESULTS, THROUGH_RESULTS } from './heads.js';
 import { SEPARATORS, cellAt } from './tables.js';
-
-// The heads of results, in groups.
-const FLOW_RESULTS = ['carries', 'total', 'free', 'one_more_saves', 'exact'];
-const PLACE_RESULTS = ['one_more_costs', 'group'];
-const THROUGH_RESULTS = ['passes', 'passing_costs', 'free', 'one_more_saves', 'exact'];
 
 // A table of another's columns, and of groups of results after them; the last columns are figures.
 function after(name, like, results, rows) {

@@ -1,9 +1,11 @@
 // Persons, things and the pairs of them that may be, as tables have them: a list with the columns who, what and cost, or a matrix.
 import { Numbers, Said, Units, decimalsOf, scaled } from './amounts.js';
 import { Faults, at, shown } from './faults.js';
+import { Heads, carriedLines } from './heads.js';
 import { Table, cellAt, checkHeads, fold, keyOf, nameIn, once } from './tables.js';
 
 export const PAIR_HEADS = ['who', 'what', 'cost'];
+const PAIRS = new Heads([...PAIR_HEADS, 'takes', 'needs']);
 // What stands in place of a cost where a pair is forbidden.
 const FORBIDDEN = ['', 'x', '-', '–', '—'];
 const RANGE = /^([0-9]{1,18})(?:\s*(?:-|–|\.\.|to|bis)\s*([0-9]{1,18}))?$/;
@@ -67,8 +69,12 @@ export class Roster {
     this.needs = this.things.names.map((_, k) => this.things.rangeOf(k + 1, side !== 'who'));
   }
 
+  // Lines on how the table was read. All columns of a matrix are used.
+  told() { return [...(this.isList ? carriedLines(PAIRS.carried(this.table)) : []), ...this.numbers.told()]; }
+
   listed(faults) {
     const { table } = this;
+    PAIRS.check(table, faults);
     const columns = table.columns(PAIR_HEADS);
     const takes = table.perhaps('takes');
     const needs = table.perhaps('needs');

@@ -36,7 +36,7 @@ export function planShown(plan) {
     lead: [
       'No plan for these tables costs less.',
       ...flowSummary(plan).slice(2).filter((line) => /stay|missing|Passing/.test(line)),
-      ...problem.numbers.told()
+      ...problem.told()
     ],
     facts,
     findings: [],
@@ -160,7 +160,7 @@ export function blockedShown(blocked) {
     isPlan: false,
     headline: ['No plan exists: ', headline],
     mark: problem.said.mark,
-    lead: ['Whatever way amounts go, these places must send or take more than the routes around them carry.', ...problem.numbers.told()],
+    lead: ['Whatever way amounts go, these places must send or take more than the routes around them carry.', ...problem.told()],
     facts: [],
     findings,
     scene: () => blockedScene(blocked),
@@ -253,7 +253,7 @@ export function pairsShown(roster, chosen, cost) {
     isPlan: true,
     headline: [word, units.total(cost)],
     mark: roster.said.mark,
-    lead: [...pairsSummary(roster, chosen, cost).slice(2), ...roster.numbers.told()],
+    lead: [...pairsSummary(roster, chosen, cost).slice(2), ...roster.told()],
     facts: [[persons.names.length, 'persons'], [things.names.length, 'things'], [chosen.length, 'pairs']],
     findings: [],
     scene: null,
@@ -279,7 +279,7 @@ export function pairsBlocked(net, bottlenecks) {
     isPlan: false,
     headline: ['No such pairs exist', ''],
     mark: net.roster.said.mark,
-    lead: [...lines.slice(1 + found.length), ...net.roster.numbers.told()],
+    lead: [...lines.slice(1 + found.length), ...net.roster.told()],
     facts: [],
     findings,
     scene: null,

@@ -34,7 +34,7 @@ async function flow(solver, sources, { reading, policy }) {
   if (plan) {
     const found = new FlowPlan(net, plan);
     return {
-      said: [...flowSummary(found), ...problem.numbers.told()],
+      said: [...flowSummary(found), ...problem.told()],
       status: 0,
       mark: problem.numbers.mark,
       tables: [flowsTable(found), pricesTable(found)],
@@ -42,7 +42,7 @@ async function flow(solver, sources, { reading, policy }) {
   }
   const blocked = await blockedOf(solver, text, net);
   return {
-    said: [...blockedSummary(blocked), ...problem.numbers.told()],
+    said: [...blockedSummary(blocked), ...problem.told()],
     status: 1,
     mark: problem.numbers.mark,
     tables: [bottleneckTable(blocked.eased, allBottlenecks(blocked))],
@@ -58,11 +58,11 @@ async function roster(solver, source, { reading, each, maximise }) {
   if (plan) {
     const chosen = chosenOf(read, plan);
     return {
-      said: [...pairsSummary(read, chosen, plan.cost), ...read.numbers.told()], status: 0, mark, tables: [pairsTable(read, chosen)],
+      said: [...pairsSummary(read, chosen, plan.cost), ...read.told()], status: 0, mark, tables: [pairsTable(read, chosen)],
     };
   }
   const found = await bottlenecksOf(solver, text, net, net.hub, (one) => net.whole(one));
-  return { said: [...rivalsLines(net, found), ...read.numbers.told()], status: 1, mark, tables: [rivalsTable(net, found)] };
+  return { said: [...rivalsLines(net, found), ...read.told()], status: 1, mark, tables: [rivalsTable(net, found)] };
 }
 
 // What words of mcf_plan's command line ask of the page: the files that they name, how these are read, and choices.

@@ -4,10 +4,12 @@ Nothing here decides anything. Tables become an instance in whole numbers, `mcf`
 `mcfcheck` judges the answer for that very instance, and what was accepted becomes tables, a picture
 and a page.
 
-What is asked      cli, commands; faults end a run, life says what is being done Reading
-tables, workbook, amounts What is planned    model (places and routes), roster (persons and things)
+What is asked      cli, commands; faults end a run, life says what is being done
+Reading            tables, workbook, heads, amounts
+What is planned    model (places and routes), roster (persons and things)
 As a network       network, flownet, pairs; an Instance of solve knows where its lines come from
-Answers            solve (both programs), blocked (why there is no plan) Writing            folder,
-results, report, picture with layout, page with flowpage and pairspage, record Two plans
-diff
+Answers            solve (both programs), blocked (why there is no plan)
+Writing            folder, results, report, picture with layout, page with flowpage and pairspage,
+                   record
+Two plans          diff
 """

@@ -38,7 +38,7 @@ def flow_command(options, reading):
             if answer
             else blocked_results(Blocked(programs, folder, net), results, options)
         )
-    return lines + problem.numbers.told(), 0 if answer else 1
+    return lines + problem.told(), 0 if answer else 1
 
 
 def plan_results(plan, results, options):
@@ -123,4 +123,4 @@ def pairs_command(options, reading):
             cost,
             [(*map(net.name, (pair.who, net.persons + pair.what)), "1") for pair in chosen],
         )
-    return lines + roster.numbers.told(), 0 if plan else 1
+    return lines + roster.told(), 0 if plan else 1

@@ -1,6 +1,7 @@
 """The page of a flow."""
 from . import report
 from .amounts import Figure
+from .heads import RESULTS
 from .page import Page, Share, Sheet, finding, grouped, listed_rows
 from .tables import cell_at
 from .words import listed
@@ -36,8 +37,7 @@ USED = ("from", "to", "least", "most", "cost", "name", "supply", "x", "y")
 
 def own_columns(table):
     """The columns of a table that are the planner's own."""
-    kept = table.kept(report.FLOW_RESULTS, report.PLACE_RESULTS, report.THROUGH_RESULTS)
-    return [place for place in kept if table.heads[place] not in USED]
+    return [place for place in table.kept(*RESULTS) if table.heads[place] not in USED]
 
 
 def plan_page(plan, options, picture):
@@ -63,7 +63,7 @@ def plan_page(plan, options, picture):
         for is_supply, words in ((True, "stay"), (False, "are missing"))
         if plan.unmet(is_supply)
     ]
-    lead = ["No plan for these tables costs less."] + report.unmet_lines(plan)
+    lead = ["No plan for these tables costs less."] + report.unmet_lines(plan) + problem.told()
     return Page(
         options.title or "A least-cost plan",
         f"Least cost: {told(total, problem.numbers.mark, options.currency)}",
@@ -205,7 +205,7 @@ def blocked_page(blocked, options, picture):
     lead = [
         "Whatever way amounts go, these places must send or take more than the routes around them"
         " carry."
-    ]
+    ] + problem.told()
     return Page(
         options.title or "No plan exists",
         headline,

@@ -4,6 +4,7 @@ import difflib
 
 from .amounts import NO_LIMIT, Numbers, Said, Units, coordinate_in, scale_of
 from .faults import At, Faults, shown
+from .heads import Heads, carried_lines
 from .tables import cell_at, key_of, name_in, once
 from .workbook import tables_of
 
@@ -11,6 +12,8 @@ PLACE_HEADS = ("name", "supply")
 ROUTE_HEADS = ("from", "to", "most", "cost")
 SPOT_HEADS = ("x", "y")
 BOUND_HEADS = ("least", "most", "cost")
+PLACES = Heads((*PLACE_HEADS, *SPOT_HEADS, *BOUND_HEADS), together=SPOT_HEADS)
+ROUTES = Heads((*ROUTE_HEADS, "least", "both"), has_steps=True)
 YES, NO = ("yes", "y", "x", "1", "true", "ja", "j"), ("", "no", "n", "0", "false", "nein")
 
 # A place: what passes through it, which comes in or is sent there, has bounds and a cost of its own
@@ -100,6 +103,11 @@ class Problem:
         faults.end()
         return cls(tables, places, routes, numbers, numbers.penalty(penalty) if penalty else None)
 
+    def told(self):
+        """Lines on how the tables were read."""
+        carried = PLACES.carried(self.place_table) + ROUTES.carried(self.route_table)
+        return carried_lines(carried) + self.numbers.told()
+
     def whole(self, amount):
         """An amount in whole numbers."""
         return None if amount is None else int(amount * self.units.amounts)
@@ -152,6 +160,9 @@ def check_heads(place_table, route_table, faults):
         ),
     )
     route_table.need(ROUTE_HEADS, faults)
+    if not exchanged:
+        PLACES.check(place_table, faults)
+        ROUTES.check(route_table, faults)
     if not place_table.has(PLACE_HEADS) or not route_table.has(ROUTE_HEADS):
         faults.end()
 

@@ -28,7 +28,8 @@ def plan_page(roster, chosen, cost, lines, options):
     total = ["", "", roster.units.total(cost)]
     lead = [
         f"No other choice of pairs {'is worth more' if roster.units.sign < 0 else 'costs less'}."
-    ] + lines[2:]
+    ]
+    lead += lines[2:] + roster.told()
     headline = f"{word}: {told(roster.units.total(cost), roster.numbers.mark, options.currency)}"
     return Page(
         options.title or "A plan of pairs",
@@ -59,7 +60,7 @@ def blocked_page(net, bottlenecks, options):
         options.title or "No such pairs exist",
         f"No such pairs exist: {short}",
         False,
-        pairs.each_hint(net.roster),
+        pairs.each_hint(net.roster) + net.roster.told(),
         [],
         findings,
         None,

@@ -1,12 +1,8 @@
 """What is written and said of a flow: tables, and a summary."""
 from .amounts import Figure
 from .flownet import MISSING, STAYS, THROUGH
+from .heads import FLOW_RESULTS, PLACE_RESULTS, THROUGH_RESULTS
 from .words import TOLD_NAMES, count_of, listed
-
-# The heads of results, in groups.
-FLOW_RESULTS = ("carries", "total", "free", "one_more_saves", "exact")
-PLACE_RESULTS = ("one_more_costs", "group")
-THROUGH_RESULTS = ("passes", "passing_costs", "free", "one_more_saves", "exact")
 
 
 def write_flows(results, plan):

@@ -4,10 +4,12 @@ import re
 
 from .amounts import Numbers, Said, Units, scale_of
 from .faults import At, Faults, shown
+from .heads import Heads, carried_lines
 from .tables import cell_at, key_of, name_in, once
 from .workbook import tables_of
 
 PAIR_HEADS = ("who", "what", "cost")
+PAIRS = Heads((*PAIR_HEADS, "takes", "needs"))
 # What stands in place of a cost where a pair is forbidden.
 FORBIDDEN = ("", "x", "-", "–", "—")
 RANGE = re.compile(r"([0-9]{1,18})(?:\s*(?:-|–|\.\.|to|bis)\s*([0-9]{1,18}))?")
@@ -95,9 +97,15 @@ class Roster:
             for number in range(len(self.things.names))
         ]
 
+    def told(self):
+        """Lines on how the table was read. All columns of a matrix are used."""
+        carried = PAIRS.carried(self.table) if self.is_list else []
+        return carried_lines(carried) + self.numbers.told()
+
     def listed(self, faults):
         """The pairs of a table with the columns who, what and cost, perhaps takes and needs."""
         table, pairs, seen = self.table, [], {}
+        PAIRS.check(table, faults)
         columns, takes, needs = (
             table.columns(PAIR_HEADS),
             table.perhaps("takes"),

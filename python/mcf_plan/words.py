@@ -4,10 +4,10 @@
 TOLD_NAMES = 8
 
 
-def listed(texts):
+def listed(texts, most=TOLD_NAMES):
     """Some texts with commas between them, and how many more there are."""
-    more = len(texts) - TOLD_NAMES
-    return ", ".join(texts[:TOLD_NAMES]) + (f" and {more} more" if more > 0 else "")
+    more = len(texts) - most
+    return ", ".join(texts[:most]) + (f" and {more} more" if more > 0 else "")
 
 
 def count_of(number, one, many):

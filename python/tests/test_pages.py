@@ -110,6 +110,16 @@ class Pages(WithFolder):
         self.assertIn("<h1>Least cost: 15\u202f625</h1>", self.page())
         self.assertIn('<td class="number" data-value="1.25">1,25</td>', self.page())
 
+    def test_columns_that_are_carried_along_are_named(self):
+        line = "<p>Columns carried along, not used: carrier, min lot.</p>"
+        routes = ROUTES.replace("cost\n", "cost,carrier,min lot\n")
+        self.flow(PLACES, routes)
+        self.assertIn(line, self.page())
+        self.flow(PLACES.replace("30", "99"), routes)
+        self.assertIn(line, self.page())
+        self.pairs("who,what,cost,skill\nA,X,1,high\n")
+        self.assertIn("<p>Columns carried along, not used: skill.</p>", self.page())
+
     def test_what_blocks(self):
         self.flow("name,supply\nA,5\nB,-5\n", "from,to,most,cost\nA,B,4,1\n")
         text = self.page()
