@@ -372,14 +372,33 @@ export function changesShown(before, plan) {
     const [a, b] = [was.get(key), now.get(key)], texts = [a ? old.amount(a.carries) : '', b ? units.amount(b.carries) : ''];
     if (texts[0] !== texts[1]) rows.push({ kind: '', cells: [...(b || a).ends, ...texts] });
   }
+  const [delivered, deliversNow] = [deliveredBy(before), deliveredBy(plan)];
   const [cost, other] = [before.problem.said.total(before.cost), plan.problem.said.total(plan.cost)];
   const sheets = rows.length ? [
     sheetOf('Routes that carry something else than before', [column('from'), column('to'), number('before'), number('now')], rows)
   ] : [];
   return {
-    text: `Cost before ${cost}, now ${other}; ${rows.length === 1 ? '1 route carries' : `${rows.length} routes carry`} something else.`,
+    text: `${deliverySentence(delivered, deliversNow)}Cost before ${cost}, now ${other}; ${rows.length === 1 ? '1 route carries' : `${rows.length} routes carry`} something else.`,
     sheets,
   };
+}
+
+// What a plan delivers in all, as it is said, and by places.
+function deliveredBy({ problem, places }) {
+  const found = new Map();
+  problem.places.forEach(({ name, supply }, k) => { if (supply < 0n) found.set(name, -supply - places[k].unmet); });
+  return {
+    all: problem.said.amount([...found.values()].reduce((sum, amount) => sum + amount, 0n)),
+    byPlace: JSON.stringify([...found].map(([name, amount]) => [name, problem.units.amount(amount)]).sort()),
+  };
+}
+
+// Costs of plans that don't deliver the same aren't of one task.
+function deliverySentence(before, now) {
+  if (before.byPlace === now.byPlace) return '';
+  const told = before.all === now.all ? `Both deliver ${now.all} in all, but not the same at each place`
+    : `The plan before delivers ${before.all} in all, this one ${now.all}`;
+  return `${told}: mind that where you compare what they cost. `;
 }
 
 function carriedBy(plan) {

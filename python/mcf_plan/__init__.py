@@ -11,5 +11,5 @@ As a network       network, flownet, pairs; an Instance of solve knows where its
 Answers            solve (both programs), blocked (why there is no plan)
 Writing            folder, results, report, picture with layout, page with flowpage and pairspage,
                    record
-Two plans          diff
+Two plans          diff; accepted is what mcfcheck accepted again of each
 """

@@ -55,7 +55,8 @@ def plan_results(plan, results, options):
         (*problem.ends(route), problem.units.amount(result.carries))
         for route, result in zip(problem.routes, plan.routes)
     ]
-    write_record(folder, "flow", lines, problem.units.total(plan.cost), parts)
+    cost, mark = problem.units.total(plan.cost), problem.numbers.mark
+    write_record(folder, "flow", plan.net, mark, cost, parts)
     return lines
 
 
@@ -68,7 +69,7 @@ def blocked_results(blocked, results, options):
         blocked, options, drawn_in(folder, picture.blocked_scene(blocked), options)
     )
     write_page(folder, "instance.min", page, blocked.net.problem.numbers)
-    write_record(folder, "flow", lines)
+    write_record(folder, "flow", blocked.net, blocked.net.problem.numbers.mark)
     return lines
 
 
@@ -119,7 +120,8 @@ def pairs_command(options, reading):
         write_record(
             folder,
             "pairs",
-            lines,
+            net,
+            roster.numbers.mark,
             cost,
             [(*map(net.name, (pair.who, net.persons + pair.what)), "1") for pair in chosen],
         )

@@ -1,54 +1,23 @@
 """Two plans compared: `mcf_plan diff OLD NEW`."""
 import collections
-import json
-import pathlib
-from fractions import Fraction
 
-from .faults import bad_table, trouble
-from .page import sha256_of
-from .record import FORMAT
+from .accepted import Accepted, number_text
+from .faults import bad_table
 from .solve import Programs
+from .words import TOLD_NAMES, listed
 
 # How many lines are told of a kind, unless all are asked for.
 TOLD = 20
 
 
-def read_record(name, programs):
-    """What a folder says of itself, if that is still what was accepted."""
-    folder = pathlib.Path(name)
-    try:
-        record = json.loads((folder / "plan.json").read_text(encoding="utf-8"))
-        if record["format"] != FORMAT:
-            raise bad_table(f"{name}: its plan.json is of another version of this tool")
-        same = [
-            sha256_of(folder / record["instance"]) == record["instance_sha256"],
-            sha256_of(folder / "answer.ans") == record["answer_sha256"],
-        ]
-    except OSError as error:
-        raise bad_table(f"{name}: this is no folder of a plan: {error.filename}: {error.strerror}")
-    except (ValueError, KeyError, TypeError):
-        raise bad_table(f"{name}: its plan.json can't be read")
-    if not all(same):
-        raise trouble(
-            f"{name}: its instance or its answer isn't what it was when the plan was made"
-        )
-    programs.verdict(folder / record["instance"], folder / "answer.ans")
-    return record
-
-
-def parts_of(record):
-    """The amounts of a record by their names; names that come again are numbered."""
+def by_name(parts):
+    """Amounts by their names; names that come again are numbered."""
     seen, found = collections.Counter(), {}
-    for *names, amount in record["parts"]:
+    for *names, amount in parts:
         key = tuple(names)
         seen[key] += 1
-        found[key + (seen[key],)] = Fraction(amount)
+        found[key + (seen[key],)] = amount
     return found
-
-
-def number_text(value):
-    """An exact number as text."""
-    return str(value.numerator) if value.denominator == 1 else str(float(value))
 
 
 def name_text(key):
@@ -57,56 +26,92 @@ def name_text(key):
     return " -> ".join(names) + (f" ({count})" if count > 1 else "")
 
 
-def changes(old, new, show_all):
-    """Lines on the parts that differ: the greatest changes first."""
-    lines, before, after = [], parts_of(old), parts_of(new)
-    differing = [key for key in {**before, **after} if before.get(key, 0) != after.get(key, 0)]
-    differing.sort(key=lambda key: (-abs(after.get(key, 0) - before.get(key, 0)), key))
-    lines.append(
-        f"{len(differing)} of {len({**before, **after})} differ" + (":" if differing else ".")
-    )
-    for key in differing if show_all else differing[:TOLD]:
-        was, now = before.get(key), after.get(key)
-        difference = (now or 0) - (was or 0)
-        words = ["not there" if value is None else number_text(value) for value in (was, now)]
+class Comparison:
+    """Two plans, in the numbers of the new one's tables."""
+
+    def __init__(self, old, new, show_all):
+        self.plans, self.show_all = {"old": old, "new": new}, show_all
+        self.mark = new.record["mark"] or old.record["mark"]
+
+    def text(self, value):
+        """A number."""
+        return number_text(value, self.mark)
+
+    def lines(self):
+        """All that is told."""
+        old, new = self.plans.values()
+        lines = [line for word, plan in self.plans.items() for line in self.plan_lines(word, plan)]
+        if None in (old.cost, new.cost):
+            return lines
+        lines += self.delivery(old.delivered(), new.delivered())
+        difference = new.cost - old.cost
+        verb = "rises" if difference > 0 else "falls"
         lines.append(
-            f"  {name_text(key)}: {words[0]}, now"
-            f" {words[1]} ({'+' if difference > 0 else ''}{number_text(difference)})"
+            f"The cost {verb} by {self.text(abs(difference))}." if difference else "The cost stays."
         )
-    if len(differing) > TOLD and not show_all:
-        lines.append(f"  and {len(differing) - TOLD} more (--all tells them)")
-    return lines
+        return lines + self.changes(old.parts, new.parts)
+
+    def delivery(self, before, after):
+        """Lines where the plans don't deliver the same: costs of such plans aren't of one task."""
+        if before == after:
+            return []
+        was, now = (self.text(sum(amounts.values())) for amounts in (before, after))
+        told = (
+            f"Both deliver {was} in all, but not the same at each place"
+            if was == now
+            else f"The old plan delivers {was} in all, the new one {now}"
+        )
+        lines = self.changes([*before.items()], [*after.items()])
+        return [f"{told}: mind that where you compare what they cost.", "By place " + lines[0]] + (
+            lines[1:]
+        )
+
+    def plan_lines(self, word, plan):
+        """What a plan costs, what stays and what is missing; or why there is none."""
+        if plan.cost is None:
+            return [f"{word}: no plan exists, as mcfcheck accepted again: {plan.why_not()}."]
+        lines = [f"{word}: cost {self.text(plan.cost)} (accepted again by mcfcheck)"]
+        for is_supply, words, none in (
+            (True, "stay at", "Nothing stays."),
+            (False, "are missing at", "Nothing is missing."),
+        ):
+            if any(other.unmet(is_supply) for other in self.plans.values()):
+                found = plan.unmet(is_supply)
+                where = [f"{name} {self.text(amount)}" for name, amount in found.items()]
+                total = self.text(sum(found.values()))
+                where = listed(where, len(where) if self.show_all else TOLD_NAMES)
+                if not is_supply and plan.record["penalty"]:
+                    where += f", which costs {self.text(plan.penalty_cost())} of that"
+                lines.append(f"  {total} {words}: {where}." if found else f"  {none}")
+        return lines
+
+    def changes(self, old, new):
+        """Lines on the parts that differ: the greatest changes first."""
+        before, after = by_name(old), by_name(new)
+        keys = {**before, **after}
+        differing = [key for key in keys if before.get(key, 0) != after.get(key, 0)]
+        differing.sort(key=lambda key: (-abs(after.get(key, 0) - before.get(key, 0)), key))
+        lines = [f"{len(differing)} of {len(keys)} differ" + (":" if differing else ".")]
+        for key in differing if self.show_all else differing[:TOLD]:
+            was, now = before.get(key), after.get(key)
+            difference = (now or 0) - (was or 0)
+            words = ["not there" if value is None else self.text(value) for value in (was, now)]
+            sign = "+" if difference > 0 else ""
+            lines.append(
+                f"  {name_text(key)}: {words[0]}, now {words[1]} ({sign}{self.text(difference)})"
+            )
+        if len(differing) > TOLD and not self.show_all:
+            lines.append(f"  and {len(differing) - TOLD} more (--all tells them)")
+        return lines
 
 
 def diff_command(options, _):
     """Does `diff`: gives the lines and the status, which is 0 whether the plans differ or not."""
     programs = Programs(options.programs)
-    old, new = (read_record(name, programs) for name in (options.old, options.new))
-    if old["kind"] != new["kind"]:
+    old, new = (Accepted(name, programs) for name in (options.old, options.new))
+    if old.record["kind"] != new.record["kind"]:
         raise bad_table(
-            f"{options.old} is a plan of {old['kind']}, {options.new} one of {new['kind']}"
+            f"{options.old} is a plan of {old.record['kind']}, {options.new} one of"
+            f" {new.record['kind']}"
         )
-    lines = [
-        f"{word}:"
-        f" {record['said'][0] if record['cost'] is None else 'cost ' + record['cost']} (accepted"
-        " again by mcfcheck)"
-        for word, record in (("old", old), ("new", new))
-    ]
-    if None in (old["cost"], new["cost"]):
-        return (
-            lines
-            + [
-                line
-                for record in (old, new)
-                if record["cost"] is None
-                for line in record["said"][1:]
-            ],
-            0,
-        )
-    difference = Fraction(new["cost"]) - Fraction(old["cost"])
-    lines.append(
-        "The cost stays."
-        if not difference
-        else f"The cost {'rises' if difference > 0 else 'falls'} by {number_text(abs(difference))}."
-    )
-    return lines + changes(old, new, options.all), 0
+    return Comparison(old, new, options.all).lines(), 0

@@ -145,6 +145,21 @@ class FlowNet(Network):
             {"bound": "supply", "cost": "supply", "total": "supply"},
         )
 
+    def labels(self):
+        """What nodes and arcs are, for the record: of the arcs after the routes' first ones the
+        number of their route, below 0 for its other way, and 0 for those of no route."""
+        names = [self.problem.places[number].name for number in self.place_of]
+        routes = len(self.problem.routes)
+        return {
+            "names": names + [None] * bool(self.hub),
+            "routes": routes,
+            "more": [
+                use.sign * (use.number + 1) if use.kind == "route" else 0
+                for use in self.uses[routes:]
+            ],
+            "penalty": self.policy.penalty is not None,
+        }
+
     def node_name(self, node):
         """What a node is called."""
         return self.problem.places[self.place_of[node - 1]].name

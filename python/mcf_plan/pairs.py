@@ -62,6 +62,16 @@ class RosterNet(Network):
             made.add(self.lines(), size + [None] * len(self.supplies) + arcs + ranges)
         return made
 
+    def labels(self):
+        """What nodes and arcs are, for the record: only the pairs are told."""
+        hubs = 0 if self.is_assignment else 1
+        return {
+            "names": self.roster.persons.names + self.roster.things.names + [None] * hubs,
+            "routes": len(self.roster.pairs),
+            "more": [0] * (hubs * (self.hub - 1)),
+            "penalty": False,
+        }
+
     def name(self, node):
         """The name of a node."""
         return (

@@ -106,20 +106,21 @@ def example_folders():
     return sorted(path for path in PLANS.iterdir() if path.is_dir())
 
 
+def call_of(folder):
+    """The words of the call of an example, which is made in its folder."""
+    if (folder / "call.txt").exists():
+        return (folder / "call.txt").read_text(encoding="utf-8").split()
+    if (folder / "places.csv").exists():
+        return ["flow", "places.csv", "routes.csv"]
+    return ["pairs", "costs.csv"]
+
+
 def results_of(folder, out):
     """What the tool writes and says on an example."""
-    if (folder / "call.txt").exists():
-        words = (folder / "call.txt").read_text(encoding="utf-8").split()
-    else:
-        words = (
-            ["flow", "places.csv", "routes.csv"]
-            if (folder / "places.csv").exists()
-            else ["pairs", "costs.csv"]
-        )
     here = os.getcwd()
     os.chdir(folder)
     try:
-        status, said, told = run(*words, "-o", out)
+        status, said, told = run(*call_of(folder), "-o", out)
     finally:
         os.chdir(here)
     results = {"said.txt": f"{said}{told}status {status}\n"}

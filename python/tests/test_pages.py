@@ -1,4 +1,4 @@
-"""The page of a plan, in Chromium where it is there; and two plans compared."""
+"""The page of a plan, in Chromium where it is there."""
 import hashlib
 import html.parser
 import json
@@ -9,7 +9,7 @@ import subprocess
 import time
 import unittest
 
-from support import PLACES, ROUTES, WithFolder, run
+from support import PLACES, ROUTES, WithFolder
 
 CHROMIUM = (
     shutil.which("chromium") or shutil.which("chromium-browser") or shutil.which("google-chrome")
@@ -198,55 +198,3 @@ class Pages(WithFolder):
         )
         self.assertAlmostEqual(said["nearer"], 0.7)
         self.assertAlmostEqual(said["whole"], 1)
-
-
-class Diff(WithFolder):
-    """`mcf_plan diff`."""
-
-    def made(self, name, places, routes):
-        """A plan in a folder of this name."""
-        self.out = self.folder / name
-        self.flow(places, routes)
-        return self.out
-
-    def test_two_plans(self):
-        old, new = self.made("old", PLACES, ROUTES), self.made(
-            "new", PLACES, ROUTES.replace("15,4", "18.5,4") + "Mill,Wien,0,1,1\n"
-        )
-        status, said, told = run("diff", old, new)
-        self.assertEqual((status, told), (0, ""))
-        self.assertEqual(
-            said,
-            (
-                "old: cost 171 (accepted again by mcfcheck)\nnew: cost 153 (accepted again by"
-                " mcfcheck)\nThe cost falls by 18.\n4 of 4 differ:\n  Graz -> Wien: 3, now 0 (-3)\n"
-                "  Mill -> Graz: 15, now 12 (-3)\n  Mill -> Wien: 15, now 17 (+2)\n  Mill -> Wien"
-                " (2): not there, now 1 (+1)\n"
-            ),
-        )
-        self.assertIn("The cost stays.\n0 of 3 differ.", run("diff", old, old)[1])
-
-    def test_a_plan_that_cannot_be(self):
-        old, new = self.made("old", PLACES, ROUTES), self.made(
-            "new", PLACES, ROUTES.replace("20", "2")
-        )
-        status, said, _ = run("diff", old, new)
-        self.assertEqual(status, 0)
-        self.assertIn(
-            (
-                "new: No plan exists, as mcf found and mcfcheck accepted: (accepted again by"
-                " mcfcheck)\n  Mill must send 30"
-            ),
-            said,
-        )
-
-    def test_folders_that_are_none_or_were_changed(self):
-        old = self.made("old", PLACES, ROUTES)
-        self.assertEqual(run("diff", old, self.folder)[0], 2)
-        (old / "plan.json").write_text("{}")
-        self.assertIn("its plan.json can't be read", run("diff", old, old)[2])
-        new = self.made("new", PLACES, ROUTES)
-        (new / "answer.ans").write_text("s 170\n")
-        status, _, told = run("diff", new, new)
-        self.assertEqual(status, 3)
-        self.assertIn("isn't what it was when the plan was made", told)

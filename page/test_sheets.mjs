@@ -1,0 +1,28 @@
+// What sheets and the lines around them say of plans, without the module: flows and prices are given.
+import { FlowNet, FlowPlan } from './flownet.js';
+import { Problem } from './model.js';
+import { changesShown } from './sheets.js';
+
+// A plan over these tables that carries these amounts; all prices are 0.
+function planOf(places, routes, flows, policy = {}) {
+  const problem = new Problem([{ name: 'places', text: places }, { name: 'routes', text: routes }]);
+  const net = new FlowNet(problem, policy), cost = net.arcs.reduce((sum, arc, k) => sum + arc.cost * BigInt(flows[k]), 0n);
+  return new FlowPlan(net, { cost, flows: flows.map(BigInt), prices: net.supplies.map(() => 0n) });
+}
+
+// Plans that don't deliver the same: that is said before their costs.
+function delivered(expect) {
+  const places = 'name;supply\nA;2,5\nB;-1,5\nC;-1\n', routes = 'from;to;most;cost\nA;B;;2\nA;C;;3\n', short = { unused: true, short: true };
+  const whole = planOf(places, routes, [15, 10]), part = planOf(places, routes, [15, 0, 10, 0, 10], short);
+  const said = (before, now) => changesShown(before, now).text;
+  expect(said(whole, part).startsWith(
+    'The plan before delivers 2,5 in all, this one 1,5: mind that where you compare what they cost. Cost before 6, now 3;'
+  ), said(whole, part));
+  expect(said(whole, whole).startsWith('Cost before 6, now 6;'), said(whole, whole));
+  const other = planOf(places.replace('-1,5', '-1').replace('C;-1', 'C;-1,5'), routes, [10, 15]);
+  expect(said(whole, other).startsWith('Both deliver 2,5 in all, but not the same at each place: mind'), said(whole, other));
+}
+
+export default function test(expect) {
+  delivered(expect);
+}
