@@ -6,6 +6,7 @@ import shutil
 import signal
 
 from .faults import Rejected, Stop, trouble
+from .record import is_record
 
 # What a plan is written into; a folder with anything else in it isn't touched.
 RESULTS = (
@@ -45,19 +46,25 @@ def results_in(name):
 
 
 def check_target(name, target):
-    """Ends the run where the folder has anything that isn't a result, which might be lost."""
+    """Ends the run where the folder has anything that isn't a result of this tool, which might be
+    lost."""
     if target.exists() and not target.is_dir():
         raise trouble(f"the folder {name} can't be made: there is a file of this name")
-    foreign = (
-        sorted(path.name for path in target.iterdir() if path.name not in RESULTS)
-        if target.exists()
-        else []
-    )
+    names = sorted(path.name for path in target.iterdir()) if target.exists() else []
+    foreign = [name for name in names if name not in RESULTS]
     if foreign:
         raise Stop(
             (
                 f"the folder {name} has files that are no results, such as {foreign[0]}: name a"
                 " folder of its own with -o"
+            ),
+            2,
+        )
+    if names and not is_record(target / "plan.json"):
+        raise Stop(
+            (
+                f"the folder {name} has {names[0]}, and no plan.json of this tool, by which it"
+                " would be an earlier result: name a folder of its own with -o"
             ),
             2,
         )

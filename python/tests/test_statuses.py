@@ -105,6 +105,24 @@ class Folders(WithFolder):
         self.assertIn("has files that are no results, such as notes.txt", told)
         self.assertEqual([path.name for path in self.out.iterdir()], ["notes.txt"])
 
+    def test_a_folder_of_others_with_names_of_results_is_left_alone(self):
+        self.out.mkdir()
+        for others in ({"report.html": "mine"}, {"report.html": "mine", "plan.json": "{}"}):
+            for name, text in others.items():
+                (self.out / name).write_text(text)
+            status, said, told = self.flow(PLACES, ROUTES)
+            self.assertEqual((status, said), (2, ""))
+            self.assertIn("and no plan.json of this tool, by which it would be an earlier", told)
+            self.assertEqual({path.name for path in self.out.iterdir()}, set(others))
+            self.assertEqual((self.out / "report.html").read_text(), "mine")
+
+    def test_an_empty_folder_and_an_earlier_result_are_taken(self):
+        self.out.mkdir()
+        self.assertEqual(self.flow(PLACES, ROUTES)[0], 0)
+        self.assertEqual(self.flow(PLACES, ROUTES.replace("20", "2"))[0], 1)
+        self.assertEqual(self.pairs(",X\nA,1\n")[0], 0)
+        self.assertEqual(self.flow(PLACES, ROUTES)[0], 0)
+
     def test_a_run_that_fails_leaves_the_results_of_the_one_before(self):
         self.flow(PLACES, ROUTES)
         before = {path.name: path.read_bytes() for path in self.out.iterdir()}
