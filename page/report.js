@@ -78,6 +78,20 @@ export function balanceOf({ places }) {
   return [1n, -1n].map((sign) => places.reduce((sum, place) => (sign * place.supply > 0n ? sum + sign * place.supply : sum), 0n));
 }
 
+// What looks like a slip of the tables, though they can be read.
+export function slips({ problem, policy }) {
+  const [supply, demand] = balanceOf(problem);
+  if (supply && !demand) return [
+    `no supply is below 0, so no place takes anything${policy.unused ? ', and all that is sent stays' : ''}: was demand written as a `
+      + 'positive number?'
+  ];
+  if (demand && !supply) return [
+    `no supply is above 0, so no place sends anything${policy.short ? ', and all that is taken is missing' : ''}: was supply written as a `
+      + 'negative number?'
+  ];
+  return [];
+}
+
 // What is wrong where supplies and demands don't agree.
 export function balanceSentence(problem) {
   const [supply, demand] = balanceOf(problem), said = (number) => problem.said.amount(number);

@@ -1,6 +1,6 @@
 // What is shown of an answer: a headline, what leads to it, facts, findings, a scene, and tables to look at and to save.
 import { pairsSummary, pairsTable, rivalsLines, rivalsTable } from './pairs.js';
-import { balanceOf, bottleneckSentence, bottleneckTable, flowSummary, flowsTable, pricesTable, savingsOf } from './report.js';
+import { balanceOf, bottleneckSentence, bottleneckTable, flowSummary, flowsTable, pricesTable, savingsOf, slips } from './report.js';
 import { listed } from './faults.js';
 import { size } from './model.js';
 import { allBottlenecks } from './solving.js';
@@ -34,6 +34,7 @@ export function planShown(plan) {
     headline: ['Least cost: ', units.total(plan.cost)],
     mark: said.mark,
     lead: [
+      ...warnings(plan.net),
       'No plan for these tables costs less.',
       ...flowSummary(plan).slice(2).filter((line) => /stay|missing|Passing/.test(line)),
       ...problem.told()
@@ -45,6 +46,8 @@ export function planShown(plan) {
     tables: () => [flowsTable(plan), pricesTable(plan)],
   };
 }
+
+const warnings = (net) => slips(net).map((line) => `Warning: ${line}`);
 
 function savingsSheet(plan) {
   const rows = savingsOf(plan).slice(0, 50).map(
@@ -160,7 +163,10 @@ export function blockedShown(blocked) {
     isPlan: false,
     headline: ['No plan exists: ', headline],
     mark: problem.said.mark,
-    lead: ['Whatever way amounts go, these places must send or take more than the routes around them carry.', ...problem.told()],
+    lead: [
+      ...warnings(blocked.net), 'Whatever way amounts go, these places must send or take more than the routes around them carry.',
+      ...problem.told()
+    ],
     facts: [],
     findings,
     scene: () => blockedScene(blocked),

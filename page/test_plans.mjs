@@ -7,7 +7,7 @@ import { FlowNet, FlowPlan } from './flownet.js';
 import { Problem } from './model.js';
 import { accepts, judged } from './module.js';
 import { RosterNet, chosenOf, pairsSummary, pairsTable, rivalsLines, rivalsTable } from './pairs.js';
-import { blockedSummary, bottleneckTable, csvOf, flowSummary, flowsTable, pricesTable } from './report.js';
+import { blockedSummary, bottleneckTable, csvOf, flowSummary, flowsTable, pricesTable, slips } from './report.js';
 import { Roster } from './roster.js';
 import { allBottlenecks, blockedOf, bottlenecksOf, solve } from './solving.js';
 import { loaded } from './test_module.mjs';
@@ -34,7 +34,7 @@ async function flow(solver, sources, { reading, policy }) {
   if (plan) {
     const found = new FlowPlan(net, plan);
     return {
-      said: [...flowSummary(found), ...problem.told()],
+      said: [...slips(net).map((line) => `mcf_plan: warning: ${line}`), ...flowSummary(found), ...problem.told()],
       status: 0,
       mark: problem.numbers.mark,
       tables: [flowsTable(found), pricesTable(found)],
@@ -42,7 +42,7 @@ async function flow(solver, sources, { reading, policy }) {
   }
   const blocked = await blockedOf(solver, text, net);
   return {
-    said: [...blockedSummary(blocked), ...problem.told()],
+    said: [...slips(net).map((line) => `mcf_plan: warning: ${line}`), ...blockedSummary(blocked), ...problem.told()],
     status: 1,
     mark: problem.numbers.mark,
     tables: [bottleneckTable(blocked.eased, allBottlenecks(blocked))],

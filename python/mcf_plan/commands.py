@@ -28,6 +28,7 @@ def flow_command(options, reading):
     with life.doing("reads the tables"):
         problem = Problem.read(options.tables, reading, options.penalty)
     programs, net = Programs(options.programs), FlowNet(problem, policy_of(options, problem))
+    life.warn(report.slips(net))
     with results_in(options.folder) as folder:
         results = Results(
             folder, options, problem.numbers.mark, [problem.place_table, problem.route_table]

@@ -63,7 +63,8 @@ def plan_page(plan, options, picture):
         for is_supply, words in ((True, "stay"), (False, "are missing"))
         if plan.unmet(is_supply)
     ]
-    lead = ["No plan for these tables costs less."] + report.unmet_lines(plan) + problem.told()
+    lead = warnings(plan.net) + ["No plan for these tables costs less."]
+    lead += report.unmet_lines(plan) + problem.told()
     return Page(
         options.title or "A least-cost plan",
         f"Least cost: {told(total, problem.numbers.mark, options.currency)}",
@@ -74,6 +75,11 @@ def plan_page(plan, options, picture):
         picture,
         savings(plan) + [routes_sheet(plan), places_sheet(plan)],
     )
+
+
+def warnings(net):
+    """What looks like a slip of the tables."""
+    return [f"Warning: {line}" for line in report.slips(net)]
 
 
 def told(number, mark, unit):
@@ -202,10 +208,12 @@ def blocked_page(blocked, options, picture):
             f"short by {amount(bottleneck.must - bottleneck.can)}"
             for bottleneck in blocked.bottlenecks[:3]
         )
-    lead = [
+    lead = warnings(blocked.net)
+    lead.append(
         "Whatever way amounts go, these places must send or take more than the routes around them"
         " carry."
-    ] + problem.told()
+    )
+    lead += problem.told()
     return Page(
         options.title or "No plan exists",
         headline,

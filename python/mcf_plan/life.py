@@ -1,8 +1,15 @@
-"""A sign of life on standard error, where it is a terminal."""
+"""Warnings, and a sign of life where standard error is a terminal."""
 import contextlib
 import sys
 import threading
 import time
+
+
+def warn(lines):
+    """Says warnings on standard error, if that can be written."""
+    for line in lines if sys.stderr else ():
+        with contextlib.suppress(OSError):
+            print(f"mcf_plan: warning: {line}", file=sys.stderr, flush=True)
 
 
 @contextlib.contextmanager

@@ -115,6 +115,24 @@ def balance_of(problem):
     )
 
 
+def slips(net):
+    """What looks like a slip of the tables, though they can be read."""
+    supply, demand = balance_of(net.problem)
+    if supply and not demand:
+        stays = ", and all that is sent stays" if net.policy.unused else ""
+        return [
+            f"no supply is below 0, so no place takes anything{stays}: was demand written as a"
+            " positive number?"
+        ]
+    if demand and not supply:
+        lacks = ", and all that is taken is missing" if net.policy.short else ""
+        return [
+            f"no supply is above 0, so no place sends anything{lacks}: was supply written as a"
+            " negative number?"
+        ]
+    return []
+
+
 def balance_sentence(problem):
     """What is wrong where supplies and demands don't agree."""
     amount = problem.said.amount

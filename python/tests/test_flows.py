@@ -183,6 +183,23 @@ class Unbalanced(WithFolder):
             (self.out / "instance.min").read_text(),
         )
 
+    def test_demands_that_are_written_as_supplies(self):
+        places, routes = "name,supply\nA,5\nB,5\n", "from,to,most,cost\nA,B,,1\n"
+        slip = "no supply is below 0, so no place takes anything"
+        status, said, told = self.flow(places, routes, "--unused", "allow")
+        self.assertEqual(status, 0)
+        self.assertNotIn(slip, said)
+        self.assertIn(f"mcf_plan: warning: {slip}, and all that is sent stays: was", told)
+        page = (self.out / "report.html").read_text(encoding="utf-8")
+        self.assertIn(f"<p>Warning: {slip}, and all that is sent stays: was demand", page)
+        status, _, told = self.flow(places, routes)
+        self.assertEqual(status, 1)
+        self.assertIn(f"mcf_plan: warning: {slip}: was demand", told)
+        page = (self.out / "report.html").read_text(encoding="utf-8")
+        self.assertIn(f"<p>Warning: {slip}: was demand", page)
+        for fine in ("name,supply\nA,0\nB,0\n", "name,supply\nA,5\nB,-5\n"):
+            self.assertEqual(self.flow(fine, routes)[2], "")
+
     def test_what_is_missing(self):
         places = self.PLACES.replace("A,9", "A,1")
         status, said, told = self.flow(places, self.ROUTES, "--short", "allow")
