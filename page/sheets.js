@@ -88,7 +88,7 @@ function routesSheet(plan) {
       kind: plan.isFull(k) ? 'full' : carries ? '' : 'idle',
       cells: [
         ...problem.ends(route), units.amount(route.least), units.amount(route.most),
-        route.steps.map((step) => units.rate(step.cost)).join(', '), units.amount(carries), units.total(cost), share,
+        costsCell(problem, route), units.amount(carries), units.total(cost), share,
         saves ? plan.rate(saves) : '', saves ? (isExact ? 'exactly' : 'at most') : '', ...own.map((place) => cellAt(route.cells, place))
       ],
     };
@@ -106,6 +106,11 @@ function routesSheet(plan) {
     field: 'routes',
     note: plain ? 'A change of least, most or cost makes the plan anew.' : '',
   };
+}
+
+// The cost of each unit of a route; where it rises by steps, all of them, as sentences have them.
+function costsCell({ units, said }, { steps }) {
+  return steps.length === 1 ? units.rate(steps[0].cost) : steps.map((step) => said.rate(step.cost)).join(' / ');
 }
 
 function placesSheet(plan) {
@@ -211,7 +216,8 @@ function limitingSheet(blocked) {
 }
 
 // What may be changed where no plan exists.
-function inputSheets({ routes, places, units, routeTable, placeTable }) {
+function inputSheets(problem) {
+  const { routes, places, units, routeTable, placeTable } = problem;
   const may = (head) => (
     routes.every(({ steps }) => steps.length === 1) && routeTable.heads.includes(head) ? { edit: head, of: true } : {}
   );
@@ -232,7 +238,7 @@ function inputSheets({ routes, places, units, routeTable, placeTable }) {
           kind: '',
           cells: [
             name(routes[k].tail), name(routes[k].head), units.amount(routes[k].least), units.amount(routes[k].most),
-            routes[k].steps.map((step) => units.rate(step.cost)).join(', '),
+            costsCell(problem, routes[k]),
           ],
         }
       ),

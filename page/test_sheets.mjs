@@ -1,7 +1,7 @@
 // What sheets and the lines around them say of plans, without the module: flows and prices are given.
 import { FlowNet, FlowPlan } from './flownet.js';
 import { Problem } from './model.js';
-import { changesShown } from './sheets.js';
+import { blockedShown, changesShown, planShown } from './sheets.js';
 
 // A plan over these tables that carries these amounts; all prices are 0.
 function planOf(places, routes, flows, policy = {}) {
@@ -23,6 +23,17 @@ function delivered(expect) {
   expect(said(whole, other).startsWith('Both deliver 2,5 in all, but not the same at each place: mind'), said(whole, other));
 }
 
+// Costs that rise by steps have the mark of the tables, and another sign between them than that.
+function steps(expect) {
+  const places = 'name;supply\nA;2,5\nB;-2,5\n', routes = 'from;to;most;cost;most 2;cost 2\nA;B;2;3,92;;5,92\n';
+  const plan = planOf(places, routes, [20, 5]), blocked = { net: plan.net, eased: plan.net, isUnbalanced: false, bottlenecks: [] };
+  for (const { sheets } of [planShown(plan), blockedShown(blocked)]) {
+    const cell = sheets.find(({ title }) => title === 'Routes').row(0).cells[4];
+    expect(cell === '3,92 / 5,92', cell);
+  }
+}
+
 export default function test(expect) {
+  steps(expect);
   delivered(expect);
 }

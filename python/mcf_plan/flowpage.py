@@ -104,54 +104,44 @@ def savings(plan):
 
 def routes_sheet(plan):
     """The table of the routes."""
-    problem, units, rows = plan.problem, plan.problem.units, []
-    table = problem.route_table
+    problem, table = plan.problem, plan.problem.route_table
     own = own_columns(table)
-    for number, (route, result) in enumerate(zip(problem.routes, plan.routes)):
-        share = "" if not route.most else Share(100 * abs(result.carries) / abs(route.most))
-        kind = "full" if plan.is_full(number) else "" if result.carries else "idle"
-        exact = "" if not result.saves else "exactly" if result.is_exact else "at most"
-        rows.append(
-            (
-                kind,
-                [
-                    *problem.ends(route),
-                    units.amount(route.least),
-                    units.amount(route.most),
-                    costs_cell(units, route),
-                    units.amount(result.carries),
-                    units.total(result.cost),
-                    share,
-                    plan.rate(result.saves) if result.saves else "",
-                    exact,
-                    *(cell_at(route.cells, place) for place in own),
-                ],
-            )
-        )
+    rows = []
+    for number, route in enumerate(problem.routes):
+        kind = "full" if plan.is_full(number) else "" if plan.routes[number].carries else "idle"
+        cells = route_cells(plan, number) + [cell_at(route.cells, place) for place in own]
+        rows.append((kind, cells))
     rows, note = listed_rows(rows)
-    totals = [
-        "",
-        "",
-        "",
-        "",
-        "",
-        "",
-        units.total(sum(result.cost for result in plan.routes)),
-        "",
-        "",
-    ] + [""] * (1 + len(own))
-    return Sheet(
-        "Routes", ROUTE_COLUMNS + [(table.titles[place], "") for place in own], rows, totals, note
-    )
+    columns = ROUTE_COLUMNS + [(table.titles[place], "") for place in own]
+    total = problem.units.total(sum(result.cost for result in plan.routes))
+    totals = [total if head == "total" else "" for head, _ in ROUTE_COLUMNS] + [""] * len(own)
+    return Sheet("Routes", columns, rows, totals, note)
 
 
-def costs_cell(units, route):
-    """The cost of each unit of a route; where it rises by steps, all of them."""
-    return (
-        units.rate(route.cost)
-        if len(route.steps) == 1
-        else ", ".join(map(units.rate, route.costs()))
-    )
+def route_cells(plan, number):
+    """What stands of a route in the columns of routes."""
+    problem, units = plan.problem, plan.problem.units
+    route, result = problem.routes[number], plan.routes[number]
+    exact = "exactly" if result.is_exact else "at most"
+    return [
+        *problem.ends(route),
+        units.amount(route.least),
+        units.amount(route.most),
+        costs_cell(problem, route),
+        units.amount(result.carries),
+        units.total(result.cost),
+        Share(100 * abs(result.carries) / abs(route.most)) if route.most else "",
+        plan.rate(result.saves) if result.saves else "",
+        exact if result.saves else "",
+    ]
+
+
+def costs_cell(problem, route):
+    """The cost of each unit of a route; where it rises by steps, all of them, as sentences have
+    them."""
+    if len(route.steps) == 1:
+        return problem.units.rate(route.cost)
+    return " / ".join(map(problem.said.rate, route.costs()))
 
 
 def places_sheet(plan):

@@ -110,6 +110,11 @@ class Pages(WithFolder):
         self.assertIn("<h1>Least cost: 15\u202f625</h1>", self.page())
         self.assertIn('<td class="number" data-value="1.25">1,25</td>', self.page())
 
+    def test_costs_that_rise_by_steps(self):
+        routes = "from;to;most;cost;most 2;cost 2\nA;B;2;3,92;;5,92\n"
+        self.flow("name;supply\nA;2,5\nB;-2,5\n", routes)
+        self.assertIn("<td>3,92 / 5,92</td>", self.page())
+
     def test_columns_that_are_carried_along_are_named(self):
         line = "<p>Columns carried along, not used: carrier, min lot.</p>"
         routes = ROUTES.replace("cost\n", "cost,carrier,min lot\n")
