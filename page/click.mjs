@@ -66,6 +66,16 @@ async function planner(page, { set, act, go, kind, example, ended }) {
   expect(sight < 60 && await rows() === 176, 'all routes are printed');
   await page.run("dispatchEvent(new Event('afterprint'))");
   expect(await rows() === sight, 'and those in sight stay');
+  const filter = (words) => page.run(
+    `(() => { const it = document.querySelector('input[aria-label="filter Routes"]'); it.value = '${words}'; it.dispatchEvent(new Event('input')); })()`
+  );
+  const foot = async () => plain(await page.run("document.querySelector('table[aria-label=\"Routes\"] tfoot').innerText")).trim().split(/\s{2,}|\t/);
+  const whole = await foot();
+  await filter('klagenfurt');
+  const part = await foot();
+  expect(/^of \d+ of 176 lines$/.test(part[0]) && Number(part[1]) < Number(whole[0]), `the total of the rows in sight: ${part}`);
+  await filter('');
+  expect(String(await foot()) === String(whole), 'and of all again');
   await example('transport');
   const sort = (title, head) => page.run(
     `[...document.querySelectorAll('table[aria-label="${title}"] th')].find((it) => it.textContent === '${head}').click()`

@@ -1,7 +1,7 @@
 // Tables of which the rows in sight alone are made, so that a hundred thousand scroll. A sheet has a title, columns with a head, what it
 // means, whether it has numbers and, where its cells may be changed, the head of the input; a count, and row(k), which gives the kind and
 // the cells of the k-th row as texts.
-import { compare, valueOf } from './amounts.js';
+import { ZERO, compare, decimalText, decimalsOf, scaled, valueOf } from './amounts.js';
 import { el, grouped } from './view.js';
 
 // How high a row is, how many are made beyond those in sight, and of how many a table is printed.
@@ -33,13 +33,8 @@ export class Grid {
       )
     );
     this.body = el('tbody');
-    const foot = sheet.totals ? [
-      el(
-        'tfoot',
-        {},
-        el('tr', {}, sheet.totals.map((cell, k) => el('td', { class: sheet.columns[k].number ? 'number' : null }, grouped(cell, mark))))
-      )
-    ] : [];
+    this.foot = (sheet.totals || []).map((_, k) => el('td', { class: sheet.columns[k].number ? 'number' : null }));
+    const foot = sheet.totals ? [el('tfoot', {}, el('tr', {}, this.foot))] : [];
     this.table = el(
       'table', { 'aria-label': sheet.title, 'aria-rowcount': sheet.count + 1 },
       el('thead', {}, el('tr', { 'aria-rowindex': 1 }, this.heads)), this.body, ...foot
@@ -102,6 +97,7 @@ export class Grid {
     this.order = order;
     this.count.textContent = order.length === sheet.count ? `${grouped(String(sheet.count))} lines`
       : `${grouped(String(order.length))} of ${grouped(String(sheet.count))} lines`;
+    totalsOf(sheet, order, this.count.textContent).forEach((text, k) => { this.foot[k].textContent = grouped(text, this.mark); });
     this.fill(true);
   }
 
@@ -168,6 +164,17 @@ export class Grid {
     );
     return el('td', column.number ? { class: 'number' } : { title: text }, column.number ? grouped(text, this.mark) : text);
   }
+}
+
+// What stands below the rows in sight: the totals of the sheet, or their own where some are left out, with how many they are.
+export function totalsOf(sheet, order, lines) {
+  if (!sheet.totals || order.length === sheet.count) return sheet.totals || [];
+  return sheet.totals.map((total, k) => (k === 0 ? `of ${lines}` : total && sumOf(order.map((row) => sheet.row(row).cells[k]))));
+}
+
+function sumOf(texts) {
+  const numbers = texts.map((text) => valueOf(text, '.') || ZERO), decimals = decimalsOf(numbers);
+  return decimalText(numbers.reduce((sum, number) => sum + scaled(number, decimals), 0n), decimals);
 }
 
 // Rows by the texts of a column: numbers by what they are worth, what is empty last.

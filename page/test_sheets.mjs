@@ -1,5 +1,6 @@
 // What sheets and the lines around them say of plans, without the module: flows and prices are given.
 import { FlowNet, FlowPlan } from './flownet.js';
+import { totalsOf } from './grid.js';
 import { Problem } from './model.js';
 import { blockedShown, changesShown, planShown } from './sheets.js';
 
@@ -33,7 +34,19 @@ function steps(expect) {
   }
 }
 
+// Totals below rows that were filtered are theirs, and say so; they are exact.
+function totals(expect) {
+  const places = 'name,supply\nA,30\nB,-30\n', routes = 'from,to,most,cost\nA,B,10,0.1\nA,B,10,0.25\nA,B,10,12345678901234567890.5\n';
+  const sheet = planShown(planOf(places, routes, [10, 10, 10])).sheets.find(({ title }) => title === 'Routes');
+  const total = (order) => totalsOf(sheet, order, `${order.length} of 3 lines`).filter(Boolean).join('; ');
+  expect(total([2, 0, 1]) === '123456789012345678908.5', total([2, 0, 1]));
+  expect(total([1, 0]) === 'of 2 of 3 lines; 3.5', total([1, 0]));
+  expect(total([]) === 'of 0 of 3 lines; 0', total([]));
+  expect(totalsOf({ count: 3 }, [1], '').length === 0, 'a sheet without totals');
+}
+
 export default function test(expect) {
+  totals(expect);
   steps(expect);
   delivered(expect);
 }

@@ -34,7 +34,19 @@ document.querySelectorAll(".picture").forEach(function (frame) {
     });
   });
 });
-// Tables: a click on a head sorts, the field above filters by what a row says, the box leaves out what carries nothing.
+// The exact sum of numbers that are texts, with narrow blanks between its thousands.
+const sumOf = function (numbers, mark) {
+  const decimals = numbers.reduce(function (most, number) { return Math.max(most, (number.split(".")[1] || "").length); }, 0);
+  const sum = numbers.reduce(function (before, number) {
+    const [whole, part = ""] = number.split(".");
+    return before + BigInt(whole + part.padEnd(decimals, "0"));
+  }, BigInt(0));
+  const digits = String(sum).replace("-", "").padStart(decimals + 1, "0"), end = digits.length - decimals;
+  const whole = digits.slice(0, end), part = digits.slice(end).replace(/0+$/, "");
+  return (sum < 0 ? "\u2212" : "") + (whole.length > 4 ? whole.replace(/\B(?=(?:\d{3})+$)/g, "\u202f") : whole) + (part ? mark + part : "");
+};
+// Tables: a click on a head sorts, the field above filters by what a row says, the box leaves out what carries nothing; the totals are
+// those of the rows in sight.
 document.querySelectorAll(".sheet table").forEach(function (table) {
   const body = table.tBodies[0], rows = Array.from(body.rows), tools = table.closest("section").querySelector(".tools");
   const value = function (row, column) {
@@ -58,6 +70,16 @@ document.querySelectorAll(".sheet table").forEach(function (table) {
   });
   if (!tools) { return; }
   const field = tools.querySelector("input[type=search]"), box = tools.querySelector("input[type=checkbox]"), count = tools.querySelector(".count");
+  const foot = table.tFoot ? Array.from(table.tFoot.rows[0].cells) : [], all = foot.map(function (cell) { return cell.textContent; });
+  const sumIn = function (column) {
+    const seen = rows.filter(function (row) { return !row.hidden && row.cells[column].dataset.value; });
+    return sumOf(seen.map(function (row) { return row.cells[column].dataset.value; }), table.tFoot.dataset.mark);
+  };
+  const total = function (isAll, lines) {
+    foot.forEach(function (cell, column) {
+      cell.textContent = isAll ? all[column] : column === 0 ? "of " + lines : all[column] && sumIn(column);
+    });
+  };
   const filter = function () {
     const words = field.value.toLowerCase().split(/\s+/);
     let left = 0;
@@ -67,6 +89,7 @@ document.querySelectorAll(".sheet table").forEach(function (table) {
       left += row.hidden ? 0 : 1;
     });
     count.textContent = left === rows.length ? rows.length + " lines" : left + " of " + rows.length + " lines";
+    total(left === rows.length, count.textContent);
   };
   field.addEventListener("input", filter);
   if (box) { box.addEventListener("change", filter); }

@@ -139,11 +139,8 @@ class Writer:
             + "</tr>"
             for kind, cells in sheet.rows
         )
-        foot = (
-            f'<tfoot><tr>{"".join(map(self.cell, sheet.totals))}</tr></tfoot>'
-            if sheet.totals
-            else ""
-        )
+        totals = "".join(map(self.cell, sheet.totals))
+        foot = f'<tfoot data-mark="{self.mark}"><tr>{totals}</tr></tfoot>' if totals else ""
         box = (
             '<label><input type="checkbox"> only what carries something</label>'
             if any(kind == "idle" for kind, _ in sheet.rows)

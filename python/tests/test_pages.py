@@ -21,6 +21,8 @@ const seen = () => Array.from(table.tBodies[0].rows).filter(row => !row.hidden);
 const column = number => seen().map(row => row.cells[number].textContent);
 const heads = table.querySelectorAll("thead th"), svg = document.querySelector(".picture svg");
 const tools = table.closest("section").querySelector(".tools");
+const foot = () => Array.from(table.tFoot.rows[0].cells).map(cell => cell.textContent);
+said.total = foot();
 heads[5].click();
 said.down = column(5);
 heads[5].click();
@@ -30,10 +32,14 @@ said.names = column(0);
 tools.querySelector("input[type=search]").value = "mill wien";
 tools.querySelector("input[type=search]").dispatchEvent(new Event("input"));
 said.filtered = column(0).concat(column(1));
+said.part = foot();
 tools.querySelector("input[type=search]").value = "";
 tools.querySelector("input[type=checkbox]").click();
 said.carrying = column(5);
 said.count = tools.querySelector(".count").textContent;
+said.carried = foot();
+tools.querySelector("input[type=checkbox]").click();
+said.again = foot();
 const wide = () => Number(svg.getAttribute("viewBox").split(" ")[2]), before = wide();
 document.querySelector(".zoom button").click();
 said.nearer = wide() / before;
@@ -172,7 +178,8 @@ class Pages(WithFolder):
 
     @unittest.skipUnless(CHROMIUM, "Chromium isn't there: what the page does")
     def test_in_chromium(self):
-        self.flow(PLACES, ROUTES + "Wien,Graz,0,9,9\nMill,Mill,0,9,9\nGraz,Mill,0,9,9\n")
+        routes = ROUTES.replace(",4\n", ",-4000.25\n").replace(",7\n", ",7.5\n")
+        self.flow(PLACES, routes + "Wien,Graz,0,9,9\nMill,Mill,0,9,9\nGraz,Mill,0,9,9\n")
         tried = self.put(
             "tried.html", self.page().replace("</script>\n</html>", TRIED + "</script>\n</html>")
         )
@@ -201,5 +208,13 @@ class Pages(WithFolder):
         self.assertEqual(
             (sorted(said["carrying"]), said["count"]), (["15", "15", "3"], "3 of 6 lines")
         )
+        whole, part = "\u221259\u202f885.25", "\u221260\u202f003.75"
+        for name, lines, total in (
+            ("total", "", whole),
+            ("part", "of 1 of 6 lines", part),
+            ("carried", "of 3 of 6 lines", whole),
+            ("again", "", whole),
+        ):
+            self.assertEqual(said[name], [lines, "", "", "", "", "", total, "", "", ""], name)
         self.assertAlmostEqual(said["nearer"], 0.7)
         self.assertAlmostEqual(said["whole"], 1)
