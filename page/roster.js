@@ -1,6 +1,6 @@
 // Persons, things and the pairs of them that may be, as tables have them: a list with the columns who, what and cost, or a matrix.
 import { Numbers, Said, Units, decimalsOf, scaled } from './amounts.js';
-import { Faults, at, shown } from './faults.js';
+import { Faults, at, countOf, listed, shown } from './faults.js';
 import { Heads, carriedLines } from './heads.js';
 import { Table, cellAt, checkHeads, fold, keyOf, nameIn, once } from './tables.js';
 
@@ -58,8 +58,9 @@ export class Roster {
     this.table.checkWidths(faults);
     this.persons = new Side('takes');
     this.things = new Side('needs');
-    this.isList = this.table.has(PAIR_HEADS);
+    this.isList = PAIR_HEADS.filter((head) => this.table.heads.includes(head)).length > 1;
     const found = this.isList ? this.listed(faults) : this.matrix(faults), sign = maximise ? -1n : 1n;
+    this.checkRead(faults);
     faults.end();
     this.units = new Units(0, decimalsOf(found.map((pair) => pair.cost)), sign);
     this.said = new Said(this.units, this.numbers.mark);
@@ -69,12 +70,23 @@ export class Roster {
     this.needs = this.things.names.map((_, k) => this.things.rangeOf(k + 1, side !== 'who'));
   }
 
+  // Notes that no person or no thing is read, with what is.
+  checkRead(faults) {
+    const { table } = this, word = !this.things.names.length ? 'thing' : !this.persons.names.length ? 'person' : '';
+    if (!word) return;
+    faults.add(at(table, table.headLine), 'nothing', `no ${word} is read: the heads are ${listed(table.titles.map(shown))} (split at ${
+      shown(table.separator)}), with ${countOf(table.rows.length, 'line', 'lines')} below; a list has the columns who, what and cost, a `
+      + 'matrix things in its first line and persons in its first column');
+  }
+
   // Lines on how the table was read. All columns of a matrix are used.
   told() { return [...(this.isList ? carriedLines(PAIRS.carried(this.table)) : []), ...this.numbers.told()]; }
 
   listed(faults) {
     const { table } = this;
     PAIRS.check(table, faults);
+    table.need(PAIR_HEADS, faults);
+    if (!table.has(PAIR_HEADS)) faults.end();
     const columns = table.columns(PAIR_HEADS);
     const takes = table.perhaps('takes');
     const needs = table.perhaps('needs');

@@ -6,6 +6,7 @@ from .amounts import Numbers, Said, Units, scale_of
 from .faults import At, Faults, shown
 from .heads import Heads, carried_lines
 from .tables import cell_at, key_of, name_in, once
+from .words import count_of, listed
 from .workbook import tables_of
 
 PAIR_HEADS = ("who", "what", "cost")
@@ -77,9 +78,10 @@ class Roster:
         self.persons, self.things, self.is_list = (
             Side("takes"),
             Side("needs"),
-            self.table.has(PAIR_HEADS),
+            sum(head in self.table.heads for head in PAIR_HEADS) > 1,
         )
         found = (self.listed if self.is_list else self.matrix)(faults)
+        self.check_read(faults)
         faults.end()
         self.units = Units(1, scale_of([pair.cost for pair in found]), -1 if maximise else 1)
         self.said = Said(self.units, self.numbers.mark)
@@ -97,6 +99,21 @@ class Roster:
             for number in range(len(self.things.names))
         ]
 
+    def check_read(self, faults):
+        """Notes that no person or no thing is read, with what is."""
+        for word, side in (("thing", self.things), ("person", self.persons)):
+            if not side.names:
+                heads = listed([shown(title) for title in self.table.titles])
+                lines = count_of(len(self.table.rows), "line", "lines")
+                text = (
+                    f"no {word} is read: the heads are {heads} (split at"
+                    f" {shown(self.table.separator)}), with {lines} below; a list has the columns"
+                    " who, what and cost, a matrix things in its first line and persons in its"
+                    " first column"
+                )
+                faults.add(At(self.table, self.table.head_line), "nothing", text)
+                break
+
     def told(self):
         """Lines on how the table was read. All columns of a matrix are used."""
         carried = PAIRS.carried(self.table) if self.is_list else []
@@ -106,6 +123,9 @@ class Roster:
         """The pairs of a table with the columns who, what and cost, perhaps takes and needs."""
         table, pairs, seen = self.table, [], {}
         PAIRS.check(table, faults)
+        table.need(PAIR_HEADS, faults)
+        if not table.has(PAIR_HEADS):
+            faults.end()
         columns, takes, needs = (
             table.columns(PAIR_HEADS),
             table.perhaps("takes"),
