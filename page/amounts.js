@@ -10,13 +10,18 @@ const EITHER = /^[+-]?[1-9][0-9]{0,2}[.,][0-9]{3}$/;
 const ONE_MARK = /^[+-]?[0-9]*([.,])[0-9]+$/;
 const EXPONENT = /^[+-]?[0-9]+(?:[.,][0-9]*)?[eE][+-]?[0-9]+$/;
 const OTHER = { ',': '.', '.': ',' };
+// What stands for a minus in print: hyphens, dashes no longer than a digit, and the sign itself.
+const MINUS = /^[\u2010-\u2013\u2212\ufe63\uff0d](?=[.,]?[0-9])/;
 export const NO_LIMIT = ['', 'inf', '∞'];
 export const ZERO = { digits: 0n, decimals: 0 };
 
+// A number with the minus of a keyboard.
+const plainMinus = (cell) => cell.replace(MINUS, '-');
 const withoutBlanks = (cell) => (SPACED.test(cell) ? cell.replace(new RegExp(BLANK, 'g'), '') : cell);
 
 // The mark before decimals, if a cell settles it; blanks between thousands leave a mark no other meaning.
-function markIn(cell) {
+function markIn(text) {
+  const cell = plainMinus(text);
   if (WHOLE.test(cell)) return null;
   const spaced = SPACED.exec(cell);
   if (spaced) return spaced[2] ? spaced[2][0] : null;
@@ -35,7 +40,7 @@ const VALUES = Object.fromEntries(Object.entries(OTHER).map(([mark, other]) => [
 
 // The value of a cell whose decimals stand after a mark; null where it is no such number.
 export function valueOf(cell, mark) {
-  const plain = withoutBlanks(cell);
+  const plain = withoutBlanks(plainMinus(cell));
   if (!VALUES[mark].test(plain)) return null;
   const [whole, decimals = ''] = plain.replaceAll(OTHER[mark], '').replace('+', '').split(mark);
   let digits = BigInt((whole + decimals).replace('-', '') || 0), count = decimals.length;
@@ -77,7 +82,8 @@ export class Numbers {
   }
 
   // The number that a cell has.
-  read(table, line, head, cell, faults) {
+  read(table, line, head, text, faults) {
+    const cell = plainMinus(text);
     if (WHOLE.test(cell)) return { digits: BigInt(cell.replace('+', '')), decimals: 0 };
     if (!this.mark && EITHER.test(withoutBlanks(cell))) {
       faults.add(at(table, line, head), 'either', `${shown(cell)} may be ${cell.replace(/[.,]/g, '')} or a number with three decimals: `
@@ -123,7 +129,7 @@ export class Numbers {
 
 // Where a place stands: a number that may have decimals.
 export function coordinateIn(table, line, head, cell, faults) {
-  const text = cell.includes('.') ? cell : cell.replace(',', '.');
+  const plain = plainMinus(cell), text = plain.includes('.') ? plain : plain.replace(',', '.');
   const number = /^[+-]?(\d+\.?\d*|\.\d+)([eE][+-]?\d+)?$/.test(text) ? Number(text) : NaN;
   if (!Number.isFinite(number)) {
     faults.add(

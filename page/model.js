@@ -100,7 +100,8 @@ function placesOf(table, numbers, faults) {
   return table.rows.map(({ line, cells }) => {
     const name = nameIn(table, line, 'name', cellAt(cells, nameColumn), faults);
     if (name) once(at(table, line, 'name'), keyOf(name), `a place ${shown(name)}`, seen, faults);
-    const supply = numbers.read(table, line, 'supply', cellAt(cells, supplyColumn), faults);
+    // A place that only passes on is often left empty.
+    const supply = numbers.read(table, line, 'supply', cellAt(cells, supplyColumn) || '0', faults);
     const spot = spots && SPOT_HEADS.map((head, k) => coordinateIn(table, line, head, cellAt(cells, spots[k]), faults));
     return { name, supply, spot, bounds: boundsOf(table, line, bounds.map((place) => cellAt(cells, place)), numbers, faults), line, cells };
   });

@@ -80,7 +80,7 @@ export function balanceOf({ places }) {
 
 // What looks like a slip of the tables, though they can be read.
 export function slips({ problem, policy }) {
-  const [supply, demand] = balanceOf(problem);
+  const [supply, demand] = balanceOf(problem), { places, placeTable } = problem;
   if (supply && !demand) return [
     `no supply is below 0, so no place takes anything${policy.unused ? ', and all that is sent stays' : ''}: was demand written as a `
       + 'positive number?'
@@ -89,6 +89,10 @@ export function slips({ problem, policy }) {
     `no supply is above 0, so no place sends anything${policy.short ? ', and all that is taken is missing' : ''}: was supply written as a `
       + 'negative number?'
   ];
+  const column = placeTable.heads.indexOf('supply');
+  if (!supply && places.some(({ cells }) => !cellAt(cells, column))) {
+    return ['all supplies are empty or 0, so no place sends or takes anything: was one forgotten?'];
+  }
   return [];
 }
 

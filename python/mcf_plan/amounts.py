@@ -15,11 +15,18 @@ ONE_MARK = re.compile(r"[+-]?[0-9]*([.,])[0-9]+")
 SPOT = re.compile(r"[+-]?([0-9]+\.?[0-9]*|\.[0-9]+)([eE][+-]?[0-9]+)?")
 EXPONENT = re.compile(r"[+-]?[0-9]+(?:[.,][0-9]*)?[eE][+-]?[0-9]+")
 OTHER = {",": ".", ".": ","}
+# What stands for a minus in print: hyphens, dashes no longer than a digit, and the sign itself.
+MINUS = re.compile("^[\u2010-\u2013\u2212\ufe63\uff0d](?=[.,]?[0-9])")
 NO_LIMIT = ("", "inf", "∞")
 
 
 class Figure(str):
     """A number as text, with a point before its decimals: from a workbook, or of a result."""
+
+
+def plain_minus(cell):
+    """A number with the minus of a keyboard."""
+    return cell if cell[:1].isascii() else MINUS.sub("-", cell)
 
 
 def without_blanks(cell):
@@ -30,6 +37,7 @@ def without_blanks(cell):
 def mark_in(cell):
     """The mark before decimals, if a cell settles it; blanks between thousands leave a mark no
     other meaning."""
+    cell = plain_minus(cell)
     if isinstance(cell, Figure) or WHOLE.fullmatch(cell):
         return None
     spaced = SPACED.fullmatch(cell)
@@ -52,7 +60,7 @@ def mark_in(cell):
 
 def value_of(cell, mark):
     """The value of a cell whose decimals stand after a mark; None where it is no such number."""
-    cell = without_blanks(cell)
+    cell = without_blanks(plain_minus(cell))
     other = OTHER[mark]
     if not re.fullmatch(
         rf"[+-]?(?:[0-9]{{1,1000}}|[0-9]{{1,3}}(?:\{other}[0-9]{{3}})+|(?=\{mark}))"
@@ -97,6 +105,7 @@ class Numbers:
 
     def read(self, table, line, head, cell, faults):
         """The number that a cell has."""
+        cell = plain_minus(cell)
         if WHOLE.fullmatch(cell):
             return int(cell)
         if not self.mark and EITHER.fullmatch(without_blanks(cell)):
@@ -174,7 +183,8 @@ class Numbers:
 
 def coordinate_in(table, line, head, cell, faults):
     """Where a place stands: a number that may have decimals."""
-    text = cell if "." in cell else cell.replace(",", ".")
+    text = plain_minus(cell)
+    text = text if "." in text else text.replace(",", ".")
     number = float(text) if SPOT.fullmatch(text) else math.nan
     if not math.isfinite(number):
         faults.add(

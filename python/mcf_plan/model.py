@@ -176,7 +176,8 @@ def places_of(table, numbers, faults):
         name = name_in(table, line, "name", cell_at(cells, name_column), faults)
         if name:
             once(At(table, line, "name"), key_of(name), f"a place {shown(name)}", seen, faults)
-        supply = numbers.read(table, line, "supply", cell_at(cells, supply_column), faults)
+        # A place that only passes on is often left empty.
+        supply = numbers.read(table, line, "supply", cell_at(cells, supply_column) or "0", faults)
         spot = (
             tuple(
                 coordinate_in(table, line, head, cell_at(cells, column), faults)

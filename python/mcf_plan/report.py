@@ -2,6 +2,7 @@
 from .amounts import Figure
 from .flownet import MISSING, STAYS, THROUGH
 from .heads import FLOW_RESULTS, PLACE_RESULTS, THROUGH_RESULTS
+from .tables import cell_at
 from .words import TOLD_NAMES, count_of, listed
 
 
@@ -129,6 +130,11 @@ def slips(net):
         return [
             f"no supply is above 0, so no place sends anything{lacks}: was supply written as a"
             " negative number?"
+        ]
+    column = net.problem.place_table.heads.index("supply")
+    if not supply and any(not cell_at(place.cells, column) for place in net.problem.places):
+        return [
+            "all supplies are empty or 0, so no place sends or takes anything: was one forgotten?"
         ]
     return []
 
