@@ -1,6 +1,13 @@
 """`python3 -m mcf_explain`."""
+import os
 import sys
 
-from .cli import main
+import _signal
+
+# As in tools/mcf_explain: an interrupt has its status from here on.
+if _signal.getsignal(_signal.SIGINT) is _signal.default_int_handler:
+    _signal.signal(_signal.SIGINT, lambda *_: os._exit(130))
+
+from .cli import main  # noqa: E402
 
 sys.exit(main(sys.argv[1:]))

@@ -9,6 +9,7 @@ import time
 from unittest import mock
 
 from mcf_plan import flownet
+from mcf_plan.solve import Programs
 from support import PLACES, ROUTES, TOP, WithFolder, script
 
 TOOL = [sys.executable, str(TOP / "tools" / "mcf_plan")]
@@ -72,6 +73,28 @@ class Statuses(WithFolder):
                 self.assertEqual(
                     (process.wait(20), len(told.splitlines()), self.left()), (status, 1, [])
                 )
+
+    def test_an_interrupt_while_modules_are_imported(self):
+        self.put("argparse.py", "import os, time; os.kill(os.getpid(), 2); time.sleep(9)")
+        environment = {**os.environ, "PYTHONPATH": f"{self.folder}:{TOP / 'python'}"}
+        tools = TOP / "tools"
+        for words in (
+            [tools / "mcf_plan"],
+            [tools / "mcf_explain"],
+            ["-m", "mcf_plan"],
+            ["-m", "mcf_explain"],
+        ):
+            done = subprocess.run(
+                [sys.executable, *words, "--help"], stderr=subprocess.PIPE, env=environment
+            )
+            self.assertEqual((done.returncode, done.stderr), (130, b""), words)
+
+    def test_an_interrupt_that_is_ignored_stays_so(self):
+        words = self.words()
+        script(self.folder / "mcf", f'kill -INT $PPID; exec {Programs(None).solver} "$@"')
+        script(self.folder / "mcfcheck", f'exec {Programs(None).checker} "$@"')
+        words = ["sh", "-c", "trap '' INT; exec \"$@\"", "sh", *words, "--programs", self.folder]
+        self.assertEqual(subprocess.run(words, stdout=subprocess.PIPE).returncode, 0)
 
     def test_any_other_fault_is_told_in_one_line(self):
         with mock.patch.object(flownet.FlowNet, "instance", side_effect=TypeError("one\ntwo")):
