@@ -1,6 +1,7 @@
 """mcf_one: one instance solved and judged, and the log of many."""
 import csv
 import hashlib
+import itertools
 import os
 import shutil
 import signal
@@ -62,6 +63,27 @@ class One(WithFolder):
             self.assertEqual(answer.read_text(), "s 15\n")
             self.assertEqual(self.run_one()[0], 3)
 
+    def test_names_that_begin_with_a_hyphen(self):
+        for shell in filter(None, map(shutil.which, ("dash", "bash"))):
+            self.shell = shell
+            self.put("-x.min", FLOW)
+            here = os.getcwd()
+            os.chdir(self.folder)
+            try:
+                for word in ("--help", "-h"):
+                    usage = "usage: mcf_one INSTANCE [OPTION of mcf solve ..]\n"
+                    self.assertEqual(self.run_one(word), (0, usage))
+                no_answer = "3 ./--none no answer: mcf ended with status 3\n"
+                self.assertEqual(self.run_one("--none"), (3, no_answer))
+                self.assertEqual(os.listdir(), ["-x.min"])
+                accepted = "0 ./-x.min accepted flow 15\n"
+                self.assertEqual(self.run_one("-x.min", MCF_LOG="-log"), (0, accepted))
+                self.assertEqual(sorted(os.listdir()), ["-log", "-x.ans", "-x.min"])
+            finally:
+                os.chdir(here)
+            for name in ("-log", "-x.ans"):
+                (self.folder / name).unlink()
+
     def test_where_the_programs_are(self):
         path = self.put("a.min", FLOW)
         for programs in ("beside/tools", "be low/bin"):
@@ -91,11 +113,11 @@ class One(WithFolder):
             sorted(entry.name for entry in self.folder.glob("a.*")), ["a.ans.rejected", "a.min"]
         )
 
-    def run_one_with(self, path):
+    def run_one_with(self, path, **variables):
         """Begins the script in a group of its own."""
         return subprocess.Popen(
             ["/bin/sh", TOOL, str(path)],
-            env=dict(os.environ, MCF_BIN=str(self.folder)),
+            env=dict(os.environ, MCF_BIN=str(self.folder), **variables),
             start_new_session=True,
             stdout=subprocess.PIPE,
             stderr=subprocess.DEVNULL,
@@ -105,8 +127,10 @@ class One(WithFolder):
         begun = self.folder / "begun"
         script(self.folder / "mcf", f"touch '{begun}'; exec sleep 60")
         path = self.put("a.min", FLOW)
-        for number, status in ((signal.SIGTERM, 143), (signal.SIGINT, 130), (signal.SIGHUP, 129)):
-            with self.subTest(number=number), self.run_one_with(path) as process:
+        ends = ((signal.SIGTERM, 143), (signal.SIGINT, 130), (signal.SIGHUP, 129))
+        logs = ({}, {"MCF_LOG": str(self.folder / "a.log")})
+        for (number, status), log in itertools.product(ends, logs):
+            with self.subTest(number=number), self.run_one_with(path, **log) as process:
                 while not begun.exists():
                     time.sleep(0.05)
                 time.sleep(0.1)
