@@ -84,12 +84,21 @@ function checkBoth([placeTable, routeTable], faults) {
   placeTable.need(
     PLACE_HEADS, faults, exchanged ? 'this looks like the table of routes, which comes second; of places wanted are' : 'wanted are'
   );
-  routeTable.need(ROUTE_HEADS, faults);
+  routeTable.need(ROUTE_HEADS, faults, `${matrixHint(placeTable, routeTable)}wanted are`);
   if (!exchanged) {
     PLACES.check(placeTable, faults);
     ROUTES.check(routeTable, faults);
   }
   if (!placeTable.has(PLACE_HEADS) || !routeTable.has(ROUTE_HEADS)) faults.end();
+}
+
+// Words where the heads of a table of routes are names of places.
+function matrixHint(placeTable, routeTable) {
+  const column = placeTable.heads.indexOf('name'), titles = routeTable.titles.slice(1);
+  if (column < 0 || titles.length < 2) return '';
+  const names = new Set(placeTable.rows.map(({ cells }) => keyOf(cellAt(cells, column))));
+  if (2 * titles.filter((title) => names.has(keyOf(title))).length < titles.length) return '';
+  return 'this looks like a matrix, and routes are a list, a line for each; ';
 }
 
 function placesOf(table, numbers, faults) {

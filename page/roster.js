@@ -1,6 +1,6 @@
 // Persons, things and the pairs of them that may be, as tables have them: a list with the columns who, what and cost, or a matrix.
 import { Numbers, Said, Units, decimalsOf, scaled } from './amounts.js';
-import { Faults, at, countOf, listed, shown } from './faults.js';
+import { Faults, at, countOf, shown } from './faults.js';
 import { Heads, carriedLines } from './heads.js';
 import { Table, cellAt, checkHeads, fold, keyOf, nameIn, once } from './tables.js';
 
@@ -74,9 +74,9 @@ export class Roster {
   checkRead(faults) {
     const { table } = this, word = !this.things.names.length ? 'thing' : !this.persons.names.length ? 'person' : '';
     if (!word) return;
-    faults.add(at(table, table.headLine), 'nothing', `no ${word} is read: the heads are ${listed(table.titles.map(shown))} (split at ${
-      shown(table.separator)}), with ${countOf(table.rows.length, 'line', 'lines')} below; a list has the columns who, what and cost, a `
-      + 'matrix things in its first line and persons in its first column');
+    faults.add(at(table, table.headLine), 'nothing', `no ${word} is read: the heads are ${table.headsText()}, with ${
+      countOf(table.rows.length, 'line', 'lines')} below; a list has the columns who, what and cost, a matrix things in its first line and `
+      + 'persons in its first column');
   }
 
   // Lines on how the table was read. All columns of a matrix are used.

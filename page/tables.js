@@ -1,5 +1,5 @@
 // Tables: read from files or pasted, and found by the heads of their columns.
-import { BadTable, Faults, at, shown } from './faults.js';
+import { BadTable, Faults, at, listed, shown } from './faults.js';
 
 const SEPARATOR_LINE = /^"?sep=([^" ])"?\s*$/i;
 // The separators that heads show by themselves.
@@ -118,8 +118,8 @@ export class Table {
       faults.add(
         at(this, this.headLine, lacking[0]),
         'no column',
-        `there is no such column among ${this.titles.map(shown).join(', ')} `
-          + `(split at ${shown(this.separator)}); ${hint} ${wanted.join(', ')}; where a head has another name, say so: --map ${lacking[0]}=NAME`
+        `there is no such column among ${this.headsText()}; ${hint} ${wanted.join(', ')}; where a head has another name, say so: `
+          + `--map ${lacking[0]}=NAME`
       );
     }
     for (const head of wanted) {
@@ -128,6 +128,9 @@ export class Table {
       );
     }
   }
+
+  // The heads as they were read, the first ones of many.
+  headsText() { return `${listed(this.titles.map(shown))} (split at ${shown(this.separator)})`; }
 
   // The places of the columns with these heads, each of which has to be there once.
   columns(wanted) {

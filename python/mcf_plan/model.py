@@ -159,12 +159,24 @@ def check_heads(place_table, route_table, faults):
             else "wanted are"
         ),
     )
-    route_table.need(ROUTE_HEADS, faults)
+    route_table.need(ROUTE_HEADS, faults, f"{matrix_hint(place_table, route_table)}wanted are")
     if not exchanged:
         PLACES.check(place_table, faults)
         ROUTES.check(route_table, faults)
     if not place_table.has(PLACE_HEADS) or not route_table.has(ROUTE_HEADS):
         faults.end()
+
+
+def matrix_hint(place_table, route_table):
+    """Words where the heads of a table of routes are names of places."""
+    if not place_table.has(PLACE_HEADS[:1]):
+        return ""
+    column = place_table.heads.index(PLACE_HEADS[0])
+    names = {key_of(cell_at(cells, column)) for _, cells in place_table.rows}
+    titles = route_table.titles[1:]
+    if len(titles) < 2 or 2 * sum(key_of(title) in names for title in titles) < len(titles):
+        return ""
+    return "this looks like a matrix, and routes are a list, a line for each; "
 
 
 def places_of(table, numbers, faults):

@@ -6,7 +6,7 @@ from .amounts import Numbers, Said, Units, scale_of
 from .faults import At, Faults, shown
 from .heads import Heads, carried_lines
 from .tables import cell_at, key_of, name_in, once
-from .words import count_of, listed
+from .words import count_of
 from .workbook import tables_of
 
 PAIR_HEADS = ("who", "what", "cost")
@@ -103,13 +103,11 @@ class Roster:
         """Notes that no person or no thing is read, with what is."""
         for word, side in (("thing", self.things), ("person", self.persons)):
             if not side.names:
-                heads = listed([shown(title) for title in self.table.titles])
                 lines = count_of(len(self.table.rows), "line", "lines")
                 text = (
-                    f"no {word} is read: the heads are {heads} (split at"
-                    f" {shown(self.table.separator)}), with {lines} below; a list has the columns"
-                    " who, what and cost, a matrix things in its first line and persons in its"
-                    " first column"
+                    f"no {word} is read: the heads are {self.table.heads_text()}, with {lines}"
+                    " below; a list has the columns who, what and cost, a matrix things in its"
+                    " first line and persons in its first column"
                 )
                 faults.add(At(self.table, self.table.head_line), "nothing", text)
                 break

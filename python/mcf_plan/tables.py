@@ -7,6 +7,7 @@ import re
 import unicodedata
 
 from .faults import At, Faults, bad_table, shown
+from .words import listed
 
 # How tables are read: the mark before decimals, the encoding, and own heads by those that are
 # wanted.
@@ -149,9 +150,9 @@ class Table:
                 At(self, self.head_line, lacking[0]),
                 "no column",
                 (
-                    f"there is no such column among {', '.join(map(shown, self.titles))} (split at"
-                    f" {shown(self.separator)}); {hint} {', '.join(wanted)}; where a head has"
-                    f" another name, say so: --map {lacking[0]}=NAME"
+                    f"there is no such column among {self.heads_text()}; {hint}"
+                    f" {', '.join(wanted)}; where a head has another name, say so:"
+                    f" --map {lacking[0]}=NAME"
                 ),
             )
         for head in wanted:
@@ -159,6 +160,10 @@ class Table:
                 faults.add(
                     At(self, self.head_line, head), "two columns", "there are two such columns"
                 )
+
+    def heads_text(self):
+        """The heads as they were read, the first ones of many."""
+        return f"{listed(list(map(shown, self.titles)))} (split at {shown(self.separator)})"
 
     def columns(self, wanted):
         """The places of the columns with these heads, each of which has to be there once."""
