@@ -4,6 +4,8 @@ import { BadTable, Faults, at, listed, shown } from './faults.js';
 const SEPARATOR_LINE = /^"?sep=([^" ])"?\s*$/i;
 // The separators that heads show by themselves.
 export const SEPARATORS = [',', ';', '\t'];
+// In how many lines heads are looked for that aren't in the first.
+const LOOKED = 10;
 // What other files begin with.
 const OTHER_FILES = [
   [[0x1f, 0x8b], 'this is compressed (gzip): unpack it first'],
@@ -102,6 +104,7 @@ export class Table {
     this.titles = records[0].cells;
     this.rows = records.slice(1);
     this.heads = this.titles.map(fold);
+    this.own = new Map(Object.entries(heads));
     for (const [head, own] of Object.entries(heads)) {
       const place = this.heads.indexOf(fold(own));
       if (place < 0) continue;
@@ -115,10 +118,12 @@ export class Table {
   need(wanted, faults, hint = 'wanted are') {
     const lacking = wanted.filter((head) => !this.heads.includes(head));
     if (lacking.length) {
+      const below = this.lineWith(lacking.map((head) => this.own.get(head) || head));
+      const where = below ? `, but in line ${below}: heads have to be in the first line` : '';
       faults.add(
         at(this, this.headLine, lacking[0]),
         'no column',
-        `there is no such column among ${this.headsText()}; ${hint} ${wanted.join(', ')}; where a head has another name, say so: `
+        `there is no such column among ${this.headsText()}${where}; ${hint} ${wanted.join(', ')}; where a head has another name, say so: `
           + `--map ${lacking[0]}=NAME`
       );
     }
@@ -127,6 +132,15 @@ export class Table {
         at(this, this.headLine, head), 'two columns', 'there are two such columns'
       );
     }
+  }
+
+  // The line, of the first ones below the heads, that has these, however it was split; or null.
+  lineWith(heads) {
+    for (const { line, cells } of this.rows.slice(0, LOOKED)) {
+      const found = new Set(cells.join(',').split(/[,;\t]/).map((cell) => fold(cell.trim())));
+      if (heads.every((head) => found.has(fold(head)))) return line;
+    }
+    return null;
   }
 
   // The heads as they were read, the first ones of many.
@@ -167,11 +181,16 @@ export class Table {
 export function checkHeads(tables, reading, faults) {
   const titles = new Set(tables.flatMap((table) => table.titles.map(fold)));
   for (const [head, own] of Object.entries(reading.heads || {})) {
-    if (!titles.has(fold(own))) {
-      const last = tables[tables.length - 1];
-      faults.add(at(last, last.headLine, own), 'map', `there is no such column, which --map ${head}=${own} names`, own);
-    }
+    if (!titles.has(fold(own))) noteLacking(tables, head, own, faults);
   }
+}
+
+// Notes that no table has a column of the planner's; if a line below the heads has it, of that table.
+function noteLacking(tables, head, own, faults) {
+  const table = tables.find((it) => it.lineWith([own])) || tables[tables.length - 1], below = table.lineWith([own]);
+  const [other] = tables.filter((it) => it !== table);
+  const where = below ? `; it is in line ${below}, and heads have to be in the first line` : other ? `, nor in ${other.name}` : '';
+  faults.add(at(table, table.headLine, own), 'map', `there is no such column, which --map ${head}=${own} names${where}`, own);
 }
 
 // The name that a cell has: any text of one line that isn't empty.

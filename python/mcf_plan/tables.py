@@ -24,6 +24,8 @@ CONTROL = re.compile("[\x00-\x1f\x7f-\x9f]")
 SEPARATOR_LINE = re.compile(r'"?sep=([^" ])"?\s*', re.IGNORECASE)
 # The separators that heads show by themselves.
 SEPARATORS = ",;\t"
+# In how many lines heads are looked for that aren't in the first.
+LOOKED = 10
 # What other files begin with.
 OTHER_FILES = {
     b"\x1f\x8b": "this is compressed (gzip): unpack it first",
@@ -108,7 +110,7 @@ class Table:
             raise bad_table(
                 f"{name}, line 1: the table is empty; its first line has the heads of the columns"
             )
-        (self.head_line, self.titles), self.rows = records[0], records[1:]
+        (self.head_line, self.titles), self.rows, self.own = records[0], records[1:], reading.heads
         self.heads = [title.casefold() for title in self.titles]
         for wanted, own in reading.heads.items():
             if own.casefold() in self.heads:
@@ -146,11 +148,13 @@ class Table:
         """Notes the columns that are wanted and aren't there, or are there twice."""
         lacking = [head for head in wanted if head not in self.heads]
         if lacking:
+            below = self.line_with([self.own.get(head, head) for head in lacking])
+            where = f", but in line {below}: heads have to be in the first line" if below else ""
             faults.add(
                 At(self, self.head_line, lacking[0]),
                 "no column",
                 (
-                    f"there is no such column among {self.heads_text()}; {hint}"
+                    f"there is no such column among {self.heads_text()}{where}; {hint}"
                     f" {', '.join(wanted)}; where a head has another name, say so:"
                     f" --map {lacking[0]}=NAME"
                 ),
@@ -160,6 +164,14 @@ class Table:
                 faults.add(
                     At(self, self.head_line, head), "two columns", "there are two such columns"
                 )
+
+    def line_with(self, heads):
+        """The line, of the first ones below the heads, that has these, however it was split."""
+        for line, cells in self.rows[:LOOKED]:
+            found = {cell.strip(BLANKS).casefold() for cell in re.split("[,;\t]", ",".join(cells))}
+            if {head.casefold() for head in heads} <= found:
+                return line
+        return None
 
     def heads_text(self):
         """The heads as they were read, the first ones of many."""

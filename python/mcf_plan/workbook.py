@@ -27,13 +27,22 @@ def tables_of(paths, wanted, reading, faults):
     titles = {title.casefold() for table in found for title in table.titles}
     for head, own in reading.heads.items():
         if own.casefold() not in titles:
-            faults.add(
-                At(found[-1], found[-1].head_line, own),
-                "map",
-                f"there is no such column, which --map {head}={own} names",
-                own,
-            )
+            note_lacking(found, head, own, faults)
     return found
+
+
+def note_lacking(tables, head, own, faults):
+    """Notes that no table has a column of the planner's; if a line below the heads has it, of that
+    table."""
+    table = next((table for table in tables if table.line_with([own])), tables[-1])
+    below, others = table.line_with([own]), [other.name for other in tables if other is not table]
+    where = (
+        f"; it is in line {below}, and heads have to be in the first line"
+        if below
+        else "".join(f", nor in {other}" for other in others)
+    )
+    text = f"there is no such column, which --map {head}={own} names{where}"
+    faults.add(At(table, table.head_line, own), "map", text, own)
 
 
 def openpyxl_for(path):
