@@ -45,7 +45,18 @@ function totals(expect) {
   expect(totalsOf({ count: 3 }, [1], '').length === 0, 'a sheet without totals');
 }
 
+// Near the answer: what looks like a slip, and the columns that are carried along.
+function leads(expect) {
+  const places = 'name,supply,Region\nA,1,n\nB,1,s\n', routes = 'from,to,most,cost,min lot\nA,B,,1,5\n';
+  const plan = planOf(places, routes, [0, 1, 1], { unused: true }), blocked = { net: plan.net, eased: plan.net, isUnbalanced: false, bottlenecks: [] };
+  for (const { lead } of [planShown(plan), blockedShown(blocked)]) {
+    expect(lead[0].startsWith('Warning: no supply is below 0, so no place takes anything, and all that is sent stays: was'), lead[0]);
+    expect(lead.includes('Columns carried along, not used: Region, min lot.'), lead.join('; '));
+  }
+}
+
 export default function test(expect) {
+  leads(expect);
   totals(expect);
   steps(expect);
   delivered(expect);
