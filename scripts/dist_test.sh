@@ -11,6 +11,8 @@ top=$PWD
 dist=$top/bin/dist
 failed=0
 export PYTHONDONTWRITEBYTECODE=1
+# What is packed is what is run, and no other module or library.
+unset PYTHONPATH MCF_LIBRARY
 
 skip() { echo "dist-test: skipped: $1"; }
 

@@ -3,6 +3,7 @@
 #
 #     scripts/dist_used.sh EXAMPLES FOLDER
 set -eu
+unset PYTHONPATH MCF_LIBRARY
 examples=$1
 out=$2
 
