@@ -12,7 +12,9 @@ cc -shared -o bin/libmcf.so.1 -Wl,-soname,libmcf.so.1 -Wl,-z,text,-z,defs,-z,rel
     -Wl,--whole-archive "$built" -Wl,--no-whole-archive "$kit/c/liblibc_c.a"
 # A copy and no link: the gate takes no links in the repository's folder.
 rm -f bin/libmcf.so && cp bin/libmcf.so.1 bin/libmcf.so
-rm -f bin/libmcf.a
-printf 'create bin/libmcf.a\naddlib %s\naddlib %s\nsave\nend\n' "$built" "$kit/c/liblibc_c.a" | ar -M
+# One object, in which the allocator's names are local, so that another static library of the kit can stand beside it.
+ld -r -o bin/libmcf.o --whole-archive "$built" --no-whole-archive "$kit/c/liblibc_c.a"
+objcopy --wildcard --keep-global-symbol='mcf_*' bin/libmcf.o
+rm -f bin/libmcf.a && ar rcsD bin/libmcf.a bin/libmcf.o && rm bin/libmcf.o
 cp library/mcf.h bin/mcf.h
 rt version > bin/library.kit

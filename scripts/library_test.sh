@@ -60,6 +60,7 @@ if has cc C; then
         step "calls under valgrind" valgrind -q --error-exitcode=9 --leak-check=full "$out/calls" $(texts)
         step "hostile calls under valgrind" valgrind -q --error-exitcode=9 --leak-check=full "$out/hostile" 60 examples/*.min examples/*.asn
     fi
+    step "names of the static library" sh -c "nm -g --defined-only bin/libmcf.a | awk 'NF == 3 && \$3 !~ /^mcf_[a-z_]*\$/ {print; bad = 1} END {exit bad}'"
     step "exported names" sh -c "nm -D --defined-only bin/libmcf.so | awk '\$2 != \"A\" && \$3 !~ /^mcf_[a-z_]*@@MCF_1\$/ {print; bad = 1} END {exit bad}'"
 fi
 has c++ C++ && step "the header in C++" c++ -std=c++98 -Wall -Wextra -Werror -Wno-long-long -x c++ -fsyntax-only library/mcf.h
