@@ -4,7 +4,19 @@ from array import array
 from itertools import chain
 from operator import index
 from typing import AbstractSet as Set
-from typing import Any, Dict, Hashable, Iterable, List, Mapping, Optional, Sequence, Tuple, Union
+from typing import (
+    Any,
+    Dict,
+    Hashable,
+    Iterable,
+    List,
+    Mapping,
+    Optional,
+    Sequence,
+    Tuple,
+    Type,
+    Union,
+)
 
 from ._library import BLOCKED, CODES, REFUSED, SIDES, ArcArrays, Choice, Verdict, choice_of, marked
 from ._numbers import exact, is_float, limited, scale_of, unscaled
@@ -20,8 +32,17 @@ Number = Union[int, float]
 Arc = Tuple[int, int, int, Any, int]
 
 
+def _raised_again(kind: Type[BaseException], *words: Any) -> BaseException:
+    """An exception of a kind with its words alone, for copies and pickles, which then put its
+    data."""
+    return kind.__new__(kind, *words)
+
+
 class MCFError(Exception):
-    """What this package raises of an instance."""
+    """What this package raises of an instance. It can be copied and pickled, with all its data."""
+
+    def __reduce__(self) -> Tuple[Any, ...]:
+        return (_raised_again, (type(self),) + self.args, self.__dict__)
 
 
 class Refused(MCFError, ValueError):

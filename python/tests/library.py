@@ -1,8 +1,11 @@
 """The tests of the package mcf, with the standard library alone; those of networkx and scipy where
 they are installed. MCF_LIBRARY names the library."""
+import copy
 import doctest
 import importlib
+import multiprocessing
 import os
+import pickle
 import random
 import sys
 import threading
@@ -27,6 +30,50 @@ def load_tests(loader, tests, pattern):
             )
         )
     return tests
+
+
+def solve_by_place(supply):
+    """One of the calls of a pool: no flow is feasible where more than 3 are sent."""
+    return mcf.solve([supply, -supply], [(0, 1, 3, 1)]).cost
+
+
+class Raised(unittest.TestCase):
+    """Exceptions that go from one process to another."""
+
+    def raised(self):
+        yield mcf.Refused(3, None, "cost", 10)
+        yield mcf.Refused(None, "mill", "supply")
+        yield mcf.Infeasible(["x"], "send", 1.5, 0, [2])
+        yield mcf.Unbounded([1, 2])
+        yield mcf.NotAccepted("a word")
+        for supplies, arcs in (([0, 0], [(0, 1, 1, 10**16)]), ([1, -1], [])):
+            with self.assertRaises(mcf.MCFError) as c:
+                mcf.solve(supplies, arcs)
+            yield c.exception
+
+    def test_copies(self):
+        for error in self.raised():
+            error.note = "added"
+            copies = [copy.copy(error), copy.deepcopy(error)]
+            copies += [
+                pickle.loads(pickle.dumps(error, protocol))
+                for protocol in range(pickle.HIGHEST_PROTOCOL + 1)
+            ]
+            for other in copies:
+                self.assertEqual(
+                    (type(other), str(other), other.args, vars(other)),
+                    (type(error), str(error), error.args, vars(error)),
+                )
+
+    def test_pool(self):
+        with multiprocessing.Pool(2) as pool:
+            self.assertEqual(pool.map_async(solve_by_place, [1, 2, 3]).get(20), [1, 2, 3])
+            with self.assertRaises(mcf.Infeasible) as c:
+                pool.map_async(solve_by_place, [1, 5, 2]).get(20)
+            self.assertEqual((c.exception.must, c.exception.can), (5, 3))
+            with self.assertRaises(mcf.Refused) as c:
+                pool.map_async(solve_by_place, [1, 10**19]).get(20)
+            self.assertEqual((c.exception.node, c.exception.reason), (0, "supply"))
 
 
 class Solving(unittest.TestCase):
