@@ -11,6 +11,9 @@ from ._library import BLOCKED, CODES, FLOW, PairArrays, choice_of
 from ._numbers import exact, is_float, limited, scale_of
 from ._solving import COST, Infeasible, NotAccepted, Refused, solve_whole, suited
 
+# The bytes of the greatest template that is kept: at most eight are.
+KEPT = 2**20
+
 
 def linear_sum_assignment(
     cost_matrix: Any, maximize: bool = False, *, engine: str = "auto", check: bool = True
@@ -96,15 +99,24 @@ def _whole(flat: list, maximize: bool):
     return [None if c is None else -c for c in flat] if maximize else flat
 
 
-@lru_cache(maxsize=8)
-def _template(n: int) -> array:
-    """The pairs of a square matrix of n rows, without their costs."""
-    pairs = array("q", bytes(16 * n * n))
+def _template(n: int) -> "array[int]":
+    """The pairs of a square matrix of n rows, with costs of 0."""
+    halves = array("I", bytes(16 * n * n))
+    halves[1::4] = array("I", range(1, n + 1)) * n
     for row in range(n):
-        pairs[2 * row * n : 2 * (row + 1) * n : 2] = array(
-            "q", [row + 1 + ((column + 1) << 32) for column in range(n)]
-        )
+        halves[4 * row * n : 4 * (row + 1) * n : 4] = array("I", [row + 1]) * n
+    pairs = array("q")
+    pairs.frombytes(memoryview(halves).cast("B"))
     return pairs
+
+
+_kept_template = lru_cache(maxsize=8)(_template)
+
+
+def _pairs(n: int) -> "array[int]":
+    """The pairs of a square matrix of n rows, to be filled with costs. Those of a small matrix are
+    kept for the next call."""
+    return _kept_template(n)[:] if 16 * n * n <= KEPT else _template(n)
 
 
 def _square(cells, n: int, engine: str, check: bool) -> List[int]:
@@ -114,7 +126,7 @@ def _square(cells, n: int, engine: str, check: bool) -> List[int]:
     try:
         costs = cells if isinstance(cells, array) else array("q", cells)
         where = None
-        pairs = _template(n)[:]
+        pairs = _pairs(n)
         pairs[1::2] = costs
     except (TypeError, OverflowError):
         where = [place for place, c in enumerate(cells) if c is not None]

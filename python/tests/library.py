@@ -9,6 +9,7 @@ import pickle
 import random
 import sys
 import threading
+import tracemalloc
 import unittest
 from decimal import Decimal
 from fractions import Fraction
@@ -202,6 +203,17 @@ class Solving(unittest.TestCase):
         with self.assertRaises(mcf.Refused) as c:
             mcf.linear_sum_assignment([[1, 2], [10**20, 3]])
         self.assertEqual((c.exception.arc, c.exception.reason), (2, "cost"))
+
+    def test_what_is_kept_of_great_matrices(self):
+        mcf.linear_sum_assignment([[0] * 3] * 3)
+        tracemalloc.start()
+        for n in range(300, 306):
+            matrix = [list(range(n))] * n
+            self.assertEqual(len(set(mcf.linear_sum_assignment(matrix)[1])), n)
+        del matrix
+        kept, _ = tracemalloc.get_traced_memory()
+        tracemalloc.stop()
+        self.assertLess(kept, 10**6)
 
     def test_random_matrices(self):
         chance = random.Random(5)
