@@ -162,7 +162,8 @@ def choice_of(engine: str, pricing: str, block: Optional[int], form: int = 1) ->
         raise ValueError("no such engine or pricing rule: %s" % error) from None
 
 
-def _failed(status: int) -> Exception:
+def failed(status: int) -> Exception:
+    """What a status says that is no answer."""
     if status == NO_MEMORY:
         return MemoryError("mcf")
     if status == WIDE:
@@ -187,7 +188,7 @@ def solve_text(text: bytes, choice: Choice) -> Tuple[int, bytes]:
             break
         room = used.value
     if status > REFUSED:
-        raise _failed(status)
+        raise failed(status)
     return status, ctypes.string_at(buffer, used.value)
 
 
@@ -197,7 +198,7 @@ def check_text(text: bytes, answer: bytes) -> Verdict:
     told = Told()
     status = _lib.mcf_check(text, len(text), answer, len(answer), told)
     if status == NO_MEMORY:
-        raise _failed(status)
+        raise failed(status)
     return Verdict(status == 0, VERDICTS[told.kind], told.number, CODES[told.code])
 
 
@@ -216,7 +217,7 @@ class Arrays:
         """The status: FLOW, BLOCKED or REFUSED, with what is told of it."""
         status = self._solve(self.problem, choice, *self._rooms, self.told)
         if status > REFUSED:
-            raise _failed(status)
+            raise failed(status)
         return status
 
     def check(self) -> Verdict:
@@ -224,7 +225,7 @@ class Arrays:
         told = Told(0, 0, self.told.negative, self.told.low, self.told.high)
         status = self._check(self.problem, *self._rooms, told)
         if status > 1:
-            raise _failed(status)
+            raise failed(status)
         return Verdict(status == 0, VERDICTS[told.kind], told.number, "")
 
     def _room(self, arcs: int, nodes: int) -> None:

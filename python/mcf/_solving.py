@@ -18,18 +18,39 @@ from typing import (
     Union,
 )
 
-from ._library import BLOCKED, CODES, REFUSED, SIDES, ArcArrays, Choice, Verdict, choice_of, marked
+from ._library import (
+    BLOCKED,
+    CODES,
+    REFUSED,
+    SIDES,
+    WIDE,
+    ArcArrays,
+    Choice,
+    Verdict,
+    choice_of,
+    failed,
+    marked,
+)
+from ._limits import (
+    BOUND,
+    Arc,
+    Limited,
+    Limits,
+    binding,
+    cycle_through,
+    limited_arcs,
+    lowered,
+    residual_arcs,
+)
 from ._numbers import exact, is_float, limited, scale_of, unscaled
 
-BOUND, COST, NODE, NODES = 10**18, 10**15, 2**32 - 2, 10**6
+COST, NODE, NODES = 10**15, 2**32 - 2, 10**6
 INFINITE = float("inf")
 # A flow problem of more nodes than this goes to the search that is judged: docs/BENCH.md, "What the
 # tools choose".
 LARGE = 2**14
 
 Number = Union[int, float]
-# The ends, low, cap and cost; a cap may be None where nothing is solved yet.
-Arc = Tuple[int, int, int, Any, int]
 
 
 def _raised_again(kind: Type[BaseException], *words: Any) -> BaseException:
@@ -47,8 +68,9 @@ class MCFError(Exception):
 
 class Refused(MCFError, ValueError):
     """The instance is beyond the limits: `arc` or `node` is the place of the first fault, from 0,
-    and `reason` what is wrong: size, supply, node, bound, order, cost or total. `scale` is what
-    numbers of its kind were multiplied by, to be whole.
+    and `reason` what is wrong: size, supply, node, bound, order, cost or total, or unlimited where
+    no answer is within 10^18 on an arc without limit. `scale` is what numbers of its kind were
+    multiplied by, to be whole.
     """
 
     def __init__(self, arc: Optional[int], node: Any, reason: str, scale: int = 1):
@@ -130,7 +152,7 @@ def suited(
     )
 
 
-def _packed(arcs: List[Arc]) -> bytes:
+def _packed(arcs: Sequence[Limited]) -> bytes:
     """The arcs as the library has them; what is past a limit stays past it."""
     try:
         numbers = [(u + 1, v + 1, low, cap, cost) for u, v, low, cap, cost in arcs]
@@ -149,7 +171,7 @@ def _packed(arcs: List[Arc]) -> bytes:
         return struct.pack("=" + "IIqqq" * len(arcs), *chain.from_iterable(numbers))
 
 
-def _supplied(supplies: List[int]) -> array:
+def _supplied(supplies: Sequence[int]) -> array:
     try:
         return array("q", supplies)
     except OverflowError:
@@ -157,7 +179,7 @@ def _supplied(supplies: List[int]) -> array:
 
 
 def _must_and_can(
-    supplies: Sequence[int], arcs: List[Arc], nodes: List[int], side: str
+    supplies: Sequence[int], arcs: Sequence[Limited], nodes: List[int], side: str
 ) -> Tuple[int, int, List[int]]:
     """What the set must send or take, what it can at most, and the arcs that limit it."""
     inside = set(nodes)
@@ -175,79 +197,99 @@ def _must_and_can(
     return must, can, limiting
 
 
-def _negative_cycle(
-    arcs: List[Arc], unlimited: List[int], flow: Sequence[int], prices: Sequence[int], most: int
-) -> List[int]:
-    """A cycle of arcs without limits, all of reduced cost 0 or less and one below."""
-    out: Dict[int, List[int]] = {}
-    for k in unlimited:
-        if flow[k] > arcs[k][2]:
-            out.setdefault(arcs[k][0], []).append(k)
-    for k in unlimited:
-        u, v, _, _, cost = arcs[k]
-        if flow[k] != most or cost - prices[u] + prices[v] >= 0:
-            continue
-        came = {v: -1}
-        stack = [v]
-        while stack:
-            w = stack.pop()
-            if w == u:
-                cycle = []
-                while came[w] >= 0:
-                    cycle.append(came[w])
-                    w = arcs[came[w]][0]
-                return [k] + cycle[::-1]
-            for j in out.get(w, ()):
-                if arcs[j][1] not in came:
-                    came[arcs[j][1]] = j
-                    stack.append(arcs[j][1])
+def _refused(problem: ArcArrays) -> Refused:
+    """The first fault of the arrays."""
+    reason, place = CODES[problem.told.code], problem.told.number - 1
+    return Refused(
+        None if reason in ("size", "supply") else place,
+        place if reason == "supply" else None,
+        reason,
+    )
+
+
+def _limiting(place: int, cap: Optional[int]) -> Refused:
+    """An arc that would have to carry more than 10^18."""
+    return Refused(place, None, "unlimited" if cap is None else "bound")
+
+
+def _blocked(
+    problem: ArcArrays, supplies: Sequence[int], given: Sequence[Arc], limits: Limits, check: bool
+) -> MCFError:
+    """Why no flow is feasible, or none whose arcs carry 10^18 at most."""
+    nodes, side = marked(problem.prices), SIDES[problem.told.code]
+    must, can, limiting = _must_and_can(supplies, limits.arcs, nodes, side)
+    if check and must <= can:
+        raise NotAccepted("a set of nodes doesn't block")
+    for k in limiting:
+        if k in limits.short:
+            return _limiting(k, given[k][3])
+    return Infeasible(nodes, side, must, can, limiting)
+
+
+def _unbounded(
+    limits: Limits, given: Sequence[Arc], flow: Sequence[int], bound: List[int]
+) -> Unbounded:
+    """A cycle through one of the arcs that are bound by a limit that no least flow needs."""
+    unlimited = [k for k in limits.opened if given[k][3] is None]
+    for k in bound:
+        cycle = cycle_through(k, limits, unlimited, flow)
+        if cycle:
+            return Unbounded(cycle)
     raise NotAccepted("a flow without limits goes round no cycle")
 
 
-def solve_whole(
-    supplies: List[int], arcs: List[Arc], choice, check: bool
-) -> Tuple[ArcArrays, Optional[Verdict]]:
-    """Solves an instance of whole numbers whose nodes are numbered from 0; a cap of None is none.
+def _reprice(problem: ArcArrays, given: Sequence[Arc], limits: Limits) -> None:
+    """Finds prices by which a flow is least though an arc is at a limit of 10^18 that isn't its
+    own, or raises what says that it isn't least without that limit."""
+    prices, cycle = lowered(problem.prices, residual_arcs(limits, problem.flow))
+    if not cycle:
+        try:
+            for node, price in enumerate(prices):
+                problem.prices[node] = price
+        except OverflowError:
+            raise failed(WIDE) from None
+        return
+    free = [(a[0], a[1], a[4], k) for k, a in enumerate(given) if a[3] is None]
+    _, turned = lowered([0] * len(prices), free)
+    if turned:
+        raise Unbounded([k for _, _, _, k in turned])
+    k = next((k for _, _, _, k in cycle if k in limits.short), min(limits.short))
+    raise _limiting(k, given[k][3])
 
-    An arc without limit gets one that is greater than any least flow needs. The prices tell whether
-    it mattered: where each such arc has a reduced cost of 0 or more, they show that the flow is
-    least without the limits too; and where one is below 0, there is a cycle of negative cost
-    without limits.
-    """
-    unlimited = [place for place, arc in enumerate(arcs) if arc[3] is None]
-    if unlimited:
-        most = 1 + sum(b for b in supplies if b > 0)
-        most += sum(abs(low) + abs(cap or 0) for _, _, low, cap, _ in arcs)
-        arcs = [
-            arc if arc[3] is not None else (arc[0], arc[1], arc[2], most, arc[4]) for arc in arcs
-        ]
-    problem = ArcArrays(_supplied(supplies), len(supplies), _packed(arcs), len(arcs))
-    status = problem.solve(choice)
-    told = problem.told
-    if status == REFUSED:
-        reason = CODES[told.code]
-        place = told.number - 1
-        raise Refused(
-            None if reason in ("size", "supply") else place,
-            place if reason == "supply" else None,
-            reason,
-        )
-    if status == BLOCKED:
-        nodes, side = marked(problem.prices), SIDES[told.code]
-        must, can, limiting = _must_and_can(supplies, arcs, nodes, side)
-        if check and must <= can:
-            raise NotAccepted("a set of nodes doesn't block")
-        raise Infeasible(nodes, side, must, can, limiting)
-    verdict = problem.check() if check else None
-    if verdict is not None and not verdict:
+
+def _judged(problem: ArcArrays) -> Verdict:
+    """The verdict of the checker, which accepts."""
+    verdict = problem.check()
+    if not verdict:
         raise NotAccepted(repr(verdict))
-    if unlimited:
-        flow, prices = problem.flow, problem.prices
-        if any(
-            flow[k] == most and arcs[k][4] - prices[arcs[k][0]] + prices[arcs[k][1]] < 0
-            for k in unlimited
-        ):
-            raise Unbounded(_negative_cycle(arcs, unlimited, flow, prices, most))
+    return verdict
+
+
+def solve_whole(
+    supplies: Sequence[int], arcs: Sequence[Arc], choice: Choice, check: bool, beyond: bool = False
+) -> Tuple[ArcArrays, Optional[Verdict]]:
+    """Solves an instance of whole numbers whose nodes are numbered from 0; a cap of None is none,
+    and one that is past 10^18 is taken where `beyond` says so.
+
+    An arc without limit gets the least that no least flow needs, but 10^18 at most. The prices tell
+    whether it mattered: where each such arc has a reduced cost of 0 or more, they show that the
+    flow is least without the limits too; and where one is below 0, there is a cycle of negative
+    cost without limits, unless 10^18 is what bound.
+    """
+    limits = limited_arcs(supplies, arcs, beyond)
+    problem = ArcArrays(_supplied(supplies), len(supplies), _packed(limits.arcs), len(arcs))
+    status = problem.solve(choice)
+    if status == REFUSED:
+        raise _refused(problem)
+    if status == BLOCKED:
+        raise _blocked(problem, supplies, arcs, limits, check)
+    verdict = _judged(problem) if check else None
+    bound = binding(limits, problem.flow, problem.prices)
+    if bound and not limits.short:
+        raise _unbounded(limits, arcs, problem.flow, bound)
+    if bound:
+        _reprice(problem, arcs, limits)
+        verdict = _judged(problem) if check else None
     return problem, verdict
 
 
@@ -349,9 +391,12 @@ def solve(
 
     Raises Infeasible, Unbounded or Refused.
 
-    >>> r = solve({"mill": 4, "shop": -4}, [("mill", "depot", 2, 1), ("mill", "shop", None, 5),
-    ("depot", "shop", 3, 1)]) >>> r.cost, r.flow, r.prices (14, [2, 2, 2], {'mill': 0, 'shop': -5,
-    'depot': -4}) >>> solve([1, -1], [(1, 0, 5, 3)]) Traceback (most recent call last):
+    >>> arcs = [("mill", "depot", 2, 1), ("mill", "shop", None, 5), ("depot", "shop", 3, 1)]
+    >>> r = solve({"mill": 4, "shop": -4}, arcs)
+    >>> r.cost, r.flow, r.prices
+    (14, [2, 2, 2], {'mill': 0, 'shop': -5, 'depot': -4})
+    >>> solve([1, -1], [(1, 0, 5, 3)])
+    Traceback (most recent call last):
       ..
     mcf._solving.Infeasible: 1 node(s) must send 1 and can send 0
     """

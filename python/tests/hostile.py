@@ -307,7 +307,7 @@ class Numbers(unittest.TestCase):
         self.assertEqual(
             mcf.solve([BOUND - 1, 1 - BOUND], [(0, 1, None, COST)]).cost, (BOUND - 1) * COST
         )
-        self.assertRaises(mcf.Refused, mcf.solve, [BOUND, -BOUND], [(0, 1, None, 1)])
+        self.assertEqual(mcf.solve([BOUND, -BOUND], [(0, 1, None, 1)]).cost, BOUND)
         self.assertRaises(mcf.Unbounded, mcf.solve, [0], [(0, 0, None, -1)])
         self.assertRaises(mcf.Refused, mcf.solve, [0, 0], [(0, 5, None, -1)])
 

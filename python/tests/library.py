@@ -13,10 +13,12 @@ import tracemalloc
 import unittest
 from decimal import Decimal
 from fractions import Fraction
+from unittest import mock
 
 sys.path.insert(0, os.path.dirname(os.path.dirname(os.path.abspath(__file__))))
 import mcf
 import mcf._library
+import mcf._limits
 import mcf._solving
 import mcf.assignment
 import mcf.simple
@@ -262,6 +264,84 @@ class Solving(unittest.TestCase):
         threads = [threading.Thread(target=work, args=(k,)) for k in range(1, 9)]
         [t.start() for t in threads], [t.join() for t in threads]
         self.assertEqual(wrong, [])
+
+
+def solved(supplies, arcs):
+    """The cost, or the name of what is raised."""
+    try:
+        return mcf.solve(supplies, arcs).cost
+    except mcf.MCFError as error:
+        return type(error).__name__
+
+
+class WithoutLimits(unittest.TestCase):
+    """Arcs without limit, whatever stands for none."""
+
+    def test_nothing_given_is_past_a_limit(self):
+        bound = 10**18
+        self.assertEqual(solved([1, -1], [(0, 1, None, 1), (0, 1, bound, 5)]), 1)
+        self.assertEqual(solved([1, -1], [(0, 1, None, 1)] + [(0, 1, bound // 10, 5)] * 10), 1)
+        self.assertEqual(
+            solved([bound // 10] * 10 + [-bound], [(k, 10, None, k) for k in range(10)]),
+            45 * bound // 10,
+        )
+        self.assertEqual(solved([bound, -bound], [(0, 1, None, 1)]), bound)
+        self.assertEqual(
+            solved([0, 0], [(0, 1, bound - 5, None, 1), (1, 0, bound - 5, bound, 1)]),
+            2 * bound - 10,
+        )
+        self.assertEqual(solved([0, 0], [(0, 1, None, -2), (1, 0, bound, 1)]), -bound)
+        self.assertEqual(
+            solved([1, -1], [(0, 1, -bound, None, 1), (0, 1, -3, bound, 0)]), 1 - bound
+        )
+
+    def test_prices_of_an_arc_that_is_at_the_greatest_limit(self):
+        bound = 10**18
+        r = mcf.solve(
+            [bound, -bound, 1, -1], [(0, 1, None, 1), (2, 1, 10, 5), (1, 3, 10, 0), (1, 2, 10, 0)]
+        )
+        self.assertEqual((r.cost, r.flow[0], r.verdict.accepted), (bound + 5, bound, True))
+        self.assertGreaterEqual(1 - r.prices[0] + r.prices[1], 0)
+
+    def test_an_arc_that_would_carry_too_much(self):
+        bound = 10**18
+        for supplies, arcs, place in (
+            ([bound, bound, 0, -bound, -bound], [(0, 2, None, 1), (1, 2, None, 1)], 3),
+            ([bound, 0, -bound], [(0, 1, 1, 9), (0, 1, None, 1), (1, 2, None, 1), (2, 1, 5, 5)], 0),
+        ):
+            if len(supplies) == 5:
+                arcs = arcs + [(4, 4, 1, 1), (2, 3, None, 1), (3, 4, None, 1)]
+                with self.assertRaises(mcf.Refused) as c:
+                    mcf.solve(supplies, arcs)
+                self.assertEqual((c.exception.arc, c.exception.reason), (place, "unlimited"))
+            else:
+                self.assertEqual(solved(supplies, arcs), 2 * bound)
+
+    def test_all_that_a_small_limit_does(self):
+        chance, seen = random.Random(8), {}
+        for _ in range(2500):
+            n = chance.randrange(1, 6)
+            supplies = [chance.randrange(-4, 5) for _ in range(n)]
+            supplies[-1] -= sum(supplies)
+            arcs = []
+            for _ in range(chance.randrange(9)):
+                low = chance.choice((0, 0, 0, -2, 1, 3))
+                cap = chance.choice((None, None, low + chance.randrange(7)))
+                ends = chance.randrange(n), chance.randrange(n)
+                arcs.append((*ends, low, cap, chance.randrange(-3, 9)))
+            least = solved(supplies, arcs)
+            limited = solved(supplies, [a[:3] + (7 if a[3] is None else a[3], a[4]) for a in arcs])
+            with mock.patch.object(mcf._limits, "BOUND", 7):
+                found = solved(supplies, arcs)
+            if found == "Refused":
+                self.assertTrue(limited == "Infeasible" or limited > least, (supplies, arcs))
+            else:
+                self.assertEqual(found, least, (supplies, arcs))
+            kind = found if isinstance(found, str) else "flow"
+            seen[kind] = seen.get(kind, 0) + 1
+        self.assertTrue(
+            all(seen[k] > 20 for k in ("flow", "Infeasible", "Unbounded", "Refused")), seen
+        )
 
 
 def _orders(n):
