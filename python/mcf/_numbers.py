@@ -12,6 +12,18 @@ def is_float(value: Any) -> bool:
     return isinstance(value, float) or getattr(getattr(value, "dtype", None), "kind", "") == "f"
 
 
+def listed(values: Any) -> Any:
+    """An array of numpy as a list, in which a float of whatever width is the decimal that it prints
+    as; another iterable as it is."""
+    if not hasattr(values, "tolist"):
+        return values
+    dtype = getattr(values, "dtype", None)
+    # Wider ones stay what they are, and print as themselves.
+    if getattr(dtype, "kind", "") == "f" and dtype.itemsize < 8:
+        return values.astype(str).astype(float).tolist()
+    return values.tolist()
+
+
 def exact(value: Any) -> Whole:
     """A number as an int or a Fraction. An exponent of more than three digits is past all limits,
     and isn't multiplied out."""

@@ -42,7 +42,7 @@ from ._limits import (
     lowered,
     residual_arcs,
 )
-from ._numbers import exact, is_float, limited, scale_of, unscaled
+from ._numbers import exact, is_float, limited, listed, scale_of, unscaled
 
 COST, NODE, NODES = 10**15, 2**32 - 2, 10**6
 INFINITE = float("inf")
@@ -291,11 +291,6 @@ def solve_whole(
         _reprice(problem, arcs, limits)
         verdict = _judged(problem) if check else None
     return problem, verdict
-
-
-def listed(values):
-    """An array of numpy as a list; another iterable as it is."""
-    return values.tolist() if hasattr(values, "tolist") else values
 
 
 def _numbered(

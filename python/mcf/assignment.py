@@ -8,7 +8,7 @@ from itertools import chain
 from typing import Any, List, Optional, Tuple
 
 from ._library import BLOCKED, CODES, FLOW, PairArrays, choice_of
-from ._numbers import exact, is_float, limited, scale_of
+from ._numbers import exact, is_float, limited, listed, scale_of
 from ._solving import COST, Infeasible, NotAccepted, Refused, solve_whole, suited
 
 # The bytes of the greatest template that is kept: at most eight are.
@@ -61,7 +61,7 @@ def _cells(matrix, maximize: bool):
             cells = array("q")
             cells.frombytes(numpy.ascontiguousarray(table, dtype=numpy.int64).tobytes())
             return cells, height, width, numpy
-        flat = table.ravel().tolist()
+        flat = listed(table.ravel())
     else:
         rows = list(matrix)
         if not all(hasattr(row, "__len__") and not isinstance(row, (str, bytes)) for row in rows):

@@ -457,6 +457,17 @@ class Arrays(unittest.TestCase):
         # A float is the decimal that it prints as, with few digits.
         self.assertEqual(mcf.solve([1, -1], [np.array([0, 1, np.inf, 0.1], "f4")]).cost, 0.1)
 
+    def test_floats_of_arrays_are_what_they_print_as(self):
+        for kind in ("f2", "f4", "f8", ">f4"):
+            table = np.array([[0.1, 0.2], [0.3, 0.5]], kind)
+            self.assertEqual(mcf.linear_sum_assignment(table)[1].tolist(), [1, 0])
+            arcs = np.array([[0, 1, 0.5, 0.1], [0, 1, np.inf, 0.3]], kind)
+            answer = mcf.solve(np.array([0.7, -0.7], kind), arcs)
+            self.assertEqual((answer.cost, answer.flow), (0.11, [0.5, 0.2]))
+        wide = np.array([["0.1", "0.2"], ["0.3", "0.5"]], dtype="U").astype("g")
+        self.assertEqual(mcf.linear_sum_assignment(wide)[1].tolist(), [1, 0])
+        self.assertEqual(mcf.solve([1, -1], np.array([[0, 1, 2, "0.1"]]).astype("g")).cost, 0.1)
+
     def test_arrays_that_are_changed_meanwhile(self):
         table, supplies, stopped = np.zeros((60, 60), int), np.array([5, -5]), threading.Event()
         arcs = np.array([[0, 1, 5, 1]] * 3)
