@@ -1,6 +1,7 @@
 """Flow problems solved, and every answer judged."""
 import struct
 from array import array
+from collections import Counter
 from itertools import chain
 from operator import index
 from typing import AbstractSet as Set
@@ -310,10 +311,27 @@ def _numbered(
     )
 
 
+def _by_label(supplies: Any) -> Dict[Hashable, Any]:
+    """What is like a dict without being one, as a Series of pandas, as a dict."""
+    labels, values = [], []
+    for label, value in supplies.items():
+        labels.append(label)
+        values.append(value)
+    found = dict(
+        zip(labels, listed(supplies.to_numpy()) if hasattr(supplies, "to_numpy") else values)
+    )
+    if len(found) != len(labels):
+        (twice, _), *_ = Counter(labels).most_common(1)
+        raise ValueError("a label stands twice among the supplies: %r" % (twice,))
+    return found
+
+
 def _given(supplies: Any, arcs: List[tuple]) -> Tuple[Optional[List[Hashable]], Any, List[tuple]]:
     """Labels where supplies have them, the supplies, and the arcs by the numbers of nodes."""
     if isinstance(supplies, Mapping):
         return _numbered(supplies, arcs)
+    if hasattr(supplies, "items"):
+        return _numbered(_by_label(supplies), arcs)
     if isinstance(supplies, Set):
         raise TypeError("supplies have an order, and a set has none")
     if not isinstance(supplies, int):
@@ -379,7 +397,8 @@ def solve(
     block is asked.
 
     `supplies` is a list by node (nodes are 0, 1, ..), a dict by label, or a number of nodes without
-    supply; a supply is above 0 where the node sends. `arcs` are (from, to, cap, cost) or (from, to,
+    supply; what has labels as a Series of pandas is taken by these, too. A supply is above 0 where the
+    node sends. `arcs` are (from, to, cap, cost) or (from, to,
     low, cap, cost); a cap of None, or an infinite one, is none. Arrays of numpy serve for both.
     Numbers that aren't whole are scaled to whole ones, exactly: a float is the decimal that it
     prints as.

@@ -344,17 +344,58 @@ class WithoutLimits(unittest.TestCase):
         )
 
 
-def _orders(n):
-    import itertools
-
-    return itertools.permutations(range(n))
-
-
 def _installed(name):
     try:
         return importlib.import_module(name)
     except ImportError:
         return None
+
+
+class Series:
+    """A stand-in for what pandas has by that name."""
+
+    def __init__(self, values, index):
+        self.values, self.index = values, index
+
+    def __iter__(self):
+        return iter(self.values)
+
+    def __len__(self):
+        return len(self.values)
+
+    def __getitem__(self, label):
+        return dict(self.items())[label]
+
+    def items(self):
+        return zip(self.index, self.values)
+
+
+class BySeries(unittest.TestCase):
+    kinds = [Series] + ([_installed("pandas").Series] if _installed("pandas") else [])
+
+    def test_labels(self):
+        for kind in self.kinds:
+            r = mcf.solve(kind([5, 0, -5], index=[1, 0, 2]), [(1, 2, 9, 1), (0, 2, 9, 2)])
+            self.assertEqual((r.cost, r.flow, r.prices), (5, [5, 0], {1: 0, 0: 0, 2: -1}))
+            r = mcf.solve(kind([5, 0, -5], index=[2, 1, 0]), [(2, 0, 9, 1)])
+            self.assertEqual(r.flow, [5])
+            r = mcf.solve(kind([0.5, -0.5], index=["a", "b"]), [("a", "c", 1, 1), ("c", "b", 1, 1)])
+            self.assertEqual((r.cost, list(r.prices)), (1, ["a", "b", "c"]))
+            with self.assertRaises(mcf.Infeasible) as c:
+                mcf.solve(kind([1, -1], index=["a", "b"]), [])
+            self.assertEqual(c.exception.nodes, ["a"])
+            self.assertRaisesRegex(ValueError, "'a'", mcf.solve, kind([1, -1], ["a", "a"]), [])
+
+    @unittest.skipUnless(_installed("pandas"), "pandas isn't installed")
+    def test_narrow_floats(self):
+        supplies = _installed("pandas").Series([0.1, -0.1], ["a", "b"], dtype="float32")
+        self.assertEqual(mcf.solve(supplies, [("a", "b", 1, 1)]).flow, [0.1])
+
+
+def _orders(n):
+    import itertools
+
+    return itertools.permutations(range(n))
 
 
 @unittest.skipUnless(_installed("numpy"), "numpy isn't installed")
