@@ -1,8 +1,11 @@
 """libmcf in this process, by ctypes. Calls of several threads run at once: ctypes lets go of the
 interpreter's lock."""
+import _thread
 import ctypes
 import ctypes.util
 import os
+import sys
+import threading
 from array import array
 from typing import Any, List, NamedTuple, Optional, Tuple, Union
 
@@ -45,6 +48,12 @@ VERDICTS = (
     "bad-set",
 )
 SIDES = ("send", "take")
+
+
+# What may last a tenth of a second can be interrupted: a text of more bytes, or arrays of more
+# arcs, where a node counts as 8 of them to solve, and 16 arcs as one to judge. What is shorter
+# isn't worth the thread.
+LASTING_ARCS, LASTING_BYTES = 2**16, 2**18
 
 
 class Choice(ctypes.Structure):
@@ -171,6 +180,45 @@ def failed(status: int) -> Exception:
     return AssertionError("mcf: status %d" % status)
 
 
+def _run(function: Any, words: Any, kept: Any, ended: List[Any], done: Any) -> None:
+    """Calls the library in a thread. What the call reads and writes lives as long as this does."""
+    try:
+        ended.append((function(*words), None))
+    except BaseException as error:
+        ended.append((None, error))
+    finally:
+        done.release()
+
+
+def _called(function: Any, words: Any, kept: Any) -> Any:
+    """What a call of the library answers that may last.
+
+    Python handles signals in the main thread, between its own steps. So the call runs in another
+    thread there, and what a handler raises, as KeyboardInterrupt, comes through at once. The call
+    ends by itself then, with all that it reads and writes kept until it does; nobody else has it.
+    """
+    if (
+        _thread.get_ident() != threading.main_thread().ident
+        or sys.is_finalizing()
+        or _thread.stack_size() != 0
+    ):
+        return function(*words)
+    ended: List[Any] = []
+    done = _thread.allocate_lock()
+    done.acquire()
+    try:
+        _thread.start_new_thread(_run, (function, words, kept, ended, done))
+    except RuntimeError:
+        # There is no thread to be had, as at the interpreter's end.
+        return function(*words)
+    while not done.acquire(True, 0.05):
+        pass
+    answer, error = ended[0]
+    if error is not None:
+        raise error
+    return answer
+
+
 def _bytes(text) -> bytes:
     """A text as bytes, of anything that holds bytes."""
     return text if isinstance(text, bytes) else memoryview(text).tobytes()
@@ -183,7 +231,12 @@ def solve_text(text: bytes, choice: Choice) -> Tuple[int, bytes]:
     room = 4096 + 6 * len(text)
     while True:
         buffer = ctypes.create_string_buffer(room)
-        status = _lib.mcf_solve(text, len(text), choice, buffer, room, used)
+        words = (text, len(text), choice, buffer, room, used)
+        status = (
+            _called(_lib.mcf_solve, words, None)
+            if len(text) > LASTING_BYTES
+            else _lib.mcf_solve(*words)
+        )
         if status != NO_ROOM:
             break
         room = used.value
@@ -215,7 +268,9 @@ class Arrays:
 
     def solve(self, choice: Choice) -> int:
         """The status: FLOW, BLOCKED or REFUSED, with what is told of it."""
-        status = self._solve(self.problem, choice, *self._rooms, self.told)
+        size = len(self.flow) + 8 * len(self.prices)
+        words = (self.problem, choice, *self._rooms, self.told)
+        status = self._call(self._solve, words, size)
         if status > REFUSED:
             raise failed(status)
         return status
@@ -223,10 +278,14 @@ class Arrays:
     def check(self) -> Verdict:
         """The verdict of the checker on the flow, the prices and the cost that is told."""
         told = Told(0, 0, self.told.negative, self.told.low, self.told.high)
-        status = self._check(self.problem, *self._rooms, told)
+        words = (self.problem, *self._rooms, told)
+        status = self._call(self._check, words, len(self.flow) // 16)
         if status > 1:
             raise failed(status)
         return Verdict(status == 0, VERDICTS[told.kind], told.number, "")
+
+    def _call(self, function: Any, words: Tuple[Any, ...], size: int) -> Any:
+        return _called(function, words, self) if size > LASTING_ARCS else function(*words)
 
     def _room(self, arcs: int, nodes: int) -> None:
         self.flow = array("q", bytes(8 * arcs))

@@ -397,11 +397,10 @@ def solve(
     block is asked.
 
     `supplies` is a list by node (nodes are 0, 1, ..), a dict by label, or a number of nodes without
-    supply; what has labels as a Series of pandas is taken by these, too. A supply is above 0 where the
-    node sends. `arcs` are (from, to, cap, cost) or (from, to,
-    low, cap, cost); a cap of None, or an infinite one, is none. Arrays of numpy serve for both.
-    Numbers that aren't whole are scaled to whole ones, exactly: a float is the decimal that it
-    prints as.
+    supply; what has labels as a Series of pandas is taken by these, too. A supply is above 0 where
+    the node sends. `arcs` are (from, to, cap, cost) or (from, to, low, cap, cost); a cap of None,
+    or an infinite one, is none. Arrays of numpy serve for both. Numbers that aren't whole are
+    scaled to whole ones, exactly: a float is the decimal that it prints as.
 
     Raises Infeasible, Unbounded or Refused.
 

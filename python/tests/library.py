@@ -7,8 +7,11 @@ import multiprocessing
 import os
 import pickle
 import random
+import signal
+import subprocess
 import sys
 import threading
+import time
 import tracemalloc
 import unittest
 from decimal import Decimal
@@ -213,6 +216,10 @@ class Solving(unittest.TestCase):
             matrix = [list(range(n))] * n
             self.assertEqual(len(set(mcf.linear_sum_assignment(matrix)[1])), n)
         del matrix
+        # The thread of a call lets go of what it read just after the call is answered.
+        end = time.monotonic() + 5
+        while tracemalloc.get_traced_memory()[0] > 10**6 and time.monotonic() < end:
+            time.sleep(0.01)
         kept, _ = tracemalloc.get_traced_memory()
         tracemalloc.stop()
         self.assertLess(kept, 10**6)
@@ -390,6 +397,57 @@ class BySeries(unittest.TestCase):
     def test_narrow_floats(self):
         supplies = _installed("pandas").Series([0.1, -0.1], ["a", "b"], dtype="float32")
         self.assertEqual(mcf.solve(supplies, [("a", "b", 1, 1)]).flow, [0.1])
+
+
+# What a process does that is interrupted while the library works, for some seconds if it were let.
+LASTING = """
+import random, sys, time
+sys.path.insert(0, %r)
+import mcf
+chance = random.Random(1)
+matrix = [[chance.randrange(10**6) for _ in range(600)] for _ in range(600)]
+print("ready", flush=True)
+try:
+    mcf.linear_sum_assignment(matrix, engine="cancel")
+except KeyboardInterrupt:
+    print("interrupted", mcf.solve([1, -1], [(0, 1, 1, 1)]).cost, flush=True)
+"""
+
+
+class Interrupted(unittest.TestCase):
+    def test_a_lasting_call(self):
+        script = LASTING % os.path.dirname(os.path.dirname(os.path.abspath(__file__)))
+        with subprocess.Popen([sys.executable, "-c", script], stdout=subprocess.PIPE) as process:
+            self.assertEqual(process.stdout.readline(), b"ready\n")
+            time.sleep(0.5)
+            process.send_signal(signal.SIGINT)
+            begun = time.monotonic()
+            said, _ = process.communicate(timeout=20)
+            self.assertEqual((said, process.returncode), (b"interrupted 1\n", 0))
+            self.assertLess(time.monotonic() - begun, 1)
+
+    def test_what_is_raised_by_a_handler(self):
+        class Late(Exception):
+            pass
+
+        def ring(*_):
+            raise Late
+
+        before = signal.signal(signal.SIGALRM, ring)
+        try:
+            matrix = [[(i * j) % 1009 for j in range(400)] for i in range(400)]
+            signal.setitimer(signal.ITIMER_REAL, 0.2)
+            self.assertRaises(Late, mcf.linear_sum_assignment, matrix, engine="cancel")
+        finally:
+            signal.setitimer(signal.ITIMER_REAL, 0)
+            signal.signal(signal.SIGALRM, before)
+
+    def test_errors_of_a_thread(self):
+        called = mcf._library._called
+        self.assertEqual(called(max, (3, 5), None), 5)
+        self.assertRaises(TypeError, called, max, (3, "5"), None)
+        with mock.patch("_thread.start_new_thread", side_effect=RuntimeError):
+            self.assertEqual(called(max, (3, 5), None), 5)
 
 
 def _orders(n):
