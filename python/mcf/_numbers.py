@@ -1,6 +1,6 @@
 """Numbers made whole, exactly: a float is the decimal that it prints as."""
+import math
 from fractions import Fraction
-from math import gcd
 from operator import index
 from typing import Any, Iterable, Union
 
@@ -33,6 +33,8 @@ def exact(value: Any) -> Whole:
         return index(value)
     except TypeError:
         pass
+    if isinstance(value, (str, bytes, bytearray)):
+        raise TypeError("a number is no text, as %r is" % (value,))
     if isinstance(value, Fraction):
         number = value
     else:
@@ -51,7 +53,7 @@ def scale_of(values: Iterable[Whole]) -> int:
     scale = 1
     for value in values:
         if type(value) is not int:
-            scale = scale // gcd(scale, value.denominator) * value.denominator
+            scale = scale // math.gcd(scale, value.denominator) * value.denominator
     return scale
 
 
@@ -60,7 +62,26 @@ def unscaled(value: Any, scale: int) -> Union[int, float]:
     if scale == 1:
         return value
     number = Fraction(value, scale)
-    return number.numerator if number.denominator == 1 else float(number)
+    if number.denominator == 1:
+        return number.numerator
+    try:
+        return float(number)
+    except OverflowError:
+        return math.inf if number > 0 else -math.inf
+
+
+def said(value: Any) -> str:
+    """A number or a label in a message: a great power of ten as such, and what is long cut
+    short."""
+    if type(value) is int and abs(value) >= 10**15:
+        digits = int(math.log10(abs(value)))
+        for exponent in (digits, digits + 1):
+            if value == 10**exponent:
+                return "10^%d" % exponent
+        if digits >= 20:
+            return "about %s10^%d" % ("-" if value < 0 else "", digits)
+    text = repr(value)
+    return text if len(text) <= 60 else text[:57] + "..."
 
 
 def limited(value: int, limit: int) -> int:

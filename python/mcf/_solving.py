@@ -7,11 +7,13 @@ from operator import index
 from typing import AbstractSet as Set
 from typing import (
     Any,
+    Callable,
     Dict,
     Hashable,
     Iterable,
     List,
     Mapping,
+    NamedTuple,
     Optional,
     Sequence,
     Tuple,
@@ -43,9 +45,16 @@ from ._limits import (
     lowered,
     residual_arcs,
 )
-from ._numbers import exact, is_float, limited, listed, scale_of, unscaled
+from ._numbers import exact, is_float, limited, listed, said, scale_of, unscaled
 
-COST, NODE, NODES = 10**15, 2**32 - 2, 10**6
+COST, NODE, NODES, ARCS = 10**15, 2**32 - 2, 10**6, 10**7
+LIMITS = {
+    "supply": BOUND,
+    "bound": BOUND,
+    "cost": COST,
+    "total": BOUND**2,
+    "unlimited": BOUND,
+}
 INFINITE = float("inf")
 # A flow problem of more nodes than this goes to the search that is judged: docs/BENCH.md, "What the
 # tools choose".
@@ -67,27 +76,77 @@ class MCFError(Exception):
         return (_raised_again, (type(self),) + self.args, self.__dict__)
 
 
+class Cell(NamedTuple):
+    """A place in a matrix."""
+
+    row: int
+    column: int
+
+
 class Refused(MCFError, ValueError):
-    """The instance is beyond the limits: `arc` or `node` is the place of the first fault, from 0,
-    and `reason` what is wrong: size, supply, node, bound, order, cost or total, or unlimited where
-    no answer is within 10^18 on an arc without limit. `scale` is what numbers of its kind were
-    multiplied by, to be whole.
+    """The instance is beyond the limits.
+
+    Attributes
+    ----------
+    arc, node
+        The place of the first fault, from 0, or its label: one of them, or none. Of a matrix, `arc`
+        is the place among all entries, row by row.
+    reason : str
+        What is wrong: 'size', 'supply', 'node', 'bound', 'order', 'cost' or 'total', or 'unlimited'
+        where no answer is within 10^18 on an arc without limit.
+    scale : int
+        What numbers of its kind were multiplied by, to be whole.
+    value
+        The number that is past the limit, as it was given; of 'order' low and cap, of 'size' how
+        many nodes and arcs there are, of 'node' how many nodes, and else None.
+    ends
+        From where and to where the arc leads; of a matrix, the row and the column.
+    limit : int or None
+        The greatest size of such a number, when it is whole.
     """
 
-    def __init__(self, arc: Optional[int], node: Any, reason: str, scale: int = 1):
-        where = (
-            "arc %d: " % arc
-            if arc is not None
-            else "node %r: " % (node,)
-            if node is not None
-            else ""
-        )
-        super().__init__(
-            where
-            + reason
-            + (" (in whole numbers, by a factor of %d)" % scale if scale != 1 else "")
-        )
+    def __init__(
+        self,
+        arc: Optional[int],
+        node: Any,
+        reason: str,
+        scale: int = 1,
+        value: Any = None,
+        ends: Optional[Tuple[Any, Any]] = None,
+    ):
         self.arc, self.node, self.reason, self.scale = arc, node, reason, scale
+        self.value, self.ends, self.limit = value, ends, LIMITS.get(reason)
+        super().__init__(self._where() + self._what() + self._whole())
+
+    def _where(self) -> str:
+        if isinstance(self.ends, Cell):
+            return "row %d, column %d: " % self.ends
+        if self.arc is not None:
+            way = " (%s to %s)" % tuple(map(said, self.ends)) if self.ends else ""
+            return "arc %d%s: " % (self.arc, way)
+        return "node %s: " % said(self.node) if self.node is not None else ""
+
+    def _what(self) -> str:
+        if self.reason == "unlimited":
+            return "unlimited, it would have to carry more than 10^18"
+        if self.reason == "total":
+            return "total, the sizes of costs times bounds add up to more than 10^36"
+        if self.value is None:
+            return self.reason
+        if self.reason == "order":
+            low, cap = map(said, self.value)
+            return "order, the lower bound %s is above the capacity %s" % (low, cap)
+        if self.reason == "node":
+            return "node, those that there are have numbers from 0 to %d" % (self.value - 1)
+        if self.reason == "size":
+            nodes, arcs = map(said, self.value)
+            return "size, %s nodes and %s arcs, where %d and %d may be" % (nodes, arcs, NODES, ARCS)
+        return "%s %s is past the limit, %s" % (self.reason, said(self.value), said(self.limit))
+
+    def _whole(self) -> str:
+        if self.scale == 1:
+            return ""
+        return " (numbers are multiplied by %s, to be whole)" % said(self.scale)
 
 
 class Infeasible(MCFError):
@@ -198,19 +257,28 @@ def _must_and_can(
     return must, can, limiting
 
 
-def _refused(problem: ArcArrays) -> Refused:
+def _refused(problem: ArcArrays, supplies: Sequence[int], limits: Limits) -> Refused:
     """The first fault of the arrays."""
     reason, place = CODES[problem.told.code], problem.told.number - 1
-    return Refused(
-        None if reason in ("size", "supply") else place,
-        place if reason == "supply" else None,
-        reason,
-    )
+    if reason == "size":
+        return Refused(None, None, reason, 1, (len(supplies), len(limits.arcs)))
+    if reason == "supply":
+        return Refused(None, place, reason, 1, supplies[place])
+    u, v, low, cap, cost = limits.arcs[place]
+    value = {
+        "bound": low if abs(low) > BOUND else cap,
+        "order": (low, cap),
+        "cost": cost,
+        "node": len(supplies),
+        "total": sum(abs(a[4]) * max(abs(a[2]), abs(a[3])) for a in limits.arcs[: place + 1]),
+    }.get(reason)
+    return Refused(place, None, reason, 1, value, (u, v))
 
 
-def _limiting(place: int, cap: Optional[int]) -> Refused:
+def _limiting(place: int, arc: Arc) -> Refused:
     """An arc that would have to carry more than 10^18."""
-    return Refused(place, None, "unlimited" if cap is None else "bound")
+    reason = "unlimited" if arc[3] is None else "bound"
+    return Refused(place, None, reason, 1, arc[3], arc[:2])
 
 
 def _blocked(
@@ -223,7 +291,7 @@ def _blocked(
         raise NotAccepted("a set of nodes doesn't block")
     for k in limiting:
         if k in limits.short:
-            return _limiting(k, given[k][3])
+            return _limiting(k, given[k])
     return Infeasible(nodes, side, must, can, limiting)
 
 
@@ -255,7 +323,7 @@ def _reprice(problem: ArcArrays, given: Sequence[Arc], limits: Limits) -> None:
     if turned:
         raise Unbounded([k for _, _, _, k in turned])
     k = next((k for _, _, _, k in cycle if k in limits.short), min(limits.short))
-    raise _limiting(k, given[k][3])
+    raise _limiting(k, given[k])
 
 
 def _judged(problem: ArcArrays) -> Verdict:
@@ -281,7 +349,7 @@ def solve_whole(
     problem = ArcArrays(_supplied(supplies), len(supplies), _packed(limits.arcs), len(arcs))
     status = problem.solve(choice)
     if status == REFUSED:
-        raise _refused(problem)
+        raise _refused(problem, supplies, limits)
     if status == BLOCKED:
         raise _blocked(problem, supplies, arcs, limits, check)
     verdict = _judged(problem) if check else None
@@ -342,8 +410,14 @@ def _given(supplies: Any, arcs: List[tuple]) -> Tuple[Optional[List[Hashable]], 
     return None, [0] * min(supplies, NODES + 1), arcs
 
 
-def _without_low(arc: Sequence[Any]) -> tuple:
-    """An arc of four values with the lower bound 0."""
+def _row(arc: Any) -> Tuple[Any, ...]:
+    """An arc with a lower bound, which is 0 where none is given."""
+    if type(arc) is not tuple and isinstance(arc, (Mapping, Set, str, bytes)):
+        raise TypeError(
+            "an arc is (from, to, cap, cost) or (from, to, low, cap, cost), not %r" % (arc,)
+        )
+    if len(arc) == 5:
+        return tuple(arc)
     if len(arc) != 4:
         raise ValueError("an arc has 4 or 5 values, and not %r" % (arc,))
     return arc[0], arc[1], 0, arc[2], arc[3]
@@ -384,6 +458,50 @@ def _scaled(amounts: list, rows: List[tuple]) -> Tuple[List[int], List[Any], int
     return amounts, exacts, units, costs
 
 
+def _restored(error: Refused, labels: Optional[List[Hashable]], scales: Dict[str, int]) -> Refused:
+    """A refusal by the labels and the numbers that were given."""
+    named: Any = (lambda v: v) if labels is None else labels.__getitem__
+    scale = scales.get(error.reason, 1)
+    value = error.value
+    if isinstance(value, tuple):
+        value = tuple(unscaled(v, scale) for v in value)
+    elif value is not None:
+        value = unscaled(value, scale)
+    node = None if error.node is None else named(error.node)
+    ends = None if error.ends is None else (named(error.ends[0]), named(error.ends[1]))
+    return Refused(error.arc, node, error.reason, scale, value, ends)
+
+
+def solve_rows(
+    labels: Optional[List[Hashable]],
+    given: Iterable[Any],
+    rows: List[Tuple[Any, ...]],
+    choice: Callable[[int], Choice],
+    check: bool,
+    beyond: bool = False,
+) -> Flow:
+    """Solves an instance of numbers of all kinds, whose nodes are numbered and may have labels."""
+    amounts, exacts, units, costs = _scaled([exact(b) for b in given], rows)
+    try:
+        problem, verdict = solve_whole(amounts, exacts, choice(len(amounts)), check, beyond)
+    except Infeasible as error:
+        nodes = error.nodes if labels is None else [labels[v] for v in error.nodes]
+        raise Infeasible(
+            nodes, error.side, unscaled(error.must, units), unscaled(error.can, units), error.arcs
+        ) from None
+    except Refused as error:
+        scales = {"cost": costs, "total": units * costs}
+        scales.update(dict.fromkeys(("supply", "bound", "order", "unlimited"), units))
+        raise _restored(error, labels, scales) from None
+    flow = problem.flow.tolist()
+    if units != 1:
+        flow = [unscaled(f, units) for f in flow]
+    cost = unscaled(problem.told.number, units * costs)
+    if verdict is not None:
+        verdict = verdict._replace(number=cost)
+    return Flow(cost, flow, verdict, problem.prices, labels, costs)
+
+
 def solve(
     supplies: Union[int, Sequence[Any], Mapping[Hashable, Any]],
     arcs: Iterable[Sequence[Any]],
@@ -413,29 +531,5 @@ def solve(
       ..
     mcf._solving.Infeasible: 1 node(s) must send 1 and can send 0
     """
-    rows = [tuple(arc) if len(arc) == 5 else _without_low(arc) for arc in listed(arcs)]
-    labels, given, rows = _given(supplies, rows)
-    amounts, exacts, units, costs = _scaled([exact(b) for b in given], rows)
-    try:
-        problem, verdict = solve_whole(
-            amounts, exacts, suited(len(amounts), engine, pricing, block), check
-        )
-    except Infeasible as error:
-        nodes = error.nodes if labels is None else [labels[v] for v in error.nodes]
-        raise Infeasible(
-            nodes, error.side, unscaled(error.must, units), unscaled(error.can, units), error.arcs
-        ) from None
-    except Refused as error:
-        node = error.node if labels is None or error.node is None else labels[error.node]
-        raise Refused(
-            error.arc,
-            node,
-            error.reason,
-            {"cost": costs, "total": units * costs}.get(error.reason, units),
-        ) from None
-    flow = problem.flow.tolist()
-    if units != 1:
-        flow = [unscaled(f, units) for f in flow]
-    return Flow(
-        unscaled(problem.told.number, units * costs), flow, verdict, problem.prices, labels, costs
-    )
+    labels, given, rows = _given(supplies, [_row(arc) for arc in listed(arcs)])
+    return solve_rows(labels, given, rows, lambda n: suited(n, engine, pricing, block), check)

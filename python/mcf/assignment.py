@@ -9,7 +9,7 @@ from typing import Any, List, Optional, Tuple
 
 from ._library import BLOCKED, CODES, FLOW, PairArrays, choice_of
 from ._numbers import exact, is_float, limited, listed, scale_of
-from ._solving import COST, Infeasible, NotAccepted, Refused, solve_whole, suited
+from ._solving import COST, Cell, Infeasible, NotAccepted, Refused, solve_whole, suited
 
 # The bytes of the greatest template that is kept: at most eight are.
 KEPT = 2**20
@@ -29,18 +29,35 @@ def linear_sum_assignment(
     ([0, 1, 2], [1, 0, 2])
     """
     cells, height, width, numpy = _cells(cost_matrix, maximize)
-    if height == width:
-        columns = _square(cells, height, engine, check)
-        pairs = list(enumerate(columns))
-    elif height < width:
-        pairs = _wide(cells, height, width, engine, check)
-    else:
-        turned = [cells[i * width + j] for j in range(width) for i in range(height)]
-        pairs = sorted((i, j) for j, i in _wide(turned, width, height, engine, check))
+    try:
+        pairs = _matched(cells, height, width, engine, check)
+    except Refused as error:
+        raise _at_cell(error, cells, width, maximize) from None
     first, second = [i for i, _ in pairs], [j for _, j in pairs]
     if numpy is not None:
         return numpy.array(first, dtype=numpy.intp), numpy.array(second, dtype=numpy.intp)
     return first, second
+
+
+def _matched(
+    cells: Any, height: int, width: int, engine: str, check: bool
+) -> List[Tuple[int, int]]:
+    """The pairs, by row."""
+    if height == width:
+        return list(enumerate(_square(cells, height, engine, check)))
+    if height < width:
+        return _wide(cells, height, width, engine, check)
+    turned = [cells[i * width + j] for j in range(width) for i in range(height)]
+    return sorted((i, j) for j, i in _wide(turned, width, height, engine, check))
+
+
+def _at_cell(error: Refused, cells: Any, width: int, maximize: bool) -> Refused:
+    """A refusal by the place in the matrix of the first entry that is past the limit."""
+    if error.reason != "cost":
+        return error
+    place, cost = next((k, c) for k, c in enumerate(cells) if c is not None and abs(c) > COST)
+    value = -cost if maximize else cost
+    return Refused(place, None, "cost", 1, value, Cell(*divmod(place, width)))
 
 
 def _cells(matrix, maximize: bool):
@@ -77,10 +94,10 @@ def _cells(matrix, maximize: bool):
         # Turned round as they are here: a number of numpy may wrap.
         return array("q", [-c for c in cells]) if maximize else cells, height, width, numpy
     except (TypeError, OverflowError, struct.error):
-        return _whole(flat, maximize), height, width, numpy
+        return _whole(flat, maximize, width), height, width, numpy
 
 
-def _whole(flat: list, maximize: bool):
+def _whole(flat: list, maximize: bool, width: int):
     """The entries in whole numbers, and None where one is infinite."""
     if set(map(type, flat)) == {float} and all(map(float.is_integer, flat)):
         flat = list(map(int, flat))
@@ -90,12 +107,11 @@ def _whole(flat: list, maximize: bool):
             raise ValueError("matrix contains invalid numeric entries")
         exacts = [None if is_float(c) and c == worst else exact(c) for c in flat]
         scale = scale_of(c for c in exacts if c is not None)
-        flat = [None if c is None else int(c * scale) for c in exacts]
-        past = next(
-            (place for place, c in enumerate(flat) if c is not None and abs(c) > COST), None
-        )
-        if past is not None:
-            raise Refused(past, None, "cost", scale)
+        given, flat = flat, [None if c is None else int(c * scale) for c in exacts]
+        for place, c in enumerate(flat):
+            if c is not None and abs(c) > COST:
+                cell = Cell(*divmod(place, width))
+                raise Refused(place, None, "cost", scale, given[place], cell)
     return [None if c is None else -c for c in flat] if maximize else flat
 
 
@@ -140,7 +156,7 @@ def _square(cells, n: int, engine: str, check: bool) -> List[int]:
     problem = PairArrays(n, n, pairs, len(pairs) // 2)
     status = problem.solve(choice_of(engine, "block", None))
     if status != FLOW:
-        raise _why(status, problem, where, n)
+        raise _why(status, problem, n)
     if check and not problem.check():
         raise NotAccepted("an assignment isn't shown to be least")
     return _columns(problem.flow, where, n)
@@ -155,13 +171,11 @@ def _columns(flow: array, where: Optional[List[int]], n: int) -> List[int]:
     return columns
 
 
-def _why(status: int, problem, where: Optional[List[int]], n: int) -> Exception:
+def _why(status: int, problem: PairArrays, n: int) -> Exception:
     if status == BLOCKED:
         return ValueError("cost matrix is infeasible")
-    place = problem.told.number - 1
-    return Refused(
-        place if where is None or place < 0 else where[place], None, CODES[problem.told.code]
-    )
+    reason, count = CODES[problem.told.code], len(problem.flow)
+    return Refused(None, None, reason, 1, (2 * n, count) if reason == "size" else None)
 
 
 def _wide(cells, n: int, m: int, engine: str, check: bool) -> List[Tuple[int, int]]:

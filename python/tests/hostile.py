@@ -292,7 +292,7 @@ class Numbers(unittest.TestCase):
         self.assertTrue(
             c.exception.reason == "cost"
             and c.exception.scale >= 10**15
-            and str(c.exception.scale) in str(c.exception)
+            and mcf._numbers.said(c.exception.scale) in str(c.exception)
         )
         rounded = [[round(cost, 9) for cost in row] for row in matrix]
         whole = [[round(cost * 10**9) for cost in row] for row in matrix]
@@ -302,6 +302,101 @@ class Numbers(unittest.TestCase):
         self.assertEqual(
             (c.exception.arc, c.exception.reason, c.exception.scale), (0, "cost", 10**16)
         )
+
+    def test_what_is_said_of_a_refusal(self):
+        for call, value, ends, words in (
+            (
+                lambda: mcf.solve([0, 0], [(0, 1, 5, 0.1234567890123457)]),
+                *[0.1234567890123457, (0, 1)],
+                "arc 0 (0 to 1): cost 0.1234567890123457 is past the limit, 10^15 (numbers are "
+                "multiplied by 10^16, to be whole)",
+            ),
+            (
+                lambda: mcf.solve({"x": 10**19}, []),
+                10**19,
+                None,
+                "node 'x': supply 10^19 is past the limit, 10^18",
+            ),
+            (
+                lambda: mcf.solve({"x": 0}, [("x", "y", -1, 2e18, 1)]),
+                2 * 10**18,
+                ("x", "y"),
+                "arc 0 ('x' to 'y'): bound 2000000000000000000 is past the limit, 10^18",
+            ),
+            (
+                lambda: mcf.solve([0], [(0, 0, 2.5, 2, 1)]),
+                (2.5, 2),
+                (0, 0),
+                "arc 0 (0 to 0): order, the lower bound 2.5 is above the capacity 2 (numbers are "
+                "multiplied by 2, to be whole)",
+            ),
+            (
+                lambda: mcf.solve([0, 0], [(0, 7, 1, 1)]),
+                2,
+                (0, 7),
+                "arc 0 (0 to 7): node, those that there are have numbers from 0 to 1",
+            ),
+            (
+                lambda: mcf.solve(10**7, []),
+                (10**6 + 1, 0),
+                None,
+                "size, 1000001 nodes and 0 arcs, where 1000000 and 10000000 may be",
+            ),
+            (
+                lambda: mcf.linear_sum_assignment([[1e-300, 2]]),
+                2,
+                (0, 1),
+                "row 0, column 1: cost 2 is past the limit, 10^15 (numbers are multiplied by "
+                "10^300, to be whole)",
+            ),
+            (
+                lambda: mcf.linear_sum_assignment([[1, 2], [-(10**16), 3]], True),
+                -(10**16),
+                (1, 0),
+                "row 1, column 0: cost -10000000000000000 is past the limit, 10^15",
+            ),
+            (
+                lambda: mcf.linear_sum_assignment([[1], [2], [10**16]]),
+                10**16,
+                (2, 0),
+                "row 2, column 0: cost 10^16 is past the limit, 10^15",
+            ),
+            (
+                lambda: mcf.solve([0, 0], [(0, 1, 5, 10**5000)]),
+                10**5000,
+                (0, 1),
+                "arc 0 (0 to 1): cost 10^5000 is past the limit, 10^15",
+            ),
+            (
+                lambda: mcf.solve([0, 0], [(0, 1, 5, Fraction(10**400, 3))]),
+                float("inf"),
+                (0, 1),
+                "arc 0 (0 to 1): cost inf is past the limit, 10^15 (numbers are multiplied by 3, "
+                "to be whole)",
+            ),
+        ):
+            with self.assertRaises(mcf.Refused, msg=words) as c:
+                call()
+            self.assertEqual(
+                (str(c.exception), c.exception.value, c.exception.ends), (words, value, ends)
+            )
+        self.assertLess(len(str(mcf.Refused(None, "x" * 10**6, "supply", 7**10000, 3))), 200)
+
+    def test_texts_are_no_numbers(self):
+        for wrong in ("5", "1/3", b"5", ""):
+            for call in (
+                lambda: mcf.solve([wrong, 0], []),
+                lambda: mcf.solve([0, 0], [(0, 1, wrong, 1)]),
+                lambda: mcf.linear_sum_assignment([[wrong, 2], [3, 4]]),
+                lambda: mcf.linear_sum_assignment([[wrong, 0.5]]),
+            ):
+                self.assertRaisesRegex(TypeError, "a number is no text", call)
+        for wrong in ({"from": 0, "to": 1, "cap": 1, "cost": 1}, {0, 1, 2, 3}, "0111", b"01110"):
+            self.assertRaisesRegex(TypeError, "an arc is", mcf.solve, [0, 0], [wrong])
+
+    def test_numbers_of_a_verdict_are_as_given(self):
+        answer = mcf.solve([1.5, -1.5], [(0, 1, None, 1.5)])
+        self.assertEqual((answer.cost, answer.verdict.number), (2.25, 2.25))
 
     def test_without_limits(self):
         self.assertEqual(
