@@ -18,10 +18,10 @@ class Limits(NamedTuple):
     short: Set[int]
 
 
-def limited_arcs(supplies: Sequence[int], arcs: Sequence[Arc], beyond: bool) -> Limits:
-    """Arcs with limits of 10^18 at most; caps that are past it stay, unless `beyond` lets them be
-    given. An arc without limit gets the least that no least flow needs, where that is in reach."""
-    opened = [k for k, a in enumerate(arcs) if a[3] is None or beyond and a[3] > BOUND]
+def limited_arcs(supplies: Sequence[int], arcs: Sequence[Arc], beyond: float) -> Limits:
+    """Arcs with limits of 10^18 at most, but for those that are past `beyond`, which stay. An arc
+    without limit gets the least that no least flow needs, where that is in reach."""
+    opened = [k for k, a in enumerate(arcs) if a[3] is None or BOUND < a[3] <= beyond]
     put: List[Limited] = list(arcs)  # type: ignore[arg-type]
     short = set()
     room = _room(supplies, arcs) if opened else 0

@@ -335,10 +335,10 @@ def _judged(problem: ArcArrays) -> Verdict:
 
 
 def solve_whole(
-    supplies: Sequence[int], arcs: Sequence[Arc], choice: Choice, check: bool, beyond: bool = False
+    supplies: Sequence[int], arcs: Sequence[Arc], choice: Choice, check: bool, beyond: float = 0
 ) -> Tuple[ArcArrays, Optional[Verdict]]:
     """Solves an instance of whole numbers whose nodes are numbered from 0; a cap of None is none,
-    and one that is past 10^18 is taken where `beyond` says so.
+    and one past 10^18 is taken up to `beyond`.
 
     An arc without limit gets the least that no least flow needs, but 10^18 at most. The prices tell
     whether it mattered: where each such arc has a reduced cost of 0 or more, they show that the
@@ -478,7 +478,7 @@ def solve_rows(
     rows: List[Tuple[Any, ...]],
     choice: Callable[[int], Choice],
     check: bool,
-    beyond: bool = False,
+    beyond: float = 0,
 ) -> Flow:
     """Solves an instance of numbers of all kinds, whose nodes are numbered and may have labels."""
     amounts, exacts, units, costs = _scaled([exact(b) for b in given], rows)

@@ -1,19 +1,24 @@
-"""Drop-ins for networkx' functions of minimum-cost flow: the same arguments, results and
-exceptions.
+"""Drop-ins for networkx' functions of minimum-cost flow: the same arguments and results.
 
-Where several flows have the least cost, another one may come than networkx gives. An exception has
-more to tell than its words: of an unfeasible graph `nodes`, `side`, `must` and `can`, and of an
-unbounded one the `cycle`.
+Where several flows have the least cost, another one may come than networkx gives. Exceptions are of
+networkx' kinds. Some have more to tell than their words: of an unfeasible graph `nodes`, `side`,
+`must` and `can`, and of an unbounded one the `cycle`.
+
+What networkx takes and this doesn't raises NetworkXRefused: numbers that are past the limits of
+mcf, which are 10^18 for demands and 10^15 for weights, when they are multiplied to be whole. So
+floats of 16 digits, as 1/3 has, are refused. A capacity that is past 10^18 is taken, as
+sys.maxsize, unless more than 10^18 would have to flow there.
 """
-from typing import Any, Dict, Tuple
+from typing import Any, Dict, List, Sequence, Tuple
 
 import networkx as nx
-from networkx.utils import not_implemented_for
 
-from ._numbers import exact, scale_of, unscaled
-from ._solving import INFINITE, Infeasible, Number, Unbounded, solve_whole, suited
+from . import _solving
+from ._numbers import exact
+from ._solving import INFINITE, Flow, Infeasible, Number, Unbounded, solve_rows, suited
 
 __all__ = [
+    "NetworkXRefused",
     "network_simplex",
     "min_cost_flow",
     "min_cost_flow_cost",
@@ -21,32 +26,57 @@ __all__ = [
     "maximum_flow_value",
 ]
 
-
-def _edges(G):
-    return G.edges(data=True, keys=True) if G.is_multigraph() else G.edges(data=True)
+Flows = Dict[Any, Dict[Any, Any]]
 
 
-def _solve(nodes, demands, ends, caps, costs, engine, check):
+class NetworkXRefused(nx.NetworkXException, _solving.Refused):  # type: ignore[misc]
+    """Numbers of a graph are beyond the limits of mcf; it has what mcf.Refused has."""
+
+
+def _solve(
+    nodes: List[Any],
+    demands: Sequence[Any],
+    rows: List[Tuple[Any, ...]],
+    engine: str,
+    check: bool,
+) -> Flow:
     """Cost and flows; caps may be infinite, and ends are numbers of nodes."""
-    demands = [exact(d) for d in demands]
-    caps = [None if c == INFINITE else exact(c) for c in caps]
-    costs = [exact(w) for w in costs]
-    units = scale_of(demands + [c for c in caps if c is not None])
-    prices = scale_of(costs)
-    if units != 1:
-        demands = [int(d * units) for d in demands]
-        caps = [None if c is None else int(c * units) for c in caps]
-    if prices != 1:
-        costs = [int(w * prices) for w in costs]
-    arcs = [(u, v, 0, cap, cost) for (u, v), cap, cost in zip(ends, caps, costs)]
-    problem, _ = solve_whole([-d for d in demands], arcs, suited(len(demands), engine), check)
-    flow = problem.flow.tolist()
-    if units != 1:
-        flow = [unscaled(f, units) for f in flow]
-    return unscaled(problem.told.number, units * prices), flow
+    supplies = [-d for d in demands]
+    try:
+        return solve_rows(nodes, supplies, rows, lambda n: suited(n, engine), check, INFINITE)
+    except _solving.Refused as error:
+        raise NetworkXRefused(
+            error.arc, error.node, error.reason, error.scale, error.value, error.ends
+        ) from None
 
 
-@not_implemented_for("undirected")
+def _exacts(values: Sequence[Any]) -> List[Any]:
+    """Numbers without loss; what is infinite stays."""
+    try:
+        return [v if v == INFINITE else exact(v) for v in values]
+    except ValueError as error:
+        raise nx.NetworkXError(str(error)) from None
+
+
+def _require_directed(G: Any) -> None:
+    if not G.is_directed():
+        raise nx.NetworkXNotImplemented("not implemented for undirected type")
+
+
+def _require_finite(
+    nodes: List[Any], demands: List[Any], edges: List[Any], costs: List[Any]
+) -> None:
+    """Raises what networkx raises of a graph before it solves anything."""
+    for u, d in zip(nodes, demands):
+        if abs(d) == INFINITE:
+            raise nx.NetworkXError(f"node {u!r} has infinite demand")
+    for e, w in zip(edges, costs):
+        if abs(w) == INFINITE:
+            raise nx.NetworkXError(f"edge {e[:-1]!r} has infinite weight")
+    if sum(_exacts(demands)) != 0:
+        raise nx.NetworkXUnfeasible("total node demand is not zero")
+
+
 def network_simplex(
     G: Any,
     demand: str = "demand",
@@ -55,46 +85,76 @@ def network_simplex(
     *,
     engine: str = "auto",
     check: bool = True,
-) -> Tuple[Number, Dict[Any, Dict[Any, Any]]]:
-    """networkx.network_simplex, solved by mcf, each answer judged by its checker."""
+) -> Tuple[Number, Flows]:
+    """networkx.network_simplex, solved by mcf, each answer judged by its checker.
+
+    Parameters
+    ----------
+    G : networkx.DiGraph or networkx.MultiDiGraph
+    demand, capacity, weight : str
+        The attributes that have the demand of a node, and the capacity and the cost of an edge.
+    engine : str
+        What solves it: 'auto', 'simplex', 'scaling', 'augment', 'sap' or 'cancel'.
+    check : bool
+        Whether the checker judges the answer.
+
+    Returns
+    -------
+    cost, flows
+        The least cost, and the flow by tail and head, and by key where there are several edges.
+
+    Raises
+    ------
+    NetworkXError, NetworkXNotImplemented, NetworkXUnfeasible, NetworkXUnbounded
+        Where networkx raises them.
+    NetworkXRefused
+        Where numbers are beyond the limits of mcf.
+
+    Examples
+    --------
+    >>> import networkx as nx
+    >>> G = nx.DiGraph()
+    >>> G.add_node("a", demand=-4)
+    >>> G.add_node("b", demand=4)
+    >>> G.add_edge("a", "b", capacity=9, weight=2)
+    >>> network_simplex(G)
+    (8, {'a': {'b': 4}, 'b': {}})
+    """
+    _require_directed(G)
     if len(G) == 0:
         raise nx.NetworkXError("graph has no nodes")
     nodes = list(G)
     number = {u: k for k, u in enumerate(nodes)}
     demands = [G.nodes[u].get(demand, 0) for u in nodes]
-    edges = list(_edges(G))
+    edges = list(G.edges(data=True, keys=True) if G.is_multigraph() else G.edges(data=True))
     caps = [e[-1].get(capacity, INFINITE) for e in edges]
     costs = [e[-1].get(weight, 0) for e in edges]
-    for u, d in zip(nodes, demands):
-        if abs(d) == INFINITE:
-            raise nx.NetworkXError(f"node {u!r} has infinite demand")
-    for e, w in zip(edges, costs):
-        if abs(w) == INFINITE:
-            raise nx.NetworkXError(f"edge {e[:-1]!r} has infinite weight")
-    if sum(map(exact, demands)) != 0:
-        raise nx.NetworkXUnfeasible("total node demand is not zero")
+    _require_finite(nodes, demands, edges, costs)
     for e, c in zip(edges, caps):
         if c < 0:
             raise nx.NetworkXUnfeasible(f"edge {e[:-1]!r} has negative capacity")
-    ends = [(number[e[0]], number[e[1]]) for e in edges]
+    rows = [
+        (number[e[0]], number[e[1]], 0, c, w)
+        for e, c, w in zip(edges, _exacts(caps), _exacts(costs))
+    ]
     try:
-        cost, flow = _solve(nodes, demands, ends, caps, costs, engine, check)
+        found = _solve(nodes, _exacts(demands), rows, engine, check)
     except Infeasible as error:
         blocked = nx.NetworkXUnfeasible("no flow satisfies all node demands")
-        blocked.nodes, blocked.side = [nodes[v] for v in error.nodes], error.side
+        blocked.nodes, blocked.side = error.nodes, error.side
         blocked.must, blocked.can = error.must, error.can
         raise blocked from None
     except Unbounded as error:
         unbounded = nx.NetworkXUnbounded("negative cycle with infinite capacity found")
-        unbounded.cycle = [edges[k][:-1] for k in error.cycle or ()]
+        unbounded.cycle = [edges[k][:-1] for k in error.cycle]
         raise unbounded from None
-    return cost, _by_edge(G, nodes, edges, flow)
+    return found.cost, _by_edge(G, nodes, edges, found.flow)
 
 
-def _by_edge(G, nodes, edges, flow):
+def _by_edge(G: Any, nodes: List[Any], edges: List[Any], flow: Sequence[Number]) -> Flows:
     """The flows as networkx has them: by tail, by head, and by key where there are several
     edges."""
-    flows = {u: {} for u in nodes}
+    flows: Flows = {u: {} for u in nodes}
     if G.is_multigraph():
         for e, f in zip(edges, flow):
             flows[e[0]].setdefault(e[1], {})[e[2]] = f
@@ -140,21 +200,18 @@ def maximum_flow_value(
         raise nx.NetworkXError("source and sink are the same node")
     nodes = list(G)
     number = {u: k for k, u in enumerate(nodes)}
-    edges = [e for e in G.edges(data=True) if e[0] != e[1] and e[-1].get(capacity, INFINITE) > 0]
-    ends = [(number[e[0]], number[e[1]]) for e in edges]
-    caps = [e[-1].get(capacity, INFINITE) for e in edges]
-    if not G.is_directed():
-        ends += [(v, u) for u, v in ends]
-        caps += caps
-    ends.append((number[t], number[s]))
-    caps.append(INFINITE)
+    rows = []
+    for u, v, data in G.edges(data=True):
+        (cap,) = _exacts([data.get(capacity, INFINITE)])
+        if u != v and cap > 0:
+            rows.append((number[u], number[v], 0, cap, 0))
+            if not G.is_directed():
+                rows.append((number[v], number[u], 0, cap, 0))
+    rows.append((number[t], number[s], 0, INFINITE, -1))
     try:
-        cost, flow = _solve(
-            nodes, [0] * len(nodes), ends, caps, [0] * (len(ends) - 1) + [-1], engine, check
-        )
+        return _solve(nodes, [0] * len(nodes), rows, engine, check).flow[-1]
     except Unbounded:
         raise nx.NetworkXUnbounded("Infinite capacity path, flow unbounded above.") from None
-    return flow[-1]
 
 
 def max_flow_min_cost(

@@ -2,7 +2,10 @@
 from operator import index
 from typing import Iterable, List, Optional, Sequence
 
-from ._solving import NODES, Flow, Infeasible, MCFError, Refused, solve
+from ._solving import NODES, Flow, Infeasible, MCFError, Refused, solve_rows, suited
+
+# The greatest capacity: what is past 10^18 is one that may not bind.
+INT64 = 2**63 - 1
 
 
 def _together(*columns: Sequence[int]) -> Iterable[tuple]:
@@ -107,7 +110,8 @@ class SimpleMinCostFlow:
         if sum(self._supplies) != 0:
             return self.UNBALANCED
         try:
-            self._answer = solve(self._supplies, self._arcs)
+            rows = [(u, v, 0, cap, cost) for u, v, cap, cost in self._arcs]
+            self._answer = solve_rows(None, self._supplies, rows, suited, True, INT64)
         except Infeasible as error:
             self.error = error
             return self.INFEASIBLE

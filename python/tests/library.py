@@ -7,9 +7,11 @@ import multiprocessing
 import os
 import pickle
 import random
+import shutil
 import signal
 import subprocess
 import sys
+import tempfile
 import threading
 import time
 import tracemalloc
@@ -22,6 +24,7 @@ sys.path.insert(0, os.path.dirname(os.path.dirname(os.path.abspath(__file__))))
 import mcf
 import mcf._library
 import mcf._limits
+import mcf._numbers
 import mcf._solving
 import mcf.assignment
 import mcf.simple
@@ -35,7 +38,16 @@ def load_tests(loader, tests, pattern):
                 module, optionflags=doctest.ELLIPSIS | doctest.IGNORE_EXCEPTION_DETAIL
             )
         )
+    if _installed("networkx"):
+        tests.addTests(doctest.DocTestSuite("mcf.nx"))
     return tests
+
+
+def _installed(name):
+    try:
+        return importlib.import_module(name)
+    except ImportError:
+        return None
 
 
 def solve_by_place(supply):
@@ -235,6 +247,15 @@ class Solving(unittest.TestCase):
             arcs = [(i, n + j, 1, C[i][j]) for i in range(n) for j in range(n)]
             self.assertEqual(mcf.solve([1] * n + [-1] * n, arcs).cost, least)
 
+    def test_simple_takes_great_capacities(self):
+        problem = mcf.SimpleMinCostFlow()
+        problem.add_arcs_with_capacity_and_unit_cost([0, 1], [1, 0], [2**63 - 1] * 2, [3, 0])
+        problem.set_nodes_supplies([0, 1], [5, -5])
+        self.assertEqual((problem.solve(), problem.optimal_cost()), (problem.OPTIMAL, 15))
+        problem.add_arc_with_capacity_and_unit_cost(1, 0, 2**63 - 1, -4)
+        self.assertEqual(problem.solve(), problem.BAD_CAPACITY_RANGE)
+        self.assertEqual((problem.error.arc, problem.error.value), (2, 2**63 - 1))
+
     def test_texts(self):
         self.assertEqual(mcf.solve_text(b"p min 2 1\n"), ("refusal", b"r 2 missing\n"))
         v = mcf.check_text(b"p min 2 1\na 1 2 0 1 1\n", b"s 1\nf 1 2 0\ny 1 0\ny 2 0\n")
@@ -349,13 +370,6 @@ class WithoutLimits(unittest.TestCase):
         self.assertTrue(
             all(seen[k] > 20 for k in ("flow", "Infeasible", "Unbounded", "Refused")), seen
         )
-
-
-def _installed(name):
-    try:
-        return importlib.import_module(name)
-    except ImportError:
-        return None
 
 
 class Series:
@@ -481,6 +495,84 @@ class WithNetworkx(unittest.TestCase):
         G.add_edge("b", "d", weight=1, capacity=9)
         G.add_edge("c", "d", weight=2, capacity=5)
         self.assertEqual(mcf.nx.network_simplex(G), nx.network_simplex(G))
+
+    def test_great_capacities(self):
+        import mcf.nx
+        import networkx as nx
+
+        for great in (sys.maxsize, 2**63, 1.5e18, 1e19, 1e300, 10**400):
+            G = nx.DiGraph([("a", "b"), ("b", "c"), ("c", "a")])
+            nx.set_node_attributes(G, {"a": -4, "b": 1, "c": 3}, "demand")
+            nx.set_edge_attributes(G, great, "capacity")
+            nx.set_edge_attributes(G, 2, "weight")
+            G.edges["c", "a"]["weight"] = -1
+            self.assertEqual(mcf.nx.network_simplex(G), nx.network_simplex(G))
+            H = nx.DiGraph(G.edges)
+            nx.set_edge_attributes(H, {("a", "b"): great, ("b", "c"): 5}, "capacity")
+            self.assertEqual(mcf.nx.maximum_flow_value(H, "a", "c"), 5)
+            # A cycle of negative cost carries all that it may, which is too much here.
+            G.edges["c", "a"]["weight"] = -9
+            self.assertRaises(nx.NetworkXException, mcf.nx.network_simplex, G)
+            with self.assertRaises(mcf.nx.NetworkXRefused) as c:
+                mcf.nx.network_simplex(G)
+            self.assertEqual(
+                (c.exception.reason, c.exception.value), ("bound", mcf._numbers.exact(great))
+            )
+
+    def test_exceptions(self):
+        import mcf.nx
+        import networkx as nx
+
+        G = nx.DiGraph()
+        G.add_node("a", demand=-1)
+        G.add_node("b", demand=1)
+        G.add_edge("a", "b", weight=1 / 3, capacity=9)
+        for call in (mcf.nx.network_simplex, mcf.nx.min_cost_flow, mcf.nx.min_cost_flow_cost):
+            with self.assertRaises(nx.NetworkXException) as c:
+                call(G)
+            error = pickle.loads(pickle.dumps(c.exception))
+            self.assertEqual(
+                (error.ends, error.value, error.reason), (("a", "b"), 1 / 3, "cost"), str(error)
+            )
+        G.edges["a", "b"]["weight"] = float("nan")
+        self.assertRaises(nx.NetworkXError, mcf.nx.network_simplex, G)
+        self.assertRaises(nx.NetworkXNotImplemented, mcf.nx.network_simplex, G.to_undirected())
+
+    def test_backend_falls_back(self):
+        script = """if True:
+            import networkx as nx
+            import sys
+            if not hasattr(getattr(nx, "config", None), "backends"):
+                print("no backends")
+                sys.exit()
+            G = nx.DiGraph()
+            G.add_node("a", demand=-3)
+            G.add_node("b", demand=3)
+            G.add_edge("a", "b", weight=1 / 3, capacity=sys.maxsize)
+            own = nx.network_simplex(G)
+            try:
+                nx.network_simplex(G, backend="mcf")
+            except NotImplementedError:
+                print("refused")
+            nx.config.backend_priority = ["mcf"]
+            print(nx.network_simplex(G) == own, nx.min_cost_flow_cost(G) == own[0])
+            G.add_edge("a", "b", weight=0.25)
+            print(nx.network_simplex(G, backend="mcf")[0])
+            """
+        top = os.path.dirname(os.path.dirname(os.path.dirname(os.path.abspath(__file__))))
+        with tempfile.TemporaryDirectory() as folder:
+            about = os.path.join(folder, "yokdelm-0.dist-info")
+            os.mkdir(about)
+            shutil.copy(os.path.join(top, "packaging/python/entry_points.txt"), about)
+            path = os.pathsep.join((folder, os.path.join(top, "python")))
+            said = subprocess.run(
+                [sys.executable, "-c", script],
+                env=dict(os.environ, PYTHONPATH=path),
+                stdout=subprocess.PIPE,
+                check=True,
+                timeout=60,
+            ).stdout.split(b"\n")
+        self.assertIn(said[:-1], ([b"no backends"], [b"refused", b"True True", b"0.75"]))
 
 
 if __name__ == "__main__":
