@@ -71,7 +71,10 @@ for python in $(interpreters); do
     step "$version" env MCF_LIBRARY="$top/bin/libmcf.so" "$python" python/tests/library.py
     step "$version, hostile arguments" env MCF_LIBRARY="$top/bin/libmcf.so" "$python" python/tests/hostile.py
 done
-python=$(having mypy "types of the module") && step "types of the module" "$python" -m mypy --ignore-missing-imports --cache-dir=/dev/null python/mcf
+python=$(having "mypy, numpy" "types of the module") && {
+    step "types of the module" "$python" -m mypy --strict --cache-dir=/dev/null python/mcf python/tests/typed.py
+    step "typed examples" env MCF_LIBRARY="$top/bin/libmcf.so" "$python" python/tests/typed.py
+}
 others networkx
 others scipy
 exit $failed

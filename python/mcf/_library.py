@@ -77,7 +77,7 @@ class Told(ctypes.Structure):
     @property
     def number(self) -> int:
         size = self.low + (self.high << 64)
-        return -size if self.negative else size
+        return int(-size if self.negative else size)
 
 
 class FlowProblem(ctypes.Structure):
@@ -99,11 +99,23 @@ class Assignment(ctypes.Structure):
 
 
 class Verdict(NamedTuple):
-    """What the checker says: whether it accepts, of what kind, with which number and code."""
+    """What the checker says.
+
+    Attributes
+    ----------
+    accepted : bool
+    kind : str
+        'flow', 'blocked' or 'refusal', or what is wrong with the answer, as 'bad-cost'.
+    number
+        Of an accepted flow its cost, of a set how many nodes it has, and else the place of which
+        the verdict speaks: `mcf.h` says which, for each kind.
+    code : str
+        What is wrong with the instance, of a refusal.
+    """
 
     accepted: bool
     kind: str
-    number: int
+    number: Union[int, float]
     code: str
 
     def __bool__(self) -> bool:
@@ -219,7 +231,7 @@ def _called(function: Any, words: Any, kept: Any) -> Any:
     return answer
 
 
-def _bytes(text) -> bytes:
+def _bytes(text: Any) -> bytes:
     """A text as bytes, of anything that holds bytes."""
     return text if isinstance(text, bytes) else memoryview(text).tobytes()
 
@@ -260,8 +272,8 @@ class Arrays:
 
     __slots__ = ("problem", "flow", "prices", "told", "_rooms", "_kept", "_solve", "_check")
     problem: Union[FlowProblem, Assignment]
-    flow: array
-    prices: array
+    flow: "array[int]"
+    prices: "array[int]"
     _kept: Any
     _solve: Any
     _check: Any
@@ -273,7 +285,7 @@ class Arrays:
         status = self._call(self._solve, words, size)
         if status > REFUSED:
             raise failed(status)
-        return status
+        return int(status)
 
     def check(self) -> Verdict:
         """The verdict of the checker on the flow, the prices and the cost that is told."""
@@ -294,13 +306,13 @@ class Arrays:
         self._rooms = (at(self.flow), arcs, at(self.prices), nodes)
 
 
-def at(buffer) -> int:
+def at(buffer: Any) -> int:
     """Where a buffer lies; one without bytes needs only not to lie at 0."""
     if isinstance(buffer, array):
-        return buffer.buffer_info()[0] or 8
+        return int(buffer.buffer_info()[0]) or 8
     if isinstance(buffer, bytes):
         return ctypes.cast(ctypes.c_char_p(buffer), ctypes.c_void_p).value or 8
-    return buffer.ctypes.data or 8
+    return int(buffer.ctypes.data) or 8
 
 
 class ArcArrays(Arrays):
@@ -308,7 +320,7 @@ class ArcArrays(Arrays):
 
     __slots__ = ()
 
-    def __init__(self, supplies, nodes: int, arcs, arc_count: int):
+    def __init__(self, supplies: Any, nodes: int, arcs: Any, arc_count: int):
         self._kept = (supplies, arcs)
         self.problem = FlowProblem(at(supplies), nodes, at(arcs), arc_count)
         self._solve, self._check = _lib.mcf_solve_arcs, _lib.mcf_check_arcs
@@ -320,13 +332,13 @@ class PairArrays(Arrays):
 
     __slots__ = ()
 
-    def __init__(self, rows: int, columns: int, pairs, pair_count: int):
+    def __init__(self, rows: int, columns: int, pairs: Any, pair_count: int):
         self._kept = pairs
         self.problem = Assignment(rows, columns, at(pairs), pair_count)
         self._solve, self._check = _lib.mcf_solve_pairs, _lib.mcf_check_pairs
         self._room(pair_count, rows + columns)
 
 
-def marked(marks: array) -> List[int]:
+def marked(marks: "array[int]") -> List[int]:
     """The places that are marked."""
     return [place for place, mark in enumerate(marks) if mark]

@@ -17,7 +17,7 @@ def listed(values: Any) -> Any:
     as; another iterable as it is."""
     if not hasattr(values, "tolist"):
         return values
-    dtype = getattr(values, "dtype", None)
+    dtype: Any = getattr(values, "dtype", None)
     # Wider ones stay what they are, and print as themselves.
     if getattr(dtype, "kind", "") == "f" and dtype.itemsize < 8:
         return values.astype(str).astype(float).tolist()
@@ -59,7 +59,7 @@ def scale_of(values: Iterable[Whole]) -> int:
 
 def unscaled(value: Any, scale: int) -> Union[int, float]:
     """What a scaled number was."""
-    if scale == 1:
+    if scale == 1 and type(value) is int:
         return value
     number = Fraction(value, scale)
     if number.denominator == 1:

@@ -9,6 +9,7 @@ from typing import (
     Any,
     Callable,
     Dict,
+    Generic,
     Hashable,
     Iterable,
     List,
@@ -19,6 +20,8 @@ from typing import (
     Tuple,
     Type,
     Union,
+    cast,
+    overload,
 )
 
 from ._library import (
@@ -46,6 +49,7 @@ from ._limits import (
     residual_arcs,
 )
 from ._numbers import exact, is_float, limited, listed, said, scale_of, unscaled
+from ._types import Amount, Label, Numbers, Prices, Real, Series, WholeArc
 
 COST, NODE, NODES, ARCS = 10**15, 2**32 - 2, 10**6, 10**7
 LIMITS = {
@@ -174,28 +178,44 @@ class NotAccepted(MCFError):
     proofs."""
 
 
-class Flow:
-    """A least-cost flow: `cost`, `flow` by arc, `prices` by node, which show that no flow costs
-    less, and the checker's `verdict`."""
+class Flow(Generic[Amount, Prices]):
+    """A least-cost flow.
+
+    Attributes
+    ----------
+    cost
+        What it costs.
+    flow : list
+        What each arc carries.
+    prices : list or dict
+        A price for each node, in the order or by the labels of the supplies; they show that no flow
+        costs less.
+    verdict : Verdict or None
+        What the checker said; None where it wasn't asked.
+    """
 
     __slots__ = ("cost", "flow", "verdict", "_prices", "_labels", "_scale")
+    cost: Amount
+    flow: List[Amount]
+    verdict: Optional[Verdict]
 
     def __init__(
         self,
-        cost: Number,
-        flow: List[Number],
+        cost: Amount,
+        flow: List[Amount],
         verdict: Optional[Verdict],
         prices: Sequence[int],
-        labels: Optional[List[Hashable]],
+        labels: Optional[Sequence[Hashable]],
         scale: int,
     ):
         self.cost, self.flow, self.verdict = cost, flow, verdict
         self._prices, self._labels, self._scale = prices, labels, scale
 
     @property
-    def prices(self) -> Union[List[Number], Dict[Hashable, Number]]:
+    def prices(self) -> Prices:
         values = [unscaled(price, self._scale) for price in self._prices]
-        return values if self._labels is None else dict(zip(self._labels, values))
+        found = values if self._labels is None else dict(zip(self._labels, values))
+        return cast(Prices, found)
 
     def __repr__(self) -> str:
         return "Flow(cost=%r, flow=%r)" % (self.cost, self.flow)
@@ -231,7 +251,7 @@ def _packed(arcs: Sequence[Limited]) -> bytes:
         return struct.pack("=" + "IIqqq" * len(arcs), *chain.from_iterable(numbers))
 
 
-def _supplied(supplies: Sequence[int]) -> array:
+def _supplied(supplies: Sequence[int]) -> "array[int]":
     try:
         return array("q", supplies)
     except OverflowError:
@@ -363,8 +383,8 @@ def solve_whole(
 
 
 def _numbered(
-    supplies: Mapping[Hashable, Any], arcs: List[tuple]
-) -> Tuple[List[Hashable], List[Any], List[tuple]]:
+    supplies: Mapping[Hashable, Any], arcs: List[Tuple[Any, ...]]
+) -> Tuple[List[Hashable], List[Any], List[Tuple[Any, ...]]]:
     """Labels in the order in which they come, and the instance by their numbers."""
     number: Dict[Hashable, int] = {label: place for place, label in enumerate(supplies)}
     ends = [
@@ -394,7 +414,9 @@ def _by_label(supplies: Any) -> Dict[Hashable, Any]:
     return found
 
 
-def _given(supplies: Any, arcs: List[tuple]) -> Tuple[Optional[List[Hashable]], Any, List[tuple]]:
+def _given(
+    supplies: Any, arcs: List[Tuple[Any, ...]]
+) -> Tuple[Optional[List[Hashable]], Any, List[Tuple[Any, ...]]]:
     """Labels where supplies have them, the supplies, and the arcs by the numbers of nodes."""
     if isinstance(supplies, Mapping):
         return _numbered(supplies, arcs)
@@ -423,7 +445,7 @@ def _row(arc: Any) -> Tuple[Any, ...]:
     return arc[0], arc[1], 0, arc[2], arc[3]
 
 
-def _node(value) -> int:
+def _node(value: Any) -> int:
     """The number of a node, which an array of floats has as a float."""
     try:
         return int(value) if is_float(value) and float(value).is_integer() else index(value)
@@ -433,7 +455,9 @@ def _node(value) -> int:
         ) from None
 
 
-def _scaled(amounts: list, rows: List[tuple]) -> Tuple[List[int], List[Any], int, int]:
+def _scaled(
+    amounts: List[Any], rows: Sequence[Tuple[Any, ...]]
+) -> Tuple[List[int], List[Any], int, int]:
     """Supplies and arcs in whole numbers, and how many times as great amounts and costs are."""
     exacts = [
         (
@@ -458,7 +482,7 @@ def _scaled(amounts: list, rows: List[tuple]) -> Tuple[List[int], List[Any], int
     return amounts, exacts, units, costs
 
 
-def _restored(error: Refused, labels: Optional[List[Hashable]], scales: Dict[str, int]) -> Refused:
+def _restored(error: Refused, labels: Optional[Sequence[Any]], scales: Dict[str, int]) -> Refused:
     """A refusal by the labels and the numbers that were given."""
     named: Any = (lambda v: v) if labels is None else labels.__getitem__
     scale = scales.get(error.reason, 1)
@@ -473,13 +497,13 @@ def _restored(error: Refused, labels: Optional[List[Hashable]], scales: Dict[str
 
 
 def solve_rows(
-    labels: Optional[List[Hashable]],
+    labels: Optional[Sequence[Any]],
     given: Iterable[Any],
-    rows: List[Tuple[Any, ...]],
+    rows: Sequence[Tuple[Any, ...]],
     choice: Callable[[int], Choice],
     check: bool,
     beyond: float = 0,
-) -> Flow:
+) -> Flow[Any, Any]:
     """Solves an instance of numbers of all kinds, whose nodes are numbered and may have labels."""
     amounts, exacts, units, costs = _scaled([exact(b) for b in given], rows)
     try:
@@ -493,35 +517,133 @@ def solve_rows(
         scales = {"cost": costs, "total": units * costs}
         scales.update(dict.fromkeys(("supply", "bound", "order", "unlimited"), units))
         raise _restored(error, labels, scales) from None
-    flow = problem.flow.tolist()
+    flow: List[Number] = list(problem.flow)
     if units != 1:
-        flow = [unscaled(f, units) for f in flow]
+        flow = [unscaled(f, units) for f in problem.flow]
     cost = unscaled(problem.told.number, units * costs)
     if verdict is not None:
         verdict = verdict._replace(number=cost)
     return Flow(cost, flow, verdict, problem.prices, labels, costs)
 
 
+@overload
 def solve(
-    supplies: Union[int, Sequence[Any], Mapping[Hashable, Any]],
+    supplies: Mapping[Label, int],
+    arcs: Iterable[WholeArc[Label]],
+    *,
+    engine: str = ...,
+    pricing: Optional[str] = ...,
+    block: Optional[int] = ...,
+    check: bool = ...,
+) -> Flow[int, Mapping[Label, int]]:
+    ...
+
+
+@overload
+def solve(
+    supplies: Mapping[Label, Real],
     arcs: Iterable[Sequence[Any]],
+    *,
+    engine: str = ...,
+    pricing: Optional[str] = ...,
+    block: Optional[int] = ...,
+    check: bool = ...,
+) -> Flow[Number, Mapping[Label, Number]]:
+    ...
+
+
+@overload
+def solve(
+    supplies: Series,
+    arcs: Iterable[Sequence[Any]],
+    *,
+    engine: str = ...,
+    pricing: Optional[str] = ...,
+    block: Optional[int] = ...,
+    check: bool = ...,
+) -> Flow[Number, Mapping[Any, Number]]:
+    ...
+
+
+@overload
+def solve(
+    supplies: Union[int, Sequence[int]],
+    arcs: Iterable[WholeArc[int]],
+    *,
+    engine: str = ...,
+    pricing: Optional[str] = ...,
+    block: Optional[int] = ...,
+    check: bool = ...,
+) -> Flow[int, Sequence[int]]:
+    ...
+
+
+@overload
+def solve(
+    supplies: Union[int, Numbers],
+    arcs: Iterable[Sequence[Any]],
+    *,
+    engine: str = ...,
+    pricing: Optional[str] = ...,
+    block: Optional[int] = ...,
+    check: bool = ...,
+) -> Flow[Number, Sequence[Number]]:
+    ...
+
+
+def solve(
+    supplies: Any,
+    arcs: Iterable[Any],
     *,
     engine: str = "auto",
     pricing: Optional[str] = None,
     block: Optional[int] = None,
     check: bool = True,
-) -> Flow:
-    """Solves a minimum-cost flow problem, by what suits its size where no engine, pricing rule or
-    block is asked.
+) -> Flow[Any, Any]:
+    """Solves a minimum-cost flow problem.
 
-    `supplies` is a list by node (nodes are 0, 1, ..), a dict by label, or a number of nodes without
-    supply; what has labels as a Series of pandas is taken by these, too. A supply is above 0 where
-    the node sends. `arcs` are (from, to, cap, cost) or (from, to, low, cap, cost); a cap of None,
-    or an infinite one, is none. Arrays of numpy serve for both. Numbers that aren't whole are
-    scaled to whole ones, exactly: a float is the decimal that it prints as.
+    Numbers that aren't whole are multiplied to be whole, exactly: a float is the decimal that it
+    prints as.
 
-    Raises Infeasible, Unbounded or Refused.
+    Parameters
+    ----------
+    supplies : sequence, mapping, Series or int
+        What each node sends, or takes where it is below 0: by node (nodes are 0, 1, ..), by label,
+        or as a number of nodes without supply. An array of numpy serves, too.
+    arcs : iterable
+        (from, to, cap, cost) or (from, to, low, cap, cost) of each arc, as an array of numpy, too.
+        A cap of None, or an infinite one, is none.
+    engine : {'auto', 'simplex', 'scaling', 'augment', 'sap', 'cancel'}
+        What solves it; 'auto' is what suits the size, where no rule or block is asked.
+    pricing : {'block', 'first', 'best', 'wide'}, optional
+        The pricing rule of the network simplex.
+    block : int, optional
+        How many arcs a block of 'block' has.
+    check : bool
+        Whether the checker judges the answer before it is shown.
 
+    Returns
+    -------
+    Flow
+        A flow of least cost, with prices that show it. All its numbers are ints where all that are
+        given are.
+
+    Raises
+    ------
+    Infeasible
+        No flow meets the supplies: it names nodes that must send or take more than they can.
+    Unbounded
+        A cycle of negative cost has no limit.
+    Refused
+        A number is past the limits: 10^18 for supplies and bounds, 10^15 for costs, 10^36 for the
+        sum of costs times bounds, when they are whole.
+    OverflowError
+        A price doesn't fit 64 bits.
+    TypeError, ValueError
+        What is given is no problem.
+
+    Examples
+    --------
     >>> arcs = [("mill", "depot", 2, 1), ("mill", "shop", None, 5), ("depot", "shop", 3, 1)]
     >>> r = solve({"mill": 4, "shop": -4}, arcs)
     >>> r.cost, r.flow, r.prices
@@ -529,7 +651,7 @@ def solve(
     >>> solve([1, -1], [(1, 0, 5, 3)])
     Traceback (most recent call last):
       ..
-    mcf._solving.Infeasible: 1 node(s) must send 1 and can send 0
+    mcf.Infeasible: 1 node(s) must send 1 and can send 0
     """
     labels, given, rows = _given(supplies, [_row(arc) for arc in listed(arcs)])
     return solve_rows(labels, given, rows, lambda n: suited(n, engine, pricing, block), check)

@@ -5,26 +5,77 @@ import sys
 from array import array
 from functools import lru_cache
 from itertools import chain
-from typing import Any, List, Optional, Tuple
+from typing import Any, List, Optional, Sequence, Tuple, Union, overload
 
 from ._library import BLOCKED, CODES, FLOW, PairArrays, choice_of
 from ._numbers import exact, is_float, limited, listed, scale_of
 from ._solving import COST, Cell, Infeasible, NotAccepted, Refused, solve_whole, suited
+from ._types import Matrix, Real
 
 # The bytes of the greatest template that is kept: at most eight are.
 KEPT = 2**20
 
 
+@overload
+def linear_sum_assignment(
+    cost_matrix: Sequence[Sequence[Real]],
+    maximize: bool = ...,
+    *,
+    engine: str = ...,
+    check: bool = ...,
+) -> Tuple[List[int], List[int]]:
+    ...
+
+
+@overload
+def linear_sum_assignment(
+    cost_matrix: Union[Matrix, Sequence[Matrix]],
+    maximize: bool = ...,
+    *,
+    engine: str = ...,
+    check: bool = ...,
+) -> Tuple[Any, Any]:
+    ...
+
+
 def linear_sum_assignment(
     cost_matrix: Any, maximize: bool = False, *, engine: str = "auto", check: bool = True
 ) -> Tuple[Any, Any]:
-    """Matches rows with columns at least cost, or at greatest: the row indices, ascending, and the
-    column of each.
+    """Matches rows with columns at least cost, or at greatest.
 
-    Arrays of numpy where the matrix is one, and else lists. An infinite entry is a pair that can't
-    be matched. Entries that aren't whole are scaled, exactly: a float is the decimal that it prints
-    as. Whole, they may be up to 10^15: floats of 16 digits are refused.
+    Entries that aren't whole are multiplied to be whole, exactly: a float is the decimal that it
+    prints as.
 
+    Parameters
+    ----------
+    cost_matrix : sequence of sequences, or array
+        What it costs to match each row with each column. An infinite entry is a pair that can't be
+        matched.
+    maximize : bool
+        Whether the greatest cost is wanted.
+    engine : {'auto', 'sap', 'simplex', 'scaling', 'augment', 'cancel'}
+        What solves it.
+    check : bool
+        Whether the checker judges the answer before it is shown.
+
+    Returns
+    -------
+    rows, columns
+        The rows that are matched, ascending, and the column of each: arrays of numpy where the
+        matrix is one, and else lists.
+
+    Raises
+    ------
+    ValueError
+        No matching takes all rows, or all columns, without an infinite entry; or the matrix is
+        none.
+    Refused
+        An entry is past 10^15, when all are whole: so are floats of 16 digits.
+    TypeError
+        An entry is no number.
+
+    Examples
+    --------
     >>> linear_sum_assignment([[4, 1, 3], [2, 0, 5], [3, 2, 2]])
     ([0, 1, 2], [1, 0, 2])
     """
@@ -60,7 +111,7 @@ def _at_cell(error: Refused, cells: Any, width: int, maximize: bool) -> Refused:
     return Refused(place, None, "cost", 1, value, Cell(*divmod(place, width)))
 
 
-def _cells(matrix, maximize: bool):
+def _cells(matrix: Any, maximize: bool) -> Tuple[Any, int, int, Any]:
     """The entries row by row in whole numbers, None where one is infinite; how many rows and
     columns; numpy where the answer is its."""
     numpy = sys.modules.get("numpy") if hasattr(matrix, "__array__") else None
@@ -97,7 +148,7 @@ def _cells(matrix, maximize: bool):
         return _whole(flat, maximize, width), height, width, numpy
 
 
-def _whole(flat: list, maximize: bool, width: int):
+def _whole(flat: List[Any], maximize: bool, width: int) -> List[Optional[int]]:
     """The entries in whole numbers, and None where one is infinite."""
     if set(map(type, flat)) == {float} and all(map(float.is_integer, flat)):
         flat = list(map(int, flat))
@@ -135,7 +186,7 @@ def _pairs(n: int) -> "array[int]":
     return _kept_template(n)[:] if 16 * n * n <= KEPT else _template(n)
 
 
-def _square(cells, n: int, engine: str, check: bool) -> List[int]:
+def _square(cells: Any, n: int, engine: str, check: bool) -> List[int]:
     """The column of each row."""
     if n == 0:
         return []
@@ -162,7 +213,7 @@ def _square(cells, n: int, engine: str, check: bool) -> List[int]:
     return _columns(problem.flow, where, n)
 
 
-def _columns(flow: array, where: Optional[List[int]], n: int) -> List[int]:
+def _columns(flow: "array[int]", where: Optional[List[int]], n: int) -> List[int]:
     if where is not None:
         return [where[k] % n for k, f in enumerate(flow) if f]
     columns, data, end = [], flow.tobytes(), 8 * n
@@ -178,7 +229,7 @@ def _why(status: int, problem: PairArrays, n: int) -> Exception:
     return Refused(None, None, reason, 1, (2 * n, count) if reason == "size" else None)
 
 
-def _wide(cells, n: int, m: int, engine: str, check: bool) -> List[Tuple[int, int]]:
+def _wide(cells: Any, n: int, m: int, engine: str, check: bool) -> List[Tuple[int, int]]:
     """The pairs of n rows with more columns: each row sends 1, and each column passes on 1 at most
     to a last node."""
     where = [place for place, c in enumerate(cells) if c is not None]

@@ -36,10 +36,10 @@ class NetworkXRefused(nx.NetworkXException, _solving.Refused):  # type: ignore[m
 def _solve(
     nodes: List[Any],
     demands: Sequence[Any],
-    rows: List[Tuple[Any, ...]],
+    rows: Sequence[Tuple[Any, ...]],
     engine: str,
     check: bool,
-) -> Flow:
+) -> Flow[Any, Any]:
     """Cost and flows; caps may be infinite, and ends are numbers of nodes."""
     supplies = [-d for d in demands]
     try:
@@ -200,7 +200,7 @@ def maximum_flow_value(
         raise nx.NetworkXError("source and sink are the same node")
     nodes = list(G)
     number = {u: k for k, u in enumerate(nodes)}
-    rows = []
+    rows: List[Tuple[Any, ...]] = []
     for u, v, data in G.edges(data=True):
         (cap,) = _exacts([data.get(capacity, INFINITE)])
         if u != v and cap > 0:
@@ -209,9 +209,10 @@ def maximum_flow_value(
                 rows.append((number[v], number[u], 0, cap, 0))
     rows.append((number[t], number[s], 0, INFINITE, -1))
     try:
-        return _solve(nodes, [0] * len(nodes), rows, engine, check).flow[-1]
+        value: Number = _solve(nodes, [0] * len(nodes), rows, engine, check).flow[-1]
     except Unbounded:
         raise nx.NetworkXUnbounded("Infinite capacity path, flow unbounded above.") from None
+    return value
 
 
 def max_flow_min_cost(

@@ -1,21 +1,22 @@
 """The shape of OR-tools' SimpleMinCostFlow, answered by mcf."""
 from operator import index
-from typing import Iterable, List, Optional, Sequence
+from typing import Any, Iterable, List, Optional, SupportsIndex, Tuple
 
 from ._solving import NODES, Flow, Infeasible, MCFError, Refused, solve_rows, suited
+from ._types import Column
 
 # The greatest capacity: what is past 10^18 is one that may not bind.
 INT64 = 2**63 - 1
 
 
-def _together(*columns: Sequence[int]) -> Iterable[tuple]:
+def _together(*columns: Column) -> Iterable[Tuple[SupportsIndex, ...]]:
     """The rows of columns of one length."""
     if len(set(map(len, columns))) != 1:
         raise ValueError("the sequences have one length")
     return zip(*columns)
 
 
-def _node(node: int) -> int:
+def _node(node: SupportsIndex) -> int:
     """The number of a node that may be."""
     number = index(node)
     if not 0 <= number < NODES:
@@ -46,26 +47,32 @@ class SimpleMinCostFlow:
     ) = range(8)
 
     def __init__(self) -> None:
-        self._arcs: List[tuple] = []
+        self._arcs: List[Tuple[int, int, int, int]] = []
         self._supplies: List[int] = []
-        self._answer: Optional[Flow] = None
+        self._answer: Optional[Flow[Any, Any]] = None
         self.error: Optional[MCFError] = None
 
     def _reach(self, node: int) -> None:
         self._supplies += [0] * (node + 1 - len(self._supplies))
 
     def add_arc_with_capacity_and_unit_cost(
-        self, tail: int, head: int, capacity: int, unit_cost: int
+        self,
+        tail: SupportsIndex,
+        head: SupportsIndex,
+        capacity: SupportsIndex,
+        unit_cost: SupportsIndex,
     ) -> int:
+        """Adds an arc, and tells its number."""
         return self.add_arcs_with_capacity_and_unit_cost([tail], [head], [capacity], [unit_cost])[0]
 
     def add_arcs_with_capacity_and_unit_cost(
         self,
-        tails: Sequence[int],
-        heads: Sequence[int],
-        capacities: Sequence[int],
-        unit_costs: Sequence[int],
+        tails: Column,
+        heads: Column,
+        capacities: Column,
+        unit_costs: Column,
     ) -> List[int]:
+        """Adds arcs, from columns of one length, and tells their numbers."""
         arcs = [
             (_node(u), _node(v), index(cap), index(cost))
             for u, v, cap, cost in _together(tails, heads, capacities, unit_costs)
@@ -75,33 +82,42 @@ class SimpleMinCostFlow:
         self._arcs += arcs
         return list(range(len(self._arcs) - len(arcs), len(self._arcs)))
 
-    def set_node_supply(self, node: int, supply: int) -> None:
+    def set_node_supply(self, node: SupportsIndex, supply: SupportsIndex) -> None:
+        """Says what a node sends, or takes where it is below 0."""
         self.set_nodes_supplies([node], [supply])
 
-    def set_nodes_supplies(self, nodes: Sequence[int], supplies: Sequence[int]) -> None:
+    def set_nodes_supplies(self, nodes: Column, supplies: Column) -> None:
+        """Says what nodes send, from columns of one length."""
         for node, supply in [(_node(v), index(b)) for v, b in _together(nodes, supplies)]:
             self._reach(node)
             self._supplies[node] = supply
 
     def num_nodes(self) -> int:
+        """How many nodes there are."""
         return len(self._supplies)
 
     def num_arcs(self) -> int:
+        """How many arcs there are."""
         return len(self._arcs)
 
     def tail(self, arc: int) -> int:
+        """Where an arc begins."""
         return self._arcs[arc][0]
 
     def head(self, arc: int) -> int:
+        """Where an arc ends."""
         return self._arcs[arc][1]
 
     def capacity(self, arc: int) -> int:
+        """The capacity of an arc."""
         return self._arcs[arc][2]
 
     def unit_cost(self, arc: int) -> int:
+        """What a unit costs on an arc."""
         return self._arcs[arc][3]
 
     def supply(self, node: int) -> int:
+        """What a node sends."""
         return self._supplies[node]
 
     def solve(self) -> int:
@@ -124,21 +140,25 @@ class SimpleMinCostFlow:
             )
         return self.OPTIMAL
 
-    def _solved(self) -> Flow:
+    def _solved(self) -> Flow[Any, Any]:
         if self._answer is None:
             raise RuntimeError("nothing is solved to optimality")
         return self._answer
 
     def optimal_cost(self) -> int:
+        """The cost of the flow that was found."""
         return int(self._solved().cost)
 
     def maximum_flow(self) -> int:
+        """What all nodes send in the flow that was found."""
         self._solved()
         return sum(b for b in self._supplies if b > 0)
 
     def flow(self, arc: int) -> int:
+        """What an arc carries."""
         return int(self._solved().flow[arc])
 
-    def flows(self, arcs: Sequence[int]) -> List[int]:
+    def flows(self, arcs: Iterable[int]) -> List[int]:
+        """What arcs carry."""
         flow = self._solved().flow
         return [int(flow[arc]) for arc in arcs]

@@ -1,0 +1,99 @@
+"""What docs/LIBRARY.md and the docstrings show, as mypy has to take it; run, it says whether it is
+so. Needs numpy, as its arrays are part of it. MCF_LIBRARY names the library."""
+import os
+import sys
+from decimal import Decimal
+from fractions import Fraction
+from typing import Dict, List, Optional, Tuple, Union
+
+import numpy as np
+
+sys.path.insert(0, os.path.dirname(os.path.dirname(os.path.abspath(__file__))))
+import mcf
+
+
+def labels() -> None:
+    """Whole numbers stay ints, and prices are looked up by label."""
+    r = mcf.solve(
+        {"mill": 4, "shop": -4},
+        [("mill", "depot", 2, 1), ("mill", "shop", None, 5), ("depot", "shop", 3, 1)],
+    )
+    cost: int = r.cost
+    flow: List[int] = r.flow
+    price: int = r.prices["shop"]
+    assert (cost, flow, price) == (14, [2, 2, 2], -5)
+    supplies: Dict[str, int] = {"a": 1, "b": -1}
+    arcs: List[Tuple[str, str, int, Optional[int], int]] = [("a", "b", 0, None, 3)]
+    lower: int = mcf.solve(supplies, arcs, engine="scaling").prices["a"]
+    assert lower == 0
+
+
+def places() -> None:
+    """Prices by place where supplies have no labels."""
+    r = mcf.solve([4, -4], [(0, 1, 3, 2), (0, 1, 9, 5)])
+    cost: int = r.cost
+    price: int = r.prices[1]
+    verdict: Optional[mcf.Verdict] = r.verdict
+    assert (cost, price) == (11, -5) and verdict is not None and verdict.accepted
+    assert mcf.solve(3, []).flow == []
+
+
+def decimals() -> None:
+    """Other numbers, and arcs in lists."""
+    r = mcf.solve([0.5, Decimal("-0.5")], [[0, 1, float("inf"), Fraction(3, 2)]])
+    cost: float = r.cost
+    price: float = r.prices[1]
+    assert (cost, price) == (0.75, -1.5)
+    named = mcf.solve({"a": 0.5, "b": -0.5}, [("a", "b", None, 1.5)])
+    value: Union[int, float] = named.prices["b"]
+    assert value == -1.5
+
+
+def arrays() -> None:
+    """Arrays of numpy, whatever takes numbers."""
+    r = mcf.solve(np.array([4, 0, -4]), np.array([[0, 1, 3, 1], [1, 2, 3, -1], [0, 2, 9, 5]]))
+    cost: float = r.cost
+    assert (cost, r.flow) == (5, [3, 3, 1])
+    rows, columns = mcf.linear_sum_assignment(np.array([[4, 1, 3], [2, 0, 5], [3, 2, 2]]))
+    assert (rows.tolist(), columns.tolist()) == ([0, 1, 2], [1, 0, 2])
+    smcf = mcf.SimpleMinCostFlow()
+    arcs: List[int] = smcf.add_arcs_with_capacity_and_unit_cost(
+        np.array([0, 0, 1]), np.array([1, 2, 2]), np.array([4, 3, 4]), np.array([1, 5, 1])
+    )
+    smcf.set_nodes_supplies(np.array([0, 2]), np.array([5, -5]))
+    assert smcf.solve() == smcf.OPTIMAL and smcf.flows(arcs) == [4, 1, 4]
+
+
+def assignments() -> None:
+    """Lists give lists."""
+    rows, columns = mcf.linear_sum_assignment([[4, 1, 3], [2, 0, 5], [3, 2, 2]])
+    first: List[int] = rows
+    assert (first, columns) == ([0, 1, 2], [1, 0, 2])
+    assert mcf.linear_sum_assignment([[1.5, float("inf")], [0.5, 1]], maximize=False)[1] == [0, 1]
+
+
+def exceptions() -> None:
+    """What exceptions have to tell."""
+    try:
+        mcf.solve([1, -1], [(1, 0, 5, 3)])
+    except mcf.Infeasible as error:
+        must: float = error.must
+        places: List[int] = error.arcs
+        assert (must, places, error.side) == (1, [], "send")
+    try:
+        mcf.solve([0, 0], [(0, 1, 5, 10**16)])
+    except mcf.Refused as refused:
+        limit: Optional[int] = refused.limit
+        assert (limit, refused.reason, refused.value) == (10**15, "cost", 10**16)
+
+
+def texts() -> None:
+    """Texts are bytes."""
+    kind, answer = mcf.solve_text(b"p min 2 1")
+    verdict = mcf.check_text(b"p min 2 1", answer)
+    assert (kind, verdict.accepted, verdict.code) == ("refusal", True, "missing")
+
+
+if __name__ == "__main__":
+    for example in (labels, places, decimals, arrays, assignments, exceptions, texts):
+        example()
