@@ -38,9 +38,30 @@ def solve_text(
     block: Optional[int] = None,
     form: int = 1,
 ) -> Tuple[str, bytes]:
-    """The kind of the answer ('flow', 'blocked' or 'refusal') and the answer text of an instance
-    text.
+    """Answers an instance text in a DIMACS format.
 
+    Parameters
+    ----------
+    text : bytes
+    engine, pricing, block
+        As of `solve`; 'auto' is the library's own choice.
+    form : {1, 2}
+        2 for an answer that names the arcs alone that don't carry their lower bound.
+
+    Returns
+    -------
+    kind : str
+        'flow', 'blocked' or 'refusal'.
+    answer : bytes
+        The answer text.
+
+    Raises
+    ------
+    TypeError, ValueError
+        The text isn't of bytes, or the options mean no choice.
+
+    Examples
+    --------
     >>> solve_text(b"p min 2 1")
     ('refusal', b'r 2 missing\\n')
     """
@@ -49,8 +70,19 @@ def solve_text(
 
 
 def check_text(text: bytes, answer: bytes) -> Verdict:
-    """The checker's verdict on an answer text for an instance text.
+    """Judges an answer text for an instance text.
 
+    Parameters
+    ----------
+    text, answer : bytes
+
+    Returns
+    -------
+    Verdict
+        It accepts exactly the right answers.
+
+    Examples
+    --------
     >>> check_text(b"p min 2 1", b"r 2 missing")
     Verdict(accepted=True, kind='refusal', number=2, code='missing')
     """
