@@ -13,7 +13,7 @@ class Limits(NamedTuple):
     """The arcs as the library takes them, the places of those that have another limit there, and
     of those among them whose limit there may bind where theirs doesn't."""
 
-    arcs: List[Limited]
+    arcs: Sequence[Limited]
     opened: List[int]
     short: Set[int]
 
@@ -21,10 +21,12 @@ class Limits(NamedTuple):
 def limited_arcs(supplies: Sequence[int], arcs: Sequence[Arc], beyond: float) -> Limits:
     """Arcs with limits of 10^18 at most, but for those that are past `beyond`, which stay. An arc
     without limit gets the least that no least flow needs, where that is in reach."""
-    opened = [k for k, a in enumerate(arcs) if a[3] is None or BOUND < a[3] <= beyond]
+    opened = [k for k, a in enumerate(arcs) if a[3] is None or beyond and BOUND < a[3] <= beyond]
+    short: Set[int] = set()
+    if not opened:
+        return Limits(arcs, [], short)  # type: ignore[arg-type]
     put: List[Limited] = list(arcs)  # type: ignore[arg-type]
-    short = set()
-    room = _room(supplies, arcs) if opened else 0
+    room = _room(supplies, arcs)
     for k in opened:
         u, v, low, cap, cost = arcs[k]
         needed = low + room if cap is None else cap
@@ -43,16 +45,18 @@ def _room(supplies: Sequence[int], arcs: Sequence[Arc]) -> int:
     one of negative cost.
     """
     left, nodes = list(supplies), range(len(supplies))
-    for u, v, low, _, _ in arcs:
+    is_earning, earned, others = False, 0, 0
+    for u, v, low, cap, cost in arcs:
         if low and u in nodes and v in nodes:
             left[u] -= low
             left[v] += low
-    is_earning = any(cap is None and cost < 0 for _, _, _, cap, cost in arcs)
-    turned = sum(
-        max(cap - low, 0)
-        for _, _, low, cap, cost in arcs
-        if cap is not None and (is_earning or cost < 0)
-    )
+        if cap is None:
+            is_earning = is_earning or cost < 0
+        elif cost < 0:
+            earned += max(cap - low, 0)
+        else:
+            others += max(cap - low, 0)
+    turned = earned + others if is_earning else earned
     return 1 + sum(b for b in left if b > 0) + turned
 
 

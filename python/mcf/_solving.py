@@ -434,7 +434,7 @@ def _given(
 
 def _row(arc: Any) -> Tuple[Any, ...]:
     """An arc with a lower bound, which is 0 where none is given."""
-    if type(arc) is not tuple and isinstance(arc, (Mapping, Set, str, bytes)):
+    if type(arc) not in (tuple, list) and isinstance(arc, (Mapping, Set, str, bytes)):
         raise TypeError(
             "an arc is (from, to, cap, cost) or (from, to, low, cap, cost), not %r" % (arc,)
         )
@@ -455,10 +455,21 @@ def _node(value: Any) -> int:
         ) from None
 
 
+def _are_whole(amounts: List[Any], rows: Sequence[Tuple[Any, ...]]) -> bool:
+    """Whether all are ints, but for caps of None."""
+    columns = list(zip(*rows))
+    caps = columns.pop(3) if columns else ()
+    return set(map(type, caps)) <= {int, type(None)} and all(
+        set(map(type, column)) <= {int} for column in (amounts, *columns)
+    )
+
+
 def _scaled(
     amounts: List[Any], rows: Sequence[Tuple[Any, ...]]
 ) -> Tuple[List[int], List[Any], int, int]:
     """Supplies and arcs in whole numbers, and how many times as great amounts and costs are."""
+    if _are_whole(amounts, rows):
+        return amounts, list(rows), 1, 1
     exacts = [
         (
             u if type(u) is int else _node(u),

@@ -52,6 +52,8 @@ def _solve(
 
 def _exacts(values: Sequence[Any]) -> List[Any]:
     """Numbers without loss; what is infinite stays."""
+    if set(map(type, values)) <= {int}:
+        return list(values)
     try:
         return [v if v == INFINITE else exact(v) for v in values]
     except ValueError as error:
