@@ -8,8 +8,9 @@ formats.
 from typing import Optional, Tuple
 
 from . import _library
+from ._errors import Infeasible, MCFError, NotAccepted, Refused, Unbounded
 from ._library import Verdict
-from ._solving import Flow, Infeasible, MCFError, NotAccepted, Refused, Unbounded, solve
+from ._solving import Flow, solve
 from .assignment import linear_sum_assignment
 from .simple import SimpleMinCostFlow
 

@@ -2,7 +2,7 @@
 theirs, and what an answer under these says of the problem that is given."""
 from typing import Dict, List, NamedTuple, Optional, Sequence, Set, Tuple
 
-BOUND = 10**18
+BOUND, COST, NODES, ARCS = 10**18, 10**15, 10**6, 10**7
 
 # The ends, low, cap and cost in whole numbers; a cap of None is none.
 Arc = Tuple[int, int, int, Optional[int], int]

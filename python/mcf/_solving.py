@@ -14,16 +14,15 @@ from typing import (
     Iterable,
     List,
     Mapping,
-    NamedTuple,
     Optional,
     Sequence,
     Tuple,
-    Type,
     Union,
     cast,
     overload,
 )
 
+from ._errors import Infeasible, MCFError, NotAccepted, Refused, Unbounded
 from ._library import (
     BLOCKED,
     CODES,
@@ -39,6 +38,8 @@ from ._library import (
 )
 from ._limits import (
     BOUND,
+    COST,
+    NODES,
     Arc,
     Limited,
     Limits,
@@ -48,134 +49,15 @@ from ._limits import (
     lowered,
     residual_arcs,
 )
-from ._numbers import exact, is_float, limited, listed, said, scale_of, unscaled
-from ._types import Amount, Label, Numbers, Prices, Real, Series, WholeArc
+from ._numbers import exact, is_float, limited, listed, scale_of, unscaled
+from ._types import Amount, Label, Number, Numbers, Prices, Real, Series, WholeArc
 
-COST, NODE, NODES, ARCS = 10**15, 2**32 - 2, 10**6, 10**7
-LIMITS = {
-    "supply": BOUND,
-    "bound": BOUND,
-    "cost": COST,
-    "total": BOUND**2,
-    "unlimited": BOUND,
-}
+# The greatest number of a node that the library can be handed.
+NODE = 2**32 - 2
 INFINITE = float("inf")
 # A flow problem of more nodes than this goes to the search that is judged: docs/BENCH.md, "What the
 # tools choose".
 LARGE = 2**14
-
-Number = Union[int, float]
-
-
-def _raised_again(kind: Type[BaseException], *words: Any) -> BaseException:
-    """An exception of a kind with its words alone, for copies and pickles, which then put its
-    data."""
-    return kind.__new__(kind, *words)
-
-
-class MCFError(Exception):
-    """What this package raises of an instance. It can be copied and pickled, with all its data."""
-
-    def __reduce__(self) -> Tuple[Any, ...]:
-        return (_raised_again, (type(self),) + self.args, self.__dict__)
-
-
-class Cell(NamedTuple):
-    """A place in a matrix."""
-
-    row: int
-    column: int
-
-
-class Refused(MCFError, ValueError):
-    """The instance is beyond the limits.
-
-    Attributes
-    ----------
-    arc, node
-        The place of the first fault, from 0, or its label: one of them, or none. Of a matrix, `arc`
-        is the place among all entries, row by row.
-    reason : str
-        What is wrong: 'size', 'supply', 'node', 'bound', 'order', 'cost' or 'total', or 'unlimited'
-        where no answer is within 10^18 on an arc without limit.
-    scale : int
-        What numbers of its kind were multiplied by, to be whole.
-    value
-        The number that is past the limit, as it was given; of 'order' low and cap, of 'size' how
-        many nodes and arcs there are, of 'node' how many nodes, and else None.
-    ends
-        From where and to where the arc leads; of a matrix, the row and the column.
-    limit : int or None
-        The greatest size of such a number, when it is whole.
-    """
-
-    def __init__(
-        self,
-        arc: Optional[int],
-        node: Any,
-        reason: str,
-        scale: int = 1,
-        value: Any = None,
-        ends: Optional[Tuple[Any, Any]] = None,
-    ):
-        self.arc, self.node, self.reason, self.scale = arc, node, reason, scale
-        self.value, self.ends, self.limit = value, ends, LIMITS.get(reason)
-        super().__init__(self._where() + self._what() + self._whole())
-
-    def _where(self) -> str:
-        if isinstance(self.ends, Cell):
-            return "row %d, column %d: " % self.ends
-        if self.arc is not None:
-            way = " (%s to %s)" % tuple(map(said, self.ends)) if self.ends else ""
-            return "arc %d%s: " % (self.arc, way)
-        return "node %s: " % said(self.node) if self.node is not None else ""
-
-    def _what(self) -> str:
-        if self.reason == "unlimited":
-            return "unlimited, it would have to carry more than 10^18"
-        if self.reason == "total":
-            return "total, the sizes of costs times bounds add up to more than 10^36"
-        if self.value is None:
-            return self.reason
-        if self.reason == "order":
-            low, cap = map(said, self.value)
-            return "order, the lower bound %s is above the capacity %s" % (low, cap)
-        if self.reason == "node":
-            return "node, those that there are have numbers from 0 to %d" % (self.value - 1)
-        if self.reason == "size":
-            nodes, arcs = map(said, self.value)
-            return "size, %s nodes and %s arcs, where %d and %d may be" % (nodes, arcs, NODES, ARCS)
-        return "%s %s is past the limit, %s" % (self.reason, said(self.value), said(self.limit))
-
-    def _whole(self) -> str:
-        if self.scale == 1:
-            return ""
-        return " (numbers are multiplied by %s, to be whole)" % said(self.scale)
-
-
-class Infeasible(MCFError):
-    """No flow is feasible: `nodes` must `side` ('send' or 'take') `must` units and can `can` at
-    most, over the arcs of the places `arcs`, which limit it."""
-
-    def __init__(self, nodes: List[Any], side: str, must: Number, can: Number, arcs: List[int]):
-        super().__init__(
-            "%d node(s) must %s %s and can %s %s" % (len(nodes), side, must, side, can)
-        )
-        self.nodes, self.side, self.must, self.can, self.arcs = nodes, side, must, can, arcs
-
-
-class Unbounded(MCFError):
-    """Costs have no least value: `cycle` has the places of the arcs of a cycle of negative cost
-    without limits."""
-
-    def __init__(self, cycle: List[int]):
-        super().__init__("a cycle of negative cost has no limit")
-        self.cycle = cycle
-
-
-class NotAccepted(MCFError):
-    """The checker doesn't accept the answer, so it isn't shown: that would be a bug outside the
-    proofs."""
 
 
 class Flow(Generic[Amount, Prices]):

@@ -15,6 +15,7 @@ from typing import (
 
 # Numbers of all kinds: int, float, Decimal, Fraction, and those of numpy.
 Real = Union[SupportsFloat, SupportsIndex]
+Number = Union[int, float]
 Label = TypeVar("Label")
 Amount = TypeVar("Amount", bound=float, covariant=True)
 Prices = TypeVar("Prices", covariant=True)

@@ -7,9 +7,11 @@ from functools import lru_cache
 from itertools import chain
 from typing import Any, List, Optional, Sequence, Tuple, Union, overload
 
+from ._errors import Cell, Infeasible, NotAccepted, Refused
 from ._library import BLOCKED, CODES, FLOW, PairArrays, choice_of
+from ._limits import COST
 from ._numbers import exact, is_float, limited, listed, scale_of
-from ._solving import COST, Cell, Infeasible, NotAccepted, Refused, solve_whole, suited
+from ._solving import solve_whole, suited
 from ._types import Matrix, Real
 
 # The bytes of the greatest template that is kept: at most eight are.

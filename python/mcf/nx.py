@@ -13,9 +13,11 @@ from typing import Any, Dict, List, Sequence, Tuple
 
 import networkx as nx
 
-from . import _solving
+from . import _errors
+from ._errors import Infeasible, Unbounded
 from ._numbers import exact
-from ._solving import INFINITE, Flow, Infeasible, Number, Unbounded, solve_rows, suited
+from ._solving import INFINITE, Flow, solve_rows, suited
+from ._types import Number
 
 __all__ = [
     "NetworkXRefused",
@@ -29,7 +31,7 @@ __all__ = [
 Flows = Dict[Any, Dict[Any, Any]]
 
 
-class NetworkXRefused(nx.NetworkXException, _solving.Refused):  # type: ignore[misc]
+class NetworkXRefused(nx.NetworkXException, _errors.Refused):  # type: ignore[misc]
     """Numbers of a graph are beyond the limits of mcf; it has what mcf.Refused has."""
 
 
@@ -44,7 +46,7 @@ def _solve(
     supplies = [-d for d in demands]
     try:
         return solve_rows(nodes, supplies, rows, lambda n: suited(n, engine), check, INFINITE)
-    except _solving.Refused as error:
+    except _errors.Refused as error:
         raise NetworkXRefused(
             error.arc, error.node, error.reason, error.scale, error.value, error.ends
         ) from None

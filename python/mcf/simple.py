@@ -2,7 +2,9 @@
 from operator import index
 from typing import Any, Iterable, List, Optional, SupportsIndex, Tuple
 
-from ._solving import NODES, Flow, Infeasible, MCFError, Refused, solve_rows, suited
+from ._errors import Infeasible, MCFError, Refused
+from ._limits import NODES
+from ._solving import Flow, solve_rows, suited
 from ._types import Column
 
 # The greatest capacity: what is past 10^18 is one that may not bind.
