@@ -88,7 +88,7 @@ class Refused(MCFError, ValueError):
             low, cap = map(said, self.value)
             return "order, the lower bound %s is above the capacity %s" % (low, cap)
         if self.reason == "node":
-            return "node, those that there are have numbers from 0 to %d" % (self.value - 1)
+            return "node, there are %d, with numbers from 0" % self.value
         if self.reason == "size":
             nodes, arcs = map(said, self.value)
             return "size, %s nodes and %s arcs, where %d and %d may be" % (nodes, arcs, NODES, ARCS)

@@ -334,7 +334,7 @@ class Numbers(unittest.TestCase):
                 lambda: mcf.solve([0, 0], [(0, 7, 1, 1)]),
                 2,
                 (0, 7),
-                "arc 0 (0 to 7): node, those that there are have numbers from 0 to 1",
+                "arc 0 (0 to 7): node, there are 2, with numbers from 0",
             ),
             (
                 lambda: mcf.solve(10**7, []),
