@@ -137,9 +137,12 @@ def in_modules(fact):
     yield Place(PAGE, "const ENGINES = [", "];", QUOTED, fact["engines"])
     key = r"(?:^|[ ,{])'?([\w-]+)'?: '"
     yield Place("page/words.js", "export const CODES = {", "};", key, fact["codes"])
-    names = ("node", "arc", "bound", "cost", "total")
-    powers = [f"10**{len(str(fact['limits'][name])) - 1}" for name in names]
-    yield Place("python/mcf_explain/reading.py", "_LIMIT = (", ")\n", r"10\*\*\d+", powers)
+    power = {name: f"10**{len(str(limit)) - 1}" for name, limit in fact["limits"].items()}
+    for path, begin, end, names in (
+        ("python/mcf/_limits.py", "BOUND, COST, NODES, ARCS = ", "\n", "bound cost node arc"),
+        ("python/mcf_explain/reading.py", "_LIMIT = (", ")\n", "node arc bound cost total"),
+    ):
+        yield Place(path, begin, end, r"10\*\*\d+", [power[name] for name in names.split()])
 
 
 def in_commands(fact):
