@@ -136,6 +136,8 @@ if [ ! -f "$(echo "$dist"/*.deb)" ]; then
     skip "the .deb: there is none"
 elif [ "$(id -u)" != 0 ]; then
     skip "the .deb: only root may enter another root"
+elif [ -z "${DEBIAN_ROOT:-}" ] && [ -n "${CI:-}" ]; then
+    skip "the .deb: CI fetches nothing, and DEBIAN_ROOT names no root"
 elif [ -z "${DEBIAN_ROOT:-}" ] && ! command -v debootstrap > /dev/null; then
     skip "the .deb: there is no debootstrap, and DEBIAN_ROOT names no root"
 else

@@ -1,4 +1,4 @@
-#!/bin/sh
+#!/bin/bash
 # The tests of the library from C, C++, Rust and Python, where a compiler or an interpreter is there, those of networkx and scipy among them, where
 # these are installed; they may take four minutes. It says what is skipped. The library stands in bin/, as make library leaves it.
 set -u
@@ -52,12 +52,13 @@ if has cc C; then
     cc -std=c99 $flags -o "$out/calls_static" library/tests/calls.c bin/libmcf.a || failed=1
     cc -std=c99 $flags -o "$out/hostile" library/tests/hostile.c -Lbin -lmcf -Wl,-rpath,"$top/bin" || failed=1
     cc -std=c99 $flags -o "$out/refuse" library/tests/refuse.c bin/libmcf.a -Wl,--wrap=malloc,--wrap=realloc,--wrap=free || failed=1
-    step "calls from C, shared" "$out/calls" $(texts)
-    step "calls from C, static" "$out/calls_static" $(texts)
+    mapfile -t texts < <(texts)
+    step "calls from C, shared" "$out/calls" "${texts[@]}"
+    step "calls from C, static" "$out/calls_static" "${texts[@]}"
     step "refused memory" "$out/refuse" examples/*.min examples/*.asn
     step "hostile calls" "$out/hostile" 20000 examples/*.min examples/*.asn
     if has valgrind "C under valgrind"; then
-        step "calls under valgrind" valgrind -q --error-exitcode=9 --leak-check=full "$out/calls" $(texts)
+        step "calls under valgrind" valgrind -q --error-exitcode=9 --leak-check=full "$out/calls" "${texts[@]}"
         step "hostile calls under valgrind" valgrind -q --error-exitcode=9 --leak-check=full "$out/hostile" 60 examples/*.min examples/*.asn
     fi
     step "names of the static library" sh -c "nm -g --defined-only bin/libmcf.a | awk 'NF == 3 && \$3 !~ /^mcf_[a-z_]*\$/ {print; bad = 1} END {exit bad}'"

@@ -6,12 +6,12 @@
 #include <stdlib.h>
 #include <string.h>
 
-#define CHECK(number, holds)                                                                     \
-    do {                                                                                         \
-        if (!(holds)) {                                                                          \
-            fprintf(stderr, "calls: check %d fails, line %d\n", number, __LINE__);               \
-            return number;                                                                       \
-        }                                                                                        \
+#define CHECK(number, holds)                                                       \
+    do {                                                                           \
+        if (!(holds)) {                                                            \
+            fprintf(stderr, "calls: check %d fails, line %d\n", number, __LINE__); \
+            return number;                                                         \
+        }                                                                          \
     } while (0)
 
 static const struct mcf_choice standard = {0, 0, 0, 0};
@@ -42,7 +42,8 @@ static int check_text(const char *path, uint32_t want) {
     memset(&told, 0xff, sizeof told);
     CHECK(3, mcf_check(input, length, room, used, &told) == 0 && told.kind == want);
     room[0] ^= 1;
-    CHECK(4, mcf_check(input, length, room, used, &told) == 1 && told.kind == MCF_BAD_SHAPE && told.low == 1);
+    CHECK(4, mcf_check(input, length, room, used, &told) == 1 && told.kind == MCF_BAD_SHAPE &&
+                 told.low == 1);
     choice.engine = 9;
     CHECK(5, mcf_solve(input, length, &choice, room, used, &again) == MCF_NO_CHOICE && again == 0);
     choice.engine = 0;
@@ -65,26 +66,34 @@ static int check_arcs(void) {
     static const struct mcf_arc arcs[3] = {{1, 2, 0, 3, 1}, {2, 3, 0, 3, -1}, {1, 3, 0, 9, 5}};
     static const int64_t more[3] = {4, 4, -4};
     static const struct mcf_arc other[3] = {{1, 2, 0, 3, 1}, {2, 3, 4, 3, -1}, {1, 3, 0, 9, 5}};
-    static const struct mcf_flow_problem problem = {supplies, 3, arcs, 3}, richer = {more, 3, arcs, 3};
-    static const struct mcf_flow_problem faulty = {supplies, 3, other, 3}, nothing = {supplies, 0, arcs, 0};
+    static const struct mcf_flow_problem problem = {supplies, 3, arcs, 3},
+                                         richer = {more, 3, arcs, 3};
+    static const struct mcf_flow_problem faulty = {supplies, 3, other, 3},
+                                         nothing = {supplies, 0, arcs, 0};
     int64_t flow[3], prices[3];
     struct mcf_choice choice = standard;
     struct mcf_verdict told;
     for (choice.engine = 0; choice.engine < 6; choice.engine++) {
         CHECK(11, mcf_solve_arcs(&problem, &choice, flow, 3, prices, 3, &told) == MCF_FLOW);
-        CHECK(12, flow[0] == 3 && flow[1] == 3 && flow[2] == 1 && told.low == 5 && told.high == 0 && told.negative == 0);
-        CHECK(13, mcf_check_arcs(&problem, flow, 3, prices, 3, &told) == 0 && told.kind == MCF_ACCEPTED_FLOW);
+        CHECK(12, flow[0] == 3 && flow[1] == 3 && flow[2] == 1 && told.low == 5 && told.high == 0 &&
+                      told.negative == 0);
+        CHECK(13, mcf_check_arcs(&problem, flow, 3, prices, 3, &told) == 0 &&
+                      told.kind == MCF_ACCEPTED_FLOW);
     }
     told.low = 6;
-    CHECK(14, mcf_check_arcs(&problem, flow, 3, prices, 3, &told) == 1 && told.kind == MCF_BAD_COST);
+    CHECK(14,
+          mcf_check_arcs(&problem, flow, 3, prices, 3, &told) == 1 && told.kind == MCF_BAD_COST);
     told.high = UINT64_MAX;
-    CHECK(15, mcf_check_arcs(&problem, flow, 3, prices, 3, &told) == 1 && told.kind == MCF_BAD_COST);
+    CHECK(15,
+          mcf_check_arcs(&problem, flow, 3, prices, 3, &told) == 1 && told.kind == MCF_BAD_COST);
     told.low = 5;
     told.high = 0;
     flow[2] = 2;
-    CHECK(16, mcf_check_arcs(&problem, flow, 3, prices, 3, &told) == 1 && told.kind == MCF_BAD_NODE && told.low == 1);
+    CHECK(16, mcf_check_arcs(&problem, flow, 3, prices, 3, &told) == 1 &&
+                  told.kind == MCF_BAD_NODE && told.low == 1);
     flow[2] = 10;
-    CHECK(17, mcf_check_arcs(&problem, flow, 3, prices, 3, &told) == 1 && told.kind == MCF_BAD_ARC && told.low == 3);
+    CHECK(17, mcf_check_arcs(&problem, flow, 3, prices, 3, &told) == 1 &&
+                  told.kind == MCF_BAD_ARC && told.low == 3);
     choice = standard;
     CHECK(18, mcf_solve_arcs(&problem, &choice, flow, 2, prices, 3, &told) == MCF_NO_ROOM);
     CHECK(19, mcf_check_arcs(&problem, flow, 3, prices, 2, &told) == MCF_NO_ROOM);
@@ -92,15 +101,19 @@ static int check_arcs(void) {
     CHECK(20, mcf_solve_arcs(&problem, &choice, flow, 3, prices, 3, &told) == MCF_NO_CHOICE);
     choice = standard;
     CHECK(21, mcf_solve_arcs(&richer, &choice, flow, 3, prices, 3, &told) == MCF_BLOCKED);
-    CHECK(22, told.code == MCF_SEND && told.low >= 1 && prices[0] + prices[1] + prices[2] == (int64_t)told.low);
+    CHECK(22, told.code == MCF_SEND && told.low >= 1 &&
+                  prices[0] + prices[1] + prices[2] == (int64_t)told.low);
     CHECK(23, mcf_solve_arcs(&faulty, &choice, flow, 3, prices, 3, &told) == MCF_REFUSED);
     CHECK(24, told.code == MCF_ORDER && told.low == 2 && told.kind == MCF_ACCEPTED_REFUSAL);
-    CHECK(25, mcf_check_arcs(&faulty, flow, 3, prices, 3, &told) == MCF_REFUSED && told.code == MCF_ORDER);
-    CHECK(26, mcf_solve_arcs(&nothing, &choice, flow, 0, prices, 0, &told) == MCF_FLOW && told.low == 0);
+    CHECK(25, mcf_check_arcs(&faulty, flow, 3, prices, 3, &told) == MCF_REFUSED &&
+                  told.code == MCF_ORDER);
+    CHECK(26, mcf_solve_arcs(&nothing, &choice, flow, 0, prices, 0, &told) == MCF_FLOW &&
+                  told.low == 0);
     return 0;
 }
 
-/* A chain of more than 9223 arcs that cost 10^15 each and carry 1: the last price is below all that 64 bits hold. */
+/* A chain of more than 9223 arcs that cost 10^15 each and carry 1: the last price is below all that
+ * 64 bits hold. */
 static int check_wide(void) {
     enum { COUNT = 9224 };
     static struct mcf_arc arcs[COUNT];
@@ -116,23 +129,28 @@ static int check_wide(void) {
     }
     supplies[0] = 1;
     supplies[COUNT] = -1;
-    CHECK(41, mcf_solve_arcs(&problem, &standard, flow, COUNT, prices, COUNT + 1, &told) == MCF_WIDE);
+    CHECK(41,
+          mcf_solve_arcs(&problem, &standard, flow, COUNT, prices, COUNT + 1, &told) == MCF_WIDE);
     return 0;
 }
 
 static int check_pairs(void) {
-    static const struct mcf_pair pairs[5] = {{1, 1, 4}, {1, 2, 1}, {2, 1, 2}, {2, 2, -3}, {1, 2, 0}};
+    static const struct mcf_pair pairs[5] = {
+        {1, 1, 4}, {1, 2, 1}, {2, 1, 2}, {2, 2, -3}, {1, 2, 0}};
     static const struct mcf_pair wrong[1] = {{3, 1, 0}};
-    static const struct mcf_assignment problem = {2, 2, pairs, 5}, narrow = {2, 2, pairs, 2}, faulty = {2, 2, wrong, 1};
+    static const struct mcf_assignment problem = {2, 2, pairs, 5}, narrow = {2, 2, pairs, 2},
+                                       faulty = {2, 2, wrong, 1};
     int64_t flow[5], prices[4];
     struct mcf_verdict told;
     CHECK(31, mcf_solve_pairs(&problem, &standard, flow, 5, prices, 4, &told) == MCF_FLOW);
-    CHECK(32, flow[0] == 1 && flow[1] == 0 && flow[2] == 0 && flow[3] == 1 && flow[4] == 0 && told.low == 1 && told.negative == 0);
+    CHECK(32, flow[0] == 1 && flow[1] == 0 && flow[2] == 0 && flow[3] == 1 && flow[4] == 0 &&
+                  told.low == 1 && told.negative == 0);
     CHECK(33, mcf_check_pairs(&problem, flow, 5, prices, 4, &told) == 0);
     flow[3] = 0;
     CHECK(34, mcf_check_pairs(&problem, flow, 5, prices, 4, &told) == 1);
     CHECK(35, mcf_solve_pairs(&narrow, &standard, flow, 2, prices, 4, &told) == MCF_BLOCKED);
-    CHECK(36, mcf_solve_pairs(&faulty, &standard, flow, 1, prices, 4, &told) == MCF_REFUSED && told.low == 1 && told.code == MCF_SIDE);
+    CHECK(36, mcf_solve_pairs(&faulty, &standard, flow, 1, prices, 4, &told) == MCF_REFUSED &&
+                  told.low == 1 && told.code == MCF_SIDE);
     CHECK(37, mcf_solve_pairs(&problem, &standard, flow, 5, prices, 3, &told) == MCF_NO_ROOM);
     CHECK(38, mcf_check_pairs(&faulty, flow, 1, prices, 4, &told) == MCF_REFUSED);
     return 0;
@@ -142,6 +160,7 @@ int main(int count, char **words) {
     int place, status = check_arcs();
     if (status == 0) status = check_wide();
     if (status == 0) status = check_pairs();
-    for (place = 1; status == 0 && place + 1 < count; place += 2) status = check_text(words[place + 1], (uint32_t)atoi(words[place]));
+    for (place = 1; status == 0 && place + 1 < count; place += 2)
+        status = check_text(words[place + 1], (uint32_t)atoi(words[place]));
     return status;
 }

@@ -1,6 +1,8 @@
-/* Hostile texts and arrays: whatever is lent lies at the edge of memory that may be touched, and what is lent to be read can't be written; texts are
-   noise, examples cut off or changed, and arrays have numbers at the limits and past them. What comes back is held against the definitions, which stand here once more. The first word is
-   a number of rounds, and the others are instance texts. Ends with 0, or names the line of the first check that fails. */
+/* Hostile texts and arrays: whatever is lent lies at the edge of memory that may be touched, and
+   what is lent to be read can't be written; texts are noise, examples cut off or changed, and
+   arrays have numbers at the limits and past them. What comes back is held against the definitions,
+   which stand here once more. The first word is a number of rounds, and the others are instance
+   texts. Ends with 0, or names the line of the first check that fails. */
 #define _DEFAULT_SOURCE
 #include "mcf.h"
 
@@ -9,12 +11,12 @@
 #include <string.h>
 #include <sys/mman.h>
 
-#define CHECK(holds)                                                                \
-    do {                                                                            \
-        if (!(holds)) {                                                             \
-            fprintf(stderr, "hostile: line %d, round %ld\n", __LINE__, round_now);  \
-            exit(1);                                                                \
-        }                                                                           \
+#define CHECK(holds)                                                               \
+    do {                                                                           \
+        if (!(holds)) {                                                            \
+            fprintf(stderr, "hostile: line %d, round %ld\n", __LINE__, round_now); \
+            exit(1);                                                               \
+        }                                                                          \
     } while (0)
 
 __extension__ typedef __int128 wide;
@@ -36,7 +38,8 @@ static uint64_t chance(uint64_t below) {
 /* The end of at least so many bytes; what comes after them can't be touched. */
 static uint8_t *edge(size_t size) {
     size_t whole = (size + PAGE - 1) / PAGE * PAGE;
-    uint8_t *begin = mmap(NULL, whole + PAGE, PROT_READ | PROT_WRITE, MAP_PRIVATE | MAP_ANONYMOUS | MAP_NORESERVE, -1, 0);
+    uint8_t *begin = mmap(NULL, whole + PAGE, PROT_READ | PROT_WRITE,
+                          MAP_PRIVATE | MAP_ANONYMOUS | MAP_NORESERVE, -1, 0);
     CHECK(begin != MAP_FAILED && mprotect(begin + whole, PAGE, PROT_NONE) == 0);
     return begin + whole;
 }
@@ -54,9 +57,11 @@ static void protect(uint8_t *end, size_t size, int how) {
 
 static uint8_t text[SIZE], *input_end, *room_end, *answer_end;
 
-/* A text is answered by any engine, the room has just the length that is lacking, and the checker accepts the answer; others it judges. */
+/* A text is answered by any engine, the room has just the length that is lacking, and the checker
+ * accepts the answer; others it judges. */
 static void answer_text(const uint8_t *input, size_t length) {
-    const struct mcf_choice any = {(uint32_t)chance(6), (uint32_t)chance(4), (uint32_t)chance(3), (uint32_t)chance(3)};
+    const struct mcf_choice any = {(uint32_t)chance(6), (uint32_t)chance(4), (uint32_t)chance(3),
+                                   (uint32_t)chance(3)};
     struct mcf_verdict told;
     size_t used = 0, again = 0;
     uint8_t *room, *other;
@@ -67,7 +72,8 @@ static void answer_text(const uint8_t *input, size_t length) {
     if (used > ROOM) return;
     room = room_end - used;
     memset(room, 7, used);
-    CHECK(mcf_solve(input, length, &any, room + 1, used - 1, &again) == MCF_NO_ROOM && again == used);
+    CHECK(mcf_solve(input, length, &any, room + 1, used - 1, &again) == MCF_NO_ROOM &&
+          again == used);
     CHECK(room[0] == 7 && memcmp(room, room + 1, used - 1) == 0);
     status = mcf_solve(input, length, &any, room, used, &again);
     CHECK(status <= MCF_REFUSED && again == used);
@@ -100,17 +106,36 @@ static size_t read_text(const char *path) {
 
 /* An example cut off, with bytes changed, or with a great number in it. */
 static void try_changed(const char *path) {
-    static const char *const numbers[] = {"-1", "0", "1000000", "1000001", "4294967296", "9223372036854775808", "1000000000000000001",
-                                          "99999999999999999999999999999999999999999", "1.5", "+1", "-", "\t", "\r\n", "p", "1e3"};
+    static const char *const numbers[] = {"-1",
+                                          "0",
+                                          "1000000",
+                                          "1000001",
+                                          "4294967296",
+                                          "9223372036854775808",
+                                          "1000000000000000001",
+                                          "99999999999999999999999999999999999999999",
+                                          "1.5",
+                                          "+1",
+                                          "-",
+                                          "\t",
+                                          "\r\n",
+                                          "p",
+                                          "1e3"};
     size_t length = read_text(path), place, count;
     const char *number = numbers[chance(sizeof numbers / sizeof *numbers)];
     if (length == 0 || length > 4096) return;
     place = chance(length);
     count = strlen(number);
     switch (chance(4)) {
-    case 0: length = place; break;
-    case 1: text[place] = (uint8_t)chance(256); break;
-    case 2: text[place] = (uint8_t) "0123456789 -\npna"[chance(16)]; break;
+    case 0:
+        length = place;
+        break;
+    case 1:
+        text[place] = (uint8_t)chance(256);
+        break;
+    case 2:
+        text[place] = (uint8_t) "0123456789 -\npna"[chance(16)];
+        break;
     default:
         memmove(text + place + count, text + place, length - place);
         memcpy(text + place, number, count);
@@ -123,7 +148,8 @@ static void try_changed(const char *path) {
 static void try_noise(const char *begin, const char *alphabet) {
     size_t place = strlen(begin), count = strlen(alphabet);
     memcpy(text, begin, place);
-    for (; place < 1000000; place++) text[place] = (uint8_t)(count ? alphabet[chance(count)] : (int)chance(256));
+    for (; place < 1000000; place++)
+        text[place] = (uint8_t)(count ? alphabet[chance(count)] : (int)chance(256));
     try_text(1000000);
 }
 
@@ -141,19 +167,46 @@ static struct problem now;
 static uint8_t *supply_end, *arc_end, *flow_end, *price_end, *other_flow_end, *other_price_end;
 
 static int64_t bound(void) {
-    static const int64_t values[] = {0, 1, 2, 7, 30, -1, -5, 0, 1000000000000000000, 999999999999999999, -1000000000000000000,
-                                     1000000000000000001, -1000000000000000001, INT64_MAX, INT64_MIN};
+    static const int64_t values[] = {0,
+                                     1,
+                                     2,
+                                     7,
+                                     30,
+                                     -1,
+                                     -5,
+                                     0,
+                                     1000000000000000000,
+                                     999999999999999999,
+                                     -1000000000000000000,
+                                     1000000000000000001,
+                                     -1000000000000000001,
+                                     INT64_MAX,
+                                     INT64_MIN};
     return values[chance(chance(3) ? 8 : chance(4) ? 11 : 15)];
 }
 
 static int64_t cost(void) {
-    static const int64_t values[] = {0, 1, 2, 30, -1, -7, 1000000000000000, 999999999999999, -1000000000000000, 1000000000000001, -1000000000000001,
-                                     INT64_MAX, INT64_MIN};
+    static const int64_t values[] = {0,
+                                     1,
+                                     2,
+                                     30,
+                                     -1,
+                                     -7,
+                                     1000000000000000,
+                                     999999999999999,
+                                     -1000000000000000,
+                                     1000000000000001,
+                                     -1000000000000001,
+                                     INT64_MAX,
+                                     INT64_MIN};
     return values[chance(chance(3) ? 6 : chance(4) ? 9 : 13)];
 }
 
 static uint32_t end_of(size_t most) {
-    return chance(40) ? 1 + (uint32_t)chance(most) : chance(2) ? (uint32_t)(most + chance(3)) : chance(2) ? 0 : UINT32_MAX - (uint32_t)chance(3);
+    return chance(40)  ? 1 + (uint32_t)chance(most)
+           : chance(2) ? (uint32_t)(most + chance(3))
+           : chance(2) ? 0
+                       : UINT32_MAX - (uint32_t)chance(3);
 }
 
 static wide size_of(int64_t n) { return n < 0 ? -(wide)n : n; }
@@ -171,7 +224,8 @@ static uint32_t first_fault(uint64_t *place) {
     for (k = 0; k < now.arcs; k++) {
         wide low = size_of(now.low[k]), cap = size_of(now.cap[k]);
         *place = k + 1;
-        if (now.src[k] < 1 || now.src[k] > now.nodes || now.dst[k] < 1 || now.dst[k] > now.nodes) return MCF_NODE;
+        if (now.src[k] < 1 || now.src[k] > now.nodes || now.dst[k] < 1 || now.dst[k] > now.nodes)
+            return MCF_NODE;
         if (!is_up_to(BOUND, now.low[k]) || !is_up_to(BOUND, now.cap[k])) return MCF_BOUND;
         if (now.cap[k] < now.low[k]) return MCF_ORDER;
         if (!is_up_to(COST, now.cost[k])) return MCF_COST;
@@ -191,7 +245,8 @@ static int is_right(const int64_t *flow, const int64_t *prices, wide claimed) {
         size_t u = now.src[k] - 1, v = now.dst[k] - 1;
         wide reduced = (wide)now.cost[k] - prices[u] + prices[v];
         if (flow[k] < now.low[k] || flow[k] > now.cap[k]) return 0;
-        if ((flow[k] < now.cap[k] && reduced < 0) || (flow[k] > now.low[k] && reduced > 0)) return 0;
+        if ((flow[k] < now.cap[k] && reduced < 0) || (flow[k] > now.low[k] && reduced > 0))
+            return 0;
         left[u] -= flow[k];
         left[v] += flow[k];
         spent += (wide)now.cost[k] * flow[k];
@@ -227,7 +282,8 @@ static void make_flow_problem(void) {
     now.arcs = now.nodes == 0 && chance(8) ? 0 : chance(MANY + 1);
     for (k = 0; k < now.nodes; k++) {
         now.supplies[k] = bound();
-        if (k + 1 == now.nodes && chance(4) && is_up_to(BOUND, (int64_t)-sum)) now.supplies[k] = (int64_t)-sum;
+        if (k + 1 == now.nodes && chance(4) && is_up_to(BOUND, (int64_t)-sum))
+            now.supplies[k] = (int64_t)-sum;
         sum += now.supplies[k];
     }
     for (k = 0; k < now.arcs; k++) {
@@ -271,7 +327,8 @@ static const void *arcs_at_edge(void) {
         arcs[k].cap = now.cap[k];
         pairs[k].cost = arcs[k].cost = now.cost[k];
     }
-    return now.is_pairs ? at_edge(arc_end, pairs, now.arcs * sizeof *pairs) : at_edge(arc_end, arcs, now.arcs * sizeof *arcs);
+    return now.is_pairs ? at_edge(arc_end, pairs, now.arcs * sizeof *pairs)
+                        : at_edge(arc_end, arcs, now.arcs * sizeof *arcs);
 }
 
 static const void *lent_arcs;
@@ -279,10 +336,13 @@ static const void *lent_arcs;
 /* What is lent to be read, a flow that is judged among it, can be read alone, or written again. */
 static void protect_arrays(int is_judged, int how) {
     protect(supply_end, PAGE, how), protect(arc_end, PAGE, how);
-    if (is_judged) protect(flow_end, PAGE, how), protect(price_end, PAGE, how), protect(other_flow_end, PAGE, how), protect(other_price_end, PAGE, how);
+    if (is_judged)
+        protect(flow_end, PAGE, how), protect(price_end, PAGE, how),
+            protect(other_flow_end, PAGE, how), protect(other_price_end, PAGE, how);
 }
 
-static uint32_t call(const struct mcf_choice *choice, int64_t *flow, size_t flow_length, int64_t *prices, size_t prices_length, struct mcf_verdict *told) {
+static uint32_t call(const struct mcf_choice *choice, int64_t *flow, size_t flow_length,
+                     int64_t *prices, size_t prices_length, struct mcf_verdict *told) {
     struct mcf_flow_problem flows;
     struct mcf_assignment pairs;
     flows.supplies = (const int64_t *)(const void *)(supply_end - now.nodes * sizeof(int64_t));
@@ -294,13 +354,16 @@ static uint32_t call(const struct mcf_choice *choice, int64_t *flow, size_t flow
     pairs.pairs = lent_arcs;
     pairs.pair_count = now.arcs;
     if (choice == NULL)
-        return now.is_pairs ? mcf_check_pairs(&pairs, flow, flow_length, prices, prices_length, told)
-                            : mcf_check_arcs(&flows, flow, flow_length, prices, prices_length, told);
-    return now.is_pairs ? mcf_solve_pairs(&pairs, choice, flow, flow_length, prices, prices_length, told)
-                        : mcf_solve_arcs(&flows, choice, flow, flow_length, prices, prices_length, told);
+        return now.is_pairs
+                   ? mcf_check_pairs(&pairs, flow, flow_length, prices, prices_length, told)
+                   : mcf_check_arcs(&flows, flow, flow_length, prices, prices_length, told);
+    return now.is_pairs
+               ? mcf_solve_pairs(&pairs, choice, flow, flow_length, prices, prices_length, told)
+               : mcf_solve_arcs(&flows, choice, flow, flow_length, prices, prices_length, told);
 }
 
-static uint32_t solve(const struct mcf_choice *choice, int64_t *flow, size_t flow_length, int64_t *prices, size_t prices_length, struct mcf_verdict *told) {
+static uint32_t solve(const struct mcf_choice *choice, int64_t *flow, size_t flow_length,
+                      int64_t *prices, size_t prices_length, struct mcf_verdict *told) {
     uint32_t status;
     protect_arrays(choice == NULL, PROT_READ);
     status = call(choice, flow, flow_length, prices, prices_length, told);
@@ -315,22 +378,27 @@ static wide number_of(const struct mcf_verdict *told) {
 
 /* The checker says what the definitions say, of a flow that is right and of changed ones. */
 static void try_judge(const int64_t *flow, const int64_t *prices, const struct mcf_verdict *found) {
-    int64_t *other = at_edge(other_flow_end, flow, now.arcs * sizeof *flow), *others = at_edge(other_price_end, prices, now.nodes * sizeof *prices);
+    int64_t *other = at_edge(other_flow_end, flow, now.arcs * sizeof *flow),
+            *others = at_edge(other_price_end, prices, now.nodes * sizeof *prices);
     int change;
     for (change = 0; change < 6; change++) {
         struct mcf_verdict told = *found;
         int right;
-        if (change > 1 && now.arcs) other[chance(now.arcs)] = chance(3) ? (int64_t)chance(3) : bound();
-        if (change > 2 && now.nodes) others[chance(now.nodes)] = chance(3) ? -(int64_t)chance(9) : cost();
+        if (change > 1 && now.arcs)
+            other[chance(now.arcs)] = chance(3) ? (int64_t)chance(3) : bound();
+        if (change > 2 && now.nodes)
+            others[chance(now.nodes)] = chance(3) ? -(int64_t)chance(9) : cost();
         if (change > 3) told.low ^= chance(2), told.negative = (uint32_t)chance(2);
         right = is_right(other, others, number_of(&told));
         CHECK(solve(NULL, other, now.arcs, others, now.nodes, &told) == (right ? 0u : 1u));
-        CHECK((told.kind == MCF_ACCEPTED_FLOW) == right && told.kind != MCF_ACCEPTED_SET && told.kind != MCF_ACCEPTED_REFUSAL);
+        CHECK((told.kind == MCF_ACCEPTED_FLOW) == right && told.kind != MCF_ACCEPTED_SET &&
+              told.kind != MCF_ACCEPTED_REFUSAL);
     }
 }
 
 static void try_arrays(void) {
-    int64_t *flow = (int64_t *)(void *)(flow_end - now.arcs * sizeof(int64_t)), *prices = (int64_t *)(void *)(price_end - now.nodes * sizeof(int64_t));
+    int64_t *flow = (int64_t *)(void *)(flow_end - now.arcs * sizeof(int64_t)),
+            *prices = (int64_t *)(void *)(price_end - now.nodes * sizeof(int64_t));
     int64_t sevens[MANY];
     struct mcf_choice choice = {0, 0, 0, 0};
     struct mcf_verdict told;
@@ -352,11 +420,15 @@ static void try_arrays(void) {
         CHECK(told.kind == MCF_ACCEPTED_FLOW && is_right(flow, prices, number_of(&told)));
         try_judge(flow, prices, &told);
     } else if (status == MCF_BLOCKED) {
-        CHECK(told.kind == MCF_ACCEPTED_SET && blocks(prices, told.code, told.low) && told.high == 0);
+        CHECK(told.kind == MCF_ACCEPTED_SET && blocks(prices, told.code, told.low) &&
+              told.high == 0);
     } else {
-        CHECK(told.kind == MCF_ACCEPTED_REFUSAL && told.code == fault && told.low == place && told.high == 0 && told.negative == 0);
-        CHECK(memcmp(flow, sevens, now.arcs * sizeof *flow) == 0 && memcmp(prices, sevens, now.nodes * sizeof *prices) == 0);
-        CHECK(solve(NULL, flow, now.arcs, prices, now.nodes, &told) == MCF_REFUSED && told.code == fault && told.low == place);
+        CHECK(told.kind == MCF_ACCEPTED_REFUSAL && told.code == fault && told.low == place &&
+              told.high == 0 && told.negative == 0);
+        CHECK(memcmp(flow, sevens, now.arcs * sizeof *flow) == 0 &&
+              memcmp(prices, sevens, now.nodes * sizeof *prices) == 0);
+        CHECK(solve(NULL, flow, now.arcs, prices, now.nodes, &told) == MCF_REFUSED &&
+              told.code == fault && told.low == place);
     }
     CHECK(solve(&choice, flow - 1, now.arcs + 1, prices, now.nodes, &told) == MCF_NO_ROOM);
     CHECK(solve(NULL, flow, now.arcs, prices - 1, now.nodes + 1, &told) == MCF_NO_ROOM);
@@ -367,8 +439,10 @@ static void try_arrays(void) {
 /* Numbers of nodes and arcs at the limits and past them, in memory that nobody wrote to. */
 static void try_sizes(void) {
     enum { NODES = 1000001, ARCS = 10000001 };
-    const void *zeros = edge((size_t)ARCS * sizeof(struct mcf_arc)) - (size_t)ARCS * sizeof(struct mcf_arc);
-    int64_t *flow = (int64_t *)(void *)(edge((size_t)ARCS * 8) - (size_t)ARCS * 8), *prices = (int64_t *)(void *)(edge((size_t)NODES * 8) - (size_t)NODES * 8);
+    const void *zeros =
+        edge((size_t)ARCS * sizeof(struct mcf_arc)) - (size_t)ARCS * sizeof(struct mcf_arc);
+    int64_t *flow = (int64_t *)(void *)(edge((size_t)ARCS * 8) - (size_t)ARCS * 8),
+            *prices = (int64_t *)(void *)(edge((size_t)NODES * 8) - (size_t)NODES * 8);
     struct mcf_flow_problem problem;
     struct mcf_assignment pairs;
     struct mcf_verdict told;
@@ -376,16 +450,21 @@ static void try_sizes(void) {
     problem.nodes = NODES;
     problem.arcs = zeros;
     problem.arc_count = 0;
-    CHECK(mcf_solve_arcs(&problem, &standard, flow, 0, prices, NODES, &told) == MCF_REFUSED && told.code == MCF_SIZE && told.low == 0);
+    CHECK(mcf_solve_arcs(&problem, &standard, flow, 0, prices, NODES, &told) == MCF_REFUSED &&
+          told.code == MCF_SIZE && told.low == 0);
     problem.nodes = NODES - 1;
-    CHECK(mcf_solve_arcs(&problem, &standard, flow, 0, prices, NODES - 1, &told) == MCF_FLOW && told.low == 0);
+    CHECK(mcf_solve_arcs(&problem, &standard, flow, 0, prices, NODES - 1, &told) == MCF_FLOW &&
+          told.low == 0);
     CHECK(mcf_check_arcs(&problem, flow, 0, prices, NODES - 1, &told) == 0);
     problem.nodes = 1;
     problem.arc_count = ARCS;
-    CHECK(mcf_solve_arcs(&problem, &standard, flow, ARCS, prices, 1, &told) == MCF_REFUSED && told.code == MCF_SIZE);
-    CHECK(mcf_check_arcs(&problem, flow, ARCS, prices, 1, &told) == MCF_REFUSED && told.code == MCF_SIZE);
+    CHECK(mcf_solve_arcs(&problem, &standard, flow, ARCS, prices, 1, &told) == MCF_REFUSED &&
+          told.code == MCF_SIZE);
+    CHECK(mcf_check_arcs(&problem, flow, ARCS, prices, 1, &told) == MCF_REFUSED &&
+          told.code == MCF_SIZE);
     problem.arc_count = ARCS - 1;
-    CHECK(mcf_solve_arcs(&problem, &standard, flow, ARCS - 1, prices, 1, &told) == MCF_REFUSED && told.code == MCF_NODE && told.low == 1);
+    CHECK(mcf_solve_arcs(&problem, &standard, flow, ARCS - 1, prices, 1, &told) == MCF_REFUSED &&
+          told.code == MCF_NODE && told.low == 1);
     pairs.pairs = zeros;
     pairs.pair_count = 0;
     pairs.rows = pairs.columns = UINT32_MAX;
@@ -394,15 +473,19 @@ static void try_sizes(void) {
     CHECK(mcf_check_pairs(&pairs, flow, 0, prices, UINT32_MAX - UINT32_MAX, &told) == MCF_NO_ROOM);
     pairs.rows = 1;
     pairs.columns = NODES - 1;
-    CHECK(mcf_solve_pairs(&pairs, &standard, flow, 0, prices, NODES, &told) == MCF_REFUSED && told.code == MCF_SIZE);
-    CHECK(mcf_check_pairs(&pairs, flow, 0, prices, NODES, &told) == MCF_REFUSED && told.code == MCF_SIZE);
+    CHECK(mcf_solve_pairs(&pairs, &standard, flow, 0, prices, NODES, &told) == MCF_REFUSED &&
+          told.code == MCF_SIZE);
+    CHECK(mcf_check_pairs(&pairs, flow, 0, prices, NODES, &told) == MCF_REFUSED &&
+          told.code == MCF_SIZE);
 }
 
-/* What is only read may be lent twice: an arc is the supplies of four nodes, and a flow is its own prices. */
+/* What is only read may be lent twice: an arc is the supplies of four nodes, and a flow is its own
+ * prices. */
 static void try_overlap(void) {
     const int64_t ends = INT64_C(0x200000001);
     const int64_t values[4] = {ends, -5, 7, -ends - 2}, none[3] = {0, 0, 0};
-    const struct mcf_arc arc = {1, 2, -5, 7, -8589934595}, loops[3] = {{1, 1, 0, 1, 0}, {2, 3, 0, 1, 0}, {3, 2, 0, 1, 0}};
+    const struct mcf_arc arc = {1, 2, -5, 7, -8589934595},
+                         loops[3] = {{1, 1, 0, 1, 0}, {2, 3, 0, 1, 0}, {3, 2, 0, 1, 0}};
     const struct mcf_flow_problem once = {values, 4, &arc, 1}, whole = {none, 3, loops, 3};
     struct mcf_flow_problem twice = {NULL, 4, NULL, 1};
     struct mcf_choice choice = {0, 0, 0, 0};
@@ -415,7 +498,8 @@ static void try_overlap(void) {
         memset(&told, 0, sizeof told), memset(&other, 0, sizeof other);
         CHECK(mcf_solve_arcs(&once, &choice, flow, 1, prices, 4, &told) == MCF_BLOCKED);
         CHECK(mcf_solve_arcs(&twice, &choice, again, 1, others, 4, &other) == MCF_BLOCKED);
-        CHECK(memcmp(prices, others, sizeof prices) == 0 && memcmp(&told, &other, sizeof told) == 0);
+        CHECK(memcmp(prices, others, sizeof prices) == 0 &&
+              memcmp(&told, &other, sizeof told) == 0);
     }
     memset(&told, 0, sizeof told);
     CHECK(mcf_check_arcs(&whole, none, 3, none, 3, &told) == 0 && told.kind == MCF_ACCEPTED_FLOW);
@@ -445,7 +529,7 @@ int main(int count, char **words) {
         try_arrays();
         if (count > 2) try_changed(words[2 + chance((uint64_t)count - 2)]);
     }
-    printf("texts: %ld flows, %ld sets, %ld refusals; arrays: %ld flows, %ld sets, %ld faults\n", outcomes[0], outcomes[1], outcomes[2], outcomes[3],
-           outcomes[4], outcomes[5]);
+    printf("texts: %ld flows, %ld sets, %ld refusals; arrays: %ld flows, %ld sets, %ld faults\n",
+           outcomes[0], outcomes[1], outcomes[2], outcomes[3], outcomes[4], outcomes[5]);
     return 0;
 }

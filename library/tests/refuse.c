@@ -1,5 +1,5 @@
-/* Each allocation of each call refused in turn: the status says so, nothing is written, and nothing is lost. The words are instance
-   texts. Link with -Wl,--wrap=malloc,--wrap=realloc,--wrap=free. */
+/* Each allocation of each call refused in turn: the status says so, nothing is written, and nothing
+   is lost. The words are instance texts. Link with -Wl,--wrap=malloc,--wrap=realloc,--wrap=free. */
 #include "mcf.h"
 
 #include <stdio.h>
@@ -56,12 +56,18 @@ static uint32_t call(int number) {
     problem.nodes = nodes;
     problem.arc_count = arc_count;
     switch (number) {
-    case 0: return mcf_solve(input, length, &choice, room, sizeof room, &used);
-    case 1: return mcf_check(input, length, untouched, used, &told);
-    case 2: return mcf_solve_arcs(&problem, &choice, flow, arc_count, prices, nodes, &told);
-    case 3: return mcf_check_arcs(&problem, flow, arc_count, prices, nodes, &told);
-    case 4: return mcf_solve_pairs(&assignment, &choice, flow, 400, prices, 40, &told);
-    default: return mcf_check_pairs(&assignment, flow, 400, prices, 40, &told);
+    case 0:
+        return mcf_solve(input, length, &choice, room, sizeof room, &used);
+    case 1:
+        return mcf_check(input, length, untouched, used, &told);
+    case 2:
+        return mcf_solve_arcs(&problem, &choice, flow, arc_count, prices, nodes, &told);
+    case 3:
+        return mcf_check_arcs(&problem, flow, arc_count, prices, nodes, &told);
+    case 4:
+        return mcf_solve_pairs(&assignment, &choice, flow, 400, prices, 40, &told);
+    default:
+        return mcf_check_pairs(&assignment, flow, 400, prices, 40, &told);
     }
 }
 
@@ -79,12 +85,18 @@ static int refuse_each(int number) {
         live = 0;
         status = call(number);
         left = -1;
-        if (live != 0) return printf("refuse: call %d, refusal %ld: %ld blocks are lost\n", number, step, live);
+        if (live != 0)
+            return printf("refuse: call %d, refusal %ld: %ld blocks are lost\n", number, step,
+                          live);
         if (status != MCF_NO_MEMORY) return 0;
         refusals++;
-        if (memcmp(&told, &before, sizeof told) != 0) return printf("refuse: call %d: the verdict is written\n", number);
-        if (number == 0 && (used != 0 || room[0] != 7 || memcmp(room, room + 1, sizeof room - 1) != 0)) return printf("refuse: the room is written\n");
-        if (solves && (memcmp(flow, sevens, sizeof flow) != 0 || memcmp(prices, sevens, sizeof prices) != 0))
+        if (memcmp(&told, &before, sizeof told) != 0)
+            return printf("refuse: call %d: the verdict is written\n", number);
+        if (number == 0 &&
+            (used != 0 || room[0] != 7 || memcmp(room, room + 1, sizeof room - 1) != 0))
+            return printf("refuse: the room is written\n");
+        if (solves &&
+            (memcmp(flow, sevens, sizeof flow) != 0 || memcmp(prices, sevens, sizeof prices) != 0))
             return printf("refuse: call %d: a room is written\n", number);
     }
 }
