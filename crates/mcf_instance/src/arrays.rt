@@ -148,7 +148,8 @@ fn made(state: State, fault: Option<ArrayFault>) -> Result<Instance, ArrayFault>
 /// The flow problem of these supplies, by node, and of these arcs, in order; or the first fault.
 ///
 /// # Errors
-/// `NoMemory` where there is no memory for them; a problem without nodes wants none.
+/// `NoMemory` where there is no memory for them; a problem without nodes wants none, nor one with a fault of its sizes or
+/// of a supply.
 pub fn flow_problem(
     alloc: Global,
     supplies: &[i64],
@@ -157,6 +158,8 @@ pub fn flow_problem(
     ensures exact { IfOk result (λ made. made ≡ made_of_arrays limits (flow_problem supplies.now arcs.now)) }
     ensures well_formed { IfOk result (λ made. (is_ok made ≡ true) ↔ IsWellFormed limits (flow_problem supplies.now arcs.now)) }
     ensures wants { OnErr result (1 ≤ length supplies.now) }
+    ensures fits { OnErr result ((length supplies.now ≤ node_limit) × (length arcs.now ≤ arc_limit)) }
+    ensures supplied { OnErr result (first_found (supply_fault limits) supplies.now ≡ None) }
 {
     made_of_supplies(alloc, supplies, arcs)
 }
@@ -170,6 +173,8 @@ fn made_of_supplies(
     ensures exact { IfOk result (λ made. made ≡ made_of_arrays limits (flow_problem supplies.now arcs.now)) }
     ensures sound { IfOk result (λ made. IfOk made (IsWellFormed limits)) }
     ensures wants { OnErr result (1 ≤ length supplies.now) }
+    ensures fits { OnErr result ((length supplies.now ≤ node_limit) × (length arcs.now ≤ arc_limit)) }
+    ensures supplied { OnErr result (first_found (supply_fault limits) supplies.now ≡ None) }
 {
     if !sizes_fit(supplies.len(), arcs.len()) {
         return Ok(Err(ArrayFault::Size));
@@ -213,7 +218,7 @@ fn by_side<T: Copy + Drop>(
 /// rows and columns has the fault `Node` or `Side`.
 ///
 /// # Errors
-/// `NoMemory` where there is no memory for them; a problem without rows and columns wants none.
+/// `NoMemory` where there is no memory for them; a problem without rows and columns wants none, nor one beyond the sizes.
 pub fn assignment_problem(
     alloc: Global,
     rows: u32,
@@ -223,6 +228,7 @@ pub fn assignment_problem(
     ensures exact { IfOk result (λ made. made ≡ made_of_arrays limits (assignment_problem rows columns pairs.now)) }
     ensures well_formed { IfOk result (λ made. (is_ok made ≡ true) ↔ IsWellFormed limits (assignment_problem rows columns pairs.now)) }
     ensures wants { OnErr result (1 ≤ rows + columns) }
+    ensures fits { OnErr result ((rows + columns ≤ node_limit) × (length pairs.now ≤ arc_limit)) }
 {
     made_of_sides(alloc, rows, columns, pairs)
 }
@@ -237,6 +243,7 @@ fn made_of_sides(
     ensures exact { IfOk result (λ made. made ≡ made_of_arrays limits (assignment_problem rows columns pairs.now)) }
     ensures sound { IfOk result (λ made. IfOk made (IsWellFormed limits)) }
     ensures wants { OnErr result (1 ≤ rows + columns) }
+    ensures fits { OnErr result ((rows + columns ≤ node_limit) × (length pairs.now ≤ arc_limit)) }
 {
     let nodes = rows as usize + columns as usize;
     if !sizes_fit(nodes, pairs.len()) {
