@@ -1,8 +1,7 @@
 -- Instance texts that come in pieces.
 -- Source: own
-use Rattle.std.specs.Prelude.{◌≡◌, ◌⊎◌, ◌≤◌, ℕ, false, List, ◌++◌, length, Option, None}
+use Rattle.std.specs.Prelude.{◌≡◌, ℕ, false, List, length, Option, None}
 use Rattle.mcf_flows.specs.Limits.{Limits}
-use Rattle.mcf_instance.specs.Memory.{NamesNodes}
 use Rattle.mcf_instance.specs.ReadOn.{HasReadOn, StateData}
 use Rattle.mcf_text.specs.Feed.{Feed}
 use Rattle.mcf_text.specs.declared.fault.FeedFault.{FeedFault}
@@ -22,7 +21,3 @@ pub record StandsFor (allowed : Limits) (reader : ReaderData) (text : List ℕ) 
   pub counted : reader.fed ≡ length text
   pub is_open : reader.lines.has_ended ≡ false
   pub read_on : HasReadOn allowed text reader.lines reader.state
-
--- where a piece may be refused for want of memory: it has bytes to be kept, or the text names nodes
-abbrev pub WantsMemory : Limits → List ℕ → List ℕ → Type 0
-WantsMemory allowed text piece = (1 ≤ length piece) ⊎ NamesNodes allowed (text ++ piece)

@@ -1,5 +1,5 @@
 //! Lines taken in one after another: arc lines in a row, as far as they are good and plain, and any line.
-ghost use Rattle.std.specs.Prelude.{◌≡◌, ◌+◌, ◌≤◌, ◌∷◌, ℕ, List, drop, None, Some, IfOk, OnErr, OnOk};
+ghost use Rattle.std.specs.Prelude.{◌≡◌, ◌+◌, ◌≤◌, ◌∷◌, ℕ, List, drop, None, Some, IfOk, OnErr, OnOk, length};
 ghost use Rattle.mcf_flows.specs.Limits.{limits, line_limit};
 ghost use Rattle.mcf_instance.specs.Memory.{NamesNodes};
 ghost use Rattle.mcf_instance.specs.Private.TakenArcs.{ReadsLines, WantsForLines};
@@ -24,6 +24,7 @@ pub(crate) fn take_arcs(state: &mut State, text: &[u8]) -> Result<Run, NoMemory>
     ensures lines { IfOk result (λ run. BeginsWithLines text.now run.lines run.bytes) }
     ensures read { IfOk result (λ run. ReadsLines state.old text.now state.new run.lines (drop run.bytes text.now)) }
     ensures wants { OnErr result (WantsForLines state.old text.now) }
+    ensures some { OnErr result (1 ≤ length text.now) }
 {
     let Some(header) = state.header() else {
         return Ok(Run { lines: 0, bytes: 0 });

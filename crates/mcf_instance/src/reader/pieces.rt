@@ -1,6 +1,6 @@
 //! The reader of instance texts that come in pieces.
 ghost use Rattle.std.specs.Prelude.{◌≡◌, ◌≢◌, ◌+◌, ◌<◌, ◌≤◌, ◌++◌, ◌∷◌, [], ℕ, List, false, length, None, IfErr, IfOk, IfSome, IsTrue, OnErr, OnOk};
-ghost use Rattle.mcf_instance.specs.Feeding.{StandsFor, WantsMemory};
+ghost use Rattle.mcf_instance.specs.Feeding.{StandsFor};
 ghost use Rattle.mcf_flows.specs.Limits.{limits, line_limit};
 ghost use Rattle.mcf_instance.specs.Memory.{NamesNodes};
 ghost use Rattle.mcf_instance.specs.ReadOn.{HasReadOn, HasReadPieces};
@@ -58,14 +58,14 @@ impl Reader {
     /// # Errors
     ///
     /// `TooLong` exactly where the bytes taken so far and the piece are more than 10^18, whatever stands in them;
-    /// `NoMemory` where there is no memory to keep the piece, or for what its lines name, and never once a line
-    /// was faulty: the refusal isn't lost for want of memory. A reader that
+    /// `NoMemory` where there is no memory to keep the piece, or for what its lines name, never for an empty piece, and never
+    /// once a line was faulty: the refusal isn't lost for want of memory. A reader that
     /// has refused a piece takes no other: it answers that same fault to each.
     pub fn feed(&mut self, alloc: Global, piece: &[u8]) -> Result<(), FeedFault>
         ensures ok { OnOk result ((text : List ℕ) → StandsFor limits self.old text → StandsFor limits self.new (text ++ piece.now)) }
         ensures unrefused { OnOk result (self.new.fault ≡ None) }
         ensures too_long { (text : List ℕ) → StandsFor limits self.old text → (result ≡ Err FeedFault.TooLong) ↔ (byte_limit < length text + length piece.now) }
-        ensures wants { (text : List ℕ) → StandsFor limits self.old text → result ≡ Err FeedFault.NoMemory → WantsMemory limits text piece.now }
+        ensures wants { result ≡ Err FeedFault.NoMemory → self.old.fault ≡ None → 1 ≤ length piece.now }
         ensures after_fault { (text : List ℕ) → StandsFor limits self.old text → self.old.state.refusal ≢ None → result ≢ Err FeedFault.NoMemory }
         ensures refused { IfErr result (λ fault. self.new.fault ≡ Some fault) }
         ensures stays { IfSome self.old.fault (λ fault. result ≡ Err fault) }
@@ -101,6 +101,7 @@ impl Reader {
         requires { self.fault ≡ None }
         ensures exact { (text : List ℕ) → StandsFor limits self text → IfOk result (λ outcome. outcome ≡ reading limits text) }
         ensures wants { (text : List ℕ) → StandsFor limits self text → OnErr result (NamesNodes limits text) }
+        ensures unfinished { OnErr result (1 ≤ length self.lines.rest) }
     {
         let Reader {
             mut lines,
@@ -124,11 +125,14 @@ fn take_piece(
     requires { lines.old.has_ended ≡ false }
     ensures read { OnOk result ((text : List ℕ) → HasReadOn limits text lines.old state.old → HasReadOn limits (text ++ piece.now) lines.new state.new) }
     ensures too_long { result ≡ Err FeedFault.TooLong → byte_limit < lines.old.fed + length piece.now }
-    ensures wants { result ≡ Err FeedFault.NoMemory → (text : List ℕ) → HasReadOn limits text lines.old state.old → WantsMemory limits text piece.now }
+    ensures wants { result ≡ Err FeedFault.NoMemory → 1 ≤ length piece.now }
     ensures after_fault { state.old.refusal ≢ None → OnErr result ⊥ }
     ensures is_open { lines.new.has_ended ≡ false }
     ensures counted { OnOk result (lines.new.fed ≤ lines.old.fed + length piece.now) }
 {
+    if piece.is_empty() {
+        return Ok(());
+    }
     if state.refusal().is_some() {
         return Ok(());
     }
@@ -159,6 +163,7 @@ fn read_finished(alloc: Global, lines: &mut LineFeed, state: &mut State) -> Resu
     ensures read { OnOk result ((text : List ℕ) → HasReadOn limits text lines.old state.old → HasReadOn limits text lines.new state.new) }
     ensures drained { OnOk result (state.new.refusal ≡ None → IsTrue lines.new.has_ended → lines.new.rest ≡ []) }
     ensures wants { OnErr result ((text : List ℕ) → HasReadOn limits text lines.old state.old → NamesNodes limits text) }
+    ensures unfinished { OnErr result (1 ≤ length lines.old.rest) }
     ensures same_end { lines.new.has_ended ≡ lines.old.has_ended }
     ensures same_count { lines.new.fed ≡ lines.old.fed }
 {
@@ -178,6 +183,7 @@ fn pop_arcs(lines: &mut LineFeed, state: &mut State) -> Result<(), NoMemory>
     ensures good { OnOk result (state.new.refusal ≡ None) }
     ensures read { OnOk result ((text : List ℕ) → HasReadPieces limits text lines.old state.old → HasReadPieces limits text lines.new state.new) }
     ensures wants { OnErr result ((text : List ℕ) → HasReadPieces limits text lines.old state.old → NamesNodes limits text) }
+    ensures some { OnErr result (1 ≤ length lines.old.rest) }
     ensures shorter { length lines.new.rest ≤ length lines.old.rest }
     ensures same_end { lines.new.has_ended ≡ lines.old.has_ended }
     ensures same_count { lines.new.fed ≡ lines.old.fed }

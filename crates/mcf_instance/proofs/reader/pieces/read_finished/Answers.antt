@@ -1,4 +1,4 @@
-use Rattle.std.proofs.Common.{◌∙◌, ap, sym}
+use Rattle.std.proofs.Common.{◌∙◌, ap, arith, sym}
 use Rattle.std.specs.Prelude.{is_some}
 use Rattle.std.proofs.lemmas.Result.{err_from_is_err_and}
 use Rattle.mcf_instance.proofs.Pieces.{line_read, line_wants, none_unless_some, on_read}
@@ -39,6 +39,7 @@ finished-preserved c =
           (line_read text c.pop_arcs.new.lines c.pop.follows.lender-at-none c.pop_arcs.new.state c.read_line.new.state c.in-Some.line.number c.in-Some.line.bytes.now
           takes.number takes.finishes (ap (λ f. f.popped) takes.after) (ap (λ f. f.has_ended) takes.after) c.in_ok-read_line.ensures.read
           (arcs.read text ((c.finished.invariant.read text h).lines_read good)));
+      shorter = omega (arith, takes.shorter, arcs.shorter, c.finished.invariant.shorter);
       same_end = ap (λ f. f.has_ended) takes.after ∙ arcs.same_end ∙ c.finished.invariant.same_end;
       same_count = ap (λ f. f.fed) takes.after ∙ arcs.same_count ∙ c.finished.invariant.same_count;
     }
