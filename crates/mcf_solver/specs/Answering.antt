@@ -1,7 +1,7 @@
 -- The answer that is owed for an instance text: the first fault; or a least flow with its cost and prices
 -- that show it; or a node set that blocks every flow.
 -- Source: own
-use Rattle.std.specs.Prelude.{◌≡◌, ◌++◌, ◌+◌, ◌<◌, ◌≤◌, ◌⊎◌, ℕ, true, List, length, ℤ, Result, Ok, Err}
+use Rattle.std.specs.Prelude.{◌≡◌, ◌++◌, ◌+◌, ◌<◌, ◌⊎◌, ℕ, true, List, length, ℤ, Result, Ok, Err}
 use Rattle.mcf_answer.specs.BlockingSet.{BlockingSet}
 use Rattle.mcf_answer.specs.Solution.{Solution}
 use Rattle.mcf_answer.specs.SparseSolution.{SparseSolution}
@@ -13,13 +13,12 @@ use Rattle.mcf_checker.specs.Correct.{IsCorrect, IsRightSet, IsRightSolution, Is
 use Rattle.mcf_checker.specs.Judging.{accepts, verdict}
 use Rattle.mcf_feas.specs.Chosen.{IsChosen}
 use Rattle.mcf_flows.specs.Blocking.{in_list}
-use Rattle.mcf_instance.specs.Fault.{header}
 use Rattle.mcf_flows.specs.Codes.{Fault}
 use Rattle.mcf_flows.specs.Flow.{IsFeasible, IsLeast}
 use Rattle.mcf_flows.specs.Limits.{limits}
 use Rattle.mcf_flows.specs.Network.{Network}
+use Rattle.mcf_instance.specs.Memory.{NamesNodes}
 use Rattle.mcf_instance.specs.Reading.{reading}
-use Rattle.mcf_text.specs.Row.{rows}
 use Rattle.mcf_solver.specs.declared.meant.Meant.TheVariants.{BySimplex}
 use Rattle.mcf_solver.specs.declared.kind.Kind.{Kind}
 use Rattle.mcf_solver.specs.declared.kind.Kind.TheVariants.{Flow as WithFlow, Blocked as WithSet, Refused as WithRefusal}
@@ -97,9 +96,9 @@ pub record IsBySimplex (choice : Choice) (input : List ℕ) : Type 0 where
   pub read : reading limits input ≡ Ok net
   pub simplex : meant choice.engine net.problem ≡ BySimplex
 
--- there are nodes, or a root, to take memory for
+-- there are nodes, named before the first fault, or a root, to take memory for
 abbrev pub MayWant : Choice → List ℕ → Type 0
-MayWant choice input = (1 ≤ (header (rows input)).nodes) ⊎ IsBySimplex choice input
+MayWant choice input = NamesNodes limits input ⊎ IsBySimplex choice input
 
 -- the text of an answer to the input doesn't fit the room after the bytes that are there
 pub record LacksRoom (choice : Choice) (input : List ℕ) (capacity bytes : ℕ) : Type 0 where

@@ -6,7 +6,7 @@ pub use Rattle.mcf_checker.specs.Judging
 pub use Rattle.mcf_choice.specs.BlockSizes
 pub use Rattle.mcf_choice.specs.Choices
 pub use Rattle.mcf_feas.specs.Chosen
-pub use Rattle.mcf_instance.specs.Fault
+pub use Rattle.mcf_instance.specs.Memory
 pub use Rattle.mcf_flows.specs.Flow
 pub use Rattle.mcf_flows.specs.Limits
 pub use Rattle.mcf_instance.specs.Reading
@@ -20,7 +20,6 @@ pub use Rattle.mcf_simplex.specs.Blocks as BlockPicks
 pub use Rattle.mcf_simplex.specs.Picking
 pub use Rattle.mcf_simplex.specs.Runs as SimplexRuns
 pub use Rattle.mcf_simplex.specs.Stretches
-pub use Rattle.mcf_text.specs.Row
 pub mod Answering
 pub mod ChosenSolutions
 pub mod Devices

@@ -46,8 +46,8 @@ use std::alloc::Global;
 ///
 /// # Errors
 ///
-/// Want of memory, only where the problem line names nodes, the network simplex is meant or the answer's text
-/// doesn't fit the capacity that `out` has. The bytes of `out` are then those that it had. Its capacity never shrinks.
+/// Want of memory, only where the first problem line is good, names nodes and comes before the first fault, where the network
+/// simplex is meant, or where the answer's text doesn't fit the capacity that `out` has. The bytes of `out` are then those that it had. Its capacity never shrinks.
 pub fn solve_text(
     alloc: Global,
     input: &[u8],

@@ -5,7 +5,7 @@ pub use Rattle.mcf_solver.specs.Chosen
 pub use Rattle.mcf_solver.specs.ChosenSolutions
 pub use Rattle.mcf_solver.specs.Correct
 pub use Rattle.mcf_solver.specs.Devices
-pub use Rattle.mcf_solver.specs.Fault
+pub use Rattle.mcf_solver.specs.Memory
 pub use Rattle.mcf_solver.specs.Flow
 pub use Rattle.mcf_solver.specs.Judging
 pub use Rattle.mcf_solver.specs.Limits
@@ -14,7 +14,6 @@ pub use Rattle.mcf_solver.specs.Outcomes
 pub use Rattle.mcf_solver.specs.Reading
 pub use Rattle.mcf_solver.specs.Removal
 pub use Rattle.mcf_solver.specs.Restoring
-pub use Rattle.mcf_solver.specs.Row
 pub use Rattle.mcf_solver.specs.Running
 pub use Rattle.mcf_solver.specs.Spelling
 pub use Rattle.mcf_solver.specs.States
