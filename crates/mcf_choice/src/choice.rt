@@ -3,11 +3,10 @@
 use crate::block_size::BlockSize;
 
 /// Which engine solves.
-#[derive(Clone, Copy, Debug, Default, PartialEq, Eq)]
+#[derive(Clone, Copy, Debug, PartialEq, Eq)]
 pub enum EngineChoice {
     /// The one that suits the problem: shortest augmenting paths for an assignment, the network simplex for a flow
     /// problem.
-    #[default]
     Auto,
     /// Cycle cancelling: slow, and short.
     Cancel,
@@ -22,24 +21,22 @@ pub enum EngineChoice {
 }
 
 /// Which arc enters at a pivot of the network simplex.
-#[derive(Clone, Copy, Debug, Default, PartialEq, Eq)]
+#[derive(Clone, Copy, Debug, PartialEq, Eq)]
 pub enum PricingChoice {
     /// The eligible arc of least number.
     First,
     /// The eligible arc of greatest violation.
     Best,
     /// The eligible arc of greatest violation of the first block that has one, of the blocks in turn.
-    #[default]
     Block,
     /// The same with blocks that suit the net, taken in turn from four stretches of the arcs.
     Wide,
 }
 
 /// In which form a flow is written. Blocked and refused answers have one form.
-#[derive(Clone, Copy, Debug, Default, PartialEq, Eq)]
+#[derive(Clone, Copy, Debug, PartialEq, Eq)]
 pub enum Form {
     /// Each arc by its ends, with what it carries.
-    #[default]
     One,
     /// The arcs that don't carry their low alone, each by its number, with what it carries.
     Two,
