@@ -22,7 +22,7 @@ const BLOCK_ARCS: u32 = 256;
 ///
 /// It takes every net, and says nothing of how it made a state. The search is that of `find_least`: it scales costs, and augments along
 /// short paths. Dense nets, those of widths above 2^60 in all, those without a feasible flow, and those on which the search gives up
-/// are the network simplex's. A clause sees how often the search may read the whole net.
+/// are the network simplex's. A clause sees how often the search may read the whole net, and none ties that to what is read.
 #[derive(Clone, Copy, Debug)]
 pub struct Augment {
     readings: u32,
@@ -67,7 +67,7 @@ impl Engine for Augment {
 
     /// A least state of the net, with its prices, or a node set that shows that there is none.
     ///
-    /// The search takes its memory before it begins, and so does the network simplex: what runs then has no allocator.
+    /// The search takes its memory before it begins, and so does the network simplex: what runs then is handed no allocator.
     ///
     /// # Errors
     ///

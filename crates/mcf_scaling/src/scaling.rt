@@ -67,7 +67,7 @@ impl Engine for Scaling {
     /// # Errors
     ///
     /// Want of memory, where a growth was refused; a net without nodes wants none. The engine is as it was.
-    /// All memory is taken before the first phase: what runs then has no allocator.
+    /// All memory is taken before the first phase: what runs then is handed no allocator.
     fn solve<'n>(&mut self, alloc: Global, net: &'n Net) -> Result<Outcome<'n>, NoMemory>
         ensures outcome { IfOk result (IsOutcome (λ s. IsScaled net.now s self.new) net.now) }
         ensures wants { OnErr result (1 ≤ node_count net.now) }

@@ -20,9 +20,10 @@ const MOST_ARCS_PER_NODE: u64 = 64;
 /// A least state of a net, with its prices, where the search finds one.
 ///
 /// The search scales costs, and augments along short paths (Goldberg, The partial augment-relabel algorithm for the maximum flow
-/// problem, 2008; Ahuja, Magnanti and Orlin, Network Flows, section 10.3); it may read the whole net so many times before it gives up.
-/// It finds none where there is none, nor where it gives up, nor in dense nets and those of widths above 2^60 in all, which it leaves
-/// alone; in a net without nodes it finds one. It takes its memory before it begins.
+/// problem, 2008; Ahuja, Magnanti and Orlin, Network Flows, section 10.3). In a net without nodes it finds a state; in another none
+/// where there is none, where the search gives up, for which `readings` says how often it may read the whole net, and in dense nets
+/// and those of widths above 2^60 in all, which it leaves alone. When it gives up, and which nets it leaves alone, is in no clause,
+/// nor that it takes its memory before it begins.
 ///
 /// # Errors
 ///

@@ -77,8 +77,8 @@ impl<P: Pricing> Engine for Simplex<P> {
 
     /// A least state of the net, with its prices, or a node set that shows that there is none.
     ///
-    /// All room is taken by one call, before the rule is asked for the first time; by the form of `solve`, what runs then has no
-    /// allocator, and nothing to refuse.
+    /// All room is taken by one call, before the rule is asked for the first time; by the form of `solve`, what runs then is
+    /// handed no allocator.
     ///
     /// # Errors
     ///
