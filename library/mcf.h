@@ -130,7 +130,9 @@ struct mcf_flow_problem {
    MCF_REFUSED: `told` the first fault, where the arrays are beyond the limits: at most 1,000,000
    nodes and 10,000,000 arcs; ends from 1 to the number of nodes; supplies and bounds at most 10^18
    from 0, costs 10^15; low at most cap; and the sizes of cost times bound at most 10^36 in sum.
-   From 2 to 5 both rooms are as they were. */
+   `flow` is as it was from 1 to 5, `prices` from 2 to 5, and `told` from 3 on: at MCF_WIDE both
+   rooms are written and hold no answer. MCF_NO_MEMORY is never answered where a size or a supply is
+   beyond the limits. */
 uint32_t mcf_solve_arcs(const struct mcf_flow_problem *problem, const struct mcf_choice *choice,
                         int64_t *flow, size_t flow_length, int64_t *prices, size_t prices_length,
                         struct mcf_verdict *told);

@@ -176,8 +176,8 @@ def in_texts(fact):
         yield Place(path, begin, end, r"[\w.]+", [fact["version"]])
     sizes = [f"{limit['node']:,}", f"{limit['arc']:,}"]
     amounts = [power["bound"], power["cost"], power["total"]]
-    yield Place(HEADER, "beyond the limits: at most", "are as they were", r"\d+,[\d,]*\d", sizes)
-    yield Place(HEADER, "beyond the limits: at most", "are as they were", r"10\^\d+", amounts)
+    yield Place(HEADER, "beyond the limits: at most", "in sum", r"\d+,[\d,]*\d", sizes)
+    yield Place(HEADER, "beyond the limits: at most", "in sum", r"10\^\d+", amounts)
     yield Place("man/mcf.1", ".SH LIMITS", ".SH ANSWERS", r"\d+,[\d,]*\d", sizes)
     twice = [power["bound"]] * 2 + [power["cost"]] * 2 + [power["total"]]
     yield Place("man/mcf.1", ".SH LIMITS", ".SH ANSWERS", r"10\^\d+", twice)

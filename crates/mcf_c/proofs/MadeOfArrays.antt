@@ -1,10 +1,14 @@
 -- What was made of arrays, by the status that came of it.
-use Rattle.std.proofs.Common.{◌≡◌, ◌≤◌, ℕ, Bool, true, subst, arith, inl, inr, Ok, Err, Some, None}
+use Rattle.std.proofs.Common.{◌≡◌, ◌≤◌, ℕ, ℤ, Bool, true, List, length, subst, sym, arith, inl, inr, Ok, Err, Some, None}
 use Rattle.std.specs.Prelude.{◌⊎◌, IfOk, Option, Result, is_ok}
-use Rattle.mcf_instance.specs.Arrays.{array_fault, made_of_arrays, made_unless}
-use Rattle.mcf_flows.specs.Limits.{limits}
+use Rattle.std.proofs.lemmas.List.{length-map}
+use Rattle.mcf_c.specs.Handing.{KeepsSizes}
+use Rattle.mcf_instance.proofs.ArrayFaults.{supplies_within}
+use Rattle.mcf_instance.specs.Arrays.{arc_of_numbers, array_fault, first_found, flow_problem, made_of_arrays, made_unless, supply_fault}
+use Rattle.mcf_flows.specs.Limits.{arc_limit, limits, node_limit}
 use Rattle.mcf_flows.specs.Network.{Network}
 use Rattle.mcf_instance.specs.declared.arrays.ArrayFault.{ArrayFault}
+use Rattle.mcf_instance.specs.declared.arrays.RawArc.{RawArc}
 
 -- a fact of the instance that was made is one of the network
 pub made_is : (g : Network) (made : Result Network ArrayFault) (P : Network → Type 0) → made ≡ made_of_arrays limits g → is_ok made ≡ true → IfOk made P → P g
@@ -26,3 +30,12 @@ was_made n b (inl few) flow set wide = go (zero_or_one n few)
     go : (n ≡ 0) ⊎ (n ≡ 1) → b ≡ true
     go (inl zero) = flow zero
     go (inr one) = set one
+
+-- supplies and arcs that were looked at have no fault of the sizes or of a supply
+pub sized_arcs : (supplies : List ℤ) (arcs : List RawArc) → (length supplies ≤ node_limit) × (length arcs ≤ arc_limit)
+    → first_found (supply_fault limits) supplies ≡ None → KeepsSizes (flow_problem supplies arcs)
+sized_arcs supplies arcs fit none = record {
+  nodes = fit.0;
+  arcs = subst (λ n. n ≤ arc_limit) (sym (length-map arcs arc_of_numbers)) fit.1;
+  supplies = supplies_within supplies none;
+}

@@ -11,8 +11,9 @@ use Rattle.mcf_checker.specs.Correct.{IsRightFlow}
 use Rattle.mcf_checker.specs.declared.verdict.Verdict.TheVariants.{Flow}
 use Rattle.mcf_instance.specs.Arrays.{array_fault}
 use Rattle.mcf_flows.specs.Blocking.{in_list}
-use Rattle.mcf_flows.specs.Limits.{limits}
+use Rattle.mcf_flows.specs.Limits.{arc_limit, limits, node_limit}
 use Rattle.mcf_flows.specs.Network.{IsNode, Network, at_node, node_count}
+use Rattle.mcf_flows.specs.WellFormed.{IsUpTo}
 use Rattle.mcf_instance.specs.declared.arrays.ArrayFault.{ArrayFault}
 use Rattle.mcf_flows.specs.declared.problem.Problem.TheVariants.{Min}
 use Rattle.mcf_solver.specs.Answering.{IsLeastFlow, IsLeastSolution, IsNoFlowProof}
@@ -62,6 +63,12 @@ pub record HasWidePrice (g : Network) : Type 0 where
 -- there are nodes, or the root of the simplex' start basis, to take memory for
 abbrev pub TakesMemory : EngineChoice → Network → Type 0
 TakesMemory engine g = (1 ≤ node_count g) ⊎ (meant engine g.problem ≡ suited Min)
+
+-- no fault of the sizes or of a supply: what is looked at before memory is taken
+pub record KeepsSizes (g : Network) : Type 0 where
+  pub nodes : node_count g ≤ node_limit
+  pub arcs : length g.arcs ≤ arc_limit
+  pub supplies : All (IsUpTo limits.supply) g.supplies
 
 -- the first fault of the arrays of a network
 pub record HandsFault (g : Network) (told : McfVerdict) : Type 0 where

@@ -1,7 +1,7 @@
 //! Flow problems and assignment problems solved in arrays, with no text.
 ghost use Rattle.std.specs.Prelude.{◌≡◌, ◌≢◌, ◌≤◌, ◌<◌, ◌⊎◌, ◌↔◌, ◌+◌, IfErr, IfOk, IfSome, None, is_ok, length, true, false};
 ghost use Rattle.mcf_c.specs.Choices.{choice_of};
-ghost use Rattle.mcf_c.specs.Handing.{HandsFault, HandsFlow, HandsSet, HasWidePrice, IsMadeFlow, TakesMemory};
+ghost use Rattle.mcf_c.specs.Handing.{HandsFault, HandsFlow, HandsSet, HasWidePrice, IsMadeFlow, KeepsSizes, TakesMemory};
 ghost use Rattle.mcf_c.specs.Problems.{assignment_network, flow_network};
 ghost use Rattle.mcf_c.specs.Verdicts.{TellsFault};
 ghost use Rattle.mcf_flows.specs.Limits.{limits};
@@ -35,9 +35,9 @@ fn answer_made(
     ensures fault { result ≡ 2 → IfErr made (λ fault. TellsFault fault told.new) × (is_ok made ≡ false) }
     ensures memory { result ≡ 3 → IfOk made (λ g. TakesMemory choice.engine g) × (is_ok made ≡ true) }
     ensures wide { result ≡ 6 → IfOk made (λ g. HasWidePrice g) × (is_ok made ≡ true) }
-    ensures flow_stays { (2 ≤ result) × (result ≤ 5) → flow.new ≡ flow.old }
+    ensures flow_stays { (1 ≤ result) × (result ≤ 5) → flow.new ≡ flow.old }
     ensures prices_stay { (2 ≤ result) × (result ≤ 5) → prices.new ≡ prices.old }
-    ensures told_stays { result ≡ 3 → told.new ≡ told.old }
+    ensures told_stays { 3 ≤ result → told.new ≡ told.old }
 {
     match made {
         Ok(instance) => answer_instance(alloc, &instance, choice, flow, prices, told),
@@ -53,7 +53,8 @@ fn answer_made(
 /// The status is 0 for a least-cost flow, 1 where a node set blocks, whose nodes `prices` marks by 1 and all others by 0, 2
 /// where the arrays have a fault, 3 where memory is wanting, 4 where a room hasn't the length of the arrays, 5 where the
 /// numbers mean no choice, and 6 where a price doesn't fit 64 bits. `told` becomes the cost, the side and the count
-/// of nodes, or the fault. What is chosen of a form means nothing here.
+/// of nodes, or the fault; from 3 on it stays. `flow` stays from 1 to 5 and `prices` from 2 to 5: at 6 both rooms are written, and
+/// hold no answer. What is chosen of a form means nothing here.
 #[unsafe(no_mangle)]
 pub extern "C" fn mcf_solve_arcs(
     alloc: Global,
@@ -70,12 +71,13 @@ pub extern "C" fn mcf_solve_arcs(
     ensures fault { result ≡ 2 → HandsFault (flow_network problem.now) told.new }
     ensures within { (result ≤ 1) ⊎ (result ≡ 6) → IsWellFormed limits (flow_network problem.now) }
     ensures memory { result ≡ 3 → IfSome (choice_of choice.now) (λ c. TakesMemory c.engine (flow_network problem.now)) }
+    ensures sized { result ≡ 3 → KeepsSizes (flow_network problem.now) }
     ensures room { result ≡ 4 → (length flow.old ≢ length (flow_network problem.now).arcs) ⊎ (length prices.old ≢ node_count (flow_network problem.now)) }
     ensures choice { (result ≡ 5) ↔ (choice_of choice.now ≡ None) }
     ensures wide { result ≡ 6 → HasWidePrice (flow_network problem.now) }
-    ensures flow_stays { (2 ≤ result) × (result ≤ 5) → flow.new ≡ flow.old }
+    ensures flow_stays { (1 ≤ result) × (result ≤ 5) → flow.new ≡ flow.old }
     ensures prices_stay { (2 ≤ result) × (result ≤ 5) → prices.new ≡ prices.old }
-    ensures told_stays { (3 ≤ result) × (result ≤ 5) → told.new ≡ told.old }
+    ensures told_stays { 3 ≤ result → told.new ≡ told.old }
 {
     let Some(choice) = choice_of(choice) else {
         return NO_CHOICE;
@@ -117,12 +119,13 @@ pub extern "C" fn mcf_solve_pairs(
     ensures fault { result ≡ 2 → HandsFault (assignment_network problem.now) told.new }
     ensures within { (result ≤ 1) ⊎ (result ≡ 6) → IsWellFormed limits (assignment_network problem.now) }
     ensures memory { result ≡ 3 → IfSome (choice_of choice.now) (λ c. TakesMemory c.engine (assignment_network problem.now)) }
+    ensures sized { result ≡ 3 → KeepsSizes (assignment_network problem.now) }
     ensures room { result ≡ 4 → (length flow.old ≢ length (assignment_network problem.now).arcs) ⊎ (length prices.old ≢ node_count (assignment_network problem.now)) }
     ensures choice { (result ≡ 5) ↔ (choice_of choice.now ≡ None) }
     ensures wide { result ≡ 6 → HasWidePrice (assignment_network problem.now) }
-    ensures flow_stays { (2 ≤ result) × (result ≤ 5) → flow.new ≡ flow.old }
+    ensures flow_stays { (1 ≤ result) × (result ≤ 5) → flow.new ≡ flow.old }
     ensures prices_stay { (2 ≤ result) × (result ≤ 5) → prices.new ≡ prices.old }
-    ensures told_stays { (3 ≤ result) × (result ≤ 5) → told.new ≡ told.old }
+    ensures told_stays { 3 ≤ result → told.new ≡ told.old }
 {
     let Some(choice) = choice_of(choice) else {
         return NO_CHOICE;

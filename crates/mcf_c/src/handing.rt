@@ -89,6 +89,7 @@ fn hand_flow(
     ensures flow { result ≡ 0 → flow.new ≡ amounts answer.now.sent }
     ensures prices { result ≡ 0 → prices.new ≡ answer.now.prices }
     ensures told { result ≡ 0 → Tells (Verdict.Flow answer.now.cost) told.new }
+    ensures told_stays { result ≡ 6 → told.new ≡ told.old }
     ensures wide { result ≡ 6 → ¬ FitWords answer.now.prices }
 {
     put_flow(answer.sent.as_slice(), flow);
@@ -159,9 +160,9 @@ pub(crate) fn answer_instance(
     ensures set { result ≡ 1 → HandsSet instance.now prices.new told.new }
     ensures memory { result ≡ 3 → TakesMemory choice.engine instance.now }
     ensures wide { result ≡ 6 → HasWidePrice instance.now }
-    ensures flow_stays { result ≡ 3 → flow.new ≡ flow.old }
+    ensures flow_stays { (result ≡ 1) ⊎ (result ≡ 3) → flow.new ≡ flow.old }
     ensures prices_stay { result ≡ 3 → prices.new ≡ prices.old }
-    ensures told_stays { result ≡ 3 → told.new ≡ told.old }
+    ensures told_stays { (result ≡ 3) ⊎ (result ≡ 6) → told.new ≡ told.old }
 {
     prove!(instance.node_count() <= NODE_LIMIT);
     let choice = in_one_form(choice);

@@ -3,7 +3,7 @@ ghost use Rattle.std.specs.Prelude.{◌≡◌, ◌≢◌, ◌≤◌, ◌<◌, �
 ghost use Rattle.std.specs.List.{All};
 ghost use Rattle.mcf_answer.specs.Ranges.{IsAmount, amount_limit};
 ghost use Rattle.mcf_answer.specs.Solution.{IsSent};
-ghost use Rattle.mcf_c.specs.Handing.{HandsFault};
+ghost use Rattle.mcf_c.specs.Handing.{HandsFault, KeepsSizes};
 ghost use Rattle.mcf_c.specs.Judged.{answer_along, claimed_cost, sent_along, sent_by};
 ghost use Rattle.mcf_c.specs.Problems.{assignment_network, flow_network};
 ghost use Rattle.mcf_c.specs.Verdicts.{Tells, number};
@@ -196,6 +196,7 @@ pub extern "C" fn mcf_check_arcs(
     ensures least { result ≡ 0 → IsLeast (flow_network problem.now) flow.now }
     ensures fault { result ≡ 2 → HandsFault (flow_network problem.now) told.new }
     ensures memory { result ≡ 3 → 1 ≤ node_count (flow_network problem.now) }
+    ensures sized { result ≡ 3 → KeepsSizes (flow_network problem.now) }
     ensures lengths { result ≡ 4 → (length flow.now ≢ length (flow_network problem.now).arcs) ⊎ (length prices.now ≢ node_count (flow_network problem.now)) }
     ensures untouched { (3 ≤ result) × (result ≤ 4) → told.new ≡ told.old }
 {
@@ -233,6 +234,7 @@ pub extern "C" fn mcf_check_pairs(
     ensures least { result ≡ 0 → IsLeast (assignment_network problem.now) flow.now }
     ensures fault { result ≡ 2 → HandsFault (assignment_network problem.now) told.new }
     ensures memory { result ≡ 3 → 1 ≤ node_count (assignment_network problem.now) }
+    ensures sized { result ≡ 3 → KeepsSizes (assignment_network problem.now) }
     ensures lengths { result ≡ 4 → (length flow.now ≢ length (assignment_network problem.now).arcs) ⊎ (length prices.now ≢ node_count (assignment_network problem.now)) }
     ensures untouched { (3 ≤ result) × (result ≤ 4) → told.new ≡ told.old }
 {

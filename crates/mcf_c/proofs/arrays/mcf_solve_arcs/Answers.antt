@@ -2,7 +2,7 @@ use Rattle.std.specs.Prelude.{is_ok}
 use Rattle.mcf_c.specs.Handing.{HandsFlow}
 use Rattle.mcf_c.specs.Problems.{flow_network}
 use Rattle.mcf_flows.specs.Network.{Network}
-use Rattle.mcf_c.proofs.MadeOfArrays.{made_is, was_made}
+use Rattle.mcf_c.proofs.MadeOfArrays.{made_is, sized_arcs, was_made}
 use Rattle.mcf_c.proofs.arrays.mcf_solve_arcs.Goals as goal
 
 pub returns-clause-within : goal.returns-clause-within
@@ -17,3 +17,8 @@ returns-clause-flow c = λ zero.
     let new = c.answer_made.new in
     let handed = c.answer_made.ensures.flow zero in
     made_is g c.in-Ok.made (λ (x : Network). HandsFlow x new.flow new.prices new.told) c.in-Ok.ensures.exact handed.1 handed.0
+
+pub returns-in_default-flow_problem-clause-sized : goal.returns-in_default-flow_problem-clause-sized
+returns-in_default-flow_problem-clause-sized c = λ three.
+    sized_arcs c.args.problem.now.supplies.now c.args.problem.now.arcs.now c.in_default-flow_problem.ensures.fits
+    c.in_default-flow_problem.ensures.supplied
