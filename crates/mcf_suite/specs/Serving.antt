@@ -7,7 +7,6 @@ use Rattle.std.specs.Io.KnownBytes.{Appends}
 use Rattle.clap.specs.Words.{App, IsAmong, Text, fault_of}
 use Rattle.clap.specs.declared.error.kind.ErrorKind.{ErrorKind}
 use Rattle.clap.specs.declared.error.kind.ErrorKind.TheVariants.{DisplayHelp, DisplayVersion}
-use Rattle.mcf_suite.specs.declared.version.TheConstants.{VERSION}
 use Rattle.mcf_asking.specs.declared.asking.Asked.{Asked}
 use Rattle.mcf_choice.specs.declared.choice.Choice.{Choice}
 use Rattle.mcf_solver.specs.declared.kind.Kind.{Kind}
@@ -93,11 +92,15 @@ pub record ShowsHelp (words : List Text) (status : ℕ) (old new : Option (List 
   pub text : List ℕ
   pub taken : Appends old new text
 
+-- the name and the version of the program, and the logic that it was proved with
+abbrev pub version_text : List ℕ
+version_text = codes "mcf 1.0.0\nproved with Rattle, logic dac8208d650f15bf\n"
+
 -- the words ask for the version, and the sink took it
 pub record ShowsVersion (words : List Text) (status : ℕ) (old new : Option (List ℕ)) : Type 0 where
   pub asked : HaveFault words DisplayVersion
   pub is_status : status ≡ 0
-  pub taken : Appends old new VERSION.now
+  pub taken : Appends old new version_text
 
 -- the words ask to solve, and the sink took an answer; or they ask for help, and it took some text; or for the version, and it took that
 abbrev pub Serves : List Text → (Option (Bor Text) → Option (List ℕ) → Type 0) → ℕ → Option (List ℕ)
@@ -118,7 +121,7 @@ pub record ShowsHelpInPart (words : List Text) (old new : Option (List ℕ)) : T
 -- the words ask for the version, and the sink took a beginning of it
 pub record ShowsVersionInPart (words : List Text) (old new : Option (List ℕ)) : Type 0 where
   pub asked : HaveFault words DisplayVersion
-  pub taken : TakesBeginning old new VERSION.now
+  pub taken : TakesBeginning old new version_text
 
 -- the words ask to solve, for help or for the version, and the sink took a beginning of what they ask for
 abbrev pub ServesInPart : List Text → (Option (Bor Text) → Option (List ℕ) → Type 0) → Option (List ℕ)

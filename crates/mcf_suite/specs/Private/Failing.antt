@@ -8,10 +8,9 @@ use Rattle.clap.specs.declared.error.kind.ErrorKind.TheVariants.{DisplayHelp, Di
 use Rattle.mcf_solver.specs.Devices.{CountsOneFailure}
 use Rattle.mcf_solver.specs.Running.{IsTooLong, TakesBeginning}
 use Rattle.mcf_solver.specs.declared.fault.RunFault.TheVariants.{Read, Write, NoMemory, TooLong}
-use Rattle.mcf_suite.specs.declared.version.TheConstants.{VERSION}
 use Rattle.mcf_suite.specs.declared.serving.Failure.{Failure}
 use Rattle.mcf_suite.specs.declared.serving.Failure.TheVariants.{Usage, Open, Run}
-use Rattle.mcf_suite.specs.Serving.{AsksToSolve, FailsToGive, GivesTooMuch, HaveUsageFault, IsUnopened, fault_line, open_line}
+use Rattle.mcf_suite.specs.Serving.{AsksToSolve, FailsToGive, GivesTooMuch, HaveUsageFault, IsUnopened, fault_line, open_line, version_text}
 
 -- the text that tells of a failure
 abbrev pub failure_text : Failure → List ℕ
@@ -45,12 +44,12 @@ IsFailure remaining failures input input' Opens words untouched failed (Run TooL
 -- the sink took what is shown where the words ask for it, by the kind of their fault: some help, or the version
 abbrev pub IsShown : ErrorKind → Option (List ℕ) → Option (List ℕ) → Type 0
 IsShown kind old new =
-    ((kind ≡ DisplayHelp) × ((text : List ℕ) × Appends old new text)) ⊎ ((kind ≡ DisplayVersion) × Appends old new VERSION.now)
+    ((kind ≡ DisplayHelp) × ((text : List ℕ) × Appends old new text)) ⊎ ((kind ≡ DisplayVersion) × Appends old new version_text)
 
 -- it took a beginning of that
 abbrev pub IsShownInPart : ErrorKind → Option (List ℕ) → Option (List ℕ) → Type 0
 IsShownInPart kind old new =
-    ((kind ≡ DisplayHelp) × ((text : List ℕ) × TakesBeginning old new text)) ⊎ ((kind ≡ DisplayVersion) × TakesBeginning old new VERSION.now)
+    ((kind ≡ DisplayHelp) × ((text : List ℕ) × TakesBeginning old new text)) ⊎ ((kind ≡ DisplayVersion) × TakesBeginning old new version_text)
 
 -- the same where the words aren't taken, by the kind of their fault
 abbrev pub IsHelpFailure : ErrorKind → Type 0 → Type 0 → Failure → Type 0
