@@ -1,6 +1,6 @@
 //! Runs of the command `mcf`: its words, its statuses and its lines.
 use mcf_suite::{FromReader, IntoWriter, VERSION, serve};
-use mcf_text::NoMemory;
+use mcf_text::{NoMemory, put_number};
 use std::alloc::Global;
 use std::io::{self, ErrorKind, Read, Write};
 use std::test::Fail;
@@ -91,7 +91,7 @@ fn has_part(text: &[u8], part: &str) -> bool {
 }
 
 // A text, and the status and the answer of its run.
-static ANSWERED: [(&str, u8, &str); 23] = [
+static ANSWERED: [(&str, u8, &str); 26] = [
     (FOUR_NODES, 0, LEAST),
     ("p min 0 0\n", 0, "s 0\n"),
     ("p asn 0 0\n", 0, "s 0\n"),
@@ -146,6 +146,16 @@ static ANSWERED: [(&str, u8, &str); 23] = [
         0,
         "s 21\nf 1 2 3\ny 1 0\ny 2 -7\n",
     ),
+    (
+        "p min 2 1\na 1 2 0 1000000000000001 0\n",
+        0,
+        "s 0\nf 1 2 0\ny 1 0\ny 2 0\n",
+    ),
+    (
+        "p min 2 1\na 1 2 0 1 -1000000000001\n",
+        0,
+        "s 0\nf 1 2 0\ny 1 -1000000000001\ny 2 0\n",
+    ),
     ("p min 1 0\nn 1 -1\n", 1, "i 1 take\nx 1\n"),
     (TOO_NARROW, 1, BLOCKED),
     (
@@ -167,6 +177,7 @@ static ANSWERED: [(&str, u8, &str); 23] = [
     ("", 2, "r 1 no-p\n"),
     (LATE_NODE, 2, "r 3 late-n\n"),
     ("p min 2 2\na 1 2 0 1 1\n", 2, "r 3 missing\n"),
+    ("p min 2 1\nn 1 1000000000000001\n", 2, "r 3 missing\n"),
 ];
 
 // Whether a text is answered so, from standard input and from a file.
@@ -226,12 +237,140 @@ fn six_rows_served(rt: HostRuntime) -> Result<(), Fail> {
 // Two arcs of one cost, of which either may carry all.
 const TWO_ALIKE: &str = "p min 2 2\nn 1 3\nn 2 -3\na 1 2 0 3 4\na 1 2 0 3 4\n";
 
+// Whether these words give one of two answers, from standard input and, by the same words and a name, from a file.
+fn is_either(
+    alloc: Global,
+    words: (&[&str], &[&str]),
+    first: &str,
+    second: &str,
+) -> Result<bool, NoMemory> {
+    let by_input = served(alloc, words.0, TWO_ALIKE, None)?;
+    let by_file = served(alloc, words.1, "p min", Some(TWO_ALIKE))?;
+    let is_first = by_input.is(0, first) && by_file.is(0, first);
+    let is_second = by_input.is(0, second) && by_file.is(0, second);
+    Ok(by_file.opened && (is_first || is_second))
+}
+
 #[test]
 fn one_of_two_least_flows(rt: HostRuntime) -> Result<(), Fail> {
-    let run = served(rt.alloc(), &["mcf", "solve"], TWO_ALIKE, None)?;
-    let first = run.is(0, "s 12\nf 1 2 3\nf 1 2 0\ny 1 0\ny 2 -4\n");
-    let second = run.is(0, "s 12\nf 1 2 0\nf 1 2 3\ny 1 0\ny 2 -4\n");
-    assert!(rt; first || second);
+    let right = is_either(
+        rt.alloc(),
+        (&["mcf", "solve"], &["mcf", "solve", "a.min"]),
+        "s 12\nf 1 2 3\nf 1 2 0\ny 1 0\ny 2 -4\n",
+        "s 12\nf 1 2 0\nf 1 2 3\ny 1 0\ny 2 -4\n",
+    )?;
+    assert!(rt; right);
+    Ok(())
+}
+
+#[test]
+fn one_of_two_least_flows_in_the_second_form(rt: HostRuntime) -> Result<(), Fail> {
+    let right = is_either(
+        rt.alloc(),
+        (
+            &["mcf", "solve", "--form", "2"],
+            &["mcf", "solve", "--form", "2", "a.min"],
+        ),
+        "v 2\ns 12\ng 1 3\ny 1 0\ny 2 -4\n",
+        "v 2\ns 12\ng 2 3\ny 1 0\ny 2 -4\n",
+    )?;
+    assert!(rt; right);
+    Ok(())
+}
+
+// Puts a text so often.
+fn put_often(out: &mut Vec<u8>, text: &[u8], often: u32) -> Result<(), NoMemory> {
+    for _ in 0..often {
+        out.extend_from_slice(text)?;
+    }
+    Ok(())
+}
+
+// A thousand arcs whose costs come to 10^36 in all, with an arc more that costs nothing; and its answers in both forms.
+fn greatest_total(alloc: Global) -> Result<(Vec<u8>, Vec<u8>, Vec<u8>), NoMemory> {
+    let mut text = Vec::with_capacity(alloc, 65_536)?;
+    text.extend_from_slice(b"p min 2 1001\n")?;
+    put_often(
+        &mut text,
+        b"a 1 2 0 1000000000000000000 1000000000000000\n",
+        1000,
+    )?;
+    text.extend_from_slice(b"a 1 2 0 1 0\n")?;
+    let mut first = Vec::with_capacity(alloc, 65_536)?;
+    first.extend_from_slice(b"s 0\n")?;
+    put_often(&mut first, b"f 1 2 0\n", 1001)?;
+    first.extend_from_slice(b"y 1 0\ny 2 0\n")?;
+    let mut second = Vec::with_capacity(alloc, 64)?;
+    second.extend_from_slice(b"v 2\ns 0\ny 1 0\ny 2 0\n")?;
+    Ok((text, first, second))
+}
+
+// A thousand nodes, of which two have arcs; and its answers in both forms.
+fn many_idle_nodes(alloc: Global) -> Result<(Vec<u8>, Vec<u8>, Vec<u8>), NoMemory> {
+    let mut text = Vec::with_capacity(alloc, 256)?;
+    text.extend_from_slice(b"p min 1000 2\nn 1 3\nn 2 -3\na 1 2 0 2 1\na 1 2 0 2 5\n")?;
+    let mut first = Vec::with_capacity(alloc, 65_536)?;
+    first.extend_from_slice(b"s 7\nf 1 2 2\nf 1 2 1\ny 1 0\ny 2 -5\n")?;
+    put_zero_prices(&mut first)?;
+    let mut second = Vec::with_capacity(alloc, 65_536)?;
+    second.extend_from_slice(b"v 2\ns 7\ng 1 2\ng 2 1\ny 1 0\ny 2 -5\n")?;
+    put_zero_prices(&mut second)?;
+    Ok((text, first, second))
+}
+
+// Puts a price of 0 for each of the nodes 3 to 1,000.
+fn put_zero_prices(out: &mut Vec<u8>) -> Result<(), NoMemory> {
+    for node in 3..=1000u32 {
+        out.extend_from_slice(b"y ")?;
+        put_number(out, i128::from(node))?;
+        out.extend_from_slice(b" 0\n")?;
+    }
+    Ok(())
+}
+
+// Whether a run on a file of these bytes ends with this answer.
+fn is_served(alloc: Global, words: &[&str], file: &[u8], answer: &[u8]) -> Result<bool, NoMemory> {
+    let mut out = Vec::with_capacity(alloc, 65_536)?;
+    let mut err = room(alloc)?;
+    let status = serve(
+        alloc,
+        words,
+        &mut FromReader::new(b"".as_slice()),
+        &mut |_name: &str| Some(FromReader::new(file)),
+        &mut IntoWriter::new(&mut out),
+        &mut IntoWriter::new(&mut err),
+    );
+    had_memory(status, &out, &err)?;
+    Ok(status == 0 && out.as_slice() == answer && err.is_empty())
+}
+
+#[test]
+fn the_greatest_total_is_served(rt: HostRuntime) -> Result<(), Fail> {
+    let (text, first, second) = greatest_total(rt.alloc())?;
+    assert!(rt; is_served(rt.alloc(), &["mcf", "solve", "a.min"], &text, &first)?);
+    assert!(rt;
+        is_served(
+            rt.alloc(),
+            &["mcf", "solve", "--form", "2", "a.min"],
+            &text,
+            &second
+        )?
+    );
+    Ok(())
+}
+
+#[test]
+fn many_idle_nodes_are_served(rt: HostRuntime) -> Result<(), Fail> {
+    let (text, first, second) = many_idle_nodes(rt.alloc())?;
+    assert!(rt; is_served(rt.alloc(), &["mcf", "solve", "a.min"], &text, &first)?);
+    assert!(rt;
+        is_served(
+            rt.alloc(),
+            &["mcf", "solve", "--form", "2", "a.min"],
+            &text,
+            &second
+        )?
+    );
     Ok(())
 }
 

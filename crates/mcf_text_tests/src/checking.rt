@@ -204,6 +204,32 @@ static SETS_AND_REFUSALS: [(&str, &str, &str); 15] = [
     ("p min 0 0\n", "s 0\n", "accepted flow 0"),
 ];
 
+// Two rows and two columns, of which the first row is dear to the first column.
+const TWO_BY_TWO: &str = "p asn 4 4\nn 1\nn 2\na 1 3 5\na 1 4 1\na 2 3 2\na 2 4 1\n";
+
+static ASSIGNMENTS: [(&str, &str); 3] = [
+    (
+        "s 3\nf 1 3 0\nf 1 4 1\nf 2 3 1\nf 2 4 0\ny 1 0\ny 2 0\ny 3 -2\ny 4 -1\n",
+        "accepted flow 3",
+    ),
+    (
+        "s 6\nf 1 3 1\nf 1 4 0\nf 2 3 0\nf 2 4 1\ny 1 0\ny 2 0\ny 3 -2\ny 4 -1\n",
+        "rejected price 1",
+    ),
+    (
+        "s 6\nf 1 3 1\nf 1 4 0\nf 2 3 0\nf 2 4 0\ny 1 0\ny 2 0\ny 3 -2\ny 4 -1\n",
+        "rejected node 2",
+    ),
+];
+
+#[test]
+fn assignments_of_two_rows(rt: HostRuntime) -> Result<(), Fail> {
+    for (answer, want) in &ASSIGNMENTS {
+        assert!(rt; is_printed(rt.alloc(), TWO_BY_TWO, answer, want)?);
+    }
+    Ok(())
+}
+
 #[test]
 fn sets_and_refusals(rt: HostRuntime) -> Result<(), Fail> {
     for (instance, answer, want) in &SETS_AND_REFUSALS {

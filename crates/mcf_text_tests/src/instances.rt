@@ -87,7 +87,7 @@ fn is_instance(
     Ok(is_problem && are_supplies && are_arcs)
 }
 
-pub static FAULTY_TEXTS: [(&[u8], u128, &str); 42] = [
+pub static FAULTY_TEXTS: [(&[u8], u128, &str); 44] = [
     (b"", 1, "no-p"),
     (b"c hello\n", 2, "no-p"),
     (b" \t\n\r\n  ", 4, "no-p"),
@@ -99,6 +99,8 @@ pub static FAULTY_TEXTS: [(&[u8], u128, &str); 42] = [
     (b"p min 2 1x\n", 1, "number"),
     (b"p min 2 -\n", 1, "number"),
     (b"p min 2 1\na 1 2 0 1 \x00\n", 2, "number"),
+    (b"p min 2 1\na 1 2 0 1\x00 0\n", 2, "number"),
+    (b"p min 2 1\na 1 2 0 1 \x00 0\n", 2, "fields"),
     (b"n 1 5\n", 1, "before-p"),
     (b"n 1\n", 1, "before-p"),
     (b"n 1 2 3\n", 1, "fields"),
