@@ -3,12 +3,20 @@
 //! With ample memory nothing is asked twice; `scripts/refuse_memory.py` refuses each allocation in turn.
 
 use crate::fixtures::{CIRCULATION, Costed, SAMPLE, finds_all};
+use crate::networks::net_of;
 use mcf_assign::Sap;
 use mcf_augment::Augment;
-use mcf_prices::{Cancel, Engine};
-use mcf_scaling::Scaling;
+use mcf_basis::Basis;
+use mcf_feas::{Feas, feasible};
+use mcf_instance::Problem;
+use mcf_links::SiblingLinks;
+use mcf_matching::Matching;
+use mcf_network::{Net, NodeSet, State};
+use mcf_prices::{Cancel, Engine, Heap, Pricer};
+use mcf_scaling::{Refine, Scaling};
 use mcf_simplex::{Best, Block, First, Simplex};
 use mcf_text::NoMemory;
+use mcf_tree::Tree;
 use std::alloc::Global;
 use std::test::Fail;
 
@@ -72,6 +80,56 @@ fn either_search_finds_both(alloc: Global) -> Result<bool, NoMemory> {
 #[test]
 fn six_rows_by_a_judged_search(rt: HostRuntime) -> Result<(), Fail> {
     assert!(rt; either_search_finds_both(rt.alloc())?);
+    Ok(())
+}
+
+// What each call that makes room for a net alone makes: how many arcs its state has, none of its pivots and searches,
+// and whether its refinement and its tree are there.
+fn begins(alloc: Global, net: &Net) -> Result<bool, NoMemory> {
+    let state = State::zero(alloc, net)?;
+    let set = NodeSet::new(alloc, net)?;
+    let basis = Basis::start(alloc, net)?;
+    let _pricer = Pricer::start(alloc, net)?;
+    let _heap = Heap::new(alloc, net)?;
+    let is_refined = match feasible(alloc, net)? {
+        Feas::Flow(state) => Refine::start(alloc, state)?.state().net().arc_count()
+            == net.arc_count(),
+        Feas::Blocked(..) => true,
+    };
+    let is_matched = match net.problem() {
+        Problem::Min => true,
+        Problem::Asn => Matching::start(alloc, net)?.settled().is_empty(),
+    };
+    let are_nodes = basis.net().node_count() == net.node_count() && set.len() == 0;
+    Ok(are_nodes && is_refined && is_matched && state.net().arc_count() == net.arc_count())
+}
+
+// Whether they make it for each of these.
+fn all_begin(alloc: Global, rows: &[Costed]) -> Result<bool, NoMemory> {
+    for (text, _) in rows {
+        let Some(net) = net_of(alloc, *text)? else {
+            return Ok(false);
+        };
+        if !begins(alloc, &net)? {
+            return Ok(false);
+        }
+    }
+    Ok(true)
+}
+
+#[test]
+fn six_rows_begun(rt: HostRuntime) -> Result<(), Fail> {
+    assert!(rt; all_begin(rt.alloc(), &FLOW_PROBLEMS)?);
+    assert!(rt; all_begin(rt.alloc(), &ASSIGNMENTS)?);
+    Ok(())
+}
+
+#[test]
+fn six_rows_of_stars(rt: HostRuntime) -> Result<(), Fail> {
+    let tree = Tree::star(rt.alloc(), 4, 5)?;
+    let links = SiblingLinks::star(rt.alloc(), 4)?;
+    assert!(rt; tree.size() == 5);
+    assert!(rt; links.first_children().len() == 5);
     Ok(())
 }
 

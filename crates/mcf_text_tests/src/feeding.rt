@@ -205,6 +205,26 @@ fn lines_of_two_pieces(rt: HostRuntime) -> Result<(), Fail> {
     Ok(())
 }
 
+// Whether a reader and a feed of lines take a text in two pieces, by calls of which each allocation is refused in turn.
+fn is_fed(alloc: Global, text: &[u8]) -> Result<bool, Fail> {
+    let Some((first, second)) = text.split_at_checked(text.len() / 2) else {
+        return Ok(false);
+    };
+    let mut feed = LineFeed::new(alloc);
+    feed.feed(first)?;
+    feed.feed(second)?;
+    let is_kept = feed.rest() == text;
+    Ok(is_kept && is_read_in_two(alloc, text, text.len() / 2)?)
+}
+
+#[test]
+fn six_rows_fed(rt: HostRuntime) -> Result<(), Fail> {
+    for text in TEXTS.iter() {
+        assert!(rt; is_fed(rt.alloc(), text)?);
+    }
+    Ok(())
+}
+
 static FAULTS: [(FeedFault, &str); 2] = [
     (FeedFault::NoMemory, "out of memory"),
     (FeedFault::TooLong, "input too long"),

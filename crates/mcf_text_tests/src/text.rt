@@ -235,8 +235,9 @@ fn put_numbers(out: &mut Vec<u8>, numbers: &[i128]) -> Result<(), NoMemory> {
 const APPENDED: &[u8] =
     b"keep -120 0 170141183460469231731687303715884105727 -170141183460469231731687303715884105728 ";
 
+// Each allocation of this is refused in turn, by `scripts/refuse_memory.py`, as those of worked rows are.
 #[test]
-fn numbers_are_appended(rt: HostRuntime) -> Result<(), Fail> {
+fn six_rows_of_numbers_are_appended(rt: HostRuntime) -> Result<(), Fail> {
     let mut out = b"keep ".to_vec(rt.alloc())?;
     put_numbers(&mut out, &[-120, 0, i128::MAX, i128::MIN])?;
     assert!(rt; out.as_slice() == APPENDED);
