@@ -49,6 +49,7 @@ lint:
 	@scripts/documents.py check
 	@scripts/words.py check
 	@scripts/pictures.py check
+	@scripts/allocations.py
 	@scripts/lint.sh
 
 quick:

@@ -171,6 +171,7 @@ def in_texts(fact):
         ("python/mcf/__init__.py", '__version__ = "', '"'),
         ("library/rust/Cargo.toml", 'version = "', '"'),
         ("library/rust/Cargo.lock", 'name = "mcf"\nversion = "', '"'),
+        ("crates/mcf_suite/specs/Serving.antt", 'version_text = codes "mcf ', "\\n"),
         ("scripts/examples.sh", "= 'mcf ", "'"),
     ):
         yield Place(path, begin, end, r"[\w.]+", [fact["version"]])
