@@ -124,11 +124,8 @@ class Roster:
         table.need(PAIR_HEADS, faults)
         if not table.has(PAIR_HEADS):
             faults.end()
-        columns, takes, needs = (
-            table.columns(PAIR_HEADS),
-            table.perhaps("takes"),
-            table.perhaps("needs"),
-        )
+        columns = table.columns(PAIR_HEADS)
+        takes, needs = table.perhaps("takes"), table.perhaps("needs")
         self.numbers.look(table, columns[2:])
         self.numbers.settle(faults)
         for line, cells in table.rows:
@@ -137,13 +134,8 @@ class Roster:
             name_in(table, line, "what", what, faults)
             ends = self.persons.number(who), self.things.number(what)
             if who and what:
-                once(
-                    At(table, line, "what"),
-                    ends,
-                    f"the pair of {shown(who)} and {shown(what)}",
-                    seen,
-                    faults,
-                )
+                pair = f"the pair of {shown(who)} and {shown(what)}"
+                once(At(table, line, "what"), ends, pair, seen, faults)
             self.persons.say(At(table, line, "takes"), ends[0], cell_at(cells, takes), faults)
             self.things.say(At(table, line, "needs"), ends[1], cell_at(cells, needs), faults)
             if cost.casefold() not in FORBIDDEN:

@@ -1,6 +1,7 @@
 """What the package mcf makes of hostile arguments: noise, numbers at the limits and past them,
 arrays of all kinds of numpy, things that are no numbers. Each call has to answer what is right, or
 to raise what says why not. MCF_LIBRARY names the library."""
+import collections
 import os
 import random
 import sys
@@ -91,54 +92,124 @@ def least(supplies, arcs, answer):
     return not any(left) and answer.cost == sum(arc[4] * f for arc, f in zip(arcs, flow))
 
 
+def problem_of(chance):
+    """The supplies and arcs of a random problem, one of three of it with numbers past all
+    limits."""
+    n, wild = chance.randrange(5), chance.randrange(3)
+    amounts, costs = (AMOUNTS[: (6, 10, 18)[wild]], COSTS[: (6, 9, 15)[wild]])
+    supplies = [chance.choice(amounts) for _ in range(n)]
+    if n and chance.randrange(4):
+        supplies[-1] -= sum(supplies)
+    beyond = [-1, n, 2**32 - 1, 2**32, 2**70]
+    ends = (beyond if wild == 2 and chance.randrange(3) == 0 else []) + list(range(n)) * 3
+    arcs = []
+    for _ in range(chance.randrange(6) if ends else 0):
+        bounds = [9, 8]
+        if chance.randrange(9):
+            bounds = sorted(chance.choice(amounts) for _ in range(2))
+        arcs.append((chance.choice(ends), chance.choice(ends), *bounds, chance.choice(costs)))
+    return supplies, arcs
+
+
+# Calls that are refused: the number, the ends or the place in a matrix, and what is said.
+REFUSALS = (
+    (
+        lambda: mcf.solve([0, 0], [(0, 1, 5, 0.1234567890123457)]),
+        0.1234567890123457,
+        (0, 1),
+        "arc 0 (0 to 1): cost 0.1234567890123457 is past the limit, 10^15 (numbers are "
+        "multiplied by 10^16, to be whole)",
+    ),
+    (
+        lambda: mcf.solve({"x": 10**19}, []),
+        10**19,
+        None,
+        "node 'x': supply 10^19 is past the limit, 10^18",
+    ),
+    (
+        lambda: mcf.solve({"x": 0}, [("x", "y", -1, 2e18, 1)]),
+        2 * 10**18,
+        ("x", "y"),
+        "arc 0 ('x' to 'y'): bound 2000000000000000000 is past the limit, 10^18",
+    ),
+    (
+        lambda: mcf.solve([0], [(0, 0, 2.5, 2, 1)]),
+        (2.5, 2),
+        (0, 0),
+        "arc 0 (0 to 0): order, the lower bound 2.5 is above the capacity 2 (numbers are "
+        "multiplied by 2, to be whole)",
+    ),
+    (
+        lambda: mcf.solve([0, 0], [(0, 7, 1, 1)]),
+        2,
+        (0, 7),
+        "arc 0 (0 to 7): node, there are 2, with numbers from 0",
+    ),
+    (
+        lambda: mcf.solve(10**7, []),
+        (10**6 + 1, 0),
+        None,
+        "size, 1000001 nodes and 0 arcs, where 1000000 and 10000000 may be",
+    ),
+    (
+        lambda: mcf.linear_sum_assignment([[1e-300, 2]]),
+        2,
+        (0, 1),
+        "row 0, column 1: cost 2 is past the limit, 10^15 (numbers are multiplied by "
+        "10^300, to be whole)",
+    ),
+    (
+        lambda: mcf.linear_sum_assignment([[1, 2], [-(10**16), 3]], True),
+        -(10**16),
+        (1, 0),
+        "row 1, column 0: cost -10000000000000000 is past the limit, 10^15",
+    ),
+    (
+        lambda: mcf.linear_sum_assignment([[1], [2], [10**16]]),
+        10**16,
+        (2, 0),
+        "row 2, column 0: cost 10^16 is past the limit, 10^15",
+    ),
+    (
+        lambda: mcf.solve([0, 0], [(0, 1, 5, 10**5000)]),
+        10**5000,
+        (0, 1),
+        "arc 0 (0 to 1): cost 10^5000 is past the limit, 10^15",
+    ),
+    (
+        lambda: mcf.solve([0, 0], [(0, 1, 5, Fraction(10**400, 3))]),
+        float("inf"),
+        (0, 1),
+        "arc 0 (0 to 1): cost inf is past the limit, 10^15 (numbers are multiplied by 3, "
+        "to be whole)",
+    ),
+)
+
+
 class Numbers(unittest.TestCase):
+    def kind_of(self, supplies, arcs, engine):
+        """What comes of a problem, judged by its definition."""
+        problem = (supplies, arcs)
+        try:
+            answer = mcf.solve(supplies, arcs, engine=engine)
+        except mcf.Refused as e:
+            self.assertEqual((e.arc, e.node, e.reason), fault(supplies, arcs), problem)
+            return e.reason
+        except mcf.Infeasible as e:
+            self.assertTrue(fault(supplies, arcs) is None and e.must > e.can, problem)
+            return "blocked"
+        self.assertIsNone(fault(supplies, arcs), problem)
+        self.assertTrue(least(supplies, arcs, answer), (problem, answer))
+        return "flow"
+
     def test_random_problems(self):
-        chance, seen = random.Random(1), {}
+        chance, seen = random.Random(1), collections.Counter()
         for _ in range(4000):
-            n, wild = chance.randrange(5), chance.randrange(3)
-            amounts, costs = (AMOUNTS[: (6, 10, 18)[wild]], COSTS[: (6, 9, 15)[wild]])
-            supplies = [chance.choice(amounts) for _ in range(n)]
-            if n and chance.randrange(4):
-                supplies[-1] -= sum(supplies)
-            ends = (
-                [-1, n, 2**32 - 1, 2**32, 2**70]
-                if wild == 2 and chance.randrange(3) == 0
-                else []
-            )
-            ends += list(range(n)) * 3
-            arcs = []
-            for _ in range(chance.randrange(6) if ends else 0):
-                bounds = (
-                    sorted(chance.choice(amounts) for _ in range(2))
-                    if chance.randrange(9)
-                    else [9, 8]
-                )
-                arcs.append(
-                    (chance.choice(ends), chance.choice(ends), *bounds, chance.choice(costs))
-                )
-            try:
-                answer = mcf.solve(
-                    supplies, arcs, engine=chance.choice(("auto", "scaling", "augment", "cancel"))
-                )
-                kind = "flow"
-                self.assertTrue(
-                    fault(supplies, arcs) is None and least(supplies, arcs, answer),
-                    (supplies, arcs, answer),
-                )
-            except mcf.Refused as e:
-                kind = e.reason
-                self.assertEqual((e.arc, e.node, e.reason), fault(supplies, arcs), (supplies, arcs))
-            except mcf.Infeasible as e:
-                kind = "blocked"
-                self.assertTrue(fault(supplies, arcs) is None and e.must > e.can, (supplies, arcs))
-            seen[kind] = seen.get(kind, 0) + 1
-        self.assertTrue(
-            all(
-                seen[kind] > 20
-                for kind in ("flow", "blocked", "supply", "node", "bound", "order", "cost")
-            ),
-            seen,
-        )
+            supplies, arcs = problem_of(chance)
+            engine = chance.choice(("auto", "scaling", "augment", "cancel"))
+            seen[self.kind_of(supplies, arcs, engine)] += 1
+        for kind in ("flow", "blocked", "supply", "node", "bound", "order", "cost"):
+            self.assertGreater(seen[kind], 20, seen)
 
     def test_totals(self):
         arcs = [(0, 1, BOUND, COST)] * 1000
@@ -304,77 +375,7 @@ class Numbers(unittest.TestCase):
         )
 
     def test_what_is_said_of_a_refusal(self):
-        for call, value, ends, words in (
-            (
-                lambda: mcf.solve([0, 0], [(0, 1, 5, 0.1234567890123457)]),
-                *[0.1234567890123457, (0, 1)],
-                "arc 0 (0 to 1): cost 0.1234567890123457 is past the limit, 10^15 (numbers are "
-                "multiplied by 10^16, to be whole)",
-            ),
-            (
-                lambda: mcf.solve({"x": 10**19}, []),
-                10**19,
-                None,
-                "node 'x': supply 10^19 is past the limit, 10^18",
-            ),
-            (
-                lambda: mcf.solve({"x": 0}, [("x", "y", -1, 2e18, 1)]),
-                2 * 10**18,
-                ("x", "y"),
-                "arc 0 ('x' to 'y'): bound 2000000000000000000 is past the limit, 10^18",
-            ),
-            (
-                lambda: mcf.solve([0], [(0, 0, 2.5, 2, 1)]),
-                (2.5, 2),
-                (0, 0),
-                "arc 0 (0 to 0): order, the lower bound 2.5 is above the capacity 2 (numbers are "
-                "multiplied by 2, to be whole)",
-            ),
-            (
-                lambda: mcf.solve([0, 0], [(0, 7, 1, 1)]),
-                2,
-                (0, 7),
-                "arc 0 (0 to 7): node, there are 2, with numbers from 0",
-            ),
-            (
-                lambda: mcf.solve(10**7, []),
-                (10**6 + 1, 0),
-                None,
-                "size, 1000001 nodes and 0 arcs, where 1000000 and 10000000 may be",
-            ),
-            (
-                lambda: mcf.linear_sum_assignment([[1e-300, 2]]),
-                2,
-                (0, 1),
-                "row 0, column 1: cost 2 is past the limit, 10^15 (numbers are multiplied by "
-                "10^300, to be whole)",
-            ),
-            (
-                lambda: mcf.linear_sum_assignment([[1, 2], [-(10**16), 3]], True),
-                -(10**16),
-                (1, 0),
-                "row 1, column 0: cost -10000000000000000 is past the limit, 10^15",
-            ),
-            (
-                lambda: mcf.linear_sum_assignment([[1], [2], [10**16]]),
-                10**16,
-                (2, 0),
-                "row 2, column 0: cost 10^16 is past the limit, 10^15",
-            ),
-            (
-                lambda: mcf.solve([0, 0], [(0, 1, 5, 10**5000)]),
-                10**5000,
-                (0, 1),
-                "arc 0 (0 to 1): cost 10^5000 is past the limit, 10^15",
-            ),
-            (
-                lambda: mcf.solve([0, 0], [(0, 1, 5, Fraction(10**400, 3))]),
-                float("inf"),
-                (0, 1),
-                "arc 0 (0 to 1): cost inf is past the limit, 10^15 (numbers are multiplied by 3, "
-                "to be whole)",
-            ),
-        ):
+        for call, value, ends, words in REFUSALS:
             with self.assertRaises(mcf.Refused, msg=words) as c:
                 call()
             self.assertEqual(

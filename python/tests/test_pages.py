@@ -176,13 +176,8 @@ class Pages(WithFolder):
         self.flow(PLACES, ROUTES, "--no-picture")
         self.assertNotIn("<svg", self.page())
 
-    @unittest.skipUnless(CHROMIUM, "Chromium isn't there: what the page does")
-    def test_in_chromium(self):
-        routes = ROUTES.replace(",4\n", ",-4000.25\n").replace(",7\n", ",7.5\n")
-        self.flow(PLACES, routes + "Wien,Graz,0,9,9\nMill,Mill,0,9,9\nGraz,Mill,0,9,9\n")
-        tried = self.put(
-            "tried.html", self.page().replace("</script>\n</html>", TRIED + "</script>\n</html>")
-        )
+    def in_chromium(self, page):
+        """What a page says of itself in its title, once the browser has run it."""
         done = subprocess.run(
             [
                 CHROMIUM,
@@ -191,16 +186,24 @@ class Pages(WithFolder):
                 "--disable-gpu",
                 f"--user-data-dir={self.folder / 'profile'}",
                 "--dump-dom",
-                tried.as_uri(),
+                page.as_uri(),
             ],
             stdout=subprocess.PIPE,
             stderr=subprocess.DEVNULL,
             timeout=60,
             check=True,
         )
-        said = json.loads(
-            html.unescape(re.search("<title>said (.*)</title>", done.stdout.decode())[1])
+        said = re.search("<title>said (.*)</title>", done.stdout.decode())[1]
+        return json.loads(html.unescape(said))
+
+    @unittest.skipUnless(CHROMIUM, "Chromium isn't there: what the page does")
+    def test_in_chromium(self):
+        routes = ROUTES.replace(",4\n", ",-4000.25\n").replace(",7\n", ",7.5\n")
+        self.flow(PLACES, routes + "Wien,Graz,0,9,9\nMill,Mill,0,9,9\nGraz,Mill,0,9,9\n")
+        tried = self.put(
+            "tried.html", self.page().replace("</script>\n</html>", TRIED + "</script>\n</html>")
         )
+        said = self.in_chromium(tried)
         self.assertEqual(said["down"], ["15", "15", "3", "0", "0", "0"])
         self.assertEqual(said["up"], ["0", "0", "0", "3", "15", "15"])
         self.assertEqual(said["names"], ["Graz", "Graz", "Mill", "Mill", "Mill", "Wien"])
