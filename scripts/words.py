@@ -103,18 +103,13 @@ def facts():
 
 def in_header(fact):
     """The enumerations of mcf.h, whose members name their numbers."""
-    kinds = [
-        word.replace("accepted blocked", "accepted set").replace("rejected", "bad")
-        for word in fact["verdicts"]
-    ]
-    # A price that is wide has the name that the rule would have.
     pricings = [*fact["pricings"][:-1], "wide blocks"]
     for name, first, words in (
         ("status", 0, fact["statuses"]),
         ("code", 1, fact["codes"]),
         ("engine", 0, fact["engines"]),
         ("pricing", 0, pricings),
-        ("kind", 0, kinds),
+        ("kind", 0, fact["verdicts"]),
     ):
         members = ["MCF_" + re.sub("[ -]", "_", word).upper() for word in words]
         wanted = [f"{member} = {number}" for number, member in enumerate(members, first)]
@@ -125,11 +120,9 @@ def in_modules(fact):
     """The lists of Python's module, of the page's, and of the tool that explains a refusal."""
     codes = ["", *fact["codes"]]
     statuses = [word.upper() for word in fact["statuses"][1:]]
-    kinds = [re.sub("^accepted ", "", word) for word in fact["verdicts"]]
-    kinds = [word.replace("rejected ", "bad-") for word in kinds]
     yield Place(PYTHON, "\nFLOW", "= range(", r"\w+", statuses)
     yield Place(PYTHON, "CODES = (", ")\n", QUOTED, codes)
-    yield Place(PYTHON, "VERDICTS = (", ")\n", QUOTED, kinds)
+    yield Place(PYTHON, "VERDICTS = (", ")\n", QUOTED, fact["verdicts"])
     yield Place(PYTHON, "ENGINES = {", "}", QUOTED, fact["engines"])
     yield Place(PYTHON, "PRICINGS = {", "}", QUOTED, fact["pricings"])
     yield Place(PAGE, "const CODES = [", "];", QUOTED, codes)

@@ -32,31 +32,33 @@ static uint8_t *read_all(const char *path, size_t *length) {
 /* A text by each engine and rule, in each form, and judged. */
 static int check_text(const char *path, uint32_t want) {
     size_t length, used = 77, again;
-    uint8_t nothing = 0, *room;
+    uint8_t nothing = 0, *buffer;
     uint8_t *input = read_all(path, &length);
     struct mcf_choice choice = standard;
-    struct mcf_verdict told;
-    CHECK(1, mcf_solve(input, length, &choice, &nothing, 0, &used) == MCF_NO_ROOM && used > 0);
-    room = malloc(used + 4096);
-    CHECK(2, mcf_solve(input, length, &choice, room, used, &again) == want && again == used);
-    memset(&told, 0xff, sizeof told);
-    CHECK(3, mcf_check(input, length, room, used, &told) == 0 && told.kind == want);
-    room[0] ^= 1;
-    CHECK(4, mcf_check(input, length, room, used, &told) == 1 && told.kind == MCF_BAD_SHAPE &&
-                 told.low == 1);
+    struct mcf_verdict verdict;
+    CHECK(1, mcf_solve(input, length, &choice, &nothing, 0, &used) == MCF_BUFFER_TOO_SMALL &&
+                 used > 0);
+    buffer = malloc(used + 4096);
+    CHECK(2, mcf_solve(input, length, &choice, buffer, used, &again) == want && again == used);
+    memset(&verdict, 0xff, sizeof verdict);
+    CHECK(3, mcf_check(input, length, buffer, used, &verdict) == 0 && verdict.kind == want);
+    buffer[0] ^= 1;
+    CHECK(4, mcf_check(input, length, buffer, used, &verdict) == 1 &&
+                 verdict.kind == MCF_REJECTED_SHAPE && verdict.low == 1);
     choice.engine = 9;
-    CHECK(5, mcf_solve(input, length, &choice, room, used, &again) == MCF_NO_CHOICE && again == 0);
+    CHECK(5, mcf_solve(input, length, &choice, buffer, used, &again) == MCF_INVALID_CHOICE &&
+                 again == 0);
     choice.engine = 0;
     choice.block = 1000001;
-    CHECK(6, mcf_solve(input, length, &choice, room, used, &again) == MCF_NO_CHOICE);
+    CHECK(6, mcf_solve(input, length, &choice, buffer, used, &again) == MCF_INVALID_CHOICE);
     for (choice.engine = 0; choice.engine < 6; choice.engine++)
         for (choice.pricing = 0; choice.pricing < 4; choice.pricing++)
             for (choice.form = 0; choice.form < 3; choice.form++) {
                 choice.block = choice.pricing;
-                CHECK(7, mcf_solve(input, length, &choice, room, used + 4096, &again) == want);
-                CHECK(8, mcf_check(input, length, room, again, &told) == 0);
+                CHECK(7, mcf_solve(input, length, &choice, buffer, used + 4096, &again) == want);
+                CHECK(8, mcf_check(input, length, buffer, again, &verdict) == 0);
             }
-    free(room);
+    free(buffer);
     free(input);
     return 0;
 }
@@ -72,43 +74,46 @@ static int check_arcs(void) {
                                          nothing = {supplies, 0, arcs, 0};
     int64_t flow[3], prices[3];
     struct mcf_choice choice = standard;
-    struct mcf_verdict told;
+    struct mcf_verdict verdict;
     for (choice.engine = 0; choice.engine < 6; choice.engine++) {
-        CHECK(11, mcf_solve_arcs(&problem, &choice, flow, 3, prices, 3, &told) == MCF_FLOW);
-        CHECK(12, flow[0] == 3 && flow[1] == 3 && flow[2] == 1 && told.low == 5 && told.high == 0 &&
-                      told.negative == 0);
-        CHECK(13, mcf_check_arcs(&problem, flow, 3, prices, 3, &told) == 0 &&
-                      told.kind == MCF_ACCEPTED_FLOW);
+        CHECK(11, mcf_solve_arcs(&problem, &choice, flow, 3, prices, 3, &verdict) == MCF_FLOW);
+        CHECK(12, flow[0] == 3 && flow[1] == 3 && flow[2] == 1 && verdict.low == 5 &&
+                      verdict.high == 0 && verdict.negative == 0);
+        CHECK(13, mcf_check_arcs(&problem, flow, 3, prices, 3, &verdict) == 0 &&
+                      verdict.kind == MCF_ACCEPTED_FLOW);
     }
-    told.low = 6;
-    CHECK(14,
-          mcf_check_arcs(&problem, flow, 3, prices, 3, &told) == 1 && told.kind == MCF_BAD_COST);
-    told.high = UINT64_MAX;
-    CHECK(15,
-          mcf_check_arcs(&problem, flow, 3, prices, 3, &told) == 1 && told.kind == MCF_BAD_COST);
-    told.low = 5;
-    told.high = 0;
+    verdict.low = 6;
+    CHECK(14, mcf_check_arcs(&problem, flow, 3, prices, 3, &verdict) == 1 &&
+                  verdict.kind == MCF_REJECTED_COST);
+    verdict.high = UINT64_MAX;
+    CHECK(15, mcf_check_arcs(&problem, flow, 3, prices, 3, &verdict) == 1 &&
+                  verdict.kind == MCF_REJECTED_COST);
+    verdict.low = 5;
+    verdict.high = 0;
     flow[2] = 2;
-    CHECK(16, mcf_check_arcs(&problem, flow, 3, prices, 3, &told) == 1 &&
-                  told.kind == MCF_BAD_NODE && told.low == 1);
+    CHECK(16, mcf_check_arcs(&problem, flow, 3, prices, 3, &verdict) == 1 &&
+                  verdict.kind == MCF_REJECTED_NODE && verdict.low == 1);
     flow[2] = 10;
-    CHECK(17, mcf_check_arcs(&problem, flow, 3, prices, 3, &told) == 1 &&
-                  told.kind == MCF_BAD_ARC && told.low == 3);
+    CHECK(17, mcf_check_arcs(&problem, flow, 3, prices, 3, &verdict) == 1 &&
+                  verdict.kind == MCF_REJECTED_ARC && verdict.low == 3);
     choice = standard;
-    CHECK(18, mcf_solve_arcs(&problem, &choice, flow, 2, prices, 3, &told) == MCF_NO_ROOM);
-    CHECK(19, mcf_check_arcs(&problem, flow, 3, prices, 2, &told) == MCF_NO_ROOM);
+    CHECK(18,
+          mcf_solve_arcs(&problem, &choice, flow, 2, prices, 3, &verdict) == MCF_BUFFER_TOO_SMALL);
+    CHECK(19, mcf_check_arcs(&problem, flow, 3, prices, 2, &verdict) == MCF_BUFFER_TOO_SMALL);
     choice.pricing = 4;
-    CHECK(20, mcf_solve_arcs(&problem, &choice, flow, 3, prices, 3, &told) == MCF_NO_CHOICE);
+    CHECK(20,
+          mcf_solve_arcs(&problem, &choice, flow, 3, prices, 3, &verdict) == MCF_INVALID_CHOICE);
     choice = standard;
-    CHECK(21, mcf_solve_arcs(&richer, &choice, flow, 3, prices, 3, &told) == MCF_BLOCKED);
-    CHECK(22, told.code == MCF_SEND && told.low >= 1 &&
-                  prices[0] + prices[1] + prices[2] == (int64_t)told.low);
-    CHECK(23, mcf_solve_arcs(&faulty, &choice, flow, 3, prices, 3, &told) == MCF_REFUSED);
-    CHECK(24, told.code == MCF_ORDER && told.low == 2 && told.kind == MCF_ACCEPTED_REFUSAL);
-    CHECK(25, mcf_check_arcs(&faulty, flow, 3, prices, 3, &told) == MCF_REFUSED &&
-                  told.code == MCF_ORDER);
-    CHECK(26, mcf_solve_arcs(&nothing, &choice, flow, 0, prices, 0, &told) == MCF_FLOW &&
-                  told.low == 0);
+    CHECK(21, mcf_solve_arcs(&richer, &choice, flow, 3, prices, 3, &verdict) == MCF_BLOCKED);
+    CHECK(22, verdict.code == MCF_SEND && verdict.low >= 1 &&
+                  prices[0] + prices[1] + prices[2] == (int64_t)verdict.low);
+    CHECK(23, mcf_solve_arcs(&faulty, &choice, flow, 3, prices, 3, &verdict) == MCF_INVALID_INPUT);
+    CHECK(24,
+          verdict.code == MCF_ORDER && verdict.low == 2 && verdict.kind == MCF_ACCEPTED_REFUSAL);
+    CHECK(25, mcf_check_arcs(&faulty, flow, 3, prices, 3, &verdict) == MCF_INVALID_INPUT &&
+                  verdict.code == MCF_ORDER);
+    CHECK(26, mcf_solve_arcs(&nothing, &choice, flow, 0, prices, 0, &verdict) == MCF_FLOW &&
+                  verdict.low == 0);
     return 0;
 }
 
@@ -119,7 +124,7 @@ static int check_wide(void) {
     static struct mcf_arc arcs[COUNT];
     static int64_t supplies[COUNT + 1], flow[COUNT], prices[COUNT + 1];
     static const struct mcf_flow_problem problem = {supplies, COUNT + 1, arcs, COUNT};
-    struct mcf_verdict told;
+    struct mcf_verdict verdict;
     uint32_t place;
     for (place = 0; place < COUNT; place++) {
         arcs[place].src = place + 1;
@@ -129,8 +134,8 @@ static int check_wide(void) {
     }
     supplies[0] = 1;
     supplies[COUNT] = -1;
-    CHECK(41,
-          mcf_solve_arcs(&problem, &standard, flow, COUNT, prices, COUNT + 1, &told) == MCF_WIDE);
+    CHECK(41, mcf_solve_arcs(&problem, &standard, flow, COUNT, prices, COUNT + 1, &verdict) ==
+                  MCF_PRICE_OVERFLOW);
     return 0;
 }
 
@@ -141,18 +146,20 @@ static int check_pairs(void) {
     static const struct mcf_assignment problem = {2, 2, pairs, 5}, narrow = {2, 2, pairs, 2},
                                        faulty = {2, 2, wrong, 1};
     int64_t flow[5], prices[4];
-    struct mcf_verdict told;
-    CHECK(31, mcf_solve_pairs(&problem, &standard, flow, 5, prices, 4, &told) == MCF_FLOW);
+    struct mcf_verdict verdict;
+    CHECK(31, mcf_solve_pairs(&problem, &standard, flow, 5, prices, 4, &verdict) == MCF_FLOW);
     CHECK(32, flow[0] == 1 && flow[1] == 0 && flow[2] == 0 && flow[3] == 1 && flow[4] == 0 &&
-                  told.low == 1 && told.negative == 0);
-    CHECK(33, mcf_check_pairs(&problem, flow, 5, prices, 4, &told) == 0);
+                  verdict.low == 1 && verdict.negative == 0);
+    CHECK(33, mcf_check_pairs(&problem, flow, 5, prices, 4, &verdict) == 0);
     flow[3] = 0;
-    CHECK(34, mcf_check_pairs(&problem, flow, 5, prices, 4, &told) == 1);
-    CHECK(35, mcf_solve_pairs(&narrow, &standard, flow, 2, prices, 4, &told) == MCF_BLOCKED);
-    CHECK(36, mcf_solve_pairs(&faulty, &standard, flow, 1, prices, 4, &told) == MCF_REFUSED &&
-                  told.low == 1 && told.code == MCF_SIDE);
-    CHECK(37, mcf_solve_pairs(&problem, &standard, flow, 5, prices, 3, &told) == MCF_NO_ROOM);
-    CHECK(38, mcf_check_pairs(&faulty, flow, 1, prices, 4, &told) == MCF_REFUSED);
+    CHECK(34, mcf_check_pairs(&problem, flow, 5, prices, 4, &verdict) == 1);
+    CHECK(35, mcf_solve_pairs(&narrow, &standard, flow, 2, prices, 4, &verdict) == MCF_BLOCKED);
+    CHECK(36,
+          mcf_solve_pairs(&faulty, &standard, flow, 1, prices, 4, &verdict) == MCF_INVALID_INPUT &&
+              verdict.low == 1 && verdict.code == MCF_SIDE);
+    CHECK(37, mcf_solve_pairs(&problem, &standard, flow, 5, prices, 3, &verdict) ==
+                  MCF_BUFFER_TOO_SMALL);
+    CHECK(38, mcf_check_pairs(&faulty, flow, 1, prices, 4, &verdict) == MCF_INVALID_INPUT);
     return 0;
 }
 

@@ -57,34 +57,35 @@ static void protect(uint8_t *end, size_t size, int how) {
 
 static uint8_t text[SIZE], *input_end, *room_end, *answer_end;
 
-/* A text is answered by any engine, the room has just the length that is lacking, and the checker
+/* A text is answered by any engine, the buffer has just the length that is lacking, and the checker
  * accepts the answer; others it judges. */
 static void answer_text(const uint8_t *input, size_t length) {
     const struct mcf_choice any = {(uint32_t)chance(6), (uint32_t)chance(4), (uint32_t)chance(3),
                                    (uint32_t)chance(3)};
-    struct mcf_verdict told;
+    struct mcf_verdict verdict;
     size_t used = 0, again = 0;
-    uint8_t *room, *other;
+    uint8_t *buffer, *other;
     uint32_t status;
     int change;
-    CHECK(mcf_check(input, length, input, length, &told) <= 1);
-    CHECK(mcf_solve(input, length, &any, room_end, 0, &used) == MCF_NO_ROOM && used > 0);
+    CHECK(mcf_check(input, length, input, length, &verdict) <= 1);
+    CHECK(mcf_solve(input, length, &any, room_end, 0, &used) == MCF_BUFFER_TOO_SMALL && used > 0);
     if (used > ROOM) return;
-    room = room_end - used;
-    memset(room, 7, used);
-    CHECK(mcf_solve(input, length, &any, room + 1, used - 1, &again) == MCF_NO_ROOM &&
+    buffer = room_end - used;
+    memset(buffer, 7, used);
+    CHECK(mcf_solve(input, length, &any, buffer + 1, used - 1, &again) == MCF_BUFFER_TOO_SMALL &&
           again == used);
-    CHECK(room[0] == 7 && memcmp(room, room + 1, used - 1) == 0);
-    status = mcf_solve(input, length, &any, room, used, &again);
-    CHECK(status <= MCF_REFUSED && again == used);
-    CHECK(mcf_check(input, length, room, used, &told) == 0 && told.kind == status);
+    CHECK(buffer[0] == 7 && memcmp(buffer, buffer + 1, used - 1) == 0);
+    status = mcf_solve(input, length, &any, buffer, used, &again);
+    CHECK(status <= MCF_INVALID_INPUT && again == used);
+    CHECK(mcf_check(input, length, buffer, used, &verdict) == 0 && verdict.kind == status);
     outcomes[status]++;
     if (used > SIZE) return;
     for (change = 0; change < 3; change++) {
         size_t cut = change == 0 ? used - 1 - chance(used) : used;
-        other = at_edge(answer_end, room, cut);
+        other = at_edge(answer_end, buffer, cut);
         if (cut > 0 && change > 0) other[chance(cut)] = (uint8_t)chance(256);
-        CHECK(mcf_check(input, length, other, cut, &told) == (told.kind > MCF_ACCEPTED_REFUSAL));
+        CHECK(mcf_check(input, length, other, cut, &verdict) ==
+              (verdict.kind > MCF_ACCEPTED_REFUSAL));
     }
 }
 
@@ -342,7 +343,7 @@ static void protect_arrays(int is_judged, int how) {
 }
 
 static uint32_t call(const struct mcf_choice *choice, int64_t *flow, size_t flow_length,
-                     int64_t *prices, size_t prices_length, struct mcf_verdict *told) {
+                     int64_t *prices, size_t prices_length, struct mcf_verdict *verdict) {
     struct mcf_flow_problem flows;
     struct mcf_assignment pairs;
     flows.supplies = (const int64_t *)(const void *)(supply_end - now.nodes * sizeof(int64_t));
@@ -355,25 +356,25 @@ static uint32_t call(const struct mcf_choice *choice, int64_t *flow, size_t flow
     pairs.pair_count = now.arcs;
     if (choice == NULL)
         return now.is_pairs
-                   ? mcf_check_pairs(&pairs, flow, flow_length, prices, prices_length, told)
-                   : mcf_check_arcs(&flows, flow, flow_length, prices, prices_length, told);
+                   ? mcf_check_pairs(&pairs, flow, flow_length, prices, prices_length, verdict)
+                   : mcf_check_arcs(&flows, flow, flow_length, prices, prices_length, verdict);
     return now.is_pairs
-               ? mcf_solve_pairs(&pairs, choice, flow, flow_length, prices, prices_length, told)
-               : mcf_solve_arcs(&flows, choice, flow, flow_length, prices, prices_length, told);
+               ? mcf_solve_pairs(&pairs, choice, flow, flow_length, prices, prices_length, verdict)
+               : mcf_solve_arcs(&flows, choice, flow, flow_length, prices, prices_length, verdict);
 }
 
 static uint32_t solve(const struct mcf_choice *choice, int64_t *flow, size_t flow_length,
-                      int64_t *prices, size_t prices_length, struct mcf_verdict *told) {
+                      int64_t *prices, size_t prices_length, struct mcf_verdict *verdict) {
     uint32_t status;
     protect_arrays(choice == NULL, PROT_READ);
-    status = call(choice, flow, flow_length, prices, prices_length, told);
+    status = call(choice, flow, flow_length, prices, prices_length, verdict);
     protect_arrays(choice == NULL, PROT_READ | PROT_WRITE);
     return status;
 }
 
-static wide number_of(const struct mcf_verdict *told) {
-    wide size = (wide)told->low + ((wide)told->high << 64);
-    return told->negative ? -size : size;
+static wide number_of(const struct mcf_verdict *verdict) {
+    wide size = (wide)verdict->low + ((wide)verdict->high << 64);
+    return verdict->negative ? -size : size;
 }
 
 /* The checker says what the definitions say, of a flow that is right and of changed ones. */
@@ -382,17 +383,17 @@ static void try_judge(const int64_t *flow, const int64_t *prices, const struct m
             *others = at_edge(other_price_end, prices, now.nodes * sizeof *prices);
     int change;
     for (change = 0; change < 6; change++) {
-        struct mcf_verdict told = *found;
+        struct mcf_verdict verdict = *found;
         int right;
         if (change > 1 && now.arcs)
             other[chance(now.arcs)] = chance(3) ? (int64_t)chance(3) : bound();
         if (change > 2 && now.nodes)
             others[chance(now.nodes)] = chance(3) ? -(int64_t)chance(9) : cost();
-        if (change > 3) told.low ^= chance(2), told.negative = (uint32_t)chance(2);
-        right = is_right(other, others, number_of(&told));
-        CHECK(solve(NULL, other, now.arcs, others, now.nodes, &told) == (right ? 0u : 1u));
-        CHECK((told.kind == MCF_ACCEPTED_FLOW) == right && told.kind != MCF_ACCEPTED_SET &&
-              told.kind != MCF_ACCEPTED_REFUSAL);
+        if (change > 3) verdict.low ^= chance(2), verdict.negative = (uint32_t)chance(2);
+        right = is_right(other, others, number_of(&verdict));
+        CHECK(solve(NULL, other, now.arcs, others, now.nodes, &verdict) == (right ? 0u : 1u));
+        CHECK((verdict.kind == MCF_ACCEPTED_FLOW) == right &&
+              verdict.kind != MCF_ACCEPTED_BLOCKED && verdict.kind != MCF_ACCEPTED_REFUSAL);
     }
 }
 
@@ -401,7 +402,7 @@ static void try_arrays(void) {
             *prices = (int64_t *)(void *)(price_end - now.nodes * sizeof(int64_t));
     int64_t sevens[MANY];
     struct mcf_choice choice = {0, 0, 0, 0};
-    struct mcf_verdict told;
+    struct mcf_verdict verdict;
     uint64_t place = 0;
     uint32_t fault = first_fault(&place), status;
     memset(sevens, 7, sizeof sevens);
@@ -412,28 +413,29 @@ static void try_arrays(void) {
     choice.engine = (uint32_t)chance(6);
     choice.pricing = (uint32_t)chance(4);
     choice.block = (uint32_t)chance(3);
-    status = solve(&choice, flow, now.arcs, prices, now.nodes, &told);
+    status = solve(&choice, flow, now.arcs, prices, now.nodes, &verdict);
     outcomes[3 + (status < 3 ? status : 3)]++;
-    CHECK(status == MCF_FLOW || status == MCF_BLOCKED || status == MCF_REFUSED);
-    CHECK((status == MCF_REFUSED) == (fault != 0));
+    CHECK(status == MCF_FLOW || status == MCF_BLOCKED || status == MCF_INVALID_INPUT);
+    CHECK((status == MCF_INVALID_INPUT) == (fault != 0));
     if (status == MCF_FLOW) {
-        CHECK(told.kind == MCF_ACCEPTED_FLOW && is_right(flow, prices, number_of(&told)));
-        try_judge(flow, prices, &told);
+        CHECK(verdict.kind == MCF_ACCEPTED_FLOW && is_right(flow, prices, number_of(&verdict)));
+        try_judge(flow, prices, &verdict);
     } else if (status == MCF_BLOCKED) {
-        CHECK(told.kind == MCF_ACCEPTED_SET && blocks(prices, told.code, told.low) &&
-              told.high == 0);
+        CHECK(verdict.kind == MCF_ACCEPTED_BLOCKED && blocks(prices, verdict.code, verdict.low) &&
+              verdict.high == 0);
     } else {
-        CHECK(told.kind == MCF_ACCEPTED_REFUSAL && told.code == fault && told.low == place &&
-              told.high == 0 && told.negative == 0);
+        CHECK(verdict.kind == MCF_ACCEPTED_REFUSAL && verdict.code == fault &&
+              verdict.low == place && verdict.high == 0 && verdict.negative == 0);
         CHECK(memcmp(flow, sevens, now.arcs * sizeof *flow) == 0 &&
               memcmp(prices, sevens, now.nodes * sizeof *prices) == 0);
-        CHECK(solve(NULL, flow, now.arcs, prices, now.nodes, &told) == MCF_REFUSED &&
-              told.code == fault && told.low == place);
+        CHECK(solve(NULL, flow, now.arcs, prices, now.nodes, &verdict) == MCF_INVALID_INPUT &&
+              verdict.code == fault && verdict.low == place);
     }
-    CHECK(solve(&choice, flow - 1, now.arcs + 1, prices, now.nodes, &told) == MCF_NO_ROOM);
-    CHECK(solve(NULL, flow, now.arcs, prices - 1, now.nodes + 1, &told) == MCF_NO_ROOM);
+    CHECK(solve(&choice, flow - 1, now.arcs + 1, prices, now.nodes, &verdict) ==
+          MCF_BUFFER_TOO_SMALL);
+    CHECK(solve(NULL, flow, now.arcs, prices - 1, now.nodes + 1, &verdict) == MCF_BUFFER_TOO_SMALL);
     choice.engine = UINT32_MAX - (uint32_t)chance(9);
-    CHECK(solve(&choice, flow, now.arcs, prices, now.nodes, &told) == MCF_NO_CHOICE);
+    CHECK(solve(&choice, flow, now.arcs, prices, now.nodes, &verdict) == MCF_INVALID_CHOICE);
 }
 
 /* Numbers of nodes and arcs at the limits and past them, in memory that nobody wrote to. */
@@ -445,38 +447,44 @@ static void try_sizes(void) {
             *prices = (int64_t *)(void *)(edge((size_t)NODES * 8) - (size_t)NODES * 8);
     struct mcf_flow_problem problem;
     struct mcf_assignment pairs;
-    struct mcf_verdict told;
+    struct mcf_verdict verdict;
     problem.supplies = zeros;
     problem.nodes = NODES;
     problem.arcs = zeros;
     problem.arc_count = 0;
-    CHECK(mcf_solve_arcs(&problem, &standard, flow, 0, prices, NODES, &told) == MCF_REFUSED &&
-          told.code == MCF_SIZE && told.low == 0);
+    CHECK(mcf_solve_arcs(&problem, &standard, flow, 0, prices, NODES, &verdict) ==
+              MCF_INVALID_INPUT &&
+          verdict.code == MCF_SIZE && verdict.low == 0);
     problem.nodes = NODES - 1;
-    CHECK(mcf_solve_arcs(&problem, &standard, flow, 0, prices, NODES - 1, &told) == MCF_FLOW &&
-          told.low == 0);
-    CHECK(mcf_check_arcs(&problem, flow, 0, prices, NODES - 1, &told) == 0);
+    CHECK(mcf_solve_arcs(&problem, &standard, flow, 0, prices, NODES - 1, &verdict) == MCF_FLOW &&
+          verdict.low == 0);
+    CHECK(mcf_check_arcs(&problem, flow, 0, prices, NODES - 1, &verdict) == 0);
     problem.nodes = 1;
     problem.arc_count = ARCS;
-    CHECK(mcf_solve_arcs(&problem, &standard, flow, ARCS, prices, 1, &told) == MCF_REFUSED &&
-          told.code == MCF_SIZE);
-    CHECK(mcf_check_arcs(&problem, flow, ARCS, prices, 1, &told) == MCF_REFUSED &&
-          told.code == MCF_SIZE);
+    CHECK(mcf_solve_arcs(&problem, &standard, flow, ARCS, prices, 1, &verdict) ==
+              MCF_INVALID_INPUT &&
+          verdict.code == MCF_SIZE);
+    CHECK(mcf_check_arcs(&problem, flow, ARCS, prices, 1, &verdict) == MCF_INVALID_INPUT &&
+          verdict.code == MCF_SIZE);
     problem.arc_count = ARCS - 1;
-    CHECK(mcf_solve_arcs(&problem, &standard, flow, ARCS - 1, prices, 1, &told) == MCF_REFUSED &&
-          told.code == MCF_NODE && told.low == 1);
+    CHECK(mcf_solve_arcs(&problem, &standard, flow, ARCS - 1, prices, 1, &verdict) ==
+              MCF_INVALID_INPUT &&
+          verdict.code == MCF_NODE && verdict.low == 1);
     pairs.pairs = zeros;
     pairs.pair_count = 0;
     pairs.rows = pairs.columns = UINT32_MAX;
-    CHECK(mcf_solve_pairs(&pairs, &standard, flow, 0, prices, NODES, &told) == MCF_NO_ROOM);
-    CHECK(mcf_solve_pairs(&pairs, &standard, flow, 0, prices, 0, &told) == MCF_NO_ROOM);
-    CHECK(mcf_check_pairs(&pairs, flow, 0, prices, UINT32_MAX - UINT32_MAX, &told) == MCF_NO_ROOM);
+    CHECK(mcf_solve_pairs(&pairs, &standard, flow, 0, prices, NODES, &verdict) ==
+          MCF_BUFFER_TOO_SMALL);
+    CHECK(mcf_solve_pairs(&pairs, &standard, flow, 0, prices, 0, &verdict) == MCF_BUFFER_TOO_SMALL);
+    CHECK(mcf_check_pairs(&pairs, flow, 0, prices, UINT32_MAX - UINT32_MAX, &verdict) ==
+          MCF_BUFFER_TOO_SMALL);
     pairs.rows = 1;
     pairs.columns = NODES - 1;
-    CHECK(mcf_solve_pairs(&pairs, &standard, flow, 0, prices, NODES, &told) == MCF_REFUSED &&
-          told.code == MCF_SIZE);
-    CHECK(mcf_check_pairs(&pairs, flow, 0, prices, NODES, &told) == MCF_REFUSED &&
-          told.code == MCF_SIZE);
+    CHECK(mcf_solve_pairs(&pairs, &standard, flow, 0, prices, NODES, &verdict) ==
+              MCF_INVALID_INPUT &&
+          verdict.code == MCF_SIZE);
+    CHECK(mcf_check_pairs(&pairs, flow, 0, prices, NODES, &verdict) == MCF_INVALID_INPUT &&
+          verdict.code == MCF_SIZE);
 }
 
 /* What is only read may be lent twice: an arc is the supplies of four nodes, and a flow is its own
@@ -489,20 +497,21 @@ static void try_overlap(void) {
     const struct mcf_flow_problem once = {values, 4, &arc, 1}, whole = {none, 3, loops, 3};
     struct mcf_flow_problem twice = {NULL, 4, NULL, 1};
     struct mcf_choice choice = {0, 0, 0, 0};
-    struct mcf_verdict told, other;
+    struct mcf_verdict verdict, other;
     int64_t flow[3], prices[4], again[3], others[4];
     void *both = at_edge(supply_end, &arc, sizeof arc);
     CHECK(memcmp(both, values, sizeof values) == 0);
     twice.supplies = both, twice.arcs = both;
     for (choice.engine = 0; choice.engine < 6; choice.engine++) {
-        memset(&told, 0, sizeof told), memset(&other, 0, sizeof other);
-        CHECK(mcf_solve_arcs(&once, &choice, flow, 1, prices, 4, &told) == MCF_BLOCKED);
+        memset(&verdict, 0, sizeof verdict), memset(&other, 0, sizeof other);
+        CHECK(mcf_solve_arcs(&once, &choice, flow, 1, prices, 4, &verdict) == MCF_BLOCKED);
         CHECK(mcf_solve_arcs(&twice, &choice, again, 1, others, 4, &other) == MCF_BLOCKED);
         CHECK(memcmp(prices, others, sizeof prices) == 0 &&
-              memcmp(&told, &other, sizeof told) == 0);
+              memcmp(&verdict, &other, sizeof verdict) == 0);
     }
-    memset(&told, 0, sizeof told);
-    CHECK(mcf_check_arcs(&whole, none, 3, none, 3, &told) == 0 && told.kind == MCF_ACCEPTED_FLOW);
+    memset(&verdict, 0, sizeof verdict);
+    CHECK(mcf_check_arcs(&whole, none, 3, none, 3, &verdict) == 0 &&
+          verdict.kind == MCF_ACCEPTED_FLOW);
 }
 
 int main(int count, char **words) {

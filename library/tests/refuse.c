@@ -41,13 +41,13 @@ void __wrap_free(void *block) {
 
 enum { SIZE = 1 << 20, MANY = 4096 };
 
-static uint8_t input[SIZE], room[SIZE], untouched[SIZE];
+static uint8_t input[SIZE], buffer[SIZE], untouched[SIZE];
 static int64_t supplies[MANY], flow[MANY], prices[MANY], sevens[MANY];
 static struct mcf_arc arcs[MANY];
 static struct mcf_pair pairs[MANY];
 static size_t length, used, nodes, arc_count;
 static struct mcf_choice choice;
-static struct mcf_verdict told, before;
+static struct mcf_verdict verdict, before;
 
 /* The calls, by number; each writes only where its status says so. */
 static uint32_t call(int number) {
@@ -57,17 +57,17 @@ static uint32_t call(int number) {
     problem.arc_count = arc_count;
     switch (number) {
     case 0:
-        return mcf_solve(input, length, &choice, room, sizeof room, &used);
+        return mcf_solve(input, length, &choice, buffer, sizeof buffer, &used);
     case 1:
-        return mcf_check(input, length, untouched, used, &told);
+        return mcf_check(input, length, untouched, used, &verdict);
     case 2:
-        return mcf_solve_arcs(&problem, &choice, flow, arc_count, prices, nodes, &told);
+        return mcf_solve_arcs(&problem, &choice, flow, arc_count, prices, nodes, &verdict);
     case 3:
-        return mcf_check_arcs(&problem, flow, arc_count, prices, nodes, &told);
+        return mcf_check_arcs(&problem, flow, arc_count, prices, nodes, &verdict);
     case 4:
-        return mcf_solve_pairs(&assignment, &choice, flow, 400, prices, 40, &told);
+        return mcf_solve_pairs(&assignment, &choice, flow, 400, prices, 40, &verdict);
     default:
-        return mcf_check_pairs(&assignment, flow, 400, prices, 40, &told);
+        return mcf_check_pairs(&assignment, flow, 400, prices, 40, &verdict);
     }
 }
 
@@ -77,10 +77,10 @@ static int refuse_each(int number) {
     for (step = 0;; step++) {
         uint32_t status;
         int solves = number == 2 || number == 4;
-        memset(&told, 9, sizeof told);
-        if (number == 0) memset(room, 7, sizeof room);
+        memset(&verdict, 9, sizeof verdict);
+        if (number == 0) memset(buffer, 7, sizeof buffer);
         if (solves) memset(flow, 7, sizeof flow), memset(prices, 7, sizeof prices);
-        before = told;
+        before = verdict;
         left = step;
         live = 0;
         status = call(number);
@@ -90,14 +90,14 @@ static int refuse_each(int number) {
                           live);
         if (status != MCF_NO_MEMORY) return 0;
         refusals++;
-        if (memcmp(&told, &before, sizeof told) != 0)
+        if (memcmp(&verdict, &before, sizeof verdict) != 0)
             return printf("refuse: call %d: the verdict is written\n", number);
         if (number == 0 &&
-            (used != 0 || room[0] != 7 || memcmp(room, room + 1, sizeof room - 1) != 0))
-            return printf("refuse: the room is written\n");
+            (used != 0 || buffer[0] != 7 || memcmp(buffer, buffer + 1, sizeof buffer - 1) != 0))
+            return printf("refuse: the buffer is written\n");
         if (solves &&
             (memcmp(flow, sevens, sizeof flow) != 0 || memcmp(prices, sevens, sizeof prices) != 0))
-            return printf("refuse: call %d: a room is written\n", number);
+            return printf("refuse: call %d: a buffer is written\n", number);
     }
 }
 
@@ -132,7 +132,7 @@ int main(int count, char **words) {
         for (choice.pricing = 0; choice.pricing < 4; choice.pricing++) {
             for (number = 2; number < 6; number++)
                 if (refuse_each(number)) return 1;
-            /* More is sent than there is room for. */
+            /* More is sent than there is buffer for. */
             supplies[0] += 1000, supplies[29] -= 1000;
             if (refuse_each(2)) return 1;
             supplies[0] -= 1000, supplies[29] += 1000;
@@ -146,10 +146,10 @@ int main(int count, char **words) {
         for (choice.engine = 0; choice.engine < 6; choice.engine++) {
             choice.form = 1 + (choice.engine & 1);
             if (refuse_each(0)) return 1;
-            memcpy(untouched, room, sizeof room);
+            memcpy(untouched, buffer, sizeof buffer);
             if (refuse_each(1)) return 1;
         }
     }
-    printf("%ld refusals, each told, nothing written and nothing lost\n", refusals);
+    printf("%ld refusals, each verdict, nothing written and nothing lost\n", refusals);
     return 0;
 }

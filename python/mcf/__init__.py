@@ -5,7 +5,7 @@ of OR-tools' class, and `mcf.nx` takes the graphs of networkx: each flow is judg
 before it is shown, unless `check=False`. `solve_text` and `check_text` take texts in the DIMACS
 formats.
 """
-from typing import Optional, Tuple
+from typing import Optional, Tuple, Union
 
 from . import _library
 from ._errors import Infeasible, MCFError, NotAccepted, Refused, Unbounded
@@ -37,7 +37,7 @@ def solve_text(
     engine: str = "auto",
     pricing: str = "block",
     block: Optional[int] = None,
-    form: int = 1,
+    form: Union[int, str] = "full",
 ) -> Tuple[str, bytes]:
     """Answers an instance text in a DIMACS format.
 
@@ -46,8 +46,9 @@ def solve_text(
     text : bytes
     engine, pricing, block
         As of `solve`; 'auto' is the library's own choice.
-    form : {1, 2}
-        2 for an answer that names the arcs alone that don't carry their lower bound.
+    form : {'full', 'sparse'}
+        'sparse', or 2, for an answer that names only the arcs that don't carry their lower bound;
+        'full', or 1, for one that names each arc.
 
     Returns
     -------
@@ -67,7 +68,7 @@ def solve_text(
     ('refusal', b'r 2 missing\\n')
     """
     status, answer = _library.solve_text(text, _library.choice_of(engine, pricing, block, form))
-    return _library.VERDICTS[status], answer
+    return _library.KINDS[status], answer
 
 
 def check_text(text: bytes, answer: bytes) -> Verdict:
@@ -85,6 +86,6 @@ def check_text(text: bytes, answer: bytes) -> Verdict:
     Examples
     --------
     >>> check_text(b"p min 2 1", b"r 2 missing")
-    Verdict(accepted=True, kind='refusal', number=2, code='missing')
+    Verdict(accepted=True, kind='accepted refusal', number=2, code='missing')
     """
     return _library.check_text(text, answer)

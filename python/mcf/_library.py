@@ -7,9 +7,9 @@ import os
 import sys
 import threading
 from array import array
-from typing import Any, List, NamedTuple, Optional, Tuple, Union
+from typing import Any, Dict, List, NamedTuple, Optional, Tuple, Union
 
-FLOW, BLOCKED, REFUSED, NO_MEMORY, NO_ROOM, NO_CHOICE, WIDE = range(7)
+FLOW, BLOCKED, INVALID_INPUT, NO_MEMORY, BUFFER_TOO_SMALL, INVALID_CHOICE, PRICE_OVERFLOW = range(7)
 ENGINES = {"auto": 0, "cancel": 1, "simplex": 2, "scaling": 3, "sap": 4, "augment": 5}
 PRICINGS = {"block": 0, "first": 1, "best": 2, "wide": 3}
 CODES = (
@@ -35,19 +35,23 @@ CODES = (
     "missing",
 )
 VERDICTS = (
-    "flow",
-    "blocked",
-    "refusal",
-    "bad-shape",
-    "bad-kind",
-    "bad-refusal",
-    "bad-arc",
-    "bad-node",
-    "bad-price",
-    "bad-cost",
-    "bad-set",
+    "accepted flow",
+    "accepted blocked",
+    "accepted refusal",
+    "rejected shape",
+    "rejected kind",
+    "rejected refusal",
+    "rejected arc",
+    "rejected node",
+    "rejected price",
+    "rejected cost",
+    "rejected set",
 )
 SIDES = ("send", "take")
+# An answer text that names each arc, or those alone that don't carry their lower bound.
+FORMS: Dict[Union[int, str], int] = {"full": 1, "sparse": 2, 1: 1, 2: 2}
+# What an answer text has, by the status of the call that gives it.
+KINDS = ("flow", "blocked", "refusal")
 
 
 # What may last a tenth of a second can be interrupted: a text of more bytes, or arrays of more
@@ -105,7 +109,8 @@ class Verdict(NamedTuple):
     ----------
     accepted : bool
     kind : str
-        'flow', 'blocked' or 'refusal', or what is wrong with the answer, as 'bad-cost'.
+        As `mcfcheck` prints it: 'accepted flow', 'accepted blocked' or 'accepted refusal', or what
+        is wrong with the answer, as 'rejected cost'.
     number
         Of an accepted flow its cost, of a set how many nodes it has, and else the place of which
         the verdict speaks: `mcf.h` says which, for each kind.
@@ -172,22 +177,22 @@ def _load() -> ctypes.CDLL:
 _lib = _load()
 
 
-def choice_of(engine: str, pricing: str, block: Optional[int], form: int = 1) -> Choice:
+def choice_of(
+    engine: str, pricing: str, block: Optional[int], form: Union[int, str] = "full"
+) -> Choice:
     if block is not None and not 1 <= block <= 1000000:
         raise ValueError("a block has 1 to 1000000 arcs")
-    if form not in (1, 2):
-        raise ValueError("a form is 1 or 2")
     try:
-        return Choice(ENGINES[engine], PRICINGS[pricing], block or 0, form)
+        return Choice(ENGINES[engine], PRICINGS[pricing], block or 0, FORMS[form])
     except KeyError as error:
-        raise ValueError("no such engine or pricing rule: %s" % error) from None
+        raise ValueError("no such engine, pricing rule or form: %s" % error) from None
 
 
 def failed(status: int) -> Exception:
     """What a status says that is no answer."""
     if status == NO_MEMORY:
         return MemoryError("mcf")
-    if status == WIDE:
+    if status == PRICE_OVERFLOW:
         return OverflowError("a price of the flow doesn't fit 64 bits")
     return AssertionError("mcf: status %d" % status)
 
@@ -249,10 +254,10 @@ def solve_text(text: bytes, choice: Choice) -> Tuple[int, bytes]:
             if len(text) > LASTING_BYTES
             else _lib.mcf_solve(*words)
         )
-        if status != NO_ROOM:
+        if status != BUFFER_TOO_SMALL:
             break
         room = used.value
-    if status > REFUSED:
+    if status > INVALID_INPUT:
         raise failed(status)
     return status, ctypes.string_at(buffer, used.value)
 
@@ -279,11 +284,11 @@ class Arrays:
     _check: Any
 
     def solve(self, choice: Choice) -> int:
-        """The status: FLOW, BLOCKED or REFUSED, with what is told of it."""
+        """The status: FLOW, BLOCKED or INVALID_INPUT, with what is told of it."""
         size = len(self.flow) + 8 * len(self.prices)
         words = (self.problem, choice, *self._rooms, self.told)
         status = self._call(self._solve, words, size)
-        if status > REFUSED:
+        if status > INVALID_INPUT:
             raise failed(status)
         return int(status)
 

@@ -26,9 +26,9 @@ from ._errors import Infeasible, MCFError, NotAccepted, Refused, Unbounded
 from ._library import (
     BLOCKED,
     CODES,
-    REFUSED,
+    INVALID_INPUT,
     SIDES,
-    WIDE,
+    PRICE_OVERFLOW,
     ArcArrays,
     Choice,
     Verdict,
@@ -218,7 +218,7 @@ def _reprice(problem: ArcArrays, given: Sequence[Arc], limits: Limits) -> None:
             for node, price in enumerate(prices):
                 problem.prices[node] = price
         except OverflowError:
-            raise failed(WIDE) from None
+            raise failed(PRICE_OVERFLOW) from None
         return
     free = [(a[0], a[1], a[4], k) for k, a in enumerate(given) if a[3] is None]
     _, turned = lowered([0] * len(prices), free)
@@ -250,7 +250,7 @@ def solve_whole(
     limits = limited_arcs(supplies, arcs, beyond)
     problem = ArcArrays(_supplied(supplies), len(supplies), _packed(limits.arcs), len(arcs))
     status = problem.solve(choice)
-    if status == REFUSED:
+    if status == INVALID_INPUT:
         raise _refused(problem, supplies, limits)
     if status == BLOCKED:
         raise _blocked(problem, supplies, arcs, limits, check)

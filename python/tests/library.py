@@ -259,7 +259,7 @@ class Solving(unittest.TestCase):
     def test_texts(self):
         self.assertEqual(mcf.solve_text(b"p min 2 1\n"), ("refusal", b"r 2 missing\n"))
         v = mcf.check_text(b"p min 2 1\na 1 2 0 1 1\n", b"s 1\nf 1 2 0\ny 1 0\ny 2 0\n")
-        self.assertEqual((v.accepted, v.kind), (False, "bad-cost"))
+        self.assertEqual((v.accepted, v.kind), (False, "rejected cost"))
         kind, answer = mcf.solve_text(b"p min 300000 0\n")
         self.assertEqual((kind, answer.count(b"\n")), ("flow", 300001))
         self.assertEqual(mcf.solve_text(b"")[1], b"r 1 no-p\n")
@@ -276,10 +276,10 @@ class Solving(unittest.TestCase):
         )
         self.assertTrue(problem.check())
         problem.told.low += 1
-        self.assertEqual(problem.check().kind, "bad-cost")
+        self.assertEqual(problem.check().kind, "rejected cost")
         problem.told.low -= 1
         problem.flow[0], problem.flow[1] = 2, 0
-        self.assertEqual(problem.check().kind, "bad-price")
+        self.assertEqual(problem.check().kind, "rejected price")
 
     def test_threads(self):
         wrong = []

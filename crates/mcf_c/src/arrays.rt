@@ -11,7 +11,7 @@ ghost use Rattle.mcf_flows.specs.WellFormed.{IsWellFormed};
 use crate::choosing::{McfChoice, choice_of};
 use crate::handing::answer_instance;
 use crate::problems::{McfAssignment, McfFlowProblem, node_count};
-use crate::statuses::{NO_CHOICE, NO_MEMORY, NO_ROOM, REFUSED};
+use crate::statuses::{BUFFER_TOO_SMALL, INVALID_CHOICE, INVALID_INPUT, NO_MEMORY};
 use crate::verdicts::{McfVerdict, fault_numbers};
 use mcf_instance::{ArrayFault, Instance, assignment_problem, flow_problem};
 use mcf_solver::Choice;
@@ -43,7 +43,7 @@ fn answer_made(
         Ok(instance) => answer_instance(alloc, &instance, choice, flow, prices, told),
         Err(fault) => {
             *told = fault_numbers(&fault);
-            REFUSED
+            INVALID_INPUT
         }
     }
 }
@@ -80,10 +80,10 @@ pub extern "C" fn mcf_solve_arcs(
     ensures told_stays { 3 ≤ result → told.new ≡ told.old }
 {
     let Some(choice) = choice_of(choice) else {
-        return NO_CHOICE;
+        return INVALID_CHOICE;
     };
     if !are_rooms(flow, problem.arcs.len(), prices, problem.supplies.len()) {
-        return NO_ROOM;
+        return BUFFER_TOO_SMALL;
     }
     let Ok(made) = flow_problem(alloc, problem.supplies, problem.arcs) else {
         return NO_MEMORY;
@@ -128,10 +128,10 @@ pub extern "C" fn mcf_solve_pairs(
     ensures told_stays { 3 ≤ result → told.new ≡ told.old }
 {
     let Some(choice) = choice_of(choice) else {
-        return NO_CHOICE;
+        return INVALID_CHOICE;
     };
     if !are_rooms(flow, problem.pairs.len(), prices, node_count(problem)) {
-        return NO_ROOM;
+        return BUFFER_TOO_SMALL;
     }
     let Ok(made) = assignment_problem(alloc, problem.rows, problem.columns, problem.pairs) else {
         return NO_MEMORY;

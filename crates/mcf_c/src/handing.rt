@@ -9,7 +9,7 @@ ghost use Rattle.mcf_flows.specs.Blocking.{in_list, in_table};
 ghost use Rattle.mcf_flows.specs.Network.{IsNode, Network, node_count};
 ghost use Rattle.mcf_solver.specs.Answering.{IsNoFlowProof, IsOwed};
 
-use crate::statuses::{BLOCKED, FLOW, NO_MEMORY, WIDE};
+use crate::statuses::{BLOCKED, FLOW, NO_MEMORY, PRICE_OVERFLOW};
 use crate::verdicts::{McfVerdict, numbers, set_numbers};
 use mcf_answer::{Answer, BlockedAnswer, FlowAnswer, Sent};
 use mcf_checker::Verdict;
@@ -94,7 +94,7 @@ fn hand_flow(
 {
     put_flow(answer.sent.as_slice(), flow);
     if !put_prices(answer.prices.as_slice(), prices) {
-        return WIDE;
+        return PRICE_OVERFLOW;
     }
     *told = numbers(&Verdict::Flow(answer.cost));
     FLOW

@@ -16,7 +16,7 @@ ghost use Rattle.mcf_flows.specs.WellFormed.{HasEnds, IsWellFormed};
 
 use crate::arrays::are_rooms;
 use crate::problems::{McfAssignment, McfFlowProblem, node_count};
-use crate::statuses::{ACCEPTED, NO_MEMORY, NO_ROOM, REFUSED, REJECTED};
+use crate::statuses::{ACCEPTED, BUFFER_TOO_SMALL, INVALID_INPUT, NO_MEMORY, REJECTED};
 use crate::verdicts::{McfVerdict, fault_numbers, numbers};
 use mcf_answer::{FlowAnswer, PriceList, Sent, SentList};
 use mcf_checker::{Verdict, check_flow};
@@ -201,7 +201,7 @@ pub extern "C" fn mcf_check_arcs(
     ensures untouched { (3 ≤ result) × (result ≤ 4) → told.new ≡ told.old }
 {
     if !are_rooms(flow, problem.arcs.len(), prices, problem.supplies.len()) {
-        return NO_ROOM;
+        return BUFFER_TOO_SMALL;
     }
     let Ok(made) = flow_problem(alloc, problem.supplies, problem.arcs) else {
         return NO_MEMORY;
@@ -210,7 +210,7 @@ pub extern "C" fn mcf_check_arcs(
         Ok(instance) => judge_instance(alloc, &instance, flow, prices, told),
         Err(fault) => {
             *told = fault_numbers(&fault);
-            REFUSED
+            INVALID_INPUT
         }
     }
 }
@@ -239,7 +239,7 @@ pub extern "C" fn mcf_check_pairs(
     ensures untouched { (3 ≤ result) × (result ≤ 4) → told.new ≡ told.old }
 {
     if !are_rooms(flow, problem.pairs.len(), prices, node_count(problem)) {
-        return NO_ROOM;
+        return BUFFER_TOO_SMALL;
     }
     let Ok(made) = assignment_problem(alloc, problem.rows, problem.columns, problem.pairs) else {
         return NO_MEMORY;
@@ -248,7 +248,7 @@ pub extern "C" fn mcf_check_pairs(
         Ok(instance) => judge_instance(alloc, &instance, flow, prices, told),
         Err(fault) => {
             *told = fault_numbers(&fault);
-            REFUSED
+            INVALID_INPUT
         }
     }
 }

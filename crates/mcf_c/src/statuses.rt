@@ -13,16 +13,16 @@ pub(crate) const ACCEPTED: u32 = 0;
 pub(crate) const REJECTED: u32 = 1;
 
 /// The text or the arrays have a fault.
-pub(crate) const REFUSED: u32 = 2;
+pub(crate) const INVALID_INPUT: u32 = 2;
 
-/// Memory is wanting.
+/// There is not enough memory.
 pub(crate) const NO_MEMORY: u32 = 3;
 
-/// A room is too short, or an array hasn't the length of the others.
-pub(crate) const NO_ROOM: u32 = 4;
+/// A buffer is too short, or an array hasn't the length of the others.
+pub(crate) const BUFFER_TOO_SMALL: u32 = 4;
 
 /// The numbers mean no choice.
-pub(crate) const NO_CHOICE: u32 = 5;
+pub(crate) const INVALID_CHOICE: u32 = 5;
 
 /// A price doesn't fit 64 bits.
-pub(crate) const WIDE: u32 = 6;
+pub(crate) const PRICE_OVERFLOW: u32 = 6;

@@ -11,7 +11,9 @@ ghost use Rattle.mcf_instance.specs.Memory.{NamesNodes};
 ghost use Rattle.mcf_solver.specs.Answering.{HasFault};
 
 use crate::choosing::{McfChoice, choice_of};
-use crate::statuses::{ACCEPTED, BLOCKED, FLOW, NO_CHOICE, NO_MEMORY, NO_ROOM, REFUSED, REJECTED};
+use crate::statuses::{
+    ACCEPTED, BLOCKED, BUFFER_TOO_SMALL, FLOW, INVALID_CHOICE, INVALID_INPUT, NO_MEMORY, REJECTED,
+};
 use crate::verdicts::{McfVerdict, numbers};
 use mcf_checker::check;
 use mcf_solver::{Choice, Kind, solve_text};
@@ -28,7 +30,7 @@ fn kind_status(kind: Kind) -> u32
     match kind {
         Kind::Flow => FLOW,
         Kind::Blocked => BLOCKED,
-        Kind::Refused => REFUSED,
+        Kind::Refused => INVALID_INPUT,
     }
 }
 
@@ -68,14 +70,14 @@ pub extern "C" fn mcf_solve(
 {
     *used = 0;
     let Some(choice) = choice_of(choice) else {
-        return NO_CHOICE;
+        return INVALID_CHOICE;
     };
     let Ok((status, answer)) = answer_to(alloc, input, choice) else {
         return NO_MEMORY;
     };
     *used = answer.len();
     if room.len() < answer.len() {
-        return NO_ROOM;
+        return BUFFER_TOO_SMALL;
     }
     room[..answer.len()].copy_from_slice(&answer);
     status

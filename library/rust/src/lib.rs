@@ -18,9 +18,9 @@ pub enum Kind {
 pub enum Error {
     NoMemory,
     /// The numbers of the choice mean none.
-    NoChoice,
+    InvalidChoice,
     /// A price of the flow doesn't fit 64 bits.
-    Wide,
+    PriceOverflow,
 }
 
 /// The side by which a node set blocks.
@@ -56,7 +56,7 @@ pub fn solve(input: &[u8], choice: Choice) -> Result<(Kind, Vec<u8>), Error> {
     let mut room = vec![0; 4096 + 6 * input.len()];
     loop {
         let (status, used) = raw::solve(input, &choice, &mut room);
-        if status == raw::NO_ROOM {
+        if status == raw::BUFFER_TOO_SMALL {
             room.resize(used, 0);
             continue;
         }
@@ -92,7 +92,7 @@ pub fn solve_pairs(rows: u32, columns: u32, pairs: &[Pair], choice: Choice) -> R
 pub fn check_arcs(supplies: &[i64], arcs: &[Arc], flow: &[i64], prices: &[i64], cost: i128) -> Result<Option<Verdict>, Error> {
     let mut told = raw::Told::of(cost);
     match raw::check_arcs(supplies, arcs, flow, prices, &mut told) {
-        raw::REFUSED | raw::NO_ROOM => Ok(None),
+        raw::INVALID_INPUT | raw::BUFFER_TOO_SMALL => Ok(None),
         status => verdict_of(status, told).map(Some),
     }
 }
@@ -101,10 +101,10 @@ fn kind_of(status: u32) -> Result<Kind, Error> {
     match status {
         0 => Ok(Kind::Flow),
         1 => Ok(Kind::Blocked),
-        raw::REFUSED => Ok(Kind::Refused),
+        raw::INVALID_INPUT => Ok(Kind::Refused),
         raw::NO_MEMORY => Err(Error::NoMemory),
-        raw::WIDE => Err(Error::Wide),
-        _ => Err(Error::NoChoice),
+        raw::PRICE_OVERFLOW => Err(Error::PriceOverflow),
+        _ => Err(Error::InvalidChoice),
     }
 }
 

@@ -1,9 +1,9 @@
 //! The exports, as `mcf.h` declares them, each behind a function that lends it what its types ask.
 
-pub const REFUSED: u32 = 2;
+pub const INVALID_INPUT: u32 = 2;
 pub const NO_MEMORY: u32 = 3;
-pub const NO_ROOM: u32 = 4;
-pub const WIDE: u32 = 6;
+pub const BUFFER_TOO_SMALL: u32 = 4;
+pub const PRICE_OVERFLOW: u32 = 6;
 
 /// How an instance is solved and answered, in the numbers of `mcf.h`; all 0 is what suits.
 #[repr(C)]

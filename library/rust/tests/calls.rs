@@ -22,7 +22,7 @@ fn texts() {
     assert!(!check(TEXT, b"s 4\n").unwrap().accepted);
     assert_eq!(solve(b"p min 2 1\n", Choice::default()).unwrap(), (Kind::Refused, b"r 2 missing\n".to_vec()));
     assert_eq!(solve(b"p min 2 0\nn 1 1\nn 2 -1\n", Choice::default()).unwrap().0, Kind::Blocked);
-    assert_eq!(solve(TEXT, engine(6)), Err(Error::NoChoice));
+    assert_eq!(solve(TEXT, engine(6)), Err(Error::InvalidChoice));
     assert_eq!(solve(b"", Choice::default()).unwrap().0, Kind::Refused);
 }
 
