@@ -32,7 +32,9 @@ def main():
     parser.add_argument("crates", nargs="*", metavar="CRATE")
     parser.add_argument("--jobs", type=int, metavar="N", help="checks at once, at most")
     words = parser.parse_args()
-    crates = words.crates or with_edits()
+    if words.jobs is not None and words.jobs < 1:
+        parser.error("--jobs is at least 1")
+    crates = sorted(set(words.crates)) or with_edits()
     for name in crates:
         if name not in with_edits():
             sys.exit(f"edits.py: {name} has no edits")
