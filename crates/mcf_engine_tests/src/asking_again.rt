@@ -83,25 +83,50 @@ fn six_rows_by_a_judged_search(rt: HostRuntime) -> Result<(), Fail> {
     Ok(())
 }
 
-// What each call that makes room for a net alone makes: how many arcs its state has, none of its pivots and searches,
-// and whether its refinement and its tree are there.
+// Whether each call that makes room for a net alone makes it as it should: by a function for each call.
 fn begins(alloc: Global, net: &Net) -> Result<bool, NoMemory> {
-    let state = State::zero(alloc, net)?;
-    let set = NodeSet::new(alloc, net)?;
-    let basis = Basis::start(alloc, net)?;
+    Ok(
+        begins_state(alloc, net)?
+            && begins_set(alloc, net)?
+            && begins_basis(alloc, net)?
+            && begins_prices(alloc, net)?
+            && begins_refinement(alloc, net)?
+            && begins_matching(alloc, net)?,
+    )
+}
+
+fn begins_state(alloc: Global, net: &Net) -> Result<bool, NoMemory> {
+    Ok(State::zero(alloc, net)?.net().arc_count() == net.arc_count())
+}
+
+fn begins_set(alloc: Global, net: &Net) -> Result<bool, NoMemory> {
+    Ok(NodeSet::new(alloc, net)?.len() == 0)
+}
+
+fn begins_basis(alloc: Global, net: &Net) -> Result<bool, NoMemory> {
+    Ok(Basis::start(alloc, net)?.net().node_count() == net.node_count())
+}
+
+fn begins_prices(alloc: Global, net: &Net) -> Result<bool, NoMemory> {
     let _pricer = Pricer::start(alloc, net)?;
     let _heap = Heap::new(alloc, net)?;
-    let is_refined = match feasible(alloc, net)? {
-        Feas::Flow(state) => Refine::start(alloc, state)?.state().net().arc_count()
-            == net.arc_count(),
-        Feas::Blocked(..) => true,
-    };
-    let is_matched = match net.problem() {
-        Problem::Min => true,
-        Problem::Asn => Matching::start(alloc, net)?.settled().is_empty(),
-    };
-    let are_nodes = basis.net().node_count() == net.node_count() && set.len() == 0;
-    Ok(are_nodes && is_refined && is_matched && state.net().arc_count() == net.arc_count())
+    Ok(true)
+}
+
+fn begins_refinement(alloc: Global, net: &Net) -> Result<bool, NoMemory> {
+    match feasible(alloc, net)? {
+        Feas::Flow(state) => {
+            Ok(Refine::start(alloc, state)?.state().net().arc_count() == net.arc_count())
+        }
+        Feas::Blocked(..) => Ok(true),
+    }
+}
+
+fn begins_matching(alloc: Global, net: &Net) -> Result<bool, NoMemory> {
+    match net.problem() {
+        Problem::Min => Ok(true),
+        Problem::Asn => Ok(Matching::start(alloc, net)?.settled().is_empty()),
+    }
 }
 
 // Whether they make it for each of these.
