@@ -99,7 +99,8 @@ impl Search {
 
     /// Pays for a scan of the arcs of a node.
     pub(crate) fn pay_degree(&mut self, node: u32) {
-        self.pay(self.star.first(node), self.star.end(node));
+        let (first, end) = (self.star.first(node), self.star.end(node));
+        self.pay(first, end);
     }
 
     /// Pays for a scan of the arcs from a place up to another.
