@@ -1,7 +1,7 @@
 #!/usr/bin/env python3
-"""Runs `make`, `make test` and `make edits`, and puts what they took into docs/GATE.md.
+"""Runs `make test` and `make edits`, and puts what they took into docs/GATE.md.
 
-    scripts/gate_table.py [STEP ..]     the steps named alone, as `make edits`; no table is written
+    scripts/gate_table.py [STEP ..]     the steps named alone, as `make`; no table is written
 
 A crate's minutes of a processor for its proofs, and those of its tests, are those of the processes
 that work for it in `make test`, read from /proc while they run; those of its edits are what
@@ -22,7 +22,7 @@ TOP = pathlib.Path(__file__).resolve().parent.parent
 PAGE = TOP / "docs" / "GATE.md"
 BEGIN, END = "<!-- table -->\n", "<!-- end of table -->\n"
 TICKS = os.sysconf("SC_CLK_TCK")
-STEPS = ("make", "make test", "make edits")
+STEPS = ("make test", "make edits")
 # seconds between two looks at the processes
 PAUSE = 0.25
 
@@ -133,7 +133,7 @@ def rows(watch, test, edits):
 def table(watch, steps):
     """The table, and the lines above it."""
     version = subprocess.run(["rt", "version"], capture_output=True, text=True, check=True).stdout
-    _, test, edits = steps
+    test, edits = steps
     return "\n".join(
         [
             f"Measured on {datetime.date.today()} by `scripts/gate_table.py`,"
