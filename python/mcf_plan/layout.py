@@ -15,38 +15,39 @@ Layout = collections.namedtuple("Layout", "boxes curves labels")
 # the size of each label or None.
 Task = collections.namedtuple("Task", "sizes spots links labels starts")
 
-# What Graphviz may take, in seconds; and a picture in ranks that is wider than this is laid out by
-# springs, as are nets of many routes both ways.
-PATIENCE, WIDEST = 10, 2400
-# How far the places of a map stand apart: boxes, and dots.
-SPREAD, DOTS_SPREAD = 235, 26
+# Graphviz isn't started where places times places and links are more than this, which takes it
+# about two seconds; what it may take then, in seconds; and a picture in ranks that is wider than
+# the last is laid out by springs, as are nets of many routes both ways.
+WORK, PATIENCE, WIDEST = 16_000, 4, 2400
+# How far the places of a map stand apart; what boxes keep between them, and in how many rounds that
+# is sought; how often the order within columns is made anew.
+SPREAD, APART, ROUNDS, SWEEPS = 235, 14, 60, 6
 
 
 def laid_out(task):
-    """The layout of a task; None where Graphviz takes too long."""
-    until = time.monotonic() + PATIENCE
-    program = shutil.which("dot")
-    try:
-        if program and task.spots:
-            return graphviz(program, ["-Kneato", "-n"], task, map_boxes(task), until)
-        if program:
-            found = graphviz(program, ["-Kdot"], task, None, until)
-            is_wide = (
-                max((box.x for box in found.boxes), default=0)
-                - min((box.x for box in found.boxes), default=0)
-                > WIDEST
-            )
-            return graphviz(program, ["-Kneato"], task, None, until) if is_wide else found
-    except subprocess.TimeoutExpired:
-        return None
-    except (OSError, ValueError, LookupError, subprocess.CalledProcessError):
-        # A Graphviz that fails is as good as none.
-        pass
-    boxes = map_boxes(task) if task.spots else column_boxes(task)
-    return straight(boxes, task)
+    """The layout of a task: by Graphviz where that is there and doesn't take long."""
+    program, count = shutil.which("dot"), len(task.sizes)
+    if program and count * (count + len(task.links)) <= WORK:
+        try:
+            return by_graphviz(program, task)
+        except (OSError, ValueError, LookupError, subprocess.SubprocessError):
+            # A Graphviz that fails is as good as none.
+            pass
+    return straight(parted(map_boxes(task)) if task.spots else column_boxes(task), task)
 
 
 # ---- Graphviz
+
+
+def by_graphviz(program, task):
+    """The layout by Graphviz: on a map, in ranks, or by springs."""
+    until = time.monotonic() + PATIENCE
+    if task.spots:
+        return graphviz(program, ["-Kneato", "-n"], task, map_boxes(task), until)
+    found = graphviz(program, ["-Kdot"], task, None, until)
+    left, _, right, _ = edges_of([(box.x, box.y) for box in found.boxes])
+    is_wide = right - left > WIDEST
+    return graphviz(program, ["-Kneato"], task, None, until) if is_wide else found
 
 
 def graphviz(program, words, task, boxes, until):
@@ -152,15 +153,75 @@ def levels_of(count, links, starts):
     return [levels[node] for node in range(count)]
 
 
-def column_boxes(task):
-    """Boxes in columns by how far they are from the places that send, in the order of their
-    tables."""
+def parted(boxes):
+    """The same boxes, moved apart where they overlap."""
+    boxes = list(boxes)
+    for _ in range(ROUNDS):
+        moved = False
+        order = sorted(range(len(boxes)), key=lambda node: boxes[node].x - boxes[node].width / 2)
+        for place, one in enumerate(order):
+            for other in order[place + 1 :]:
+                if boxes[other].x - boxes[other].width / 2 > edge_right(boxes[one]) + APART:
+                    break
+                steps = steps_apart(boxes[one], boxes[other])
+                if steps:
+                    (dx, dy), moved = steps, True
+                    for node, sign in ((one, 1), (other, -1)):
+                        box = boxes[node]
+                        boxes[node] = box._replace(x=box.x + sign * dx, y=box.y + sign * dy)
+        if not moved:
+            break
+    return boxes
+
+
+def edge_right(box):
+    """Where a box ends to the right."""
+    return box.x + box.width / 2
+
+
+def steps_apart(one, other):
+    """How far the first of two boxes moves, and the second the other way, along the axis on which
+    they overlap less; None where they don't."""
+    dx = (one.width + other.width) / 2 + APART - abs(one.x - other.x)
+    dy = (one.height + other.height) / 2 + APART - abs(one.y - other.y)
+    if dx <= 0.1 or dy <= 0.1:
+        return None
+    if dy <= dx:
+        return 0, dy / 2 * (-1 if one.y < other.y else 1)
+    return dx / 2 * (-1 if one.x < other.x else 1), 0
+
+
+def columns_of(task):
+    """The nodes in columns by how far they are from those that send, ordered so that links cross
+    little: each after the middle of those that it is linked with before or after its column."""
     levels = levels_of(len(task.sizes), task.links, task.starts)
-    columns = [
-        [node for node in range(len(levels)) if levels[node] == level]
-        for level in range(max(levels, default=-1) + 1)
-    ]
-    tallest, across, boxes = max(map(len, columns), default=0), 0, [None] * len(levels)
+    columns = [[] for _ in range(max(levels, default=-1) + 1)]
+    near, place = [[] for _ in levels], [0] * len(levels)
+    for node, level in enumerate(levels):
+        columns[level].append(node)
+    for tail, head in task.links:
+        near[tail].append(head)
+        near[head].append(tail)
+
+    def middle(node, is_forth):
+        sign = 1 if is_forth else -1
+        others = [place[other] for other in near[node] if sign * (levels[other] - levels[node]) < 0]
+        return sum(others) / len(others) if others else place[node]
+
+    for sweep in range(SWEEPS + 1):
+        is_forth = sweep % 2 == 1
+        for column in columns if is_forth else columns[::-1]:
+            if sweep:
+                column.sort(key=lambda node: (middle(node, is_forth), node))
+            for number, node in enumerate(column):
+                place[node] = (number + 0.5) / len(column)
+    return columns
+
+
+def column_boxes(task):
+    """Boxes in columns."""
+    columns, across, boxes = columns_of(task), 0, [None] * len(task.sizes)
+    tallest = max(map(len, columns), default=0)
     for column in columns:
         wide = max(task.sizes[node][0] for node in column)
         step = 62 * min(3, max(1, tallest / len(column) * 0.8))
@@ -174,16 +235,31 @@ def column_boxes(task):
 
 def straight(boxes, task):
     """The layout of boxes that stand: lines between them, which are bowed where several join the
-    same boxes."""
+    same boxes, or others stand between."""
     seen, curves = collections.Counter(), []
     for tail, head in task.links:
         nth = seen[min(tail, head), max(tail, head)]
         seen[min(tail, head), max(tail, head)] += 1
+        past = around(boxes, boxes[tail], boxes[head])
         bow = (nth + 1) // 2 * 26 * (1 if nth % 2 else -1) * (1 if tail < head else -1)
+        bow = past + nth * 26 if past else bow
         curves.append(
             loop_at(boxes[tail]) if tail == head else bowed(boxes[tail], boxes[head], bow)
         )
     return Layout(boxes, curves, [middle_of(curve) for curve in curves])
+
+
+def around(boxes, one, other):
+    """How far a link between two boxes, one above the other, goes round those between them."""
+    if abs(one.x - other.x) >= (one.width + other.width) / 2:
+        return 0
+    between = [
+        box.width
+        for box in boxes
+        if (box.y - one.y) * (box.y - other.y) < 0
+        and abs(box.x - (one.x + other.x) / 2) < box.width / 2
+    ]
+    return max(between) / 2 + 20 if between else 0
 
 
 def loop_at(box):
@@ -216,6 +292,12 @@ def edge_of(box, to):
 
 
 # ---- Curves
+
+
+def edges_of(points):
+    """The least and the greatest x and y of points."""
+    xs, ys = [x for x, _ in points] or [0], [y for _, y in points] or [0]
+    return min(xs), min(ys), max(xs), max(ys)
 
 
 def point_at(piece, part):

@@ -10,6 +10,8 @@ from .flownet import Use
 # Of more places or routes than these no boxes are drawn but dots; of more routes than the last,
 # those that carry nothing are left out.
 BOXES, CURVES, ALL_ROUTES = 300, 1500, 90
+# How far the dots of a map stand apart.
+DOTS_SPREAD = 26
 # Where no plan exists, of more places than this those that block are drawn, and those next to them.
 NEAR = 60
 FONT = 'font-family="DejaVu Sans, Verdana, Helvetica, sans-serif"'
@@ -177,12 +179,9 @@ def limits_text(problem, route):
 
 def svg_of(scene):
     """The picture of a scene."""
-    shown = (
-        layout.laid_out(task_of(scene))
-        if len(scene.nodes) <= BOXES and len(scene.links) <= CURVES
-        else None
-    )
-    return Drawing(scene, shown).svg() if shown else dots_svg(scene)
+    if len(scene.nodes) > BOXES or len(scene.links) > CURVES:
+        return dots_svg(scene)
+    return Drawing(scene, layout.laid_out(task_of(scene))).svg()
 
 
 def task_of(scene):
@@ -264,12 +263,6 @@ def framed(edges, heading, body, legend):
     )
 
 
-def edges_of(points):
-    """The least and the greatest x and y of points."""
-    xs, ys = [x for x, _ in points] or [0], [y for _, y in points] or [0]
-    return min(xs), min(ys), max(xs), max(ys)
-
-
 # ---- Boxes and arrows
 
 
@@ -301,7 +294,7 @@ class Drawing:
             for sign in (-1, 1)
         ]
         corners += [point for curve in self.curves for point in layout.samples(curve, 6)]
-        return framed(edges_of(corners), self.scene.heading, body, self.legend)
+        return framed(layout.edges_of(corners), self.scene.heading, body, self.legend)
 
     @staticmethod
     def arrow(link, points):
@@ -448,7 +441,7 @@ def dots_svg(scene):
             f'<circle cx="{x:.1f}" cy="{y:.1f}" r="{3.4 if node.note else 2.2}"'
             f' fill="{DOTS[node.kind]}"{edge}><title>{xml_text(told)}</title></circle>'
         )
-    return framed(edges_of(spots), scene.heading, body, dots_legend)
+    return framed(layout.edges_of(spots), scene.heading, body, dots_legend)
 
 
 def dot_spots(scene):
@@ -458,7 +451,7 @@ def dot_spots(scene):
         return [
             (box.x, box.y)
             for box in layout.map_boxes(
-                task._replace(sizes=[(0, 0)] * len(scene.nodes)), layout.DOTS_SPREAD
+                task._replace(sizes=[(0, 0)] * len(scene.nodes)), DOTS_SPREAD
             )
         ]
     levels = layout.levels_of(len(scene.nodes), task.links, task.starts)

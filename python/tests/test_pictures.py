@@ -1,4 +1,5 @@
 """The picture, with Graphviz where it is there, and without it."""
+import itertools
 import math
 import os
 import xml.etree.ElementTree
@@ -78,12 +79,41 @@ class Pictures(WithFolder):
         self.assertIn("No plan exists: short by 1 (101 places farther off aren't drawn)", texts)
         self.assertEqual([text for text in texts if text in ("A", "B", "C", "P1")], ["A", "B"])
 
-    def test_a_layout_that_takes_too_long_is_dots(self):
+    def test_a_graphviz_that_takes_too_long_is_as_good_as_none(self):
         script(self.folder / "dot", "exec sleep 20")
         path = f"{self.folder}:{os.environ['PATH']}"
         with mock.patch.dict(os.environ, PATH=path), mock.patch.object(layout, "PATIENCE", 0.2):
             self.assertEqual(self.flow(PLACES, ROUTES)[0], 0)
-        self.assertIn("<circle", (self.out / "plan.svg").read_text())
+        self.assertIn(">sends 30</text>", (self.out / "plan.svg").read_text())
+
+    def test_of_many_places_graphviz_isnt_started(self):
+        script(self.folder / "dot", f"echo started >> {self.folder}/started; exit 1")
+        path = f"{self.folder}:{os.environ['PATH']}"
+        for count, starts in ((40, True), (260, False)):
+            rows = [f"P{k},{1 if k % 2 else -1},{k % 16},{k // 16}\n" for k in range(count)]
+            routes = [f"P{k + 1},P{k},1,1\n" for k in range(0, count, 2)]
+            routes += [f"P{k},P{j},1,1\n" for k in range(count) for j in range(7)]
+            with mock.patch.dict(os.environ, PATH=path):
+                texts = self.drawn(
+                    "name,supply,x,y\n" + "".join(rows), "from,to,most,cost\n" + "".join(routes)
+                )
+            self.assertEqual((self.folder / "started").exists(), starts, count)
+            self.assertLessEqual({f"P{k}" for k in range(count)}, set(texts))
+            (self.folder / "started").unlink(missing_ok=True)
+
+    def test_boxes_of_a_map_and_in_columns_dont_overlap(self):
+        sizes = [(60 + 2 * k, 38) for k in range(60)]
+        links = [(k, k + 1 - k % 3) for k in range(59)]
+        for spots in (None, [(k % 7, k % 11) for k in range(60)]):
+            task = layout.Task(sizes, spots, links, [None] * 59, [0])
+            with mock.patch.dict(os.environ, PATH=""):
+                boxes = layout.laid_out(task).boxes
+            for one, other in itertools.combinations(boxes, 2):
+                self.assertFalse(
+                    abs(one.x - other.x) < (one.width + other.width) / 2
+                    and abs(one.y - other.y) < (one.height + other.height) / 2,
+                    spots,
+                )
 
     def test_a_graphviz_that_fails_is_as_good_as_none(self):
         path = f"{self.folder}:{os.environ['PATH']}"
