@@ -1,8 +1,7 @@
 // Where boxes and curves stand in a picture: on a map by x and y, else in columns by how far places are from those that send.
 
-// How far the places of a map stand apart: boxes, and dots; what boxes keep between them, and in how many rounds that is sought.
+// How far the places of a map stand apart; what boxes keep between them, and in how many rounds that is sought.
 const SPREAD = 235, APART = 14, ROUNDS = 60;
-export const DOTS_SPREAD = 26;
 // How often the order within columns is made anew.
 const SWEEPS = 6;
 
@@ -23,8 +22,14 @@ export function mapBoxes({ sizes, spots }, spread) {
   return xs.map((x, k) => ({ x: (x - left) * scale, y: (high - ys[k]) * scale, width: sizes[k][0], height: sizes[k][1] }));
 }
 
-export const least = (numbers) => numbers.reduce((a, b) => Math.min(a, b), Infinity);
-export const most = (numbers) => numbers.reduce((a, b) => Math.max(a, b), -Infinity);
+const least = (numbers) => numbers.reduce((a, b) => Math.min(a, b), Infinity);
+const most = (numbers) => numbers.reduce((a, b) => Math.max(a, b), -Infinity);
+
+// The least and the greatest x and y of points.
+export function edgesOf(points) {
+  const [xs, ys] = [0, 1].map((axis) => (points.length ? points.map((point) => point[axis]) : [0]));
+  return [least(xs), least(ys), most(xs), most(ys)];
+}
 
 // The same boxes, moved apart where they overlap.
 function parted(boxes) {

@@ -1,5 +1,5 @@
 """What `flow` and `pairs` do: tables in, a folder of results out."""
-from . import flowpage, life, pairs, pairspage, picture, report
+from . import flowpage, life, pairs, pairspage, picture, report, scene
 from .blocked import Blocked
 from .faults import Stop
 from .flownet import FlowNet, FlowPlan, Policy
@@ -49,7 +49,7 @@ def plan_results(plan, results, options):
     report.write_prices(results, plan)
     results.finish()
     lines, page = report.flow_summary(plan), flowpage.plan_page(
-        plan, options, drawn_in(folder, picture.plan_scene(plan), options)
+        plan, options, drawn_in(folder, scene.plan_scene(plan), options)
     )
     write_page(folder, "instance.min", page, problem.numbers)
     parts = [
@@ -67,19 +67,19 @@ def blocked_results(blocked, results, options):
     report.write_bottlenecks(results, blocked.eased, blocked.all())
     results.finish()
     lines, page = report.blocked_summary(blocked), flowpage.blocked_page(
-        blocked, options, drawn_in(folder, picture.blocked_scene(blocked), options)
+        blocked, options, drawn_in(folder, scene.blocked_scene(blocked), options)
     )
     write_page(folder, "instance.min", page, blocked.net.problem.numbers)
     write_record(folder, "flow", blocked.net, blocked.net.problem.numbers.mark)
     return lines
 
 
-def drawn_in(folder, scene, options):
+def drawn_in(folder, shown, options):
     """The picture, which is written, unless none is wanted."""
     if options.no_picture:
         return None
     with life.doing("draws the picture"):
-        drawn = picture.svg_of(scene)
+        drawn = picture.svg_of(shown)
     (folder / "plan.svg").write_text(drawn, encoding="utf-8")
     return drawn
 

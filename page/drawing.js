@@ -1,0 +1,120 @@
+// Parts of pictures, as SVG: colours, texts, arrows, the frame and the legend.
+import { edgesOf, samples } from './layout.js';
+
+const FONT = 'font-family="DejaVu Sans, Verdana, Helvetica, sans-serif"', INK = '#1f2933';
+export const SOFT = '#52606d', SHADE = '#f9d5cd', LEFT = 'text-anchor="start"';
+export const COLOURS = { full: '#c2410c', limits: '#c2410c', forces: '#c2410c', flowing: '#3d6d94', idle: '#b8c0c8', other: '#8a949e' };
+const FILLS = { sends: '#dff0dc', takes: '#dbe8f7', passes: '#ffffff' }, KINDS = { sends: 'sends', takes: 'takes', passes: 'passes on' };
+const BLOCKS = 'places that must send or take more than they can';
+// In wider pictures headings and legends are greater.
+const PAGE = 1400;
+
+// ---- Texts
+
+export const xmlText = (text) => String(text).replace(
+  /[\ufffe\uffff]/g, '?'
+).replace(/&/g, '&amp;').replace(/</g, '&lt;').replace(/>/g, '&gt;');
+// About how wide a text is, in pixels.
+export const textWidth = (text, size) => [...text].reduce(
+  (sum, c) => sum + (/[\u1100-\u115f\u2e80-\ua4cf\uac00-\ud7a3\uf900-\ufaff\ufe30-\ufe6f\uff00-\uff60\uffe0-\uffe6]/.test(c) ? 1 : 0.62), 0
+) * size;
+export const shortName = (name) => ([...name].length <= 24 ? name : `${[...name].slice(0, 23).join('')}…`);
+export const f = (number) => number.toFixed(1);
+export const textAt = (
+  x, y, size, text, more = 'text-anchor="middle"'
+) => `<text x="${f(x)}" y="${f(y)}" font-size="${size}" ${more}>${xmlText(text)}</text>`;
+
+// ---- Places and routes
+
+// Routes that matter less.
+export const isQuiet = ({ kind }) => kind === 'idle' || kind === 'other';
+
+// The numbers of links as they are drawn: those that matter less first, then the widest.
+export const orderOf = (links) => links.map((_, k) => k).sort(
+  (a, b) => isQuiet(links[b]) - isQuiet(links[a]) || links[b].width - links[a].width
+);
+
+export function boxAt({ x, y, width, height }, kind, blocks = false, more = '') {
+  const [edge, wide] = blocks ? [COLOURS.limits, 2.2] : [SOFT, 1.1];
+  return `<rect class="${kind}" x="${f(x - width / 2)}" y="${f(y - height / 2)}" width="${f(width)}" height="${height.toFixed(0)}" rx="6" fill="${FILLS[kind]}" stroke="${edge}" stroke-width="${wide}"${more}/>`;
+}
+
+export const pathOf = ([begin, ...points]) => `M${begin.map(f)} C${points.map((point) => point.map(f)).join(' ')}`;
+
+// The curve of a route, its arrowhead, and the bar before it where the route is full.
+export function arrow({ kind, width, title }, points) {
+  const colour = COLOURS[kind];
+  const tip = points[points.length - 1];
+  const before = samples(points).slice(-4)[0];
+  const far = Math.hypot(tip[0] - before[0], tip[1] - before[1]) || 1;
+  const dx = (tip[0] - before[0]) / far, dy = (tip[1] - before[1]) / far, long = 7 + 1.5 * width, wide = 3 + 0.95 * width;
+  const base = [tip[0] - dx * long, tip[1] - dy * long], last = points[points.length - 2];
+  const curve = [...points.slice(0, -2), [last[0] - dx * long * 0.7, last[1] - dy * long * 0.7], [base[0] + dx, base[1] + dy]];
+  const tips = [
+    tip, [base[0] - dy * wide, base[1] + dx * wide], [base[0] + dy * wide, base[1] - dx * wide],
+  ].map((point) => point.map(f)).join(' ');
+  let bar = '';
+  if (kind === 'full' || kind === 'limits') {
+    const [x, y] = [base[0] - 3 * dx, base[1] - 3 * dy], half = 5 + 0.9 * width;
+    bar = `<path d="M${f(x - dy * half)},${f(y + dx * half)} L${f(x + dy * half)},${f(y - dx * half)}" stroke="${colour}" stroke-width="2.6"/>`;
+  }
+  return `<g class="${kind}"><title>${xmlText(title)}</title><path d="${pathOf(curve)}" fill="none" stroke="${colour}" stroke-width="${f(width)}"/><polygon points="${tips}" fill="${colour}"/>${bar}</g>`;
+}
+
+// A level line from a spot, as a curve.
+export const lineBetween = (x, y, to) => [0, 1, 2, 3].map((part) => [x + (to - x) * part / 3, y]);
+
+export const labelSize = ({ label }) => [textWidth(label, 11) + 6, 15];
+
+export function labelAt(link, x, y) {
+  const [width, height] = labelSize(link);
+  return `<rect class="ground" x="${f(x - width / 2)}" y="${f(y - 7.5)}" width="${f(width)}" height="${height}" rx="5" fill="#ffffff" fill-opacity="0.88"/>`
+    + textAt(x, y + 4, 11, link.label, `text-anchor="middle" class="${link.kind}" fill="${COLOURS[link.kind]}" font-weight="bold"`);
+}
+
+// ---- The whole
+
+// A whole picture: its frame, its heading, what stands in it and the legend below.
+export function framed(points, scene, body, [lines, across]) {
+  const [west, north, east, south] = edgesOf(points), size = Math.max(1, (east - west) / PAGE);
+  const left = west - 32, right = east + 32, top = north - 38 - 32 * size, bottom = south + 20 + 36 * size;
+  const within = Math.max(across, textWidth(scene.heading, 17)) * size;
+  const wide = Math.max(left + 48 + within, right) - left, high = bottom - top;
+  return [`<svg xmlns="http://www.w3.org/2000/svg" role="img" aria-label="${xmlText(scene.heading).replace(/"/g, '&quot;')}" width="${wide.toFixed(0)}" height="${high.toFixed(0)}" viewBox="${[left, top, wide, high].map(f).join(' ')}" ${FONT} fill="${INK}">`,
+    `<rect class="ground" x="${f(left)}" y="${f(top)}" width="${f(wide)}" height="${f(high)}" fill="#ffffff"/>`,
+    placed(left + 24, top + 32 * size, size, [textAt(0, 0, 17, scene.heading, `${LEFT} font-weight="bold"`)]),
+    ...body, placed(left + 24, bottom - 20 * size, size, lines), '</svg>'].join('\n');
+}
+
+// What is drawn around 0, 0, elsewhere and greater.
+const placed = (x, y, size, lines) => (
+  [`<g transform="translate(${f(x)} ${f(y)})${size === 1 ? '' : ` scale(${size.toFixed(2)})`}">`, ...lines, '</g>'].join('\n')
+);
+
+// What the colours and the marks mean, and where that ends. A swatch draws a kind of places, or "blocks"; more entries have how wide a
+// drawing is, the drawing by where it begins, and words.
+export function legendOf({ notes, groups }, swatch, more = []) {
+  const entries = Object.entries(KINDS).map(([kind, words]) => [22, (x) => swatch(kind, x), words]);
+  for (const [kind, words] of Object.entries(notes)) entries.push([44, (x) => sample(kind, x), words]);
+  if (groups.length) entries.push([24, (x) => swatch('blocks', x), BLOCKS]);
+  const lines = [];
+  let x = 0;
+  for (const [wide, drawn, words] of [...entries, ...more]) {
+    lines.push(drawn(x), textAt(x + wide + 6, 0, 12, words, LEFT));
+    x += wide + 22 + textWidth(words, 12);
+  }
+  return [lines, x];
+}
+
+// A route of a kind, for the legend.
+const sample = (kind, x) => arrow({ kind, width: kind === 'limits' ? 2.6 : 5, title: '' }, lineBetween(x, -4, x + 42));
+
+// A box of a kind, or the shade behind those that block, for the legend.
+export const boxSwatch = (kind, x) => (
+  kind === 'blocks' ? shadeAt({ x: x + 12, y: -4, width: 24, height: 16 }, 6) : boxAt({ x: x + 11, y: -4, width: 22, height: 14 }, kind)
+);
+
+// The shade behind a box.
+export const shadeAt = ({ x, y, width, height }, round) => (
+  `<rect class="shade" x="${f(x - width / 2)}" y="${f(y - height / 2)}" width="${f(width)}" height="${f(height)}" rx="${round}" fill="${SHADE}"/>`
+);

@@ -1,0 +1,213 @@
+"""Parts of pictures, as SVG: colours, texts, arrows, the frame and the legend."""
+import functools
+import html
+import math
+import unicodedata
+
+from . import layout
+
+FONT = 'font-family="DejaVu Sans, Verdana, Helvetica, sans-serif"'
+INK, SOFT, SHADE = "#1f2933", "#52606d", "#f9d5cd"
+COLOURS = {
+    "full": "#c2410c",
+    "limits": "#c2410c",
+    "forces": "#c2410c",
+    "flowing": "#3d6d94",
+    "idle": "#b8c0c8",
+    "other": "#8a949e",
+}
+FILLS = {"sends": "#dff0dc", "takes": "#dbe8f7", "passes": "#ffffff"}
+KINDS = {"sends": "sends", "takes": "takes", "passes": "passes on"}
+BLOCKS = "places that must send or take more than they can"
+# Routes that matter less.
+QUIET = ("idle", "other")
+CENTRED, LEFT = 'text-anchor="middle"', 'text-anchor="start"'
+# In wider pictures headings and legends are greater.
+PAGE = 1400
+
+
+# ---- Texts
+
+
+def text_width(text, size):
+    """About how wide a text is, in pixels."""
+    return sum(1.0 if unicodedata.east_asian_width(c) in "WF" else 0.62 for c in text) * size
+
+
+def short_name(name):
+    """A name that fits a box."""
+    return name if len(name) <= 24 else name[:23] + "…"
+
+
+def xml_text(text):
+    """A text within SVG."""
+    return html.escape(
+        "".join(c if ord(c) not in (0xFFFE, 0xFFFF) else "?" for c in text), quote=False
+    )
+
+
+def text_at(x, y, size, text, more=CENTRED):
+    """A text as SVG has it, centred unless something else is said."""
+    return f'<text x="{x:.1f}" y="{y:.1f}" font-size="{size}" {more}>{xml_text(text)}</text>'
+
+
+# ---- Places and routes
+
+
+def order_of(links):
+    """The numbers of links as they are drawn: those that matter less first, then the widest."""
+    return sorted(range(len(links)), key=lambda k: (links[k].kind not in QUIET, -links[k].width))
+
+
+def box_at(box, kind, blocks=False, more=""):
+    """The box of a place."""
+    edge, wide = (COLOURS["limits"], 2.2) if blocks else (SOFT, 1.1)
+    return (
+        f'<rect class="{kind}" x="{box.x - box.width / 2:.1f}"'
+        f' y="{box.y - box.height / 2:.1f}" width="{box.width:.1f}" height="{box.height:.0f}"'
+        f' rx="6" fill="{FILLS[kind]}" stroke="{edge}" stroke-width="{wide}"{more}/>'
+    )
+
+
+def path_of(points):
+    """A curve as SVG has it."""
+    words = [f"{x:.1f},{y:.1f}" for x, y in points]
+    rows = [" ".join(words[begin : begin + 6]) for begin in range(1, len(words), 6)]
+    return f"M{words[0]} C" + "\n".join(rows)
+
+
+def arrow(kind, width, title, points):
+    """The curve of a route, its arrowhead, and the bar before it where the route is full."""
+    colour = COLOURS[kind]
+    points, corners, (dx, dy) = head_of(points, width)
+    tips = " ".join(f"{x:.1f},{y:.1f}" for x, y in corners)
+    bar = ""
+    if kind in ("full", "limits"):
+        x, y, half = points[-1][0] - 4 * dx, points[-1][1] - 4 * dy, 5 + 0.9 * width
+        bar = (
+            "\n<path"
+            f' d="M{x - dy * half:.1f},{y + dx * half:.1f}'
+            f' L{x + dy * half:.1f},{y - dx * half:.1f}"'
+            f' stroke="{colour}" stroke-width="2.6"/>'
+        )
+    return (
+        f'<g class="{kind}"><title>{xml_text(title)}</title>\n<path'
+        f' d="{path_of(points)}"\nfill="none" stroke="{colour}"'
+        f' stroke-width="{width:.1f}"/>\n<polygon points="{tips}"'
+        f' fill="{colour}"/>{bar}</g>'
+    )
+
+
+def head_of(points, width):
+    """A curve cut short for its arrowhead, the corners of the arrowhead, and where it points."""
+    tip, before = points[-1], layout.samples(points)[-4]
+    far = math.hypot(tip[0] - before[0], tip[1] - before[1]) or 1
+    dx, dy = (tip[0] - before[0]) / far, (tip[1] - before[1]) / far
+    long, wide = 7 + 1.5 * width, 3 + 0.95 * width
+    base = tip[0] - dx * long, tip[1] - dy * long
+    corners = [
+        tip,
+        (base[0] - dy * wide, base[1] + dx * wide),
+        (base[0] + dy * wide, base[1] - dx * wide),
+    ]
+    bent = points[-2][0] - dx * long * 0.7, points[-2][1] - dy * long * 0.7
+    return points[:-2] + [bent, (base[0] + dx, base[1] + dy)], corners, (dx, dy)
+
+
+def line_between(x, y, to):
+    """A level line from a spot, as a curve."""
+    return [(x + (to - x) * part / 3, y) for part in range(4)]
+
+
+def label_size(link):
+    """The width and the height of a route's label."""
+    return text_width(link.label, 11) + 6, 15
+
+
+def label_at(link, x, y):
+    """The label of a route."""
+    width, height = label_size(link)
+    return (
+        f'<rect class="ground" x="{x - width / 2:.1f}" y="{y - 7.5:.1f}" width="{width:.1f}"'
+        f' height="{height}" rx="5" fill="#ffffff" fill-opacity="0.88"/>\n'
+        + text_at(
+            x,
+            y + 4,
+            11,
+            link.label,
+            f'{CENTRED} class="{link.kind}" fill="{COLOURS[link.kind]}" font-weight="bold"',
+        )
+    )
+
+
+# ---- The whole
+
+
+def framed(edges, scene, body, legend):
+    """A whole picture: its frame, its heading, what stands in it and the legend below."""
+    size = max(1, (edges[2] - edges[0]) / PAGE)
+    lines, across = legend
+    left, right = edges[0] - 32, edges[2] + 32
+    top, bottom = edges[1] - 38 - 32 * size, edges[3] + 20 + 36 * size
+    within = max(across, text_width(scene.heading, 17)) * size
+    wide, high = max(left + 48 + within, right) - left, bottom - top
+    heading = text_at(0, 0, 17, scene.heading, LEFT + ' font-weight="bold"')
+    return (
+        "\n".join(
+            [
+                (
+                    f'<svg xmlns="http://www.w3.org/2000/svg" width="{wide:.0f}"'
+                    f' height="{high:.0f}" viewBox="{left:.1f} {top:.1f} {wide:.1f} {high:.1f}"'
+                ),
+                f'{FONT} fill="{INK}">',
+                (
+                    f'<rect class="ground" x="{left:.1f}" y="{top:.1f}" width="{wide:.1f}"'
+                    f' height="{high:.1f}" fill="#ffffff"/>'
+                ),
+                at(left + 24, top + 32 * size, size, [heading]),
+                *body,
+                at(left + 24, bottom - 20 * size, size, lines),
+                "</svg>",
+            ]
+        )
+        + "\n"
+    )
+
+
+def at(x, y, size, lines):
+    """What is drawn around 0, 0, elsewhere and greater."""
+    grown = f" scale({size:.2f})" if size != 1 else ""
+    return "\n".join([f'<g transform="translate({x:.1f} {y:.1f}){grown}">', *lines, "</g>"])
+
+
+def legend_of(scene, swatch, more=()):
+    """What the colours and the marks mean, and where that ends. A swatch draws a kind of places, or
+    "blocks"; more entries have how wide a drawing is, the drawing by where it begins, and words."""
+    entries = [(22, functools.partial(swatch, kind), words) for kind, words in KINDS.items()]
+    entries += [(44, functools.partial(sample, kind), words) for kind, words in scene.notes.items()]
+    entries += [(24, functools.partial(swatch, "blocks"), BLOCKS)] if scene.groups else []
+    lines, x = [], 0
+    for wide, drawn, words in [*entries, *more]:
+        lines += [drawn(x), text_at(x + wide + 6, 0, 12, words, LEFT)]
+        x += wide + 22 + text_width(words, 12)
+    return lines, x
+
+
+def sample(kind, x):
+    """A route of a kind, for the legend."""
+    return arrow(kind, 2.6 if kind == "limits" else 5, "", line_between(x, -4, x + 42))
+
+
+def box_swatch(kind, x):
+    """A box of a kind, or the shade behind those that block, for the legend."""
+    if kind == "blocks":
+        return shade_at(layout.Box(x + 12, -4, 24, 16), 6)
+    return box_at(layout.Box(x + 11, -4, 22, 14), kind)
+
+
+def shade_at(box, round_by):
+    """The shade behind a box."""
+    return (
+        f'<rect class="shade" x="{box.x - box.width / 2:.1f}" y="{box.y - box.height / 2:.1f}"'
+        f' width="{box.width:.1f}" height="{box.height:.1f}" rx="{round_by}" fill="{SHADE}"/>'
+    )
