@@ -4,12 +4,14 @@
 const SPREAD = 235, APART = 14, ROUNDS = 60;
 // How often the order within columns is made anew.
 const SWEEPS = 6;
+// Which parts of its way along a link its label may stand at.
+const PARTS = [0.45, 0.55, 0.35, 0.65, 0.25, 0.75, 0.15, 0.85];
 
 // A task has the sizes of boxes, spots on a map or null, links by their nodes from 0, and the nodes that send. A layout has boxes by their
-// centres, for each link its curve of cubic pieces, and the middle of its label.
+// centres, for each link its curve of cubic pieces, and the spots where its label may stand, the best first.
 export function laidOut(task) {
   const boxes = task.spots ? parted(mapBoxes(task, SPREAD)) : columnBoxes(task), curves = straight(boxes, task.links);
-  return { boxes, curves, labels: curves.map(middleOf) };
+  return { boxes, curves, labels: curves.map(spotsAlong) };
 }
 
 // Boxes on a map, y going up.
@@ -157,8 +159,8 @@ export function samples(points, count = 24) {
   return [...found, points[points.length - 1]];
 }
 
-// A point a little before the middle of a curve.
-export function middleOf(points) {
+// Spots along a curve: a little before its middle, then farther and farther from there.
+function spotsAlong(points) {
   const along = samples(points, 12);
-  return along[Math.floor(0.45 * (along.length - 1))];
+  return PARTS.map((part) => along[Math.floor(part * (along.length - 1))]);
 }

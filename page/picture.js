@@ -1,10 +1,13 @@
 // The picture of a scene, as SVG: boxes and arrows, or of many places dots.
 import { dotsSvg } from './dots.js';
-import { SHADE, SOFT, arrow, boxAt, boxSwatch, framed, labelAt, legendOf, orderOf, pathOf, shadeAt, shortName, textAt, textWidth, xmlText } from './drawing.js';
+import { SHADE, SOFT, arrow, boxAt, boxSwatch, framed, isQuiet, labelAt, labelSize, legendOf, orderOf, pathOf, shadeAt, shortName, textAt, textWidth, xmlText } from './drawing.js';
 import { laidOut, samples } from './layout.js';
+import { Room } from './room.js';
 
 // Of more places or routes than these no boxes are drawn but dots.
 const BOXES = 300, CURVES = 1500;
+// How far labels may stand within boxes, beside their texts.
+const INNER = 3;
 
 export function svgOf(scene) {
   return scene.nodes.length <= BOXES && scene.links.length <= CURVES ? boxesSvg(scene) : dotsSvg(scene);
@@ -23,12 +26,26 @@ function boxesSvg(scene) {
   const { boxes, curves, labels } = laidOut(taskOf(scene)), { links, nodes, groups } = scene, order = orderOf(links);
   const body = [...shades(scene, boxes, curves), ...order.map((k) => arrow(links[k], curves[k])),
     ...nodes.map((node, k) => placeBox(node, boxes[k], groups.some((group) => group.has(k)))),
-    ...order.filter((k) => links[k].label).map((k) => labelAt(links[k], ...labels[k]))];
+    ...freeLabels(links, boxes, labels)];
   const corners = [
     ...boxes.flatMap(({ x, y, width, height }) => [[x - width / 2, y - height / 2], [x + width / 2, y + height / 2]]),
     ...curves.flatMap((curve) => samples(curve, 6))
   ];
   return framed(corners, scene, body, legendOf(scene, boxSwatch));
+}
+
+// The labels of the routes, the widest first, where they cover no place and no other label; one that finds no such spot is left out, since
+// the arrow tells it, too.
+function freeLabels(links, boxes, labels) {
+  const room = new Room(), order = links.map((_, k) => k).filter((k) => links[k].label);
+  for (const { x, y, width, height } of boxes) {
+    const [wide, high] = [width / 2 - INNER, height / 2 - INNER];
+    room.take([x - wide, y - high, x + wide, y + high]);
+  }
+  order.sort((a, b) => isQuiet(links[a]) - isQuiet(links[b]) || links[b].width - links[a].width);
+  return order.map((k) => [links[k], room.first(labels[k], labelSize(links[k]))]).filter(([, spot]) => spot).map(
+    ([link, spot]) => labelAt(link, ...spot)
+  );
 }
 
 // The box of a place, with its name and its note.

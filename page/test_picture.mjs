@@ -28,7 +28,30 @@ function drawn(expect, name, scene) {
   expect(count(svg, '<') === count(svg, '>'), `${name}: marks that aren't closed`);
 }
 
+// The edges of the rectangles of a class, in their order; and whether two overlap by more than their rounded edges show.
+const rectangles = (svg, kind) => [...svg.matchAll(/<rect class="(\w+)" x="([^"]+)" y="([^"]+)" width="([^"]+)" height="([^"]+)"/g)].filter(
+  (found) => found[1] === kind
+).map((found) => found.slice(2).map(Number)).map(([x, y, wide, high]) => [x, y, x + wide, y + high]);
+const overlap = (a, b, within = 0.11) => b[0] + within < a[2] && a[0] + within < b[2] && b[1] + within < a[3] && a[1] + within < b[3];
+
+// Labels of routes cover no place and no other label.
+function labels(expect) {
+  const numbers = Array.from({ length: 16 }, (_, k) => k);
+  const nodes = numbers.map((k) => ({ name: `Werk ${k} München`, note: 'sends 12000', kind: 'sends', spot: [k % 4, Math.floor(k / 4) * 0.4] }));
+  const links = numbers.flatMap((k) => numbers.filter((j) => j !== k && (k + j) % 3).map(
+    (j) => ({ tail: k, head: j, width: 1 + k % 7, kind: 'flowing', label: (131.75 * (k + j + 1)).toFixed(2), title: '' })
+  ));
+  const svg = svgOf({ heading: '', nodes, links, groups: [], notes: {} });
+  const boxes = rectangles(svg, 'sends').slice(0, 16), found = rectangles(svg, 'ground').slice(1);
+  expect(found.length > 12, `${found.length} labels`);
+  found.forEach((label, k) => {
+    expect(!boxes.some((box) => overlap(label, box, 3)), `a label covers a place: ${label}`);
+    expect(!found.slice(0, k).some((other) => overlap(label, other)), `a label covers another: ${label}`);
+  });
+}
+
 export default async function test(expect) {
+  labels(expect);
   const solver = solverOf(loaded());
   for (const name of ['transport', 'blocked', 'network', 'network-blocked', 'models', 'two-causes', 'unbalanced', 'degenerate']) {
     const sources = ['places.csv', 'routes.csv'].map((file) => ({ name: file, bytes: fs.readFileSync(path.join(plans, name, file)) }));

@@ -9,7 +9,8 @@ import time
 
 # A box by its centre.
 Box = collections.namedtuple("Box", "x y width height")
-# Boxes of the nodes; for each link its curve of cubic pieces, and the middle of its label.
+# Boxes of the nodes; for each link its curve of cubic pieces, and the spots where its label may
+# stand, the best first.
 Layout = collections.namedtuple("Layout", "boxes curves labels")
 # What is to be laid out: sizes of boxes, spots on a map or None, links by their nodes from 0, and
 # the size of each label or None.
@@ -22,6 +23,8 @@ WORK, PATIENCE, WIDEST = 16_000, 4, 2400
 # How far the places of a map stand apart; what boxes keep between them, and in how many rounds that
 # is sought; how often the order within columns is made anew.
 SPREAD, APART, ROUNDS, SWEEPS = 235, 14, 60, 6
+# Which parts of its way along a link its label may stand at.
+PARTS = 0.45, 0.55, 0.35, 0.65, 0.25, 0.75, 0.15, 0.85
 
 
 def laid_out(task):
@@ -97,7 +100,9 @@ def layout_of(graph, task):
         number = int(item["id"])
         points = [pair_of(word) for word in item["pos"].split(";")[0].split(" ")]
         curves[number] = forward(points, boxes[task.links[number][0]])
-        labels[number] = pair_of(item["xlp"]) if "xlp" in item else middle_of(curves[number])
+        labels[number] = spots_along(curves[number])
+        if "xlp" in item:
+            labels[number].insert(0, pair_of(item["xlp"]))
     return Layout(boxes, curves, labels)
 
 
@@ -246,7 +251,7 @@ def straight(boxes, task):
         curves.append(
             loop_at(boxes[tail]) if tail == head else bowed(boxes[tail], boxes[head], bow)
         )
-    return Layout(boxes, curves, [middle_of(curve) for curve in curves])
+    return Layout(boxes, curves, [spots_along(curve) for curve in curves])
 
 
 def around(boxes, one, other):
@@ -317,7 +322,7 @@ def samples(points, count=24):
     return found + [points[-1]]
 
 
-def middle_of(points):
-    """A point a little before the middle of a curve."""
+def spots_along(points):
+    """Spots along a curve: a little before its middle, then farther and farther from there."""
     along = samples(points, 12)
-    return along[int(0.45 * (len(along) - 1))]
+    return [along[int(part * (len(along) - 1))] for part in PARTS]

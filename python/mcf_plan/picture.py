@@ -3,6 +3,7 @@ from . import layout
 from .dots import dots_svg
 from .drawing import (
     CENTRED,
+    QUIET,
     SHADE,
     SOFT,
     arrow,
@@ -10,6 +11,7 @@ from .drawing import (
     box_swatch,
     framed,
     label_at,
+    label_size,
     legend_of,
     order_of,
     path_of,
@@ -19,9 +21,12 @@ from .drawing import (
     text_width,
     xml_text,
 )
+from .room import Room
 
 # Of more places or routes than these no boxes are drawn but dots.
 BOXES, CURVES = 300, 1500
+# How far labels may stand within boxes, beside their texts.
+INNER = 3
 
 
 def svg_of(scene):
@@ -61,7 +66,7 @@ def boxes_svg(scene):
         place_box(node, boxes[number], number in blocking)
         for number, node in enumerate(scene.nodes)
     ]
-    body += [label_at(links[k], *labels[k]) for k in order if links[k].label]
+    body += free_labels(links, boxes, labels)
     corners = [
         (box.x + sign * box.width / 2, box.y + sign * box.height / 2)
         for box in boxes
@@ -69,6 +74,20 @@ def boxes_svg(scene):
     ]
     corners += [point for curve in curves for point in layout.samples(curve, 6)]
     return framed(layout.edges_of(corners), scene, body, legend_of(scene, box_swatch))
+
+
+def free_labels(links, boxes, labels):
+    """The labels of the routes, the widest first, where they cover no place and no other label; one
+    that finds no such spot is left out, since the arrow tells it, too."""
+    room, lines = Room(), []
+    for box in boxes:
+        wide, high = box.width / 2 - INNER, box.height / 2 - INNER
+        room.take((box.x - wide, box.y - high, box.x + wide, box.y + high))
+    for k in sorted(range(len(links)), key=lambda k: (links[k].kind in QUIET, -links[k].width)):
+        spot = links[k].label and room.first(labels[k], label_size(links[k]))
+        if spot:
+            lines.append(label_at(links[k], *spot))
+    return lines
 
 
 def place_box(node, box, blocks):

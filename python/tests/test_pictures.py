@@ -5,8 +5,30 @@ import os
 import xml.etree.ElementTree
 from unittest import mock
 
-from mcf_plan import layout
+from mcf_plan import layout, picture, scene
 from support import PLACES, ROUTES, WithFolder, script
+
+
+def rectangles(drawn, kind):
+    """The edges of the rectangles of a class, in their order."""
+    root = xml.etree.ElementTree.fromstring(drawn)
+    found = [item for item in root.iter("{http://www.w3.org/2000/svg}rect")]
+    rows = [
+        [float(item.get(name)) for name in ("x", "y", "width", "height")]
+        for item in found
+        if item.get("class") == kind
+    ]
+    return [(x, y, x + wide, y + high) for x, y, wide, high in rows]
+
+
+def overlap(one, other, within=0.11):
+    """Whether two rectangles overlap by more than their rounded edges show."""
+    return (
+        other[0] + within < one[2]
+        and one[0] + within < other[2]
+        and other[1] + within < one[3]
+        and one[1] + within < other[3]
+    )
 
 
 class Pictures(WithFolder):
@@ -114,6 +136,27 @@ class Pictures(WithFolder):
                     and abs(one.y - other.y) < (one.height + other.height) / 2,
                     spots,
                 )
+
+    def test_labels_of_routes_cover_no_place_and_no_other_label(self):
+        spots = [(k % 4, k // 4 * 0.4) for k in range(16)]
+        nodes = [
+            scene.Node(f"Werk {k} München", "sends 12000", "sends", spots[k]) for k in range(16)
+        ]
+        links = [
+            scene.Link(k, j, 1 + k % 7, "flowing", f"{131.75 * (k + j + 1):.2f}", "")
+            for k, j in itertools.permutations(range(16), 2)
+            if (k + j) % 3
+        ]
+        with mock.patch.dict(os.environ, PATH=""):
+            drawn = picture.svg_of(scene.Scene("", nodes, links, [], {}))
+        boxes = rectangles(drawn, "sends")[:16]
+        labels = rectangles(drawn, "ground")[1:]
+        self.assertGreater(len(labels), 12)
+        for number, label in enumerate(labels):
+            for box in boxes:
+                self.assertFalse(overlap(label, box, 3), (label, box))
+            for other in labels[:number]:
+                self.assertFalse(overlap(label, other), (label, other))
 
     def test_a_graphviz_that_fails_is_as_good_as_none(self):
         path = f"{self.folder}:{os.environ['PATH']}"

@@ -1,0 +1,39 @@
+// What stands in a picture already, so that no label covers it: rectangles by their edges (left, top, right, bottom), kept by the squares
+// that they touch.
+const SQUARE = 64;
+
+export class Room {
+  constructor() { this.taken = new Map(); }
+
+  take(edges) {
+    for (const square of squaresOf(edges)) {
+      if (!this.taken.has(square)) this.taken.set(square, []);
+      this.taken.get(square).push(edges);
+    }
+  }
+
+  isFree(edges) {
+    const [left, top, right, bottom] = edges;
+    const over = (other) => other[0] < right && left < other[2] && other[1] < bottom && top < other[3];
+    return !squaresOf(edges).some((square) => (this.taken.get(square) || []).some(over));
+  }
+
+  // The first of some spots around which a rectangle of this size is free, which is taken; null where there is none.
+  first(spots, [wide, high]) {
+    for (const [x, y] of spots) {
+      const edges = [x - wide / 2, y - high / 2, x + wide / 2, y + high / 2];
+      if (this.isFree(edges)) {
+        this.take(edges);
+        return [x, y];
+      }
+    }
+    return null;
+  }
+}
+
+// The squares that a rectangle touches.
+function squaresOf(edges) {
+  const [left, top, right, bottom] = edges.map((edge) => Math.floor(edge / SQUARE)), found = [];
+  for (let x = left; x <= right; x++) for (let y = top; y <= bottom; y++) found.push(`${x} ${y}`);
+  return found;
+}
