@@ -18,7 +18,6 @@ export const xmlText = (text) => String(text).replace(
 export const textWidth = (text, size) => [...text].reduce(
   (sum, c) => sum + (/[\u1100-\u115f\u2e80-\ua4cf\uac00-\ud7a3\uf900-\ufaff\ufe30-\ufe6f\uff00-\uff60\uffe0-\uffe6]/.test(c) ? 1 : 0.62), 0
 ) * size;
-export const shortName = (name) => ([...name].length <= 24 ? name : `${[...name].slice(0, 23).join('')}…`);
 export const f = (number) => number.toFixed(1);
 export const textAt = (
   x, y, size, text, more = 'text-anchor="middle"'

@@ -1,6 +1,6 @@
 // The picture of a scene, as SVG: boxes and arrows, or of many places dots.
 import { dotsSvg } from './dots.js';
-import { SHADE, SOFT, arrow, boxAt, boxSwatch, framed, isQuiet, labelAt, labelSize, legendOf, orderOf, pathOf, shadeAt, shortName, textAt, textWidth, xmlText } from './drawing.js';
+import { SHADE, SOFT, arrow, boxAt, boxSwatch, framed, isQuiet, labelAt, labelSize, legendOf, orderOf, pathOf, shadeAt, textAt, textWidth, xmlText } from './drawing.js';
 import { laidOut, samples } from './layout.js';
 import { Room } from './room.js';
 
@@ -13,8 +13,8 @@ export function svgOf(scene) {
   return scene.nodes.length <= BOXES && scene.links.length <= CURVES ? boxesSvg(scene) : dotsSvg(scene);
 }
 
-function boxSize({ name, note }) {
-  return [Math.max(44, Math.max(textWidth(shortName(name), 13), textWidth(note, 11)) + 16), note ? 38 : 24];
+function boxSize({ short, note }) {
+  return [Math.max(44, Math.max(textWidth(short, 13), textWidth(note, 11)) + 16), note ? 38 : 24];
 }
 
 function taskOf({ nodes, links }) {
@@ -51,7 +51,7 @@ function freeLabels(links, boxes, labels) {
 // The box of a place, with its name and its note.
 function placeBox(node, box, blocks) {
   const note = node.note ? textAt(box.x, box.y + 12.5, 11, node.note, `text-anchor="middle" class="note" fill="${SOFT}"`) : '';
-  return `<g><title>${xmlText(node.name)}</title>${boxAt(box, node.kind, blocks)}${textAt(box.x, box.y + (node.note ? -3 : 4.5), 13, shortName(node.name))}${note}</g>`;
+  return `<g><title>${xmlText(node.name)}</title>${boxAt(box, node.kind, blocks)}${textAt(box.x, box.y + (node.note ? -3 : 4.5), 13, node.short)}${note}</g>`;
 }
 
 // The shade behind the places that block and the routes between them.

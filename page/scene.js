@@ -1,4 +1,4 @@
-// What is drawn of a plan, or of what blocks one. A node has a name, a note, whether it sends, takes or passes on, and its spot; a link its
+// What is drawn of a plan, or of what blocks one. A node has a name, which may be cut in its box, a note, whether it sends, takes or passes on, and its spot; a link its
 // ends from 0, how wide it is, its kind, its label and what is told of it; groups are sets of nodes that block.
 import { size } from './model.js';
 import { allBottlenecks } from './solving.js';
@@ -7,6 +7,8 @@ import { balanceOf } from './report.js';
 // Of more routes than this, those that carry nothing are left out; where no plan exists, of more places than this those that block are
 // drawn, and those next to them.
 const ALL_ROUTES = 90, NEAR = 60;
+// How long a name in a box may be, and what stays of its beginning and its end where it is cut.
+const LONGEST = 24, BEGIN = 12, END = 11;
 
 // All routes if they aren't many, else those that carry something or are shut.
 export function planScene(plan) {
@@ -28,9 +30,9 @@ export function planScene(plan) {
       }
     );
   });
-  const idle = problem.routes.length - links.length;
+  const idle = problem.routes.length - links.length, shorts = shortNames(problem.places.map(({ name }) => name));
   return { heading: `A least-cost plan: cost ${problem.said.total(plan.cost)}${idle ? ` (${idle} idle routes aren't drawn)` : ''}`,
-    nodes: problem.places.map((place, k) => nodeOf(problem, place, plan.places[k].unmet)), links, groups: [],
+    nodes: problem.places.map((place, k) => nodeOf(problem, place, shorts[k], plan.places[k].unmet)), links, groups: [],
     notes: { flowing: `as wide as it carries (widest ${said(widest)})`, full: 'full' } };
 }
 
@@ -53,8 +55,9 @@ export function blockedScene(blocked) {
       title: `${problem.ends(route).join(' -> ')}: ${limitsText(problem, route)}`,
     };
   });
+  const cuts = shortNames(problem.places.map(({ name }) => name));
   const nodes = problem.places.map((place, k) => {
-    const node = nodeOf(problem, place), limit = marked.has(`through ${k} 1`) ? `≤ ${said(place.bounds.most)} pass` : '';
+    const node = nodeOf(problem, place, cuts[k]), limit = marked.has(`through ${k} 1`) ? `≤ ${said(place.bounds.most)} pass` : '';
     return { ...node, note: [node.note, limit].filter(Boolean).join(', ') };
   });
   const [supply, demand] = balanceOf(problem);
@@ -86,11 +89,11 @@ function nearScene(scene) {
   };
 }
 
-function nodeOf(problem, place, unmet = 0n) {
+function nodeOf(problem, place, short, unmet = 0n) {
   const kind = place.supply > 0n ? 'sends' : place.supply < 0n ? 'takes' : 'passes', said = (number) => problem.said.amount(number);
   const note = place.supply ? `${kind} ${said(size(place.supply))}` : '';
   return {
-    name: place.name, note: note + (unmet ? `, ${said(unmet)} ${place.supply > 0n ? 'stays' : 'missing'}` : ''), kind, spot: place.spot,
+    name: place.name, short, note: note + (unmet ? `, ${said(unmet)} ${place.supply > 0n ? 'stays' : 'missing'}` : ''), kind, spot: place.spot,
   };
 }
 
@@ -99,4 +102,34 @@ function limitsText(problem, route) {
   const least = problem.said.amount(route.least), most = problem.said.amount(route.most);
   if (route.both) return `${most || 'any amount'}, either way`;
   return most ? `${least} to ${most}` : `${least} or more`;
+}
+
+// What stands of each name in its box: of long ones their beginning and their end, and of such as would read alike then what is different.
+export function shortNames(names) {
+  const letters = names.map((name) => [...name]), shorts = letters.map((name) => cut(name, name.length - END));
+  tellApart(letters, shorts, letters.map((_, k) => k), 0);
+  return shorts;
+}
+
+// A name, where it is too long its beginning and what begins at a letter.
+function cut(letters, begin) {
+  if (letters.length <= LONGEST) return letters.join('');
+  const rest = letters.slice(Math.max(BEGIN, Math.min(begin, letters.length - END))), first = letters.slice(0, BEGIN).join('');
+  return rest.length <= END ? `${first}…${rest.join('')}` : `${first}…${rest.slice(0, END - 1).join('')}…`;
+}
+
+// Cuts names that read alike where they begin to be different, which is farther on than a letter.
+function tellApart(names, shorts, numbers, begin) {
+  const alike = new Map();
+  for (const k of numbers) {
+    if (!alike.has(shorts[k])) alike.set(shorts[k], []);
+    alike.get(shorts[k]).push(k);
+  }
+  for (const group of alike.values()) {
+    const found = names[group[0]].findIndex((letter, place) => group.some((k) => names[k][place] !== letter));
+    const differ = found < 0 ? names[group[0]].length : found;
+    if (group.length < 2 || differ <= begin) continue;
+    for (const k of group) shorts[k] = cut(names[k], differ);
+    tellApart(names, shorts, group, differ);
+  }
 }

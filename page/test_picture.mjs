@@ -6,7 +6,7 @@ import { FlowNet, FlowPlan } from './flownet.js';
 import { laidOut } from './layout.js';
 import { Problem } from './model.js';
 import { svgOf } from './picture.js';
-import { blockedScene, planScene } from './scene.js';
+import { blockedScene, planScene, shortNames } from './scene.js';
 import { blockedOf, solve } from './solving.js';
 import { loaded } from './test_module.mjs';
 import { solverOf } from './test_plans.mjs';
@@ -37,7 +37,7 @@ const overlap = (a, b, within = 0.11) => b[0] + within < a[2] && a[0] + within <
 // Labels of routes cover no place and no other label.
 function labels(expect) {
   const numbers = Array.from({ length: 16 }, (_, k) => k);
-  const nodes = numbers.map((k) => ({ name: `Werk ${k} München`, note: 'sends 12000', kind: 'sends', spot: [k % 4, Math.floor(k / 4) * 0.4] }));
+  const nodes = numbers.map((k) => ({ name: `Werk ${k} München`, short: `Werk ${k}`, note: 'sends 12000', kind: 'sends', spot: [k % 4, Math.floor(k / 4) * 0.4] }));
   const links = numbers.flatMap((k) => numbers.filter((j) => j !== k && (k + j) % 3).map(
     (j) => ({ tail: k, head: j, width: 1 + k % 7, kind: 'flowing', label: (131.75 * (k + j + 1)).toFixed(2), title: '' })
   ));
@@ -50,7 +50,28 @@ function labels(expect) {
   });
 }
 
+// Long names are cut so that they don't read alike.
+function shorts(expect) {
+  const begin = 'Zentrallager für alkoholfreie Getränke', middle = 'Markt der Genossenschaft';
+  for (const [names, wanted] of [
+    [
+      [`${begin} München Ost`, `${begin} München West`, `${begin} Passau`],
+      ['Zentrallager…München Ost', 'Zentrallager…ünchen West', 'Zentrallager…änke Passau'],
+    ],
+    [
+      [`${middle} Oberbayern im Landkreis 1 Süd`, `${middle} Oberbayern im Landkreis 2 Süd`, `${middle} Niederbayern im Landkreis 2 Süd`],
+      ['Markt der Ge…kreis 1 Süd', 'Markt der Ge…Oberbayern…', 'Markt der Ge…Niederbaye…'],
+    ],
+    [['just twenty-four letters', '😀'.repeat(25)], ['just twenty-four letters', `${'😀'.repeat(12)}…${'😀'.repeat(11)}`]],
+    [['A'.repeat(30), 'A'.repeat(40), 'A'.repeat(29)], null],
+  ]) {
+    const found = shortNames(names);
+    if (wanted) expect(found.join() === wanted.join(), `${found}, and not ${wanted}`);
+  }
+}
+
 export default async function test(expect) {
+  shorts(expect);
   labels(expect);
   const solver = solverOf(loaded());
   for (const name of ['transport', 'blocked', 'network', 'network-blocked', 'models', 'two-causes', 'unbalanced', 'degenerate']) {

@@ -34,11 +34,6 @@ def text_width(text, size):
     return sum(1.0 if unicodedata.east_asian_width(c) in "WF" else 0.62 for c in text) * size
 
 
-def short_name(name):
-    """A name that fits a box."""
-    return name if len(name) <= 24 else name[:23] + "…"
-
-
 def xml_text(text):
     """A text within SVG."""
     return html.escape(

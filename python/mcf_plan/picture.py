@@ -16,7 +16,6 @@ from .drawing import (
     order_of,
     path_of,
     shade_at,
-    short_name,
     text_at,
     text_width,
     xml_text,
@@ -51,7 +50,7 @@ def task_of(scene):
 
 def box_size(node):
     """The width and the height of a place's box."""
-    wide = max(text_width(short_name(node.name), 13), text_width(node.note, 11))
+    wide = max(text_width(node.short, 13), text_width(node.note, 11))
     return max(44, wide + 16), 38 if node.note else 24
 
 
@@ -94,7 +93,7 @@ def place_box(node, box, blocks):
     """The box of a place, with its name and its note."""
     lines = [
         box_at(box, node.kind, blocks),
-        text_at(box.x, box.y + (-3 if node.note else 4.5), 13, short_name(node.name)),
+        text_at(box.x, box.y + (-3 if node.note else 4.5), 13, node.short),
     ]
     if node.note:
         more = f'{CENTRED} class="note" fill="{SOFT}"'

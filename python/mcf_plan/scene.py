@@ -1,15 +1,18 @@
 """What is drawn of a plan, or of what blocks one."""
 import collections
+import os
 
 from .flownet import Use
 
 # Of more routes than the first, those that carry nothing are left out; where no plan exists, of
 # more places than the second those that block are drawn, and those next to them.
 ALL_ROUTES, NEAR = 90, 60
-# A place: what stands in its box, whether it sends, takes or passes on, and its spot on a map. A
-# route: from one place to another by their numbers from 0, how wide it is, its kind (a word of
-# COLOURS), its label and what is told of it.
-Node = collections.namedtuple("Node", "name note kind spot")
+# How long a name in a box may be, and what stays of its beginning and its end where it is cut.
+LONGEST, BEGIN, END = 24, 12, 11
+# A place: its name, and what stands of it in its box, what else stands there, whether it sends,
+# takes or passes on, and its spot on a map. A route: from one place to another by their numbers
+# from 0, how wide it is, its kind (a word of COLOURS), its label and what is told of it.
+Node = collections.namedtuple("Node", "name short note kind spot")
 Link = collections.namedtuple("Link", "tail head width kind label title")
 # What is drawn: groups are sets of nodes that block, notes are what the legend says of the routes,
 # by their kinds.
@@ -29,8 +32,10 @@ def plan_scene(plan):
     heading = f"A least-cost plan: cost {total(plan.cost)}" + (
         f" ({left_out} idle routes aren't drawn)" if left_out else ""
     )
+    shorts = short_names([place.name for place in problem.places])
     nodes = [
-        node_of(problem, place, result.unmet) for place, result in zip(problem.places, plan.places)
+        node_of(problem, *each)
+        for each in zip(problem.places, shorts, (result.unmet for result in plan.places))
     ]
     return Scene(
         heading,
@@ -91,9 +96,10 @@ def blocked_scene(blocked):
             sum(max(0, sign * place.supply) for place in problem.places) for sign in (1, -1)
         )
         heading = f"No plan exists: supply {amount(supply)}, demand {amount(demand)}"
+    shorts = short_names([place.name for place in problem.places])
     nodes = [
-        limited(node_of(problem, place), Use("through", number) in marked, place, amount)
-        for number, place in enumerate(problem.places)
+        limited(node_of(problem, place, short), Use("through", number) in marked, place, amount)
+        for number, (place, short) in enumerate(zip(problem.places, shorts))
     ]
     scene = Scene(heading, nodes, links, groups, {"limits": "limits them"} if marked else {})
     return near_scene(scene) if len(scene.nodes) > NEAR and any(groups) else scene
@@ -134,13 +140,14 @@ def near_scene(scene):
     )
 
 
-def node_of(problem, place, unmet=0):
+def node_of(problem, place, short, unmet=0):
     """A place as it is drawn."""
     kind = "sends" if place.supply > 0 else "takes" if place.supply < 0 else "passes"
     note = f"{kind} {problem.said.amount(abs(place.supply))}" if place.supply else ""
     word = "stays" if place.supply > 0 else "missing"
     return Node(
         place.name,
+        short,
         note + (f", {problem.said.amount(unmet)} {word}" if unmet else ""),
         kind,
         place.spot,
@@ -153,3 +160,33 @@ def limits_text(problem, route):
     if route.both:
         return f"{most or 'any amount'}, either way"
     return f"{least} to {most}" if most else f"{least} or more"
+
+
+def short_names(names):
+    """What stands of each name in its box: of long ones their beginning and their end, and of such
+    as would read alike then what is different."""
+    shorts = [cut(name, len(name) - END) for name in names]
+    tell_apart(names, shorts, range(len(names)), 0)
+    return shorts
+
+
+def cut(name, begin):
+    """A name, where it is too long its beginning and what begins at a letter."""
+    if len(name) <= LONGEST:
+        return name
+    rest = name[max(BEGIN, min(begin, len(name) - END)) :]
+    return f"{name[:BEGIN]}…{rest}" if len(rest) <= END else f"{name[:BEGIN]}…{rest[:END - 1]}…"
+
+
+def tell_apart(names, shorts, numbers, begin):
+    """Cuts names that read alike where they begin to be different, which is farther on than a
+    letter."""
+    alike = collections.defaultdict(list)
+    for number in numbers:
+        alike[shorts[number]].append(number)
+    for group in alike.values():
+        differ = len(os.path.commonprefix([names[number] for number in group]))
+        if len(group) > 1 and differ > begin:
+            for number in group:
+                shorts[number] = cut(names[number], differ)
+            tell_apart(names, shorts, group, differ)

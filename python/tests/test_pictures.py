@@ -8,6 +8,30 @@ from unittest import mock
 from mcf_plan import layout, picture, scene
 from support import PLACES, ROUTES, WithFolder, script
 
+# Long names, and what stands of them in boxes: their ends, or where they differ.
+LONG_NAMES = (
+    (
+        [
+            "Zentrallager für alkoholfreie Getränke München Ost",
+            "Zentrallager für alkoholfreie Getränke München West",
+            "Zentrallager für alkoholfreie Getränke Passau",
+        ],
+        ["Zentrallager…München Ost", "Zentrallager…ünchen West", "Zentrallager…änke Passau"],
+    ),
+    (
+        [
+            "Markt der Genossenschaft Oberbayern im Landkreis 1 Süd",
+            "Markt der Genossenschaft Oberbayern im Landkreis 2 Süd",
+            "Markt der Genossenschaft Niederbayern im Landkreis 2 Süd",
+        ],
+        ["Markt der Ge…kreis 1 Süd", "Markt der Ge…Oberbayern…", "Markt der Ge…Niederbaye…"],
+    ),
+    (
+        ["just twenty-four letters", "ß" * 25],
+        ["just twenty-four letters", "ß" * 12 + "…" + "ß" * 11],
+    ),
+)
+
 
 def rectangles(drawn, kind):
     """The edges of the rectangles of a class, in their order."""
@@ -140,7 +164,8 @@ class Pictures(WithFolder):
     def test_labels_of_routes_cover_no_place_and_no_other_label(self):
         spots = [(k % 4, k // 4 * 0.4) for k in range(16)]
         nodes = [
-            scene.Node(f"Werk {k} München", "sends 12000", "sends", spots[k]) for k in range(16)
+            scene.Node(f"Werk {k} München", f"Werk {k}", "sends 12000", "sends", spots[k])
+            for k in range(16)
         ]
         links = [
             scene.Link(k, j, 1 + k % 7, "flowing", f"{131.75 * (k + j + 1):.2f}", "")
@@ -157,6 +182,16 @@ class Pictures(WithFolder):
                 self.assertFalse(overlap(label, box, 3), (label, box))
             for other in labels[:number]:
                 self.assertFalse(overlap(label, other), (label, other))
+
+    def test_long_names_are_cut_where_they_are_alike(self):
+        for names, shorts in LONG_NAMES:
+            self.assertEqual(scene.short_names(names), shorts)
+        places = "".join(f"{name},{sign}\n" for name, sign in zip(LONG_NAMES[0][0], (2, -1, -1)))
+        routes = "".join(f"{LONG_NAMES[0][0][0]},{name},1,1\n" for name in LONG_NAMES[0][0][1:])
+        texts = self.drawn("name,supply\n" + places, "from,to,most,cost\n" + routes)
+        self.assertLessEqual(set(LONG_NAMES[0][1]), set(texts))
+        for name in LONG_NAMES[0][0]:
+            self.assertIn(f"<title>{name}</title>", (self.out / "plan.svg").read_text())
 
     def test_a_graphviz_that_fails_is_as_good_as_none(self):
         path = f"{self.folder}:{os.environ['PATH']}"
