@@ -20,7 +20,7 @@ export function dotsSvg(scene) {
       `<circle cx="${f(spots[k][0])}" cy="${f(spots[k][1])}" r="${node.note ? 3.4 : 2.2}" fill="${DOTS[node.kind]}"${edge}><title>${xmlText(node.note ? `${node.name}: ${node.note}` : node.name)}</title></circle>`
     );
   });
-  return framed(spots, scene, body, legendOf(scene, dotSwatch));
+  return framed(spots, scene, body, legendOf(scene, dotSwatch), 'dots');
 }
 
 function dotSpots({ nodes, links }) {

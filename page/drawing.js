@@ -73,13 +73,13 @@ export function labelAt(link, x, y) {
 
 // ---- The whole
 
-// A whole picture: its frame, its heading, what stands in it and the legend below.
-export function framed(points, scene, body, [lines, across]) {
+// A whole picture: its frame, its heading, what stands in it and the legend below. Its kind is a class of the page's style.
+export function framed(points, scene, body, [lines, across], kind = 'boxes') {
   const [west, north, east, south] = edgesOf(points), size = Math.max(1, (east - west) / PAGE);
   const left = west - 32, right = east + 32, top = north - 38 - 32 * size, bottom = south + 20 + 36 * size;
   const within = Math.max(across, textWidth(scene.heading, 17)) * size;
   const wide = Math.max(left + 48 + within, right) - left, high = bottom - top;
-  return [`<svg xmlns="http://www.w3.org/2000/svg" role="img" aria-label="${xmlText(scene.heading).replace(/"/g, '&quot;')}" width="${wide.toFixed(0)}" height="${high.toFixed(0)}" viewBox="${[left, top, wide, high].map(f).join(' ')}" ${FONT} fill="${INK}">`,
+  return [`<svg xmlns="http://www.w3.org/2000/svg" class="${kind}" role="img" aria-label="${xmlText(scene.heading).replace(/"/g, '&quot;')}" width="${wide.toFixed(0)}" height="${high.toFixed(0)}" viewBox="${[left, top, wide, high].map(f).join(' ')}" ${FONT} fill="${INK}">`,
     `<rect class="ground" x="${f(left)}" y="${f(top)}" width="${f(wide)}" height="${f(high)}" fill="#ffffff"/>`,
     placed(left + 24, top + 32 * size, size, [textAt(0, 0, 17, scene.heading, `${LEFT} font-weight="bold"`)]),
     ...body, placed(left + 24, bottom - 20 * size, size, lines), '</svg>'].join('\n');

@@ -1,8 +1,9 @@
-// The picture of a scene, as SVG: boxes and arrows, or of many places dots.
+// The picture of a scene, as SVG: boxes and arrows; of many places dots, or rows where some send and the others take.
 import { dotsSvg } from './dots.js';
 import { SHADE, SOFT, arrow, boxAt, boxSwatch, framed, isQuiet, labelAt, labelSize, legendOf, orderOf, pathOf, shadeAt, textAt, textWidth, xmlText } from './drawing.js';
 import { laidOut, samples } from './layout.js';
 import { Room } from './room.js';
+import { rowsAreBetter, rowsSvg } from './rows.js';
 
 // Of more places or routes than these no boxes are drawn but dots.
 const BOXES = 300, CURVES = 1500;
@@ -10,7 +11,8 @@ const BOXES = 300, CURVES = 1500;
 const INNER = 3;
 
 export function svgOf(scene) {
-  return scene.nodes.length <= BOXES && scene.links.length <= CURVES ? boxesSvg(scene) : dotsSvg(scene);
+  if (scene.nodes.length > BOXES || scene.links.length > CURVES) return dotsSvg(scene);
+  return rowsAreBetter(scene) ? rowsSvg(scene) : boxesSvg(scene);
 }
 
 function boxSize({ short, note }) {

@@ -70,10 +70,33 @@ function shorts(expect) {
   }
 }
 
+// Many places that send and many that take are rows: all names, each route once, no boxes that overlap, and large enough on a page.
+async function rowsDrawn(expect, solver) {
+  const numbers = Array.from({ length: 150 }, (_, k) => k);
+  const places = numbers.map((k) => `Werk ${k},${k % 3 + 1}\nMarkt ${k},${-(k % 3) - 1}\n`).join('');
+  const routes = numbers.flatMap((k) => numbers.map((j) => `Werk ${k},Markt ${j},${1 + j % 2},${Math.abs(k - j) % 7 + 1}\n`)).join('');
+  const scene = await sceneOf(solver, [{ name: 'places', text: `name,supply\n${places}` }, { name: 'routes', text: `from,to,most,cost\n${routes}` }]);
+  const svg = svgOf(scene), [, wide] = /viewBox="\S+ \S+ (\S+)/.exec(svg).map(Number);
+  for (const k of numbers) expect(svg.includes(`>Werk ${k}</text>`) && svg.includes(`>Markt ${k}</text>`), `rows: a name lacks: ${k}`);
+  expect(12 * 1310 / wide > 9 && wide > 900, `rows: ${wide} wide`);
+  expect(count(svg, '<g class="f') - 2 === scene.links.length, 'rows: a row for each route');
+  const boxes = [...rectangles(svg, 'sends').slice(0, -1), ...rectangles(svg, 'takes').slice(0, -2)];
+  expect(!boxes.some((one, k) => boxes.slice(0, k).some((other) => overlap(one, other))), 'rows: boxes overlap');
+  for (const [many, kind] of [[20, 'boxes'], [21, 'rows']]) {
+    const nodes = Array.from({ length: many + 2 }, (_, k) => ({ name: `P${k}`, short: `P${k}`, note: '', kind: 'passes', spot: null }));
+    for (const side of [0, 1]) {
+      const links = nodes.slice(2).map((_, k) => ({ tail: side ? k + 1 : 0, head: side ? 0 : k + 1, width: 2, kind: 'flowing', label: '2', title: '' }));
+      const drawing = svgOf({ heading: '', nodes, links, groups: [], notes: {} });
+      expect(drawing.includes(` class="${kind}"`) && nodes.every(({ name }) => drawing.includes(`>${name}</text>`)), `${many} places that take: ${kind}`);
+    }
+  }
+}
+
 export default async function test(expect) {
   shorts(expect);
   labels(expect);
   const solver = solverOf(loaded());
+  await rowsDrawn(expect, solver);
   for (const name of ['transport', 'blocked', 'network', 'network-blocked', 'models', 'two-causes', 'unbalanced', 'degenerate']) {
     const sources = ['places.csv', 'routes.csv'].map((file) => ({ name: file, bytes: fs.readFileSync(path.join(plans, name, file)) }));
     const scene = await sceneOf(solver, sources);

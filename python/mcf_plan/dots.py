@@ -30,7 +30,7 @@ def dots_svg(scene):
             f'<circle cx="{x:.1f}" cy="{y:.1f}" r="{3.4 if node.note else 2.2}"'
             f' fill="{DOTS[node.kind]}"{edge}><title>{xml_text(told)}</title></circle>'
         )
-    return framed(layout.edges_of(spots), scene, body, legend_of(scene, dot_swatch))
+    return framed(layout.edges_of(spots), scene, body, legend_of(scene, dot_swatch), "dots")
 
 
 def dot_spots(scene):

@@ -138,8 +138,9 @@ def label_at(link, x, y):
 # ---- The whole
 
 
-def framed(edges, scene, body, legend):
-    """A whole picture: its frame, its heading, what stands in it and the legend below."""
+def framed(edges, scene, body, legend, kind="boxes"):
+    """A whole picture: its frame, its heading, what stands in it and the legend below. Its kind is
+    a class of the page's style."""
     size = max(1, (edges[2] - edges[0]) / PAGE)
     lines, across = legend
     left, right = edges[0] - 32, edges[2] + 32
@@ -151,7 +152,7 @@ def framed(edges, scene, body, legend):
         "\n".join(
             [
                 (
-                    f'<svg xmlns="http://www.w3.org/2000/svg" width="{wide:.0f}"'
+                    f'<svg xmlns="http://www.w3.org/2000/svg" class="{kind}" width="{wide:.0f}"'
                     f' height="{high:.0f}" viewBox="{left:.1f} {top:.1f} {wide:.1f} {high:.1f}"'
                 ),
                 f'{FONT} fill="{INK}">',

@@ -1,5 +1,6 @@
-"""The picture of a scene, as SVG: boxes and arrows, or of many places dots."""
-from . import layout
+"""The picture of a scene, as SVG: boxes and arrows; of many places dots, or rows where some send
+and the others take."""
+from . import layout, rows
 from .dots import dots_svg
 from .drawing import (
     CENTRED,
@@ -32,7 +33,7 @@ def svg_of(scene):
     """The picture of a scene."""
     if len(scene.nodes) > BOXES or len(scene.links) > CURVES:
         return dots_svg(scene)
-    return boxes_svg(scene)
+    return rows.rows_svg(scene) if rows.are_better(scene) else boxes_svg(scene)
 
 
 def task_of(scene):

@@ -2,11 +2,12 @@
 import itertools
 import math
 import os
+import re
 import xml.etree.ElementTree
 from unittest import mock
 
 from mcf_plan import layout, picture, scene
-from support import PLACES, ROUTES, WithFolder, script
+from support import PLACES, ROUTES, WithFolder, rows_of, script
 
 # Long names, and what stands of them in boxes: their ends, or where they differ.
 LONG_NAMES = (
@@ -192,6 +193,38 @@ class Pictures(WithFolder):
         self.assertLessEqual(set(LONG_NAMES[0][1]), set(texts))
         for name in LONG_NAMES[0][0]:
             self.assertIn(f"<title>{name}</title>", (self.out / "plan.svg").read_text())
+
+    def test_many_that_send_and_many_that_take_are_rows(self):
+        places = "".join(f"Werk {k},{k % 3 + 1}\nMarkt {k},{-(k % 3) - 1}\n" for k in range(150))
+        routes = "".join(
+            f"Werk {k},Markt {j},{1 + j % 2},{abs(k - j) % 7 + 1}\n"
+            for k, j in itertools.product(range(150), repeat=2)
+            if abs(k - j) < 20
+        )
+        texts = self.drawn("name,supply\n" + places, "from,to,most,cost\n" + routes)
+        drawn = (self.out / "plan.svg").read_text()
+        for name in ("Werk", "Markt"):
+            self.assertLessEqual({f"{name} {k}" for k in range(150)}, set(texts))
+        left, top, wide, high = map(float, re.search('viewBox="(.*?)"', drawn)[1].split())
+        # On a page 1310 wide the names are at least 9 px high, and the page is used.
+        self.assertGreater(12 * 1310 / wide, 9)
+        self.assertGreater(wide, 900)
+        carried = sum(row["carries"] != "0" for row in rows_of(self.out / "flows.csv"))
+        self.assertEqual(drawn.count('<g class="f') - 2, carried)
+        boxes = rectangles(drawn, "sends")[:-1] + rectangles(drawn, "takes")[:-2]
+        for one, other in itertools.combinations(boxes, 2):
+            self.assertFalse(overlap(one, other), (one, other))
+
+    def test_few_that_send_or_take_are_boxes(self):
+        for count, kind in ((20, "boxes"), (21, "rows")):
+            nodes = [scene.Node(f"P{k}", f"P{k}", "", "passes", None) for k in range(count + 2)]
+            links = [scene.Link(0, k + 1, 2, "flowing", "2", "") for k in range(count)]
+            for turned in (False, True):
+                ends = [link._replace(tail=link.head, head=link.tail) for link in links]
+                drawn = picture.svg_of(scene.Scene("", nodes, ends if turned else links, [], {}))
+                self.assertIn(f'<svg xmlns="http://www.w3.org/2000/svg" class="{kind}"', drawn)
+                for node in nodes:
+                    self.assertIn(f">{node.name}</text>", drawn)
 
     def test_a_graphviz_that_fails_is_as_good_as_none(self):
         path = f"{self.folder}:{os.environ['PATH']}"
