@@ -99,6 +99,14 @@ async function planner(page, { set, act, go, kind, example, ended }) {
   expect(await page.run(`document.activeElement === ${cell('most', 'Mühle Nord', 'Lager Linz')}`), 'the changed cell keeps the focus');
   ({ text } = await act("[...document.querySelectorAll('#result button')].find((it) => it.textContent === 'Take it back').click()"));
   expect(text.includes('Least cost: 980'), 'a change is taken back');
+  await set('title', 'Week <7>');
+  ({ text } = await go());
+  const above = await page.run("[...document.querySelectorAll('.picture svg text')].slice(0, 3).map((it) => it.textContent).join('|')");
+  expect(
+    /^Week <7>\nLeast cost: 980\n+\d{4}-\d\d-\d\d: Places, Routes\n/.test(text) && await page.run('document.title') === 'Week <7>'
+      && /^Week <7>\|A least-cost plan: cost 980\|\d{4}-\d\d-\d\d: Places, Routes$/.test(above), `title, date and tables: ${above}`
+  );
+  await set('title', '');
   const blocked = await change('supply', 'Bäckerei Wien', '', -37);
   expect(
     blocked.status === 'blocked' && blocked.text.includes('supply 110, demand 111') && blocked.text.includes('Before, a plan cost 980.'),

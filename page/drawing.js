@@ -75,14 +75,20 @@ export function labelAt(link, x, y) {
 
 // A whole picture: its frame, its heading, what stands in it and the legend below. Its kind is a class of the page's style.
 export function framed(points, scene, body, [lines, across], kind = 'boxes') {
-  const [west, north, east, south] = edgesOf(points), size = Math.max(1, (east - west) / PAGE);
-  const left = west - 32, right = east + 32, top = north - 38 - 32 * size, bottom = south + 20 + 36 * size;
-  const within = Math.max(across, textWidth(scene.heading, 17)) * size;
-  const wide = Math.max(left + 48 + within, right) - left, high = bottom - top;
+  const [west, north, east, south] = edgesOf(points), size = Math.max(1, (east - west) / PAGE), [headings, along] = headingsOf(scene);
+  const left = west - 32, right = east + 32, top = north - 38 - (12 + 20 * headings.length) * size, bottom = south + 20 + 36 * size;
+  const wide = Math.max(left + 48 + Math.max(across, along) * size, right) - left, high = bottom - top;
   return [`<svg xmlns="http://www.w3.org/2000/svg" class="${kind}" role="img" aria-label="${xmlText(scene.heading).replace(/"/g, '&quot;')}" width="${wide.toFixed(0)}" height="${high.toFixed(0)}" viewBox="${[left, top, wide, high].map(f).join(' ')}" ${FONT} fill="${INK}">`,
     `<rect class="ground" x="${f(left)}" y="${f(top)}" width="${f(wide)}" height="${f(high)}" fill="#ffffff"/>`,
-    placed(left + 24, top + 32 * size, size, [textAt(0, 0, 17, scene.heading, `${LEFT} font-weight="bold"`)]),
+    placed(left + 24, top + 32 * size, size, headings),
     ...body, placed(left + 24, bottom - 20 * size, size, lines), '</svg>'].join('\n');
+}
+
+// What stands above a picture, and how wide that is: the title, the heading, the tables.
+function headingsOf({ heading, caption }) {
+  const texts = (caption ? [caption.title, heading, caption.source] : [heading]).filter(Boolean), size = (k) => (k ? 12 : 17);
+  const more = (k) => `${LEFT} ${k ? `class="note" fill="${SOFT}"` : 'font-weight="bold"'}`;
+  return [texts.map((text, k) => textAt(0, 20 * k, size(k), text, more(k))), Math.max(...texts.map((text, k) => textWidth(text, size(k))))];
 }
 
 // What is drawn around 0, 0, elsewhere and greater.

@@ -62,6 +62,13 @@ function choices() {
   };
 }
 
+// What stands above a plan and its picture: the title, the date and the tables.
+function captionOf(kind) {
+  const now = new Date(), names = { flow: ['places', 'routes'], pairs: ['costs'], text: ['dimacs'] }[kind].map((id) => sourceOf(id).name);
+  const date = [now.getFullYear(), now.getMonth() + 1, now.getDate()].map((part) => String(part).padStart(2, '0')).join('-');
+  return { title: $('title').value.trim(), source: `${date}: ${names.join(', ')}` };
+}
+
 // Files that were chosen or dropped: which of the fields they are for, their beginning says.
 async function take(list) {
   for (const file of list) {
@@ -95,7 +102,7 @@ function example(number) {
   $('heads').value = heads;
   $('unused').checked = unused;
   $('short').checked = false;
-  $('decimal').value = $('encoding').value = $('each').value = '';
+  $('title').value = $('decimal').value = $('encoding').value = $('each').value = '';
 }
 
 // ---- Running
@@ -113,7 +120,7 @@ async function go(change = null) {
       const source = sourceOf('dimacs');
       return runText(solver, source.bytes || new TextEncoder().encode(source.text), asked);
     } };
-    const shown = await run[kind]();
+    const shown = { caption: captionOf(kind), ...await run[kind]() };
     plan = shown.plan || before;
     show(shown, change, before);
     status = shown.result.status;
@@ -161,14 +168,16 @@ function replaceResult(...parts) {
 const paragraph = (text, className = null) => el('p', className ? { class: className } : {}, pageWords(text));
 
 function show(shown, change, before) {
-  const { result, instance, mark } = shown, [words, figure] = shown.headline, settings = { mark, change: changed };
-  const drawn = shown.scene && svgOf(shown.scene());
+  const { result, instance, mark, caption } = shown, [words, figure] = shown.headline, settings = { mark, change: changed };
+  const drawn = shown.scene && svgOf(shown.scene(caption));
+  document.title = caption.title || 'Least-cost plans';
   const differs = change && changeParts(shown, change, before);
   grids = [...shown.sheets, ...(differs ? differs.sheets : [])].map((sheet) => new Grid(sheet, settings));
   const apart = grids.splice(shown.sheets.length).map((grid) => { grids.unshift(grid); return grid.element; });
   const ms = (time) => `${time < 10 ? time.toFixed(1) : time.toFixed(0)} ms`;
   replaceResult(
-    el('h2', { class: shown.isPlan ? null : 'none', role: 'status', tabindex: -1 }, words, grouped(figure, mark)),
+    el('h2', { class: shown.isPlan ? null : 'none', role: 'status', tabindex: -1 }, caption.title ? [caption.title, el('br')] : '', words, grouped(figure, mark)),
+    el('p', { class: 'soft' }, caption.source),
     el('p', { class: 'soft', id: 'seal' }, `✓ ${result.verdict}: so says the proved checker in this page, of this very answer.`),
     shown.lead.map((line) => paragraph(line)),
     differs && el('div', { class: 'changed' }, differs.parts, apart),

@@ -1,8 +1,8 @@
 // What is drawn of a plan, or of what blocks one. A node has a name, which may be cut in its box, a note, whether it sends, takes or passes on, and its spot; a link its
 // ends from 0, how wide it is, its kind, its label and what is told of it; groups are sets of nodes that block.
 import { size } from './model.js';
-import { allBottlenecks } from './solving.js';
 import { balanceOf } from './report.js';
+import { grouped } from './view.js';
 
 // Of more routes than this, those that carry nothing are left out; where no plan exists, of more places than this those that block are
 // drawn, and those next to them.
@@ -10,9 +10,14 @@ const ALL_ROUTES = 90, NEAR = 60;
 // How long a name in a box may be, and what stays of its beginning and its end where it is cut.
 const LONGEST = 24, BEGIN = 12, END = 11;
 
+// Numbers of a problem as pages have them: with narrow blanks between their thousands.
+const figuresOf = ({ units, said: { mark } }) => (
+  { amount: (number) => grouped(units.amount(number), mark), total: (number) => grouped(units.total(number), mark) }
+);
+
 // All routes if they aren't many, else those that carry something or are shut.
-export function planScene(plan) {
-  const { problem } = plan, said = (number) => problem.said.amount(number), links = [];
+export function planScene(plan, caption) {
+  const { problem } = plan, { amount: said, total } = figuresOf(problem), links = [];
   const widest = plan.routes.reduce((most, { carries }) => (size(carries) > most ? size(carries) : most), 0n);
   problem.routes.forEach((route, k) => {
     const result = plan.routes[k];
@@ -26,19 +31,19 @@ export function planScene(plan) {
         width: carries ? 1.4 + 7.6 * Number(size(carries)) / Number(widest) : 1,
         kind: plan.isFull(k) ? 'full' : carries ? 'flowing' : 'idle',
         label: carries ? said(carries) : '',
-        title: `${(turned ? names.reverse() : names).join(' -> ')}: ${said(carries)} of ${limitsText(problem, route)}, cost ${problem.said.total(result.cost)}`,
+        title: `${(turned ? names.reverse() : names).join(' -> ')}: ${said(carries)} of ${limitsText(problem, route)}, cost ${total(result.cost)}`,
       }
     );
   });
   const idle = problem.routes.length - links.length, shorts = shortNames(problem.places.map(({ name }) => name));
-  return { heading: `A least-cost plan: cost ${problem.said.total(plan.cost)}${idle ? ` (${idle} idle routes aren't drawn)` : ''}`,
+  return { heading: `A least-cost plan: cost ${total(plan.cost)}${idle ? ` (${idle} idle routes aren't drawn)` : ''}`,
     nodes: problem.places.map((place, k) => nodeOf(problem, place, shorts[k], plan.places[k].unmet)), links, groups: [],
-    notes: { flowing: `as wide as it carries (widest ${said(widest)})`, full: 'full' } };
+    notes: { flowing: `as wide as it carries (widest ${said(widest)})`, full: 'full' }, caption };
 }
 
 // The bottlenecks, and of many places just those and what is next to them.
-export function blockedScene(blocked) {
-  const net = blocked.eased, { problem } = net, said = (number) => problem.said.amount(number), marked = new Map();
+export function blockedScene(blocked, caption) {
+  const net = blocked.eased, { problem } = net, { amount: said } = figuresOf(problem), marked = new Map();
   const key = ({ kind, number, sign }) => `${kind} ${number} ${sign}`;
   for (const found of blocked.bottlenecks) {
     for (const k of found.forcing) marked.set(key(net.uses[k]), 'forces');
@@ -60,13 +65,16 @@ export function blockedScene(blocked) {
     const node = nodeOf(problem, place, cuts[k]), limit = marked.has(`through ${k} 1`) ? `≤ ${said(place.bounds.most)} pass` : '';
     return { ...node, note: [node.note, limit].filter(Boolean).join(', ') };
   });
-  const [supply, demand] = balanceOf(problem);
-  const shorts = allBottlenecks(blocked).slice(0, 3).map((found) => `short by ${said(found.must - found.can)}`);
-  const heading = blocked.isUnbalanced ? `No plan exists: supply ${said(supply)}, demand ${said(demand)}`
-    : `No plan exists: ${shorts.join('; ')}`;
   const groups = blocked.bottlenecks.map((found) => new Set(found.nodes.map((node) => net.placeOf[node - 1])));
-  const scene = { heading, nodes, links, groups, notes: marked.size ? { limits: 'limits them' } : {} };
+  const scene = { heading: `No plan exists: ${whyBlocked(blocked)}`, nodes, links, groups, notes: marked.size ? { limits: 'limits them' } : {}, caption };
   return nodes.length > NEAR && groups.length ? nearScene(scene) : scene;
+}
+
+// Why no plan exists, in a few words.
+export function whyBlocked({ net: { problem }, isUnbalanced, bottlenecks }) {
+  const { amount } = figuresOf(problem), [supply, demand] = balanceOf(problem);
+  if (isUnbalanced) return `supply ${amount(supply)}, demand ${amount(demand)}`;
+  return bottlenecks.slice(0, 3).map((found) => `short by ${amount(found.must - found.can)}`).join(', ');
 }
 
 // The places of a scene that block, and those that a route joins with them.
@@ -90,7 +98,7 @@ function nearScene(scene) {
 }
 
 function nodeOf(problem, place, short, unmet = 0n) {
-  const kind = place.supply > 0n ? 'sends' : place.supply < 0n ? 'takes' : 'passes', said = (number) => problem.said.amount(number);
+  const kind = place.supply > 0n ? 'sends' : place.supply < 0n ? 'takes' : 'passes', { amount: said } = figuresOf(problem);
   const note = place.supply ? `${kind} ${said(size(place.supply))}` : '';
   return {
     name: place.name, short, note: note + (unmet ? `, ${said(unmet)} ${place.supply > 0n ? 'stays' : 'missing'}` : ''), kind, spot: place.spot,
@@ -99,7 +107,7 @@ function nodeOf(problem, place, short, unmet = 0n) {
 
 // What a route carries at least and at most.
 function limitsText(problem, route) {
-  const least = problem.said.amount(route.least), most = problem.said.amount(route.most);
+  const [least, most] = [route.least, route.most].map(figuresOf(problem).amount);
   if (route.both) return `${most || 'any amount'}, either way`;
   return most ? `${least} to ${most}` : `${least} or more`;
 }

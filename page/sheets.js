@@ -5,7 +5,7 @@ import { listed } from './faults.js';
 import { size } from './model.js';
 import { allBottlenecks } from './solving.js';
 import { cellAt } from './tables.js';
-import { blockedScene, planScene } from './scene.js';
+import { blockedScene, planScene, whyBlocked } from './scene.js';
 
 const column = (head, meaning = '', more = {}) => ({ head, meaning, ...more });
 const number = (head, meaning, more = {}) => column(head, meaning, { number: true, ...more });
@@ -41,7 +41,7 @@ export function planShown(plan) {
     ],
     facts,
     findings: [],
-    scene: () => planScene(plan),
+    scene: (caption) => planScene(plan, caption),
     sheets: [...savingsSheet(plan), routesSheet(plan), placesSheet(plan)],
     tables: () => [flowsTable(plan), pricesTable(plan)],
   };
@@ -152,8 +152,6 @@ function placesSheet(plan) {
 
 export function blockedShown(blocked) {
   const { problem } = blocked.net, said = (amount) => problem.said.amount(amount), [supply, demand] = balanceOf(problem);
-  const headline = blocked.isUnbalanced ? `supply ${said(supply)}, demand ${said(demand)}`
-    : blocked.bottlenecks.slice(0, 3).map((found) => `short by ${said(found.must - found.can)}`).join(', ');
   const findings = blocked.bottlenecks.map((found) => bottleneckFinding(blocked.eased, found));
   if (blocked.isUnbalanced) {
     findings.unshift(
@@ -166,7 +164,7 @@ export function blockedShown(blocked) {
   }
   return {
     isPlan: false,
-    headline: ['No plan exists: ', headline],
+    headline: ['No plan exists: ', whyBlocked(blocked)],
     mark: problem.said.mark,
     lead: [
       ...warnings(blocked.net), 'Whatever way amounts go, these places must send or take more than the routes around them carry.',
@@ -174,7 +172,7 @@ export function blockedShown(blocked) {
     ],
     facts: [],
     findings,
-    scene: () => blockedScene(blocked),
+    scene: (caption) => blockedScene(blocked, caption),
     sheets: [...limitingSheet(blocked), ...inputSheets(problem)],
     tables: () => [bottleneckTable(blocked.eased, allBottlenecks(blocked))],
   };

@@ -14,9 +14,11 @@ import { solverOf } from './test_plans.mjs';
 const plans = path.join(path.dirname(fileURLToPath(import.meta.url)), '..', 'examples', 'plans');
 const count = (text, part) => text.split(part).length - 1;
 
+const CAPTION = { title: 'Week <7>', source: '2026-11-27: places.csv, routes.csv' };
+
 async function sceneOf(solver, sources) {
   const problem = new Problem(sources), net = new FlowNet(problem), { text, plan } = await solve(solver, net.instance(), net);
-  return plan ? planScene(new FlowPlan(net, plan)) : blockedScene(await blockedOf(solver, text, net));
+  return plan ? planScene(new FlowPlan(net, plan), CAPTION) : blockedScene(await blockedOf(solver, text, net), CAPTION);
 }
 
 function drawn(expect, name, scene) {
@@ -92,11 +94,23 @@ async function rowsDrawn(expect, solver) {
   }
 }
 
+// The title, the date and the tables stand above the picture, and numbers have their thousands apart.
+async function titles(expect, solver) {
+  const places = { name: 'places', text: 'name;supply\nA;12500\nB;-12500\n' };
+  for (const [most, heading] of [['', 'A least-cost plan: cost 15\u202f625'], ['1', 'No plan exists: short by 12\u202f499']]) {
+    const svg = svgOf(await sceneOf(solver, [places, { name: 'routes', text: `from;to;most;cost\nA;B;${most};1,25\n` }]));
+    const texts = [...svg.matchAll(/<text [^>]*>([^<]*)</g)].map(([, text]) => text);
+    expect(texts.slice(0, 3).join('|') === `Week &lt;7&gt;|${heading}|${CAPTION.source}`, texts.slice(0, 3).join('|'));
+    expect(texts.includes('sends 12\u202f500'), 'a picture without thousands apart');
+  }
+}
+
 export default async function test(expect) {
   shorts(expect);
   labels(expect);
   const solver = solverOf(loaded());
   await rowsDrawn(expect, solver);
+  await titles(expect, solver);
   for (const name of ['transport', 'blocked', 'network', 'network-blocked', 'models', 'two-causes', 'unbalanced', 'degenerate']) {
     const sources = ['places.csv', 'routes.csv'].map((file) => ({ name: file, bytes: fs.readFileSync(path.join(plans, name, file)) }));
     const scene = await sceneOf(solver, sources);

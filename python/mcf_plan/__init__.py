@@ -9,7 +9,7 @@ Reading            tables, workbook, heads, amounts
 What is planned    model (places and routes), roster (persons and things)
 As a network       network, flownet, pairs; an Instance of solve knows where its lines come from
 Answers            solve (both programs), blocked (why there is no plan)
-Writing            folder, results, report, page with flowpage and pairspage, record
+Writing            folder, results, report, caption, page with flowpage and pairspage, record
 Pictures           scene (what is drawn), layout, room, picture with rows and dots, all by drawing
 Two plans          diff; accepted is what mcfcheck accepted again of each
 """

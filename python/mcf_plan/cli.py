@@ -159,9 +159,9 @@ def add_reading(command):
         action="store_true",
         help="write the tables as a workbook, too, as is done where a workbook was read",
     )
-    command.add_argument("--title", help="what the page is called")
-    command.add_argument("--currency", default="", help="what costs are in, for the page")
-    command.add_argument("--unit", default="", help="what amounts are in, for the page")
+    command.add_argument("--title", help="the title of the page and of the picture")
+    command.add_argument("--currency", default="", help="what costs are in, for both")
+    command.add_argument("--unit", default="", help="what amounts are in, for both")
     command.add_argument(
         "--guard-formulas",
         action="store_true",

@@ -1,6 +1,7 @@
 """What `flow` and `pairs` do: tables in, a folder of results out."""
 from . import flowpage, life, pairs, pairspage, picture, report, scene
 from .blocked import Blocked
+from .caption import caption_of
 from .faults import Stop
 from .flownet import FlowNet, FlowPlan, Policy
 from .folder import results_in
@@ -45,13 +46,14 @@ def flow_command(options, reading):
 def plan_results(plan, results, options):
     """Writes what a plan says, and gives the summary."""
     problem, folder = plan.problem, results.folder
+    caption = caption_of(options, problem.place_table, problem.route_table)
     report.write_flows(results, plan)
     report.write_prices(results, plan)
     results.finish()
     lines, page = report.flow_summary(plan), flowpage.plan_page(
-        plan, options, drawn_in(folder, scene.plan_scene(plan), options)
+        plan, options, drawn_in(folder, scene.plan_scene(plan, caption), options)
     )
-    write_page(folder, "instance.min", page, problem.numbers)
+    write_page(folder, page, problem.numbers, caption)
     parts = [
         (*problem.ends(route), problem.units.amount(result.carries))
         for route, result in zip(problem.routes, plan.routes)
@@ -63,14 +65,15 @@ def plan_results(plan, results, options):
 
 def blocked_results(blocked, results, options):
     """Writes why there is no plan, and gives the summary."""
-    folder = results.folder
+    folder, problem = results.folder, blocked.net.problem
+    caption = caption_of(options, problem.place_table, problem.route_table)
     report.write_bottlenecks(results, blocked.eased, blocked.all())
     results.finish()
     lines, page = report.blocked_summary(blocked), flowpage.blocked_page(
-        blocked, options, drawn_in(folder, scene.blocked_scene(blocked), options)
+        blocked, options, drawn_in(folder, scene.blocked_scene(blocked, caption), options)
     )
-    write_page(folder, "instance.min", page, blocked.net.problem.numbers)
-    write_record(folder, "flow", blocked.net, blocked.net.problem.numbers.mark)
+    write_page(folder, page, problem.numbers, caption)
+    write_record(folder, "flow", blocked.net, problem.numbers.mark)
     return lines
 
 
@@ -84,10 +87,10 @@ def drawn_in(folder, shown, options):
     return drawn
 
 
-def write_page(folder, instance, page, numbers):
+def write_page(folder, page, numbers, caption):
     """Writes report.html."""
     with life.doing("writes the page"):
-        text = Writer(folder, instance, numbers.mark).html(page)
+        text = Writer(folder, numbers.mark, caption).html(page)
         (folder / "report.html").write_text(text, encoding="utf-8")
 
 
@@ -117,7 +120,7 @@ def pairs_command(options, reading):
             lines = pairs.blocked_lines(net, found)
             page = pairspage.blocked_page(net, found, options)
         results.finish()
-        write_page(folder, instance.name, page, roster.numbers)
+        write_page(folder, page, roster.numbers, caption_of(options, roster.table))
         write_record(
             folder,
             "pairs",

@@ -142,12 +142,11 @@ def framed(edges, scene, body, legend, kind="boxes"):
     """A whole picture: its frame, its heading, what stands in it and the legend below. Its kind is
     a class of the page's style."""
     size = max(1, (edges[2] - edges[0]) / PAGE)
-    lines, across = legend
+    (lines, across), (headings, along) = legend, headings_of(scene)
     left, right = edges[0] - 32, edges[2] + 32
-    top, bottom = edges[1] - 38 - 32 * size, edges[3] + 20 + 36 * size
-    within = max(across, text_width(scene.heading, 17)) * size
-    wide, high = max(left + 48 + within, right) - left, bottom - top
-    heading = text_at(0, 0, 17, scene.heading, LEFT + ' font-weight="bold"')
+    top = edges[1] - 38 - (12 + 20 * len(headings)) * size
+    bottom = edges[3] + 20 + 36 * size
+    wide, high = max(left + 48 + max(across, along) * size, right) - left, bottom - top
     return (
         "\n".join(
             [
@@ -160,7 +159,7 @@ def framed(edges, scene, body, legend, kind="boxes"):
                     f'<rect class="ground" x="{left:.1f}" y="{top:.1f}" width="{wide:.1f}"'
                     f' height="{high:.1f}" fill="#ffffff"/>'
                 ),
-                at(left + 24, top + 32 * size, size, [heading]),
+                at(left + 24, top + 32 * size, size, headings),
                 *body,
                 at(left + 24, bottom - 20 * size, size, lines),
                 "</svg>",
@@ -174,6 +173,19 @@ def at(x, y, size, lines):
     """What is drawn around 0, 0, elsewhere and greater."""
     grown = f" scale({size:.2f})" if size != 1 else ""
     return "\n".join([f'<g transform="translate({x:.1f} {y:.1f}){grown}">', *lines, "</g>"])
+
+
+def headings_of(scene):
+    """What stands above a picture, and how wide that is: the title, the heading, the tables."""
+    caption = scene.caption
+    texts = [caption.title, scene.heading, caption.source] if caption else [scene.heading]
+    lines, wide = [], 0
+    for text in filter(None, texts):
+        size = 12 if lines else 17
+        more = ' class="note"' + f' fill="{SOFT}"' if lines else ' font-weight="bold"'
+        lines.append(text_at(0, 20 * len(lines), size, text, LEFT + more))
+        wide = max(wide, text_width(text, size))
+    return lines, wide
 
 
 def legend_of(scene, swatch, more=()):

@@ -3,6 +3,7 @@ from . import report
 from .amounts import Figure
 from .heads import RESULTS
 from .page import Page, Share, Sheet, finding, grouped, listed_rows
+from .scene import blocked_heading
 from .tables import cell_at
 from .words import listed
 
@@ -185,19 +186,11 @@ def through_cells(plan, place, through):
 
 def blocked_page(blocked, options, picture):
     """The page where no plan exists."""
-    problem, amount = blocked.net.problem, blocked.net.problem.said.amount
+    problem = blocked.net.problem
     findings = [balance_finding(problem)] if blocked.is_unbalanced else []
     findings += [
         bottleneck_finding(blocked.eased, bottleneck) for bottleneck in blocked.bottlenecks
     ]
-    if blocked.is_unbalanced:
-        supply, demand = report.balance_of(problem)
-        headline = f"No plan exists: supply {amount(supply)}, demand {amount(demand)}"
-    else:
-        headline = "No plan exists: " + ", ".join(
-            f"short by {amount(bottleneck.must - bottleneck.can)}"
-            for bottleneck in blocked.bottlenecks[:3]
-        )
     lead = warnings(blocked.net)
     lead.append(
         "Whatever way amounts go, these places must send or take more than the routes around them"
@@ -206,7 +199,7 @@ def blocked_page(blocked, options, picture):
     lead += problem.told()
     return Page(
         options.title or "No plan exists",
-        headline,
+        blocked_heading(blocked, options.unit),
         False,
         lead,
         [],

@@ -42,8 +42,9 @@ def grouped(number, mark="."):
 class Writer:
     """What makes a page of its parts."""
 
-    def __init__(self, folder, instance, mark):
-        self.folder, self.instance, self.mark = folder, instance, mark or "."
+    def __init__(self, folder, mark, caption):
+        self.folder, self.mark, self.caption = folder, mark or ".", caption
+        self.instance = next(folder.glob("instance.*")).name
 
     def html(self, page):
         """The whole page."""
@@ -51,9 +52,11 @@ class Writer:
         style, script = (
             (here / name).read_text(encoding="utf-8") for name in ("page.css", "page.js")
         )
-        parts = [f'<h1{"" if page.is_plan else " class=none"}>{text(page.headline)}</h1>']
+        title = f"{text(self.caption.title)}<br>" if self.caption.title else ""
+        parts = [f'<h1{"" if page.is_plan else " class=none"}>{title}{text(page.headline)}</h1>']
         parts += (
-            [f"<p>{text(line)}</p>" for line in page.lead]
+            [f'<p class="soft">{text(self.caption.source)}</p>']
+            + [f"<p>{text(line)}</p>" for line in page.lead]
             + [self.seal()]
             + self.facts(page)
             + page.findings

@@ -1,8 +1,11 @@
 """What is drawn of a plan, or of what blocks one."""
 import collections
+import functools
 import os
 
+from .caption import Figures
 from .flownet import Use
+from .report import balance_of
 
 # Of more routes than the first, those that carry nothing are left out; where no plan exists, of
 # more places than the second those that block are drawn, and those next to them.
@@ -15,21 +18,23 @@ LONGEST, BEGIN, END = 24, 12, 11
 Node = collections.namedtuple("Node", "name short note kind spot")
 Link = collections.namedtuple("Link", "tail head width kind label title")
 # What is drawn: groups are sets of nodes that block, notes are what the legend says of the routes,
-# by their kinds.
-Scene = collections.namedtuple("Scene", "heading nodes links groups notes")
+# by their kinds; a caption stands above all.
+Scene = collections.namedtuple(
+    "Scene", "heading nodes links groups notes caption", defaults=(None,)
+)
 
 
-def plan_scene(plan):
+def plan_scene(plan, caption):
     """What is drawn of a plan: all routes if they aren't many, else those that carry something or
     are shut."""
-    problem, amount, total = plan.problem, plan.problem.said.amount, plan.problem.said.total
+    problem, figures = plan.problem, Figures(plan.problem)
     widest, links = max((abs(result.carries) for result in plan.routes), default=0), []
     for number, (route, result) in enumerate(zip(problem.routes, plan.routes)):
         if len(problem.routes) <= ALL_ROUTES or result.carries or route.most == 0:
             kind = "full" if plan.is_full(number) else "flowing" if result.carries else "idle"
             links.append(plan_link(problem, route, result, kind, widest))
     left_out = len(problem.routes) - len(links)
-    heading = f"A least-cost plan: cost {total(plan.cost)}" + (
+    heading = f"A least-cost plan: cost {figures.total(plan.cost, caption.currency)}" + (
         f" ({left_out} idle routes aren't drawn)" if left_out else ""
     )
     shorts = short_names([place.name for place in problem.places])
@@ -42,29 +47,34 @@ def plan_scene(plan):
         nodes,
         links,
         [],
-        {"flowing": f"as wide as it carries (widest {amount(widest)})", "full": "full"},
+        {
+            "flowing": f"as wide as it carries (widest {figures.amount(widest, caption.unit)})",
+            "full": "full",
+        },
+        caption,
     )
 
 
 def plan_link(problem, route, result, kind, widest):
     """A route as it is drawn in a plan: one that is used its other way leads there."""
-    turned, amount = route.both and result.carries < 0, problem.said.amount
+    turned, figures = route.both and result.carries < 0, Figures(problem)
     carries = abs(result.carries) if turned else result.carries
     (tail, head), names = (route.tail, route.head)[:: -1 if turned else 1], problem.ends(route)[
         :: -1 if turned else 1
     ]
     title = (
-        f"{' -> '.join(names)}: {amount(carries)} of {limits_text(problem, route)}, cost"
-        f" {problem.said.total(result.cost)}"
+        f"{' -> '.join(names)}: {figures.amount(carries)} of {limits_text(problem, route)}, cost"
+        f" {figures.total(result.cost)}"
     )
     width = 1.4 + 7.6 * abs(carries) / widest if carries else 1
-    return Link(tail - 1, head - 1, width, kind, amount(carries) if carries else "", title)
+    return Link(tail - 1, head - 1, width, kind, figures.amount(carries) if carries else "", title)
 
 
-def blocked_scene(blocked):
+def blocked_scene(blocked, caption):
     """What is drawn where no plan exists: the bottlenecks, and of many places just those and what
     is next to them."""
-    net, problem, amount = blocked.eased, blocked.net.problem, blocked.net.problem.said.amount
+    net, problem = blocked.eased, blocked.net.problem
+    amount = Figures(problem).amount
     marked = {
         net.uses[k]: kind
         for bottleneck in blocked.bottlenecks
@@ -88,21 +98,27 @@ def blocked_scene(blocked):
                 route.tail - 1, route.head - 1, 1.2 if kind == "other" else 2.6, kind, label, title
             )
         )
-    heading = "No plan exists: " + "; ".join(
-        f"short by {amount(bottleneck.must - bottleneck.can)}" for bottleneck in blocked.all()[:3]
-    )
-    if blocked.is_unbalanced:
-        supply, demand = (
-            sum(max(0, sign * place.supply) for place in problem.places) for sign in (1, -1)
-        )
-        heading = f"No plan exists: supply {amount(supply)}, demand {amount(demand)}"
+    heading = blocked_heading(blocked, caption.unit)
     shorts = short_names([place.name for place in problem.places])
     nodes = [
         limited(node_of(problem, place, short), Use("through", number) in marked, place, amount)
         for number, (place, short) in enumerate(zip(problem.places, shorts))
     ]
-    scene = Scene(heading, nodes, links, groups, {"limits": "limits them"} if marked else {})
+    notes = {"limits": "limits them"} if marked else {}
+    scene = Scene(heading, nodes, links, groups, notes, caption)
     return near_scene(scene) if len(scene.nodes) > NEAR and any(groups) else scene
+
+
+def blocked_heading(blocked, unit):
+    """Why no plan exists, in a line."""
+    amount = functools.partial(Figures(blocked.net.problem).amount, unit=unit)
+    if blocked.is_unbalanced:
+        supply, demand = balance_of(blocked.net.problem)
+        return f"No plan exists: supply {amount(supply)}, demand {amount(demand)}"
+    return "No plan exists: " + ", ".join(
+        f"short by {amount(bottleneck.must - bottleneck.can)}"
+        for bottleneck in blocked.bottlenecks[:3]
+    )
 
 
 def limited(node, is_limited, place, amount):
@@ -143,12 +159,13 @@ def near_scene(scene):
 def node_of(problem, place, short, unmet=0):
     """A place as it is drawn."""
     kind = "sends" if place.supply > 0 else "takes" if place.supply < 0 else "passes"
-    note = f"{kind} {problem.said.amount(abs(place.supply))}" if place.supply else ""
+    amount = Figures(problem).amount
+    note = f"{kind} {amount(abs(place.supply))}" if place.supply else ""
     word = "stays" if place.supply > 0 else "missing"
     return Node(
         place.name,
         short,
-        note + (f", {problem.said.amount(unmet)} {word}" if unmet else ""),
+        note + (f", {amount(unmet)} {word}" if unmet else ""),
         kind,
         place.spot,
     )
@@ -156,7 +173,7 @@ def node_of(problem, place, short, unmet=0):
 
 def limits_text(problem, route):
     """What a route carries at least and at most."""
-    least, most = problem.said.amount(route.least), problem.said.amount(route.most)
+    least, most = map(Figures(problem).amount, (route.least, route.most))
     if route.both:
         return f"{most or 'any amount'}, either way"
     return f"{least} to {most}" if most else f"{least} or more"

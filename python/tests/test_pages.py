@@ -2,12 +2,14 @@
 import hashlib
 import html.parser
 import json
+import os
 import random
 import re
 import shutil
 import subprocess
 import time
 import unittest
+from unittest import mock
 
 from support import PLACES, ROUTES, WithFolder
 
@@ -98,7 +100,7 @@ class Pages(WithFolder):
         text = self.page()
         for part in (
             "<title>Week 7</title>",
-            "<h1>Least cost: 171 EUR</h1>",
+            "<h1>Week 7<br>Least cost: 171 EUR</h1>",
             "M &amp; &lt;b&gt;",
             "Ann\u00e9",
             "No plan for these tables costs less.",
@@ -120,6 +122,18 @@ class Pages(WithFolder):
         routes = "from;to;most;cost;most 2;cost 2\nA;B;2;3,92;;5,92\n"
         self.flow("name;supply\nA;2,5\nB;-2,5\n", routes)
         self.assertIn("<td>3,92 / 5,92</td>", self.page())
+
+    def test_title_date_and_tables(self):
+        with mock.patch.dict(os.environ, SOURCE_DATE_EPOCH="1700000000"):
+            self.flow(PLACES.replace("30", "31"), ROUTES, "--title", "R & D", "--unit", "hl")
+            for part in (
+                "<h1 class=none>R &amp; D<br>No plan exists: supply 31 hl, demand 30 hl</h1>",
+                '<p class="soft">2023-11-14: places.csv, routes.csv</p>',
+            ):
+                self.assertIn(part, self.page())
+            self.pairs(",X,Y\nA,1,2\nB,,2\n", "--title", "Rota")
+            self.assertIn("<h1>Rota<br>Least cost: 3</h1>", self.page())
+            self.assertIn('<p class="soft">2023-11-14: costs.csv</p>', self.page())
 
     def test_columns_that_are_carried_along_are_named(self):
         line = "<p>Columns carried along, not used: carrier, min lot.</p>"

@@ -1,4 +1,5 @@
 """The picture, with Graphviz where it is there, and without it."""
+import datetime
 import itertools
 import math
 import os
@@ -62,6 +63,10 @@ class Pictures(WithFolder):
     def drawn(self, places, routes):
         """The texts of the picture."""
         self.flow(places, routes)
+        return self.texts()
+
+    def texts(self):
+        """The texts of the picture that was drawn last."""
         root = xml.etree.ElementTree.parse(self.out / "plan.svg").getroot()
         return [element.text for element in root.iter("{http://www.w3.org/2000/svg}text")]
 
@@ -225,6 +230,33 @@ class Pictures(WithFolder):
                 self.assertIn(f'<svg xmlns="http://www.w3.org/2000/svg" class="{kind}"', drawn)
                 for node in nodes:
                     self.assertIn(f">{node.name}</text>", drawn)
+
+    def test_title_date_tables_and_units(self):
+        places, routes = "name;supply\nA;12500\nB;-12500\n", "from;to;most;cost\nA;B;;1,25\n"
+        words = ("--title", "Week <7>", "--currency", "\u20ac", "--unit", "hl")
+        with mock.patch.dict(os.environ, SOURCE_DATE_EPOCH="1700000000"):
+            self.flow(places, routes, *words)
+            texts = self.texts()
+            self.assertEqual(
+                texts[:3],
+                [
+                    "Week <7>",
+                    "A least-cost plan: cost 15\u202f625 \u20ac",
+                    "2023-11-14: places.csv, routes.csv",
+                ],
+            )
+            self.assertIn("as wide as it carries (widest 12\u202f500 hl)", texts)
+            self.assertIn("sends 12\u202f500", texts)
+            self.flow(places, routes.replace(";;", ";1;"), *words)
+            self.assertEqual(self.texts()[1], "No plan exists: short by 12\u202f499 hl")
+            self.flow(places, routes)
+            self.assertEqual(self.texts()[0], "A least-cost plan: cost 15\u202f625")
+        self.flow(places, routes)
+        self.assertIn(f"{datetime.date.today()}: places.csv, routes.csv", self.texts())
+        with mock.patch.dict(os.environ, SOURCE_DATE_EPOCH="soon"):
+            status, _, told = self.flow(places, routes)
+            self.assertEqual(status, 2)
+            self.assertIn("SOURCE_DATE_EPOCH=soon: this is no date in seconds since 1970", told)
 
     def test_a_graphviz_that_fails_is_as_good_as_none(self):
         path = f"{self.folder}:{os.environ['PATH']}"
