@@ -1,41 +1,100 @@
-// The picture of many places, as SVG: dots.
-import { COLOURS, f, framed, isQuiet, legendOf, xmlText } from './drawing.js';
-import { levelsOf, mapBoxes } from './layout.js';
+// The picture of many places, as SVG: dots, with as many names and amounts as fit.
+import { COLOURS, PAGE, f, framed, growthOf, isQuiet, labelAt, labelSize, legendOf, tagAt, xmlText } from './drawing.js';
+import { PARTS, edgesOf, levelsOf, mapBoxes } from './layout.js';
+import { Room } from './room.js';
 
 const DOTS = { sends: '#5b9a52', takes: '#4d7fb3', passes: '#8a949e' };
-// How far the dots of a map stand apart.
-const DOTS_SPREAD = 26;
+// How great a dot is, how far dots of a block stand apart, and between blocks how far at most and at least; how many names and amounts are
+// tried.
+const ROUND = 3.4, STEP = 16, FAR = 220, CLOSE = 90, TRIED = 1000;
 
-// Dots on a map, or in blocks by how far they are from those that send; routes that matter are lines.
+// Dots on a map, or in blocks by how far they are from those that send; routes that matter are arrows.
 export function dotsSvg(scene) {
-  const spots = dotSpots(scene);
-  const blocking = new Set(scene.groups.flatMap((group) => [...group]));
-  const shown = scene.links.filter((link) => !isQuiet(link));
-  const body = shown.sort((a, b) => (a.kind !== 'flowing') - (b.kind !== 'flowing')).map(
-    (link) => `<path class="${link.kind}" d="M${spots[link.tail].map(f)} L${spots[link.head].map(f)}" stroke="${COLOURS[link.kind]}" stroke-width="${f(link.width / 3)}" stroke-opacity="0.7"><title>${xmlText(link.title)}</title></path>`
-  );
+  const links = scene.links.filter((link) => !isQuiet(link)), blocking = new Set(scene.groups.flatMap((group) => [...group]));
+  const weights = weightsOf(scene, links, blocking), spots = dotSpots(scene, weights);
+  const [tags, [left, top, right, bottom]] = dotLabels(scene.nodes, links, weights, spots);
+  const order = [...links].sort((a, b) => (a.kind !== 'flowing') - (b.kind !== 'flowing') || b.width - a.width);
+  const body = order.map((link) => dotRoute(link, link.width / 2, spots[link.tail], spots[link.head]));
   scene.nodes.forEach((node, k) => {
     const edge = blocking.has(k) ? ` stroke="${COLOURS.limits}" stroke-width="2"` : '';
     body.push(
-      `<circle cx="${f(spots[k][0])}" cy="${f(spots[k][1])}" r="${node.note ? 3.4 : 2.2}" fill="${DOTS[node.kind]}"${edge}><title>${xmlText(node.note ? `${node.name}: ${node.note}` : node.name)}</title></circle>`
+      `<circle cx="${f(spots[k][0])}" cy="${f(spots[k][1])}" r="${node.note ? ROUND : 2.2}" fill="${DOTS[node.kind]}"${edge}><title>${xmlText(node.note ? `${node.name}: ${node.note}` : node.name)}</title></circle>`
     );
   });
-  return framed(spots, scene, body, legendOf(scene, dotSwatch), 'dots');
+  return framed([[left, top], [right, bottom]], scene, [...body, ...tags], legendOf(scene, dotSwatch, dotSample), 'dots');
 }
 
-function dotSpots({ nodes, links }) {
+// How great places are: those that block before all others, then by how wide their routes are.
+function weightsOf({ nodes }, links, blocking) {
+  const weights = nodes.map((_, k) => (blocking.has(k) ? 1e9 : 0));
+  for (const { tail, head, width } of links) {
+    weights[tail] += width;
+    weights[head] += width;
+  }
+  return weights;
+}
+
+// An arrow between two dots, with a bar before its head where the route is full.
+function dotRoute({ kind, title }, width, begin, end) {
+  const far = Math.hypot(end[0] - begin[0], end[1] - begin[1]) || 1, dx = (end[0] - begin[0]) / far, dy = (end[1] - begin[1]) / far;
+  const long = Math.min(far / 2, 5 + 1.6 * width), half = 2 + width, base = ROUND + long;
+  const corner = ([back, aside]) => `${f(end[0] - dx * back - dy * aside)},${f(end[1] - dy * back + dx * aside)}`;
+  const path = (corners) => `M${corners.map(corner).join(' L')} Z`;
+  const shape = [[far, width / 2], [base, width / 2], [base, half], [ROUND, 0], [base, -half], [base, -width / 2], [far, -width / 2]];
+  const bar = [[1.5, 1], [1.5, -1], [3, -1], [3, 1]].map(([back, aside]) => [base + back, aside * (half + 1.5)]);
+  return `<path class="${kind}" d="${path(shape)}${kind === 'full' || kind === 'limits' ? ` ${path(bar)}` : ''}" fill="${COLOURS[kind]}" fill-opacity="0.75"><title>${xmlText(title)}</title></path>`;
+}
+
+// The names of the greatest places and the amounts of the greatest routes, in turn, where they cover no dot and no other label; and the
+// edges of all.
+function dotLabels(nodes, links, weights, spots) {
+  const room = new Room(), lines = [], growth = growthOf(edgesOf(spots));
+  for (const [x, y] of spots) room.take([x - ROUND, y - ROUND, x + ROUND, y + ROUND]);
+  const named = nodes.map((_, k) => k).filter((k) => weights[k]).sort((a, b) => weights[b] - weights[a]).slice(0, TRIED);
+  const told = links.filter(({ label }) => label).sort((a, b) => b.width - a.width).slice(0, TRIED);
+  for (let k = 0; k < Math.max(named.length, told.length); k++) {
+    if (k < named.length) {
+      const { short } = nodes[named[k]], size = labelSize(short, growth), spot = room.first(spotsBeside(spots[named[k]], size), size);
+      if (spot) lines.push(tagAt(short, ...spot, growth, 'class="name"'));
+    }
+    if (k < told.length) {
+      const { label, tail, head } = told[k], size = labelSize(label, growth);
+      const spot = room.first(spotsBetween(spots[tail], spots[head], size), size);
+      if (spot) lines.push(labelAt(told[k], ...spot, growth));
+    }
+  }
+  return [lines, room.bounds()];
+}
+
+// Where the amount of a route may stand that is long enough for the arrow to be seen.
+function spotsBetween([ax, ay], [bx, by], [wide]) {
+  return Math.hypot(bx - ax, by - ay) < wide + 20 ? [] : PARTS.map((part) => [ax + (bx - ax) * part, ay + (by - ay) * part]);
+}
+
+// Where the name of a dot may stand: to the right, the left, above and below.
+function spotsBeside([x, y], [wide, high]) {
+  const aside = ROUND + 1 + wide / 2, over = ROUND + high / 2;
+  return [[x + aside, y], [x - aside, y], [x, y - over], [x, y + over]];
+}
+
+function dotSpots({ nodes, links }, weights) {
   const onMap = nodes.map((node) => node.spot), starts = nodes.map((_, k) => k).filter((k) => nodes[k].kind === 'sends');
-  if (onMap.every(Boolean)) return mapBoxes({ sizes: nodes.map(() => [0, 0]), spots: onMap }, DOTS_SPREAD).map(({ x, y }) => [x, y]);
-  const levels = levelsOf(nodes.length, links, starts);
-  const high = Math.max(8, Math.ceil(Math.sqrt(levels.length)));
-  const counts = [];
-  const spots = [];
-  for (const level of levels) counts[level] = (counts[level] || 0) + 1;
-  const begins = [0], seen = counts.map(() => 0);
-  counts.forEach((count, level) => { begins[level + 1] = begins[level] + Math.ceil(count / high) * 16 + 220; });
-  levels.forEach((level, node) => {
-    const nth = seen[level]++;
-    spots[node] = [begins[level] + Math.floor(nth / high) * 16, nth % high * 16];
+  if (onMap.length && onMap.every(Boolean)) {
+    return mapBoxes({ sizes: nodes.map(() => [0, 0]), spots: onMap }, (PAGE - 200) / Math.sqrt(nodes.length)).map(({ x, y }) => [x, y]);
+  }
+  const levels = levelsOf(nodes.length, links, starts), blocks = [], spots = [];
+  for (const level of levels) blocks[level] = [];
+  // The greatest of a block stand at its right, where names have room.
+  for (const node of nodes.map((_, k) => k).sort((a, b) => weights[a] - weights[b])) blocks[levels[node]].push(node);
+  const high = Math.max(8, Math.ceil(Math.sqrt(levels.length))), wides = blocks.map((block) => Math.ceil(block.length / high) * STEP);
+  const between = Math.min(FAR, Math.max(CLOSE, (PAGE - wides.reduce((sum, wide) => sum + wide, 0)) / Math.max(1, blocks.length)));
+  const total = wides.reduce((sum, wide) => sum + wide + between, 0);
+  // Rows stand apart as names are high, which are greater in a wider picture.
+  const down = STEP * growthOf([0, 0, total, 0]);
+  let across = 0;
+  blocks.forEach((block, level) => {
+    block.forEach((node, nth) => { spots[node] = [across + Math.floor(nth / high) * STEP, nth % high * down]; });
+    across += wides[level] + between;
   });
   return spots;
 }
@@ -45,3 +104,6 @@ function dotSwatch(kind, x) {
   const edge = kind === 'blocks' ? ` stroke="${COLOURS.limits}" stroke-width="2"` : '';
   return `<circle cx="${f(x + 11)}" cy="-4" r="5" fill="${DOTS[kind === 'blocks' ? 'passes' : kind]}"${edge}/>`;
 }
+
+// An arrow of a kind, for the legend.
+const dotSample = (kind, x) => dotRoute({ kind, title: '' }, 2.5, [x, -4], [x + 42, -4]);

@@ -1,13 +1,14 @@
 // Parts of pictures, as SVG: colours, texts, arrows, the frame and the legend.
 import { edgesOf, samples } from './layout.js';
 
-const FONT = 'font-family="DejaVu Sans, Verdana, Helvetica, sans-serif"', INK = '#1f2933';
+const FONT = 'font-family="DejaVu Sans, Verdana, Helvetica, sans-serif"', KINDS = { sends: 'sends', takes: 'takes', passes: 'passes on' };
+const INK = '#1f2933';
 export const SOFT = '#52606d', SHADE = '#f9d5cd', LEFT = 'text-anchor="start"';
 export const COLOURS = { full: '#c2410c', limits: '#c2410c', forces: '#c2410c', flowing: '#3d6d94', idle: '#b8c0c8', other: '#8a949e' };
-const FILLS = { sends: '#dff0dc', takes: '#dbe8f7', passes: '#ffffff' }, KINDS = { sends: 'sends', takes: 'takes', passes: 'passes on' };
+const FILLS = { sends: '#dff0dc', takes: '#dbe8f7', passes: '#ffffff' };
 const BLOCKS = 'places that must send or take more than they can';
 // In wider pictures headings and legends are greater.
-const PAGE = 1400;
+export const PAGE = 1400;
 
 // ---- Texts
 
@@ -63,19 +64,26 @@ export function arrow({ kind, width, title }, points) {
 // A level line from a spot, as a curve.
 export const lineBetween = (x, y, to) => [0, 1, 2, 3].map((part) => [x + (to - x) * part / 3, y]);
 
-export const labelSize = ({ label }) => [textWidth(label, 11) + 6, 15];
+// The width and the height of a label.
+export const labelSize = (text, size = 1) => [(textWidth(text, 11) + 6) * size, 15 * size];
 
-export function labelAt(link, x, y) {
-  const [width, height] = labelSize(link);
-  return `<rect class="ground" x="${f(x - width / 2)}" y="${f(y - 7.5)}" width="${f(width)}" height="${height}" rx="5" fill="#ffffff" fill-opacity="0.88"/>`
-    + textAt(x, y + 4, 11, link.label, `text-anchor="middle" class="${link.kind}" fill="${COLOURS[link.kind]}" font-weight="bold"`);
+// The label of a route.
+export const labelAt = (link, x, y, size = 1) => (
+  tagAt(link.label, x, y, size, `class="${link.kind}" fill="${COLOURS[link.kind]}" font-weight="bold"`)
+);
+
+// A text on a ground of its own.
+export function tagAt(text, x, y, size, more) {
+  const [wide, high] = labelSize(text, size);
+  return `<rect class="ground" x="${f(x - wide / 2)}" y="${f(y - high / 2)}" width="${f(wide)}" height="${f(high)}" rx="5" fill="#ffffff" fill-opacity="0.88"/>`
+    + textAt(x, y + 4 * size, Number(f(11 * size)), text, `text-anchor="middle" ${more}`);
 }
 
 // ---- The whole
 
 // A whole picture: its frame, its heading, what stands in it and the legend below. Its kind is a class of the page's style.
 export function framed(points, scene, body, [lines, across], kind = 'boxes') {
-  const [west, north, east, south] = edgesOf(points), size = Math.max(1, (east - west) / PAGE), [headings, along] = headingsOf(scene);
+  const [west, north, east, south] = edgesOf(points), size = growthOf([west, north, east, south]), [headings, along] = headingsOf(scene);
   const left = west - 32, right = east + 32, top = north - 38 - (12 + 20 * headings.length) * size, bottom = south + 20 + 36 * size;
   const wide = Math.max(left + 48 + Math.max(across, along) * size, right) - left, high = bottom - top;
   return [`<svg xmlns="http://www.w3.org/2000/svg" class="${kind}" role="img" aria-label="${xmlText(scene.heading).replace(/"/g, '&quot;')}" width="${wide.toFixed(0)}" height="${high.toFixed(0)}" viewBox="${[left, top, wide, high].map(f).join(' ')}" ${FONT} fill="${INK}">`,
@@ -83,6 +91,9 @@ export function framed(points, scene, body, [lines, across], kind = 'boxes') {
     placed(left + 24, top + 32 * size, size, headings),
     ...body, placed(left + 24, bottom - 20 * size, size, lines), '</svg>'].join('\n');
 }
+
+// How much greater texts are in a picture that is wider than a page.
+export const growthOf = ([left, , right]) => Math.max(1, (right - left) / PAGE);
 
 // What stands above a picture, and how wide that is: the title, the heading, the tables.
 function headingsOf({ heading, caption }) {
@@ -96,11 +107,11 @@ const placed = (x, y, size, lines) => (
   [`<g transform="translate(${f(x)} ${f(y)})${size === 1 ? '' : ` scale(${size.toFixed(2)})`}">`, ...lines, '</g>'].join('\n')
 );
 
-// What the colours and the marks mean, and where that ends. A swatch draws a kind of places, or "blocks"; more entries have how wide a
-// drawing is, the drawing by where it begins, and words.
-export function legendOf({ notes, groups }, swatch, more = []) {
+// What the colours and the marks mean, and where that ends. A swatch draws a kind of places, or "blocks", and a route one of
+// routes; more entries have how wide a drawing is, the drawing by where it begins, and words.
+export function legendOf({ notes, groups }, swatch, route = sample, more = []) {
   const entries = Object.entries(KINDS).map(([kind, words]) => [22, (x) => swatch(kind, x), words]);
-  for (const [kind, words] of Object.entries(notes)) entries.push([44, (x) => sample(kind, x), words]);
+  for (const [kind, words] of Object.entries(notes)) entries.push([44, (x) => route(kind, x), words]);
   if (groups.length) entries.push([24, (x) => swatch('blocks', x), BLOCKS]);
   const lines = [];
   let x = 0;

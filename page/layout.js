@@ -5,7 +5,7 @@ const SPREAD = 235, APART = 14, ROUNDS = 60;
 // How often the order within columns is made anew.
 const SWEEPS = 6;
 // Which parts of its way along a link its label may stand at.
-const PARTS = [0.45, 0.55, 0.35, 0.65, 0.25, 0.75, 0.15, 0.85];
+export const PARTS = [0.45, 0.55, 0.35, 0.65, 0.25, 0.75, 0.15, 0.85];
 
 // A task has the sizes of boxes, spots on a map or null, links by their nodes from 0, and the nodes that send. A layout has boxes by their
 // centres, for each link its curve of cubic pieces, and the spots where its label may stand, the best first.

@@ -45,7 +45,7 @@ function freeLabels(links, boxes, labels) {
     room.take([x - wide, y - high, x + wide, y + high]);
   }
   order.sort((a, b) => isQuiet(links[a]) - isQuiet(links[b]) || links[b].width - links[a].width);
-  return order.map((k) => [links[k], room.first(labels[k], labelSize(links[k]))]).filter(([, spot]) => spot).map(
+  return order.map((k) => [links[k], room.first(labels[k], labelSize(links[k].label))]).filter(([, spot]) => spot).map(
     ([link, spot]) => labelAt(link, ...spot)
   );
 }

@@ -18,6 +18,12 @@ export class Room {
     return !squaresOf(edges).some((square) => (this.taken.get(square) || []).some(over));
   }
 
+  // The edges of all that was noted.
+  bounds() {
+    const found = [...this.taken.values()].flat();
+    return [Math.min, Math.min, Math.max, Math.max].map((end, side) => found.map((edges) => edges[side]).reduce((a, b) => end(a, b)));
+  }
+
   // The first of some spots around which a rectangle of this size is free, which is taken; null where there is none.
   first(spots, [wide, high]) {
     for (const [x, y] of spots) {

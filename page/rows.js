@@ -29,7 +29,7 @@ export function rowsSvg(scene) {
   });
   const corners = [[0, 0], [columns.length * (wide + BESIDE) - BESIDE, Math.max(...columns.map(totalOf))]];
   const several = [22, (x) => boxAt({ x: x + 11, y: -4, width: 22, height: 14 }, 'takes', false, DASHED), 'stands several times'];
-  return framed(corners, scene, body, legendOf(scene, boxSwatch, drawing.hasSeveral() ? [several] : []), 'rows');
+  return framed(corners, scene, body, legendOf(scene, boxSwatch, undefined, drawing.hasSeveral() ? [several] : []), 'rows');
 }
 
 // What is drawn: the places of one side, 0 that of those that send, have blocks of rows.
@@ -39,7 +39,7 @@ class Rows {
     ends[side] = blocks.map(({ node }) => node);
     const nameWidth = ({ short, note }, hasNote) => Math.max(textWidth(short, 12), hasNote ? textWidth(note, 11) : 0);
     const widths = [0, 1].map((end) => 14 + Math.max(...ends[end].map((node) => nameWidth(nodes[node], end === side))));
-    const between = Math.max(90, 56 + Math.max(...links.map((link) => labelSize(link)[0])));
+    const between = Math.max(90, 56 + Math.max(...links.map((link) => labelSize(link.label)[0])));
     const count = new Map(), other = links.map(({ tail, head }) => (side ? tail : head));
     for (const node of [...ends[side], ...other]) count.set(node, (count.get(node) || 0) + 1);
     const blocking = new Set(groups.flatMap((group) => [...group]));

@@ -94,6 +94,30 @@ async function rowsDrawn(expect, solver) {
   }
 }
 
+// Dots have arrows, names, amounts and a legend; labels cover no other, and stand within the picture.
+function dots(expect) {
+  for (const onMap of [true, false]) {
+    const nodes = Array.from({ length: 400 }, (_, k) => (
+      { name: `Ort ${k}`, short: `Ort ${k}`, note: '', kind: 'passes', spot: onMap ? [k % 23, Math.floor(k / 23) * 0.7] : null }
+    ));
+    const links = nodes.map((_, k) => (
+      { tail: k, head: (k + 75) % 400, width: 1.4 + k % 8, kind: ['flowing', 'full', 'idle'][k % 3], label: String(k + 1000), title: '' }
+    ));
+    links.push({ tail: 7, head: 230, width: 90, kind: 'flowing', label: '999999', title: '' });
+    const notes = { flowing: 'as wide as it carries (widest 999999)', full: 'full' };
+    const svg = svgOf({ heading: '', nodes, links, groups: [new Set([5])], notes }), where = onMap ? 'on a map' : 'in blocks';
+    for (const text of ['Ort 5', 'Ort 7', 'Ort 230', '999999', 'passes on', ...Object.values(notes), 'places that must send or take more than they can']) {
+      expect(svg.includes(`>${text}</text>`), `dots ${where}: no ${text}`);
+    }
+    const arrows = [...svg.matchAll(/<path class="(flowing|full)" d="M[-0-9.]+,[-0-9.]+( L[-0-9.]+,[-0-9.]+){6} Z/g)].length;
+    expect(arrows === 2 + links.filter(({ kind }) => kind !== 'idle').length, `dots ${where}: ${arrows} arrows`);
+    const [ground, ...tags] = rectangles(svg, 'ground');
+    expect(tags.length > (onMap ? 50 : 20), `dots ${where}: ${tags.length} labels`);
+    expect(!tags.some((tag, k) => tags.slice(0, k).some((other) => overlap(tag, other))), `dots ${where}: labels cover each other`);
+    expect(tags.every((tag) => ground[0] <= tag[0] && tag[2] <= ground[2]), `dots ${where}: labels beyond the picture`);
+  }
+}
+
 // The title, the date and the tables stand above the picture, and numbers have their thousands apart.
 async function titles(expect, solver) {
   const places = { name: 'places', text: 'name;supply\nA;12500\nB;-12500\n' };
@@ -107,6 +131,7 @@ async function titles(expect, solver) {
 
 export default async function test(expect) {
   shorts(expect);
+  dots(expect);
   labels(expect);
   const solver = solverOf(loaded());
   await rowsDrawn(expect, solver);

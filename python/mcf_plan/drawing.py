@@ -114,24 +114,24 @@ def line_between(x, y, to):
     return [(x + (to - x) * part / 3, y) for part in range(4)]
 
 
-def label_size(link):
-    """The width and the height of a route's label."""
-    return text_width(link.label, 11) + 6, 15
+def label_size(text, size=1):
+    """The width and the height of a label."""
+    return (text_width(text, 11) + 6) * size, 15 * size
 
 
-def label_at(link, x, y):
+def label_at(link, x, y, size=1):
     """The label of a route."""
-    width, height = label_size(link)
+    more = f'class="{link.kind}" fill="{COLOURS[link.kind]}" font-weight="bold"'
+    return tag_at(link.label, x, y, size, more)
+
+
+def tag_at(text, x, y, size, more):
+    """A text on a ground of its own."""
+    wide, high = label_size(text, size)
     return (
-        f'<rect class="ground" x="{x - width / 2:.1f}" y="{y - 7.5:.1f}" width="{width:.1f}"'
-        f' height="{height}" rx="5" fill="#ffffff" fill-opacity="0.88"/>\n'
-        + text_at(
-            x,
-            y + 4,
-            11,
-            link.label,
-            f'{CENTRED} class="{link.kind}" fill="{COLOURS[link.kind]}" font-weight="bold"',
-        )
+        f'<rect class="ground" x="{x - wide / 2:.1f}" y="{y - high / 2:.1f}" width="{wide:.1f}"'
+        f' height="{high:.1f}" rx="5" fill="#ffffff" fill-opacity="0.88"/>\n'
+        + text_at(x, y + 4 * size, round(11 * size, 1), text, f"{CENTRED} {more}")
     )
 
 
@@ -141,7 +141,7 @@ def label_at(link, x, y):
 def framed(edges, scene, body, legend, kind="boxes"):
     """A whole picture: its frame, its heading, what stands in it and the legend below. Its kind is
     a class of the page's style."""
-    size = max(1, (edges[2] - edges[0]) / PAGE)
+    size = growth_of(edges)
     (lines, across), (headings, along) = legend, headings_of(scene)
     left, right = edges[0] - 32, edges[2] + 32
     top = edges[1] - 38 - (12 + 20 * len(headings)) * size
@@ -175,6 +175,11 @@ def at(x, y, size, lines):
     return "\n".join([f'<g transform="translate({x:.1f} {y:.1f}){grown}">', *lines, "</g>"])
 
 
+def growth_of(edges):
+    """How much greater texts are in a picture that is wider than a page."""
+    return max(1, (edges[2] - edges[0]) / PAGE)
+
+
 def headings_of(scene):
     """What stands above a picture, and how wide that is: the title, the heading, the tables."""
     caption = scene.caption
@@ -188,22 +193,23 @@ def headings_of(scene):
     return lines, wide
 
 
-def legend_of(scene, swatch, more=()):
+def sample(kind, x):
+    """A route of a kind, for the legend."""
+    return arrow(kind, 2.6 if kind == "limits" else 5, "", line_between(x, -4, x + 42))
+
+
+def legend_of(scene, swatch, route=sample, more=()):
     """What the colours and the marks mean, and where that ends. A swatch draws a kind of places, or
-    "blocks"; more entries have how wide a drawing is, the drawing by where it begins, and words."""
+    "blocks", and a route one of routes; more entries have how wide a drawing is, the drawing by
+    where it begins, and words."""
     entries = [(22, functools.partial(swatch, kind), words) for kind, words in KINDS.items()]
-    entries += [(44, functools.partial(sample, kind), words) for kind, words in scene.notes.items()]
+    entries += [(44, functools.partial(route, kind), words) for kind, words in scene.notes.items()]
     entries += [(24, functools.partial(swatch, "blocks"), BLOCKS)] if scene.groups else []
     lines, x = [], 0
     for wide, drawn, words in [*entries, *more]:
         lines += [drawn(x), text_at(x + wide + 6, 0, 12, words, LEFT)]
         x += wide + 22 + text_width(words, 12)
     return lines, x
-
-
-def sample(kind, x):
-    """A route of a kind, for the legend."""
-    return arrow(kind, 2.6 if kind == "limits" else 5, "", line_between(x, -4, x + 42))
 
 
 def box_swatch(kind, x):

@@ -44,7 +44,7 @@ def task_of(scene):
         [box_size(node) for node in scene.nodes],
         spots if spots and all(spots) else None,
         [link[:2] for link in scene.links],
-        [text_width(link.label, 11) + 6 if link.label else None for link in scene.links],
+        [label_size(link.label)[0] if link.label else None for link in scene.links],
         starts,
     )
 
@@ -84,7 +84,7 @@ def free_labels(links, boxes, labels):
         wide, high = box.width / 2 - INNER, box.height / 2 - INNER
         room.take((box.x - wide, box.y - high, box.x + wide, box.y + high))
     for k in sorted(range(len(links)), key=lambda k: (links[k].kind in QUIET, -links[k].width)):
-        spot = links[k].label and room.first(labels[k], label_size(links[k]))
+        spot = links[k].label and room.first(labels[k], label_size(links[k].label))
         if spot:
             lines.append(label_at(links[k], *spot))
     return lines

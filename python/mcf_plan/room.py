@@ -37,6 +37,12 @@ class Room:
                 return x, y
         return None
 
+    def bounds(self):
+        """The edges of all that was noted."""
+        found = [edges for several in self.taken.values() for edges in several]
+        sides = list(zip(*found))
+        return min(sides[0]), min(sides[1]), max(sides[2]), max(sides[3])
+
 
 def squares_of(edges):
     """The squares that a rectangle touches."""

@@ -51,7 +51,7 @@ def rows_svg(scene):
             top += height_of(block) + GAP
     edges = 0, 0, len(columns) * (drawing.wide + APART) - APART, max(map(total_of, columns))
     more = [(22, several_swatch, "stands several times")] if drawing.has_several() else []
-    return framed(edges, scene, body, legend_of(scene, box_swatch, more), "rows")
+    return framed(edges, scene, body, legend_of(scene, box_swatch, more=more), "rows")
 
 
 class Rows:
@@ -66,7 +66,7 @@ class Rows:
             14 + max(name_width(scene.nodes[node], end == side) for node in ends[end])
             for end in (0, 1)
         ]
-        self.between = max(90, 56 + max(label_size(link)[0] for link in scene.links))
+        self.between = max(90, 56 + max(label_size(link.label)[0] for link in scene.links))
         self.wide = sum(self.widths) + self.between
         self.count = collections.Counter(block.node for block in self.blocks)
         self.count.update(link[1 - side] for link in scene.links)

@@ -7,9 +7,12 @@ import re
 import xml.etree.ElementTree
 from unittest import mock
 
-from mcf_plan import layout, picture, scene
+from mcf_plan import drawing, layout, picture, scene
 from support import PLACES, ROUTES, WithFolder, rows_of, script
 
+# Kinds of routes; how an arrow between dots begins: with the seven corners of its line and head.
+KINDS = ("flowing", "full", "idle")
+ARROW = r'<path class="(?:flowing|full)" d="M[-0-9.]+,[-0-9.]+(?: L[-0-9.]+,[-0-9.]+){6} Z'
 # Long names, and what stands of them in boxes: their ends, or where they differ.
 LONG_NAMES = (
     (
@@ -121,6 +124,34 @@ class Pictures(WithFolder):
         text = (self.out / "plan.svg").read_text()
         self.assertEqual(text.count("<title>A1: sends 1</title>"), 1)
         self.assertGreater(text.count("<circle"), 400)
+
+    def test_dots_have_arrows_names_amounts_and_a_legend(self):
+        spots = [(k % 23 * 1.0, k // 23 * 0.7) for k in range(400)]
+        for on_map in (True, False):
+            nodes = [
+                scene.Node(f"Ort {k}", f"Ort {k}", "", "passes", spots[k] if on_map else None)
+                for k in range(400)
+            ]
+            links = [
+                scene.Link(k, (k + 75) % 400, 1.4 + k % 8, KINDS[k % 3], str(k + 1000), f"to {k}")
+                for k in range(400)
+            ]
+            links.append(scene.Link(7, 230, 90, "flowing", "999999", "the widest"))
+            notes = {"flowing": "as wide as it carries (widest 999999)", "full": "full"}
+            drawn = picture.svg_of(scene.Scene("", nodes, links, [{5}], notes))
+            texts = re.findall("<text [^>]*>([^<]*)</text>", drawn)
+            # What blocks is named first, then the ends of the widest route.
+            self.assertLessEqual({"Ort 5", "Ort 7", "Ort 230", "999999"}, set(texts))
+            self.assertLessEqual({*notes.values(), "passes on", drawing.BLOCKS}, set(texts))
+            self.assertEqual(
+                len(re.findall(ARROW, drawn)), 2 + sum("idle" != x.kind for x in links)
+            )
+            self.assertGreater(len(texts), 60 if on_map else 30)
+            tags = rectangles(drawn, "ground")
+            for one, other in itertools.combinations(tags[1:], 2):
+                self.assertFalse(overlap(one, other), (one, other))
+            for tag in tags[1:]:
+                self.assertTrue(tags[0][0] <= tag[0] and tag[2] <= tags[0][2], tag)
 
     def test_of_many_places_those_near_what_blocks_are_drawn(self):
         places = "name,supply\nA,5\nB,0\nC,-5\n" + "".join(f"P{k},0\n" for k in range(100))
