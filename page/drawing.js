@@ -1,4 +1,5 @@
 // Parts of pictures, as SVG: colours, texts, arrows, the frame and the legend.
+import { countOf } from './faults.js';
 import { edgesOf, samples } from './layout.js';
 
 const FONT = 'font-family="DejaVu Sans, Verdana, Helvetica, sans-serif"', KINDS = { sends: 'sends', takes: 'takes', passes: 'passes on' };
@@ -81,12 +82,20 @@ export function tagAt(text, x, y, size, more) {
 
 // ---- The whole
 
+// What a picture is called, and what is said of it, where it isn't seen.
+function namesOf({ caption, heading, nodes, links }) {
+  const title = `${caption && caption.title ? `${caption.title}: ` : ''}${heading}`;
+  const drawn = `${countOf(nodes.length, 'place', 'places')} and ${countOf(links.length, 'route', 'routes')}`;
+  return [`<title>${xmlText(title)}</title>`, `<desc>Drawn are ${drawn}; the tables have all of them.</desc>`];
+}
+
 // A whole picture: its frame, its heading, what stands in it and the legend below. Its kind is a class of the page's style.
 export function framed(points, scene, body, [lines, across], kind = 'boxes') {
   const [west, north, east, south] = edgesOf(points), size = growthOf([west, north, east, south]), [headings, along] = headingsOf(scene);
   const left = west - 32, right = east + 32, top = north - 38 - (12 + 20 * headings.length) * size, bottom = south + 20 + 36 * size;
   const wide = Math.max(left + 48 + Math.max(across, along) * size, right) - left, high = bottom - top;
-  return [`<svg xmlns="http://www.w3.org/2000/svg" class="${kind}" role="img" aria-label="${xmlText(scene.heading).replace(/"/g, '&quot;')}" width="${wide.toFixed(0)}" height="${high.toFixed(0)}" viewBox="${[left, top, wide, high].map(f).join(' ')}" ${FONT} fill="${INK}">`,
+  return [`<svg xmlns="http://www.w3.org/2000/svg" class="${kind}" role="img" width="${wide.toFixed(0)}" height="${high.toFixed(0)}" viewBox="${[left, top, wide, high].map(f).join(' ')}" ${FONT} fill="${INK}">`,
+    ...namesOf(scene),
     `<rect class="ground" x="${f(left)}" y="${f(top)}" width="${f(wide)}" height="${f(high)}" fill="#ffffff"/>`,
     placed(left + 24, top + 32 * size, size, headings),
     ...body, placed(left + 24, bottom - 20 * size, size, lines), '</svg>'].join('\n');

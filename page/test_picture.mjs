@@ -125,6 +125,7 @@ async function titles(expect, solver) {
     const svg = svgOf(await sceneOf(solver, [places, { name: 'routes', text: `from;to;most;cost\nA;B;${most};1,25\n` }]));
     const texts = [...svg.matchAll(/<text [^>]*>([^<]*)</g)].map(([, text]) => text);
     expect(texts.slice(0, 3).join('|') === `Week &lt;7&gt;|${heading}|${CAPTION.source}`, texts.slice(0, 3).join('|'));
+    expect(svg.includes(` role="img" `) && svg.includes(`>\n<title>Week &lt;7&gt;: ${heading}</title>\n<desc>Drawn are 2 places and 1 route; the`), 'a name');
     expect(texts.includes('sends 12\u202f500'), 'a picture without thousands apart');
   }
 }

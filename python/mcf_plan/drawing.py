@@ -5,6 +5,7 @@ import math
 import unicodedata
 
 from . import layout
+from .words import count_of
 
 FONT = 'font-family="DejaVu Sans, Verdana, Helvetica, sans-serif"'
 INK, SOFT, SHADE = "#1f2933", "#52606d", "#f9d5cd"
@@ -138,6 +139,17 @@ def tag_at(text, x, y, size, more):
 # ---- The whole
 
 
+def names_of(scene):
+    """What a picture is called, and what is said of it, where it isn't seen."""
+    title = f"{scene.caption.title}: " if scene.caption and scene.caption.title else ""
+    places = count_of(len(scene.nodes), "place", "places")
+    routes = count_of(len(scene.links), "route", "routes")
+    return [
+        f"<title>{xml_text(title + scene.heading)}</title>",
+        f"<desc>Drawn are {places} and {routes}; the tables have all of them.</desc>",
+    ]
+
+
 def framed(edges, scene, body, legend, kind="boxes"):
     """A whole picture: its frame, its heading, what stands in it and the legend below. Its kind is
     a class of the page's style."""
@@ -151,10 +163,12 @@ def framed(edges, scene, body, legend, kind="boxes"):
         "\n".join(
             [
                 (
-                    f'<svg xmlns="http://www.w3.org/2000/svg" class="{kind}" width="{wide:.0f}"'
-                    f' height="{high:.0f}" viewBox="{left:.1f} {top:.1f} {wide:.1f} {high:.1f}"'
+                    f'<svg xmlns="http://www.w3.org/2000/svg" class="{kind}" role="img"'
+                    f' width="{wide:.0f}" height="{high:.0f}"'
+                    f' viewBox="{left:.1f} {top:.1f} {wide:.1f} {high:.1f}"'
                 ),
                 f'{FONT} fill="{INK}">',
+                *names_of(scene),
                 (
                     f'<rect class="ground" x="{left:.1f}" y="{top:.1f}" width="{wide:.1f}"'
                     f' height="{high:.1f}" fill="#ffffff"/>'

@@ -158,9 +158,9 @@ class Writer:
         )
         note = f'<p class="soft">{text(sheet.note)}</p>' if sheet.note else ""
         return (
-            f"<section><h2>{text(sheet.title)}</h2>{note}{tools}\n<div"
-            f' class="sheet"><table>\n<thead><tr>{heads}</tr></thead>\n<tbody>\n{rows}\n</tbody>'
-            f"{foot}</table></div></section>"
+            f'<section><h2>{text(sheet.title)}</h2>{note}{tools}\n<div class="sheet">'
+            f'<table aria-label="{text(sheet.title)}">\n<thead><tr>{heads}</tr></thead>\n<tbody>\n'
+            f"{rows}\n</tbody>{foot}</table></div></section>"
         )
 
     def cell_in(self, value, is_number):

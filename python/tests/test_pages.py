@@ -104,6 +104,7 @@ class Pages(WithFolder):
             "M &amp; &lt;b&gt;",
             "Ann\u00e9",
             "No plan for these tables costs less.",
+            '<table aria-label="Routes">',
             (
                 "<tr class=full><td>M &amp; &lt;b&gt;</td><td>Wien</td><td>exactly</td><td"
                 ' class="number" data-value="5">5</td></tr>'

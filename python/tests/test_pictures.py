@@ -278,6 +278,15 @@ class Pictures(WithFolder):
             )
             self.assertIn("as wide as it carries (widest 12\u202f500 hl)", texts)
             self.assertIn("sends 12\u202f500", texts)
+            root = xml.etree.ElementTree.parse(self.out / "plan.svg").getroot()
+            self.assertEqual(root.get("role"), "img")
+            self.assertEqual(
+                [item.text for item in root[:2]],
+                [
+                    "Week <7>: A least-cost plan: cost 15\u202f625 \u20ac",
+                    "Drawn are 2 places and 1 route; the tables have all of them.",
+                ],
+            )
             self.flow(places, routes.replace(";;", ";1;"), *words)
             self.assertEqual(self.texts()[1], "No plan exists: short by 12\u202f499 hl")
             self.flow(places, routes)
