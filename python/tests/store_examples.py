@@ -1,5 +1,7 @@
 #!/usr/bin/env python3
-"""Writes what the plans of examples/plans/ give now, to be looked at before it is committed."""
+"""Writes what the plans of examples/plans/ give now, and the pictures of docs/, to be looked at
+before it is committed."""
+import os
 import pathlib
 import shutil
 import sys
@@ -9,17 +11,25 @@ sys.path[:0] = [
     str(pathlib.Path(__file__).resolve().parent),
     str(pathlib.Path(__file__).resolve().parents[1]),
 ]
+from support import TOP  # noqa: E402
 from test_examples import example_folders, results_of  # noqa: E402
+
+# The pictures of docs/ by their plans, and the date that they have, in seconds since 1970.
+PICTURES = {"network": "plan.svg", "network-blocked": "plan-blocked.svg"}
+DATE = "1795737600"
 
 
 def main():
     """Writes all."""
+    os.environ["SOURCE_DATE_EPOCH"] = DATE
     for folder in example_folders():
         shutil.rmtree(folder / "expected", ignore_errors=True)
         (folder / "expected").mkdir()
         with tempfile.TemporaryDirectory() as scratch:
             for name, text in results_of(folder, pathlib.Path(scratch)).items():
                 (folder / "expected" / name).write_text(text, encoding="utf-8")
+            if folder.name in PICTURES:
+                shutil.copy(f"{scratch}/plan.svg", TOP / "docs" / PICTURES[folder.name])
 
 
 if __name__ == "__main__":
