@@ -53,7 +53,7 @@ function parted(boxes) {
   return boxes;
 }
 
-// For each node how many links lead to it from the nearest start; what isn't reached begins anew.
+// For each node how many links lead to it from the nearest start; what isn't reached begins anew, first where no link leads to.
 export function levelsOf(count, links, starts) {
   const after = Array.from({ length: count }, () => []), levels = new Array(count).fill(-1);
   for (const { tail, head } of links) after[tail].push(head);
@@ -65,7 +65,9 @@ export function levelsOf(count, links, starts) {
       for (const head of after[node]) waiting.push([head, level + 1]);
     }
   };
+  const heads = new Set(links.map(({ head }) => head));
   reach(starts);
+  reach(after.map((_, node) => node).filter((node) => !heads.has(node)));
   for (let node = 0; node < count; node++) reach([node]);
   return levels;
 }

@@ -3,7 +3,7 @@ import fs from 'node:fs';
 import path from 'node:path';
 import { fileURLToPath } from 'node:url';
 import { FlowNet, FlowPlan } from './flownet.js';
-import { laidOut } from './layout.js';
+import { laidOut, levelsOf } from './layout.js';
 import { Problem } from './model.js';
 import { svgOf } from './picture.js';
 import { blockedScene, planScene, shortNames } from './scene.js';
@@ -131,6 +131,10 @@ async function titles(expect, solver) {
 }
 
 export default async function test(expect) {
+  for (const [links, starts, wanted] of [[[[2, 0], [2, 1]], [], '1,1,0'], [[[2, 0], [0, 1]], [0], '0,1,0'], [[[0, 1], [1, 0]], [], '0,1,0']]) {
+    const found = levelsOf(3, links.map(([tail, head]) => ({ tail, head })), starts).join();
+    expect(found === wanted, `columns ${found}, and not ${wanted}`);
+  }
   shorts(expect);
   dots(expect);
   labels(expect);

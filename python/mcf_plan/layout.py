@@ -143,12 +143,13 @@ def map_boxes(task, spread=SPREAD):
 
 def levels_of(count, links, starts):
     """For each node how many links lead to it from the nearest start; what isn't reached begins
-    anew."""
-    after = [[] for _ in range(count)]
+    anew, first where no link leads to."""
+    after, heads = [[] for _ in range(count)], {head for _, head in links}
     for tail, head in links:
         after[tail].append(head)
     levels = {}
-    for begins in [starts, *([node] for node in range(count))]:
+    roots = [node for node in range(count) if node not in heads]
+    for begins in [starts, roots, *([node] for node in range(count))]:
         waiting = collections.deque((node, 0) for node in begins)
         while waiting:
             node, level = waiting.popleft()

@@ -108,6 +108,14 @@ class Pictures(WithFolder):
                 all(math.isfinite(box.x) and math.isfinite(box.y) for box in boxes), spots
             )
 
+    def test_columns_begin_where_no_route_leads_to(self):
+        for links, starts, levels in (
+            ([(2, 0), (2, 1)], [], [1, 1, 0]),
+            ([(2, 0), (0, 1)], [0], [0, 1, 0]),
+            ([(0, 1), (1, 0)], [], [0, 1, 0]),
+        ):
+            self.assertEqual(layout.levels_of(3, links, starts), levels)
+
     def test_what_blocks(self):
         texts = self.drawn("name,supply\nA,5\nB,-5\n", "from,to,least,most,cost\nA,B,0,4,1\n")
         self.assertIn("\u2264 4", texts)
