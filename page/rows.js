@@ -3,8 +3,8 @@
 import { SOFT, arrow, boxAt, boxSwatch, framed, labelAt, labelSize, legendOf, lineBetween, textAt, textWidth, xmlText } from './drawing.js';
 
 // Of more places than this on a side, rows are drawn. How high a row is, and a block of rows at least; between blocks; between columns; how
-// wide all may be; how many rows a block has at most.
-const MANY = 20, ROW = 20, LEAST = 36, BELOW = 8, BESIDE = 40, WIDE = 1440, ROWS = 40;
+// wide all may be, so that names are 9 pixels high in a page of 1360; how many rows a block has at most.
+const MANY = 20, ROW = 20, LEAST = 36, BELOW = 8, BESIDE = 40, WIDE = 1160, ROWS = 40;
 // An edge of what stands several times.
 const DASHED = ' stroke-dasharray="4 3"';
 

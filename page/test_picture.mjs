@@ -80,8 +80,10 @@ async function rowsDrawn(expect, solver) {
   const scene = await sceneOf(solver, [{ name: 'places', text: `name,supply\n${places}` }, { name: 'routes', text: `from,to,most,cost\n${routes}` }]);
   const svg = svgOf(scene), [, wide] = /viewBox="\S+ \S+ (\S+)/.exec(svg).map(Number);
   for (const k of numbers) expect(svg.includes(`>Werk ${k}</text>`) && svg.includes(`>Markt ${k}</text>`), `rows: a name lacks: ${k}`);
-  expect(12 * 1310 / wide > 9 && wide > 900, `rows: ${wide} wide`);
+  expect(12 * 925 / wide > 9 && wide > 900, `rows: ${wide} wide`);
   expect(count(svg, '<g class="f') - 2 === scene.links.length, 'rows: a row for each route');
+  const long = (node) => ({ ...node, short: node.short.padEnd(17, 'x') }), drawing = svgOf({ ...scene, nodes: scene.nodes.map(long) });
+  expect(12 * 925 / Number(/viewBox="\S+ \S+ (\S+)/.exec(drawing)[1]) > 9, 'rows: longer names are smaller');
   const boxes = [...rectangles(svg, 'sends').slice(0, -1), ...rectangles(svg, 'takes').slice(0, -2)];
   expect(!boxes.some((one, k) => boxes.slice(0, k).some((other) => overlap(one, other))), 'rows: boxes overlap');
   for (const [many, kind] of [[20, 'boxes'], [21, 'rows']]) {
