@@ -66,7 +66,8 @@ function choices() {
 function captionOf(kind) {
   const now = new Date(), names = { flow: ['places', 'routes'], pairs: ['costs'], text: ['dimacs'] }[kind].map((id) => sourceOf(id).name);
   const date = [now.getFullYear(), now.getMonth() + 1, now.getDate()].map((part) => String(part).padStart(2, '0')).join('-');
-  return { title: $('title').value.trim(), source: `${date}: ${names.join(', ')}` };
+  const line = (text) => text.replace(/[\u0000-\u001f\u007f]/g, ' ').trim();
+  return { title: line($('title').value), source: line(`${date}: ${names.join(', ')}`) };
 }
 
 // Files that were chosen or dropped: which of the fields they are for, their beginning says.

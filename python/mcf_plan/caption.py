@@ -6,6 +6,7 @@ import os
 
 from .faults import Stop
 from .page import grouped
+from .words import line_of
 
 # The title that was asked for, or none; the date and the tables; what costs are in, what amounts.
 Caption = collections.namedtuple("Caption", "title source currency unit")
@@ -14,7 +15,7 @@ Caption = collections.namedtuple("Caption", "title source currency unit")
 def caption_of(options, *tables):
     """The caption of a run."""
     names = dict.fromkeys(os.path.basename(table.name) for table in tables)
-    source = f"{date_of_run()}: {', '.join(names)}"
+    source = line_of(f"{date_of_run()}: {', '.join(names)}")
     return Caption(options.title or "", source, options.currency, options.unit)
 
 

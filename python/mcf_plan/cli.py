@@ -10,6 +10,7 @@ from .diff import diff_command
 from .faults import Stop, trouble
 from .results import Results
 from .tables import Reading
+from .words import line_of
 
 HEADS = (
     "name",
@@ -159,9 +160,9 @@ def add_reading(command):
         action="store_true",
         help="write the tables as a workbook, too, as is done where a workbook was read",
     )
-    command.add_argument("--title", help="the title of the page and of the picture")
-    command.add_argument("--currency", default="", help="what costs are in, for both")
-    command.add_argument("--unit", default="", help="what amounts are in, for both")
+    command.add_argument("--title", type=line_of, help="the title of the page and of the picture")
+    command.add_argument("--currency", type=line_of, default="", help="what costs are in, for both")
+    command.add_argument("--unit", type=line_of, default="", help="what amounts are in, for both")
     command.add_argument(
         "--guard-formulas",
         action="store_true",

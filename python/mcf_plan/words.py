@@ -13,3 +13,10 @@ def listed(texts, most=TOLD_NAMES):
 def count_of(number, one, many):
     """A number and its noun."""
     return f"{number} {one if number == 1 else many}"
+
+
+def line_of(text):
+    """A text of the command line, or the name of a file, in one line that a page can have: with "?"
+    for bytes that are no text."""
+    text = "".join(" " if ord(c) < 32 or ord(c) == 127 else c for c in text)
+    return text.encode("utf-8", "replace").decode("utf-8").strip()

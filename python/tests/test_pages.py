@@ -9,9 +9,10 @@ import shutil
 import subprocess
 import time
 import unittest
+import xml.etree.ElementTree
 from unittest import mock
 
-from support import PLACES, ROUTES, WithFolder
+from support import PLACES, ROUTES, WithFolder, run
 
 CHROMIUM = (
     shutil.which("chromium") or shutil.which("chromium-browser") or shutil.which("google-chrome")
@@ -135,6 +136,19 @@ class Pages(WithFolder):
             self.pairs(",X,Y\nA,1,2\nB,,2\n", "--title", "Rota")
             self.assertIn("<h1>Rota<br>Least cost: 3</h1>", self.page())
             self.assertIn('<p class="soft">2023-11-14: costs.csv</p>', self.page())
+
+    def test_titles_and_names_of_files_with_any_bytes(self):
+        places, routes = self.folder / os.fsdecode(b"\xe9\x01.csv"), self.put("routes.csv", ROUTES)
+        try:
+            places.write_text(PLACES)
+        except OSError:
+            self.skipTest("names of files are text here")
+        title = os.fsdecode(b"K\xe9\nW")
+        status, _, told = run("flow", places, routes, "-o", self.out, "--title", title)
+        self.assertEqual((status, told), (0, ""))
+        self.assertIn("<h1>K? W<br>Least cost: 171</h1>", self.page())
+        self.assertIn(": ? .csv, routes.csv</p>", self.page())
+        xml.etree.ElementTree.parse(self.out / "plan.svg")
 
     def test_columns_that_are_carried_along_are_named(self):
         line = "<p>Columns carried along, not used: carrier, min lot.</p>"
