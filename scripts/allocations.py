@@ -1,32 +1,31 @@
 #!/usr/bin/env python3
-"""What no clause says of memory, by the form of the code: that what is handed no allocator asks for
-no memory, that no refusal of memory is swallowed, and that a count is made and raised by
-`mcf_counts` alone.
+"""Checks by pattern what no clause states about memory: code without an allocator argument doesn't
+allocate, no failed allocation is ignored, and only `mcf_counts` makes and raises counts.
 
-    scripts/allocations.py      tells each place in crates/*/src that breaks one of these, but for
-                                those named here; status 1 if there is one
+    scripts/allocations.py      lists each place in crates/*/src that breaks one of these rules,
+                                except those named here; status 1 if there is one
 
-A vector hands out its own allocator (`.allocator()`), so a call without one could grow another. A
-call that may grow answers whether it did; the answer is dropped where the call is a statement by
-itself, is bound to `_`, or goes to `.ok()`."""
+A vector gives access to its own allocator (`.allocator()`), so a call without an allocator could
+grow another vector. A call that may grow returns whether it did; code ignores that result if the
+call is a statement by itself, is bound to `_`, or goes to `.ok()`."""
 import re
 import sys
 from pathlib import Path
 
 TOP = Path(__file__).resolve().parent.parent
 
-# Where an allocator is asked for, and how often: a table of arcs that becomes wide asks that of its
-# narrow form.
+# The places that request an allocator, and how often: a table of arcs that becomes wide requests
+# that of its narrow form.
 ALLOCATORS = {"mcf_flows/src/arc_table.rt": 2}
 
-# Where an answer is dropped: the room is made at the start, and the call is made only where it is
-# enough.
+# The places that ignore a result: memory is reserved at the start, and the call is made only if it
+# suffices.
 DROPPED = {
     "mcf_engine/src/heap.rt": "self.entries.push",
     "mcf_offers/src/offers.rt": "self.heap.push",
 }
 
-# Calls of the project's own, which have the name of one that grows and answer nothing.
+# The project's own calls that share the name of one that grows, and return nothing.
 OWN = {
     "done.insert",
     "matching.extend",

@@ -1,18 +1,18 @@
 #!/usr/bin/env python3
-"""Proves the crates that the programs stand on, and builds the programs into bin/; or proves all.
+"""Proves the crates that the programs depend on, and builds the programs into bin/; or proves all.
 
-`rt ci` does both, on a copy of these crates in bin/proofs/ that leaves out the edits that must
-fail: so crates that don't stand on one another are proved side by side, with their tests, from
-nothing, each once, and the gate takes what is proved, where the kit keeps it. A line says which
-crate is proved, and how many are left; as soon as a program is built it is put into bin/ and run on
-an example. What was built of libraries goes to crates/mcf_c/out/rlib/, where scripts/static.sh
-takes it. All that `rt ci` says is in bin/proofs.log. Where no source has changed since the last
-time, programs are run on the example and nothing else is done.
+`rt ci` does both, on a copy of these crates in bin/proofs/ without the edits that must fail. It
+proves independent crates in parallel, with their tests, from scratch, each once; `make test` reuses
+the result, if the kit keeps it. A line reports each proved crate, and how many are left. Each
+program goes into bin/ as soon as it is built, and runs on an example. Built libraries go to
+crates/mcf_c/out/rlib/, for scripts/static.sh. bin/proofs.log has the output of `rt ci`. If no
+source has changed since the last time, the script only runs the programs on the example.
 
-With --all it proves every crate with its tests, runs the tests, and each program as two compilers
-build it; the tests are put into out/ of their crates. It does so even where no source has changed.
+With --all it proves every crate with its tests, runs the tests, and runs each program as two
+compilers build it; the tests go into out/ of their crates. It does so even if no source has
+changed.
 
-Usage: scripts/build.py [PROGRAM ..]      mcfcheck and mcf, where none is named
+Usage: scripts/build.py [PROGRAM ..]      mcfcheck and mcf, if none is named
        scripts/build.py --all
 """
 import hashlib

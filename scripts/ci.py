@@ -1,14 +1,14 @@
 #!/usr/bin/env python3
-"""Runs all that a change has to pass, step by step, and closes with a table.
+"""Runs all steps of CI in order, and closes with a table.
 
-    scripts/ci.py            every step: what .ci/run calls
-    scripts/ci.py --quick    those that take seconds over what is built, and `rt check` of each
+    scripts/ci.py            every step; .ci/run calls this
+    scripts/ci.py --quick    the steps that take seconds over what is built, and `rt check` of each
                              crate whose files differ from the last commit that upstream has, or
-                             from HEAD where there is no upstream: what `make quick` calls
+                             from HEAD if there is no upstream; `make quick` calls this
 
-A step whose tools aren't there is skipped, and the table says why; so is what a step itself says
-that it skipped. Nothing is installed. A step that is the repository's own and fails, fails the run.
-The last line is `N passed, M failed, K skipped`.
+A step whose tools are missing is skipped, and the table gives the reason; it also lists what a step
+reports that it skipped. Nothing is installed. A failing step fails the run. The last line is
+`N passed, M failed, K skipped`.
 """
 import pathlib
 import re
@@ -23,7 +23,7 @@ BROWSERS = ("chromium", "chromium-browser", "google-chrome", "firefox", "firefox
 
 
 class Step(NamedTuple):
-    """What is run, and the tools that it needs: of each tuple one."""
+    """The command to run, and the tools that it needs: one of each tuple."""
 
     name: str
     command: Tuple[str, ...]
@@ -54,7 +54,7 @@ STEPS = (
 
 
 def lacking(step: Step) -> Optional[str]:
-    """The first tool that the step needs and that isn't there."""
+    """The first missing tool of the step."""
     for names in step.tools:
         if not any(shutil.which(name) for name in names):
             return f"there is no {' or '.join(names)}"
@@ -62,7 +62,7 @@ def lacking(step: Step) -> Optional[str]:
 
 
 def run(step: Step) -> Result:
-    """Runs a step, prints what it prints, and keeps what it says that it skipped."""
+    """Runs a step, prints its output, and collects what it reports as skipped."""
     why = lacking(step)
     if why:
         print(f"ci: {step.name}: skipped: {why}", flush=True)
@@ -99,14 +99,14 @@ def changed() -> List[str]:
 
 
 def quick() -> List[Step]:
-    """The steps that take seconds, and the checks of what changed."""
+    """The steps that take seconds, and the checks of changed crates."""
     check = "cd crates/{} && rt check"
     checks = [Step(f"{name}", ("sh", "-c", check.format(name)), KIT) for name in changed()]
     return [LINT, TOOLS, PAGE, *checks]
 
 
 def table(results: List[Result]) -> None:
-    """What was run and what wasn't, a line each."""
+    """A line for each step, and for each thing that wasn't run."""
     print("\nci: step | result | minutes")
     for result in results:
         print(f"ci: {result.step.name} | {result.status} | {result.minutes:.1f}")

@@ -1,13 +1,13 @@
 #!/usr/bin/env python3
-"""Packs what `make` and `make library` left in bin/: a tar.gz, a .deb where dpkg-deb is, and a
-wheel, with PROVENANCE and SHA256SUMS beside them.
+"""Packs what `make` and `make library` left in bin/: a tar.gz, a .deb if dpkg-deb is installed, and
+a wheel, with PROVENANCE and SHA256SUMS beside them.
 
-Nothing is built here. What is packed is what `make install` puts; the texts of the packages stand
-in packaging/. The same commit with the same programs and the same tools gives the same bytes: times
-are the commit's, owners are root, files come in order.
+It builds nothing. The packages contain what `make install` installs; packaging/ has their texts.
+The same commit with the same programs and the same tools gives the same bytes: times are the
+commit's, owners are root, files are in order.
 
-Usage: scripts/dist.py [FOLDER]      into bin/dist, which is made anew, or into a folder that isn't
-there yet
+Usage: scripts/dist.py [FOLDER]      into bin/dist, which it replaces, or into a folder that doesn't
+exist yet
 """
 import base64
 import gzip

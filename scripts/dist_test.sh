@@ -1,22 +1,24 @@
 #!/bin/sh
-# The packages of bin/dist/, as make dist leaves them, installed where nothing of the repository is, and run: the .deb in a bare Debian root, the wheel
-# in a virtual environment, the tar.gz in a folder. It says what is skipped, and takes two to four minutes, nearly all of them for the root.
+# Installs and runs the packages of bin/dist/, as make dist leaves them, without the repository: the
+# .deb in a bare Debian root, the wheel in a virtual environment, the tar.gz in a folder. Reports
+# what it skips; takes two to four minutes, nearly all of them for the root.
 #
-# The root is made by debootstrap in a temporary folder, which takes the rights of root, 400 MB and Debian's registry, and is entered by chroot. What
-# debootstrap mounts there goes with it.
-# DEBIAN_ROOT names one that debootstrap made before (minbase with python3, man-db and zsh): a copy of it is used, and no network.
+# debootstrap makes the root in a temporary folder, which needs root's rights, 400 MB and Debian's
+# registry; chroot enters it. What debootstrap mounts there disappears with it.
+# DEBIAN_ROOT names an existing root (minbase with python3, man-db and zsh): the test then uses a
+# copy of it, and no network.
 set -u
 cd "$(dirname "$0")/.." || exit 1
 top=$PWD
 dist=$top/bin/dist
 failed=0
 export PYTHONDONTWRITEBYTECODE=1
-# What is packed is what is run, and no other module or library.
+# Run what is packed, and no other module or library.
 unset PYTHONPATH MCF_LIBRARY
 
 skip() { echo "dist-test: skipped: $1"; }
 
-# Runs a step of at most ten minutes, and tells where it fails.
+# Runs a step of at most ten minutes, and reports its failure.
 step() {
     what=$1
     shift
@@ -34,7 +36,7 @@ assert (r.cost, r.flow, r.verdict.accepted) == (11, [3, 1], True), r
 assert mcf.linear_sum_assignment([[4, 1], [2, 0]])[1] == [1, 0]
 print(os.path.dirname(mcf.__file__), mcf._library._lib._name)'
 
-# The files of a root, but for what Debian keeps of all packages.
+# The files of a root, without Debian's records of packages.
 files_of() {
     find "$1" ! -type d -o -type d -empty | sed "s|^$1||" | grep -v -e ^/var/lib/dpkg/ -e ^/var/log/ -e ^/var/cache/ -e ^/tmp -e ^/src/ -e __pycache__ | sort
 }
@@ -118,7 +120,7 @@ tarball() {
     fi
 }
 
-# Each package that a file of bin/dist/ is, as its sum says; and the same bytes from another run.
+# Each package of bin/dist/ has its checksum, and another run gives the same bytes.
 same() {
     step "sums" sh -c "cd '$dist' && sha256sum -c --strict SHA256SUMS"
     step "packed again" scripts/dist.py "$scratch/again"

@@ -1,5 +1,6 @@
 #!/bin/sh
-# What each package has to do, for scripts/dist_test.sh: the programs and the tools of the path, on the examples of a folder, with results in another.
+# Runs the programs and the tools of the path, for scripts/dist_test.sh, on the examples of one
+# folder, with results in another: each package must pass.
 #
 #     scripts/dist_used.sh EXAMPLES FOLDER
 set -eu

@@ -1,13 +1,13 @@
 #!/usr/bin/env python3
-"""The documents that are made from the code and the spec files.
+"""Generates documents from the code and the spec files.
 
     scripts/documents.py write     writes DEFINITIONS, CONTRACTS, HEADLINE, CHOSEN, RUNS and MADE
                                    in docs/
-    scripts/documents.py check     tells which of them isn't what `write` would write, and which
-                                   public name lacks a comment; status 1 if there is one
+    scripts/documents.py check     lists those that differ from what `write` would write, and
+                                   public names without a comment; status 1 if there is one
 
-What is written by hand of the last four stands in scripts/headline.md, chosen.md, runs.md and
-made.md, where a line that begins with `@` stands for what is made.
+scripts/headline.md, chosen.md, runs.md and made.md have the handwritten parts of the last four; a
+line there that begins with `@` is a placeholder for a generated part.
 """
 import collections
 import pathlib

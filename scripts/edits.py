@@ -1,16 +1,16 @@
 #!/usr/bin/env python3
-"""Tries the edits that must fail, crates/NAME/edits/*.edit: the prover must refuse each at a goal.
+"""Mutation tests: tries the edits that must fail, crates/NAME/edits/*.edit. The prover must refuse
+each at a goal.
 
-    scripts/edits.py [--jobs N] [CRATE ..]     all crates that have edits, where none is named
+    scripts/edits.py [--jobs N] [CRATE ..]     all crates that have edits, if none is named
 
-Edits of functions that don't call one another are judged by one check, which tells of every
-function; an edit that it leaves undecided goes into a smaller group, and at last is tried alone.
-An edit is told as `refused at a goal`, which alone passes; as `refused for its shape`, where it
-doesn't compile or a proof names what is gone; as `THROUGH`, where the crate is proved with it; or
-as `undecided`. What was refused is kept in bin/edits/ by a checksum of all that it rests on, so
-that a later run tries what changed; what the checks of the last run said is in
-bin/edits/CRATE.log. The crates below are taken as `make` left them. The status is 1 where an edit
-isn't refused at a goal.
+One check judges a group of edits to functions that don't call one another, since it reports on
+every function; an edit that it leaves undecided goes into a smaller group, and finally runs alone.
+The result of an edit is `refused at a goal`, which alone passes; `refused for its shape`, if it
+doesn't compile or removes what a proof names; `THROUGH`, if the crate is proved with it; or
+`undecided`. Refusals are cached in bin/edits/ by a checksum of their inputs, so that a later run
+tries what changed; bin/edits/CRATE.log has the output of the last run's checks. The crates below
+are used as `make` built them. The status is 1 if an edit isn't refused at a goal.
 """
 import argparse
 import signal

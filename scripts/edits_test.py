@@ -1,6 +1,6 @@
 #!/usr/bin/env python3
-"""Shows that scripts/edits.py takes nothing for refused that isn't: it tries edits of a small crate
-in a copy that change nothing, don't compile, wait for others, or can't be applied.
+"""Tests that scripts/edits.py reports no edit as refused that isn't: in a copy of a small crate, it
+tries edits that change nothing, don't compile, wait for others, or can't be applied.
 
     scripts/edits_test.py
 """

@@ -1,9 +1,10 @@
 #!/bin/bash
-# Runs the programs of bin/ on the pairs of examples/: what `mcf solve` writes must be the answer there,
-# byte for byte, and `mcfcheck` must accept that answer; what it writes in the second form must be the answer in
-# NAME.two, where there is one, and `mcfcheck` must accept it as it does the other. Then on a text of several pieces, from a file and from
-# standard input, and on words, files and a want of memory that leave no answer: what is said then is compared
-# too. `main` has no contract, so this is what judges it. Whatever program isn't there yet is passed over.
+# Runs the programs of bin/ on the pairs of examples/. `mcf solve` must write the answer there, byte
+# for byte, and `mcfcheck` must accept it; in the second form it must write the answer in NAME.two,
+# if there is one, and `mcfcheck` must accept that equally. Then it tests a text of several pieces,
+# from a file and from standard input, and command lines, files and a lack of memory that leave no
+# answer, with their messages. `main` has no contract, so this is its test. Programs that aren't
+# built yet are skipped.
 set -u
 cd "$(dirname "$0")/.." || exit 1
 
@@ -18,7 +19,7 @@ trap 'rm -f "$written" "$written.err" "$written.two" "$long.min" "$long.ans" "$w
 pairs=0
 wrong=0
 
-# What `mcfcheck` prints where it accepts an answer that begins with this line.
+# What `mcfcheck` prints if it accepts an answer that begins with this line.
 verdict_of() {
     case $1 in
         "s "*) echo "accepted flow ${1#s }" ;;
@@ -27,7 +28,7 @@ verdict_of() {
     esac
 }
 
-# The status of `mcf solve` where its answer begins with this line.
+# The status of `mcf solve` if its answer begins with this line.
 status_of() {
     case $1 in
         "s "* | "v "*) echo 0 ;;
@@ -41,7 +42,7 @@ report() {
     wrong=$((wrong + 1))
 }
 
-# `mcfcheck` accepts the answer of a file for the instance of another, and says nothing else.
+# `mcfcheck` accepts the answer of a file for the instance of another, and prints nothing else.
 accepts() {
     bin/mcfcheck "$1" "$2" > "$written" 2> "$written.err"
     status=$?
@@ -49,7 +50,7 @@ accepts() {
         report "mcfcheck $1 $2: status $status, $(cat "$written" "$written.err")"
 }
 
-# `mcf` with these words, whose standard input is a file, writes the bytes of an answer, and says nothing else.
+# `mcf` with these words and a file as standard input writes the bytes of an answer, and no more.
 answers() {
     expected=$1
     input=$2
@@ -60,7 +61,7 @@ answers() {
         report "mcf $* with input $input: status $status, and not the bytes of $expected alone"
 }
 
-# What `mcf` answers in the second form `mcfcheck` accepts as it does the answer of a file.
+# `mcfcheck` accepts the answer of `mcf` in the second form just as the answer of a file.
 accepts_second() {
     bin/mcf solve --form 2 "$1" > "$written.two" 2> "$written.err" < /dev/null
     status=$?
@@ -80,7 +81,7 @@ tells() {
         report "$*: status $status, and not '$text' on standard error alone"
 }
 
-# The same with little memory, where the shell can refuse it.
+# The same with little memory, if the shell can limit it.
 tells_with_little() {
     (ulimit -v 300000) 2> /dev/null || return 0
     text=$1
@@ -97,7 +98,7 @@ for instance in examples/*.min examples/*.asn; do
     [ ! -x bin/mcf ] || [ ! -x bin/mcfcheck ] || accepts_second "$instance" "$answer"
 done
 
-# A text of 120,000 bytes, which comes in several pieces, and its answer; then a file that no memory holds.
+# A text of 120,000 bytes, read in several pieces, and its answer; then a file larger than memory.
 arcs=10000
 { echo "p min 2 $arcs"; yes 'a 1 2 0 0 0' | head -n $arcs; } > "$long.min" || exit 1
 { echo 's 0'; yes 'f 1 2 0' | head -n $arcs; echo 'y 1 0'; echo 'y 2 0'; } > "$long.ans" || exit 1

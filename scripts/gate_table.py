@@ -1,13 +1,13 @@
 #!/usr/bin/env python3
-"""Runs `make test` and `make edits`, and puts what they took into docs/GATE.md.
+"""Runs `make test` and `make edits`, and writes their times into docs/GATE.md.
 
-    scripts/gate_table.py [STEP ..]     the steps named alone, as `make`; no table is written
+    scripts/gate_table.py [STEP ..]     only the named steps, such as `make edits`; writes no table
 
-A crate's minutes of a processor for its proofs, and those of its tests, are those of the processes
-that work for it in `make test`, read from /proc while they run; those of its edits are what
-scripts/edits.py says. Printed is what the steps print, each line behind the minutes that have
-passed. What an earlier run proved or tried, and what is kept, takes nothing: so a table of the
-whole is one of a run after `make clean`, where the kit keeps nothing either. Linux alone.
+A crate's CPU minutes for its proofs and tests are those of the processes that work for it in
+`make test`, read from /proc while they run; scripts/edits.py reports those of its edits. The script
+prints the output of the steps, each line after the minutes passed. Cached proofs and tries take no
+time, so a complete table needs a run after `make clean`, with an empty cache of the kit. Linux
+only.
 """
 import datetime
 import os

@@ -1,6 +1,7 @@
 #!/bin/sh
-# Installs what is built into a folder of its own, runs each tool from there with nothing of the repository on the path, shows the
-# manual pages, has the shells complete, and takes all away again, in some three seconds. It says what is skipped.
+# Installs what is built into a separate folder, runs each tool there without the repository on the
+# path, formats the manual pages, has the shells complete, and uninstalls everything, in about three
+# seconds. Reports what it skips.
 set -u
 cd "$(dirname "$0")/.." || exit 1
 top=$PWD
@@ -12,7 +13,8 @@ skip() { echo "install-test: skipped: $1"; }
 # Makes a target for the folder.
 made() { make --no-print-directory "$1" DESTDIR="$root" PREFIX=/usr > "$scratch/said" 2>&1 || { fail "make $1"; cat "$scratch/said"; }; }
 
-# Runs a command with the installed tools and the system's on the path; its output has to have a line, and its status is told.
+# Runs a command with the installed tools and the system's on the path; checks its status and a
+# line of its output.
 step() {
     status=$1 line=$2
     shift 2
@@ -53,7 +55,7 @@ print(r.cost, r.flow)'
     step 0 "" env LD_LIBRARY_PATH="$root/usr/lib" ./c
 }
 
-# What the shells load for each command.
+# The completion that the shells load for each command.
 completion() {
     for command in mcf mcfcheck mcf_plan mcf_explain mcf_one; do
         step 0 "-F _mcf $command" bash -c '. "$1" && complete -p "$2"' bash "$root/usr/share/bash-completion/completions/$command" "$command"
@@ -66,7 +68,7 @@ completion() {
     fi
 }
 
-# Each page at the widths of a narrow, a usual and a wide terminal.
+# Each page at the widths of a narrow, a normal and a wide terminal.
 pages() {
     for page in "$root"/usr/share/man/man1/*.1; do
         for width in 60 80 132; do

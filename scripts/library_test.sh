@@ -1,6 +1,7 @@
 #!/bin/bash
-# The tests of the library from C, C++, Rust and Python, where a compiler or an interpreter is there, those of networkx and scipy among them, where
-# these are installed; they may take four minutes. It says what is skipped. The library stands in bin/, as make library leaves it.
+# Tests the library of bin/, as make library leaves it, from C, C++, Rust and Python, if their
+# compiler or interpreter is installed; also by the tests of networkx and scipy, if these are
+# installed. It may take four minutes, and reports what it skips.
 set -u
 cd "$(dirname "$0")/.." || exit 1
 top=$PWD
@@ -10,7 +11,7 @@ failed=0
 
 has() { command -v "$1" > /dev/null 2>&1 || { echo "library-test: skipped: $2: there is no $1"; return 1; }; }
 
-# Runs a step of at most a minute, and tells where it fails.
+# Runs a step of at most a minute, and reports its failure.
 step() {
     what=$1
     shift
@@ -28,7 +29,7 @@ texts() {
     done
 }
 
-# Python as the path has it, and the system's, which may have other packages.
+# The Python of the path, and the system's, which may have other packages.
 interpreters() {
     for python in python3 /usr/bin/python3; do "$python" -c 'import sys; print(sys.executable)' 2> /dev/null; done | sort -u
 }
@@ -40,7 +41,7 @@ having() {
     return 1
 }
 
-# What a package of Python's tests of itself.
+# A Python package's own tests.
 others() {
     python=$(having "$1, pytest" "what $1 tests of itself") && step "what $1 tests of itself" env MCF_LIBRARY="$top/bin/libmcf.so" "$python" python/tests/foreign.py "$1"
 }

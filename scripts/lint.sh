@@ -1,7 +1,8 @@
 #!/bin/bash
-# Formatters and linters over all that isn't Rattle: Python, JavaScript, shell and C. Each tool that isn't there is skipped with a word; Debian has all
-# but ruff, and black, isort and flake8 take its place, with the same rules. Settings: pyproject.toml, .flake8, jsconfig.json, .eslintrc.json,
-# .shellcheckrc, .clang-format. Nothing is written: `scripts/lint.sh --fix` lays out what a formatter can.
+# Runs formatters, linters and type checkers over Python, JavaScript, shell and C: all but Rattle.
+# It reports each missing tool and skips it. Debian has all except ruff; black, isort and flake8
+# replace that, with the same rules. Settings: pyproject.toml, .flake8, jsconfig.json,
+# .eslintrc.json, .shellcheckrc, .clang-format. It changes nothing; `scripts/lint.sh --fix` formats.
 set -uo pipefail
 cd "$(dirname "$0")/.." || exit 1
 fix=${1:-}

@@ -1,5 +1,6 @@
 #!/bin/sh
-# The tests of the page that need node alone, over the module that page/build.sh makes; the page is packed, too. It says what is skipped, and why.
+# Builds the page's module (page/build.sh), packs the page, and runs the tests that need only node.
+# Reports what it skips, and why.
 set -u
 cd "$(dirname "$0")/.." || exit 1
 

@@ -1,11 +1,11 @@
 #!/usr/bin/env python3
-"""The drawings of docs/ that are made from data: what each claim rests on, speed, and the crates.
+"""Draws the pictures of docs/ from data: what each claim rests on, speed, and the crates.
 
     scripts/pictures.py write     writes docs/trust.svg, docs/speed.svg and docs/crates.svg
-    scripts/pictures.py check     compares them with what `write` would write; status 1 where one
+    scripts/pictures.py check     compares them with what `write` would write; status 1 if one
                                   differs
 
-Speed is the table of docs/BENCH.md under "What the tools choose", and crates are those of
+Speed comes from the table of docs/BENCH.md under "What the tools choose", the crates from
 crates.txt. The drawings follow the reader's light or dark scheme.
 """
 import html

@@ -1,5 +1,5 @@
-/* Put before the C library by LD_PRELOAD: refuses the allocation of the number REFUSED (from 1),
-   and says so on standard error. A growth counts, a shrink or a release doesn't. */
+/* Replaces calls of the C library by LD_PRELOAD: refuses allocation number REFUSED (from 1), and
+   reports it on standard error. A growth counts, a shrink or a release doesn't. */
 #define _GNU_SOURCE
 #include <dlfcn.h>
 #include <malloc.h>

@@ -3,21 +3,21 @@
 
     python3 scripts/refuse_memory.py [NAME ...] [--only WORD] [--most N] [--minutes N] [--built]
 
-NAME is a crate with tests; without one, all of them. Each is proved, built and tested by `rt test`
-(`--built` takes the tests as they were built last). Then each test, or with `--only` each whose
-name has WORD in it, is run with its first allocation refused, then with its second, and so on,
-until a run meets no refusal, or up to the Nth (5,000 if left out). A run is right where it ends as
-with ample memory, or with an error that speaks of want of memory; tests of what was lent compare it
-themselves after the error. Printed is a line for each test: how many runs met a refusal, how many
-of those ended with the error, and how many went on to the end. The status is 1 where a run is
-wrong, and where anything isn't run: tests aren't built, no test has WORD in its name, or so many
-minutes have gone by since the first run.
+NAME is a crate with tests; without one, all of them. `rt test` proves, builds and tests each
+(`--built` uses the tests as they were built last). Then each test, or with `--only` each whose name
+contains WORD, runs with its first allocation refused, then with its second, and so on, until a run
+meets no refusal, or up to the Nth (by default 5,000). A run is right if it ends as with ample
+memory, or with an out-of-memory error; tests of borrowed data compare it themselves after the
+error. A line for each test has the number of runs that met a refusal, of those that ended with the
+error, and of those that completed. The status is 1 if a run is wrong, or if anything isn't run:
+tests aren't built, no test's name contains WORD, or so many minutes have passed since the first
+run.
 
-NAME may be mcf or mcfcheck, too: then the program of bin/ is run on each example, mcf by each
-engine, and on words that have no instance. A run is right where it does what it does with ample
-memory, or says `NAME: out of memory` alone, with status 3. Printed is a line for each engine.
+NAME may also be mcf or mcfcheck: then the program of bin/ runs on each example, mcf with each
+engine, and on words without an instance. A run is right if it does the same as with ample memory,
+or prints only `NAME: out of memory`, with status 3. A line is printed for each engine.
 
-Needs `rt`, `cc`, Python 3 and a C library whose `malloc` can be put aside.
+Needs `rt`, `cc`, Python 3 and a C library whose `malloc` can be replaced.
 """
 import argparse
 import collections
@@ -90,8 +90,8 @@ def judge(program, test, most, until, shim):
         print(f"  {test}: stopped at allocation {most}, which may not be the last")
     print(
         (
-            f"  {test}: {sum(ends.values())} refusals, {ends['without memory']} ended for want of"
-            f" memory, {ends['well']} well, {ends['wrong']} wrong"
+            f"  {test}: {sum(ends.values())} refusals, {ends['without memory']} out of memory,"
+            f" {ends['well']} well, {ends['wrong']} wrong"
         ),
         flush=True,
     )
@@ -160,8 +160,8 @@ def judge_program(name, most, until, shim):
         failed += ends["wrong"] + late
         print(
             (
-                f"  {group}: {sum(ends.values())} refusals, {ends['without memory']} ended for want"
-                f" of memory, {ends['well']} well, {ends['wrong']} wrong"
+                f"  {group}: {sum(ends.values())} refusals, {ends['without memory']} out of memory,"
+                f" {ends['well']} well, {ends['wrong']} wrong"
                 + (f"; FAILED: the time is over in {late} calls" if late else "")
             ),
             flush=True,

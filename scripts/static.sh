@@ -1,9 +1,9 @@
 #!/bin/bash
 # usage: scripts/static.sh TOOLCHAIN LIBRARY
 #
-# Proves the crate mcf_c, over what it kept before, and has a toolchain of the form of the kit's compile it into a static library, as `rt lib` does
-# both; LIBRARY is an absolute path. What it stands on is proved and built by scripts/build.py, where that isn't done. What is said of mcf_c is in
-# bin/mcf_c.log.
+# Proves the crate mcf_c incrementally, and compiles it into a static library with a toolchain laid
+# out like the kit's, as `rt lib` does both; LIBRARY is an absolute path. scripts/build.py proves
+# and builds the crates below, if that isn't done. bin/mcf_c.log has the output for mcf_c.
 set -euo pipefail
 cd "$(dirname "$0")/.."
 kit=$(dirname "$(rt doc)") toolchain=$1 library=$2

@@ -1,6 +1,7 @@
 #!/bin/sh
-# The tests of python/ and tools/, where Python 3.8 is there and the programs are built; they may take two minutes. MCF_BIN names the folder of the
-# programs, if that isn't bin/. It says what is skipped.
+# Runs the tests of python/ and tools/, if Python 3.8 is installed and the programs are built; they
+# may take two minutes. MCF_BIN names the folder of the programs, by default bin/. Reports what it
+# skips.
 set -u
 cd "$(dirname "$0")/.." || exit 1
 export MCF_BIN="${MCF_BIN:-$PWD/bin}"

@@ -1,13 +1,13 @@
 #!/usr/bin/env python3
-"""The words and numbers that the code fixes and that other languages repeat.
+"""The words and numbers that the code defines and that other languages repeat.
 
     scripts/words.py write     writes library/words.json, from the code
     scripts/words.py check     compares library/words.json, and each place that repeats a fact, with
-                               the code; status 1 where one says something else
+                               the code; status 1 if one differs
 
-Each fact stands once, in the code: the codes of faults, statuses, verdicts, engines, pricing rules,
-forms, limits, the version. A place that repeats it is a `Place` below: what a regular expression
-finds in a part of a file has to be the fact, in the same order.
+The code defines each fact once: fault codes, statuses, verdicts, engines, pricing rules, forms,
+limits, the version. A place that repeats it is a `Place` below: the matches of a regular expression
+in a part of a file must be the fact, in the same order.
 """
 import collections
 import json
