@@ -69,7 +69,7 @@ def past(text, opening):
 
 
 def dropped(text):
-    """Each call that may grow and whose answer is dropped: its place, and the call."""
+    """Each call that may grow and whose result is ignored: its place, and the call."""
     for found in GROWS.finditer(text):
         after = text[past(text, found.end() - 1) :].lstrip()
         before = re.split(r"[;{}]|=>", text[: found.start()])[-1].strip()
@@ -81,7 +81,7 @@ def dropped(text):
 
 
 def look(file):
-    """What breaks a rule in a file, each with its place."""
+    """The violations of the rules in a file, each with its place."""
     name = file.relative_to(TOP / "crates").as_posix()
     text = bare(file.read_text(encoding="utf-8"))
     asked = [found.start() for found in re.finditer(r"\.\s*allocator\s*\(", text)]
@@ -97,7 +97,7 @@ def look(file):
 
 
 def main():
-    """Looks at all crates."""
+    """Checks all crates."""
     broken = 0
     for file in sorted(TOP.glob("crates/*/src/**/*.rt")):
         text = file.read_text(encoding="utf-8")

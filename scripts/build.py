@@ -37,7 +37,7 @@ WORDS = {"mcfcheck": [EXAMPLE + ".min", EXAMPLE + ".ans"], "mcf": ["solve", EXAM
 
 
 def declared():
-    """The crates of crates.txt, each with the words behind its name and with what it stands on."""
+    """The crates of crates.txt, each with the words after its name and the crates it depends on."""
     found = {}
     for line in (TOP / "crates.txt").read_text().splitlines():
         names, colon, below = line.split("#")[0].partition(":")
@@ -48,13 +48,13 @@ def declared():
 
 
 def crates():
-    """The crates of crates.txt, each with the crates of the repository on which it stands."""
+    """The crates of crates.txt, each with the repository's crates that it depends on."""
     found = declared()
     return {name: [b for b in below if b in found] for name, (_, below) in found.items()}
 
 
 def closure(below, names):
-    """The crates named and all below them."""
+    """The named crates and all below them."""
     found, waiting = set(), list(names)
     while waiting:
         name = waiting.pop()
@@ -90,25 +90,25 @@ def stamp(names):
 
 
 def stamp_file(name):
-    """Where it stands of which sources a crate was built."""
+    """The file with the stamp of the sources from which a crate was built."""
     return BIN / f"{name}.sources"
 
 
 def is_built(name, now):
-    """Whether a crate is built of the sources that have this stamp."""
+    """Whether a crate is built from the sources with this stamp."""
     made = BIN / name if is_program(name) else LIBRARIES / f"{name}.rlib"
     return made.exists() and stamp_file(name).exists() and stamp_file(name).read_text() == now
 
 
 def stale(names):
-    """The libraries that aren't built of their sources as they stand."""
+    """The libraries that aren't built from their current sources."""
     below = crates()
     return sorted(name for name in names if not is_built(name, stamp(closure(below, [name]))))
 
 
 class Progress:
-    """Lines behind the time that has passed; where the output is a terminal, each takes the place
-    of the one before, but for those that stay."""
+    """Lines after the time passed; on a terminal, each replaces the previous one, unless that
+    stays."""
 
     def __init__(self):
         self.begun = time.time()
@@ -133,7 +133,7 @@ class Progress:
 
 
 def copy_crates(names):
-    """Puts the crates into the copy, as the top of a repository of its own."""
+    """Puts the crates into the copy, as the top of a separate repository."""
     if COPY.exists():
         shutil.rmtree(COPY)
     for name in names:
@@ -151,7 +151,7 @@ def copy_crates(names):
 
 
 def put(name):
-    """Puts what was built of a crate where it belongs, and runs it, if it is a program. Answers
+    """Puts the built files of a crate where they belong, and runs it, if it is a program. Returns
     whether it ended well."""
     made = COPY / "crates" / name / "out"
     if (made / name).is_file():
@@ -166,7 +166,7 @@ def put(name):
 
 
 def put_tests(name):
-    """Puts the tests that were built of a crate into its folder."""
+    """Puts a crate's built tests into its folder."""
     made, folder = COPY / "crates" / name / "out" / f"{name}_tests", TOP / "crates" / name / "out"
     if made.is_file():
         folder.mkdir(parents=True, exist_ok=True)
@@ -174,7 +174,7 @@ def put_tests(name):
 
 
 def run(name):
-    """Runs a program on the example; one that is handed to nobody without words. Answers whether it
+    """Runs a program on the example, or without words if users don't get it. Returns whether it
     ended well."""
     return (
         subprocess.run(
@@ -185,8 +185,8 @@ def run(name):
 
 
 def prove(stamps, progress):
-    """Proves crates and builds programs in the copy, and puts what is built where it belongs, a
-    library with the stamp of its sources. Answers whether all that was done."""
+    """Proves crates and builds programs in the copy, and puts the results where they belong, a
+    library with the stamp of its sources. Returns whether all of it succeeded."""
     left = set(stamps)
     progress.show(f"proving {len(left)} crates")
     how = {
@@ -217,7 +217,7 @@ def prove(stamps, progress):
 
 
 def take(name, left, progress):
-    """Puts what was built of a crate that is proved where it belongs, and says so."""
+    """Puts the built files of a proved crate where they belong, and reports it."""
     if not put(name):
         progress.end()
         sys.exit(f"bin/{name} doesn't end as it should on {EXAMPLE}")
@@ -228,8 +228,8 @@ def take(name, left, progress):
 
 
 def renew(programs):
-    """Runs programs that are built of the sources as they stand, and gives them today's time.
-    Answers whether all are there and end well."""
+    """Runs programs that are built from the current sources, and gives them today's time. Returns
+    whether all exist and end well."""
     if not all(run(name) for name in programs):
         return False
     for name in programs:
@@ -238,8 +238,8 @@ def renew(programs):
 
 
 def build(names, is_whole):
-    """Proves crates and what they stand on, and puts what is built where it belongs. Answers
-    whether that was done."""
+    """Proves crates and what they depend on, and puts the results where they belong. Returns
+    whether that succeeded."""
     below, progress = crates(), Progress()
     stamps = {name: stamp(closure(below, [name])) for name in closure(below, names)}
     if not is_whole and all(is_built(name, now) for name, now in stamps.items()):

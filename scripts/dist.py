@@ -44,7 +44,7 @@ def stop(why):
 
 
 def git(*words):
-    """What git says of this repository."""
+    """The output of git for this repository."""
     try:
         return (
             subprocess.run(["git", "-C", str(TOP), *words], stdout=subprocess.PIPE, check=True)
@@ -58,8 +58,8 @@ def git(*words):
 
 
 def read_version():
-    """The version, and the line that says by which logic it was proved. Other files that have the
-    version must have this one."""
+    """The version, and the line that names the logic of its proof. Other files with a version must
+    have this one."""
     found = re.search(
         r'"mcf ([\d.]+)\\n(proved with [^\\]+)\\n"',
         (TOP / "crates/mcf_suite/src/version.rt").read_text(),
@@ -75,7 +75,7 @@ def read_version():
 
 
 def look(version, proved):
-    """Stops where bin/ lacks something, or has what can't be of this commit."""
+    """Stops if bin/ lacks something, or has files that can't belong to this commit."""
     if (platform.system(), platform.machine()) != ("Linux", "x86_64"):
         stop("packages are for Linux on x86-64, and made there")
     for name, (part, *sources) in BUILT.items():
@@ -97,8 +97,8 @@ def look(version, proved):
 
 
 def kits(proved):
-    """A line for each part that is packed, with the line of the kit that built it; its logic is the
-    one that proved."""
+    """A line for each packed part, with the line of the kit that built it; its logic is that of the
+    proof."""
     said = []
     for part in sorted({part for name, (part, *_) in BUILT.items() if (BIN / name).is_file()}):
         file = BIN / f"{part}.kit"
@@ -113,12 +113,12 @@ def kits(proved):
 
 
 def libc(*paths):
-    """The least C library, as 2.N, that has each symbol which these files ask of it."""
+    """The oldest C library, as 2.N, with every symbol that these files need from it."""
     return max(int(n) for path in paths for n in re.findall(rb"GLIBC_2\.(\d+)", path.read_bytes()))
 
 
 def filled(path, **words):
-    """A text of packaging/ with its words put in."""
+    """A text of packaging/ with its words filled in."""
     return re.sub(
         r"@(\w+)@", lambda found: str(words[found.group(1)]), (PACKAGING / path).read_text()
     )
@@ -131,7 +131,7 @@ def put(path, text):
 
 
 def stage(tree, provenance):
-    """Installs all into a folder, as below /usr."""
+    """Installs everything into a folder, as below /usr."""
     shared = tree / "usr/share"
     words = [
         "make",
@@ -148,7 +148,7 @@ def stage(tree, provenance):
 
 
 def pack_tar(tree, path, top, at):
-    """A tar.gz of what is below usr/, in a folder of its own, which may stand anywhere."""
+    """A tar.gz of what is below usr/, in a relocatable folder."""
     pc = tree / "lib/pkgconfig/mcf.pc"
     installed = pc.read_text()
     pc.write_text(installed.replace("prefix=/usr\n", "prefix=${pcfiledir}/../..\n"))
@@ -172,7 +172,7 @@ def pack_tar(tree, path, top, at):
 
 
 def pack_deb(tree, path, version, at):
-    """A Debian package: Python's module and zsh's words go where Debian looks for them."""
+    """A Debian package: the Python module and zsh's completion go where Debian looks for them."""
     packages = tree / "usr/lib/python3/dist-packages"
     packages.mkdir(parents=True)
     (tree / "usr/share/mcf/python/mcf").rename(packages / "mcf")
@@ -205,7 +205,7 @@ def pack_deb(tree, path, version, at):
 
 
 def pack_wheel(folder, version, provenance, at):
-    """A wheel of the module with the library beside it. Answers its path."""
+    """A wheel of the module with the library beside it. Returns its path."""
     needed = libc(BIN / "libmcf.so.1")
     tag = f"py3-none-{'manylinux2014' if needed <= 17 else f'manylinux_2_{needed}'}_x86_64"
     about = f"yokdelm-{version}.dist-info"

@@ -28,7 +28,7 @@ PAUSE = 0.25
 
 
 def process(pid):
-    """Of a process that works for a crate: when it started, the crate, its seconds; None for
+    """For a process that works for a crate: its start, the crate, its CPU seconds; None for
     others."""
     try:
         words = pathlib.Path(f"/proc/{pid}/cmdline").read_bytes().decode().split("\0")
@@ -42,7 +42,7 @@ def process(pid):
 
 
 class Watch(threading.Thread):
-    """The seconds of each process below this one, by step and crate."""
+    """The CPU seconds of each process below this one, by step and crate."""
 
     def __init__(self):
         super().__init__(daemon=True)
@@ -63,7 +63,7 @@ class Watch(threading.Thread):
 
 
 def below(top):
-    """The numbers of the processes that a process began, and of those that they began."""
+    """The ids of a process's children, and of all their descendants."""
     parents = {}
     for entry in os.listdir("/proc"):
         if entry.isdigit():
@@ -81,7 +81,7 @@ def below(top):
 
 
 class Step:
-    """A step that has run: what it took, and what it said of crates."""
+    """A completed step: its times, and its output about crates."""
 
     def __init__(self, words, watch):
         self.words, self.proved, self.tried = words, {}, {}
@@ -100,7 +100,7 @@ class Step:
         self.processor = took / 60
 
     def note(self, line, minutes):
-        """Notes what a line says of a crate."""
+        """Notes a line's facts about a crate."""
         told = re.search(r"(\w+) is proved\b", line)
         if told:
             self.proved[told[1]] = minutes

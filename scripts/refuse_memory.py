@@ -99,7 +99,7 @@ def judge(program, test, most, until, shim):
 
 
 def calls(name):
-    """The calls of a program, in groups: what each is called, and the words of its calls."""
+    """The calls of a program, in groups: the name of each group, and the words of its calls."""
     instances = sorted(path for path in EXAMPLES.iterdir() if path.suffix in (".min", ".asn"))
     if name == "mcfcheck":
         return {name: [[path, path.with_suffix(".ans")] for path in instances]}
@@ -113,7 +113,7 @@ def calls(name):
 
 
 def run_program(name, words, refused, shim):
-    """Whether the run met a refusal, its status and what it wrote and said."""
+    """Whether the run met a refusal, its status, and its two outputs."""
     environment = {
         "PATH": "/usr/bin:/bin",
         **({"LD_PRELOAD": str(shim), "REFUSED": str(refused)} if refused else {}),
@@ -170,8 +170,8 @@ def judge_program(name, most, until, shim):
 
 
 def judge_tests(name, words, until, shim):
-    """Refuses each allocation of each test of a crate that is asked for; how many tests were, and
-    whether all was right."""
+    """Refuses each allocation of each requested test of a crate; the number of these tests, and
+    whether all were right."""
     program = CRATES / name / "out" / f"{name}_tests"
     if not program.exists():
         print(f"{name}: FAILED: its tests aren't built; `make test` builds them")

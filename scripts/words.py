@@ -25,7 +25,7 @@ PYTHON = "python/mcf/_library.py"
 PAGE = "page/module.js"
 WORD, QUOTED = r"[\w-]+", r"[\"']([\w -]*)[\"']"
 
-# What a file repeats: each match of `each` between `begin` and `end` is one of `wanted`.
+# A repetition in a file: the matches of `each` between `begin` and `end` must be `wanted`.
 Place = collections.namedtuple("Place", "path begin end each wanted")
 
 
@@ -34,30 +34,30 @@ def text_of(path):
 
 
 def part_of(path, begin, end):
-    """The text of a file behind `begin`, which stands in it, up to `end`."""
+    """The text of a file after `begin`, which must occur in it, up to `end`."""
     _, found, rest = text_of(path).partition(begin)
     if not found:
         sys.exit(f"words: {path} has no {begin!r}")
     return rest.partition(end)[0]
 
 
-# ---- what the code says
+# ---- the facts of the code
 
 
 def by_number(path, begin, arm):
-    """The names in the arms of a function, in the order of the numbers beside them."""
+    """The names in the arms of a function, in the order of their numbers."""
     found = re.finditer(arm, part_of(path, begin, "\n}"))
     return [row["name"] for row in sorted(found, key=lambda row: int(row["number"]))]
 
 
 def chosen(function):
-    """The choices that C has numbers for, from 0 on."""
+    """The choices that have numbers in C, from 0 on."""
     arm = r"(?P<number>\d+) => Some\(\w+::(?P<name>\w+)\)"
     return [name.lower() for name in by_number(CHOOSING, f"fn {function}(", arm)]
 
 
 def verdicts():
-    """What `mcfcheck` prints of each verdict, before its numbers, in the order of C's numbers."""
+    """The words that `mcfcheck` prints for each verdict, in the order of C's numbers."""
     arm = r"Verdict::(?P<name>\w+)(?:\(_\))? => (?P<number>\d+)"
     cases = by_number("crates/mcf_c/src/verdicts.rt", "fn kind_number(", arm)
     printing = text_of("crates/mcf_checker/src/printing.rt")
@@ -66,7 +66,7 @@ def verdicts():
 
 
 def statuses():
-    """What C's calls answer, from 0 on; a call that judges has other words for 0 and 1."""
+    """The statuses of C's calls, from 0 on; a call that judges has other words for 0 and 1."""
     text = text_of("crates/mcf_c/src/statuses.rt")
     rows = {int(number): name for name, number in re.findall(r"const (\w+): u32 = (\d+);", text)}
     rows.update({0: "FLOW", 1: "BLOCKED"})
@@ -98,7 +98,7 @@ def facts():
     }
 
 
-# ---- who repeats it
+# ---- the places that repeat them
 
 
 def in_header(fact):
@@ -117,7 +117,7 @@ def in_header(fact):
 
 
 def in_modules(fact):
-    """The lists of Python's module, of the page's, and of the tool that explains a refusal."""
+    """The lists of the Python module, of the page's, and of the tool that explains refusals."""
     codes = ["", *fact["codes"]]
     statuses = [word.upper() for word in fact["statuses"][1:]]
     yield Place(PYTHON, "\nFLOW", "= range(", r"\w+", statuses)
@@ -139,7 +139,7 @@ def in_modules(fact):
 
 
 def in_commands(fact):
-    """The words of the command line, where others offer or ask them."""
+    """The words of the command line that other files offer or use."""
     engines, rules, forms = (fact[f"{name} words"] for name in ("engine", "pricing", "form"))
     for path, begin, end, words in (
         ("scripts/refuse_memory.py", "ENGINES = (", ")", engines),
@@ -156,7 +156,7 @@ def in_commands(fact):
 
 
 def in_texts(fact):
-    """The version, and the limits as texts write them."""
+    """The version, and the limits as texts spell them."""
     limit = fact["limits"]
     power = {name: f"10^{len(str(number)) - 1}" for name, number in limit.items()}
     for path, begin, end in (
@@ -178,7 +178,7 @@ def in_texts(fact):
 
 
 def wrong_places(fact):
-    """What each place says that says something else."""
+    """A line for each place that differs from the code."""
     for repeat in (in_header, in_modules, in_commands, in_texts):
         for place in repeat(fact):
             found = re.findall(place.each, part_of(place.path, place.begin, place.end))
