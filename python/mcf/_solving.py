@@ -1,4 +1,5 @@
 """Flow problems solved, and every answer judged."""
+import reprlib
 import struct
 from array import array
 from collections import Counter
@@ -100,7 +101,20 @@ class Flow(Generic[Amount, Prices]):
         return cast(Prices, found)
 
     def __repr__(self) -> str:
-        return "Flow(cost=%r, flow=%r)" % (self.cost, self.flow)
+        """The cost and the first amounts: one screen for a flow of any size."""
+        short = reprlib.Repr()
+        short.maxlist = 12
+        return "Flow(cost=%r, flow=%s)" % (self.cost, short.repr(self.flow))
+
+    def __eq__(self, other: object) -> bool:
+        """Whether the other is a flow of the same cost, amounts and prices."""
+        if not isinstance(other, Flow):
+            return NotImplemented
+        mine, theirs = (self.cost, self.flow), (other.cost, other.flow)
+        return mine == theirs and bool(self.prices == other.prices)
+
+    # A flow holds lists, which may be changed.
+    __hash__ = None  # type: ignore[assignment]
 
 
 def suited(

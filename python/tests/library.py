@@ -127,6 +127,16 @@ class Solving(unittest.TestCase):
             mcf.solve([1, 0, -1], [(0, 1, None, 2), (1, 0, None, -2), (1, 2, None, 1)]).cost, 3
         )
 
+    def test_flows_print_on_one_screen_and_compare(self):
+        supplies, arcs = [100, -100], [(0, 1, 1, 1)] * 100
+        flow = mcf.solve(supplies, arcs)
+        self.assertEqual(
+            repr(flow), "Flow(cost=100, flow=[1, 1, 1, 1, 1, 1, 1, 1, 1, 1, 1, 1, ...])"
+        )
+        self.assertEqual(flow, mcf.solve(supplies, arcs))
+        self.assertNotEqual(flow, mcf.solve([99, -99], arcs))
+        self.assertNotEqual(flow, 100)
+
     def test_refused(self):
         for arcs, place, reason in (
             ([(0, 1, 1, 1), (0, 1, 10**19, 1)], 1, "bound"),
