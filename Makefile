@@ -109,8 +109,8 @@ install:
 	install -m 644 completion/mcf.bash "$(BASH)/mcf"
 	for command in mcfcheck $(TOOLS); do ln -sf mcf "$(BASH)/$$command" || exit 1; done
 	install -m 644 completion/_mcf "$(ZSH)"
-	@if test -f bin/mcf.html; then install -m 644 bin/mcf.html "$(SHARED)"; else echo "make install: the page isn't built (make page), and is left out"; fi
-	@if test -f bin/libmcf.so.1; then $(MAKE) --no-print-directory install-library; else echo "make install: the library isn't built (make library), and is left out"; fi
+	@if test -f bin/mcf.html; then install -m 644 bin/mcf.html "$(SHARED)"; else echo "install: skipped: the page, which isn't built (make page)"; fi
+	@if test -f bin/libmcf.so.1; then $(MAKE) --no-print-directory install-library; else echo "install: skipped: the library, which isn't built (make library)"; fi
 
 install-library:
 	install -d "$(LIB)/pkgconfig" "$(INCLUDE)" "$(PYTHON)/mcf"

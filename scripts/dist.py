@@ -259,7 +259,7 @@ def main(folder):
     if shutil.which("dpkg-deb"):
         pack_deb(tree, folder / f"yokdelm_{version}_amd64.deb", version, at)
     else:
-        print("make dist: the .deb is left out: there is no dpkg-deb")
+        print("dist: skipped: the .deb: there is no dpkg-deb")
     pack_wheel(folder, version, provenance, at)
     shutil.rmtree(tree)
     put(folder / "PROVENANCE", provenance)
