@@ -1,5 +1,6 @@
-// Numbers as tables have them: whole or with decimals, after a point or a comma, with or without marks between thousands. All are
-// exact: a number is a whole one of so many decimals, and has none at its end that is 0.
+// Numbers as tables have them: whole or with decimals, after a point or a comma, with or without
+// marks between thousands. All are exact: a number is a whole one of so many decimals, and has none
+// at its end that is 0.
 import { at, shown } from './faults.js';
 
 const BLANK = "[ \\u00a0\\u2009\\u202f'’_]";
@@ -17,9 +18,12 @@ export const ZERO = { digits: 0n, decimals: 0 };
 
 // A number with the minus of a keyboard.
 const plainMinus = (cell) => cell.replace(MINUS, '-');
-const withoutBlanks = (cell) => (SPACED.test(cell) ? cell.replace(new RegExp(BLANK, 'g'), '') : cell);
+const withoutBlanks = (cell) => (
+  SPACED.test(cell) ? cell.replace(new RegExp(BLANK, 'g'), '') : cell
+);
 
-// The mark before decimals, if a cell settles it; blanks between thousands leave a mark no other meaning.
+// The mark before decimals, if a cell settles it; blanks between thousands leave a mark no other
+// meaning.
 function markIn(text) {
   const cell = plainMinus(text);
   if (WHOLE.test(cell)) return null;
@@ -35,8 +39,12 @@ function markIn(text) {
   return null;
 }
 
-const VALUES = Object.fromEntries(Object.entries(OTHER).map(([mark, other]) => [mark, new RegExp(
-  `^[+-]?(?:[0-9]{1,1000}|[0-9]{1,3}(?:\\${other}[0-9]{3})+|(?=\\${mark}))(?:\\${mark}[0-9]{1,1000})?$`)]));
+const VALUES = Object.fromEntries(
+  Object.entries(OTHER).map(([mark, other]) => {
+    const whole = `(?:[0-9]{1,1000}|[0-9]{1,3}(?:\\${other}[0-9]{3})+|(?=\\${mark}))`;
+    return [mark, new RegExp(`^[+-]?${whole}(?:\\${mark}[0-9]{1,1000})?$`)];
+  })
+);
 
 // The value of a cell whose decimals stand after a mark; null where it is no such number.
 export function valueOf(cell, mark) {
@@ -49,15 +57,18 @@ export function valueOf(cell, mark) {
 }
 
 // A number in parts of which 10^decimals make one.
-export const scaled = (number, decimals) => number.digits * 10n ** BigInt(decimals - number.decimals);
-export const decimalsOf = (numbers) => numbers.reduce((most, number) => Math.max(most, number.decimals), 0);
+export const scaled = (number, decimals) =>
+  number.digits * 10n ** BigInt(decimals - number.decimals);
+export const decimalsOf = (numbers) =>
+  numbers.reduce((most, number) => Math.max(most, number.decimals), 0);
 
 export function compare(one, two) {
   const decimals = decimalsOf([one, two]), a = scaled(one, decimals), b = scaled(two, decimals);
   return a < b ? -1 : a > b ? 1 : 0;
 }
 
-// How the numbers of some tables are written: which mark stands before decimals, as was said or as cells show.
+// How the numbers of some tables are written: which mark stands before decimals, as was said or as
+// cells show.
 export class Numbers {
   constructor(mark = null) { Object.assign(this, { mark, shownBy: new Map(), settled: null }); }
 
@@ -66,7 +77,9 @@ export class Numbers {
     for (const { line, cells } of table.rows) {
       for (const column of columns) {
         const mark = column < cells.length ? markIn(cells[column]) : null;
-        if (mark && !this.shownBy.has(mark)) this.shownBy.set(mark, { table, line, cell: cells[column] });
+        if (mark && !this.shownBy.has(mark)) {
+          this.shownBy.set(mark, { table, line, cell: cells[column] });
+        }
       }
     }
   }
@@ -75,8 +88,13 @@ export class Numbers {
   settle(faults) {
     if (!this.mark && this.shownBy.size === 2) {
       const [first, other] = this.shownBy.values();
-      faults.add(at(other.table, other.line), 'both marks', `decimals stand after a point and after a comma: ${shown(first.cell)} `
-        + `(${first.table.name}, line ${first.line}) and ${shown(other.cell)}; write them in one way, or say --decimal`);
+      faults.add(
+        at(other.table, other.line),
+        'both marks',
+        `decimals stand after a point and after a comma: ${shown(first.cell)} `
+          + `(${first.table.name}, line ${first.line}) and ${shown(other.cell)}; `
+          + 'write them in one way, or say --decimal'
+      );
     }
     this.mark = this.mark || [...this.shownBy.keys()][0] || null;
   }
@@ -86,8 +104,13 @@ export class Numbers {
     const cell = plainMinus(text);
     if (WHOLE.test(cell)) return { digits: BigInt(cell.replace('+', '')), decimals: 0 };
     if (!this.mark && EITHER.test(withoutBlanks(cell))) {
-      faults.add(at(table, line, head), 'either', `${shown(cell)} may be ${cell.replace(/[.,]/g, '')} or a number with three decimals: `
-        + 'say --decimal , or --decimal . (what stands before decimals)', cell);
+      faults.add(
+        at(table, line, head),
+        'either',
+        `${shown(cell)} may be ${cell.replace(/[.,]/g, '')} or a number with three decimals: `
+          + 'say --decimal , or --decimal . (what stands before decimals)',
+        cell
+      );
       return ZERO;
     }
     const value = valueOf(cell, this.mark || '.');
@@ -96,7 +119,8 @@ export class Numbers {
       return ZERO;
     }
     if (EITHER.test(cell) && !this.settled) {
-      this.settled = `${shown(cell)} (${table.name}, line ${line}) is read as ${decimalText(value.digits, value.decimals)}`;
+      const meant = decimalText(value.digits, value.decimals);
+      this.settled = `${shown(cell)} (${table.name}, line ${line}) is read as ${meant}`;
     }
     return value;
   }
@@ -104,17 +128,23 @@ export class Numbers {
   // What is wrong with a cell that should be a number: its kind, and a text.
   fault(cell) {
     if (!cell) return ['empty', 'the number is empty; write 0 for none'];
-    if (EXPONENT.test(cell)) return ['exponent', `${shown(cell)} is written with an exponent; write all its digits`];
+    if (EXPONENT.test(cell)) {
+      return ['exponent', `${shown(cell)} is written with an exponent; write all its digits`];
+    }
     const mark = this.mark || '.', other = this.shownBy.get(mark);
     if (valueOf(cell, OTHER[mark]) && other) {
       return [
         'other mark',
-        `${shown(cell)} isn't written as other numbers are, such as ${shown(other.cell)} (${other.table.name}, line ${other.line})`,
+        `${shown(cell)} isn't written as other numbers are, such as ${shown(other.cell)} `
+          + `(${other.table.name}, line ${other.line})`,
       ];
     }
-    if (valueOf(cell, OTHER[mark])) return [
-      'other mark', `${shown(cell)} isn't written with ${shown(mark)} before decimals, as --decimal says`,
-    ];
+    if (valueOf(cell, OTHER[mark])) {
+      return [
+        'other mark',
+        `${shown(cell)} isn't written with ${shown(mark)} before decimals, as --decimal says`,
+      ];
+    }
     return ['no number', `${shown(cell)} is no number`];
   }
 
@@ -123,7 +153,10 @@ export class Numbers {
     if (!this.settled) return [];
     const by = this.shownBy.get(this.mark);
     if (!by) return [`${this.settled}, as --decimal says.`];
-    return [`${this.settled}, since ${shown(by.cell)} (${by.table.name}, line ${by.line}) has decimals after ${shown(this.mark)}.`];
+    return [
+      `${this.settled}, since ${shown(by.cell)} (${by.table.name}, line ${by.line}) `
+        + `has decimals after ${shown(this.mark)}.`,
+    ];
   }
 }
 
@@ -133,7 +166,10 @@ export function coordinateIn(table, line, head, cell, faults) {
   const number = /^[+-]?(\d+\.?\d*|\.\d+)([eE][+-]?\d+)?$/.test(text) ? Number(text) : NaN;
   if (!Number.isFinite(number)) {
     faults.add(
-      at(table, line, head), 'no spot', `${shown(cell)} is no number (either all places have x and y, or leave the columns out)`, cell
+      at(table, line, head),
+      'no spot',
+      `${shown(cell)} is no number (either all places have x and y, or leave the columns out)`,
+      cell
     );
   }
   return number;
@@ -147,7 +183,8 @@ export function decimalText(number, decimals) {
   return (number < 0n ? '-' : '') + digits.slice(0, -decimals) + (part && `.${part}`);
 }
 
-// What whole numbers of an instance are in the units of the tables. Costs may be told with another sign than they have there.
+// What whole numbers of an instance are in the units of the tables. Costs may be told with another
+// sign than they have there.
 export class Units {
   constructor(amounts, costs, sign = 1n) { Object.assign(this, { amounts, costs, sign }); }
 
@@ -160,7 +197,8 @@ export class Units {
 
   comment() {
     const [amounts, costs] = [10n ** BigInt(this.amounts), this.sign * 10n ** BigInt(this.costs)];
-    return `c amounts here are ${amounts} times those of the tables, costs of a unit ${costs} times`;
+    return `c amounts here are ${amounts} times those of the tables, `
+      + `costs of a unit ${costs} times`;
   }
 }
 

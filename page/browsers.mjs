@@ -1,5 +1,6 @@
-// Headless browsers, driven as they are: Chromium over its pipe, Firefox by Marionette. No package is needed. CHROMIUM and FIREFOX name other
-// programs. A page has run(expression), until(expression), shot(file), key(name, code), close() and troubles.
+// Headless browsers, driven as they are: Chromium over its pipe, Firefox by Marionette. No package
+// is needed. CHROMIUM and FIREFOX name other programs. A page has run(expression),
+// until(expression), shot(file), key(name, code), close() and troubles.
 import { spawn } from 'node:child_process';
 import fs from 'node:fs';
 import net from 'node:net';
@@ -16,7 +17,9 @@ function programOf(variable, names) {
 // The browsers that are there, by name; null for those that aren't.
 export function browsers() {
   return {
-    chromium: programOf('CHROMIUM', ['chromium', 'chromium-browser', 'google-chrome']) ? chromium : null,
+    chromium: programOf('CHROMIUM', ['chromium', 'chromium-browser', 'google-chrome'])
+      ? chromium
+      : null,
     firefox: programOf('FIREFOX', ['firefox', 'firefox-esr']) ? firefox : null,
   };
 }
@@ -35,8 +38,9 @@ const waiter = (run) => async (expression, seconds = 60) => {
 async function chromium(url, { width = 1360, height = 1000, dark = false } = {}) {
   const home = fs.mkdtempSync(path.join(os.tmpdir(), 'mcf-page-'));
   const words = [
-    '--headless', '--no-sandbox', '--disable-gpu', '--disable-dev-shm-usage', '--remote-debugging-pipe', `--user-data-dir=${home}`,
-    `--window-size=${width},${height}`, 'about:blank',
+    '--headless', '--no-sandbox', '--disable-gpu', '--disable-dev-shm-usage',
+    '--remote-debugging-pipe', `--user-data-dir=${home}`, `--window-size=${width},${height}`,
+    'about:blank',
   ];
   const child = spawn(
     programOf('CHROMIUM', ['chromium', 'chromium-browser', 'google-chrome']),
@@ -55,10 +59,12 @@ async function chromium(url, { width = 1360, height = 1000, dark = false } = {})
       if (message.error) reject(Error(JSON.stringify(message.error)));
       else if (resolve) resolve(message.result);
       else if (
-        message.method === 'Runtime.exceptionThrown' || (message.method === 'Runtime.consoleAPICalled' && message.params.type === 'error')
+        message.method === 'Runtime.exceptionThrown'
+        || (message.method === 'Runtime.consoleAPICalled' && message.params.type === 'error')
       ) troubles.push(JSON.stringify(message.params).slice(0, 500));
       else if (
-        message.method === 'Network.requestWillBeSent' && !/^(file|blob|data|about):/.test(message.params.request.url)
+        message.method === 'Network.requestWillBeSent'
+        && !/^(file|blob|data|about):/.test(message.params.request.url)
       ) troubles.push(`it asks for ${message.params.request.url}`);
     }
   });
@@ -70,11 +76,21 @@ async function chromium(url, { width = 1360, height = 1000, dark = false } = {})
   const { sessionId } = await send('Target.attachToTarget', { targetId, flatten: true });
   const call = (method, params) => send(method, params, sessionId);
   for (const domain of ['Page', 'Runtime', 'Network']) await call(`${domain}.enable`);
-  if (dark) await call('Emulation.setEmulatedMedia', { features: [{ name: 'prefers-color-scheme', value: 'dark' }] });
+  if (dark) {
+    await call('Emulation.setEmulatedMedia', {
+      features: [{ name: 'prefers-color-scheme', value: 'dark' }],
+    });
+  }
   await call('Page.navigate', { url });
   const run = async (expression) => {
-    const { exceptionDetails, result } = await call('Runtime.evaluate', { expression, awaitPromise: true, returnByValue: true });
-    if (exceptionDetails) throw Error(JSON.stringify(exceptionDetails.exception ?? exceptionDetails));
+    const { exceptionDetails, result } = await call('Runtime.evaluate', {
+      expression,
+      awaitPromise: true,
+      returnByValue: true,
+    });
+    if (exceptionDetails) {
+      throw Error(JSON.stringify(exceptionDetails.exception ?? exceptionDetails));
+    }
     return result.value;
   };
   await waiter(run)("document.readyState === 'complete' && location.href !== 'about:blank'");
@@ -82,9 +98,14 @@ async function chromium(url, { width = 1360, height = 1000, dark = false } = {})
     file, Buffer.from((await call('Page.captureScreenshot', { format: 'png' })).data, 'base64')
   );
   const key = async (name, code, text) => {
-    for (const type of ['keyDown', 'keyUp']) await call(
-      'Input.dispatchKeyEvent', { type, key: name, windowsVirtualKeyCode: code, ...(type === 'keyDown' && text ? { text } : {}) }
-    );
+    for (const type of ['keyDown', 'keyUp']) {
+      await call('Input.dispatchKeyEvent', {
+        type,
+        key: name,
+        windowsVirtualKeyCode: code,
+        ...(type === 'keyDown' && text ? { text } : {}),
+      });
+    }
   };
   const close = async () => {
     await send('Browser.close').catch(() => {});
@@ -101,9 +122,12 @@ async function gone(child, home) {
 }
 
 async function firefox(url) {
-  const home = fs.mkdtempSync(path.join(os.tmpdir(), 'mcf-page-')), port = 20000 + process.pid % 20000;
+  const home = fs.mkdtempSync(path.join(os.tmpdir(), 'mcf-page-'));
+  const port = 20000 + process.pid % 20000;
   fs.writeFileSync(
-    path.join(home, 'user.js'), `user_pref("marionette.port", ${port});\nuser_pref("browser.shell.checkDefaultBrowser", false);\n`
+    path.join(home, 'user.js'),
+    `user_pref("marionette.port", ${port});\n`
+      + 'user_pref("browser.shell.checkDefaultBrowser", false);\n'
   );
   const child = spawn(
     programOf('FIREFOX', ['firefox', 'firefox-esr']),
@@ -130,13 +154,22 @@ async function firefox(url) {
     const text = Buffer.from(JSON.stringify([0, count, command, params]));
     socket.write(Buffer.concat([Buffer.from(`${text.length}:`), text]));
   });
-  await call('WebDriver:NewSession', { capabilities: { alwaysMatch: { pageLoadStrategy: 'normal' } } });
+  await call('WebDriver:NewSession', {
+    capabilities: { alwaysMatch: { pageLoadStrategy: 'normal' } },
+  });
   await call('WebDriver:Navigate', { url });
-  const run = async (expression) => (await call('WebDriver:ExecuteScript', { script: `return (${expression});`, args: [] })).value;
-  const key = (name) => call(
-    'WebDriver:PerformActions',
-    { actions: [{ type: 'key', id: 'keys', actions: ['keyDown', 'keyUp'].map((type) => ({ type, value: { Enter: '\ue007' }[name] })) }] }
-  );
+  const run = async (expression) =>
+    (await call('WebDriver:ExecuteScript', { script: `return (${expression});`, args: [] })).value;
+  const key = (name) =>
+    call('WebDriver:PerformActions', {
+      actions: [
+        {
+          type: 'key',
+          id: 'keys',
+          actions: ['keyDown', 'keyUp'].map((type) => ({ type, value: { Enter: '\ue007' }[name] })),
+        },
+      ],
+    });
   const shot = async (file) => fs.writeFileSync(
     file, Buffer.from((await call('WebDriver:TakeScreenshot', { full: false })).value, 'base64')
   );
@@ -152,7 +185,10 @@ async function firefox(url) {
 async function reached(port, seconds = 60) {
   for (const end = Date.now() + 1000 * seconds; Date.now() < end; await pause(200)) {
     const socket = net.connect(port, '127.0.0.1');
-    const ok = await new Promise((resolve) => { socket.once('connect', () => resolve(true)); socket.once('error', () => resolve(false)); });
+    const ok = await new Promise((resolve) => {
+      socket.once('connect', () => resolve(true));
+      socket.once('error', () => resolve(false));
+    });
     if (ok) return socket;
   }
   throw Error('Firefox gives no Marionette');

@@ -1,38 +1,51 @@
-// Clicks through the page in headless Chromium, as a planner would, and in Firefox where that is there: make page-test. With SHOTS=1
-// it takes the screenshots of docs/ instead.
+// Clicks through the page in headless Chromium, as a planner would, and in Firefox where that is
+// there: make page-test. With SHOTS=1 it takes the screenshots of docs/ instead.
 import fs from 'node:fs';
 import path from 'node:path';
 import { execFileSync } from 'node:child_process';
 import { fileURLToPath, pathToFileURL } from 'node:url';
 import { browsers } from './browsers.mjs';
 
-const top = path.join(path.dirname(fileURLToPath(import.meta.url)), '..'), url = pathToFileURL(path.join(top, 'bin', 'mcf.html')).href;
+const top = path.join(path.dirname(fileURLToPath(import.meta.url)), '..');
+const url = pathToFileURL(path.join(top, 'bin', 'mcf.html')).href;
 let wrong = 0;
 const expect = (ok, what) => { console.log(`${ok ? 'ok   ' : 'WRONG'} ${what}`); wrong += !ok; };
 
 // What a planner does with a page.
 function hands(page) {
-  const set = (id, text) => page.run(
-    `(() => { const it = document.getElementById('${id}'); it.value = ${JSON.stringify(text)}; it.dispatchEvent(new Event('input')); })()`
-  );
+  const set = (id, text) =>
+    page.run(`(() => {
+      const it = document.getElementById('${id}');
+      it.value = ${JSON.stringify(text)};
+      it.dispatchEvent(new Event('input'));
+    })()`);
   const ended = async () => {
-    await page.until("document.body.dataset.status && document.body.dataset.status !== 'running'", 120);
+    await page.until(
+      "document.body.dataset.status && document.body.dataset.status !== 'running'",
+      120
+    );
     return {
       status: await page.run('document.body.dataset.status'),
       took: Number(await page.run('document.body.dataset.took')),
       text: await page.run("document.getElementById('result').innerText"),
     };
   };
-  const act = async (expression) => { await page.run(`(() => { document.body.dataset.status = ''; ${expression}; })()`); return ended(); };
+  const act = async (expression) => {
+    await page.run(`(() => { document.body.dataset.status = ''; ${expression}; })()`);
+    return ended();
+  };
   return {
     set,
     act,
     ended,
     go: () => act("document.getElementById('go').click()"),
     kind: (kind) => page.run(`document.querySelector('input[name=kind][value=${kind}]').click()`),
-    example: (name) => act(
-      `(() => { const it = document.getElementById('example'); it.value = [...it.options].find((one) => one.textContent === '${name}').value; it.dispatchEvent(new Event('change')); })()`
-    ),
+    example: (name) =>
+      act(`(() => {
+        const it = document.getElementById('example');
+        it.value = [...it.options].find((one) => one.textContent === '${name}').value;
+        it.dispatchEvent(new Event('change'));
+      })()`),
   };
 }
 
@@ -40,131 +53,207 @@ const plain = (text) => text.replace(/\u202f/g, '').replace(/\u2212/g, '-');
 
 // The stored plans: what mcf_plan says stands in the page, too.
 async function plans(page, { example }) {
-  for (
-    const name of fs.readdirSync(path.join(top, 'examples', 'plans')).filter(
-      (one) => fs.existsSync(path.join(top, 'examples', 'plans', one, 'expected'))
-    )
-  ) {
-    const said = fs.readFileSync(path.join(top, 'examples', 'plans', name, 'expected', 'said.txt'), 'utf8');
+  for (const name of fs.readdirSync(path.join(top, 'examples', 'plans'))
+    .filter((one) => fs.existsSync(path.join(top, 'examples', 'plans', one, 'expected')))) {
+    const said = fs.readFileSync(
+      path.join(top, 'examples', 'plans', name, 'expected', 'said.txt'),
+      'utf8'
+    );
     const { status, text } = await example(name);
     const wanted = [
       /(?:cost|value) ([\d.,]+)\.\n/.exec(said)?.[1],
-      ...[...said.matchAll(/^ {2}(.*[:,].*\.)$/gm)].map(([, sentence]) => sentence.replace(/\(--\w+ .*/, ''))
+      ...[...said.matchAll(/^ {2}(.*[:,].*\.)$/gm)].map(([, sentence]) =>
+        sentence.replace(/\(--\w+ .*/, '')
+      ),
     ].filter(Boolean);
     const found = { 0: 'flow', 1: 'blocked', 2: 'unread' }[/status (\d)/.exec(said)[1]];
-    const balanced = (sentence) => /exceeds/.test(sentence) && /Supplies and demands must be equal/.test(text);
+    const balanced = (sentence) =>
+      /exceeds/.test(sentence) && /Supplies and demands must be equal/.test(text);
     expect(
-      status === found && wanted.every((part) => plain(text).includes(part) || balanced(part)), `${name}: ${status}, ${wanted.length} texts`
+      status === found && wanted.every((part) => plain(text).includes(part) || balanced(part)),
+      `${name}: ${status}, ${wanted.length} texts`
     );
   }
 }
 
 async function planner(page, { set, act, go, kind, example, ended }) {
   await example('network');
-  const rows = () => page.run("document.querySelectorAll('table[aria-label=\"Routes\"] tbody tr:not(.gap)').length"), sight = await rows();
+  const rows = () =>
+    page.run("document.querySelectorAll('table[aria-label=\"Routes\"] tbody tr:not(.gap)').length");
+  const sight = await rows();
   await page.run("dispatchEvent(new Event('beforeprint'))");
   expect(sight < 60 && await rows() === 176, 'all routes are printed');
   await page.run("dispatchEvent(new Event('afterprint'))");
   expect(await rows() === sight, 'and those in sight stay');
-  const filter = (words) => page.run(
-    `(() => { const it = document.querySelector('input[aria-label="filter Routes"]'); it.value = '${words}'; it.dispatchEvent(new Event('input')); })()`
-  );
-  const foot = async () => plain(await page.run("document.querySelector('table[aria-label=\"Routes\"] tfoot').innerText")).trim().split(/\s{2,}|\t/);
+  const filter = (words) =>
+    page.run(`(() => {
+      const it = document.querySelector('input[aria-label="filter Routes"]');
+      it.value = '${words}';
+      it.dispatchEvent(new Event('input'));
+    })()`);
+  const foot = async () =>
+    plain(await page.run("document.querySelector('table[aria-label=\"Routes\"] tfoot').innerText"))
+      .trim()
+      .split(/\s{2,}|\t/);
   const whole = await foot();
   await filter('klagenfurt');
   const part = await foot();
-  expect(/^of \d+ of 176 lines$/.test(part[0]) && Number(part[1]) < Number(whole[0]), `the total of the rows in sight: ${part}`);
+  expect(
+    /^of \d+ of 176 lines$/.test(part[0]) && Number(part[1]) < Number(whole[0]),
+    `the total of the rows in sight: ${part}`
+  );
   await filter('');
   expect(String(await foot()) === String(whole), 'and of all again');
   await example('transport');
-  const sort = (title, head) => page.run(
-    `[...document.querySelectorAll('table[aria-label="${title}"] th')].find((it) => it.textContent === '${head}').click()`
-  );
-  const first = (title, column) => page.run(
-    `document.querySelectorAll('table[aria-label="${title}"] tbody tr')[0].cells[${column}].innerText`
-  );
+  const sort = (title, head) =>
+    page.run(`[...document.querySelectorAll('table[aria-label="${title}"] th')]
+      .find((it) => it.textContent === '${head}').click()`);
+  const first = (title, column) =>
+    page.run(`document.querySelectorAll('table[aria-label="${title}"] tbody tr')[0]
+      .cells[${column}].innerText`);
   await sort('Routes', 'total');
   expect(await first('Routes', 6) === '135', 'sorted by total, the greatest first');
   await page.run("[...document.querySelectorAll('table[aria-label=\"Routes\"] th')][0].focus()");
   await page.key('Enter', 13);
   expect(await first('Routes', 0) === 'Bäckerei Leoben', 'sorted by name, by the keyboard');
-  const cell = (head, from, to) => `[...document.querySelectorAll('input.cell')].find((it) => it.getAttribute('aria-label') === '${head} of ${from}${to ? ` to ${to}` : ''}')`;
-  const change = (head, from, to, value) => act(
-    `(() => { const it = ${cell(head, from, to)}; it.focus(); it.value = '${value}'; it.dispatchEvent(new Event('change')); })()`
-  );
+  const cell = (head, from, to) =>
+    `[...document.querySelectorAll('input.cell')].find((it) =>
+      it.getAttribute('aria-label') === '${head} of ${from}${to ? ` to ${to}` : ''}')`;
+  const change = (head, from, to, value) =>
+    act(`(() => {
+      const it = ${cell(head, from, to)};
+      it.focus();
+      it.value = '${value}';
+      it.dispatchEvent(new Event('change'));
+    })()`);
   let { text } = await change('most', 'Mühle Nord', 'Lager Linz', 46);
   expect(
-    text.includes('Cost before 980, now 969;') && text.includes('Least cost: 969'), 'one more unit of room saves just the 11 that were told'
+    text.includes('Cost before 980, now 969;') && text.includes('Least cost: 969'),
+    'one more unit of room saves just the 11 that were told'
   );
-  expect(await page.run(`document.activeElement === ${cell('most', 'Mühle Nord', 'Lager Linz')}`), 'the changed cell keeps the focus');
-  ({ text } = await act("[...document.querySelectorAll('#result button')].find((it) => it.textContent === 'Take it back').click()"));
+  expect(
+    await page.run(`document.activeElement === ${cell('most', 'Mühle Nord', 'Lager Linz')}`),
+    'the changed cell keeps the focus'
+  );
+  ({ text } = await act(`[...document.querySelectorAll('#result button')]
+    .find((it) => it.textContent === 'Take it back').click()`));
   expect(text.includes('Least cost: 980'), 'a change is taken back');
   await set('title', 'Week <7>');
   ({ text } = await go());
-  const above = await page.run("[...document.querySelectorAll('.picture svg text')].slice(0, 3).map((it) => it.textContent).join('|')");
+  const above = await page.run(
+    "[...document.querySelectorAll('.picture svg text')].slice(0, 3)"
+      + ".map((it) => it.textContent).join('|')"
+  );
   expect(
-    /^Week <7>\nLeast cost: 980\n+\d{4}-\d\d-\d\d: Places, Routes\n/.test(text) && await page.run('document.title') === 'Week <7>'
-      && /^Week <7>\|A least-cost plan: cost 980\|\d{4}-\d\d-\d\d: Places, Routes$/.test(above), `title, date and tables: ${above}`
+    /^Week <7>\nLeast cost: 980\n+\d{4}-\d\d-\d\d: Places, Routes\n/.test(text)
+      && await page.run('document.title') === 'Week <7>'
+      && /^Week <7>\|A least-cost plan: cost 980\|\d{4}-\d\d-\d\d: Places, Routes$/.test(above),
+    `title, date and tables: ${above}`
   );
   await set('title', '');
   const blocked = await change('supply', 'Bäckerei Wien', '', -37);
   expect(
-    blocked.status === 'blocked' && blocked.text.includes('supply 110, demand 111') && blocked.text.includes('Before, a plan cost 980.'),
+    blocked.status === 'blocked'
+      && blocked.text.includes('supply 110, demand 111')
+      && blocked.text.includes('Before, a plan cost 980.'),
     'a change that leaves no plan'
   );
   const wrongCell = await change('supply', 'Bäckerei Wien', '', 'x');
-  expect(wrongCell.status === 'unread' && wrongCell.text.includes("column supply: 'x' is no number"), 'a change that is no number');
+  expect(
+    wrongCell.status === 'unread' && wrongCell.text.includes("column supply: 'x' is no number"),
+    'a change that is no number'
+  );
   await set('places', 'name\tsupply\nA\t2\nB\t-2\n');
   await set('routes', 'from\tto\tmost\tcost\nA\tB\t\t1,5\n');
   ({ text } = await go());
   expect(text.includes('Least cost: 3'), 'tables that were pasted, with tabs');
   const dropped = (name, content) => `new File([${JSON.stringify(content)}], '${name}')`;
-  await page.run(
-    `(() => { const data = new DataTransfer(); for (const file of [${dropped('a.csv', 'name;supply\nÄ;3\nB;-3\n')}, ${dropped('b.csv', 'from;to;most;cost\nÄ;B;2;4\n')}]) data.items.add(file); dispatchEvent(new DragEvent('drop', { dataTransfer: data })); })()`
-  );
+  const places = dropped('a.csv', 'name;supply\nÄ;3\nB;-3\n');
+  const routes = dropped('b.csv', 'from;to;most;cost\nÄ;B;2;4\n');
+  await page.run(`(() => {
+    const data = new DataTransfer();
+    for (const file of [${places}, ${routes}]) data.items.add(file);
+    dispatchEvent(new DragEvent('drop', { dataTransfer: data }));
+  })()`);
   await page.until("document.getElementById('routes').value.includes('Ä;B')");
   ({ text } = await go());
   expect(
-    text.includes('Ä must send 3, and can send only 2, over Ä -> B (2). Short by 1.') && text.includes('1 of supply elsewhere'),
+    text.includes('Ä must send 3, and can send only 2, over Ä -> B (2). Short by 1.')
+      && text.includes('1 of supply elsewhere'),
     'files that were dropped, and why there is no plan'
   );
   await kind('pairs');
   await set('costs', 'who,what,cost\nAnna,Früh,1\nBert,Früh,2\n');
   ({ text } = await go());
-  expect(text.includes('2 persons compete for 1 thing: Anna, Bert can only get Früh.'), 'pairs, and who competes');
+  expect(
+    text.includes('2 persons compete for 1 thing: Anna, Bert can only get Früh.'),
+    'pairs, and who competes'
+  );
   await kind('text');
   await set('dimacs', 'p min 2 1\nn 1 1\nx\n');
   ({ text } = await go());
-  expect(text.includes('Line 3: a line begins with p, n, a or c (kind).') && text.includes('accepted refusal 3 kind'), 'a refusal, judged');
+  expect(
+    text.includes('Line 3: a line begins with p, n, a or c (kind).')
+      && text.includes('accepted refusal 3 kind'),
+    'a refusal, judged'
+  );
   await set('dimacs', fs.readFileSync(path.join(top, 'examples', 'transport.min'), 'utf8'));
   ({ text } = await go());
   expect(text.includes('Least cost: 14') && text.includes('accepted flow 14'), 'a text');
   await set('engine', 'augment');
   ({ text } = await go());
-  expect(await page.run("document.getElementById('engine').value") === 'augment' && text.includes('accepted flow 14'), 'a text by another engine');
+  expect(
+    await page.run("document.getElementById('engine').value") === 'augment'
+      && text.includes('accepted flow 14'),
+    'a text by another engine'
+  );
   await set('engine', 'auto');
   await ended();
 }
 
-// Names that would be marks or scripts, spots as far as numbers go, and a separator that a line names: all are texts, and a change is read again.
+// Names that would be marks or scripts, spots as far as numbers go, and a separator that a line
+// names: all are texts, and a change is read again.
 async function hostile(page, { set, act, go, kind }) {
-  const names = ['<img src=x onerror="document.title=1">', '</text><script>document.title=1</script>&amp;'], title = await page.run('document.title');
+  const names = [
+    '<img src=x onerror="document.title=1">',
+    '</text><script>document.title=1</script>&amp;',
+  ];
+  const title = await page.run('document.title');
   await kind('flow');
-  await set('places', `sep=|\nname|supply|x|y|constructor\n${names[0]}|2|-1e308|0|${names[1]}\n${names[1]}|-2|1e308|5e-324|__proto__\n`);
+  await set(
+    'places',
+    `sep=|\nname|supply|x|y|constructor\n${names[0]}|2|-1e308|0|${names[1]}\n`
+      + `${names[1]}|-2|1e308|5e-324|__proto__\n`
+  );
   await set('routes', `sep=|\nfrom|to|most|cost\n${names.join('|')}|5|1\n`);
   const plan = await go();
-  expect(plan.status === 'flow' && names.every((name) => plan.text.includes(name)), 'names that would be marks are told as they are');
+  expect(
+    plan.status === 'flow' && names.every((name) => plan.text.includes(name)),
+    'names that would be marks are told as they are'
+  );
   const marks = await page.run("document.querySelectorAll('#result img, #result script').length");
   expect(marks === 0 && await page.run('document.title') === title, 'and are no marks');
   const drawn = await page.run("document.querySelector('.picture svg').outerHTML");
-  expect(!drawn.includes('NaN') && !drawn.includes('Infinity'), 'spots as far as numbers go are drawn');
-  const { text } = await act(
-    "(() => { const it = [...document.querySelectorAll('input.cell')].find((one) => one.getAttribute('aria-label').startsWith('cost of')); it.value = '3'; it.dispatchEvent(new Event('change')); })()"
+  expect(
+    !drawn.includes('NaN') && !drawn.includes('Infinity'),
+    'spots as far as numbers go are drawn'
   );
-  expect(text.includes('Cost before 2, now 6;'), 'a change of a table whose separator a line names');
+  const { text } = await act(`(() => {
+    const it = [...document.querySelectorAll('input.cell')]
+      .find((one) => one.getAttribute('aria-label').startsWith('cost of'));
+    it.value = '3';
+    it.dispatchEvent(new Event('change'));
+  })()`);
+  expect(
+    text.includes('Cost before 2, now 6;'),
+    'a change of a table whose separator a line names'
+  );
   await page.run(`(() => {
     const { arrayBuffer } = File.prototype, data = new DataTransfer();
-    File.prototype.arrayBuffer = async () => { File.prototype.arrayBuffer = arrayBuffer; throw Error('unreadable'); };
+    File.prototype.arrayBuffer = async () => {
+      File.prototype.arrayBuffer = arrayBuffer;
+      throw Error('unreadable');
+    };
     data.items.add(new File(['x'], 'plans'));
     dispatchEvent(new DragEvent('drop', { dataTransfer: data }));
   })()`);
@@ -175,45 +264,72 @@ async function hostile(page, { set, act, go, kind }) {
 // Large ones: within their bounds, alive meanwhile, and stopped.
 async function large(page, { set, go, kind, ended }) {
   let seed = 7;
-  const draw = (count) => { seed = (seed * 1103515245 + 12345) % 2147483648; return Math.floor(seed / 65536) % count; };
-  const count = 300, supplies = Array.from({ length: count }, (_, k) => (k < 30 ? 270 : -30)), routes = [];
+  const draw = (count) => {
+    seed = (seed * 1103515245 + 12345) % 2147483648;
+    return Math.floor(seed / 65536) % count;
+  };
+  const count = 300;
+  const supplies = Array.from({ length: count }, (_, k) => (k < 30 ? 270 : -30));
+  const routes = [];
   for (let k = 30; k < count; k++) routes.push([k % 30, k, 40, 5 + draw(90)]);
   while (routes.length < 3000) routes.push([draw(count), draw(count), 5 + draw(30), 1 + draw(60)]);
   await kind('flow');
-  await set('places', `name\tsupply\tx\ty\n${supplies.map((supply, k) => `P${k}\t${supply}\t${draw(1000)}\t${draw(700)}\n`).join('')}`);
-  await set('routes', `from\tto\tmost\tcost\n${routes.map(([from, to, ...more]) => `P${from}\tP${to}\t${more.join('\t')}\n`).join('')}`);
+  const placeLines = supplies.map((supply, k) =>
+    `P${k}\t${supply}\t${draw(1000)}\t${draw(700)}\n`
+  );
+  const routeLines = routes.map(([from, to, ...more]) => `P${from}\tP${to}\t${more.join('\t')}\n`);
+  await set('places', `name\tsupply\tx\ty\n${placeLines.join('')}`);
+  await set('routes', `from\tto\tmost\tcost\n${routeLines.join('')}`);
   const plan = await go();
   expect(
-    plan.status === 'flow' && plan.took < 2000 && await page.run("document.querySelector('.picture svg') !== null"),
+    plan.status === 'flow'
+      && plan.took < 2000
+      && await page.run("document.querySelector('.picture svg') !== null"),
     `300 places and 3000 routes, to the picture: ${plan.took} ms`
   );
-  const lines = Array.from({ length: 100000 }, (_, k) => `P${k % 30}\tP${30 + k % 270}\t1\t${1 + k % 97}\n`).join('');
+  const lines = Array
+    .from({ length: 100000 }, (_, k) => `P${k % 30}\tP${30 + k % 270}\t1\t${1 + k % 97}\n`)
+    .join('');
   await set('routes', `from\tto\tmost\tcost\n${lines}`);
   const many = await go();
   await page.run("document.querySelector('.sheet[aria-label=\"Routes\"]').scrollTop = 2e6");
-  await page.until("document.querySelector('table[aria-label=\"Routes\"] tbody tr[aria-rowindex=\"64520\"]') !== null", 10);
+  const row = 'table[aria-label="Routes"] tbody tr[aria-rowindex="64520"]';
+  await page.until(`document.querySelector('${row}') !== null`, 10);
   expect(
-    many.status === 'flow' && await page.run("document.querySelectorAll('table[aria-label=\"Routes\"] tbody tr').length") < 80,
+    many.status === 'flow'
+      && await page.run("document.querySelectorAll('table[aria-label=\"Routes\"] tbody tr').length")
+        < 80,
     `100000 routes, of which those in sight are made: ${many.took} ms`
   );
   expect(
-    await page.run(
-      "[...document.querySelectorAll('table[aria-label=\"Routes\"] tbody tr:not(.gap)')].every((row) => row.getBoundingClientRect().height === 31)"
-    ),
+    await page.run(`[...document.querySelectorAll('table[aria-label="Routes"] tbody tr:not(.gap)')]
+      .every((row) => row.getBoundingClientRect().height === 31)`),
     'rows are as high as scrolling takes them to be'
   );
-  const big = execFileSync('python3', [path.join(top, 'bench', 'gen.py'), 'netgen', String(2 ** 14)], { maxBuffer: 2 ** 28 }).toString();
+  const big = execFileSync(
+    'python3',
+    [path.join(top, 'bench', 'gen.py'), 'netgen', String(2 ** 14)],
+    { maxBuffer: 2 ** 28 }
+  ).toString();
   await kind('text');
   await set('dimacs', big);
-  const first = await go(), solved = () => page.run("/Solved in (\\d+) ms/.exec(document.getElementById('result').innerText)?.[1]");
+  const first = await go();
+  const solved = () =>
+    page.run("/Solved in (\\d+) ms/.exec(document.getElementById('result').innerText)?.[1]");
+  const [problem] = /^p min.*/m.exec(big);
   expect(
     first.status === 'flow' && Number(await solved()) < 1000,
-    `${big.slice(big.indexOf('p min'), big.indexOf('\n', big.indexOf('p min')))}: solved in ${await solved()} ms, shown after ${first.took} ms`
+    `${problem}: solved in ${await solved()} ms, shown after ${first.took} ms`
   );
   await page.run(`(() => {
     document.getElementById('engine').value = 'cancel';
     let last = performance.now(), longest = 0;
-    setInterval(() => { const now = performance.now(); longest = Math.max(longest, now - last); last = now; document.body.dataset.longest = longest; }, 20);
+    setInterval(() => {
+      const now = performance.now();
+      longest = Math.max(longest, now - last);
+      last = now;
+      document.body.dataset.longest = longest;
+    }, 20);
     document.body.dataset.status = '';
     document.getElementById('go').click();
   })()`);
@@ -221,7 +337,10 @@ async function large(page, { set, go, kind, ended }) {
   const longest = Number(await page.run('document.body.dataset.longest'));
   await page.run("document.getElementById('go').click()");
   const { text } = await ended();
-  expect(text.includes('Stopped.') && longest < 500, `alive while it solves (the longest pause is ${longest.toFixed(0)} ms), and stopped`);
+  expect(
+    text.includes('Stopped.') && longest < 500,
+    `alive while it solves (the longest pause is ${longest.toFixed(0)} ms), and stopped`
+  );
   await page.run("document.getElementById('engine').value = 'auto'");
 }
 
@@ -241,11 +360,11 @@ async function through(opened) {
 }
 
 async function shots(opened) {
-  for (
-    const [name, file, dark] of [
-      ['transport', 'page-plan.png', false], ['blocked', 'page-blocked.png', false], ['network', 'page-dark.png', true],
-    ]
-  ) {
+  for (const [name, file, dark] of [
+    ['transport', 'page-plan.png', false],
+    ['blocked', 'page-blocked.png', false],
+    ['network', 'page-dark.png', true],
+  ]) {
     const page = await opened(url, { dark });
     try {
       await page.until('document.body.dataset.ready');

@@ -1,7 +1,9 @@
 // The solver as the page has it: calls of the worker, which is ended where it is to stop.
 import { NoAnswer } from './solving.js';
 
-const bytesOf = (text) => (typeof text === 'string' ? new TextEncoder().encode(text) : text.slice());
+const bytesOf = (text) => (
+  typeof text === 'string' ? new TextEncoder().encode(text) : text.slice()
+);
 
 export class Client {
   // The source of the worker, and the module in gzip and base64.
@@ -11,13 +13,16 @@ export class Client {
   }
 
   wake() {
-    this.worker = new Worker(URL.createObjectURL(new Blob([this.source], { type: 'text/javascript' })));
+    this.worker = new Worker(
+      URL.createObjectURL(new Blob([this.source], { type: 'text/javascript' }))
+    );
     this.worker.onerror = (event) => this.end(new NoAnswer('failed', event.message));
     this.worker.onmessage = ({ data: { id, result } }) => {
       const { resolve, reject } = this.waiting.get(id);
       this.waiting.delete(id);
-      if (result.status === 'memory' || result.status === 'failed') reject(new NoAnswer(result.status, result.why));
-      else resolve(result);
+      if (result.status === 'memory' || result.status === 'failed') {
+        reject(new NoAnswer(result.status, result.why));
+      } else resolve(result);
     };
     this.ready = this.ask({ module: this.module });
     this.ready.catch(() => {});
@@ -46,7 +51,9 @@ export class Client {
   // A text, or its bytes. The answer comes as a text and as bytes.
   async solve(text, engine) {
     const bytes = bytesOf(text), result = await this.ask({ bytes, engine }, bytes.buffer);
-    return result.answer ? { ...result, bytes: result.answer, answer: new TextDecoder().decode(result.answer) } : result;
+    return result.answer
+      ? { ...result, bytes: result.answer, answer: new TextDecoder().decode(result.answer) }
+      : result;
   }
 
   async check(text, answer) { return this.ask({ bytes: bytesOf(text), answer: bytesOf(answer) }); }

@@ -1,4 +1,5 @@
-// The faults of tables by their kinds, which are told together before anything is run, and some words.
+// The faults of tables by their kinds, which are told together before anything is run, and some
+// words.
 
 // How many cells of one kind are named beside the first, and how many names a sentence has.
 const TOLD_CELLS = 4;
@@ -12,13 +13,19 @@ export class BadTable extends Error {
   }
 }
 
-// Where a cell stands: its table, its line, and its column by its head or by its number from 1; or a whole line.
+// Where a cell stands: its table, its line, and its column by its head or by its number from 1; or
+// a whole line.
 export const at = (table, line, column = '') => ({ table, line, column });
+
+// What can't be printed, or looks like a blank and is none.
+const UNPRINTED = /^(?:[\p{C}\p{Zl}\p{Zp}]|(?! )\p{Zs})$/u;
 
 // A cell between quotes, short, with what can't be printed spelt out.
 export function shown(cell) {
-  const letters = [...cell], short = letters.length <= 40 ? letters : [...letters.slice(0, 37), '...'];
-  return `'${short.map((c) => (/^(?:[\p{C}\p{Zl}\p{Zp}]|(?! )\p{Zs})$/u.test(c) ? `\\x${(c.codePointAt(0) & 255).toString(16).padStart(2, '0')}` : c)).join('')}'`;
+  const letters = [...cell];
+  const short = letters.length <= 40 ? letters : [...letters.slice(0, 37), '...'];
+  const spelt = (c) => `\\x${(c.codePointAt(0) & 255).toString(16).padStart(2, '0')}`;
+  return `'${short.map((c) => (UNPRINTED.test(c) ? spelt(c) : c)).join('')}'`;
 }
 
 export class Faults {
@@ -28,16 +35,26 @@ export class Faults {
   add({ table, line, column }, kind, text, cell = '') {
     const key = JSON.stringify([table.name, kind, typeof column === 'string' ? column : null]);
     if (!this.kinds.has(key)) {
-      this.kinds.set(
-        key, { table, kind, count: 0, more: new Map(), text: `${table.name}, line ${line}${column ? `, column ${column}` : ''}: ${text}` }
-      );
+      this.kinds.set(key, {
+        table,
+        kind,
+        count: 0,
+        more: new Map(),
+        text: `${table.name}, line ${line}${column ? `, column ${column}` : ''}: ${text}`,
+      });
     }
     const found = this.kinds.get(key);
     found.count++;
-    if (found.count > 1 && found.more.size < TOLD_CELLS && !found.more.has(cell)) found.more.set(cell, line);
+    if (found.count > 1 && found.more.size < TOLD_CELLS && !found.more.has(cell)) {
+      found.more.set(cell, line);
+    }
   }
 
-  has(table, kind) { return [...this.kinds.values()].some((found) => found.table.name === table.name && found.kind === kind); }
+  has(table, kind) {
+    return [...this.kinds.values()].some((found) =>
+      found.table.name === table.name && found.kind === kind
+    );
+  }
 
   end() {
     if (this.kinds.size) throw new BadTable([...this.kinds.values()].map(told));

@@ -4,10 +4,12 @@ import { size } from './model.js';
 
 export const STAYS = '(stays)', MISSING = '(missing)', THROUGH = '(through)';
 
-// Node k is the k-th place, and arc k the k-th route, or its first step; all that is more comes after them. A place with bounds is two
-// nodes with an arc between them: node k has what comes in and what is sent there, the other what goes out and what is taken. Where
-// amounts may stay or be short there is one node more, the hub, which takes what stays, gives what is missing, and has what lacks for a
-// balance as its supply. A use of an arc is its kind, the number from 0 of its route or place, and 1, or -1 for a route's other way.
+// Node k is the k-th place, and arc k the k-th route, or its first step; all that is more comes
+// after them. A place with bounds is two nodes with an arc between them: node k has what comes in
+// and what is sent there, the other what goes out and what is taken. Where amounts may stay or be
+// short there is one node more, the hub, which takes what stays, gives what is missing, and has
+// what lacks for a balance as its supply. A use of an arc is its kind, the number from 0 of its
+// route or place, and 1, or -1 for a route's other way.
 export class FlowNet extends Network {
   constructor(problem, policy = {}) {
     super(problem.places.map((place) => place.supply), []);
@@ -19,12 +21,22 @@ export class FlowNet extends Network {
     problem.places.forEach(({ bounds }, k) => {
       if (!bounds) return;
       const most = bounds.most === null ? problem.throughput() : bounds.most;
-      this.add('through', k, 1, { tail: k + 1, head: this.outs[k], least: bounds.least, most, cost: bounds.cost });
+      this.add('through', k, 1, {
+        tail: k + 1,
+        head: this.outs[k],
+        least: bounds.least,
+        most,
+        cost: bounds.cost,
+      });
     });
     // No sum of costs along a way without repetition is beyond this.
     this.bound = this.arcs.reduce((sum, arc) => sum + size(arc.cost), 0n);
     const total = this.total();
-    if ((policy.unused && total >= 0n) || (policy.short && total <= 0n) || (policy.unused && policy.short)) this.addHub(-total);
+    if (
+      (policy.unused && total >= 0n)
+      || (policy.short && total <= 0n)
+      || (policy.unused && policy.short)
+    ) this.addHub(-total);
   }
 
   total() { return this.supplies.reduce((sum, supply) => sum + supply, 0n); }
@@ -51,14 +63,20 @@ export class FlowNet extends Network {
         // Costs rise, so that what has to be carried fills one step after the other.
         const least = k === route.steps.length - 1 || rest < step.most ? rest : step.most;
         const arc = {
-          tail: this.outs[route.tail - 1], head: route.head, least, most: step.most === null ? rest + reach : step.most, cost: step.cost,
+          tail: this.outs[route.tail - 1],
+          head: route.head,
+          least,
+          most: step.most === null ? rest + reach : step.most,
+          cost: step.cost,
         };
         rest = rest > least ? rest - least : 0n;
         return arc;
       });
       this.add('route', number, 1, arcs[0]);
       for (const arc of arcs.slice(1)) more.push([number, 1, arc]);
-      for (const arc of route.both ? arcs : []) more.push([number, -1, { ...arc, tail: this.outs[route.head - 1], head: route.tail }]);
+      for (const arc of route.both ? arcs : []) {
+        more.push([number, -1, { ...arc, tail: this.outs[route.head - 1], head: route.tail }]);
+      }
     });
     for (const [number, sign, arc] of more) this.add('route', number, sign, arc);
   }
@@ -72,9 +90,15 @@ export class FlowNet extends Network {
       if (place.supply > 0n && this.policy.unused) this.add(
         'stays', k, 1, { tail: k + 1, head: this.hub, least: 0n, most: place.supply, cost: 0n }
       );
-      if (place.supply < 0n && this.policy.short) this.add(
-        'missing', k, 1, { tail: this.hub, head: this.outs[k], least: 0n, most: -place.supply, cost: penalty }
-      );
+      if (place.supply < 0n && this.policy.short) {
+        this.add('missing', k, 1, {
+          tail: this.hub,
+          head: this.outs[k],
+          least: 0n,
+          most: -place.supply,
+          cost: penalty,
+        });
+      }
     });
   }
 
@@ -83,8 +107,14 @@ export class FlowNet extends Network {
     const made = new Lines('min'), { problem } = this;
     made.add(['c node k is the k-th place, arc k the k-th route', problem.units.comment(),
       ...(this.hub ? [`c node ${this.hub} takes what stays and gives what is missing`] : [])]);
-    const sizes = [{ table: problem.routeTable, line: problem.routeTable.headLine, columns: { size: 'from' } }];
-    const places = problem.places.map((place) => ({ table: problem.placeTable, line: place.line, columns: { supply: 'supply' } }));
+    const sizes = [
+      { table: problem.routeTable, line: problem.routeTable.headLine, columns: { size: 'from' } },
+    ];
+    const places = problem.places.map((place) => ({
+      table: problem.placeTable,
+      line: place.line,
+      columns: { supply: 'supply' },
+    }));
     while (places.length < this.supplies.length) places.push(null);
     made.add(this.lines(), [...sizes, ...places, ...this.uses.map((use) => this.origin(use))]);
     return made;
@@ -93,11 +123,21 @@ export class FlowNet extends Network {
   // Where an arc comes from.
   origin({ kind, number }) {
     const { problem } = this, place = problem.places[number];
-    if (kind === 'route') return {
-      table: problem.routeTable, line: problem.routes[number].line, columns: columnsOf(problem.routes[number]),
+    if (kind === 'route') {
+      return {
+        table: problem.routeTable,
+        line: problem.routes[number].line,
+        columns: columnsOf(problem.routes[number]),
+      };
+    }
+    if (kind === 'through') {
+      return { table: problem.placeTable, line: place.line, columns: columnsOf(place.bounds) };
+    }
+    return {
+      table: problem.placeTable,
+      line: place.line,
+      columns: { bound: 'supply', cost: 'supply', total: 'supply' },
     };
-    if (kind === 'through') return { table: problem.placeTable, line: place.line, columns: columnsOf(place.bounds) };
-    return { table: problem.placeTable, line: place.line, columns: { bound: 'supply', cost: 'supply', total: 'supply' } };
   }
 
   nodeName(node) { return this.problem.places[this.placeOf[node - 1]].name; }
@@ -117,7 +157,9 @@ export class FlowNet extends Network {
   amounts(arcs, bound) {
     const found = new Map();
     for (const k of arcs) {
-      const { kind, number, sign } = this.uses[k], key = `${kind} ${number} ${sign}`, one = found.get(key) || [k, 0n];
+      const { kind, number, sign } = this.uses[k];
+      const key = `${kind} ${number} ${sign}`;
+      const one = found.get(key) || [k, 0n];
       found.set(key, [one[0], one[1] + this.arcs[k][bound]]);
     }
     return [...found.values()];
@@ -129,12 +171,18 @@ export class FlowNet extends Network {
 
 // The columns of a route, or of a place, that the words of a refusal mean.
 function columnsOf({ least, most }) {
-  return { bound: most !== null && size(least) > size(most) ? 'least' : 'most', order: 'least', cost: 'cost', total: 'cost' };
+  return {
+    bound: most !== null && size(least) > size(most) ? 'least' : 'most',
+    order: 'least',
+    cost: 'cost',
+    total: 'cost',
+  };
 }
 
-// What a plan says of each route and each place: of a route, or of what passes through a place, how much, what that costs, the room that
-// is left (null: without a limit), what one more unit of room saves, and whether just that; of a place minus its price, in which group that
-// is exact, how much stays there or is missing, and what passes through it, where that has bounds.
+// What a plan says of each route and each place: of a route, or of what passes through a place, how
+// much, what that costs, the room that is left (null: without a limit), what one more unit of room
+// saves, and whether just that; of a place minus its price, in which group that is exact, how much
+// stays there or is missing, and what passes through it, where that has bounds.
 export class FlowPlan {
   constructor(net, { cost, flows, prices }) {
     Object.assign(this, { net, problem: net.problem, prices, flows });
@@ -149,38 +197,64 @@ export class FlowPlan {
       if (arcsOf.has(key)) arcsOf.get(key).push(k);
       else arcsOf.set(key, [k]);
     });
-    this.routes = this.problem.routes.map((route, number) => this.result(arcsOf.get(`route ${number}`), route.most, route.both));
+    this.routes = this.problem.routes.map((route, number) =>
+      this.result(arcsOf.get(`route ${number}`), route.most, route.both)
+    );
     this.places = this.problem.places.map((place, number) => {
-      const home = net.home(number), kinds = ['stays', 'missing'].flatMap((kind) => arcsOf.get(`${kind} ${number}`) || []);
-      return { price: -prices[home - 1], group: this.group.get(home), unmet: kinds.reduce((sum, k) => sum + flows[k], 0n),
-        through: place.bounds && this.result(arcsOf.get(`through ${number}`), place.bounds.most, false) };
+      const home = net.home(number);
+      const kinds = ['stays', 'missing'].flatMap((kind) => arcsOf.get(`${kind} ${number}`) || []);
+      return {
+        price: -prices[home - 1],
+        group: this.group.get(home),
+        unmet: kinds.reduce((sum, k) => sum + flows[k], 0n),
+        through:
+          place.bounds && this.result(arcsOf.get(`through ${number}`), place.bounds.most, false),
+      };
     });
     // The penalty is there to have little missing: it's no cost.
-    this.cost = cost - net.uses.reduce((sum, { kind }, k) => (kind === 'missing' ? sum + flows[k] * net.arcs[k].cost : sum), 0n);
+    this.cost =
+      cost
+      - net.uses.reduce(
+        (sum, { kind }, k) => (kind === 'missing' ? sum + flows[k] * net.arcs[k].cost : sum),
+        0n
+      );
   }
 
-  // What one more unit of room on an arc would save at most: by so much the prices undercut its cost.
+  // What one more unit of room on an arc would save at most: by so much the prices undercut its
+  // cost.
   saves(k) {
-    const { tail, head, cost } = this.net.arcs[k], saved = this.prices[tail - 1] - this.prices[head - 1] - cost;
+    const { tail, head, cost } = this.net.arcs[k];
+    const saved = this.prices[tail - 1] - this.prices[head - 1] - cost;
     return saved > 0n ? saved : 0n;
   }
 
-  // What the plan says of the arcs of a route, or of a place: the room that could be more is that of the last step, either way. One more
-  // unit of room saves just so much where, if it saves, a unit can go on from the arc's end to its beginning within a group, whose nodes
-  // are joined by arcs that carry amounts between their least and their most.
+  // What the plan says of the arcs of a route, or of a place: the room that could be more is that
+  // of the last step, either way. One more unit of room saves just so much where, if it saves, a
+  // unit can go on from the arc's end to its beginning within a group, whose nodes are joined by
+  // arcs that carry amounts between their least and their most.
   result(arcs, most, both) {
-    const { net, flows } = this, last = (sign) => arcs.filter((k) => net.uses[k].sign === sign).pop();
+    const { net, flows } = this;
+    const last = (sign) => arcs.filter((k) => net.uses[k].sign === sign).pop();
     const carries = arcs.reduce((sum, k) => sum + BigInt(net.uses[k].sign) * flows[k], 0n);
     const cost = arcs.reduce((sum, k) => sum + net.arcs[k].cost * flows[k], 0n);
     let widest = last(1);
     if (both && this.saves(last(-1)) > this.saves(widest)) widest = last(-1);
     const saves = this.saves(widest), arc = net.arcs[widest];
-    return { carries, cost, free: most === null ? null : most - (both ? size(carries) : carries), saves,
-      isExact: saves === 0n || this.group.get(arc.tail) === this.group.get(arc.head) };
+    return {
+      carries,
+      cost,
+      free: most === null ? null : most - (both ? size(carries) : carries),
+      saves,
+      isExact: saves === 0n || this.group.get(arc.tail) === this.group.get(arc.head),
+    };
   }
 
   // What one more unit saves or costs, as text: where it is but the penalty, in words.
-  rate(number) { return this.net.policy.short && number > this.net.bound ? 'less is missing' : this.problem.units.rate(number); }
+  rate(number) {
+    return this.net.policy.short && number > this.net.bound
+      ? 'less is missing'
+      : this.problem.units.rate(number);
+  }
 
   // Whether a route carries as much as it may, and that is something.
   isFull(number) { return this.routes[number].free === 0n && this.routes[number].carries !== 0n; }

@@ -1,6 +1,7 @@
-// Tables of which the rows in sight alone are made, so that a hundred thousand scroll. A sheet has a title, columns with a head, what it
-// means, whether it has numbers and, where its cells may be changed, the head of the input; a count, and row(k), which gives the kind and
-// the cells of the k-th row as texts.
+// Tables of which the rows in sight alone are made, so that a hundred thousand scroll. A sheet has
+// a title, columns with a head, what it means, whether it has numbers and, where its cells may be
+// changed, the head of the input; a count, and row(k), which gives the kind and the cells of the
+// k-th row as texts.
 import { ZERO, compare, decimalText, decimalsOf, scaled, valueOf } from './amounts.js';
 import { el, grouped } from './view.js';
 
@@ -9,17 +10,21 @@ const HIGH = 31, BEYOND = 12, PRINTED = 5000;
 // More rows than this are beyond what browsers scroll.
 const MOST_ROWS = 500000;
 
-// What was sorted, filtered and scrolled, by the titles of sheets: it stays when a plan is made anew.
+// What was sorted, filtered and scrolled, by the titles of sheets: it stays when a plan is made
+// anew.
 const kept = new Map();
 
 export class Grid {
   constructor(sheet, { mark, change }) {
-    Object.assign(
-      this, { sheet, mark, change, state: kept.get(sheet.title) || { by: null, down: false, filter: '', used: false, top: 0 } }
-    );
+    Object.assign(this, {
+      sheet,
+      mark,
+      change,
+      state: kept.get(sheet.title) || { by: null, down: false, filter: '', used: false, top: 0 },
+    });
     kept.set(sheet.title, this.state);
-    this.heads = sheet.columns.map(
-      (column, k) => el(
+    this.heads = sheet.columns.map((column, k) =>
+      el(
         'th',
         {
           class: column.number ? 'number' : null,
@@ -27,24 +32,44 @@ export class Grid {
           tabindex: 0,
           scope: 'col',
           onclick: () => this.sortBy(k),
-          onkeydown: (event) => { if (event.key === 'Enter' || event.key === ' ') { event.preventDefault(); this.sortBy(k); } },
+          onkeydown: (event) => {
+            if (event.key === 'Enter' || event.key === ' ') {
+              event.preventDefault();
+              this.sortBy(k);
+            }
+          },
         },
         column.head
       )
     );
     this.body = el('tbody');
-    this.foot = (sheet.totals || []).map((_, k) => el('td', { class: sheet.columns[k].number ? 'number' : null }));
+    this.foot = (sheet.totals || []).map((_, k) =>
+      el('td', { class: sheet.columns[k].number ? 'number' : null })
+    );
     const foot = sheet.totals ? [el('tfoot', {}, el('tr', {}, this.foot))] : [];
     this.table = el(
       'table', { 'aria-label': sheet.title, 'aria-rowcount': sheet.count + 1 },
       el('thead', {}, el('tr', { 'aria-rowindex': 1 }, this.heads)), this.body, ...foot
     );
     this.box = el(
-      'div', { class: 'sheet', tabindex: 0, role: 'region', 'aria-label': sheet.title, onscroll: () => this.scrolled() }, this.table
+      'div',
+      {
+        class: 'sheet',
+        tabindex: 0,
+        role: 'region',
+        'aria-label': sheet.title,
+        onscroll: () => this.scrolled(),
+      },
+      this.table
     );
     this.count = el('span', { class: 'soft count', role: 'status' });
     this.element = el(
-      'section', {}, el('h2', {}, sheet.title), sheet.note ? el('p', { class: 'soft' }, sheet.note) : '', this.tools(), this.box
+      'section',
+      {},
+      el('h2', {}, sheet.title),
+      sheet.note ? el('p', { class: 'soft' }, sheet.note) : '',
+      this.tools(),
+      this.box
     );
     this.order = null;
     this.arrange();
@@ -62,10 +87,17 @@ export class Grid {
         oninput: () => { this.state.filter = search.value; this.state.top = 0; this.arrange(); },
       }
     );
-    const box = el('input', { type: 'checkbox', onchange: () => { this.state.used = box.checked; this.state.top = 0; this.arrange(); } });
+    const box = el('input', {
+      type: 'checkbox',
+      onchange: () => { this.state.used = box.checked; this.state.top = 0; this.arrange(); },
+    });
     box.checked = this.state.used;
     return el(
-      'div', { class: 'tools' }, search, this.sheet.hasIdle ? el('label', {}, box, ' only what carries something') : '', this.count
+      'div',
+      { class: 'tools' },
+      search,
+      this.sheet.hasIdle ? el('label', {}, box, ' only what carries something') : '',
+      this.count
     );
   }
 
@@ -82,22 +114,25 @@ export class Grid {
     let order = Array.from({ length: Math.min(sheet.count, MOST_ROWS) }, (_, k) => k);
     if (words.length || state.used) {
       order = order.filter((k) => {
-        const { kind, cells } = sheet.row(k), text = words.length ? cells.join(' ').toLowerCase() : '';
+        const { kind, cells } = sheet.row(k);
+        const text = words.length ? cells.join(' ').toLowerCase() : '';
         return words.every((word) => text.includes(word)) && !(state.used && kind === 'idle');
       });
     }
     if (state.by !== null && state.by < sheet.columns.length) order = sorted(
       order, (k) => sheet.row(k).cells[state.by], sheet.columns[state.by].number, state.down
     );
-    this.heads.forEach(
-      (head, k) => (
-        k === state.by ? head.setAttribute('aria-sort', state.down ? 'descending' : 'ascending') : head.removeAttribute('aria-sort')
-      )
-    );
+    this.heads.forEach((head, k) => (
+      k === state.by
+        ? head.setAttribute('aria-sort', state.down ? 'descending' : 'ascending')
+        : head.removeAttribute('aria-sort')
+    ));
     this.order = order;
     this.count.textContent = order.length === sheet.count ? `${grouped(String(sheet.count))} lines`
       : `${grouped(String(order.length))} of ${grouped(String(sheet.count))} lines`;
-    totalsOf(sheet, order, this.count.textContent).forEach((text, k) => { this.foot[k].textContent = grouped(text, this.mark); });
+    totalsOf(sheet, order, this.count.textContent).forEach((text, k) => {
+      this.foot[k].textContent = grouped(text, this.mark);
+    });
     this.fill(true);
   }
 
@@ -120,11 +155,15 @@ export class Grid {
     if (!anew && begin === this.begin && end === this.end) return;
     Object.assign(this, { begin, end });
     const gap = (rows) => (
-      rows > 0 ? [
-        el(
-          'tr', { class: 'gap', 'aria-hidden': 'true' }, el('td', { colspan: this.sheet.columns.length, style: `height: ${rows * HIGH}px` })
-        )
-      ] : []
+      rows > 0
+        ? [
+          el(
+            'tr',
+            { class: 'gap', 'aria-hidden': 'true' },
+            el('td', { colspan: this.sheet.columns.length, style: `height: ${rows * HIGH}px` })
+          ),
+        ]
+        : []
     );
     this.body.replaceChildren(
       ...gap(begin),
@@ -162,14 +201,21 @@ export class Grid {
       text === '' ? '' : el('span', { class: 'share', style: `--part: ${text}%` }),
       text === '' ? '' : `${text} %`
     );
-    return el('td', column.number ? { class: 'number' } : { title: text }, column.number ? grouped(text, this.mark) : text);
+    return el(
+      'td',
+      column.number ? { class: 'number' } : { title: text },
+      column.number ? grouped(text, this.mark) : text
+    );
   }
 }
 
-// What stands below the rows in sight: the totals of the sheet, or their own where some are left out, with how many they are.
+// What stands below the rows in sight: the totals of the sheet, or their own where some are left
+// out, with how many they are.
 export function totalsOf(sheet, order, lines) {
   if (!sheet.totals || order.length === sheet.count) return sheet.totals || [];
-  return sheet.totals.map((total, k) => (k === 0 ? `of ${lines}` : total && sumOf(order.map((row) => sheet.row(row).cells[k]))));
+  return sheet.totals.map((total, k) => (
+    k === 0 ? `of ${lines}` : total && sumOf(order.map((row) => sheet.row(row).cells[k]))
+  ));
 }
 
 function sumOf(texts) {
@@ -179,9 +225,12 @@ function sumOf(texts) {
 
 // Rows by the texts of a column: numbers by what they are worth, what is empty last.
 function sorted(order, text, isNumber, down) {
-  const sign = down ? -1 : 1, keys = new Map(order.map((k) => [k, isNumber ? numberOf(text(k)) : text(k)]));
+  const sign = down ? -1 : 1;
+  const keys = new Map(order.map((k) => [k, isNumber ? numberOf(text(k)) : text(k)]));
   const letters = new Intl.Collator();
-  const byWorth = (a, b) => (a.near !== b.near ? (a.near < b.near ? -1 : 1) : compare(a.exact, b.exact));
+  const byWorth = (a, b) => (
+    a.near !== b.near ? (a.near < b.near ? -1 : 1) : compare(a.exact, b.exact)
+  );
   return order.sort((i, j) => {
     const [a, b] = [keys.get(i), keys.get(j)];
     if (a === null || b === null) return (a === null) - (b === null) || i - j;

@@ -3,7 +3,12 @@ import { at, listed, shown } from './faults.js';
 import { cellAt } from './tables.js';
 
 // What the columns of bounds are called elsewhere.
-const OTHER_WORDS = new Map([['min', 'least'], ['minimum', 'least'], ['max', 'most'], ['maximum', 'most']]);
+const OTHER_WORDS = new Map([
+  ['min', 'least'],
+  ['minimum', 'least'],
+  ['max', 'most'],
+  ['maximum', 'most'],
+]);
 const BOUNDS = ['least', 'most', 'cost'];
 // The heads of results, in groups.
 export const FLOW_RESULTS = ['carries', 'total', 'free', 'one_more_saves', 'exact'];
@@ -12,14 +17,19 @@ export const THROUGH_RESULTS = ['passes', 'passing_costs', 'free', 'one_more_sav
 // How many columns are named that are carried along.
 const NAMED = 24;
 
-// The heads that a table may have, some of which are read together or not at all; and most 2, cost 2 and so on, where it has steps.
+// The heads that a table may have, some of which are read together or not at all; and most 2, cost
+// 2 and so on, where it has steps.
 export class Heads {
-  constructor(known, { together = [], hasSteps = false } = {}) { Object.assign(this, { known, together, hasSteps }); }
+  constructor(known, { together = [], hasSteps = false } = {}) {
+    Object.assign(this, { known, together, hasSteps });
+  }
 
   // The heads of the steps beyond the first.
   steps({ heads }) {
     const found = [];
-    for (let number = 2; this.hasSteps && heads.includes(`most ${number}`); number++) found.push(`most ${number}`, `cost ${number}`);
+    for (let number = 2; this.hasSteps && heads.includes(`most ${number}`); number++) {
+      found.push(`most ${number}`, `cost ${number}`);
+    }
     return found;
   }
 
@@ -29,29 +39,40 @@ export class Heads {
     table.heads.forEach((head, k) => {
       const meant = read.has(head) ? null : this.meant(head, table.heads);
       if (!meant) return;
-      const text = meant === head ? `it isn't read, since there is no column ${shown(`most ${steps.length / 2 + 2}`)}`
+      const text = meant === head
+        ? `it isn't read, since there is no column ${shown(`most ${steps.length / 2 + 2}`)}`
         : `there is no such column; is ${shown(meant)} meant? Call it so, or otherwise`;
       faults.add(at(table, table.headLine, plainHead(table.titles[k])), 'near head', text);
     });
   }
 
-  // The column that a head nearly is, or null. By one letter it is only nearly one that isn't there.
+  // The column that a head nearly is, or null. By one letter it is only nearly one that isn't
+  // there.
   meant(head, there) {
     const [, letters, digits] = /^(.*?)([0-9]{0,2})$/.exec(head.replace(/[^\p{L}\p{N}]/gu, ''));
-    const word = OTHER_WORDS.get(letters) || letters, bases = this.known.filter((base) => !digits || BOUNDS.includes(base));
+    const word = OTHER_WORDS.get(letters) || letters;
+    const bases = this.known.filter((base) => !digits || BOUNDS.includes(base));
     if (bases.includes(word)) return this.numbered(word, digits);
-    const near = bases.filter((base) => base.length > 3 && isOneLetter(word, base)).map((base) => this.numbered(base, digits));
+    const near = bases
+      .filter((base) => base.length > 3 && isOneLetter(word, base))
+      .map((base) => this.numbered(base, digits));
     return near.find((meant) => !there.includes(meant)) || null;
   }
 
   // The head of a step, or of what has none.
-  numbered(base, digits) { return this.hasSteps && base !== 'least' && Number(digits || 1) > 1 ? `${base} ${Number(digits)}` : base; }
+  numbered(base, digits) {
+    return this.hasSteps && base !== 'least' && Number(digits || 1) > 1
+      ? `${base} ${Number(digits)}`
+      : base;
+  }
 
-  // The columns that are carried along, and not used: those of earlier results aren't, since they are written anew.
+  // The columns that are carried along, and not used: those of earlier results aren't, since they
+  // are written anew.
   carried(table) {
     const used = new Set([...this.known, ...this.steps(table)]);
     if (!table.has(this.together)) for (const head of this.together) used.delete(head);
-    const isThere = (place) => table.titles[place] || table.rows.some(({ cells }) => cellAt(cells, place));
+    const isThere = (place) =>
+      table.titles[place] || table.rows.some(({ cells }) => cellAt(cells, place));
     return table.kept(FLOW_RESULTS, PLACE_RESULTS, THROUGH_RESULTS)
       .filter((place) => !used.has(table.heads[place]) && isThere(place))
       .map((place) => plainHead(table.titles[place]) || `column ${place + 1}`);
@@ -60,16 +81,22 @@ export class Heads {
 
 // A line on the columns that are carried along, where there are some.
 export function carriedLines(columns) {
-  return columns.length ? [`Columns carried along, not used: ${listed([...new Set(columns)], NAMED)}.`] : [];
+  return columns.length
+    ? [`Columns carried along, not used: ${listed([...new Set(columns)], NAMED)}.`]
+    : [];
 }
 
 // A head in a sentence: short, with what can't be printed spelt out.
 const plainHead = (title) => shown(title).slice(1, -1);
 
-// Whether a letter more, a letter less, another letter, or two exchanged make one text of the other.
+// Whether a letter more, a letter less, another letter, or two exchanged make one text of the
+// other.
 function isOneLetter(one, other) {
   const [short, long] = [[...one], [...other]].sort((a, b) => a.length - b.length);
-  if (short.length < long.length) return long.some((_, k) => long.filter((_letter, j) => j !== k).join('') === short.join(''));
+  if (short.length < long.length) {
+    return long.some((_, k) => long.filter((_letter, j) => j !== k).join('') === short.join(''));
+  }
   const differ = short.map((_, k) => k).filter((k) => short[k] !== long[k]), [i, j] = differ;
-  return differ.length === 1 || (differ.length === 2 && i + 1 === j && short[i] === long[j] && short[j] === long[i]);
+  return differ.length === 1
+    || (differ.length === 2 && i + 1 === j && short[i] === long[j] && short[j] === long[i]);
 }

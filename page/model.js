@@ -1,5 +1,15 @@
 // Places and routes, as tables have them, in whole numbers.
-import { NO_LIMIT, Numbers, Said, Units, ZERO, compare, coordinateIn, decimalsOf, scaled } from './amounts.js';
+import {
+  NO_LIMIT,
+  Numbers,
+  Said,
+  Units,
+  ZERO,
+  compare,
+  coordinateIn,
+  decimalsOf,
+  scaled,
+} from './amounts.js';
 import { Faults, at, shown } from './faults.js';
 import { Heads, carriedLines } from './heads.js';
 import { nearTo } from './near.js';
@@ -11,60 +21,92 @@ const PLACES = new Heads([...PLACE_HEADS, ...SPOT_HEADS, ...BOUND_HEADS], { toge
 const ROUTES = new Heads([...ROUTE_HEADS, 'least', 'both'], { hasSteps: true });
 const YES = ['yes', 'y', 'x', '1', 'true', 'ja', 'j'], NO = ['', 'no', 'n', '0', 'false', 'nein'];
 
-// The places and the routes of two tables: { name, text } or { name, bytes }. A reading may say the mark before decimals, the encoding
-// of bytes, and own heads. Throws a BadTable.
+// The places and the routes of two tables: { name, text } or { name, bytes }. A reading may say the
+// mark before decimals, the encoding of bytes, and own heads. Throws a BadTable.
 export class Problem {
   constructor(sources, reading = {}) {
     const faults = new Faults(), numbers = new Numbers(reading.decimal);
-    const tables = [PLACE_HEADS, ROUTE_HEADS].map((wanted, k) => new Table(sources[k], wanted, reading, faults));
+    const tables = [PLACE_HEADS, ROUTE_HEADS].map((wanted, k) =>
+      new Table(sources[k], wanted, reading, faults)
+    );
     checkHeads(tables, reading, faults);
     checkBoth(tables, faults);
     for (const table of tables) {
       table.checkWidths(faults);
       numbers.look(
-        table, table.heads.map((_, place) => place).filter((place) => ['supply', ...BOUND_HEADS].includes(table.heads[place].split(' ')[0]))
+        table,
+        table.heads
+          .map((_, place) => place)
+          .filter((place) => ['supply', ...BOUND_HEADS].includes(table.heads[place].split(' ')[0]))
       );
     }
     numbers.settle(faults);
-    const places = placesOf(tables[0], numbers, faults), routes = routesOf(tables[1], places, numbers, faults);
+    const places = placesOf(tables[0], numbers, faults);
+    const routes = routesOf(tables[1], places, numbers, faults);
     checkLimits(tables, routes, places, faults);
     faults.end();
-    const bounds = places.map((place) => place.bounds).filter(Boolean), steps = routes.flatMap((route) => route.steps);
-    const amounts = [...places.map((place) => place.supply), ...routes.map((route) => route.least), ...bounds.map((part) => part.least),
-      ...[...steps, ...bounds].map((part) => part.most).filter((most) => most !== null)];
-    this.units = new Units(decimalsOf(amounts), decimalsOf([...steps, ...bounds].map((part) => part.cost)));
+    const bounds = places.map((place) => place.bounds).filter(Boolean);
+    const steps = routes.flatMap((route) => route.steps);
+    const amounts = [
+      ...places.map((place) => place.supply),
+      ...routes.map((route) => route.least),
+      ...bounds.map((part) => part.least),
+      ...[...steps, ...bounds].map((part) => part.most).filter((most) => most !== null),
+    ];
+    this.units = new Units(
+      decimalsOf(amounts),
+      decimalsOf([...steps, ...bounds].map((part) => part.cost))
+    );
     this.said = new Said(this.units, numbers.mark);
     this.placeTable = tables[0];
     this.routeTable = tables[1];
     this.numbers = numbers;
     const whole = (amount) => (amount === null ? null : scaled(amount, this.units.amounts));
     const cost = (number) => scaled(number, this.units.costs);
-    const limits = (part) => part && { least: whole(part.least), most: whole(part.most), cost: cost(part.cost) };
-    this.places = places.map((place) => ({ ...place, supply: whole(place.supply), bounds: limits(place.bounds) }));
-    this.routes = routes.map(
-      (route) => (
-        { ...route, least: whole(route.least), steps: route.steps.map((step) => ({ most: whole(step.most), cost: cost(step.cost) })) }
-      )
-    );
+    const limits = (part) =>
+      part && { least: whole(part.least), most: whole(part.most), cost: cost(part.cost) };
+    this.places = places.map((place) => ({
+      ...place,
+      supply: whole(place.supply),
+      bounds: limits(place.bounds),
+    }));
+    this.routes = routes.map((route) => ({
+      ...route,
+      least: whole(route.least),
+      steps: route.steps.map((step) => ({ most: whole(step.most), cost: cost(step.cost) })),
+    }));
     for (const route of this.routes) route.most = mostOf(route);
   }
 
   // Lines on how the tables were read.
-  told() { return [...carriedLines([...PLACES.carried(this.placeTable), ...ROUTES.carried(this.routeTable)]), ...this.numbers.told()]; }
-
-  // What no route without a limit carries beyond its least, in some plan that costs least where no cost is below 0: beyond the leasts such
-  // a plan has no round trip.
-  reach() {
-    const leasts = [
-      ...this.routes.map((route) => route.least), ...this.places.filter((place) => place.bounds).map((place) => place.bounds.least)
+  told() {
+    return [
+      ...carriedLines([...PLACES.carried(this.placeTable), ...ROUTES.carried(this.routeTable)]),
+      ...this.numbers.told(),
     ];
-    return [...this.places.map((place) => place.supply), ...leasts].reduce((sum, number) => sum + size(number), 1n);
   }
 
-  // What passes through no place, whatever the plan, where no route is without a limit; and beyond the reach where one is.
+  // What no route without a limit carries beyond its least, in some plan that costs least where no
+  // cost is below 0: beyond the leasts such a plan has no round trip.
+  reach() {
+    const leasts = [
+      ...this.routes.map((route) => route.least),
+      ...this.places.filter((place) => place.bounds).map((place) => place.bounds.least),
+    ];
+    return [...this.places.map((place) => place.supply), ...leasts].reduce(
+      (sum, number) => sum + size(number),
+      1n
+    );
+  }
+
+  // What passes through no place, whatever the plan, where no route is without a limit; and beyond
+  // the reach where one is.
   throughput() {
     const limited = this.routes.filter((route) => route.most !== null);
-    return limited.reduce((sum, route) => sum + (size(route.least) + size(route.most)) * (route.both ? 2n : 1n), this.reach());
+    return limited.reduce(
+      (sum, route) => sum + (size(route.least) + size(route.most)) * (route.both ? 2n : 1n),
+      this.reach()
+    );
   }
 
   // The names of a route's ends.
@@ -75,14 +117,20 @@ export const size = (number) => (number < 0n ? -number : number);
 
 // What a route carries at most; null is no limit.
 function mostOf({ steps }) {
-  return steps[steps.length - 1].most === null ? null : steps.reduce((sum, step) => sum + step.most, 0n);
+  return steps[steps.length - 1].most === null
+    ? null
+    : steps.reduce((sum, step) => sum + step.most, 0n);
 }
 
 // Ends the run where heads are missing; tables that were exchanged are told.
 function checkBoth([placeTable, routeTable], faults) {
   const exchanged = routeTable.has(PLACE_HEADS) && placeTable.has(ROUTE_HEADS.slice(0, 2));
   placeTable.need(
-    PLACE_HEADS, faults, exchanged ? 'this looks like the table of routes, which comes second; of places wanted are' : 'wanted are'
+    PLACE_HEADS,
+    faults,
+    exchanged
+      ? 'this looks like the table of routes, which comes second; of places wanted are'
+      : 'wanted are'
   );
   routeTable.need(ROUTE_HEADS, faults, `${matrixHint(placeTable, routeTable)}wanted are`);
   if (!exchanged) {
@@ -111,8 +159,19 @@ function placesOf(table, numbers, faults) {
     if (name) once(at(table, line, 'name'), keyOf(name), `a place ${shown(name)}`, seen, faults);
     // A place that only passes on is often left empty.
     const supply = numbers.read(table, line, 'supply', cellAt(cells, supplyColumn) || '0', faults);
-    const spot = spots && SPOT_HEADS.map((head, k) => coordinateIn(table, line, head, cellAt(cells, spots[k]), faults));
-    return { name, supply, spot, bounds: boundsOf(table, line, bounds.map((place) => cellAt(cells, place)), numbers, faults), line, cells };
+    const spot =
+      spots
+      && SPOT_HEADS.map((head, k) =>
+        coordinateIn(table, line, head, cellAt(cells, spots[k]), faults)
+      );
+    return {
+      name,
+      supply,
+      spot,
+      bounds: boundsOf(table, line, bounds.map((place) => cellAt(cells, place)), numbers, faults),
+      line,
+      cells,
+    };
   });
 }
 
@@ -130,7 +189,10 @@ function endOf(table, line, head, cell, known, faults) {
   if (name && !number) {
     const near = faults.has(table, 'no place') ? [] : nearTo(keyOf(name), [...known.keys()], fold);
     faults.add(
-      at(table, line, head), 'no place', `there is no place ${shown(name)}${near.length ? `; is ${shown(near[0])} meant?` : ''}`, name
+      at(table, line, head),
+      'no place',
+      `there is no place ${shown(name)}${near.length ? `; is ${shown(near[0])} meant?` : ''}`,
+      name
     );
   }
   return number;
@@ -146,13 +208,26 @@ function routesOf(table, places, numbers, faults) {
     const tail = endOf(table, line, 'from', cellAt(cells, tails), known, faults);
     const head = endOf(table, line, 'to', cellAt(cells, heads), known, faults);
     const least = cellAt(cells, leasts), both = cellAt(cells, ways);
-    const route = { tail, head, least: least ? numbers.read(table, line, 'least', least, faults) : ZERO,
-      steps: stepsOf(table, { line, cells }, steps, numbers, faults), both: YES.includes(fold(both)), line, cells };
+    const route = {
+      tail,
+      head,
+      least: least ? numbers.read(table, line, 'least', least, faults) : ZERO,
+      steps: stepsOf(table, { line, cells }, steps, numbers, faults),
+      both: YES.includes(fold(both)),
+      line,
+      cells,
+    };
     if (!YES.includes(fold(both)) && !NO.includes(fold(both))) faults.add(
       at(table, line, 'both'), 'both', `${shown(both)} is neither yes nor no`, both
     );
-    if (route.both && (compare(route.least, ZERO) !== 0 || compare(route.steps[0].cost, ZERO) < 0)) {
-      faults.add(at(table, line, 'both'), 'both bounds', 'a route that is used both ways has no least, and no cost below 0');
+    if (
+      route.both && (compare(route.least, ZERO) !== 0 || compare(route.steps[0].cost, ZERO) < 0)
+    ) {
+      faults.add(
+        at(table, line, 'both'),
+        'both bounds',
+        'a route that is used both ways has no least, and no cost below 0'
+      );
     }
     return route;
   });
@@ -161,10 +236,10 @@ function routesOf(table, places, numbers, faults) {
 // The columns of the steps: most and cost, then most 2 and cost 2, and so on.
 function stepColumns(table) {
   const found = [];
-  for (
-    let heads = ['most', 'cost']; !found.length
-      || table.heads.includes(heads[0]); heads = [`most ${found.length + 1}`, `cost ${found.length + 1}`]
-  ) {
+  for (let heads = ['most', 'cost']; !found.length || table.heads.includes(heads[0]); heads = [
+    `most ${found.length + 1}`,
+    `cost ${found.length + 1}`,
+  ]) {
     found.push({ heads, places: table.columns(heads) });
   }
   return found;
@@ -174,22 +249,35 @@ function stepColumns(table) {
 function stepsOf(table, { line, cells }, columns, numbers, faults) {
   const found = [];
   for (const { heads, places } of columns) {
-    const [most, cost] = places.map((place) => cellAt(cells, place)), before = found[found.length - 1];
+    const [most, cost] = places.map((place) => cellAt(cells, place));
+    const before = found[found.length - 1];
     if (before && !most && !cost) break;
-    if (before && before.most === null) faults.add(at(table, line, heads[0]), 'after no limit', 'the step before is without a limit');
-    const step = { most: NO_LIMIT.includes(fold(most)) ? null : numbers.read(table, line, heads[0], most, faults),
-      cost: numbers.read(table, line, heads[1], cost, faults) };
+    if (before && before.most === null) {
+      faults.add(at(table, line, heads[0]), 'after no limit', 'the step before is without a limit');
+    }
+    const step = {
+      most: NO_LIMIT.includes(fold(most))
+        ? null
+        : numbers.read(table, line, heads[0], most, faults),
+      cost: numbers.read(table, line, heads[1], cost, faults),
+    };
     found.push(step);
     if (before && cost && compare(step.cost, before.cost) < 0) {
       faults.add(
         at(table, line, heads[1]),
         'falling cost',
-        `${shown(cost)} is below the cost of the step before: units that get cheaper with more ` + 'of them make no minimum-cost flow',
+        `${shown(cost)} is below the cost of the step before: units that get cheaper with more `
+          + 'of them make no minimum-cost flow',
         cost
       );
     }
     if (before && step.most && compare(step.most, ZERO) < 0) {
-      faults.add(at(table, line, heads[0]), 'step below 0', `${shown(most)} is below 0, and this step adds to the one before`, most);
+      faults.add(
+        at(table, line, heads[0]),
+        'step below 0',
+        `${shown(most)} is below 0, and this step adds to the one before`,
+        most
+      );
     }
   }
   return found;
@@ -198,15 +286,21 @@ function stepsOf(table, { line, cells }, columns, numbers, faults) {
 // Notes routes without a limit where a cost is below 0: a round trip could earn without end.
 function checkLimits(tables, routes, places, faults) {
   const below = [
-    ...routes.filter((route) => compare(route.steps[0].cost, ZERO) < 0).map((route) => `line ${route.line}`),
-    ...places.filter(
-      (place) => place.bounds && compare(place.bounds.cost, ZERO) < 0
-    ).map((place) => `${tables[0].name}, line ${place.line}`)
+    ...routes
+      .filter((route) => compare(route.steps[0].cost, ZERO) < 0)
+      .map((route) => `line ${route.line}`),
+    ...places
+      .filter((place) => place.bounds && compare(place.bounds.cost, ZERO) < 0)
+      .map((place) => `${tables[0].name}, line ${place.line}`),
   ];
   for (const route of below.length ? routes : []) {
     if (route.steps[route.steps.length - 1].most === null) {
-      faults.add(at(tables[1], route.line, 'most'), 'no limit', `this is empty, so without a limit, and a cost is below 0 (${below[0]}): a `
-        + 'round trip could earn without end; give a most');
+      faults.add(
+        at(tables[1], route.line, 'most'),
+        'no limit',
+        `this is empty, so without a limit, and a cost is below 0 (${below[0]}): a `
+          + 'round trip could earn without end; give a most'
+      );
     }
   }
 }

@@ -1,22 +1,26 @@
-// The proved module: one instance of it for each run, so that memory comes back whole and nothing outlives a trap. An instance asks
-// its host for nothing. Texts are bytes.
+// The proved module: one instance of it for each run, so that memory comes back whole and nothing
+// outlives a trap. An instance asks its host for nothing. Texts are bytes.
 
 const STATUS = ['flow', 'blocked', 'refused', 'memory', 'room', 'choice'];
 const KINDS = [
-  'accepted flow', 'accepted blocked', 'accepted refusal', 'rejected shape', 'rejected kind', 'rejected refusal', 'rejected arc',
-  'rejected node', 'rejected price', 'rejected cost', 'rejected set',
+  'accepted flow', 'accepted blocked', 'accepted refusal', 'rejected shape', 'rejected kind',
+  'rejected refusal', 'rejected arc', 'rejected node', 'rejected price', 'rejected cost',
+  'rejected set',
 ];
 const CODES = [
-  '', 'kind', 'fields', 'problem', 'number', 'second-p', 'before-p', 'size', 'node', 'late-n', 'twice', 'supply', 'bound', 'order', 'cost',
-  'extra', 'side', 'total', 'no-p', 'missing',
+  '', 'kind', 'fields', 'problem', 'number', 'second-p', 'before-p', 'size', 'node', 'late-n',
+  'twice', 'supply', 'bound', 'order', 'cost', 'extra', 'side', 'total', 'no-p', 'missing',
 ];
 const ENGINES = ['auto', 'cancel', 'simplex', 'scaling', 'sap', 'augment'];
-// A flow problem of more nodes goes to the search that is judged, where no engine is asked: docs/BENCH.md, "What the tools choose".
+// A flow problem of more nodes goes to the search that is judged, where no engine is asked:
+// docs/BENCH.md, "What the tools choose".
 const LARGE = 2 ** 14;
 
 // The engine that suits a text by its size, where its beginning has the problem line.
 function suited(bytes) {
-  const line = /^[ \t]*p[ \t]+min[ \t]+(\d+)/m.exec(new TextDecoder().decode(bytes.subarray(0, 4096)));
+  const line = /^[ \t]*p[ \t]+min[ \t]+(\d+)/m.exec(
+    new TextDecoder().decode(bytes.subarray(0, 4096))
+  );
   return line && Number(line[1]) > LARGE ? 'augment' : 'auto';
 }
 
@@ -43,44 +47,79 @@ export class Instance {
     return { at, size: text.byteLength };
   }
 
-  // Solves a text that was lent: its status, and where the answer is. A room that is too short is made anew.
+  // Solves a text that was lent: its status, and where the answer is. A room that is too short is
+  // made anew.
   solve(text, engine = 'auto', form = 2, size = 0) {
     const choice = this.room(16), room = size || text.size + 1024;
-    [ENGINES.indexOf(engine), 0, 0, form].forEach((number, k) => this.view().setUint32(Number(choice) + 4 * k, number, true));
+    [ENGINES.indexOf(engine), 0, 0, form].forEach((number, k) =>
+      this.view().setUint32(Number(choice) + 4 * k, number, true)
+    );
     const at = this.room(room);
-    const status = STATUS[this.exports.mcf_solve(text.at, BigInt(text.size), choice, at, BigInt(room), this.used)];
+    const status =
+      STATUS[this.exports.mcf_solve(
+        text.at,
+        BigInt(text.size),
+        choice,
+        at,
+        BigInt(room),
+        this.used
+      )];
     const used = Number(this.view().getBigUint64(Number(this.used), true));
     if (status === 'room' && !size) return this.solve(text, engine, form, used);
     return { status, at, size: used };
   }
 
-  // Judges an answer that was lent: whether it is accepted, and the line that mcfcheck prints; or null for want of memory.
+  // Judges an answer that was lent: whether it is accepted, and the line that mcfcheck prints; or
+  // null for want of memory.
   check(text, answer) {
     const told = this.room(32);
-    const status = this.exports.mcf_check(text.at, BigInt(text.size), answer.at, BigInt(answer.size), told);
+    const status = this.exports.mcf_check(
+      text.at,
+      BigInt(text.size),
+      answer.at,
+      BigInt(answer.size),
+      told
+    );
     if (status === 3) return null;
-    const view = this.view(), at = Number(told), kind = view.getUint32(at, true), negative = view.getUint32(at + 8, true);
+    const view = this.view();
+    const at = Number(told);
+    const kind = view.getUint32(at, true);
+    const negative = view.getUint32(at + 8, true);
     const size = (view.getBigUint64(at + 24, true) << 64n) + view.getBigUint64(at + 16, true);
     const words = KINDS[kind] + ([4, 5, 9, 10].includes(kind) ? '' : ` ${negative ? -size : size}`);
-    return { accepted: status === 0, line: words + (kind === 2 ? ` ${CODES[view.getUint32(at + 4, true)]}` : '') };
+    return {
+      accepted: status === 0,
+      line: words + (kind === 2 ? ` ${CODES[view.getUint32(at + 4, true)]}` : ''),
+    };
   }
 }
 
-// Solves a text and has the answer judged before it is handed out: a status of flow, blocked or refused comes with an accepted answer.
+// Solves a text and has the answer judged before it is handed out: a status of flow, blocked or
+// refused comes with an accepted answer.
 export function judged(module, bytes, engine) {
   const instance = new Instance(module), text = instance.lend(bytes), begun = performance.now();
-  const found = instance.solve(text, engine === 'auto' ? suited(bytes) : engine), solved = performance.now();
+  const found = instance.solve(text, engine === 'auto' ? suited(bytes) : engine);
+  const solved = performance.now();
   if (STATUS.indexOf(found.status) > 2) return { status: found.status };
   const verdict = instance.check(text, found);
   if (!verdict) return { status: 'memory' };
-  if (!verdict.line.startsWith(`${KINDS[STATUS.indexOf(found.status)]} `)) return { status: 'rejected', verdict: verdict.line };
-  return { status: found.status, verdict: verdict.line, answer: instance.bytes(found.at, found.size).slice(), solving: solved - begun,
-    judging: performance.now() - solved, peak: Number(instance.exports.page_peak()) };
+  if (!verdict.line.startsWith(`${KINDS[STATUS.indexOf(found.status)]} `)) {
+    return { status: 'rejected', verdict: verdict.line };
+  }
+  return {
+    status: found.status,
+    verdict: verdict.line,
+    answer: instance.bytes(found.at, found.size).slice(),
+    solving: solved - begun,
+    judging: performance.now() - solved,
+    peak: Number(instance.exports.page_peak()),
+  };
 }
 
 // Whether an answer of somebody else's is accepted.
 export function accepts(module, bytes, answer) {
-  const instance = new Instance(module), verdict = instance.check(instance.lend(bytes), instance.lend(answer));
+  const instance = new Instance(module);
+  const verdict = instance.check(instance.lend(bytes), instance.lend(answer));
   if (!verdict) throw new RangeError('memory');
   return verdict;
 }

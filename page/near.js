@@ -3,7 +3,8 @@
 // Of how many names one is looked for, and how much of a name has to agree.
 const MOST = 10000, CUTOFF = 0.6;
 
-// The longest part that two texts have in common within some bounds: where it begins in each, and how long it is.
+// The longest part that two texts have in common within some bounds: where it begins in each, and
+// how long it is.
 function longest(a, b, places, [alow, ahigh, blow, bhigh]) {
   let best = [alow, blow, 0], lengths = new Map();
   for (let i = alow; i < ahigh; i++) {
@@ -22,10 +23,13 @@ function longest(a, b, places, [alow, ahigh, blow, bhigh]) {
 function agreeing(a, b, places, bounds) {
   const [i, j, length] = longest(a, b, places, bounds), [alow, ahigh, blow, bhigh] = bounds;
   if (!length) return 0;
-  return length + agreeing(a, b, places, [alow, i, blow, j]) + agreeing(a, b, places, [i + length, ahigh, j + length, bhigh]);
+  return length
+    + agreeing(a, b, places, [alow, i, blow, j])
+    + agreeing(a, b, places, [i + length, ahigh, j + length, bhigh]);
 }
 
-// The names, of some thousands, that are nearly a name: those that differ in capitals alone, else the nearest one.
+// The names, of some thousands, that are nearly a name: those that differ in capitals alone, else
+// the nearest one.
 export function nearTo(name, names, fold) {
   const same = names.filter((other) => fold(other) === fold(name));
   if (same.length) return same;
@@ -36,7 +40,10 @@ export function nearTo(name, names, fold) {
     const a = [...other], total = a.length + b.length;
     if (2 * Math.min(a.length, b.length) < most * total) continue;
     const ratio = 2 * agreeing(a, b, places, [0, a.length, 0, b.length]) / total;
-    if (ratio > most || (ratio === most && (best === null || other > best))) { best = other; most = ratio; }
+    if (ratio > most || (ratio === most && (best === null || other > best))) {
+      best = other;
+      most = ratio;
+    }
   }
   return best === null ? [] : [best];
 }

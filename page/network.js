@@ -1,44 +1,67 @@
-// Networks in whole numbers, their texts, and the sets of nodes that block every flow. Nodes are numbered from 1, arcs from 0.
+// Networks in whole numbers, their texts, and the sets of nodes that block every flow. Nodes are
+// numbered from 1, arcs from 0.
 
 export class Network {
   constructor(supplies, arcs) { Object.assign(this, { supplies, arcs }); }
 
   // The lines of the network's text.
   lines() {
-    return [`p min ${this.supplies.length} ${this.arcs.length}`, ...this.supplies.map((supply, k) => `n ${k + 1} ${supply}`),
-      ...this.arcs.map((arc) => `a ${arc.tail} ${arc.head} ${arc.least} ${arc.most} ${arc.cost}`)];
+    return [
+      `p min ${this.supplies.length} ${this.arcs.length}`,
+      ...this.supplies.map((supply, k) => `n ${k + 1} ${supply}`),
+      ...this.arcs.map((arc) => `a ${arc.tail} ${arc.head} ${arc.least} ${arc.most} ${arc.cost}`),
+    ];
   }
 
-  // The network with each arc turned round, and with demands for supplies: what must take there must send here.
+  // The network with each arc turned round, and with demands for supplies: what must take there
+  // must send here.
   turned() {
-    return new Network(this.supplies.map((supply) => -supply), this.arcs.map((arc) => ({ ...arc, tail: arc.head, head: arc.tail })));
+    return new Network(
+      this.supplies.map((supply) => -supply),
+      this.arcs.map((arc) => ({ ...arc, tail: arc.head, head: arc.tail }))
+    );
   }
 
-  // What a set must and can send (or take). It must send its supplies and what arcs bring by their least; it can send the most of the arcs
-  // that lead out. Of a set that takes it is the other way round.
+  // What a set must and can send (or take). It must send its supplies and what arcs bring by their
+  // least; it can send the most of the arcs that lead out. Of a set that takes it is the other way
+  // round.
   bottleneck(side, nodes) {
     const leaving = [], entering = [];
     this.arcs.forEach((arc, k) => {
       if (nodes.has(arc.tail) && !nodes.has(arc.head)) leaving.push(k);
       if (!nodes.has(arc.tail) && nodes.has(arc.head)) entering.push(k);
     });
-    const [sign, limiting, forcing] = side === 'send' ? [1n, leaving, entering] : [-1n, entering, leaving];
+    const [sign, limiting, forcing] = side === 'send'
+      ? [1n, leaving, entering]
+      : [-1n, entering, leaving];
     const sorted = [...nodes].sort((a, b) => a - b);
     const must = sign * sorted.reduce((sum, node) => sum + this.supplies[node - 1], 0n)
       + forcing.reduce((sum, k) => sum + this.arcs[k].least, 0n);
-    return { side, nodes: sorted, must, can: limiting.reduce((sum, k) => sum + this.arcs[k].most, 0n),
-      forcing: forcing.filter((k) => this.arcs[k].least), limiting };
+    return {
+      side,
+      nodes: sorted,
+      must,
+      can: limiting.reduce((sum, k) => sum + this.arcs[k].most, 0n),
+      forcing: forcing.filter((k) => this.arcs[k].least),
+      limiting,
+    };
   }
 
-  // The bottlenecks that a blocking set falls into: no arc joins two of its parts, so that one at least blocks by itself.
+  // The bottlenecks that a blocking set falls into: no arc joins two of its parts, so that one at
+  // least blocks by itself.
   blockingParts(side, nodes) {
-    return partsOf(nodes, this.arcs).map((part) => this.bottleneck(side, part)).filter((found) => found.must > found.can);
+    return partsOf(nodes, this.arcs)
+      .map((part) => this.bottleneck(side, part))
+      .filter((found) => found.must > found.can);
   }
 }
 
-// The parts of a set of nodes that no arc within the set connects, each as a set; by their least nodes.
+// The parts of a set of nodes that no arc within the set connects, each as a set; by their least
+// nodes.
 export function partsOf(nodes, arcs) {
-  const neighbours = new Map([...nodes].sort((a, b) => a - b).map((node) => [node, []])), seen = new Set(), parts = [];
+  const neighbours = new Map([...nodes].sort((a, b) => a - b).map((node) => [node, []]));
+  const seen = new Set();
+  const parts = [];
   for (const { tail, head } of arcs) {
     if (neighbours.has(tail) && neighbours.has(head)) {
       neighbours.get(tail).push(head);
@@ -55,9 +78,12 @@ export function partsOf(nodes, arcs) {
   return parts;
 }
 
-// An instance as text, and for each of its lines the table, its line and its columns by the word of a refusal.
+// An instance as text, and for each of its lines the table, its line and its columns by the word of
+// a refusal.
 export class Lines {
-  constructor(suffix) { Object.assign(this, { name: `instance.${suffix}`, lines: [], origins: [] }); }
+  constructor(suffix) {
+    Object.assign(this, { name: `instance.${suffix}`, lines: [], origins: [] });
+  }
 
   add(lines, origins = []) {
     for (const line of lines) this.lines.push(line);
@@ -73,7 +99,8 @@ export function networkOf(text) {
   const supplies = [], arcs = [];
   let persons = false;
   for (const line of text.split('\n')) {
-    const fields = line.trim().split(/[ \t\r]+/), number = (k) => BigInt(fields[k].replace('+', ''));
+    const fields = line.trim().split(/[ \t\r]+/);
+    const number = (k) => BigInt(fields[k].replace('+', ''));
     if (fields[0] === 'p') {
       persons = fields[1] === 'asn';
       for (let k = Number(fields[2]); k > 0; k--) supplies.push(persons ? -1n : 0n);

@@ -33,7 +33,9 @@ const kindOf = () => document.querySelector('input[name=kind]:checked').value;
 
 function chooseKind(kind) {
   document.querySelector(`input[name=kind][value=${kind}]`).checked = true;
-  for (const part of document.querySelectorAll('[data-kind]')) part.hidden = part.dataset.kind !== kind;
+  for (const part of document.querySelectorAll('[data-kind]')) {
+    part.hidden = part.dataset.kind !== kind;
+  }
 }
 
 function put(id, text, file = null) {
@@ -49,9 +51,11 @@ function sourceOf(id) {
 
 function choices() {
   const heads = Object.fromEntries(
-    $('heads').value.split(/\s+(?=\w+=)/).map((pair) => pair.split('=')).filter(([head, own]) => head && own).map(
-      ([head, own]) => [head.trim(), own.trim()]
-    )
+    $('heads').value
+      .split(/\s+(?=\w+=)/)
+      .map((pair) => pair.split('='))
+      .filter(([head, own]) => head && own)
+      .map(([head, own]) => [head.trim(), own.trim()])
   );
   return {
     reading: { decimal: $('decimal').value || null, encoding: $('encoding').value || null, heads },
@@ -64,8 +68,12 @@ function choices() {
 
 // What stands above a plan and its picture: the title, the date and the tables.
 function captionOf(kind) {
-  const now = new Date(), names = { flow: ['places', 'routes'], pairs: ['costs'], text: ['dimacs'] }[kind].map((id) => sourceOf(id).name);
-  const date = [now.getFullYear(), now.getMonth() + 1, now.getDate()].map((part) => String(part).padStart(2, '0')).join('-');
+  const now = new Date();
+  const ids = { flow: ['places', 'routes'], pairs: ['costs'], text: ['dimacs'] }[kind];
+  const names = ids.map((id) => sourceOf(id).name);
+  const date = [now.getFullYear(), now.getMonth() + 1, now.getDate()]
+    .map((part) => String(part).padStart(2, '0'))
+    .join('-');
   const line = (text) => text.replace(/[\u0000-\u001f\u007f]/g, ' ').trim();
   return { title: line($('title').value), source: line(`${date}: ${names.join(', ')}`) };
 }
@@ -81,16 +89,24 @@ async function take(list) {
     const begin = new TextDecoder().decode(bytes.subarray(0, 4096));
     const first = begin.split('\n').find((line) => line.trim()) || '';
     let id = 'places';
-    if (/^[ \t]*(c([ \t].*)?\r?\n[ \t]*)*p[ \t]/.test(begin) || /\.(min|asn|dimacs)$/i.test(file.name)) id = 'dimacs';
+    const isDimacs =
+      /^[ \t]*(c([ \t].*)?\r?\n[ \t]*)*p[ \t]/.test(begin)
+      || /\.(min|asn|dimacs)$/i.test(file.name);
+    if (isDimacs) id = 'dimacs';
     else if (/\b(from|von|most|both)\b/i.test(first)) id = 'routes';
-    else if (!/\b(name|supply|ort|angebot)\b/i.test(first)) id = kindOf() === 'flow'
-      && /route|strecke|lane|kante/i.test(file.name) ? 'routes'
-      : kindOf() === 'flow' && /place|ort|node/i.test(file.name)
-      ? 'places' : 'costs';
+    else if (!/\b(name|supply|ort|angebot)\b/i.test(first)) {
+      id = kindOf() === 'flow' && /route|strecke|lane|kante/i.test(file.name)
+        ? 'routes'
+        : kindOf() === 'flow' && /place|ort|node/i.test(file.name) ? 'places' : 'costs';
+    }
     chooseKind({ dimacs: 'text', costs: 'pairs' }[id] || 'flow');
     let text = `(${file.name}, ${grouped(String(bytes.length))} bytes)`;
     if (bytes.length < FIELD) {
-      try { text = textOf(file.name, bytes, $('encoding').value || null).text; } catch { /* told when it is read */ }
+      try {
+        text = textOf(file.name, bytes, $('encoding').value || null).text;
+      } catch {
+        // What is wrong with the file is told when it is read.
+      }
     }
     put(id, text, { name: file.name, bytes });
   }
@@ -117,10 +133,14 @@ async function go(change = null) {
   document.body.dataset.status = 'running';
   let status;
   try {
-    const run = { flow: () => runFlow(solver, [sourceOf('places'), sourceOf('routes')], asked), pairs: () => runPairs(solver, sourceOf('costs'), asked), text: () => {
-      const source = sourceOf('dimacs');
-      return runText(solver, source.bytes || new TextEncoder().encode(source.text), asked);
-    } };
+    const run = {
+      flow: () => runFlow(solver, [sourceOf('places'), sourceOf('routes')], asked),
+      pairs: () => runPairs(solver, sourceOf('costs'), asked),
+      text: () => {
+        const source = sourceOf('dimacs');
+        return runText(solver, source.bytes || new TextEncoder().encode(source.text), asked);
+      },
+    };
     const shown = { caption: captionOf(kind), ...await run[kind]() };
     plan = shown.plan || before;
     show(shown, change, before);
@@ -137,15 +157,25 @@ async function go(change = null) {
 
 // A cell that was changed: the table is written anew, and solved.
 function changed({ from: table, field }, k, head, text) {
-  const { cells } = table.rows[k], place = table.heads.indexOf(head), cell = (name) => cells[table.heads.indexOf(name)];
-  const old = Object.fromEntries(['places', 'routes'].map((id) => [id, { text: $(id).value, file: files[id] }]));
-  const where = field === 'places' ? cell('name') : `${cell('from')} -> ${cell('to')}`, now = text.trim();
+  const { cells } = table.rows[k];
+  const place = table.heads.indexOf(head);
+  const cell = (name) => cells[table.heads.indexOf(name)];
+  const old = Object.fromEntries(
+    ['places', 'routes'].map((id) => [id, { text: $(id).value, file: files[id] }])
+  );
+  const where = field === 'places' ? cell('name') : `${cell('from')} -> ${cell('to')}`;
+  const now = text.trim();
   const what = `${head} of ${where}: ${cells[place] || 'empty'} is now ${now || 'empty'}.`;
   while (cells.length <= place) cells.push('');
   cells[place] = now;
   put(
     field,
-    csvOf({ heads: table.titles, rows: table.rows.map((row) => row.cells), like: { ...table, mark: false }, figures: [] }),
+    csvOf({
+      heads: table.titles,
+      rows: table.rows.map((row) => row.cells),
+      like: { ...table, mark: false },
+      figures: [],
+    }),
     files[field] && { name: files[field].name }
   );
   const undo = () => {
@@ -158,33 +188,61 @@ function changed({ from: table, field }, k, head, text) {
 // ---- What is shown
 
 function replaceResult(...parts) {
-  const focused = document.activeElement && document.activeElement.dataset ? document.activeElement.dataset.key : null;
+  const focused = document.activeElement && document.activeElement.dataset
+    ? document.activeElement.dataset.key
+    : null;
   $('result').replaceChildren(...parts.flat().filter(Boolean));
   $('result').hidden = false;
   for (const grid of grids) grid.settle();
-  const field = focused && [...document.querySelectorAll('input.cell')].find((it) => it.dataset.key === focused);
+  const field =
+    focused
+    && [...document.querySelectorAll('input.cell')].find((it) => it.dataset.key === focused);
   if (field) field.focus({ preventScroll: true });
 }
 
-const paragraph = (text, className = null) => el('p', className ? { class: className } : {}, pageWords(text));
+const paragraph = (text, className = null) =>
+  el('p', className ? { class: className } : {}, pageWords(text));
 
 function show(shown, change, before) {
-  const { result, instance, mark, caption } = shown, [words, figure] = shown.headline, settings = { mark, change: changed };
+  const { result, instance, mark, caption } = shown;
+  const [words, figure] = shown.headline;
+  const settings = { mark, change: changed };
   const drawn = shown.scene && svgOf(shown.scene(caption));
   document.title = caption.title || 'Least-cost plans';
   const differs = change && changeParts(shown, change, before);
-  grids = [...shown.sheets, ...(differs ? differs.sheets : [])].map((sheet) => new Grid(sheet, settings));
-  const apart = grids.splice(shown.sheets.length).map((grid) => { grids.unshift(grid); return grid.element; });
+  grids = [...shown.sheets, ...(differs ? differs.sheets : [])].map((sheet) =>
+    new Grid(sheet, settings)
+  );
+  const apart = grids.splice(shown.sheets.length).map((grid) => {
+    grids.unshift(grid);
+    return grid.element;
+  });
   const ms = (time) => `${time < 10 ? time.toFixed(1) : time.toFixed(0)} ms`;
   replaceResult(
-    el('h2', { class: shown.isPlan ? null : 'none', role: 'status', tabindex: -1 }, caption.title ? [caption.title, el('br')] : '', words, grouped(figure, mark)),
+    el(
+      'h2',
+      { class: shown.isPlan ? null : 'none', role: 'status', tabindex: -1 },
+      caption.title ? [caption.title, el('br')] : '',
+      words,
+      grouped(figure, mark)
+    ),
     el('p', { class: 'soft' }, caption.source),
-    el('p', { class: 'soft', id: 'seal' }, `✓ ${result.verdict}: so says the proved checker in this page, of this very answer.`),
+    el(
+      'p',
+      { class: 'soft', id: 'seal' },
+      `✓ ${result.verdict}: so says the proved checker in this page, of this very answer.`
+    ),
     shown.lead.map((line) => paragraph(line)),
     differs && el('div', { class: 'changed' }, differs.parts, apart),
-    shown.facts.length ? el(
-      'ul', { class: 'facts' }, shown.facts.map(([value, what]) => el('li', {}, el('b', {}, grouped(String(value), mark)), what))
-    ) : null,
+    shown.facts.length
+      ? el(
+        'ul',
+        { class: 'facts' },
+        shown.facts.map(([value, what]) =>
+          el('li', {}, el('b', {}, grouped(String(value), mark)), what)
+        )
+      )
+      : null,
     shown.findings.map(findingOf),
     drawn && [el('h2', {}, 'Picture'), pictureOf(drawn)],
     grids.filter((grid) => !apart.includes(grid.element)).map((grid) => grid.element),
@@ -192,24 +250,39 @@ function show(shown, change, before) {
     el(
       'p',
       { class: 'soft small' },
-      `Solved in ${ms(result.solving)}, checked in ${ms(result.judging)}, ${(result.peak / 2 ** 20).toFixed(1)} MB at most.`
+      `Solved in ${ms(result.solving)}, checked in ${ms(result.judging)}, `
+        + `${(result.peak / 2 ** 20).toFixed(1)} MB at most.`
     )
   );
 }
 
 function findingOf({ figures, sentence, cure }) {
-  const numbers = figures.flatMap(
-    ([words, number], k) => [k ? ' · ' : '', el('b', words === 'short by' ? { class: 'short' } : {}, `${words} ${number}`)]
+  const numbers = figures.flatMap(([words, number], k) => [
+    k ? ' · ' : '',
+    el('b', words === 'short by' ? { class: 'short' } : {}, `${words} ${number}`),
+  ]);
+  return el(
+    'div',
+    { class: 'finding' },
+    el('p', {}, numbers),
+    paragraph(sentence),
+    cure ? paragraph(cure, 'soft') : ''
   );
-  return el('div', { class: 'finding' }, el('p', {}, numbers), paragraph(sentence), cure ? paragraph(cure, 'soft') : '');
 }
 
 // What a change made of the plan before.
 function changeParts(shown, { what, undo }, before) {
   const back = undo ? el('button', { type: 'button', onclick: undo }, 'Take it back') : '';
-  if (!shown.plan || !before) return {
-    parts: [paragraph(what), before ? paragraph(`Before, a plan cost ${before.problem.said.total(before.cost)}.`) : '', back], sheets: [],
-  };
+  if (!shown.plan || !before) {
+    return {
+      parts: [
+        paragraph(what),
+        before ? paragraph(`Before, a plan cost ${before.problem.said.total(before.cost)}.`) : '',
+        back,
+      ],
+      sheets: [],
+    };
+  }
   const { text, sheets } = changesShown(before, shown.plan);
   return { parts: [paragraph(what), paragraph(text), back], sheets };
 }
@@ -220,15 +293,25 @@ function saves(shown, instance, drawn) {
     'section',
     { class: 'saves' },
     el('h2', {}, 'To save'),
-    el('p', { class: 'soft' }, `Elsewhere, mcfcheck ${instance.name} answer.ans judges this answer again.`),
+    el(
+      'p',
+      { class: 'soft' },
+      `Elsewhere, mcfcheck ${instance.name} answer.ans judges this answer again.`
+    ),
     el(
       'div',
       { class: 'tools' },
       saver(instance.name, () => instance.text),
       saver('answer.ans', () => shown.result.bytes),
-      shown.tables().map(
-        (table) => saver(`${table.name}.csv`, () => csvOf({ ...table, like: { ...table.like, mark: true } }, mark), 'text/csv')
-      ),
+      shown
+        .tables()
+        .map((table) =>
+          saver(
+            `${table.name}.csv`,
+            () => csvOf({ ...table, like: { ...table.like, mark: true } }, mark),
+            'text/csv'
+          )
+        ),
       drawn ? saver('plan.svg', () => drawn, 'image/svg+xml') : '',
       el('button', { type: 'button', onclick: () => print() }, 'Print')
     )
@@ -236,14 +319,21 @@ function saves(shown, instance, drawn) {
 }
 
 function showTrouble(error, change) {
-  const lines = error instanceof BadTable ? error.lines : [
-    WHY[error.status] || 'The run failed.', ...(error.message && error.message !== error.status ? [error.message] : [])
-  ];
-  const back = change && change.undo ? el('button', { type: 'button', onclick: change.undo }, 'Take it back') : null;
+  const lines = error instanceof BadTable
+    ? error.lines
+    : [
+      WHY[error.status] || 'The run failed.',
+      ...(error.message && error.message !== error.status ? [error.message] : []),
+    ];
+  const back = change && change.undo
+    ? el('button', { type: 'button', onclick: change.undo }, 'Take it back')
+    : null;
   grids = [];
   replaceResult(
     el(
-      'h2', { class: 'none', role: 'status', tabindex: -1 }, error instanceof BadTable ? 'The tables can’t be read as meant' : 'No answer'
+      'h2',
+      { class: 'none', role: 'status', tabindex: -1 },
+      error instanceof BadTable ? 'The tables can’t be read as meant' : 'No answer'
     ),
     change && paragraph(change.what),
     lines.map((line) => el('div', { class: 'finding' }, paragraph(line))),
@@ -255,22 +345,43 @@ function showTrouble(error, change) {
 // ---- The beginning
 
 function begin() {
-  JSON.parse($('examples').textContent).forEach(({ name }, k) => $('example').append(el('option', { value: k }, name)));
-  $('example').onchange = () => { if ($('example').value !== '') { example(Number($('example').value)); go(); } };
-  for (const radio of document.querySelectorAll('input[name=kind]')) radio.onchange = () => chooseKind(radio.value);
-  for (const id of Object.keys(FIELDS)) $(id).oninput = () => { files[id] = files[id] && { name: files[id].name }; };
+  JSON.parse($('examples').textContent)
+    .forEach(({ name }, k) => $('example').append(el('option', { value: k }, name)));
+  $('example').onchange = () => {
+    if ($('example').value !== '') { example(Number($('example').value)); go(); }
+  };
+  for (const radio of document.querySelectorAll('input[name=kind]')) {
+    radio.onchange = () => chooseKind(radio.value);
+  }
+  for (const id of Object.keys(FIELDS)) {
+    $(id).oninput = () => { files[id] = files[id] && { name: files[id].name }; };
+  }
   $('input').onsubmit = (event) => { event.preventDefault(); go(); };
   $('files').onchange = () => take($('files').files);
-  addEventListener('dragover', (event) => { event.preventDefault(); document.body.classList.add('over'); });
-  addEventListener('dragleave', (event) => { if (!event.relatedTarget) document.body.classList.remove('over'); });
-  addEventListener('drop', (event) => { event.preventDefault(); document.body.classList.remove('over'); take(event.dataTransfer.files); });
-  addEventListener('keydown', (event) => { if (event.key === 'Enter' && (event.ctrlKey || event.metaKey) && !busy) go(); });
+  addEventListener('dragover', (event) => {
+    event.preventDefault();
+    document.body.classList.add('over');
+  });
+  addEventListener('dragleave', (event) => {
+    if (!event.relatedTarget) document.body.classList.remove('over');
+  });
+  addEventListener('drop', (event) => {
+    event.preventDefault();
+    document.body.classList.remove('over');
+    take(event.dataTransfer.files);
+  });
+  addEventListener('keydown', (event) => {
+    if (event.key === 'Enter' && (event.ctrlKey || event.metaKey) && !busy) go();
+  });
   addEventListener('beforeprint', () => grids.forEach((grid) => grid.fill(true, true)));
   addEventListener('afterprint', () => grids.forEach((grid) => grid.settle()));
   example(JSON.parse($('examples').textContent).findIndex(({ name }) => name === 'transport'));
   try {
     solver = new Client($('worker').textContent, $('module').textContent.trim());
-    solver.ready.then(() => { document.body.dataset.ready = 'yes'; }, () => { $('support').hidden = false; });
+    solver.ready.then(
+      () => { document.body.dataset.ready = 'yes'; },
+      () => { $('support').hidden = false; }
+    );
   } catch { $('support').hidden = false; }
 }
 

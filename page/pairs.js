@@ -3,44 +3,76 @@ import { TOLD_NAMES, countOf, listed } from './faults.js';
 import { Lines, Network } from './network.js';
 import { PAIR_HEADS } from './roster.js';
 
-// Nodes are the persons, then the things; arc k is the k-th pair. After them, one node more: from it an arc leads to each person, which
-// carries how many it takes, and one from each thing, which carries how many it needs.
+// Nodes are the persons, then the things; arc k is the k-th pair. After them, one node more: from
+// it an arc leads to each person, which carries how many it takes, and one from each thing, which
+// carries how many it needs.
 export class RosterNet extends Network {
   constructor(roster) {
     let { takes, needs } = roster;
-    // As many persons as things, none has more than one, and all of one side have to have one: so have all of the other.
-    const isAssignment = takes.length === needs.length && [...takes, ...needs].every(([, most]) => most === 1n)
+    // As many persons as things, none has more than one, and all of one side have to have one: so
+    // have all of the other.
+    const isAssignment =
+      takes.length === needs.length
+      && [...takes, ...needs].every(([, most]) => most === 1n)
       && [takes, needs].some((side) => side.every(([least]) => least === 1n));
     if (isAssignment) takes = needs = takes.map(() => [1n, 1n]);
     const persons = takes.length, hub = persons + needs.length + 1;
-    const arcs = roster.pairs.map((pair) => ({ tail: pair.who, head: persons + pair.what, least: 0n, most: 1n, cost: pair.cost }));
-    takes.forEach(([least, most], k) => arcs.push({ tail: hub, head: k + 1, least, most, cost: 0n }));
-    needs.forEach(([least, most], k) => arcs.push({ tail: persons + k + 1, head: hub, least, most, cost: 0n }));
+    const arcs = roster.pairs.map((pair) => ({
+      tail: pair.who,
+      head: persons + pair.what,
+      least: 0n,
+      most: 1n,
+      cost: pair.cost,
+    }));
+    takes.forEach(([least, most], k) =>
+      arcs.push({ tail: hub, head: k + 1, least, most, cost: 0n })
+    );
+    needs.forEach(([least, most], k) =>
+      arcs.push({ tail: persons + k + 1, head: hub, least, most, cost: 0n })
+    );
     super(new Array(hub).fill(0n), arcs);
     Object.assign(this, { roster, isAssignment, persons, hub });
   }
 
-  // The network as text, with where its lines come from; an assignment in its own form, which has no such node more.
+  // The network as text, with where its lines come from; an assignment in its own form, which has
+  // no such node more.
   instance() {
-    const { table, pairs, units } = this.roster, arcs = pairs.map((pair) => ({ table, line: pair.line, columns: { cost: pair.column } }));
-    const sizes = [{ table, line: table.headLine, columns: { size: 1 } }], made = new Lines(this.isAssignment ? 'asn' : 'min');
-    made.add(['c nodes are the persons, then the things; the k-th arc is the k-th pair', units.comment()]);
+    const { table, pairs, units } = this.roster;
+    const arcs = pairs.map((pair) => ({ table, line: pair.line, columns: { cost: pair.column } }));
+    const sizes = [{ table, line: table.headLine, columns: { size: 1 } }];
+    const made = new Lines(this.isAssignment ? 'asn' : 'min');
+    made.add([
+      'c nodes are the persons, then the things; the k-th arc is the k-th pair',
+      units.comment(),
+    ]);
     if (this.isAssignment) {
       made.add([`p asn ${2 * this.persons} ${arcs.length}`], sizes);
       made.add(this.roster.persons.names.map((_, k) => `n ${k + 1}`));
-      made.add(this.arcs.slice(0, arcs.length).map((arc) => `a ${arc.tail} ${arc.head} ${arc.cost}`), arcs);
-    } else {
-      const ranges = this.arcs.slice(arcs.length).map(
-        (arc) => ({ table, line: table.headLine, columns: { bound: arc.tail === this.hub ? 'takes' : 'needs' } })
+      made.add(
+        this.arcs.slice(0, arcs.length).map((arc) => `a ${arc.tail} ${arc.head} ${arc.cost}`),
+        arcs
       );
+    } else {
+      const ranges = this.arcs
+        .slice(arcs.length)
+        .map((arc) => ({
+          table,
+          line: table.headLine,
+          columns: { bound: arc.tail === this.hub ? 'takes' : 'needs' },
+        }));
       made.add(this.lines(), [...sizes, ...this.supplies.map(() => null), ...arcs, ...ranges]);
     }
     return made;
   }
 
-  name(node) { return node <= this.persons ? this.roster.persons.names[node - 1] : this.roster.things.names[node - 1 - this.persons]; }
+  name(node) {
+    return node <= this.persons
+      ? this.roster.persons.names[node - 1]
+      : this.roster.things.names[node - 1 - this.persons];
+  }
 
-  // A bottleneck with the things (or persons) beside it that limit it no less than the pairs that lead to them do.
+  // A bottleneck with the things (or persons) beside it that limit it no less than the pairs that
+  // lead to them do.
   whole(found) {
     const count = this.roster.pairs.length, outside = new Map(), nodes = new Set(found.nodes);
     for (const k of found.limiting) {
@@ -55,31 +87,46 @@ export class RosterNet extends Network {
     return this.bottleneck(found.side, nodes);
   }
 
-  // Those who must, with how many at least; and those by whom they can, with how many at most; and the pairs by which they can.
+  // Those who must, with how many at least; and those by whom they can, with how many at most; and
+  // the pairs by which they can.
   sides({ forcing, limiting }) {
-    const count = this.roster.pairs.length, node = (k) => (this.arcs[k].tail === this.hub ? this.arcs[k].head : this.arcs[k].tail);
-    return { must: forcing.filter((k) => k >= count).map((k) => [node(k), this.arcs[k].least]),
-      can: limiting.filter((k) => k >= count).map((k) => [node(k), this.arcs[k].most]), pairs: limiting.filter((k) => k < count) };
+    const count = this.roster.pairs.length;
+    const node = (k) => (this.arcs[k].tail === this.hub ? this.arcs[k].head : this.arcs[k].tail);
+    return {
+      must: forcing.filter((k) => k >= count).map((k) => [node(k), this.arcs[k].least]),
+      can: limiting.filter((k) => k >= count).map((k) => [node(k), this.arcs[k].most]),
+      pairs: limiting.filter((k) => k < count),
+    };
   }
 }
 
 // These persons compete for too few things, or these things want too few persons.
 function rivalsSentence(net, found) {
-  const { must, can, pairs } = net.sides(found), names = must.map(([node]) => net.name(node)), others = can.map(([node]) => net.name(node));
+  const { must, can, pairs } = net.sides(found);
+  const names = must.map(([node]) => net.name(node));
+  const others = can.map(([node]) => net.name(node));
   const isSend = found.side === 'send';
-  if (!can.length && !pairs.length) return isSend ? `${listed(names)} can get nothing.` : `Nobody may do ${listed(names)}.`;
+  if (!can.length && !pairs.length) {
+    return isSend ? `${listed(names)} can get nothing.` : `Nobody may do ${listed(names)}.`;
+  }
   if (!pairs.length && [...must, ...can].every(([, number]) => number === 1n)) {
     return isSend
-      ? `${must.length} persons compete for ${countOf(can.length, 'thing', 'things')}: ${listed(names)} can only get ${listed(others)}.`
-      : `${must.length} things want for ${countOf(can.length, 'person', 'persons')}: only ${listed(others)} may do ${listed(names)}.`;
+      ? `${must.length} persons compete for ${countOf(can.length, 'thing', 'things')}: `
+        + `${listed(names)} can only get ${listed(others)}.`
+      : `${must.length} things want for ${countOf(can.length, 'person', 'persons')}: `
+        + `only ${listed(others)} may do ${listed(names)}.`;
   }
   const parts = [...can.map(([node, number]) => `${net.name(node)} (${number})`),
     ...pairs.map((k) => `${net.name(net.arcs[k].tail)} with ${net.name(net.arcs[k].head)}`)];
-  const verbs = isSend ? ['must take', 'can take'] : [must.length > 1 ? 'need' : 'needs', 'can get'];
-  return `${listed(names)} ${verbs[0]} ${found.must}${must.length > 1 ? ' together' : ''}, and ${verbs[1]} only ${found.can}: ${listed(parts)}. Short by ${found.must - found.can}.`;
+  const verbs = isSend
+    ? ['must take', 'can take']
+    : [must.length > 1 ? 'need' : 'needs', 'can get'];
+  return `${listed(names)} ${verbs[0]} ${found.must}${must.length > 1 ? ' together' : ''}, `
+    + `and ${verbs[1]} only ${found.can}: ${listed(parts)}. Short by ${found.must - found.can}.`;
 }
 
-// Of each bottleneck the column must adds up to what persons must take (things need), the column can to what can be.
+// Of each bottleneck the column must adds up to what persons must take (things need), the column
+// can to what can be.
 export function rivalsTable(net, bottlenecks) {
   const rows = bottlenecks.flatMap((found, k) => {
     const { must, can, pairs } = net.sides(found);
@@ -88,17 +135,41 @@ export function rivalsTable(net, bottlenecks) {
     return [
       ...must.map(([node, number]) => [count, kinds[0], net.name(node), number, '']),
       ...can.map(([node, number]) => [count, kinds[1], net.name(node), '', number]),
-      ...pairs.map((pair) => [count, 'pair', `${net.name(net.arcs[pair].tail)}, ${net.name(net.arcs[pair].head)}`, '', '1'])
+      ...pairs.map((pair) => [
+        count,
+        'pair',
+        `${net.name(net.arcs[pair].tail)}, ${net.name(net.arcs[pair].head)}`,
+        '',
+        '1',
+      ]),
     ];
   });
-  return { name: 'bottleneck', like: net.roster.table, heads: ['bottleneck', 'kind', 'name', 'must', 'can'], rows, figures: [0, 3, 4] };
+  return {
+    name: 'bottleneck',
+    like: net.roster.table,
+    heads: ['bottleneck', 'kind', 'name', 'must', 'can'],
+    rows,
+    figures: [0, 3, 4],
+  };
 }
 
 // Of a list the lines of the pairs, by the persons.
 export function pairsTable(roster, chosen) {
   const { table, persons, things, units } = roster;
-  if (roster.isList) return { name: 'pairs', like: table, heads: table.titles, rows: chosen.map((pair) => pair.cells), figures: [] };
-  const rows = chosen.map((pair) => [persons.names[pair.who - 1], things.names[pair.what - 1], units.rate(pair.cost)]);
+  if (roster.isList) {
+    return {
+      name: 'pairs',
+      like: table,
+      heads: table.titles,
+      rows: chosen.map((pair) => pair.cells),
+      figures: [],
+    };
+  }
+  const rows = chosen.map((pair) => [
+    persons.names[pair.who - 1],
+    things.names[pair.what - 1],
+    units.rate(pair.cost),
+  ]);
   return { name: 'pairs', like: table, heads: PAIR_HEADS, rows, figures: [2] };
 }
 
@@ -108,13 +179,21 @@ export function chosenOf(roster, { flows }) {
 }
 
 export function pairsSummary(roster, chosen, cost) {
-  const [which, word] = roster.units.sign < 0n ? ['Pairs of the greatest value', 'value'] : ['Least-cost pairs', 'cost'];
+  const [which, word] = roster.units.sign < 0n
+    ? ['Pairs of the greatest value', 'value']
+    : ['Least-cost pairs', 'cost'];
   const lines = [
     `${which}, written by mcf and accepted by mcfcheck: ${word} ${roster.said.total(cost)}.`,
-    `${countOf(roster.persons.names.length, 'person', 'persons')}, ${countOf(roster.things.names.length, 'thing', 'things')}: ${countOf(chosen.length, 'pair', 'pairs')}.`,
+    `${countOf(roster.persons.names.length, 'person', 'persons')}, `
+      + `${countOf(roster.things.names.length, 'thing', 'things')}: `
+      + `${countOf(chosen.length, 'pair', 'pairs')}.`,
   ];
-  for (const [text, { names }, end] of [['Without a thing', roster.persons, 'who'], ['Left over', roster.things, 'what']]) {
-    const taken = new Set(chosen.map((pair) => pair[end])), left = names.filter((_, k) => !taken.has(k + 1));
+  for (const [text, { names }, end] of [
+    ['Without a thing', roster.persons, 'who'],
+    ['Left over', roster.things, 'what'],
+  ]) {
+    const taken = new Set(chosen.map((pair) => pair[end]));
+    const left = names.filter((_, k) => !taken.has(k + 1));
     if (left.length) lines.push(`${text}: ${listed(left)}.`);
   }
   return lines;
@@ -122,9 +201,16 @@ export function pairsSummary(roster, chosen, cost) {
 
 // Why there are no such pairs.
 export function rivalsLines(net, bottlenecks) {
-  const { takes, needs } = net.roster, lines = ['No such pairs exist, as mcf found and mcfcheck accepted:'];
-  for (const found of bottlenecks.slice(0, TOLD_NAMES)) lines.push(`  ${rivalsSentence(net, found)}`);
-  if (takes.length > needs.length && takes.every(([least]) => least === 1n) && needs.every(([, most]) => most === 1n)) {
+  const { takes, needs } = net.roster;
+  const lines = ['No such pairs exist, as mcf found and mcfcheck accepted:'];
+  for (const found of bottlenecks.slice(0, TOLD_NAMES)) {
+    lines.push(`  ${rivalsSentence(net, found)}`);
+  }
+  if (
+    takes.length > needs.length
+    && takes.every(([least]) => least === 1n)
+    && needs.every(([, most]) => most === 1n)
+  ) {
     lines.push('With --each what each thing would get a person, and persons may be left over.');
   }
   return lines;

@@ -6,20 +6,32 @@ import { SEPARATORS, cellAt } from './tables.js';
 
 // A table of another's columns, and of groups of results after them; the last columns are figures.
 function after(name, like, results, rows) {
-  const places = like.kept(...results), heads = [...places.map((place) => like.titles[place]), ...results.flat()];
-  return { name, like, heads, rows: rows.map(([cells, more]) => [...places.map((place) => cellAt(cells, place)), ...more]),
-    figures: heads.map((_, k) => k).slice(places.length) };
+  const places = like.kept(...results);
+  const heads = [...places.map((place) => like.titles[place]), ...results.flat()];
+  return {
+    name,
+    like,
+    heads,
+    rows: rows.map(([cells, more]) => [...places.map((place) => cellAt(cells, place)), ...more]),
+    figures: heads.map((_, k) => k).slice(places.length),
+  };
 }
 
 // The routes in their order, with the columns that they had; then what stays and what is missing.
 export function flowsTable(plan) {
-  const { problem } = plan, { units } = problem, rows = problem.routes.map((route, k) => [route.cells, cellsOf(plan, plan.routes[k])]);
+  const { problem } = plan;
+  const { units } = problem;
+  const rows = problem.routes.map((route, k) => [route.cells, cellsOf(plan, plan.routes[k])]);
   for (const isSupply of [true, false]) {
     for (const [place, amount] of plan.unmet(isSupply)) {
-      const ends = new Map([['from', isSupply ? place.name : MISSING], ['to', isSupply ? STAYS : place.name]]);
-      rows.push(
-        [problem.routeTable.heads.map((head) => ends.get(head) || ''), [units.amount(amount), isSupply ? units.total(0n) : '', '', '', '']]
-      );
+      const ends = new Map([
+        ['from', isSupply ? place.name : MISSING],
+        ['to', isSupply ? STAYS : place.name],
+      ]);
+      rows.push([
+        problem.routeTable.heads.map((head) => ends.get(head) || ''),
+        [units.amount(amount), isSupply ? units.total(0n) : '', '', '', ''],
+      ]);
     }
   }
   return after('flows', problem.routeTable, [FLOW_RESULTS], rows);
@@ -27,30 +39,60 @@ export function flowsTable(plan) {
 
 function cellsOf(plan, { carries, cost, free, saves, isExact }) {
   const { units } = plan.problem;
-  return [units.amount(carries), units.total(cost), units.amount(free), plan.rate(saves), isExact ? 'yes' : 'no'];
+  return [
+    units.amount(carries),
+    units.total(cost),
+    units.amount(free),
+    plan.rate(saves),
+    isExact ? 'yes' : 'no',
+  ];
 }
 
-// The places in their order, with the columns that they had. What a unit costs at a place is minus its price.
+// The places in their order, with the columns that they had. What a unit costs at a place is minus
+// its price.
 export function pricesTable(plan) {
   const hasBounds = plan.problem.places.some((place) => place.bounds);
   const rows = plan.problem.places.map((place, k) => {
     const { price, group, through } = plan.places[k];
-    return [place.cells, [plan.rate(price), String(group), ...(!hasBounds ? [] : through ? cellsOf(plan, through) : ['', '', '', '', ''])]];
+    return [
+      place.cells,
+      [
+        plan.rate(price),
+        String(group),
+        ...(!hasBounds ? [] : through ? cellsOf(plan, through) : ['', '', '', '', '']),
+      ],
+    ];
   });
-  return after('prices', plan.problem.placeTable, hasBounds ? [PLACE_RESULTS, THROUGH_RESULTS] : [PLACE_RESULTS], rows);
+  return after(
+    'prices',
+    plan.problem.placeTable,
+    hasBounds ? [PLACE_RESULTS, THROUGH_RESULTS] : [PLACE_RESULTS],
+    rows
+  );
 }
 
-// Of each bottleneck the column must adds up to what must be sent (or taken), the column can to what can be.
+// Of each bottleneck the column must adds up to what must be sent (or taken), the column can to
+// what can be.
 export function bottleneckTable(net, bottlenecks) {
-  const { amount } = net.problem.units, said = (number) => amount.call(net.problem.units, number), rows = [];
+  const { amount } = net.problem.units;
+  const said = (number) => amount.call(net.problem.units, number);
+  const rows = [];
   bottlenecks.forEach((found, k) => {
-    const sign = found.side === 'send' ? 1n : -1n, supplies = new Map(), begin = [String(k + 1), found.side];
+    const sign = found.side === 'send' ? 1n : -1n;
+    const supplies = new Map();
+    const begin = [String(k + 1), found.side];
     for (const node of found.nodes) supplies.set(
       net.nodeName(node), (supplies.get(net.nodeName(node)) || 0n) + sign * net.supplies[node - 1]
     );
-    for (const [name, supply] of supplies) rows.push([...begin, 'place', name, '', '', said(supply), '']);
-    for (const [arc, least] of net.amounts(found.forcing, 'least')) rows.push([...begin, ...arcCells(net, arc), said(least), '']);
-    for (const [arc, most] of net.amounts(found.limiting, 'most')) rows.push([...begin, ...arcCells(net, arc), '', said(most)]);
+    for (const [name, supply] of supplies) {
+      rows.push([...begin, 'place', name, '', '', said(supply), '']);
+    }
+    for (const [arc, least] of net.amounts(found.forcing, 'least')) {
+      rows.push([...begin, ...arcCells(net, arc), said(least), '']);
+    }
+    for (const [arc, most] of net.amounts(found.limiting, 'most')) {
+      rows.push([...begin, ...arcCells(net, arc), '', said(most)]);
+    }
   });
   return {
     name: 'bottleneck',
@@ -61,34 +103,55 @@ export function bottleneckTable(net, bottlenecks) {
   };
 }
 
-const arcCells = (net, k) => (net.uses[k].kind === 'through' ? ['through', net.ends(k)[0], '', ''] : ['route', '', ...net.ends(k)]);
+const arcCells = (net, k) => (
+  net.uses[k].kind === 'through'
+    ? ['through', net.ends(k)[0], '', '']
+    : ['route', '', ...net.ends(k)]
+);
 
-// A table as CSV, with the separator and the byte-order mark of the one that it is like, and its mark before decimals.
+// A table as CSV, with the separator and the byte-order mark of the one that it is like, and its
+// mark before decimals.
 export function csvOf({ heads, rows, like, figures }, mark) {
-  const quoted = (value) => (/["\n\r]/.test(value) || value.includes(like.separator) ? `"${value.replaceAll('"', '""')}"` : value);
-  const text = (row) => row.map(
-    (value, k) => quoted(figures.includes(k) ? String(value).replace('.', mark || '.') : String(value))
-  ).join(like.separator);
+  const quoted = (value) => (
+    /["\n\r]/.test(value) || value.includes(like.separator)
+      ? `"${value.replaceAll('"', '""')}"`
+      : value
+  );
+  const text = (row) =>
+    row
+      .map((value, k) =>
+        quoted(figures.includes(k) ? String(value).replace('.', mark || '.') : String(value))
+      )
+      .join(like.separator);
   const named = SEPARATORS.includes(like.separator) ? '' : `sep=${like.separator}\n`;
-  return `${like.mark ? '\ufeff' : ''}${named}${[heads.map(quoted).join(like.separator), ...rows.map(text)].join('\n')}\n`;
+  const lines = [heads.map(quoted).join(like.separator), ...rows.map(text)];
+  return `${like.mark ? '\ufeff' : ''}${named}${lines.join('\n')}\n`;
 }
 
 // The sums of supplies and of demands.
 export function balanceOf({ places }) {
-  return [1n, -1n].map((sign) => places.reduce((sum, place) => (sign * place.supply > 0n ? sum + sign * place.supply : sum), 0n));
+  return [1n, -1n].map((sign) =>
+    places.reduce((sum, place) => (sign * place.supply > 0n ? sum + sign * place.supply : sum), 0n)
+  );
 }
 
 // What looks like a slip of the tables, though they can be read.
 export function slips({ problem, policy }) {
   const [supply, demand] = balanceOf(problem), { places, placeTable } = problem;
-  if (supply && !demand) return [
-    `no supply is below 0, so no place takes anything${policy.unused ? ', and all that is sent stays' : ''}: was demand written as a `
-      + 'positive number?'
-  ];
-  if (demand && !supply) return [
-    `no supply is above 0, so no place sends anything${policy.short ? ', and all that is taken is missing' : ''}: was supply written as a `
-      + 'negative number?'
-  ];
+  if (supply && !demand) {
+    const stays = policy.unused ? ', and all that is sent stays' : '';
+    return [
+      `no supply is below 0, so no place takes anything${stays}: `
+        + 'was demand written as a positive number?',
+    ];
+  }
+  if (demand && !supply) {
+    const missing = policy.short ? ', and all that is taken is missing' : '';
+    return [
+      `no supply is above 0, so no place sends anything${missing}: `
+        + 'was supply written as a negative number?',
+    ];
+  }
   const column = placeTable.heads.indexOf('supply');
   if (!supply && places.some(({ cells }) => !cellAt(cells, column))) {
     return ['all supplies are empty or 0, so no place sends or takes anything: was one forgotten?'];
@@ -102,18 +165,26 @@ export function balanceSentence(problem) {
   const [more, less, cure] = supply > demand ? ['supply', 'demand', '--unused allow lets it stay']
     : ['demand', 'supply', '--short allow lets it be short'];
   const gap = supply > demand ? supply - demand : demand - supply;
-  return `${more} exceeds ${less} by ${said(gap)}: the supplies add to ${said(supply)}, the demands to ${said(demand)}, and they must be equal (${cure}).`;
+  return `${more} exceeds ${less} by ${said(gap)}: the supplies add to ${said(supply)}, `
+    + `the demands to ${said(demand)}, and they must be equal (${cure}).`;
 }
 
 // These places must send (or take) N, and can only M, over these routes: short by N - M.
 export function bottleneckSentence(net, found) {
-  const said = (number) => net.problem.said.amount(number), places = [...new Set(found.nodes.map((node) => net.nodeName(node)))];
-  const routes = (arcs, bound) => listed(net.amounts(arcs, bound).map(([k, number]) => (
-    `${net.uses[k].kind === 'through' ? `through ${net.ends(k)[0]}` : net.ends(k).join(' -> ')} (${said(number)})`)));
-  let must = `${listed(places)}${places.length > 1 ? ' together' : ''} must ${found.side} ${said(found.must)}`;
+  const said = (number) => net.problem.said.amount(number);
+  const places = [...new Set(found.nodes.map((node) => net.nodeName(node)))];
+  const routeName = (k) =>
+    net.uses[k].kind === 'through' ? `through ${net.ends(k)[0]}` : net.ends(k).join(' -> ');
+  const routes = (arcs, bound) =>
+    listed(net.amounts(arcs, bound).map(([k, number]) => `${routeName(k)} (${said(number)})`));
+  const who = `${listed(places)}${places.length > 1 ? ' together' : ''}`;
+  let must = `${who} must ${found.side} ${said(found.must)}`;
   if (found.forcing.length) must += ` (with the least of ${routes(found.forcing, 'least')})`;
-  if (!found.limiting.length) return `${must}, and no route ${found.side === 'send' ? 'leads away' : 'leads there'}.`;
-  return `${must}, and can ${found.side} only ${said(found.can)}, over ${routes(found.limiting, 'most')}. Short by ${said(found.must - found.can)}.`;
+  if (!found.limiting.length) {
+    return `${must}, and no route ${found.side === 'send' ? 'leads away' : 'leads there'}.`;
+  }
+  return `${must}, and can ${found.side} only ${said(found.can)}, `
+    + `over ${routes(found.limiting, 'most')}. Short by ${said(found.must - found.can)}.`;
 }
 
 // Why there is no plan.
@@ -121,9 +192,13 @@ export function blockedSummary({ net, eased, isUnbalanced, bottlenecks }) {
   const lines = ['No plan exists, as mcf found and mcfcheck accepted:'];
   if (isUnbalanced) lines.push(`  ${balanceSentence(net.problem)}`);
   if (isUnbalanced && bottlenecks.length) {
-    lines.push(`Even if that ${net.total() > 0n ? 'stays' : 'is short'}, no plan exists, as mcf found and mcfcheck accepted:`);
+    const eases = net.total() > 0n ? 'stays' : 'is short';
+    lines.push(`Even if that ${eases}, no plan exists, as mcf found and mcfcheck accepted:`);
   }
-  return [...lines, ...bottlenecks.slice(0, TOLD_NAMES).map((found) => `  ${bottleneckSentence(eased, found)}`)];
+  return [
+    ...lines,
+    ...bottlenecks.slice(0, TOLD_NAMES).map((found) => `  ${bottleneckSentence(eased, found)}`),
+  ];
 }
 
 // What a person wants to know of a plan first.
@@ -131,23 +206,45 @@ export function flowSummary(plan) {
   const { problem } = plan;
   const carrying = plan.routes.filter((result) => result.carries).length;
   const full = plan.routes.filter((result) => result.free === 0n).length;
-  const passing = plan.places.reduce((sum, { through }) => (through ? sum + through.cost : sum), 0n), saving = savingsOf(plan);
-  const lines = [`A least-cost plan, written by mcf and accepted by mcfcheck: cost ${problem.said.total(plan.cost)}.`,
-    `${countOf(problem.places.length, 'place', 'places')}, ${countOf(problem.routes.length, 'route', 'routes')}: `
-      + `${carrying} ${carrying === 1 ? 'carries' : 'carry'} something, ${full} ${full === 1 ? 'is' : 'are'} full.`, ...unmetLines(plan)];
+  const passing = plan.places.reduce(
+    (sum, { through }) => (through ? sum + through.cost : sum),
+    0n
+  );
+  const saving = savingsOf(plan);
+  const cost = problem.said.total(plan.cost);
+  const lines = [
+    `A least-cost plan, written by mcf and accepted by mcfcheck: cost ${cost}.`,
+    `${countOf(problem.places.length, 'place', 'places')}, `
+      + `${countOf(problem.routes.length, 'route', 'routes')}: `
+      + `${carrying} ${carrying === 1 ? 'carries' : 'carry'} something, `
+      + `${full} ${full === 1 ? 'is' : 'are'} full.`,
+    ...unmetLines(plan),
+  ];
   if (passing) lines.push(`Passing through places costs ${problem.said.total(passing)} of that.`);
   if (saving.length) lines.push('One more unit of room would save most on:');
-  return [...lines, ...saving.slice(0, 5).map(({ ends, result }) => `  ${ends.join(' -> ')}: ${savedText(plan, result)}`)];
+  return [
+    ...lines,
+    ...saving
+      .slice(0, 5)
+      .map(({ ends, result }) => `  ${ends.join(' -> ')}: ${savedText(plan, result)}`),
+  ];
 }
 
-export const savedText = (plan, { saves, isExact }) => `${isExact ? '' : 'at most '}${plan.problem.said.text(plan.rate(saves))}`;
+export const savedText = (plan, { saves, isExact }) =>
+  `${isExact ? '' : 'at most '}${plan.problem.said.text(plan.rate(saves))}`;
 
 // The routes and the places where more room would save, the greatest savings first.
 export function savingsOf(plan) {
-  const { problem } = plan, found = problem.routes.map((route, k) => ({ ends: problem.ends(route), result: plan.routes[k] }));
-  problem.places.forEach(
-    (place, k) => { if (plan.places[k].through) found.push({ ends: [place.name, THROUGH], result: plan.places[k].through }); }
-  );
+  const { problem } = plan;
+  const found = problem.routes.map((route, k) => ({
+    ends: problem.ends(route),
+    result: plan.routes[k],
+  }));
+  problem.places.forEach((place, k) => {
+    if (plan.places[k].through) {
+      found.push({ ends: [place.name, THROUGH], result: plan.places[k].through });
+    }
+  });
   return found.filter(({ result }) => result.saves).sort(
     (a, b) => (a.result.saves < b.result.saves ? 1 : a.result.saves > b.result.saves ? -1 : 0)
   );
@@ -155,13 +252,19 @@ export function savingsOf(plan) {
 
 // What stays and what is missing.
 function unmetLines(plan) {
-  const { amount } = plan.problem.said, said = (number) => amount.call(plan.problem.said, number), { policy } = plan.net, lines = [];
+  const { amount } = plan.problem.said;
+  const said = (number) => amount.call(plan.problem.said, number);
+  const { policy } = plan.net;
+  const lines = [];
   for (const isSupply of [true, false]) {
     if (!policy[isSupply ? 'unused' : 'short']) continue;
-    const found = plan.unmet(isSupply), total = said(found.reduce((sum, [, unmet]) => sum + unmet, 0n));
+    const found = plan.unmet(isSupply);
+    const total = said(found.reduce((sum, [, unmet]) => sum + unmet, 0n));
     const where = listed(found.map(([place, unmet]) => `${place.name} ${said(unmet)}`));
     lines.push(
-      found.length ? `${total} ${isSupply ? 'stay' : 'are missing'} at: ${where}.` : `Nothing ${isSupply ? 'stays' : 'is missing'}.`
+      found.length
+        ? `${total} ${isSupply ? 'stay' : 'are missing'} at: ${where}.`
+        : `Nothing ${isSupply ? 'stays' : 'is missing'}.`
     );
   }
   return lines;

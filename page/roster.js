@@ -1,4 +1,5 @@
-// Persons, things and the pairs of them that may be, as tables have them: a list with the columns who, what and cost, or a matrix.
+// Persons, things and the pairs of them that may be, as tables have them: a list with the columns
+// who, what and cost, or a matrix.
 import { Numbers, Said, Units, decimalsOf, scaled } from './amounts.js';
 import { Faults, at, countOf, shown } from './faults.js';
 import { Heads, carriedLines } from './heads.js';
@@ -10,9 +11,12 @@ const PAIRS = new Heads([...PAIR_HEADS, 'takes', 'needs']);
 const FORBIDDEN = ['', 'x', '-', '–', '—'];
 const RANGE = /^([0-9]{1,18})(?:\s*(?:-|–|\.\.|to|bis)\s*([0-9]{1,18}))?$/;
 
-// The persons, or the things, each numbered from 1 in the order in which they come; how many each may have, where that is said.
+// The persons, or the things, each numbered from 1 in the order in which they come; how many each
+// may have, where that is said.
 class Side {
-  constructor(head) { Object.assign(this, { head, names: [], numbers: new Map(), said: new Map() }); }
+  constructor(head) {
+    Object.assign(this, { head, names: [], numbers: new Map(), said: new Map() });
+  }
 
   // The number of a name, which is new or was there.
   number(name) {
@@ -33,12 +37,17 @@ class Side {
     const before = this.said.get(number);
     if (!before) this.said.set(number, found.slice(1));
     else if (before[0] !== found[1] || before[1] !== found[2]) {
-      faults.add(where, 'two ranges', `${shown(this.names[number - 1])} has two different numbers: this is ${shown(cell)}`, cell);
+      faults.add(
+        where,
+        'two ranges',
+        `${shown(this.names[number - 1])} has two different numbers: this is ${shown(cell)}`,
+        cell
+      );
     }
   }
 
-  // How many one gets, at least and at most: just one of those that each have to, else at most one; or what was said. One number alone is
-  // all that a thing needs, and the most that a person takes.
+  // How many one gets, at least and at most: just one of those that each have to, else at most one;
+  // or what was said. One number alone is all that a thing needs, and the most that a person takes.
   rangeOf(number, isEach) {
     const said = this.said.get(number);
     if (!said) return [isEach ? 1n : 0n, 1n];
@@ -48,7 +57,8 @@ class Side {
   }
 }
 
-// The pairs of a table { name, text } or { name, bytes }, their costs in whole numbers, and how many each person takes and each thing needs.
+// The pairs of a table { name, text } or { name, bytes }, their costs in whole numbers, and how
+// many each person takes and each thing needs.
 export class Roster {
   constructor(source, reading = {}, each = null, maximise = false) {
     const faults = new Faults();
@@ -59,12 +69,16 @@ export class Roster {
     this.persons = new Side('takes');
     this.things = new Side('needs');
     this.isList = PAIR_HEADS.filter((head) => this.table.heads.includes(head)).length > 1;
-    const found = this.isList ? this.listed(faults) : this.matrix(faults), sign = maximise ? -1n : 1n;
+    const found = this.isList ? this.listed(faults) : this.matrix(faults);
+    const sign = maximise ? -1n : 1n;
     this.checkRead(faults);
     faults.end();
     this.units = new Units(0, decimalsOf(found.map((pair) => pair.cost)), sign);
     this.said = new Said(this.units, this.numbers.mark);
-    this.pairs = found.map((pair) => ({ ...pair, cost: sign * scaled(pair.cost, this.units.costs) }));
+    this.pairs = found.map((pair) => ({
+      ...pair,
+      cost: sign * scaled(pair.cost, this.units.costs),
+    }));
     const side = each || (this.persons.said.size || this.things.said.size ? 'what' : 'who');
     this.takes = this.persons.names.map((_, k) => this.persons.rangeOf(k + 1, side !== 'what'));
     this.needs = this.things.names.map((_, k) => this.things.rangeOf(k + 1, side !== 'who'));
@@ -72,15 +86,26 @@ export class Roster {
 
   // Notes that no person or no thing is read, with what is.
   checkRead(faults) {
-    const { table } = this, word = !this.things.names.length ? 'thing' : !this.persons.names.length ? 'person' : '';
+    const { table } = this;
+    const word = !this.things.names.length ? 'thing' : !this.persons.names.length ? 'person' : '';
     if (!word) return;
-    faults.add(at(table, table.headLine), 'nothing', `no ${word} is read: the heads are ${table.headsText()}, with ${
-      countOf(table.rows.length, 'line', 'lines')} below; a list has the columns who, what and cost, a matrix things in its first line and `
-      + 'persons in its first column');
+    faults.add(
+      at(table, table.headLine),
+      'nothing',
+      `no ${word} is read: the heads are ${table.headsText()}, `
+        + `with ${countOf(table.rows.length, 'line', 'lines')} below; `
+        + 'a list has the columns who, what and cost, '
+        + 'a matrix things in its first line and persons in its first column'
+    );
   }
 
   // Lines on how the table was read. All columns of a matrix are used.
-  told() { return [...(this.isList ? carriedLines(PAIRS.carried(this.table)) : []), ...this.numbers.told()]; }
+  told() {
+    return [
+      ...(this.isList ? carriedLines(PAIRS.carried(this.table)) : []),
+      ...this.numbers.told(),
+    ];
+  }
 
   listed(faults) {
     const { table } = this;
@@ -99,23 +124,45 @@ export class Roster {
       nameIn(table, line, 'who', who, faults);
       nameIn(table, line, 'what', what, faults);
       const ends = [this.persons.number(who), this.things.number(what)];
-      if (who && what) once(at(table, line, 'what'), ends.join(' '), `the pair of ${shown(who)} and ${shown(what)}`, seen, faults, '');
+      if (who && what) {
+        once(
+          at(table, line, 'what'),
+          ends.join(' '),
+          `the pair of ${shown(who)} and ${shown(what)}`,
+          seen,
+          faults,
+          ''
+        );
+      }
       this.persons.say(at(table, line, 'takes'), ends[0], cellAt(cells, takes), faults);
       this.things.say(at(table, line, 'needs'), ends[1], cellAt(cells, needs), faults);
       if (FORBIDDEN.includes(fold(cost))) continue;
-      pairs.push({ who: ends[0], what: ends[1], cost: this.numbers.read(table, line, 'cost', cost, faults), line, column: 'cost', cells });
+      pairs.push({
+        who: ends[0],
+        what: ends[1],
+        cost: this.numbers.read(table, line, 'cost', cost, faults),
+        line,
+        column: 'cost',
+        cells,
+      });
     }
     return pairs;
   }
 
   // A person each row, a thing each column; perhaps a column takes and a row needs.
   matrix(faults) {
-    const { table } = this, takes = table.perhaps('takes'), things = this.matrixThings(faults), pairs = [], seen = new Map();
+    const { table } = this;
+    const takes = table.perhaps('takes');
+    const things = this.matrixThings(faults);
+    const pairs = [];
+    const seen = new Map();
     this.numbers.look(table, things.map(({ place }) => place));
     this.numbers.settle(faults);
     for (const { line, cells } of table.rows) {
       if (fold(cells[0]) === 'needs') {
-        for (const { place, what } of things) this.things.say(at(table, line, place + 1), what, cellAt(cells, place), faults);
+        for (const { place, what } of things) {
+          this.things.say(at(table, line, place + 1), what, cellAt(cells, place), faults);
+        }
         continue;
       }
       const name = nameIn(table, line, 1, cells[0], faults);
@@ -124,7 +171,13 @@ export class Roster {
       this.persons.say(at(table, line, 'takes'), who, cellAt(cells, takes), faults);
       for (const { place, what } of things) {
         if (FORBIDDEN.includes(fold(cellAt(cells, place)))) continue;
-        pairs.push({ who, what, cost: this.numbers.read(table, line, place + 1, cells[place], faults), line, column: place + 1 });
+        pairs.push({
+          who,
+          what,
+          cost: this.numbers.read(table, line, place + 1, cells[place], faults),
+          line,
+          column: place + 1,
+        });
       }
     }
     return pairs;
@@ -134,9 +187,19 @@ export class Roster {
   matrixThings(faults) {
     const { table } = this, found = [], seen = new Map();
     table.titles.forEach((title, place) => {
-      if (!place || table.heads[place] === 'takes' || !(title || table.rows.some(({ cells }) => cellAt(cells, place)))) return;
+      if (
+        !place
+        || table.heads[place] === 'takes'
+        || !(title || table.rows.some(({ cells }) => cellAt(cells, place)))
+      ) return;
       nameIn(table, table.headLine, place + 1, title, faults);
-      once(at(table, table.headLine, place + 1), keyOf(title), `a thing ${shown(title)}`, seen, faults);
+      once(
+        at(table, table.headLine, place + 1),
+        keyOf(title),
+        `a thing ${shown(title)}`,
+        seen,
+        faults
+      );
       found.push({ place, what: this.things.number(title) });
     });
     return found;

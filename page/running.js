@@ -1,5 +1,13 @@
-// From what was put in to what is shown: tables or a text are read, solved, and told. Nothing is told of an answer that wasn't accepted.
-import { blockedShown, pairsBlocked, pairsShown, planShown, textBlocked, textShown } from './sheets.js';
+// From what was put in to what is shown: tables or a text are read, solved, and told. Nothing is
+// told of an answer that wasn't accepted.
+import {
+  blockedShown,
+  pairsBlocked,
+  pairsShown,
+  planShown,
+  textBlocked,
+  textShown,
+} from './sheets.js';
 import { FlowNet, FlowPlan } from './flownet.js';
 import { Problem } from './model.js';
 import { networkOf } from './network.js';
@@ -8,7 +16,8 @@ import { Roster } from './roster.js';
 import { NoAnswer, blockedOf, bottlenecksOf, linesOf, planOf, solve } from './solving.js';
 import { CODES } from './words.js';
 
-// Of more bytes than this a text's tables aren't shown, but what it costs; of more arcs the set that the answer names is told as it is.
+// Of more bytes than this a text's tables aren't shown, but what it costs; of more arcs the set
+// that the answer names is told as it is.
 const TABLES = 3e7, SEARCHED = 100000;
 
 // Places and routes.
@@ -17,7 +26,13 @@ export async function runFlow(solver, sources, { reading, policy, engine }) {
   const net = new FlowNet(problem, policy);
   const instance = net.instance();
   const { text, result, plan } = await solve(solver, instance, net, engine);
-  if (!plan) return { ...blockedShown(await blockedOf(solver, text, net)), result, instance: { name: instance.name, text } };
+  if (!plan) {
+    return {
+      ...blockedShown(await blockedOf(solver, text, net)),
+      result,
+      instance: { name: instance.name, text },
+    };
+  }
   const found = new FlowPlan(net, plan);
   return { ...planShown(found), plan: found, result, instance: { name: instance.name, text } };
 }
@@ -34,22 +49,44 @@ export async function runPairs(solver, source, { reading, each, maximise, engine
 }
 
 // What is told of a text without tables.
-const withoutTables = (isPlan, headline, line, result, instance) => (
-  { isPlan, headline, lead: [line], facts: [], findings: [], scene: null, sheets: [], tables: () => [], result, instance }
-);
+const withoutTables = (isPlan, headline, line, result, instance) => ({
+  isPlan,
+  headline,
+  lead: [line],
+  facts: [],
+  findings: [],
+  scene: null,
+  sheets: [],
+  tables: () => [],
+  result,
+  instance,
+});
 
 // A DIMACS text, as bytes.
 export async function runText(solver, bytes, { engine }) {
-  const result = await solver.solve(bytes, engine), instance = { name: 'instance.min', text: bytes };
+  const result = await solver.solve(bytes, engine);
+  const instance = { name: 'instance.min', text: bytes };
   if (result.status === 'rejected') throw new NoAnswer('rejected', result.verdict);
   if (result.status === 'refused') {
     const [line, code] = linesOf(result.answer, 'r')[0];
-    return withoutTables(false, ['This text is refused', ''], `Line ${line}: ${CODES[code] || code} (${code}).`, result, instance);
+    return withoutTables(
+      false,
+      ['This text is refused', ''],
+      `Line ${line}: ${CODES[code] || code} (${code}).`,
+      result,
+      instance
+    );
   }
   if (bytes.length > TABLES) {
     const cost = linesOf(result.answer, 's')[0];
     const headline = cost ? ['Least cost: ', cost[0]] : ['No flow exists', ''];
-    return withoutTables(Boolean(cost), headline, 'It is too large for tables here; the answer is a text.', result, instance);
+    return withoutTables(
+      Boolean(cost),
+      headline,
+      'It is too large for tables here; the answer is a text.',
+      result,
+      instance
+    );
   }
   const network = networkOf(new TextDecoder().decode(bytes));
   if (network.isAssignment) instance.name = 'instance.asn';
@@ -58,9 +95,15 @@ export async function runText(solver, bytes, { engine }) {
   return { ...shown, result, instance };
 }
 
-// The bottlenecks of a text: where its supplies add to 0 and it isn't large they are sought, else the answer's set is told.
+// The bottlenecks of a text: where its supplies add to 0 and it isn't large they are sought, else
+// the answer's set is told.
 async function blockersOf(solver, bytes, answer, network) {
   const total = network.supplies.reduce((sum, supply) => sum + supply, 0n);
   if (total === 0n && network.arcs.length <= SEARCHED) return bottlenecksOf(solver, bytes, network);
-  return [network.bottleneck(linesOf(answer, 'i')[0][1], new Set(linesOf(answer, 'x').map(([node]) => Number(node))))];
+  return [
+    network.bottleneck(
+      linesOf(answer, 'i')[0][1],
+      new Set(linesOf(answer, 'x').map(([node]) => Number(node)))
+    ),
+  ];
 }

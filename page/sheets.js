@@ -1,6 +1,16 @@
-// What is shown of an answer: a headline, what leads to it, facts, findings, a scene, and tables to look at and to save.
+// What is shown of an answer: a headline, what leads to it, facts, findings, a scene, and tables to
+// look at and to save.
 import { pairsSummary, pairsTable, rivalsLines, rivalsTable } from './pairs.js';
-import { balanceOf, bottleneckSentence, bottleneckTable, flowSummary, flowsTable, pricesTable, savingsOf, slips } from './report.js';
+import {
+  balanceOf,
+  bottleneckSentence,
+  bottleneckTable,
+  flowSummary,
+  flowsTable,
+  pricesTable,
+  savingsOf,
+  slips,
+} from './report.js';
 import { listed } from './faults.js';
 import { size } from './model.js';
 import { allBottlenecks } from './solving.js';
@@ -13,18 +23,31 @@ const number = (head, meaning, more = {}) => column(head, meaning, { number: tru
 const USED = ['from', 'to', 'least', 'most', 'cost', 'name', 'supply', 'x', 'y'];
 
 // A sheet of rows that are there.
-const sheetOf = (title, columns, rows, more = {}) => (
-  { title, columns, count: rows.length, row: (k) => rows[k], hasIdle: rows.some(({ kind }) => kind === 'idle'), ...more }
-);
+const sheetOf = (title, columns, rows, more = {}) => ({
+  title,
+  columns,
+  count: rows.length,
+  row: (k) => rows[k],
+  hasIdle: rows.some(({ kind }) => kind === 'idle'),
+  ...more,
+});
 
 // The columns of a table that are the planner's own.
-const ownColumns = (table) => table.heads.map((_, place) => place).filter((place) => !USED.includes(table.heads[place]));
+const ownColumns = (table) =>
+  table.heads.map((_, place) => place).filter((place) => !USED.includes(table.heads[place]));
 const ownOf = (table) => ownColumns(table).map((place) => column(table.titles[place]));
 
 export function planShown(plan) {
-  const { problem } = plan, { units, said } = problem, carrying = plan.routes.filter((result) => result.carries).length;
+  const { problem } = plan;
+  const { units, said } = problem;
+  const carrying = plan.routes.filter((result) => result.carries).length;
   const full = plan.routes.filter((_, k) => plan.isFull(k)).length;
-  const facts = [[problem.places.length, 'places'], [problem.routes.length, 'routes'], [carrying, 'carry something'], [full, 'are full']];
+  const facts = [
+    [problem.places.length, 'places'],
+    [problem.routes.length, 'routes'],
+    [carrying, 'carry something'],
+    [full, 'are full'],
+  ];
   for (const [isSupply, words] of [[true, 'stay'], [false, 'are missing']]) {
     const unmet = plan.unmet(isSupply).reduce((sum, [, amount]) => sum + amount, 0n);
     if (unmet) facts.push([units.amount(unmet), words]);
@@ -50,16 +73,26 @@ export function planShown(plan) {
 const warnings = (net) => slips(net).map((line) => `Warning: ${line}`);
 
 function savingsSheet(plan) {
-  const rows = savingsOf(plan).slice(0, 50).map(
-    ({ ends, result }) => ({ kind: 'full', cells: [...ends, result.isExact ? 'exactly' : 'at most', plan.rate(result.saves)] })
-  );
-  return rows.length ? [
-    sheetOf(
-      'What one more unit of room saves',
-      [column('from'), column('to'), column('exact', 'whether it saves just that'), number('one more unit saves')],
-      rows
-    )
-  ] : [];
+  const rows = savingsOf(plan)
+    .slice(0, 50)
+    .map(({ ends, result }) => ({
+      kind: 'full',
+      cells: [...ends, result.isExact ? 'exactly' : 'at most', plan.rate(result.saves)],
+    }));
+  return rows.length
+    ? [
+      sheetOf(
+        'What one more unit of room saves',
+        [
+          column('from'),
+          column('to'),
+          column('exact', 'whether it saves just that'),
+          number('one more unit saves'),
+        ],
+        rows
+      ),
+    ]
+    : [];
 }
 
 function routesSheet(plan) {
@@ -83,13 +116,22 @@ function routesSheet(plan) {
   ];
   const row = (k) => {
     const route = problem.routes[k], { carries, cost, saves, isExact } = plan.routes[k];
-    const share = route.most ? String(Math.round(100 * Number(size(carries)) / Number(size(route.most)))) : '';
+    const share = route.most
+      ? String(Math.round(100 * Number(size(carries)) / Number(size(route.most))))
+      : '';
     return {
       kind: plan.isFull(k) ? 'full' : carries ? '' : 'idle',
       cells: [
-        ...problem.ends(route), units.amount(route.least), units.amount(route.most),
-        costsCell(problem, route), units.amount(carries), units.total(cost), share,
-        saves ? plan.rate(saves) : '', saves ? (isExact ? 'exactly' : 'at most') : '', ...own.map((place) => cellAt(route.cells, place))
+        ...problem.ends(route),
+        units.amount(route.least),
+        units.amount(route.most),
+        costsCell(problem, route),
+        units.amount(carries),
+        units.total(cost),
+        share,
+        saves ? plan.rate(saves) : '',
+        saves ? (isExact ? 'exactly' : 'at most') : '',
+        ...own.map((place) => cellAt(route.cells, place)),
       ],
     };
   };
@@ -110,7 +152,9 @@ function routesSheet(plan) {
 
 // The cost of each unit of a route; where it rises by steps, all of them, as sentences have them.
 function costsCell({ units, said }, { steps }) {
-  return steps.length === 1 ? units.rate(steps[0].cost) : steps.map((step) => said.rate(step.cost)).join(' / ');
+  return steps.length === 1
+    ? units.rate(steps[0].cost)
+    : steps.map((step) => said.rate(step.cost)).join(' / ');
 }
 
 function placesSheet(plan) {
@@ -126,12 +170,16 @@ function placesSheet(plan) {
     number('group', 'among places of one group that is exact'),
     ...(hasUnmet ? [number('unmet', 'what stays, or is missing')] : []),
     ...(
-      hasBounds ? [
-        number('passes', 'what comes in and what is sent there'), number('passes at most', 'empty: no limit'),
-        number('passing costs', 'in this plan'), number('one more saves', 'what one more unit of room saves'),
-      ] : []
+      hasBounds
+        ? [
+          number('passes', 'what comes in and what is sent there'),
+          number('passes at most', 'empty: no limit'),
+          number('passing costs', 'in this plan'),
+          number('one more saves', 'what one more unit of room saves'),
+        ]
+        : []
     ),
-    ...ownOf(placeTable)
+    ...ownOf(placeTable),
   ];
   const row = (k) => {
     const place = problem.places[k], { price, group, unmet, through } = plan.places[k];
@@ -142,33 +190,52 @@ function placesSheet(plan) {
     return {
       kind: '',
       cells: [
-        place.name, units.amount(place.supply), plan.rate(price), String(group), ...(hasUnmet ? [unmet ? units.amount(unmet) : ''] : []),
-        ...(hasBounds ? passing : []), ...own.map((place_) => cellAt(place.cells, place_))
+        place.name,
+        units.amount(place.supply),
+        plan.rate(price),
+        String(group),
+        ...(hasUnmet ? [unmet ? units.amount(unmet) : ''] : []),
+        ...(hasBounds ? passing : []),
+        ...own.map((place_) => cellAt(place.cells, place_)),
       ],
     };
   };
-  return { title: 'Places', columns, count: problem.places.length, row, from: placeTable, field: 'places' };
+  return {
+    title: 'Places',
+    columns,
+    count: problem.places.length,
+    row,
+    from: placeTable,
+    field: 'places',
+  };
 }
 
 export function blockedShown(blocked) {
-  const { problem } = blocked.net, said = (amount) => problem.said.amount(amount), [supply, demand] = balanceOf(problem);
+  const { problem } = blocked.net;
+  const said = (amount) => problem.said.amount(amount);
+  const [supply, demand] = balanceOf(problem);
   const findings = blocked.bottlenecks.map((found) => bottleneckFinding(blocked.eased, found));
   if (blocked.isUnbalanced) {
-    findings.unshift(
-      {
-        figures: [['supply', said(supply)], ['demand', said(demand)], ['short by', said(size(supply - demand))]],
-        sentence: 'Supplies and demands must be equal.',
-        cure: `Make them equal; or choose that what is too much may ${supply > demand ? 'stay' : 'be short'}.`,
-      }
-    );
+    const eased = supply > demand ? 'stay' : 'be short';
+    findings.unshift({
+      figures: [
+        ['supply', said(supply)],
+        ['demand', said(demand)],
+        ['short by', said(size(supply - demand))],
+      ],
+      sentence: 'Supplies and demands must be equal.',
+      cure: `Make them equal; or choose that what is too much may ${eased}.`,
+    });
   }
   return {
     isPlan: false,
     headline: ['No plan exists: ', whyBlocked(blocked)],
     mark: problem.said.mark,
     lead: [
-      ...warnings(blocked.net), 'Whatever way amounts go, these places must send or take more than the routes around them carry.',
-      ...problem.told()
+      ...warnings(blocked.net),
+      'Whatever way amounts go, these places must send or take more than the routes around them '
+        + 'carry.',
+      ...problem.told(),
     ],
     facts: [],
     findings,
@@ -182,7 +249,8 @@ function bottleneckFinding(net, found) {
   const said = (amount) => net.problem.said.amount(amount);
   const short = said(found.must - found.can);
   const routes = net.amounts(found.limiting, 'most').map(([k]) => net.ends(k).join(' -> '));
-  const raise = routes.length ? `Give ${listed(routes)} ${short} more room${routes.length > 1 ? ' together' : ''}, or`
+  const raise = routes.length
+    ? `Give ${listed(routes)} ${short} more room${routes.length > 1 ? ' together' : ''}, or`
     : 'Give them a route, or';
   return {
     figures: [['must', said(found.must)], ['can', said(found.can)], ['short by', short]],
@@ -201,49 +269,63 @@ function limitingSheet(blocked) {
       { kind: '', cells: [`${k + 1}.`, ...net.ends(arc), '', units.amount(least)] }
     );
   });
-  return rows.length ? [
-    sheetOf(
-      'Routes that limit them',
-      [
-        column('bottleneck'), column('from'), column('to'), number('most', 'so the route limits the places'),
-        number('least', 'so it forces that upon them'),
-      ],
-      rows
-    )
-  ] : [];
+  return rows.length
+    ? [
+      sheetOf(
+        'Routes that limit them',
+        [
+          column('bottleneck'),
+          column('from'),
+          column('to'),
+          number('most', 'so the route limits the places'),
+          number('least', 'so it forces that upon them'),
+        ],
+        rows
+      ),
+    ]
+    : [];
 }
 
 // What may be changed where no plan exists.
 function inputSheets(problem) {
   const { routes, places, units, routeTable, placeTable } = problem;
   const may = (head) => (
-    routes.every(({ steps }) => steps.length === 1) && routeTable.heads.includes(head) ? { edit: head, of: true } : {}
+    routes.every(({ steps }) => steps.length === 1) && routeTable.heads.includes(head)
+      ? { edit: head, of: true }
+      : {}
   );
   const name = (node) => places[node - 1].name;
   return [
     {
       title: 'Routes',
       columns: [
-        column('from'), column('to'), number('least', '', may('least')), number('most', 'empty: no limit', may('most')),
+        column('from'),
+        column('to'),
+        number('least', '', may('least')),
+        number('most', 'empty: no limit', may('most')),
         number('cost', '', may('cost')),
       ],
       count: routes.length,
       from: routeTable,
       field: 'routes',
       note: 'A change of least, most or supply makes the plan anew.',
-      row: (k) => (
-        {
-          kind: '',
-          cells: [
-            name(routes[k].tail), name(routes[k].head), units.amount(routes[k].least), units.amount(routes[k].most),
-            costsCell(problem, routes[k]),
-          ],
-        }
-      ),
+      row: (k) => ({
+        kind: '',
+        cells: [
+          name(routes[k].tail),
+          name(routes[k].head),
+          units.amount(routes[k].least),
+          units.amount(routes[k].most),
+          costsCell(problem, routes[k]),
+        ],
+      }),
     },
     {
       title: 'Places',
-      columns: [column('name'), number('supply', 'above 0 it sends, below 0 it takes', { edit: 'supply' })],
+      columns: [
+        column('name'),
+        number('supply', 'above 0 it sends, below 0 it takes', { edit: 'supply' }),
+      ],
       count: places.length,
       from: placeTable,
       field: 'places',
@@ -255,36 +337,47 @@ function inputSheets(problem) {
 // ---- Persons and things
 
 export function pairsShown(roster, chosen, cost) {
-  const { persons, things, units } = roster, word = units.sign < 0n ? 'Greatest value: ' : 'Least cost: ';
-  const rows = chosen.map(
-    (pair) => ({ kind: '', cells: [persons.names[pair.who - 1], things.names[pair.what - 1], units.rate(pair.cost)] })
-  );
+  const { persons, things, units } = roster;
+  const word = units.sign < 0n ? 'Greatest value: ' : 'Least cost: ';
+  const rows = chosen.map((pair) => ({
+    kind: '',
+    cells: [persons.names[pair.who - 1], things.names[pair.what - 1], units.rate(pair.cost)],
+  }));
   return {
     isPlan: true,
     headline: [word, units.total(cost)],
     mark: roster.said.mark,
     lead: [...pairsSummary(roster, chosen, cost).slice(2), ...roster.told()],
-    facts: [[persons.names.length, 'persons'], [things.names.length, 'things'], [chosen.length, 'pairs']],
+    facts: [
+      [persons.names.length, 'persons'],
+      [things.names.length, 'things'],
+      [chosen.length, 'pairs'],
+    ],
     findings: [],
     scene: null,
-    sheets: [sheetOf('Pairs', [column('who'), column('what'), number(units.sign < 0n ? 'value' : 'cost')], rows)],
+    sheets: [
+      sheetOf(
+        'Pairs',
+        [column('who'), column('what'), number(units.sign < 0n ? 'value' : 'cost')],
+        rows
+      ),
+    ],
     tables: () => [pairsTable(roster, chosen)],
   };
 }
 
 export function pairsBlocked(net, bottlenecks) {
-  const lines = rivalsLines(net, bottlenecks), found = lines.slice(1, 1 + bottlenecks.length).map((line) => line.trim());
-  const findings = found.map(
-    (sentence, k) => (
-      {
-        figures: [
-          ['must', bottlenecks[k].must], ['can', bottlenecks[k].can], ['short by', bottlenecks[k].must - bottlenecks[k].can],
-        ].map(([words, many]) => [words, String(many)]),
-        sentence,
-        cure: '',
-      }
-    )
-  );
+  const lines = rivalsLines(net, bottlenecks);
+  const found = lines.slice(1, 1 + bottlenecks.length).map((line) => line.trim());
+  const findings = found.map((sentence, k) => ({
+    figures: [
+      ['must', bottlenecks[k].must],
+      ['can', bottlenecks[k].can],
+      ['short by', bottlenecks[k].must - bottlenecks[k].can],
+    ].map(([words, many]) => [words, String(many)]),
+    sentence,
+    cure: '',
+  }));
   return {
     isPlan: false,
     headline: ['No such pairs exist', ''],
@@ -301,7 +394,8 @@ export function pairsBlocked(net, bottlenecks) {
 // ---- A DIMACS text
 
 export function textShown(network, plan) {
-  const { arcs, supplies } = network, full = (k) => plan.flows[k] === arcs[k].most && plan.flows[k] !== 0n;
+  const { arcs, supplies } = network;
+  const full = (k) => plan.flows[k] === arcs[k].most && plan.flows[k] !== 0n;
   const saves = ({ tail, head, cost }) => {
     const saved = plan.prices[tail - 1] - plan.prices[head - 1] - cost;
     return saved > 0n ? saved : 0n;
@@ -312,20 +406,37 @@ export function textShown(network, plan) {
     return {
       kind: full(k) ? 'full' : flow ? '' : 'idle',
       cells: [
-        String(k + 1), String(arc.tail), String(arc.head), String(arc.least), String(arc.most), String(arc.cost), String(flow),
-        String(flow * arc.cost), saved ? String(saved) : '',
+        String(k + 1),
+        String(arc.tail),
+        String(arc.head),
+        String(arc.least),
+        String(arc.most),
+        String(arc.cost),
+        String(flow),
+        String(flow * arc.cost),
+        saved ? String(saved) : '',
       ],
     };
   };
   const columns = [
-    number('arc'), number('from'), number('to'), number('least'), number('most'), number('cost'), number('carries'), number('total'),
+    number('arc'),
+    number('from'),
+    number('to'),
+    number('least'),
+    number('most'),
+    number('cost'),
+    number('carries'),
+    number('total'),
     number('one more saves', 'what one more unit of room saves at most'),
   ];
   const nodes = {
     title: 'Nodes',
     columns: [number('node'), number('supply'), number('one more costs', 'minus its price')],
     count: supplies.length,
-    row: (k) => ({ kind: '', cells: [String(k + 1), String(supplies[k]), String(-plan.prices[k])] }),
+    row: (k) => ({
+      kind: '',
+      cells: [String(k + 1), String(supplies[k]), String(-plan.prices[k])],
+    }),
   };
   return {
     isPlan: true,
@@ -335,30 +446,39 @@ export function textShown(network, plan) {
     facts: [[supplies.length, 'nodes'], [arcs.length, 'arcs'], [carrying, 'carry something']],
     findings: [],
     scene: null,
-    sheets: [{ title: 'Arcs', columns, count: arcs.length, row, hasIdle: carrying < arcs.length }, nodes],
+    sheets: [
+      { title: 'Arcs', columns, count: arcs.length, row, hasIdle: carrying < arcs.length },
+      nodes,
+    ],
     tables: () => [],
   };
 }
 
 export function textBlocked(network, bottlenecks) {
   const name = ({ tail, head, most }) => `${tail} -> ${head} (${most})`;
-  const findings = bottlenecks.map(
-    (found) => (
-      {
-        figures: [['must', String(found.must)], ['can', String(found.can)], ['short by', String(found.must - found.can)]],
-        cure: '',
-        sentence: `Nodes ${listed(found.nodes.map(String))} must ${found.side} ${found.must}, and can ${found.side} only ${found.can}${found.limiting.length ? `, over ${listed(found.limiting.map((k) => name(network.arcs[k])))}` : ''}.`,
-      }
-    )
-  );
-  const rows = bottlenecks.flatMap(
-    (found, k) => found.limiting.map(
-      (arc) => (
-        {
-          kind: 'full', cells: [`${k + 1}.`, String(network.arcs[arc].tail), String(network.arcs[arc].head), String(network.arcs[arc].most)],
-        }
-      )
-    )
+  const over = ({ limiting }) =>
+    limiting.length ? `, over ${listed(limiting.map((k) => name(network.arcs[k])))}` : '';
+  const findings = bottlenecks.map((found) => ({
+    figures: [
+      ['must', String(found.must)],
+      ['can', String(found.can)],
+      ['short by', String(found.must - found.can)],
+    ],
+    cure: '',
+    sentence:
+      `Nodes ${listed(found.nodes.map(String))} must ${found.side} ${found.must}, `
+        + `and can ${found.side} only ${found.can}${over(found)}.`,
+  }));
+  const rows = bottlenecks.flatMap((found, k) =>
+    found.limiting.map((arc) => ({
+      kind: 'full',
+      cells: [
+        `${k + 1}.`,
+        String(network.arcs[arc].tail),
+        String(network.arcs[arc].head),
+        String(network.arcs[arc].most),
+      ],
+    }))
   );
   return {
     isPlan: false,
@@ -369,26 +489,52 @@ export function textBlocked(network, bottlenecks) {
     findings,
     scene: null,
     tables: () => [],
-    sheets: rows.length ? [sheetOf('Arcs that limit them', [column('bottleneck'), number('from'), number('to'), number('most')], rows)] : [],
+    sheets: rows.length
+      ? [
+        sheetOf(
+          'Arcs that limit them',
+          [column('bottleneck'), number('from'), number('to'), number('most')],
+          rows
+        ),
+      ]
+      : [],
   };
 }
 
 // ---- What changed
 
-// What differs between two plans: by the ends of routes, and of several with the same ends by their order.
+// What differs between two plans: by the ends of routes, and of several with the same ends by their
+// order.
 export function changesShown(before, plan) {
-  const { units } = plan.problem, rows = [], now = carriedBy(plan), was = carriedBy(before), old = before.problem.units;
+  const { units } = plan.problem;
+  const rows = [];
+  const now = carriedBy(plan);
+  const was = carriedBy(before);
+  const old = before.problem.units;
   for (const key of new Set([...was.keys(), ...now.keys()])) {
-    const [a, b] = [was.get(key), now.get(key)], texts = [a ? old.amount(a.carries) : '', b ? units.amount(b.carries) : ''];
+    const [a, b] = [was.get(key), now.get(key)];
+    const texts = [a ? old.amount(a.carries) : '', b ? units.amount(b.carries) : ''];
     if (texts[0] !== texts[1]) rows.push({ kind: '', cells: [...(b || a).ends, ...texts] });
   }
   const [delivered, deliversNow] = [deliveredBy(before), deliveredBy(plan)];
-  const [cost, other] = [before.problem.said.total(before.cost), plan.problem.said.total(plan.cost)];
-  const sheets = rows.length ? [
-    sheetOf('Routes that carry something else than before', [column('from'), column('to'), number('before'), number('now')], rows)
-  ] : [];
+  const [cost, other] = [
+    before.problem.said.total(before.cost),
+    plan.problem.said.total(plan.cost),
+  ];
+  const sheets = rows.length
+    ? [
+      sheetOf(
+        'Routes that carry something else than before',
+        [column('from'), column('to'), number('before'), number('now')],
+        rows
+      ),
+    ]
+    : [];
+  const differing = rows.length === 1 ? '1 route carries' : `${rows.length} routes carry`;
   return {
-    text: `${deliverySentence(delivered, deliversNow)}Cost before ${cost}, now ${other}; ${rows.length === 1 ? '1 route carries' : `${rows.length} routes carry`} something else.`,
+    text:
+      `${deliverySentence(delivered, deliversNow)}Cost before ${cost}, now ${other}; `
+        + `${differing} something else.`,
     sheets,
   };
 }
@@ -396,17 +542,22 @@ export function changesShown(before, plan) {
 // What a plan delivers in all, as it is said, and by places.
 function deliveredBy({ problem, places }) {
   const found = new Map();
-  problem.places.forEach(({ name, supply }, k) => { if (supply < 0n) found.set(name, -supply - places[k].unmet); });
+  problem.places.forEach(({ name, supply }, k) => {
+    if (supply < 0n) found.set(name, -supply - places[k].unmet);
+  });
   return {
     all: problem.said.amount([...found.values()].reduce((sum, amount) => sum + amount, 0n)),
-    byPlace: JSON.stringify([...found].map(([name, amount]) => [name, problem.units.amount(amount)]).sort()),
+    byPlace: JSON.stringify(
+      [...found].map(([name, amount]) => [name, problem.units.amount(amount)]).sort()
+    ),
   };
 }
 
 // Costs of plans that don't deliver the same aren't of one task.
 function deliverySentence(before, now) {
   if (before.byPlace === now.byPlace) return '';
-  const told = before.all === now.all ? `Both deliver ${now.all} in all, but not the same at each place`
+  const told = before.all === now.all
+    ? `Both deliver ${now.all} in all, but not the same at each place`
     : `The plan before delivers ${before.all} in all, this one ${now.all}`;
   return `${told}: mind that where you compare what they cost. `;
 }

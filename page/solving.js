@@ -1,11 +1,16 @@
-// From tables to an accepted answer. A solver has two calls: solve(text, engine), which gives a status of flow, blocked or refused with an
-// answer that was accepted, or another status; and check(text, answer), which says whether an answer is accepted. Both take and give texts.
+// From tables to an accepted answer. A solver has two calls: solve(text, engine), which gives a
+// status of flow, blocked or refused with an answer that was accepted, or another status; and
+// check(text, answer), which says whether an answer is accepted. Both take and give texts.
 import { FlowNet } from './flownet.js';
 import { BadTable } from './faults.js';
 
 const REFUSALS = {
-  supply: 'a supply beyond what mcf takes', bound: 'an amount beyond what mcf takes', order: 'least is greater than most', cost: 'a cost beyond what mcf takes',
-  total: 'with this route, costs times amounts add to more than mcf takes', size: 'more places or routes (persons, things or pairs) than mcf takes',
+  supply: 'a supply beyond what mcf takes',
+  bound: 'an amount beyond what mcf takes',
+  order: 'least is greater than most',
+  cost: 'a cost beyond what mcf takes',
+  total: 'with this route, costs times amounts add to more than mcf takes',
+  size: 'more places or routes (persons, things or pairs) than mcf takes',
 };
 const OTHER_SIDE = { send: 'take', take: 'send' };
 
@@ -24,11 +29,14 @@ export const linesOf = (answer, letter) => answer.split('\n').filter(
 
 async function solved(solver, text, engine) {
   const result = await solver.solve(text, engine);
-  if (!['flow', 'blocked', 'refused'].includes(result.status)) throw new NoAnswer(result.status, result.why || result.verdict);
+  if (!['flow', 'blocked', 'refused'].includes(result.status)) {
+    throw new NoAnswer(result.status, result.why || result.verdict);
+  }
   return result;
 }
 
-// What an accepted flow says, for a network with these arcs: in the second form arcs that carry their least aren't named.
+// What an accepted flow says, for a network with these arcs: in the second form arcs that carry
+// their least aren't named.
 export function planOf(answer, arcs) {
   const flows = arcs.map((arc) => arc.least), prices = [];
   let cost = 0n;
@@ -41,33 +49,47 @@ export function planOf(answer, arcs) {
   return { cost, flows, prices };
 }
 
-// The plan of an instance of a network, or null where no plan exists; with the text and what the solver gave. Throws a BadTable for a refusal.
+// The plan of an instance of a network, or null where no plan exists; with the text and what the
+// solver gave. Throws a BadTable for a refusal.
 export async function solve(solver, instance, network, engine = 'auto') {
   const text = instance.text(), result = await solved(solver, text, engine);
   if (result.status === 'refused') throw refused(result.answer, instance);
-  return { text, result, plan: result.status === 'flow' ? planOf(result.answer, network.arcs) : null };
+  return {
+    text,
+    result,
+    plan: result.status === 'flow' ? planOf(result.answer, network.arcs) : null,
+  };
 }
 
 // What a refusal says: it names the line of the table that the bad line of the instance came from.
 function refused(answer, instance) {
   const [line, code] = linesOf(answer, 'r')[0], origin = instance.origins[Number(line) - 1];
-  if (!origin || !(code in origin.columns)) return new NoAnswer(
-    'rejected', `mcf refuses line ${line} of its instance (${code}), which is no fault of the tables`
-  );
-  return new BadTable([`${origin.table.name}, line ${origin.line}, column ${origin.columns[code]}: ${REFUSALS[code]} (mcf: ${code}); `
-    + 'LIMITS in `man mcf` has what it takes']);
+  if (!origin || !(code in origin.columns)) {
+    return new NoAnswer(
+      'rejected',
+      `mcf refuses line ${line} of its instance (${code}), which is no fault of the tables`
+    );
+  }
+  return new BadTable([
+    `${origin.table.name}, line ${origin.line}, column ${origin.columns[code]}: `
+      + `${REFUSALS[code]} (mcf: ${code}); LIMITS in \`man mcf\` has what it takes`,
+  ]);
 }
 
-// A set of a network that must send more than it can. Cost scaling is asked, since its set is the least of those that must send the most
-// beyond what they can: it has nothing in it that doesn't matter.
+// A set of a network that must send more than it can. Cost scaling is asked, since its set is the
+// least of those that must send the most beyond what they can: it has nothing in it that doesn't
+// matter.
 async function blockingSet(solver, network) {
   const { status, answer } = await solved(solver, `${network.lines().join('\n')}\n`, 'scaling');
-  if (status !== 'blocked' || linesOf(answer, 'i')[0][1] !== 'send') throw new NoAnswer('rejected', 'another engine answers otherwise');
+  if (status !== 'blocked' || linesOf(answer, 'i')[0][1] !== 'send') {
+    throw new NoAnswer('rejected', 'another engine answers otherwise');
+  }
   return new Set(linesOf(answer, 'x').map(([node]) => Number(node)));
 }
 
-// The bottlenecks of a balanced network without a plan, each accepted for the text. They are told from the side, of those that send and
-// those that take, that has fewer nodes; and from the side of the cut on which no hub is. `whole` adds to one what belongs to it.
+// The bottlenecks of a balanced network without a plan, each accepted for the text. They are told
+// from the side, of those that send and those that take, that has fewer nodes; and from the side of
+// the cut on which no hub is. `whole` adds to one what belongs to it.
 export async function bottlenecksOf(solver, text, network, hub = null, whole = (found) => found) {
   const choices = [];
   for (const [mine, turned] of [['send', network], ['take', network.turned()]]) {
@@ -82,20 +104,37 @@ export async function bottlenecksOf(solver, text, network, hub = null, whole = (
   const sizes = choices.map((choice) => choice.reduce((sum, found) => sum + found.nodes.length, 0));
   const found = choices[sizes[1] < sizes[0] ? 1 : 0].map(whole);
   for (const { side, nodes } of found) {
-    const verdict = await solver.check(text, `i ${nodes.length} ${side}\n${nodes.map((node) => `x ${node}\n`).join('')}`);
+    const verdict = await solver.check(
+      text,
+      `i ${nodes.length} ${side}\n${nodes.map((node) => `x ${node}\n`).join('')}`
+    );
     if (!verdict.accepted) throw new NoAnswer('rejected', verdict.line);
   }
   return found;
 }
 
-// What blocks a flow network that has no plan: where supplies and demands don't agree, all places together do; and then whatever blocks if
-// what is too much may stay, or be short, which is `eased`.
+// What blocks a flow network that has no plan: where supplies and demands don't agree, all places
+// together do; and then whatever blocks if what is too much may stay, or be short, which is
+// `eased`.
 export async function blockedOf(solver, text, net) {
   const total = net.total();
-  if (total === 0n) return { net, eased: net, isUnbalanced: false, bottlenecks: await bottlenecksOf(solver, text, net, net.hub) };
-  const eased = new FlowNet(net.problem, { ...net.policy, unused: net.policy.unused || total > 0n, short: net.policy.short || total < 0n });
+  if (total === 0n) {
+    return {
+      net,
+      eased: net,
+      isUnbalanced: false,
+      bottlenecks: await bottlenecksOf(solver, text, net, net.hub),
+    };
+  }
+  const eased = new FlowNet(net.problem, {
+    ...net.policy,
+    unused: net.policy.unused || total > 0n,
+    short: net.policy.short || total < 0n,
+  });
   const instance = eased.instance().text(), { status } = await solved(solver, instance, 'auto');
-  const bottlenecks = status === 'blocked' ? await bottlenecksOf(solver, instance, eased, eased.hub) : [];
+  const bottlenecks = status === 'blocked'
+    ? await bottlenecksOf(solver, instance, eased, eased.hub)
+    : [];
   return { net, eased, isUnbalanced: true, bottlenecks };
 }
 

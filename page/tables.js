@@ -19,30 +19,48 @@ export const fold = (text) => text.toLowerCase().replace(/ß/g, 'ss');
 // What a name is compared by: accents written in two ways are the same.
 export const keyOf = (name) => name.normalize('NFC');
 // A cell of a row, empty where the row is shorter or there is no such place.
-export const cellAt = (cells, place) => (place >= 0 && place !== null && place < cells.length ? cells[place] : '');
+export const cellAt = (cells, place) => (
+  place >= 0 && place !== null && place < cells.length ? cells[place] : ''
+);
 
 // The text of a file. What isn't UTF-8 is read as Windows-1252 with a fault: that it isn't.
 export function textOf(name, bytes, encoding = null) {
-  for (const [head, words] of OTHER_FILES) if (begins(bytes, head)) throw new BadTable([`${name}: ${words}`]);
-  if (begins(bytes, ZIP)) throw new BadTable(
-    [`${name}: this is a workbook: select a sheet's cells there, copy them and paste them here; or save it as CSV UTF-8`]
-  );
+  for (const [head, words] of OTHER_FILES) {
+    if (begins(bytes, head)) throw new BadTable([`${name}: ${words}`]);
+  }
+  if (begins(bytes, ZIP)) {
+    throw new BadTable([
+      `${name}: this is a workbook: select a sheet's cells there, copy them and paste them here; `
+        + 'or save it as CSV UTF-8',
+    ]);
+  }
   if (begins(bytes, [0xff, 0xfe]) || begins(bytes, [0xfe, 0xff])) {
     try {
-      return { text: new TextDecoder(bytes[0] === 0xff ? 'utf-16le' : 'utf-16be', { fatal: true }).decode(bytes), mark: true };
-    } catch { throw new BadTable([`${name}: this isn't text in utf-16; save the table as CSV in UTF-8`]); }
+      const named = bytes[0] === 0xff ? 'utf-16le' : 'utf-16be';
+      return { text: new TextDecoder(named, { fatal: true }).decode(bytes), mark: true };
+    } catch {
+      throw new BadTable([`${name}: this isn't text in utf-16; save the table as CSV in UTF-8`]);
+    }
   }
   try {
-    return { text: new TextDecoder(encoding || 'utf-8', { fatal: true }).decode(bytes), mark: begins(bytes, [0xef, 0xbb, 0xbf]) };
+    return {
+      text: new TextDecoder(encoding || 'utf-8', { fatal: true }).decode(bytes),
+      mark: begins(bytes, [0xef, 0xbb, 0xbf]),
+    };
   } catch {
-    if (encoding || bytes.includes(0)) throw new BadTable(
-      [`${name}: this isn't text in ${encoding || 'UTF-8'}; save the table as CSV in UTF-8`]
-    );
+    if (encoding || bytes.includes(0)) {
+      throw new BadTable([
+        `${name}: this isn't text in ${encoding || 'UTF-8'}; save the table as CSV in UTF-8`,
+      ]);
+    }
   }
-  const text = new TextDecoder('windows-1252').decode(bytes), good = new TextDecoder().decode(bytes).indexOf('\ufffd');
+  const text = new TextDecoder('windows-1252').decode(bytes);
+  const good = new TextDecoder().decode(bytes).indexOf('\ufffd');
   const line = text.slice(0, good).split('\n').length;
-  return { text, mark: false, wrong: { line, text: `this isn't in UTF-8, but perhaps in Windows-1252 (ANSI), which reads ${
-    shown(text.split('\n')[line - 1].trim())}: in Excel, save as CSV UTF-8; or say --encoding windows-1252` } };
+  const read = shown(text.split('\n')[line - 1].trim());
+  const words = `this isn't in UTF-8, but perhaps in Windows-1252 (ANSI), which reads ${read}: `
+    + 'in Excel, save as CSV UTF-8; or say --encoding windows-1252';
+  return { text, mark: false, wrong: { line, text: words } };
 }
 
 // The records of a text that aren't blank, each with the number of its first line.
@@ -63,7 +81,9 @@ function recordsOf(text, separator, name) {
     } else if (c === separator) endCell();
     else if (c === '\n') endRecord();
     else if (state === 'after') {
-      if (c !== '"') bad('something after the closing quote (a quote within quotes is written twice)');
+      if (c !== '"') {
+        bad('something after the closing quote (a quote within quotes is written twice)');
+      }
       cell += c;
       state = 'quoted';
     } else if (state === 'start' && c === '"') state = 'quoted';
@@ -80,11 +100,14 @@ function rankOf(line, separator, known) {
   return [new Set(heads.filter((head) => known.has(head))).size, heads.length];
 }
 
-// A table: its heads, and its rows as lines and cells. `heads` of a reading are own heads by those that are wanted.
+// A table: its heads, and its rows as lines and cells. `heads` of a reading are own heads by those
+// that are wanted.
 export class Table {
   // Source: a name, and a text or bytes.
   constructor({ name, text, bytes }, wanted, reading, faults) {
-    const read = bytes ? textOf(name, bytes, reading.encoding) : { text: text.replace(/^\ufeff/, ''), mark: false };
+    const read = bytes
+      ? textOf(name, bytes, reading.encoding)
+      : { text: text.replace(/^\ufeff/, ''), mark: false };
     const lines = (whole) => whole.split('\n').find((line) => line.trim()) || '';
     let whole = read.text.replace(/\r\n?/g, '\n'), first = lines(whole);
     const named = SEPARATOR_LINE.exec(first), heads = reading.heads || {};
@@ -94,12 +117,18 @@ export class Table {
     }
     const known = new Set([...wanted, ...Object.values(heads).map(fold)]);
     const ranks = SEPARATORS.map((mark) => [mark, rankOf(first, mark, known)]);
-    const separator = named ? named[1] : ranks.reduce(
-      (best, one) => (one[1][0] > best[1][0] || (one[1][0] === best[1][0] && one[1][1] > best[1][1]) ? one : best)
-    )[0];
+    const separator = named
+      ? named[1]
+      : ranks.reduce((best, one) => (
+        one[1][0] > best[1][0] || (one[1][0] === best[1][0] && one[1][1] > best[1][1]) ? one : best
+      ))[0];
     const records = recordsOf(whole, separator, name);
     Object.assign(this, { name, separator, mark: read.mark });
-    if (!records.length) throw new BadTable([`${name}, line 1: the table is empty; its first line has the heads of the columns`]);
+    if (!records.length) {
+      throw new BadTable([
+        `${name}, line 1: the table is empty; its first line has the heads of the columns`,
+      ]);
+    }
     this.headLine = records[0].line;
     this.titles = records[0].cells;
     this.rows = records.slice(1);
@@ -123,8 +152,8 @@ export class Table {
       faults.add(
         at(this, this.headLine, lacking[0]),
         'no column',
-        `there is no such column among ${this.headsText()}${where}; ${hint} ${wanted.join(', ')}; where a head has another name, say so: `
-          + `--map ${lacking[0]}=NAME`
+        `there is no such column among ${this.headsText()}${where}; ${hint} ${wanted.join(', ')}; `
+          + `where a head has another name, say so: --map ${lacking[0]}=NAME`
       );
     }
     for (const head of wanted) {
@@ -163,16 +192,25 @@ export class Table {
   checkWidths(faults) {
     for (const { line, cells } of this.rows) {
       for (let place = this.titles.length; place < cells.length; place++) {
-        if (cells[place]) faults.add(
-          at(this, line, place + 1), 'beyond', `a cell beyond the last head: ${shown(cells[place])}`, cells[place]
-        );
+        if (cells[place]) {
+          faults.add(
+            at(this, line, place + 1),
+            'beyond',
+            `a cell beyond the last head: ${shown(cells[place])}`,
+            cells[place]
+          );
+        }
       }
     }
   }
 
-  // The places of the columns that results are written after: all but those of earlier results, which are there as a whole if they are.
+  // The places of the columns that results are written after: all but those of earlier results,
+  // which are there as a whole if they are.
   kept(...results) {
-    const titles = this.titles.map(fold), gone = new Set(results.filter((heads) => heads.every((head) => titles.includes(head))).flat());
+    const titles = this.titles.map(fold);
+    const gone = new Set(
+      results.filter((heads) => heads.every((head) => titles.includes(head))).flat()
+    );
     return titles.map((_, place) => place).filter((place) => !gone.has(titles[place]));
   }
 }
@@ -185,25 +223,40 @@ export function checkHeads(tables, reading, faults) {
   }
 }
 
-// Notes that no table has a column of the planner's; if a line below the heads has it, of that table.
+// Notes that no table has a column of the planner's; if a line below the heads has it, of that
+// table.
 function noteLacking(tables, head, own, faults) {
-  const table = tables.find((it) => it.lineWith([own])) || tables[tables.length - 1], below = table.lineWith([own]);
+  const table = tables.find((it) => it.lineWith([own])) || tables[tables.length - 1];
+  const below = table.lineWith([own]);
   const [other] = tables.filter((it) => it !== table);
-  const where = below ? `; it is in line ${below}, and heads have to be in the first line` : other ? `, nor in ${other.name}` : '';
-  faults.add(at(table, table.headLine, own), 'map', `there is no such column, which --map ${head}=${own} names${where}`, own);
+  const where = below
+    ? `; it is in line ${below}, and heads have to be in the first line`
+    : other ? `, nor in ${other.name}` : '';
+  faults.add(
+    at(table, table.headLine, own),
+    'map',
+    `there is no such column, which --map ${head}=${own} names${where}`,
+    own
+  );
 }
 
 // The name that a cell has: any text of one line that isn't empty.
 export function nameIn(table, line, head, cell, faults) {
   if (!cell) faults.add(at(table, line, head), 'empty name', 'the name is empty');
   else if (/[\x00-\x1f\x7f-\x9f]/.test(cell)) {
-    faults.add(at(table, line, head), 'control', `the name ${shown(cell)} has a line break or another control character`, cell);
+    faults.add(
+      at(table, line, head),
+      'control',
+      `the name ${shown(cell)} has a line break or another control character`,
+      cell
+    );
   }
   return cell;
 }
 
 // Notes a fault where the key was seen on an earlier line; else remembers it.
 export function once(where, key, text, seen, faults, cell = key) {
-  if (seen.has(key)) faults.add(where, 'twice', `${text} stands on line ${seen.get(key)} already`, cell);
-  else seen.set(key, where.line);
+  if (seen.has(key)) {
+    faults.add(where, 'twice', `${text} stands on line ${seen.get(key)} already`, cell);
+  } else seen.set(key, where.line);
 }

@@ -1,5 +1,5 @@
-// The tests of the page that need node alone (16 or later): node page/test.mjs [NAME ..]. Each test_NAME.mjs beside this file says what
-// it tried; the status is 1 where something was wrong.
+// The tests of the page that need node alone (16 or later): node page/test.mjs [NAME ..]. Each
+// test_NAME.mjs beside this file says what it tried; the status is 1 where something was wrong.
 import fs from 'node:fs';
 import path from 'node:path';
 import { fileURLToPath } from 'node:url';

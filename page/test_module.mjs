@@ -1,4 +1,5 @@
-// What the module answers to each example, in both forms and by each engine, and what it says of answers that were changed.
+// What the module answers to each example, in both forms and by each engine, and what it says of
+// answers that were changed.
 import fs from 'node:fs';
 import os from 'node:os';
 import path from 'node:path';
@@ -6,44 +7,75 @@ import { spawnSync } from 'node:child_process';
 import { fileURLToPath } from 'node:url';
 import { Instance, judged } from './module.js';
 
-const top = path.join(path.dirname(fileURLToPath(import.meta.url)), '..'), examples = path.join(top, 'examples');
-const programs = process.env.MCF_BIN ?? path.join(top, 'bin'), mcfcheck = path.join(programs, 'mcfcheck');
+const top = path.join(path.dirname(fileURLToPath(import.meta.url)), '..');
+const examples = path.join(top, 'examples');
+const programs = process.env.MCF_BIN ?? path.join(top, 'bin');
+const mcfcheck = path.join(programs, 'mcfcheck');
 // Of an answer's bytes every so many is changed for mcfcheck, which is a process each time.
 const EVERY = 16;
 
 export function loaded() {
   const module = new WebAssembly.Module(fs.readFileSync(path.join(top, 'bin', 'mcf.wasm')));
-  if (WebAssembly.Module.imports(module).length) throw Error('the module asks its host for something');
+  if (WebAssembly.Module.imports(module).length) {
+    throw Error('the module asks its host for something');
+  }
   return module;
 }
 
 export default function test(expect) {
-  const module = loaded(), scratch = fs.mkdtempSync(path.join(os.tmpdir(), 'mcf-page-')), checks = fs.existsSync(mcfcheck);
+  const module = loaded();
+  const scratch = fs.mkdtempSync(path.join(os.tmpdir(), 'mcf-page-'));
+  const checks = fs.existsSync(mcfcheck);
   for (const name of fs.readdirSync(examples).filter((file) => /\.(min|asn)$/.test(file)).sort()) {
-    const file = path.join(examples, name), bytes = fs.readFileSync(file), stem = file.replace(/\.\w+$/, '');
+    const file = path.join(examples, name);
+    const bytes = fs.readFileSync(file);
+    const stem = file.replace(/\.\w+$/, '');
     const statuses = { ans: 1, two: 2 };
-    for (const end of Object.keys(statuses).filter((ending) => fs.existsSync(`${stem}.${ending}`))) {
-      const wanted = fs.readFileSync(`${stem}.${end}`), instance = new Instance(module), text = instance.lend(bytes);
+    for (const end of Object
+      .keys(statuses)
+      .filter((ending) => fs.existsSync(`${stem}.${ending}`))) {
+      const wanted = fs.readFileSync(`${stem}.${end}`);
+      const instance = new Instance(module);
+      const text = instance.lend(bytes);
       const found = instance.solve(text, 'auto', statuses[end]);
-      expect(Buffer.from(instance.bytes(found.at, found.size)).equals(wanted), `${name}: form ${statuses[end]} has another answer`);
-      expect(instance.check(text, instance.lend(wanted)).accepted, `${name}: the answer isn't accepted`);
+      expect(
+        Buffer.from(instance.bytes(found.at, found.size)).equals(wanted),
+        `${name}: form ${statuses[end]} has another answer`
+      );
+      expect(
+        instance.check(text, instance.lend(wanted)).accepted,
+        `${name}: the answer isn't accepted`
+      );
       const short = instance.solve(text, 'auto', statuses[end], 3);
-      expect(short.status === 'room' && short.size === wanted.length, `${name}: three bytes are too few`);
+      expect(
+        short.status === 'room' && short.size === wanted.length,
+        `${name}: three bytes are too few`
+      );
       changed(module, bytes, wanted, (bad, verdict, k) => {
-        if (checks && k % EVERY === 0) expect(verdict.line === said(scratch, file, bad), `${name}: byte ${k} changed: ${verdict.line}`);
-        if (verdict.accepted) expect(mayPass(wanted, bad, k), `${name}: byte ${k} changed, and it passes`);
-        else expect(verdict.line.startsWith('rejected '), `${name}: ${verdict.line}`);
+        if (checks && k % EVERY === 0) {
+          expect(
+            verdict.line === said(scratch, file, bad),
+            `${name}: byte ${k} changed: ${verdict.line}`
+          );
+        }
+        if (verdict.accepted) {
+          expect(mayPass(wanted, bad, k), `${name}: byte ${k} changed, and it passes`);
+        } else expect(verdict.line.startsWith('rejected '), `${name}: ${verdict.line}`);
       });
     }
     for (const engine of ['cancel', 'simplex', 'scaling', 'sap', 'augment']) {
-      const instance = new Instance(module), text = instance.lend(bytes), found = instance.solve(text, engine);
+      const instance = new Instance(module);
+      const text = instance.lend(bytes);
+      const found = instance.solve(text, engine);
       expect(instance.check(text, found).accepted, `${name}: ${engine}`);
     }
   }
   spoilt(expect, module, fs.readFileSync(path.join(examples, 'transport.min')));
   sized(expect, module);
   let refused = false;
-  try { new Instance(module).room(2 ** 40); } catch (error) { refused = error instanceof RangeError; }
+  try { new Instance(module).room(2 ** 40); } catch (error) {
+    refused = error instanceof RangeError;
+  }
   expect(refused, 'a room that no memory has');
   fs.rmSync(scratch, { recursive: true });
   return checks ? '' : `not compared with mcfcheck, which isn't built in ${programs}`;
@@ -51,7 +83,9 @@ export default function test(expect) {
 
 // Each byte of an answer changed, one at a time.
 function changed(module, bytes, wanted, judge) {
-  const instance = new Instance(module), text = instance.lend(bytes), answer = instance.lend(wanted);
+  const instance = new Instance(module);
+  const text = instance.lend(bytes);
+  const answer = instance.lend(wanted);
   for (let k = 0; k < wanted.length; k++) {
     const bad = Buffer.from(wanted);
     bad[k] = bad[k] === 49 ? 50 : 49;
@@ -60,7 +94,8 @@ function changed(module, bytes, wanted, judge) {
   }
 }
 
-// An answer may be right after a change where other prices show the same flow, or another set blocks.
+// An answer may be right after a change where other prices show the same flow, or another set
+// blocks.
 function mayPass(wanted, bad, k) {
   const line = bad.subarray(0, k + 1).toString('latin1').split('\n').pop();
   return line.startsWith('y') || line.startsWith('x') || wanted[k] === 10;
@@ -75,15 +110,21 @@ function said(scratch, file, answer) {
 // Which engine is asked, by the size of a text and by what is asked.
 function sized(expect, module) {
   const { solve } = Instance.prototype, asked = [];
-  Instance.prototype.solve = function heard(text, engine, ...words) { asked.push(engine); return solve.call(this, text, engine, ...words); };
-  for (
-    const [text, engine, wanted] of [
-      ['c p min 99999 0\np min 16384 0\n', 'auto', 'auto'], [' p  min\t16385 0\n', 'auto', 'augment'], ['p min 16385 0\n', 'scaling', 'scaling'],
-      ['p asn 40000 0\n', 'auto', 'auto'],
-    ]
-  ) {
+  Instance.prototype.solve = function heard(text, engine, ...words) {
+    asked.push(engine);
+    return solve.call(this, text, engine, ...words);
+  };
+  for (const [text, engine, wanted] of [
+    ['c p min 99999 0\np min 16384 0\n', 'auto', 'auto'],
+    [' p  min\t16385 0\n', 'auto', 'augment'],
+    ['p min 16385 0\n', 'scaling', 'scaling'],
+    ['p asn 40000 0\n', 'auto', 'auto'],
+  ]) {
     const { status } = judged(module, Buffer.from(text), engine);
-    expect(asked.pop() === wanted && (status === 'flow' || text.includes('asn')), `${text.trim()} by ${engine}: another engine than ${wanted}, or ${status}`);
+    expect(
+      asked.pop() === wanted && (status === 'flow' || text.includes('asn')),
+      `${text.trim()} by ${engine}: another engine than ${wanted}, or ${status}`
+    );
   }
   Instance.prototype.solve = solve;
 }
@@ -93,7 +134,8 @@ function spoilt(expect, module, bytes) {
   const { solve } = Instance.prototype;
   const ways = {
     'another cost': (instance, found) => {
-      instance.bytes(found.at, found.size)[instance.bytes(found.at, found.size).indexOf(115) + 2] ^= 1;
+      instance.bytes(found.at, found.size)[instance.bytes(found.at, found.size).indexOf(115) + 2] ^=
+        1;
       return found;
     },
     'a line less': (instance, found) => ({ ...found, size: found.size - 6 }),
@@ -101,9 +143,14 @@ function spoilt(expect, module, bytes) {
     'no answer': (instance, found) => ({ ...found, size: 0 }),
   };
   for (const [name, change] of Object.entries(ways)) {
-    Instance.prototype.solve = function wrongly(...words) { return change(this, solve.apply(this, words)); };
+    Instance.prototype.solve = function wrongly(...words) {
+      return change(this, solve.apply(this, words));
+    };
     const result = judged(module, bytes, 'auto');
-    expect(result.status === 'rejected' && !result.answer, `${name}: ${result.status}, ${result.verdict}`);
+    expect(
+      result.status === 'rejected' && !result.answer,
+      `${name}: ${result.status}, ${result.verdict}`
+    );
   }
   Instance.prototype.solve = solve;
   expect(judged(module, bytes, 'auto').status === 'flow', 'the answer as it is');

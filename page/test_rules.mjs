@@ -1,4 +1,5 @@
-// The list of rules that mcf_plan's tests read, too: how tables are read, and what is said of them; and that the page says it in its own words.
+// The list of rules that mcf_plan's tests read, too: how tables are read, and what is said of them;
+// and that the page says it in its own words.
 import fs from 'node:fs';
 import path from 'node:path';
 import { fileURLToPath } from 'node:url';
@@ -6,14 +7,32 @@ import { loaded } from './test_module.mjs';
 import { asked, solverOf, told } from './test_plans.mjs';
 import { pageWords } from './words.js';
 
-const list = path.join(path.dirname(fileURLToPath(import.meta.url)), '..', 'python', 'tests', 'rules.json');
+const list = path.join(
+  path.dirname(fileURLToPath(import.meta.url)),
+  '..',
+  'python',
+  'tests',
+  'rules.json'
+);
 
 export default async function test(expect) {
   const solver = solverOf(loaded());
   for (const rule of JSON.parse(fs.readFileSync(list, 'utf8'))) {
-    const sources = ['places', 'routes', 'costs'].filter((name) => name in rule).map((name) => (
-      { name: `${name}.csv`, bytes: Buffer.from(rule[name].latin1 ?? rule[name], 'latin1' in Object(rule[name]) ? 'latin1' : 'utf8') }));
-    const { said, status } = await told('costs' in rule ? 'pairs' : 'flow', solver, sources, asked(rule.options ?? []));
+    const sources = ['places', 'routes', 'costs']
+      .filter((name) => name in rule)
+      .map((name) => ({
+        name: `${name}.csv`,
+        bytes: Buffer.from(
+          rule[name].latin1 ?? rule[name],
+          'latin1' in Object(rule[name]) ? 'latin1' : 'utf8'
+        ),
+      }));
+    const { said, status } = await told(
+      'costs' in rule ? 'pairs' : 'flow',
+      solver,
+      sources,
+      asked(rule.options ?? [])
+    );
     expect(status === rule.status, `status ${status}, and not ${rule.status}: ${said}`);
     for (const text of rule.says) expect(said.includes(text), `it says\n${said}and not ${text}`);
     const own = said.split('\n').map((line) => pageWords(line)).join('\n');

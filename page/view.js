@@ -16,41 +16,68 @@ export function el(tag, attributes = {}, ...children) {
 export function grouped(text, mark = '.') {
   const found = /^(-?)(\d+)(?:\.(\d+))?$/.exec(text);
   if (!found) return text;
-  const digits = found[2].length > 4 ? found[2].replace(/(?<=\d)(?=(?:\d{3})+$)/g, '\u202f') : found[2];
+  const digits = found[2].length > 4
+    ? found[2].replace(/(?<=\d)(?=(?:\d{3})+$)/g, '\u202f')
+    : found[2];
   return (found[1] && '\u2212') + digits + (found[3] ? (mark || '.') + found[3] : '');
 }
 
 // A button that saves a file, which is made when it is asked for.
 export function saver(name, made, type = 'text/plain') {
-  return el('button', { type: 'button', onclick: () => {
-    const link = el('a', { download: name, href: URL.createObjectURL(new Blob([made()], { type })) });
-    link.click();
-    setTimeout(() => URL.revokeObjectURL(link.href), 10000);
-  } }, name);
+  return el('button', {
+    type: 'button',
+    onclick: () => {
+      const link = el('a', {
+        download: name,
+        href: URL.createObjectURL(new Blob([made()], { type })),
+      });
+      link.click();
+      setTimeout(() => URL.revokeObjectURL(link.href), 10000);
+    },
+  }, name);
 }
 
-// The picture with its buttons: the wheel zooms at the pointer, dragging moves, buttons and keys do the same.
+// The picture with its buttons: the wheel zooms at the pointer, dragging moves, buttons and keys do
+// the same.
 export function pictureOf(text) {
-  const svg = document.importNode(new DOMParser().parseFromString(text, 'image/svg+xml').documentElement, true);
+  const svg = document.importNode(
+    new DOMParser().parseFromString(text, 'image/svg+xml').documentElement,
+    true
+  );
   const whole = svg.viewBox.baseVal;
   const home = [whole.x, whole.y, whole.width, whole.height];
   let view = home.slice(), from = null;
   const show = () => svg.setAttribute('viewBox', view.join(' '));
   const zoom = (wanted, x = view[0] + view[2] / 2, y = view[1] + view[3] / 2) => {
     const factor = Math.max(home[2] / 60, Math.min(home[2] * 2, view[2] * wanted)) / view[2];
-    view = [x - (x - view[0]) * factor, y - (y - view[1]) * factor, view[2] * factor, view[3] * factor];
+    view = [
+      x - (x - view[0]) * factor,
+      y - (y - view[1]) * factor,
+      view[2] * factor,
+      view[3] * factor,
+    ];
     show();
   };
   const move = (dx, dy) => { view[0] += dx * view[2]; view[1] += dy * view[3]; show(); };
   const all = () => { view = home.slice(); show(); };
   const spot = (event) => {
-    const { x, y } = new DOMPoint(event.clientX, event.clientY).matrixTransform(svg.getScreenCTM().inverse());
+    const { x, y } = new DOMPoint(event.clientX, event.clientY).matrixTransform(
+      svg.getScreenCTM().inverse()
+    );
     return [x, y];
   };
   svg.addEventListener(
-    'wheel', (event) => { event.preventDefault(); zoom(event.deltaY < 0 ? 0.85 : 1 / 0.85, ...spot(event)); }, { passive: false }
+    'wheel',
+    (event) => {
+      event.preventDefault();
+      zoom(event.deltaY < 0 ? 0.85 : 1 / 0.85, ...spot(event));
+    },
+    { passive: false }
   );
-  svg.addEventListener('pointerdown', (event) => { from = spot(event); svg.setPointerCapture(event.pointerId); });
+  svg.addEventListener('pointerdown', (event) => {
+    from = spot(event);
+    svg.setPointerCapture(event.pointerId);
+  });
   svg.addEventListener('pointermove', (event) => {
     if (!from) return;
     const to = spot(event);
@@ -68,7 +95,8 @@ export function pictureOf(text) {
     ArrowUp: () => move(0, -0.1),
     ArrowDown: () => move(0, 0.1),
   };
-  const button = (sign, title, act) => el('button', { type: 'button', title, 'aria-label': title, onclick: act }, sign);
+  const button = (sign, title, act) =>
+    el('button', { type: 'button', title, 'aria-label': title, onclick: act }, sign);
   return el(
     'div',
     {
@@ -80,7 +108,10 @@ export function pictureOf(text) {
     },
     svg,
     el(
-      'div', { class: 'zoom' }, button('+', 'nearer', () => zoom(0.7)), button('−', 'farther', () => zoom(1.43)),
+      'div',
+      { class: 'zoom' },
+      button('+', 'nearer', () => zoom(0.7)),
+      button('−', 'farther', () => zoom(1.43)),
       button('↺', 'all of it', all)
     )
   );
