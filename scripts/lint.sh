@@ -29,6 +29,13 @@ check() {
     fi
 }
 
+# Whether modules parse that await at their top, which Debian's eslint can't.
+modules_parse() {
+    local module failed=0
+    for module in "$@"; do node --check "$module" || failed=1; done
+    return $failed
+}
+
 if [ "$fix" = --fix ]; then
     if has ruff; then ruff format -q "${python[@]}" && ruff check -q --fix "${python[@]}"; else black -q "${python[@]}" && isort -q "${python[@]}"; fi
     clang-format -i "${c[@]}"
@@ -44,6 +51,7 @@ else
 fi
 check "types of Python" mypy mypy --strict --cache-dir=/dev/null python/mcf
 check "JavaScript" eslint eslint page/*.js
+check "JavaScript of tests" node modules_parse page/*.mjs
 check "types of JavaScript" tsc tsc -p jsconfig.json
 check "shell" shellcheck shellcheck --severity=warning "${shells[@]}"
 check "layout of C" clang-format clang-format --dry-run -Werror "${c[@]}"
