@@ -1,7 +1,13 @@
+// @ts-check
 // Numbers as tables have them: whole or with decimals, after a point or a comma, with or without
 // marks between thousands. All are exact: a number is a whole one of so many decimals, and has none
 // at its end that is 0.
 import { at, shown } from './faults.js';
+
+/**
+ * @typedef {import('./faults.js').Faults} Faults
+ * @typedef {import('./tables.js').Table} Table
+ */
 
 const BLANK = "[ \\u00a0\\u2009\\u202f'’_]";
 const WHOLE = /^[+-]?[0-9]{1,1000}$/;
@@ -10,20 +16,26 @@ const SPACED = new RegExp(`^([+-]?[0-9]{1,3}(?:${BLANK}[0-9]{3})+)([.,][0-9]{1,1
 const EITHER = /^[+-]?[1-9][0-9]{0,2}[.,][0-9]{3}$/;
 const ONE_MARK = /^[+-]?[0-9]*([.,])[0-9]+$/;
 const EXPONENT = /^[+-]?[0-9]+(?:[.,][0-9]*)?[eE][+-]?[0-9]+$/;
+/** @type {Record<string, string>} */
 const OTHER = { ',': '.', '.': ',' };
 // What stands for a minus in print: hyphens, dashes no longer than a digit, and the sign itself.
 const MINUS = /^[\u2010-\u2013\u2212\ufe63\uff0d](?=[.,]?[0-9])/;
+/** @type {string[]} */
 export const NO_LIMIT = ['', 'inf', '∞'];
+/** @type {Exact} */
 export const ZERO = { digits: 0n, decimals: 0 };
 
 // A number with the minus of a keyboard.
+/** @type {(cell: string) => string} */
 const plainMinus = (cell) => cell.replace(MINUS, '-');
+/** @type {(cell: string) => string} */
 const withoutBlanks = (cell) => (
   SPACED.test(cell) ? cell.replace(new RegExp(BLANK, 'g'), '') : cell
 );
 
 // The mark before decimals, if a cell settles it; blanks between thousands leave a mark no other
 // meaning.
+/** @type {(text: string) => string | null} */
 function markIn(text) {
   const cell = plainMinus(text);
   if (WHOLE.test(cell)) return null;
@@ -47,6 +59,7 @@ const VALUES = Object.fromEntries(
 );
 
 // The value of a cell whose decimals stand after a mark; null where it is no such number.
+/** @type {(cell: string, mark: string) => Exact | null} */
 export function valueOf(cell, mark) {
   const plain = withoutBlanks(plainMinus(cell));
   if (!VALUES[mark].test(plain)) return null;
@@ -57,11 +70,14 @@ export function valueOf(cell, mark) {
 }
 
 // A number in parts of which 10^decimals make one.
+/** @type {(number: Exact, decimals: number) => bigint} */
 export const scaled = (number, decimals) =>
   number.digits * 10n ** BigInt(decimals - number.decimals);
+/** @type {(numbers: Exact[]) => number} */
 export const decimalsOf = (numbers) =>
   numbers.reduce((most, number) => Math.max(most, number.decimals), 0);
 
+/** @type {(one: Exact, two: Exact) => number} */
 export function compare(one, two) {
   const decimals = decimalsOf([one, two]), a = scaled(one, decimals), b = scaled(two, decimals);
   return a < b ? -1 : a > b ? 1 : 0;
@@ -70,9 +86,17 @@ export function compare(one, two) {
 // How the numbers of some tables are written: which mark stands before decimals, as was said or as
 // cells show.
 export class Numbers {
-  constructor(mark = null) { Object.assign(this, { mark, shownBy: new Map(), settled: null }); }
+  /** @param {string | null} [mark] */
+  constructor(mark = null) {
+    this.mark = mark;
+    /** @type {Map<string, { table: Table, line: number, cell: string }>} */
+    this.shownBy = new Map();
+    /** @type {string | null} */
+    this.settled = null;
+  }
 
   // Looks which mark the cells of some columns show.
+  /** @type {(table: Table, columns: number[]) => void} */
   look(table, columns) {
     for (const { line, cells } of table.rows) {
       for (const column of columns) {
@@ -85,6 +109,7 @@ export class Numbers {
   }
 
   // Settles the mark, where cells show one and nothing else was said.
+  /** @type {(faults: Faults) => void} */
   settle(faults) {
     if (!this.mark && this.shownBy.size === 2) {
       const [first, other] = this.shownBy.values();
@@ -100,6 +125,14 @@ export class Numbers {
   }
 
   // The number that a cell has.
+  /**
+   * @param {Table} table
+   * @param {number} line
+   * @param {string | number} head
+   * @param {string} text
+   * @param {Faults} faults
+   * @returns {Exact}
+   */
   read(table, line, head, text, faults) {
     const cell = plainMinus(text);
     if (WHOLE.test(cell)) return { digits: BigInt(cell.replace('+', '')), decimals: 0 };
@@ -126,6 +159,7 @@ export class Numbers {
   }
 
   // What is wrong with a cell that should be a number: its kind, and a text.
+  /** @type {(cell: string) => [kind: string, text: string]} */
   fault(cell) {
     if (!cell) return ['empty', 'the number is empty; write 0 for none'];
     if (EXPONENT.test(cell)) {
@@ -161,6 +195,14 @@ export class Numbers {
 }
 
 // Where a place stands: a number that may have decimals.
+/**
+ * @param {Table} table
+ * @param {number} line
+ * @param {string} head
+ * @param {string} cell
+ * @param {Faults} faults
+ * @returns {number}
+ */
 export function coordinateIn(table, line, head, cell, faults) {
   const plain = plainMinus(cell), text = plain.includes('.') ? plain : plain.replace(',', '.');
   const number = /^[+-]?(\d+\.?\d*|\.\d+)([eE][+-]?\d+)?$/.test(text) ? Number(text) : NaN;
@@ -176,6 +218,7 @@ export function coordinateIn(table, line, head, cell, faults) {
 }
 
 // A number of parts of which 10^decimals make one, as text without zeros at its end.
+/** @type {(number: bigint, decimals: number) => string} */
 export function decimalText(number, decimals) {
   if (!decimals) return String(number);
   const digits = String(number < 0n ? -number : number).padStart(decimals + 1, '0');
@@ -186,13 +229,24 @@ export function decimalText(number, decimals) {
 // What whole numbers of an instance are in the units of the tables. Costs may be told with another
 // sign than they have there.
 export class Units {
-  constructor(amounts, costs, sign = 1n) { Object.assign(this, { amounts, costs, sign }); }
+  /**
+   * @param {number} amounts
+   * @param {number} costs
+   */
+  constructor(amounts, costs, sign = 1n) {
+    this.amounts = amounts;
+    this.costs = costs;
+    this.sign = sign;
+  }
 
   // An amount, as text; no limit is empty.
+  /** @type {(number: bigint | null) => string} */
   amount(number) { return number === null ? '' : decimalText(number, this.amounts); }
 
+  /** @type {(number: bigint) => string} */
   rate(number) { return decimalText(this.sign * number, this.costs); }
 
+  /** @type {(number: bigint) => string} */
   total(number) { return decimalText(this.sign * number, this.amounts + this.costs); }
 
   comment() {
@@ -204,14 +258,25 @@ export class Units {
 
 // The same in sentences: with the tables' mark before decimals.
 export class Said {
-  constructor(units, mark) { Object.assign(this, { units, mark: mark || '.' }); }
+  /**
+   * @param {Units} units
+   * @param {string | null} mark
+   */
+  constructor(units, mark) {
+    this.units = units;
+    this.mark = mark || '.';
+  }
 
+  /** @type {(figure: string) => string} */
   text(figure) { return figure.replace('.', this.mark); }
 
+  /** @type {(number: bigint | null) => string} */
   amount(number) { return this.text(this.units.amount(number)); }
 
+  /** @type {(number: bigint) => string} */
   rate(number) { return this.text(this.units.rate(number)); }
 
+  /** @type {(number: bigint) => string} */
   total(number) { return this.text(this.units.total(number)); }
 }
 

@@ -1,14 +1,26 @@
+// @ts-check
 // The solver as the page has it: calls of the worker, which is ended where it is to stop.
 import { NoAnswer } from './solving.js';
 
+/** @typedef {{ resolve(result: any): void, reject(error: Error): void }} Waiting */
+
+/** @type {(text: string | Uint8Array) => Uint8Array} */
 const bytesOf = (text) => (
   typeof text === 'string' ? new TextEncoder().encode(text) : text.slice()
 );
 
 export class Client {
   // The source of the worker, and the module in gzip and base64.
+  /**
+   * @param {string} source
+   * @param {string} module
+   */
   constructor(source, module) {
-    Object.assign(this, { source, module, waiting: new Map(), count: 0 });
+    this.source = source;
+    this.module = module;
+    /** @type {Map<number, Waiting>} */
+    this.waiting = new Map();
+    this.count = 0;
     this.wake();
   }
 
@@ -28,6 +40,7 @@ export class Client {
     this.ready.catch(() => {});
   }
 
+  /** @type {(message: object, ...moved: Transferable[]) => Promise<any>} */
   ask(message, ...moved) {
     const id = ++this.count;
     return new Promise((resolve, reject) => {
@@ -36,6 +49,7 @@ export class Client {
     });
   }
 
+  /** @type {(error: Error) => void} */
   end(error) {
     const waiting = [...this.waiting.values()];
     this.waiting.clear();
@@ -49,6 +63,7 @@ export class Client {
   }
 
   // A text, or its bytes. The answer comes as a text and as bytes.
+  /** @type {(text: string | Uint8Array, engine: string) => Promise<Result>} */
   async solve(text, engine) {
     const bytes = bytesOf(text), result = await this.ask({ bytes, engine }, bytes.buffer);
     return result.answer
@@ -56,5 +71,6 @@ export class Client {
       : result;
   }
 
+  /** @type {(text: string | Uint8Array, answer: string | Uint8Array) => Promise<Verdict>} */
   async check(text, answer) { return this.ask({ bytes: bytesOf(text), answer: bytesOf(answer) }); }
 }

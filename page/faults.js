@@ -1,3 +1,4 @@
+// @ts-check
 // The faults of tables by their kinds, which are told together before anything is run, and some
 // words.
 
@@ -7,6 +8,7 @@ export const TOLD_NAMES = 8;
 
 // What ends a run without a plan: tables that can't be read as meant.
 export class BadTable extends Error {
+  /** @param {string[]} lines */
   constructor(lines) {
     super(lines.join('\n'));
     this.lines = lines;
@@ -15,23 +17,30 @@ export class BadTable extends Error {
 
 // Where a cell stands: its table, its line, and its column by its head or by its number from 1; or
 // a whole line.
+/** @type {(table: import('./tables.js').Table, line: number, column?: string | number) => Where} */
 export const at = (table, line, column = '') => ({ table, line, column });
 
 // What can't be printed, or looks like a blank and is none.
 const UNPRINTED = /^(?:[\p{C}\p{Zl}\p{Zp}]|(?! )\p{Zs})$/u;
 
 // A cell between quotes, short, with what can't be printed spelt out.
+/** @type {(cell: string) => string} */
 export function shown(cell) {
   const letters = [...cell];
   const short = letters.length <= 40 ? letters : [...letters.slice(0, 37), '...'];
-  const spelt = (c) => `\\x${(c.codePointAt(0) & 255).toString(16).padStart(2, '0')}`;
+  const spelt = (/** @type {string} */ c) =>
+    `\\x${(c.codePointAt(0) & 255).toString(16).padStart(2, '0')}`;
   return `'${short.map((c) => (UNPRINTED.test(c) ? spelt(c) : c)).join('')}'`;
 }
 
 export class Faults {
-  constructor() { this.kinds = new Map(); }
+  constructor() {
+    /** @type {Map<string, Fault>} */
+    this.kinds = new Map();
+  }
 
   // Notes what is wrong somewhere in a table: one line for each kind.
+  /** @type {(where: Where, kind: string, text: string, cell?: string) => void} */
   add({ table, line, column }, kind, text, cell = '') {
     const key = JSON.stringify([table.name, kind, typeof column === 'string' ? column : null]);
     if (!this.kinds.has(key)) {
@@ -50,6 +59,7 @@ export class Faults {
     }
   }
 
+  /** @type {(table: import('./tables.js').Table, kind: string) => boolean} */
   has(table, kind) {
     return [...this.kinds.values()].some((found) =>
       found.table.name === table.name && found.kind === kind
@@ -61,6 +71,7 @@ export class Faults {
   }
 }
 
+/** @type {(fault: Fault) => string} */
 function told({ text, count, more }) {
   if (count === 1) return text;
   const cells = [...more].map(([cell, line]) => `${cell ? `${shown(cell)} ` : ''}in line ${line}`);
@@ -68,9 +79,11 @@ function told({ text, count, more }) {
 }
 
 // Some texts with commas between them, and how many more there are.
+/** @type {(texts: string[], most?: number) => string} */
 export function listed(texts, most = TOLD_NAMES) {
   const more = texts.length - most;
   return texts.slice(0, most).join(', ') + (more > 0 ? ` and ${more} more` : '');
 }
 
+/** @type {(number: number, one: string, many: string) => string} */
 export const countOf = (number, one, many) => `${number} ${number === 1 ? one : many}`;

@@ -1,6 +1,9 @@
+// @ts-check
 // The network of places and routes, and what a plan says of each of them.
 import { Lines, Network, partsOf } from './network.js';
 import { size } from './model.js';
+
+/** @typedef {import('./model.js').Problem} Problem */
 
 export const STAYS = '(stays)', MISSING = '(missing)', THROUGH = '(through)';
 
@@ -11,9 +14,18 @@ export const STAYS = '(stays)', MISSING = '(missing)', THROUGH = '(through)';
 // what lacks for a balance as its supply. A use of an arc is its kind, the number from 0 of its
 // route or place, and 1, or -1 for a route's other way.
 export class FlowNet extends Network {
+  /**
+   * @param {Problem} problem
+   * @param {Policy} [policy]
+   */
   constructor(problem, policy = {}) {
     super(problem.places.map((place) => place.supply), []);
-    Object.assign(this, { problem, policy, uses: [], hub: null });
+    this.problem = problem;
+    this.policy = policy;
+    /** @type {Use[]} */
+    this.uses = [];
+    /** @type {number | null} */
+    this.hub = null;
     this.outs = problem.places.map((_, k) => k + 1);
     this.placeOf = problem.places.map((_, k) => k);
     problem.places.forEach((place, k) => { if (place.bounds) this.split(k, place); });
@@ -41,12 +53,14 @@ export class FlowNet extends Network {
 
   total() { return this.supplies.reduce((sum, supply) => sum + supply, 0n); }
 
+  /** @type {(kind: Use['kind'], number: number, sign: number, arc: Arc) => void} */
   add(kind, number, sign, arc) {
     this.arcs.push(arc);
     this.uses.push({ kind, number, sign });
   }
 
   // Makes a place two nodes.
+  /** @type {(number: number, place: Place) => void} */
   split(number, { supply }) {
     this.supplies.push(supply < 0n ? supply : 0n);
     this.supplies[number] = supply > 0n ? supply : 0n;
@@ -56,7 +70,9 @@ export class FlowNet extends Network {
 
   // Adds the routes, each with its first step, then further steps and other ways.
   addRoutes() {
-    const reach = this.problem.reach(), more = [];
+    const reach = this.problem.reach();
+    /** @type {[number: number, sign: number, arc: Arc][]} */
+    const more = [];
     this.problem.routes.forEach((route, number) => {
       let rest = route.least;
       const arcs = route.steps.map((step, k) => {
@@ -81,6 +97,7 @@ export class FlowNet extends Network {
     for (const [number, sign, arc] of more) this.add('route', number, sign, arc);
   }
 
+  /** @type {(supply: bigint) => void} */
   addHub(supply) {
     this.supplies.push(supply);
     this.hub = this.supplies.length;
@@ -121,6 +138,7 @@ export class FlowNet extends Network {
   }
 
   // Where an arc comes from.
+  /** @type {(use: Use) => Origin} */
   origin({ kind, number }) {
     const { problem } = this, place = problem.places[number];
     if (kind === 'route') {
@@ -140,9 +158,11 @@ export class FlowNet extends Network {
     };
   }
 
+  /** @type {(node: number) => string} */
   nodeName(node) { return this.problem.places[this.placeOf[node - 1]].name; }
 
   // The names of an arc's ends.
+  /** @type {(k: number) => string[]} */
   ends(k) {
     const { kind, number, sign } = this.uses[k];
     if (kind === 'route') {
@@ -154,6 +174,7 @@ export class FlowNet extends Network {
   }
 
   // The least or the most of some arcs, the steps of a route together: with the first arc of each.
+  /** @type {(arcs: number[], bound: 'least' | 'most') => [arc: number, amount: bigint][]} */
   amounts(arcs, bound) {
     const found = new Map();
     for (const k of arcs) {
@@ -166,10 +187,12 @@ export class FlowNet extends Network {
   }
 
   // The node of a place where one unit more is sent, or is taken.
+  /** @type {(number: number) => number} */
   home(number) { return this.problem.places[number].supply > 0n ? number + 1 : this.outs[number]; }
 }
 
 // The columns of a route, or of a place, that the words of a refusal mean.
+/** @type {(bounds: Bounds | Route) => Record<string, string>} */
 function columnsOf({ least, most }) {
   return {
     bound: most !== null && size(least) > size(most) ? 'least' : 'most',
@@ -184,9 +207,17 @@ function columnsOf({ least, most }) {
 // saves, and whether just that; of a place minus its price, in which group that is exact, how much
 // stays there or is missing, and what passes through it, where that has bounds.
 export class FlowPlan {
+  /**
+   * @param {FlowNet} net
+   * @param {Plan} plan
+   */
   constructor(net, { cost, flows, prices }) {
-    Object.assign(this, { net, problem: net.problem, prices, flows });
+    this.net = net;
+    this.problem = net.problem;
+    this.prices = prices;
+    this.flows = flows;
     const loose = net.arcs.filter((arc, k) => arc.least < flows[k] && flows[k] < arc.most);
+    /** @type {Map<number, number>} */
     this.group = new Map();
     partsOf(net.supplies.map((_, k) => k + 1), loose).forEach(
       (part, count) => { for (const node of part) this.group.set(node, count + 1); }
@@ -197,9 +228,11 @@ export class FlowPlan {
       if (arcsOf.has(key)) arcsOf.get(key).push(k);
       else arcsOf.set(key, [k]);
     });
+    /** @type {RouteResult[]} */
     this.routes = this.problem.routes.map((route, number) =>
       this.result(arcsOf.get(`route ${number}`), route.most, route.both)
     );
+    /** @type {PlaceResult[]} */
     this.places = this.problem.places.map((place, number) => {
       const home = net.home(number);
       const kinds = ['stays', 'missing'].flatMap((kind) => arcsOf.get(`${kind} ${number}`) || []);
@@ -222,6 +255,7 @@ export class FlowPlan {
 
   // What one more unit of room on an arc would save at most: by so much the prices undercut its
   // cost.
+  /** @type {(k: number) => bigint} */
   saves(k) {
     const { tail, head, cost } = this.net.arcs[k];
     const saved = this.prices[tail - 1] - this.prices[head - 1] - cost;
@@ -232,9 +266,11 @@ export class FlowPlan {
   // of the last step, either way. One more unit of room saves just so much where, if it saves, a
   // unit can go on from the arc's end to its beginning within a group, whose nodes are joined by
   // arcs that carry amounts between their least and their most.
+  /** @type {(arcs: number[], most: bigint | null, both: boolean) => RouteResult} */
   result(arcs, most, both) {
     const { net, flows } = this;
-    const last = (sign) => arcs.filter((k) => net.uses[k].sign === sign).pop();
+    const last = (/** @type {number} */ sign) =>
+      arcs.filter((k) => net.uses[k].sign === sign).pop();
     const carries = arcs.reduce((sum, k) => sum + BigInt(net.uses[k].sign) * flows[k], 0n);
     const cost = arcs.reduce((sum, k) => sum + net.arcs[k].cost * flows[k], 0n);
     let widest = last(1);
@@ -250,6 +286,7 @@ export class FlowPlan {
   }
 
   // What one more unit saves or costs, as text: where it is but the penalty, in words.
+  /** @type {(number: bigint) => string} */
   rate(number) {
     return this.net.policy.short && number > this.net.bound
       ? 'less is missing'
@@ -257,12 +294,14 @@ export class FlowPlan {
   }
 
   // Whether a route carries as much as it may, and that is something.
+  /** @type {(number: number) => boolean} */
   isFull(number) { return this.routes[number].free === 0n && this.routes[number].carries !== 0n; }
 
   // The places where something stays (or is missing), with the amounts.
+  /** @type {(isSupply: boolean) => [place: Place, amount: bigint][]} */
   unmet(isSupply) {
-    return this.problem.places.map((place, k) => [place, this.places[k].unmet]).filter(
-      ([place, unmet]) => unmet && (place.supply > 0n) === isSupply
-    );
+    /** @type {[Place, bigint][]} */
+    const amounts = this.problem.places.map((place, k) => [place, this.places[k].unmet]);
+    return amounts.filter(([place, unmet]) => unmet && (place.supply > 0n) === isSupply);
   }
 }

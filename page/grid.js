@@ -1,9 +1,21 @@
+// @ts-check
 // Tables of which the rows in sight alone are made, so that a hundred thousand scroll. A sheet has
 // a title, columns with a head, what it means, whether it has numbers and, where its cells may be
 // changed, the head of the input; a count, and row(k), which gives the kind and the cells of the
 // k-th row as texts.
 import { ZERO, compare, decimalText, decimalsOf, scaled, valueOf } from './amounts.js';
 import { el, grouped } from './view.js';
+
+/**
+ * How a sheet is looked at: by which column it is sorted (null: as it comes), and so on.
+ * @typedef {object} GridState
+ * @property {number | null} by
+ * @property {boolean} down
+ * @property {string} filter
+ * @property {boolean} used
+ * @property {number} top
+ * @typedef {(sheet: Sheet, row: number, head: string, text: string) => void} Changing
+ */
 
 // How high a row is, how many are made beyond those in sight, and of how many a table is printed.
 const HIGH = 31, BEYOND = 12, PRINTED = 5000;
@@ -12,16 +24,20 @@ const MOST_ROWS = 500000;
 
 // What was sorted, filtered and scrolled, by the titles of sheets: it stays when a plan is made
 // anew.
+/** @type {Map<string, GridState>} */
 const kept = new Map();
 
 export class Grid {
+  /**
+   * @param {Sheet} sheet
+   * @param {{ mark: string, change: Changing }} settings
+   */
   constructor(sheet, { mark, change }) {
-    Object.assign(this, {
-      sheet,
-      mark,
-      change,
-      state: kept.get(sheet.title) || { by: null, down: false, filter: '', used: false, top: 0 },
-    });
+    this.sheet = sheet;
+    this.mark = mark;
+    this.change = change;
+    this.state = kept.get(sheet.title)
+      || { by: null, down: false, filter: '', used: false, top: 0 };
     kept.set(sheet.title, this.state);
     this.heads = sheet.columns.map((column, k) =>
       el(
@@ -32,7 +48,7 @@ export class Grid {
           tabindex: 0,
           scope: 'col',
           onclick: () => this.sortBy(k),
-          onkeydown: (event) => {
+          onkeydown: (/** @type {KeyboardEvent} */ event) => {
             if (event.key === 'Enter' || event.key === ' ') {
               event.preventDefault();
               this.sortBy(k);
@@ -101,6 +117,7 @@ export class Grid {
     );
   }
 
+  /** @type {(k: number) => void} */
   sortBy(column) {
     const first = this.sheet.columns[column].number;
     this.state.down = this.state.by === column ? !this.state.down : Boolean(first);
@@ -148,13 +165,15 @@ export class Grid {
   }
 
   // Makes the rows in sight, or all of a table that is printed.
+  /** @type {(anew: boolean, all?: boolean) => void} */
   fill(anew, all = false) {
     const seen = Math.ceil((this.box.clientHeight || 700) / HIGH);
     const begin = all ? 0 : Math.max(0, Math.floor(this.box.scrollTop / HIGH) - BEYOND);
     const end = Math.min(this.order.length, all ? PRINTED : begin + seen + 2 * BEYOND);
     if (!anew && begin === this.begin && end === this.end) return;
-    Object.assign(this, { begin, end });
-    const gap = (rows) => (
+    this.begin = begin;
+    this.end = end;
+    const gap = (/** @type {number} */ rows) => (
       rows > 0
         ? [
           el(
@@ -172,6 +191,7 @@ export class Grid {
     );
   }
 
+  /** @type {(k: number, nth: number) => HTMLElement} */
   rowOf(k, nth) {
     const { kind, cells } = this.sheet.row(k);
     return el(
@@ -181,6 +201,7 @@ export class Grid {
     );
   }
 
+  /** @type {(k: number, column: Column, text: string, cells: string[]) => HTMLElement} */
   cellOf(k, column, text, cells) {
     if (column.edit && this.change && text !== null) {
       const field = el(
@@ -211,6 +232,7 @@ export class Grid {
 
 // What stands below the rows in sight: the totals of the sheet, or their own where some are left
 // out, with how many they are.
+/** @type {(sheet: Sheet, order: number[], lines: string) => string[]} */
 export function totalsOf(sheet, order, lines) {
   if (!sheet.totals || order.length === sheet.count) return sheet.totals || [];
   return sheet.totals.map((total, k) => (
@@ -218,26 +240,50 @@ export function totalsOf(sheet, order, lines) {
   ));
 }
 
+/** @type {(texts: string[]) => string} */
 function sumOf(texts) {
   const numbers = texts.map((text) => valueOf(text, '.') || ZERO), decimals = decimalsOf(numbers);
   return decimalText(numbers.reduce((sum, number) => sum + scaled(number, decimals), 0n), decimals);
 }
 
 // Rows by the texts of a column: numbers by what they are worth, what is empty last.
+/**
+ * @param {number[]} order
+ * @param {(k: number) => string} text
+ * @param {boolean} isNumber
+ * @param {boolean} down
+ */
 function sorted(order, text, isNumber, down) {
   const sign = down ? -1 : 1;
-  const keys = new Map(order.map((k) => [k, isNumber ? numberOf(text(k)) : text(k)]));
-  const letters = new Intl.Collator();
-  const byWorth = (a, b) => (
-    a.near !== b.near ? (a.near < b.near ? -1 : 1) : compare(a.exact, b.exact)
-  );
+  return isNumber
+    ? byKeys(order, (k) => numberOf(text(k)), byWorth, sign)
+    : byKeys(order, text, new Intl.Collator().compare, sign);
+}
+
+/**
+ * @template Key
+ * @param {number[]} order
+ * @param {(k: number) => Key | null} keyed
+ * @param {(a: Key, b: Key) => number} compared
+ * @param {number} sign
+ */
+function byKeys(order, keyed, compared, sign) {
+  const keys = new Map(order.map((k) => [k, keyed(k)]));
   return order.sort((i, j) => {
     const [a, b] = [keys.get(i), keys.get(j)];
-    if (a === null || b === null) return (a === null) - (b === null) || i - j;
-    return sign * (isNumber ? byWorth(a, b) : letters.compare(a, b)) || i - j;
+    if (a === null || b === null) return Number(a === null) - Number(b === null) || i - j;
+    return sign * compared(a, b) || i - j;
   });
 }
 
+/** @typedef {{ near: number, exact: Exact }} Worth */
+
+/** @type {(a: Worth, b: Worth) => number} */
+function byWorth(a, b) {
+  return a.near !== b.near ? (a.near < b.near ? -1 : 1) : compare(a.exact, b.exact);
+}
+
+/** @type {(text: string) => Worth | null} */
 function numberOf(text) {
   const exact = valueOf(text, '.');
   return exact && { near: Number(text), exact };

@@ -1,6 +1,9 @@
+// @ts-check
 // Heads that aren't the tool's own: those that nearly are, and those that are carried along.
 import { at, listed, shown } from './faults.js';
 import { cellAt } from './tables.js';
+
+/** @typedef {import('./tables.js').Table} Table */
 
 // What the columns of bounds are called elsewhere.
 const OTHER_WORDS = new Map([
@@ -20,11 +23,18 @@ const NAMED = 24;
 // The heads that a table may have, some of which are read together or not at all; and most 2, cost
 // 2 and so on, where it has steps.
 export class Heads {
+  /**
+   * @param {string[]} known
+   * @param {{ together?: string[], hasSteps?: boolean }} more
+   */
   constructor(known, { together = [], hasSteps = false } = {}) {
-    Object.assign(this, { known, together, hasSteps });
+    this.known = known;
+    this.together = together;
+    this.hasSteps = hasSteps;
   }
 
   // The heads of the steps beyond the first.
+  /** @type {(table: Table) => string[]} */
   steps({ heads }) {
     const found = [];
     for (let number = 2; this.hasSteps && heads.includes(`most ${number}`); number++) {
@@ -34,6 +44,7 @@ export class Heads {
   }
 
   // Notes the heads that nearly are known: what stands below them would be left out.
+  /** @type {(table: Table, faults: import('./faults.js').Faults) => void} */
   check(table, faults) {
     const steps = this.steps(table), read = new Set([...this.known, ...steps, '']);
     table.heads.forEach((head, k) => {
@@ -48,6 +59,7 @@ export class Heads {
 
   // The column that a head nearly is, or null. By one letter it is only nearly one that isn't
   // there.
+  /** @type {(head: string, there: string[]) => string | null} */
   meant(head, there) {
     const [, letters, digits] = /^(.*?)([0-9]{0,2})$/.exec(head.replace(/[^\p{L}\p{N}]/gu, ''));
     const word = OTHER_WORDS.get(letters) || letters;
@@ -60,6 +72,7 @@ export class Heads {
   }
 
   // The head of a step, or of what has none.
+  /** @type {(base: string, digits: string) => string} */
   numbered(base, digits) {
     return this.hasSteps && base !== 'least' && Number(digits || 1) > 1
       ? `${base} ${Number(digits)}`
@@ -68,10 +81,11 @@ export class Heads {
 
   // The columns that are carried along, and not used: those of earlier results aren't, since they
   // are written anew.
+  /** @type {(table: Table) => string[]} */
   carried(table) {
     const used = new Set([...this.known, ...this.steps(table)]);
     if (!table.has(this.together)) for (const head of this.together) used.delete(head);
-    const isThere = (place) =>
+    const isThere = (/** @type {number} */ place) =>
       table.titles[place] || table.rows.some(({ cells }) => cellAt(cells, place));
     return table.kept(FLOW_RESULTS, PLACE_RESULTS, THROUGH_RESULTS)
       .filter((place) => !used.has(table.heads[place]) && isThere(place))
@@ -80,6 +94,7 @@ export class Heads {
 }
 
 // A line on the columns that are carried along, where there are some.
+/** @type {(columns: string[]) => string[]} */
 export function carriedLines(columns) {
   return columns.length
     ? [`Columns carried along, not used: ${listed([...new Set(columns)], NAMED)}.`]
@@ -87,10 +102,12 @@ export function carriedLines(columns) {
 }
 
 // A head in a sentence: short, with what can't be printed spelt out.
+/** @type {(title: string) => string} */
 const plainHead = (title) => shown(title).slice(1, -1);
 
 // Whether a letter more, a letter less, another letter, or two exchanged make one text of the
 // other.
+/** @type {(one: string, other: string) => boolean} */
 function isOneLetter(one, other) {
   const [short, long] = [[...one], [...other]].sort((a, b) => a.length - b.length);
   if (short.length < long.length) {

@@ -1,3 +1,4 @@
+// @ts-check
 // Places and routes, as tables have them, in whole numbers.
 import {
   NO_LIMIT,
@@ -24,6 +25,10 @@ const YES = ['yes', 'y', 'x', '1', 'true', 'ja', 'j'], NO = ['', 'no', 'n', '0',
 // The places and the routes of two tables: { name, text } or { name, bytes }. A reading may say the
 // mark before decimals, the encoding of bytes, and own heads. Throws a BadTable.
 export class Problem {
+  /**
+   * @param {Source[]} sources
+   * @param {Reading} [reading]
+   */
   constructor(sources, reading = {}) {
     const faults = new Faults(), numbers = new Numbers(reading.decimal);
     const tables = [PLACE_HEADS, ROUTE_HEADS].map((wanted, k) =>
@@ -61,21 +66,24 @@ export class Problem {
     this.placeTable = tables[0];
     this.routeTable = tables[1];
     this.numbers = numbers;
+    /** @type {(amount: Exact | null) => bigint | null} */
     const whole = (amount) => (amount === null ? null : scaled(amount, this.units.amounts));
+    /** @type {(number: Exact) => bigint} */
     const cost = (number) => scaled(number, this.units.costs);
+    /** @type {(part: Bounds<Exact> | null) => Bounds | null} */
     const limits = (part) =>
       part && { least: whole(part.least), most: whole(part.most), cost: cost(part.cost) };
+    /** @type {Place[]} */
     this.places = places.map((place) => ({
       ...place,
       supply: whole(place.supply),
       bounds: limits(place.bounds),
     }));
-    this.routes = routes.map((route) => ({
-      ...route,
-      least: whole(route.least),
-      steps: route.steps.map((step) => ({ most: whole(step.most), cost: cost(step.cost) })),
-    }));
-    for (const route of this.routes) route.most = mostOf(route);
+    /** @type {Route[]} */
+    this.routes = routes.map((route) => {
+      const parts = route.steps.map((step) => ({ most: whole(step.most), cost: cost(step.cost) }));
+      return { ...route, least: whole(route.least), steps: parts, most: mostOf(parts) };
+    });
   }
 
   // Lines on how the tables were read.
@@ -110,19 +118,23 @@ export class Problem {
   }
 
   // The names of a route's ends.
+  /** @type {(route: Route) => string[]} */
   ends(route) { return [this.places[route.tail - 1].name, this.places[route.head - 1].name]; }
 }
 
+/** @type {(number: bigint) => bigint} */
 export const size = (number) => (number < 0n ? -number : number);
 
 // What a route carries at most; null is no limit.
-function mostOf({ steps }) {
+/** @type {(steps: Step[]) => bigint | null} */
+function mostOf(steps) {
   return steps[steps.length - 1].most === null
     ? null
     : steps.reduce((sum, step) => sum + step.most, 0n);
 }
 
 // Ends the run where heads are missing; tables that were exchanged are told.
+/** @type {(tables: Table[], faults: Faults) => void} */
 function checkBoth([placeTable, routeTable], faults) {
   const exchanged = routeTable.has(PLACE_HEADS) && placeTable.has(ROUTE_HEADS.slice(0, 2));
   placeTable.need(
@@ -141,6 +153,7 @@ function checkBoth([placeTable, routeTable], faults) {
 }
 
 // Words where the heads of a table of routes are names of places.
+/** @type {(placeTable: Table, routeTable: Table) => string} */
 function matrixHint(placeTable, routeTable) {
   const column = placeTable.heads.indexOf('name'), titles = routeTable.titles.slice(1);
   if (column < 0 || titles.length < 2) return '';
@@ -149,6 +162,7 @@ function matrixHint(placeTable, routeTable) {
   return 'this looks like a matrix, and routes are a list, a line for each; ';
 }
 
+/** @type {(table: Table, numbers: Numbers, faults: Faults) => Place<Exact>[]} */
 function placesOf(table, numbers, faults) {
   const [nameColumn, supplyColumn] = table.columns(PLACE_HEADS);
   const spots = table.has(SPOT_HEADS) ? table.columns(SPOT_HEADS) : null;
@@ -176,6 +190,14 @@ function placesOf(table, numbers, faults) {
 }
 
 // The bounds of what passes through a place, where any is said.
+/**
+ * @param {Table} table
+ * @param {number} line
+ * @param {string[]} cells
+ * @param {Numbers} numbers
+ * @param {Faults} faults
+ * @returns {Bounds<Exact> | null}
+ */
 function boundsOf(table, line, [least, most, cost], numbers, faults) {
   if (!least && !most && !cost) return null;
   return { least: numbers.read(table, line, 'least', least || '0', faults),
@@ -184,6 +206,15 @@ function boundsOf(table, line, [least, most, cost], numbers, faults) {
 }
 
 // The number of the place that a cell names.
+/**
+ * @param {Table} table
+ * @param {number} line
+ * @param {string} head
+ * @param {string} cell
+ * @param {Map<string, number>} known
+ * @param {Faults} faults
+ * @returns {number}
+ */
 function endOf(table, line, head, cell, known, faults) {
   const name = nameIn(table, line, head, cell, faults), number = known.get(keyOf(name)) || 0;
   if (name && !number) {
@@ -198,6 +229,13 @@ function endOf(table, line, head, cell, known, faults) {
   return number;
 }
 
+/**
+ * @param {Table} table
+ * @param {Place<Exact>[]} places
+ * @param {Numbers} numbers
+ * @param {Faults} faults
+ * @returns {ReadRoute[]}
+ */
 function routesOf(table, places, numbers, faults) {
   const [tails, heads] = table.columns(ROUTE_HEADS);
   const leasts = table.perhaps('least');
@@ -234,6 +272,7 @@ function routesOf(table, places, numbers, faults) {
 }
 
 // The columns of the steps: most and cost, then most 2 and cost 2, and so on.
+/** @type {(table: Table) => { heads: string[], places: number[] }[]} */
 function stepColumns(table) {
   const found = [];
   for (let heads = ['most', 'cost']; !found.length || table.heads.includes(heads[0]); heads = [
@@ -246,6 +285,14 @@ function stepColumns(table) {
 }
 
 // The steps of a route: the first, and those that are filled.
+/**
+ * @param {Table} table
+ * @param {Row} row
+ * @param {{ heads: string[], places: number[] }[]} columns
+ * @param {Numbers} numbers
+ * @param {Faults} faults
+ * @returns {Step<Exact>[]}
+ */
 function stepsOf(table, { line, cells }, columns, numbers, faults) {
   const found = [];
   for (const { heads, places } of columns) {
@@ -284,6 +331,12 @@ function stepsOf(table, { line, cells }, columns, numbers, faults) {
 }
 
 // Notes routes without a limit where a cost is below 0: a round trip could earn without end.
+/**
+ * @param {Table[]} tables
+ * @param {ReadRoute[]} routes
+ * @param {Place<Exact>[]} places
+ * @param {Faults} faults
+ */
 function checkLimits(tables, routes, places, faults) {
   const below = [
     ...routes

@@ -1,6 +1,8 @@
+// @ts-check
 // The proved module: one instance of it for each run, so that memory comes back whole and nothing
 // outlives a trap. An instance asks its host for nothing. Texts are bytes.
 
+/** @type {Status[]} */
 const STATUS = ['flow', 'blocked', 'refused', 'memory', 'room', 'choice'];
 const KINDS = [
   'accepted flow', 'accepted blocked', 'accepted refusal', 'rejected shape', 'rejected kind',
@@ -17,6 +19,7 @@ const ENGINES = ['auto', 'cancel', 'simplex', 'scaling', 'sap', 'augment'];
 const LARGE = 2 ** 14;
 
 // The engine that suits a text by its size, where its beginning has the problem line.
+/** @type {(bytes: Uint8Array) => string} */
 function suited(bytes) {
   const line = /^[ \t]*p[ \t]+min[ \t]+(\d+)/m.exec(
     new TextDecoder().decode(bytes.subarray(0, 4096))
@@ -26,21 +29,26 @@ function suited(bytes) {
 
 // An instance, with what lends it bytes and reads from its memory.
 export class Instance {
+  /** @param {WebAssembly.Module} module */
   constructor(module) {
-    this.exports = new WebAssembly.Instance(module).exports;
+    const { exports } = new WebAssembly.Instance(module);
+    this.exports = /** @type {Exports} */ (/** @type {unknown} */ (exports));
     this.used = this.room(8);
   }
 
+  /** @type {(size: number) => bigint} */
   room(size) {
     const at = this.exports.page_alloc(BigInt(size));
     if (!at) throw new RangeError('memory');
     return at;
   }
 
+  /** @type {(at: bigint, size: number) => Uint8Array} */
   bytes(at, size) { return new Uint8Array(this.exports.memory.buffer, Number(at), size); }
 
   view() { return new DataView(this.exports.memory.buffer); }
 
+  /** @type {(text: Uint8Array) => Lent} */
   lend(text) {
     const at = this.room(Math.max(text.byteLength, 1));
     this.bytes(at, text.byteLength).set(text);
@@ -49,6 +57,10 @@ export class Instance {
 
   // Solves a text that was lent: its status, and where the answer is. A room that is too short is
   // made anew.
+  /**
+   * @param {Lent} text
+   * @returns {{ status: Status } & Lent}
+   */
   solve(text, engine = 'auto', form = 2, size = 0) {
     const choice = this.room(16), room = size || text.size + 1024;
     [ENGINES.indexOf(engine), 0, 0, form].forEach((number, k) =>
@@ -71,6 +83,7 @@ export class Instance {
 
   // Judges an answer that was lent: whether it is accepted, and the line that mcfcheck prints; or
   // null for want of memory.
+  /** @type {(text: Lent, answer: Lent) => Verdict | null} */
   check(text, answer) {
     const told = this.room(32);
     const status = this.exports.mcf_check(
@@ -96,6 +109,7 @@ export class Instance {
 
 // Solves a text and has the answer judged before it is handed out: a status of flow, blocked or
 // refused comes with an accepted answer.
+/** @type {(module: WebAssembly.Module, bytes: Uint8Array, engine: string) => Judged} */
 export function judged(module, bytes, engine) {
   const instance = new Instance(module), text = instance.lend(bytes), begun = performance.now();
   const found = instance.solve(text, engine === 'auto' ? suited(bytes) : engine);
@@ -117,6 +131,12 @@ export function judged(module, bytes, engine) {
 }
 
 // Whether an answer of somebody else's is accepted.
+/**
+ * @param {WebAssembly.Module} module
+ * @param {Uint8Array} bytes
+ * @param {Uint8Array} answer
+ * @returns {Verdict}
+ */
 export function accepts(module, bytes, answer) {
   const instance = new Instance(module);
   const verdict = instance.check(instance.lend(bytes), instance.lend(answer));

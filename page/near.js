@@ -1,3 +1,4 @@
+// @ts-check
 // The name that is nearly another one, as difflib of Python finds it.
 
 // Of how many names one is looked for, and how much of a name has to agree.
@@ -5,8 +6,18 @@ const MOST = 10000, CUTOFF = 0.6;
 
 // The longest part that two texts have in common within some bounds: where it begins in each, and
 // how long it is.
+/**
+ * @param {string[]} a
+ * @param {string[]} b
+ * @param {Map<string, number[]>} places
+ * @param {number[]} bounds
+ * @returns {[number, number, number]}
+ */
 function longest(a, b, places, [alow, ahigh, blow, bhigh]) {
-  let best = [alow, blow, 0], lengths = new Map();
+  /** @type {[number, number, number]} */
+  let best = [alow, blow, 0];
+  /** @type {Map<number, number>} */
+  let lengths = new Map();
   for (let i = alow; i < ahigh; i++) {
     const next = new Map();
     for (const j of places.get(a[i]) || []) {
@@ -20,6 +31,13 @@ function longest(a, b, places, [alow, ahigh, blow, bhigh]) {
   return best;
 }
 
+/**
+ * @param {string[]} a
+ * @param {string[]} b
+ * @param {Map<string, number[]>} places
+ * @param {number[]} bounds
+ * @returns {number}
+ */
 function agreeing(a, b, places, bounds) {
   const [i, j, length] = longest(a, b, places, bounds), [alow, ahigh, blow, bhigh] = bounds;
   if (!length) return 0;
@@ -30,6 +48,7 @@ function agreeing(a, b, places, bounds) {
 
 // The names, of some thousands, that are nearly a name: those that differ in capitals alone, else
 // the nearest one.
+/** @type {(name: string, names: string[], fold: (name: string) => string) => string[]} */
 export function nearTo(name, names, fold) {
   const same = names.filter((other) => fold(other) === fold(name));
   if (same.length) return same;

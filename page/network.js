@@ -1,8 +1,16 @@
+// @ts-check
 // Networks in whole numbers, their texts, and the sets of nodes that block every flow. Nodes are
 // numbered from 1, arcs from 0.
 
 export class Network {
-  constructor(supplies, arcs) { Object.assign(this, { supplies, arcs }); }
+  /**
+   * @param {bigint[]} supplies
+   * @param {Arc[]} arcs
+   */
+  constructor(supplies, arcs) {
+    this.supplies = supplies;
+    this.arcs = arcs;
+  }
 
   // The lines of the network's text.
   lines() {
@@ -25,8 +33,12 @@ export class Network {
   // What a set must and can send (or take). It must send its supplies and what arcs bring by their
   // least; it can send the most of the arcs that lead out. Of a set that takes it is the other way
   // round.
+  /** @type {(side: SendOrTake, nodes: Set<number>) => Bottleneck} */
   bottleneck(side, nodes) {
-    const leaving = [], entering = [];
+    /** @type {number[]} */
+    const leaving = [];
+    /** @type {number[]} */
+    const entering = [];
     this.arcs.forEach((arc, k) => {
       if (nodes.has(arc.tail) && !nodes.has(arc.head)) leaving.push(k);
       if (!nodes.has(arc.tail) && nodes.has(arc.head)) entering.push(k);
@@ -49,6 +61,7 @@ export class Network {
 
   // The bottlenecks that a blocking set falls into: no arc joins two of its parts, so that one at
   // least blocks by itself.
+  /** @type {(side: SendOrTake, nodes: Set<number>) => Bottleneck[]} */
   blockingParts(side, nodes) {
     return partsOf(nodes, this.arcs)
       .map((part) => this.bottleneck(side, part))
@@ -58,6 +71,7 @@ export class Network {
 
 // The parts of a set of nodes that no arc within the set connects, each as a set; by their least
 // nodes.
+/** @type {(nodes: Iterable<number>, arcs: Arc[]) => Set<number>[]} */
 export function partsOf(nodes, arcs) {
   const neighbours = new Map([...nodes].sort((a, b) => a - b).map((node) => [node, []]));
   const seen = new Set();
@@ -81,10 +95,16 @@ export function partsOf(nodes, arcs) {
 // An instance as text, and for each of its lines the table, its line and its columns by the word of
 // a refusal.
 export class Lines {
+  /** @param {'min' | 'asn'} suffix */
   constructor(suffix) {
-    Object.assign(this, { name: `instance.${suffix}`, lines: [], origins: [] });
+    this.name = `instance.${suffix}`;
+    /** @type {string[]} */
+    this.lines = [];
+    /** @type {(Origin | null)[]} */
+    this.origins = [];
   }
 
+  /** @type {(lines: string[], origins?: (Origin | null)[]) => void} */
   add(lines, origins = []) {
     for (const line of lines) this.lines.push(line);
     for (const origin of origins) this.origins.push(origin);
@@ -95,12 +115,13 @@ export class Lines {
 }
 
 // The network of a DIMACS text that was read without fault.
+/** @type {(text: string) => Network & { isAssignment: boolean }} */
 export function networkOf(text) {
   const supplies = [], arcs = [];
   let persons = false;
   for (const line of text.split('\n')) {
     const fields = line.trim().split(/[ \t\r]+/);
-    const number = (k) => BigInt(fields[k].replace('+', ''));
+    const number = (/** @type {number} */ k) => BigInt(fields[k].replace('+', ''));
     if (fields[0] === 'p') {
       persons = fields[1] === 'asn';
       for (let k = Number(fields[2]); k > 0; k--) supplies.push(persons ? -1n : 0n);

@@ -1,3 +1,4 @@
+// @ts-check
 // The page: what is put in, what is shown, and what is done between.
 import { Client } from './client.js';
 import { BadTable } from './faults.js';
@@ -10,7 +11,20 @@ import { textOf } from './tables.js';
 import { el, grouped, pictureOf, saver } from './view.js';
 import { pageWords } from './words.js';
 
-const $ = (id) => document.getElementById(id);
+/**
+ * @typedef {import('./flownet.js').FlowPlan} FlowPlan
+ * @typedef {import('./view.js').Part} Part
+ * @typedef {{ parts: Part[], sheets: Sheet[] }} Changes
+ */
+
+// An element of page.html, most of which are fields.
+/** @type {(id: string) => HTMLInputElement} */
+const $ = (id) => /** @type {HTMLInputElement} */ (document.getElementById(id));
+/** @type {(query: string) => HTMLInputElement[]} */
+const fields = (query) => [
+  .../** @type {NodeListOf<HTMLInputElement>} */ (document.querySelectorAll(query)),
+];
+/** @type {Record<string, string>} */
 const WHY = {
   memory: 'The memory that this browser gives isn’t enough for it.',
   rejected: 'The answer was not accepted, so nothing of it is shown.',
@@ -21,34 +35,51 @@ const WHY = {
 };
 // Of longer files the text isn't put into its field.
 const FIELD = 400000;
+/** @type {Record<string, string>} */
 const FIELDS = { places: 'Places', routes: 'Routes', costs: 'Costs', dimacs: 'Instance' };
 
-let solver, busy = false, plan = null, grids = [];
+/** @type {Client} */
+let solver;
+let busy = false;
+/** @type {FlowPlan | null} */
+let plan = null;
+/** @type {Grid[]} */
+let grids = [];
 // What fields have that isn't their text: the name and the bytes of a file.
+/** @type {Record<string, { name: string, bytes?: Uint8Array } | null>} */
 const files = {};
+
+/** @type {() => Example[]} */
+const examples = () => JSON.parse($('examples').textContent);
 
 // ---- What is put in
 
-const kindOf = () => document.querySelector('input[name=kind]:checked').value;
+const kindOf = () => fields('input[name=kind]:checked')[0].value;
 
+/** @type {(kind: string) => void} */
 function chooseKind(kind) {
-  document.querySelector(`input[name=kind][value=${kind}]`).checked = true;
-  for (const part of document.querySelectorAll('[data-kind]')) {
-    part.hidden = part.dataset.kind !== kind;
-  }
+  fields(`input[name=kind][value=${kind}]`)[0].checked = true;
+  for (const part of fields('[data-kind]')) part.hidden = part.dataset.kind !== kind;
 }
 
+/**
+ * @param {string} id
+ * @param {string} text
+ * @param {{ name: string, bytes?: Uint8Array } | null} [file]
+ */
 function put(id, text, file = null) {
   $(id).value = text;
   files[id] = file;
 }
 
+/** @type {(id: string) => Source} */
 function sourceOf(id) {
   const file = files[id];
   if (file && file.bytes) return { name: file.name, bytes: file.bytes };
   return { name: file ? file.name : FIELDS[id], text: $(id).value };
 }
 
+/** @type {() => Choices} */
 function choices() {
   const heads = Object.fromEntries(
     $('heads').value
@@ -60,25 +91,28 @@ function choices() {
   return {
     reading: { decimal: $('decimal').value || null, encoding: $('encoding').value || null, heads },
     policy: { unused: $('unused').checked, short: $('short').checked },
-    each: $('each').value || null,
+    each: /** @type {Choices['each']} */ ($('each').value || null),
     maximise: $('maximise').checked,
     engine: $('engine').value,
   };
 }
 
 // What stands above a plan and its picture: the title, the date and the tables.
+/** @type {(kind: string) => Caption} */
 function captionOf(kind) {
   const now = new Date();
-  const ids = { flow: ['places', 'routes'], pairs: ['costs'], text: ['dimacs'] }[kind];
-  const names = ids.map((id) => sourceOf(id).name);
+  /** @type {Record<string, string[]>} */
+  const ids = { flow: ['places', 'routes'], pairs: ['costs'], text: ['dimacs'] };
+  const names = ids[kind].map((id) => sourceOf(id).name);
   const date = [now.getFullYear(), now.getMonth() + 1, now.getDate()]
     .map((part) => String(part).padStart(2, '0'))
     .join('-');
-  const line = (text) => text.replace(/[\u0000-\u001f\u007f]/g, ' ').trim();
+  const line = (/** @type {string} */ text) => text.replace(/[\u0000-\u001f\u007f]/g, ' ').trim();
   return { title: line($('title').value), source: line(`${date}: ${names.join(', ')}`) };
 }
 
 // Files that were chosen or dropped: which of the fields they are for, their beginning says.
+/** @type {(list: FileList) => Promise<void>} */
 async function take(list) {
   for (const file of list) {
     const bytes = await file.arrayBuffer().then((buffer) => new Uint8Array(buffer), () => null);
@@ -112,8 +146,9 @@ async function take(list) {
   }
 }
 
+/** @type {(number: number) => void} */
 function example(number) {
-  const { kind, texts, heads, unused } = JSON.parse($('examples').textContent)[number];
+  const { kind, texts, heads, unused } = examples()[number];
   chooseKind(kind);
   (kind === 'flow' ? ['places', 'routes'] : ['costs']).forEach((id, k) => put(id, texts[k]));
   $('heads').value = heads;
@@ -124,6 +159,7 @@ function example(number) {
 
 // ---- Running
 
+/** @param {Change | null} [change] */
 async function go(change = null) {
   if (busy) return solver.stop();
   const kind = kindOf(), before = change && plan, asked = choices(), begun = performance.now();
@@ -133,6 +169,7 @@ async function go(change = null) {
   document.body.dataset.status = 'running';
   let status;
   try {
+    /** @type {Record<string, () => Promise<Run>>} */
     const run = {
       flow: () => runFlow(solver, [sourceOf('places'), sourceOf('routes')], asked),
       pairs: () => runPairs(solver, sourceOf('costs'), asked),
@@ -156,10 +193,11 @@ async function go(change = null) {
 }
 
 // A cell that was changed: the table is written anew, and solved.
+/** @type {import('./grid.js').Changing} */
 function changed({ from: table, field }, k, head, text) {
   const { cells } = table.rows[k];
   const place = table.heads.indexOf(head);
-  const cell = (name) => cells[table.heads.indexOf(name)];
+  const cell = (/** @type {string} */ name) => cells[table.heads.indexOf(name)];
   const old = Object.fromEntries(
     ['places', 'routes'].map((id) => [id, { text: $(id).value, file: files[id] }])
   );
@@ -187,22 +225,22 @@ function changed({ from: table, field }, k, head, text) {
 
 // ---- What is shown
 
+/** @type {(...parts: (Part | Part[] | false | null)[]) => void} */
 function replaceResult(...parts) {
-  const focused = document.activeElement && document.activeElement.dataset
-    ? document.activeElement.dataset.key
-    : null;
-  $('result').replaceChildren(...parts.flat().filter(Boolean));
+  const active = /** @type {HTMLElement | null} */ (document.activeElement);
+  const focused = active && active.dataset ? active.dataset.key : null;
+  $('result').replaceChildren(.../** @type {Part[]} */ (parts.flat().filter(Boolean)));
   $('result').hidden = false;
   for (const grid of grids) grid.settle();
-  const field =
-    focused
-    && [...document.querySelectorAll('input.cell')].find((it) => it.dataset.key === focused);
+  const field = focused && fields('input.cell').find((it) => it.dataset.key === focused);
   if (field) field.focus({ preventScroll: true });
 }
 
+/** @type {(text: string, className?: string | null) => HTMLElement} */
 const paragraph = (text, className = null) =>
   el('p', className ? { class: className } : {}, pageWords(text));
 
+/** @type {(shown: CaptionedRun, change: Change | null, before: FlowPlan | null) => void} */
 function show(shown, change, before) {
   const { result, instance, mark, caption } = shown;
   const [words, figure] = shown.headline;
@@ -217,7 +255,7 @@ function show(shown, change, before) {
     grids.unshift(grid);
     return grid.element;
   });
-  const ms = (time) => `${time < 10 ? time.toFixed(1) : time.toFixed(0)} ms`;
+  const ms = (/** @type {number} */ time) => `${time < 10 ? time.toFixed(1) : time.toFixed(0)} ms`;
   replaceResult(
     el(
       'h2',
@@ -256,6 +294,7 @@ function show(shown, change, before) {
   );
 }
 
+/** @type {(finding: Finding) => HTMLElement} */
 function findingOf({ figures, sentence, cure }) {
   const numbers = figures.flatMap(([words, number], k) => [
     k ? ' · ' : '',
@@ -271,6 +310,7 @@ function findingOf({ figures, sentence, cure }) {
 }
 
 // What a change made of the plan before.
+/** @type {(shown: Run, change: Change, before: FlowPlan | null) => Changes} */
 function changeParts(shown, { what, undo }, before) {
   const back = undo ? el('button', { type: 'button', onclick: undo }, 'Take it back') : '';
   if (!shown.plan || !before) {
@@ -287,6 +327,7 @@ function changeParts(shown, { what, undo }, before) {
   return { parts: [paragraph(what), paragraph(text), back], sheets };
 }
 
+/** @type {(shown: Run, instance: Run['instance'], drawn: string | null) => HTMLElement} */
 function saves(shown, instance, drawn) {
   const { problem } = shown.plan || {}, mark = problem ? problem.numbers.mark : shown.mark;
   return el(
@@ -318,6 +359,10 @@ function saves(shown, instance, drawn) {
   );
 }
 
+/**
+ * @param {any} error what was thrown
+ * @param {Change | null} [change]
+ */
 function showTrouble(error, change) {
   const lines = error instanceof BadTable
     ? error.lines
@@ -345,14 +390,11 @@ function showTrouble(error, change) {
 // ---- The beginning
 
 function begin() {
-  JSON.parse($('examples').textContent)
-    .forEach(({ name }, k) => $('example').append(el('option', { value: k }, name)));
+  examples().forEach(({ name }, k) => $('example').append(el('option', { value: k }, name)));
   $('example').onchange = () => {
     if ($('example').value !== '') { example(Number($('example').value)); go(); }
   };
-  for (const radio of document.querySelectorAll('input[name=kind]')) {
-    radio.onchange = () => chooseKind(radio.value);
-  }
+  for (const radio of fields('input[name=kind]')) radio.onchange = () => chooseKind(radio.value);
   for (const id of Object.keys(FIELDS)) {
     $(id).oninput = () => { files[id] = files[id] && { name: files[id].name }; };
   }
@@ -375,7 +417,7 @@ function begin() {
   });
   addEventListener('beforeprint', () => grids.forEach((grid) => grid.fill(true, true)));
   addEventListener('afterprint', () => grids.forEach((grid) => grid.settle()));
-  example(JSON.parse($('examples').textContent).findIndex(({ name }) => name === 'transport'));
+  example(examples().findIndex(({ name }) => name === 'transport'));
   try {
     solver = new Client($('worker').textContent, $('module').textContent.trim());
     solver.ready.then(

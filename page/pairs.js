@@ -1,12 +1,16 @@
+// @ts-check
 // The network of persons and things, its plan, and who competes.
 import { TOLD_NAMES, countOf, listed } from './faults.js';
 import { Lines, Network } from './network.js';
 import { PAIR_HEADS } from './roster.js';
 
+/** @typedef {import('./roster.js').Roster} Roster */
+
 // Nodes are the persons, then the things; arc k is the k-th pair. After them, one node more: from
 // it an arc leads to each person, which carries how many it takes, and one from each thing, which
 // carries how many it needs.
 export class RosterNet extends Network {
+  /** @param {Roster} roster */
   constructor(roster) {
     let { takes, needs } = roster;
     // As many persons as things, none has more than one, and all of one side have to have one: so
@@ -31,7 +35,10 @@ export class RosterNet extends Network {
       arcs.push({ tail: persons + k + 1, head: hub, least, most, cost: 0n })
     );
     super(new Array(hub).fill(0n), arcs);
-    Object.assign(this, { roster, isAssignment, persons, hub });
+    this.roster = roster;
+    this.isAssignment = isAssignment;
+    this.persons = persons;
+    this.hub = hub;
   }
 
   // The network as text, with where its lines come from; an assignment in its own form, which has
@@ -65,6 +72,7 @@ export class RosterNet extends Network {
     return made;
   }
 
+  /** @type {(node: number) => string} */
   name(node) {
     return node <= this.persons
       ? this.roster.persons.names[node - 1]
@@ -73,6 +81,7 @@ export class RosterNet extends Network {
 
   // A bottleneck with the things (or persons) beside it that limit it no less than the pairs that
   // lead to them do.
+  /** @type {(found: Bottleneck) => Bottleneck} */
   whole(found) {
     const count = this.roster.pairs.length, outside = new Map(), nodes = new Set(found.nodes);
     for (const k of found.limiting) {
@@ -89,8 +98,13 @@ export class RosterNet extends Network {
 
   // Those who must, with how many at least; and those by whom they can, with how many at most; and
   // the pairs by which they can.
+  /**
+   * @param {Bottleneck} found
+   * @returns {{ must: [number, bigint][], can: [number, bigint][], pairs: number[] }}
+   */
   sides({ forcing, limiting }) {
     const count = this.roster.pairs.length;
+    /** @type {(k: number) => number} */
     const node = (k) => (this.arcs[k].tail === this.hub ? this.arcs[k].head : this.arcs[k].tail);
     return {
       must: forcing.filter((k) => k >= count).map((k) => [node(k), this.arcs[k].least]),
@@ -101,6 +115,7 @@ export class RosterNet extends Network {
 }
 
 // These persons compete for too few things, or these things want too few persons.
+/** @type {(net: RosterNet, found: Bottleneck) => string} */
 function rivalsSentence(net, found) {
   const { must, can, pairs } = net.sides(found);
   const names = must.map(([node]) => net.name(node));
@@ -127,6 +142,7 @@ function rivalsSentence(net, found) {
 
 // Of each bottleneck the column must adds up to what persons must take (things need), the column
 // can to what can be.
+/** @type {(net: RosterNet, bottlenecks: Bottleneck[]) => SavedTable} */
 export function rivalsTable(net, bottlenecks) {
   const rows = bottlenecks.flatMap((found, k) => {
     const { must, can, pairs } = net.sides(found);
@@ -154,6 +170,7 @@ export function rivalsTable(net, bottlenecks) {
 }
 
 // Of a list the lines of the pairs, by the persons.
+/** @type {(roster: Roster, chosen: Pair[]) => SavedTable} */
 export function pairsTable(roster, chosen) {
   const { table, persons, things, units } = roster;
   if (roster.isList) {
@@ -174,10 +191,12 @@ export function pairsTable(roster, chosen) {
 }
 
 // The pairs that a plan chose, by the persons.
+/** @type {(roster: Roster, plan: Plan) => Pair[]} */
 export function chosenOf(roster, { flows }) {
   return roster.pairs.filter((_, k) => flows[k]).sort((a, b) => a.who - b.who || a.what - b.what);
 }
 
+/** @type {(roster: Roster, chosen: Pair[], cost: bigint) => string[]} */
 export function pairsSummary(roster, chosen, cost) {
   const [which, word] = roster.units.sign < 0n
     ? ['Pairs of the greatest value', 'value']
@@ -188,10 +207,12 @@ export function pairsSummary(roster, chosen, cost) {
       + `${countOf(roster.things.names.length, 'thing', 'things')}: `
       + `${countOf(chosen.length, 'pair', 'pairs')}.`,
   ];
-  for (const [text, { names }, end] of [
+  /** @type {[text: string, side: { names: string[] }, end: 'who' | 'what'][]} */
+  const sides = [
     ['Without a thing', roster.persons, 'who'],
     ['Left over', roster.things, 'what'],
-  ]) {
+  ];
+  for (const [text, { names }, end] of sides) {
     const taken = new Set(chosen.map((pair) => pair[end]));
     const left = names.filter((_, k) => !taken.has(k + 1));
     if (left.length) lines.push(`${text}: ${listed(left)}.`);
@@ -200,6 +221,7 @@ export function pairsSummary(roster, chosen, cost) {
 }
 
 // Why there are no such pairs.
+/** @type {(net: RosterNet, bottlenecks: Bottleneck[]) => string[]} */
 export function rivalsLines(net, bottlenecks) {
   const { takes, needs } = net.roster;
   const lines = ['No such pairs exist, as mcf found and mcfcheck accepted:'];

@@ -1,10 +1,24 @@
+// @ts-check
 // What is said of a flow, and its tables: as mcf_plan says and writes them.
 import { MISSING, STAYS, THROUGH } from './flownet.js';
 import { TOLD_NAMES, countOf, listed } from './faults.js';
 import { FLOW_RESULTS, PLACE_RESULTS, THROUGH_RESULTS } from './heads.js';
 import { SEPARATORS, cellAt } from './tables.js';
 
+/**
+ * @typedef {import('./flownet.js').FlowNet} FlowNet
+ * @typedef {import('./flownet.js').FlowPlan} FlowPlan
+ * @typedef {import('./model.js').Problem} Problem
+ */
+
 // A table of another's columns, and of groups of results after them; the last columns are figures.
+/**
+ * @param {string} name
+ * @param {import('./tables.js').Table} like
+ * @param {string[][]} results
+ * @param {[cells: string[], results: string[]][]} rows
+ * @returns {SavedTable}
+ */
 function after(name, like, results, rows) {
   const places = like.kept(...results);
   const heads = [...places.map((place) => like.titles[place]), ...results.flat()];
@@ -18,9 +32,11 @@ function after(name, like, results, rows) {
 }
 
 // The routes in their order, with the columns that they had; then what stays and what is missing.
+/** @type {(plan: FlowPlan) => SavedTable} */
 export function flowsTable(plan) {
   const { problem } = plan;
   const { units } = problem;
+  /** @type {[string[], string[]][]} */
   const rows = problem.routes.map((route, k) => [route.cells, cellsOf(plan, plan.routes[k])]);
   for (const isSupply of [true, false]) {
     for (const [place, amount] of plan.unmet(isSupply)) {
@@ -37,6 +53,7 @@ export function flowsTable(plan) {
   return after('flows', problem.routeTable, [FLOW_RESULTS], rows);
 }
 
+/** @type {(plan: FlowPlan, result: RouteResult) => string[]} */
 function cellsOf(plan, { carries, cost, free, saves, isExact }) {
   const { units } = plan.problem;
   return [
@@ -50,8 +67,10 @@ function cellsOf(plan, { carries, cost, free, saves, isExact }) {
 
 // The places in their order, with the columns that they had. What a unit costs at a place is minus
 // its price.
+/** @type {(plan: FlowPlan) => SavedTable} */
 export function pricesTable(plan) {
   const hasBounds = plan.problem.places.some((place) => place.bounds);
+  /** @type {[string[], string[]][]} */
   const rows = plan.problem.places.map((place, k) => {
     const { price, group, through } = plan.places[k];
     return [
@@ -73,9 +92,10 @@ export function pricesTable(plan) {
 
 // Of each bottleneck the column must adds up to what must be sent (or taken), the column can to
 // what can be.
+/** @type {(net: FlowNet, bottlenecks: Bottleneck[]) => SavedTable} */
 export function bottleneckTable(net, bottlenecks) {
-  const { amount } = net.problem.units;
-  const said = (number) => amount.call(net.problem.units, number);
+  const said = (/** @type {bigint} */ number) => net.problem.units.amount(number);
+  /** @type {string[][]} */
   const rows = [];
   bottlenecks.forEach((found, k) => {
     const sign = found.side === 'send' ? 1n : -1n;
@@ -103,6 +123,7 @@ export function bottleneckTable(net, bottlenecks) {
   };
 }
 
+/** @type {(net: FlowNet, k: number) => string[]} */
 const arcCells = (net, k) => (
   net.uses[k].kind === 'through'
     ? ['through', net.ends(k)[0], '', '']
@@ -111,13 +132,17 @@ const arcCells = (net, k) => (
 
 // A table as CSV, with the separator and the byte-order mark of the one that it is like, and its
 // mark before decimals.
+/**
+ * @param {Csv} table
+ * @param {string | null} [mark]
+ */
 export function csvOf({ heads, rows, like, figures }, mark) {
-  const quoted = (value) => (
+  const quoted = (/** @type {string} */ value) => (
     /["\n\r]/.test(value) || value.includes(like.separator)
       ? `"${value.replaceAll('"', '""')}"`
       : value
   );
-  const text = (row) =>
+  const text = (/** @type {Csv['rows'][0]} */ row) =>
     row
       .map((value, k) =>
         quoted(figures.includes(k) ? String(value).replace('.', mark || '.') : String(value))
@@ -129,6 +154,7 @@ export function csvOf({ heads, rows, like, figures }, mark) {
 }
 
 // The sums of supplies and of demands.
+/** @type {(problem: Problem) => bigint[]} */
 export function balanceOf({ places }) {
   return [1n, -1n].map((sign) =>
     places.reduce((sum, place) => (sign * place.supply > 0n ? sum + sign * place.supply : sum), 0n)
@@ -136,6 +162,7 @@ export function balanceOf({ places }) {
 }
 
 // What looks like a slip of the tables, though they can be read.
+/** @type {(net: FlowNet) => string[]} */
 export function slips({ problem, policy }) {
   const [supply, demand] = balanceOf(problem), { places, placeTable } = problem;
   if (supply && !demand) {
@@ -160,8 +187,10 @@ export function slips({ problem, policy }) {
 }
 
 // What is wrong where supplies and demands don't agree.
+/** @type {(problem: Problem) => string} */
 export function balanceSentence(problem) {
-  const [supply, demand] = balanceOf(problem), said = (number) => problem.said.amount(number);
+  const [supply, demand] = balanceOf(problem);
+  const said = (/** @type {bigint} */ number) => problem.said.amount(number);
   const [more, less, cure] = supply > demand ? ['supply', 'demand', '--unused allow lets it stay']
     : ['demand', 'supply', '--short allow lets it be short'];
   const gap = supply > demand ? supply - demand : demand - supply;
@@ -170,11 +199,13 @@ export function balanceSentence(problem) {
 }
 
 // These places must send (or take) N, and can only M, over these routes: short by N - M.
+/** @type {(net: FlowNet, found: Bottleneck) => string} */
 export function bottleneckSentence(net, found) {
-  const said = (number) => net.problem.said.amount(number);
+  const said = (/** @type {bigint} */ number) => net.problem.said.amount(number);
   const places = [...new Set(found.nodes.map((node) => net.nodeName(node)))];
-  const routeName = (k) =>
+  const routeName = (/** @type {number} */ k) =>
     net.uses[k].kind === 'through' ? `through ${net.ends(k)[0]}` : net.ends(k).join(' -> ');
+  /** @type {(arcs: number[], bound: 'least' | 'most') => string} */
   const routes = (arcs, bound) =>
     listed(net.amounts(arcs, bound).map(([k, number]) => `${routeName(k)} (${said(number)})`));
   const who = `${listed(places)}${places.length > 1 ? ' together' : ''}`;
@@ -188,6 +219,7 @@ export function bottleneckSentence(net, found) {
 }
 
 // Why there is no plan.
+/** @type {(blocked: Blocked) => string[]} */
 export function blockedSummary({ net, eased, isUnbalanced, bottlenecks }) {
   const lines = ['No plan exists, as mcf found and mcfcheck accepted:'];
   if (isUnbalanced) lines.push(`  ${balanceSentence(net.problem)}`);
@@ -202,6 +234,7 @@ export function blockedSummary({ net, eased, isUnbalanced, bottlenecks }) {
 }
 
 // What a person wants to know of a plan first.
+/** @type {(plan: FlowPlan) => string[]} */
 export function flowSummary(plan) {
   const { problem } = plan;
   const carrying = plan.routes.filter((result) => result.carries).length;
@@ -230,10 +263,12 @@ export function flowSummary(plan) {
   ];
 }
 
+/** @type {(plan: FlowPlan, result: RouteResult) => string} */
 export const savedText = (plan, { saves, isExact }) =>
   `${isExact ? '' : 'at most '}${plan.problem.said.text(plan.rate(saves))}`;
 
 // The routes and the places where more room would save, the greatest savings first.
+/** @type {(plan: FlowPlan) => { ends: string[], result: RouteResult }[]} */
 export function savingsOf(plan) {
   const { problem } = plan;
   const found = problem.routes.map((route, k) => ({
@@ -251,9 +286,9 @@ export function savingsOf(plan) {
 }
 
 // What stays and what is missing.
+/** @type {(plan: FlowPlan) => string[]} */
 function unmetLines(plan) {
-  const { amount } = plan.problem.said;
-  const said = (number) => amount.call(plan.problem.said, number);
+  const said = (/** @type {bigint} */ number) => plan.problem.said.amount(number);
   const { policy } = plan.net;
   const lines = [];
   for (const isSupply of [true, false]) {

@@ -1,3 +1,4 @@
+// @ts-check
 // Persons, things and the pairs of them that may be, as tables have them: a list with the columns
 // who, what and cost, or a matrix.
 import { Numbers, Said, Units, decimalsOf, scaled } from './amounts.js';
@@ -14,11 +15,19 @@ const RANGE = /^([0-9]{1,18})(?:\s*(?:-|–|\.\.|to|bis)\s*([0-9]{1,18}))?$/;
 // The persons, or the things, each numbered from 1 in the order in which they come; how many each
 // may have, where that is said.
 class Side {
+  /** @param {'takes' | 'needs'} head */
   constructor(head) {
-    Object.assign(this, { head, names: [], numbers: new Map(), said: new Map() });
+    this.head = head;
+    /** @type {string[]} */
+    this.names = [];
+    /** @type {Map<string, number>} */
+    this.numbers = new Map();
+    /** @type {Map<number, (string | undefined)[]>} */
+    this.said = new Map();
   }
 
   // The number of a name, which is new or was there.
+  /** @type {(name: string) => number} */
   number(name) {
     const key = keyOf(name);
     if (!this.numbers.has(key)) this.numbers.set(key, this.names.push(name));
@@ -26,6 +35,7 @@ class Side {
   }
 
   // Notes how many one may have, in a cell that isn't empty; what was said before must be the same.
+  /** @type {(where: Where, number: number, cell: string, faults: Faults) => void} */
   say(where, number, cell, faults) {
     if (!cell) return;
     const found = RANGE.exec(cell);
@@ -48,10 +58,11 @@ class Side {
 
   // How many one gets, at least and at most: just one of those that each have to, else at most one;
   // or what was said. One number alone is all that a thing needs, and the most that a person takes.
+  /** @type {(number: number, isEach: boolean) => HowMany} */
   rangeOf(number, isEach) {
     const said = this.said.get(number);
     if (!said) return [isEach ? 1n : 0n, 1n];
-    if (said[1] !== undefined) return said.map(BigInt);
+    if (said[1] !== undefined) return [BigInt(said[0]), BigInt(said[1])];
     const most = BigInt(said[0]);
     return [this.head === 'needs' ? most : isEach && most > 0n ? 1n : 0n, most];
   }
@@ -60,6 +71,11 @@ class Side {
 // The pairs of a table { name, text } or { name, bytes }, their costs in whole numbers, and how
 // many each person takes and each thing needs.
 export class Roster {
+  /**
+   * @param {Source} source
+   * @param {Reading} [reading]
+   * @param {Choices['each']} [each]
+   */
   constructor(source, reading = {}, each = null, maximise = false) {
     const faults = new Faults();
     this.numbers = new Numbers(reading.decimal);
@@ -85,6 +101,7 @@ export class Roster {
   }
 
   // Notes that no person or no thing is read, with what is.
+  /** @type {(faults: Faults) => void} */
   checkRead(faults) {
     const { table } = this;
     const word = !this.things.names.length ? 'thing' : !this.persons.names.length ? 'person' : '';
@@ -107,6 +124,7 @@ export class Roster {
     ];
   }
 
+  /** @type {(faults: Faults) => Pair<Exact>[]} */
   listed(faults) {
     const { table } = this;
     PAIRS.check(table, faults);
@@ -150,6 +168,7 @@ export class Roster {
   }
 
   // A person each row, a thing each column; perhaps a column takes and a row needs.
+  /** @type {(faults: Faults) => Pair<Exact>[]} */
   matrix(faults) {
     const { table } = this;
     const takes = table.perhaps('takes');
@@ -184,8 +203,12 @@ export class Roster {
   }
 
   // The columns of the matrix that have a thing, each with its number.
+  /** @type {(faults: Faults) => { place: number, what: number }[]} */
   matrixThings(faults) {
-    const { table } = this, found = [], seen = new Map();
+    const { table } = this;
+    /** @type {{ place: number, what: number }[]} */
+    const found = [];
+    const seen = new Map();
     table.titles.forEach((title, place) => {
       if (
         !place

@@ -1,3 +1,4 @@
+// @ts-check
 // From what was put in to what is shown: tables or a text are read, solved, and told. Nothing is
 // told of an answer that wasn't accepted.
 import {
@@ -21,6 +22,7 @@ import { CODES } from './words.js';
 const TABLES = 3e7, SEARCHED = 100000;
 
 // Places and routes.
+/** @type {(solver: Solver, sources: Source[], choices: Choices) => Promise<Run>} */
 export async function runFlow(solver, sources, { reading, policy, engine }) {
   const problem = new Problem(sources, reading);
   const net = new FlowNet(problem, policy);
@@ -38,6 +40,7 @@ export async function runFlow(solver, sources, { reading, policy, engine }) {
 }
 
 // Persons and things.
+/** @type {(solver: Solver, source: Source, choices: Choices) => Promise<Run>} */
 export async function runPairs(solver, source, { reading, each, maximise, engine }) {
   const roster = new Roster(source, reading, each, maximise);
   const net = new RosterNet(roster);
@@ -49,6 +52,14 @@ export async function runPairs(solver, source, { reading, each, maximise, engine
 }
 
 // What is told of a text without tables.
+/**
+ * @param {boolean} isPlan
+ * @param {string[]} headline
+ * @param {string} line
+ * @param {Result} result
+ * @param {Run['instance']} instance
+ * @returns {Run}
+ */
 const withoutTables = (isPlan, headline, line, result, instance) => ({
   isPlan,
   headline,
@@ -63,6 +74,7 @@ const withoutTables = (isPlan, headline, line, result, instance) => ({
 });
 
 // A DIMACS text, as bytes.
+/** @type {(solver: Solver, bytes: Uint8Array, choices: Choices) => Promise<Run>} */
 export async function runText(solver, bytes, { engine }) {
   const result = await solver.solve(bytes, engine);
   const instance = { name: 'instance.min', text: bytes };
@@ -97,13 +109,17 @@ export async function runText(solver, bytes, { engine }) {
 
 // The bottlenecks of a text: where its supplies add to 0 and it isn't large they are sought, else
 // the answer's set is told.
+/**
+ * @param {Solver} solver
+ * @param {Uint8Array} bytes
+ * @param {string} answer
+ * @param {import('./network.js').Network} network
+ * @returns {Promise<Bottleneck[]>}
+ */
 async function blockersOf(solver, bytes, answer, network) {
   const total = network.supplies.reduce((sum, supply) => sum + supply, 0n);
   if (total === 0n && network.arcs.length <= SEARCHED) return bottlenecksOf(solver, bytes, network);
-  return [
-    network.bottleneck(
-      linesOf(answer, 'i')[0][1],
-      new Set(linesOf(answer, 'x').map(([node]) => Number(node)))
-    ),
-  ];
+  const side = /** @type {SendOrTake} */ (linesOf(answer, 'i')[0][1]);
+  const nodes = linesOf(answer, 'x').map(([node]) => Number(node));
+  return [network.bottleneck(side, new Set(nodes))];
 }

@@ -1,3 +1,4 @@
+// @ts-check
 // What is shown of an answer: a headline, what leads to it, facts, findings, a scene, and tables to
 // look at and to save.
 import { pairsSummary, pairsTable, rivalsLines, rivalsTable } from './pairs.js';
@@ -17,12 +18,26 @@ import { allBottlenecks } from './solving.js';
 import { cellAt } from './tables.js';
 import { blockedScene, planScene, whyBlocked } from './scene.js';
 
+/**
+ * @typedef {import('./flownet.js').FlowNet} FlowNet
+ * @typedef {import('./flownet.js').FlowPlan} FlowPlan
+ * @typedef {import('./model.js').Problem} Problem
+ * @typedef {import('./network.js').Network} Network
+ * @typedef {import('./pairs.js').RosterNet} RosterNet
+ * @typedef {import('./roster.js').Roster} Roster
+ * @typedef {import('./tables.js').Table} Table
+ * @typedef {{ all: string, byPlace: string }} Delivered
+ */
+
+/** @type {(head: string, meaning?: string, more?: Partial<Column>) => Column} */
 const column = (head, meaning = '', more = {}) => ({ head, meaning, ...more });
+/** @type {(head: string, meaning?: string, more?: Partial<Column>) => Column} */
 const number = (head, meaning, more = {}) => column(head, meaning, { number: true, ...more });
 // Heads of columns that are shown anyway.
 const USED = ['from', 'to', 'least', 'most', 'cost', 'name', 'supply', 'x', 'y'];
 
 // A sheet of rows that are there.
+/** @type {(title: string, columns: Column[], rows: SheetRow[]) => Sheet} */
 const sheetOf = (title, columns, rows, more = {}) => ({
   title,
   columns,
@@ -33,24 +48,28 @@ const sheetOf = (title, columns, rows, more = {}) => ({
 });
 
 // The columns of a table that are the planner's own.
+/** @type {(table: Table) => number[]} */
 const ownColumns = (table) =>
   table.heads.map((_, place) => place).filter((place) => !USED.includes(table.heads[place]));
+/** @type {(table: Table) => Column[]} */
 const ownOf = (table) => ownColumns(table).map((place) => column(table.titles[place]));
 
+/** @type {(plan: FlowPlan) => Shown} */
 export function planShown(plan) {
   const { problem } = plan;
   const { units, said } = problem;
   const carrying = plan.routes.filter((result) => result.carries).length;
   const full = plan.routes.filter((_, k) => plan.isFull(k)).length;
+  /** @type {Shown['facts']} */
   const facts = [
     [problem.places.length, 'places'],
     [problem.routes.length, 'routes'],
     [carrying, 'carry something'],
     [full, 'are full'],
   ];
-  for (const [isSupply, words] of [[true, 'stay'], [false, 'are missing']]) {
+  for (const isSupply of [true, false]) {
     const unmet = plan.unmet(isSupply).reduce((sum, [, amount]) => sum + amount, 0n);
-    if (unmet) facts.push([units.amount(unmet), words]);
+    if (unmet) facts.push([units.amount(unmet), isSupply ? 'stay' : 'are missing']);
   }
   return {
     isPlan: true,
@@ -70,9 +89,12 @@ export function planShown(plan) {
   };
 }
 
+/** @type {(net: FlowNet) => string[]} */
 const warnings = (net) => slips(net).map((line) => `Warning: ${line}`);
 
+/** @type {(plan: FlowPlan) => Sheet[]} */
 function savingsSheet(plan) {
+  /** @type {SheetRow[]} */
   const rows = savingsOf(plan)
     .slice(0, 50)
     .map(({ ends, result }) => ({
@@ -95,12 +117,14 @@ function savingsSheet(plan) {
     : [];
 }
 
+/** @type {(plan: FlowPlan) => Sheet} */
 function routesSheet(plan) {
   const { problem } = plan;
   const { units, routeTable } = problem;
   const own = ownColumns(routeTable);
   const plain = problem.routes.every(({ steps }) => steps.length === 1);
-  const may = (head) => (plain && routeTable.heads.includes(head) ? { edit: head, of: true } : {});
+  const may = (/** @type {string} */ head) =>
+    plain && routeTable.heads.includes(head) ? { edit: head, of: true } : {};
   const columns = [
     column('from', 'where the route begins'),
     column('to', 'where it ends'),
@@ -114,6 +138,7 @@ function routesSheet(plan) {
     column('exact', 'whether it saves just that'),
     ...ownOf(routeTable)
   ];
+  /** @type {Sheet['row']} */
   const row = (k) => {
     const route = problem.routes[k], { carries, cost, saves, isExact } = plan.routes[k];
     const share = route.most
@@ -151,12 +176,14 @@ function routesSheet(plan) {
 }
 
 // The cost of each unit of a route; where it rises by steps, all of them, as sentences have them.
+/** @type {(problem: Problem, route: Route) => string} */
 function costsCell({ units, said }, { steps }) {
   return steps.length === 1
     ? units.rate(steps[0].cost)
     : steps.map((step) => said.rate(step.cost)).join(' / ');
 }
 
+/** @type {(plan: FlowPlan) => Sheet} */
 function placesSheet(plan) {
   const { problem } = plan;
   const { units, placeTable } = problem;
@@ -181,6 +208,7 @@ function placesSheet(plan) {
     ),
     ...ownOf(placeTable),
   ];
+  /** @type {Sheet['row']} */
   const row = (k) => {
     const place = problem.places[k], { price, group, unmet, through } = plan.places[k];
     const passing = through ? [
@@ -210,9 +238,10 @@ function placesSheet(plan) {
   };
 }
 
+/** @type {(blocked: Blocked) => Shown} */
 export function blockedShown(blocked) {
   const { problem } = blocked.net;
-  const said = (amount) => problem.said.amount(amount);
+  const said = (/** @type {bigint} */ amount) => problem.said.amount(amount);
   const [supply, demand] = balanceOf(problem);
   const findings = blocked.bottlenecks.map((found) => bottleneckFinding(blocked.eased, found));
   if (blocked.isUnbalanced) {
@@ -245,22 +274,38 @@ export function blockedShown(blocked) {
   };
 }
 
+/**
+ * What a set must and can, and the difference.
+ * @param {Bottleneck} found
+ * @param {(amount: bigint) => string} [said]
+ */
+const shortfallOf = ({ must, can }, said = String) => [
+  ['must', said(must)],
+  ['can', said(can)],
+  ['short by', said(must - can)],
+];
+
+/** @type {(net: FlowNet, found: Bottleneck) => Finding} */
 function bottleneckFinding(net, found) {
-  const said = (amount) => net.problem.said.amount(amount);
+  const said = (/** @type {bigint} */ amount) => net.problem.said.amount(amount);
   const short = said(found.must - found.can);
   const routes = net.amounts(found.limiting, 'most').map(([k]) => net.ends(k).join(' -> '));
   const raise = routes.length
     ? `Give ${listed(routes)} ${short} more room${routes.length > 1 ? ' together' : ''}, or`
     : 'Give them a route, or';
   return {
-    figures: [['must', said(found.must)], ['can', said(found.can)], ['short by', short]],
+    figures: shortfallOf(found, said),
     sentence: bottleneckSentence(net, found),
     cure: `${raise} move ${short} of ${found.side === 'take' ? 'demand' : 'supply'} elsewhere.`,
   };
 }
 
+/** @type {(blocked: Blocked) => Sheet[]} */
 function limitingSheet(blocked) {
-  const net = blocked.eased, { units } = net.problem, rows = [];
+  const net = blocked.eased;
+  const { units } = net.problem;
+  /** @type {SheetRow[]} */
+  const rows = [];
   blocked.bottlenecks.forEach((found, k) => {
     for (const [arc, most] of net.amounts(found.limiting, 'most')) rows.push(
       { kind: 'full', cells: [`${k + 1}.`, ...net.ends(arc), units.amount(most), ''] }
@@ -287,14 +332,15 @@ function limitingSheet(blocked) {
 }
 
 // What may be changed where no plan exists.
+/** @type {(problem: Problem) => Sheet[]} */
 function inputSheets(problem) {
   const { routes, places, units, routeTable, placeTable } = problem;
-  const may = (head) => (
+  const may = (/** @type {string} */ head) => (
     routes.every(({ steps }) => steps.length === 1) && routeTable.heads.includes(head)
       ? { edit: head, of: true }
       : {}
   );
-  const name = (node) => places[node - 1].name;
+  const name = (/** @type {number} */ node) => places[node - 1].name;
   return [
     {
       title: 'Routes',
@@ -336,9 +382,11 @@ function inputSheets(problem) {
 
 // ---- Persons and things
 
+/** @type {(roster: Roster, chosen: Pair[], cost: bigint) => Shown} */
 export function pairsShown(roster, chosen, cost) {
   const { persons, things, units } = roster;
   const word = units.sign < 0n ? 'Greatest value: ' : 'Least cost: ';
+  /** @type {SheetRow[]} */
   const rows = chosen.map((pair) => ({
     kind: '',
     cells: [persons.names[pair.who - 1], things.names[pair.what - 1], units.rate(pair.cost)],
@@ -366,15 +414,12 @@ export function pairsShown(roster, chosen, cost) {
   };
 }
 
+/** @type {(net: RosterNet, bottlenecks: Bottleneck[]) => Shown} */
 export function pairsBlocked(net, bottlenecks) {
   const lines = rivalsLines(net, bottlenecks);
   const found = lines.slice(1, 1 + bottlenecks.length).map((line) => line.trim());
   const findings = found.map((sentence, k) => ({
-    figures: [
-      ['must', bottlenecks[k].must],
-      ['can', bottlenecks[k].can],
-      ['short by', bottlenecks[k].must - bottlenecks[k].can],
-    ].map(([words, many]) => [words, String(many)]),
+    figures: shortfallOf(bottlenecks[k]),
     sentence,
     cure: '',
   }));
@@ -393,14 +438,16 @@ export function pairsBlocked(net, bottlenecks) {
 
 // ---- A DIMACS text
 
+/** @type {(network: Network, plan: Plan) => Shown} */
 export function textShown(network, plan) {
   const { arcs, supplies } = network;
-  const full = (k) => plan.flows[k] === arcs[k].most && plan.flows[k] !== 0n;
-  const saves = ({ tail, head, cost }) => {
+  const full = (/** @type {number} */ k) => plan.flows[k] === arcs[k].most && plan.flows[k] !== 0n;
+  const saves = (/** @type {Arc} */ { tail, head, cost }) => {
     const saved = plan.prices[tail - 1] - plan.prices[head - 1] - cost;
     return saved > 0n ? saved : 0n;
   };
-  const carrying = plan.flows.reduce((count, flow) => count + (flow !== 0n), 0);
+  const carrying = plan.flows.reduce((count, flow) => count + Number(flow !== 0n), 0);
+  /** @type {Sheet['row']} */
   const row = (k) => {
     const arc = arcs[k], flow = plan.flows[k], saved = saves(arc);
     return {
@@ -429,6 +476,7 @@ export function textShown(network, plan) {
     number('total'),
     number('one more saves', 'what one more unit of room saves at most'),
   ];
+  /** @type {Sheet} */
   const nodes = {
     title: 'Nodes',
     columns: [number('node'), number('supply'), number('one more costs', 'minus its price')],
@@ -454,21 +502,19 @@ export function textShown(network, plan) {
   };
 }
 
+/** @type {(network: Network, bottlenecks: Bottleneck[]) => Shown} */
 export function textBlocked(network, bottlenecks) {
-  const name = ({ tail, head, most }) => `${tail} -> ${head} (${most})`;
-  const over = ({ limiting }) =>
+  const name = (/** @type {Arc} */ { tail, head, most }) => `${tail} -> ${head} (${most})`;
+  const over = (/** @type {Bottleneck} */ { limiting }) =>
     limiting.length ? `, over ${listed(limiting.map((k) => name(network.arcs[k])))}` : '';
   const findings = bottlenecks.map((found) => ({
-    figures: [
-      ['must', String(found.must)],
-      ['can', String(found.can)],
-      ['short by', String(found.must - found.can)],
-    ],
+    figures: shortfallOf(found),
     cure: '',
     sentence:
       `Nodes ${listed(found.nodes.map(String))} must ${found.side} ${found.must}, `
         + `and can ${found.side} only ${found.can}${over(found)}.`,
   }));
+  /** @type {SheetRow[]} */
   const rows = bottlenecks.flatMap((found, k) =>
     found.limiting.map((arc) => ({
       kind: 'full',
@@ -505,8 +551,10 @@ export function textBlocked(network, bottlenecks) {
 
 // What differs between two plans: by the ends of routes, and of several with the same ends by their
 // order.
+/** @type {(before: FlowPlan, plan: FlowPlan) => { text: string, sheets: Sheet[] }} */
 export function changesShown(before, plan) {
   const { units } = plan.problem;
+  /** @type {SheetRow[]} */
   const rows = [];
   const now = carriedBy(plan);
   const was = carriedBy(before);
@@ -540,6 +588,7 @@ export function changesShown(before, plan) {
 }
 
 // What a plan delivers in all, as it is said, and by places.
+/** @type {(plan: FlowPlan) => Delivered} */
 function deliveredBy({ problem, places }) {
   const found = new Map();
   problem.places.forEach(({ name, supply }, k) => {
@@ -554,6 +603,7 @@ function deliveredBy({ problem, places }) {
 }
 
 // Costs of plans that don't deliver the same aren't of one task.
+/** @type {(before: Delivered, now: Delivered) => string} */
 function deliverySentence(before, now) {
   if (before.byPlace === now.byPlace) return '';
   const told = before.all === now.all
@@ -562,6 +612,7 @@ function deliverySentence(before, now) {
   return `${told}: mind that where you compare what they cost. `;
 }
 
+/** @type {(plan: FlowPlan) => Map<string, { ends: string[], carries: bigint }>} */
 function carriedBy(plan) {
   const found = new Map();
   plan.problem.routes.forEach((route, k) => {

@@ -1,9 +1,16 @@
+// @ts-check
 // From tables to an accepted answer. A solver has two calls: solve(text, engine), which gives a
 // status of flow, blocked or refused with an answer that was accepted, or another status; and
 // check(text, answer), which says whether an answer is accepted. Both take and give texts.
 import { FlowNet } from './flownet.js';
 import { BadTable } from './faults.js';
 
+/**
+ * @typedef {import('./network.js').Lines} Lines
+ * @typedef {import('./network.js').Network} Network
+ */
+
+/** @type {Record<string, string>} */
 const REFUSALS = {
   supply: 'a supply beyond what mcf takes',
   bound: 'an amount beyond what mcf takes',
@@ -12,10 +19,12 @@ const REFUSALS = {
   total: 'with this route, costs times amounts add to more than mcf takes',
   size: 'more places or routes (persons, things or pairs) than mcf takes',
 };
+/** @type {Record<SendOrTake, SendOrTake>} */
 const OTHER_SIDE = { send: 'take', take: 'send' };
 
 // What ends a run without an answer that is to be believed.
 export class NoAnswer extends Error {
+  /** @param {Status} status */
   constructor(status, why = '') {
     super(why || status);
     this.status = status;
@@ -23,10 +32,12 @@ export class NoAnswer extends Error {
 }
 
 // The fields, after the first, of the lines of an answer that begin with a letter.
+/** @type {(answer: string, letter: string) => string[][]} */
 export const linesOf = (answer, letter) => answer.split('\n').filter(
   (line) => line.startsWith(`${letter} `)
 ).map((line) => line.split(' ').slice(1));
 
+/** @type {(solver: Solver, text: string, engine: string) => Promise<Result>} */
 async function solved(solver, text, engine) {
   const result = await solver.solve(text, engine);
   if (!['flow', 'blocked', 'refused'].includes(result.status)) {
@@ -37,6 +48,7 @@ async function solved(solver, text, engine) {
 
 // What an accepted flow says, for a network with these arcs: in the second form arcs that carry
 // their least aren't named.
+/** @type {(answer: string, arcs: Arc[]) => Plan} */
 export function planOf(answer, arcs) {
   const flows = arcs.map((arc) => arc.least), prices = [];
   let cost = 0n;
@@ -51,6 +63,13 @@ export function planOf(answer, arcs) {
 
 // The plan of an instance of a network, or null where no plan exists; with the text and what the
 // solver gave. Throws a BadTable for a refusal.
+/**
+ * @param {Solver} solver
+ * @param {Lines} instance
+ * @param {Network} network
+ * @param {string} [engine]
+ * @returns {Promise<{ text: string, result: Result, plan: Plan | null }>}
+ */
 export async function solve(solver, instance, network, engine = 'auto') {
   const text = instance.text(), result = await solved(solver, text, engine);
   if (result.status === 'refused') throw refused(result.answer, instance);
@@ -62,6 +81,7 @@ export async function solve(solver, instance, network, engine = 'auto') {
 }
 
 // What a refusal says: it names the line of the table that the bad line of the instance came from.
+/** @type {(answer: string, instance: Lines) => Error} */
 function refused(answer, instance) {
   const [line, code] = linesOf(answer, 'r')[0], origin = instance.origins[Number(line) - 1];
   if (!origin || !(code in origin.columns)) {
@@ -79,6 +99,7 @@ function refused(answer, instance) {
 // A set of a network that must send more than it can. Cost scaling is asked, since its set is the
 // least of those that must send the most beyond what they can: it has nothing in it that doesn't
 // matter.
+/** @type {(solver: Solver, network: Network) => Promise<Set<number>>} */
 async function blockingSet(solver, network) {
   const { status, answer } = await solved(solver, `${network.lines().join('\n')}\n`, 'scaling');
   if (status !== 'blocked' || linesOf(answer, 'i')[0][1] !== 'send') {
@@ -90,9 +111,19 @@ async function blockingSet(solver, network) {
 // The bottlenecks of a balanced network without a plan, each accepted for the text. They are told
 // from the side, of those that send and those that take, that has fewer nodes; and from the side of
 // the cut on which no hub is. `whole` adds to one what belongs to it.
+/**
+ * @param {Solver} solver
+ * @param {string | Uint8Array} text
+ * @param {Network} network
+ * @param {number | null} [hub]
+ * @param {(found: Bottleneck) => Bottleneck} [whole]
+ * @returns {Promise<Bottleneck[]>}
+ */
 export async function bottlenecksOf(solver, text, network, hub = null, whole = (found) => found) {
   const choices = [];
-  for (const [mine, turned] of [['send', network], ['take', network.turned()]]) {
+  /** @type {[SendOrTake, Network][]} */
+  const ways = [['send', network], ['take', network.turned()]];
+  for (const [mine, turned] of ways) {
     let nodes = await blockingSet(solver, turned), side = mine;
     if (nodes.has(hub)) {
       const inside = nodes;
@@ -116,6 +147,12 @@ export async function bottlenecksOf(solver, text, network, hub = null, whole = (
 // What blocks a flow network that has no plan: where supplies and demands don't agree, all places
 // together do; and then whatever blocks if what is too much may stay, or be short, which is
 // `eased`.
+/**
+ * @param {Solver} solver
+ * @param {string} text
+ * @param {FlowNet} net
+ * @returns {Promise<Blocked>}
+ */
 export async function blockedOf(solver, text, net) {
   const total = net.total();
   if (total === 0n) {
@@ -139,6 +176,7 @@ export async function blockedOf(solver, text, net) {
 }
 
 // All bottlenecks of what blocks, the balance first.
+/** @type {(blocked: Blocked) => Bottleneck[]} */
 export function allBottlenecks({ net, bottlenecks }) {
   const total = net.total(), all = new Set(net.supplies.map((_, k) => k + 1));
   return [...(total ? [net.bottleneck(total > 0n ? 'send' : 'take', all)] : []), ...bottlenecks];

@@ -1,3 +1,4 @@
+// @ts-check
 // Tables: read from files or pasted, and found by the heads of their columns.
 import { BadTable, Faults, at, listed, shown } from './faults.js';
 
@@ -7,6 +8,7 @@ export const SEPARATORS = [',', ';', '\t'];
 // In how many lines heads are looked for that aren't in the first.
 const LOOKED = 10;
 // What other files begin with.
+/** @type {[head: number[], words: string][]} */
 const OTHER_FILES = [
   [[0x1f, 0x8b], 'this is compressed (gzip): unpack it first'],
   [[0xd0, 0xcf, 0x11, 0xe0], 'this is an old Excel workbook: save it as .xlsx, or as CSV UTF-8'],
@@ -14,16 +16,26 @@ const OTHER_FILES = [
 ];
 const ZIP = [0x50, 0x4b, 0x03, 0x04];
 
+/** @type {(bytes: Uint8Array, head: number[]) => boolean} */
 const begins = (bytes, head) => head.every((byte, k) => bytes[k] === byte);
+/** @type {(text: string) => string} */
 export const fold = (text) => text.toLowerCase().replace(/ß/g, 'ss');
 // What a name is compared by: accents written in two ways are the same.
+/** @type {(name: string) => string} */
 export const keyOf = (name) => name.normalize('NFC');
 // A cell of a row, empty where the row is shorter or there is no such place.
+/** @type {(cells: string[], place: number | null) => string} */
 export const cellAt = (cells, place) => (
   place >= 0 && place !== null && place < cells.length ? cells[place] : ''
 );
 
 // The text of a file. What isn't UTF-8 is read as Windows-1252 with a fault: that it isn't.
+/**
+ * @param {string} name
+ * @param {Uint8Array} bytes
+ * @param {string | null} [encoding]
+ * @returns {{ text: string, mark: boolean, wrong?: { line: number, text: string } }}
+ */
 export function textOf(name, bytes, encoding = null) {
   for (const [head, words] of OTHER_FILES) {
     if (begins(bytes, head)) throw new BadTable([`${name}: ${words}`]);
@@ -64,9 +76,16 @@ export function textOf(name, bytes, encoding = null) {
 }
 
 // The records of a text that aren't blank, each with the number of its first line.
+/** @type {(text: string, separator: string, name: string) => Row[]} */
 function recordsOf(text, separator, name) {
-  const records = [], bad = (what) => { throw new BadTable([`${name}, line ${begun}: ${what}`]); };
-  let cells = [], cell = '', state = 'start', line = 1, begun = 1;
+  /** @type {Row[]} */
+  const records = [];
+  const bad = (/** @type {string} */ what) => {
+    throw new BadTable([`${name}, line ${begun}: ${what}`]);
+  };
+  /** @type {string[]} */
+  let cells = [];
+  let cell = '', state = 'start', line = 1, begun = 1;
   const endCell = () => { cells.push(cell.trim()); cell = ''; state = 'start'; };
   const endRecord = () => {
     endCell();
@@ -77,7 +96,7 @@ function recordsOf(text, separator, name) {
   for (const c of text) {
     if (state === 'quoted') {
       if (c === '"') state = 'after';
-      else { cell += c; line += c === '\n'; }
+      else { cell += c; line += Number(c === '\n'); }
     } else if (c === separator) endCell();
     else if (c === '\n') endRecord();
     else if (state === 'after') {
@@ -95,6 +114,7 @@ function recordsOf(text, separator, name) {
 }
 
 // How well a separator suits the line of the heads.
+/** @type {(line: string, separator: string, known: Set<string>) => number[]} */
 function rankOf(line, separator, known) {
   const heads = line.split(separator).map((head) => fold(head.trim().replace(/^"+|"+$/g, '')));
   return [new Set(heads.filter((head) => known.has(head))).size, heads.length];
@@ -104,18 +124,26 @@ function rankOf(line, separator, known) {
 // that are wanted.
 export class Table {
   // Source: a name, and a text or bytes.
+  /**
+   * @param {Source} source
+   * @param {string[]} wanted
+   * @param {Reading} reading
+   * @param {Faults} faults
+   */
   constructor({ name, text, bytes }, wanted, reading, faults) {
     const read = bytes
       ? textOf(name, bytes, reading.encoding)
       : { text: text.replace(/^\ufeff/, ''), mark: false };
-    const lines = (whole) => whole.split('\n').find((line) => line.trim()) || '';
-    let whole = read.text.replace(/\r\n?/g, '\n'), first = lines(whole);
+    const firstOf = (/** @type {string} */ lines) =>
+      lines.split('\n').find((line) => line.trim()) || '';
+    let whole = read.text.replace(/\r\n?/g, '\n'), first = firstOf(whole);
     const named = SEPARATOR_LINE.exec(first), heads = reading.heads || {};
     if (named) {
       whole = whole.replace(first, () => '');
-      first = lines(whole);
+      first = firstOf(whole);
     }
     const known = new Set([...wanted, ...Object.values(heads).map(fold)]);
+    /** @type {[string, number[]][]} */
     const ranks = SEPARATORS.map((mark) => [mark, rankOf(first, mark, known)]);
     const separator = named
       ? named[1]
@@ -123,7 +151,9 @@ export class Table {
         one[1][0] > best[1][0] || (one[1][0] === best[1][0] && one[1][1] > best[1][1]) ? one : best
       ))[0];
     const records = recordsOf(whole, separator, name);
-    Object.assign(this, { name, separator, mark: read.mark });
+    this.name = name;
+    this.separator = separator;
+    this.mark = read.mark;
     if (!records.length) {
       throw new BadTable([
         `${name}, line 1: the table is empty; its first line has the heads of the columns`,
@@ -144,6 +174,7 @@ export class Table {
   }
 
   // Notes the columns that are wanted and aren't there, or are there twice.
+  /** @type {(wanted: string[], faults: Faults, hint?: string) => void} */
   need(wanted, faults, hint = 'wanted are') {
     const lacking = wanted.filter((head) => !this.heads.includes(head));
     if (lacking.length) {
@@ -164,6 +195,7 @@ export class Table {
   }
 
   // The line, of the first ones below the heads, that has these, however it was split; or null.
+  /** @type {(heads: string[]) => number | null} */
   lineWith(heads) {
     for (const { line, cells } of this.rows.slice(0, LOOKED)) {
       const found = new Set(cells.join(',').split(/[,;\t]/).map((cell) => fold(cell.trim())));
@@ -176,6 +208,7 @@ export class Table {
   headsText() { return `${listed(this.titles.map(shown))} (split at ${shown(this.separator)})`; }
 
   // The places of the columns with these heads, each of which has to be there once.
+  /** @type {(wanted: string[]) => number[]} */
   columns(wanted) {
     const faults = new Faults();
     this.need(wanted, faults);
@@ -184,11 +217,14 @@ export class Table {
   }
 
   // The place of a column that may be there, or null.
+  /** @type {(head: string) => number | null} */
   perhaps(head) { return this.heads.includes(head) ? this.columns([head])[0] : null; }
 
+  /** @type {(wanted: string[]) => boolean} */
   has(wanted) { return wanted.every((head) => this.heads.includes(head)); }
 
   // Notes the cells that stand beyond the last head.
+  /** @type {(faults: Faults) => void} */
   checkWidths(faults) {
     for (const { line, cells } of this.rows) {
       for (let place = this.titles.length; place < cells.length; place++) {
@@ -206,6 +242,7 @@ export class Table {
 
   // The places of the columns that results are written after: all but those of earlier results,
   // which are there as a whole if they are.
+  /** @type {(...results: string[][]) => number[]} */
   kept(...results) {
     const titles = this.titles.map(fold);
     const gone = new Set(
@@ -216,6 +253,7 @@ export class Table {
 }
 
 // Notes own heads that no table has.
+/** @type {(tables: Table[], reading: Reading, faults: Faults) => void} */
 export function checkHeads(tables, reading, faults) {
   const titles = new Set(tables.flatMap((table) => table.titles.map(fold)));
   for (const [head, own] of Object.entries(reading.heads || {})) {
@@ -225,6 +263,7 @@ export function checkHeads(tables, reading, faults) {
 
 // Notes that no table has a column of the planner's; if a line below the heads has it, of that
 // table.
+/** @type {(tables: Table[], head: string, own: string, faults: Faults) => void} */
 function noteLacking(tables, head, own, faults) {
   const table = tables.find((it) => it.lineWith([own])) || tables[tables.length - 1];
   const below = table.lineWith([own]);
@@ -241,6 +280,14 @@ function noteLacking(tables, head, own, faults) {
 }
 
 // The name that a cell has: any text of one line that isn't empty.
+/**
+ * @param {Table} table
+ * @param {number} line
+ * @param {string | number} head
+ * @param {string} cell
+ * @param {Faults} faults
+ * @returns {string}
+ */
 export function nameIn(table, line, head, cell, faults) {
   if (!cell) faults.add(at(table, line, head), 'empty name', 'the name is empty');
   else if (/[\x00-\x1f\x7f-\x9f]/.test(cell)) {
@@ -255,6 +302,13 @@ export function nameIn(table, line, head, cell, faults) {
 }
 
 // Notes a fault where the key was seen on an earlier line; else remembers it.
+/**
+ * @param {Where} where
+ * @param {string} key
+ * @param {string} text
+ * @param {Map<string, number>} seen
+ * @param {Faults} faults
+ */
 export function once(where, key, text, seen, faults, cell = key) {
   if (seen.has(key)) {
     faults.add(where, 'twice', `${text} stands on line ${seen.get(key)} already`, cell);

@@ -1,6 +1,16 @@
+// @ts-check
 // Small parts of what is shown.
 
+/** @typedef {Node | string} Part */
+
 // An element with attributes and children; a text is one, too.
+/**
+ * @template {keyof HTMLElementTagNameMap} Tag
+ * @param {Tag} tag
+ * @param {Record<string, any>} [attributes]
+ * @param {...(Part | Part[])} children
+ * @returns {HTMLElementTagNameMap[Tag]}
+ */
 export function el(tag, attributes = {}, ...children) {
   const it = document.createElement(tag);
   for (const [name, value] of Object.entries(attributes)) {
@@ -13,6 +23,7 @@ export function el(tag, attributes = {}, ...children) {
 }
 
 // A number with narrow blanks between its thousands, and the tables' mark before its decimals.
+/** @type {(text: string, mark?: string | null) => string} */
 export function grouped(text, mark = '.') {
   const found = /^(-?)(\d+)(?:\.(\d+))?$/.exec(text);
   if (!found) return text;
@@ -23,6 +34,10 @@ export function grouped(text, mark = '.') {
 }
 
 // A button that saves a file, which is made when it is asked for.
+/**
+ * @param {string} name
+ * @param {() => BlobPart} made
+ */
 export function saver(name, made, type = 'text/plain') {
   return el('button', {
     type: 'button',
@@ -39,15 +54,19 @@ export function saver(name, made, type = 'text/plain') {
 
 // The picture with its buttons: the wheel zooms at the pointer, dragging moves, buttons and keys do
 // the same.
+/** @type {(text: string) => HTMLElement} */
 export function pictureOf(text) {
-  const svg = document.importNode(
-    new DOMParser().parseFromString(text, 'image/svg+xml').documentElement,
-    true
+  const drawn = new DOMParser().parseFromString(text, 'image/svg+xml').documentElement;
+  const svg = /** @type {SVGSVGElement} */ (
+    /** @type {unknown} */ (document.importNode(drawn, true))
   );
   const whole = svg.viewBox.baseVal;
   const home = [whole.x, whole.y, whole.width, whole.height];
-  let view = home.slice(), from = null;
+  let view = home.slice();
+  /** @type {number[] | null} */
+  let from = null;
   const show = () => svg.setAttribute('viewBox', view.join(' '));
+  /** @type {(wanted: number, x?: number, y?: number) => void} */
   const zoom = (wanted, x = view[0] + view[2] / 2, y = view[1] + view[3] / 2) => {
     const factor = Math.max(home[2] / 60, Math.min(home[2] * 2, view[2] * wanted)) / view[2];
     view = [
@@ -58,9 +77,10 @@ export function pictureOf(text) {
     ];
     show();
   };
+  /** @type {(dx: number, dy: number) => void} */
   const move = (dx, dy) => { view[0] += dx * view[2]; view[1] += dy * view[3]; show(); };
   const all = () => { view = home.slice(); show(); };
-  const spot = (event) => {
+  const spot = (/** @type {MouseEvent} */ event) => {
     const { x, y } = new DOMPoint(event.clientX, event.clientY).matrixTransform(
       svg.getScreenCTM().inverse()
     );
@@ -86,6 +106,7 @@ export function pictureOf(text) {
     show();
   });
   svg.addEventListener('pointerup', () => { from = null; });
+  /** @type {Record<string, () => void>} */
   const keys = {
     '+': () => zoom(0.7),
     '-': () => zoom(1.43),
@@ -95,6 +116,7 @@ export function pictureOf(text) {
     ArrowUp: () => move(0, -0.1),
     ArrowDown: () => move(0, 0.1),
   };
+  /** @type {(sign: string, title: string, act: () => void) => HTMLElement} */
   const button = (sign, title, act) =>
     el('button', { type: 'button', title, 'aria-label': title, onclick: act }, sign);
   return el(
@@ -104,7 +126,11 @@ export function pictureOf(text) {
       tabindex: 0,
       role: 'group',
       'aria-label': 'Picture: + and - zoom, arrows move, 0 shows all of it',
-      onkeydown: (event) => { if (keys[event.key]) { event.preventDefault(); keys[event.key](); } },
+      onkeydown: (/** @type {KeyboardEvent} */ event) => {
+        if (!keys[event.key]) return;
+        event.preventDefault();
+        keys[event.key]();
+      },
     },
     svg,
     el(

@@ -1,5 +1,7 @@
+// @ts-check
 // The words of the command line's tool in those of the page: what it says with options is here
 // chosen under Reading or Choices.
+/** @type {[RegExp, string][]} */
 const WORDS = [
   [/written by mcf and accepted by mcfcheck/g, 'found and checked in this page by what is proved'],
   [
@@ -30,9 +32,11 @@ const WORDS = [
   ],
 ];
 
+/** @type {(line: string) => string} */
 export const pageWords = (line) => WORDS.reduce((text, [from, to]) => text.replace(from, to), line);
 
 // What the code of a refusal says of a line of a DIMACS text.
+/** @type {Record<string, string>} */
 export const CODES = {
   kind: 'a line begins with p, n, a or c',
   fields: 'the number of fields isn’t right',

@@ -1,9 +1,15 @@
+// @ts-check
 // The worker: it holds the compiled module, and solves and judges texts. It knows nothing of
 // tables.
 import { accepts, judged } from './module.js';
 
+// tsc's library of the DOM has the calls of a window alone, not those of a worker.
+const worker = /** @type {any} */ (self);
+
+/** @type {Promise<WebAssembly.Module>} */
 let compiled;
 
+/** @type {(text: string) => Promise<WebAssembly.Module>} */
 async function unpack(text) {
   const packed = new Blob([Uint8Array.from(atob(text), (c) => c.charCodeAt(0))]).stream();
   return WebAssembly.compile(
@@ -19,10 +25,12 @@ onmessage = async ({ data: { id, module, bytes, engine, answer } }) => {
       postMessage({ id, result: {} });
       return;
     }
-    const result = answer
-      ? accepts(await compiled, bytes, answer)
-      : judged(await compiled, bytes, engine);
-    postMessage({ id, result }, result.answer ? [result.answer.buffer] : []);
+    if (answer) {
+      postMessage({ id, result: accepts(await compiled, bytes, answer) });
+      return;
+    }
+    const result = judged(await compiled, bytes, engine);
+    worker.postMessage({ id, result }, result.answer ? [result.answer.buffer] : []);
   } catch (error) {
     postMessage({
       id,

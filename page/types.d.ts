@@ -1,0 +1,360 @@
+// What passes between the modules of the page. The modules have these types without an import, in
+// comments; nothing of this file is in the packed page. Where a value may be null, it says so; tsc
+// doesn't look for nulls.
+
+// ---- What is read
+
+/** A number of a table, exact: `digits` in units of 10^-decimals. */
+interface Exact {
+  digits: bigint;
+  decimals: number;
+}
+
+/** What is put in: a name, and a text or the bytes of a file. */
+interface Source {
+  name: string;
+  text?: string;
+  bytes?: Uint8Array;
+}
+
+/** How tables are read. Null: as the cells, or the bytes, show. Heads: own ones by those wanted. */
+interface Reading {
+  decimal?: string | null;
+  encoding?: string | null;
+  heads?: Record<string, string>;
+}
+
+/** Whether supplies may stay, and demands may be short. */
+interface Policy {
+  unused?: boolean;
+  short?: boolean;
+}
+
+/** All that is chosen for a run. `each`: who or what gets one each; null: what the table shows. */
+interface Choices {
+  reading: Reading;
+  policy: Policy;
+  each: 'who' | 'what' | null;
+  maximise: boolean;
+  engine: string;
+}
+
+/** A plan that comes with the page: its tables, and what is chosen for it, as pack.py packs it. */
+interface Example {
+  name: string;
+  kind: 'flow' | 'pairs';
+  texts: string[];
+  heads: string;
+  unused: boolean;
+}
+
+/** A line of a table, with its number. */
+interface Row {
+  line: number;
+  cells: string[];
+}
+
+/** Where a cell stands: its column by its head or by its number from 1; '' is the whole line. */
+interface Where {
+  table: import('./tables.js').Table;
+  line: number;
+  column: string | number;
+}
+
+/** What is wrong with cells of one kind: the first in words, and some others with their lines. */
+interface Fault {
+  table: import('./tables.js').Table;
+  kind: string;
+  text: string;
+  count: number;
+  more: Map<string, number>;
+}
+
+/** The room of a route or of a place; a most of null is no limit. A is Exact while it is read. */
+interface Step<A = bigint> {
+  most: A | null;
+  cost: A;
+}
+
+interface Bounds<A = bigint> extends Step<A> {
+  least: A;
+}
+
+/** A place. `spot` is null where the table has no x and y, `bounds` where nothing bounds it. */
+interface Place<A = bigint> extends Row {
+  name: string;
+  supply: A;
+  spot: number[] | null;
+  bounds: Bounds<A> | null;
+}
+
+/** A route as it is read, with its ends by the numbers of places from 1. It has a step or more. */
+interface ReadRoute<A = Exact> extends Row {
+  tail: number;
+  head: number;
+  least: A;
+  steps: Step<A>[];
+  both: boolean;
+}
+
+/** A route in whole numbers, with what all its steps carry; null is no limit. */
+interface Route extends ReadRoute<bigint> {
+  most: bigint | null;
+}
+
+/** A pair, by the numbers of its person and its thing from 1; one of a matrix has no cells. */
+interface Pair<A = bigint> {
+  who: number;
+  what: number;
+  cost: A;
+  line: number;
+  column: string | number;
+  cells?: string[];
+}
+
+/** How many one has, at least and at most. */
+type HowMany = [bigint, bigint];
+
+// ---- Networks, instances and answers
+
+/** An arc: its ends are nodes, which count from 1. */
+interface Arc {
+  tail: number;
+  head: number;
+  least: bigint;
+  most: bigint;
+  cost: bigint;
+}
+
+/** What an arc is there for: a route or a place by its number from 0; -1 is a route's other way. */
+interface Use {
+  kind: 'route' | 'through' | 'stays' | 'missing';
+  number: number;
+  sign: number;
+}
+
+/** Where a line of an instance comes from, and its columns by the words of a refusal. */
+interface Origin {
+  table: import('./tables.js').Table;
+  line: number;
+  columns: Record<string, string | number>;
+}
+
+type SendOrTake = 'send' | 'take';
+
+/** A set of nodes that must send, or take, more than it can; with the arcs that make it so. */
+interface Bottleneck {
+  side: SendOrTake;
+  nodes: number[];
+  must: bigint;
+  can: bigint;
+  forcing: number[];
+  limiting: number[];
+}
+
+/** Why there is no plan. `eased` is `net`, or where supplies don't add to 0 what eases that. */
+interface Blocked {
+  net: import('./flownet.js').FlowNet;
+  eased: import('./flownet.js').FlowNet;
+  isUnbalanced: boolean;
+  bottlenecks: Bottleneck[];
+}
+
+/** What an accepted flow says: of each arc, and of each node. */
+interface Plan {
+  cost: bigint;
+  flows: bigint[];
+  prices: bigint[];
+}
+
+/** What a plan says of a route, or of what passes through a place; `free` of null is no limit. */
+interface RouteResult {
+  carries: bigint;
+  cost: bigint;
+  free: bigint | null;
+  saves: bigint;
+  isExact: boolean;
+}
+
+/** What a plan says of a place; `through` is null where nothing bounds it. */
+interface PlaceResult {
+  price: bigint;
+  group: number;
+  unmet: bigint;
+  through: RouteResult | null;
+}
+
+type Status =
+  | 'flow' | 'blocked' | 'refused'
+  | 'memory' | 'room' | 'choice' | 'rejected' | 'failed' | 'stopped';
+
+/** What the module made of a text. The first three statuses have an accepted answer, with times. */
+interface Judged {
+  status: Status;
+  verdict?: string;
+  answer?: Uint8Array;
+  solving?: number;
+  judging?: number;
+  peak?: number;
+  why?: string;
+}
+
+/** The same with the answer as a text, and as bytes. */
+interface Result extends Omit<Judged, 'answer'> {
+  answer?: string;
+  bytes?: Uint8Array;
+}
+
+interface Verdict {
+  accepted: boolean;
+  line: string;
+}
+
+/** What solves: the page's client of its worker, or the module itself in tests. */
+interface Solver {
+  solve(text: string | Uint8Array, engine: string): Promise<Result>;
+  check(text: string | Uint8Array, answer: string): Promise<Verdict>;
+}
+
+/** The module's exports, as page/build.sh names them. Addresses are of 64 bits. */
+interface Exports {
+  memory: WebAssembly.Memory;
+  page_alloc(size: bigint): bigint;
+  page_peak(): bigint;
+  mcf_solve(
+    text: bigint, size: bigint, choice: bigint, at: bigint, room: bigint, used: bigint
+  ): number;
+  mcf_check(
+    text: bigint, size: bigint, answer: bigint, answerSize: bigint, told: bigint
+  ): number;
+}
+
+/** Bytes in the module's memory. */
+interface Lent {
+  at: bigint;
+  size: number;
+}
+
+// ---- What is shown
+
+/** A column of a sheet. `edit` is the head of the input that its cells change; `of` says of two. */
+interface Column {
+  head: string;
+  meaning: string;
+  number?: boolean;
+  share?: boolean;
+  edit?: string;
+  of?: boolean;
+}
+
+interface SheetRow {
+  kind: '' | 'full' | 'idle';
+  cells: string[];
+}
+
+/** A table to look at. One with columns to edit says of which table and which field they are. */
+interface Sheet {
+  title: string;
+  columns: Column[];
+  count: number;
+  row(k: number): SheetRow;
+  hasIdle?: boolean;
+  totals?: string[];
+  from?: import('./tables.js').Table;
+  field?: 'places' | 'routes';
+  note?: string;
+}
+
+/** What is written as CSV; `figures` are the columns that have numbers. */
+interface Csv {
+  like: { separator: string; mark: boolean };
+  heads: string[];
+  rows: (string | bigint)[][];
+  figures: number[];
+}
+
+/** A table to save, written as another is. */
+interface SavedTable extends Csv {
+  name: string;
+  like: import('./tables.js').Table;
+}
+
+interface Finding {
+  figures: string[][];
+  sentence: string;
+  cure: string;
+}
+
+/** What stands above a plan and its picture: a title, which may be empty; the date and the tables. */
+interface Caption {
+  title: string;
+  source: string;
+}
+
+/** What is shown of an answer. `scene` is null where nothing is drawn, `plan` only with routes. */
+interface Shown {
+  isPlan: boolean;
+  headline: string[];
+  mark?: string;
+  lead: string[];
+  facts: [value: string | number, what: string][];
+  findings: Finding[];
+  scene: ((caption: Caption) => Scene) | null;
+  sheets: Sheet[];
+  tables(): SavedTable[];
+}
+
+/** The same, with what was solved. */
+interface Run extends Shown {
+  plan?: import('./flownet.js').FlowPlan;
+  result: Result;
+  instance: { name: string; text: string | Uint8Array };
+}
+
+/** The same, with what stands above it. */
+interface CaptionedRun extends Run {
+  caption: Caption;
+}
+
+/** A change that made a plan anew; `undo` is null where it is taken back. */
+interface Change {
+  what: string;
+  undo: (() => void) | null;
+}
+
+/** What is drawn. Links have their ends by the numbers of nodes from 0, and so have groups. */
+interface Scene {
+  heading: string;
+  nodes: SceneNode[];
+  links: SceneLink[];
+  groups: Set<number>[];
+  notes: Record<string, string>;
+  caption?: Caption;
+}
+
+/** A place as it is drawn; `short` is its name, which may be cut. */
+interface SceneNode {
+  name: string;
+  short: string;
+  note: string;
+  kind: 'sends' | 'takes' | 'passes';
+  spot: number[] | null;
+}
+
+interface SceneLink {
+  tail: number;
+  head: number;
+  width: number;
+  kind: 'full' | 'flowing' | 'idle' | 'limits' | 'forces' | 'other';
+  label: string;
+  title: string;
+}
+
+// ---- What tsc's own library lacks
+
+/** In browsers since 2023, and not yet in the library of tsc 4.8. */
+declare class DecompressionStream {
+  constructor(format: 'gzip' | 'deflate');
+  readonly readable: ReadableStream<Uint8Array>;
+  readonly writable: WritableStream<Uint8Array>;
+}
