@@ -39,25 +39,7 @@ export class Grid {
     this.state = kept.get(sheet.title)
       || { by: null, down: false, filter: '', used: false, top: 0 };
     kept.set(sheet.title, this.state);
-    this.heads = sheet.columns.map((column, k) =>
-      el(
-        'th',
-        {
-          class: column.number ? 'number' : null,
-          title: column.meaning || null,
-          tabindex: 0,
-          scope: 'col',
-          onclick: () => this.sortBy(k),
-          onkeydown: (/** @type {KeyboardEvent} */ event) => {
-            if (event.key === 'Enter' || event.key === ' ') {
-              event.preventDefault();
-              this.sortBy(k);
-            }
-          },
-        },
-        column.head
-      )
-    );
+    this.heads = sheet.columns.map((column, k) => this.headOf(column, k));
     this.body = el('tbody');
     this.foot = (sheet.totals || []).map((_, k) =>
       el('td', { class: sheet.columns[k].number ? 'number' : null })
@@ -89,6 +71,27 @@ export class Grid {
     );
     this.order = null;
     this.arrange();
+  }
+
+  /** @type {(column: Column, k: number) => HTMLElement} */
+  headOf(column, k) {
+    return el(
+      'th',
+      {
+        class: column.number ? 'number' : null,
+        title: column.meaning || null,
+        tabindex: 0,
+        scope: 'col',
+        onclick: () => this.sortBy(k),
+        onkeydown: (/** @type {KeyboardEvent} */ event) => {
+          if (event.key === 'Enter' || event.key === ' ') {
+            event.preventDefault();
+            this.sortBy(k);
+          }
+        },
+      },
+      column.head
+    );
   }
 
   tools() {

@@ -50,40 +50,13 @@ export class Problem {
     const routes = routesOf(tables[1], places, numbers, faults);
     checkLimits(tables, routes, places, faults);
     faults.end();
-    const bounds = places.map((place) => place.bounds).filter(Boolean);
-    const steps = routes.flatMap((route) => route.steps);
-    const amounts = [
-      ...places.map((place) => place.supply),
-      ...routes.map((route) => route.least),
-      ...bounds.map((part) => part.least),
-      ...[...steps, ...bounds].map((part) => part.most).filter((most) => most !== null),
-    ];
-    this.units = new Units(
-      decimalsOf(amounts),
-      decimalsOf([...steps, ...bounds].map((part) => part.cost))
-    );
+    this.units = unitsOf(places, routes);
     this.said = new Said(this.units, numbers.mark);
     this.placeTable = tables[0];
     this.routeTable = tables[1];
     this.numbers = numbers;
-    /** @type {(amount: Exact | null) => bigint | null} */
-    const whole = (amount) => (amount === null ? null : scaled(amount, this.units.amounts));
-    /** @type {(number: Exact) => bigint} */
-    const cost = (number) => scaled(number, this.units.costs);
-    /** @type {(part: Bounds<Exact> | null) => Bounds | null} */
-    const limits = (part) =>
-      part && { least: whole(part.least), most: whole(part.most), cost: cost(part.cost) };
-    /** @type {Place[]} */
-    this.places = places.map((place) => ({
-      ...place,
-      supply: whole(place.supply),
-      bounds: limits(place.bounds),
-    }));
-    /** @type {Route[]} */
-    this.routes = routes.map((route) => {
-      const parts = route.steps.map((step) => ({ most: whole(step.most), cost: cost(step.cost) }));
-      return { ...route, least: whole(route.least), steps: parts, most: mostOf(parts) };
-    });
+    this.places = places.map((place) => wholePlace(place, this.units));
+    this.routes = routes.map((route) => wholeRoute(route, this.units));
   }
 
   // Lines on how the tables were read.
@@ -124,6 +97,42 @@ export class Problem {
 
 /** @type {(number: bigint) => bigint} */
 export const size = (number) => (number < 0n ? -number : number);
+
+// The units in which all amounts, and all costs, of the tables are whole.
+/** @type {(places: Place<Exact>[], routes: ReadRoute[]) => Units} */
+function unitsOf(places, routes) {
+  const bounds = places.map((place) => place.bounds).filter(Boolean);
+  const steps = [...routes.flatMap((route) => route.steps), ...bounds];
+  const amounts = [
+    ...places.map((place) => place.supply),
+    ...routes.map((route) => route.least),
+    ...bounds.map((part) => part.least),
+    ...steps.map((part) => part.most).filter((most) => most !== null),
+  ];
+  return new Units(decimalsOf(amounts), decimalsOf(steps.map((part) => part.cost)));
+}
+
+/** @type {(step: Step<Exact>, units: Units) => Step} */
+const wholeStep = ({ most, cost }, units) => ({
+  most: most === null ? null : scaled(most, units.amounts),
+  cost: scaled(cost, units.costs),
+});
+
+/** @type {(place: Place<Exact>, units: Units) => Place} */
+function wholePlace(place, units) {
+  const { supply, bounds } = place;
+  return {
+    ...place,
+    supply: scaled(supply, units.amounts),
+    bounds: bounds && { ...wholeStep(bounds, units), least: scaled(bounds.least, units.amounts) },
+  };
+}
+
+/** @type {(route: ReadRoute, units: Units) => Route} */
+function wholeRoute(route, units) {
+  const steps = route.steps.map((step) => wholeStep(step, units));
+  return { ...route, least: scaled(route.least, units.amounts), steps, most: mostOf(steps) };
+}
 
 // What a route carries at most; null is no limit.
 /** @type {(steps: Step[]) => bigint | null} */

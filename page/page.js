@@ -240,10 +240,27 @@ function replaceResult(...parts) {
 const paragraph = (text, className = null) =>
   el('p', className ? { class: className } : {}, pageWords(text));
 
+// The title, the headline, the date and the tables, and that the answer was checked.
+/** @type {(shown: CaptionedRun) => Part[]} */
+const headOf = ({ isPlan, headline: [words, figure], mark, caption, result }) => [
+  el(
+    'h2',
+    { class: isPlan ? null : 'none', role: 'status', tabindex: -1 },
+    caption.title ? [caption.title, el('br')] : '',
+    words,
+    grouped(figure, mark)
+  ),
+  el('p', { class: 'soft' }, caption.source),
+  el(
+    'p',
+    { class: 'soft', id: 'seal' },
+    `✓ ${result.verdict}: so says the proved checker in this page, of this very answer.`
+  ),
+];
+
 /** @type {(shown: CaptionedRun, change: Change | null, before: FlowPlan | null) => void} */
 function show(shown, change, before) {
   const { result, instance, mark, caption } = shown;
-  const [words, figure] = shown.headline;
   const settings = { mark, change: changed };
   const drawn = shown.scene && svgOf(shown.scene(caption));
   document.title = caption.title || 'Least-cost plans';
@@ -257,19 +274,7 @@ function show(shown, change, before) {
   });
   const ms = (/** @type {number} */ time) => `${time < 10 ? time.toFixed(1) : time.toFixed(0)} ms`;
   replaceResult(
-    el(
-      'h2',
-      { class: shown.isPlan ? null : 'none', role: 'status', tabindex: -1 },
-      caption.title ? [caption.title, el('br')] : '',
-      words,
-      grouped(figure, mark)
-    ),
-    el('p', { class: 'soft' }, caption.source),
-    el(
-      'p',
-      { class: 'soft', id: 'seal' },
-      `✓ ${result.verdict}: so says the proved checker in this page, of this very answer.`
-    ),
+    headOf(shown),
     shown.lead.map((line) => paragraph(line)),
     differs && el('div', { class: 'changed' }, differs.parts, apart),
     shown.facts.length

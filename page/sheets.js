@@ -117,27 +117,37 @@ function savingsSheet(plan) {
     : [];
 }
 
+// Whether no cost of a route rises by steps.
+/** @type {(problem: Problem) => boolean} */
+const isPlain = ({ routes }) => routes.every(({ steps }) => steps.length === 1);
+
+// What makes a column of the routes one whose cells may be changed.
+/** @type {(problem: Problem, head: string) => Partial<Column>} */
+const may = (problem, head) =>
+  isPlain(problem) && problem.routeTable.heads.includes(head) ? { edit: head, of: true } : {};
+
+/** @type {(problem: Problem) => Column[]} */
+const routeColumns = (problem) => [
+  column('from', 'where the route begins'),
+  column('to', 'where it ends'),
+  number('least', 'it carries no less', may(problem, 'least')),
+  number('most', 'it carries no more; empty: no limit', may(problem, 'most')),
+  number('cost', 'of each unit', may(problem, 'cost')),
+  number('carries', 'in this plan'),
+  number('total', 'cost of what it carries'),
+  number('of its room', 'what it carries of its most', { share: true }),
+  number('one more saves', 'what one more unit of room saves'),
+  column('exact', 'whether it saves just that'),
+  ...ownOf(problem.routeTable),
+];
+
 /** @type {(plan: FlowPlan) => Sheet} */
 function routesSheet(plan) {
   const { problem } = plan;
   const { units, routeTable } = problem;
   const own = ownColumns(routeTable);
-  const plain = problem.routes.every(({ steps }) => steps.length === 1);
-  const may = (/** @type {string} */ head) =>
-    plain && routeTable.heads.includes(head) ? { edit: head, of: true } : {};
-  const columns = [
-    column('from', 'where the route begins'),
-    column('to', 'where it ends'),
-    number('least', 'it carries no less', may('least')),
-    number('most', 'it carries no more; empty: no limit', may('most')),
-    number('cost', 'of each unit', may('cost')),
-    number('carries', 'in this plan'),
-    number('total', 'cost of what it carries'),
-    number('of its room', 'what it carries of its most', { share: true }),
-    number('one more saves', 'what one more unit of room saves'),
-    column('exact', 'whether it saves just that'),
-    ...ownOf(routeTable)
-  ];
+  const plain = isPlain(problem);
+  const columns = routeColumns(problem);
   /** @type {Sheet['row']} */
   const row = (k) => {
     const route = problem.routes[k], { carries, cost, saves, isExact } = plan.routes[k];
@@ -183,6 +193,25 @@ function costsCell({ units, said }, { steps }) {
     : steps.map((step) => said.rate(step.cost)).join(' / ');
 }
 
+// What a sheet of places has of those that something bounds.
+const PASSING = [
+  number('passes', 'what comes in and what is sent there'),
+  number('passes at most', 'empty: no limit'),
+  number('passing costs', 'in this plan'),
+  number('one more saves', 'what one more unit of room saves'),
+];
+
+/** @type {(table: Table, hasUnmet: boolean, hasBounds: boolean) => Column[]} */
+const placeColumns = (table, hasUnmet, hasBounds) => [
+  column('name'),
+  number('supply', 'above 0 it sends, below 0 it takes', { edit: 'supply' }),
+  number('one more costs', 'what one more unit costs there'),
+  number('group', 'among places of one group that is exact'),
+  ...(hasUnmet ? [number('unmet', 'what stays, or is missing')] : []),
+  ...(hasBounds ? PASSING : []),
+  ...ownOf(table),
+];
+
 /** @type {(plan: FlowPlan) => Sheet} */
 function placesSheet(plan) {
   const { problem } = plan;
@@ -190,24 +219,6 @@ function placesSheet(plan) {
   const own = ownColumns(placeTable);
   const hasBounds = problem.places.some(({ bounds }) => bounds);
   const hasUnmet = plan.net.hub !== null;
-  const columns = [
-    column('name'),
-    number('supply', 'above 0 it sends, below 0 it takes', { edit: 'supply' }),
-    number('one more costs', 'what one more unit costs there'),
-    number('group', 'among places of one group that is exact'),
-    ...(hasUnmet ? [number('unmet', 'what stays, or is missing')] : []),
-    ...(
-      hasBounds
-        ? [
-          number('passes', 'what comes in and what is sent there'),
-          number('passes at most', 'empty: no limit'),
-          number('passing costs', 'in this plan'),
-          number('one more saves', 'what one more unit of room saves'),
-        ]
-        : []
-    ),
-    ...ownOf(placeTable),
-  ];
   /** @type {Sheet['row']} */
   const row = (k) => {
     const place = problem.places[k], { price, group, unmet, through } = plan.places[k];
@@ -230,7 +241,7 @@ function placesSheet(plan) {
   };
   return {
     title: 'Places',
-    columns,
+    columns: placeColumns(placeTable, hasUnmet, hasBounds),
     count: problem.places.length,
     row,
     from: placeTable,
@@ -335,11 +346,6 @@ function limitingSheet(blocked) {
 /** @type {(problem: Problem) => Sheet[]} */
 function inputSheets(problem) {
   const { routes, places, units, routeTable, placeTable } = problem;
-  const may = (/** @type {string} */ head) => (
-    routes.every(({ steps }) => steps.length === 1) && routeTable.heads.includes(head)
-      ? { edit: head, of: true }
-      : {}
-  );
   const name = (/** @type {number} */ node) => places[node - 1].name;
   return [
     {
@@ -347,9 +353,9 @@ function inputSheets(problem) {
       columns: [
         column('from'),
         column('to'),
-        number('least', '', may('least')),
-        number('most', 'empty: no limit', may('most')),
-        number('cost', '', may('cost')),
+        number('least', '', may(problem, 'least')),
+        number('most', 'empty: no limit', may(problem, 'most')),
+        number('cost', '', may(problem, 'cost')),
       ],
       count: routes.length,
       from: routeTable,
@@ -438,54 +444,45 @@ export function pairsBlocked(net, bottlenecks) {
 
 // ---- A DIMACS text
 
-/** @type {(network: Network, plan: Plan) => Shown} */
-export function textShown(network, plan) {
-  const { arcs, supplies } = network;
-  const full = (/** @type {number} */ k) => plan.flows[k] === arcs[k].most && plan.flows[k] !== 0n;
+const ARC_COLUMNS = [
+  ...['arc', 'from', 'to', 'least', 'most', 'cost', 'carries', 'total'].map((head) => number(head)),
+  number('one more saves', 'what one more unit of room saves at most'),
+];
+
+/** @type {(network: Network, plan: Plan) => Sheet} */
+function arcsSheet({ arcs }, { flows, prices }) {
   const saves = (/** @type {Arc} */ { tail, head, cost }) => {
-    const saved = plan.prices[tail - 1] - plan.prices[head - 1] - cost;
+    const saved = prices[tail - 1] - prices[head - 1] - cost;
     return saved > 0n ? saved : 0n;
   };
-  const carrying = plan.flows.reduce((count, flow) => count + Number(flow !== 0n), 0);
   /** @type {Sheet['row']} */
   const row = (k) => {
-    const arc = arcs[k], flow = plan.flows[k], saved = saves(arc);
+    const arc = arcs[k], flow = flows[k], saved = saves(arc);
+    const { tail, head, least, most, cost } = arc;
     return {
-      kind: full(k) ? 'full' : flow ? '' : 'idle',
+      kind: flow !== 0n && flow === most ? 'full' : flow ? '' : 'idle',
       cells: [
-        String(k + 1),
-        String(arc.tail),
-        String(arc.head),
-        String(arc.least),
-        String(arc.most),
-        String(arc.cost),
-        String(flow),
-        String(flow * arc.cost),
+        ...[k + 1, tail, head, least, most, cost, flow, flow * cost].map(String),
         saved ? String(saved) : '',
       ],
     };
   };
-  const columns = [
-    number('arc'),
-    number('from'),
-    number('to'),
-    number('least'),
-    number('most'),
-    number('cost'),
-    number('carries'),
-    number('total'),
-    number('one more saves', 'what one more unit of room saves at most'),
-  ];
-  /** @type {Sheet} */
-  const nodes = {
-    title: 'Nodes',
-    columns: [number('node'), number('supply'), number('one more costs', 'minus its price')],
-    count: supplies.length,
-    row: (k) => ({
-      kind: '',
-      cells: [String(k + 1), String(supplies[k]), String(-plan.prices[k])],
-    }),
-  };
+  const hasIdle = flows.some((flow) => flow === 0n);
+  return { title: 'Arcs', columns: ARC_COLUMNS, count: arcs.length, row, hasIdle };
+}
+
+/** @type {(network: Network, plan: Plan) => Sheet} */
+const nodesSheet = ({ supplies }, { prices }) => ({
+  title: 'Nodes',
+  columns: [number('node'), number('supply'), number('one more costs', 'minus its price')],
+  count: supplies.length,
+  row: (k) => ({ kind: '', cells: [k + 1, supplies[k], -prices[k]].map(String) }),
+});
+
+/** @type {(network: Network, plan: Plan) => Shown} */
+export function textShown(network, plan) {
+  const { arcs, supplies } = network;
+  const carrying = plan.flows.reduce((count, flow) => count + Number(flow !== 0n), 0);
   return {
     isPlan: true,
     headline: ['Least cost: ', String(plan.cost)],
@@ -494,10 +491,7 @@ export function textShown(network, plan) {
     facts: [[supplies.length, 'nodes'], [arcs.length, 'arcs'], [carrying, 'carry something']],
     findings: [],
     scene: null,
-    sheets: [
-      { title: 'Arcs', columns, count: arcs.length, row, hasIdle: carrying < arcs.length },
-      nodes,
-    ],
+    sheets: [arcsSheet(network, plan), nodesSheet(network, plan)],
     tables: () => [],
   };
 }

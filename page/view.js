@@ -1,7 +1,14 @@
 // @ts-check
 // Small parts of what is shown.
 
-/** @typedef {Node | string} Part */
+/**
+ * @typedef {Node | string} Part
+ * @typedef {object} Lens
+ * @property {(wanted: number, x?: number, y?: number) => void} zoom
+ * @property {(dx: number, dy: number) => void} move
+ * @property {(dx: number, dy: number) => void} shift
+ * @property {() => void} all
+ */
 
 // An element with attributes and children; a text is one, too.
 /**
@@ -52,45 +59,43 @@ export function saver(name, made, type = 'text/plain') {
   }, name);
 }
 
-// The picture with its buttons: the wheel zooms at the pointer, dragging moves, buttons and keys do
-// the same.
-/** @type {(text: string) => HTMLElement} */
-export function pictureOf(text) {
-  const drawn = new DOMParser().parseFromString(text, 'image/svg+xml').documentElement;
-  const svg = /** @type {SVGSVGElement} */ (
-    /** @type {unknown} */ (document.importNode(drawn, true))
-  );
+// What is seen of a picture: nearer or farther at a point, moved by parts of it, shifted, or whole.
+/** @type {(svg: SVGSVGElement) => Lens} */
+function lensOf(svg) {
   const whole = svg.viewBox.baseVal;
   const home = [whole.x, whole.y, whole.width, whole.height];
   let view = home.slice();
-  /** @type {number[] | null} */
-  let from = null;
   const show = () => svg.setAttribute('viewBox', view.join(' '));
-  /** @type {(wanted: number, x?: number, y?: number) => void} */
-  const zoom = (wanted, x = view[0] + view[2] / 2, y = view[1] + view[3] / 2) => {
-    const factor = Math.max(home[2] / 60, Math.min(home[2] * 2, view[2] * wanted)) / view[2];
-    view = [
-      x - (x - view[0]) * factor,
-      y - (y - view[1]) * factor,
-      view[2] * factor,
-      view[3] * factor,
-    ];
-    show();
+  return {
+    zoom(wanted, x = view[0] + view[2] / 2, y = view[1] + view[3] / 2) {
+      const factor = Math.max(home[2] / 60, Math.min(home[2] * 2, view[2] * wanted)) / view[2];
+      view = [
+        x - (x - view[0]) * factor,
+        y - (y - view[1]) * factor,
+        view[2] * factor,
+        view[3] * factor,
+      ];
+      show();
+    },
+    move(dx, dy) { view[0] += dx * view[2]; view[1] += dy * view[3]; show(); },
+    shift(dx, dy) { view[0] += dx; view[1] += dy; show(); },
+    all() { view = home.slice(); show(); },
   };
-  /** @type {(dx: number, dy: number) => void} */
-  const move = (dx, dy) => { view[0] += dx * view[2]; view[1] += dy * view[3]; show(); };
-  const all = () => { view = home.slice(); show(); };
-  const spot = (/** @type {MouseEvent} */ event) => {
-    const { x, y } = new DOMPoint(event.clientX, event.clientY).matrixTransform(
-      svg.getScreenCTM().inverse()
-    );
-    return [x, y];
-  };
+}
+
+// Lets the wheel zoom at the pointer, and dragging move.
+/** @type {(svg: SVGSVGElement, lens: Lens) => void} */
+function followPointer(svg, lens) {
+  /** @type {DOMPoint | null} */
+  let from = null;
+  const spot = (/** @type {MouseEvent} */ event) =>
+    new DOMPoint(event.clientX, event.clientY).matrixTransform(svg.getScreenCTM().inverse());
   svg.addEventListener(
     'wheel',
     (event) => {
       event.preventDefault();
-      zoom(event.deltaY < 0 ? 0.85 : 1 / 0.85, ...spot(event));
+      const { x, y } = spot(event);
+      lens.zoom(event.deltaY < 0 ? 0.85 : 1 / 0.85, x, y);
     },
     { passive: false }
   );
@@ -101,20 +106,30 @@ export function pictureOf(text) {
   svg.addEventListener('pointermove', (event) => {
     if (!from) return;
     const to = spot(event);
-    view[0] += from[0] - to[0];
-    view[1] += from[1] - to[1];
-    show();
+    lens.shift(from.x - to.x, from.y - to.y);
   });
   svg.addEventListener('pointerup', () => { from = null; });
+}
+
+// The picture with its buttons: the wheel zooms at the pointer, dragging moves, buttons and keys do
+// the same.
+/** @type {(text: string) => HTMLElement} */
+export function pictureOf(text) {
+  const drawn = new DOMParser().parseFromString(text, 'image/svg+xml').documentElement;
+  const svg = /** @type {SVGSVGElement} */ (
+    /** @type {unknown} */ (document.importNode(drawn, true))
+  );
+  const lens = lensOf(svg);
+  followPointer(svg, lens);
   /** @type {Record<string, () => void>} */
   const keys = {
-    '+': () => zoom(0.7),
-    '-': () => zoom(1.43),
-    0: all,
-    ArrowLeft: () => move(-0.1, 0),
-    ArrowRight: () => move(0.1, 0),
-    ArrowUp: () => move(0, -0.1),
-    ArrowDown: () => move(0, 0.1),
+    '+': () => lens.zoom(0.7),
+    '-': () => lens.zoom(1.43),
+    0: () => lens.all(),
+    ArrowLeft: () => lens.move(-0.1, 0),
+    ArrowRight: () => lens.move(0.1, 0),
+    ArrowUp: () => lens.move(0, -0.1),
+    ArrowDown: () => lens.move(0, 0.1),
   };
   /** @type {(sign: string, title: string, act: () => void) => HTMLElement} */
   const button = (sign, title, act) =>
@@ -136,9 +151,9 @@ export function pictureOf(text) {
     el(
       'div',
       { class: 'zoom' },
-      button('+', 'nearer', () => zoom(0.7)),
-      button('−', 'farther', () => zoom(1.43)),
-      button('↺', 'all of it', all)
+      button('+', 'nearer', keys['+']),
+      button('−', 'farther', keys['-']),
+      button('↺', 'all of it', keys[0])
     )
   );
 }
