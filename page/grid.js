@@ -207,6 +207,7 @@ export class Grid {
   /** @type {(k: number, column: Column, text: string, cells: string[]) => HTMLElement} */
   cellOf(k, column, text, cells) {
     if (column.edit && this.change && text !== null) {
+      /** @type {HTMLInputElement} */
       const field = el(
         'input',
         {

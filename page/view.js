@@ -3,6 +3,7 @@
 
 /**
  * @typedef {Node | string} Part
+ * @typedef {string | number | boolean | null | undefined | ((event: any) => void)} Attribute
  * @typedef {object} Lens
  * @property {(wanted: number, x?: number, y?: number) => void} zoom
  * @property {(dx: number, dy: number) => void} move
@@ -14,16 +15,18 @@
 /**
  * @template {keyof HTMLElementTagNameMap} Tag
  * @param {Tag} tag
- * @param {Record<string, any>} [attributes]
+ * @param {Record<string, Attribute>} [attributes]
  * @param {...(Part | Part[])} children
  * @returns {HTMLElementTagNameMap[Tag]}
  */
 export function el(tag, attributes = {}, ...children) {
   const it = document.createElement(tag);
   for (const [name, value] of Object.entries(attributes)) {
-    if (name.startsWith('on')) it.addEventListener(name.slice(2), value);
+    if (typeof value === 'function') it.addEventListener(name.slice(2), value);
     else if (value === true) it.setAttribute(name, '');
-    else if (value !== false && value !== null && value !== undefined) it.setAttribute(name, value);
+    else if (value !== false && value !== null && value !== undefined) {
+      it.setAttribute(name, String(value));
+    }
   }
   it.append(...children.flat());
   return it;
