@@ -1,27 +1,56 @@
 // The picture of many places, as SVG: dots, with as many names and amounts as fit.
-import { COLOURS, PAGE, f, framed, growthOf, isQuiet, labelAt, labelSize, legendOf, tagAt, xmlText } from './drawing.js';
+import {
+  COLOURS,
+  PAGE,
+  f,
+  framed,
+  growthOf,
+  isQuiet,
+  labelAt,
+  labelSize,
+  legendOf,
+  tagAt,
+  xmlText,
+} from './drawing.js';
 import { PARTS, edgesOf, levelsOf, mapBoxes } from './layout.js';
 import { Room } from './room.js';
 
 const DOTS = { sends: '#5b9a52', takes: '#4d7fb3', passes: '#8a949e' };
-// How great a dot is, how far dots of a block stand apart, and between blocks how far at most and at least; how many names and amounts are
-// tried.
+// The edge of a dot that blocks.
+const BLOCKING = ` stroke="${COLOURS.limits}" stroke-width="2"`;
+// How great a dot is, how far dots of a block stand apart, and between blocks how far at most and
+// at least; how many names and amounts are tried.
 const ROUND = 3.4, STEP = 16, FAR = 220, CLOSE = 90, TRIED = 1000;
 
-// Dots on a map, or in blocks by how far they are from those that send; routes that matter are arrows.
+// Dots on a map, or in blocks by how far they are from those that send; routes that matter are
+// arrows.
 export function dotsSvg(scene) {
-  const links = scene.links.filter((link) => !isQuiet(link)), blocking = new Set(scene.groups.flatMap((group) => [...group]));
+  const links = scene.links.filter((link) => !isQuiet(link));
+  const blocking = new Set(scene.groups.flatMap((group) => [...group]));
   const weights = weightsOf(scene, links, blocking), spots = dotSpots(scene, weights);
   const [tags, [left, top, right, bottom]] = dotLabels(scene.nodes, links, weights, spots);
-  const order = [...links].sort((a, b) => (a.kind !== 'flowing') - (b.kind !== 'flowing') || b.width - a.width);
-  const body = order.map((link) => dotRoute(link, link.width / 2, spots[link.tail], spots[link.head]));
+  const order = [...links].sort((a, b) =>
+    (a.kind !== 'flowing') - (b.kind !== 'flowing') || b.width - a.width
+  );
+  const body = order.map((link) =>
+    dotRoute(link, link.width / 2, spots[link.tail], spots[link.head])
+  );
   scene.nodes.forEach((node, k) => {
-    const edge = blocking.has(k) ? ` stroke="${COLOURS.limits}" stroke-width="2"` : '';
+    const edge = blocking.has(k) ? BLOCKING : '';
+    const [x, y] = spots[k].map(f);
+    const title = xmlText(node.note ? `${node.name}: ${node.note}` : node.name);
     body.push(
-      `<circle cx="${f(spots[k][0])}" cy="${f(spots[k][1])}" r="${node.note ? ROUND : 2.2}" fill="${DOTS[node.kind]}"${edge}><title>${xmlText(node.note ? `${node.name}: ${node.note}` : node.name)}</title></circle>`
+      `<circle cx="${x}" cy="${y}" r="${node.note ? ROUND : 2.2}" fill="${DOTS[node.kind]}"${edge}>`
+        + `<title>${title}</title></circle>`
     );
   });
-  return framed([[left, top], [right, bottom]], scene, [...body, ...tags], legendOf(scene, dotSwatch, dotSample), 'dots');
+  return framed(
+    [[left, top], [right, bottom]],
+    scene,
+    [...body, ...tags],
+    legendOf(scene, dotSwatch, dotSample),
+    'dots'
+  );
 }
 
 // How great places are: those that block before all others, then by how wide their routes are.
@@ -36,25 +65,44 @@ function weightsOf({ nodes }, links, blocking) {
 
 // An arrow between two dots, with a bar before its head where the route is full.
 function dotRoute({ kind, title }, width, begin, end) {
-  const far = Math.hypot(end[0] - begin[0], end[1] - begin[1]) || 1, dx = (end[0] - begin[0]) / far, dy = (end[1] - begin[1]) / far;
-  const long = Math.min(far / 2, 5 + 1.6 * width), half = 2 + width, base = ROUND + long;
-  const corner = ([back, aside]) => `${f(end[0] - dx * back - dy * aside)},${f(end[1] - dy * back + dx * aside)}`;
+  const far = Math.hypot(end[0] - begin[0], end[1] - begin[1]) || 1;
+  const dx = (end[0] - begin[0]) / far, dy = (end[1] - begin[1]) / far;
+  const half = 2 + width, base = ROUND + Math.min(far / 2, 5 + 1.6 * width);
+  const corner = ([back, aside]) =>
+    `${f(end[0] - dx * back - dy * aside)},${f(end[1] - dy * back + dx * aside)}`;
   const path = (corners) => `M${corners.map(corner).join(' L')} Z`;
-  const shape = [[far, width / 2], [base, width / 2], [base, half], [ROUND, 0], [base, -half], [base, -width / 2], [far, -width / 2]];
-  const bar = [[1.5, 1], [1.5, -1], [3, -1], [3, 1]].map(([back, aside]) => [base + back, aside * (half + 1.5)]);
-  return `<path class="${kind}" d="${path(shape)}${kind === 'full' || kind === 'limits' ? ` ${path(bar)}` : ''}" fill="${COLOURS[kind]}" fill-opacity="0.75"><title>${xmlText(title)}</title></path>`;
+  const shape = [
+    [far, width / 2],
+    [base, width / 2],
+    [base, half],
+    [ROUND, 0],
+    [base, -half],
+    [base, -width / 2],
+    [far, -width / 2],
+  ];
+  const over = half + 1.5;
+  const bar = [[base + 1.5, over], [base + 1.5, -over], [base + 3, -over], [base + 3, over]];
+  const barred = kind === 'full' || kind === 'limits' ? ` ${path(bar)}` : '';
+  return `<path class="${kind}" d="${path(shape)}${barred}" fill="${COLOURS[kind]}"`
+    + ` fill-opacity="0.75"><title>${xmlText(title)}</title></path>`;
 }
 
-// The names of the greatest places and the amounts of the greatest routes, in turn, where they cover no dot and no other label; and the
-// edges of all.
+// The names of the greatest places and the amounts of the greatest routes, in turn, where they
+// cover no dot and no other label; and the edges of all.
 function dotLabels(nodes, links, weights, spots) {
   const room = new Room(), lines = [], growth = growthOf(edgesOf(spots));
   for (const [x, y] of spots) room.take([x - ROUND, y - ROUND, x + ROUND, y + ROUND]);
-  const named = nodes.map((_, k) => k).filter((k) => weights[k]).sort((a, b) => weights[b] - weights[a]).slice(0, TRIED);
+  const named = nodes
+    .map((_, k) => k)
+    .filter((k) => weights[k])
+    .sort((a, b) => weights[b] - weights[a])
+    .slice(0, TRIED);
   const told = links.filter(({ label }) => label).sort((a, b) => b.width - a.width).slice(0, TRIED);
   for (let k = 0; k < Math.max(named.length, told.length); k++) {
     if (k < named.length) {
-      const { short } = nodes[named[k]], size = labelSize(short, growth), spot = room.first(spotsBeside(spots[named[k]], size), size);
+      const { short } = nodes[named[k]];
+      const size = labelSize(short, growth);
+      const spot = room.first(spotsBeside(spots[named[k]], size), size);
       if (spot) lines.push(tagAt(short, ...spot, growth, 'class="name"'));
     }
     if (k < told.length) {
@@ -68,7 +116,9 @@ function dotLabels(nodes, links, weights, spots) {
 
 // Where the amount of a route may stand that is long enough for the arrow to be seen.
 function spotsBetween([ax, ay], [bx, by], [wide]) {
-  return Math.hypot(bx - ax, by - ay) < wide + 20 ? [] : PARTS.map((part) => [ax + (bx - ax) * part, ay + (by - ay) * part]);
+  return Math.hypot(bx - ax, by - ay) < wide + 20
+    ? []
+    : PARTS.map((part) => [ax + (bx - ax) * part, ay + (by - ay) * part]);
 }
 
 // Where the name of a dot may stand: to the right, the left, above and below.
@@ -77,23 +127,43 @@ function spotsBeside([x, y], [wide, high]) {
   return [[x + aside, y], [x - aside, y], [x, y - over], [x, y + over]];
 }
 
-function dotSpots({ nodes, links }, weights) {
-  const onMap = nodes.map((node) => node.spot), starts = nodes.map((_, k) => k).filter((k) => nodes[k].kind === 'sends');
-  if (onMap.length && onMap.every(Boolean)) {
-    return mapBoxes({ sizes: nodes.map(() => [0, 0]), spots: onMap }, (PAGE - 200) / Math.sqrt(nodes.length)).map(({ x, y }) => [x, y]);
-  }
-  const levels = levelsOf(nodes.length, links, starts), blocks = [], spots = [];
+// Where the dots stand.
+function dotSpots(scene, weights) {
+  const { nodes } = scene;
+  const onMap = nodes.map((node) => node.spot);
+  if (!onMap.length || !onMap.every(Boolean)) return blockSpots(levelBlocks(scene, weights));
+  const task = { sizes: nodes.map(() => [0, 0]), spots: onMap };
+  return mapBoxes(task, (PAGE - 200) / Math.sqrt(nodes.length)).map(({ x, y }) => [x, y]);
+}
+
+// The numbers of the places by how far they are from those that send. The greatest of a block stand
+// at its right, where names have room.
+function levelBlocks({ nodes, links }, weights) {
+  const starts = nodes.map((_, k) => k).filter((k) => nodes[k].kind === 'sends');
+  const levels = levelsOf(nodes.length, links, starts), blocks = [];
   for (const level of levels) blocks[level] = [];
-  // The greatest of a block stand at its right, where names have room.
-  for (const node of nodes.map((_, k) => k).sort((a, b) => weights[a] - weights[b])) blocks[levels[node]].push(node);
-  const high = Math.max(8, Math.ceil(Math.sqrt(levels.length))), wides = blocks.map((block) => Math.ceil(block.length / high) * STEP);
-  const between = Math.min(FAR, Math.max(CLOSE, (PAGE - wides.reduce((sum, wide) => sum + wide, 0)) / Math.max(1, blocks.length)));
+  for (const node of nodes.map((_, k) => k).sort((a, b) => weights[a] - weights[b])) {
+    blocks[levels[node]].push(node);
+  }
+  return blocks;
+}
+
+// Where dots in blocks stand.
+function blockSpots(blocks) {
+  const count = blocks.reduce((sum, block) => sum + block.length, 0);
+  const high = Math.max(8, Math.ceil(Math.sqrt(count)));
+  const wides = blocks.map((block) => Math.ceil(block.length / high) * STEP);
+  const left = PAGE - wides.reduce((sum, wide) => sum + wide, 0);
+  const between = Math.min(FAR, Math.max(CLOSE, left / Math.max(1, blocks.length)));
   const total = wides.reduce((sum, wide) => sum + wide + between, 0);
   // Rows stand apart as names are high, which are greater in a wider picture.
   const down = STEP * growthOf([0, 0, total, 0]);
+  const spots = [];
   let across = 0;
   blocks.forEach((block, level) => {
-    block.forEach((node, nth) => { spots[node] = [across + Math.floor(nth / high) * STEP, nth % high * down]; });
+    block.forEach((node, nth) => {
+      spots[node] = [across + Math.floor(nth / high) * STEP, nth % high * down];
+    });
     across += wides[level] + between;
   });
   return spots;
@@ -101,8 +171,8 @@ function dotSpots({ nodes, links }, weights) {
 
 // A dot of a kind, or one that blocks, for the legend.
 function dotSwatch(kind, x) {
-  const edge = kind === 'blocks' ? ` stroke="${COLOURS.limits}" stroke-width="2"` : '';
-  return `<circle cx="${f(x + 11)}" cy="-4" r="5" fill="${DOTS[kind === 'blocks' ? 'passes' : kind]}"${edge}/>`;
+  const [fill, edge] = kind === 'blocks' ? [DOTS.passes, BLOCKING] : [DOTS[kind], ''];
+  return `<circle cx="${f(x + 11)}" cy="-4" r="5" fill="${fill}"${edge}/>`;
 }
 
 // An arrow of a kind, for the legend.

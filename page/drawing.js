@@ -2,28 +2,42 @@
 import { countOf } from './faults.js';
 import { edgesOf, samples } from './layout.js';
 
-const FONT = 'font-family="DejaVu Sans, Verdana, Helvetica, sans-serif"', KINDS = { sends: 'sends', takes: 'takes', passes: 'passes on' };
+const FONT = 'font-family="DejaVu Sans, Verdana, Helvetica, sans-serif"';
+const KINDS = { sends: 'sends', takes: 'takes', passes: 'passes on' };
 const INK = '#1f2933';
 export const SOFT = '#52606d', SHADE = '#f9d5cd', LEFT = 'text-anchor="start"';
-export const COLOURS = { full: '#c2410c', limits: '#c2410c', forces: '#c2410c', flowing: '#3d6d94', idle: '#b8c0c8', other: '#8a949e' };
+export const COLOURS = {
+  full: '#c2410c',
+  limits: '#c2410c',
+  forces: '#c2410c',
+  flowing: '#3d6d94',
+  idle: '#b8c0c8',
+  other: '#8a949e',
+};
 const FILLS = { sends: '#dff0dc', takes: '#dbe8f7', passes: '#ffffff' };
 const BLOCKS = 'places that must send or take more than they can';
 // In wider pictures headings and legends are greater.
 export const PAGE = 1400;
+// Letters that are as wide as high.
+const FULL_WIDTH = new RegExp(
+  '[\\u1100-\\u115f\\u2e80-\\ua4cf\\uac00-\\ud7a3\\uf900-\\ufaff\\ufe30-\\ufe6f\\uff00-\\uff60'
+    + '\\uffe0-\\uffe6]'
+);
 
 // ---- Texts
 
-export const xmlText = (text) => String(text).replace(
-  /[\ufffe\uffff]/g, '?'
-).replace(/&/g, '&amp;').replace(/</g, '&lt;').replace(/>/g, '&gt;');
+export const xmlText = (text) =>
+  String(text)
+    .replace(/[\ufffe\uffff]/g, '?')
+    .replace(/&/g, '&amp;')
+    .replace(/</g, '&lt;')
+    .replace(/>/g, '&gt;');
 // About how wide a text is, in pixels.
-export const textWidth = (text, size) => [...text].reduce(
-  (sum, c) => sum + (/[\u1100-\u115f\u2e80-\ua4cf\uac00-\ud7a3\uf900-\ufaff\ufe30-\ufe6f\uff00-\uff60\uffe0-\uffe6]/.test(c) ? 1 : 0.62), 0
-) * size;
+export const textWidth = (text, size) =>
+  [...text].reduce((sum, letter) => sum + (FULL_WIDTH.test(letter) ? 1 : 0.62), 0) * size;
 export const f = (number) => number.toFixed(1);
-export const textAt = (
-  x, y, size, text, more = 'text-anchor="middle"'
-) => `<text x="${f(x)}" y="${f(y)}" font-size="${size}" ${more}>${xmlText(text)}</text>`;
+export const textAt = (x, y, size, text, more = 'text-anchor="middle"') =>
+  `<text x="${f(x)}" y="${f(y)}" font-size="${size}" ${more}>${xmlText(text)}</text>`;
 
 // ---- Places and routes
 
@@ -31,16 +45,20 @@ export const textAt = (
 export const isQuiet = ({ kind }) => kind === 'idle' || kind === 'other';
 
 // The numbers of links as they are drawn: those that matter less first, then the widest.
-export const orderOf = (links) => links.map((_, k) => k).sort(
-  (a, b) => isQuiet(links[b]) - isQuiet(links[a]) || links[b].width - links[a].width
-);
+export const orderOf = (links) =>
+  links
+    .map((_, k) => k)
+    .sort((a, b) => isQuiet(links[b]) - isQuiet(links[a]) || links[b].width - links[a].width);
 
 export function boxAt({ x, y, width, height }, kind, blocks = false, more = '') {
   const [edge, wide] = blocks ? [COLOURS.limits, 2.2] : [SOFT, 1.1];
-  return `<rect class="${kind}" x="${f(x - width / 2)}" y="${f(y - height / 2)}" width="${f(width)}" height="${height.toFixed(0)}" rx="6" fill="${FILLS[kind]}" stroke="${edge}" stroke-width="${wide}"${more}/>`;
+  return `<rect class="${kind}" x="${f(x - width / 2)}" y="${f(y - height / 2)}"`
+    + ` width="${f(width)}" height="${height.toFixed(0)}" rx="6" fill="${FILLS[kind]}"`
+    + ` stroke="${edge}" stroke-width="${wide}"${more}/>`;
 }
 
-export const pathOf = ([begin, ...points]) => `M${begin.map(f)} C${points.map((point) => point.map(f)).join(' ')}`;
+export const pathOf = ([begin, ...points]) =>
+  `M${begin.map(f)} C${points.map((point) => point.map(f)).join(' ')}`;
 
 // The curve of a route, its arrowhead, and the bar before it where the route is full.
 export function arrow({ kind, width, title }, points) {
@@ -48,18 +66,27 @@ export function arrow({ kind, width, title }, points) {
   const tip = points[points.length - 1];
   const before = samples(points).slice(-4)[0];
   const far = Math.hypot(tip[0] - before[0], tip[1] - before[1]) || 1;
-  const dx = (tip[0] - before[0]) / far, dy = (tip[1] - before[1]) / far, long = 7 + 1.5 * width, wide = 3 + 0.95 * width;
+  const dx = (tip[0] - before[0]) / far, dy = (tip[1] - before[1]) / far;
+  const long = 7 + 1.5 * width, wide = 3 + 0.95 * width;
   const base = [tip[0] - dx * long, tip[1] - dy * long], last = points[points.length - 2];
-  const curve = [...points.slice(0, -2), [last[0] - dx * long * 0.7, last[1] - dy * long * 0.7], [base[0] + dx, base[1] + dy]];
-  const tips = [
-    tip, [base[0] - dy * wide, base[1] + dx * wide], [base[0] + dy * wide, base[1] - dx * wide],
-  ].map((point) => point.map(f)).join(' ');
+  const curve = [
+    ...points.slice(0, -2),
+    [last[0] - dx * long * 0.7, last[1] - dy * long * 0.7],
+    [base[0] + dx, base[1] + dy],
+  ];
+  const across = ([x, y], half) => [
+    [x - dy * half, y + dx * half],
+    [x + dy * half, y - dx * half],
+  ].map((point) => point.map(f));
+  const tips = [tip.map(f), ...across(base, wide)].join(' ');
   let bar = '';
   if (kind === 'full' || kind === 'limits') {
-    const [x, y] = [base[0] - 3 * dx, base[1] - 3 * dy], half = 5 + 0.9 * width;
-    bar = `<path d="M${f(x - dy * half)},${f(y + dx * half)} L${f(x + dy * half)},${f(y - dx * half)}" stroke="${colour}" stroke-width="2.6"/>`;
+    const [from, to] = across([base[0] - 3 * dx, base[1] - 3 * dy], 5 + 0.9 * width);
+    bar = `<path d="M${from} L${to}" stroke="${colour}" stroke-width="2.6"/>`;
   }
-  return `<g class="${kind}"><title>${xmlText(title)}</title><path d="${pathOf(curve)}" fill="none" stroke="${colour}" stroke-width="${f(width)}"/><polygon points="${tips}" fill="${colour}"/>${bar}</g>`;
+  return `<g class="${kind}"><title>${xmlText(title)}</title>`
+    + `<path d="${pathOf(curve)}" fill="none" stroke="${colour}" stroke-width="${f(width)}"/>`
+    + `<polygon points="${tips}" fill="${colour}"/>${bar}</g>`;
 }
 
 // A level line from a spot, as a curve.
@@ -69,14 +96,14 @@ export const lineBetween = (x, y, to) => [0, 1, 2, 3].map((part) => [x + (to - x
 export const labelSize = (text, size = 1) => [(textWidth(text, 11) + 6) * size, 15 * size];
 
 // The label of a route.
-export const labelAt = (link, x, y, size = 1) => (
-  tagAt(link.label, x, y, size, `class="${link.kind}" fill="${COLOURS[link.kind]}" font-weight="bold"`)
-);
+export const labelAt = ({ kind, label }, x, y, size = 1) =>
+  tagAt(label, x, y, size, `class="${kind}" fill="${COLOURS[kind]}" font-weight="bold"`);
 
 // A text on a ground of its own.
 export function tagAt(text, x, y, size, more) {
   const [wide, high] = labelSize(text, size);
-  return `<rect class="ground" x="${f(x - wide / 2)}" y="${f(y - high / 2)}" width="${f(wide)}" height="${f(high)}" rx="5" fill="#ffffff" fill-opacity="0.88"/>`
+  return `<rect class="ground" x="${f(x - wide / 2)}" y="${f(y - high / 2)}" width="${f(wide)}"`
+    + ` height="${f(high)}" rx="5" fill="#ffffff" fill-opacity="0.88"/>`
     + textAt(x, y + 4 * size, Number(f(11 * size)), text, `text-anchor="middle" ${more}`);
 }
 
@@ -85,20 +112,37 @@ export function tagAt(text, x, y, size, more) {
 // What a picture is called, and what is said of it, where it isn't seen.
 function namesOf({ caption, heading, nodes, links }) {
   const title = `${caption && caption.title ? `${caption.title}: ` : ''}${heading}`;
-  const drawn = `${countOf(nodes.length, 'place', 'places')} and ${countOf(links.length, 'route', 'routes')}`;
-  return [`<title>${xmlText(title)}</title>`, `<desc>Drawn are ${drawn}; the tables have all of them.</desc>`];
+  const drawn =
+    `${countOf(nodes.length, 'place', 'places')} and ${countOf(links.length, 'route', 'routes')}`;
+  return [
+    `<title>${xmlText(title)}</title>`,
+    `<desc>Drawn are ${drawn}; the tables have all of them.</desc>`,
+  ];
 }
 
-// A whole picture: its frame, its heading, what stands in it and the legend below. Its kind is a class of the page's style.
+// A whole picture: its frame, its heading, what stands in it and the legend below. Its kind is a
+// class of the page's style.
 export function framed(points, scene, body, [lines, across], kind = 'boxes') {
-  const [west, north, east, south] = edgesOf(points), size = growthOf([west, north, east, south]), [headings, along] = headingsOf(scene);
-  const left = west - 32, right = east + 32, top = north - 38 - (12 + 20 * headings.length) * size, bottom = south + 20 + 36 * size;
-  const wide = Math.max(left + 48 + Math.max(across, along) * size, right) - left, high = bottom - top;
-  return [`<svg xmlns="http://www.w3.org/2000/svg" class="${kind}" role="img" width="${wide.toFixed(0)}" height="${high.toFixed(0)}" viewBox="${[left, top, wide, high].map(f).join(' ')}" ${FONT} fill="${INK}">`,
+  const [west, north, east, south] = edgesOf(points);
+  const size = growthOf([west, north, east, south]);
+  const [headings, along] = headingsOf(scene);
+  const left = west - 32, right = east + 32;
+  const top = north - 38 - (12 + 20 * headings.length) * size;
+  const bottom = south + 20 + 36 * size;
+  const wide = Math.max(left + 48 + Math.max(across, along) * size, right) - left;
+  const high = bottom - top;
+  const [x, y, width, height] = [left, top, wide, high].map(f);
+  return [
+    `<svg xmlns="http://www.w3.org/2000/svg" class="${kind}" role="img" width="${wide.toFixed(0)}"`
+      + ` height="${high.toFixed(0)}" viewBox="${x} ${y} ${width} ${height}" ${FONT}`
+      + ` fill="${INK}">`,
     ...namesOf(scene),
-    `<rect class="ground" x="${f(left)}" y="${f(top)}" width="${f(wide)}" height="${f(high)}" fill="#ffffff"/>`,
+    `<rect class="ground" x="${x}" y="${y}" width="${width}" height="${height}" fill="#ffffff"/>`,
     placed(left + 24, top + 32 * size, size, headings),
-    ...body, placed(left + 24, bottom - 20 * size, size, lines), '</svg>'].join('\n');
+    ...body,
+    placed(left + 24, bottom - 20 * size, size, lines),
+    '</svg>',
+  ].join('\n');
 }
 
 // How much greater texts are in a picture that is wider than a page.
@@ -106,21 +150,30 @@ export const growthOf = ([left, , right]) => Math.max(1, (right - left) / PAGE);
 
 // What stands above a picture, and how wide that is: the title, the heading, the tables.
 function headingsOf({ heading, caption }) {
-  const texts = (caption ? [caption.title, heading, caption.source] : [heading]).filter(Boolean), size = (k) => (k ? 12 : 17);
+  const texts = (caption ? [caption.title, heading, caption.source] : [heading]).filter(Boolean);
+  const size = (k) => (k ? 12 : 17);
   const more = (k) => `${LEFT} ${k ? `class="note" fill="${SOFT}"` : 'font-weight="bold"'}`;
-  return [texts.map((text, k) => textAt(0, 20 * k, size(k), text, more(k))), Math.max(...texts.map((text, k) => textWidth(text, size(k))))];
+  return [
+    texts.map((text, k) => textAt(0, 20 * k, size(k), text, more(k))),
+    Math.max(...texts.map((text, k) => textWidth(text, size(k)))),
+  ];
 }
 
 // What is drawn around 0, 0, elsewhere and greater.
-const placed = (x, y, size, lines) => (
-  [`<g transform="translate(${f(x)} ${f(y)})${size === 1 ? '' : ` scale(${size.toFixed(2)})`}">`, ...lines, '</g>'].join('\n')
-);
+const placed = (x, y, size, lines) => [
+  `<g transform="translate(${f(x)} ${f(y)})${size === 1 ? '' : ` scale(${size.toFixed(2)})`}">`,
+  ...lines,
+  '</g>',
+].join('\n');
 
-// What the colours and the marks mean, and where that ends. A swatch draws a kind of places, or "blocks", and a route one of
-// routes; more entries have how wide a drawing is, the drawing by where it begins, and words.
+// What the colours and the marks mean, and where that ends. A swatch draws a kind of places, or
+// "blocks", and a route one of routes; more entries have how wide a drawing is, the drawing by
+// where it begins, and words.
 export function legendOf({ notes, groups }, swatch, route = sample, more = []) {
   const entries = Object.entries(KINDS).map(([kind, words]) => [22, (x) => swatch(kind, x), words]);
-  for (const [kind, words] of Object.entries(notes)) entries.push([44, (x) => route(kind, x), words]);
+  for (const [kind, words] of Object.entries(notes)) {
+    entries.push([44, (x) => route(kind, x), words]);
+  }
   if (groups.length) entries.push([24, (x) => swatch('blocks', x), BLOCKS]);
   const lines = [];
   let x = 0;
@@ -132,14 +185,16 @@ export function legendOf({ notes, groups }, swatch, route = sample, more = []) {
 }
 
 // A route of a kind, for the legend.
-const sample = (kind, x) => arrow({ kind, width: kind === 'limits' ? 2.6 : 5, title: '' }, lineBetween(x, -4, x + 42));
+const sample = (kind, x) =>
+  arrow({ kind, width: kind === 'limits' ? 2.6 : 5, title: '' }, lineBetween(x, -4, x + 42));
 
 // A box of a kind, or the shade behind those that block, for the legend.
-export const boxSwatch = (kind, x) => (
-  kind === 'blocks' ? shadeAt({ x: x + 12, y: -4, width: 24, height: 16 }, 6) : boxAt({ x: x + 11, y: -4, width: 22, height: 14 }, kind)
-);
+export const boxSwatch = (kind, x) =>
+  kind === 'blocks'
+    ? shadeAt({ x: x + 12, y: -4, width: 24, height: 16 }, 6)
+    : boxAt({ x: x + 11, y: -4, width: 22, height: 14 }, kind);
 
 // The shade behind a box.
-export const shadeAt = ({ x, y, width, height }, round) => (
-  `<rect class="shade" x="${f(x - width / 2)}" y="${f(y - height / 2)}" width="${f(width)}" height="${f(height)}" rx="${round}" fill="${SHADE}"/>`
-);
+export const shadeAt = ({ x, y, width, height }, round) =>
+  `<rect class="shade" x="${f(x - width / 2)}" y="${f(y - height / 2)}" width="${f(width)}"`
+    + ` height="${f(height)}" rx="${round}" fill="${SHADE}"/>`;

@@ -1,16 +1,20 @@
-// Where boxes and curves stand in a picture: on a map by x and y, else in columns by how far places are from those that send.
+// Where boxes and curves stand in a picture: on a map by x and y, else in columns by how far places
+// are from those that send.
 
-// How far the places of a map stand apart; what boxes keep between them, and in how many rounds that is sought.
+// How far the places of a map stand apart; what boxes keep between them, and in how many rounds
+// that is sought.
 const SPREAD = 235, APART = 14, ROUNDS = 60;
 // How often the order within columns is made anew.
 const SWEEPS = 6;
 // Which parts of its way along a link its label may stand at.
 export const PARTS = [0.45, 0.55, 0.35, 0.65, 0.25, 0.75, 0.15, 0.85];
 
-// A task has the sizes of boxes, spots on a map or null, links by their nodes from 0, and the nodes that send. A layout has boxes by their
-// centres, for each link its curve of cubic pieces, and the spots where its label may stand, the best first.
+// A task has the sizes of boxes, spots on a map or null, links by their nodes from 0, and the nodes
+// that send. A layout has boxes by their centres, for each link its curve of cubic pieces, and the
+// spots where its label may stand, the best first.
 export function laidOut(task) {
-  const boxes = task.spots ? parted(mapBoxes(task, SPREAD)) : columnBoxes(task), curves = straight(boxes, task.links);
+  const boxes = task.spots ? parted(mapBoxes(task, SPREAD)) : columnBoxes(task);
+  const curves = straight(boxes, task.links);
   return { boxes, curves, labels: curves.map(spotsAlong) };
 }
 
@@ -20,8 +24,15 @@ export function mapBoxes({ sizes, spots }, spread) {
   const xs = spots.map(([x]) => x / 2), ys = spots.map(([, y]) => y / 2);
   const [left, right, low, high] = [least(xs), most(xs), least(ys), most(ys)];
   const wide = spread * Math.sqrt(xs.length) + 200;
-  const scale = left === right && low === high ? 1 : Math.min(wide / Math.max(right - left, 1e-9), wide * 0.72 / Math.max(high - low, 1e-9));
-  return xs.map((x, k) => ({ x: (x - left) * scale, y: (high - ys[k]) * scale, width: sizes[k][0], height: sizes[k][1] }));
+  const scale = left === right && low === high
+    ? 1
+    : Math.min(wide / Math.max(right - left, 1e-9), wide * 0.72 / Math.max(high - low, 1e-9));
+  return xs.map((x, k) => ({
+    x: (x - left) * scale,
+    y: (high - ys[k]) * scale,
+    width: sizes[k][0],
+    height: sizes[k][1],
+  }));
 }
 
 const least = (numbers) => numbers.reduce((a, b) => Math.min(a, b), Infinity);
@@ -43,7 +54,8 @@ function parted(boxes) {
         const dx = (a.width + b.width) / 2 + APART - Math.abs(a.x - b.x);
         const dy = (a.height + b.height) / 2 + APART - Math.abs(a.y - b.y);
         if (dx <= 0.1 || dy <= 0.1) continue;
-        const axis = dy <= dx ? 'y' : 'x', step = Math.min(dx, dy) / 2 * (a[axis] < b[axis] ? -1 : 1);
+        const axis = dy <= dx ? 'y' : 'x';
+        const step = Math.min(dx, dy) / 2 * (a[axis] < b[axis] ? -1 : 1);
         a[axis] += step;
         b[axis] -= step;
         moved = true;
@@ -53,7 +65,8 @@ function parted(boxes) {
   return boxes;
 }
 
-// For each node how many links lead to it from the nearest start; what isn't reached begins anew, first where no link leads to.
+// For each node how many links lead to it from the nearest start; what isn't reached begins anew,
+// first where no link leads to.
 export function levelsOf(count, links, starts) {
   const after = Array.from({ length: count }, () => []), levels = new Array(count).fill(-1);
   for (const { tail, head } of links) after[tail].push(head);
@@ -72,37 +85,55 @@ export function levelsOf(count, links, starts) {
   return levels;
 }
 
-// Boxes in columns, ordered so that links cross little: each after the middle of those that it is linked with in the column before or after.
-function columnBoxes({ sizes, links, starts }) {
-  const levels = levelsOf(sizes.length, links, starts), columns = Array.from({ length: most([-1, ...levels]) + 1 }, () => []);
+// The nodes in columns, ordered so that links cross little: each after the middle of those that it
+// is linked with in the column before or after.
+function orderedColumns({ sizes, links, starts }) {
+  const levels = levelsOf(sizes.length, links, starts);
+  const columns = Array.from({ length: most([-1, ...levels]) + 1 }, () => []);
   levels.forEach((level, node) => columns[level].push(node));
   const near = sizes.map(() => []), place = new Array(sizes.length).fill(0);
   for (const { tail, head } of links) {
     near[tail].push(head);
     near[head].push(tail);
   }
-  const number = (column) => column.forEach((node, k) => { place[node] = (k + 0.5) / column.length; });
+  const number = (column) =>
+    column.forEach((node, k) => { place[node] = (k + 0.5) / column.length; });
   columns.forEach(number);
+  const middleOf = (node, isBefore) => {
+    const others = near[node].filter((other) =>
+      isBefore ? levels[other] < levels[node] : levels[other] > levels[node]
+    );
+    return others.length
+      ? others.reduce((sum, other) => sum + place[other], 0) / others.length
+      : place[node];
+  };
   for (let sweep = 0; sweep < SWEEPS; sweep++) {
     const forth = sweep % 2 === 0;
-    for (const level of forth ? columns.keys() : [...columns.keys()].reverse()) {
-      const middle = new Map(columns[level].map((node) => {
-        const others = near[node].filter((other) => (forth ? levels[other] < level : levels[other] > level));
-        return [node, others.length ? others.reduce((sum, other) => sum + place[other], 0) / others.length : place[node]];
-      }));
-      columns[level].sort((a, b) => middle.get(a) - middle.get(b) || a - b);
-      number(columns[level]);
+    for (const column of forth ? columns : [...columns].reverse()) {
+      const middle = new Map(column.map((node) => [node, middleOf(node, forth)]));
+      column.sort((a, b) => middle.get(a) - middle.get(b) || a - b);
+      number(column);
     }
   }
+  return columns;
+}
+
+// Boxes in columns.
+function columnBoxes(task) {
+  const { sizes } = task, columns = orderedColumns(task);
   const tallest = most([0, ...columns.map((column) => column.length)]), boxes = [];
   let across = 0;
   for (const column of columns) {
-    const wide = most(column.map((node) => sizes[node][0])), step = 62 * Math.min(3, Math.max(1, tallest / column.length * 0.8));
-    column.forEach(
-      (node, k) => {
-        boxes[node] = { x: across + wide / 2, y: (k - (column.length - 1) / 2) * step, width: sizes[node][0], height: sizes[node][1] };
-      }
-    );
+    const wide = most(column.map((node) => sizes[node][0]));
+    const step = 62 * Math.min(3, Math.max(1, tallest / column.length * 0.8));
+    column.forEach((node, k) => {
+      boxes[node] = {
+        x: across + wide / 2,
+        y: (k - (column.length - 1) / 2) * step,
+        width: sizes[node][0],
+        height: sizes[node][1],
+      };
+    });
     across += wide + 170;
   }
   return boxes;
@@ -112,18 +143,25 @@ function columnBoxes({ sizes, links, starts }) {
 function straight(boxes, links) {
   const seen = new Map();
   return links.map(({ tail, head }) => {
-    const key = Math.min(tail, head) * boxes.length + Math.max(tail, head), nth = seen.get(key) || 0;
+    const key = Math.min(tail, head) * boxes.length + Math.max(tail, head);
+    const nth = seen.get(key) || 0;
     seen.set(key, nth + 1);
     const past = around(boxes, boxes[tail], boxes[head]);
-    const bow = past ? past + nth * 26 : Math.floor((nth + 1) / 2) * 26 * (nth % 2 ? 1 : -1) * (tail < head ? 1 : -1);
+    const bow = past
+      ? past + nth * 26
+      : Math.floor((nth + 1) / 2) * 26 * (nth % 2 ? 1 : -1) * (tail < head ? 1 : -1);
     return tail === head ? loopAt(boxes[tail]) : bowed(boxes[tail], boxes[head], bow);
   });
 }
 
 // How far a link between two boxes, one above the other, goes round those between them.
 function around(boxes, a, b) {
-  const between = boxes.filter((box) => (box.y - a.y) * (box.y - b.y) < 0 && Math.abs(box.x - (a.x + b.x) / 2) < box.width / 2);
-  return Math.abs(a.x - b.x) < (a.width + b.width) / 2 && between.length ? most(between.map((box) => box.width)) / 2 + 20 : 0;
+  const between = boxes.filter((box) =>
+    (box.y - a.y) * (box.y - b.y) < 0 && Math.abs(box.x - (a.x + b.x) / 2) < box.width / 2
+  );
+  return Math.abs(a.x - b.x) < (a.width + b.width) / 2 && between.length
+    ? most(between.map((box) => box.width)) / 2 + 20
+    : 0;
 }
 
 // The curve of a link from a box to itself, at its right upper corner.
@@ -145,7 +183,11 @@ function bowed(tail, head, bow) {
 // Where the line from the middle of a box to a point leaves the box.
 function edgeOf(box, to) {
   const dx = to[0] - box.x, dy = to[1] - box.y;
-  const part = Math.min(dx ? box.width / 2 / Math.abs(dx) : Infinity, dy ? box.height / 2 / Math.abs(dy) : Infinity, 1);
+  const part = Math.min(
+    dx ? box.width / 2 / Math.abs(dx) : Infinity,
+    dy ? box.height / 2 / Math.abs(dy) : Infinity,
+    1
+  );
   return [box.x + dx * part, box.y + dy * part];
 }
 
@@ -154,8 +196,14 @@ export function samples(points, count = 24) {
   const found = [];
   for (let begin = 0; begin < points.length - 3; begin += 3) {
     for (let step = 0; step < count; step++) {
-      const part = step / count, rest = 1 - part, weights = [rest ** 3, 3 * rest * rest * part, 3 * rest * part * part, part ** 3];
-      found.push([0, 1].map((axis) => weights.reduce((sum, weight, k) => sum + weight * points[begin + k][axis], 0)));
+      const part = step / count;
+      const rest = 1 - part;
+      const weights = [rest ** 3, 3 * rest * rest * part, 3 * rest * part * part, part ** 3];
+      found.push(
+        [0, 1].map((axis) =>
+          weights.reduce((sum, weight, k) => sum + weight * points[begin + k][axis], 0)
+        )
+      );
     }
   }
   return [...found, points[points.length - 1]];

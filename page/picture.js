@@ -1,6 +1,24 @@
-// The picture of a scene, as SVG: boxes and arrows; of many places dots, or rows where some send and the others take.
+// The picture of a scene, as SVG: boxes and arrows; of many places dots, or rows where some send
+// and the others take.
 import { dotsSvg } from './dots.js';
-import { SHADE, SOFT, arrow, boxAt, boxSwatch, framed, isQuiet, labelAt, labelSize, legendOf, orderOf, pathOf, shadeAt, textAt, textWidth, xmlText } from './drawing.js';
+import {
+  SHADE,
+  SOFT,
+  arrow,
+  boxAt,
+  boxSwatch,
+  framed,
+  isQuiet,
+  labelAt,
+  labelSize,
+  legendOf,
+  orderOf,
+  pathOf,
+  shadeAt,
+  textAt,
+  textWidth,
+  xmlText,
+} from './drawing.js';
 import { laidOut, samples } from './layout.js';
 import { Room } from './room.js';
 import { rowsAreBetter, rowsSvg } from './rows.js';
@@ -20,24 +38,37 @@ function boxSize({ short, note }) {
 }
 
 function taskOf({ nodes, links }) {
-  const spots = nodes.map((node) => node.spot), starts = nodes.map((_, k) => k).filter((k) => nodes[k].kind === 'sends');
-  return { sizes: nodes.map(boxSize), spots: spots.length && spots.every(Boolean) ? spots : null, links, starts };
+  const spots = nodes.map((node) => node.spot);
+  const starts = nodes.map((_, k) => k).filter((k) => nodes[k].kind === 'sends');
+  return {
+    sizes: nodes.map(boxSize),
+    spots: spots.length && spots.every(Boolean) ? spots : null,
+    links,
+    starts,
+  };
 }
 
 function boxesSvg(scene) {
-  const { boxes, curves, labels } = laidOut(taskOf(scene)), { links, nodes, groups } = scene, order = orderOf(links);
-  const body = [...shades(scene, boxes, curves), ...order.map((k) => arrow(links[k], curves[k])),
+  const { boxes, curves, labels } = laidOut(taskOf(scene));
+  const { links, nodes, groups } = scene;
+  const body = [
+    ...shades(scene, boxes, curves),
+    ...orderOf(links).map((k) => arrow(links[k], curves[k])),
     ...nodes.map((node, k) => placeBox(node, boxes[k], groups.some((group) => group.has(k)))),
-    ...freeLabels(links, boxes, labels)];
+    ...freeLabels(links, boxes, labels),
+  ];
   const corners = [
-    ...boxes.flatMap(({ x, y, width, height }) => [[x - width / 2, y - height / 2], [x + width / 2, y + height / 2]]),
-    ...curves.flatMap((curve) => samples(curve, 6))
+    ...boxes.flatMap(({ x, y, width, height }) => [
+      [x - width / 2, y - height / 2],
+      [x + width / 2, y + height / 2],
+    ]),
+    ...curves.flatMap((curve) => samples(curve, 6)),
   ];
   return framed(corners, scene, body, legendOf(scene, boxSwatch));
 }
 
-// The labels of the routes, the widest first, where they cover no place and no other label; one that finds no such spot is left out, since
-// the arrow tells it, too.
+// The labels of the routes, the widest first, where they cover no place and no other label; one
+// that finds no such spot is left out, since the arrow tells it, too.
 function freeLabels(links, boxes, labels) {
   const room = new Room(), order = links.map((_, k) => k).filter((k) => links[k].label);
   for (const { x, y, width, height } of boxes) {
@@ -45,23 +76,34 @@ function freeLabels(links, boxes, labels) {
     room.take([x - wide, y - high, x + wide, y + high]);
   }
   order.sort((a, b) => isQuiet(links[a]) - isQuiet(links[b]) || links[b].width - links[a].width);
-  return order.map((k) => [links[k], room.first(labels[k], labelSize(links[k].label))]).filter(([, spot]) => spot).map(
-    ([link, spot]) => labelAt(link, ...spot)
-  );
+  return order
+    .map((k) => [links[k], room.first(labels[k], labelSize(links[k].label))])
+    .filter(([, spot]) => spot)
+    .map(([link, spot]) => labelAt(link, ...spot));
 }
 
 // The box of a place, with its name and its note.
 function placeBox(node, box, blocks) {
-  const note = node.note ? textAt(box.x, box.y + 12.5, 11, node.note, `text-anchor="middle" class="note" fill="${SOFT}"`) : '';
-  return `<g><title>${xmlText(node.name)}</title>${boxAt(box, node.kind, blocks)}${textAt(box.x, box.y + (node.note ? -3 : 4.5), 13, node.short)}${note}</g>`;
+  const note = node.note
+    ? textAt(box.x, box.y + 12.5, 11, node.note, `text-anchor="middle" class="note" fill="${SOFT}"`)
+    : '';
+  const name = textAt(box.x, box.y + (node.note ? -3 : 4.5), 13, node.short);
+  const drawn = boxAt(box, node.kind, blocks);
+  return `<g><title>${xmlText(node.name)}</title>${drawn}${name}${note}</g>`;
 }
 
 // The shade behind the places that block and the routes between them.
 function shades({ groups, links }, boxes, curves) {
   return groups.flatMap((group) => [
-    ...[...group].map((k) => shadeAt({ ...boxes[k], width: boxes[k].width + 30, height: boxes[k].height + 30 }, 18)),
-    ...links.map((link, k) => [link, curves[k]]).filter(([link]) => group.has(link.tail) && group.has(link.head)).map(
-      ([, points]) => `<path class="shade" d="${pathOf(points)}" fill="none" stroke="${SHADE}" stroke-width="30" stroke-linecap="round"/>`
-    )
+    ...[...group].map((k) =>
+      shadeAt({ ...boxes[k], width: boxes[k].width + 30, height: boxes[k].height + 30 }, 18)
+    ),
+    ...links
+      .map((link, k) => [link, curves[k]])
+      .filter(([link]) => group.has(link.tail) && group.has(link.head))
+      .map(([, points]) =>
+        `<path class="shade" d="${pathOf(points)}" fill="none" stroke="${SHADE}"`
+          + ' stroke-width="30" stroke-linecap="round"/>'
+      ),
   ]);
 }

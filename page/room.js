@@ -1,5 +1,5 @@
-// What stands in a picture already, so that no label covers it: rectangles by their edges (left, top, right, bottom), kept by the squares
-// that they touch.
+// What stands in a picture already, so that no label covers it: rectangles by their edges (left,
+// top, right, bottom), kept by the squares that they touch.
 const SQUARE = 64;
 
 export class Room {
@@ -14,17 +14,21 @@ export class Room {
 
   isFree(edges) {
     const [left, top, right, bottom] = edges;
-    const over = (other) => other[0] < right && left < other[2] && other[1] < bottom && top < other[3];
+    const over = (other) =>
+      other[0] < right && left < other[2] && other[1] < bottom && top < other[3];
     return !squaresOf(edges).some((square) => (this.taken.get(square) || []).some(over));
   }
 
   // The edges of all that was noted.
   bounds() {
     const found = [...this.taken.values()].flat();
-    return [Math.min, Math.min, Math.max, Math.max].map((end, side) => found.map((edges) => edges[side]).reduce((a, b) => end(a, b)));
+    return [Math.min, Math.min, Math.max, Math.max].map((end, side) =>
+      found.map((edges) => edges[side]).reduce((a, b) => end(a, b))
+    );
   }
 
-  // The first of some spots around which a rectangle of this size is free, which is taken; null where there is none.
+  // The first of some spots around which a rectangle of this size is free, which is taken; null
+  // where there is none.
   first(spots, [wide, high]) {
     for (const [x, y] of spots) {
       const edges = [x - wide / 2, y - high / 2, x + wide / 2, y + high / 2];

@@ -1,23 +1,46 @@
-// The picture of many places that send and others that take, as SVG: a row for each route, in columns. The rows of one place stand
-// together, beside its box; that of the other end may stand several times.
-import { SOFT, arrow, boxAt, boxSwatch, framed, labelAt, labelSize, legendOf, lineBetween, textAt, textWidth, xmlText } from './drawing.js';
+// The picture of many places that send and others that take, as SVG: a row for each route, in
+// columns. The rows of one place stand together, beside its box; that of the other end may stand
+// several times.
+import {
+  SOFT,
+  arrow,
+  boxAt,
+  boxSwatch,
+  framed,
+  labelAt,
+  labelSize,
+  legendOf,
+  lineBetween,
+  textAt,
+  textWidth,
+  xmlText,
+} from './drawing.js';
 
-// Of more places than this on a side, rows are drawn. How high a row is, and a block of rows at least; between blocks; between columns; how
-// wide all may be, so that names are 9 pixels high in a page of 1360; how many rows a block has at most.
+// Of more places than this on a side, rows are drawn. How high a row is, and a block of rows at
+// least; between blocks; between columns; how wide all may be, so that names are 9 pixels high in a
+// page of 1360; how many rows a block has at most.
 const MANY = 20, ROW = 20, LEAST = 36, BELOW = 8, BESIDE = 40, WIDE = 1160, ROWS = 40;
 // An edge of what stands several times.
 const DASHED = ' stroke-dasharray="4 3"';
 
-const endsOf = (links) => [new Set(links.map(({ tail }) => tail)), new Set(links.map(({ head }) => head))];
+const endsOf = (links) => [
+  new Set(links.map(({ tail }) => tail)),
+  new Set(links.map(({ head }) => head)),
+];
 
-// Whether a scene is drawn as rows: many places send or take, no route leads on from where one leads to, and the places have no spots.
+// Whether a scene is drawn as rows: many places send or take, no route leads on from where one
+// leads to, and the places have no spots.
 export function rowsAreBetter({ nodes, links }) {
   const [tails, heads] = endsOf(links);
-  return Math.max(tails.size, heads.size) > MANY && ![...tails].some((node) => heads.has(node)) && !nodes.every(({ spot }) => spot);
+  return Math.max(tails.size, heads.size) > MANY
+    && ![...tails].some((node) => heads.has(node))
+    && !nodes.every(({ spot }) => spot);
 }
 
 export function rowsSvg(scene) {
-  const [tails, heads] = endsOf(scene.links), drawing = new Rows(scene, tails.size <= heads.size ? 0 : 1), { blocks, wide } = drawing;
+  const [tails, heads] = endsOf(scene.links);
+  const drawing = new Rows(scene, tails.size <= heads.size ? 0 : 1);
+  const { blocks, wide } = drawing;
   const columns = inColumns(blocks, wide);
   const body = columns.flatMap((column, number) => {
     let below = 0;
@@ -27,23 +50,48 @@ export function rowsSvg(scene) {
       return drawing.block(block, number * (wide + BESIDE), top);
     });
   });
-  const corners = [[0, 0], [columns.length * (wide + BESIDE) - BESIDE, Math.max(...columns.map(totalOf))]];
-  const several = [22, (x) => boxAt({ x: x + 11, y: -4, width: 22, height: 14 }, 'takes', false, DASHED), 'stands several times'];
-  return framed(corners, scene, body, legendOf(scene, boxSwatch, undefined, drawing.hasSeveral() ? [several] : []), 'rows');
+  const corners = [
+    [0, 0],
+    [columns.length * (wide + BESIDE) - BESIDE, Math.max(...columns.map(totalOf))],
+  ];
+  const several = [
+    22,
+    (x) => boxAt({ x: x + 11, y: -4, width: 22, height: 14 }, 'takes', false, DASHED),
+    'stands several times',
+  ];
+  return framed(
+    corners,
+    scene,
+    body,
+    legendOf(scene, boxSwatch, undefined, drawing.hasSeveral() ? [several] : []),
+    'rows'
+  );
 }
 
 // What is drawn: the places of one side, 0 that of those that send, have blocks of rows.
 class Rows {
   constructor(scene, side) {
-    const { nodes, links, groups } = scene, ends = endsOf(links).map((set) => [...set]), blocks = blocksOf(scene, side);
+    const { nodes, links, groups } = scene;
+    const ends = endsOf(links).map((set) => [...set]);
+    const blocks = blocksOf(scene, side);
     ends[side] = blocks.map(({ node }) => node);
-    const nameWidth = ({ short, note }, hasNote) => Math.max(textWidth(short, 12), hasNote ? textWidth(note, 11) : 0);
-    const widths = [0, 1].map((end) => 14 + Math.max(...ends[end].map((node) => nameWidth(nodes[node], end === side))));
+    const nameWidth = ({ short, note }, hasNote) =>
+      Math.max(textWidth(short, 12), hasNote ? textWidth(note, 11) : 0);
+    const widths = [0, 1].map((end) =>
+      14 + Math.max(...ends[end].map((node) => nameWidth(nodes[node], end === side)))
+    );
     const between = Math.max(90, 56 + Math.max(...links.map((link) => labelSize(link.label)[0])));
     const count = new Map(), other = links.map(({ tail, head }) => (side ? tail : head));
     for (const node of [...ends[side], ...other]) count.set(node, (count.get(node) || 0) + 1);
     const blocking = new Set(groups.flatMap((group) => [...group]));
-    Object.assign(this, { nodes, side, blocks, widths, between, wide: widths[0] + widths[1] + between, count, blocking });
+    this.nodes = nodes;
+    this.side = side;
+    this.blocks = blocks;
+    this.widths = widths;
+    this.between = between;
+    this.wide = widths[0] + widths[1] + between;
+    this.count = count;
+    this.blocking = blocking;
   }
 
   hasSeveral() { return [...this.count.values()].some((times) => times > 1); }
@@ -53,29 +101,43 @@ class Rows {
     const high = heightOf({ links }), begin = left + this.widths[0], end = begin + this.between;
     const rows = links.flatMap((link, place) => {
       const y = top + (place + 0.5) * high / links.length;
-      return [arrow(link, lineBetween(begin, y, end)), link.label ? labelAt(link, (begin + end) / 2 - 6, y) : '',
-        this.place(this.side ? link.tail : link.head, 1 - this.side, left, y, ROW - 3)];
+      return [
+        arrow(link, lineBetween(begin, y, end)),
+        link.label ? labelAt(link, (begin + end) / 2 - 6, y) : '',
+        this.place(this.side ? link.tail : link.head, 1 - this.side, left, y, ROW - 3),
+      ];
     });
     return [...rows, this.place(node, this.side, left, top + high / 2, high)];
   }
 
-  // The box of a place on a side of its column, by its middle and its height; one that is high enough has its note, too.
+  // The box of a place on a side of its column, by its middle and its height; one that is high
+  // enough has its note, too.
   place(number, side, left, y, height) {
-    const { name, short, note, kind } = this.nodes[number], width = this.widths[side], hasNote = height >= LEAST && note;
-    const x = left + (side ? this.wide - width / 2 : width / 2), dashed = this.count.get(number) > 1 ? DASHED : '';
-    const more = hasNote ? textAt(x, y + 12, 11, note, `text-anchor="middle" class="note" fill="${SOFT}"`) : '';
-    return `<g><title>${xmlText(note ? `${name}: ${note}` : name)}</title>${boxAt({ x, y, width, height }, kind, this.blocking.has(number), dashed)}${textAt(x, y + (hasNote ? -3 : 4), 12, short)}${more}</g>`;
+    const { name, short, note, kind } = this.nodes[number];
+    const width = this.widths[side];
+    const hasNote = height >= LEAST && note;
+    const x = left + (side ? this.wide - width / 2 : width / 2);
+    const dashed = this.count.get(number) > 1 ? DASHED : '';
+    const more = hasNote
+      ? textAt(x, y + 12, 11, note, `text-anchor="middle" class="note" fill="${SOFT}"`)
+      : '';
+    const box = boxAt({ x, y, width, height }, kind, this.blocking.has(number), dashed);
+    return `<g><title>${xmlText(note ? `${name}: ${note}` : name)}</title>${box}`
+      + `${textAt(x, y + (hasNote ? -3 : 4), 12, short)}${more}</g>`;
   }
 }
 
-// The blocks of the places on a side, and of those that no route is drawn of; of many routes several, each with the widest first.
+// The blocks of the places on a side, and of those that no route is drawn of; of many routes
+// several, each with the widest first.
 function blocksOf({ nodes, links }, side) {
   const own = nodes.map(() => []), blocks = [], others = endsOf(links)[1 - side];
   for (const link of links) own[side ? link.head : link.tail].push(link);
   own.forEach((found, node) => {
     if (!found.length && others.has(node)) return;
     found.sort((a, b) => b.width - a.width);
-    for (let begin = 0; begin < Math.max(1, found.length); begin += ROWS) blocks.push({ node, links: found.slice(begin, begin + ROWS) });
+    for (let begin = 0; begin < Math.max(1, found.length); begin += ROWS) {
+      blocks.push({ node, links: found.slice(begin, begin + ROWS) });
+    }
   });
   return blocks;
 }
@@ -89,7 +151,9 @@ const totalOf = (blocks) => blocks.reduce((sum, block) => sum + heightOf(block) 
 function inColumns(blocks, wide) {
   const fit = Math.max(1, Math.floor((WIDE + BESIDE) / (wide + BESIDE)));
   let count = 1, columns = [blocks];
-  while (count < fit && Math.max(...columns.map(totalOf)) * 2 > count * (wide + BESIDE)) columns = split(blocks, ++count);
+  while (count < fit && Math.max(...columns.map(totalOf)) * 2 > count * (wide + BESIDE)) {
+    columns = split(blocks, ++count);
+  }
   return columns;
 }
 

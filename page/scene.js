@@ -1,54 +1,71 @@
-// What is drawn of a plan, or of what blocks one. A node has a name, which may be cut in its box, a note, whether it sends, takes or passes on, and its spot; a link its
-// ends from 0, how wide it is, its kind, its label and what is told of it; groups are sets of nodes that block.
+// What is drawn of a plan, or of what blocks one. A node has a name, which may be cut in its box, a
+// note, whether it sends, takes or passes on, and its spot; a link its ends from 0, how wide it is,
+// its kind, its label and what is told of it; groups are sets of nodes that block.
 import { size } from './model.js';
 import { balanceOf } from './report.js';
 import { grouped } from './view.js';
 
-// Of more routes than this, those that carry nothing are left out; where no plan exists, of more places than this those that block are
-// drawn, and those next to them.
+// Of more routes than this, those that carry nothing are left out; where no plan exists, of more
+// places than this those that block are drawn, and those next to them.
 const ALL_ROUTES = 90, NEAR = 60;
 // How long a name in a box may be, and what stays of its beginning and its end where it is cut.
 const LONGEST = 24, BEGIN = 12, END = 11;
 
 // Numbers of a problem as pages have them: with narrow blanks between their thousands.
-const figuresOf = ({ units, said: { mark } }) => (
-  { amount: (number) => grouped(units.amount(number), mark), total: (number) => grouped(units.total(number), mark) }
-);
+const figuresOf = ({ units, said: { mark } }) => ({
+  amount: (number) => grouped(units.amount(number), mark),
+  total: (number) => grouped(units.total(number), mark),
+});
 
 // All routes if they aren't many, else those that carry something or are shut.
 export function planScene(plan, caption) {
   const { problem } = plan, { amount: said, total } = figuresOf(problem), links = [];
-  const widest = plan.routes.reduce((most, { carries }) => (size(carries) > most ? size(carries) : most), 0n);
-  problem.routes.forEach((route, k) => {
-    const result = plan.routes[k];
-    if (problem.routes.length > ALL_ROUTES && !result.carries && route.most !== 0n) return;
-    // A route that is used its other way leads there.
-    const turned = route.both && result.carries < 0n, carries = turned ? -result.carries : result.carries, names = problem.ends(route);
-    links.push(
-      {
-        tail: (turned ? route.head : route.tail) - 1,
-        head: (turned ? route.tail : route.head) - 1,
-        width: carries ? 1.4 + 7.6 * Number(size(carries)) / Number(widest) : 1,
-        kind: plan.isFull(k) ? 'full' : carries ? 'flowing' : 'idle',
-        label: carries ? said(carries) : '',
-        title: `${(turned ? names.reverse() : names).join(' -> ')}: ${said(carries)} of ${limitsText(problem, route)}, cost ${total(result.cost)}`,
-      }
-    );
+  const widest = plan.routes.reduce(
+    (most, { carries }) => (size(carries) > most ? size(carries) : most),
+    0n
+  );
+  problem.routes.forEach(({ most }, k) => {
+    if (problem.routes.length > ALL_ROUTES && !plan.routes[k].carries && most !== 0n) return;
+    links.push(linkOf(plan, k, widest));
   });
-  const idle = problem.routes.length - links.length, shorts = shortNames(problem.places.map(({ name }) => name));
-  return { heading: `A least-cost plan: cost ${total(plan.cost)}${idle ? ` (${idle} idle routes aren't drawn)` : ''}`,
-    nodes: problem.places.map((place, k) => nodeOf(problem, place, shorts[k], plan.places[k].unmet)), links, groups: [],
-    notes: { flowing: `as wide as it carries (widest ${said(widest)})`, full: 'full' }, caption };
+  const idle = problem.routes.length - links.length;
+  const left = idle ? ` (${idle} idle routes aren't drawn)` : '';
+  const shorts = shortNames(problem.places.map(({ name }) => name));
+  return {
+    heading: `A least-cost plan: cost ${total(plan.cost)}${left}`,
+    nodes: problem.places.map((place, k) =>
+      nodeOf(problem, place, shorts[k], plan.places[k].unmet)
+    ),
+    links,
+    groups: [],
+    notes: { flowing: `as wide as it carries (widest ${said(widest)})`, full: 'full' },
+    caption,
+  };
+}
+
+// A route of a plan by its number. One that is used its other way leads there.
+function linkOf(plan, k, widest) {
+  const { problem } = plan, { amount: said, total } = figuresOf(problem);
+  const route = problem.routes[k], result = plan.routes[k];
+  const turned = route.both && result.carries < 0n;
+  const carries = turned ? -result.carries : result.carries;
+  const names = problem.ends(route);
+  return {
+    tail: (turned ? route.head : route.tail) - 1,
+    head: (turned ? route.tail : route.head) - 1,
+    width: carries ? 1.4 + 7.6 * Number(size(carries)) / Number(widest) : 1,
+    kind: plan.isFull(k) ? 'full' : carries ? 'flowing' : 'idle',
+    label: carries ? said(carries) : '',
+    title:
+      `${(turned ? names.reverse() : names).join(' -> ')}: ${said(carries)} of `
+        + `${limitsText(problem, route)}, cost ${total(result.cost)}`,
+  };
 }
 
 // The bottlenecks, and of many places just those and what is next to them.
 export function blockedScene(blocked, caption) {
-  const net = blocked.eased, { problem } = net, { amount: said } = figuresOf(problem), marked = new Map();
-  const key = ({ kind, number, sign }) => `${kind} ${number} ${sign}`;
-  for (const found of blocked.bottlenecks) {
-    for (const k of found.forcing) marked.set(key(net.uses[k]), 'forces');
-    for (const k of found.limiting) marked.set(key(net.uses[k]), 'limits');
-  }
+  const net = blocked.eased, { problem } = net, { amount: said } = figuresOf(problem);
+  const marked = markedOf(blocked);
   const links = problem.routes.map((route, number) => {
     const kind = marked.get(`route ${number} 1`) || marked.get(`route ${number} -1`) || 'other';
     return {
@@ -62,19 +79,43 @@ export function blockedScene(blocked, caption) {
   });
   const cuts = shortNames(problem.places.map(({ name }) => name));
   const nodes = problem.places.map((place, k) => {
-    const node = nodeOf(problem, place, cuts[k]), limit = marked.has(`through ${k} 1`) ? `≤ ${said(place.bounds.most)} pass` : '';
+    const node = nodeOf(problem, place, cuts[k]);
+    const limit = marked.has(`through ${k} 1`) ? `≤ ${said(place.bounds.most)} pass` : '';
     return { ...node, note: [node.note, limit].filter(Boolean).join(', ') };
   });
-  const groups = blocked.bottlenecks.map((found) => new Set(found.nodes.map((node) => net.placeOf[node - 1])));
-  const scene = { heading: `No plan exists: ${whyBlocked(blocked)}`, nodes, links, groups, notes: marked.size ? { limits: 'limits them' } : {}, caption };
+  const groups = blocked.bottlenecks.map((found) =>
+    new Set(found.nodes.map((node) => net.placeOf[node - 1]))
+  );
+  const scene = {
+    heading: `No plan exists: ${whyBlocked(blocked)}`,
+    nodes,
+    links,
+    groups,
+    notes: marked.size ? { limits: 'limits them' } : {},
+    caption,
+  };
   return nodes.length > NEAR && groups.length ? nearScene(scene) : scene;
+}
+
+// Which arcs force or limit what blocks, by their kind, their number and their sign.
+function markedOf({ eased, bottlenecks }) {
+  const marked = new Map();
+  const key = ({ kind, number, sign }) => `${kind} ${number} ${sign}`;
+  for (const found of bottlenecks) {
+    for (const k of found.forcing) marked.set(key(eased.uses[k]), 'forces');
+    for (const k of found.limiting) marked.set(key(eased.uses[k]), 'limits');
+  }
+  return marked;
 }
 
 // Why no plan exists, in a few words.
 export function whyBlocked({ net: { problem }, isUnbalanced, bottlenecks }) {
   const { amount } = figuresOf(problem), [supply, demand] = balanceOf(problem);
   if (isUnbalanced) return `supply ${amount(supply)}, demand ${amount(demand)}`;
-  return bottlenecks.slice(0, 3).map((found) => `short by ${amount(found.must - found.can)}`).join(', ');
+  return bottlenecks
+    .slice(0, 3)
+    .map((found) => `short by ${amount(found.must - found.can)}`)
+    .join(', ');
 }
 
 // The places of a scene that block, and those that a route joins with them.
@@ -90,18 +131,23 @@ function nearScene(scene) {
     ...scene,
     heading: scene.heading + (left ? ` (${left} places farther off aren't drawn)` : ''),
     nodes: order.map((node) => scene.nodes[node]),
-    links: scene.links.filter(({ tail, head }) => near.has(tail) && near.has(head)).map(
-      (link) => ({ ...link, tail: numbers.get(link.tail), head: numbers.get(link.head) })
-    ),
+    links: scene.links
+      .filter(({ tail, head }) => near.has(tail) && near.has(head))
+      .map((link) => ({ ...link, tail: numbers.get(link.tail), head: numbers.get(link.head) })),
     groups: scene.groups.map((group) => new Set([...group].map((node) => numbers.get(node)))),
   };
 }
 
 function nodeOf(problem, place, short, unmet = 0n) {
-  const kind = place.supply > 0n ? 'sends' : place.supply < 0n ? 'takes' : 'passes', { amount: said } = figuresOf(problem);
+  const kind = place.supply > 0n ? 'sends' : place.supply < 0n ? 'takes' : 'passes';
+  const { amount: said } = figuresOf(problem);
   const note = place.supply ? `${kind} ${said(size(place.supply))}` : '';
   return {
-    name: place.name, short, note: note + (unmet ? `, ${said(unmet)} ${place.supply > 0n ? 'stays' : 'missing'}` : ''), kind, spot: place.spot,
+    name: place.name,
+    short,
+    note: note + (unmet ? `, ${said(unmet)} ${place.supply > 0n ? 'stays' : 'missing'}` : ''),
+    kind,
+    spot: place.spot,
   };
 }
 
@@ -112,9 +158,11 @@ function limitsText(problem, route) {
   return most ? `${least} to ${most}` : `${least} or more`;
 }
 
-// What stands of each name in its box: of long ones their beginning and their end, and of such as would read alike then what is different.
+// What stands of each name in its box: of long ones their beginning and their end, and of such as
+// would read alike then what is different.
 export function shortNames(names) {
-  const letters = names.map((name) => [...name]), shorts = letters.map((name) => cut(name, name.length - END));
+  const letters = names.map((name) => [...name]);
+  const shorts = letters.map((name) => cut(name, name.length - END));
   tellApart(letters, shorts, letters.map((_, k) => k), 0);
   return shorts;
 }
@@ -122,8 +170,11 @@ export function shortNames(names) {
 // A name, where it is too long its beginning and what begins at a letter.
 function cut(letters, begin) {
   if (letters.length <= LONGEST) return letters.join('');
-  const rest = letters.slice(Math.max(BEGIN, Math.min(begin, letters.length - END))), first = letters.slice(0, BEGIN).join('');
-  return rest.length <= END ? `${first}…${rest.join('')}` : `${first}…${rest.slice(0, END - 1).join('')}…`;
+  const rest = letters.slice(Math.max(BEGIN, Math.min(begin, letters.length - END)));
+  const first = letters.slice(0, BEGIN).join('');
+  return rest.length <= END
+    ? `${first}…${rest.join('')}`
+    : `${first}…${rest.slice(0, END - 1).join('')}…`;
 }
 
 // Cuts names that read alike where they begin to be different, which is farther on than a letter.
@@ -134,7 +185,9 @@ function tellApart(names, shorts, numbers, begin) {
     alike.get(shorts[k]).push(k);
   }
   for (const group of alike.values()) {
-    const found = names[group[0]].findIndex((letter, place) => group.some((k) => names[k][place] !== letter));
+    const found = names[group[0]].findIndex((letter, place) =>
+      group.some((k) => names[k][place] !== letter)
+    );
     const differ = found < 0 ? names[group[0]].length : found;
     if (group.length < 2 || differ <= begin) continue;
     for (const k of group) shorts[k] = cut(names[k], differ);
