@@ -1,3 +1,4 @@
+// @ts-check
 // The picture of many places, as SVG: dots, with as many names and amounts as fit.
 import {
   COLOURS,
@@ -15,6 +16,7 @@ import {
 import { PARTS, edgesOf, levelsOf, mapBoxes } from './layout.js';
 import { Room } from './room.js';
 
+/** @type {Record<SceneNode['kind'], string>} */
 const DOTS = { sends: '#5b9a52', takes: '#4d7fb3', passes: '#8a949e' };
 // The edge of a dot that blocks.
 const BLOCKING = ` stroke="${COLOURS.limits}" stroke-width="2"`;
@@ -24,14 +26,14 @@ const ROUND = 3.4, STEP = 16, FAR = 220, CLOSE = 90, TRIED = 1000;
 
 // Dots on a map, or in blocks by how far they are from those that send; routes that matter are
 // arrows.
+/** @type {(scene: Scene) => string} */
 export function dotsSvg(scene) {
   const links = scene.links.filter((link) => !isQuiet(link));
   const blocking = new Set(scene.groups.flatMap((group) => [...group]));
   const weights = weightsOf(scene, links, blocking), spots = dotSpots(scene, weights);
   const [tags, [left, top, right, bottom]] = dotLabels(scene.nodes, links, weights, spots);
-  const order = [...links].sort((a, b) =>
-    (a.kind !== 'flowing') - (b.kind !== 'flowing') || b.width - a.width
-  );
+  const marked = (/** @type {SceneLink} */ { kind }) => Number(kind !== 'flowing');
+  const order = [...links].sort((a, b) => marked(a) - marked(b) || b.width - a.width);
   const body = order.map((link) =>
     dotRoute(link, link.width / 2, spots[link.tail], spots[link.head])
   );
@@ -54,6 +56,7 @@ export function dotsSvg(scene) {
 }
 
 // How great places are: those that block before all others, then by how wide their routes are.
+/** @type {(scene: Scene, links: SceneLink[], blocking: Set<number>) => number[]} */
 function weightsOf({ nodes }, links, blocking) {
   const weights = nodes.map((_, k) => (blocking.has(k) ? 1e9 : 0));
   for (const { tail, head, width } of links) {
@@ -64,12 +67,21 @@ function weightsOf({ nodes }, links, blocking) {
 }
 
 // An arrow between two dots, with a bar before its head where the route is full.
+/**
+ * @param {Pick<SceneLink, 'kind' | 'title'>} link
+ * @param {number} width
+ * @param {Spot} begin
+ * @param {Spot} end
+ * @returns {string}
+ */
 function dotRoute({ kind, title }, width, begin, end) {
   const far = Math.hypot(end[0] - begin[0], end[1] - begin[1]) || 1;
   const dx = (end[0] - begin[0]) / far, dy = (end[1] - begin[1]) / far;
   const half = 2 + width, base = ROUND + Math.min(far / 2, 5 + 1.6 * width);
+  /** @type {(spot: number[]) => string} */
   const corner = ([back, aside]) =>
     `${f(end[0] - dx * back - dy * aside)},${f(end[1] - dy * back + dx * aside)}`;
+  /** @type {(corners: number[][]) => string} */
   const path = (corners) => `M${corners.map(corner).join(' L')} Z`;
   const shape = [
     [far, width / 2],
@@ -89,8 +101,17 @@ function dotRoute({ kind, title }, width, begin, end) {
 
 // The names of the greatest places and the amounts of the greatest routes, in turn, where they
 // cover no dot and no other label; and the edges of all.
+/**
+ * @param {SceneNode[]} nodes
+ * @param {SceneLink[]} links
+ * @param {number[]} weights
+ * @param {Spot[]} spots
+ * @returns {[string[], Edges]}
+ */
 function dotLabels(nodes, links, weights, spots) {
-  const room = new Room(), lines = [], growth = growthOf(edgesOf(spots));
+  /** @type {string[]} */
+  const lines = [];
+  const room = new Room(), growth = growthOf(edgesOf(spots));
   for (const [x, y] of spots) room.take([x - ROUND, y - ROUND, x + ROUND, y + ROUND]);
   const named = nodes
     .map((_, k) => k)
@@ -115,6 +136,7 @@ function dotLabels(nodes, links, weights, spots) {
 }
 
 // Where the amount of a route may stand that is long enough for the arrow to be seen.
+/** @type {(from: Spot, to: Spot, size: Size) => Spot[]} */
 function spotsBetween([ax, ay], [bx, by], [wide]) {
   return Math.hypot(bx - ax, by - ay) < wide + 20
     ? []
@@ -122,25 +144,32 @@ function spotsBetween([ax, ay], [bx, by], [wide]) {
 }
 
 // Where the name of a dot may stand: to the right, the left, above and below.
+/** @type {(spot: Spot, size: Size) => Spot[]} */
 function spotsBeside([x, y], [wide, high]) {
   const aside = ROUND + 1 + wide / 2, over = ROUND + high / 2;
   return [[x + aside, y], [x - aside, y], [x, y - over], [x, y + over]];
 }
 
 // Where the dots stand.
+/** @type {(scene: Scene, weights: number[]) => Spot[]} */
 function dotSpots(scene, weights) {
   const { nodes } = scene;
   const onMap = nodes.map((node) => node.spot);
   if (!onMap.length || !onMap.every(Boolean)) return blockSpots(levelBlocks(scene, weights));
-  const task = { sizes: nodes.map(() => [0, 0]), spots: onMap };
+  /** @type {Size[]} */
+  const sizes = nodes.map(() => [0, 0]);
+  const task = { sizes, spots: onMap };
   return mapBoxes(task, (PAGE - 200) / Math.sqrt(nodes.length)).map(({ x, y }) => [x, y]);
 }
 
 // The numbers of the places by how far they are from those that send. The greatest of a block stand
 // at its right, where names have room.
+/** @type {(scene: Scene, weights: number[]) => number[][]} */
 function levelBlocks({ nodes, links }, weights) {
   const starts = nodes.map((_, k) => k).filter((k) => nodes[k].kind === 'sends');
-  const levels = levelsOf(nodes.length, links, starts), blocks = [];
+  const levels = levelsOf(nodes.length, links, starts);
+  /** @type {number[][]} */
+  const blocks = [];
   for (const level of levels) blocks[level] = [];
   for (const node of nodes.map((_, k) => k).sort((a, b) => weights[a] - weights[b])) {
     blocks[levels[node]].push(node);
@@ -149,6 +178,7 @@ function levelBlocks({ nodes, links }, weights) {
 }
 
 // Where dots in blocks stand.
+/** @type {(blocks: number[][]) => Spot[]} */
 function blockSpots(blocks) {
   const count = blocks.reduce((sum, block) => sum + block.length, 0);
   const high = Math.max(8, Math.ceil(Math.sqrt(count)));
@@ -158,6 +188,7 @@ function blockSpots(blocks) {
   const total = wides.reduce((sum, wide) => sum + wide + between, 0);
   // Rows stand apart as names are high, which are greater in a wider picture.
   const down = STEP * growthOf([0, 0, total, 0]);
+  /** @type {Spot[]} */
   const spots = [];
   let across = 0;
   blocks.forEach((block, level) => {
@@ -170,10 +201,12 @@ function blockSpots(blocks) {
 }
 
 // A dot of a kind, or one that blocks, for the legend.
+/** @type {Swatch} */
 function dotSwatch(kind, x) {
   const [fill, edge] = kind === 'blocks' ? [DOTS.passes, BLOCKING] : [DOTS[kind], ''];
   return `<circle cx="${f(x + 11)}" cy="-4" r="5" fill="${fill}"${edge}/>`;
 }
 
 // An arrow of a kind, for the legend.
+/** @type {(kind: SceneLink['kind'], x: number) => string} */
 const dotSample = (kind, x) => dotRoute({ kind, title: '' }, 2.5, [x, -4], [x + 42, -4]);

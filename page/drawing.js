@@ -1,11 +1,14 @@
+// @ts-check
 // Parts of pictures, as SVG: colours, texts, arrows, the frame and the legend.
 import { countOf } from './faults.js';
 import { edgesOf, samples } from './layout.js';
 
 const FONT = 'font-family="DejaVu Sans, Verdana, Helvetica, sans-serif"';
-const KINDS = { sends: 'sends', takes: 'takes', passes: 'passes on' };
+/** @type {[SceneNode['kind'], string][]} */
+const KINDS = [['sends', 'sends'], ['takes', 'takes'], ['passes', 'passes on']];
 const INK = '#1f2933';
 export const SOFT = '#52606d', SHADE = '#f9d5cd', LEFT = 'text-anchor="start"';
+/** @type {Record<SceneLink['kind'], string>} */
 export const COLOURS = {
   full: '#c2410c',
   limits: '#c2410c',
@@ -14,6 +17,7 @@ export const COLOURS = {
   idle: '#b8c0c8',
   other: '#8a949e',
 };
+/** @type {Record<SceneNode['kind'], string>} */
 const FILLS = { sends: '#dff0dc', takes: '#dbe8f7', passes: '#ffffff' };
 const BLOCKS = 'places that must send or take more than they can';
 // In wider pictures headings and legends are greater.
@@ -26,6 +30,7 @@ const FULL_WIDTH = new RegExp(
 
 // ---- Texts
 
+/** @type {(text: string) => string} */
 export const xmlText = (text) =>
   String(text)
     .replace(/[\ufffe\uffff]/g, '?')
@@ -33,23 +38,34 @@ export const xmlText = (text) =>
     .replace(/</g, '&lt;')
     .replace(/>/g, '&gt;');
 // About how wide a text is, in pixels.
+/** @type {(text: string, size: number) => number} */
 export const textWidth = (text, size) =>
   [...text].reduce((sum, letter) => sum + (FULL_WIDTH.test(letter) ? 1 : 0.62), 0) * size;
+/** @type {(number: number) => string} */
 export const f = (number) => number.toFixed(1);
+/** @type {(x: number, y: number, size: number, text: string, more?: string) => string} */
 export const textAt = (x, y, size, text, more = 'text-anchor="middle"') =>
   `<text x="${f(x)}" y="${f(y)}" font-size="${size}" ${more}>${xmlText(text)}</text>`;
 
 // ---- Places and routes
 
 // Routes that matter less.
+/** @type {(link: { kind: SceneLink['kind'] }) => boolean} */
 export const isQuiet = ({ kind }) => kind === 'idle' || kind === 'other';
 
 // The numbers of links as they are drawn: those that matter less first, then the widest.
-export const orderOf = (links) =>
-  links
+/** @type {(links: SceneLink[]) => number[]} */
+export function orderOf(links) {
+  const quiet = (/** @type {number} */ k) => Number(isQuiet(links[k]));
+  return links
     .map((_, k) => k)
-    .sort((a, b) => isQuiet(links[b]) - isQuiet(links[a]) || links[b].width - links[a].width);
+    .sort((a, b) => quiet(b) - quiet(a) || links[b].width - links[a].width);
+}
 
+/**
+ * @param {Box} box
+ * @param {SceneNode['kind']} kind
+ */
 export function boxAt({ x, y, width, height }, kind, blocks = false, more = '') {
   const [edge, wide] = blocks ? [COLOURS.limits, 2.2] : [SOFT, 1.1];
   return `<rect class="${kind}" x="${f(x - width / 2)}" y="${f(y - height / 2)}"`
@@ -57,10 +73,12 @@ export function boxAt({ x, y, width, height }, kind, blocks = false, more = '') 
     + ` stroke="${edge}" stroke-width="${wide}"${more}/>`;
 }
 
+/** @type {(curve: Curve) => string} */
 export const pathOf = ([begin, ...points]) =>
   `M${begin.map(f)} C${points.map((point) => point.map(f)).join(' ')}`;
 
 // The curve of a route, its arrowhead, and the bar before it where the route is full.
+/** @type {(link: Pick<SceneLink, 'kind' | 'width' | 'title'>, points: Curve) => string} */
 export function arrow({ kind, width, title }, points) {
   const colour = COLOURS[kind];
   const tip = points[points.length - 1];
@@ -68,12 +86,16 @@ export function arrow({ kind, width, title }, points) {
   const far = Math.hypot(tip[0] - before[0], tip[1] - before[1]) || 1;
   const dx = (tip[0] - before[0]) / far, dy = (tip[1] - before[1]) / far;
   const long = 7 + 1.5 * width, wide = 3 + 0.95 * width;
-  const base = [tip[0] - dx * long, tip[1] - dy * long], last = points[points.length - 2];
+  /** @type {Spot} */
+  const base = [tip[0] - dx * long, tip[1] - dy * long];
+  const last = points[points.length - 2];
+  /** @type {Curve} */
   const curve = [
     ...points.slice(0, -2),
     [last[0] - dx * long * 0.7, last[1] - dy * long * 0.7],
     [base[0] + dx, base[1] + dy],
   ];
+  /** @type {(spot: Spot, half: number) => string[][]} */
   const across = ([x, y], half) => [
     [x - dy * half, y + dx * half],
     [x + dy * half, y - dx * half],
@@ -90,16 +112,20 @@ export function arrow({ kind, width, title }, points) {
 }
 
 // A level line from a spot, as a curve.
+/** @type {(x: number, y: number, to: number) => Curve} */
 export const lineBetween = (x, y, to) => [0, 1, 2, 3].map((part) => [x + (to - x) * part / 3, y]);
 
 // The width and the height of a label.
+/** @type {(text: string, size?: number) => Size} */
 export const labelSize = (text, size = 1) => [(textWidth(text, 11) + 6) * size, 15 * size];
 
 // The label of a route.
+/** @type {(link: SceneLink, x: number, y: number, size?: number) => string} */
 export const labelAt = ({ kind, label }, x, y, size = 1) =>
   tagAt(label, x, y, size, `class="${kind}" fill="${COLOURS[kind]}" font-weight="bold"`);
 
 // A text on a ground of its own.
+/** @type {(text: string, x: number, y: number, size: number, more: string) => string} */
 export function tagAt(text, x, y, size, more) {
   const [wide, high] = labelSize(text, size);
   return `<rect class="ground" x="${f(x - wide / 2)}" y="${f(y - high / 2)}" width="${f(wide)}"`
@@ -110,6 +136,7 @@ export function tagAt(text, x, y, size, more) {
 // ---- The whole
 
 // What a picture is called, and what is said of it, where it isn't seen.
+/** @type {(scene: Scene) => string[]} */
 function namesOf({ caption, heading, nodes, links }) {
   const title = `${caption && caption.title ? `${caption.title}: ` : ''}${heading}`;
   const drawn =
@@ -122,6 +149,12 @@ function namesOf({ caption, heading, nodes, links }) {
 
 // A whole picture: its frame, its heading, what stands in it and the legend below. Its kind is a
 // class of the page's style.
+/**
+ * @param {Spot[]} points
+ * @param {Scene} scene
+ * @param {string[]} body
+ * @param {Legend} legend
+ */
 export function framed(points, scene, body, [lines, across], kind = 'boxes') {
   const [west, north, east, south] = edgesOf(points);
   const size = growthOf([west, north, east, south]);
@@ -146,13 +179,16 @@ export function framed(points, scene, body, [lines, across], kind = 'boxes') {
 }
 
 // How much greater texts are in a picture that is wider than a page.
+/** @type {(edges: Edges) => number} */
 export const growthOf = ([left, , right]) => Math.max(1, (right - left) / PAGE);
 
 // What stands above a picture, and how wide that is: the title, the heading, the tables.
+/** @type {(scene: Scene) => Legend} */
 function headingsOf({ heading, caption }) {
   const texts = (caption ? [caption.title, heading, caption.source] : [heading]).filter(Boolean);
-  const size = (k) => (k ? 12 : 17);
-  const more = (k) => `${LEFT} ${k ? `class="note" fill="${SOFT}"` : 'font-weight="bold"'}`;
+  const size = (/** @type {number} */ k) => (k ? 12 : 17);
+  const more = (/** @type {number} */ k) =>
+    `${LEFT} ${k ? `class="note" fill="${SOFT}"` : 'font-weight="bold"'}`;
   return [
     texts.map((text, k) => textAt(0, 20 * k, size(k), text, more(k))),
     Math.max(...texts.map((text, k) => textWidth(text, size(k)))),
@@ -160,6 +196,7 @@ function headingsOf({ heading, caption }) {
 }
 
 // What is drawn around 0, 0, elsewhere and greater.
+/** @type {(x: number, y: number, size: number, lines: string[]) => string} */
 const placed = (x, y, size, lines) => [
   `<g transform="translate(${f(x)} ${f(y)})${size === 1 ? '' : ` scale(${size.toFixed(2)})`}">`,
   ...lines,
@@ -169,12 +206,20 @@ const placed = (x, y, size, lines) => [
 // What the colours and the marks mean, and where that ends. A swatch draws a kind of places, or
 // "blocks", and a route one of routes; more entries have how wide a drawing is, the drawing by
 // where it begins, and words.
+/**
+ * @param {Scene} scene
+ * @param {Swatch} swatch
+ * @param {LegendEntry[]} [more]
+ * @returns {Legend}
+ */
 export function legendOf({ notes, groups }, swatch, route = sample, more = []) {
-  const entries = Object.entries(KINDS).map(([kind, words]) => [22, (x) => swatch(kind, x), words]);
+  /** @type {LegendEntry[]} */
+  const entries = KINDS.map(([kind, words]) => [22, (x) => swatch(kind, x), words]);
   for (const [kind, words] of Object.entries(notes)) {
-    entries.push([44, (x) => route(kind, x), words]);
+    entries.push([44, (x) => route(/** @type {SceneLink['kind']} */ (kind), x), words]);
   }
   if (groups.length) entries.push([24, (x) => swatch('blocks', x), BLOCKS]);
+  /** @type {string[]} */
   const lines = [];
   let x = 0;
   for (const [wide, drawn, words] of [...entries, ...more]) {
@@ -185,16 +230,19 @@ export function legendOf({ notes, groups }, swatch, route = sample, more = []) {
 }
 
 // A route of a kind, for the legend.
+/** @type {(kind: SceneLink['kind'], x: number) => string} */
 const sample = (kind, x) =>
   arrow({ kind, width: kind === 'limits' ? 2.6 : 5, title: '' }, lineBetween(x, -4, x + 42));
 
 // A box of a kind, or the shade behind those that block, for the legend.
+/** @type {Swatch} */
 export const boxSwatch = (kind, x) =>
   kind === 'blocks'
     ? shadeAt({ x: x + 12, y: -4, width: 24, height: 16 }, 6)
     : boxAt({ x: x + 11, y: -4, width: 22, height: 14 }, kind);
 
 // The shade behind a box.
+/** @type {(box: Box, round: number) => string} */
 export const shadeAt = ({ x, y, width, height }, round) =>
   `<rect class="shade" x="${f(x - width / 2)}" y="${f(y - height / 2)}" width="${f(width)}"`
     + ` height="${f(height)}" rx="${round}" fill="${SHADE}"/>`;

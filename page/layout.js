@@ -1,3 +1,4 @@
+// @ts-check
 // Where boxes and curves stand in a picture: on a map by x and y, else in columns by how far places
 // are from those that send.
 
@@ -12,6 +13,7 @@ export const PARTS = [0.45, 0.55, 0.35, 0.65, 0.25, 0.75, 0.15, 0.85];
 // A task has the sizes of boxes, spots on a map or null, links by their nodes from 0, and the nodes
 // that send. A layout has boxes by their centres, for each link its curve of cubic pieces, and the
 // spots where its label may stand, the best first.
+/** @type {(task: LayoutTask) => Layout} */
 export function laidOut(task) {
   const boxes = task.spots ? parted(mapBoxes(task, SPREAD)) : columnBoxes(task);
   const curves = straight(boxes, task.links);
@@ -19,6 +21,7 @@ export function laidOut(task) {
 }
 
 // Boxes on a map, y going up.
+/** @type {(task: Pick<LayoutTask, 'sizes' | 'spots'>, spread: number) => Box[]} */
 export function mapBoxes({ sizes, spots }, spread) {
   // Halves, whose differences are no greater than a number can be.
   const xs = spots.map(([x]) => x / 2), ys = spots.map(([, y]) => y / 2);
@@ -35,16 +38,20 @@ export function mapBoxes({ sizes, spots }, spread) {
   }));
 }
 
+/** @type {(numbers: number[]) => number} */
 const least = (numbers) => numbers.reduce((a, b) => Math.min(a, b), Infinity);
+/** @type {(numbers: number[]) => number} */
 const most = (numbers) => numbers.reduce((a, b) => Math.max(a, b), -Infinity);
 
 // The least and the greatest x and y of points.
+/** @type {(points: Spot[]) => Edges} */
 export function edgesOf(points) {
   const [xs, ys] = [0, 1].map((axis) => (points.length ? points.map((point) => point[axis]) : [0]));
   return [least(xs), least(ys), most(xs), most(ys)];
 }
 
 // The same boxes, moved apart where they overlap.
+/** @type {(boxes: Box[]) => Box[]} */
 function parted(boxes) {
   for (let round = 0, moved = true; round < ROUNDS && moved; round++) {
     moved = false;
@@ -67,9 +74,14 @@ function parted(boxes) {
 
 // For each node how many links lead to it from the nearest start; what isn't reached begins anew,
 // first where no link leads to.
+/** @type {(count: number, links: Ends[], starts: number[]) => number[]} */
 export function levelsOf(count, links, starts) {
-  const after = Array.from({ length: count }, () => []), levels = new Array(count).fill(-1);
+  /** @type {number[][]} */
+  const after = Array.from({ length: count }, () => []);
+  /** @type {number[]} */
+  const levels = new Array(count).fill(-1);
   for (const { tail, head } of links) after[tail].push(head);
+  /** @type {(begins: number[]) => void} */
   const reach = (begins) => {
     const waiting = begins.map((node) => [node, 0]);
     for (const [node, level] of waiting) {
@@ -87,18 +99,25 @@ export function levelsOf(count, links, starts) {
 
 // The nodes in columns, ordered so that links cross little: each after the middle of those that it
 // is linked with in the column before or after.
+/** @type {(task: LayoutTask) => number[][]} */
 function orderedColumns({ sizes, links, starts }) {
   const levels = levelsOf(sizes.length, links, starts);
+  /** @type {number[][]} */
   const columns = Array.from({ length: most([-1, ...levels]) + 1 }, () => []);
   levels.forEach((level, node) => columns[level].push(node));
-  const near = sizes.map(() => []), place = new Array(sizes.length).fill(0);
+  /** @type {number[][]} */
+  const near = sizes.map(() => []);
+  /** @type {number[]} */
+  const place = new Array(sizes.length).fill(0);
   for (const { tail, head } of links) {
     near[tail].push(head);
     near[head].push(tail);
   }
+  /** @type {(column: number[]) => void} */
   const number = (column) =>
     column.forEach((node, k) => { place[node] = (k + 0.5) / column.length; });
   columns.forEach(number);
+  /** @type {(node: number, isBefore: boolean) => number} */
   const middleOf = (node, isBefore) => {
     const others = near[node].filter((other) =>
       isBefore ? levels[other] < levels[node] : levels[other] > levels[node]
@@ -119,9 +138,12 @@ function orderedColumns({ sizes, links, starts }) {
 }
 
 // Boxes in columns.
+/** @type {(task: LayoutTask) => Box[]} */
 function columnBoxes(task) {
   const { sizes } = task, columns = orderedColumns(task);
-  const tallest = most([0, ...columns.map((column) => column.length)]), boxes = [];
+  const tallest = most([0, ...columns.map((column) => column.length)]);
+  /** @type {Box[]} */
+  const boxes = [];
   let across = 0;
   for (const column of columns) {
     const wide = most(column.map((node) => sizes[node][0]));
@@ -140,7 +162,9 @@ function columnBoxes(task) {
 }
 
 // Lines between boxes, which are bowed where several join the same ones.
+/** @type {(boxes: Box[], links: Ends[]) => Curve[]} */
 function straight(boxes, links) {
+  /** @type {Map<number, number>} */
   const seen = new Map();
   return links.map(({ tail, head }) => {
     const key = Math.min(tail, head) * boxes.length + Math.max(tail, head);
@@ -155,6 +179,7 @@ function straight(boxes, links) {
 }
 
 // How far a link between two boxes, one above the other, goes round those between them.
+/** @type {(boxes: Box[], a: Box, b: Box) => number} */
 function around(boxes, a, b) {
   const between = boxes.filter((box) =>
     (box.y - a.y) * (box.y - b.y) < 0 && Math.abs(box.x - (a.x + b.x) / 2) < box.width / 2
@@ -165,22 +190,27 @@ function around(boxes, a, b) {
 }
 
 // The curve of a link from a box to itself, at its right upper corner.
+/** @type {(box: Box) => Curve} */
 function loopAt({ x, y, width, height }) {
   const right = x + width / 2, top = y - height / 2;
   return [[right - 14, top], [right - 14, top - 34], [right + 34, top + 10], [right, top + 10]];
 }
 
 // A curve from one box to another that stands off the straight line by `bow` in its middle.
+/** @type {(tail: Box, head: Box, bow: number) => Curve} */
 function bowed(tail, head, bow) {
   const dx = head.x - tail.x, dy = head.y - tail.y, far = Math.hypot(dx, dy) || 1;
+  /** @type {Spot} */
   const over = [tail.x + dx / 2 - dy / far * bow * 2, tail.y + dy / 2 + dx / far * bow * 2];
   const begin = edgeOf(tail, over);
   const end = edgeOf(head, over);
+  /** @type {(spot: Spot) => Spot} */
   const towards = ([x, y]) => [x + (over[0] - x) * 2 / 3, y + (over[1] - y) * 2 / 3];
   return [begin, towards(begin), towards(end), end];
 }
 
 // Where the line from the middle of a box to a point leaves the box.
+/** @type {(box: Box, to: Spot) => Spot} */
 function edgeOf(box, to) {
   const dx = to[0] - box.x, dy = to[1] - box.y;
   const part = Math.min(
@@ -192,24 +222,28 @@ function edgeOf(box, to) {
 }
 
 // Points along a curve of cubic pieces.
+/**
+ * @param {Curve} points
+ * @returns {Spot[]}
+ */
 export function samples(points, count = 24) {
+  /** @type {Spot[]} */
   const found = [];
   for (let begin = 0; begin < points.length - 3; begin += 3) {
     for (let step = 0; step < count; step++) {
       const part = step / count;
       const rest = 1 - part;
       const weights = [rest ** 3, 3 * rest * rest * part, 3 * rest * part * part, part ** 3];
-      found.push(
-        [0, 1].map((axis) =>
-          weights.reduce((sum, weight, k) => sum + weight * points[begin + k][axis], 0)
-        )
-      );
+      const along = (/** @type {0 | 1} */ axis) =>
+        weights.reduce((sum, weight, k) => sum + weight * points[begin + k][axis], 0);
+      found.push([along(0), along(1)]);
     }
   }
   return [...found, points[points.length - 1]];
 }
 
 // Spots along a curve: a little before its middle, then farther and farther from there.
+/** @type {(points: Curve) => Spot[]} */
 function spotsAlong(points) {
   const along = samples(points, 12);
   return PARTS.map((part) => along[Math.floor(part * (along.length - 1))]);

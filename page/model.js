@@ -182,11 +182,9 @@ function placesOf(table, numbers, faults) {
     if (name) once(at(table, line, 'name'), keyOf(name), `a place ${shown(name)}`, seen, faults);
     // A place that only passes on is often left empty.
     const supply = numbers.read(table, line, 'supply', cellAt(cells, supplyColumn) || '0', faults);
-    const spot =
-      spots
-      && SPOT_HEADS.map((head, k) =>
-        coordinateIn(table, line, head, cellAt(cells, spots[k]), faults)
-      );
+    const spot = spots && /** @type {Spot} */ (SPOT_HEADS.map((head, k) =>
+      coordinateIn(table, line, head, cellAt(cells, spots[k]), faults)
+    ));
     return {
       name,
       supply,

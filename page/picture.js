@@ -1,3 +1,4 @@
+// @ts-check
 // The picture of a scene, as SVG: boxes and arrows; of many places dots, or rows where some send
 // and the others take.
 import { dotsSvg } from './dots.js';
@@ -28,15 +29,18 @@ const BOXES = 300, CURVES = 1500;
 // How far labels may stand within boxes, beside their texts.
 const INNER = 3;
 
+/** @type {(scene: Scene) => string} */
 export function svgOf(scene) {
   if (scene.nodes.length > BOXES || scene.links.length > CURVES) return dotsSvg(scene);
   return rowsAreBetter(scene) ? rowsSvg(scene) : boxesSvg(scene);
 }
 
+/** @type {(node: SceneNode) => Size} */
 function boxSize({ short, note }) {
   return [Math.max(44, Math.max(textWidth(short, 13), textWidth(note, 11)) + 16), note ? 38 : 24];
 }
 
+/** @type {(scene: Scene) => LayoutTask} */
 function taskOf({ nodes, links }) {
   const spots = nodes.map((node) => node.spot);
   const starts = nodes.map((_, k) => k).filter((k) => nodes[k].kind === 'sends');
@@ -48,6 +52,7 @@ function taskOf({ nodes, links }) {
   };
 }
 
+/** @type {(scene: Scene) => string} */
 function boxesSvg(scene) {
   const { boxes, curves, labels } = laidOut(taskOf(scene));
   const { links, nodes, groups } = scene;
@@ -57,11 +62,12 @@ function boxesSvg(scene) {
     ...nodes.map((node, k) => placeBox(node, boxes[k], groups.some((group) => group.has(k)))),
     ...freeLabels(links, boxes, labels),
   ];
+  /** @type {Spot[]} */
   const corners = [
-    ...boxes.flatMap(({ x, y, width, height }) => [
+    ...boxes.flatMap(({ x, y, width, height }) => /** @type {Spot[]} */ ([
       [x - width / 2, y - height / 2],
       [x + width / 2, y + height / 2],
-    ]),
+    ])),
     ...curves.flatMap((curve) => samples(curve, 6)),
   ];
   return framed(corners, scene, body, legendOf(scene, boxSwatch));
@@ -69,20 +75,23 @@ function boxesSvg(scene) {
 
 // The labels of the routes, the widest first, where they cover no place and no other label; one
 // that finds no such spot is left out, since the arrow tells it, too.
+/** @type {(links: SceneLink[], boxes: Box[], labels: Spot[][]) => string[]} */
 function freeLabels(links, boxes, labels) {
   const room = new Room(), order = links.map((_, k) => k).filter((k) => links[k].label);
   for (const { x, y, width, height } of boxes) {
     const [wide, high] = [width / 2 - INNER, height / 2 - INNER];
     room.take([x - wide, y - high, x + wide, y + high]);
   }
-  order.sort((a, b) => isQuiet(links[a]) - isQuiet(links[b]) || links[b].width - links[a].width);
-  return order
-    .map((k) => [links[k], room.first(labels[k], labelSize(links[k].label))])
-    .filter(([, spot]) => spot)
-    .map(([link, spot]) => labelAt(link, ...spot));
+  const quiet = (/** @type {number} */ k) => Number(isQuiet(links[k]));
+  order.sort((a, b) => quiet(a) - quiet(b) || links[b].width - links[a].width);
+  return order.flatMap((k) => {
+    const spot = room.first(labels[k], labelSize(links[k].label));
+    return spot ? labelAt(links[k], ...spot) : [];
+  });
 }
 
 // The box of a place, with its name and its note.
+/** @type {(node: SceneNode, box: Box, blocks: boolean) => string} */
 function placeBox(node, box, blocks) {
   const note = node.note
     ? textAt(box.x, box.y + 12.5, 11, node.note, `text-anchor="middle" class="note" fill="${SOFT}"`)
@@ -93,16 +102,16 @@ function placeBox(node, box, blocks) {
 }
 
 // The shade behind the places that block and the routes between them.
+/** @type {(scene: Scene, boxes: Box[], curves: Curve[]) => string[]} */
 function shades({ groups, links }, boxes, curves) {
   return groups.flatMap((group) => [
     ...[...group].map((k) =>
       shadeAt({ ...boxes[k], width: boxes[k].width + 30, height: boxes[k].height + 30 }, 18)
     ),
-    ...links
-      .map((link, k) => [link, curves[k]])
-      .filter(([link]) => group.has(link.tail) && group.has(link.head))
-      .map(([, points]) =>
-        `<path class="shade" d="${pathOf(points)}" fill="none" stroke="${SHADE}"`
+    ...curves
+      .filter((_, k) => group.has(links[k].tail) && group.has(links[k].head))
+      .map((curve) =>
+        `<path class="shade" d="${pathOf(curve)}" fill="none" stroke="${SHADE}"`
           + ' stroke-width="30" stroke-linecap="round"/>'
       ),
   ]);

@@ -1,10 +1,15 @@
+// @ts-check
 // What stands in a picture already, so that no label covers it: rectangles by their edges (left,
 // top, right, bottom), kept by the squares that they touch.
 const SQUARE = 64;
 
 export class Room {
-  constructor() { this.taken = new Map(); }
+  constructor() {
+    /** @type {Map<string, Edges[]>} */
+    this.taken = new Map();
+  }
 
+  /** @type {(edges: Edges) => void} */
   take(edges) {
     for (const square of squaresOf(edges)) {
       if (!this.taken.has(square)) this.taken.set(square, []);
@@ -12,25 +17,29 @@ export class Room {
     }
   }
 
+  /** @type {(edges: Edges) => boolean} */
   isFree(edges) {
     const [left, top, right, bottom] = edges;
-    const over = (other) =>
+    const over = (/** @type {Edges} */ other) =>
       other[0] < right && left < other[2] && other[1] < bottom && top < other[3];
     return !squaresOf(edges).some((square) => (this.taken.get(square) || []).some(over));
   }
 
   // The edges of all that was noted.
+  /** @type {() => Edges} */
   bounds() {
     const found = [...this.taken.values()].flat();
-    return [Math.min, Math.min, Math.max, Math.max].map((end, side) =>
+    return /** @type {Edges} */ ([Math.min, Math.min, Math.max, Math.max].map((end, side) =>
       found.map((edges) => edges[side]).reduce((a, b) => end(a, b))
-    );
+    ));
   }
 
   // The first of some spots around which a rectangle of this size is free, which is taken; null
   // where there is none.
+  /** @type {(spots: Spot[], size: Size) => Spot | null} */
   first(spots, [wide, high]) {
     for (const [x, y] of spots) {
+      /** @type {Edges} */
       const edges = [x - wide / 2, y - high / 2, x + wide / 2, y + high / 2];
       if (this.isFree(edges)) {
         this.take(edges);
@@ -42,6 +51,7 @@ export class Room {
 }
 
 // The squares that a rectangle touches.
+/** @type {(edges: Edges) => string[]} */
 function squaresOf(edges) {
   const [left, top, right, bottom] = edges.map((edge) => Math.floor(edge / SQUARE)), found = [];
   for (let x = left; x <= right; x++) for (let y = top; y <= bottom; y++) found.push(`${x} ${y}`);

@@ -1,3 +1,4 @@
+// @ts-check
 // The picture of many places that send and others that take, as SVG: a row for each route, in
 // columns. The rows of one place stand together, beside its box; that of the other end may stand
 // several times.
@@ -16,6 +17,9 @@ import {
   xmlText,
 } from './drawing.js';
 
+// The routes of a place that stand beside its box.
+/** @typedef {{ node: number, links: SceneLink[] }} Block */
+
 // Of more places than this on a side, rows are drawn. How high a row is, and a block of rows at
 // least; between blocks; between columns; how wide all may be, so that names are 9 pixels high in a
 // page of 1360; how many rows a block has at most.
@@ -23,6 +27,7 @@ const MANY = 20, ROW = 20, LEAST = 36, BELOW = 8, BESIDE = 40, WIDE = 1160, ROWS
 // An edge of what stands several times.
 const DASHED = ' stroke-dasharray="4 3"';
 
+/** @type {(links: SceneLink[]) => [tails: Set<number>, heads: Set<number>]} */
 const endsOf = (links) => [
   new Set(links.map(({ tail }) => tail)),
   new Set(links.map(({ head }) => head)),
@@ -30,6 +35,7 @@ const endsOf = (links) => [
 
 // Whether a scene is drawn as rows: many places send or take, no route leads on from where one
 // leads to, and the places have no spots.
+/** @type {(scene: Scene) => boolean} */
 export function rowsAreBetter({ nodes, links }) {
   const [tails, heads] = endsOf(links);
   return Math.max(tails.size, heads.size) > MANY
@@ -37,6 +43,7 @@ export function rowsAreBetter({ nodes, links }) {
     && !nodes.every(({ spot }) => spot);
 }
 
+/** @type {(scene: Scene) => string} */
 export function rowsSvg(scene) {
   const [tails, heads] = endsOf(scene.links);
   const drawing = new Rows(scene, tails.size <= heads.size ? 0 : 1);
@@ -50,10 +57,12 @@ export function rowsSvg(scene) {
       return drawing.block(block, number * (wide + BESIDE), top);
     });
   });
+  /** @type {Spot[]} */
   const corners = [
     [0, 0],
     [columns.length * (wide + BESIDE) - BESIDE, Math.max(...columns.map(totalOf))],
   ];
+  /** @type {LegendEntry} */
   const several = [
     22,
     (x) => boxAt({ x: x + 11, y: -4, width: 22, height: 14 }, 'takes', false, DASHED),
@@ -70,18 +79,25 @@ export function rowsSvg(scene) {
 
 // What is drawn: the places of one side, 0 that of those that send, have blocks of rows.
 class Rows {
+  /**
+   * @param {Scene} scene
+   * @param {number} side
+   */
   constructor(scene, side) {
     const { nodes, links, groups } = scene;
     const ends = endsOf(links).map((set) => [...set]);
     const blocks = blocksOf(scene, side);
     ends[side] = blocks.map(({ node }) => node);
+    /** @type {(node: SceneNode, hasNote: boolean) => number} */
     const nameWidth = ({ short, note }, hasNote) =>
       Math.max(textWidth(short, 12), hasNote ? textWidth(note, 11) : 0);
     const widths = [0, 1].map((end) =>
       14 + Math.max(...ends[end].map((node) => nameWidth(nodes[node], end === side)))
     );
     const between = Math.max(90, 56 + Math.max(...links.map((link) => labelSize(link.label)[0])));
-    const count = new Map(), other = links.map(({ tail, head }) => (side ? tail : head));
+    /** @type {Map<number, number>} */
+    const count = new Map();
+    const other = links.map(({ tail, head }) => (side ? tail : head));
     for (const node of [...ends[side], ...other]) count.set(node, (count.get(node) || 0) + 1);
     const blocking = new Set(groups.flatMap((group) => [...group]));
     this.nodes = nodes;
@@ -97,6 +113,7 @@ class Rows {
   hasSeveral() { return [...this.count.values()].some((times) => times > 1); }
 
   // A place, its routes, and the other ends of these.
+  /** @type {(block: Block, left: number, top: number) => string[]} */
   block({ node, links }, left, top) {
     const high = heightOf({ links }), begin = left + this.widths[0], end = begin + this.between;
     const rows = links.flatMap((link, place) => {
@@ -112,6 +129,13 @@ class Rows {
 
   // The box of a place on a side of its column, by its middle and its height; one that is high
   // enough has its note, too.
+  /**
+   * @param {number} number
+   * @param {number} side
+   * @param {number} left
+   * @param {number} y
+   * @param {number} height
+   */
   place(number, side, left, y, height) {
     const { name, short, note, kind } = this.nodes[number];
     const width = this.widths[side];
@@ -129,8 +153,13 @@ class Rows {
 
 // The blocks of the places on a side, and of those that no route is drawn of; of many routes
 // several, each with the widest first.
+/** @type {(scene: Scene, side: number) => Block[]} */
 function blocksOf({ nodes, links }, side) {
-  const own = nodes.map(() => []), blocks = [], others = endsOf(links)[1 - side];
+  /** @type {SceneLink[][]} */
+  const own = nodes.map(() => []);
+  /** @type {Block[]} */
+  const blocks = [];
+  const others = endsOf(links)[1 - side];
   for (const link of links) own[side ? link.head : link.tail].push(link);
   own.forEach((found, node) => {
     if (!found.length && others.has(node)) return;
@@ -142,12 +171,15 @@ function blocksOf({ nodes, links }, side) {
   return blocks;
 }
 
+/** @type {(block: { links: SceneLink[] }) => number} */
 const heightOf = ({ links }) => Math.max(LEAST, ROW * links.length);
 
 // How high blocks below one another are.
+/** @type {(blocks: Block[]) => number} */
 const totalOf = (blocks) => blocks.reduce((sum, block) => sum + heightOf(block) + BELOW, -BELOW);
 
 // Blocks in columns, which are as many as make a picture that is twice as wide as high, or as fit.
+/** @type {(blocks: Block[], wide: number) => Block[][]} */
 function inColumns(blocks, wide) {
   const fit = Math.max(1, Math.floor((WIDE + BESIDE) / (wide + BESIDE)));
   let count = 1, columns = [blocks];
@@ -158,8 +190,10 @@ function inColumns(blocks, wide) {
 }
 
 // Blocks in so many columns of about the same height.
+/** @type {(blocks: Block[], count: number) => Block[][]} */
 function split(blocks, count) {
   for (let limit = Math.max(totalOf(blocks) / count, ...blocks.map(heightOf)); ; limit *= 1.03) {
+    /** @type {Block[][]} */
     const columns = [[]];
     for (const block of blocks) {
       const last = columns[columns.length - 1];

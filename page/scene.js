@@ -1,9 +1,18 @@
+// @ts-check
 // What is drawn of a plan, or of what blocks one. A node has a name, which may be cut in its box, a
 // note, whether it sends, takes or passes on, and its spot; a link its ends from 0, how wide it is,
 // its kind, its label and what is told of it; groups are sets of nodes that block.
 import { size } from './model.js';
 import { balanceOf } from './report.js';
 import { grouped } from './view.js';
+
+/**
+ * @typedef {import('./flownet.js').FlowPlan} FlowPlan
+ * @typedef {import('./model.js').Problem} Problem
+ * @typedef {object} Figures
+ * @property {(number: bigint | null) => string} amount
+ * @property {(number: bigint) => string} total
+ */
 
 // Of more routes than this, those that carry nothing are left out; where no plan exists, of more
 // places than this those that block are drawn, and those next to them.
@@ -12,14 +21,18 @@ const ALL_ROUTES = 90, NEAR = 60;
 const LONGEST = 24, BEGIN = 12, END = 11;
 
 // Numbers of a problem as pages have them: with narrow blanks between their thousands.
+/** @type {(problem: Problem) => Figures} */
 const figuresOf = ({ units, said: { mark } }) => ({
   amount: (number) => grouped(units.amount(number), mark),
   total: (number) => grouped(units.total(number), mark),
 });
 
 // All routes if they aren't many, else those that carry something or are shut.
+/** @type {(plan: FlowPlan, caption: Caption) => Scene} */
 export function planScene(plan, caption) {
-  const { problem } = plan, { amount: said, total } = figuresOf(problem), links = [];
+  const { problem } = plan, { amount: said, total } = figuresOf(problem);
+  /** @type {SceneLink[]} */
+  const links = [];
   const widest = plan.routes.reduce(
     (most, { carries }) => (size(carries) > most ? size(carries) : most),
     0n
@@ -44,6 +57,7 @@ export function planScene(plan, caption) {
 }
 
 // A route of a plan by its number. One that is used its other way leads there.
+/** @type {(plan: FlowPlan, k: number, widest: bigint) => SceneLink} */
 function linkOf(plan, k, widest) {
   const { problem } = plan, { amount: said, total } = figuresOf(problem);
   const route = problem.routes[k], result = plan.routes[k];
@@ -63,9 +77,11 @@ function linkOf(plan, k, widest) {
 }
 
 // The bottlenecks, and of many places just those and what is next to them.
+/** @type {(blocked: Blocked, caption: Caption) => Scene} */
 export function blockedScene(blocked, caption) {
   const net = blocked.eased, { problem } = net, { amount: said } = figuresOf(problem);
   const marked = markedOf(blocked);
+  /** @type {SceneLink[]} */
   const links = problem.routes.map((route, number) => {
     const kind = marked.get(`route ${number} 1`) || marked.get(`route ${number} -1`) || 'other';
     return {
@@ -98,8 +114,11 @@ export function blockedScene(blocked, caption) {
 }
 
 // Which arcs force or limit what blocks, by their kind, their number and their sign.
+/** @type {(blocked: Blocked) => Map<string, 'forces' | 'limits'>} */
 function markedOf({ eased, bottlenecks }) {
+  /** @type {Map<string, 'forces' | 'limits'>} */
   const marked = new Map();
+  /** @type {(use: Use) => string} */
   const key = ({ kind, number, sign }) => `${kind} ${number} ${sign}`;
   for (const found of bottlenecks) {
     for (const k of found.forcing) marked.set(key(eased.uses[k]), 'forces');
@@ -109,6 +128,7 @@ function markedOf({ eased, bottlenecks }) {
 }
 
 // Why no plan exists, in a few words.
+/** @type {(blocked: Blocked) => string} */
 export function whyBlocked({ net: { problem }, isUnbalanced, bottlenecks }) {
   const { amount } = figuresOf(problem), [supply, demand] = balanceOf(problem);
   if (isUnbalanced) return `supply ${amount(supply)}, demand ${amount(demand)}`;
@@ -119,6 +139,7 @@ export function whyBlocked({ net: { problem }, isUnbalanced, bottlenecks }) {
 }
 
 // The places of a scene that block, and those that a route joins with them.
+/** @type {(scene: Scene) => Scene} */
 function nearScene(scene) {
   const blocking = new Set(scene.groups.flatMap((group) => [...group])), near = new Set(blocking);
   for (const { tail, head } of scene.links) {
@@ -138,6 +159,12 @@ function nearScene(scene) {
   };
 }
 
+/**
+ * @param {Problem} problem
+ * @param {Place} place
+ * @param {string} short
+ * @returns {SceneNode}
+ */
 function nodeOf(problem, place, short, unmet = 0n) {
   const kind = place.supply > 0n ? 'sends' : place.supply < 0n ? 'takes' : 'passes';
   const { amount: said } = figuresOf(problem);
@@ -152,6 +179,7 @@ function nodeOf(problem, place, short, unmet = 0n) {
 }
 
 // What a route carries at least and at most.
+/** @type {(problem: Problem, route: Route) => string} */
 function limitsText(problem, route) {
   const [least, most] = [route.least, route.most].map(figuresOf(problem).amount);
   if (route.both) return `${most || 'any amount'}, either way`;
@@ -160,6 +188,7 @@ function limitsText(problem, route) {
 
 // What stands of each name in its box: of long ones their beginning and their end, and of such as
 // would read alike then what is different.
+/** @type {(names: string[]) => string[]} */
 export function shortNames(names) {
   const letters = names.map((name) => [...name]);
   const shorts = letters.map((name) => cut(name, name.length - END));
@@ -168,6 +197,7 @@ export function shortNames(names) {
 }
 
 // A name, where it is too long its beginning and what begins at a letter.
+/** @type {(letters: string[], begin: number) => string} */
 function cut(letters, begin) {
   if (letters.length <= LONGEST) return letters.join('');
   const rest = letters.slice(Math.max(BEGIN, Math.min(begin, letters.length - END)));
@@ -178,7 +208,9 @@ function cut(letters, begin) {
 }
 
 // Cuts names that read alike where they begin to be different, which is farther on than a letter.
+/** @type {(names: string[][], shorts: string[], numbers: number[], begin: number) => void} */
 function tellApart(names, shorts, numbers, begin) {
+  /** @type {Map<string, number[]>} */
   const alike = new Map();
   for (const k of numbers) {
     if (!alike.has(shorts[k])) alike.set(shorts[k], []);

@@ -84,7 +84,7 @@ interface Bounds<A = bigint> extends Step<A> {
 interface Place<A = bigint> extends Row {
   name: string;
   supply: A;
-  spot: number[] | null;
+  spot: Spot | null;
   bounds: Bounds<A> | null;
 }
 
@@ -285,7 +285,7 @@ interface Finding {
   cure: string;
 }
 
-/** What stands above a plan and its picture: a title, which may be empty; the date and the tables. */
+/** What stands above a plan and its picture: a title, or ''; and the date and the tables. */
 interface Caption {
   title: string;
   source: string;
@@ -328,7 +328,7 @@ interface Scene {
   nodes: SceneNode[];
   links: SceneLink[];
   groups: Set<number>[];
-  notes: Record<string, string>;
+  notes: Partial<Record<SceneLink['kind'], string>>;
   caption?: Caption;
 }
 
@@ -338,17 +338,64 @@ interface SceneNode {
   short: string;
   note: string;
   kind: 'sends' | 'takes' | 'passes';
-  spot: number[] | null;
+  spot: Spot | null;
 }
 
-interface SceneLink {
-  tail: number;
-  head: number;
+interface SceneLink extends Ends {
   width: number;
   kind: 'full' | 'flowing' | 'idle' | 'limits' | 'forces' | 'other';
   label: string;
   title: string;
 }
+
+// ---- Parts of pictures
+
+type Spot = [x: number, y: number];
+
+type Size = [wide: number, high: number];
+
+type Edges = [left: number, top: number, right: number, bottom: number];
+
+/** A box by its middle. */
+interface Box {
+  x: number;
+  y: number;
+  width: number;
+  height: number;
+}
+
+/** A curve of cubic pieces: where it begins, and for each piece three spots more. */
+type Curve = Spot[];
+
+/** What joins two nodes, which count from 0. */
+interface Ends {
+  tail: number;
+  head: number;
+}
+
+/** What is laid out: `spots` is null where not all nodes have one; `starts` are those that send. */
+interface LayoutTask {
+  sizes: Size[];
+  spots: Spot[] | null;
+  links: Ends[];
+  starts: number[];
+}
+
+/** Where nodes and links stand, and where the label of each link may, the best first. */
+interface Layout {
+  boxes: Box[];
+  curves: Curve[];
+  labels: Spot[][];
+}
+
+/** Draws a kind of places, or what blocks, for the legend. */
+type Swatch = (kind: SceneNode['kind'] | 'blocks', x: number) => string;
+
+/** How wide a drawing is, the drawing by where it begins, and what it means. */
+type LegendEntry = [wide: number, drawn: (x: number) => string, words: string];
+
+/** Lines of texts, and how wide they are. */
+type Legend = [lines: string[], wide: number];
 
 // ---- What tsc's own library lacks
 
