@@ -1,5 +1,6 @@
 // Clicks through the page in headless Chromium, as a planner would, and in Firefox where that is
-// there: make page-test. With SHOTS=1 it takes the screenshots of docs/ instead.
+// there: make page-test. With SHOTS=1 it takes the screenshots of docs/ instead. SLACK multiplies
+// the times that it allows, for a busy machine.
 import fs from 'node:fs';
 import path from 'node:path';
 import { execFileSync } from 'node:child_process';
@@ -8,6 +9,7 @@ import { browsers } from './browsers.mjs';
 
 const top = path.join(path.dirname(fileURLToPath(import.meta.url)), '..');
 const url = pathToFileURL(path.join(top, 'bin', 'mcf.html')).href;
+const slack = Number(process.env.SLACK ?? 1);
 let wrong = 0;
 const expect = (ok, what) => { console.log(`${ok ? 'ok   ' : 'WRONG'} ${what}`); wrong += !ok; };
 
@@ -283,7 +285,7 @@ async function large(page, { set, go, kind, ended }) {
   const plan = await go();
   expect(
     plan.status === 'flow'
-      && plan.took < 2000
+      && plan.took < 2000 * slack
       && await page.run("document.querySelector('.picture svg') !== null"),
     `300 places and 3000 routes, to the picture: ${plan.took} ms`
   );
@@ -318,7 +320,7 @@ async function large(page, { set, go, kind, ended }) {
     page.run("/Solved in (\\d+) ms/.exec(document.getElementById('result').innerText)?.[1]");
   const [problem] = /^p min.*/m.exec(big);
   expect(
-    first.status === 'flow' && Number(await solved()) < 1000,
+    first.status === 'flow' && Number(await solved()) < 1000 * slack,
     `${problem}: solved in ${await solved()} ms, shown after ${first.took} ms`
   );
   await page.run(`(() => {
@@ -338,7 +340,7 @@ async function large(page, { set, go, kind, ended }) {
   await page.run("document.getElementById('go').click()");
   const { text } = await ended();
   expect(
-    text.includes('Stopped.') && longest < 500,
+    text.includes('Stopped.') && longest < 500 * slack,
     `alive while it solves (the longest pause is ${longest.toFixed(0)} ms), and stopped`
   );
   await page.run("document.getElementById('engine').value = 'auto'");

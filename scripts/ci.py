@@ -49,7 +49,7 @@ STEPS = (
     Step("library from C, C++, Rust, Python", ("make", "library-test"), (("cc",),)),
     Step("packages", ("make", "dist"), (("ar",),)),
     Step("packages installed: archive, wheel, .deb", ("make", "dist-test")),
-    Step("page in browsers", ("make", "page-test"), (("node",), BROWSERS)),
+    Step("page in browsers", ("env", "SLACK=5", "make", "page-test"), (("node",), BROWSERS)),
 )
 
 
