@@ -132,7 +132,7 @@ int main(int count, char **words) {
         for (choice.pricing = 0; choice.pricing < 4; choice.pricing++) {
             for (number = 2; number < 6; number++)
                 if (refuse_each(number)) return 1;
-            /* More is sent than there is buffer for. */
+            /* More is sent than there is room for. */
             supplies[0] += 1000, supplies[29] -= 1000;
             if (refuse_each(2)) return 1;
             supplies[0] -= 1000, supplies[29] += 1000;
@@ -150,6 +150,6 @@ int main(int count, char **words) {
             if (refuse_each(1)) return 1;
         }
     }
-    printf("%ld refusals, each verdict, nothing written and nothing lost\n", refusals);
+    printf("%ld refusals, each reported, nothing written and nothing lost\n", refusals);
     return 0;
 }
