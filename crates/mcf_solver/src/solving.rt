@@ -46,8 +46,9 @@ use std::alloc::Global;
 ///
 /// # Errors
 ///
-/// Want of memory, only where the first problem line is good, names nodes and comes before the first fault, where the network
-/// simplex is meant, or where the answer's text doesn't fit the capacity that `out` has. The bytes of `out` are then those that it had. Its capacity never shrinks.
+/// `NoMemory` only if the first problem line is good, names nodes and comes before the first fault; or if the network simplex is
+/// meant; or if the answer's text doesn't fit the capacity of `out`. `out` then keeps the bytes that it had. Its capacity never
+/// shrinks.
 pub fn solve_text(
     alloc: Global,
     input: &[u8],
@@ -128,7 +129,7 @@ fn answer_for(
 ///
 /// # Errors
 ///
-/// Want of memory, only where there are nodes or the network simplex is meant.
+/// `NoMemory` only if there are nodes, or if the network simplex is meant.
 pub fn solve_instance(
     alloc: Global,
     instance: &Instance,

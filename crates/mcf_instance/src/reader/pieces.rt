@@ -58,9 +58,9 @@ impl Reader {
     /// # Errors
     ///
     /// `TooLong` exactly where the bytes taken so far and the piece are more than 10^18, whatever stands in them;
-    /// `NoMemory` where there is no memory to keep the piece, or for what its lines name, never for an empty piece, and never
-    /// once a line was faulty: the refusal isn't lost for want of memory. A reader that
-    /// has refused a piece takes no other: it answers that same fault to each.
+    /// `NoMemory` if there is no memory to keep the piece, or for what its lines name; never for an empty piece, and never
+    /// once a line was faulty, so that running out of memory loses no refusal. A reader that has refused a piece takes no
+    /// other: it answers that same fault to each.
     pub fn feed(&mut self, alloc: Global, piece: &[u8]) -> Result<(), FeedFault>
         ensures ok { OnOk result ((text : List ℕ) → StandsFor limits self.old text → StandsFor limits self.new (text ++ piece.now)) }
         ensures unrefused { OnOk result (self.new.fault ≡ None) }
