@@ -82,7 +82,7 @@ export class Instance {
   }
 
   // Judges an answer that was lent: whether it is accepted, and the line that mcfcheck prints; or
-  // null for want of memory.
+  // null if memory runs out.
   /** @type {(text: Lent, answer: Lent) => Verdict | null} */
   check(text, answer) {
     const told = this.room(32);
